@@ -1,0 +1,9 @@
+mod Digits
+mod Divisions
+mod Numerals
+mod Orders
+mod Powers
+mod ReadBack
+mod Sames
+mod Searches
+mod Trims

@@ -1,0 +1,33 @@
+//! Texts, the values of HyperTalk, and the faults that end a command.
+#![tactic(auto)]
+
+mod arithmetic;
+mod comparison;
+mod failure;
+mod fault;
+mod function;
+mod join;
+mod law;
+mod logic;
+mod number;
+mod operator;
+mod search;
+mod text;
+mod value;
+mod word;
+
+pub use failure::Failure;
+pub use fault::{Fault, TextError};
+pub use function::built_in;
+pub use join::joined;
+pub use law::{
+    div_and_mod_divide, numerals_read_back, places_are_first, texts_are_ordered, values_are_ordered,
+};
+pub use number::{number_of, numeral, without_front_spaces};
+pub use operator::{Func, Op, UnOp, ValueType};
+pub use text::{LIMIT, Text, text_of};
+pub use value::{binary, unary};
+pub use word::{PartKind, Prop};
+
+#[cfg(test)]
+mod tests;

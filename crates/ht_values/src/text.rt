@@ -1,0 +1,116 @@
+//! Texts: at most 30,000 bytes, any bytes, one byte a character.
+
+ghost use Rattle.std.specs.Prelude.{◌≡◌, ◌≤◌, ◌<◌, ◌↔◌, ℕ, List, [], length, IfOk, Err, IsErrOf, IsTrue};
+ghost use Rattle.ht_values.specs.Outcome.{within_limit};
+ghost use Rattle.ht_values.specs.Text.{Same, folded as folded_of, numeral};
+ghost use Rattle.ht_values.specs.declared.text.TheConstants.{LIMIT};
+
+use crate::fault::{Fault, TextError};
+use itoa::Buffer;
+use std::alloc::{AllocError, Global};
+use std::marker::Model;
+
+/// The greatest length of a text, in bytes.
+pub const LIMIT: usize = 30_000;
+
+/// A value of HyperTalk, which contracts see as its list of bytes.
+#[derive(Drop)]
+pub struct Text {
+    bytes: Vec<u8>,
+}
+
+impl Model for Text {
+    ghost Value = { List ℕ };
+
+    ghost view = { λ t. t.bytes.items };
+
+    ghost invariant = { λ t. length t.bytes.items ≤ LIMIT };
+}
+
+impl Text {
+    /// The text of no bytes. It takes no memory.
+    pub fn new(alloc: Global) -> Text
+        ensures { result ≡ [] }
+    {
+        Text {
+            bytes: Vec::new(alloc),
+        }
+    }
+
+    /// A text of these bytes. `TooLong` where they are over 30,000, else `Memory` where a growth was refused.
+    pub fn from_slice(alloc: Global, bytes: &[u8]) -> Result<Text, TextError>
+        ensures ok { IfOk result (λ t. t ≡ bytes.now) }
+        ensures fits { IfOk result (λ t. length t ≤ LIMIT) }
+        ensures long { LIMIT < length bytes.now → result ≡ Err TextError.TooLong }
+        ensures too_long { IsErrOf result TextError.TooLong → LIMIT < length bytes.now }
+    {
+        if LIMIT < bytes.len() {
+            return Err(TextError::TooLong);
+        }
+        match Vec::from_slice(alloc, bytes) {
+            Ok(bytes) => Ok(Text { bytes }),
+            Err(_) => Err(TextError::Memory),
+        }
+    }
+
+    /// The text of these bytes, which it takes over: it takes no memory. `TooLong` where they are over 30,000.
+    pub fn from_vec(bytes: Vec<u8>) -> Result<Text, Fault>
+        ensures { result ≡ within_limit bytes.items }
+    {
+        if LIMIT < bytes.len() {
+            return Err(Fault::TooLong);
+        }
+        Ok(Text { bytes })
+    }
+
+    /// An equal text.
+    pub fn try_clone(&self, alloc: Global) -> Result<Text, AllocError>
+        ensures { IfOk result (λ t. t ≡ self.now) }
+    {
+        Ok(Text {
+            bytes: Vec::from_slice(alloc, &self.bytes)?,
+        })
+    }
+
+    /// The text with A-Z folded to a-z, and nothing else.
+    pub fn folded(&self, alloc: Global) -> Result<Text, AllocError>
+        ensures { IfOk result (λ t. t ≡ folded_of self.now) }
+    {
+        let mut bytes = Vec::from_slice(alloc, &self.bytes)?;
+        bytes.make_ascii_lowercase();
+        Ok(Text { bytes })
+    }
+
+    /// The bytes of the text.
+    pub fn as_slice(&self) -> &[u8]
+        ensures value { result.now ≡ self.now }
+        ensures fits { length self.now ≤ LIMIT }
+    {
+        &self.bytes
+    }
+
+    /// How many bytes the text has.
+    pub fn len(&self) -> usize
+        ensures value { result ≡ length self.now }
+        ensures fits { length self.now ≤ LIMIT }
+    {
+        self.bytes.len()
+    }
+
+    /// Whether two texts are equal after A-Z is folded to a-z.
+    pub fn same(&self, other: &Text) -> bool
+        ensures { IsTrue result ↔ Same self.now other.now }
+    {
+        self.bytes.eq_ignore_ascii_case(&other.bytes)
+    }
+}
+
+/// The numeral of a number.
+pub fn text_of(alloc: Global, number: i64) -> Result<Text, AllocError>
+    ensures { IfOk result (λ t. t ≡ numeral number) }
+{
+    let mut digits = Buffer::new();
+    Ok(Text {
+        bytes: Vec::from_slice(alloc, digits.format(number).as_bytes())?,
+    })
+}
