@@ -1,0 +1,9 @@
+mod Blocks
+mod Examples
+mod Order
+mod Parts
+mod Pieces
+mod Puts
+mod Scans
+mod Single
+mod Stands

@@ -1,0 +1,161 @@
+//! Reading, putting and deleting chunks of texts.
+
+ghost use Rattle.std.specs.Prelude.{◌≡◌, ◌≤◌, ◌+◌, ◌++◌, length, replicate, IfOk, ◌-◌, max};
+ghost use Rattle.ht_values.specs.Outcome.{Gives, within_limit};
+ghost use Rattle.ht_values.specs.declared.text.TheConstants.{LIMIT};
+ghost use Rattle.chunks.specs.Change as change;
+ghost use Rattle.chunks.specs.Laws.{IsCutBy};
+ghost use Rattle.chunks.specs.Pieces as pieces;
+
+use crate::chunk::{Chunk, Kind, Span, Where};
+use crate::reading::{count, find, number_at, stretch};
+use ht_values::{Failure, Fault, LIMIT, Text, joined, without_front_spaces};
+use std::alloc::{AllocError, Global};
+
+/// A text of two parts that fit.
+fn closed(alloc: Global, before: &[u8], after: &[u8]) -> Result<Text, AllocError>
+    requires { length before.now + length after.now ≤ LIMIT }
+    ensures { IfOk result (λ t. t ≡ before.now ++ after.now) }
+{
+    let mut bytes = Vec::with_capacity(alloc, before.len() + after.len())?;
+    bytes.extend_from_slice(before)?;
+    bytes.extend_from_slice(after)?;
+    Ok(Text::from_vec(bytes).unwrap())
+}
+
+/// The text that a chunk reads: from the start of its first piece to the end of its last, and of no bytes where it reads no
+/// piece. The delimiter is that of items.
+pub fn take(alloc: Global, text: &Text, chunk: &Chunk, delimiter: u8) -> Result<Text, AllocError>
+    ensures { IfOk result (λ t. t ≡ pieces.read delimiter chunk.now text.now) }
+{
+    match find(text, chunk, delimiter) {
+        Some(span) => closed(alloc, &text.as_slice()[span.start..span.after], b""),
+        None => Ok(Text::new(alloc)),
+    }
+}
+
+/// Two parts without the delimiter between them: the one after what goes, or else the one before it.
+fn without_delimiter<'a>(before: &'a [u8], after: &'a [u8]) -> (&'a [u8], &'a [u8])
+    ensures value { result.0.now ++ result.1.now ≡ change.joined_up before.now after.now }
+    ensures fits { length result.0.now + length result.1.now ≤ length before.now + length after.now }
+{
+    if after.is_empty() {
+        (&before[..before.len().saturating_sub(1)], after)
+    } else {
+        (before, &after[1..])
+    }
+}
+
+/// What is left before and after the pieces that go.
+fn rest_of<'a>(kind: Kind, before: &'a [u8], after: &'a [u8]) -> (&'a [u8], &'a [u8])
+    ensures value { result.0.now ++ result.1.now ≡ change.closed_up kind before.now after.now }
+    ensures fits { length result.0.now + length result.1.now ≤ length before.now + length after.now }
+{
+    match kind {
+        Kind::Char => (before, after),
+        Kind::Word => (before, without_front_spaces(after)),
+        Kind::Item => without_delimiter(before, after),
+        Kind::Line => without_delimiter(before, after),
+    }
+}
+
+/// The text after a chunk is deleted. Lines and items go with the delimiter after them or, at the end, with the one before
+/// them; words go with the spaces after them. Where the chunk reads no piece, it is the same text.
+#[tactic(auto, unfolding(crate::specs::Change::removed))]
+pub fn delete(alloc: Global, text: &Text, chunk: &Chunk, delimiter: u8) -> Result<Text, AllocError>
+    ensures { IfOk result (λ t. t ≡ change.deleted delimiter chunk.now text.now) }
+{
+    match find(text, chunk, delimiter) {
+        Some(span) => {
+            let bytes = text.as_slice();
+            let (before, after) = rest_of(chunk.kind, &bytes[..span.start], &bytes[span.after..]);
+            closed(alloc, before, after)
+        }
+        None => text.try_clone(alloc),
+    }
+}
+
+/// A text with a part of it changed.
+fn changed(
+    alloc: Global,
+    text: &[u8],
+    span: Span,
+    place: Where,
+    new: &[u8],
+) -> Result<Text, Failure>
+    requires { IsCutBy text.now span }
+    ensures { Gives result (within_limit (pieces.left text.now span ++ change.placed place new.now (pieces.middle text.now span) ++ pieces.right text.now span)) }
+{
+    match place {
+        Where::Into => joined(alloc, &text[..span.start], new, &text[span.after..]),
+        Where::Before => joined(alloc, &text[..span.start], new, &text[span.start..]),
+        Where::After => joined(alloc, &text[..span.after], new, &text[span.after..]),
+    }
+}
+
+/// The byte that stands at the end of a text before what is put past its pieces, and how often.
+fn padding(kind: Kind, delimiter: u8, many: usize, first: usize, text: &[u8]) -> (u8, usize)
+    ensures { replicate result.1 result.0 ≡ change.padding delimiter kind many first text.now }
+{
+    match kind {
+        Kind::Char => (delimiter, 0),
+        Kind::Word => (b' ', if text.is_empty() { 0 } else { 1 }),
+        Kind::Item => (delimiter, first.saturating_sub(many.max(1))),
+        Kind::Line => (13, first.saturating_sub(many.max(1))),
+    }
+}
+
+/// A text with a byte added at its end so many times, and then another text.
+fn appended(
+    alloc: Global,
+    text: &[u8],
+    byte: u8,
+    copies: usize,
+    new: &[u8],
+) -> Result<Text, Failure>
+    ensures { Gives result (within_limit (text.now ++ replicate copies byte ++ new.now)) }
+{
+    if LIMIT < text.len()
+        || LIMIT < copies
+        || LIMIT < new.len()
+        || LIMIT < text.len() + copies + new.len()
+    {
+        return Err(Failure::Fault(Fault::TooLong));
+    }
+    let mut bytes = Vec::with_capacity(alloc, text.len() + copies + new.len())?;
+    bytes.extend_from_slice(text)?;
+    bytes.resize(text.len() + copies, byte)?;
+    bytes.extend_from_slice(new)?;
+    Ok(Text::from_vec(bytes)?)
+}
+
+/// The text after another text is put into a chunk, before it or after it. A first index below 1, or a last one below the
+/// first, is `BadArgument`; an outcome over 30,000 bytes is `TooLong`. `last` is at least 1. Past the end of the text, items
+/// and lines are filled up with delimiters, and a word is put after a space: this is the project's profile, as are the faults.
+#[tactic(auto, unfolding(crate::specs::Change::put))]
+pub fn put(
+    alloc: Global,
+    text: &Text,
+    chunk: &Chunk,
+    place: Where,
+    new: &Text,
+    delimiter: u8,
+) -> Result<Text, Failure>
+    ensures { Gives result (change.put delimiter chunk.now place new.now text.now) }
+{
+    let many = count(text, chunk.kind, delimiter);
+    let from = number_at(chunk.from, many.max(1));
+    let to = number_at(chunk.to, many.max(1));
+    if from < 1 || to < from {
+        return Err(Failure::Fault(Fault::BadArgument));
+    }
+    let bytes = text.as_slice();
+    let first = from as usize;
+    match stretch(bytes, chunk.kind, delimiter, first, many.min(to as usize)) {
+        Some(span) => changed(alloc, bytes, span, place, new.as_slice()),
+        None => {
+            let (byte, copies) = padding(chunk.kind, delimiter, many, first, bytes);
+            appended(alloc, bytes, byte, copies, new.as_slice())
+        }
+    }
+}
