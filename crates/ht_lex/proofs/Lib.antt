@@ -1,0 +1,6 @@
+pub mod Reserved
+pub mod Symbols
+pub mod Spans
+mod Runs
+pub mod Longest
+pub mod Cutting
