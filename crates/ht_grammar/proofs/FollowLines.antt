@@ -1,0 +1,97 @@
+-- What may stand after statements and their parts.
+use Rattle.std.proofs.Common.{◌≡◌, ℕ, ◌<◌, List, [], ◌∷◌, Bool, true, false, Some, None, refl, arith}
+use Rattle.ht_lex.specs.declared.key.Key.{Key}
+use Rattle.ht_lex.specs.declared.key.Key.TheVariants as k
+use Rattle.ht_lex.specs.Token.{Token, key, eol, first_kind, later}
+use Rattle.ht_lex.specs.Token as token
+use Rattle.ht_grammar.specs.declared.vocabulary.Where.{Where}
+use Rattle.ht_grammar.specs.Fronts.{front}
+use Rattle.ht_grammar.specs.Ends.{past_ends, ended, past_times}
+use Rattle.ht_grammar.specs.Grammar.{Context, place_of}
+use Rattle.ht_grammar.specs.Reading.{layer_by}
+use Rattle.ht_grammar.specs.Lines.{begins_expr, place_front}
+use Rattle.ht_grammar.proofs.Follow.{tie}
+use Rattle.ht_grammar.proofs.Complete.{is_comma}
+
+-- A statement on one line may stop here: at an end of a line, or before `else`.
+abbrev pub stops : List Token → Bool
+stops [] = true
+stops (eol ∷ ts) = true
+stops (key k.Else ∷ ts) = true
+stops _ = false
+
+pub stop_loose : (c : List Token) → stops c ≡ true → 9 < tie c
+unfolding tie front
+stop_loose [] f = omega arith
+stop_loose (eol ∷ ts) f = omega arith
+stop_loose (key k.Else ∷ ts) f = omega arith
+stop_loose c f = cc
+
+pub stop_no_expr : (c : List Token) → stops c ≡ true → begins_expr (first_kind c) ≡ false
+stop_no_expr [] f = refl
+stop_no_expr (eol ∷ ts) f = refl
+stop_no_expr (key k.Else ∷ ts) f = refl
+stop_no_expr c f = cc
+
+pub stop_no_comma : (c : List Token) → stops c ≡ true → is_comma c ≡ false
+stop_no_comma [] f = refl
+stop_no_comma (eol ∷ ts) f = refl
+stop_no_comma (key k.Else ∷ ts) f = refl
+stop_no_comma c f = cc
+
+pub stop_no_place : (d : ℕ) (x : Context) (c : List Token) → stops c ≡ true → place_front d x (first_kind c) ≡ None
+stop_no_place d x [] f = refl
+stop_no_place d x (eol ∷ ts) f = refl
+stop_no_place d x (key k.Else ∷ ts) f = refl
+stop_no_place d x c f = cc
+
+pub stop_no_layer : (c : List Token) → stops c ≡ true → layer_by (first_kind c) ≡ None
+stop_no_layer [] f = refl
+stop_no_layer (eol ∷ ts) f = refl
+stop_no_layer (key k.Else ∷ ts) f = refl
+stop_no_layer c f = cc
+
+pub ended_stops : (c : List Token) {l : List Token} → ended c ≡ Some l → stops c ≡ true
+unfolding ended
+ended_stops [] f = refl
+ended_stops (eol ∷ ts) f = refl
+ended_stops c f = cc
+
+pub else_stops : (c : List Token) {l : List Token} → past_ends c ≡ key k.Else ∷ l → stops c ≡ true
+else_stops [] f = cc
+else_stops (eol ∷ ts) f = refl
+else_stops (key k.Else ∷ ts) f = refl
+else_stops c f = cc
+
+pub then_loose : (c : List Token) {l : List Token} → past_ends c ≡ key k.Then ∷ l → 9 < tie c
+unfolding tie front
+then_loose [] f = cc
+then_loose (eol ∷ ts) f = omega arith
+then_loose (key k.Then ∷ ts) f = omega arith
+then_loose c f = cc
+
+pub place_loose : (h : Key) {w : Where} (ts : List Token) → place_of h ≡ Some w → 9 < tie (key h ∷ ts)
+unfolding tie front
+place_loose k.Into ts f = omega arith
+place_loose k.Before ts f = omega arith
+place_loose k.After ts f = omega arith
+place_loose h ts f = cc
+
+pub times_loose : (c : List Token) {l : List Token} → ended (past_times c) ≡ Some l → 9 < tie c
+unfolding tie front ended past_times
+times_loose [] f = omega arith
+times_loose (eol ∷ ts) f = omega arith
+times_loose (token.name w ∷ ts) f = omega arith
+times_loose c f = cc
+
+pub loose_from : (ts : List Token) → 9 < tie (key k.From ∷ ts)
+unfolding tie front
+loose_from ts = omega arith
+
+pub loose_by : (ts : List Token) → 9 < tie (key k.By ∷ ts)
+unfolding tie front
+loose_by ts = omega arith
+
+pub loose_name : (w : List ℕ) (ts : List Token) → 9 < tie (token.name w ∷ ts)
+unfolding tie front
+loose_name w ts = omega arith

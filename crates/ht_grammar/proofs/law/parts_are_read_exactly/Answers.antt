@@ -1,0 +1,11 @@
+use Rattle.ht_grammar.proofs.Exactly.{parts_exact, one_tree, one_tree_per_text}
+use Rattle.ht_grammar.proofs.law.parts_are_read_exactly.Goals as goal
+
+pub returns-clause-exact : goal.returns-clause-exact
+returns-clause-exact c = parts_exact
+
+pub returns-clause-one : goal.returns-clause-one
+returns-clause-one c = one_tree parts_exact
+
+pub returns-clause-text : goal.returns-clause-text
+returns-clause-text c = one_tree_per_text parts_exact

@@ -1,0 +1,11 @@
+//! The grammar of HyperTalk: its trees, which tokens are which tree, and the reading of tokens as a function.
+#![tactic(auto)]
+
+mod law;
+mod vocabulary;
+
+pub use law::{
+    expressions_are_read_exactly, lines_are_read_exactly, messages_are_read_exactly,
+    parts_are_read_exactly, scripts_are_read_exactly, typing_is_read_exactly,
+};
+pub use vocabulary::{FunctionWord, HandlerKind, Layer, RunProp, Where};
