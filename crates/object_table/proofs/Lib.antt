@@ -1,0 +1,6 @@
+pub mod Counting
+pub mod Empty
+pub mod Listed
+pub mod Maps
+pub mod Numbered
+pub mod Slots

@@ -1,0 +1,11 @@
+pub mod Content
+pub mod Empty
+pub mod Layers
+pub mod Maps
+pub mod Numbers
+pub mod Objects
+pub mod Pairs
+pub mod References
+pub mod Slots
+pub mod Table
+pub mod WellFormed

@@ -1,0 +1,19 @@
+//! The objects of a stack, their orders and the parts of its layers, with exchanges that take no memory.
+#![tactic(auto)]
+
+mod ids;
+mod number;
+mod object;
+mod property;
+mod reference;
+mod stack;
+
+pub use ht_values::{PartKind, Prop};
+pub use ids::{Id, IdList};
+pub use object::{Kind, Layer, Object};
+pub use property::PropValue;
+pub use reference::Which;
+pub use stack::Stack;
+
+#[cfg(test)]
+mod tests;

@@ -1,0 +1,81 @@
+//! References to parts: by number, by id or by name.
+
+ghost use Rattle.std.specs.Prelude.{◌≡◌, ◌==◌, find};
+ghost use Rattle.object_table.specs.Numbers.{at_number, of_kind};
+ghost use Rattle.object_table.specs.Objects.{has_kind, is_of};
+ghost use Rattle.object_table.specs.References.{is_named, part_found};
+
+use crate::ids::Id;
+use crate::object::Layer;
+use crate::stack::Stack;
+use ht_values::{PartKind, Text};
+
+/// Which part of a layer is meant.
+#[derive(Clone, Copy)]
+pub enum Which<'a> {
+    /// By its number among the parts of its kind, counted from 1.
+    Number(u32),
+    /// By its id.
+    Id(Id),
+    /// By its name: the first in the layer's order whose name is the same.
+    Name(&'a Text),
+}
+
+impl Stack {
+    /// The part of this kind on a layer that is meant. `None` where there is no such layer or no such part
+    /// on it.
+    pub fn find_part(&self, layer: Layer, kind: PartKind, which: Which<'_>) -> Option<Id>
+        ensures { result ≡ part_found self.now.content layer kind which.entry }
+    {
+        let parts = self.parts(layer)?.as_slice();
+        match which {
+            Which::Number(number) => self.numbered_among(parts, kind, number),
+            Which::Id(id) => self.id_among(parts, kind, id),
+            Which::Name(name) => self.named_among(parts, kind, name),
+        }
+    }
+
+    fn numbered_among(&self, parts: &[Id], kind: PartKind, number: u32) -> Option<Id>
+        ensures { result ≡ at_number (of_kind self.now.content kind parts.now) number }
+    {
+        let mut before = number.checked_sub(1)?;
+        for part in parts {
+            if self.is_part(*part, kind) {
+                if before == 0 {
+                    return Some(*part);
+                }
+                before -= 1;
+            }
+        }
+        None
+    }
+
+    fn id_among(&self, parts: &[Id], kind: PartKind, id: Id) -> Option<Id>
+        ensures { result ≡ find (λ x. x == id) (of_kind self.now.content kind parts.now) }
+    {
+        parts
+            .iter()
+            .copied()
+            .filter(|part| self.is_part(*part, kind))
+            .find(|part| *part == id)
+    }
+
+    fn named_among(&self, parts: &[Id], kind: PartKind, name: &Text) -> Option<Id>
+        ensures { result ≡ find (is_named self.now.content name.now) (of_kind self.now.content kind parts.now) }
+    {
+        parts
+            .iter()
+            .copied()
+            .filter(|part| self.is_part(*part, kind))
+            .find(|part| self.is_named(*part, name))
+    }
+
+    fn is_named(&self, id: Id, name: &Text) -> bool
+        ensures { result ≡ is_named self.now.content name.now id }
+    {
+        match self.object(id) {
+            Some(object) => object.name.same(name),
+            None => false,
+        }
+    }
+}

@@ -1,0 +1,267 @@
+//! The stack: slots by id, the two orders and the next id.
+
+ghost use Rattle.std.specs.Prelude.{◌≡◌, ◌<◌, ◌≤◌, slice_get, count_by, is_some, option_copied, OnSome, IfOk, OnOk};
+ghost use Rattle.std.specs.FinMap as map;
+ghost use Rattle.object_table.specs.Maps.{put_option};
+ghost use Rattle.object_table.specs.Numbers.{at_number};
+ghost use Rattle.object_table.specs.Objects.{object_at, object_count as objects_counted, parts_at};
+ghost use Rattle.object_table.specs.Layers.{layer_parts};
+ghost use Rattle.object_table.specs.Empty.{empty_stack};
+ghost use Rattle.object_table.specs.WellFormed.{IsWellFormed};
+
+use crate::ids::{Id, IdList};
+use crate::object::{Kind, Layer, Object};
+use std::alloc::{AllocError, Global};
+use std::marker::Model;
+use std::mem;
+
+/// What an id stands for: an object and, where it is a layer, the list of its parts.
+#[derive(Drop)]
+struct Slot {
+    object: Option<Object>,
+    parts: Option<IdList>,
+}
+
+/// The objects of a stack by id, the orders of its backgrounds and cards, the parts of each layer, and the
+/// next id; beside these its room, the ids that are open. An exchange takes no memory: the id has to be in
+/// the room, and `open_slot` widens it beforehand. What a stack holds is in its room.
+///
+/// A stack as such may be not well formed; `Stack::new` gives a well formed one.
+#[derive(Drop)]
+pub struct Stack {
+    slots: Vec<Slot>,
+    backgrounds: IdList,
+    cards: IdList,
+    next: u32,
+}
+
+impl Model for Stack {
+    ghost use Rattle.std.specs.Prelude.{length};
+    ghost use Rattle.std.specs.FinMap as map;
+    ghost use Rattle.std.specs.FinSet as set;
+    ghost use Rattle.object_table.specs.Table.{Table, coded_table};
+    ghost use Rattle.object_table.specs.Slots.{objects_in, parts_in};
+
+    ghost Value = { Table };
+
+    ghost coded = { coded_table };
+
+    ghost view = { λ s. record {
+      content = record {
+        objects = objects_in s.slots.items;
+        backgrounds = s.backgrounds;
+        cards = s.cards;
+        parts = parts_in s.slots.items;
+        texts = map.empty;
+        hilites = map.empty;
+        next = s.next;
+      };
+      room = record { slots = length s.slots.items; texts = set.empty; hilites = set.empty };
+    } };
+}
+
+impl Slot {
+    fn of(object: Object, parts: Option<IdList>) -> Slot
+        ensures object { result.object ≡ Some object }
+        ensures parts { result.parts ≡ parts }
+    {
+        Slot {
+            object: Some(object),
+            parts,
+        }
+    }
+}
+
+impl Stack {
+    /// The empty stack: background 1 and card 2 on it, all without name, script and parts, and every flag
+    /// false. The next id is 3.
+    pub fn new(alloc: Global) -> Result<Stack, AllocError>
+        ensures content { IfOk result (λ s. s.content ≡ empty_stack) }
+        ensures well_formed { IfOk result (λ s. IsWellFormed s.content) }
+    {
+        let card = Kind::Card {
+            background: 1,
+            cant_delete: false,
+        };
+        let background = Kind::Background { cant_delete: false };
+        Ok(Stack {
+            slots: vec![in alloc;
+                Slot::of(Object::empty(alloc, Kind::Stack), None),
+                Slot::of(Object::empty(alloc, background), Some(IdList::new(alloc))),
+                Slot::of(Object::empty(alloc, card), Some(IdList::new(alloc))),
+            ]?,
+            backgrounds: IdList::from_vec(vec![in alloc; 1]?),
+            cards: IdList::from_vec(vec![in alloc; 2]?),
+            next: 3,
+        })
+    }
+
+    /// The object of an id, with its name, its script, its flags and, of a card, its background. `None`
+    /// where there is none.
+    pub fn object(&self, id: Id) -> Option<&Object>
+        ensures value { option_copied result ≡ object_at self.now.content id }
+        ensures room { OnSome result (id < self.now.room.slots) }
+    {
+        slot_at(&self.slots, id)?.object.as_ref()
+    }
+
+    /// How many objects live, without the stack itself.
+    pub fn object_count(&self) -> usize
+        ensures { result ≡ objects_counted self.now.content }
+    {
+        match self.slots.as_slice() {
+            [] => 0,
+            [_, others @ ..] => count_objects(others),
+        }
+    }
+
+    /// The parts of a layer in the order of their making. `None` where there is no such card or background.
+    pub fn parts(&self, layer: Layer) -> Option<&IdList>
+        ensures { option_copied result ≡ layer_parts self.now.content layer }
+    {
+        let object = self.object(layer.id())?;
+        if object.kind.is_of(layer) {
+            self.list_at(layer.id())
+        } else {
+            None
+        }
+    }
+
+    /// The ids of a layer's parts, none where the id has no list of parts.
+    pub(crate) fn parts_at(&self, layer: Id) -> &[Id]
+        ensures { result.now ≡ parts_at self.now.content layer }
+    {
+        match self.list_at(layer) {
+            Some(parts) => parts.as_slice(),
+            None => &[],
+        }
+    }
+
+    fn list_at(&self, id: Id) -> Option<&IdList>
+        ensures { option_copied result ≡ map.get self.now.content.parts id }
+    {
+        slot_at(&self.slots, id)?.parts.as_ref()
+    }
+
+    /// The card with a number, counted from 1 in the stack's order.
+    pub fn card_at(&self, number: usize) -> Option<Id>
+        ensures { result ≡ at_number self.now.content.cards number }
+    {
+        self.cards.at_number(number)
+    }
+
+    /// The id that the next object gets.
+    pub fn next_id(&self) -> Id
+        ensures { result ≡ self.now.content.next }
+    {
+        self.next
+    }
+
+    /// The backgrounds in their order.
+    pub fn backgrounds(&self) -> &IdList
+        ensures { result.now ≡ self.now.content.backgrounds }
+    {
+        &self.backgrounds
+    }
+
+    /// The cards in the stack's order.
+    pub fn cards(&self) -> &IdList
+        ensures { result.now ≡ self.now.content.cards }
+    {
+        &self.cards
+    }
+
+    /// Makes room for every id up to this one, its object and its list of parts. Nothing else changes, also
+    /// where a growth is refused.
+    pub fn open_slot(&mut self, id: Id) -> Result<(), AllocError>
+        ensures room { OnOk result (id < self.new.room.slots) }
+        ensures wider { self.old.room.slots ≤ self.new.room.slots }
+        ensures same { self.new ≡ record self.old {
+          room = record self.old.room { slots = self.new.room.slots };
+        } }
+    {
+        while self.slots.len() <= id as usize {
+            self.slots.push(Slot {
+                object: None,
+                parts: None,
+            })?;
+        }
+        Ok(())
+    }
+
+    /// Exchanges the object of an id, `None` where there is none, with a value.
+    pub fn swap_object(&mut self, id: Id, object: &mut Option<Object>)
+        requires { id < self.old.room.slots }
+        ensures value { object.new ≡ map.get self.old.content.objects id }
+        ensures stack { self.new ≡ record self.old {
+          content = record self.old.content {
+            objects = put_option self.old.content.objects id object.old;
+          };
+        } }
+    {
+        let slot = &mut self.slots[id as usize];
+        mem::swap(&mut slot.object, object);
+    }
+
+    /// Exchanges the list of an id's parts, `None` where it has none, with a value.
+    pub fn swap_parts(&mut self, id: Id, parts: &mut Option<IdList>)
+        requires { id < self.old.room.slots }
+        ensures value { parts.new ≡ map.get self.old.content.parts id }
+        ensures stack { self.new ≡ record self.old {
+          content = record self.old.content {
+            parts = put_option self.old.content.parts id parts.old;
+          };
+        } }
+    {
+        let slot = &mut self.slots[id as usize];
+        mem::swap(&mut slot.parts, parts);
+    }
+
+    /// Exchanges the order of the cards with another.
+    pub fn swap_order(&mut self, cards: &mut IdList)
+        ensures value { cards.new ≡ self.old.content.cards }
+        ensures stack { self.new ≡ record self.old {
+          content = record self.old.content {
+            cards = cards.old;
+          };
+        } }
+    {
+        mem::swap(&mut self.cards, cards);
+    }
+
+    /// Exchanges the order of the backgrounds with another.
+    pub fn swap_backgrounds(&mut self, backgrounds: &mut IdList)
+        ensures value { backgrounds.new ≡ self.old.content.backgrounds }
+        ensures stack { self.new ≡ record self.old {
+          content = record self.old.content {
+            backgrounds = backgrounds.old;
+          };
+        } }
+    {
+        mem::swap(&mut self.backgrounds, backgrounds);
+    }
+
+    /// Exchanges the next id with another.
+    pub fn swap_next(&mut self, next: &mut Id)
+        ensures value { next.new ≡ self.old.content.next }
+        ensures stack { self.new ≡ record self.old {
+          content = record self.old.content {
+            next = next.old;
+          };
+        } }
+    {
+        mem::swap(&mut self.next, next);
+    }
+}
+
+fn slot_at(slots: &[Slot], id: Id) -> Option<&Slot>
+    ensures { option_copied result ≡ slice_get slots.now id }
+{
+    slots.get(id as usize)
+}
+
+fn count_objects(slots: &[Slot]) -> usize
+    ensures { result ≡ count_by (λ slot. is_some slot.object) slots.now }
+{
+    slots.iter().filter(|slot| slot.object.is_some()).count()
+}
