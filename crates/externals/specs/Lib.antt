@@ -1,0 +1,3 @@
+pub mod Cells
+pub mod Number
+pub mod Table

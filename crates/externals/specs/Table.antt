@@ -1,0 +1,86 @@
+-- What externals of the known kinds answer.
+use Rattle.std.specs.Prelude.{◌≡◌, ℕ, suc, ◌+◌, ℤ, pos, negsuc, ◌+ℤ◌, ◌^◌, Bool, true, false, bytes_eq, codes, nat_eq, nat_lt, if◌then◌else◌, List, [], ◌∷◌, length, slice_index_or, slice_set, Option, Some, None, IfSome}
+use Rattle.ht_values.specs.Text.{numeral}
+use Rattle.externals.specs.Number.{number_in}
+use Rattle.externals.specs.declared.external.Input.{Input}
+use Rattle.externals.specs.declared.external.Input.TheVariants.{Start, Answer}
+use Rattle.externals.specs.declared.external.Ask.{Ask}
+use Rattle.externals.specs.declared.external.Ask.TheVariants.{SendCardMessage, EvalExpr, SetGlobal, SetFieldByName, Done, Fail}
+
+-- what is asked, and the cells after it
+abbrev pub Turn : Type 0
+Turn = Ask × List (List ℕ)
+
+abbrev pub cell : List (List ℕ) → ℕ → List ℕ
+cell cells i = slice_index_or cells i []
+
+-- an input that isn't named below
+abbrev pub fails : List (List ℕ) → Turn
+fails cells = (Fail, cells)
+
+-- below the greatest number
+abbrev pub may_count : ℤ → Bool
+may_count (pos n) = nat_lt (n + 1) (2 ^ 63)
+may_count (negsuc n) = true
+
+-- Kind 1 counts its one cell up at each start, and tells the count.
+abbrev pub counted : List (List ℕ) → Option ℤ → Turn
+counted cells None = fails cells
+counted cells (Some n) = if may_count n then (let more = numeral (n +ℤ pos 1) in (Done more false, slice_set cells 0 more)) else fails cells
+
+abbrev pub counter_turn : List (List ℕ) → Input → Turn
+counter_turn cells (Start args) = counted cells (number_in (cell cells 0))
+counter_turn cells (Answer note value) = fails cells
+
+-- Kind 2 keeps a text in one of its cells 1 to 16, and tells the old one.
+abbrev pub stored : List (List ℕ) → Option ℤ → List ℕ → Turn
+stored cells (Some (pos (suc i))) text = if nat_lt i 16 then (Done (cell cells i) false, slice_set cells i text) else fails cells
+stored cells _ text = fails cells
+
+abbrev pub bins_turn : List (List ℕ) → Input → Turn
+bins_turn cells (Start (n ∷ text ∷ [])) = stored cells (number_in n) text
+bins_turn cells _ = fails cells
+
+-- Kind 3 is started with a global, a field, an expression and a message, and uses each of the call-backs once;
+-- the first text of its note says which was the last.
+abbrev pub is_stage : List ℕ → List ℕ → Bool
+is_stage stage text = bytes_eq stage text
+
+abbrev pub relay_start : List (List ℕ) → List (List ℕ) → Turn
+relay_start cells (global ∷ field ∷ expression ∷ message ∷ []) = (SetGlobal (codes "1" ∷ field ∷ expression ∷ message ∷ []) global (codes "relay"), slice_set cells 0 global)
+relay_start cells _ = fails cells
+
+abbrev pub relay_answer : List (List ℕ) → List (List ℕ) → List ℕ → Turn
+relay_answer cells (stage ∷ field ∷ expression ∷ message ∷ []) value = if is_stage stage (codes "1") then (SetFieldByName (codes "2" ∷ expression ∷ message ∷ []) false field (cell cells 0), cells) else fails cells
+relay_answer cells (stage ∷ expression ∷ message ∷ []) value = if is_stage stage (codes "2") then (EvalExpr (codes "3" ∷ message ∷ []) expression, cells) else fails cells
+relay_answer cells (stage ∷ text ∷ []) value =
+    if is_stage stage (codes "3") then (SendCardMessage (codes "4" ∷ value ∷ []) text, slice_set cells 1 value)
+    else if is_stage stage (codes "4") then (Done text false, cells)
+    else fails cells
+relay_answer cells _ value = fails cells
+
+abbrev pub relay_turn : List (List ℕ) → Input → Turn
+relay_turn cells (Start args) = relay_start cells args
+relay_turn cells (Answer note value) = relay_answer cells note value
+
+-- Kind 4 passes every other message on.
+abbrev pub gate_turn : List (List ℕ) → Input → Turn
+gate_turn cells (Start args) =
+    if bytes_eq (cell cells 0) (codes "0") then (Done [] false, slice_set cells 0 (codes "1"))
+    else if bytes_eq (cell cells 0) (codes "1") then (Done [] true, slice_set cells 0 (codes "0"))
+    else fails cells
+gate_turn cells (Answer note value) = fails cells
+
+-- the one turn of an external of a known kind
+abbrev pub turn_of : ℕ → List (List ℕ) → Input → Option Turn
+turn_of kind cells input =
+    if nat_eq kind 1 then Some (counter_turn cells input)
+    else if nat_eq kind 2 then Some (bins_turn cells input)
+    else if nat_eq kind 3 then Some (relay_turn cells input)
+    else if nat_eq kind 4 then Some (gate_turn cells input)
+    else None
+
+-- A turn leaves equally many cells. Of a known kind it is the one of the table; other kinds answer anything.
+pub record Answers (kind : ℕ) (old : List (List ℕ)) (input : Input) (ask : Ask) (new : List (List ℕ)) : Type 0 where
+  pub count : length new ≡ length old
+  pub known : IfSome (turn_of kind old input) (λ turn. (ask ≡ turn.0) × (new ≡ turn.1))

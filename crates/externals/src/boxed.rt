@@ -1,0 +1,50 @@
+//! A boxed external of any type is an external.
+
+use crate::external::{Ask, External, Input};
+use crate::patch::Patch;
+use ht_values::Text;
+use std::alloc::{AllocError, Global};
+
+impl External for Box<dyn External> {
+    ghost title = { λ b. (External-box b).title b.value };
+
+    ghost sort = { λ b. (External-box b).sort b.value };
+
+    ghost answers_calls = { λ b. (External-box b).answers_calls b.value };
+
+    ghost cells = { λ b. (External-box b).cells b.value };
+
+    ghost turn_count = { λ b. (External-box b).turn_count b.value };
+
+    fn name(&self) -> &Text {
+        (**self).name()
+    }
+
+    fn kind(&self) -> u32 {
+        (**self).kind()
+    }
+
+    fn is_function(&self) -> bool {
+        (**self).is_function()
+    }
+
+    fn cell_count(&self) -> usize {
+        (**self).cell_count()
+    }
+
+    fn cell(&self, i: usize) -> &Text {
+        (**self).cell(i)
+    }
+
+    fn turns(&self) -> u64 {
+        (**self).turns()
+    }
+
+    fn turn(&mut self, alloc: Global, input: &Input) -> Result<(Ask, Patch), AllocError> {
+        (**self).turn(alloc, input)
+    }
+
+    fn flip(&mut self, patch: &mut Patch) {
+        (**self).flip(patch)
+    }
+}

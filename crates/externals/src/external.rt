@@ -1,0 +1,103 @@
+//! What an external is: its name, kind and cells, and what it does at a turn.
+
+ghost use Rattle.std.specs.Prelude.{◌≡◌, ℕ, ◌<◌, Bool, List, length, IfOk, OnErr, slice_get, Some};
+ghost use Rattle.externals.specs.Cells.{flipped, taken_out, IsProper, IsPatch, IsKind, one_more_turn};
+
+use crate::note::Note;
+use crate::patch::Patch;
+use crate::texts::Texts;
+use ht_values::Text;
+use std::alloc::{AllocError, Global};
+
+/// What an external is told at a turn.
+#[derive(Drop)]
+pub enum Input {
+    /// A handler called it with these arguments.
+    Start(Texts),
+    /// The call-back with this note has this value.
+    Answer(Note, Text),
+}
+
+/// What an external wants after a turn: a call-back, whose answer comes with the same note, or an end.
+#[derive(Drop)]
+pub enum Ask {
+    /// Run the text as a typed line.
+    SendCardMessage(Note, Text),
+    /// Compute the text as an expression.
+    EvalExpr(Note, Text),
+    /// Put the value (second) into the global of this name (first).
+    SetGlobal(Note, Text, Text),
+    /// Put the value into the first field of this name, on the card (`true`) or its background (`false`).
+    SetFieldByName(Note, bool, Text, Text),
+    /// The conversation ends with this value; with `true` the message is passed on and the value dropped.
+    Done(Text, bool),
+    /// The conversation ends by the fault of an external.
+    Fail,
+}
+
+/// An object with cells of text, its lasting state, that is called by name from a handler.
+///
+/// Its name, its kind, whether it is a function and how many cells it has never change. Only `turn` and
+/// `flip` change cells. Kinds 1 to 4 answer as the table of kinds says; any other kind answers freely.
+pub trait External: Drop {
+    ghost use Rattle.externals.specs.Table.{Answers};
+
+    ghost title: { Self → List ℕ };
+
+    ghost sort: { Self → ℕ };
+
+    ghost answers_calls: { Self → Bool };
+
+    ghost cells: { Self → List (List ℕ) };
+
+    ghost turn_count: { Self → ℕ };
+
+    /// The name by which handlers call it.
+    fn name(&self) -> &Text
+        ensures { result.now ≡ title self.now };
+
+    /// Its kind, 0 where its answers are free. Kinds 1 to 4 have 1, 16, 2 and 1 cells, and of these only kind 1
+    /// answers function calls.
+    fn kind(&self) -> u32
+        ensures value { result ≡ sort self.now }
+        ensures form { IsKind result (answers_calls self.now) (length (cells self.now)) };
+
+    /// Whether it answers function calls; else it answers commands.
+    fn is_function(&self) -> bool
+        ensures { result ≡ answers_calls self.now };
+
+    /// How many cells it has.
+    fn cell_count(&self) -> usize
+        ensures { result ≡ length (cells self.now) };
+
+    /// The i-th cell, from 0.
+    fn cell(&self, i: usize) -> &Text
+        requires { i < length (cells self.now) }
+        ensures { slice_get (cells self.now) i ≡ Some result.now };
+
+    /// One turn of a conversation. The patch names just the cells that changed, each once, with its old text.
+    /// Where memory was refused the cells are as before.
+    fn turn(&mut self, alloc: Global, input: &Input) -> Result<(Ask, Patch), AllocError>
+        ensures answers { IfOk result (λ r. Answers (sort self.old) (cells self.old) input.now r.0 (cells self.new)) }
+        ensures patch { IfOk result (λ r. IsPatch (cells self.old) (cells self.new) r.1) }
+        ensures err { OnErr result (cells self.new ≡ cells self.old) }
+        ensures turns { turn_count self.new ≡ one_more_turn (turn_count self.old) }
+        ensures title { title self.new ≡ title self.old }
+        ensures sort { sort self.new ≡ sort self.old }
+        ensures flag { answers_calls self.new ≡ answers_calls self.old };
+
+    /// Exchanges the cells that a patch names, each of its own and named once, with the patch's texts.
+    fn flip(&mut self, patch: &mut Patch)
+        requires { IsProper (length (cells self.old)) patch.old }
+        ensures cells { cells self.new ≡ flipped (cells self.old) patch.old }
+        ensures patch { patch.new ≡ taken_out (cells self.old) patch.old }
+        ensures turns { turn_count self.new ≡ turn_count self.old }
+        ensures title { title self.new ≡ title self.old }
+        ensures sort { sort self.new ≡ sort self.old }
+        ensures flag { answers_calls self.new ≡ answers_calls self.old };
+
+    /// How many turns it has taken, those that memory cut short too; the count stays at its greatest value.
+    /// It is no cell: nothing that is said of cells or of states speaks of it.
+    fn turns(&self) -> u64
+        ensures { result ≡ turn_count self.now };
+}

@@ -1,0 +1,18 @@
+//! Externals: objects with cells of text that answer a handler, and the patches that take a turn back.
+#![tactic(auto)]
+
+mod boxed;
+mod external;
+mod laws;
+mod note;
+mod patch;
+mod texts;
+
+pub use external::{Ask, External, Input};
+pub use laws::laws_of_flips;
+pub use note::Note;
+pub use patch::Patch;
+pub use texts::Texts;
+
+#[cfg(test)]
+mod tests;
