@@ -1,0 +1,92 @@
+-- Where an id stands first.
+use Rattle.std.proofs.Common.{◌≡◌, ℕ, ◌+◌, ◌<◌, Bool, true, false, cond, List, [], ◌∷◌, ◌++◌, length, refl, sym, ◌∙◌, ap, arith, get_or, set, ltb, add-zero, get_or-set_same, get_or-set_other, ◌≢◌, eq-eqb, ⊎_elim, inl, inr}
+use Rattle.std.proofs.lemmas.Bool.{cases_eq}
+use Rattle.std.specs.Prelude.{Option, Some, None, position, is_some, is_none, not, ◌==◌, ◌||◌}
+use Rattle.std.specs.Prelude.{find, slice_get, option_and_then, map}
+use Rattle.std.specs.List.{position_from, position_or_len, list_any}
+use Rattle.std.proofs.lemmas.List.{length-map}
+use Rattle.std.proofs.lemmas.List.Quantifiers.{position-Some}
+use Rattle.std.proofs.lemmas.Option.{slice_get-map, slice_get_cases}
+use Rattle.std.proofs.lemmas.List.Folds.{find_at}
+use Rattle.stack_file.specs.Document.{BackgroundSheet, background_ids, field_ids, fields_of}
+use Rattle.stack_file.specs.Views.{field_seen, background_seen}
+use Rattle.stack_file.specs.declared.sheets.BackgroundLines.{BackgroundLines}
+use Rattle.std.proofs.lemmas.Iterator.Adapters.{position_from-zero}
+use Rattle.std.proofs.lemmas.Bool.Decides.{nat_tests}
+
+-- a place before the end, or the end, or none
+abbrev pub placed : Bool → Option ℕ → ℕ → Option ℕ
+placed here (Some i) n = Some i
+placed here None n = cond here (Some n) None
+
+from_push : {X : Type 0} (p : X → Bool) (i : ℕ) (xs : List X) (y : X) → position_from p i (xs ++ y ∷ []) ≡ placed (p y) (position_from p i xs) (i + length xs)
+from_push p i [] y = ap (λ n. cond (p y) (Some n) None) (sym (add-zero i))
+from_push p i (x ∷ xs) y =
+    elim (p x) as (λ b. cond b (Some i) (position_from p (i + 1) (xs ++ y ∷ [])) ≡ placed (p y) (cond b (Some i) (position_from p (i + 1) xs)) (i + length (x ∷ xs))) [
+      | true ↦ refl
+      | false ↦ from_push p (i + 1) xs y ∙ ap (placed (p y) (position_from p (i + 1) xs)) (omega arith)
+    ]
+
+pub position-push : {X : Type 0} (p : X → Bool) (xs : List X) (y : X) → position p (xs ++ y ∷ []) ≡ placed (p y) (position p xs) (length xs)
+position-push p xs y =
+    position_from-zero p (xs ++ y ∷ []) ∙ from_push p 0 xs y ∙ ap (λ o. placed (p y) o (0 + length xs)) (sym (position_from-zero p xs)) ∙ ap (placed (p y) (position p xs)) (omega arith)
+
+from_is_some : {X : Type 0} (p : X → Bool) (i : ℕ) (xs : List X) → is_some (position_from p i xs) ≡ list_any p xs
+from_is_some p i [] = refl
+from_is_some p i (x ∷ xs) =
+    elim (p x) as (λ b. is_some (cond b (Some i) (position_from p (i + 1) xs)) ≡ (b || list_any p xs)) [ true ↦ refl | false ↦ from_is_some p (i + 1) xs ]
+
+pub position-is_some : {X : Type 0} (p : X → Bool) (xs : List X) → is_some (position p xs) ≡ list_any p xs
+position-is_some p xs = ap is_some (position_from-zero p xs) ∙ from_is_some p 0 xs
+
+other_place : (o : Option ℕ) (n : ℕ) → placed false o n ≡ o
+other_place None n = refl
+other_place (Some i) n = refl
+
+free_place : (o : Option ℕ) (n : ℕ) → is_none o ≡ true → placed true o n ≡ Some n
+free_place None n e = refl
+free_place (Some i) n e = cc
+
+-- the first time that an id comes
+pub placed-first : (places : List (Option ℕ)) (ids : List ℕ) (id : ℕ) → ((q : ℕ) → get_or places q None ≡ position (λ x. x == q) ids) → id < length places → is_none (get_or places id None) ≡ true
+    → (q : ℕ) → get_or (set places id (Some (length ids))) q None ≡ position (λ x. x == q) (ids ++ id ∷ [])
+placed-first places ids id is room free q =
+    let pushed = position-push (λ x. x == q) ids id in
+    let same : q ≡ id → get_or (set places id (Some (length ids))) q None ≡ placed (id == q) (get_or places q None) (length ids) =
+    λ e. let here : (id == id) ≡ true = eq-eqb id id refl in rw (e, here, get_or-set_same) (sym (free_place (get_or places id None) (length ids) free))
+    in
+    let other : q ≢ id → get_or (set places id (Some (length ids))) q None ≡ placed (id == q) (get_or places q None) (length ids) =
+    λ ne. let no : (id == q) ≡ false = grind (arith, nat_tests) in rw (no, get_or-set_other) (sym (other_place (get_or places q None) (length ids)))
+    in
+    ⊎_elim same other (cases_eq q id) ∙ ap (λ o. placed (id == q) o (length ids)) (is q) ∙ sym pushed
+
+-- the place of an id among the backgrounds is that of its background
+place_seen : (bs : List BackgroundLines) (id : ℕ) → position_or_len (λ x. x == id) (background_ids (map background_seen bs)) ≡ position_or_len (λ b. b.id == id) (map background_seen bs)
+place_seen [] id = refl
+place_seen (b ∷ bs) id = ap (λ n. cond (not (b.id == id)) (1 + n) 0) (place_seen bs id)
+
+within : {X : Type 0} (xs : List X) (n m : ℕ) → m ≡ length xs → slice_get xs n ≡ option_and_then (slice_get xs) (cond (ltb n m) (Some n) None)
+within xs n m same =
+    elim (slice_get_cases xs n).1 [
+      | inl h ↦ let yes : ltb n m ≡ true = grind (arith, nat_tests, h.1) in rw yes refl
+      | inr h ↦ let no : ltb n m ≡ false = grind (arith, nat_tests, h.0) in rw no h.1
+    ]
+
+found_at : (bs : List BackgroundLines) (id : ℕ) → find (λ b. b.id == id) (map background_seen bs) ≡ option_and_then (slice_get (map background_seen bs)) (position (λ x. x == id) (background_ids (map background_seen bs)))
+found_at bs id =
+    let same = length-map (map background_seen bs) (λ (b : BackgroundSheet). b.id) in
+    find_at (λ b. b.id == id) (map background_seen bs) ∙ ap (slice_get (map background_seen bs)) (sym (place_seen bs id)) ∙ within (map background_seen bs) _ _ same
+
+pub fields_of-placed : (bs : List BackgroundLines) (id i : ℕ) (b : BackgroundLines) → position (λ x. x == id) (background_ids (map background_seen bs)) ≡ Some i → slice_get bs i ≡ Some b
+    → fields_of (map background_seen bs) id ≡ field_ids (map field_seen b.fields.items)
+fields_of-placed bs id i b at is = rw (found_at bs id, at) (rw (slice_get-map, is) refl)
+
+pub fields_of-none : (bs : List BackgroundLines) (id : ℕ) → position (λ x. x == id) (background_ids (map background_seen bs)) ≡ None → fields_of (map background_seen bs) id ≡ []
+fields_of-none bs id none = rw (found_at bs id, none) refl
+
+pub placed_within : (bs : List BackgroundLines) (id i : ℕ) → position (λ x. x == id) (background_ids (map background_seen bs)) ≡ Some i → i < length bs
+placed_within bs id i at =
+    let h = position-Some (λ x. x == id) (background_ids (map background_seen bs)) i 0 at in
+    let a = length-map (map background_seen bs) (λ (b : BackgroundSheet). b.id) in
+    let b = length-map bs background_seen in
+    omega (arith, h.0)

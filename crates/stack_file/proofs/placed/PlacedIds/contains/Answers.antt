@@ -1,0 +1,7 @@
+use Rattle.std.proofs.Common.{◌∙◌, ap, ◌==◌}
+use Rattle.std.specs.Prelude.{is_some}
+use Rattle.stack_file.proofs.Places.{position-is_some}
+use Rattle.stack_file.proofs.placed.PlacedIds.contains.Goals as goal
+
+pub returns : goal.returns
+returns c = c.is_some.ensures ∙ ap is_some c.place_of.ensures ∙ position-is_some (λ x. x == c.args.id) c.args.self.now

@@ -1,0 +1,10 @@
+pub mod Faults
+pub mod Watching
+pub mod Words
+pub mod Document
+pub mod Spelling
+pub mod Reading
+pub mod Listing
+pub mod Building
+pub mod Laws
+pub mod Views

@@ -1,0 +1,98 @@
+//! Stack texts at their limits.
+
+ghost use Rattle.std.specs.Prelude.{◌<◌};
+
+use crate::*;
+use itoa::Buffer;
+use std::alloc::{AllocError, Global};
+use std::test::*;
+
+/// Writes a line: a key, a number and what follows it.
+fn push_line(text: &mut Vec<u8>, key: &[u8], number: u32, rest: &[u8]) -> Result<(), AllocError> {
+    let mut digits = Buffer::new();
+    text.extend_from_slice(key)?;
+    text.extend_from_slice(digits.format(number).as_bytes())?;
+    text.extend_from_slice(rest)?;
+    text.push(b'\n')?;
+    Ok(())
+}
+
+const LAYER: &[u8] = b"\nname |\ncantDelete false\nscript 0\nparts 0";
+
+const FIELD: &[u8] =
+    b"\nname |\nvisible true\nlockText false\nsharedText false\nscript 0\nshared 0";
+
+/// A stack of background 1 with so many fields, and of card 2.
+fn text_of_fields(alloc: Global, fields: u32) -> Result<Vec<u8>, AllocError>
+    requires { fields < 100000 }
+{
+    let mut text = Vec::new(alloc);
+    push_line(
+        &mut text,
+        b"htstack 2\nnext ",
+        fields + 3,
+        b"\nname |\nscript 0",
+    )?;
+    text.extend_from_slice(b"backgrounds 1\nbackground 1\nname |\ncantDelete false\nscript 0\n")?;
+    push_line(&mut text, b"parts ", fields, b"")?;
+    for i in 0..fields {
+        push_line(&mut text, b"field ", i + 3, FIELD)?;
+    }
+    push_line(&mut text, b"cards 1\ncard 2 ", 1, LAYER)?;
+    for i in 0..fields {
+        push_line(&mut text, b"text ", i + 3, b" 0")?;
+    }
+    text.extend_from_slice(b"end\n")?;
+    Ok(text)
+}
+
+/// A stack of so many backgrounds, with a card each.
+fn text_of_backgrounds(alloc: Global, count: u32) -> Result<Vec<u8>, AllocError>
+    requires { count < 100000 }
+{
+    let mut text = Vec::new(alloc);
+    push_line(
+        &mut text,
+        b"htstack 2\nnext ",
+        2 * count + 1,
+        b"\nname |\nscript 0",
+    )?;
+    push_line(&mut text, b"backgrounds ", count, b"")?;
+    for i in 0..count {
+        push_line(&mut text, b"background ", i + 1, LAYER)?;
+    }
+    push_line(&mut text, b"cards ", count, b"")?;
+    for i in 0..count {
+        let mut digits = Buffer::new();
+        text.extend_from_slice(b"card ")?;
+        text.extend_from_slice(digits.format(count + i + 1).as_bytes())?;
+        push_line(&mut text, b" ", i + 1, LAYER)?;
+    }
+    text.extend_from_slice(b"end\n")?;
+    Ok(text)
+}
+
+#[test]
+fn ten_thousand_objects_are_read_and_one_more_is_too_many(rt: HostRuntime) -> Result<(), Fail> {
+    let text = text_of_fields(rt.alloc(), 9_998)?;
+    let stack = read(rt.alloc(), &text).ok().ok_or("a stack")?;
+    assert_eq!(rt; stack.object_count(), 10_000);
+    assert_eq!(rt; stack.next_id(), 10_001);
+    let text = text_of_fields(rt.alloc(), 9_999)?;
+    assert!(rt;
+        matches!(
+            read(rt.alloc(), &text),
+            Err(ReadError::File(FileError::TooMany))
+        )
+    );
+    Ok(())
+}
+
+#[test]
+fn five_thousand_backgrounds_have_a_card_each(rt: HostRuntime) -> Result<(), Fail> {
+    let text = text_of_backgrounds(rt.alloc(), 5_000)?;
+    let stack = read(rt.alloc(), &text).ok().ok_or("a stack")?;
+    assert_eq!(rt; stack.backgrounds().len(), 5_000);
+    assert_eq!(rt; stack.card_at(5_000), Some(10_000));
+    Ok(())
+}
