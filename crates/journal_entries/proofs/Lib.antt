@@ -1,0 +1,12 @@
+pub mod Naming
+pub mod Going
+pub mod Turned
+pub mod Holding
+pub mod Growing
+pub mod Plugging
+pub mod Weighing
+pub mod Once
+pub mod Preparing
+pub mod Replacing
+pub mod Trails
+pub mod Numbering

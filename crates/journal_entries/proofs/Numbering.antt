@@ -1,0 +1,78 @@
+-- The number of a name in a set of names.
+use Rattle.std.proofs.Common.{◌≡◌, ◌≢◌, ◌++◌, ℕ, zero, suc, ◌+◌, ◌<◌, ◌≤◌, Bool, true, false, cond, not, nat_lt, ◌||◌, bytes_eq, List, [], ◌∷◌, length, map, get_or, refl, sym, ap, ◌∙◌, arith, Option, Some, None}
+use Rattle.std.specs.List.{position, position_or_len, prefix_len, list_any}
+use Rattle.std.proofs.lemmas.List.Sums.{prefix_len_passes, prefix_len_stops}
+use Rattle.std.proofs.lemmas.Bool.{ltb-true, ltb-false}
+use Rattle.std.proofs.lemmas.Slice.Eq.{bytes_eq-Decides}
+
+no : {A : Type 0} → false ≡ true → A
+no e = let none : false ≡ true → ⊥ = λ q. cc in absurd (none e)
+
+-- a test of names
+abbrev is : List ℕ → List ℕ → Bool
+is name n = bytes_eq name n
+
+abbrev first : List ℕ → List (List ℕ) → ℕ
+first name ns = prefix_len (λ n. not (is name n)) ns
+
+first-map : {X : Type 0} (f : X → List ℕ) (name : List ℕ) (ks : List X) → position_or_len (λ k. is name (f k)) ks ≡ first name (map f ks)
+first-map f name [] = refl
+first-map f name (k ∷ ks) = ap (λ n. cond (not (is name (f k))) (1 + n) 0) (first-map f name ks)
+
+not_false : (b : Bool) → not b ≡ false → b ≡ true
+not_false true h = refl
+not_false false h = no (sym h)
+
+not_true : (b : Bool) → not b ≡ true → b ≡ false
+not_true true h = no h
+not_true false h = refl
+
+first-here : (name : List ℕ) (ns : List (List ℕ)) → first name ns < length ns → get_or ns (first name ns) [] ≡ name
+first-here name ns h = sym ((bytes_eq-Decides name (get_or ns (first name ns) [])).0 (not_false (is name (get_or ns (first name ns) [])) (prefix_len_stops (λ n. not (is name n)) ns [] h)))
+
+first-past : (name : List ℕ) (ns : List (List ℕ)) (k : ℕ) → k < first name ns → get_or ns k [] ≢ name
+first-past name ns k h e = no (sym (not_true (is name (get_or ns k [])) (prefix_len_passes (λ n. not (is name n)) ns k [] h)) ∙ (bytes_eq-Decides name (get_or ns k [])).1 (sym e))
+
+found : (n m i : ℕ) → cond (nat_lt n m) (Some n) None ≡ Some i → (n < m) × (n ≡ i)
+found n m i h =
+    elim (nat_lt n m) as (λ b. nat_lt n m ≡ b → cond b (Some n) None ≡ Some i → (n < m) × (n ≡ i)) [
+      | true ↦ λ e q. let s : n ≡ i = cc in (ltb-true n m e, s)
+      | false ↦ λ e q. let none : None ≡ Some i → ⊥ = λ x. cc in absurd (none q)
+    ] refl h
+
+absent : (n m : ℕ) → cond (nat_lt n m) (Some n) None ≡ None → m ≤ n
+absent n m h =
+    elim (nat_lt n m) as (λ b. nat_lt n m ≡ b → cond b (Some n) None ≡ None → m ≤ n) [
+      | true ↦ λ e q. let none : Some n ≡ None → ⊥ = λ x. cc in absurd (none q)
+      | false ↦ λ e q. ltb-false n m e
+    ] refl h
+
+count-map : {X : Type 0} (f : X → List ℕ) (ks : List X) → length (map f ks) ≡ length ks
+count-map f [] = refl
+count-map f (k ∷ ks) = ap suc (count-map f ks)
+
+-- the place that a set finds has the name
+pub position-found : {X : Type 0} (f : X → List ℕ) (name : List ℕ) (ks : List X) (ns : List (List ℕ)) (i : ℕ) → map f ks ≡ ns → position (λ k. bytes_eq name (f k)) ks ≡ Some i → (i < length ns) × (get_or ns i [] ≡ name)
+position-found f name ks ns i e h =
+    let parts = found (position_or_len (λ k. is name (f k)) ks) (length ks) i h in
+    let at : i ≡ first name ns = sym parts.1 ∙ first-map f name ks ∙ ap (first name) e in
+    let within : first name ns < length ns = omega (arith, parts.0, parts.1, at, count-map f ks, ap length e) in
+    (omega (arith, at, within), ap (λ k. get_or ns k []) at ∙ first-here name ns within)
+
+-- and where it finds none no place has it
+pub position-absent : {X : Type 0} (f : X → List ℕ) (name : List ℕ) (ks : List X) (ns : List (List ℕ)) → map f ks ≡ ns → position (λ k. bytes_eq name (f k)) ks ≡ None → (k : ℕ) → k < length ns → get_or ns k [] ≢ name
+position-absent f name ks ns e h k l =
+    let past = absent (position_or_len (λ x. is name (f x)) ks) (length ks) h in
+    first-past name ns k (omega (arith, past, ap (first name) e, first-map f name ks, count-map f ks, ap length e))
+
+none-of : {X : Type 0} (f : X → List ℕ) (name : List ℕ) (ks : List X) → ((k : ℕ) → k < length (map f ks) → get_or (map f ks) k [] ≢ name) → list_any (λ k. bytes_eq name (f k)) ks ≡ false
+none-of f name [] h = refl
+none-of f name (k ∷ ks) h =
+    elim (is name (f k)) as (λ b. is name (f k) ≡ b → (b || list_any (λ x. is name (f x)) ks) ≡ false) [
+      | true ↦ λ e. absurd (h 0 (omega arith) (sym ((bytes_eq-Decides name (f k)).0 e)))
+      | false ↦ λ e. none-of f name ks (λ j l. h (suc j) (omega arith))
+    ] refl
+
+-- the set lacks it
+pub list_any-absent : {X : Type 0} (f : X → List ℕ) (name : List ℕ) (ks : List X) (ns : List (List ℕ)) → map f ks ≡ ns → ((k : ℕ) → k < length ns → get_or ns k [] ≢ name) → list_any (λ k. bytes_eq name (f k)) ks ≡ false
+list_any-absent f name ks ns e h = none-of f name ks (rw (← e) at h)

@@ -1,0 +1,236 @@
+-- A write of a place that the segment holds already needs no further entry.
+use Rattle.std.proofs.Common.{◌≡◌, ◌≢◌, ◌++◌, ℕ, ◌+◌, ◌≤◌, Bool, true, false, not, ◌&&◌, ◌||◌, List, [], ◌∷◌, length, map, get_or, refl, sym, ap, ◌∙◌, arith, Option, nat_eq, bytes_eq}
+use Rattle.std.specs.List.{list_any}
+use Rattle.std.specs.FinMap.{get}
+use Rattle.std.proofs.lemmas.Cmp.{nat_list_cmp_total}
+use Rattle.std.proofs.lemmas.Bool.{eqb-true, eq-eqb}
+use Rattle.std.proofs.lemmas.List.{reverse-append}
+use Rattle.std.proofs.lemmas.List.Folds.{list_any-append}
+use Rattle.std.proofs.lemmas.List.Sums.{sum_by-cons}
+use Rattle.std.proofs.lemmas.Slice.Eq.{bytes_eq-Decides}
+use Rattle.object_table.specs.Maps.{put_option}
+use Rattle.object_table.proofs.Maps.{put_option_again, put_option_apart, put_option-get, get-put_option_apart}
+use Rattle.journal_entries.specs.State.{State}
+use Rattle.journal_entries.specs.Places.{Place, same_place, global, current_card}
+use Rattle.journal_entries.specs.Trails.{Mark, at, structural, holds}
+use Rattle.journal_entries.specs.Exchange.{Shape, back, back_taken, exchanged, taken, entry_weight, weight, mark_of, trail_of, of_one_place, is_structural, IsReady, AreReady}
+use Rattle.journal_entries.specs.Turning.{IsNumbered}
+use Rattle.journal_entries.specs.Changing.{holds_one}
+use Rattle.journal_entries.specs.declared.entry.Entry.{Entry}
+use Rattle.journal_entries.specs.declared.entry.Entry.TheVariants.{Global, Current, External}
+use Rattle.journal_entries.proofs.Naming.{antisymmetric}
+
+false_true : {A : Type 0} → false ≡ true → A
+false_true e = let none : false ≡ true → ⊥ = λ q. cc in absurd (none e)
+
+-- another number has another name
+named_apart : (names : List (List ℕ)) (h : Shape) (i j : ℕ) (v w : Option (List ℕ)) → IsNumbered names (Global i v) → h.names ≡ length names → IsReady h (Global j w) → of_one_place (Global i v) (Global j w) ≡ false → get_or names i [] ≢ get_or names j []
+unfolding IsNumbered IsReady of_one_place
+named_apart names h i j v w only n r apart e = false_true (sym apart ∙ eq-eqb i j (sym (only j (omega arith) (sym e))))
+
+commute : (names : List (List ℕ)) (s : State) (h : Shape) (e f : Entry) → IsNumbered names e → h.names ≡ length names → IsReady h f → of_one_place e f ≡ false → is_structural e ≡ false → is_structural f ≡ false → exchanged names (exchanged names s e) f ≡ exchanged names (exchanged names s f) e
+unfolding exchanged of_one_place is_structural
+commute names s h (Global i v) (Global j w) only n r apart a b = ap (λ m. record s { globals = m }) (put_option_apart nat_list_cmp_total antisymmetric s.globals (get_or names i []) (get_or names j []) v w (named_apart names h i j v w only n r apart))
+commute names s h (Global i v) (Current d) only n r apart a b = refl
+commute names s h (Current c) (Global j w) only n r apart a b = refl
+commute names s h (Current c) (Current d) only n r apart a b = false_true (sym apart)
+commute names s h (External i p) f only n r apart a b = false_true (sym a)
+commute names s h e (External i p) only n r apart a b = false_true (sym b)
+
+taken_apart : (names : List (List ℕ)) (s : State) (h : Shape) (e f : Entry) → IsNumbered names e → h.names ≡ length names → IsReady h f → of_one_place e f ≡ false → is_structural e ≡ false → is_structural f ≡ false → taken names (exchanged names s e) f ≡ taken names s f
+unfolding exchanged taken of_one_place is_structural
+taken_apart names s h (Global i v) (Global j w) only n r apart a b = ap (λ x. Global j x) (get-put_option_apart nat_list_cmp_total antisymmetric s.globals (get_or names i []) (get_or names j []) v (named_apart names h i j v w only n r apart))
+taken_apart names s h (Global i v) (Current d) only n r apart a b = refl
+taken_apart names s h (Current c) (Global j w) only n r apart a b = refl
+taken_apart names s h (Current c) (Current d) only n r apart a b = false_true (sym apart)
+taken_apart names s h (External i p) f only n r apart a b = false_true (sym a)
+taken_apart names s h e (External i p) only n r apart a b = false_true (sym b)
+
+overwritten : (names : List (List ℕ)) (s : State) (e f : Entry) → of_one_place e f ≡ true → exchanged names (exchanged names s e) f ≡ exchanged names s f
+unfolding exchanged of_one_place
+overwritten names s (Global i v) (Global j w) h =
+    let one : i ≡ j = eqb-true i j h in
+    ap (λ k. record s { globals = put_option (put_option s.globals (get_or names k []) v) (get_or names j []) w }) one
+    ∙ ap (λ m. record s { globals = m }) (put_option_again nat_list_cmp_total antisymmetric s.globals (get_or names j []) v w)
+overwritten names s (Global i v) (Current d) h = false_true h
+overwritten names s (Global i v) (External j q) h = false_true h
+overwritten names s (Current c) (Global j w) h = false_true h
+overwritten names s (Current c) (Current d) h = refl
+overwritten names s (Current c) (External j q) h = false_true h
+overwritten names s (External i p) f h = false_true h
+
+-- what comes out is what was written
+written_out : (names : List (List ℕ)) (s : State) (e f : Entry) → of_one_place e f ≡ true → entry_weight (taken names (exchanged names s e) f) ≡ entry_weight e
+unfolding exchanged taken entry_weight of_one_place
+written_out names s (Global i v) (Global j w) h =
+    let one : i ≡ j = eqb-true i j h in
+    ap (λ k. entry_weight (Global j (get (put_option s.globals (get_or names k []) v) (get_or names j [])))) one
+    ∙ ap (λ x. entry_weight (Global j x)) (put_option-get nat_list_cmp_total antisymmetric s.globals (get_or names j []) v)
+written_out names s (Global i v) (Current d) h = false_true h
+written_out names s (Global i v) (External j q) h = false_true h
+written_out names s (Current c) (Global j w) h = false_true h
+written_out names s (Current c) (Current d) h = refl
+written_out names s (Current c) (External j q) h = false_true h
+written_out names s (External i p) f h = false_true h
+
+or_left : (a b : Bool) → (a || b) ≡ false → a ≡ false
+or_left true b h = h
+or_left false b h = refl
+
+or_right : (a b : Bool) → (a || b) ≡ false → b ≡ false
+or_right true b h = false_true (sym h)
+or_right false b h = h
+
+and_right : (a b : Bool) → (not a && b) ≡ false → a ≡ false → b ≡ false
+and_right true b h e = false_true (sym e)
+and_right false b h e = h
+
+and_left_true : (a b : Bool) → (not a && b) ≡ true → a ≡ false
+and_left_true true b h = false_true h
+and_left_true false b h = refl
+
+and_right_true : (a b : Bool) → (not a && b) ≡ true → b ≡ true
+and_right_true true b h = false_true h
+and_right_true false b h = h
+
+-- entries of other places, none of them structural
+record AreFree (e : Entry) (es : List Entry) : Type 0 where
+  none : list_any is_structural es ≡ false
+  apart : holds_one e es ≡ false
+
+rest_free : (e f : Entry) (es : List Entry) → AreFree e (f ∷ es) → AreFree e es
+rest_free e f es h = record { none = or_right (is_structural f) (list_any is_structural es) h.none; apart = or_left (holds_one e es) (not (list_any is_structural es) && of_one_place e f) h.apart }
+
+first_free : (e f : Entry) (es : List Entry) → AreFree e (f ∷ es) → of_one_place e f ≡ false
+first_free e f es h = and_right (list_any is_structural es) (of_one_place e f) (or_right (holds_one e es) _ h.apart) (or_right (is_structural f) (list_any is_structural es) h.none)
+
+first_plain : (e f : Entry) (es : List Entry) → AreFree e (f ∷ es) → is_structural f ≡ false
+first_plain e f es h = or_left (is_structural f) (list_any is_structural es) h.none
+
+back-free : (names : List (List ℕ)) (s : State) (h : Shape) (e : Entry) (es : List Entry) → IsNumbered names e → h.names ≡ length names → AreReady h es → is_structural e ≡ false → AreFree e es → back names (exchanged names s e) es ≡ exchanged names (back names s es) e
+back-free names s h e [] only n r a free = refl
+back-free names s h e (f ∷ es) only n r a free =
+    ap (λ x. exchanged names x f) (back-free names s h e es only n r.1 a (rest_free e f es free))
+    ∙ commute names (back names s es) h e f only n r.0 (first_free e f es free) a (first_plain e f es free)
+
+back_taken-free : (names : List (List ℕ)) (s : State) (h : Shape) (e : Entry) (es : List Entry) → IsNumbered names e → h.names ≡ length names → AreReady h es → is_structural e ≡ false → AreFree e es → back_taken names (exchanged names s e) es ≡ back_taken names s es
+back_taken-free names s h e [] only n r a free = refl
+back_taken-free names s h e (f ∷ es) only n r a free =
+    let first = ap (λ x. taken names x f) (back-free names s h e es only n r.1 a (rest_free e f es free))
+    ∙ taken_apart names (back names s es) h e f only n r.0 (first_free e f es free) a (first_plain e f es free) in
+    let rest = back_taken-free names s h e es only n r.1 a (rest_free e f es free) in
+    λ i. first i ∷ rest i
+
+-- the batch leads back to the same state, though the new write has no entry
+pub back-once : (names : List (List ℕ)) (s : State) (h : Shape) (e : Entry) (es : List Entry) → IsNumbered names e → h.names ≡ length names → AreReady h es → is_structural e ≡ false → holds_one e es ≡ true → back names (exchanged names s e) es ≡ back names s es
+back-once names s h e [] only n r a held = false_true held
+back-once names s h e (f ∷ es) only n r a held =
+    elim (holds_one e es) as (λ b. holds_one e es ≡ b → (b || (not (list_any is_structural es) && of_one_place e f)) ≡ true → exchanged names (back names (exchanged names s e) es) f ≡ exchanged names (back names s es) f) [
+      | true ↦ λ later _. ap (λ x. exchanged names x f) (back-once names s h e es only n r.1 a later)
+      | false ↦ λ none here.
+          let free : AreFree e es = record { none = and_left_true (list_any is_structural es) (of_one_place e f) here; apart = none } in
+          ap (λ x. exchanged names x f) (back-free names s h e es only n r.1 a free)
+          ∙ overwritten names (back names s es) e f (and_right_true (list_any is_structural es) (of_one_place e f) here)
+    ] refl held
+
+-- and the value that is there now weighs no more than what was there and what is written
+pub redo-once : (names : List (List ℕ)) (s : State) (h : Shape) (e : Entry) (es : List Entry) → IsNumbered names e → h.names ≡ length names → AreReady h es → is_structural e ≡ false → holds_one e es ≡ true → weight (back_taken names (exchanged names s e) es) ≤ weight (back_taken names s es) + entry_weight e
+redo-once names s h e [] only n r a held = false_true held
+redo-once names s h e (f ∷ es) only n r a held =
+    let new = taken names (back names (exchanged names s e) es) f in
+    let old = taken names (back names s es) f in
+    let more = sum_by-cons entry_weight new (back_taken names (exchanged names s e) es) in
+    let less = sum_by-cons entry_weight old (back_taken names s es) in
+    elim (holds_one e es) as (λ b. holds_one e es ≡ b → (b || (not (list_any is_structural es) && of_one_place e f)) ≡ true → weight (back_taken names (exchanged names s e) (f ∷ es)) ≤ weight (back_taken names s (f ∷ es)) + entry_weight e) [
+      | true ↦ λ later _.
+          let same = ap (λ x. entry_weight (taken names x f)) (back-once names s h e es only n r.1 a later) in
+          omega (arith, more, less, same, redo-once names s h e es only n r.1 a later)
+      | false ↦ λ none here.
+          let free : AreFree e es = record { none = and_left_true (list_any is_structural es) (of_one_place e f) here; apart = none } in
+          let rest = ap weight (back_taken-free names s h e es only n r.1 a free) in
+          let here_is = ap (λ x. entry_weight (taken names x f)) (back-free names s h e es only n r.1 a free) ∙ written_out names (back names s es) e f (and_right_true (list_any is_structural es) (of_one_place e f) here) in
+          omega (arith, more, less, rest, here_is)
+    ] refl held
+
+-- ---- the same of trails
+
+abbrev is_mark : Mark → Bool
+is_mark structural = true
+is_mark (at p) = false
+
+abbrev is_at : Place → Mark → Bool
+is_at p structural = false
+is_at p (at q) = same_place p q
+
+with_last : (a b c d : Bool) → (a || (b || (c && d))) ≡ ((a || b) || (c && d))
+with_last true b c d = refl
+with_last false b c d = refl
+
+holds-append : (p : Place) (trail : List Mark) (m : Mark) → holds p (trail ++ m ∷ []) ≡ (holds p trail || (not (list_any is_mark trail) && is_at p m))
+holds-append p [] structural = refl
+holds-append p [] (at q) = elim (same_place p q) as (λ b. (b || false) ≡ b) [ true ↦ refl | false ↦ refl ]
+holds-append p (structural ∷ trail) m = refl
+holds-append p (at q ∷ trail) m = ap (λ b. same_place p q || b) (holds-append p trail m) ∙ with_last (same_place p q) (holds p trail) (not (list_any is_mark trail)) (is_at p m)
+
+swap_or : (a b : Bool) → (a || (b || false)) ≡ (b || a)
+swap_or true true = refl
+swap_or true false = refl
+swap_or false true = refl
+swap_or false false = refl
+
+is_mark_of : (names : List (List ℕ)) (e : Entry) → is_mark (mark_of names e) ≡ is_structural e
+unfolding mark_of is_structural
+is_mark_of names (Global i v) = refl
+is_mark_of names (Current c) = refl
+is_mark_of names (External i p) = refl
+
+any_mark : (names : List (List ℕ)) (es : List Entry) → list_any is_mark (trail_of names es) ≡ list_any is_structural es
+any_mark names [] = refl
+any_mark names (e ∷ es) =
+    ap (list_any is_mark) (reverse-append (mark_of names e ∷ []) (map (mark_of names) es))
+    ∙ list_any-append is_mark (trail_of names es) (mark_of names e ∷ [])
+    ∙ (λ i. any_mark names es i || (is_mark_of names e i || false))
+    ∙ swap_or (list_any is_structural es) (is_structural e)
+
+bytes_same : (a b : List ℕ) → a ≡ b → bytes_eq a b ≡ true
+bytes_same a b e = (bytes_eq-Decides a b).1 e
+
+bytes_differ : (a b : List ℕ) → a ≢ b → bytes_eq a b ≡ false
+bytes_differ a b h = elim (bytes_eq a b) as (λ t. bytes_eq a b ≡ t → t ≡ false) [ true ↦ λ e. absurd (h ((bytes_eq-Decides a b).0 e)) | false ↦ λ e. refl ] refl
+
+same_name : (names : List (List ℕ)) (h : Shape) (i j : ℕ) (v w : Option (List ℕ)) → IsNumbered names (Global i v) → h.names ≡ length names → IsReady h (Global j w) → bytes_eq (get_or names i []) (get_or names j []) ≡ of_one_place (Global i v) (Global j w)
+unfolding of_one_place
+same_name names h i j v w only n r =
+    elim (nat_eq i j) as (λ b. nat_eq i j ≡ b → bytes_eq (get_or names i []) (get_or names j []) ≡ b) [
+      | true ↦ λ e. bytes_same _ _ (ap (λ k. get_or names k []) (eqb-true i j e))
+      | false ↦ λ e. bytes_differ _ _ (named_apart names h i j v w only n r e)
+    ] refl
+
+place_of : (p q : Place) → at q ≡ at p → p ≡ q
+place_of p q e = cc
+
+at_global : (names : List (List ℕ)) (h : Shape) (i : ℕ) (v : Option (List ℕ)) (f : Entry) → IsNumbered names (Global i v) → h.names ≡ length names → IsReady h f → is_at (global (get_or names i [])) (mark_of names f) ≡ of_one_place (Global i v) f
+unfolding mark_of of_one_place
+at_global names h i v (Global j w) only n r = same_name names h i j v w only n r
+at_global names h i v (Current d) only n r = refl
+at_global names h i v (External j q) only n r = refl
+
+at_current : (names : List (List ℕ)) (c : ℕ) (f : Entry) → is_at current_card (mark_of names f) ≡ of_one_place (Current c) f
+unfolding mark_of of_one_place
+at_current names c (Global j w) = refl
+at_current names c (Current d) = refl
+at_current names c (External j q) = refl
+
+at_is : (names : List (List ℕ)) (h : Shape) (p : Place) (e f : Entry) → mark_of names e ≡ at p → IsNumbered names e → h.names ≡ length names → IsReady h f → is_at p (mark_of names f) ≡ of_one_place e f
+unfolding mark_of of_one_place
+at_is names h p (Global i v) f m only n r = rw (place_of p _ m) (at_global names h i v f only n r)
+at_is names h p (Current c) f m only n r = rw (place_of p _ m) (at_current names c f)
+at_is names h p (External i q) f m only n r = let none : structural ≡ at p → ⊥ = λ x. cc in absurd (none m)
+
+-- the segment holds the place where it has an entry of it
+pub holds-trail : (names : List (List ℕ)) (h : Shape) (p : Place) (e : Entry) (es : List Entry) → mark_of names e ≡ at p → IsNumbered names e → h.names ≡ length names → AreReady h es → holds p (trail_of names es) ≡ holds_one e es
+holds-trail names h p e [] m only n r = refl
+holds-trail names h p e (f ∷ es) m only n r =
+    ap (holds p) (reverse-append (mark_of names f ∷ []) (map (mark_of names) es))
+    ∙ holds-append p (trail_of names es) (mark_of names f)
+    ∙ (λ i. holds-trail names h p e es m only n r.1 i || (not (any_mark names es i) && at_is names h p e f m only n r.0 i))

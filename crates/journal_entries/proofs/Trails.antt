@@ -1,0 +1,93 @@
+-- How many entries a batch has.
+use Rattle.std.proofs.Common.{◌≡◌, ℕ, zero, suc, ◌+◌, ◌*◌, ◌<◌, ◌≤◌, Bool, true, false, cond, not, ◌&&◌, ◌||◌, nat_eq, bytes_eq, List, [], ◌∷◌, length, refl, sym, ap, ◌∙◌, arith}
+use Rattle.std.specs.List.{list_any}
+use Rattle.std.proofs.lemmas.Bool.{eqb-true, eq-eqb}
+use Rattle.std.proofs.Math.Nat.{add-mul}
+use Rattle.std.proofs.lemmas.Slice.Eq.{bytes_eq-Decides}
+use Rattle.journal_entries.specs.Places.{Place, same_place, global, current_card, cell}
+use Rattle.journal_entries.specs.Trails.{Mark, at, structural, holds, IsOnce, structural_count, AreAmong}
+
+same_place-same : (p : Place) → same_place p p ≡ true
+same_place-same (global n) = (bytes_eq-Decides n n).1 refl
+same_place-same current_card = refl
+same_place-same (cell i c) = rw (eq-eqb i i refl, eq-eqb c c refl) refl
+
+both : (a b : Bool) → (a && b) ≡ true → (a ≡ true) × (b ≡ true)
+both true b h = (refl, h)
+both false b h = let none : false ≡ true → ⊥ = λ q. cc in absurd (none h)
+
+no : {A : Type 0} → false ≡ true → A
+no e = let none : false ≡ true → ⊥ = λ q. cc in absurd (none e)
+
+same_place-is : (p q : Place) → same_place p q ≡ true → p ≡ q
+same_place-is (global m) (global n) h = ap (λ x. global x) ((bytes_eq-Decides m n).0 h)
+same_place-is (global m) current_card h = no h
+same_place-is (global m) (cell j d) h = no h
+same_place-is current_card (global n) h = no h
+same_place-is current_card current_card h = refl
+same_place-is current_card (cell j d) h = no h
+same_place-is (cell i c) (global n) h = no h
+same_place-is (cell i c) current_card h = no h
+same_place-is (cell i c) (cell j d) h = let parts = both (nat_eq i j) (nat_eq c d) h in λ k. cell (eqb-true i j parts.0 k) (eqb-true c d parts.1 k)
+
+-- 1 for a place that the segment doesn't hold
+abbrev free_one : Bool → ℕ
+free_one true = 0
+free_one false = 1
+
+-- how many of these places the segment doesn't hold
+free : List Mark → List Place → ℕ
+free trail [] = 0
+free trail (p ∷ ps) = free_one (holds p trail) + free trail ps
+
+free-all : (ps : List Place) → free [] ps ≡ length ps
+unfolding free
+free-all [] = refl
+free-all (p ∷ ps) = omega (arith, free-all ps)
+
+free-past : (trail : List Mark) (ps : List Place) → free (structural ∷ trail) ps ≡ length ps
+unfolding free
+free-past trail [] = refl
+free-past trail (p ∷ ps) = omega (arith, free-past trail ps)
+
+held_more : (a b : Bool) → free_one (a || b) ≤ free_one b
+held_more true b = omega arith
+held_more false b = omega arith
+
+free-more : (trail : List Mark) (p : Place) (ps : List Place) → free (at p ∷ trail) ps ≤ free trail ps
+unfolding free
+free-more trail p [] = omega arith
+free-more trail p (q ∷ ps) = omega (arith, free-more trail p ps, held_more (same_place q p) (holds q trail))
+
+head_less : (trail : List Mark) (p q : Place) → same_place p q ≡ true → holds p trail ≡ false → (free_one (holds q (at p ∷ trail)) ≡ 0) × (free_one (holds q trail) ≡ 1)
+head_less trail p q e new =
+    let is : q ≡ p = sym (same_place-is p q e) in
+    (ap (λ b. free_one (b || holds q trail)) (ap (λ x. same_place x p) is ∙ same_place-same p), ap (λ b. free_one b) (ap (λ x. holds x trail) is ∙ new))
+
+or_false_left : (a b : Bool) → a ≡ false → (a || b) ≡ true → b ≡ true
+or_false_left true b e h = no (sym e)
+or_false_left false b e h = h
+
+-- a place that the segment holds now is free no more
+free-less : (trail : List Mark) (p : Place) (ps : List Place) → list_any (same_place p) ps ≡ true → holds p trail ≡ false → free (at p ∷ trail) ps + 1 ≤ free trail ps
+unfolding free
+free-less trail p [] among new = no among
+free-less trail p (q ∷ ps) among new =
+    elim (same_place p q) as (λ b. same_place p q ≡ b → free_one (same_place q p || holds q trail) + free (at p ∷ trail) ps + 1 ≤ free_one (holds q trail) + free trail ps) [
+      | true ↦ λ e. let here = head_less trail p q e new in omega (arith, here.0, here.1, free-more trail p ps)
+      | false ↦ λ e. omega (arith, held_more (same_place q p) (holds q trail), free-less trail p ps (or_false_left (same_place p q) (list_any (same_place p) ps) e among) new)
+    ] refl
+
+counted : (trail : List Mark) (ps : List Place) → IsOnce trail → AreAmong ps trail → length trail + free trail ps ≤ structural_count trail + (structural_count trail + 1) * length ps
+counted [] ps once among = omega (arith, free-all ps)
+counted (structural ∷ trail) ps once among =
+    let rest = counted trail ps once among in
+    let more : (structural_count trail + 1 + 1) * length ps ≡ (structural_count trail + 1) * length ps + length ps = omega (arith, add-mul (structural_count trail + 1) 1 (length ps)) in
+    omega (arith, rest, more, free-past trail ps)
+counted (at p ∷ trail) ps once among =
+    omega (arith, counted trail ps once.1 among.1, free-less trail p ps among.0 once.0)
+
+-- a batch with s structural entries, in which each place stands once in each segment and is one of p places,
+-- has at most s + (s + 1) * p entries
+pub length-trail : (trail : List Mark) (ps : List Place) → IsOnce trail → AreAmong ps trail → length trail ≤ structural_count trail + (structural_count trail + 1) * length ps
+length-trail trail ps once among = omega (arith, counted trail ps once among)

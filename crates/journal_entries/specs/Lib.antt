@@ -1,0 +1,9 @@
+pub mod State
+pub mod Places
+pub mod Changes
+pub mod Replaced
+pub mod Named
+pub mod Trails
+pub mod Exchange
+pub mod Turning
+pub mod Changing

@@ -1,0 +1,37 @@
+-- What the entries of a batch replace, the latest first.
+use Rattle.std.specs.Prelude.{◌≡◌, ℕ, ◌+◌, Bool, true, false, ◌||◌, List, [], ◌∷◌, if◌then◌else◌}
+use Rattle.std.specs.List.{list_any}
+use Rattle.journal_entries.specs.Places.{Place, same_place}
+
+-- An entry replaces one place. One that makes or removes an object or belongs to an external is structural.
+pub data Mark : Type 0 where
+  at : Place → Mark
+  structural : Mark
+
+-- whether the segment since the latest structural entry holds the place
+abbrev pub holds : Place → List Mark → Bool
+holds p [] = false
+holds p (structural ∷ trail) = false
+holds p (at q ∷ trail) = same_place p q || holds p trail
+
+-- the trail after a write: a place that the segment holds already adds nothing
+abbrev pub marked : Place → List Mark → List Mark
+marked p trail = if holds p trail then trail else at p ∷ trail
+
+-- between two structural entries, before the first and after the last, each place stands once
+abbrev pub IsOnce : List Mark → Type 0
+IsOnce [] = Unit {0}
+IsOnce (structural ∷ trail) = IsOnce trail
+IsOnce (at p ∷ trail) = (holds p trail ≡ false) × IsOnce trail
+
+-- how many entries are structural
+abbrev pub structural_count : List Mark → ℕ
+structural_count [] = 0
+structural_count (structural ∷ trail) = structural_count trail + 1
+structural_count (at p ∷ trail) = structural_count trail
+
+-- each place of the trail is one of these
+abbrev pub AreAmong : List Place → List Mark → Type 0
+AreAmong places [] = Unit {0}
+AreAmong places (structural ∷ trail) = AreAmong places trail
+AreAmong places (at p ∷ trail) = (list_any (same_place p) places ≡ true) × AreAmong places trail

@@ -1,0 +1,60 @@
+-- Turns of externals, and changes that have grown what they need.
+use Rattle.std.specs.Prelude.{◌⊎◌, ◌≡◌, ◌<◌, ◌+◌, ℕ, List, [], ◌∷◌, length, slice_index_or, slice_set}
+use Rattle.externals.specs.Cells.{one_more_turn}
+use Rattle.externals.specs.Table.{Answers}
+use Rattle.externals.specs.declared.external.Input.{Input}
+use Rattle.externals.specs.declared.external.Ask.{Ask}
+use Rattle.journal_entries.specs.Named.{Extends}
+use Rattle.journal_entries.specs.State.{State, seen_at}
+use Rattle.journal_entries.specs.Changes.{writes_of}
+use Rattle.journal_entries.specs.Places.{Write, put, value_at}
+use Rattle.journal_entries.specs.Replaced.{size_of}
+use Rattle.journal_entries.specs.Trails.{at}
+use Rattle.journal_entries.specs.Exchange.{Held, name_at, with_cells, IsReady, shape_of, exchanged, taken, entry_weight, mark_of}
+use Rattle.journal_entries.specs.declared.entry.Entry.{Entry}
+use Rattle.journal_entries.specs.declared.entry.Entry.TheVariants.{Global, Current, External}
+use Rattle.journal_entries.specs.declared.change.Change.{Change}
+
+-- the state in which the i-th external has these cells
+abbrev pub with_cells_at : State → ℕ → List (List ℕ) → State
+with_cells_at s i cells = record s { externals = slice_set s.externals i (with_cells (seen_at s i) cells) }
+
+-- one more turn of the i-th
+abbrev pub one_more_at : List ℕ → ℕ → List ℕ
+one_more_at turns i = slice_set turns i (one_more_turn (slice_index_or turns i 0))
+
+-- a turn of the i-th external leads from the old state to the new one
+pub record Turns (old new : State) (i : ℕ) (input : Input) (ask : Ask) : Type 0 where
+  pub answers : Answers (seen_at old i).sort (seen_at old i).cells input ask (seen_at new i).cells
+  pub state : new ≡ with_cells_at old i (seen_at new i).cells
+
+-- nothing changes but the count of turns, which rises once at most
+abbrev pub TurnsAtMostOnce : Held → Held → ℕ → Type 0
+TurnsAtMostOnce old new i = (new ≡ old) ⊎ (new ≡ record old { turns = one_more_at old.turns i })
+
+-- only the names grow
+pub record Grows (old new : Held) : Type 0 where
+  pub state : new.state ≡ old.state
+  pub turns : new.turns ≡ old.turns
+  pub names : Extends old.names new.names
+
+-- no other number has the name of the entry's
+unfoldable pub IsNumbered : List (List ℕ) → Entry → Type 0
+IsNumbered names (Global i v) = (j : ℕ) → j < length names → name_at names j ≡ name_at names i → j ≡ i
+IsNumbered names (Current c) = Unit {0}
+IsNumbered names (External i p) = Unit {0}
+
+-- the exchange of an entry is this write of one place, and it weighs as much
+pub record Carries (names : List (List ℕ)) (s : State) (w : Write) (e : Entry) : Type 0 where
+  pub mark : mark_of names e ≡ at w.place
+  pub state : exchanged names s e ≡ put s w.place w.value
+  pub forth : entry_weight e ≡ 32 + size_of w.value
+  pub back : entry_weight (taken names s e) ≡ 32 + size_of (value_at s w.place)
+
+-- the entry is ready to make the change, which is one write
+pub record Prepares (h : Held) (change : Change) (e : Entry) : Type 0 where
+  pub ready : IsReady (shape_of h) e
+  pub numbered : IsNumbered h.names e
+  pub write : Write
+  pub writes : writes_of h.state change ≡ write ∷ []
+  pub carries : Carries h.names h.state write e

@@ -1,0 +1,142 @@
+//! A batch: what goes back over the changes and turns of one command.
+
+ghost use Rattle.std.specs.Prelude.{◌≡◌, ℕ, ◌<◌, List, [], ◌∷◌, ◌++◌, length, IfOk, OnErr, OnOk};
+ghost use Rattle.externals.specs.Cells.{IsPatch, Changes};
+ghost use Rattle.journal_entries.specs.State.{seen_at};
+ghost use Rattle.journal_entries.specs.Changing.{Makes, holds_one};
+ghost use Rattle.journal_entries.specs.Turning.{Grows, Turns, TurnsAtMostOnce, one_more_at};
+ghost use Rattle.journal_entries.specs.Exchange.{back, back_taken, forth, forth_taken, exchanged, taken, shape_of, AreReady, IsReady};
+
+use crate::change::Change;
+use crate::entry::{Entry, are_of_one_place, is_structural_entry};
+use crate::present::Present;
+use externals::{Ask, External, Input};
+use std::alloc::{AllocError, Global};
+use std::marker::Model;
+
+/// Entries in the order in which they were made, with the number of the line that they belong to.
+#[derive(Drop)]
+pub struct Batch {
+    number: u32,
+    entries: Vec<Entry>,
+}
+
+impl Model for Batch {
+    ghost use Rattle.journal_entries.specs.Exchange.{Lot};
+
+    ghost Value = { Lot };
+
+    ghost view = { λ b. record { number = b.number; entries = b.entries.items } };
+}
+
+impl Batch {
+    /// A batch of no entry. It takes no memory.
+    pub fn new(alloc: Global, number: u32) -> Batch
+        ensures { result ≡ record { number = number; entries = [] } }
+    {
+        Batch {
+            number,
+            entries: Vec::new(alloc),
+        }
+    }
+
+    /// The number of its line.
+    pub fn number(&self) -> u32
+        ensures { result ≡ self.now.number }
+    {
+        self.number
+    }
+
+    /// Goes back over all entries, from the last to the first.
+    pub fn go_back<E: External>(&mut self, present: &mut Present<E>)
+        requires { AreReady (shape_of present.old) self.old.entries }
+        ensures state { present.new ≡ record present.old { state = back present.old.names present.old.state self.old.entries } }
+        ensures entries { self.new ≡ record self.old { entries = back_taken present.old.names present.old.state self.old.entries } }
+    {
+        present.go_back(&mut self.entries);
+    }
+
+    /// Goes forth over all entries, from the first to the last.
+    pub fn go_forth<E: External>(&mut self, present: &mut Present<E>)
+        requires { AreReady (shape_of present.old) self.old.entries }
+        ensures state { present.new ≡ record present.old { state = forth present.old.names present.old.state self.old.entries } }
+        ensures entries { self.new ≡ record self.old { entries = forth_taken present.old.names present.old.state self.old.entries } }
+    {
+        present.go_forth(&mut self.entries);
+    }
+
+    /// Whether the segment since the last structural entry has an entry of this one's place.
+    pub fn holds(&self, entry: &Entry) -> bool
+        ensures { result ≡ holds_one entry.now self.now.entries }
+    {
+        let mut i = self.entries.len();
+        while i > 0 {
+            i -= 1;
+            let other = &self.entries[i];
+            if is_structural_entry(other) {
+                return false;
+            }
+            if are_of_one_place(entry, other) {
+                return true;
+            }
+        }
+        false
+    }
+
+    /// Makes an exchange and keeps what comes out.
+    pub fn record<E: External>(
+        &mut self,
+        present: &mut Present<E>,
+        mut entry: Entry,
+    ) -> Result<(), AllocError>
+        requires { IsReady (shape_of present.old) entry }
+        ensures state { OnOk result (present.new ≡ record present.old { state = exchanged present.old.names present.old.state entry }) }
+        ensures entries { OnOk result (self.new ≡ record self.old { entries = self.old.entries ++ taken present.old.names present.old.state entry ∷ [] }) }
+        ensures state_err { OnErr result (present.new ≡ present.old) }
+        ensures entries_err { OnErr result (self.new ≡ self.old) }
+    {
+        self.entries.reserve(1)?;
+        present.exchange(&mut entry);
+        self.entries.push_reserved(entry);
+        Ok(())
+    }
+
+    /// Makes a change. It keeps what the change replaces, unless the place has its entry already.
+    pub fn make<E: External>(
+        &mut self,
+        present: &mut Present<E>,
+        change: Change,
+    ) -> Result<(), AllocError>
+        ensures ok { OnOk result (Makes present.old present.new self.old self.new change) }
+        ensures err { OnErr result (Grows present.old present.new × (self.new ≡ self.old)) }
+    {
+        let mut entry = present.prepare(change)?;
+        if self.holds(&entry) {
+            present.exchange(&mut entry);
+            return Ok(());
+        }
+        self.record(present, entry)
+    }
+
+    /// Gives an external one turn and keeps its patch.
+    pub fn turn<E: External>(
+        &mut self,
+        present: &mut Present<E>,
+        i: usize,
+        alloc: Global,
+        input: &Input,
+    ) -> Result<Ask, AllocError>
+        requires { i < length present.old.state.externals }
+        ensures turn { IfOk result (λ ask. Turns present.old.state present.new.state i input.now ask) }
+        ensures entry { OnOk result ((p : Changes) × IsPatch (seen_at present.old.state i).cells (seen_at present.new.state i).cells p
+            × (self.new ≡ record self.old { entries = self.old.entries ++ Entry.External i p ∷ [] })) }
+        ensures held { OnOk result (present.new ≡ record present.old { state = present.new.state; turns = one_more_at present.old.turns i }) }
+        ensures err { OnErr result (self.new ≡ self.old) }
+        ensures held_err { OnErr result (TurnsAtMostOnce present.old present.new i) }
+    {
+        self.entries.reserve(1)?;
+        let (ask, patch) = present.turn(i, alloc, input)?;
+        self.entries.push_reserved(Entry::External(i, patch));
+        Ok(ask)
+    }
+}

@@ -1,0 +1,21 @@
+//! The present state, the changes of it, and the entries of a batch that go back over them.
+#![tactic(auto)]
+
+mod batch;
+mod change;
+mod entry;
+mod globals;
+mod laws;
+mod names;
+mod present;
+
+pub use batch::Batch;
+pub use change::Change;
+pub use entry::Entry;
+pub use globals::Globals;
+pub use laws::law_of_trails;
+pub use names::{are_apart, index_of};
+pub use present::Present;
+
+#[cfg(test)]
+mod tests;

@@ -1,0 +1,276 @@
+//! The one state that is held: the stack, the globals, the current card and the externals.
+
+ghost use Rattle.std.specs.Prelude.{◌≡◌, ℕ, ◌<◌, List, [], ◌∷◌, ◌++◌, length, ◌+◌, take, drop, IfOk, IfErr, OnErr, OnOk, slice_index_or, slice_get, Some, option_copied, map};
+ghost use Rattle.std.specs.FinMap as finite;
+ghost use Rattle.externals.specs.Cells.{IsPatch};
+ghost use Rattle.journal_entries.specs.State.{seen_by, seen_at, first_state, titles_of, has_name as has_title, index_of as index_of_title};
+ghost use Rattle.object_table.specs.Objects.{has_kind, is_card as is_card_kind};
+ghost use Rattle.journal_entries.specs.Named.{listed, Lists};
+ghost use Rattle.journal_entries.specs.Changes.{fits, is_folded as is_folded_name};
+ghost use Rattle.journal_entries.specs.Exchange.{exchanged, taken, back, back_taken, forth, forth_taken, shape_of, IsReady, AreReady};
+ghost use Rattle.journal_entries.specs.Turning.{Grows, Prepares, Turns, one_more_at};
+
+use crate::change::Change;
+use crate::entry::Entry;
+use crate::globals::Globals;
+use crate::names::{has_name, index_of};
+use externals::{Ask, External, Input, Patch};
+use ht_values::Text;
+use object_table::{Kind, Stack};
+use std::alloc::{AllocError, Global};
+use std::marker::Model;
+use std::mem;
+
+/// The present state, which contracts see beside the names of globals that have numbers and the externals'
+/// turns.
+#[derive(Drop)]
+pub struct Present<E: External> {
+    stack: Stack,
+    globals: Globals,
+    current: u32,
+    externals: Vec<E>,
+}
+
+impl<E: External> Model for Present<E> {
+    ghost use Rattle.std.specs.Prelude.{map};
+    ghost use Rattle.journal_entries.specs.State.{seen_by};
+    ghost use Rattle.journal_entries.specs.Exchange.{Held, coded_held};
+
+    ghost Value = { Held };
+
+    ghost coded = { coded_held };
+
+    ghost view = { λ p. record {
+      state = record {
+        stack = p.stack.content;
+        globals = p.globals.texts;
+        current = p.current;
+        externals = map (seen_by E.title E.sort E.answers_calls E.cells) p.externals.items;
+      };
+      names = p.globals.names;
+      turns = map E.turn_count p.externals.items;
+    } };
+}
+
+impl<E: External> Present<E> {
+    /// The state of a stack with no global. It takes no memory.
+    pub fn new(alloc: Global, stack: Stack, current: u32, externals: Vec<E>) -> Present<E>
+        ensures { result ≡ record {
+          state = record { stack = stack.content; globals = finite.empty; current = current; externals = map (seen_by E.title E.sort E.answers_calls E.cells) externals.items };
+          names = [];
+          turns = map E.turn_count externals.items;
+        } }
+    {
+        Present {
+            stack,
+            globals: Globals::new(alloc),
+            current,
+            externals,
+        }
+    }
+
+    /// Exchanges the value of one place, or the cells of one external.
+    #[tactic(auto, unfolding(crate::specs::Exchange::exchanged, crate::specs::Exchange::taken, crate::specs::Exchange::IsReady))]
+    pub fn exchange(&mut self, entry: &mut Entry)
+        requires { IsReady (shape_of self.old) entry.old }
+        ensures state { self.new ≡ record self.old { state = exchanged self.old.names self.old.state entry.old } }
+        ensures entry { entry.new ≡ taken self.old.names self.old.state entry.old }
+    {
+        match entry {
+            Entry::Global(i, value) => self.globals.swap(*i, value),
+            Entry::Current(current) => mem::swap(&mut self.current, current),
+            Entry::External(i, patch) => self.externals[*i].flip(patch),
+        }
+    }
+
+    /// Exchanges the entries from the last to the first.
+    pub fn go_back(&mut self, entries: &mut [Entry])
+        requires { AreReady (shape_of self.old) entries.old }
+        ensures state { self.new ≡ record self.old { state = back self.old.names self.old.state entries.old } }
+        ensures entries { entries.new ≡ back_taken self.old.names self.old.state entries.old }
+    {
+        let mut i = entries.len();
+        while i > 0 {
+            i -= 1;
+            self.exchange(&mut entries[i]);
+        }
+    }
+
+    /// Exchanges the entries from the first to the last.
+    pub fn go_forth(&mut self, entries: &mut [Entry])
+        requires { AreReady (shape_of self.old) entries.old }
+        ensures state { self.new ≡ record self.old { state = forth self.old.names self.old.state entries.old } }
+        ensures entries { entries.new ≡ forth_taken self.old.names self.old.state entries.old }
+    {
+        for i in 0..entries.len() {
+            self.exchange(&mut entries[i]);
+        }
+    }
+
+    /// Grows what a change needs, and hands out the entry that makes it.
+    #[tactic(auto, unfolding(crate::specs::Exchange::exchanged, crate::specs::Exchange::taken, crate::specs::Exchange::mark_of, crate::specs::Exchange::entry_weight, crate::specs::Exchange::IsReady, crate::specs::Places::put, crate::specs::Turning::IsNumbered))]
+    pub fn prepare(&mut self, change: Change) -> Result<Entry, AllocError>
+        ensures entry { IfOk result (Prepares self.new change) }
+        ensures grows { Grows self.old self.new }
+    {
+        match change {
+            Change::Global(name, value) => Ok(Entry::Global(self.globals.number(name)?, value)),
+            Change::Current(card) => Ok(Entry::Current(card)),
+        }
+    }
+
+    /// Gives an external one turn.
+    pub fn turn(
+        &mut self,
+        i: usize,
+        alloc: Global,
+        input: &Input,
+    ) -> Result<(Ask, Patch), AllocError>
+        requires { i < length self.old.state.externals }
+        ensures turn { IfOk result (λ r. Turns self.old.state self.new.state i input.now r.0) }
+        ensures patch { IfOk result (λ r. IsPatch (seen_at self.old.state i).cells (seen_at self.new.state i).cells r.1) }
+        ensures held { self.new ≡ record self.old { state = self.new.state; turns = one_more_at self.old.turns i } }
+        ensures err { OnErr result (self.new.state ≡ self.old.state) }
+    {
+        self.externals[i].turn(alloc, input)
+    }
+
+    /// The stack.
+    pub fn stack(&self) -> &Stack
+        ensures { result.now.content ≡ self.now.state.stack }
+    {
+        &self.stack
+    }
+
+    /// The card that is current.
+    pub fn current(&self) -> u32
+        ensures { result ≡ self.now.state.current }
+    {
+        self.current
+    }
+
+    /// The value of a global, if it has one.
+    pub fn global(&self, name: &Text) -> Option<&Text>
+        ensures { option_copied result ≡ finite.get self.now.state.globals name.now }
+    {
+        self.globals.get(name)
+    }
+
+    /// How many globals have a value.
+    pub fn global_count(&self) -> usize
+        ensures count { result ≡ length (listed self.now.names self.now.state.globals) }
+        ensures each { Lists (listed self.now.names self.now.state.globals) self.now.state.globals }
+    {
+        self.globals.count()
+    }
+
+    /// The i-th global that has a value, from 0: its name and its value.
+    pub fn global_at(&self, i: usize) -> (&Text, &Text)
+        requires { i < length (listed self.now.names self.now.state.globals) }
+        ensures { slice_get (listed self.now.names self.now.state.globals) i ≡ Some (result.0.now, result.1.now) }
+    {
+        self.globals.at(i)
+    }
+
+    /// The i-th external, from 0.
+    pub fn external(&self, i: usize) -> &E
+        requires { i < length self.now.state.externals }
+        ensures seen { seen_by E.title E.sort E.answers_calls E.cells result.now ≡ seen_at self.now.state i }
+        ensures turns { E.turn_count result.now ≡ slice_index_or self.now.turns i 0 }
+    {
+        &self.externals[i]
+    }
+
+    /// How many externals there are.
+    pub fn external_count(&self) -> usize
+        ensures { result ≡ length self.now.state.externals }
+    {
+        self.externals.len()
+    }
+
+    /// Whether a change fits.
+    pub fn fits(&self, change: &Change) -> bool
+        ensures { result ≡ fits self.now.state change.now }
+    {
+        match change {
+            Change::Global(name, _) => is_folded(name),
+            Change::Current(card) => is_card(&self.stack, *card),
+        }
+    }
+
+    /// The number of the external whose name is the same.
+    pub fn external_number(&self, name: &Text) -> Option<usize>
+        ensures { result ≡ index_of_title name.now (titles_of self.now.state.externals) }
+    {
+        index_of(&self.externals, name)
+    }
+
+    /// Whether an external has a name that is the same.
+    pub fn has_external(&self, name: &Text) -> bool
+        ensures { result ≡ has_title name.now (titles_of self.now.state.externals) }
+    {
+        has_name(&self.externals, name)
+    }
+
+    /// Adds an external, or hands it back where a growth was refused.
+    pub fn plug(&mut self, external: E) -> Result<(), E>
+        ensures ok { OnOk result (self.new ≡ record self.old {
+          state = record self.old.state { externals = self.old.state.externals ++ seen_by E.title E.sort E.answers_calls E.cells external ∷ [] };
+          turns = self.old.turns ++ E.turn_count external ∷ [];
+        }) }
+        ensures err { IfErr result (λ e. (e ≡ external) × (self.new ≡ self.old)) }
+    {
+        match self.externals.push(external) {
+            Ok(()) => Ok(()),
+            Err(refused) => Err(refused.value),
+        }
+    }
+
+    /// Takes out the i-th external, from 0.
+    pub fn unplug(&mut self, i: usize) -> E
+        requires { i < length self.old.state.externals }
+        ensures seen { seen_by E.title E.sort E.answers_calls E.cells result ≡ seen_at self.old.state i }
+        ensures held { self.new ≡ record self.old {
+          state = record self.old.state { externals = take i self.old.state.externals ++ drop (i + 1) self.old.state.externals };
+          turns = take i self.old.turns ++ drop (i + 1) self.old.turns;
+        } }
+    {
+        self.externals.remove(i)
+    }
+
+    /// The externals, in order.
+    pub fn into_externals(self) -> Vec<E>
+        ensures seen { map (seen_by E.title E.sort E.answers_calls E.cells) result.items ≡ self.state.externals }
+        ensures turns { map E.turn_count result.items ≡ self.turns }
+    {
+        let Present {
+            stack: _,
+            globals: _,
+            current: _,
+            externals,
+        } = self;
+        externals
+    }
+}
+
+/// Whether the id is a card's.
+fn is_card(stack: &Stack, id: u32) -> bool
+    ensures { result ≡ has_kind is_card_kind stack.now.content id }
+{
+    match stack.object(id) {
+        Some(object) => matches!(object.kind, Kind::Card { .. }),
+        None => false,
+    }
+}
+
+/// Whether no byte of the name is one of A-Z.
+fn is_folded(name: &Text) -> bool
+    ensures { result ≡ is_folded_name name.now }
+{
+    for byte in name.as_slice() {
+        if byte.is_ascii_uppercase() {
+            return false;
+        }
+    }
+    true
+}
