@@ -1,0 +1,11 @@
+pub mod Ready
+pub mod Steps
+pub mod Growth
+pub mod States
+pub mod First
+pub mod Moves
+pub mod Flips
+pub mod Commits
+pub mod Plugs
+pub mod Book
+pub mod Making

@@ -1,0 +1,29 @@
+use Rattle.std.proofs.Common.{◌≡◌, ◌++◌, [], ◌∷◌, Some, length, take, ap, ◌∙◌, arith}
+use Rattle.change_journal.specs.History.{committed}
+use Rattle.change_journal.specs.Batches.{history_of, newest, oldest_of}
+use Rattle.change_journal.proofs.Book.{book}
+use Rattle.change_journal.proofs.Commits.{IsSound-committed, history-committed}
+use Rattle.change_journal.proofs.world.World.commit.Goals as goal
+
+pub invariant_of-self : goal.invariant_of-self
+invariant_of-self g c =
+    let w = c.self.inside in
+    let b = book w.present w.oldest w.depth w.batches.items w.cursor in
+    let lot = c.in-Some.batch in
+    let e = c.keep-self-inside.ensures in
+    let items : c.keep-self-inside.new.batches.items ≡ newest w.depth (take w.cursor w.batches.items ++ lot ∷ []) = e.batches ∙ ap (λ xs. newest w.depth (xs ++ lot ∷ [])) c.truncate.ensures.items in
+    let oldest : c.keep-self-inside.result ≡ oldest_of w.depth w.oldest (take w.cursor w.batches.items ++ lot ∷ []) = e.oldest ∙ ap (λ xs. oldest_of w.depth w.oldest (xs ++ lot ∷ [])) c.truncate.ensures.items in
+    let count : c.len-self-inside.result ≡ length (newest w.depth (take w.cursor w.batches.items ++ lot ∷ [])) = omega (arith, c.len-self-inside.ensures, ap length items) in
+    rw (c.in-Some.ensures.after, items, oldest, count) (IsSound-committed b _ _ lot (rw (← c.in-Some.ensures.value) at c.self.invariant))
+
+pub returns-in-Some-clause-history : goal.returns-in-Some-clause-history
+returns-in-Some-clause-history g c =
+    let w = c.self.inside in
+    let b = book w.present w.oldest w.depth w.batches.items w.cursor in
+    let lot = c.in-Some.batch in
+    let e = c.keep-self-inside.ensures in
+    let items : c.keep-self-inside.new.batches.items ≡ newest w.depth (take w.cursor w.batches.items ++ lot ∷ []) = e.batches ∙ ap (λ xs. newest w.depth (xs ++ lot ∷ [])) c.truncate.ensures.items in
+    let oldest : c.keep-self-inside.result ≡ oldest_of w.depth w.oldest (take w.cursor w.batches.items ++ lot ∷ []) = e.oldest ∙ ap (λ xs. oldest_of w.depth w.oldest (xs ++ lot ∷ [])) c.truncate.ensures.items in
+    let count : c.len-self-inside.result ≡ length (newest w.depth (take w.cursor w.batches.items ++ lot ∷ [])) = omega (arith, c.len-self-inside.ensures, ap length items) in
+    let before : history_of b (Some lot) ≡ c.args.self.now.history = ap (history_of b) c.in-Some.ensures.value ∙ ap (λ j. j.history) c.self.view_is in
+    rw (c.in-Some.ensures.after, items, oldest, count) (history-committed b lot c.self.invariant.within c.self.invariant.few ∙ ap committed before)

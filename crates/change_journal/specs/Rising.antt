@@ -1,0 +1,41 @@
+-- What a change and a turn make of an open history.
+use Rattle.std.specs.Prelude.{◌≡◌, ℕ, ◌+◌, ◌≤◌, List, [], ◌∷◌, Option, Some}
+use Rattle.externals.specs.declared.external.Input.{Input}
+use Rattle.externals.specs.declared.external.Ask.{Ask}
+use Rattle.journal_entries.specs.State.{seen_at}
+use Rattle.journal_entries.specs.Changes.{changed}
+use Rattle.journal_entries.specs.Replaced.{Replacement, replaced_by, replaced_by_turn, back_weight, forth_weight}
+use Rattle.journal_entries.specs.Trails.{Mark, marked, structural}
+use Rattle.journal_entries.specs.Turning.{Turns, one_more_at}
+use Rattle.journal_entries.specs.declared.change.Change.{Change}
+use Rattle.change_journal.specs.History.{Open, History}
+
+-- the trail after these were replaced: a place that its last segment holds already adds nothing
+abbrev pub trail_after : List Replacement → List Mark → List Mark
+trail_after [] trail = trail
+trail_after (r ∷ rs) trail = trail_after rs (marked r.place trail)
+
+-- The open batch after these were replaced: it goes back to the same state and belongs to the same line, each
+-- weight rises by at most theirs, and its trail has these marks.
+pub record Rises (replaced : List Replacement) (marks : List Mark) (old new : Open) : Type 0 where
+  pub state : new.state ≡ old.state
+  pub number : new.number ≡ old.number
+  pub undo : new.undo ≤ old.undo + back_weight replaced
+  pub redo : new.redo ≤ old.redo + forth_weight replaced
+  pub trail : new.trail ≡ marks
+
+-- what holds of the batch that is open before and after
+abbrev pub BothOpen : Option Open → Option Open → (Open → Open → Type 0) → Type 0
+BothOpen (Some old) (Some new) P = P old new
+BothOpen _ _ P = ⊥
+
+-- a change of the present state in an open batch
+pub record Made (old new : History) (change : Change) : Type 0 where
+  pub history : new ≡ record old { now = changed old.now change; start = new.start }
+  pub start : BothOpen old.start new.start (λ o p. Rises (replaced_by old.now change) (trail_after (replaced_by old.now change) o.trail) o p)
+
+-- a turn of the i-th external in an open batch
+pub record TookTurn (old new : History) (i : ℕ) (input : Input) (ask : Ask) : Type 0 where
+  pub turn : Turns old.now new.now i input ask
+  pub history : new ≡ record old { now = new.now; start = new.start; turns = one_more_at old.turns i }
+  pub start : BothOpen old.start new.start (λ o p. Rises (replaced_by_turn i (seen_at old.now i).cells (seen_at new.now i).cells) (structural ∷ o.trail) o p)

@@ -1,0 +1,12 @@
+//! The world: the one present state, the history of states round it, and the only door for changes.
+#![tactic(auto)]
+
+mod fault;
+mod world;
+
+pub use fault::{OpenError, PlugError};
+pub use journal_entries::Change;
+pub use world::World;
+
+#[cfg(test)]
+mod tests;

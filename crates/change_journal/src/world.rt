@@ -1,0 +1,330 @@
+//! The world: one present state, and the batches that lead back and forth from it.
+
+ghost use Rattle.std.specs.Prelude.{◌≡◌, ◌⊎◌, ℕ, ◌<◌, ◌≤◌, List, [], ◌∷◌, ◌++◌, length, true, IsErr, Some, None, IsSome, IfSome, IsTrue, IfOk, IfErr, OnErr, OnOk, is_ok, map, option_map, option_copied, slice_index_or, slice_get};
+ghost use Rattle.std.specs.FinMap as finite;
+ghost use Rattle.object_table.specs.WellFormed.{IsWellFormed};
+ghost use Rattle.object_table.specs.Objects.{has_kind, is_card};
+ghost use Rattle.journal_entries.specs.State.{seen_by, seen_at, first_state, titles_of, has_name, index_of, are_apart as apart_titles};
+ghost use Rattle.journal_entries.specs.Named.{listed, Lists};
+ghost use Rattle.journal_entries.specs.Changes.{fits};
+ghost use Rattle.journal_entries.specs.Trails.{IsOnce};
+ghost use Rattle.journal_entries.specs.Turning.{one_more_at};
+ghost use Rattle.change_journal.specs.History.{alone, begun, committed, rolled_back, flipped_back, flipped_forth, plugged, unplugged, stamp_at};
+ghost use Rattle.std.specs.VecDeque.{deque_len, deque_capacity};
+ghost use Rattle.change_journal.specs.Batches.{newest, oldest_of};
+ghost use Rattle.change_journal.specs.Rising.{Made, TookTurn};
+
+use crate::fault::{OpenError, PlugError};
+use externals::{Ask, External, Input};
+use ht_values::Text;
+use journal_entries::{Batch, Change, Present, are_apart};
+use object_table::Stack;
+use std::alloc::{AllocError, Global};
+use std::collections::VecDeque;
+use std::marker::Model;
+
+/// The present state of a stack, its globals, its current card and its externals, with the history of states
+/// round it. Nothing else writes: a change or a turn of an external is made in an open batch, which `commit`
+/// makes a state of the history and `roll_back` gives up.
+///
+/// `commit`, `roll_back`, the flips, `unplug` and the readers take no memory.
+#[derive(Drop)]
+pub struct World<E: External> {
+    present: Present<E>,
+    batches: VecDeque<Batch>,
+    cursor: usize,
+    open: Option<Batch>,
+    oldest: u32,
+    depth: u32,
+    alloc: Global,
+}
+
+impl<E: External> Model for World<E> {
+    ghost use Rattle.std.specs.VecDeque.{deque_capacity};
+    ghost use Rattle.change_journal.specs.History.{Journal, coded_journal};
+    ghost use Rattle.change_journal.specs.Batches.{history_of, IsSound};
+
+    ghost Value = { Journal };
+
+    ghost coded = { coded_journal };
+
+    ghost view = { λ w. record {
+      history = history_of (record { held = w.present; oldest = w.oldest; depth = w.depth; batches = w.batches.items; cursor = w.cursor }) w.«open»;
+      names = w.present.names;
+    } };
+
+    ghost invariant = { λ w. IsSound (record { held = w.present; oldest = w.oldest; depth = w.depth; batches = w.batches.items; cursor = w.cursor }) (deque_capacity w.batches) w.«open» };
+}
+
+impl<E: External> World<E> {
+    /// A world of one state: the stack, no global, its first card, and the externals with their cells of now.
+    /// At most `depth` states, from 1 to 1,000,000, will stand before the present one. `DuplicateName` where two
+    /// externals have names that are the same; then the stack and the externals come back. It takes no memory.
+    pub fn open(
+        alloc: Global,
+        stack: Stack,
+        externals: Vec<E>,
+        depth: u32,
+    ) -> Result<World<E>, (OpenError, Stack, Vec<E>)>
+        requires low { 1 ≤ depth }
+        requires high { depth ≤ 1000000 }
+        requires stack { IsWellFormed stack.content }
+        ensures apart { is_ok result ≡ apart_titles (map E.title externals.items) }
+        ensures ok { IfOk result (λ w. w.history ≡ alone (first_state stack.content (map (seen_by E.title E.sort E.answers_calls E.cells) externals.items)) 0 depth (map E.turn_count externals.items)) }
+        ensures err { IfErr result (λ e. (e.0 ≡ OpenError.DuplicateName) × (e.1 ≡ stack) × (e.2.items ≡ externals.items)) }
+    {
+        if !are_apart(&externals) {
+            return Err((OpenError::DuplicateName, stack, externals));
+        }
+        let first = stack.card_at(1).unwrap_or(0);
+        Ok(World {
+            present: Present::new(alloc, stack, first, externals),
+            batches: VecDeque::new(alloc),
+            cursor: 0,
+            open: None,
+            oldest: 0,
+            depth,
+            alloc,
+        })
+    }
+
+    /// The stack.
+    pub fn stack(&self) -> &Stack
+        ensures content { result.now.content ≡ self.now.history.now.stack }
+        ensures well_formed { IsWellFormed result.now.content }
+    {
+        self.present.stack()
+    }
+
+    /// The value of a global, by its folded name, if it has one.
+    pub fn global(&self, name: &Text) -> Option<&Text>
+        ensures { option_copied result ≡ finite.get self.now.history.now.globals name.now }
+    {
+        self.present.global(name)
+    }
+
+    /// How many globals have a value. `global_at` gives each of them once, in an order that isn't fixed.
+    pub fn global_count(&self) -> usize
+        ensures count { result ≡ length (listed self.now.names self.now.history.now.globals) }
+        ensures each { Lists (listed self.now.names self.now.history.now.globals) self.now.history.now.globals }
+    {
+        self.present.global_count()
+    }
+
+    /// A global that has a value: its name and its value. They are counted from 0.
+    pub fn global_at(&self, i: usize) -> (&Text, &Text)
+        requires { i < length (listed self.now.names self.now.history.now.globals) }
+        ensures { slice_get (listed self.now.names self.now.history.now.globals) i ≡ Some (result.0.now, result.1.now) }
+    {
+        self.present.global_at(i)
+    }
+
+    /// The id of the card that is current.
+    pub fn current(&self) -> u32
+        ensures value { result ≡ self.now.history.now.current }
+        ensures card { has_kind is_card self.now.history.now.stack result ≡ true }
+    {
+        self.present.current()
+    }
+
+    /// How many externals there are.
+    pub fn external_count(&self) -> usize
+        ensures { result ≡ length self.now.history.now.externals }
+    {
+        self.present.external_count()
+    }
+
+    /// The i-th external in the order of plugging, from 0.
+    pub fn external(&self, i: usize) -> &E
+        requires { i < length self.now.history.now.externals }
+        ensures seen { seen_by E.title E.sort E.answers_calls E.cells result.now ≡ seen_at self.now.history.now i }
+        ensures turns { E.turn_count result.now ≡ slice_index_or self.now.history.turns i 0 }
+    {
+        self.present.external(i)
+    }
+
+    /// How many states stand before the cursor.
+    pub fn undoable(&self) -> usize
+        ensures count { result ≡ length self.now.history.past }
+        ensures few { result ≤ self.now.history.depth }
+    {
+        self.cursor
+    }
+
+    /// How many states stand after the cursor.
+    pub fn redoable(&self) -> usize
+        ensures { result ≡ length self.now.history.future }
+    {
+        self.batches.len() - self.cursor
+    }
+
+    /// The number of the line that added the state i before the cursor; 0 is the state at the cursor.
+    pub fn stamp(&self, i: usize) -> u32
+        requires { i ≤ length self.now.history.past }
+        ensures { result ≡ stamp_at self.now.history i }
+    {
+        if i < self.cursor {
+            self.batches[self.cursor - 1 - i].number()
+        } else {
+            self.oldest
+        }
+    }
+
+    /// Whether a change fits: a global goes by its folded name, and what becomes current is a card.
+    pub fn fits(&self, change: &Change) -> bool
+        ensures { result ≡ fits self.now.history.now change.now }
+    {
+        self.present.fits(change)
+    }
+
+    /// Opens a batch for the line of this number, and takes the memory that `commit` needs. Where it was refused
+    /// nothing changes.
+    pub fn begin(&mut self, number: u32) -> Result<(), AllocError>
+        requires { self.old.history.start ≡ None }
+        ensures ok { OnOk result (self.new.history ≡ begun self.old.history number) }
+        ensures err { OnErr result (self.new.history ≡ self.old.history) }
+    {
+        self.batches.reserve(1)?;
+        self.open = Some(Batch::new(self.alloc, number));
+        Ok(())
+    }
+
+    /// Makes a change. Where memory was refused nothing changes, and the change is dropped.
+    pub fn make(&mut self, change: Change) -> Result<(), AllocError>
+        requires open { IsSome self.old.history.start }
+        requires fits { fits self.old.history.now change ≡ true }
+        ensures ok { OnOk result (Made self.old.history self.new.history change) }
+        ensures err { OnErr result (self.new.history ≡ self.old.history) }
+    {
+        match &mut self.open {
+            Some(batch) => batch.make(&mut self.present, change),
+            None => unreachable!(),
+        }
+    }
+
+    /// Gives the i-th external one turn. Where memory was refused nothing changes but its count of turns, which
+    /// rises by one at most.
+    pub fn turn_external(&mut self, i: usize, input: &Input) -> Result<Ask, AllocError>
+        requires open { IsSome self.old.history.start }
+        requires there { i < length self.old.history.now.externals }
+        ensures ok { IfOk result (λ ask. TookTurn self.old.history self.new.history i input.now ask) }
+        ensures err { OnErr result ((self.new.history ≡ self.old.history) ⊎ (self.new.history ≡ record self.old.history { turns = one_more_at self.old.history.turns i })) }
+    {
+        match &mut self.open {
+            Some(batch) => batch.turn(&mut self.present, i, self.alloc, input),
+            None => unreachable!(),
+        }
+    }
+
+    /// The open batch leads back from a new state of the history, what stood after the cursor goes, and so does
+    /// the oldest state where more than `depth` would stand before it. The batch has each place once between two
+    /// structural entries, before the first and after the last.
+    pub fn commit(&mut self)
+        requires { IsSome self.old.history.start }
+        ensures history { self.new.history ≡ committed self.old.history }
+        ensures once { IfSome self.old.history.start (λ o. IsOnce o.trail) }
+    {
+        if let Some(batch) = self.open.take() {
+            self.batches.truncate(self.cursor);
+            self.oldest = keep(&mut self.batches, self.oldest, self.depth, batch);
+            self.cursor = self.batches.len();
+        }
+    }
+
+    /// The open batch is given up: the state at its beginning is the present one again.
+    pub fn roll_back(&mut self)
+        requires { IsSome self.old.history.start }
+        ensures { self.new.history ≡ rolled_back self.old.history }
+    {
+        if let Some(mut batch) = self.open.take() {
+            batch.go_back(&mut self.present);
+        }
+    }
+
+    /// Moves the cursor to the state before. No script runs and no external takes a turn.
+    pub fn flip_back(&mut self)
+        requires closed { self.old.history.start ≡ None }
+        requires there { 0 < length self.old.history.past }
+        ensures { self.new.history ≡ flipped_back self.old.history }
+    {
+        self.cursor -= 1;
+        self.batches[self.cursor].go_back(&mut self.present);
+    }
+
+    /// Moves the cursor to the state after. No script runs and no external takes a turn.
+    pub fn flip_forth(&mut self)
+        requires closed { self.old.history.start ≡ None }
+        requires there { 0 < length self.old.history.future }
+        ensures { self.new.history ≡ flipped_forth self.old.history }
+    {
+        self.batches[self.cursor].go_forth(&mut self.present);
+        self.cursor += 1;
+    }
+
+    /// Adds an external, with its cells of now, to every state of the history. `DuplicateName` where another has
+    /// a name that is the same; it and want of memory hand the external back, and then nothing changes.
+    pub fn plug(&mut self, external: E) -> Result<(), (PlugError, E)>
+        requires { self.old.history.start ≡ None }
+        ensures ok { OnOk result (self.new.history ≡ plugged self.old.history (seen_by E.title E.sort E.answers_calls E.cells external) (E.turn_count external)) }
+        ensures err { IfErr result (λ e. (e.1 ≡ external) × (self.new.history ≡ self.old.history)) }
+        ensures duplicate { IfErr result (λ e. e.0 ≡ PlugError.DuplicateName → has_name (E.title external) (titles_of self.old.history.now.externals) ≡ true) }
+        ensures apart { has_name (E.title external) (titles_of self.old.history.now.externals) ≡ true → IfErr result (λ e. e.0 ≡ PlugError.DuplicateName) × IsErr result }
+    {
+        if self.present.has_external(external.name()) {
+            return Err((PlugError::DuplicateName, external));
+        }
+        match self.present.plug(external) {
+            Ok(()) => {}
+            Err(external) => return Err((PlugError::Memory, external)),
+        }
+        Ok(())
+    }
+
+    /// Takes out the external whose name is the same, and hands it out. The history is then the present state
+    /// alone, which keeps its number. Where no external has the name nothing changes.
+    pub fn unplug(&mut self, name: &Text) -> Option<E>
+        requires { self.old.history.start ≡ None }
+        ensures history { self.new.history ≡ unplugged name.now self.old.history }
+        ensures external { option_map (seen_by E.title E.sort E.answers_calls E.cells) result ≡ option_map (seen_at self.old.history.now) (index_of name.now (titles_of self.old.history.now.externals)) }
+    {
+        let i = self.present.external_number(name)?;
+        self.oldest = self.stamp(0);
+        self.batches.clear();
+        self.cursor = 0;
+        Some(self.present.unplug(i))
+    }
+
+    /// The externals in the order of plugging, with their cells of now.
+    pub fn close(self) -> Vec<E>
+        ensures seen { map (seen_by E.title E.sort E.answers_calls E.cells) result.items ≡ self.history.now.externals }
+        ensures turns { map E.turn_count result.items ≡ self.history.turns }
+    {
+        let World {
+            present,
+            batches: _,
+            cursor: _,
+            open: _,
+            oldest: _,
+            depth: _,
+            alloc: _,
+        } = self;
+        present.into_externals()
+    }
+}
+
+/// Adds a batch, the newest, and drops the oldest one where there are then more than `depth`. The number of the
+/// oldest state that can still be gone back to comes out, where `oldest` was it before.
+fn keep(batches: &mut VecDeque<Batch>, oldest: u32, depth: u32, batch: Batch) -> u32
+    requires { deque_len batches.old < deque_capacity batches.old }
+    ensures batches { batches.new.items ≡ newest depth (batches.old.items ++ batch ∷ []) }
+    ensures oldest { result ≡ oldest_of depth oldest (batches.old.items ++ batch ∷ []) }
+{
+    batches.push_back_reserved(batch);
+    if batches.len() <= depth as usize {
+        return oldest;
+    }
+    match batches.pop_front() {
+        Some(first) => first.number(),
+        None => unreachable!(),
+    }
+}
