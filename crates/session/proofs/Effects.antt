@@ -1,0 +1,109 @@
+-- Statements that are run.
+use Rattle.std.proofs.Common.{◌≡◌, ℕ, ◌-◌, true, false, cond, not, List, [], ◌∷◌, refl, sym, ap, ◌∙◌, arith, get_or}
+use Rattle.std.specs.Prelude.{Option, Some, None, IfSome, slice_get, ◌==◌}
+use Rattle.std.specs.Char.{is_ascii_uppercase, to_ascii_lowercase}
+use Rattle.std.proofs.lemmas.Bool.Decides.{nat_tests}
+use Rattle.std.proofs.lemmas.List.Folds.{list_any_at}
+use Rattle.std.proofs.lemmas.Option.{slice_get_within, get_or_from_slice_get}
+use Rattle.std.proofs.lemmas.Bool.{eq-eqb}
+use Rattle.ht_values.specs.Text.{folded}
+use Rattle.object_table.specs.Content.{Content}
+use Rattle.object_table.specs.Numbers.{at_number}
+use Rattle.object_table.specs.Objects.{has_kind, is_card, contains_id}
+use Rattle.object_table.specs.WellFormed.{IsWellFormed}
+use Rattle.journal_entries.specs.Changes.{is_folded, changed}
+use Rattle.journal_entries.specs.Replaced.{replaced_by}
+use Rattle.journal_entries.specs.declared.change.Change.{Change}
+use Rattle.change_journal.specs.History.{History, Open, begun, committed, rolled_back}
+use Rattle.change_journal.specs.Rising.{Made, Rises, BothOpen, trail_after}
+use Rattle.journal_entries.specs.Trails.{IsOnce}
+use Rattle.session.specs.Commands.{Statement}
+use Rattle.session.specs.Meaning.{effect, replaced_of, after_change}
+use Rattle.session.specs.TakesLine.{Adds, ended}
+use Rattle.session.specs.declared.reply.Ending.{Ending}
+
+not_upper : (b : ℕ) → not (is_ascii_uppercase (to_ascii_lowercase b)) ≡ true
+not_upper b = grind (arith, nat_tests)
+
+-- a folded name is folded
+pub is_folded-folded : (name : List ℕ) → is_folded (folded name) ≡ true
+is_folded-folded [] = refl
+is_folded-folded (b ∷ bs) = rw (not_upper b) (is_folded-folded bs)
+
+contains_id-get : (ids : List ℕ) (i card : ℕ) → slice_get ids i ≡ Some card → contains_id card ids ≡ true
+contains_id-get ids i card is =
+    let here : get_or ids i 0 ≡ card = get_or_from_slice_get ids i card 0 is in
+    list_any_at (λ x. x == card) ids i 0 (slice_get_within ids i card is) (eq-eqb (get_or ids i 0) card here)
+
+contains_id-at_number : (ids : List ℕ) (n card : ℕ) → at_number ids n ≡ Some card → contains_id card ids ≡ true
+contains_id-at_number ids n card is =
+    elim (n == 0) as (λ b. cond b None (slice_get ids (n - 1)) ≡ Some card → contains_id card ids ≡ true) [
+      | true ↦ λ never. cc
+      | false ↦ λ here. contains_id-get ids (n - 1) card here
+    ] is
+
+-- a card that has a number is a card
+pub is_card-at_number : (s stack : Content) (n card : ℕ) → s ≡ stack → IsWellFormed s → Some card ≡ at_number s.cards n → has_kind is_card stack card ≡ true
+is_card-at_number s stack n card same well is = rw (← same) (sym (well.cards.each card) ∙ contains_id-at_number s.cards n card (sym is))
+
+-- what a statement without a change adds
+pub adds_nothing : (statement : Statement) (number : ℕ) (old : History) (ending : Ending) (new : History)
+    → (None, ending) ≡ effect old.now statement → IfSome (begun old number).start (λ o. IsOnce o.trail) → new ≡ committed (begun old number) → Adds statement number old (ended ending) new
+adds_nothing statement number old ending new is once joined = record {
+  replaced = [];
+  state = old.now;
+  fresh = record {
+    places = ap (λ e. replaced_of old.now e.0) is;
+    ends = ap (λ e. e.1) is;
+    leaves = ap (λ e. after_change old.now e.0) is;
+  };
+  answer = refl;
+  batch = record { state = old.now; number = number; undo = 0; redo = 0; trail = [] };
+  began = refl;
+  numbered = refl;
+  back = omega arith;
+  forth = omega arith;
+  trail = refl;
+  once = once;
+  joined = joined;
+}
+
+-- the batch after the change
+grown : (old : History) (number : ℕ) (change : Change) (made : History) → Made (begun old number) made change
+    → (batch : Open) × (made.start ≡ Some batch) × Rises (replaced_by old.now change) (trail_after (replaced_by old.now change) []) (record { state = old.now; number = number; undo = 0; redo = 0; trail = [] }) batch
+grown old number change made m = of_start made.start refl m.start
+  where
+    of_start : (start : Option Open) → made.start ≡ start
+        → BothOpen (begun old number).start start (λ o p. Rises (replaced_by old.now change) (trail_after (replaced_by old.now change) o.trail) o p)
+        → (batch : Open) × (made.start ≡ Some batch) × Rises (replaced_by old.now change) (trail_after (replaced_by old.now change) []) (record { state = old.now; number = number; undo = 0; redo = 0; trail = [] }) batch
+    of_start None is never = absurd never
+    of_start (Some batch) is rises = (batch, is, rises)
+
+-- what a statement with a change adds
+pub adds_change : (statement : Statement) (number : ℕ) (old : History) (change : Change) (ending : Ending) (made new : History)
+    → (Some change, ending) ≡ effect old.now statement → Made (begun old number) made change → IfSome made.start (λ o. IsOnce o.trail) → new ≡ committed made
+    → Adds statement number old (ended ending) new
+adds_change statement number old change ending made new is m once joined =
+    let b = grown old number change made m in
+    record {
+      replaced = replaced_by old.now change;
+      state = changed old.now change;
+      fresh = record {
+        places = ap (λ e. replaced_of old.now e.0) is;
+        ends = ap (λ e. e.1) is;
+        leaves = ap (λ e. after_change old.now e.0) is;
+      };
+      answer = refl;
+      batch = b.0;
+      began = b.2.state;
+      numbered = b.2.number;
+      back = omega (arith, b.2.undo);
+      forth = omega (arith, b.2.redo);
+      trail = b.2.trail;
+      once = rw b.1 at once;
+      joined = joined ∙ ap committed (m.history ∙ ap (λ (s : Option Open). record old { now = changed old.now change; start = s }) b.1);
+    }
+
+-- a batch that begins and is given up leaves nothing
+pub rolled_back-begun : (old : History) (number : ℕ) → old.start ≡ None → rolled_back (begun old number) ≡ old
+rolled_back-begun old number closed = ap (λ s. record old { start = s }) (sym closed)

@@ -1,0 +1,71 @@
+-- Globals in the order of their names.
+use Rattle.std.proofs.Common.{◌≡◌, ◌≢◌, ℕ, zero, suc, ◌+◌, ◌<◌, false, List, [], ◌∷◌, ◌++◌, length, map, take, get_or, refl, sym, ◌∙◌, ap, arith, add-one}
+use Rattle.std.specs.Prelude.{Some, None, slice_get}
+use Rattle.std.specs.Borrow.{Bor}
+use Rattle.std.specs.BTreeMap.{insert_entry}
+use Rattle.std.specs.Cmp.Lexicographic.{slice_cmp, nat_list_cmp_total}
+use Rattle.std.specs.declared.cmp.Ordering.{Ordering}
+use Rattle.std.specs.declared.cmp.Ordering.TheVariants.{Less, Equal, Greater}
+use Rattle.std.specs.FinMap.{find, put, entries, from_entries, empty, len-entries, len-empty, entries-insert, from_entries_push, slice_cmp-IsAntisymmetric, nat_cmp-IsAntisymmetric}
+use Rattle.std.specs.FinMap.Entries.{by_order}
+use Rattle.std.specs.Map.Iter.{deref_pair}
+use Rattle.std.specs.Ordering.{nat_cmp, is_eq, match_ordering}
+use Rattle.std.proofs.Math.Seq.{take-suc}
+use Rattle.std.proofs.lemmas.Option.{slice_get_within, get_or_from_slice_get}
+use Rattle.journal_entries.specs.Named.{AreDistinct, IsNew}
+
+Global : Type 0
+Global = List ℕ × List ℕ
+
+-- an entry in its place among borrowed ones, and among what they borrow
+put_shown : (k v : Bor (List ℕ)) (es : List (Bor (List ℕ) × Bor (List ℕ)))
+    → map deref_pair (insert_entry (λ x y. slice_cmp nat_cmp x.now y.now) es k v) ≡ put (slice_cmp nat_cmp) k.now v.now (map deref_pair es)
+put_shown k v [] = refl
+put_shown k v (e ∷ es) =
+    elim (slice_cmp nat_cmp k.now e.0.now) as (λ o. map deref_pair (match_ordering o ((k, v) ∷ e ∷ es) ((e.0, v) ∷ es) (e ∷ insert_entry (λ x y. slice_cmp nat_cmp x.now y.now) es k v))
+    ≡ by_order o ((k.now, v.now) ∷ map deref_pair (e ∷ es)) ((e.0.now, v.now) ∷ map deref_pair es) (deref_pair e ∷ put (slice_cmp nat_cmp) k.now v.now (map deref_pair es))) [
+      | Less ↦ refl
+      | Equal ↦ refl
+      | Greater ↦ ap (λ t. deref_pair e ∷ t) (put_shown k v es)
+    ]
+
+apart : (q n : List ℕ) → n ≢ q → is_eq (slice_cmp nat_cmp q n) ≡ false
+apart q n ne = of_order (slice_cmp nat_cmp q n) refl
+  where
+    of_order : (o : Ordering) → slice_cmp nat_cmp q n ≡ o → is_eq o ≡ false
+    of_order Less e = refl
+    of_order Equal e = absurd (ne (sym (slice_cmp-IsAntisymmetric nat_cmp-IsAntisymmetric q n e)))
+    of_order Greater e = refl
+
+new_at : (n : List ℕ) (es : List (List ℕ × List ℕ)) (i : ℕ) (d : List ℕ × List ℕ) → IsNew n (map (λ e. e.0) es) → i < length es → n ≢ (get_or es i d).0
+new_at n [] i d new lt = absurd (omega arith)
+new_at n (e ∷ es) zero d new lt = new.0
+new_at n (e ∷ es) (suc i) d new lt = new_at n es i d new.1 (omega arith)
+
+-- a name isn't among those before it
+name_is_new : (es : List (List ℕ × List ℕ)) (i : ℕ) (d : List ℕ × List ℕ) → AreDistinct (map (λ e. e.0) es) → i < length es → find (slice_cmp nat_cmp) (get_or es i d).0 (take i es) ≡ None
+name_is_new [] i d apart_names lt = absurd (omega arith)
+name_is_new (e ∷ es) zero d apart_names lt = refl
+name_is_new (e ∷ es) (suc i) d apart_names lt = rw (apart (get_or es i d).0 e.0 (new_at e.0 es i d apart_names.0 (omega arith))) (name_is_new es i d apart_names.1 (omega arith))
+
+-- one global more
+pub in_order_more : (es : List (List ℕ × List ℕ)) (i : ℕ) (ordered : List (Bor (List ℕ) × Bor (List ℕ))) (k v : Bor (List ℕ)) → AreDistinct (map (λ e. e.0) es) → slice_get es i ≡ Some (k.now, v.now)
+    → map deref_pair ordered ≡ entries (from_entries {R = slice_cmp nat_cmp} (take i es))
+    → map deref_pair (insert_entry (λ x y. slice_cmp nat_cmp x.now y.now) ordered k v) ≡ entries (from_entries {R = slice_cmp nat_cmp} (take (i + 1) es))
+in_order_more es i ordered k v names at so_far =
+    let d : List ℕ × List ℕ = (k.now, v.now) in
+    let lt : i < length es = slice_get_within es i d at in
+    let here : get_or es i d ≡ d = get_or_from_slice_get es i d d at in
+    let new : find (slice_cmp nat_cmp) k.now (take i es) ≡ None = rw here at (name_is_new es i d names lt) in
+    let pushed : take (i + 1) es ≡ take i es ++ (k.now, v.now) ∷ [] = rw add-one (take-suc es i d lt ∙ ap (λ x. take i es ++ x ∷ []) here) in
+    put_shown k v ordered ∙ ap (put (slice_cmp nat_cmp) k.now v.now) so_far ∙ sym (entries-insert nat_list_cmp_total (from_entries (take i es)) k.now v.now)
+    ∙ ap entries (sym (from_entries_push nat_list_cmp_total (slice_cmp-IsAntisymmetric nat_cmp-IsAntisymmetric) (take i es) k.now v.now new))
+    ∙ ap (λ xs. entries (from_entries {R = slice_cmp nat_cmp} xs)) (sym pushed)
+
+none_listed : {A : Type 0} (xs : List A) → length xs ≡ 0 → xs ≡ []
+none_listed [] e = refl
+none_listed (x ∷ xs) e = absurd (omega arith)
+
+-- the map of no entries has none
+pub entries-empty : entries (empty {X = List ℕ} {R = slice_cmp nat_cmp}) ≡ []
+entries-empty = none_listed (entries empty) (sym (len-entries empty) ∙ len-empty (slice_cmp nat_cmp) (List ℕ))

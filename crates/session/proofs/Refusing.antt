@@ -1,0 +1,47 @@
+-- When a line is refused for memory.
+use Rattle.std.proofs.Common.{◌≡◌, ℕ, List, length, sym, ◌∙◌, ap, true, false}
+use Rattle.std.specs.Prelude.{Option, Some, None, nat_lt, MatchBool}
+use Rattle.change_journal.specs.History.{History}
+use Rattle.session.specs.Commands.{Said, run, undo, redo, undo_to, show, globals, current_card, history, quit, said}
+use Rattle.session.specs.Moves.{undone, redone, undone_to}
+use Rattle.session.specs.Standing.{Standing}
+use Rattle.session.specs.TakesLine.{TakesLine, Performs, Moves, MayRunOut, ended, refused}
+use Rattle.session.specs.declared.reply.Refusal.TheVariants as refusals
+use Rattle.session.specs.declared.reply.Ending.{Ending}
+use Rattle.session.specs.declared.reply.Ending.TheVariants as endings
+use Rattle.session.specs.declared.reply.Reply.{Reply}
+
+abbrev RunsOutOf : Reply → Type 0
+RunsOutOf reply = reply.ending ≡ endings.Refused refusals.NoMemory
+
+-- an answer with another ending isn't for memory
+other : (reply : Reply) (ending : Ending) → reply ≡ ended ending → RunsOutOf reply → ending ≡ endings.Refused refusals.NoMemory
+other reply ending is out = sym (ap (λ (r : Reply). r.ending) is) ∙ out
+
+undo_never : (there : Option History) (old : History) (reply : Reply) (new : History) → Moves there refusals.NothingToUndo old reply new → RunsOutOf reply → ⊥
+undo_never None old reply new m out = let e = other reply (endings.Refused refusals.NothingToUndo) m.0 out in cc
+undo_never (Some there) old reply new m out = let e = other reply endings.Ok m.0 out in cc
+
+redo_never : (there : Option History) (old : History) (reply : Reply) (new : History) → Moves there refusals.NothingToRedo old reply new → RunsOutOf reply → ⊥
+redo_never None old reply new m out = let e = other reply (endings.Refused refusals.NothingToRedo) m.0 out in cc
+redo_never (Some there) old reply new m out = let e = other reply endings.Ok m.0 out in cc
+
+pub may_run_out : (said : Option Said) (number : ℕ) (old : History) (reply : Reply) (new : History) → Performs said number old reply new → RunsOutOf reply → MayRunOut said
+may_run_out None number old reply new p out = let e = other reply (endings.Refused refusals.BadCommand) p.0 out in cc
+may_run_out (Some (run statement)) number old reply new p out = tt
+may_run_out (Some (undo k)) number old reply new p out = undo_never (undone k old) old reply new p out
+may_run_out (Some (redo k)) number old reply new p out = redo_never (redone k old) old reply new p out
+may_run_out (Some (undo_to n)) number old reply new p out = undo_never (undone_to n old) old reply new p out
+may_run_out (Some show) number old reply new p out = tt
+may_run_out (Some globals) number old reply new p out = tt
+may_run_out (Some current_card) number old reply new p out = tt
+may_run_out (Some history) number old reply new p out = tt
+may_run_out (Some quit) number old reply new p out = let e = other reply endings.Quit p.0 out in cc
+
+-- no move of the cursor, no `.quit` and no other refusal is for memory
+pub lines_run_out : (line : List ℕ) (old : Standing) (reply : Reply) (new : Standing) → TakesLine line old reply new → RunsOutOf reply → MayRunOut (said line)
+lines_run_out line old reply new t out =
+    elim (nat_lt 30000 (length line)) as (λ b. MatchBool b ((reply ≡ refused refusals.LineTooLong) × (new.history ≡ old.history)) (Performs (said line) new.lines old.history reply new.history) → MayRunOut (said line)) [
+      | true ↦ λ p. (let e = other reply (endings.Refused refusals.LineTooLong) p.0 out in cc)
+      | false ↦ λ p. may_run_out (said line) new.lines old.history reply new.history p out
+    ] t.performed

@@ -1,0 +1,73 @@
+use Rattle.std.proofs.Common.{◌≢◌, ◌+◌, ◌≤◌, [], ◌++◌, length, take, ◌∙◌, arith, refl, length-append, length-take}
+use Rattle.std.proofs.lemmas.List.{append-nil}
+use Rattle.std.proofs.lemmas.Result.{err_from_is_err_and}
+use Rattle.stack_file.proofs.Known.{Appends-Appends, Consumes-Consumes}
+use Rattle.session.proofs.Conversing.{Appends-nothing, Consumes-nothing, Breaks-none, Breaks-by, Stopped-Breaks, Stopped-by, Quits-Converses}
+use Rattle.session.proofs.conversation.run.Goals as goal
+
+pub returns-in-Err-clause-err : goal.returns-in-Err-clause-err
+returns-in-Err-clause-err g c = ([], [], Consumes-nothing _, Appends-nothing _, Breaks-none _ _)
+
+pub returns-in_err-take_last-clause-err : goal.returns-in_err-take_last-clause-err
+returns-in_err-take_last-clause-err g c =
+    let inv = c.loop.invariant.reached in
+    let h = c.in_err-take_last.ensures.err in
+    let nothing = rw c.if-count-eq0.true at c.in-Ok-read.ensures.bytes in
+    let consumed = Consumes-Consumes _ _ _ inv.0 [] inv.2 nothing.0 in
+    let read_on = rw append-nil at consumed in
+    let p = err_from_is_err_and c.from_residual.result c.from_residual.ensures.1 in
+    let new = c.take_last.new.session in
+    let broken = Breaks-by c.args.session.now inv.0 (inv.1 ++ h.0) new (λ t. nothing.1 refl (omega arith)) (h.2 c.args.session.now inv.0 inv.1 inv.4) in
+    rw (p.1, p.2) (
+      inv.0,
+      inv.1 ++ h.0,
+      read_on,
+      Appends-Appends _ _ _ inv.1 h.0 inv.3 h.1,
+      Stopped-Breaks _ _ c.args.session.now inv.0 (inv.1 ++ h.0) new c.in_err-take_last.ensures.which broken,
+    )
+
+pub returns-then-count-eq0-clause-ok : goal.returns-then-count-eq0-clause-ok
+returns-then-count-eq0-clause-ok g c =
+    let inv = c.loop.invariant.reached in
+    let h = c.in_ok-take_last.ensures.ok in
+    let nothing = rw c.if-count-eq0.true at c.in-Ok-read.ensures.bytes in
+    let consumed = Consumes-Consumes _ _ _ inv.0 [] inv.2 nothing.0 in
+    let read_on = rw append-nil at consumed in
+    (inv.0, inv.1 ++ h.0, read_on, Appends-Appends _ _ _ inv.1 h.0 inv.3 h.1, h.2 c.args.session.now inv.0 inv.1 inv.4)
+
+pub returns-in_err-take_block-clause-err : goal.returns-in_err-take_block-clause-err
+returns-in_err-take_block-clause-err g c =
+    let inv = c.loop.invariant.reached in
+    let h = c.in_err-take_block.ensures.err in
+    let block = take c.in-Ok-read.count c.read.new.buf in
+    let p = err_from_is_err_and c.from_residual-in_err-take_block.result c.from_residual-in_err-take_block.ensures.1 in
+    rw (p.1, p.2)
+    (inv.0 ++ block, inv.1 ++ h.0, Consumes-Consumes _ _ _ inv.0 block inv.2 c.in-Ok-read.ensures.bytes.0, Appends-Appends _ _ _ inv.1 h.0 inv.3 h.1, Stopped-by _ _ c.args.session.now (inv.0 ++ block) (inv.1 ++ h.0) c.take_block.new.session (h.2 c.args.session.now inv.0 inv.1 inv.4))
+
+pub returns-then-branch-clause-ok : goal.returns-then-branch-clause-ok
+returns-then-branch-clause-ok g c =
+    let inv = c.loop.invariant.reached in
+    let h = rw c.if-branch.true at c.in_ok-take_block.ensures.ok in
+    let block = take c.in-Ok-read.count c.read.new.buf in
+    let quits = h.2 c.args.session.now inv.0 inv.1 inv.4 in (
+      inv.0 ++ block,
+      inv.1 ++ h.0,
+      Consumes-Consumes _ _ _ inv.0 block inv.2 c.in-Ok-read.ensures.bytes.0,
+      Appends-Appends _ _ _ inv.1 h.0 inv.3 h.1,
+      (Quits-Converses c.args.session.now (inv.0 ++ block) (inv.1 ++ h.0) c.take_block.new.session quits, quits),
+    )
+
+pub loop-preserved : goal.loop-preserved
+loop-preserved g c =
+    let inv = c.loop.invariant.reached in
+    let h = rw c.if-branch.false at c.in_ok-take_block.ensures.ok in
+    let block = take c.in-Ok-read.count c.read.new.buf in
+    let some : c.in-Ok-read.count ≢ 0 = c.if-count-eq0.false in
+    let bound : c.in-Ok-read.count ≤ length c.read.new.buf = c.in-Ok-read.ensures.bound.0 in
+    let more : c.loop.counter + 1 ≤ length (inv.0 ++ block) = omega (arith, length-append inv.0 block, length-take c.in-Ok-read.count c.read.new.buf, inv.5) in
+    record {
+      reached =
+          (inv.0 ++ block, inv.1 ++ h.0, Consumes-Consumes _ _ _ inv.0 block inv.2 c.in-Ok-read.ensures.bytes.0, Appends-Appends _ _ _ inv.1 h.0 inv.3 h.1, h.2 c.args.session.now inv.0 inv.1 inv.4, more);
+      read_sound = c.in-Ok-read.ensures.failures ∙ c.loop.invariant.read_sound;
+      write_sound = c.in_ok-take_block.ensures.sound ∙ c.loop.invariant.write_sound;
+    }

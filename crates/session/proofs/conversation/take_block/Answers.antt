@@ -1,0 +1,79 @@
+use Rattle.std.proofs.Common.{◌≡◌, ℕ, ◌+◌, ◌<◌, ◌⊎◌, List, [], ◌∷◌, ◌++◌, length, take, drop, get_or, sym, ◌∙◌, subst, arith, append_assoc}
+use Rattle.std.proofs.lemmas.Result.{err_from_is_err_and}
+use Rattle.stack_file.proofs.Known.{Appends-Appends}
+use Rattle.session.specs.Conversation.{Reached, Breaks, Quits}
+use Rattle.session.proofs.Conversing.{Breaks-more, Quits-more, Stopped-Breaks, reached_full, block_parts, block_more}
+use Rattle.session.proofs.conversation.take_block.Goals as goal
+
+-- what was taken before, and one byte more
+parted : (P : List ℕ → List ℕ → Type 0) (read block : List ℕ) (i : ℕ) (written text more : List ℕ) → i < length block
+    → P ((read ++ take i block) ++ (get_or block i 0 ∷ []) ++ drop (i + 1) block) ((written ++ text) ++ more) → P (read ++ block) (written ++ (text ++ more))
+parted P read block i written text more lt p =
+    let whole : (read ++ take i block) ++ (get_or block i 0 ∷ []) ++ drop (i + 1) block ≡ read ++ block = append_assoc (read ++ take i block) (get_or block i 0 ∷ []) (drop (i + 1) block) ∙ block_parts read block i lt in
+    subst (λ (t : List ℕ). P (read ++ block) t) (append_assoc written text more) (subst (λ (t : List ℕ). P t ((written ++ text) ++ more)) whole p)
+
+pub returns-then-is_full-clause-err : goal.returns-then-is_full-clause-err
+returns-then-is_full-clause-err g c =
+    let inv = c.loop-byte.invariant.taken in
+    let i = c.loop-byte.byte-index in
+    let block = c.args.block.now in
+    let lt : i < length block = omega arith in
+    let most : (c.loop-byte.intake.lines ≡ 1000000) ⊎ (c.loop-byte.intake.bytes ≡ 1000000000) = c.is_full.ensures.0 c.if-is_full.true in (
+      inv.0,
+      inv.1,
+      λ start read written r.
+          reached_full start (read ++ take i block) (written ++ inv.0) c.loop-byte.session c.loop-byte.intake.pending.items c.loop-byte.intake.lines c.loop-byte.intake.bytes (read ++ block)
+          (get_or block i 0) (drop (i + 1) block) (sym (block_parts read block i lt)) most (inv.2 start read written r),
+    )
+
+pub returns-in_err-take_byte-clause-err : goal.returns-in_err-take_byte-clause-err
+returns-in_err-take_byte-clause-err g c =
+    let inv = c.loop-byte.invariant.taken in
+    let i = c.loop-byte.byte-index in
+    let block = c.args.block.now in
+    let lt : i < length block = omega arith in
+    let h = c.in_err-take_byte.ensures.err in
+    let p = err_from_is_err_and c.from_residual.result c.from_residual.ensures.1 in
+    rw (p.1, p.2) (
+      inv.0 ++ h.0,
+      Appends-Appends _ _ _ inv.0 h.0 inv.1 h.1,
+      λ start read written r.
+          Stopped-Breaks ⊥ _ start (read ++ block) (written ++ (inv.0 ++ h.0)) c.take_byte.new.session c.in_err-take_byte.ensures.which
+          (parted (λ (t u : List ℕ). Breaks ⊥ start t u c.take_byte.new.session) read block i written inv.0 h.0 lt
+          (Breaks-more start ((read ++ take i block) ++ (get_or block i 0 ∷ [])) ((written ++ inv.0) ++ h.0) c.take_byte.new.session (drop (i + 1) block)
+          (h.2 start (read ++ take i block) (written ++ inv.0) (inv.2 start read written r)))),
+    )
+
+pub returns-then-branch-clause-ok : goal.returns-then-branch-clause-ok
+returns-then-branch-clause-ok g c =
+    let inv = c.loop-byte.invariant.taken in
+    let i = c.loop-byte.byte-index in
+    let block = c.args.block.now in
+    let lt : i < length block = omega arith in
+    let h = rw c.if-branch.true at c.in_ok-take_byte.ensures.ok in (
+      inv.0 ++ h.0,
+      Appends-Appends _ _ _ inv.0 h.0 inv.1 h.1,
+      λ start read written r.
+          parted (λ (t u : List ℕ). Quits start t u c.take_byte.new.session) read block i written inv.0 h.0 lt
+          (Quits-more start ((read ++ take i block) ++ (get_or block i 0 ∷ [])) ((written ++ inv.0) ++ h.0) c.take_byte.new.session (drop (i + 1) block)
+          (h.2 start (read ++ take i block) (written ++ inv.0) (inv.2 start read written r))),
+    )
+
+pub loop-byte-preserved : goal.loop-byte-preserved
+loop-byte-preserved g c =
+    let inv = c.loop-byte.invariant.taken in
+    let i = c.loop-byte.byte-index in
+    let block = c.args.block.now in
+    let lt : i < length block = omega arith in
+    let h = rw c.if-branch.false at c.in_ok-take_byte.ensures.ok in
+    record {
+      taken = (
+        inv.0 ++ h.0,
+        Appends-Appends _ _ _ inv.0 h.0 inv.1 h.1,
+        λ start read written r.
+            (let P : List ℕ → List ℕ → Type 0 = λ t u. Reached start t u c.take_byte.new.session c.take_byte.new.intake.pending.items c.take_byte.new.intake.lines c.take_byte.new.intake.bytes in
+            subst (λ (u : List ℕ). P (read ++ take (i + 1) block) u) (append_assoc written inv.0 h.0)
+            (subst (λ (t : List ℕ). P t ((written ++ inv.0) ++ h.0)) (block_more read block i lt) (h.2 start (read ++ take i block) (written ++ inv.0) (inv.2 start read written r)))),
+      );
+      sound = c.in_ok-take_byte.ensures.sound ∙ c.loop-byte.invariant.sound;
+    }

@@ -1,0 +1,11 @@
+use Rattle.std.proofs.Common.{◌≡◌, ◌-◌, ◌≤◌, length, None}
+use Rattle.session.specs.Moves.{back_by}
+use Rattle.session.proofs.moves.flip_back_by.Given as goal
+
+-- what is left to do leads on to where all leads
+abbrev pub invariant-loop : goal.invariant-loop
+invariant-loop g l = record {
+  left : back_by (l.places - l.counter) l.world.history ≡ back_by l.places l.initial.world.history;
+  there : l.places - l.counter ≤ length l.world.history.past;
+  closed : l.world.history.start ≡ None;
+}

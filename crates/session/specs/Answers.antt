@@ -1,0 +1,34 @@
+-- The bytes of an answer.
+use Rattle.std.specs.Prelude.{ℕ, List, [], ◌∷◌, ◌++◌, codes, decimal}
+use Rattle.std.specs.List.{flat_map}
+use Rattle.ht_values.specs.Faults.{number_of_fault}
+use Rattle.session.specs.declared.reply.Refusal.{Refusal}
+use Rattle.session.specs.declared.reply.Refusal.TheVariants.{NothingToUndo, NothingToRedo, BadCommand, NoMemory, LineTooLong, FieldLocked, SaveFailed}
+use Rattle.session.specs.declared.reply.Ending.{Ending}
+use Rattle.session.specs.declared.reply.Ending.TheVariants.{Ok, Fault, Refused, Quit}
+use Rattle.session.specs.declared.reply.Reply.{Reply}
+
+abbrev pub number_of_refusal : Refusal → ℕ
+number_of_refusal NothingToUndo = 1
+number_of_refusal NothingToRedo = 2
+number_of_refusal BadCommand = 3
+number_of_refusal NoMemory = 4
+number_of_refusal LineTooLong = 5
+number_of_refusal FieldLocked = 6
+number_of_refusal SaveFailed = 7
+
+abbrev pub shown_line : List ℕ → List ℕ
+shown_line line = codes "> " ++ line ++ 10 ∷ []
+
+abbrev pub numbered_line : List ℕ → ℕ → List ℕ
+numbered_line word number = word ++ decimal number ++ 10 ∷ []
+
+abbrev pub ending_line : Ending → List ℕ
+ending_line Ok = codes "ok\n"
+ending_line (Fault fault) = numbered_line (codes "fault ") (number_of_fault fault)
+ending_line (Refused refusal) = numbered_line (codes "refused ") (number_of_refusal refusal)
+ending_line Quit = codes "ok\n"
+
+-- the shown lines, and then the ending
+abbrev pub answer : Reply → List ℕ
+answer reply = flat_map shown_line reply.shown ++ ending_line reply.ending

@@ -1,0 +1,11 @@
+pub mod Answers
+pub mod Commands
+pub mod Conversation
+pub mod Meaning
+pub mod Moves
+pub mod Opening
+pub mod Splits
+pub mod Standing
+pub mod Stops
+pub mod TakesLine
+pub mod WholeStates

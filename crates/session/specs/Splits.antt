@@ -1,0 +1,30 @@
+-- Bytes as lines.
+use Rattle.std.specs.Prelude.{◌≡◌, ◌≢◌, ℕ, ◌-◌, ◌==◌, List, [], ◌∷◌, ◌++◌, length, map, take, if◌then◌else◌, slice_index}
+use Rattle.std.specs.List.{flat_map, AllByRecursion}
+
+-- a line has no line feed in it
+abbrev pub IsLine : List ℕ → Type 0
+IsLine line = AllByRecursion (λ b. b ≢ 10) line
+
+-- lines that are each ended by a line feed
+abbrev pub ended_lines : List (List ℕ) → List ℕ
+ended_lines lines = flat_map (λ line. line ++ 10 ∷ []) lines
+
+-- the bytes are these lines, each ended by a line feed, and a rest that is not ended
+pub record Splits (bytes : List ℕ) (lines : List (List ℕ)) (rest : List ℕ) : Type 0 where
+  pub whole : bytes ≡ ended_lines lines ++ rest
+  pub each : AllByRecursion IsLine lines
+  pub partial : IsLine rest
+
+-- a line that was ended, without the carriage return before its end
+abbrev pub without_return : List ℕ → List ℕ
+without_return line = if slice_index line (length line - 1) == 13 then take (length line - 1) line else line
+
+-- the last line counts if it is not empty, though nothing ends it
+abbrev pub last_line : List ℕ → List (List ℕ)
+last_line [] = []
+last_line (b ∷ bs) = (b ∷ bs) ∷ []
+
+-- the lines of an input
+abbrev pub all_lines : List (List ℕ) → List ℕ → List (List ℕ)
+all_lines lines rest = map without_return lines ++ last_line rest

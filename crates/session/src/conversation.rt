@@ -1,0 +1,272 @@
+//! A session over a reader and a writer: the headline.
+
+ghost use Rattle.std.specs.Prelude.{◌≡◌, ◌+◌, ◌-◌, ◌<◌, ◌≤◌, ◌≢◌, ◌↔◌, ◌⊎◌, ℕ, IsTrue, List, [], ◌∷◌, ◌++◌, length, take, IfOk, IfErr, OnOk, OnErr, IsErrOf, Ok, true, false};
+ghost use Rattle.std.specs.Io.KnownBytes.{Appends, Consumes, IsAtEnd};
+ghost use Rattle.stack_file.specs.Watching.{device_of, failures_of, Rose};
+ghost use Rattle.session.specs.Answers.{answer};
+ghost use Rattle.session.specs.Standing.{Standing};
+ghost use Rattle.session.specs.TakesLine.{TakesLine};
+ghost use Rattle.session.specs.Splits.{without_return as line_of_ended};
+ghost use Rattle.session.specs.Conversation.{is_quit, Converses, Breaks, Reached, Onward};
+ghost use Rattle.session.specs.Stops.{Ended, Stopped};
+ghost use Rattle.session.specs.declared.reply.Reply.{Reply};
+
+use crate::reply::{Ending, answer_of};
+use crate::session::Session;
+use externals::External;
+use stack_file::{Watched, write_to};
+use std::alloc::{AllocError, Global};
+use std::io::{Read, Write};
+
+/// How a run ended well.
+#[derive(Clone, Copy, Debug, PartialEq, Eq)]
+pub enum Ran {
+    EndOfInput,
+    Quit,
+}
+
+/// Why a run stopped.
+#[derive(Clone, Copy, Debug, PartialEq, Eq)]
+pub enum RunFault {
+    Memory,
+    Read,
+    Write,
+    TooManyLines,
+}
+
+fn without_return(line: &[u8]) -> &[u8]
+    ensures { result.now ≡ line_of_ended line.now }
+{
+    match line {
+        [front @ .., b'\r'] => front,
+        _ => line,
+    }
+}
+
+/// Answers a line, and says whether it quits.
+fn answer_line<E: External, W: Write>(
+    session: &mut Session<E>,
+    alloc: Global,
+    line: &[u8],
+    writer: &mut Watched<W>,
+) -> Result<bool, RunFault>
+    ensures ok { IfOk result (λ quits. (reply : Reply)
+        × TakesLine line.now session.old reply session.new × (is_quit reply.ending ≡ quits)
+        × Appends (W.contents (device_of writer.old)) (W.contents (device_of writer.new))
+        (answer reply)) }
+    ensures err { OnErr result ((reply : Reply) × (sent : List ℕ) × (unsent : List ℕ)
+        × TakesLine line.now session.old reply session.new × (answer reply ≡ sent ++ unsent)
+        × Appends (W.contents (device_of writer.old)) (W.contents (device_of writer.new)) sent) }
+    ensures which { IfErr result (λ e. (e ≢ RunFault.Read) × (e ≢ RunFault.TooManyLines)) }
+    ensures failed { IsErrOf result RunFault.Write
+        → Rose (failures_of writer.old) (failures_of writer.new) }
+    ensures sound { OnOk result (failures_of writer.new ≡ failures_of writer.old) }
+{
+    let reply = session.line(line);
+    let quits = matches!(reply.ending, Ending::Quit);
+    let bytes = match answer_of(alloc, &reply) {
+        Ok(bytes) => bytes,
+        Err(_) => return Err(RunFault::Memory),
+    };
+    match write_to(&bytes, writer) {
+        Ok(()) => Ok(quits),
+        Err(_) => Err(RunFault::Write),
+    }
+}
+
+/// The longest line with its carriage return, and one byte more, which shows that it is too long.
+const KEPT: usize = 30_002;
+
+const MOST_LINES: u32 = 1_000_000;
+
+const MOST_BYTES: u32 = 1_000_000_000;
+
+/// What is read and not yet answered, and how much was read before.
+#[derive(Drop)]
+struct Intake {
+    pending: Vec<u8>,
+    lines: u32,
+    bytes: u32,
+    ghost few: { lines ≤ 1000000 },
+    ghost short: { bytes ≤ 1000000000 },
+}
+
+impl Intake {
+    fn new(alloc: Global) -> Result<Intake, AllocError>
+        ensures { IfOk result (λ i. (i.pending.items ≡ []) × (i.lines ≡ 0) × (i.bytes ≡ 0)) }
+    {
+        Ok(Intake {
+            pending: Vec::with_capacity(alloc, KEPT)?,
+            lines: 0,
+            bytes: 0,
+        })
+    }
+
+    fn is_full(&self) -> bool
+        ensures { IsTrue result ↔ ((self.now.lines ≡ 1000000) ⊎ (self.now.bytes ≡ 1000000000)) }
+    {
+        self.lines == MOST_LINES || self.bytes == MOST_BYTES
+    }
+}
+
+/// Takes one byte of the input, and answers the line that it ends.
+fn take_byte<E: External, W: Write>(
+    session: &mut Session<E>,
+    alloc: Global,
+    intake: &mut Intake,
+    byte: u8,
+    writer: &mut Watched<W>,
+) -> Result<bool, RunFault>
+    requires lines { intake.old.lines < 1000000 }
+    requires bytes { intake.old.bytes < 1000000000 }
+    ensures ok { IfOk result (λ quits. (text : List ℕ)
+        × Appends (W.contents (device_of writer.old)) (W.contents (device_of writer.new)) text
+        × ((start : Standing) (read written : List ℕ)
+        → Reached start read written session.old
+        intake.old.pending.items intake.old.lines intake.old.bytes
+        → Onward quits start (read ++ byte ∷ []) (written ++ text) session.new
+        intake.new.pending.items intake.new.lines intake.new.bytes)) }
+    ensures err { OnErr result ((text : List ℕ)
+        × Appends (W.contents (device_of writer.old)) (W.contents (device_of writer.new)) text
+        × ((start : Standing) (read written : List ℕ)
+        → Reached start read written session.old
+        intake.old.pending.items intake.old.lines intake.old.bytes
+        → Breaks ⊥ start (read ++ byte ∷ []) (written ++ text) session.new)) }
+    ensures which { IfErr result (λ e. (e ≢ RunFault.Read) × (e ≢ RunFault.TooManyLines)) }
+    ensures failed { IsErrOf result RunFault.Write
+        → Rose (failures_of writer.old) (failures_of writer.new) }
+    ensures sound { OnOk result (failures_of writer.new ≡ failures_of writer.old) }
+{
+    intake.bytes += 1;
+    if byte == b'\n' {
+        let quits = answer_line(session, alloc, without_return(&intake.pending), writer)?;
+        intake.pending.clear();
+        intake.lines += 1;
+        return Ok(quits);
+    }
+    if intake.pending.len() < KEPT {
+        match intake.pending.push(byte) {
+            Ok(()) => {}
+            Err(_) => return Err(RunFault::Memory),
+        }
+    }
+    Ok(false)
+}
+
+/// Takes the bytes of one read.
+fn take_block<E: External, W: Write>(
+    session: &mut Session<E>,
+    alloc: Global,
+    intake: &mut Intake,
+    block: &[u8],
+    writer: &mut Watched<W>,
+) -> Result<bool, RunFault>
+    ensures ok { IfOk result (λ quits. (text : List ℕ)
+        × Appends (W.contents (device_of writer.old)) (W.contents (device_of writer.new)) text
+        × ((start : Standing) (read written : List ℕ)
+        → Reached start read written session.old
+        intake.old.pending.items intake.old.lines intake.old.bytes
+        → Onward quits start (read ++ block.now) (written ++ text) session.new
+        intake.new.pending.items intake.new.lines intake.new.bytes)) }
+    ensures err { IfErr result (λ e. (text : List ℕ)
+        × Appends (W.contents (device_of writer.old)) (W.contents (device_of writer.new)) text
+        × ((start : Standing) (read written : List ℕ)
+        → Reached start read written session.old
+        intake.old.pending.items intake.old.lines intake.old.bytes
+        → Stopped ⊥ e start (read ++ block.now) (written ++ text) session.new)) }
+    ensures which { IfErr result (λ e. e ≢ RunFault.Read) }
+    ensures failed { IsErrOf result RunFault.Write
+        → Rose (failures_of writer.old) (failures_of writer.new) }
+    ensures sound { OnOk result (failures_of writer.new ≡ failures_of writer.old) }
+{
+    for byte in block {
+        if intake.is_full() {
+            return Err(RunFault::TooManyLines);
+        }
+        if take_byte(session, alloc, intake, *byte, writer)? {
+            return Ok(true);
+        }
+    }
+    Ok(false)
+}
+
+/// Answers the last line, which nothing ended, if it is not empty.
+fn take_last<E: External, W: Write>(
+    session: &mut Session<E>,
+    alloc: Global,
+    intake: &Intake,
+    writer: &mut Watched<W>,
+) -> Result<(), RunFault>
+    ensures ok { OnOk result ((text : List ℕ)
+        × Appends (W.contents (device_of writer.old)) (W.contents (device_of writer.new)) text
+        × ((start : Standing) (read written : List ℕ)
+        → Reached start read written session.old
+        intake.now.pending.items intake.now.lines intake.now.bytes
+        → Converses start read (written ++ text) session.new)) }
+    ensures err { OnErr result ((text : List ℕ)
+        × Appends (W.contents (device_of writer.old)) (W.contents (device_of writer.new)) text
+        × ((start : Standing) (read written : List ℕ)
+        → Reached start read written session.old
+        intake.now.pending.items intake.now.lines intake.now.bytes
+        → Breaks (Unit {0}) start read (written ++ text) session.new)) }
+    ensures which { IfErr result (λ e. (e ≢ RunFault.Read) × (e ≢ RunFault.TooManyLines)) }
+    ensures failed { IsErrOf result RunFault.Write
+        → Rose (failures_of writer.old) (failures_of writer.new) }
+{
+    if !intake.pending.is_empty() {
+        answer_line(session, alloc, &intake.pending, writer)?;
+    }
+    Ok(())
+}
+
+/// How many bytes one read may take.
+const BLOCK: usize = 4096;
+
+/// Answers each line of the input, up to the first that quits. A line ends with a line feed, and one
+/// carriage return before it is dropped; a last line that nothing ends counts if it isn't empty. Each
+/// answer is written whole before the next line is read. `TooManyLines` where a byte comes after
+/// 1,000,000 lines or 1,000,000,000 bytes; `Read` and `Write` only where the device failed.
+pub fn run<E: External, R: Read, W: Write>(
+    session: &mut Session<E>,
+    alloc: Global,
+    reader: &mut Watched<R>,
+    writer: &mut Watched<W>,
+) -> Result<Ran, RunFault>
+    // What is written is the answers to the lines that are read, and the session stands after them.
+    ensures ok { IfOk result (λ ran. (read : List ℕ) × (written : List ℕ)
+        × Consumes (R.remaining (device_of reader.old)) (R.remaining (device_of reader.new)) read
+        × Appends (W.contents (device_of writer.old)) (W.contents (device_of writer.new)) written
+        × Ended ran session.old read written session.new) }
+    ensures end { result ≡ Ok Ran.EndOfInput → IsAtEnd (R.remaining (device_of reader.new)) }
+    // A fault leaves the session after the lines so far.
+    ensures err { IfErr result (λ e. (read : List ℕ) × (written : List ℕ)
+        × Consumes (R.remaining (device_of reader.old)) (R.remaining (device_of reader.new)) read
+        × Appends (W.contents (device_of writer.old)) (W.contents (device_of writer.new)) written
+        × Stopped (IsAtEnd (R.remaining (device_of reader.new))) e
+        session.old read written session.new) }
+    // A device is blamed only where it failed.
+    ensures read_failed { IsErrOf result RunFault.Read
+        → Rose (failures_of reader.old) (failures_of reader.new) }
+    ensures write_failed { IsErrOf result RunFault.Write
+        → Rose (failures_of writer.old) (failures_of writer.new) }
+{
+    let mut intake = match Intake::new(alloc) {
+        Ok(intake) => intake,
+        Err(_) => return Err(RunFault::Memory),
+    };
+    let mut block = [0; BLOCK];
+    for _ in 0..=MOST_BYTES {
+        let count = match reader.read(&mut block) {
+            Ok(count) => count,
+            Err(_) => return Err(RunFault::Read),
+        };
+        if count == 0 {
+            take_last(session, alloc, &intake, writer)?;
+            return Ok(Ran::EndOfInput);
+        }
+        if take_block(session, alloc, &mut intake, &block[..count], writer)? {
+            return Ok(Ran::Quit);
+        }
+    }
+    Err(RunFault::TooManyLines)
+}

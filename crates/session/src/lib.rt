@@ -1,0 +1,22 @@
+//! A session: lines come in, answers go out, and every command can be undone and redone.
+#![tactic(auto)]
+
+mod command;
+mod conversation;
+mod fault;
+mod law;
+mod looks;
+mod moves;
+mod reply;
+mod running;
+mod session;
+
+pub use change_journal::PlugError;
+pub use conversation::{Ran, RunFault, run};
+pub use fault::OpenError;
+pub use law::lines_move_the_list;
+pub use reply::{Bytes, Ending, Line, Message, Refusal, Reply, Sent, Shown};
+pub use session::{LONGEST_LINE, Session};
+
+#[cfg(test)]
+mod tests;

@@ -1,0 +1,275 @@
+//! A session: a world, and the lines that it takes.
+
+ghost use Rattle.std.specs.Prelude.{◌≡◌, ◌≤◌, ◌==◌, ◌⊎◌, [], ◌∷◌, length, true, OnOk, OnErr, IfOk, IfErr, IsErr, IsErrOf, IsOk, MatchBool, Some, None, map, option_map};
+ghost use Rattle.object_table.specs.WellFormed.{IsWellFormed};
+ghost use Rattle.journal_entries.specs.State.{seen_by, seen_at, titles_of, has_name, index_of};
+ghost use Rattle.change_journal.specs.History.{plugged, unplugged};
+ghost use Rattle.session.specs.Commands.{said_of, said as said_by};
+ghost use Rattle.session.specs.Moves.{MovesTo, undone, redone, undone_to};
+ghost use Rattle.session.specs.Opening.{open_fault, opened};
+ghost use Rattle.stack_file.specs.Spelling.{second};
+ghost use Rattle.stack_file.specs.Listing.{spelling};
+ghost use Rattle.session.specs.TakesLine.{TakesLine, Performs, MayRunOut, ended as ended_by, refused as refused_by, shown_reply, moved_reply, ran_reply};
+
+use crate::command::{Said, said_in};
+use crate::fault::OpenError;
+use crate::looks::{card_shown, globals_shown, history_shown, stack_shown};
+use crate::moves::{go_back, go_back_to, go_forth};
+use crate::reply::{Bytes, Ending, Refusal, Reply, Sent, Shown};
+use crate::running::run_statement;
+use change_journal::{PlugError, World};
+use externals::External;
+use ht_values::Text;
+use object_table::Stack;
+use stack_file::write;
+use std::alloc::{AllocError, Global};
+use std::marker::Model;
+
+/// The longest line, in bytes.
+pub const LONGEST_LINE: usize = 30_000;
+
+/// The greatest number of a line.
+const LAST_NUMBER: u32 = 9_999_999;
+
+const MOST_STEPS: u32 = 10_000_000;
+
+const MOST_DEPTH: u32 = 1_000_000;
+
+/// A world and the number of lines that it took.
+#[derive(Drop)]
+pub struct Session<E: External> {
+    alloc: Global,
+    world: World<E>,
+    lines: u32,
+    steps: u32,
+}
+
+impl<E: External> Model for Session<E> {
+    ghost use Rattle.std.specs.Prelude.{◌≡◌, ◌≤◌, None};
+    ghost use Rattle.session.specs.Standing.{Standing, coded_standing};
+
+    ghost Value = { Standing };
+
+    ghost coded = { coded_standing };
+
+    ghost view = { λ s. record { history = s.world.history; lines = s.lines; steps = s.steps } };
+
+    ghost invariant = { λ s. (s.world.history.start ≡ None) × (s.lines ≤ 9999999) };
+}
+
+fn ended(alloc: Global, ending: Ending) -> Reply
+    ensures { result ≡ ended_by ending }
+{
+    Reply {
+        shown: Shown::new(alloc),
+        sent: Sent::new(alloc),
+        ending,
+    }
+}
+
+fn refused(alloc: Global, refusal: Refusal) -> Reply
+    ensures { result ≡ refused_by refusal }
+{
+    ended(alloc, Ending::Refused(refusal))
+}
+
+fn moved(alloc: Global, outcome: Result<(), Refusal>) -> Reply
+    ensures { result ≡ moved_reply outcome }
+{
+    match outcome {
+        Ok(()) => ended(alloc, Ending::Ok),
+        Err(refusal) => refused(alloc, refusal),
+    }
+}
+
+fn looked(alloc: Global, outcome: Result<Shown, AllocError>) -> Reply
+    ensures { result ≡ shown_reply outcome }
+{
+    match outcome {
+        Ok(shown) => Reply {
+            shown,
+            sent: Sent::new(alloc),
+            ending: Ending::Ok,
+        },
+        Err(_) => refused(alloc, Refusal::NoMemory),
+    }
+}
+
+fn ran(alloc: Global, outcome: Result<Ending, AllocError>) -> Reply
+    ensures { result ≡ ran_reply outcome }
+{
+    match outcome {
+        Ok(ending) => ended(alloc, ending),
+        Err(_) => refused(alloc, Refusal::NoMemory),
+    }
+}
+
+/// Does what a line of this number says.
+fn perform<E: External>(alloc: Global, world: &mut World<E>, number: u32, said: Said<'_>) -> Reply
+    requires { world.old.history.start ≡ None }
+    ensures performed { Performs (Some (said_of said.entry)) number
+        world.old.history result world.new.history }
+    ensures closed { world.new.history.start ≡ None }
+{
+    match said {
+        Said::Run(statement) => ran(alloc, run_statement(alloc, world, number, statement)),
+        Said::Undo(places) => moved(alloc, go_back(world, places)),
+        Said::Redo(places) => moved(alloc, go_forth(world, places)),
+        Said::UndoTo(line) => moved(alloc, go_back_to(world, line)),
+        Said::Show => looked(alloc, stack_shown(alloc, world)),
+        Said::Globals => looked(alloc, globals_shown(alloc, world)),
+        Said::Where => looked(alloc, card_shown(alloc, world)),
+        Said::History => looked(alloc, history_shown(alloc, world)),
+        Said::Quit => ended(alloc, Ending::Quit),
+    }
+}
+
+impl<E: External> Session<E> {
+    /// A session of one state: the stack, no global, its first card, and the externals with their
+    /// cells of now. A command may take as many steps, 1 to 10,000,000; at most `depth` places, 1 to
+    /// 1,000,000, can be undone. Where it isn't opened the stack and the externals come back. It takes
+    /// no memory.
+    pub fn open(
+        alloc: Global,
+        stack: Stack,
+        externals: Vec<E>,
+        steps: u32,
+        depth: u32,
+    ) -> Result<Session<E>, (OpenError, Stack, Vec<E>)>
+        requires { IsWellFormed stack.content }
+        ensures ok { IfOk result (λ s.
+            (open_fault steps depth (map E.title externals.items) ≡ None)
+            × (s ≡ opened stack.content
+            (map (seen_by E.title E.sort E.answers_calls E.cells) externals.items)
+            (map E.turn_count externals.items) steps depth)) }
+        ensures err { IfErr result (λ e.
+            (open_fault steps depth (map E.title externals.items) ≡ Some e.0)
+            × (e.1 ≡ stack) × (e.2.items ≡ externals.items)) }
+    {
+        if !(1..=MOST_STEPS).contains(&steps) {
+            return Err((OpenError::BadSteps, stack, externals));
+        }
+        if !(1..=MOST_DEPTH).contains(&depth) {
+            return Err((OpenError::BadDepth, stack, externals));
+        }
+        match World::open(alloc, stack, externals, depth) {
+            Ok(world) => Ok(Session {
+                alloc,
+                world,
+                lines: 0,
+                steps,
+            }),
+            Err((_, stack, externals)) => Err((OpenError::DuplicateName, stack, externals)),
+        }
+    }
+
+    /// The spelling of the stack at the cursor.
+    pub fn saved(&self) -> Result<Bytes, AllocError>
+        ensures { IfOk result (λ bytes. bytes ≡ spelling second self.now.history.now.stack) }
+    {
+        Ok(Bytes::new(write(self.alloc, self.world.stack())?))
+    }
+
+    /// Adds an external, with its cells of now, to every place of the history. `DuplicateName` where
+    /// another has a name that is the same; it and want of memory hand the external back, and then
+    /// nothing changes.
+    pub fn plug(&mut self, external: E) -> Result<(), (PlugError, E)>
+        ensures ok { OnOk result (self.new ≡ record self.old {
+          history = plugged self.old.history
+              (seen_by E.title E.sort E.answers_calls E.cells external) (E.turn_count external);
+        }) }
+        ensures err { IfErr result (λ e. (e.1 ≡ external) × (self.new ≡ self.old)) }
+        ensures duplicate { IfErr result (λ e. e.0 ≡ PlugError.DuplicateName
+            → has_name (E.title external) (titles_of self.old.history.now.externals) ≡ true) }
+        ensures apart { has_name (E.title external) (titles_of self.old.history.now.externals) ≡ true
+            → IfErr result (λ e. e.0 ≡ PlugError.DuplicateName) × IsErr result }
+    {
+        self.world.plug(external)
+    }
+
+    /// Takes out the external whose name is the same, and hands it out. The history is then the present
+    /// state alone, which keeps its number. Where no external has the name nothing changes.
+    pub fn unplug(&mut self, name: &Text) -> Option<E>
+        ensures history { self.new ≡ record self.old { history = unplugged name.now self.old.history } }
+        ensures external { option_map (seen_by E.title E.sort E.answers_calls E.cells) result
+            ≡ option_map (seen_at self.old.history.now)
+            (index_of name.now (titles_of self.old.history.now.externals)) }
+    {
+        self.world.unplug(name)
+    }
+
+    /// The externals in the order of plugging, with their cells of now.
+    pub fn close(self) -> Vec<E>
+        ensures seen { map (seen_by E.title E.sort E.answers_calls E.cells) result.items
+            ≡ self.history.now.externals }
+        ensures turns { map E.turn_count result.items ≡ self.history.turns }
+    {
+        let Session {
+            alloc: _,
+            world,
+            lines: _,
+            steps: _,
+        } = self;
+        world.close()
+    }
+
+    /// Answers a line: `put "TEXT" into NAME`, `go card N` or a dot line. Each line is counted, up to
+    /// 9,999,999. A command that is run adds a place, also where it changes nothing or ends by a fault.
+    /// The refusals: 5 for a line over 30,000 bytes, then 3 for a line that says nothing, 1 and 2 where
+    /// there is no such place, and 4 where a growth of memory was refused; then nothing is left of what
+    /// the line did. The forms of lines are this project's profile.
+    pub fn line(&mut self, line: &[u8]) -> Reply
+        ensures step { TakesLine line.now self.old result self.new }
+        ensures memory { result.ending ≡ Ending.Refused Refusal.NoMemory
+            → MayRunOut (said_by line.now) }
+    {
+        if self.lines < LAST_NUMBER {
+            self.lines += 1;
+        }
+        if LONGEST_LINE < line.len() {
+            return refused(self.alloc, Refusal::LineTooLong);
+        }
+        match said_in(line) {
+            None => refused(self.alloc, Refusal::BadCommand),
+            Some(said) => perform(self.alloc, &mut self.world, self.lines, said),
+        }
+    }
+
+    /// Goes back by as many places. `BadCommand` for none, `NothingToUndo` where there are fewer.
+    pub fn undo(&mut self, places: u32) -> Result<(), Refusal>
+        ensures moved { MatchBool (places == 0)
+            (IsErrOf result Refusal.BadCommand × (self.new ≡ self.old))
+            (MovesTo (undone places self.old.history) Refusal.NothingToUndo
+            self.old.history result self.new.history) }
+        ensures rest { self.new ≡ record self.old { history = self.new.history } }
+    {
+        if places == 0 {
+            return Err(Refusal::BadCommand);
+        }
+        go_back(&mut self.world, places)
+    }
+
+    /// Goes forth by as many places. `BadCommand` for none, `NothingToRedo` where there are fewer.
+    pub fn redo(&mut self, places: u32) -> Result<(), Refusal>
+        ensures moved { MatchBool (places == 0)
+            (IsErrOf result Refusal.BadCommand × (self.new ≡ self.old))
+            (MovesTo (redone places self.old.history) Refusal.NothingToRedo
+            self.old.history result self.new.history) }
+        ensures rest { self.new ≡ record self.old { history = self.new.history } }
+    {
+        if places == 0 {
+            return Err(Refusal::BadCommand);
+        }
+        go_forth(&mut self.world, places)
+    }
+
+    /// Goes back to the last state, up to the cursor, whose number is at most this. `NothingToUndo`
+    /// where that is the cursor's own, or there is none.
+    pub fn undo_to(&mut self, line: u32) -> Result<(), Refusal>
+        ensures moved { MovesTo (undone_to line self.old.history) Refusal.NothingToUndo
+            self.old.history result self.new.history }
+        ensures rest { self.new ≡ record self.old { history = self.new.history } }
+    {
+        go_back_to(&mut self.world, line)
+    }
+}

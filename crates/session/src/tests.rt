@@ -1,0 +1,505 @@
+//! Examples, with ample memory.
+
+ghost use Rattle.std.specs.Prelude.{IfOk};
+ghost use Rattle.object_table.specs.WellFormed.{IsWellFormed};
+
+use crate::*;
+use externals::{Ask, External, Input, Patch};
+use ht_values::{Fault, Text};
+use object_table::Stack;
+use stack_file::{Watched, read};
+use std::alloc::{AllocError, Global};
+use std::io;
+use std::io::{Read, Write};
+use std::test::*;
+
+const TWO_CARDS: &[u8] =
+    b"htstack 2\nnext 5\nname |Demo\nscript 0\nbackgrounds 1\nbackground 1\nname |\ncantDelete false\nscript 0\nparts 1\nfield 3\nname |Note\nvisible true\nlockText false\nsharedText false\nscript 0\nshared 0\ncards 2\ncard 2 1\nname |A\ncantDelete false\nscript 0\nparts 0\ntext 3 0\ncard 4 1\nname |B\ncantDelete false\nscript 0\nparts 0\ntext 3 0\nend\n";
+
+fn two_cards(alloc: Global) -> Result<Stack, Fail>
+    ensures { IfOk result (λ s. IsWellFormed s.content) }
+{
+    Ok(read(alloc, TWO_CARDS)?)
+}
+
+/// Of no known kind, with one empty cell that stays.
+#[derive(Drop)]
+struct Quiet {
+    name: Text,
+    cell: Text,
+    turns: u64,
+}
+
+impl External for Quiet {
+    ghost use Rattle.std.specs.Prelude.{[], ◌∷◌, false};
+
+    ghost title = { λ e. e.name };
+
+    ghost sort = { λ _. 0 };
+
+    ghost answers_calls = { λ _. false };
+
+    ghost cells = { λ e. e.cell ∷ [] };
+
+    ghost turn_count = { λ e. e.turns };
+
+    fn name(&self) -> &Text {
+        &self.name
+    }
+
+    fn kind(&self) -> u32 {
+        0
+    }
+
+    fn is_function(&self) -> bool {
+        false
+    }
+
+    fn cell_count(&self) -> usize {
+        1
+    }
+
+    fn cell(&self, i: usize) -> &Text {
+        let _ = i;
+        &self.cell
+    }
+
+    fn turn(&mut self, alloc: Global, input: &Input) -> Result<(Ask, Patch), AllocError> {
+        let _ = input;
+        self.turns = self.turns.saturating_add(1);
+        Ok((Ask::Fail, Patch::new(alloc)))
+    }
+
+    fn flip(&mut self, patch: &mut Patch) {
+        if patch.len() > 0 {
+            patch.swap(0, &mut self.cell);
+        }
+    }
+
+    fn turns(&self) -> u64 {
+        self.turns
+    }
+}
+
+type Boxed = Box<dyn External>;
+
+fn make_quiet(alloc: Global, name: &[u8]) -> Result<Quiet, Fail> {
+    Ok(Quiet {
+        name: Text::from_slice(alloc, name)?,
+        cell: Text::new(alloc),
+        turns: 0,
+    })
+}
+
+fn none(alloc: Global) -> Vec<Boxed> {
+    Vec::new(alloc)
+}
+
+/// Gives one byte at a time, and fails at a call.
+#[derive(Drop)]
+struct Drip<'a> {
+    bytes: &'a [u8],
+    calls: usize,
+    fails_at: usize,
+}
+
+impl Read for Drip<'_> {
+    fn read(&mut self, buf: &mut [u8]) -> io::Result<usize> {
+        if self.calls == self.fails_at {
+            return Err(io::Error::from(io::ErrorKind::Other));
+        }
+        self.calls = self.calls.saturating_add(1);
+        match self.bytes {
+            [first, rest @ ..] if !buf.is_empty() => {
+                buf[0] = *first;
+                self.bytes = rest;
+                Ok(1)
+            }
+            _ => Ok(0),
+        }
+    }
+}
+
+/// Takes as many bytes at a time, and fails at a call.
+#[derive(Drop)]
+struct Sip {
+    taken: Vec<u8>,
+    most: usize,
+    calls: usize,
+    fails_at: usize,
+}
+
+impl Write for Sip {
+    fn write(&mut self, buf: &[u8]) -> io::Result<usize> {
+        if self.calls == self.fails_at {
+            return Err(io::Error::from(io::ErrorKind::Other));
+        }
+        self.calls = self.calls.saturating_add(1);
+        let count = buf.len().min(self.most);
+        match self.taken.extend_from_slice(&buf[..count]) {
+            Ok(()) => Ok(count),
+            Err(_) => Err(io::Error::from(io::ErrorKind::OutOfMemory)),
+        }
+    }
+
+    fn flush(&mut self) -> io::Result<()> {
+        Ok(())
+    }
+}
+
+/// What a run wrote and answered.
+#[derive(Drop)]
+struct Heard {
+    written: Vec<u8>,
+    ran: Result<Ran, RunFault>,
+    read_failures: u64,
+    write_failures: u64,
+}
+
+/// Never reached.
+const NEVER: usize = 1_000_000;
+
+/// Runs a session on the stack of two cards, over a reader that fails at a call and a writer that takes as many
+/// bytes at a time and fails at a call.
+fn hear<E: External>(
+    alloc: Global,
+    externals: Vec<E>,
+    input: &[u8],
+    read_fails_at: usize,
+    most: usize,
+    write_fails_at: usize,
+) -> Result<Heard, Fail> {
+    let opened = Session::open(alloc, two_cards(alloc)?, externals, 100_000, 1_000_000);
+    let mut session = opened.ok().ok_or("open")?;
+    let mut reader = Watched::new(Drip {
+        bytes: input,
+        calls: 0,
+        fails_at: read_fails_at,
+    });
+    let mut taken = Sip {
+        taken: Vec::new(alloc),
+        most,
+        calls: 0,
+        fails_at: write_fails_at,
+    };
+    let mut writer = Watched::new(&mut taken);
+    let ran = run(&mut session, alloc, &mut reader, &mut writer);
+    let write_failures = writer.failures();
+    Ok(Heard {
+        written: taken.taken,
+        ran,
+        read_failures: reader.failures(),
+        write_failures,
+    })
+}
+
+fn answers<E: External>(alloc: Global, externals: Vec<E>, input: &[u8]) -> Result<Vec<u8>, Fail> {
+    Ok(hear(alloc, externals, input, NEVER, 4096, NEVER)?.written)
+}
+
+#[test]
+fn the_first_run(rt: HostRuntime) -> Result<(), Fail> {
+    let alloc = rt.alloc();
+    let input = b"put \"hello\" into g\ngo card 2\n.undo 2\n.redo\n.globals\n.where\n";
+    let heard = hear(alloc, none(alloc), input, NEVER, 1, NEVER)?;
+    assert_eq!(rt; heard.ran, Ok(Ran::EndOfInput));
+    assert!(rt; heard.written.as_slice() == b"ok\nok\nok\nok\n> g hello\nok\n> 2\nok\n".as_slice());
+    Ok(())
+}
+
+#[test]
+fn a_fault_adds_a_place(rt: HostRuntime) -> Result<(), Fail> {
+    let alloc = rt.alloc();
+    let written = answers(alloc, none(alloc), b"go card 3\n.history\n.undo\n.undo\n")?;
+    assert!(rt; written.as_slice() == b"fault 3\n> 1 0\nok\nok\nrefused 1\n".as_slice());
+    Ok(())
+}
+
+#[test]
+fn nothing_to_undo_or_redo(rt: HostRuntime) -> Result<(), Fail> {
+    let alloc = rt.alloc();
+    let written = answers(alloc, none(alloc), b".undo\n.undo 0\n.redo\n")?;
+    assert!(rt; written.as_slice() == b"refused 1\nrefused 3\nrefused 2\n".as_slice());
+    Ok(())
+}
+
+#[test]
+fn undo_goes_back_to_a_line(rt: HostRuntime) -> Result<(), Fail> {
+    let alloc = rt.alloc();
+    let input =
+        b"put \"1\" into g\nput \"2\" into G\n.where\nput \"3\" into g\n.undo to 3\n.globals\n.undo  to   3 \n.undo to 0\n.globals\n.redo 3\n.globals\n.quit\n.where\n";
+    let heard = hear(alloc, none(alloc), input, NEVER, 4096, NEVER)?;
+    let wanted = b"ok\nok\n> 2\nok\nok\nok\n> g 2\nok\nrefused 1\nok\nok\nok\n> g 3\nok\nok\n";
+    assert_eq!(rt; heard.ran, Ok(Ran::Quit));
+    assert!(rt; heard.written.as_slice() == wanted.as_slice());
+    Ok(())
+}
+
+#[test]
+fn globals_stand_in_the_order_of_their_bytes(rt: HostRuntime) -> Result<(), Fail> {
+    let alloc = rt.alloc();
+    let input = b"put \"x\" into b2\nput \"\" into B\nput \"a\\b\xC9\" into _a\n.globals\n";
+    let written = answers(alloc, none(alloc), input)?;
+    let wanted = b"ok\nok\nok\n> _a a\\5cb\\c9\n> b \n> b2 x\nok\n";
+    assert!(rt; written.as_slice() == wanted.as_slice());
+    Ok(())
+}
+
+#[test]
+fn other_lines_are_refused(rt: HostRuntime) -> Result<(), Fail> {
+    let alloc = rt.alloc();
+    let input =
+        b"put (\n.bogus\ngo card 02\ngo  card 2\nput \"a\" into put\nGo card 2\n\n.undo\t1\n .where\n.undo to\n";
+    let written = answers(alloc, none(alloc), input)?;
+    let wanted =
+        b"refused 3\nrefused 3\nrefused 3\nrefused 3\nrefused 3\nrefused 3\nrefused 3\nrefused 3\nrefused 3\nrefused 3\n";
+    assert!(rt; written.as_slice() == wanted.as_slice());
+    Ok(())
+}
+
+#[test]
+fn a_line_that_is_too_long_is_skipped(rt: HostRuntime) -> Result<(), Fail> {
+    let alloc = rt.alloc();
+    let mut input = vec![in alloc; b'x'; LONGEST_LINE + 1]?;
+    input.extend_from_slice(b"\r\n.where\r\n.where")?;
+    let written = answers(alloc, none(alloc), &input)?;
+    assert!(rt; written.as_slice() == b"refused 5\n> 2\nok\n> 2\nok\n".as_slice());
+    Ok(())
+}
+
+#[test]
+fn the_stack_is_shown_as_it_is_saved(rt: HostRuntime) -> Result<(), Fail> {
+    let alloc = rt.alloc();
+    let written = answers(alloc, none(alloc), b".show\n")?;
+    let mut wanted: Vec<u8> = Vec::new(alloc);
+    for line in TWO_CARDS[..TWO_CARDS.len() - 1].split(|b| *b == b'\n') {
+        wanted.extend_from_slice(b"> ")?;
+        wanted.extend_from_slice(line)?;
+        wanted.push(b'\n')?;
+    }
+    wanted.extend_from_slice(b"ok\n")?;
+    assert!(rt; written.as_slice() == wanted.as_slice());
+    Ok(())
+}
+
+/// The first bytes of what would be written, with a call of each device that fails.
+fn cut<E: External>(
+    alloc: Global,
+    externals: Vec<E>,
+    read_fails_at: usize,
+    most: usize,
+    write_fails_at: usize,
+) -> Result<Heard, Fail> {
+    hear(
+        alloc,
+        externals,
+        b".where\ngo card 2\n.where\n",
+        read_fails_at,
+        most,
+        write_fails_at,
+    )
+}
+
+#[test]
+fn a_reader_that_fails_cuts_a_line_off(rt: HostRuntime) -> Result<(), Fail> {
+    let alloc = rt.alloc();
+    for calls in [0, 6, 7, 16, 17] {
+        let heard = cut(alloc, none(alloc), calls, 4096, NEVER)?;
+        let wanted = if calls < 7 {
+            b"".as_slice()
+        } else if calls < 17 {
+            b"> 2\nok\n".as_slice()
+        } else {
+            b"> 2\nok\nok\n".as_slice()
+        };
+        assert_eq!(rt; heard.ran, Err(RunFault::Read));
+        assert_eq!(rt; heard.read_failures, 1);
+        assert!(rt; heard.written.as_slice() == wanted);
+    }
+    Ok(())
+}
+
+#[test]
+fn a_writer_that_fails_cuts_an_answer_off(rt: HostRuntime) -> Result<(), Fail> {
+    let alloc = rt.alloc();
+    let all = b"> 2\nok\nok\n> 4\nok\n";
+    for calls in 0..all.len() {
+        let heard = cut(alloc, none(alloc), NEVER, 1, calls)?;
+        assert_eq!(rt; heard.ran, Err(RunFault::Write));
+        assert_eq!(rt; heard.write_failures, 1);
+        assert!(rt; heard.written.as_slice() == &all[..calls]);
+    }
+    let none_taken = cut(alloc, none(alloc), NEVER, 0, NEVER)?;
+    assert_eq!(rt; none_taken.ran, Err(RunFault::Write));
+    assert_eq!(rt; none_taken.write_failures, 1);
+    Ok(())
+}
+
+/// Why a session isn't opened, and how many externals come back.
+fn refusal_to_open<E: External>(
+    alloc: Global,
+    externals: Vec<E>,
+    steps: u32,
+    depth: u32,
+) -> Result<Option<(OpenError, usize)>, Fail> {
+    match Session::open(alloc, Stack::new(alloc)?, externals, steps, depth) {
+        Ok(_) => Ok(None),
+        Err((error, _, externals)) => Ok(Some((error, externals.len()))),
+    }
+}
+
+#[test]
+fn steps_come_before_depth_and_depth_before_names(rt: HostRuntime) -> Result<(), Fail> {
+    let alloc = rt.alloc();
+    let mut twice = none(alloc);
+    let small: Boxed = Box::new(alloc, make_quiet(alloc, b"Echo")?)?;
+    let large: Boxed = Box::new(alloc, make_quiet(alloc, b"ECHO")?)?;
+    twice.push(small).ok().ok_or("memory")?;
+    twice.push(large).ok().ok_or("memory")?;
+    assert_eq!(rt;
+        refusal_to_open(alloc, none(alloc), 0, 1)?,
+        Some((OpenError::BadSteps, 0))
+    );
+    assert_eq!(rt;
+        refusal_to_open(alloc, none(alloc), 100, 0)?,
+        Some((OpenError::BadDepth, 0))
+    );
+    assert_eq!(rt;
+        refusal_to_open(alloc, none(alloc), 0, 0)?,
+        Some((OpenError::BadSteps, 0))
+    );
+    assert_eq!(rt;
+        refusal_to_open(alloc, none(alloc), 10_000_001, 1)?,
+        Some((OpenError::BadSteps, 0))
+    );
+    assert_eq!(rt;
+        refusal_to_open(alloc, none(alloc), 1, 1_000_001)?,
+        Some((OpenError::BadDepth, 0))
+    );
+    assert_eq!(rt;
+        refusal_to_open(alloc, none(alloc), 10_000_000, 1_000_000)?,
+        None
+    );
+    assert_eq!(rt;
+        refusal_to_open(alloc, twice, 1, 1)?,
+        Some((OpenError::DuplicateName, 2))
+    );
+    Ok(())
+}
+
+/// What the calls of a session beside `line` answer.
+#[derive(Drop)]
+struct Called {
+    undone: Result<(), Refusal>,
+    undone_none: Result<(), Refusal>,
+    redone: Result<(), Refusal>,
+    undone_to: Result<(), Refusal>,
+    saved: Bytes,
+    plugged_again: bool,
+    unplugged: bool,
+    closed: usize,
+}
+
+fn call<E: External>(alloc: Global, first: Vec<E>, second: E, third: E) -> Result<Called, Fail> {
+    let opened = Session::open(alloc, two_cards(alloc)?, first, 100, 10);
+    let mut session = opened.ok().ok_or("open")?;
+    let _ = session.line(b"put \"1\" into g");
+    let undone_none = session.undo(0);
+    let undone = session.undo(1);
+    let redone = session.redo(1);
+    let undone_to = session.undo_to(0);
+    let saved = session.saved()?;
+    session.plug(second).ok().ok_or("plug")?;
+    let plugged_again = session.plug(third).is_ok();
+    let unplugged = session
+        .unplug(&Text::from_slice(alloc, b"quiet")?)
+        .is_some();
+    Ok(Called {
+        undone,
+        undone_none,
+        redone,
+        undone_to,
+        saved,
+        plugged_again,
+        unplugged,
+        closed: session.close().len(),
+    })
+}
+
+#[test]
+fn calls_of_a_session(rt: HostRuntime) -> Result<(), Fail> {
+    let alloc = rt.alloc();
+    let mut first = none(alloc);
+    let one: Boxed = Box::new(alloc, make_quiet(alloc, b"one")?)?;
+    let quiet: Boxed = Box::new(alloc, make_quiet(alloc, b"Quiet")?)?;
+    let same: Boxed = Box::new(alloc, make_quiet(alloc, b"QUIET")?)?;
+    first.push(one).ok().ok_or("memory")?;
+    let called = call(alloc, first, quiet, same)?;
+    assert_eq!(rt; called.undone_none, Err(Refusal::BadCommand));
+    assert_eq!(rt; called.undone, Ok(()));
+    assert_eq!(rt; called.redone, Ok(()));
+    assert_eq!(rt; called.undone_to, Ok(()));
+    assert!(rt; called.saved.as_slice() == TWO_CARDS);
+    assert!(rt; !called.plugged_again);
+    assert!(rt; called.unplugged);
+    assert_eq!(rt; called.closed, 1);
+    lines_move_the_list();
+    Ok(())
+}
+
+/// What is seen of one line's reply.
+#[derive(Drop)]
+struct Seen {
+    ending: Ending,
+    sent: usize,
+    shown: Vec<u8>,
+}
+
+fn reply_of<E: External>(alloc: Global, externals: Vec<E>, line: &[u8]) -> Result<Seen, Fail> {
+    let opened = Session::open(alloc, Stack::new(alloc)?, externals, 100, 10);
+    let mut session = opened.ok().ok_or("open")?;
+    let reply = session.line(line);
+    let mut shown = Vec::new(alloc);
+    for i in 0..reply.shown.len() {
+        shown.extend_from_slice(reply.shown.at(i).as_slice())?;
+        shown.push(b';')?;
+    }
+    for i in 0..reply.sent.len() {
+        shown.extend_from_slice(reply.sent.at(i).name.as_slice())?;
+    }
+    Ok(Seen {
+        ending: reply.ending,
+        sent: reply.sent.len(),
+        shown,
+    })
+}
+
+#[test]
+fn replies_show_lines_and_end(rt: HostRuntime) -> Result<(), Fail> {
+    let alloc = rt.alloc();
+    let looked = reply_of(alloc, none(alloc), b".where")?;
+    assert_eq!(rt; looked.ending, Ending::Ok);
+    assert!(rt; looked.shown.as_slice() == b"2;".as_slice());
+    assert_eq!(rt; looked.sent, 0);
+    let failed = reply_of(alloc, none(alloc), b"go card 2")?;
+    assert_eq!(rt; failed.ending, Ending::Fault(Fault::NoSuchObject));
+    let refused = reply_of(alloc, none(alloc), b"")?;
+    assert_eq!(rt; refused.ending, Ending::Refused(Refusal::BadCommand));
+    assert_eq!(rt;
+        reply_of(alloc, none(alloc), b".quit")?.ending,
+        Ending::Quit
+    );
+    Ok(())
+}
+
+#[test]
+fn refusals_are_numbered_from_one_to_seven(rt: HostRuntime) -> Result<(), Fail> {
+    assert_eq!(rt; Refusal::NothingToUndo.number(), 1);
+    assert_eq!(rt; Refusal::NothingToRedo.number(), 2);
+    assert_eq!(rt; Refusal::BadCommand.number(), 3);
+    assert_eq!(rt; Refusal::NoMemory.number(), 4);
+    assert_eq!(rt; Refusal::LineTooLong.number(), 5);
+    assert_eq!(rt; Refusal::FieldLocked.number(), 6);
+    assert_eq!(rt; Refusal::SaveFailed.number(), 7);
+    Ok(())
+}
