@@ -1,0 +1,2 @@
+pub mod Verdicts
+pub mod Plays

@@ -1,0 +1,79 @@
+//! A whole run: from the bytes of a stack, over a reader and a writer.
+
+ghost use Rattle.std.specs.Prelude.{◌≡◌, ℕ, List, map, true, OnOk, IfOk, IfErr, IsErrOf};
+ghost use Rattle.std.specs.Io.KnownBytes.{Appends, Consumes, IsAtEnd};
+ghost use Rattle.journal_entries.specs.State.{seen_by, are_apart};
+ghost use Rattle.session.specs.Opening.{opened};
+ghost use Rattle.stack_file.specs.Watching.{device_of, failures_of, Rose};
+ghost use Rattle.stack_file.specs.Laws.{Spells};
+ghost use Rattle.command_line.specs.Plays.{Plays, Ends, IsRefusal, fault_of_run};
+
+use crate::fault::CliFault;
+use crate::words::Words;
+use externals::External;
+use object_table::Stack;
+use session::{RunFault, Session, run};
+use stack_file::{ReadError, Watched, read};
+use std::alloc::Global;
+use std::io::{Read, Write};
+
+/// The stack of a text, or the fault of the program.
+fn stack_of(alloc: Global, bytes: &[u8]) -> Result<Stack, CliFault>
+    ensures ok { IfOk result (λ s. Spells bytes.now s.content) }
+    ensures err { IfErr result (λ fault. IsRefusal bytes.now fault) }
+{
+    match read(alloc, bytes) {
+        Ok(stack) => Ok(stack),
+        Err(ReadError::Memory) => Err(CliFault::Memory),
+        Err(ReadError::File(error)) => Err(CliFault::Refused(error)),
+    }
+}
+
+/// The fault of the program for one of a run.
+fn fault_of(fault: RunFault) -> CliFault
+    ensures { result ≡ fault_of_run fault }
+{
+    match fault {
+        RunFault::Memory => CliFault::Memory,
+        RunFault::Read => CliFault::Read,
+        RunFault::Write => CliFault::Write,
+        RunFault::TooManyLines => CliFault::TooManyLines,
+    }
+}
+
+/// Reads the stack text, opens a session with these externals as the words say, and runs the reader to the
+/// writer, up to `.quit` or the end of the input.
+///
+/// What is written is the answers to the lines that are read, those of a list of whole states with a cursor.
+/// `Refused` where the bytes are no stack text, and `Read`, `Write` and `TooManyLines` as `run` has them; `Memory`
+/// where a growth was refused.
+pub fn play<E: External, R: Read, W: Write>(
+    alloc: Global,
+    words: &Words,
+    bytes: &[u8],
+    externals: Vec<E>,
+    reader: &mut Watched<R>,
+    writer: &mut Watched<W>,
+) -> Result<(), CliFault>
+    requires { are_apart (map E.title externals.items) ≡ true }
+    ensures ok { OnOk result ((read : List ℕ) × (written : List ℕ)
+        × Consumes (R.remaining (device_of reader.old)) (R.remaining (device_of reader.new)) read
+        × Appends (W.contents (device_of writer.old)) (W.contents (device_of writer.new)) written
+        × Plays bytes.now (λ stack. opened stack (map (seen_by E.title E.sort E.answers_calls E.cells) externals.items) (map E.turn_count externals.items) words.now.steps words.now.depth) read written) }
+    ensures err { IfErr result (λ fault. (read : List ℕ) × (written : List ℕ)
+        × Consumes (R.remaining (device_of reader.old)) (R.remaining (device_of reader.new)) read
+        × Appends (W.contents (device_of writer.old)) (W.contents (device_of writer.new)) written
+        × Ends (IsAtEnd (R.remaining (device_of reader.new))) fault bytes.now (λ stack. opened stack (map (seen_by E.title E.sort E.answers_calls E.cells) externals.items) (map E.turn_count externals.items) words.now.steps words.now.depth) read written) }
+    ensures read_failed { IsErrOf result CliFault.Read → Rose (failures_of reader.old) (failures_of reader.new) }
+    ensures write_failed { IsErrOf result CliFault.Write → Rose (failures_of writer.old) (failures_of writer.new) }
+{
+    let stack = stack_of(alloc, bytes)?;
+    let mut session = match Session::open(alloc, stack, externals, words.steps, words.depth) {
+        Ok(session) => session,
+        Err(_) => unreachable!(),
+    };
+    match run(&mut session, alloc, reader, writer) {
+        Ok(_) => Ok(()),
+        Err(fault) => Err(fault_of(fault)),
+    }
+}
