@@ -1,0 +1,91 @@
+//! A worked row: what is typed, and what is answered.
+
+use std::alloc::{AllocError, Global};
+
+/// A row as its file has it.
+#[derive(Drop)]
+pub struct Row<'a> {
+    /// The words behind the name of the stack.
+    pub args: &'a str,
+    /// A change of the stack text before it is read.
+    pub edit: &'a str,
+    /// The exit status that is wanted.
+    pub status: &'a str,
+    /// The line that is wanted on standard error; `*` is any line.
+    pub stderr: &'a str,
+    /// The lines of the row.
+    pub body: &'a str,
+}
+
+/// The value of a key at the head of a row, or this one where it isn't there.
+fn value_of<'a>(head: &'a str, key: &str, unless: &'a str) -> &'a str {
+    for line in head.lines() {
+        if let Some((name, value)) = line.split_once(": ") {
+            if name == key {
+                return value;
+            }
+        }
+    }
+    unless
+}
+
+/// The row of a file: `key: value` lines, a line `---`, and the row.
+pub fn row_of(text: &str) -> Row<'_> {
+    let (head, body) = text.split_once("---\n").unwrap_or((text, ""));
+    Row {
+        args: value_of(head, "args", ""),
+        edit: value_of(head, "edit", ""),
+        status: value_of(head, "status", "0"),
+        stderr: value_of(head, "stderr", ""),
+        body,
+    }
+}
+
+/// The bytes of the stack after the edit: `cut N`, or `line N TEXT`.
+pub fn edited(alloc: Global, stack: &str, edit: &str) -> Result<String, AllocError> {
+    let mut out = String::new(alloc);
+    if let Some(count) = edit.strip_prefix("cut ") {
+        let count: usize = count.parse().unwrap_or(0);
+        for c in stack.chars().take(count) {
+            out.push(c)?;
+        }
+        return Ok(out);
+    }
+    let (number, new) = edit
+        .strip_prefix("line ")
+        .and_then(|rest| rest.split_once(" "))
+        .unwrap_or(("0", ""));
+    let number: usize = number.parse().unwrap_or(0);
+    let mut at: usize = 0;
+    for line in stack.lines() {
+        at = at.saturating_add(1);
+        out.push_str(if at == number { new } else { line })?;
+        out.push('\n')?;
+    }
+    Ok(out)
+}
+
+/// The input of a row: a line for `< TEXT`, for `<long N C`, which is the byte C, N times, and for `<cr TEXT`,
+/// in which each `~` is a return.
+pub fn input_of(alloc: Global, body: &str) -> Result<String, AllocError> {
+    let mut out = String::new(alloc);
+    for line in body.lines() {
+        if let Some(text) = line.strip_prefix("< ") {
+            out.push_str(text)?;
+            out.push('\n')?;
+        } else if let Some(text) = line.strip_prefix("<cr ") {
+            for c in text.chars() {
+                out.push(if c == '~' { '\r' } else { c })?;
+            }
+            out.push('\n')?;
+        } else if let Some(rest) = line.strip_prefix("<long ") {
+            let (count, text) = rest.split_once(" ").unwrap_or(("0", ""));
+            let count: u32 = count.parse().unwrap_or(0);
+            for _ in 0..count {
+                out.push_str(text)?;
+            }
+            out.push('\n')?;
+        }
+    }
+    Ok(out)
+}
