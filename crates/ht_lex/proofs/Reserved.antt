@@ -1,8 +1,81 @@
--- The code's table of reserved words is the definition's.
-use Rattle.std.proofs.Common.{◌≡◌, map, refl}
+-- The code's table has the reserved words by their first letters, and a word's key is found under its own first letter.
+use Rattle.std.proofs.Common.{◌≡◌, ℕ, ◌-◌, ◌<◌, ◌≤◌, List, [], ◌∷◌, Bool, true, false, cond, length, map, None, Some, slice_index, Bor, refl, ap, sym, ◌∙◌, arith, rules, tests}
+use Rattle.std.specs.Prelude.{◌==◌}
+use mathlib.Core.Bool.{true≢false}
+use Rattle.std.specs.Cmp.{first_so, second_so}
+use Rattle.std.specs.Char.{to_ascii_lowercase, is_ascii_lowercase}
+use Rattle.std.specs.List.{list_all}
+use Rattle.std.proofs.Math.ListN.{get_or}
+use Rattle.std.proofs.lemmas.List.{get_or-map}
+use Rattle.std.proofs.lemmas.List.FromFn.{get_or-map-range_with_len}
+use Rattle.std.specs.List.{range_with_len}
+use Rattle.ht_values.specs.Text.{same}
+use Rattle.ht_lex.specs.declared.key.Key.{Key}
 use Rattle.ht_lex.specs.declared.word.TheConstants.{RESERVED}
-use Rattle.ht_lex.specs.Words.{reserved_words}
+use Rattle.ht_lex.specs.Words.{Rows, reserved_words, key_among, key_of}
 
-pub rows_of_reserved : map (λ row. (row.0.now, row.1)) RESERVED ≡ reserved_words
+-- the first byte, in lower case
+abbrev pub initial : List ℕ → ℕ
+initial w = to_ascii_lowercase (slice_index w 0)
+
+-- the rows whose words begin with a letter
+abbrev pub under : ℕ → Rows → Rows
+under n [] = []
+under n (row ∷ rows) = cond (initial row.0 == n) (row ∷ under n rows) (under n rows)
+
+same_initial : (a b : List ℕ) → same a b ≡ true → (initial a == initial b) ≡ true
+same_initial [] [] f = refl
+same_initial [] (y ∷ ys) f = absurd (true≢false (sym f))
+same_initial (x ∷ xs) [] f = absurd (true≢false (sym f))
+same_initial (x ∷ xs) (y ∷ ys) f = first_so (to_ascii_lowercase x == to_ascii_lowercase y) (same xs ys) f
+
+pub among_under : (rows : Rows) (w : List ℕ) → key_among (under (initial w) rows) w ≡ key_among rows w
+among_under [] w = refl
+among_under (row ∷ rows) w = go (initial row.0 == initial w) refl (among_under rows w)
+  where
+    other : (s : Bool) → same row.0 w ≡ s → (initial row.0 == initial w) ≡ false → key_among rows w ≡ cond s (Some row.1) (key_among rows w)
+    other false f e = refl
+    other true f e = absurd (true≢false (sym (same_initial row.0 w f) ∙ e))
+
+    go : (b : Bool) → (initial row.0 == initial w) ≡ b → key_among (under (initial w) rows) w ≡ key_among rows w
+        → key_among (cond b (row ∷ under (initial w) rows) (under (initial w) rows)) w ≡ key_among (row ∷ rows) w
+    go true e later = ap (λ k. cond (same row.0 w) (Some row.1) k) later
+    go false e later = later ∙ other (same row.0 w) refl e
+
+none_under : (rows : Rows) (n : ℕ) → list_all (λ row. is_ascii_lowercase (initial row.0)) rows ≡ true → is_ascii_lowercase n ≡ false → under n rows ≡ []
+none_under [] n h f = refl
+none_under (row ∷ rows) n h f = go (initial row.0 == n) refl (none_under rows n (second_so (is_ascii_lowercase (initial row.0)) (list_all (λ row. is_ascii_lowercase (initial row.0)) rows) h) f)
+  where
+    go : (b : Bool) → (initial row.0 == n) ≡ b → under n rows ≡ [] → cond b (row ∷ under n rows) (under n rows) ≡ []
+    go true e later =
+        let same : initial row.0 ≡ n = search (rules, tests, e) in
+        let lower : is_ascii_lowercase (initial row.0) ≡ true = first_so (is_ascii_lowercase (initial row.0)) (list_all (λ row. is_ascii_lowercase (initial row.0)) rows) h in
+        absurd (true≢false (sym lower ∙ ap is_ascii_lowercase same ∙ f))
+    go false e later = later
+
+letters : list_all (λ row. is_ascii_lowercase (initial row.0)) reserved_words ≡ true
 unfolding reserved_words
-rows_of_reserved = refl
+letters = refl
+
+-- The rows of a table, as the definitions see them.
+abbrev pub plain : Bor (List (Bor (List ℕ) × Key)) → Rows
+plain rows = map (λ row. (row.0.now, row.1)) rows.now
+
+pub plain_at : (table : List (Bor (List (Bor (List ℕ) × Key)))) (place : ℕ) (d : Bor (List (Bor (List ℕ) × Key))) → place < length table
+    → map (λ row. (row.0.now, row.1)) (get_or table place d).now ≡ get_or (map {B = Rows} (λ rows. map (λ row. (row.0.now, row.1)) rows.now) table) place []
+plain_at table place d low = sym (get_or-map plain table place d [] low)
+
+pub rows_by_letter : map (λ rows. map (λ row. (row.0.now, row.1)) rows.now) RESERVED ≡ map (λ n. under n reserved_words) (range_with_len 97 26)
+unfolding reserved_words
+rows_by_letter = refl
+
+pub found_under : (w : List ℕ) (first : ℕ) → first ≡ initial w → 97 ≤ first → first ≤ 122
+    → key_among (get_or (map (λ n. under n reserved_words) (range_with_len 97 26)) (first - 97) []) w ≡ key_of w
+unfolding key_of
+found_under w first e low high =
+    ap (λ rows. key_among rows w) (get_or-map-range_with_len (λ n. under n reserved_words) 97 26 (first - 97) (initial w) [] (omega arith) (omega (arith, e))) ∙ among_under reserved_words w
+
+pub none_found : (w : List ℕ) (first : ℕ) → first ≡ initial w → is_ascii_lowercase first ≡ false → key_of w ≡ None
+unfolding key_of
+none_found w first e none =
+    sym (among_under reserved_words w) ∙ ap (λ rows. key_among rows w) (none_under reserved_words (initial w) letters (ap is_ascii_lowercase (sym e) ∙ none))

@@ -12,6 +12,10 @@ use Rattle.ht_values.specs.declared.word.PartKind.TheVariants as part
 use Rattle.ht_lex.specs.declared.key.Ordinal.TheVariants as ordinal
 use Rattle.ht_lex.specs.declared.key.Constant.TheVariants as constant
 
+-- words with their keys
+abbrev pub Rows : Type 0
+Rows = List (List ℕ × Key)
+
 -- The reserved words. Synonyms have one key, so that the grammar never sees them.
 unfoldable pub reserved_words : List (List ℕ × Key)
 reserved_words =

@@ -11,7 +11,7 @@ pub use cut::lex;
 pub use ht_values::PartKind;
 pub use key::{Constant, Key, Kind, Ordinal, Piece};
 pub use tokens::{LexError, Span, Token, Tokens};
-pub use word::is_name;
+pub use word::{is_name, is_same};
 
 #[cfg(test)]
 mod tests;

@@ -70,6 +70,21 @@ impl<'a> Tokens<'a> {
         self.spans.len()
     }
 
+    /// The text whose tokens they are.
+    pub fn text(&self) -> &'a [u8]
+        ensures { result.now ≡ self.now.text }
+    {
+        self.text
+    }
+
+    /// Where the tokens stand in the text, in order.
+    pub fn spans(&self) -> &[Span]
+        ensures value { result.now ≡ self.now.spans }
+        ensures ordered { InOrder 0 self.now.spans (length self.now.text) }
+    {
+        &self.spans
+    }
+
     /// The token at a place in the order, from 0.
     pub fn at(&self, place: usize) -> Token<'a>
         requires { place < length self.now.spans }
