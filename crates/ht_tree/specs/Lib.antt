@@ -1,0 +1,11 @@
+pub mod Postfix
+pub mod View
+pub mod Falls
+pub mod Codes
+pub mod ContainerCode
+pub mod ContainerView
+pub mod ContainerFalls
+pub mod StatementCode
+pub mod StatementView
+pub mod StatementFalls
+pub mod ScriptView

@@ -1,0 +1,57 @@
+-- The statements in memory, as plain trees.
+use Rattle.std.specs.Prelude.{List, [], ◌∷◌}
+use Rattle.ht_tree.specs.declared.statement.Goal.{Goal}
+use Rattle.ht_tree.specs.declared.statement.Goal.TheVariants as goal
+use Rattle.ht_tree.specs.declared.statement.Head.{Head}
+use Rattle.ht_tree.specs.declared.statement.Head.TheVariants as head
+use Rattle.ht_tree.specs.declared.statement.StmtKind.{StmtKind}
+use Rattle.ht_tree.specs.declared.statement.StmtKind.TheVariants as stmt
+use Rattle.ht_grammar.specs.Statements as s
+use Rattle.ht_tree.specs.View.{exprs_of, chunk_of, spot_of, ref_of}
+
+abbrev pub goal_of : Goal → s.Goal
+goal_of (goal.ToCard p) = s.to_card (spot_of p)
+goal_of (goal.ToBackground p) = s.to_background (spot_of p)
+
+abbrev pub head_of : Head → s.Head
+head_of head.Forever = s.forever
+head_of (head.Times e) = s.times e
+head_of (head.While e) = s.while e
+head_of (head.Until e) = s.until e
+head_of (head.CountedUp w e f) = s.counted_up w e f
+head_of (head.CountedDown w e f) = s.counted_down w e f
+
+abbrev pub stmts_of : List s.Stmt → s.Stmts
+stmts_of [] = s.stop
+stmts_of (x ∷ xs) = s.also x (stmts_of xs)
+
+abbrev pub stmt_of : StmtKind → s.Stmt
+stmt_of (stmt.Put e) = s.put e
+stmt_of (stmt.PutIn w e c) = s.put_in w e c
+stmt_of (stmt.Get e) = s.get e
+stmt_of (stmt.Set p r e) = s.set p (ref_of r) e
+stmt_of (stmt.SetRun p e) = s.set_run p e
+stmt_of (stmt.Add e c) = s.add e c
+stmt_of (stmt.Subtract e c) = s.subtract e c
+stmt_of (stmt.Multiply c e) = s.multiply c e
+stmt_of (stmt.Divide c e) = s.divide c e
+stmt_of (stmt.Delete h c) = s.delete (chunk_of h) c
+stmt_of (stmt.Do e) = s.do_ e
+stmt_of (stmt.Send e r) = s.send e (ref_of r)
+stmt_of (stmt.Go g) = s.go (goal_of g)
+stmt_of (stmt.Global ws) = s.global ws.items.items
+stmt_of stmt.ExitRepeat = s.exit_repeat
+stmt_of stmt.NextRepeat = s.next_repeat
+stmt_of stmt.ExitToHyperCard = s.exit_to_hypercard
+stmt_of (stmt.Exit w) = s.exit w
+stmt_of (stmt.Pass w) = s.pass w
+stmt_of stmt.ReturnNothing = s.return_nothing
+stmt_of (stmt.ReturnValue e) = s.return_value e
+stmt_of (stmt.Command w es) = s.command w (exprs_of es.items.items)
+stmt_of (stmt.When e ss os) = s.when e (stmts_of ss.items.items) (stmts_of os.items.items)
+stmt_of (stmt.Repeat h ss) = s.repeat (head_of h) (stmts_of ss.items.items)
+
+-- statements and then another
+abbrev pub with_stmt : s.Stmts → s.Stmt → s.Stmts
+with_stmt s.stop x = s.also x s.stop
+with_stmt (s.also y ys) x = s.also y (with_stmt ys x)

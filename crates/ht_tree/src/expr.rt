@@ -1,0 +1,354 @@
+//! Expressions and references.
+
+ghost use Rattle.std.specs.Prelude.{◌≡◌, ◌+◌, ◌≤◌, IfOk};
+ghost use Rattle.ht_grammar.specs.Trees as t;
+ghost use Rattle.ht_grammar.specs.Depth.{depth, depths, chunk_depth, which_depth, spot_depth, owner_depth, part_depth, ref_depth, count_depth, max_depth};
+ghost use Rattle.ht_grammar.specs.Reading.{snoc};
+ghost use Rattle.ht_tree.specs.View.{expr_of, exprs_of, chunk_of, which_of, spot_of, owner_of, part_of, ref_of, count_of};
+
+use ht_grammar::{FunctionWord, Layer, RunProp};
+use ht_lex::{Constant, Ordinal, Piece};
+use ht_values::{Op, PartKind, Prop, Text, UnOp};
+use std::alloc::{AllocError, Global};
+use std::marker::Model;
+
+/// An expression, at most 100 levels deep.
+#[cycle(tree)]
+#[derive(Drop)]
+pub struct Expr {
+    kind: Box<ExprKind>,
+    depth: usize,
+}
+
+/// What an expression is, with its parts.
+#[cycle(tree)]
+#[derive(Drop)]
+pub enum ExprKind {
+    Number(Text),
+    Quoted(Text),
+    Constant(Constant),
+    /// The constant `return`.
+    Return,
+    Name(Text),
+    Paren(Expr),
+    Call(Text, Exprs),
+    Binary(Op, Expr, Expr),
+    Unary(UnOp, Expr),
+    /// `there is a`, or with true `there is no`.
+    ThereIs(bool, Ref),
+    /// Pieces of an expression's text.
+    Chunk(Chunk, Expr),
+    /// The text of a field.
+    Field(Part),
+    Result,
+    Target,
+    NumberOf(Count),
+    Property(Prop, Ref),
+    RunProperty(RunProp),
+    /// `the length of`, and the like.
+    Function(FunctionWord, Expr),
+}
+
+/// Expressions with commas between.
+#[cycle(tree)]
+#[derive(Drop)]
+pub struct Exprs {
+    pub items: Vec<Expr>,
+}
+
+/// Which pieces of a text.
+#[cycle(tree)]
+#[derive(Drop)]
+pub enum Chunk {
+    Piece(Piece, Expr),
+    Pieces(Piece, Expr, Expr),
+    NthPiece(Ordinal, Piece),
+}
+
+/// Which object: by its id, or by its number or name.
+#[cycle(tree)]
+#[derive(Drop)]
+pub enum Which {
+    ById(Expr),
+    ByText(Expr),
+}
+
+/// Which card or background.
+#[cycle(tree)]
+#[derive(Drop)]
+pub enum Spot {
+    This,
+    Next,
+    Previous,
+    Nth(Ordinal),
+    Which(Which),
+}
+
+/// The card or background on which a part is looked for.
+#[cycle(tree)]
+#[derive(Drop)]
+pub enum Owner {
+    NoOwner,
+    OnCard(Spot),
+    OnBackground(Spot),
+}
+
+/// A button or a field, with the layer that is written before it.
+#[cycle(tree)]
+#[derive(Drop)]
+pub enum Part {
+    Plain(Option<Layer>, PartKind, Which, Owner),
+    Nth(Ordinal, Option<Layer>, PartKind, Owner),
+}
+
+/// A reference to an object.
+#[cycle(tree)]
+#[derive(Drop)]
+pub enum Ref {
+    Me,
+    Target,
+    ThisStack,
+    Card(Spot),
+    Background(Spot),
+    Part(Part),
+}
+
+/// What `the number of` counts, or the object whose number it is.
+#[cycle(tree)]
+#[derive(Drop)]
+pub enum Count {
+    PiecesOf(Piece, Expr),
+    Cards,
+    Backgrounds,
+    Parts(Option<Layer>, PartKind),
+    OfObject(Ref),
+}
+
+impl Model for Expr {
+    ghost use Rattle.std.specs.Prelude.{◌≡◌, ◌≤◌};
+    ghost use Rattle.ht_grammar.specs.Trees as t;
+
+    ghost Value = { t.Expr };
+
+    ghost use Rattle.std.specs.Prelude.{List, []};
+    ghost use Rattle.std.specs.Coded.{codes, code_by};
+    ghost use Rattle.ht_tree.specs.Postfix.{Mark, run, expr_on, expr_marks, expr_back};
+    ghost use Rattle.std.proofs.Common.{ap};
+
+    ghost coded = { code_by (List Mark) (Prim.hlevel codes) (λ x. expr_marks x []) (λ ms. expr_on (run ms [])) (λ x. ap expr_on (expr_back x [] [])) };
+
+    ghost use Rattle.ht_grammar.specs.Depth as d;
+    ghost use Rattle.ht_tree.specs.View.{expr_of};
+
+    ghost view = { λ e. expr_of e.kind.value };
+
+    ghost invariant = { λ e. (e.depth ≡ d.depth (expr_of e.kind.value)) × (e.depth ≤ d.max_depth) };
+
+    ghost size = { d.depth };
+
+    ghost use Rattle.ht_tree.specs.Falls.{expr_falls};
+
+    ghost size_decreases = { λ e h. expr_falls e.kind.value };
+}
+
+impl Expr {
+    /// The expression of a kind, which is at most 100 levels deep.
+    pub fn new(alloc: Global, kind: ExprKind) -> Result<Expr, AllocError>
+        requires { depth (expr_of kind) ≤ max_depth }
+        ensures { IfOk result (λ e. e ≡ expr_of kind) }
+    {
+        let depth = kind.depth();
+        let kind = Box::new(alloc, kind)?;
+        Ok(Expr { kind, depth })
+    }
+
+    /// Its kind, with its parts.
+    pub fn kind(&self) -> &ExprKind
+        ensures { expr_of result.now ≡ self.now }
+    {
+        &self.kind
+    }
+
+    /// The greatest number of nodes on a way down, at most 100.
+    pub fn depth(&self) -> usize
+        ensures value { result ≡ depth self.now }
+        ensures limit { result ≤ max_depth }
+    {
+        self.depth
+    }
+}
+
+impl ExprKind {
+    fn depth(&self) -> usize
+        ensures { result ≡ depth (expr_of self.now) }
+    {
+        match self {
+            ExprKind::Number(_)
+            | ExprKind::Quoted(_)
+            | ExprKind::Constant(_)
+            | ExprKind::Return
+            | ExprKind::Name(_)
+            | ExprKind::Result
+            | ExprKind::Target
+            | ExprKind::RunProperty(_) => 1,
+            ExprKind::Paren(inner) => inner.depth() + 1,
+            ExprKind::Call(_, arguments) => arguments.depth() + 1,
+            ExprKind::Binary(_, left, right) => left.depth().max(right.depth()) + 1,
+            ExprKind::Unary(_, operand) => operand.depth() + 1,
+            ExprKind::ThereIs(_, reference) => reference.depth() + 1,
+            ExprKind::Chunk(chunk, text) => chunk.depth().max(text.depth()) + 1,
+            ExprKind::Field(part) => part.depth(),
+            ExprKind::NumberOf(count) => count.depth() + 1,
+            ExprKind::Property(_, reference) => reference.depth() + 1,
+            ExprKind::Function(_, operand) => operand.depth() + 1,
+        }
+    }
+}
+
+impl Exprs {
+    /// No expressions.
+    pub fn new(alloc: Global) -> Exprs
+        ensures { exprs_of result.items.items ≡ t.none }
+    {
+        Exprs {
+            items: Vec::new(alloc),
+        }
+    }
+
+    /// The list with another expression at its end. An error where a growth of memory was refused.
+    #[tactic(auto, using(crate::proofs::Lists::exprs_snoc))]
+    pub fn with(mut self, expr: Expr) -> Result<Exprs, AllocError>
+        ensures { IfOk result (λ exprs. exprs_of exprs.items.items ≡ snoc (exprs_of self.items.items) expr) }
+    {
+        self.items.push(expr)?;
+        Ok(self)
+    }
+
+    /// The depth of the deepest, 0 where there is none.
+    pub fn depth(&self) -> usize
+        ensures value { result ≡ depths (exprs_of self.now.items.items) }
+        ensures limit { result ≤ max_depth }
+    {
+        let mut deepest = 0;
+        let mut rest = self.items.as_slice();
+        while let [first, later @ ..] = rest {
+            deepest = deepest.max(first.depth());
+            rest = later;
+        }
+        deepest
+    }
+}
+
+impl Chunk {
+    /// The depth of the deepest index, 0 where there is none.
+    pub fn depth(&self) -> usize
+        ensures value { result ≡ chunk_depth (chunk_of self.now) }
+        ensures limit { result ≤ max_depth }
+    {
+        match self {
+            Chunk::Piece(_, index) => index.depth(),
+            Chunk::Pieces(_, first, last) => first.depth().max(last.depth()),
+            Chunk::NthPiece(_, _) => 0,
+        }
+    }
+}
+
+impl Which {
+    /// The depth of the id, number or name.
+    pub fn depth(&self) -> usize
+        ensures value { result ≡ which_depth (which_of self.now) }
+        ensures limit { result ≤ max_depth }
+    {
+        match self {
+            Which::ById(id) => id.depth(),
+            Which::ByText(text) => text.depth(),
+        }
+    }
+}
+
+impl Spot {
+    /// The depth of the id, number or name, 0 where there is none.
+    pub fn depth(&self) -> usize
+        ensures value { result ≡ spot_depth (spot_of self.now) }
+        ensures limit { result ≤ max_depth }
+    {
+        match self {
+            Spot::This | Spot::Next | Spot::Previous | Spot::Nth(_) => 0,
+            Spot::Which(which) => which.depth(),
+        }
+    }
+}
+
+impl Owner {
+    /// One more than the depth of its card or background, 0 where there is none.
+    pub fn depth(&self) -> usize
+        ensures value { result ≡ owner_depth (owner_of self.now) }
+        ensures limit { result ≤ max_depth + 1 }
+    {
+        match self {
+            Owner::NoOwner => 0,
+            Owner::OnCard(spot) => spot.depth() + 1,
+            Owner::OnBackground(spot) => spot.depth() + 1,
+        }
+    }
+}
+
+impl Part {
+    pub fn kind(&self) -> PartKind
+        ensures { result ≡ t.kind_of_part (part_of self.now) }
+    {
+        match self {
+            Part::Plain(_, kind, _, _) => *kind,
+            Part::Nth(_, _, kind, _) => *kind,
+        }
+    }
+
+    /// The card or background that it is looked for on.
+    pub fn owner(&self) -> &Owner
+        ensures { owner_of result.now ≡ t.owner_of (part_of self.now) }
+    {
+        match self {
+            Part::Plain(_, _, _, owner) => owner,
+            Part::Nth(_, _, _, owner) => owner,
+        }
+    }
+
+    /// One more than the depth of its id, number or name and of its owner.
+    pub fn depth(&self) -> usize
+        ensures value { result ≡ part_depth (part_of self.now) }
+        ensures limit { result ≤ max_depth + 2 }
+    {
+        match self {
+            Part::Plain(_, _, which, owner) => which.depth().max(owner.depth()) + 1,
+            Part::Nth(_, _, _, owner) => owner.depth() + 1,
+        }
+    }
+}
+
+impl Ref {
+    /// One more than the depth of what it is referred to by.
+    pub fn depth(&self) -> usize
+        ensures value { result ≡ ref_depth (ref_of self.now) }
+        ensures limit { result ≤ max_depth + 2 }
+    {
+        match self {
+            Ref::Me | Ref::Target | Ref::ThisStack => 1,
+            Ref::Card(spot) => spot.depth() + 1,
+            Ref::Background(spot) => spot.depth() + 1,
+            Ref::Part(part) => part.depth(),
+        }
+    }
+}
+
+impl Count {
+    fn depth(&self) -> usize
+        ensures value { result ≡ count_depth (count_of self.now) }
+        ensures limit { result ≤ max_depth + 2 }
+    {
+        match self {
+            Count::PiecesOf(_, text) => text.depth(),
+            Count::Cards | Count::Backgrounds | Count::Parts(_, _) => 0,
+            Count::OfObject(reference) => reference.depth(),
+        }
+    }
+}

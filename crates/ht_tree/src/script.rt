@@ -1,0 +1,85 @@
+//! Scripts, messages and texts that are typed.
+
+ghost use Rattle.std.specs.Prelude.{◌≡◌, ◌≤◌, IfOk};
+ghost use Rattle.ht_grammar.specs.Statements as s;
+ghost use Rattle.ht_grammar.specs.Depth.{stmts_depth, handlers_depth, message_depth, max_depth};
+ghost use Rattle.ht_tree.specs.ScriptView.{handler_of, script_of, message_of, with_handler};
+
+use crate::expr::{Exprs, Part};
+use crate::statement::{Names, Stmts};
+use ht_grammar::HandlerKind;
+use ht_values::Text;
+use std::alloc::{AllocError, Global};
+
+/// A handler of a script.
+#[derive(Drop)]
+pub struct Handler {
+    pub kind: HandlerKind,
+    pub name: Text,
+    pub parameters: Names,
+    pub lines: Stmts,
+}
+
+/// The handlers of a script, in order.
+#[derive(Drop)]
+pub struct Script {
+    pub handlers: Vec<Handler>,
+}
+
+/// A text for `send`: a name and its arguments.
+#[derive(Drop)]
+pub struct Message {
+    pub name: Text,
+    pub arguments: Exprs,
+}
+
+/// A text that is typed, and the field for it.
+#[derive(Drop)]
+pub struct Typing {
+    pub text: Text,
+    pub field: Part,
+}
+
+impl Script {
+    /// No handlers.
+    pub fn new(alloc: Global) -> Script
+        ensures { script_of result ≡ s.no_handlers }
+    {
+        Script {
+            handlers: Vec::new(alloc),
+        }
+    }
+
+    /// The script with another handler at its end. An error where a growth of memory was refused.
+    #[tactic(auto, using(crate::proofs::Lists::handlers_with))]
+    pub fn with(mut self, handler: Handler) -> Result<Script, AllocError>
+        ensures { IfOk result (λ script. script_of script ≡ with_handler (script_of self) (handler_of handler)) }
+    {
+        self.handlers.push(handler)?;
+        Ok(self)
+    }
+
+    /// The depth of the deepest statement, 0 where there is none.
+    pub fn depth(&self) -> usize
+        ensures value { result ≡ handlers_depth (script_of self.now) }
+        ensures limit { result ≤ max_depth }
+    {
+        let mut deepest = 0;
+        let mut rest = self.handlers.as_slice();
+        while let [first, later @ ..] = rest {
+            deepest = deepest.max(first.lines.depth());
+            rest = later;
+        }
+        deepest
+    }
+}
+
+impl Message {
+    /// The depth of the deepest argument, 0 where there is none.
+    pub fn depth(&self) -> usize
+        ensures value { result ≡ message_depth (message_of self.now) }
+        ensures limit { result ≤ max_depth }
+    {
+        self.arguments.depth()
+    }
+}

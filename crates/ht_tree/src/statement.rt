@@ -1,0 +1,264 @@
+//! Statements.
+
+ghost use Rattle.std.specs.Prelude.{◌≡◌, ◌+◌, ◌≤◌, [], ◌∷◌, ◌++◌, IfOk};
+ghost use Rattle.ht_grammar.specs.Statements as s;
+ghost use Rattle.ht_grammar.specs.Depth.{goal_depth, head_depth, stmt_depth, stmts_depth, max_depth};
+ghost use Rattle.ht_tree.specs.StatementView.{goal_of, head_of, stmt_of, stmts_of, with_stmt};
+
+use crate::container::Container;
+use crate::expr::{Chunk, Expr, Exprs, Ref, Spot};
+use ht_grammar::{RunProp, Where};
+use ht_values::{Prop, Text};
+use std::alloc::{AllocError, Global};
+use std::marker::Model;
+
+/// Names, one after another.
+#[derive(Drop)]
+pub struct Names {
+    pub items: Vec<Text>,
+}
+
+/// Where `go` goes.
+#[derive(Drop)]
+pub enum Goal {
+    ToCard(Spot),
+    ToBackground(Spot),
+}
+
+/// How often `repeat` does its lines.
+#[derive(Drop)]
+pub enum Head {
+    Forever,
+    Times(Expr),
+    While(Expr),
+    Until(Expr),
+    /// With a variable, from the first number up to the second.
+    CountedUp(Text, Expr, Expr),
+    /// With a variable, from the first number down to the second.
+    CountedDown(Text, Expr, Expr),
+}
+
+/// A statement, at most 100 levels deep.
+#[cycle(statement)]
+#[derive(Drop)]
+pub struct Stmt {
+    kind: Box<StmtKind>,
+    depth: usize,
+}
+
+/// What a statement is, with its parts.
+#[cycle(statement)]
+#[derive(Drop)]
+pub enum StmtKind {
+    /// `put` alone, which shows a line.
+    Put(Expr),
+    PutIn(Where, Expr, Container),
+    Get(Expr),
+    Set(Prop, Ref, Expr),
+    SetRun(RunProp, Expr),
+    Add(Expr, Container),
+    Subtract(Expr, Container),
+    Multiply(Container, Expr),
+    Divide(Container, Expr),
+    /// Pieces of a container's text are deleted.
+    Delete(Chunk, Container),
+    Do(Expr),
+    Send(Expr, Ref),
+    Go(Goal),
+    /// One name or more.
+    Global(Names),
+    ExitRepeat,
+    NextRepeat,
+    ExitToHyperCard,
+    Exit(Text),
+    Pass(Text),
+    ReturnNothing,
+    ReturnValue(Expr),
+    Command(Text, Exprs),
+    /// `if`, with what is done otherwise.
+    When(Expr, Stmts, Stmts),
+    Repeat(Head, Stmts),
+}
+
+/// Statements, one after another.
+#[cycle(statement)]
+#[derive(Drop)]
+pub struct Stmts {
+    pub items: Vec<Stmt>,
+}
+
+impl Model for Stmt {
+    ghost use Rattle.std.specs.Prelude.{◌≡◌, ◌≤◌};
+    ghost use Rattle.ht_grammar.specs.Statements as s;
+
+    ghost Value = { s.Stmt };
+
+    ghost use Rattle.std.specs.Prelude.{List, []};
+    ghost use Rattle.std.specs.Coded.{codes, code_by};
+    ghost use Rattle.std.proofs.Common.{ap};
+    ghost use Rattle.ht_tree.specs.contracts.expr.Expr as expr;
+    ghost use Rattle.ht_tree.specs.contracts.container.Container as container;
+    ghost use Rattle.ht_tree.specs.Codes.{coded_exprs, coded_chunk, coded_spot, coded_ref};
+    ghost use Rattle.ht_tree.specs.StatementCode.{Mark, run, stmt_on, stmt_marks, stmt_back};
+
+    ghost coded = { code_by (List Mark) (Prim.hlevel (codes, expr.the_row.coded, container.the_row.coded, coded_exprs (Prim.hlevel codes), coded_chunk (Prim.hlevel codes), coded_spot (Prim.hlevel codes), coded_ref (Prim.hlevel codes))) (λ x. stmt_marks x []) (λ ms. stmt_on (run ms [])) (λ x. ap stmt_on (stmt_back x [] [])) };
+
+    ghost use Rattle.ht_grammar.specs.Depth.{stmt_depth, max_depth};
+    ghost use Rattle.ht_tree.specs.StatementView.{stmt_of};
+
+    ghost view = { λ x. stmt_of x.kind.value };
+
+    ghost invariant = { λ x. (x.depth ≡ stmt_depth (stmt_of x.kind.value)) × (x.depth ≤ max_depth) };
+
+    ghost size = { stmt_depth };
+
+    ghost use Rattle.ht_tree.specs.StatementFalls.{stmt_falls};
+
+    ghost size_decreases = { λ x h. stmt_falls x.kind.value };
+}
+
+impl Names {
+    /// No names.
+    pub fn new(alloc: Global) -> Names
+        ensures { result.items.items ≡ [] }
+    {
+        Names {
+            items: Vec::new(alloc),
+        }
+    }
+
+    /// The list with another name at its end. An error where a growth of memory was refused.
+    pub fn with(mut self, name: Text) -> Result<Names, AllocError>
+        ensures { IfOk result (λ names. names.items.items ≡ self.items.items ++ name ∷ []) }
+    {
+        self.items.push(name)?;
+        Ok(self)
+    }
+}
+
+impl Goal {
+    /// One more than the depth of its card or background.
+    pub fn depth(&self) -> usize
+        ensures value { result ≡ goal_depth (goal_of self.now) }
+        ensures limit { result ≤ max_depth + 1 }
+    {
+        match self {
+            Goal::ToCard(spot) => spot.depth() + 1,
+            Goal::ToBackground(spot) => spot.depth() + 1,
+        }
+    }
+}
+
+impl Head {
+    /// The depth of its deepest expression, 0 where there is none.
+    pub fn depth(&self) -> usize
+        ensures value { result ≡ head_depth (head_of self.now) }
+        ensures limit { result ≤ max_depth }
+    {
+        match self {
+            Head::Forever => 0,
+            Head::Times(times) => times.depth(),
+            Head::While(condition) => condition.depth(),
+            Head::Until(condition) => condition.depth(),
+            Head::CountedUp(_, from, to) => from.depth().max(to.depth()),
+            Head::CountedDown(_, from, to) => from.depth().max(to.depth()),
+        }
+    }
+}
+
+impl Stmt {
+    /// The statement of a kind, which is at most 100 levels deep.
+    pub fn new(alloc: Global, kind: StmtKind) -> Result<Stmt, AllocError>
+        requires { stmt_depth (stmt_of kind) ≤ max_depth }
+        ensures { IfOk result (λ made. made ≡ stmt_of kind) }
+    {
+        let depth = kind.depth();
+        let kind = Box::new(alloc, kind)?;
+        Ok(Stmt { kind, depth })
+    }
+
+    /// Its kind, with its parts.
+    pub fn kind(&self) -> &StmtKind
+        ensures { stmt_of result.now ≡ self.now }
+    {
+        &self.kind
+    }
+
+    /// The greatest number of nodes on a way down, at most 100.
+    pub fn depth(&self) -> usize
+        ensures value { result ≡ stmt_depth self.now }
+        ensures limit { result ≤ max_depth }
+    {
+        self.depth
+    }
+}
+
+impl StmtKind {
+    fn depth(&self) -> usize
+        ensures { result ≡ stmt_depth (stmt_of self.now) }
+    {
+        match self {
+            StmtKind::Global(_)
+            | StmtKind::ExitRepeat
+            | StmtKind::NextRepeat
+            | StmtKind::ExitToHyperCard
+            | StmtKind::Exit(_)
+            | StmtKind::Pass(_)
+            | StmtKind::ReturnNothing => 1,
+            StmtKind::Put(value)
+            | StmtKind::Get(value)
+            | StmtKind::SetRun(_, value)
+            | StmtKind::Do(value)
+            | StmtKind::ReturnValue(value) => value.depth() + 1,
+            StmtKind::PutIn(_, value, container)
+            | StmtKind::Add(value, container)
+            | StmtKind::Subtract(value, container)
+            | StmtKind::Multiply(container, value)
+            | StmtKind::Divide(container, value) => value.depth().max(container.depth()) + 1,
+            StmtKind::Set(_, reference, value) | StmtKind::Send(value, reference) => {
+                reference.depth().max(value.depth()) + 1
+            }
+            StmtKind::Delete(chunk, container) => chunk.depth().max(container.depth()) + 2,
+            StmtKind::Go(goal) => goal.depth() + 1,
+            StmtKind::Command(_, arguments) => arguments.depth() + 1,
+            StmtKind::When(condition, lines, otherwise) => {
+                condition.depth().max(lines.depth()).max(otherwise.depth()) + 1
+            }
+            StmtKind::Repeat(head, lines) => head.depth().max(lines.depth()) + 1,
+        }
+    }
+}
+
+impl Stmts {
+    /// No statements.
+    pub fn new(alloc: Global) -> Stmts
+        ensures { stmts_of result.items.items ≡ s.stop }
+    {
+        Stmts {
+            items: Vec::new(alloc),
+        }
+    }
+
+    /// The statements with another at their end. An error where a growth of memory was refused.
+    #[tactic(auto, using(crate::proofs::Lists::stmts_with))]
+    pub fn with(mut self, stmt: Stmt) -> Result<Stmts, AllocError>
+        ensures { IfOk result (λ stmts. stmts_of stmts.items.items ≡ with_stmt (stmts_of self.items.items) stmt) }
+    {
+        self.items.push(stmt)?;
+        Ok(self)
+    }
+
+    /// The depth of the deepest, 0 where there is none.
+    pub fn depth(&self) -> usize
+        ensures value { result ≡ stmts_depth (stmts_of self.now.items.items) }
+        ensures limit { result ≤ max_depth }
+    {
+        let mut deepest = 0;
+        let mut rest = self.items.as_slice();
+        while let [first, later @ ..] = rest {
+            deepest = deepest.max(first.depth());
+            rest = later;
+        }
+        deepest
+    }
+}
