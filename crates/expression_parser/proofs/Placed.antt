@@ -1,0 +1,23 @@
+-- The tokens of a text stand in it.
+use Rattle.std.proofs.Common.{ℕ, ◌≤◌, ◌+◌, List, [], ◌∷◌, length, arith}
+use Rattle.std.specs.List.{AllByRecursion}
+use Rattle.ht_lex.specs.declared.tokens.Span.{Span}
+use Rattle.ht_lex.specs.Tokens.{InOrder}
+use Rattle.expression_parser.specs.Place.{IsWithin}
+
+ends_within : (place : ℕ) (spans : List Span) (end : ℕ) → InOrder place spans end → place ≤ end
+ends_within place [] end h = h
+ends_within place (s ∷ ss) end h = let rest = ends_within s.stop ss end h.2 in omega (arith, h.0, h.1, rest)
+
+pub spans_placed : (text : List ℕ) (place : ℕ) (spans : List Span) → InOrder place spans (length text) → AllByRecursion (IsWithin text) spans
+spans_placed text place [] h = tt
+spans_placed text place (s ∷ ss) h =
+    (record { some = h.1; inside = ends_within s.stop ss (length text) h.2 }, spans_placed text s.stop ss h.2)
+
+few : (place : ℕ) (spans : List Span) (end : ℕ) → InOrder place spans end → place + length spans ≤ end
+few place [] end h = omega (arith, h)
+few place (s ∷ ss) end h = let rest = few s.stop ss end h.2 in omega (arith, h.0, h.1, rest)
+
+-- Each token has a byte at least.
+pub spans_few : (spans : List Span) (end : ℕ) → InOrder 0 spans end → length spans ≤ end
+spans_few spans end h = let all = few 0 spans end h in omega (arith, all)

@@ -1,0 +1,4 @@
+pub mod Place
+pub mod Answer
+pub mod Fronts
+pub mod Nests
