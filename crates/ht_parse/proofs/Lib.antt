@@ -1,0 +1,4 @@
+pub mod Deeper
+pub mod Turns
+pub mod Lists
+pub mod Texts

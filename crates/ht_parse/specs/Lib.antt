@@ -1,0 +1,4 @@
+pub mod Contexts
+pub mod Lists
+pub mod Answer
+pub mod Blocks

@@ -1,0 +1,98 @@
+//! Containers, and names with commas between.
+
+ghost use Rattle.std.specs.Prelude.{◌≡◌, ◌<◌, ◌≤◌, ◌+◌};
+ghost use Rattle.ht_lex.specs.Token.{first_kind, later};
+ghost use Rattle.ht_grammar.specs.Trees as t;
+ghost use Rattle.ht_grammar.specs.Reading as r;
+ghost use Rattle.ht_grammar.specs.Depth.{container_depth, max_depth};
+ghost use Rattle.ht_grammar.specs.Lines as spec;
+ghost use Rattle.expression_parser.specs.Answer.{Reads};
+
+use expression_parser::{Cursor, Stop, chunk_head, eat_of, field, text_of};
+use ht_lex::{Key, Kind};
+use ht_tree::{Container, ContainerKind, Names};
+use std::alloc::Global;
+
+/// A container of at most `depth` levels.
+#[cycle(container)]
+#[tactic(auto, using(crate::proofs::Deeper::no_container, crate::proofs::Deeper::container_deeper))]
+pub(crate) fn container(
+    alloc: Global,
+    tokens: &mut Cursor<'_>,
+    depth: usize,
+) -> Result<Container, Stop>
+    requires { depth ≤ max_depth }
+    ensures { Reads (λ c. c) container_depth depth (spec.container depth tokens.old) result tokens.new }
+{
+    if depth == 0 {
+        return Err(Stop::Syntax);
+    }
+    let depth = depth - 1;
+    match tokens.peek() {
+        Some(Kind::Name) => {
+            let name = text_of(alloc, tokens.take())?;
+            Ok(Container::new(alloc, ContainerKind::Variable(name))?)
+        }
+        Some(Kind::Key(Key::Part(_))) => in_field(alloc, tokens, depth),
+        Some(Kind::Key(Key::Card)) => in_field(alloc, tokens, depth),
+        Some(Kind::Key(Key::Background)) => in_field(alloc, tokens, depth),
+        Some(Kind::Key(Key::Ordinal(_))) => at_ordinal(alloc, tokens, depth),
+        _ => in_chunk(alloc, tokens, depth),
+    }
+}
+
+/// The text of a field.
+fn in_field(alloc: Global, tokens: &mut Cursor<'_>, depth: usize) -> Result<Container, Stop>
+    requires { depth < max_depth }
+    ensures { Reads (λ c. c) container_depth (depth + 1) (r.made t.in_field (r.field_at (r.read depth) depth tokens.old)) result tokens.new }
+{
+    let field = field(alloc, tokens, depth)?;
+    Ok(Container::new(alloc, ContainerKind::Field(field))?)
+}
+
+/// Pieces of a container or a field, at an ordinal.
+#[cycle(container)]
+fn at_ordinal(alloc: Global, tokens: &mut Cursor<'_>, depth: usize) -> Result<Container, Stop>
+    requires { depth < max_depth }
+    ensures { Reads (λ c. c) container_depth (depth + 1) (spec.ordinal_container (spec.container depth) depth (first_kind (later tokens.old)) tokens.old) result tokens.new }
+{
+    match tokens.second() {
+        Some(Kind::Key(Key::Piece(_))) => in_chunk(alloc, tokens, depth),
+        _ => in_field(alloc, tokens, depth),
+    }
+}
+
+/// Pieces of a container.
+#[cycle(container)]
+fn in_chunk(alloc: Global, tokens: &mut Cursor<'_>, depth: usize) -> Result<Container, Stop>
+    requires { depth < max_depth }
+    ensures { Reads (λ c. c) container_depth (depth + 1) (spec.chunk_container (spec.container depth) depth tokens.old) result tokens.new }
+{
+    let chunk = chunk_head(alloc, tokens, depth)?;
+    if !eat_of(tokens) {
+        return Err(Stop::Syntax);
+    }
+    let whole = container(alloc, tokens, depth)?;
+    Ok(Container::new(alloc, ContainerKind::Chunk(chunk, whole))?)
+}
+
+/// One name or more, at most so many.
+pub(crate) fn names(alloc: Global, tokens: &mut Cursor<'_>, turns: usize) -> Result<Names, Stop>
+    ensures { Reads (λ names. names.items.items) (λ names. 0) 0 (spec.names_at turns tokens.old) result tokens.new }
+{
+    let mut found = Names::new(alloc);
+    for _turn in 0..turns {
+        match tokens.peek() {
+            Some(Kind::Name) => {
+                let name = text_of(alloc, tokens.take())?;
+                found = found.with(name)?;
+            }
+            _ => return Err(Stop::Syntax),
+        }
+        match tokens.peek() {
+            Some(Kind::Key(Key::CommaSign)) => tokens.skip(),
+            _ => return Ok(found),
+        }
+    }
+    Err(Stop::Syntax)
+}

@@ -1,0 +1,17 @@
+//! Scripts, typed lines, expressions and references: a text is read to the tree that the grammar gives it.
+#![tactic(auto)]
+
+mod container;
+mod context;
+mod error;
+mod lines;
+mod parse;
+mod simple;
+mod whole;
+mod word;
+
+pub use error::ParseError;
+pub use parse::{parse_expr, parse_lines, parse_message, parse_part, parse_script, parse_type};
+
+#[cfg(test)]
+mod tests;

@@ -1,0 +1,459 @@
+//! Statements on one line.
+
+ghost use Rattle.std.specs.Prelude.{◌≡◌, ◌<◌, ◌≤◌, ◌+◌, length, Some, None, if◌then◌else◌};
+ghost use Rattle.ht_lex.specs.Token.{first_kind, first_text, later};
+ghost use Rattle.ht_grammar.specs.Trees as t;
+ghost use Rattle.ht_grammar.specs.Statements as s;
+ghost use Rattle.ht_grammar.specs.Depth.{container_depth, goal_depth, ref_depth, stmt_depth, depth, max_depth};
+ghost use Rattle.ht_grammar.specs.Ends as ends;
+ghost use Rattle.ht_grammar.specs.Expressions as e;
+ghost use Rattle.ht_grammar.specs.Fronts as f;
+ghost use Rattle.ht_grammar.specs.Grammar.{at_large};
+ghost use Rattle.ht_grammar.specs.Reading as r;
+ghost use Rattle.ht_grammar.specs.Lines as spec;
+ghost use Rattle.ht_tree.specs.View.{ref_of};
+ghost use Rattle.ht_tree.specs.StatementView.{goal_of, stmt_of};
+ghost use Rattle.expression_parser.specs.Answer.{Reads, ReadsExpr, Gives};
+ghost use Rattle.ht_parse.specs.Contexts.{context_of};
+
+use crate::container::{container, names};
+use crate::context::Context;
+use crate::word::{begins_expr, eat_by, eat_from, eat_repeat, eat_to, skip_to};
+use expression_parser::{
+    Cursor, Stop, WHOLE, arguments, eat_of, holder, prop_front, read, reference, run_prop,
+    skip_the, spot, text_of,
+};
+use ht_grammar::{Layer, RunProp, Where};
+use ht_lex::{Key, Kind, is_same};
+use ht_tree::{Container, ContainerKind, Expr, Exprs, Goal, Ref, Spot, Stmt, StmtKind};
+use ht_values::Prop;
+use std::alloc::Global;
+
+/// Where `put` puts, by the word after its value.
+fn place_of(kind: Option<Kind>) -> Option<Where>
+    ensures { result ≡ spec.place_front 0 at_large kind }
+{
+    match kind {
+        Some(Kind::Key(Key::Into)) => Some(Where::Into),
+        Some(Kind::Key(Key::Before)) => Some(Where::Before),
+        Some(Kind::Key(Key::After)) => Some(Where::After),
+        _ => None,
+    }
+}
+
+/// The property of the run that the first token names.
+fn run_prop_front(tokens: &Cursor<'_>) -> Option<RunProp>
+    ensures { result ≡ spec.run_prop_front tokens.now }
+{
+    match tokens.peek() {
+        Some(Kind::Name) => run_prop(tokens.text()),
+        _ => None,
+    }
+}
+
+/// The rules of statements whose parts have at most `depth` levels.
+#[derive(Clone, Copy)]
+pub(crate) struct Simple {
+    pub alloc: Global,
+    pub depth: usize,
+}
+
+impl Simple {
+    /// A whole expression.
+    pub(crate) fn expr(&self, tokens: &mut Cursor<'_>) -> Result<Expr, Stop>
+        requires { self.now.depth ≤ max_depth }
+        ensures { ReadsExpr self.now.depth (r.read self.now.depth e.whole tokens.old) result tokens.new }
+    {
+        read(self.alloc, tokens, WHOLE, self.depth)
+    }
+
+    fn container(&self, tokens: &mut Cursor<'_>) -> Result<Container, Stop>
+        requires { self.now.depth ≤ max_depth }
+        ensures { Reads (λ c. c) container_depth self.now.depth (spec.container self.now.depth tokens.old) result tokens.new }
+    {
+        container(self.alloc, tokens, self.depth)
+    }
+
+    fn stmt(&self, kind: StmtKind) -> Result<Stmt, Stop>
+        requires { stmt_depth (stmt_of kind) ≤ max_depth }
+        ensures { Gives (stmt_of kind) result }
+    {
+        Ok(Stmt::new(self.alloc, kind)?)
+    }
+
+    /// After the value of `put`.
+    fn put_end(&self, tokens: &mut Cursor<'_>, value: Expr) -> Result<Stmt, Stop>
+        requires shallow { self.now.depth < max_depth }
+        requires fits { depth value ≤ self.now.depth }
+        ensures { Reads (λ s. s) stmt_depth (self.now.depth + 1) (spec.put_by self.now.depth at_large (spec.place_front self.now.depth at_large (first_kind tokens.old)) value tokens.old) result tokens.new }
+    {
+        match place_of(tokens.peek()) {
+            None => self.stmt(StmtKind::Put(value)),
+            Some(place) => {
+                tokens.skip();
+                let container = self.container(tokens)?;
+                self.stmt(StmtKind::PutIn(place, value, container))
+            }
+        }
+    }
+
+    fn put(&self, tokens: &mut Cursor<'_>) -> Result<Stmt, Stop>
+        requires { self.now.depth < max_depth }
+        ensures { Reads (λ s. s) stmt_depth (self.now.depth + 1) (r.and_then (r.read self.now.depth e.whole tokens.old) (λ v m. spec.put_by self.now.depth at_large (spec.place_front self.now.depth at_large (first_kind m)) v m)) result tokens.new }
+    {
+        let value = self.expr(tokens)?;
+        self.put_end(tokens, value)
+    }
+
+    fn get(&self, tokens: &mut Cursor<'_>) -> Result<Stmt, Stop>
+        requires { self.now.depth < max_depth }
+        ensures { Reads (λ s. s) stmt_depth (self.now.depth + 1) (r.made s.get (r.read self.now.depth e.whole tokens.old)) result tokens.new }
+    {
+        let value = self.expr(tokens)?;
+        self.stmt(StmtKind::Get(value))
+    }
+
+    /// The value after `to`, of a property of an object.
+    fn set_to(&self, tokens: &mut Cursor<'_>, prop: Prop, reference: Ref) -> Result<Stmt, Stop>
+        requires shallow { self.now.depth < max_depth }
+        requires fits { ref_depth (ref_of reference) ≤ self.now.depth }
+        ensures { Reads (λ s. s) stmt_depth (self.now.depth + 1) (spec.after_key spec.is_to (λ m. r.made (s.set prop (ref_of reference)) (r.read self.now.depth e.whole m)) tokens.old) result tokens.new }
+    {
+        if !eat_to(tokens) {
+            return Err(Stop::Syntax);
+        }
+        let value = self.expr(tokens)?;
+        self.stmt(StmtKind::Set(prop, reference, value))
+    }
+
+    /// A property of an object, at its name.
+    fn set_prop(&self, tokens: &mut Cursor<'_>, prop: Prop) -> Result<Stmt, Stop>
+        requires { self.now.depth < max_depth }
+        ensures { Reads (λ s. s) stmt_depth (self.now.depth + 1) (spec.set_by self.now.depth at_large (Some prop) tokens.old) result tokens.new }
+    {
+        tokens.skip();
+        if !eat_of(tokens) {
+            return Err(Stop::Syntax);
+        }
+        let reference = reference(self.alloc, tokens, self.depth)?;
+        self.set_to(tokens, prop, reference)
+    }
+
+    /// A property of the run, at its name.
+    fn set_run(&self, tokens: &mut Cursor<'_>) -> Result<Stmt, Stop>
+        requires { self.now.depth < max_depth }
+        ensures { Reads (λ s. s) stmt_depth (self.now.depth + 1) (spec.set_run_by self.now.depth at_large (spec.run_prop_front tokens.old) tokens.old) result tokens.new }
+    {
+        let Some(prop) = run_prop_front(tokens) else {
+            return Err(Stop::Syntax);
+        };
+        tokens.skip();
+        if !eat_to(tokens) {
+            return Err(Stop::Syntax);
+        }
+        let value = self.expr(tokens)?;
+        self.stmt(StmtKind::SetRun(prop, value))
+    }
+
+    /// What is set, after `set` and `the`.
+    fn set(&self, tokens: &mut Cursor<'_>) -> Result<Stmt, Stop>
+        requires { self.now.depth < max_depth }
+        ensures { Reads (λ s. s) stmt_depth (self.now.depth + 1) (spec.set_by self.now.depth at_large (f.prop_front tokens.old) tokens.old) result tokens.new }
+    {
+        match prop_front(tokens) {
+            Some(prop) => self.set_prop(tokens, prop),
+            None => self.set_run(tokens),
+        }
+    }
+
+    fn add(&self, tokens: &mut Cursor<'_>) -> Result<Stmt, Stop>
+        requires { self.now.depth < max_depth }
+        ensures { Reads (λ s. s) stmt_depth (self.now.depth + 1) (r.and_then (r.read self.now.depth e.whole tokens.old) (λ v. spec.after_key spec.is_to (λ m. r.made (s.add v) (spec.container self.now.depth m)))) result tokens.new }
+    {
+        let value = self.expr(tokens)?;
+        if !eat_to(tokens) {
+            return Err(Stop::Syntax);
+        }
+        let container = self.container(tokens)?;
+        self.stmt(StmtKind::Add(value, container))
+    }
+
+    fn subtract(&self, tokens: &mut Cursor<'_>) -> Result<Stmt, Stop>
+        requires { self.now.depth < max_depth }
+        ensures { Reads (λ s. s) stmt_depth (self.now.depth + 1) (r.and_then (r.read self.now.depth e.whole tokens.old) (λ v. spec.after_key spec.is_from (λ m. r.made (s.subtract v) (spec.container self.now.depth m)))) result tokens.new }
+    {
+        let value = self.expr(tokens)?;
+        if !eat_from(tokens) {
+            return Err(Stop::Syntax);
+        }
+        let container = self.container(tokens)?;
+        self.stmt(StmtKind::Subtract(value, container))
+    }
+
+    fn multiply(&self, tokens: &mut Cursor<'_>) -> Result<Stmt, Stop>
+        requires { self.now.depth < max_depth }
+        ensures { Reads (λ s. s) stmt_depth (self.now.depth + 1) (r.and_then (spec.container self.now.depth tokens.old) (λ c. spec.after_key spec.is_by (λ m. r.made (s.multiply c) (r.read self.now.depth e.whole m)))) result tokens.new }
+    {
+        let container = self.container(tokens)?;
+        if !eat_by(tokens) {
+            return Err(Stop::Syntax);
+        }
+        let value = self.expr(tokens)?;
+        self.stmt(StmtKind::Multiply(container, value))
+    }
+
+    fn divide(&self, tokens: &mut Cursor<'_>) -> Result<Stmt, Stop>
+        requires { self.now.depth < max_depth }
+        ensures { Reads (λ s. s) stmt_depth (self.now.depth + 1) (r.and_then (spec.container self.now.depth tokens.old) (λ c. spec.after_key spec.is_by (λ m. r.made (s.divide c) (r.read self.now.depth e.whole m)))) result tokens.new }
+    {
+        let container = self.container(tokens)?;
+        if !eat_by(tokens) {
+            return Err(Stop::Syntax);
+        }
+        let value = self.expr(tokens)?;
+        self.stmt(StmtKind::Divide(container, value))
+    }
+
+    /// Only a chunk is deleted.
+    fn delete(&self, tokens: &mut Cursor<'_>) -> Result<Stmt, Stop>
+        requires { self.now.depth < max_depth }
+        ensures { Reads (λ s. s) stmt_depth (self.now.depth + 1) (r.and_then (spec.container self.now.depth tokens.old) spec.deleted) result tokens.new }
+    {
+        let container = self.container(tokens)?;
+        match container.into_kind() {
+            ContainerKind::Chunk(chunk, whole) => self.stmt(StmtKind::Delete(chunk, whole)),
+            ContainerKind::Variable(_) => Err(Stop::Syntax),
+            ContainerKind::Field(_) => Err(Stop::Syntax),
+        }
+    }
+
+    fn do_(&self, tokens: &mut Cursor<'_>) -> Result<Stmt, Stop>
+        requires { self.now.depth < max_depth }
+        ensures { Reads (λ s. s) stmt_depth (self.now.depth + 1) (r.made s.do_ (r.read self.now.depth e.whole tokens.old)) result tokens.new }
+    {
+        let text = self.expr(tokens)?;
+        self.stmt(StmtKind::Do(text))
+    }
+
+    fn send(&self, tokens: &mut Cursor<'_>) -> Result<Stmt, Stop>
+        requires { self.now.depth < max_depth }
+        ensures { Reads (λ s. s) stmt_depth (self.now.depth + 1) (r.and_then (r.read self.now.depth e.whole tokens.old) (λ v. spec.after_key spec.is_to (λ m. r.made (s.send v) (r.inner_ref (r.read self.now.depth) self.now.depth m)))) result tokens.new }
+    {
+        let text = self.expr(tokens)?;
+        if !eat_to(tokens) {
+            return Err(Stop::Syntax);
+        }
+        let reference = reference(self.alloc, tokens, self.depth)?;
+        self.stmt(StmtKind::Send(text, reference))
+    }
+
+    /// A card or a background, by the layer's word in front; without one a card.
+    fn goal_on(&self, tokens: &mut Cursor<'_>) -> Result<Goal, Stop>
+        requires { self.now.depth < max_depth }
+        ensures { Reads goal_of goal_depth (self.now.depth + 1) (spec.goal_by self.now.depth at_large (r.holder_front tokens.old) tokens.old) result tokens.new }
+    {
+        match holder(tokens) {
+            Some(Layer::Card) => Ok(Goal::ToCard(spot(self.alloc, tokens, self.depth)?)),
+            Some(Layer::Background) => Ok(Goal::ToBackground(spot(
+                self.alloc, tokens, self.depth,
+            )?)),
+            None => bare_goal(tokens),
+        }
+    }
+
+    #[tactic(auto, unfolding(ht_grammar::specs::Lines::goal_at))]
+    fn goal(&self, tokens: &mut Cursor<'_>) -> Result<Goal, Stop>
+        requires { self.now.depth < max_depth }
+        ensures { Reads goal_of goal_depth self.now.depth (spec.goal_at self.now.depth at_large tokens.old) result tokens.new }
+    {
+        let goal = self.goal_on(tokens)?;
+        if goal.depth() > self.depth {
+            return Err(Stop::Syntax);
+        }
+        Ok(goal)
+    }
+
+    fn go(&self, tokens: &mut Cursor<'_>) -> Result<Stmt, Stop>
+        requires { self.now.depth < max_depth }
+        ensures { Reads (λ s. s) stmt_depth (self.now.depth + 1) (r.made s.go (spec.goal_at self.now.depth at_large tokens.old)) result tokens.new }
+    {
+        let goal = self.goal(tokens)?;
+        self.stmt(StmtKind::Go(goal))
+    }
+
+    /// Names, after `global`.
+    fn global(&self, tokens: &mut Cursor<'_>, turns: usize) -> Result<Stmt, Stop>
+        requires { self.now.depth < max_depth }
+        ensures { Reads (λ s. s) stmt_depth (self.now.depth + 1) (r.made s.global (spec.names_at turns tokens.old)) result tokens.new }
+    {
+        let names = names(self.alloc, tokens, turns)?;
+        self.stmt(StmtKind::Global(names))
+    }
+
+    /// `HyperCard`, after `exit to`.
+    fn exit_to(&self, tokens: &mut Cursor<'_>) -> Result<Stmt, Stop>
+        requires { self.now.depth < max_depth }
+        ensures { Reads (λ s. s) stmt_depth (self.now.depth + 1) (spec.hypercard_by self.now.depth at_large (first_kind tokens.old) tokens.old) result tokens.new }
+    {
+        match tokens.peek() {
+            Some(Kind::Name) => {
+                if is_same(tokens.take(), b"HyperCard") {
+                    self.stmt(StmtKind::ExitToHyperCard)
+                } else {
+                    Err(Stop::Syntax)
+                }
+            }
+            _ => Err(Stop::Syntax),
+        }
+    }
+
+    /// After `exit`.
+    fn exit(&self, tokens: &mut Cursor<'_>, context: Context<'_>) -> Result<Stmt, Stop>
+        requires { self.now.depth < max_depth }
+        ensures { Reads (λ s. s) stmt_depth (self.now.depth + 1) (spec.exit_by self.now.depth (context_of context.entry) (first_kind tokens.old) tokens.old) result tokens.new }
+    {
+        match tokens.peek() {
+            Some(Kind::Key(Key::Repeat)) => {
+                if !context.in_repeat {
+                    return Err(Stop::Syntax);
+                }
+                tokens.skip();
+                self.stmt(StmtKind::ExitRepeat)
+            }
+            Some(Kind::Key(Key::To)) => {
+                tokens.skip();
+                self.exit_to(tokens)
+            }
+            Some(Kind::Name) => {
+                let name = tokens.take();
+                if !context.names_handler(name) {
+                    return Err(Stop::Syntax);
+                }
+                self.stmt(StmtKind::Exit(text_of(self.alloc, name)?))
+            }
+            _ => Err(Stop::Syntax),
+        }
+    }
+
+    /// After `next`.
+    fn next(&self, tokens: &mut Cursor<'_>, context: Context<'_>) -> Result<Stmt, Stop>
+        requires { self.now.depth < max_depth }
+        ensures { Reads (λ s. s) stmt_depth (self.now.depth + 1) (spec.after_key spec.is_repeat (λ c. if (context_of context.entry).in_repeat then Some (s.next_repeat, c) else None) tokens.old) result tokens.new }
+    {
+        if !eat_repeat(tokens) {
+            return Err(Stop::Syntax);
+        }
+        if !context.in_repeat {
+            return Err(Stop::Syntax);
+        }
+        self.stmt(StmtKind::NextRepeat)
+    }
+
+    /// After `pass`.
+    fn pass(&self, tokens: &mut Cursor<'_>, context: Context<'_>) -> Result<Stmt, Stop>
+        requires { self.now.depth < max_depth }
+        ensures { Reads (λ s. s) stmt_depth (self.now.depth + 1) (spec.pass_by self.now.depth (context_of context.entry) (first_kind tokens.old) tokens.old) result tokens.new }
+    {
+        match tokens.peek() {
+            Some(Kind::Name) => {
+                let name = tokens.take();
+                if !context.names_handler(name) {
+                    return Err(Stop::Syntax);
+                }
+                self.stmt(StmtKind::Pass(text_of(self.alloc, name)?))
+            }
+            _ => Err(Stop::Syntax),
+        }
+    }
+
+    /// After `return`, in a handler.
+    fn return_(&self, tokens: &mut Cursor<'_>) -> Result<Stmt, Stop>
+        requires { self.now.depth < max_depth }
+        ensures { Reads (λ s. s) stmt_depth (self.now.depth + 1) (if spec.begins_expr (first_kind tokens.old) then r.made s.return_value (r.read self.now.depth e.whole tokens.old) else Some (s.return_nothing, tokens.old)) result tokens.new }
+    {
+        if begins_expr(tokens.peek()) {
+            let value = self.expr(tokens)?;
+            self.stmt(StmtKind::ReturnValue(value))
+        } else {
+            self.stmt(StmtKind::ReturnNothing)
+        }
+    }
+
+    /// A command, at its name.
+    fn command(&self, tokens: &mut Cursor<'_>) -> Result<Stmt, Stop>
+        requires { self.now.depth < max_depth }
+        ensures { Reads (λ s. s) stmt_depth (self.now.depth + 1) (if spec.begins_expr (first_kind (later tokens.old)) then r.made (s.command (first_text tokens.old)) (r.list_at (r.read self.now.depth) self.now.depth (length tokens.old) t.none (later tokens.old)) else Some (s.command (first_text tokens.old) t.none, later tokens.old)) result tokens.new }
+    {
+        let turns = tokens.left();
+        let name = text_of(self.alloc, tokens.take())?;
+        if begins_expr(tokens.peek()) {
+            let arguments = arguments(self.alloc, tokens, turns, self.depth)?;
+            self.stmt(StmtKind::Command(name, arguments))
+        } else {
+            self.stmt(StmtKind::Command(name, Exprs::new(self.alloc)))
+        }
+    }
+
+    /// A statement on one line.
+    #[tactic(auto, unfolding(ht_grammar::specs::Lines::simple_at, ht_grammar::specs::Lines::goal_at))]
+    pub(crate) fn statement(
+        &self,
+        tokens: &mut Cursor<'_>,
+        context: Context<'_>,
+    ) -> Result<Stmt, Stop>
+        requires { self.now.depth < max_depth }
+        ensures { Reads (λ s. s) stmt_depth (self.now.depth + 1) (spec.simple_at self.now.depth (context_of context.entry) tokens.old) result tokens.new }
+    {
+        let kind = tokens.peek();
+        if let Some(Kind::Name) = kind {
+            return self.command(tokens);
+        }
+        let turns = tokens.left();
+        tokens.skip();
+        match kind {
+            Some(Kind::Key(Key::Put)) => self.put(tokens),
+            Some(Kind::Key(Key::Get)) => self.get(tokens),
+            Some(Kind::Key(Key::Set)) => {
+                skip_the(tokens);
+                self.set(tokens)
+            }
+            Some(Kind::Key(Key::Add)) => self.add(tokens),
+            Some(Kind::Key(Key::Subtract)) => self.subtract(tokens),
+            Some(Kind::Key(Key::Multiply)) => self.multiply(tokens),
+            Some(Kind::Key(Key::Divide)) => self.divide(tokens),
+            Some(Kind::Key(Key::Delete)) => self.delete(tokens),
+            Some(Kind::Key(Key::Do)) => self.do_(tokens),
+            Some(Kind::Key(Key::Send)) => self.send(tokens),
+            Some(Kind::Key(Key::Go)) => {
+                skip_to(tokens);
+                self.go(tokens)
+            }
+            Some(Kind::Key(Key::Global)) => self.global(tokens, turns),
+            Some(Kind::Key(Key::Exit)) => self.exit(tokens, context),
+            Some(Kind::Key(Key::Next)) => self.next(tokens, context),
+            Some(Kind::Key(Key::Pass)) => self.pass(tokens, context),
+            Some(Kind::Key(Key::Return)) => {
+                if context.handler.is_none() {
+                    return Err(Stop::Syntax);
+                }
+                self.return_(tokens)
+            }
+            _ => Err(Stop::Syntax),
+        }
+    }
+}
+
+/// A card by its place alone.
+fn bare_goal(tokens: &mut Cursor<'_>) -> Result<Goal, Stop>
+    ensures { Reads goal_of goal_depth 1 (spec.bare_goal 0 at_large (first_kind tokens.old) tokens.old) result tokens.new }
+{
+    let kind = tokens.peek();
+    tokens.skip();
+    match kind {
+        Some(Kind::Key(Key::This)) => Ok(Goal::ToCard(Spot::This)),
+        Some(Kind::Key(Key::Next)) => Ok(Goal::ToCard(Spot::Next)),
+        Some(Kind::Key(Key::Previous)) => Ok(Goal::ToCard(Spot::Previous)),
+        Some(Kind::Key(Key::Ordinal(ordinal))) => Ok(Goal::ToCard(Spot::Nth(ordinal))),
+        _ => Err(Stop::Syntax),
+    }
+}

@@ -1,0 +1,253 @@
+//! Whole lists of tokens: scripts, lines, expressions, references and texts of `send`.
+
+ghost use Rattle.std.specs.Prelude.{◌≡◌, ◌<◌, ◌≤◌, ◌+◌, [], Some, None, length};
+ghost use Rattle.ht_values.specs.declared.text.TheConstants.{LIMIT};
+ghost use Rattle.ht_lex.specs.Token.{first_kind, first_text, later};
+ghost use Rattle.ht_grammar.specs.Depth.{handlers_depth, stmts_depth, message_depth, max_depth};
+ghost use Rattle.ht_grammar.specs.Reading as r;
+ghost use Rattle.ht_grammar.specs.Whole as spec;
+ghost use Rattle.ht_grammar.specs.Lines as line;
+ghost use Rattle.ht_tree.specs.View.{part_of};
+ghost use Rattle.ht_tree.specs.StatementView.{stmts_of};
+ghost use Rattle.ht_tree.specs.ScriptView.{handler_of, script_of, message_of, typing_of};
+ghost use Rattle.expression_parser.specs.Answer.{Reads};
+ghost use Rattle.ht_parse.specs.Answer.{IsWhole};
+ghost use Rattle.ht_parse.specs.Lists.{handler_depth};
+
+use crate::container::names;
+use crate::context::Context;
+use crate::lines::lines;
+use crate::word::{eat_end, eat_ends, skip_ends};
+use expression_parser::{Cursor, Stop, WHOLE, arguments, part, read, text_of};
+use ht_grammar::HandlerKind;
+use ht_lex::{Key, Kind, is_same};
+use ht_tree::{Expr, Exprs, Handler, Message, Names, Owner, Part, Script, Stmts, Typing};
+use ht_values::{PartKind, Text};
+use std::alloc::Global;
+
+/// How many levels a tree may have.
+const MAX_DEPTH: usize = 100;
+
+/// The expression that the tokens are.
+pub(crate) fn expression(alloc: Global, tokens: &mut Cursor<'_>) -> Result<Expr, Stop>
+    ensures { IsWhole (λ x. x) (r.expression tokens.old) result }
+{
+    let expr = read(alloc, tokens, WHOLE, MAX_DEPTH)?;
+    match tokens.peek() {
+        None => Ok(expr),
+        Some(_) => Err(Stop::Syntax),
+    }
+}
+
+/// The lines that the tokens are.
+pub(crate) fn typed_lines(alloc: Global, tokens: &mut Cursor<'_>) -> Result<Stmts, Stop>
+    ensures { IsWhole (λ x. stmts_of x.items.items) (line.typed_lines tokens.old) result }
+{
+    skip_ends(tokens);
+    let at_large = Context {
+        in_repeat: false,
+        handler: None,
+    };
+    let found = lines(alloc, tokens, at_large, MAX_DEPTH)?;
+    match tokens.peek() {
+        None => Ok(found),
+        Some(_) => Err(Stop::Syntax),
+    }
+}
+
+/// The names of parameters, if there are any.
+fn parameters(alloc: Global, tokens: &mut Cursor<'_>) -> Result<Names, Stop>
+    ensures { Reads (λ names. names.items.items) (λ names. 0) 0 (spec.params_by (first_kind tokens.old) tokens.old) result tokens.new }
+{
+    match tokens.peek() {
+        Some(Kind::Name) => {
+            let turns = tokens.left();
+            names(alloc, tokens, turns)
+        }
+        _ => Ok(Names::new(alloc)),
+    }
+}
+
+/// The name after `end`, which is the handler's.
+fn end_name(tokens: &mut Cursor<'_>, handler: Handler) -> Result<Handler, Stop>
+    requires { handler_depth (handler_of handler) ≤ max_depth }
+    ensures { Reads handler_of handler_depth max_depth (spec.name_by (first_kind tokens.old) handler.name (handler_of handler) tokens.old) result tokens.new }
+{
+    match tokens.peek() {
+        Some(Kind::Name) => {
+            if !is_same(handler.name.as_slice(), tokens.take()) {
+                return Err(Stop::Syntax);
+            }
+            if !eat_ends(tokens) {
+                return Err(Stop::Syntax);
+            }
+            Ok(handler)
+        }
+        _ => Err(Stop::Syntax),
+    }
+}
+
+/// The lines of a handler, from the end of its first line on.
+fn body(
+    alloc: Global,
+    tokens: &mut Cursor<'_>,
+    kind: HandlerKind,
+    name: Text,
+    parameters: Names,
+) -> Result<Handler, Stop>
+    ensures { Reads handler_of handler_depth max_depth (spec.body_at kind name parameters.items.items tokens.old) result tokens.new }
+{
+    if !eat_ends(tokens) {
+        return Err(Stop::Syntax);
+    }
+    let context = Context {
+        in_repeat: false,
+        handler: Some(name.as_slice()),
+    };
+    let body = lines(alloc, tokens, context, MAX_DEPTH)?;
+    if !eat_end(tokens) {
+        return Err(Stop::Syntax);
+    }
+    let handler = Handler {
+        kind,
+        name,
+        parameters,
+        lines: body,
+    };
+    end_name(tokens, handler)
+}
+
+/// A handler, after `on` or `function`.
+fn named(alloc: Global, tokens: &mut Cursor<'_>, kind: HandlerKind) -> Result<Handler, Stop>
+    ensures { Reads handler_of handler_depth max_depth (spec.named_by (first_kind tokens.old) kind tokens.old) result tokens.new }
+{
+    match tokens.peek() {
+        Some(Kind::Name) => {
+            let name = text_of(alloc, tokens.take())?;
+            let parameters = parameters(alloc, tokens)?;
+            body(alloc, tokens, kind, name, parameters)
+        }
+        _ => Err(Stop::Syntax),
+    }
+}
+
+fn handler(alloc: Global, tokens: &mut Cursor<'_>) -> Result<Handler, Stop>
+    ensures { Reads handler_of handler_depth max_depth (spec.handler_by (first_kind tokens.old) tokens.old) result tokens.new }
+{
+    match tokens.peek() {
+        Some(Kind::Key(Key::On)) => {
+            tokens.skip();
+            named(alloc, tokens, HandlerKind::Command)
+        }
+        Some(Kind::Key(Key::Function)) => {
+            tokens.skip();
+            named(alloc, tokens, HandlerKind::Function)
+        }
+        _ => Err(Stop::Syntax),
+    }
+}
+
+/// The script that the tokens are.
+pub(crate) fn script(alloc: Global, tokens: &mut Cursor<'_>) -> Result<Script, Stop>
+    ensures { IsWhole script_of (spec.script tokens.old) result }
+{
+    let turns = tokens.left() + 1;
+    skip_ends(tokens);
+    let mut found = Script::new(alloc);
+    for _turn in 0..turns {
+        if tokens.peek().is_none() {
+            return Ok(found);
+        }
+        let handler = handler(alloc, tokens)?;
+        found = found.with(handler)?;
+    }
+    Err(Stop::Syntax)
+}
+
+/// The part that the tokens are, if it has no owner.
+pub(crate) fn clicked_part(alloc: Global, tokens: &mut Cursor<'_>) -> Result<Part, Stop>
+    ensures { IsWhole part_of (spec.clicked_part tokens.old) result }
+{
+    let part = part(alloc, tokens, MAX_DEPTH)?;
+    if tokens.peek().is_some() {
+        return Err(Stop::Syntax);
+    }
+    if part.depth() > MAX_DEPTH {
+        return Err(Stop::Syntax);
+    }
+    unowned(part)
+}
+
+/// The part, if it has no owner.
+fn unowned(part: Part) -> Result<Part, Stop>
+    ensures { IsWhole part_of (spec.unowned (Some (part_of part))) result }
+{
+    match part.owner() {
+        Owner::NoOwner => Ok(part),
+        Owner::OnCard(_) => Err(Stop::Syntax),
+        Owner::OnBackground(_) => Err(Stop::Syntax),
+    }
+}
+
+/// The text to be typed and its field, that the tokens are.
+pub(crate) fn typed_text(alloc: Global, tokens: &mut Cursor<'_>) -> Result<Typing, Stop>
+    ensures { IsWhole typing_of (spec.typed_text tokens.old) result }
+{
+    match tokens.peek() {
+        Some(Kind::Quoted) => {
+            let text = text_of(alloc, tokens.take())?;
+            into_field(alloc, tokens, text)
+        }
+        _ => Err(Stop::Syntax),
+    }
+}
+
+/// `into` and a field.
+fn into_field(alloc: Global, tokens: &mut Cursor<'_>, text: Text) -> Result<Typing, Stop>
+    ensures { IsWhole typing_of (spec.into_by (first_kind tokens.old) text (later tokens.old)) result }
+{
+    match tokens.peek() {
+        Some(Kind::Key(Key::Into)) => {
+            tokens.skip();
+            let field = clicked_part(alloc, tokens)?;
+            match field.kind() {
+                PartKind::Field => Ok(Typing { text, field }),
+                PartKind::Button => Err(Stop::Syntax),
+            }
+        }
+        _ => Err(Stop::Syntax),
+    }
+}
+
+/// The arguments of a message.
+fn given(alloc: Global, tokens: &mut Cursor<'_>, name: Text) -> Result<Message, Stop>
+    ensures { IsWhole message_of (r.not_too_deep message_depth (r.all_of (spec.message_by (first_kind tokens.old) name tokens.old))) result }
+{
+    match tokens.peek() {
+        None => Ok(Message {
+            name,
+            arguments: Exprs::new(alloc),
+        }),
+        Some(_) => {
+            let turns = tokens.left();
+            let arguments = arguments(alloc, tokens, turns, MAX_DEPTH)?;
+            if tokens.peek().is_some() {
+                return Err(Stop::Syntax);
+            }
+            Ok(Message { name, arguments })
+        }
+    }
+}
+
+/// The message that the tokens are.
+pub(crate) fn sent_message(alloc: Global, tokens: &mut Cursor<'_>) -> Result<Message, Stop>
+    ensures { IsWhole message_of (spec.sent_message tokens.old) result }
+{
+    match tokens.peek() {
+        Some(Kind::Name) => {
+            let name = text_of(alloc, tokens.take())?;
+            given(alloc, tokens, name)
+        }
+        _ => Err(Stop::Syntax),
+    }
+}
