@@ -1,0 +1,37 @@
+use Rattle.std.proofs.Common.{◌≤◌, ◌+◌, ◌*◌, length}
+use Rattle.ht_grammar.specs.Depth.{depth, depths, chunk_depth, which_depth, spot_depth, owner_depth, part_depth, ref_depth, count_depth}
+use Rattle.ht_tree.specs.View.{exprs_of, chunk_of, which_of, spot_of, owner_of, part_of, ref_of, count_of}
+use Rattle.parse_rows.proofs.expression.+print.Given as goal
+
+abbrev pub decreases-print_expr : goal.decreases-print_expr
+decreases-print_expr l = 16 * depth l.expr.now + 9
+
+abbrev pub decreases-print_exprs : goal.decreases-print_exprs
+decreases-print_exprs l = 16 * depths (exprs_of l.exprs.now.items.items) + 10
+
+abbrev pub decreases-print_chunk : goal.decreases-print_chunk
+decreases-print_chunk l = 16 * chunk_depth (chunk_of l.chunk.now) + 10
+
+abbrev pub decreases-print_which : goal.decreases-print_which
+decreases-print_which l = 16 * which_depth (which_of l.which.now) + 10
+
+abbrev pub decreases-print_spot : goal.decreases-print_spot
+decreases-print_spot l = 16 * spot_depth (spot_of l.spot.now) + 11
+
+abbrev pub decreases-print_owner : goal.decreases-print_owner
+decreases-print_owner l = 16 * owner_depth (owner_of l.owner.now)
+
+abbrev pub decreases-print_part : goal.decreases-print_part
+decreases-print_part l = 16 * part_depth (part_of l.part.now) + 8
+
+abbrev pub decreases-print_ref : goal.decreases-print_ref
+decreases-print_ref l = 16 * ref_depth (ref_of l.reference.now) + 12
+
+abbrev pub decreases-print_count : goal.decreases-print_count
+decreases-print_count l = 16 * count_depth (count_of l.count.now) + 13
+
+abbrev pub invariant-print_exprs-loop-rest : goal.invariant-print_exprs-loop-rest
+invariant-print_exprs-loop-rest l = depths (exprs_of l.rest) ≤ depths (exprs_of l.exprs.items.items)
+
+abbrev pub decreases-print_exprs-loop-rest : goal.decreases-print_exprs-loop-rest
+decreases-print_exprs-loop-rest l = length l.rest

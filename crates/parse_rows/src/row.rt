@@ -1,0 +1,119 @@
+//! A line of the input: what its text is read as, and the text.
+
+use crate::expression::{print_expr, print_part};
+use crate::script::{print_message, print_script, print_typing};
+use crate::statement::print_lines;
+use ht_parse::{
+    ParseError, parse_expr, parse_lines, parse_message, parse_part, parse_script, parse_type,
+};
+use ht_values::Text;
+use std::alloc::{AllocError, Global};
+use std::io::Write;
+
+/// The byte of a text that a byte of its line stands for.
+fn meant(byte: u8) -> u8 {
+    match byte {
+        b'|' => b'\r',
+        b'~' => 0xC2,
+        b'[' => 0xB2,
+        b']' => 0xB3,
+        b'#' => 0xAD,
+        _ => byte,
+    }
+}
+
+/// The text that is written so in a line.
+fn written(alloc: Global, text: &str) -> Result<Vec<u8>, AllocError> {
+    let mut bytes = Vec::new(alloc);
+    for byte in text.as_bytes() {
+        bytes.push(meant(*byte))?;
+    }
+    Ok(bytes)
+}
+
+/// A 1 in as many opening and closing parentheses as the two numbers say.
+fn nested(alloc: Global, counts: &str) -> Result<Vec<u8>, AllocError> {
+    let (opening, closing) = counts.split_once(" ").unwrap_or(("0", "0"));
+    let opening: u16 = opening.parse().unwrap_or(0);
+    let closing: u16 = closing.parse().unwrap_or(0);
+    let mut bytes = Vec::new(alloc);
+    for _ in 0..opening {
+        bytes.push(b'(')?;
+    }
+    bytes.push(b'1')?;
+    for _ in 0..closing {
+        bytes.push(b')')?;
+    }
+    Ok(bytes)
+}
+
+/// Prints that a text isn't in the grammar, or fails where there was no memory to read it.
+fn refused(out: &mut Vec<u8>, error: ParseError) -> anyhow::Result<()> {
+    match error {
+        ParseError::Syntax(_) => write!(out, "syntax")?,
+        ParseError::Memory => anyhow::bail!("no memory"),
+    }
+    Ok(())
+}
+
+fn print_read_expr(alloc: Global, text: &Text, out: &mut Vec<u8>) -> anyhow::Result<()> {
+    match parse_expr(alloc, text) {
+        Ok(expr) => Ok(print_expr(out, &expr)?),
+        Err(error) => refused(out, error),
+    }
+}
+
+fn print_read_lines(alloc: Global, text: &Text, out: &mut Vec<u8>) -> anyhow::Result<()> {
+    match parse_lines(alloc, text) {
+        Ok(lines) => Ok(print_lines(out, &lines)?),
+        Err(error) => refused(out, error),
+    }
+}
+
+fn print_read_script(alloc: Global, text: &Text, out: &mut Vec<u8>) -> anyhow::Result<()> {
+    match parse_script(alloc, text) {
+        Ok(script) => Ok(print_script(out, &script)?),
+        Err(error) => refused(out, error),
+    }
+}
+
+fn print_read_part(alloc: Global, text: &Text, out: &mut Vec<u8>) -> anyhow::Result<()> {
+    match parse_part(alloc, text) {
+        Ok(part) => Ok(print_part(out, &part)?),
+        Err(error) => refused(out, error),
+    }
+}
+
+fn print_read_type(alloc: Global, text: &Text, out: &mut Vec<u8>) -> anyhow::Result<()> {
+    match parse_type(alloc, text) {
+        Ok(typing) => Ok(print_typing(out, &typing)?),
+        Err(error) => refused(out, error),
+    }
+}
+
+fn print_read_message(alloc: Global, text: &Text, out: &mut Vec<u8>) -> anyhow::Result<()> {
+    match parse_message(alloc, text) {
+        Ok(message) => Ok(print_message(out, &message)?),
+        Err(error) => refused(out, error),
+    }
+}
+
+/// Prints the tree of a line's text, `syntax` where the text isn't in the grammar, or that the line's first word is none.
+pub fn print_row(alloc: Global, line: &str, out: &mut Vec<u8>) -> anyhow::Result<()> {
+    let (kind, rest) = line.split_once(" ").unwrap_or((line, ""));
+    let bytes = if kind == "nested" {
+        nested(alloc, rest)?
+    } else {
+        written(alloc, rest)?
+    };
+    let text = Text::from_vec(bytes)?;
+    match kind {
+        "expr" | "nested" => print_read_expr(alloc, &text, out),
+        "lines" => print_read_lines(alloc, &text, out),
+        "script" => print_read_script(alloc, &text, out),
+        "part" => print_read_part(alloc, &text, out),
+        "type" => print_read_type(alloc, &text, out),
+        "message" => print_read_message(alloc, &text, out),
+        _ => Ok(write!(out, "no such kind")?),
+    }
+}
