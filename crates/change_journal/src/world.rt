@@ -148,7 +148,8 @@ impl<E: External> World<E> {
         ensures count { result ≡ length self.now.history.past }
         ensures few { result ≤ self.now.history.depth }
     {
-        self.cursor
+        let World { cursor, .. } = self;
+        *cursor
     }
 
     /// How many states stand after the cursor.

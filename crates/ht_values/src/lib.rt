@@ -23,10 +23,11 @@ pub use join::joined;
 pub use law::{
     div_and_mod_divide, numerals_read_back, places_are_first, texts_are_ordered, values_are_ordered,
 };
+pub use logic::truth_of;
 pub use number::{number_of, numeral, without_front_spaces};
 pub use operator::{Func, Op, UnOp, ValueType};
 pub use text::{LIMIT, Text, text_of};
-pub use value::{binary, unary};
+pub use value::{binary, in_word, unary};
 pub use word::{PartKind, Prop};
 
 #[cfg(test)]

@@ -8,7 +8,7 @@ use crate::fault::Fault;
 use crate::text::Text;
 
 /// The truth value of a text that is the same as `true` or `false`; else `NotLogical`.
-pub(crate) fn truth_of(text: &Text) -> Result<bool, Fault>
+pub fn truth_of(text: &Text) -> Result<bool, Fault>
     ensures { result ≡ truth_of_text text.now }
 {
     let word = text.as_slice();

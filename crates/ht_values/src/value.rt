@@ -24,8 +24,8 @@ pub(crate) fn in_numerals(alloc: Global, number: Result<i64, Fault>) -> Result<T
     Ok(text_of(alloc, number?)?)
 }
 
-/// `true` or `false`.
-fn in_word(alloc: Global, truth: bool) -> Result<Text, Failure>
+/// A truth value as a text, `true` or `false`; `Memory` where a growth was refused.
+pub fn in_word(alloc: Global, truth: bool) -> Result<Text, Failure>
     ensures { Gives result (Ok (word_of truth)) }
 {
     let word: &[u8] = if truth { b"true" } else { b"false" };

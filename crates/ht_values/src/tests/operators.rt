@@ -2,10 +2,11 @@
 
 use crate::failure::Failure;
 use crate::fault::Fault;
+use crate::logic::truth_of;
 use crate::number::{number_of, numeral, without_front_spaces};
 use crate::operator::{Op, UnOp, ValueType};
 use crate::text::{LIMIT, Text};
-use crate::value::{binary, unary};
+use crate::value::{binary, in_word, unary};
 use std::alloc::Global;
 use std::process::Abort;
 use std::test::*;
@@ -275,5 +276,16 @@ fn operators_of_one_operand(rt: HostRuntime) -> Result<(), Fail> {
             _ => assert!(rt; false, "{op:?}"),
         }
     }
+    Ok(())
+}
+
+#[test]
+fn truth_values_are_words(rt: HostRuntime) -> Result<(), Fail> {
+    let yes = Text::from_slice(rt.alloc(), b"TRUE")?;
+    let no = in_word(rt.alloc(), false)?;
+    assert!(rt; no.as_slice() == b"false".as_slice());
+    assert!(rt; truth_of(&yes) == Ok(true));
+    assert!(rt; truth_of(&no) == Ok(false));
+    assert!(rt; truth_of(&Text::new(rt.alloc())) == Err(Fault::NotLogical));
     Ok(())
 }
