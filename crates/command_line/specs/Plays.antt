@@ -1,8 +1,8 @@
 -- A whole run of the program, from the bytes of a stack.
 use Rattle.std.specs.Prelude.{◌≡◌, ◌⊎◌, ℕ, List, [], Err}
 use Rattle.object_table.specs.Content.{Content}
-use Rattle.stack_file.specs.Laws.{Spells}
-use Rattle.stack_file.specs.Reading.{document_at}
+use Rattle.stack_text.specs.Laws.{Spells}
+use Rattle.stack_text.specs.Reading.{document_at}
 use Rattle.session.specs.Standing.{Standing}
 use Rattle.session.specs.Conversation.{Converses}
 use Rattle.session.specs.Stops.{Stopped}

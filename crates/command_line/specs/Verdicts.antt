@@ -1,9 +1,15 @@
 -- The status and the line on standard error of each fault that ends the program.
 use Rattle.std.specs.Prelude.{ℕ, List, ◌++◌, take, codes, decimal}
-use Rattle.stack_file.specs.declared.fault.FileError.{FileError}
-use Rattle.stack_file.specs.declared.fault.FileError.TheVariants.{BadLine, BadId, Truncated, TooMany}
+use Rattle.stack_text.specs.declared.fault.FileError.{FileError}
+use Rattle.stack_text.specs.declared.fault.FileError.TheVariants.{BadLine, BadId, Truncated, TooMany}
 use Rattle.command_line.specs.declared.fault.CliFault.{CliFault}
 use Rattle.command_line.specs.declared.fault.CliFault.TheVariants.{Usage, CannotRead, Refused, Read, Write, TooManyLines, Memory}
+
+-- what words that aren't taken end the program by
+abbrev pub IsFaultOfWords : CliFault → Type 0
+IsFaultOfWords (Usage text) = Unit {0}
+IsFaultOfWords Memory = Unit {0}
+IsFaultOfWords _ = ⊥
 
 -- 2 where the words or the stack are wrong, else 1
 abbrev pub status_of : CliFault → ℕ

@@ -2,6 +2,7 @@
 
 ghost use Rattle.std.specs.Prelude.{◌≡◌, ◌++◌, take, length, ◌≤◌, codes, IfOk};
 ghost use Rattle.ht_values.specs.declared.text.TheConstants.{LIMIT};
+ghost use Rattle.command_line.specs.declared.fault.CliFault.TheVariants.{Memory};
 ghost use Rattle.command_line.specs.Verdicts.{status_of, message_of, refusal_of};
 
 use ht_values::{LIMIT, Text};
@@ -29,12 +30,16 @@ pub enum CliFault {
 }
 
 impl From<AllocError> for CliFault {
+    ghost from_gives = { λ _ e. e ≡ Memory };
+
     fn from(_e: AllocError) -> CliFault {
         CliFault::Memory
     }
 }
 
 impl<T: Drop> From<AllocFailed<T>> for CliFault {
+    ghost from_gives = { λ _ e. e ≡ Memory };
+
     fn from(_e: AllocFailed<T>) -> CliFault {
         CliFault::Memory
     }

@@ -5,7 +5,7 @@ ghost use Rattle.std.specs.Io.KnownBytes.{Appends, Consumes, IsAtEnd};
 ghost use Rattle.journal_entries.specs.State.{seen_by, are_apart};
 ghost use Rattle.session.specs.Opening.{opened};
 ghost use Rattle.stack_file.specs.Watching.{device_of, failures_of, Rose};
-ghost use Rattle.stack_file.specs.Laws.{Spells};
+ghost use Rattle.stack_text.specs.Laws.{Spells};
 ghost use Rattle.command_line.specs.Plays.{Plays, Ends, IsRefusal, fault_of_run};
 
 use crate::fault::CliFault;

@@ -1,6 +1,7 @@
 //! The words that follow the program's name.
 
-ghost use Rattle.std.specs.Prelude.{◌≤◌};
+ghost use Rattle.std.specs.Prelude.{◌≤◌, IfErr};
+ghost use Rattle.command_line.specs.Verdicts.{IsFaultOfWords};
 
 use crate::fault::{CliFault, cut};
 use clap::error::ErrorKind;
@@ -71,8 +72,10 @@ fn number(given: Option<u64>, unless: u32, most: u32) -> u32
 }
 
 /// Reads the words, of which the first is the program's name. What `clap` doesn't take, `--help` included, is
-/// a usage fault with `clap`'s text.
-pub fn words_of(alloc: Global, given: &[String]) -> Result<Words, CliFault> {
+/// a usage fault with `clap`'s text; `Memory` where a growth was refused, and no other fault.
+pub fn words_of(alloc: Global, given: &[String]) -> Result<Words, CliFault>
+    ensures { IfErr result IsFaultOfWords }
+{
     let command = match program(alloc) {
         Ok(command) => command,
         Err(_) => return Err(CliFault::Memory),

@@ -1,13 +1,15 @@
 -- The empty stack is well formed.
-use Rattle.std.proofs.Common.{◌≡◌, ◌≢◌, ◌++◌, ℕ, inl, inr, ◌<◌, Bool, false, List, [], ◌∷◌, refl, sym, subst, arith, Option, Some, None, IsSome, IfSome, IsTrue, unwrap_or, option_map, option_and_then, flat_map, ◌↔◌, nat_eq}
+use Rattle.std.proofs.Common.{◌≡◌, ◌≢◌, ◌++◌, ◌&&◌, ◌||◌, ℕ, inl, inr, ◌<◌, Bool, true, false, List, [], ◌∷◌, refl, sym, subst, ap, ◌∙◌, arith, Option, Some, None, IsSome, is_some, IfSome, IsTrue, unwrap_or, option_map, option_and_then, flat_map, ◌↔◌, nat_eq}
 use Rattle.std.specs.List.{IsDistinct}
-use Rattle.std.specs.FinMap.{get, gets}
-use Rattle.std.proofs.lemmas.Bool.{cases_eq}
+use Rattle.std.specs.FinMap.{get, gets, get-empty}
+use Rattle.std.proofs.lemmas.Bool.{cases_eq, false≢true}
 use Rattle.std.proofs.lemmas.Bool.Decides.{nat_tests}
 use Rattle.std.proofs.lemmas.List.Elements.{All-nil}
 use Rattle.ht_values.specs.Text.{IsText}
 use Rattle.object_table.specs.Empty.{empty_object, empty_stack}
-use Rattle.object_table.specs.Objects.{is_stack, is_background, is_card, is_background_field, is_card_part, is_background_part, is_part, is_layer, has_kind, background_of, object_at, parts_at, contains_id, background_at}
+use Rattle.object_table.specs.Kept.{is_kept_for, keeps_text, keeps_hilite}
+use Rattle.object_table.specs.Objects.{is_stack, is_background, is_card, is_card_field, is_background_field, is_background_button, is_card_part, is_background_part, is_layer, has_kind, background_of, object_at, parts_at, contains_id, background_at}
+use Rattle.object_table.specs.Pairs.{pair_cmp}
 use Rattle.object_table.specs.WellFormed.{NamesEach, IsWellFormed}
 use Rattle.object_table.specs.declared.object.Object.{Object}
 use Rattle.object_table.specs.declared.object.Kind.{Kind}
@@ -55,6 +57,25 @@ no_parts p none layer e =
 no_bytes : IsText []
 no_bytes = record { short = omega arith; bytes = All-nil (λ b. b < 256) }
 
+nothing : {X : Type 0} {o : Option X} → o ≡ None → IsSome o → ⊥
+nothing e h = false≢true (ap (λ x. is_some x) (sym e) ∙ h)
+
+of_nothing : {X : Type 0} {o : Option X} (P : X → Type 0) → o ≡ None → IfSome o P
+of_nothing P e = subst (λ x. IfSome x P) (sym e) tt
+
+none_of : (p : Kind → Bool) → p Stack ≡ false → p (Background false) ≡ false → p (Card 1 false) ≡ false → (id : ℕ) → has_kind p empty_stack id ≡ false
+none_of p zero one two = at_each (λ id o _. unwrap_or (option_map (λ x. p x.kind) o) false ≡ false) zero one two (λ _ _ _ _. refl)
+
+neither : (a b c d : Bool) → a ≡ false → c ≡ false → ((a && b) || (c && d)) ≡ false
+neither a b c d e f = λ i. (e i && b) || (f i && d)
+
+keeps_nothing : (field card : ℕ) → keeps_text empty_stack field card ≡ true → ⊥
+keeps_nothing field card h =
+    false≢true (sym (neither (has_kind is_card_field empty_stack field) _ (has_kind is_background_field empty_stack field) _ (none_of is_card_field refl refl refl field) (none_of is_background_field refl refl refl field)) ∙ h)
+
+lights_nothing : (button card : ℕ) → keeps_hilite empty_stack button card ≡ true → ⊥
+lights_nothing button card h = false≢true (ap (λ b. b && is_kept_for empty_stack button card) (sym (none_of is_background_button refl refl refl button)) ∙ h)
+
 pub empty_is_well_formed : IsWellFormed empty_stack
 empty_is_well_formed = record {
   backgrounds = record {
@@ -77,8 +98,7 @@ empty_is_well_formed = record {
   next_high = omega arith;
   few = simp gets (omega arith);
   names = at_each (λ id o _. IfSome o (λ x. IsText x.name × IsText x.script)) (no_bytes, no_bytes) (no_bytes, no_bytes) (no_bytes, no_bytes) (λ _ _ _ _. tt);
-  no_texts = refl;
-  no_hilites = refl;
-  no_scripts = at_each (λ id o _. IfSome o (λ x. x.script ≡ [])) refl refl refl (λ _ _ _ _. tt);
-  fields_alone = at_each (λ id o _. IsTrue (unwrap_or (option_map (λ x. is_part x.kind) o) false) → IsTrue (unwrap_or (option_map (λ x. is_background_field x.kind) o) false)) (λ h. h) (λ h. h) (λ h. h) (λ _ _ _ _ h. h);
+  texts = λ field card. (λ h. absurd (nothing (get-empty pair_cmp (field, card)) h), λ h. absurd (keeps_nothing field card h));
+  field_texts = λ field card. of_nothing IsText (get-empty pair_cmp (field, card));
+  hilites = λ button card. (λ h. absurd (nothing (get-empty pair_cmp (button, card)) h), λ h. absurd (lights_nothing button card h));
 }

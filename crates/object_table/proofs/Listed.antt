@@ -9,7 +9,7 @@ use Rattle.object_table.proofs.Counting.{contains_id-head, contains_id-later}
 use Rattle.object_table.specs.Content.{Content}
 use Rattle.object_table.specs.Layers.{layer_parts}
 use Rattle.object_table.specs.Numbers.{at_number}
-use Rattle.object_table.specs.Objects.{is_background, is_card, is_background_field, is_card_part, is_background_part, is_part, is_layer, background_of, has_kind, object_at, parts_at, contains_id, background_at}
+use Rattle.object_table.specs.Objects.{is_background, is_card, is_layer, background_of, has_kind, object_at, parts_at, contains_id, background_at}
 use Rattle.object_table.specs.WellFormed.{NamesEach, IsWellFormed}
 use Rattle.object_table.specs.declared.object.Object.{Object}
 use Rattle.object_table.specs.declared.object.Kind.{Kind}
@@ -105,39 +105,6 @@ some_card_listed s well =
     let there = listed well.backgrounds first (contains_id-get_or s.backgrounds 0 0 (omega (arith, well.some_background))) in
     let card = well.some_card first there in
     not_nil card.0 s.cards (well.cards.each card.0 ∙ background_at-is_card s card.0 first card.1)
-
--- no object is of two kinds
-pub has_kind-apart : (p q : Kind → Bool) (s : Content) (id : ℕ) → ((k : Kind) → p k ≡ true → q k ≡ true → ⊥) → has_kind p s id ≡ true → has_kind q s id ≡ true → ⊥
-has_kind-apart p q s id never = by (object_at s id)
-  where
-    by : (found : Option Object) → unwrap_or (option_map (λ o. p o.kind) found) false ≡ true → unwrap_or (option_map (λ o. q o.kind) found) false ≡ true → ⊥
-    by None a b = false≢true a
-    by (Some o) a b = never o.kind a b
-
-card_part_is_no_background_field : (k : Kind) → is_card_part k ≡ true → is_background_field k ≡ true → ⊥
-card_part_is_no_background_field Stack a b = false≢true a
-card_part_is_no_background_field (Background c) a b = false≢true a
-card_part_is_no_background_field (Card g c) a b = false≢true a
-card_part_is_no_background_field (CardButton v h) a b = false≢true b
-card_part_is_no_background_field (BackgroundButton v h) a b = false≢true a
-card_part_is_no_background_field (CardField v l) a b = false≢true b
-card_part_is_no_background_field (BackgroundField v l t) a b = false≢true a
-
--- as long as each part is a field of a background, cards have none
-pub no_card_parts : (s : Content) → IsWellFormed s → (card : ℕ) → contains_id card s.cards ≡ true → parts_at s card ≡ []
-no_card_parts s well card found = contains_nothing (parts_at s card) none
-  where
-    none : (id : ℕ) → contains_id id (parts_at s card) ≡ true → ⊥
-    none id h =
-        let part = listed well.card_parts id (contains_id-flat_map (parts_at s) s.cards card id found h) in
-        let field = well.fields_alone id (has_kind-weaker is_card_part is_part s id (λ k a. ap (λ b. b || is_background_part k) a) part) in
-        has_kind-apart is_card_part is_background_field s id card_part_is_no_background_field part field
-
--- and backgrounds have nothing else
-pub background_parts_are_fields : (s : Content) → IsWellFormed s → (background : ℕ) → contains_id background s.backgrounds ≡ true → (id : ℕ) → contains_id id (parts_at s background) ≡ true → has_kind is_background_field s id ≡ true
-background_parts_are_fields s well background found id h =
-    let part = listed well.background_parts id (contains_id-flat_map (parts_at s) s.backgrounds background id found h) in
-    well.fields_alone id (has_kind-weaker is_background_part is_part s id (λ k a. or_true (is_card_part k) a) part)
 
 some_parts : (o : Option (List ℕ)) → IsSome o → o ≡ Some (unwrap_or o [])
 some_parts None h = absurd (false≢true h)

@@ -4,10 +4,10 @@ use Rattle.std.specs.Ordering.{nat_cmp, eq_by_cmp}
 use Rattle.std.specs.Cmp.{nat_cmp_total, unsigned_tied}
 use Rattle.std.specs.FinMap.{FinMap, empty, get-empty, find, get, remove, len, from_entries, same_map, get-from_entries, len-empty, len-insert, len-remove, nat_cmp-IsAntisymmetric}
 use Rattle.std.proofs.lemmas.Bool.Decides.{nat_tests}
-use Rattle.std.proofs.lemmas.Bool.{cases_eq}
+use Rattle.std.proofs.lemmas.Bool.{cases_eq, false≢true}
 use Rattle.object_table.specs.Maps.{put_option}
 use Rattle.std.proofs.lemmas.List.{length-map, map-append, map-set}
-use Rattle.std.proofs.lemmas.Option.{slice_get-get_or}
+use Rattle.std.proofs.lemmas.Option.{slice_get-get_or, slice_get_within}
 use Rattle.std.proofs.lemmas.List.Sums.{length-filter}
 use Rattle.std.proofs.Math.Seq.{map-set_same}
 use Rattle.object_table.specs.Slots.{numbered, slot_map}
@@ -72,6 +72,14 @@ module _ {X : Type 0} (f : Slot → Option X) where
 
   pub get-read_slots_within : (slots : List Slot) (i : ℕ) (d : Slot) → i < length slots → get (slot_map (map f slots)) i ≡ f (get_or slots i d)
   get-read_slots_within slots i d h = get-read_slots slots i ∙ ap (λ o. option_and_then f o) (slice_get-get_or slots i d h)
+
+  -- where something is found there is a slot
+  pub within_found : {Y : Type 0} (g : X → Option Y) (slots : List Slot) (i : ℕ) → is_some (option_and_then g (get (slot_map (map f slots)) i)) ≡ true → i < length slots
+  within_found g slots i h = by (slice_get slots i) refl (sym (ap (λ o. is_some (option_and_then g o)) (get-read_slots slots i)) ∙ h)
+    where
+      by : (o : Option Slot) → slice_get slots i ≡ o → is_some (option_and_then g (option_and_then f o)) ≡ true → i < length slots
+      by None e some = absurd (false≢true some)
+      by (Some s) e some = slice_get_within slots i s e
 
   pub read_slots-set : (slots : List Slot) (i : ℕ) (s : Slot) → i < length slots → slot_map (map f (set slots i s)) ≡ put_option (slot_map (map f slots)) i (f s)
   read_slots-set slots i s h = ap (λ xs. slot_map xs) (map-set f slots i s) ∙ slot_map-set (map f slots) i (f s) (omega (arith, length-map slots f))

@@ -1,11 +1,15 @@
 pub mod Content
 pub mod Empty
+pub mod Flags
+pub mod Kept
 pub mod Layers
 pub mod Maps
 pub mod Numbers
 pub mod Objects
+pub mod Opened
 pub mod Pairs
 pub mod References
+pub mod Setting
 pub mod Slots
 pub mod Table
 pub mod WellFormed

@@ -31,6 +31,14 @@ is_field (CardField v l) = true
 is_field (BackgroundField v l s) = true
 is_field _ = false
 
+abbrev pub is_card_field : Kind → Bool
+is_card_field (CardField v l) = true
+is_card_field _ = false
+
+abbrev pub is_background_button : Kind → Bool
+is_background_button (BackgroundButton v h) = true
+is_background_button _ = false
+
 abbrev pub is_background_field : Kind → Bool
 is_background_field (BackgroundField v l s) = true
 is_background_field _ = false

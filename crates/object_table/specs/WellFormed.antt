@@ -1,10 +1,11 @@
 -- When a stack is well formed.
-use Rattle.std.specs.Prelude.{◌≡◌, ◌↔◌, ℕ, ◌<◌, ◌≤◌, Bool, IsTrue, List, [], length, flat_map, Some, IsSome, IfSome, nat_eq}
+use Rattle.std.specs.Prelude.{◌≡◌, ◌↔◌, ℕ, ◌<◌, ◌≤◌, Bool, IsTrue, List, length, flat_map, Some, IsSome, IfSome, nat_eq}
 use Rattle.std.specs.List.{IsDistinct}
-use Rattle.std.specs.FinMap.{get, empty}
+use Rattle.std.specs.FinMap.{get}
 use Rattle.ht_values.specs.Text.{IsText}
 use Rattle.object_table.specs.Content.{Content}
-use Rattle.object_table.specs.Objects.{is_stack, is_background, is_card, is_background_field, is_card_part, is_background_part, is_part, is_layer, has_kind, object_at, parts_at, contains_id, background_at, object_count}
+use Rattle.object_table.specs.Kept.{text_at, hilite_at, keeps_text, keeps_hilite}
+use Rattle.object_table.specs.Objects.{is_stack, is_background, is_card, is_card_part, is_background_part, is_layer, has_kind, object_at, parts_at, contains_id, background_at, object_count}
 
 -- the list has each id that passes, once, and no other
 pub record NamesEach (p : ℕ → Bool) (ids : List ℕ) : Type 0 where
@@ -32,9 +33,8 @@ pub record IsWellFormed (s : Content) : Type 0 where
   pub few : object_count s ≤ 10000
   -- every name and every script is a text
   pub names : (id : ℕ) → IfSome (object_at s id) (λ o. IsText o.name × IsText o.script)
-  -- The stacks that can be read today hold no text and no hilite, their scripts are empty, and their parts
-  -- are fields of backgrounds.
-  pub no_texts : s.texts ≡ empty
-  pub no_hilites : s.hilites ≡ empty
-  pub no_scripts : (id : ℕ) → IfSome (object_at s id) (λ o. o.script ≡ [])
-  pub fields_alone : (id : ℕ) → IsTrue (has_kind is_part s id) → IsTrue (has_kind is_background_field s id)
+  -- a text stands for just the fields and cards that keep one, and is a text
+  pub texts : (field card : ℕ) → IsSome (text_at s field card) ↔ IsTrue (keeps_text s field card)
+  pub field_texts : (field card : ℕ) → IfSome (text_at s field card) IsText
+  -- a hilite stands for just the buttons and cards that keep one
+  pub hilites : (button card : ℕ) → IsSome (hilite_at s button card) ↔ IsTrue (keeps_hilite s button card)

@@ -2,6 +2,7 @@
 #![tactic(auto)]
 
 mod ids;
+mod kept;
 mod number;
 mod object;
 mod property;

@@ -1,12 +1,16 @@
 //! What an object is.
 
-ghost use Rattle.std.specs.Prelude.{◌≡◌, []};
+ghost use Rattle.std.specs.Prelude.{◌≡◌, [], IsSome};
+ghost use Rattle.object_table.specs.Flags.{visible_of, hilite_of, shared_hilite_of, lock_text_of, shared_text_of, cant_delete_of, with_visible, with_hilite, with_shared_hilite, with_lock_text, with_shared_text, with_cant_delete};
 ghost use Rattle.object_table.specs.Layers.{layer_id, is_of_layer};
 ghost use Rattle.object_table.specs.Objects.{is_of};
+ghost use Rattle.object_table.specs.Setting.{value_in, with_value};
 
 use crate::ids::Id;
+use crate::property::PropValue;
 use ht_values::{PartKind, Text};
 use std::alloc::Global;
+use std::mem;
 
 /// The kind of an object, with the flags that its kind has.
 #[derive(Clone, Copy, Debug)]
@@ -57,6 +61,23 @@ impl Object {
             kind,
         }
     }
+
+    pub(crate) fn swap_value(&mut self, value: &mut PropValue)
+        requires { IsSome (value_in value.old self.old) }
+        ensures value { value_in value.old self.old ≡ Some value.new }
+        ensures object { self.new ≡ with_value value.old self.old }
+    {
+        match value {
+            PropValue::NameIs(name) => mem::swap(&mut self.name, name),
+            PropValue::ScriptIs(script) => mem::swap(&mut self.script, script),
+            PropValue::VisibleIs(flag) => self.kind.swap_visible(flag),
+            PropValue::HiliteIs(flag) => self.kind.swap_hilite(flag),
+            PropValue::SharedHiliteIs(flag) => self.kind.swap_shared_hilite(flag),
+            PropValue::LockTextIs(flag) => self.kind.swap_lock_text(flag),
+            PropValue::SharedTextIs(flag) => self.kind.swap_shared_text(flag),
+            PropValue::CantDeleteIs(flag) => self.kind.swap_cant_delete(flag),
+        }
+    }
 }
 
 /// What has parts: a card or a background, by its id.
@@ -101,6 +122,102 @@ impl Kind {
                 &self,
                 Kind::CardField { .. } | Kind::BackgroundField { .. }
             ),
+        }
+    }
+}
+
+impl Kind {
+    fn swap_visible(&mut self, flag: &mut bool)
+        requires { IsSome (visible_of self.old) }
+        ensures value { visible_of self.old ≡ Some flag.new }
+        ensures kind { self.new ≡ with_visible flag.old self.old }
+    {
+        match self {
+            Kind::CardButton { visible, .. } => mem::swap(visible, flag),
+            Kind::BackgroundButton { visible, .. } => mem::swap(visible, flag),
+            Kind::CardField { visible, .. } => mem::swap(visible, flag),
+            Kind::BackgroundField { visible, .. } => mem::swap(visible, flag),
+            Kind::Stack | Kind::Background { .. } | Kind::Card { .. } => unreachable!(),
+        }
+    }
+
+    fn swap_hilite(&mut self, flag: &mut bool)
+        requires { IsSome (hilite_of self.old) }
+        ensures value { hilite_of self.old ≡ Some flag.new }
+        ensures kind { self.new ≡ with_hilite flag.old self.old }
+    {
+        match self {
+            Kind::CardButton { hilite, .. } => mem::swap(hilite, flag),
+            Kind::Stack
+            | Kind::Background { .. }
+            | Kind::Card { .. }
+            | Kind::BackgroundButton { .. }
+            | Kind::CardField { .. }
+            | Kind::BackgroundField { .. } => unreachable!(),
+        }
+    }
+
+    fn swap_shared_hilite(&mut self, flag: &mut bool)
+        requires { IsSome (shared_hilite_of self.old) }
+        ensures value { shared_hilite_of self.old ≡ Some flag.new }
+        ensures kind { self.new ≡ with_shared_hilite flag.old self.old }
+    {
+        match self {
+            Kind::BackgroundButton { shared_hilite, .. } => mem::swap(shared_hilite, flag),
+            Kind::Stack
+            | Kind::Background { .. }
+            | Kind::Card { .. }
+            | Kind::CardButton { .. }
+            | Kind::CardField { .. }
+            | Kind::BackgroundField { .. } => unreachable!(),
+        }
+    }
+
+    fn swap_lock_text(&mut self, flag: &mut bool)
+        requires { IsSome (lock_text_of self.old) }
+        ensures value { lock_text_of self.old ≡ Some flag.new }
+        ensures kind { self.new ≡ with_lock_text flag.old self.old }
+    {
+        match self {
+            Kind::CardField { lock_text, .. } => mem::swap(lock_text, flag),
+            Kind::BackgroundField { lock_text, .. } => mem::swap(lock_text, flag),
+            Kind::Stack
+            | Kind::Background { .. }
+            | Kind::Card { .. }
+            | Kind::CardButton { .. }
+            | Kind::BackgroundButton { .. } => unreachable!(),
+        }
+    }
+
+    fn swap_shared_text(&mut self, flag: &mut bool)
+        requires { IsSome (shared_text_of self.old) }
+        ensures value { shared_text_of self.old ≡ Some flag.new }
+        ensures kind { self.new ≡ with_shared_text flag.old self.old }
+    {
+        match self {
+            Kind::BackgroundField { shared_text, .. } => mem::swap(shared_text, flag),
+            Kind::Stack
+            | Kind::Background { .. }
+            | Kind::Card { .. }
+            | Kind::CardButton { .. }
+            | Kind::BackgroundButton { .. }
+            | Kind::CardField { .. } => unreachable!(),
+        }
+    }
+
+    fn swap_cant_delete(&mut self, flag: &mut bool)
+        requires { IsSome (cant_delete_of self.old) }
+        ensures value { cant_delete_of self.old ≡ Some flag.new }
+        ensures kind { self.new ≡ with_cant_delete flag.old self.old }
+    {
+        match self {
+            Kind::Background { cant_delete, .. } => mem::swap(cant_delete, flag),
+            Kind::Card { cant_delete, .. } => mem::swap(cant_delete, flag),
+            Kind::Stack
+            | Kind::CardButton { .. }
+            | Kind::BackgroundButton { .. }
+            | Kind::CardField { .. }
+            | Kind::BackgroundField { .. } => unreachable!(),
         }
     }
 }

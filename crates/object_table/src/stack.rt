@@ -1,16 +1,23 @@
 //! The stack: slots by id, the two orders and the next id.
 
-ghost use Rattle.std.specs.Prelude.{◌≡◌, ◌<◌, ◌≤◌, slice_get, count_by, is_some, option_copied, OnSome, IfOk, OnOk};
+ghost use Rattle.std.specs.Prelude.{◌≡◌, ◌<◌, ◌≤◌, ◌+◌, true, vec_len, slice_get, count_by, is_some, option_copied, OnSome, IfOk, OnOk, OnErr};
 ghost use Rattle.std.specs.FinMap as map;
+ghost use Rattle.std.specs.FinSet as set;
+ghost use Rattle.object_table.specs.Kept.{text_at, hilite_at};
 ghost use Rattle.object_table.specs.Maps.{put_option};
 ghost use Rattle.object_table.specs.Numbers.{at_number};
 ghost use Rattle.object_table.specs.Objects.{object_at, object_count as objects_counted, parts_at};
 ghost use Rattle.object_table.specs.Layers.{layer_parts};
+ghost use Rattle.object_table.specs.Slots.{objects_in, parts_in};
+ghost use Rattle.object_table.specs.Setting.{value_at, may_set, with_value_at};
 ghost use Rattle.object_table.specs.Empty.{empty_stack};
 ghost use Rattle.object_table.specs.WellFormed.{IsWellFormed};
 
 use crate::ids::{Id, IdList};
+use crate::kept::Kept;
 use crate::object::{Kind, Layer, Object};
+use crate::property::PropValue;
+use ht_values::Text;
 use std::alloc::{AllocError, Global};
 use std::marker::Model;
 use std::mem;
@@ -22,9 +29,14 @@ struct Slot {
     parts: Option<IdList>,
 }
 
-/// The objects of a stack by id, the orders of its backgrounds and cards, the parts of each layer, and the
-/// next id; beside these its room, the ids that are open. An exchange takes no memory: the id has to be in
-/// the room, and `open_slot` widens it beforehand. What a stack holds is in its room.
+/// The objects of a stack by id, the orders of its backgrounds and cards, the parts of each layer, the texts
+/// of fields and the hilites of buttons, and the next id; beside these its room, the ids and pairs of ids that
+/// are open. An exchange takes no memory: its id or pair has to be in the room, and `open_slot`, `open_text`
+/// and `open_hilite` widen it beforehand. What a stack holds is in its room.
+///
+/// A field of a card has one text, for that card. A field of a background has one for each card of its
+/// background and a shared one, and a button of a background so has hilites; what is shared stands where the
+/// card is 0.
 ///
 /// A stack as such may be not well formed; `Stack::new` gives a well formed one.
 #[derive(Drop)]
@@ -32,13 +44,14 @@ pub struct Stack {
     slots: Vec<Slot>,
     backgrounds: IdList,
     cards: IdList,
+    texts: Kept<Text>,
+    hilites: Kept<bool>,
     next: u32,
 }
 
 impl Model for Stack {
     ghost use Rattle.std.specs.Prelude.{length};
-    ghost use Rattle.std.specs.FinMap as map;
-    ghost use Rattle.std.specs.FinSet as set;
+    ghost use Rattle.object_table.specs.Opened.{kept_in, open_in};
     ghost use Rattle.object_table.specs.Table.{Table, coded_table};
     ghost use Rattle.object_table.specs.Slots.{objects_in, parts_in};
 
@@ -52,11 +65,15 @@ impl Model for Stack {
         backgrounds = s.backgrounds;
         cards = s.cards;
         parts = parts_in s.slots.items;
-        texts = map.empty;
-        hilites = map.empty;
+        texts = kept_in s.texts.places.entries;
+        hilites = kept_in s.hilites.places.entries;
         next = s.next;
       };
-      room = record { slots = length s.slots.items; texts = set.empty; hilites = set.empty };
+      room = record {
+        slots = length s.slots.items;
+        texts = open_in s.texts.places.entries;
+        hilites = open_in s.hilites.places.entries;
+      };
     } };
 }
 
@@ -92,6 +109,8 @@ impl Stack {
             ]?,
             backgrounds: IdList::from_vec(vec![in alloc; 1]?),
             cards: IdList::from_vec(vec![in alloc; 2]?),
+            texts: Kept::new(alloc),
+            hilites: Kept::new(alloc),
             next: 3,
         })
     }
@@ -143,6 +162,23 @@ impl Stack {
         slot_at(&self.slots, id)?.parts.as_ref()
     }
 
+    /// The text of a field for a card, or for 0 its shared text. `None` where there is no such text.
+    pub fn text(&self, field: Id, card: Id) -> Option<&Text>
+        ensures value { option_copied result ≡ text_at self.now.content field card }
+        ensures room { OnSome result (set.contains self.now.room.texts (field, card) ≡ true) }
+    {
+        self.texts.get(field, card)
+    }
+
+    /// The hilite of a background's button for a card, or for 0 its shared hilite. `None` where there is no such
+    /// hilite.
+    pub fn hilite(&self, button: Id, card: Id) -> Option<bool>
+        ensures value { result ≡ hilite_at self.now.content button card }
+        ensures room { OnSome result (set.contains self.now.room.hilites (button, card) ≡ true) }
+    {
+        self.hilites.get(button, card).copied()
+    }
+
     /// The card with a number, counted from 1 in the stack's order.
     pub fn card_at(&self, number: usize) -> Option<Id>
         ensures { result ≡ at_number self.now.content.cards number }
@@ -171,22 +207,42 @@ impl Stack {
         &self.cards
     }
 
-    /// Makes room for every id up to this one, its object and its list of parts. Nothing else changes, also
-    /// where a growth is refused.
+    /// Makes room for every id up to this one, its object and its list of parts. Nothing else changes, and
+    /// nothing where a growth is refused.
     pub fn open_slot(&mut self, id: Id) -> Result<(), AllocError>
         ensures room { OnOk result (id < self.new.room.slots) }
         ensures wider { self.old.room.slots ≤ self.new.room.slots }
         ensures same { self.new ≡ record self.old {
           room = record self.old.room { slots = self.new.room.slots };
         } }
+        ensures err { OnErr result (self.new ≡ self.old) }
     {
-        while self.slots.len() <= id as usize {
-            self.slots.push(Slot {
-                object: None,
-                parts: None,
-            })?;
-        }
-        Ok(())
+        let missing = (id as usize + 1).saturating_sub(self.slots.len());
+        add_slots(&mut self.slots, missing)
+    }
+
+    /// Makes room for the text of a field for a card, or for 0 for its shared text. Nothing else changes, and
+    /// nothing where a growth is refused.
+    pub fn open_text(&mut self, field: Id, card: Id) -> Result<(), AllocError>
+        ensures ok { OnOk result (self.new ≡ record self.old {
+          room = record self.old.room { texts = set.insert self.old.room.texts (field, card) };
+        }) }
+        ensures inside { OnOk result (set.contains self.new.room.texts (field, card) ≡ true) }
+        ensures err { OnErr result (self.new ≡ self.old) }
+    {
+        self.texts.open(field, card)
+    }
+
+    /// Makes room for the hilite of a button for a card, or for 0 for its shared hilite. Nothing else changes,
+    /// and nothing where a growth is refused.
+    pub fn open_hilite(&mut self, button: Id, card: Id) -> Result<(), AllocError>
+        ensures ok { OnOk result (self.new ≡ record self.old {
+          room = record self.old.room { hilites = set.insert self.old.room.hilites (button, card) };
+        }) }
+        ensures inside { OnOk result (set.contains self.new.room.hilites (button, card) ≡ true) }
+        ensures err { OnErr result (self.new ≡ self.old) }
+    {
+        self.hilites.open(button, card)
     }
 
     /// Exchanges the object of an id, `None` where there is none, with a value.
@@ -215,6 +271,47 @@ impl Stack {
     {
         let slot = &mut self.slots[id as usize];
         mem::swap(&mut slot.parts, parts);
+    }
+
+    /// Exchanges the text of a field for a card, or for 0 its shared text, with a value, where `None` stands for
+    /// no text.
+    pub fn swap_text(&mut self, field: Id, card: Id, text: &mut Option<Text>)
+        requires { set.contains self.old.room.texts (field, card) ≡ true }
+        ensures value { text.new ≡ text_at self.old.content field card }
+        ensures stack { self.new ≡ record self.old {
+          content = record self.old.content {
+            texts = put_option self.old.content.texts (field, card) text.old;
+          };
+        } }
+    {
+        self.texts.swap(field, card, text);
+    }
+
+    /// Exchanges the hilite of a background's button for a card, or for 0 its shared hilite, with a value, where
+    /// `None` stands for no hilite.
+    pub fn swap_hilite(&mut self, button: Id, card: Id, hilite: &mut Option<bool>)
+        requires { set.contains self.old.room.hilites (button, card) ≡ true }
+        ensures value { hilite.new ≡ hilite_at self.old.content button card }
+        ensures stack { self.new ≡ record self.old {
+          content = record self.old.content {
+            hilites = put_option self.old.content.hilites (button, card) hilite.old;
+          };
+        } }
+    {
+        self.hilites.swap(button, card, hilite);
+    }
+
+    /// Exchanges a property of an object with a value of it. The object is there, and has that property.
+    pub fn swap_prop(&mut self, id: Id, value: &mut PropValue)
+        requires { may_set self.old.content id value.old ≡ true }
+        ensures value { value_at self.old.content id value.old ≡ Some value.new }
+        ensures stack { self.new ≡ record self.old { content = with_value_at self.old.content id value.old } }
+    {
+        let slot = &mut self.slots[id as usize];
+        match &mut slot.object {
+            Some(object) => object.swap_value(value),
+            None => unreachable!(),
+        }
     }
 
     /// Exchanges the order of the cards with another.
@@ -252,6 +349,22 @@ impl Stack {
     {
         mem::swap(&mut self.next, next);
     }
+}
+
+fn add_slots(slots: &mut Vec<Slot>, count: usize) -> Result<(), AllocError>
+    ensures len { OnOk result (vec_len slots.new ≡ vec_len slots.old + count) }
+    ensures objects { objects_in slots.new.items ≡ objects_in slots.old.items }
+    ensures parts { parts_in slots.new.items ≡ parts_in slots.old.items }
+    ensures err { OnErr result (slots.new.items ≡ slots.old.items) }
+{
+    slots.reserve(count)?;
+    for _ in 0..count {
+        slots.push_reserved(Slot {
+            object: None,
+            parts: None,
+        });
+    }
+    Ok(())
 }
 
 fn slot_at(slots: &[Slot], id: Id) -> Option<&Slot>

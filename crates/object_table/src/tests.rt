@@ -1,8 +1,13 @@
 //! Examples, with ample memory: the empty stack, and the stack Demo, whose background 1 has the field 3 Note
 //! and whose cards are 2 A and 4 B.
 
+ghost use Rattle.std.specs.Prelude.{IsSome};
+ghost use Rattle.object_table.specs.Empty.{empty_object};
+ghost use Rattle.object_table.specs.Setting.{value_in};
+
 use crate::ids::{Id, IdList};
 use crate::object::{Kind, Layer, Object};
+use crate::property::PropValue;
 use crate::reference::Which;
 use crate::stack::Stack;
 use ht_values::{PartKind, Text};
@@ -233,5 +238,390 @@ fn a_list_of_ids_keeps_its_order(rt: HostRuntime) -> Result<(), Fail> {
     assert_eq!(rt; ids.number_of(5), Some(2));
     assert_eq!(rt; ids.number_of(6), None);
     assert!(rt; ids.into_vec().as_slice() == [7, 5].as_slice());
+    Ok(())
+}
+
+fn swap_text(stack: &mut Stack, field: Id, card: Id, text: &mut Option<Text>) -> Result<(), Fail> {
+    stack.open_text(field, card)?;
+    stack.swap_text(field, card, text);
+    Ok(())
+}
+
+fn has_text(stack: &Stack, field: Id, card: Id, bytes: &[u8]) -> bool {
+    match stack.text(field, card) {
+        Some(text) => text.as_slice() == bytes,
+        None => false,
+    }
+}
+
+#[test]
+fn a_field_keeps_shared_and_own_texts(rt: HostRuntime) -> Result<(), Fail> {
+    let mut stack = demo(rt.alloc())?;
+    assert!(rt; stack.text(3, 2).is_none());
+    let mut shared = Some(Text::from_slice(rt.alloc(), b"all")?);
+    swap_text(&mut stack, 3, 0, &mut shared)?;
+    let mut own = Some(Text::from_slice(rt.alloc(), b"own")?);
+    swap_text(&mut stack, 3, 2, &mut own)?;
+    assert!(rt; own.is_none());
+    assert!(rt; has_text(&stack, 3, 0, b"all"));
+    assert!(rt; has_text(&stack, 3, 2, b"own"));
+    assert!(rt; stack.text(3, 4).is_none());
+    assert!(rt; stack.text(2, 3).is_none());
+    swap_text(&mut stack, 3, 2, &mut own)?;
+    assert!(rt; own.is_some());
+    assert!(rt; stack.text(3, 2).is_none());
+    assert!(rt; has_text(&stack, 3, 0, b"all"));
+    Ok(())
+}
+
+fn swap_hilite(
+    stack: &mut Stack,
+    button: Id,
+    card: Id,
+    hilite: &mut Option<bool>,
+) -> Result<(), Fail> {
+    stack.open_hilite(button, card)?;
+    stack.swap_hilite(button, card, hilite);
+    Ok(())
+}
+
+#[test]
+fn a_button_keeps_shared_and_own_hilites(rt: HostRuntime) -> Result<(), Fail> {
+    let mut stack = demo(rt.alloc())?;
+    let mut hilite = Some(true);
+    swap_hilite(&mut stack, 5, 2, &mut hilite)?;
+    assert_eq!(rt; hilite, None);
+    assert_eq!(rt; stack.hilite(5, 2), Some(true));
+    assert_eq!(rt; stack.hilite(5, 0), None);
+    swap_hilite(&mut stack, 5, 2, &mut hilite)?;
+    assert_eq!(rt; hilite, Some(true));
+    assert_eq!(rt; stack.hilite(5, 2), None);
+    Ok(())
+}
+
+fn exchange(alloc: Global, stack: &mut Stack, kind: Kind, value: &mut PropValue) -> Result<(), Fail>
+    requires { IsSome (value_in value.old (empty_object kind)) }
+{
+    stack.open_slot(9)?;
+    let mut object = Some(Object::empty(alloc, kind));
+    stack.swap_object(9, &mut object);
+    stack.swap_prop(9, value);
+    Ok(())
+}
+
+#[test]
+fn a_name_and_a_script_are_exchanged(rt: HostRuntime) -> Result<(), Fail> {
+    let mut stack = demo(rt.alloc())?;
+    let mut name = PropValue::NameIs(Text::from_slice(rt.alloc(), b"N")?);
+    exchange(rt.alloc(), &mut stack, Kind::Stack, &mut name)?;
+    assert!(rt; has_name(&stack, 9, b"N"));
+    assert!(rt; matches!(&name, PropValue::NameIs(old) if old.len() == 0));
+    let mut script = PropValue::ScriptIs(Text::from_slice(rt.alloc(), b"on f")?);
+    exchange(rt.alloc(), &mut stack, Kind::Stack, &mut script)?;
+    assert!(rt;
+        matches!(stack.object(9), Some(object) if object.script.as_slice() == b"on f".as_slice())
+    );
+    assert!(rt; matches!(&script, PropValue::ScriptIs(old) if old.len() == 0));
+    Ok(())
+}
+
+fn is_off(value: &PropValue) -> bool {
+    matches!(
+        value,
+        PropValue::VisibleIs(false)
+            | PropValue::HiliteIs(false)
+            | PropValue::SharedHiliteIs(false)
+            | PropValue::LockTextIs(false)
+            | PropValue::SharedTextIs(false)
+            | PropValue::CantDeleteIs(false)
+    )
+}
+
+#[test]
+fn visible_is_exchanged(rt: HostRuntime) -> Result<(), Fail> {
+    let mut stack = demo(rt.alloc())?;
+    let mut value = PropValue::VisibleIs(true);
+    exchange(
+        rt.alloc(),
+        &mut stack,
+        Kind::CardButton {
+            visible: false,
+            hilite: false,
+        },
+        &mut value,
+    )?;
+    assert!(rt; is_off(&value));
+    assert!(rt;
+        matches!(
+            stack.object(9),
+            Some(Object {
+                kind: Kind::CardButton {
+                    visible: true,
+                    hilite: false
+                },
+                ..
+            })
+        )
+    );
+    let mut value = PropValue::VisibleIs(true);
+    exchange(
+        rt.alloc(),
+        &mut stack,
+        Kind::BackgroundButton {
+            visible: false,
+            shared_hilite: false,
+        },
+        &mut value,
+    )?;
+    assert!(rt; is_off(&value));
+    assert!(rt;
+        matches!(
+            stack.object(9),
+            Some(Object {
+                kind: Kind::BackgroundButton {
+                    visible: true,
+                    shared_hilite: false
+                },
+                ..
+            })
+        )
+    );
+    let mut value = PropValue::VisibleIs(true);
+    exchange(
+        rt.alloc(),
+        &mut stack,
+        Kind::CardField {
+            visible: false,
+            lock_text: false,
+        },
+        &mut value,
+    )?;
+    assert!(rt; is_off(&value));
+    assert!(rt;
+        matches!(
+            stack.object(9),
+            Some(Object {
+                kind: Kind::CardField {
+                    visible: true,
+                    lock_text: false
+                },
+                ..
+            })
+        )
+    );
+    let mut value = PropValue::VisibleIs(true);
+    exchange(
+        rt.alloc(),
+        &mut stack,
+        Kind::BackgroundField {
+            visible: false,
+            lock_text: false,
+            shared_text: false,
+        },
+        &mut value,
+    )?;
+    assert!(rt; is_off(&value));
+    assert!(rt;
+        matches!(
+            stack.object(9),
+            Some(Object {
+                kind: Kind::BackgroundField {
+                    visible: true,
+                    lock_text: false,
+                    shared_text: false
+                },
+                ..
+            })
+        )
+    );
+    Ok(())
+}
+
+#[test]
+fn hilite_is_exchanged(rt: HostRuntime) -> Result<(), Fail> {
+    let mut stack = demo(rt.alloc())?;
+    let mut value = PropValue::HiliteIs(true);
+    exchange(
+        rt.alloc(),
+        &mut stack,
+        Kind::CardButton {
+            visible: false,
+            hilite: false,
+        },
+        &mut value,
+    )?;
+    assert!(rt; is_off(&value));
+    assert!(rt;
+        matches!(
+            stack.object(9),
+            Some(Object {
+                kind: Kind::CardButton {
+                    visible: false,
+                    hilite: true
+                },
+                ..
+            })
+        )
+    );
+    Ok(())
+}
+
+#[test]
+fn shared_hilite_is_exchanged(rt: HostRuntime) -> Result<(), Fail> {
+    let mut stack = demo(rt.alloc())?;
+    let mut value = PropValue::SharedHiliteIs(true);
+    exchange(
+        rt.alloc(),
+        &mut stack,
+        Kind::BackgroundButton {
+            visible: false,
+            shared_hilite: false,
+        },
+        &mut value,
+    )?;
+    assert!(rt; is_off(&value));
+    assert!(rt;
+        matches!(
+            stack.object(9),
+            Some(Object {
+                kind: Kind::BackgroundButton {
+                    visible: false,
+                    shared_hilite: true
+                },
+                ..
+            })
+        )
+    );
+    Ok(())
+}
+
+#[test]
+fn lock_text_is_exchanged(rt: HostRuntime) -> Result<(), Fail> {
+    let mut stack = demo(rt.alloc())?;
+    let mut value = PropValue::LockTextIs(true);
+    exchange(
+        rt.alloc(),
+        &mut stack,
+        Kind::CardField {
+            visible: false,
+            lock_text: false,
+        },
+        &mut value,
+    )?;
+    assert!(rt; is_off(&value));
+    assert!(rt;
+        matches!(
+            stack.object(9),
+            Some(Object {
+                kind: Kind::CardField {
+                    visible: false,
+                    lock_text: true
+                },
+                ..
+            })
+        )
+    );
+    let mut value = PropValue::LockTextIs(true);
+    exchange(
+        rt.alloc(),
+        &mut stack,
+        Kind::BackgroundField {
+            visible: false,
+            lock_text: false,
+            shared_text: false,
+        },
+        &mut value,
+    )?;
+    assert!(rt; is_off(&value));
+    assert!(rt;
+        matches!(
+            stack.object(9),
+            Some(Object {
+                kind: Kind::BackgroundField {
+                    visible: false,
+                    lock_text: true,
+                    shared_text: false
+                },
+                ..
+            })
+        )
+    );
+    Ok(())
+}
+
+#[test]
+fn shared_text_is_exchanged(rt: HostRuntime) -> Result<(), Fail> {
+    let mut stack = demo(rt.alloc())?;
+    let mut value = PropValue::SharedTextIs(true);
+    exchange(
+        rt.alloc(),
+        &mut stack,
+        Kind::BackgroundField {
+            visible: false,
+            lock_text: false,
+            shared_text: false,
+        },
+        &mut value,
+    )?;
+    assert!(rt; is_off(&value));
+    assert!(rt;
+        matches!(
+            stack.object(9),
+            Some(Object {
+                kind: Kind::BackgroundField {
+                    visible: false,
+                    lock_text: false,
+                    shared_text: true
+                },
+                ..
+            })
+        )
+    );
+    Ok(())
+}
+
+#[test]
+fn cant_delete_is_exchanged(rt: HostRuntime) -> Result<(), Fail> {
+    let mut stack = demo(rt.alloc())?;
+    let mut value = PropValue::CantDeleteIs(true);
+    exchange(
+        rt.alloc(),
+        &mut stack,
+        Kind::Background { cant_delete: false },
+        &mut value,
+    )?;
+    assert!(rt; is_off(&value));
+    assert!(rt;
+        matches!(
+            stack.object(9),
+            Some(Object {
+                kind: Kind::Background { cant_delete: true },
+                ..
+            })
+        )
+    );
+    let mut value = PropValue::CantDeleteIs(true);
+    exchange(
+        rt.alloc(),
+        &mut stack,
+        Kind::Card {
+            background: 1,
+            cant_delete: false,
+        },
+        &mut value,
+    )?;
+    assert!(rt; is_off(&value));
+    assert!(rt;
+        matches!(
+            stack.object(9),
+            Some(Object {
+                kind: Kind::Card {
+                    background: 1,
+                    cant_delete: true
+                },
+                ..
+            })
+        )
+    );
     Ok(())
 }

@@ -4,5 +4,6 @@ pub mod GlobalsInOrder
 pub mod LineFeeds
 pub mod Listing
 pub mod Moving
+pub mod Opened
 pub mod Refusing
 pub mod Spaces

@@ -4,7 +4,7 @@ use Rattle.std.specs.Cmp.Lexicographic.{pointwise}
 use Rattle.std.specs.Borrow.{Bor}
 use Rattle.std.specs.List.{slice_split, position, list_any}
 use Rattle.ht_lex.specs.Words.{is_name}
-use Rattle.stack_file.specs.Words.{number_at}
+use Rattle.stack_text.specs.Words.{number_at}
 use Rattle.session.specs.declared.command.Statement as statements
 use Rattle.session.specs.declared.command.Said as sayings
 

@@ -1,9 +1,9 @@
 -- How a session takes a line.
 use Rattle.std.specs.Prelude.{◌≡◌, ◌⊎◌, ℕ, ◌≤◌, List, [], ◌∷◌, ◌++◌, length, map, decimal, Option, Some, None, Result, Ok, Err, nat_lt, MatchBool}
 use Rattle.std.specs.FinMap.{entries}
-use Rattle.stack_file.specs.Spelling.{second}
-use Rattle.stack_file.specs.Listing.{spelling}
-use Rattle.stack_file.specs.Words.{spelled}
+use Rattle.stack_text.specs.declared.sheets.Version.TheVariants.{Second as second}
+use Rattle.stack_text.specs.Listing.{spelling}
+use Rattle.stack_text.specs.Words.{spelled}
 use Rattle.journal_entries.specs.State.{State}
 use Rattle.journal_entries.specs.Replaced.{Replacement, back_weight, forth_weight}
 use Rattle.journal_entries.specs.Trails.{IsOnce}

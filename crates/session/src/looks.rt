@@ -4,8 +4,8 @@ ghost use Rattle.std.specs.Prelude.{◌≡◌, ◌<◌, ◌==◌, [], ◌∷◌,
 ghost use Rattle.std.specs.FinMap.{entries};
 ghost use Rattle.std.specs.List.{position};
 ghost use Rattle.std.specs.Map.Iter.{deref_pair};
-ghost use Rattle.stack_file.specs.Spelling.{second};
-ghost use Rattle.stack_file.specs.Listing.{spelling};
+ghost use Rattle.stack_text.specs.declared.sheets.Version.TheVariants.{Second as second};
+ghost use Rattle.stack_text.specs.Listing.{spelling};
 ghost use Rattle.session.specs.Splits.{Splits};
 ghost use Rattle.session.specs.TakesLine.{history_line as line_of_history, global_line, global_lines};
 

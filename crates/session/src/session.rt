@@ -7,8 +7,8 @@ ghost use Rattle.change_journal.specs.History.{plugged, unplugged};
 ghost use Rattle.session.specs.Commands.{said_of, said as said_by};
 ghost use Rattle.session.specs.Moves.{MovesTo, undone, redone, undone_to};
 ghost use Rattle.session.specs.Opening.{open_fault, opened};
-ghost use Rattle.stack_file.specs.Spelling.{second};
-ghost use Rattle.stack_file.specs.Listing.{spelling};
+ghost use Rattle.stack_text.specs.declared.sheets.Version.TheVariants.{Second as second};
+ghost use Rattle.stack_text.specs.Listing.{spelling};
 ghost use Rattle.session.specs.TakesLine.{TakesLine, Performs, MayRunOut, ended as ended_by, refused as refused_by, shown_reply, moved_reply, ran_reply};
 
 use crate::command::{Said, said_in};

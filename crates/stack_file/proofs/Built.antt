@@ -1,17 +1,33 @@
 -- A stack that is built from what a document lists, the last first.
-use Rattle.std.proofs.Common.{◌≡◌, ℕ, Bool, true, false, cond, List, [], ◌∷◌, ◌++◌, map, flat_map, refl, sym, ◌∙◌, ap, Some, None}
+use Rattle.std.proofs.Common.{◌≡◌, ℕ, Bool, true, false, cond, List, [], ◌∷◌, ◌++◌, map, flat_map, refl, sym, ◌∙◌, ap, ap₂, Option, Some, None, nat_eq, ◌&&◌, arith}
+use Rattle.std.proofs.lemmas.List.Elements.{filter_map-append}
+use Rattle.std.proofs.lemmas.Bool.Decides.{nat_tests}
 use Rattle.std.proofs.lemmas.List.{map-append, append-nil}
 use Rattle.std.proofs.lemmas.Grind.{flat_map-append}
 use Rattle.std.specs.declared.cmp.Ordering.{Ordering}
 use Rattle.std.specs.Ordering.{nat_cmp, eq_by_cmp}
 use Rattle.std.specs.Cmp.{nat_cmp_total}
 use Rattle.std.specs.FinMap.{FinMap, empty, insert, from_entries, same_map, gets, nat_cmp-IsAntisymmetric}
+use Rattle.std.specs.FinSet as set
 use Rattle.object_table.specs.Content.{Content}
+use Rattle.object_table.specs.Pairs.{Pair, pair_cmp}
 use Rattle.object_table.specs.Empty.{empty_stack, empty_object}
+use Rattle.object_table.specs.declared.object.Object.{Object}
 use Rattle.object_table.specs.declared.object.Kind.TheVariants.{Stack, Background, Card}
-use Rattle.stack_file.specs.Document.{FieldPart, BackgroundSheet, CardSheet, Document, background_ids, card_ids}
-use Rattle.stack_file.specs.Listing.{plain_object, field_entry, background_entries, background_parts, card_entry, card_parts, content_of}
-use Rattle.stack_file.specs.Building.{inserted, with_fields, with_background, with_backgrounds, with_card, with_cards, with_stack, without, blank}
+use Rattle.object_table.proofs.Pairs.{pair_tied, pair_cmp_total}
+use Rattle.stack_text.specs.declared.sheets.Kept.{Kept}
+use Rattle.stack_text.specs.declared.sheets.Part.{Part}
+use Rattle.stack_text.specs.declared.sheets.Keeping.{Keeping}
+use Rattle.stack_text.specs.Document.{Sheet, Document, sheet_ids}
+use Rattle.stack_text.specs.Listing.{part_entry, object_entries, parts_entry, kept_on, written, lit, kept_entry, kept_entries, all_objects, all_parts, all_kept, content_of}
+use Rattle.stack_file.specs.Building.{inserted, with_kept, own_kept, with_parts, with_keepings, with_sheet, card_for, with_sheets, with_stack, without, blank}
+
+-- a pair that was opened is in the room
+pub opened : (room : set.FinSet pair_cmp) (part card : ℕ) → set.contains (set.insert room (part, card)) (part, card) ≡ true
+opened room part card = set.contains-insert pair_cmp_total room (part, card) (part, card) ∙ rw (pair_tied (part, card) (part, card), same part, same card) refl
+  where
+    same : (n : ℕ) → nat_eq n n ≡ true
+    same n = grind (arith, nat_tests)
 
 pub inserted-append : {K X : Type 0} {R : K → K → Ordering} (m : FinMap R X) (a b : List (K × X)) → inserted m (a ++ b) ≡ inserted (inserted m b) a
 inserted-append m [] b = refl
@@ -21,30 +37,59 @@ pub inserted-empty : {K X : Type 0} {R : K → K → Ordering} (es : List (K × 
 inserted-empty [] = refl
 inserted-empty (e ∷ es) = ap (λ n. insert n e.0 e.1) (inserted-empty es)
 
+-- ---- what is kept, in parts
+
+module _ {X : Type 0} (pick : Kept → Option X) (card : ℕ) where
+  kept-append : (a b : List (ℕ × Kept)) → kept_entries pick card (a ++ b) ≡ kept_entries pick card a ++ kept_entries pick card b
+  kept-append a b = filter_map-append (kept_entry pick card) a b
+
+  kept-sheets : (xs : List Sheet) → kept_entries pick card (flat_map kept_on xs) ≡ flat_map (λ (x : Sheet). kept_entries pick card (kept_on x)) xs
+  kept-sheets [] = refl
+  kept-sheets (x ∷ xs) = kept-append (kept_on x) (flat_map kept_on xs) ∙ ap (λ (es : List (Pair × X)). kept_entries pick card (kept_on x) ++ es) (kept-sheets xs)
+
+  inserted-kept : (m : FinMap pair_cmp X) (a b : List (ℕ × Kept)) → inserted (inserted m (kept_entries pick card b)) (kept_entries pick card a) ≡ inserted m (kept_entries pick card (a ++ b))
+  inserted-kept m a b = sym (inserted-append m (kept_entries pick card a) (kept_entries pick card b)) ∙ ap (inserted m) (sym (kept-append a b))
+
 -- one more behind the others comes in before them
-pub fields-onto : (fs : List FieldPart) (f : FieldPart) (s : Content) → with_fields fs (with_fields (f ∷ []) s) ≡ with_fields (fs ++ f ∷ []) s
-fields-onto fs f s =
-    ap (λ m. record s { objects = m }) (sym (ap (inserted s.objects) (map-append field_entry fs (f ∷ [])) ∙ inserted-append s.objects (map field_entry fs) (field_entry f ∷ [])))
+pub parts-onto : (card : ℕ) (ps : List Part) (p : Part) (s : Content) → with_parts card ps (with_parts card (p ∷ []) s) ≡ with_parts card (ps ++ p ∷ []) s
+parts-onto card ps p s =
+    let own : own_kept ps ++ own_kept (p ∷ []) ≡ own_kept (ps ++ p ∷ []) = sym (map-append (λ x. (x.id, x.kept)) ps (p ∷ [])) in
+    let objects = sym (ap (inserted s.objects) (map-append part_entry ps (p ∷ [])) ∙ inserted-append s.objects (map part_entry ps) (part_entry p ∷ [])) in
+    let texts = inserted-kept written card s.texts (own_kept ps) (own_kept (p ∷ [])) ∙ ap (λ ks. inserted s.texts (kept_entries written card ks)) own in
+    let hilites = inserted-kept lit card s.hilites (own_kept ps) (own_kept (p ∷ [])) ∙ ap (λ ks. inserted s.hilites (kept_entries lit card ks)) own in
+    λ i. record s { objects = objects i; texts = texts i; hilites = hilites i }
 
-pub cards-onto : (cs : List CardSheet) (c : CardSheet) (s : Content) → with_cards cs (with_card c s) ≡ with_cards (cs ++ c ∷ []) s
-cards-onto cs c s =
-    let objects = ap (inserted s.objects) (map-append card_entry cs (c ∷ [])) ∙ inserted-append s.objects (map card_entry cs) (card_entry c ∷ []) in
-    let parts = ap (inserted s.parts) (map-append card_parts cs (c ∷ [])) ∙ inserted-append s.parts (map card_parts cs) (card_parts c ∷ []) in
-    λ i. record s { objects = (sym objects) i; parts = (sym parts) i }
+pub keepings-onto : (card : ℕ) (ks : List Keeping) (k : Keeping) (s : Content) → with_keepings card ks (with_keepings card (k ∷ []) s) ≡ with_keepings card (ks ++ k ∷ []) s
+keepings-onto card ks k s =
+    let pair : Keeping → ℕ × Kept = λ x. (x.part, x.kept) in
+    let both = sym (map-append pair ks (k ∷ [])) in
+    let texts = inserted-kept written card s.texts (map pair ks) (pair k ∷ []) ∙ ap (λ es. inserted s.texts (kept_entries written card es)) both in
+    let hilites = inserted-kept lit card s.hilites (map pair ks) (pair k ∷ []) ∙ ap (λ es. inserted s.hilites (kept_entries lit card es)) both in
+    λ i. record s { texts = texts i; hilites = hilites i }
 
-pub backgrounds-onto : (bs : List BackgroundSheet) (b : BackgroundSheet) (s : Content) → with_backgrounds bs (with_background b s) ≡ with_backgrounds (bs ++ b ∷ []) s
-backgrounds-onto bs b s =
-    let last : flat_map background_entries (bs ++ b ∷ []) ≡ flat_map background_entries bs ++ background_entries b =
-    flat_map-append background_entries bs (b ∷ []) ∙ ap (λ t. flat_map background_entries bs ++ t) (append-nil (background_entries b))
-    in
-    let objects = ap (inserted s.objects) last ∙ inserted-append s.objects (flat_map background_entries bs) (background_entries b) in
-    let parts = ap (inserted s.parts) (map-append background_parts bs (b ∷ [])) ∙ inserted-append s.parts (map background_parts bs) (background_parts b ∷ []) in
-    λ i. record s { objects = (sym objects) i; parts = (sym parts) i }
+-- a sheet, from its keepings to its parts and its own object
+pub sheet-is : (card : ℕ) (x : Sheet) (s a b c d : Content) (ids : List ℕ) → a ≡ with_keepings card x.keepings s → b ≡ with_parts card x.parts a → c ≡ record b { objects = insert b.objects x.id x.object } → ids ≡ (parts_entry x).1 → d ≡ record c { parts = insert c.parts x.id ids } → d ≡ with_sheet card x s
+sheet-is card x s a b c d ids keepings parts object list last =
+    last ∙ (λ i. record (object i) { parts = insert (object i).parts x.id (list i) }) ∙ (λ i. record (parts i) { objects = insert (parts i).objects x.id x.object; parts = insert (parts i).parts x.id (parts_entry x).1 })
+    ∙ (λ i. record (with_parts card x.parts (keepings i)) { objects = insert (with_parts card x.parts (keepings i)).objects x.id x.object; parts = insert (keepings i).parts x.id (parts_entry x).1 })
+    ∙ (λ i. record (with_sheet card x s) { texts = inserted-kept written card s.texts (own_kept x.parts) (map (λ k. (k.part, k.kept)) x.keepings) i; hilites = inserted-kept lit card s.hilites (own_kept x.parts) (map (λ k. (k.part, k.kept)) x.keepings) i })
 
--- the last of a list of lines comes in
-pub step : {X A : Type 0} (view : X → A) (with : List A → Content → Content) (one : A → Content → Content) (law : (xs : List A) (x : A) (s : Content) → with xs (one x s) ≡ with (xs ++ x ∷ []) s) (xs all : List X) (x : X) (s : Content)
-    → all ≡ xs ++ x ∷ [] → with (map view xs) (one (view x) s) ≡ with (map view all) s
-step view with one law xs all x s e = law (map view xs) (view x) s ∙ ap (λ l. with l s) (sym (map-append view xs (x ∷ []))) ∙ ap (λ l. with (map view l) s) (sym e)
+last-joined : {Y : Type 0} (f : Sheet → List Y) (xs : List Sheet) (x : Sheet) → flat_map f (xs ++ x ∷ []) ≡ flat_map f xs ++ f x
+last-joined f xs x = flat_map-append f xs (x ∷ []) ∙ ap (λ t. flat_map f xs ++ t) (append-nil (f x))
+
+pub sheets-onto : (shared : Bool) (xs : List Sheet) (x : Sheet) (s : Content) → with_sheets shared xs (with_sheet (card_for shared x.id) x s) ≡ with_sheets shared (xs ++ x ∷ []) s
+sheets-onto shared xs x s =
+    let objects = sym (ap (inserted s.objects) (last-joined object_entries xs x) ∙ inserted-append s.objects (flat_map object_entries xs) (object_entries x)) in
+    let parts = sym (ap (inserted s.parts) (map-append parts_entry xs (x ∷ [])) ∙ inserted-append s.parts (map parts_entry xs) (parts_entry x ∷ [])) in
+    let text : Sheet → List (Pair × List ℕ) = λ y. kept_entries written (card_for shared y.id) (kept_on y) in
+    let light : Sheet → List (Pair × Bool) = λ y. kept_entries lit (card_for shared y.id) (kept_on y) in
+    let texts = sym (ap (inserted s.texts) (last-joined text xs x) ∙ inserted-append s.texts (flat_map text xs) (text x)) in
+    let hilites = sym (ap (inserted s.hilites) (last-joined light xs x) ∙ inserted-append s.hilites (flat_map light xs) (light x)) in
+    λ i. record s { objects = objects i; parts = parts i; texts = texts i; hilites = hilites i }
+
+-- the last of a list of sheets comes in
+pub step : {X : Type 0} (view : X → Sheet) (shared : Bool) (xs all : List X) (x : X) (s : Content) → all ≡ xs ++ x ∷ [] → with_sheets shared (map view xs) (with_sheet (card_for shared (view x).id) (view x) s) ≡ with_sheets shared (map view all) s
+step view shared xs all x s e = sheets-onto shared (map view xs) (view x) s ∙ ap (λ l. with_sheets shared l s) (sym (map-append view xs (x ∷ []))) ∙ ap (λ l. with_sheets shared (map view l) s) (sym e)
 
 vanish : {X : Type 0} (a b c : Bool) (x y z : X) → cond c None (cond b None (cond a None (cond a (Some x) (cond b (Some y) (cond c (Some z) None))))) ≡ None
 vanish true true true x y z = refl
@@ -74,12 +119,23 @@ blank_is =
     λ i. record empty_stack { objects = objects i; parts = parts i }
 
 -- what is built is the stack that the document lists
-pub built-is : (d : Document) → record (with_stack d.name (with_backgrounds d.backgrounds (with_cards d.cards blank))) { next = d.next; backgrounds = background_ids d.backgrounds; cards = card_ids d.cards } ≡ content_of d
-built-is d =
-    let objects = inserted-empty {R = nat_cmp} (flat_map background_entries d.backgrounds ++ map card_entry d.cards) ∙ inserted-append empty (flat_map background_entries d.backgrounds) (map card_entry d.cards) in
-    let parts = inserted-empty {R = nat_cmp} (map background_parts d.backgrounds ++ map card_parts d.cards) ∙ inserted-append empty (map background_parts d.backgrounds) (map card_parts d.cards) in
-    λ i. record (content_of d) { objects = insert ((sym objects) i) 0 (plain_object d.name Stack); parts = (sym parts) i }
+abbrev own : {X : Type 0} → (Kept → Option X) → Sheet → List (Pair × X)
+own pick x = kept_entries pick x.id (kept_on x)
 
-pub ordered : (d : Document) (s : Content) (backgrounds cards : List ℕ) → s ≡ with_stack d.name (with_backgrounds d.backgrounds (with_cards d.cards blank)) → backgrounds ≡ background_ids d.backgrounds → cards ≡ card_ids d.cards
+pub built-is : (d : Document) → record (with_stack d.stack (with_sheets true d.backgrounds (with_sheets false d.cards blank))) { next = d.next; backgrounds = sheet_ids d.backgrounds; cards = sheet_ids d.cards } ≡ content_of d
+built-is d =
+    let objects = inserted-empty {R = nat_cmp} (flat_map object_entries d.backgrounds ++ flat_map object_entries d.cards) ∙ inserted-append empty (flat_map object_entries d.backgrounds) (flat_map object_entries d.cards) in
+    let parts = inserted-empty {R = nat_cmp} (all_parts d) ∙ inserted-append empty (map parts_entry d.backgrounds) (map parts_entry d.cards) in
+    let texts =
+    inserted-empty {R = pair_cmp} (all_kept written d) ∙ inserted-append empty (kept_entries written 0 (flat_map kept_on d.backgrounds)) (flat_map (own written) d.cards)
+    ∙ ap (inserted (inserted empty (flat_map (own written) d.cards))) (kept-sheets written 0 d.backgrounds)
+    in
+    let hilites =
+    inserted-empty {R = pair_cmp} (all_kept lit d) ∙ inserted-append empty (kept_entries lit 0 (flat_map kept_on d.backgrounds)) (flat_map (own lit) d.cards)
+    ∙ ap (inserted (inserted empty (flat_map (own lit) d.cards))) (kept-sheets lit 0 d.backgrounds)
+    in
+    λ i. record (content_of d) { objects = insert ((sym objects) i) 0 d.stack; parts = (sym parts) i; texts = (sym texts) i; hilites = (sym hilites) i }
+
+pub ordered : (d : Document) (s : Content) (backgrounds cards : List ℕ) → s ≡ with_stack d.stack (with_sheets true d.backgrounds (with_sheets false d.cards blank)) → backgrounds ≡ sheet_ids d.backgrounds → cards ≡ sheet_ids d.cards
     → record s { next = d.next; backgrounds = backgrounds; cards = cards } ≡ content_of d
 ordered d s backgrounds cards is bs cs = (λ i. record (is i) { next = d.next; backgrounds = bs i; cards = cs i }) ∙ built-is d

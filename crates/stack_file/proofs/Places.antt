@@ -8,9 +8,9 @@ use Rattle.std.proofs.lemmas.List.{length-map}
 use Rattle.std.proofs.lemmas.List.Quantifiers.{position-Some}
 use Rattle.std.proofs.lemmas.Option.{slice_get-map, slice_get_cases}
 use Rattle.std.proofs.lemmas.List.Folds.{find_at}
-use Rattle.stack_file.specs.Document.{BackgroundSheet, background_ids, field_ids, fields_of}
-use Rattle.stack_file.specs.Views.{field_seen, background_seen}
-use Rattle.stack_file.specs.declared.sheets.BackgroundLines.{BackgroundLines}
+use Rattle.stack_text.specs.Document.{Sheet, sheet_ids, parts_of}
+use Rattle.stack_file.specs.Views.{sheet_seen}
+use Rattle.stack_file.specs.declared.sheets.SheetLines.{SheetLines}
 use Rattle.std.proofs.lemmas.Iterator.Adapters.{position_from-zero}
 use Rattle.std.proofs.lemmas.Bool.Decides.{nat_tests}
 
@@ -61,7 +61,7 @@ placed-first places ids id is room free q =
     ⊎_elim same other (cases_eq q id) ∙ ap (λ o. placed (id == q) o (length ids)) (is q) ∙ sym pushed
 
 -- the place of an id among the backgrounds is that of its background
-place_seen : (bs : List BackgroundLines) (id : ℕ) → position_or_len (λ x. x == id) (background_ids (map background_seen bs)) ≡ position_or_len (λ b. b.id == id) (map background_seen bs)
+place_seen : (bs : List SheetLines) (id : ℕ) → position_or_len (λ x. x == id) (sheet_ids (map sheet_seen bs)) ≡ position_or_len (λ b. b.id == id) (map sheet_seen bs)
 place_seen [] id = refl
 place_seen (b ∷ bs) id = ap (λ n. cond (not (b.id == id)) (1 + n) 0) (place_seen bs id)
 
@@ -72,21 +72,21 @@ within xs n m same =
       | inr h ↦ let no : ltb n m ≡ false = grind (arith, nat_tests, h.0) in rw no h.1
     ]
 
-found_at : (bs : List BackgroundLines) (id : ℕ) → find (λ b. b.id == id) (map background_seen bs) ≡ option_and_then (slice_get (map background_seen bs)) (position (λ x. x == id) (background_ids (map background_seen bs)))
+found_at : (bs : List SheetLines) (id : ℕ) → find (λ b. b.id == id) (map sheet_seen bs) ≡ option_and_then (slice_get (map sheet_seen bs)) (position (λ x. x == id) (sheet_ids (map sheet_seen bs)))
 found_at bs id =
-    let same = length-map (map background_seen bs) (λ (b : BackgroundSheet). b.id) in
-    find_at (λ b. b.id == id) (map background_seen bs) ∙ ap (slice_get (map background_seen bs)) (sym (place_seen bs id)) ∙ within (map background_seen bs) _ _ same
+    let same = length-map (map sheet_seen bs) (λ (b : Sheet). b.id) in
+    find_at (λ b. b.id == id) (map sheet_seen bs) ∙ ap (slice_get (map sheet_seen bs)) (sym (place_seen bs id)) ∙ within (map sheet_seen bs) _ _ same
 
-pub fields_of-placed : (bs : List BackgroundLines) (id i : ℕ) (b : BackgroundLines) → position (λ x. x == id) (background_ids (map background_seen bs)) ≡ Some i → slice_get bs i ≡ Some b
-    → fields_of (map background_seen bs) id ≡ field_ids (map field_seen b.fields.items)
-fields_of-placed bs id i b at is = rw (found_at bs id, at) (rw (slice_get-map, is) refl)
+pub parts_of-placed : (bs : List SheetLines) (id i : ℕ) (b : SheetLines) → position (λ x. x == id) (sheet_ids (map sheet_seen bs)) ≡ Some i → slice_get bs i ≡ Some b
+    → parts_of (map sheet_seen bs) id ≡ b.parts.items
+parts_of-placed bs id i b at is = rw (found_at bs id, at) (rw (slice_get-map, is) refl)
 
-pub fields_of-none : (bs : List BackgroundLines) (id : ℕ) → position (λ x. x == id) (background_ids (map background_seen bs)) ≡ None → fields_of (map background_seen bs) id ≡ []
-fields_of-none bs id none = rw (found_at bs id, none) refl
+pub parts_of-none : (bs : List SheetLines) (id : ℕ) → position (λ x. x == id) (sheet_ids (map sheet_seen bs)) ≡ None → parts_of (map sheet_seen bs) id ≡ []
+parts_of-none bs id none = rw (found_at bs id, none) refl
 
-pub placed_within : (bs : List BackgroundLines) (id i : ℕ) → position (λ x. x == id) (background_ids (map background_seen bs)) ≡ Some i → i < length bs
+pub placed_within : (bs : List SheetLines) (id i : ℕ) → position (λ x. x == id) (sheet_ids (map sheet_seen bs)) ≡ Some i → i < length bs
 placed_within bs id i at =
-    let h = position-Some (λ x. x == id) (background_ids (map background_seen bs)) i 0 at in
-    let a = length-map (map background_seen bs) (λ (b : BackgroundSheet). b.id) in
-    let b = length-map bs background_seen in
+    let h = position-Some (λ x. x == id) (sheet_ids (map sheet_seen bs)) i 0 at in
+    let a = length-map (map sheet_seen bs) (λ (b : Sheet). b.id) in
+    let b = length-map bs sheet_seen in
     omega (arith, h.0)

@@ -2,10 +2,10 @@
 use Rattle.std.proofs.Common.{◌≡◌, ℕ, zero, suc, ◌+◌, List, [], ◌∷◌, ◌++◌, map, refl, sym, ◌∙◌, ap, arith, append_assoc, add-one}
 use Rattle.std.specs.Prelude.{Result, Ok, Err}
 use Rattle.std.proofs.lemmas.List.{append-nil, map-append}
-use Rattle.stack_file.specs.Reading.{Spot, Reader, chain, give, times, for_each, Fails}
-use Rattle.stack_file.specs.declared.fault.FileError.{FileError}
-use Rattle.stack_file.specs.declared.fault.ReadError.{ReadError}
-use Rattle.stack_file.specs.declared.fault.ReadError.TheVariants as errors
+use Rattle.stack_text.specs.Reading.{Spot, Reader, chain, give, times, for_each, Fails}
+use Rattle.stack_text.specs.declared.fault.FileError.{FileError}
+use Rattle.stack_text.specs.declared.fault.ReadError.{ReadError}
+use Rattle.stack_text.specs.declared.fault.ReadError.TheVariants as errors
 
 -- what is read, behind these
 abbrev pub with_front : {A : Type 0} → List A → Result (List A × Spot) FileError → Result (List A × Spot) FileError
@@ -37,15 +37,27 @@ pub Fails-along : {Y : Type 0} (e : ReadError) (a b : Result Y FileError) → a 
 Fails-along errors.Memory a b is h = tt
 Fails-along (errors.File f) a b is h = sym is ∙ h
 
--- what is left for the other members
-pub for_each-step : {A : Type 0} (r : A → Reader (Unit {0})) (a : A) (as' : List A) (spot after : Spot) → r a spot ≡ Ok (tt, after) → for_each (a ∷ as') r spot ≡ for_each as' r after
-for_each-step r a as' spot after e = rw e refl
+-- the same for each member of a list
+pub for_each-step : {A B : Type 0} (r : A → Reader B) (a : A) (as' : List A) (front : List B) (spot after : Spot) (x : B) → r a spot ≡ Ok (x, after) → with_front front (for_each (a ∷ as') r spot) ≡ with_front (front ++ x ∷ []) (for_each as' r after)
+for_each-step r a as' front spot after x e = rw e (onto front x (for_each as' r after))
 
-pub for_each-fail : {A : Type 0} (r : A → Reader (Unit {0})) (a : A) (as' : List A) (spot : Spot) (e : ReadError) → Fails e (r a spot) → Fails e (for_each (a ∷ as') r spot)
-for_each-fail r a as' spot errors.Memory h = tt
-for_each-fail r a as' spot (errors.File f) h = rw h refl
+pub for_each-fail : {A B : Type 0} (r : A → Reader B) (a : A) (as' : List A) (front : List B) (spot : Spot) (e : ReadError) → Fails e (r a spot) → Fails e (with_front front (for_each (a ∷ as') r spot))
+for_each-fail r a as' front spot errors.Memory h = tt
+for_each-fail r a as' front spot (errors.File f) h = rw h refl
+
+pub for_each-none : {A B : Type 0} (r : A → Reader B) (front : List B) (spot : Spot) → with_front front (for_each [] r spot) ≡ Ok (front, spot)
+for_each-none r front spot = ap (λ t. Ok (t, spot)) (append-nil front)
 
 -- One more is read, of which the definitions see a view.
 pub times-push : {X A : Type 0} (view : X → A) (r : Reader A) (n m : ℕ) (xs more : List X) (spot after : Spot) (x : X) → n ≡ m + 1 → r spot ≡ Ok (view x, after) → more ≡ xs ++ x ∷ []
     → with_front (map view more) (times m r after) ≡ with_front (map view xs) (times n r spot)
 times-push view r n m xs more spot after x is e pushed = rw (pushed, map-append) (sym (times-step r n m (map view xs) spot after (view x) is e))
+
+-- One more is read.
+pub times-onto : {A : Type 0} (r : Reader A) (n m : ℕ) (xs more : List A) (spot after : Spot) (x : A) → n ≡ m + 1 → r spot ≡ Ok (x, after) → more ≡ xs ++ x ∷ [] → with_front more (times m r after) ≡ with_front xs (times n r spot)
+times-onto r n m xs more spot after x is e pushed = rw pushed (sym (times-step r n m xs spot after x is e))
+
+-- a fault of the first is a fault of both
+pub fails_on : {A B : Type 0} (e : ReadError) (r : Result (A × Spot) FileError) (f : A → Reader B) → Fails e r → Fails e (chain r f)
+fails_on errors.Memory r f h = tt
+fails_on (errors.File x) r f h = rw h refl

@@ -1,36 +1,62 @@
 -- A stack with more in it, from the last that a document lists to the first.
-use Rattle.std.specs.Prelude.{ℕ, List, [], ◌∷◌, map, flat_map}
+use Rattle.std.specs.Prelude.{ℕ, Bool, true, false, List, [], ◌∷◌, map, flat_map}
 use Rattle.std.specs.declared.cmp.Ordering.{Ordering}
 use Rattle.std.specs.FinMap.{FinMap, empty, insert, remove}
 use Rattle.object_table.specs.Content.{Content}
 use Rattle.object_table.specs.Empty.{empty_stack}
-use Rattle.object_table.specs.declared.object.Kind.TheVariants.{Stack}
-use Rattle.stack_file.specs.Document.{FieldPart, BackgroundSheet, CardSheet}
-use Rattle.stack_file.specs.Listing.{plain_object, field_entry, background_entries, background_parts, card_entry, card_parts}
+use Rattle.object_table.specs.declared.object.Object.{Object}
+use Rattle.stack_text.specs.declared.sheets.Kept.{Kept}
+use Rattle.stack_text.specs.declared.sheets.Part.{Part}
+use Rattle.stack_text.specs.declared.sheets.Keeping.{Keeping}
+use Rattle.stack_text.specs.Document.{Sheet}
+use Rattle.stack_text.specs.Listing.{part_entry, object_entries, parts_entry, kept_on, written, lit, kept_entries}
 
 -- the map with these entries, where the first of a key counts
 abbrev pub inserted : {K X : Type 0} {R : K → K → Ordering} → FinMap R X → List (K × X) → FinMap R X
 inserted m [] = m
 inserted m (e ∷ es) = insert (inserted m es) e.0 e.1
 
-abbrev pub with_fields : List FieldPart → Content → Content
-with_fields fs s = record s { objects = inserted s.objects (map field_entry fs) }
+-- with what is kept on a card, or on card 0 for what is shared
+abbrev pub with_kept : ℕ → List (ℕ × Kept) → Content → Content
+with_kept card kept s = record s { texts = inserted s.texts (kept_entries written card kept); hilites = inserted s.hilites (kept_entries lit card kept) }
 
-abbrev pub with_background : BackgroundSheet → Content → Content
-with_background b s = record s { objects = inserted s.objects (background_entries b); parts = inserted s.parts (background_parts b ∷ []) }
+abbrev pub own_kept : List Part → List (ℕ × Kept)
+own_kept parts = map (λ p. (p.id, p.kept)) parts
 
-abbrev pub with_backgrounds : List BackgroundSheet → Content → Content
-with_backgrounds bs s = record s { objects = inserted s.objects (flat_map background_entries bs); parts = inserted s.parts (map background_parts bs) }
+abbrev pub with_parts : ℕ → List Part → Content → Content
+with_parts card parts s = record s {
+  objects = inserted s.objects (map part_entry parts);
+  texts = inserted s.texts (kept_entries written card (own_kept parts));
+  hilites = inserted s.hilites (kept_entries lit card (own_kept parts));
+}
 
-abbrev pub with_card : CardSheet → Content → Content
-with_card c s = record s { objects = inserted s.objects (card_entry c ∷ []); parts = inserted s.parts (card_parts c ∷ []) }
+abbrev pub with_keepings : ℕ → List Keeping → Content → Content
+with_keepings card keepings s = with_kept card (map (λ k. (k.part, k.kept)) keepings) s
 
-abbrev pub with_cards : List CardSheet → Content → Content
-with_cards cs s = record s { objects = inserted s.objects (map card_entry cs); parts = inserted s.parts (map card_parts cs) }
+abbrev pub with_sheet : ℕ → Sheet → Content → Content
+with_sheet card x s = record s {
+  objects = inserted s.objects (object_entries x);
+  parts = inserted s.parts (parts_entry x ∷ []);
+  texts = inserted s.texts (kept_entries written card (kept_on x));
+  hilites = inserted s.hilites (kept_entries lit card (kept_on x));
+}
+
+-- the card for which a sheet's parts are kept
+abbrev pub card_for : Bool → ℕ → ℕ
+card_for true id = 0
+card_for false id = id
+
+abbrev pub with_sheets : Bool → List Sheet → Content → Content
+with_sheets shared xs s = record s {
+  objects = inserted s.objects (flat_map object_entries xs);
+  parts = inserted s.parts (map parts_entry xs);
+  texts = inserted s.texts (flat_map (λ x. kept_entries written (card_for shared x.id) (kept_on x)) xs);
+  hilites = inserted s.hilites (flat_map (λ x. kept_entries lit (card_for shared x.id) (kept_on x)) xs);
+}
 
 -- with the stack itself
-abbrev pub with_stack : List ℕ → Content → Content
-with_stack name s = record s { objects = insert s.objects 0 (plain_object name Stack) }
+abbrev pub with_stack : Object → Content → Content
+with_stack o s = record s { objects = insert s.objects 0 o }
 
 -- without an object and its parts
 abbrev pub without : ℕ → Content → Content

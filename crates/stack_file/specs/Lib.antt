@@ -1,10 +1,7 @@
-pub mod Faults
 pub mod Watching
-pub mod Words
-pub mod Document
-pub mod Spelling
-pub mod Reading
-pub mod Listing
-pub mod Building
-pub mod Laws
+pub mod Pieces
+pub mod Owners
 pub mod Views
+pub mod Lines
+pub mod Written
+pub mod Building

@@ -1,32 +1,21 @@
 //! A stack, built from what the lines of its text say, from the last to the first.
 
-ghost use Rattle.std.specs.Prelude.{◌≡◌, ◌∷◌, [], map, IfOk, IfErr, OnOk, Ok};
+ghost use Rattle.std.specs.Prelude.{◌≡◌, ◌∷◌, [], true, false, map, IfOk, IfErr, OnOk, Ok};
 ghost use Rattle.std.specs.FinMap.{insert};
 ghost use Rattle.object_table.specs.Content.{Content};
-ghost use Rattle.object_table.specs.declared.object.Kind.{Kind};
-ghost use Rattle.stack_file.specs.Document.{field_ids, background_ids, card_ids};
-ghost use Rattle.stack_file.specs.Listing.{plain_object as plain_object_of, field_entry, background_entries, background_parts, card_entry, card_parts, content_of};
-ghost use Rattle.stack_file.specs.Laws.{Spells};
-ghost use Rattle.stack_file.specs.Reading.{Gives, Fails, document_at};
-ghost use Rattle.stack_file.specs.Building.{inserted, with_fields, with_background, with_backgrounds, with_card, with_cards, with_stack, without, blank};
-ghost use Rattle.stack_file.specs.Views.{field_seen, background_seen, card_seen, text_seen};
+ghost use Rattle.stack_text.specs.Document.{part_ids, sheet_ids};
+ghost use Rattle.stack_text.specs.Listing.{content_of};
+ghost use Rattle.stack_text.specs.Laws.{Spells};
+ghost use Rattle.stack_text.specs.Reading.{Gives, Fails, document_at};
+ghost use Rattle.stack_file.specs.Building.{with_kept, with_parts, with_keepings, with_sheet, with_sheets, card_for as card_for_sheet, with_stack, without, blank};
+ghost use Rattle.stack_file.specs.Views.{sheet_seen, text_seen};
 
-use crate::fault::ReadError;
 use crate::reading::document;
-use crate::sheets::{BackgroundLines, CardLines, FieldLines, TextLines};
+use crate::sheets::{SheetLines, TextLines};
 use ht_values::Text;
-use object_table::{Id, IdList, Kind, Object, Stack};
+use object_table::{Id, IdList, Object, Stack};
+use stack_text::{Keeping, Kept, Part, ReadError};
 use std::alloc::{AllocError, Global};
-
-fn plain_object(alloc: Global, name: Text, kind: Kind) -> Object
-    ensures { result ≡ plain_object_of name kind }
-{
-    Object {
-        name,
-        script: Text::new(alloc),
-        kind,
-    }
-}
 
 fn put_object(stack: &mut Stack, id: Id, object: Object) -> Result<(), AllocError>
     ensures { OnOk result (stack.new.content ≡ record stack.old.content { objects = insert stack.old.content.objects id object }) }
@@ -37,12 +26,32 @@ fn put_object(stack: &mut Stack, id: Id, object: Object) -> Result<(), AllocErro
     Ok(())
 }
 
-fn put_parts(stack: &mut Stack, id: Id, parts: IdList) -> Result<(), AllocError>
+fn put_list(stack: &mut Stack, id: Id, parts: IdList) -> Result<(), AllocError>
     ensures { OnOk result (stack.new.content ≡ record stack.old.content { parts = insert stack.old.content.parts id parts }) }
 {
     stack.open_slot(id)?;
     let mut slot = Some(parts);
     stack.swap_parts(id, &mut slot);
+    Ok(())
+}
+
+#[tactic(auto, using(crate::proofs::Built::opened))]
+fn put_text(stack: &mut Stack, field: Id, card: Id, text: Text) -> Result<(), AllocError>
+    ensures { OnOk result (stack.new.content ≡ record stack.old.content { texts = insert stack.old.content.texts (field, card) text }) }
+{
+    stack.open_text(field, card)?;
+    let mut slot = Some(text);
+    stack.swap_text(field, card, &mut slot);
+    Ok(())
+}
+
+#[tactic(auto, using(crate::proofs::Built::opened))]
+fn put_hilite(stack: &mut Stack, button: Id, card: Id, lit: bool) -> Result<(), AllocError>
+    ensures { OnOk result (stack.new.content ≡ record stack.old.content { hilites = insert stack.old.content.hilites (button, card) lit }) }
+{
+    stack.open_hilite(button, card)?;
+    let mut slot = Some(lit);
+    stack.swap_hilite(button, card, &mut slot);
     Ok(())
 }
 
@@ -67,130 +76,127 @@ fn blank_stack(alloc: Global) -> Result<Stack, AllocError>
     Ok(stack)
 }
 
-fn add_field(stack: &mut Stack, alloc: Global, field: FieldLines) -> Result<(), AllocError>
-    ensures { OnOk result (stack.new.content ≡ with_fields (field_seen field ∷ []) stack.old.content) }
+/// What is kept for a part on a card, or on card 0 what is shared.
+fn put_kept(stack: &mut Stack, card: Id, part: Id, kept: Kept) -> Result<(), AllocError>
+    ensures { OnOk result (stack.new.content ≡ with_kept card ((part, kept) ∷ []) stack.old.content) }
 {
-    let kind = Kind::BackgroundField {
-        visible: field.visible,
-        lock_text: field.lock_text,
-        shared_text: field.shared_text,
-    };
-    put_object(stack, field.id, plain_object(alloc, field.name, kind))
+    match kept {
+        Kept::Nothing => Ok(()),
+        Kept::Written(text) => put_text(stack, part, card, text),
+        Kept::Lit(lit) => put_hilite(stack, part, card, lit),
+    }
 }
 
-fn add_fields(
-    stack: &mut Stack,
-    alloc: Global,
-    mut fields: Vec<FieldLines>,
-) -> Result<(), AllocError>
-    ensures { OnOk result (stack.new.content ≡ with_fields (map field_seen fields.items) stack.old.content) }
+fn put_part(stack: &mut Stack, card: Id, part: Part) -> Result<(), AllocError>
+    ensures { OnOk result (stack.new.content ≡ with_parts card (part ∷ []) stack.old.content) }
 {
-    while let Some(field) = fields.pop() {
-        add_field(stack, alloc, field)?;
+    let Part { id, object, kept } = part;
+    put_object(stack, id, object)?;
+    put_kept(stack, card, id, kept)
+}
+
+fn add_parts(stack: &mut Stack, card: Id, mut parts: Vec<Part>) -> Result<(), AllocError>
+    ensures { OnOk result (stack.new.content ≡ with_parts card parts.items stack.old.content) }
+{
+    while let Some(part) = parts.pop() {
+        put_part(stack, card, part)?;
     }
     Ok(())
 }
 
-fn ids_of_fields(alloc: Global, fields: &[FieldLines]) -> Result<IdList, AllocError>
-    ensures { IfOk result (λ l. l ≡ field_ids (map field_seen fields.now)) }
+fn put_keeping(stack: &mut Stack, card: Id, keeping: Keeping) -> Result<(), AllocError>
+    ensures { OnOk result (stack.new.content ≡ with_keepings card (keeping ∷ []) stack.old.content) }
+{
+    let Keeping { part, kept } = keeping;
+    put_kept(stack, card, part, kept)
+}
+
+fn add_keepings(stack: &mut Stack, card: Id, mut keepings: Vec<Keeping>) -> Result<(), AllocError>
+    ensures { OnOk result (stack.new.content ≡ with_keepings card keepings.items stack.old.content) }
+{
+    while let Some(keeping) = keepings.pop() {
+        put_keeping(stack, card, keeping)?;
+    }
+    Ok(())
+}
+
+fn ids_of_parts(alloc: Global, parts: &[Part]) -> Result<IdList, AllocError>
+    ensures { IfOk result (λ l. l ≡ part_ids parts.now) }
 {
     let mut ids = IdList::new(alloc);
-    for field in fields {
-        ids.push(field.id)?;
+    for part in parts {
+        ids.push(part.id)?;
     }
     Ok(ids)
 }
 
-fn add_background(
+/// A background or a card with its parts, and what is kept for them.
+fn add_sheet(
     stack: &mut Stack,
     alloc: Global,
-    background: BackgroundLines,
+    card: Id,
+    sheet: SheetLines,
 ) -> Result<(), AllocError>
-    ensures { OnOk result (stack.new.content ≡ with_background (background_seen background) stack.old.content) }
+    ensures { OnOk result (stack.new.content ≡ with_sheet card (sheet_seen sheet) stack.old.content) }
 {
-    let BackgroundLines {
+    let SheetLines {
         id,
-        name,
-        cant_delete,
-        fields,
-    } = background;
-    let parts = ids_of_fields(alloc, &fields)?;
-    add_fields(stack, alloc, fields)?;
-    put_object(
-        stack,
-        id,
-        plain_object(alloc, name, Kind::Background { cant_delete }),
-    )?;
-    put_parts(stack, id, parts)
+        object,
+        parts,
+        keepings,
+    } = sheet;
+    let ids = ids_of_parts(alloc, &parts)?;
+    add_keepings(stack, card, keepings)?;
+    add_parts(stack, card, parts)?;
+    put_object(stack, id, object)?;
+    put_list(stack, id, ids)
 }
 
-fn add_backgrounds(
+/// The card for which the parts of a sheet are kept: 0 where they are shared.
+fn card_for(shared: bool, id: Id) -> Id
+    ensures { result ≡ card_for_sheet shared id }
+{
+    if shared { 0 } else { id }
+}
+
+fn add_sheets(
     stack: &mut Stack,
     alloc: Global,
-    mut backgrounds: Vec<BackgroundLines>,
+    shared: bool,
+    mut sheets: Vec<SheetLines>,
 ) -> Result<(), AllocError>
-    ensures { OnOk result (stack.new.content ≡ with_backgrounds (map background_seen backgrounds.items) stack.old.content) }
+    ensures { OnOk result (stack.new.content ≡ with_sheets shared (map sheet_seen sheets.items) stack.old.content) }
 {
-    while let Some(background) = backgrounds.pop() {
-        add_background(stack, alloc, background)?;
+    while let Some(sheet) = sheets.pop() {
+        add_sheet(stack, alloc, card_for(shared, sheet.id), sheet)?;
     }
     Ok(())
 }
 
-fn add_card(stack: &mut Stack, alloc: Global, card: CardLines) -> Result<(), AllocError>
-    ensures { OnOk result (stack.new.content ≡ with_card (card_seen card) stack.old.content) }
-{
-    let kind = Kind::Card {
-        background: card.background,
-        cant_delete: card.cant_delete,
-    };
-    put_object(stack, card.id, plain_object(alloc, card.name, kind))?;
-    put_parts(stack, card.id, IdList::new(alloc))
-}
-
-fn add_cards(stack: &mut Stack, alloc: Global, mut cards: Vec<CardLines>) -> Result<(), AllocError>
-    ensures { OnOk result (stack.new.content ≡ with_cards (map card_seen cards.items) stack.old.content) }
-{
-    while let Some(card) = cards.pop() {
-        add_card(stack, alloc, card)?;
-    }
-    Ok(())
-}
-
-fn ids_of_backgrounds(alloc: Global, backgrounds: &[BackgroundLines]) -> Result<IdList, AllocError>
-    ensures { IfOk result (λ l. l ≡ background_ids (map background_seen backgrounds.now)) }
+fn ids_of_sheets(alloc: Global, sheets: &[SheetLines]) -> Result<IdList, AllocError>
+    ensures { IfOk result (λ l. l ≡ sheet_ids (map sheet_seen sheets.now)) }
 {
     let mut ids = IdList::new(alloc);
-    for background in backgrounds {
-        ids.push(background.id)?;
+    for sheet in sheets {
+        ids.push(sheet.id)?;
     }
     Ok(ids)
 }
 
-fn ids_of_cards(alloc: Global, cards: &[CardLines]) -> Result<IdList, AllocError>
-    ensures { IfOk result (λ l. l ≡ card_ids (map card_seen cards.now)) }
-{
-    let mut ids = IdList::new(alloc);
-    for card in cards {
-        ids.push(card.id)?;
-    }
-    Ok(ids)
-}
-
-/// The objects that the lines list, and their parts.
+/// The objects that the lines list, their parts, and what is kept for them.
 fn listed_objects(
     alloc: Global,
-    name: Text,
-    backgrounds: Vec<BackgroundLines>,
-    cards: Vec<CardLines>,
+    object: Object,
+    backgrounds: Vec<SheetLines>,
+    cards: Vec<SheetLines>,
 ) -> Result<Stack, AllocError>
-    ensures { IfOk result (λ s. s.content ≡ with_stack name
-        (with_backgrounds (map background_seen backgrounds.items) (with_cards (map card_seen cards.items) blank))) }
+    ensures { IfOk result (λ s. s.content ≡ with_stack object
+        (with_sheets true (map sheet_seen backgrounds.items) (with_sheets false (map sheet_seen cards.items) blank))) }
 {
     let mut stack = blank_stack(alloc)?;
-    add_cards(&mut stack, alloc, cards)?;
-    add_backgrounds(&mut stack, alloc, backgrounds)?;
-    put_object(&mut stack, 0, plain_object(alloc, name, Kind::Stack))?;
+    add_sheets(&mut stack, alloc, false, cards)?;
+    add_sheets(&mut stack, alloc, true, backgrounds)?;
+    put_object(&mut stack, 0, object)?;
     Ok(stack)
 }
 
@@ -208,13 +214,13 @@ pub(crate) fn build(alloc: Global, lines: TextLines) -> Result<Stack, AllocError
 {
     let TextLines {
         next,
-        name,
+        stack: object,
         backgrounds,
         cards,
     } = lines;
-    let background_order = ids_of_backgrounds(alloc, &backgrounds)?;
-    let card_order = ids_of_cards(alloc, &cards)?;
-    let mut stack = listed_objects(alloc, name, backgrounds, cards)?;
+    let background_order = ids_of_sheets(alloc, &backgrounds)?;
+    let card_order = ids_of_sheets(alloc, &cards)?;
+    let mut stack = listed_objects(alloc, object, backgrounds, cards)?;
     set_orders(&mut stack, next, background_order, card_order);
     Ok(stack)
 }

@@ -2,20 +2,22 @@
 #![tactic(auto)]
 
 mod backgrounds;
+mod blocks;
 mod building;
-mod fault;
+mod forms;
+mod layers;
 mod lines;
+mod parts;
 mod placed;
+mod put;
 mod reading;
 mod sheets;
 mod watched;
-mod words;
 mod writing;
 
 pub use building::read;
-pub use fault::{FileError, ReadError};
+pub use stack_text::{FileError, ReadError, number_at, spell_into, unspell};
 pub use watched::{Watched, WriteFault, write_to};
-pub use words::{number_at, spell_into, unspell};
 pub use writing::write;
 
 #[cfg(test)]

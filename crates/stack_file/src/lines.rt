@@ -1,16 +1,19 @@
 //! Lines of a text, read one after the other, each by its form.
 
-ghost use Rattle.std.specs.Prelude.{◌≡◌, ◌<◌, ◌==◌, length, position, codes, [], IfSome, IfOk, IfErr, option_copied, option_map, option_and_then, is_some};
-ghost use Rattle.stack_file.specs.Reading.{Gives, next_line, line_after, after_prefix, exactly, name_at, short_text, number_after, at_least, count_after, flag_at, flag_after, around_space, pair_at, no_lines_at, new_id, header_at, text_at, version_at, nothing_left};
-ghost use Rattle.stack_file.specs.Words.{number_at as number_of};
-ghost use Rattle.stack_file.specs.declared.fault.FileError.TheVariants.{BadLine, BadId};
-ghost use Rattle.stack_file.specs.declared.fault.ReadError.TheVariants.{File, Memory};
+ghost use Rattle.std.specs.Prelude.{◌≡◌, ◌<◌, codes, length, [], IfOk};
+ghost use Rattle.stack_text.specs.Reading.{Gives, next_line, line_after, exactly, name_at, number_after, count_after, flag_after, flag_at, count_at, piece_at, pair_at, part_header, new_id, version_at, nothing_left};
+ghost use Rattle.stack_text.specs.Words.{number_at as number_of};
+ghost use Rattle.stack_text.specs.declared.fault.FileError.TheVariants.{BadLine, BadId};
+ghost use Rattle.stack_text.specs.declared.fault.ReadError.TheVariants.{File};
 
-use crate::fault::{FileError, ReadError};
+use crate::forms::{
+    card_in, count_in, flag_in, hilite_in, line_feed_in, name_in, number_in, part_in,
+    piece_count_in, piece_in, text_in, version_in,
+};
 use crate::placed::PlacedIds;
-use crate::words::{number_at, unspell};
-use ht_values::{Text, TextError};
-use std::alloc::{AllocError, Global};
+use ht_values::{PartKind, Text};
+use stack_text::{FileError, ReadError, Version};
+use std::alloc::Global;
 use std::marker::Model;
 
 /// The greatest number of objects, the stack not counted.
@@ -26,7 +29,7 @@ pub(crate) struct Lines<'a> {
 
 impl<'a> Model for Lines<'a> {
     ghost use Rattle.std.specs.Prelude.{◌+◌, ◌<◌, ◌^◌, length};
-    ghost use Rattle.stack_file.specs.Reading.{Spot, coded_spot};
+    ghost use Rattle.stack_text.specs.Reading.{Spot, coded_spot};
 
     ghost Value = { Spot };
 
@@ -35,116 +38,6 @@ impl<'a> Model for Lines<'a> {
     ghost view = { λ l. record { bytes = l.bytes.now; number = l.number; used = l.used } };
 
     ghost invariant = { λ l. l.number + length l.bytes.now < 2 ^ 63 };
-}
-
-fn line_feed_in(bytes: &[u8]) -> Option<usize>
-    ensures value { result ≡ position (λ b. b == 10) bytes.now }
-    ensures within { IfSome result (λ i. i < length bytes.now) }
-{
-    bytes.iter().position(|b| *b == b'\n')
-}
-
-fn space_in(bytes: &[u8]) -> Option<usize>
-    ensures value { result ≡ position (λ b. b == 32) bytes.now }
-    ensures within { IfSome result (λ i. i < length bytes.now) }
-{
-    bytes.iter().position(|b| *b == b' ')
-}
-
-fn rest_after<'a>(line: &'a [u8], prefix: &[u8]) -> Option<&'a [u8]>
-    ensures { option_copied result ≡ after_prefix prefix.now line.now }
-{
-    line.strip_prefix(prefix)
-}
-
-fn number_in(line: &[u8], prefix: &[u8]) -> Option<u32>
-    ensures { result ≡ option_and_then number_of (after_prefix prefix.now line.now) }
-{
-    number_at(rest_after(line, prefix)?)
-}
-
-fn count_in(line: &[u8], prefix: &[u8], least: u32) -> Option<u32>
-    ensures { result ≡ option_and_then (at_least least) (after_prefix prefix.now line.now) }
-{
-    let number = number_at(rest_after(line, prefix)?)?;
-    if number < least { None } else { Some(number) }
-}
-
-fn flag_of(word: &[u8]) -> Option<bool>
-    ensures { result ≡ flag_at word.now }
-{
-    if word == b"true".as_slice() {
-        Some(true)
-    } else if word == b"false".as_slice() {
-        Some(false)
-    } else {
-        None
-    }
-}
-
-fn flag_in(line: &[u8], prefix: &[u8]) -> Option<bool>
-    ensures { result ≡ option_and_then flag_at (after_prefix prefix.now line.now) }
-{
-    flag_of(rest_after(line, prefix)?)
-}
-
-fn text_of(alloc: Global, spelling: &[u8]) -> Result<Option<Text>, ReadError>
-    ensures value { IfOk result (λ o. o ≡ short_text spelling.now) }
-    ensures err { IfErr result (λ e. e ≡ Memory) }
-{
-    match unspell(alloc, spelling)? {
-        None => Ok(None),
-        Some(bytes) => match Text::from_slice(alloc, &bytes) {
-            Ok(text) => Ok(Some(text)),
-            Err(TextError::TooLong) => Ok(None),
-            Err(TextError::Memory) => Err(ReadError::Memory),
-        },
-    }
-}
-
-fn name_in(alloc: Global, line: &[u8]) -> Result<Option<Text>, ReadError>
-    ensures value { IfOk result (λ o. o ≡ option_and_then short_text (after_prefix (codes "name |") line.now)) }
-    ensures err { IfErr result (λ e. e ≡ Memory) }
-{
-    match rest_after(line, b"name |") {
-        None => Ok(None),
-        Some(spelling) => text_of(alloc, spelling),
-    }
-}
-
-fn parts_of(line: &[u8]) -> Option<(&[u8], &[u8])>
-    ensures { option_map (λ x. (x.0.now, x.1.now)) result ≡ around_space line.now }
-{
-    let space = space_in(line)?;
-    Some((&line[..space], &line[space + 1..]))
-}
-
-fn card_in(line: &[u8]) -> Option<(u32, u32)>
-    ensures { result ≡ option_and_then (pair_at number_of number_of) (after_prefix (codes "card ") line.now) }
-{
-    let (id, background) = parts_of(rest_after(line, b"card ")?)?;
-    Some((number_at(id)?, number_at(background)?))
-}
-
-fn text_field_in(line: &[u8]) -> Option<u32>
-    ensures { result ≡ option_map (λ p. p.0) (option_and_then (pair_at number_of no_lines_at) (after_prefix (codes "text ") line.now)) }
-{
-    let (field, count) = parts_of(rest_after(line, b"text ")?)?;
-    let field = number_at(field)?;
-    if count == b"0".as_slice() {
-        Some(field)
-    } else {
-        None
-    }
-}
-
-fn is_version(line: &[u8]) -> bool
-    ensures { result ≡ is_some (option_and_then version_at (after_prefix (codes "htstack ") line.now)) }
-{
-    match rest_after(line, b"htstack ") {
-        Some(version) => version == b"1".as_slice() || version == b"2".as_slice(),
-        None => false,
-    }
 }
 
 impl<'a> Lines<'a> {
@@ -158,7 +51,7 @@ impl<'a> Lines<'a> {
         }
     }
 
-    #[tactic(auto, unfolding(crate::specs::Reading::next_line))]
+    #[tactic(auto, unfolding(stack_text::specs::Reading::next_line))]
     fn next_line(&mut self) -> Result<&'a [u8], ReadError>
         ensures { Gives (λ x. (x.now, self.new)) result (next_line self.old) }
     {
@@ -186,7 +79,7 @@ impl<'a> Lines<'a> {
     }
 
     /// A line that has these bytes and no others.
-    #[tactic(auto, unfolding(crate::specs::Reading::exactly))]
+    #[tactic(auto, unfolding(stack_text::specs::Reading::exactly))]
     pub(crate) fn exactly(&mut self, form: &[u8]) -> Result<(), ReadError>
         ensures { Gives (λ x. (tt, self.new)) result (exactly form.now self.old) }
     {
@@ -198,8 +91,8 @@ impl<'a> Lines<'a> {
         }
     }
 
-    #[tactic(auto, unfolding(crate::specs::Reading::number_after))]
-    fn number_after(&mut self, prefix: &[u8]) -> Result<u32, ReadError>
+    #[tactic(auto, unfolding(stack_text::specs::Reading::number_after))]
+    pub(crate) fn number_after(&mut self, prefix: &[u8]) -> Result<u32, ReadError>
         ensures { Gives (λ x. (x, self.new)) result (number_after prefix.now self.old) }
     {
         let line = self.next_line()?;
@@ -210,19 +103,18 @@ impl<'a> Lines<'a> {
     }
 
     /// The first line, which tells the version of the text.
-    pub(crate) fn version(&mut self) -> Result<(), ReadError>
-        ensures { Gives (λ x. (tt, self.new)) result (line_after (codes "htstack ") version_at self.old) }
+    pub(crate) fn version(&mut self) -> Result<Version, ReadError>
+        ensures { Gives (λ x. (x, self.new)) result (line_after (codes "htstack ") version_at self.old) }
     {
         let line = self.next_line()?;
-        if is_version(line) {
-            Ok(())
-        } else {
-            Err(self.bad_line())
+        match version_in(line) {
+            Some(version) => Ok(version),
+            None => Err(self.bad_line()),
         }
     }
 
     /// A number that is no less than the least. One over the most is too many.
-    #[tactic(auto, unfolding(crate::specs::Reading::count_after))]
+    #[tactic(auto, unfolding(stack_text::specs::Reading::count_after))]
     pub(crate) fn count_after(
         &mut self,
         prefix: &[u8],
@@ -239,7 +131,7 @@ impl<'a> Lines<'a> {
         }
     }
 
-    #[tactic(auto, unfolding(crate::specs::Reading::flag_after))]
+    #[tactic(auto, unfolding(stack_text::specs::Reading::flag_after))]
     pub(crate) fn flag_after(&mut self, prefix: &[u8]) -> Result<bool, ReadError>
         ensures { Gives (λ x. (x, self.new)) result (flag_after prefix.now self.old) }
     {
@@ -250,13 +142,41 @@ impl<'a> Lines<'a> {
         }
     }
 
-    #[tactic(auto, unfolding(crate::specs::Reading::name_at))]
+    #[tactic(auto, unfolding(stack_text::specs::Reading::name_at))]
     pub(crate) fn name(&mut self, alloc: Global) -> Result<Text, ReadError>
         ensures { Gives (λ x. (x, self.new)) result (name_at self.old) }
     {
         let line = self.next_line()?;
         match name_in(alloc, line)? {
             Some(name) => Ok(name),
+            None => Err(self.bad_line()),
+        }
+    }
+
+    /// How many pieces a text has.
+    pub(crate) fn piece_count(&mut self, prefix: &[u8]) -> Result<u32, ReadError>
+        ensures { Gives (λ x. (x, self.new)) result (line_after prefix.now count_at self.old) }
+    {
+        let line = self.next_line()?;
+        match piece_count_in(line, prefix) {
+            Some(count) => Ok(count),
+            None => Err(self.bad_line()),
+        }
+    }
+
+    /// A piece that is shorter than the room, and not empty where it is alone.
+    pub(crate) fn piece(
+        &mut self,
+        alloc: Global,
+        alone: bool,
+        room: usize,
+    ) -> Result<Vec<u8>, ReadError>
+        ensures value { Gives (λ x. (x.items, self.new)) result (line_after (codes "|") (piece_at alone room) self.old) }
+        ensures short { IfOk result (λ x. length x.items < room) }
+    {
+        let line = self.next_line()?;
+        match piece_in(alloc, alone, room, line)? {
+            Some(piece) => Ok(piece),
             None => Err(self.bad_line()),
         }
     }
@@ -273,22 +193,44 @@ impl<'a> Lines<'a> {
         }
     }
 
-    /// The text of the field that is due.
-    #[tactic(auto, unfolding(crate::specs::Reading::text_at))]
-    pub(crate) fn text_at(&mut self, field: u32) -> Result<(), ReadError>
-        ensures { Gives (λ x. (tt, self.new)) result (text_at field self.old) }
+    /// A field's id and the number of its text's pieces.
+    pub(crate) fn text_head(&mut self) -> Result<(u32, u32), ReadError>
+        ensures { Gives (λ x. (x, self.new)) result
+            (line_after (codes "text ") (pair_at number_of count_at) self.old) }
     {
         let line = self.next_line()?;
-        match text_field_in(line) {
+        match text_in(line) {
+            Some(head) => Ok(head),
             None => Err(self.bad_line()),
-            Some(id) if id != field => Err(self.bad_id()),
-            Some(_) => Ok(()),
+        }
+    }
+
+    /// A button's id and whether it is lit.
+    pub(crate) fn hilite_head(&mut self) -> Result<(u32, bool), ReadError>
+        ensures { Gives (λ x. (x, self.new)) result
+            (line_after (codes "hilite ") (pair_at number_of flag_at) self.old) }
+    {
+        let line = self.next_line()?;
+        match hilite_in(line) {
+            Some(head) => Ok(head),
+            None => Err(self.bad_line()),
+        }
+    }
+
+    /// The kind and the id of a part.
+    pub(crate) fn part_head(&mut self) -> Result<(PartKind, u32), ReadError>
+        ensures { Gives (λ x. (x, self.new)) result (line_after [] part_header self.old) }
+    {
+        let line = self.next_line()?;
+        match part_in(line) {
+            Some(head) => Ok(head),
+            None => Err(self.bad_line()),
         }
     }
 
     /// Takes the id of the next object, which has to be new and below `next`; whether nothing else
     /// in its line is wrong.
-    #[tactic(auto, unfolding(crate::specs::Reading::new_id))]
+    #[tactic(auto, unfolding(stack_text::specs::Reading::new_id))]
     pub(crate) fn new_id(&mut self, next: u32, id: u32, else_right: bool) -> Result<(), ReadError>
         ensures { Gives (λ x. (tt, self.new)) result (new_id next id else_right self.old) }
     {
@@ -300,16 +242,6 @@ impl<'a> Lines<'a> {
         }
         self.used.push(id)?;
         Ok(())
-    }
-
-    /// The new id of a background or a field.
-    #[tactic(auto, unfolding(crate::specs::Reading::header_at))]
-    pub(crate) fn header(&mut self, key: &[u8], next: u32) -> Result<u32, ReadError>
-        ensures { Gives (λ x. (x, self.new)) result (header_at key.now next self.old) }
-    {
-        let id = self.number_after(key)?;
-        self.new_id(next, id, true)?;
-        Ok(id)
     }
 
     /// Nothing is left.

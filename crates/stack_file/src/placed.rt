@@ -1,7 +1,7 @@
 //! Ids in the order in which they come.
 
 ghost use Rattle.std.specs.Prelude.{◌≡◌, ◌==◌, ◌<◌, ◌∷◌, ◌++◌, ℕ, [], None, length, get_or, position, is_none, OnOk};
-ghost use Rattle.stack_file.specs.Document.{contains_id};
+ghost use Rattle.stack_text.specs.Document.{contains_id};
 
 use object_table::Id;
 use std::alloc::{AllocError, Global};

@@ -1,41 +1,22 @@
-//! What the lines of a text say, object by object.
+//! What the lines of a text say, sheet by sheet.
 
-use ht_values::Text;
-use object_table::Id;
+use object_table::{Id, Object};
+use stack_text::{Keeping, Part};
 
-/// A background's field.
+/// A background or a card, with its parts and, of a card, what it keeps for those of its background.
 #[derive(Drop)]
-pub(crate) struct FieldLines {
+pub(crate) struct SheetLines {
     pub(crate) id: Id,
-    pub(crate) name: Text,
-    pub(crate) visible: bool,
-    pub(crate) lock_text: bool,
-    pub(crate) shared_text: bool,
-}
-
-/// A background with its fields.
-#[derive(Drop)]
-pub(crate) struct BackgroundLines {
-    pub(crate) id: Id,
-    pub(crate) name: Text,
-    pub(crate) cant_delete: bool,
-    pub(crate) fields: Vec<FieldLines>,
-}
-
-/// A card.
-#[derive(Drop)]
-pub(crate) struct CardLines {
-    pub(crate) id: Id,
-    pub(crate) background: Id,
-    pub(crate) name: Text,
-    pub(crate) cant_delete: bool,
+    pub(crate) object: Object,
+    pub(crate) parts: Vec<Part>,
+    pub(crate) keepings: Vec<Keeping>,
 }
 
 /// A whole text.
 #[derive(Drop)]
 pub(crate) struct TextLines {
     pub(crate) next: Id,
-    pub(crate) name: Text,
-    pub(crate) backgrounds: Vec<BackgroundLines>,
-    pub(crate) cards: Vec<CardLines>,
+    pub(crate) stack: Object,
+    pub(crate) backgrounds: Vec<SheetLines>,
+    pub(crate) cards: Vec<SheetLines>,
 }

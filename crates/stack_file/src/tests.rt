@@ -1,13 +1,24 @@
 //! Examples, with ample memory.
 
+mod changed;
 mod limits;
 mod reading;
+mod rich;
 mod writing;
 
 use crate::*;
+use std::alloc::Global;
 use std::io;
 use std::io::{Read, Write};
 use std::test::*;
+
+/// What the stack of a text is written as.
+fn written_again(alloc: Global, text: &[u8]) -> Option<Vec<u8>> {
+    match read(alloc, text) {
+        Ok(stack) => write(alloc, &stack).ok(),
+        Err(_) => None,
+    }
+}
 
 /// Takes at most so many bytes a call, and fails at a call.
 #[derive(Drop)]
@@ -102,36 +113,4 @@ fn a_watched_reader_hands_on_the_bytes(rt: HostRuntime) -> Result<(), Fail> {
     assert_eq!(rt; buf, *b"ab");
     assert_eq!(rt; watched.failures(), 0);
     Ok(())
-}
-
-#[test]
-fn texts_are_spelled_and_read_again(rt: HostRuntime) -> Result<(), Fail> {
-    let mut out = Vec::new(rt.alloc());
-    spell_into(&mut out, b"a\\b\r\xff")?;
-    assert_eq!(rt; out.as_slice(), b"a\\5cb\\0d\\ff".as_slice());
-    let text = unspell(rt.alloc(), &out)?.ok_or("a text")?;
-    assert_eq!(rt; text.as_slice(), b"a\\b\r\xff".as_slice());
-    for wrong in [
-        b"\\4A".as_slice(),
-        b"\\4a".as_slice(),
-        b"J\\".as_slice(),
-        b"\r".as_slice(),
-    ] {
-        assert!(rt; unspell(rt.alloc(), wrong)?.is_none());
-    }
-    Ok(())
-}
-
-#[test]
-fn numbers_have_one_form(rt: HostRuntime) {
-    assert_eq!(rt; number_at(b"0"), Some(0));
-    assert_eq!(rt; number_at(b"1000001"), Some(1_000_001));
-    for wrong in [
-        b"".as_slice(),
-        b"07".as_slice(),
-        b"12345678".as_slice(),
-        b"+1".as_slice(),
-    ] {
-        assert_eq!(rt; number_at(wrong), None);
-    }
 }

@@ -35,7 +35,8 @@ impl<D> Watched<D> {
     pub fn failures(&self) -> u64
         ensures { result ≡ failures_of self.now }
     {
-        self.failures
+        let Watched { failures, .. } = self;
+        *failures
     }
 }
 

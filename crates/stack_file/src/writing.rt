@@ -1,106 +1,196 @@
 //! Writing the text of a stack, line by line.
 
-ghost use Rattle.std.specs.Prelude.{◌≡◌, ◌∷◌, ◌++◌, [], List, ℕ, All, IsTrue, codes, decimal, flat_map, length, map, OnOk, IfOk};
+ghost use Rattle.std.specs.Prelude.{◌≡◌, ◌∷◌, ◌++◌, [], List, ℕ, All, IsTrue, codes, flat_map, length, map, unwrap_or, false, OnOk, IfOk};
+ghost use Rattle.object_table.specs.Kept.{text_at, hilite_at};
 ghost use Rattle.object_table.specs.Objects.{has_kind, is_background, is_card, parts_at};
 ghost use Rattle.object_table.specs.WellFormed.{IsWellFormed};
-ghost use Rattle.stack_file.specs.Laws.{Spells};
-ghost use Rattle.stack_file.specs.Listing.{visible_of as visible_in, lock_text_of as lock_text_in, shared_text_of as shared_text_in, cant_delete_of as cant_delete_in, background_or as background_in, object_or, field_part, background_sheet, card_sheet, document_of, spelling};
-ghost use Rattle.stack_file.specs.Spelling.{second, header, name_line as name_spelled, field_lines, background_lines, card_lines, text_line as text_spelled, joined_lines};
-ghost use Rattle.stack_file.specs.Words.{numbered, flagged};
+ghost use Rattle.stack_text.specs.Document.{background_or};
+ghost use Rattle.stack_text.specs.Laws.{Spells, IsOfVersion};
+ghost use Rattle.stack_text.specs.Listing.{object_or, part_of, keeping_of, background_sheet, card_sheet, document_of, spelling};
+ghost use Rattle.stack_text.specs.Spelling.{header, name_line as name_spelled, script_lines, lines_by, part_lines, keeping_lines, parts_lines, background_lines, card_lines};
+ghost use Rattle.stack_text.specs.Words.{numbered};
+ghost use Rattle.stack_text.specs.declared.sheets.Version.TheVariants.{Second as second};
+ghost use Rattle.stack_text.specs.declared.sheets.Kept.TheVariants.{Nothing, Written, Lit};
+ghost use Rattle.object_table.specs.declared.object.Kind.TheVariants.{CardButton, BackgroundButton, CardField, BackgroundField};
+ghost use Rattle.stack_file.specs.Lines.{with_lines};
 
-use crate::words::spell_into;
-use itoa::Buffer;
-use object_table::{Id, Kind, Layer, Stack};
+use crate::put::{
+    block, flag_line, hilite_line, layer, name_line, number_line, numbers_line, put_line,
+    text_block,
+};
+use object_table::{Id, Kind, Layer, Object, Stack};
 use std::alloc::{AllocError, Global};
 
-fn put_number(out: &mut Vec<u8>, number: usize) -> Result<(), AllocError>
-    ensures { OnOk result (out.new.items ≡ out.old.items ++ decimal number) }
+/// The text that is kept for a field, empty where none is.
+fn text_of(stack: &Stack, field: Id, card: Id) -> &[u8]
+    ensures { result.now ≡ unwrap_or (text_at stack.now.content field card) [] }
 {
-    let mut digits = Buffer::new();
-    out.extend_from_slice(digits.format(number).as_bytes())?;
-    Ok(())
+    match stack.text(field, card) {
+        Some(text) => text.as_slice(),
+        None => &[],
+    }
 }
 
-fn put_line(out: &mut Vec<u8>, line: &[u8]) -> Result<(), AllocError>
-    ensures { OnOk result (out.new.items ≡ out.old.items ++ (line.now ++ 10 ∷ [])) }
+/// Whether a button is lit, by what is kept for it.
+fn is_lit(stack: &Stack, button: Id, card: Id) -> bool
+    ensures { result ≡ unwrap_or (hilite_at stack.now.content button card) false }
 {
-    out.extend_from_slice(line)?;
-    out.push(b'\n')?;
-    Ok(())
+    stack.hilite(button, card).unwrap_or(false)
 }
 
-fn number_line(out: &mut Vec<u8>, key: &[u8], number: usize) -> Result<(), AllocError>
-    ensures { OnOk result (out.new.items ≡ out.old.items ++ (numbered key.now number ++ 10 ∷ [])) }
+fn card_button(
+    out: &mut Vec<u8>,
+    id: Id,
+    object: &Object,
+    visible: bool,
+    lit: bool,
+) -> Result<(), AllocError>
+    ensures { OnOk result (out.new.items ≡ with_lines out.old.items (lines_by second id object.now.name object.now.script Nothing (CardButton visible lit))) }
 {
-    out.extend_from_slice(key)?;
-    out.push(b' ')?;
-    put_number(out, number)?;
-    out.push(b'\n')?;
-    Ok(())
+    number_line(out, b"button", id as usize)?;
+    name_line(out, object.name.as_slice())?;
+    flag_line(out, b"visible", visible)?;
+    flag_line(out, b"hilite", lit)?;
+    block(out, b"script", object.script.as_slice())
 }
 
-fn flag_line(out: &mut Vec<u8>, key: &[u8], flag: bool) -> Result<(), AllocError>
-    ensures { OnOk result (out.new.items ≡ out.old.items ++ (flagged key.now flag ++ 10 ∷ [])) }
+fn background_button(
+    out: &mut Vec<u8>,
+    id: Id,
+    object: &Object,
+    flags: (bool, bool),
+    lit: bool,
+) -> Result<(), AllocError>
+    ensures { OnOk result (out.new.items ≡ with_lines out.old.items (lines_by second id object.now.name object.now.script (Lit lit) (BackgroundButton flags.0 flags.1))) }
 {
-    out.extend_from_slice(key)?;
-    if flag {
-        out.extend_from_slice(b" true\n")?;
-    } else {
-        out.extend_from_slice(b" false\n")?;
+    let (visible, shared_hilite) = flags;
+    number_line(out, b"button", id as usize)?;
+    name_line(out, object.name.as_slice())?;
+    flag_line(out, b"visible", visible)?;
+    flag_line(out, b"sharedHilite", shared_hilite)?;
+    flag_line(out, b"hilite", lit)?;
+    block(out, b"script", object.script.as_slice())
+}
+
+#[tactic(auto, using(crate::proofs::Adding::with_lines_append))]
+fn card_field(
+    out: &mut Vec<u8>,
+    id: Id,
+    object: &Object,
+    flags: (bool, bool),
+    text: &[u8],
+) -> Result<(), AllocError>
+    ensures { OnOk result (out.new.items ≡ with_lines out.old.items (lines_by second id object.now.name object.now.script (Written text.now) (CardField flags.0 flags.1))) }
+{
+    let (visible, lock_text) = flags;
+    number_line(out, b"field", id as usize)?;
+    name_line(out, object.name.as_slice())?;
+    flag_line(out, b"visible", visible)?;
+    flag_line(out, b"lockText", lock_text)?;
+    block(out, b"script", object.script.as_slice())?;
+    block(out, b"text", text)
+}
+
+#[tactic(auto, using(crate::proofs::Adding::with_lines_append))]
+fn background_field(
+    out: &mut Vec<u8>,
+    id: Id,
+    object: &Object,
+    flags: (bool, bool, bool),
+    text: &[u8],
+) -> Result<(), AllocError>
+    ensures { OnOk result (out.new.items ≡ with_lines out.old.items (lines_by second id object.now.name object.now.script (Written text.now) (BackgroundField flags.0 flags.1 flags.2))) }
+{
+    let (visible, lock_text, shared_text) = flags;
+    number_line(out, b"field", id as usize)?;
+    name_line(out, object.name.as_slice())?;
+    flag_line(out, b"visible", visible)?;
+    flag_line(out, b"lockText", lock_text)?;
+    flag_line(out, b"sharedText", shared_text)?;
+    block(out, b"script", object.script.as_slice())?;
+    block(out, b"shared", text)
+}
+
+/// A part of a card, or with 0 in place of a card one of a background. What is no part has no line.
+fn put_part(out: &mut Vec<u8>, stack: &Stack, card: Id, id: Id) -> Result<(), AllocError>
+    ensures { OnOk result (out.new.items ≡ with_lines out.old.items (part_lines second (part_of stack.now.content card id))) }
+{
+    let Some(object) = stack.object(id) else {
+        return Ok(());
+    };
+    match object.kind {
+        Kind::CardButton { visible, hilite } => card_button(out, id, object, visible, hilite),
+        Kind::BackgroundButton {
+            visible,
+            shared_hilite,
+        } => {
+            let lit = is_lit(stack, id, card);
+            background_button(out, id, object, (visible, shared_hilite), lit)
+        }
+        Kind::CardField { visible, lock_text } => {
+            let text = text_of(stack, id, card);
+            card_field(out, id, object, (visible, lock_text), text)
+        }
+        Kind::BackgroundField {
+            visible,
+            lock_text,
+            shared_text,
+        } => {
+            let text = text_of(stack, id, card);
+            background_field(out, id, object, (visible, lock_text, shared_text), text)
+        }
+        Kind::Stack | Kind::Background { .. } | Kind::Card { .. } => Ok(()),
+    }
+}
+
+#[tactic(auto, using(crate::proofs::Adding::with_lines_append))]
+fn put_each_part(out: &mut Vec<u8>, stack: &Stack, card: Id, ids: &[Id]) -> Result<(), AllocError>
+    ensures { OnOk result (out.new.items ≡ with_lines out.old.items (flat_map (part_lines second) (map (part_of stack.now.content card) ids.now))) }
+{
+    for id in ids {
+        put_part(out, stack, card, *id)?;
     }
     Ok(())
 }
 
-fn name_line(out: &mut Vec<u8>, name: &[u8]) -> Result<(), AllocError>
-    ensures { OnOk result (out.new.items ≡ out.old.items ++ (name_spelled name.now ++ 10 ∷ [])) }
+/// The parts of a card, or with 0 in place of a card those of a background, and how many there are.
+fn put_parts(out: &mut Vec<u8>, stack: &Stack, card: Id, ids: &[Id]) -> Result<(), AllocError>
+    ensures { OnOk result (out.new.items ≡ with_lines out.old.items (parts_lines second (map (part_of stack.now.content card) ids.now))) }
 {
-    out.extend_from_slice(b"name |")?;
-    spell_into(out, name)?;
-    out.push(b'\n')?;
+    number_line(out, b"parts", ids.len())?;
+    put_each_part(out, stack, card, ids)
+}
+
+/// What a card keeps for a part of its background.
+fn put_keeping(out: &mut Vec<u8>, stack: &Stack, card: Id, id: Id) -> Result<(), AllocError>
+    ensures { OnOk result (out.new.items ≡ with_lines out.old.items (keeping_lines second (keeping_of stack.now.content card id))) }
+{
+    let Some(object) = stack.object(id) else {
+        return Ok(());
+    };
+    match object.kind {
+        Kind::BackgroundButton { .. } => hilite_line(out, id, is_lit(stack, id, card)),
+        Kind::CardField { .. } | Kind::BackgroundField { .. } => {
+            text_block(out, id, text_of(stack, id, card))
+        }
+        Kind::Stack | Kind::Background { .. } | Kind::Card { .. } | Kind::CardButton { .. } => {
+            Ok(())
+        }
+    }
+}
+
+#[tactic(auto, using(crate::proofs::Adding::with_lines_append))]
+fn put_keepings(out: &mut Vec<u8>, stack: &Stack, card: Id, ids: &[Id]) -> Result<(), AllocError>
+    ensures { OnOk result (out.new.items ≡ with_lines out.old.items (flat_map (keeping_lines second) (map (keeping_of stack.now.content card) ids.now))) }
+{
+    for id in ids {
+        put_keeping(out, stack, card, *id)?;
+    }
     Ok(())
-}
-
-fn visible_of(kind: Kind) -> bool
-    ensures { result ≡ visible_in kind }
-{
-    match kind {
-        Kind::CardButton { visible, .. }
-        | Kind::BackgroundButton { visible, .. }
-        | Kind::CardField { visible, .. }
-        | Kind::BackgroundField { visible, .. } => visible,
-        _ => false,
-    }
-}
-
-fn lock_text_of(kind: Kind) -> bool
-    ensures { result ≡ lock_text_in kind }
-{
-    match kind {
-        Kind::CardField { lock_text, .. } | Kind::BackgroundField { lock_text, .. } => lock_text,
-        _ => false,
-    }
-}
-
-fn shared_text_of(kind: Kind) -> bool
-    ensures { result ≡ shared_text_in kind }
-{
-    match kind {
-        Kind::BackgroundField { shared_text, .. } => shared_text,
-        _ => false,
-    }
-}
-
-fn cant_delete_of(kind: Kind) -> bool
-    ensures { result ≡ cant_delete_in kind }
-{
-    match kind {
-        Kind::Background { cant_delete } | Kind::Card { cant_delete, .. } => cant_delete,
-        _ => false,
-    }
 }
 
 fn background_of(kind: Kind) -> Id
-    ensures { result ≡ background_in kind }
+    ensures { result ≡ background_or kind }
 {
     match kind {
         Kind::Card { background, .. } => background,
@@ -108,119 +198,61 @@ fn background_of(kind: Kind) -> Id
     }
 }
 
-/// The name and the kind of an object.
-fn object_of(stack: &Stack, id: Id) -> (&[u8], Kind)
-    ensures name { result.0.now ≡ (object_or stack.now.content id).name }
-    ensures kind { result.1 ≡ (object_or stack.now.content id).kind }
-{
-    match stack.object(id) {
-        Some(object) => (object.name.as_slice(), object.kind),
-        None => (b"", Kind::Stack),
-    }
-}
-
-/// The fields of a background.
-fn fields_of(stack: &Stack, id: Id) -> &[Id]
+/// The parts of a background.
+fn parts_on(stack: &Stack, id: Id) -> &[Id]
     requires { IsTrue (has_kind is_background stack.now.content id) }
     ensures { result.now ≡ parts_at stack.now.content id }
 {
     match stack.parts(Layer::OfBackground(id)) {
-        Some(fields) => fields.as_slice(),
+        Some(parts) => parts.as_slice(),
         None => &[],
     }
 }
 
-fn put_field(out: &mut Vec<u8>, stack: &Stack, id: Id) -> Result<(), AllocError>
-    ensures { OnOk result (out.new.items ≡ out.old.items ++ joined_lines (field_lines (field_part stack.now.content id))) }
+/// The parts of a card itself.
+fn parts_of(stack: &Stack, id: Id) -> &[Id]
+    requires { IsTrue (has_kind is_card stack.now.content id) }
+    ensures { result.now ≡ parts_at stack.now.content id }
 {
-    let (name, kind) = object_of(stack, id);
-    number_line(out, b"field", id as usize)?;
-    name_line(out, name)?;
-    flag_line(out, b"visible", visible_of(kind))?;
-    flag_line(out, b"lockText", lock_text_of(kind))?;
-    flag_line(out, b"sharedText", shared_text_of(kind))?;
-    put_line(out, b"script 0")?;
-    put_line(out, b"shared 0")
-}
-
-fn put_fields(out: &mut Vec<u8>, stack: &Stack, ids: &[Id]) -> Result<(), AllocError>
-    ensures { OnOk result (out.new.items ≡ out.old.items
-        ++ flat_map (λ id. joined_lines (field_lines (field_part stack.now.content id))) ids.now) }
-{
-    for id in ids {
-        put_field(out, stack, *id)?;
+    match stack.parts(Layer::OfCard(id)) {
+        Some(parts) => parts.as_slice(),
+        None => &[],
     }
-    Ok(())
 }
 
-/// The lines of a background or a card between its header and its parts.
-fn put_layer(out: &mut Vec<u8>, name: &[u8], kind: Kind) -> Result<(), AllocError>
-    ensures { OnOk result (out.new.items ≡ out.old.items
-        ++ joined_lines (name_spelled name.now ∷ flagged (codes "cantDelete") (cant_delete_in kind) ∷ codes "script 0" ∷ [])) }
-{
-    name_line(out, name)?;
-    flag_line(out, b"cantDelete", cant_delete_of(kind))?;
-    put_line(out, b"script 0")
-}
-
+#[tactic(auto, using(crate::proofs::Adding::with_lines_append))]
 fn put_background(out: &mut Vec<u8>, stack: &Stack, id: Id) -> Result<(), AllocError>
     requires { IsTrue (has_kind is_background stack.now.content id) }
-    ensures { OnOk result (out.new.items ≡ out.old.items ++ joined_lines (background_lines (background_sheet stack.now.content id))) }
+    ensures { OnOk result (out.new.items ≡ with_lines out.old.items (background_lines second (background_sheet stack.now.content id))) }
 {
-    let (name, kind) = object_of(stack, id);
+    let Some(object) = stack.object(id) else {
+        unreachable!();
+    };
     number_line(out, b"background", id as usize)?;
-    put_layer(out, name, kind)?;
-    let fields = fields_of(stack, id);
-    number_line(out, b"parts", fields.len())?;
-    put_fields(out, stack, fields)
+    layer(out, object)?;
+    put_parts(out, stack, 0, parts_on(stack, id))
 }
 
-fn text_line(out: &mut Vec<u8>, field: Id) -> Result<(), AllocError>
-    ensures { OnOk result (out.new.items ≡ out.old.items ++ (text_spelled field ++ 10 ∷ [])) }
-{
-    out.extend_from_slice(b"text ")?;
-    put_number(out, field as usize)?;
-    out.extend_from_slice(b" 0\n")?;
-    Ok(())
-}
-
-fn put_texts(out: &mut Vec<u8>, fields: &[Id]) -> Result<(), AllocError>
-    ensures { OnOk result (out.new.items ≡ out.old.items ++ joined_lines (map text_spelled fields.now)) }
-{
-    for field in fields {
-        text_line(out, *field)?;
-    }
-    Ok(())
-}
-
-fn card_header(out: &mut Vec<u8>, id: Id, background: Id) -> Result<(), AllocError>
-    ensures { OnOk result (out.new.items ≡ out.old.items ++ (numbered (numbered (codes "card") id) background ++ 10 ∷ [])) }
-{
-    out.extend_from_slice(b"card ")?;
-    put_number(out, id as usize)?;
-    out.push(b' ')?;
-    put_number(out, background as usize)?;
-    out.push(b'\n')?;
-    Ok(())
-}
-
+#[tactic(auto, using(crate::proofs::Adding::with_lines_append))]
 fn put_card(out: &mut Vec<u8>, stack: &Stack, id: Id) -> Result<(), AllocError>
     requires formed { IsWellFormed stack.now.content }
     requires card { IsTrue (has_kind is_card stack.now.content id) }
-    ensures { OnOk result (out.new.items ≡ out.old.items ++ joined_lines (card_lines (document_of stack.now.content).backgrounds (card_sheet stack.now.content id))) }
+    ensures { OnOk result (out.new.items ≡ with_lines out.old.items (card_lines second (card_sheet stack.now.content id))) }
 {
-    let (name, kind) = object_of(stack, id);
-    let background = background_of(kind);
-    card_header(out, id, background)?;
-    put_layer(out, name, kind)?;
-    put_line(out, b"parts 0")?;
-    put_texts(out, fields_of(stack, background))
+    let Some(object) = stack.object(id) else {
+        unreachable!();
+    };
+    let background = background_of(object.kind);
+    numbers_line(out, b"card", id as usize, background as usize)?;
+    layer(out, object)?;
+    put_parts(out, stack, id, parts_of(stack, id))?;
+    put_keepings(out, stack, id, parts_on(stack, background))
 }
 
+#[tactic(auto, using(crate::proofs::Adding::with_lines_append))]
 fn put_backgrounds(out: &mut Vec<u8>, stack: &Stack, ids: &[Id]) -> Result<(), AllocError>
     requires { All (λ id. IsTrue (has_kind is_background stack.now.content id)) ids.now }
-    ensures { OnOk result (out.new.items ≡ out.old.items
-        ++ flat_map (λ id. joined_lines (background_lines (background_sheet stack.now.content id))) ids.now) }
+    ensures { OnOk result (out.new.items ≡ with_lines out.old.items (flat_map (background_lines second) (map (background_sheet stack.now.content) ids.now))) }
 {
     for id in ids {
         put_background(out, stack, *id)?;
@@ -228,11 +260,11 @@ fn put_backgrounds(out: &mut Vec<u8>, stack: &Stack, ids: &[Id]) -> Result<(), A
     Ok(())
 }
 
+#[tactic(auto, using(crate::proofs::Adding::with_lines_append))]
 fn put_cards(out: &mut Vec<u8>, stack: &Stack, ids: &[Id]) -> Result<(), AllocError>
     requires formed { IsWellFormed stack.now.content }
     requires cards { All (λ id. IsTrue (has_kind is_card stack.now.content id)) ids.now }
-    ensures { OnOk result (out.new.items ≡ out.old.items
-        ++ flat_map (λ id. joined_lines (card_lines (document_of stack.now.content).backgrounds (card_sheet stack.now.content id))) ids.now) }
+    ensures { OnOk result (out.new.items ≡ with_lines out.old.items (flat_map (card_lines second) (map (card_sheet stack.now.content) ids.now))) }
 {
     for id in ids {
         put_card(out, stack, *id)?;
@@ -242,14 +274,17 @@ fn put_cards(out: &mut Vec<u8>, stack: &Stack, ids: &[Id]) -> Result<(), AllocEr
 
 /// The lines before the backgrounds.
 fn put_head(out: &mut Vec<u8>, stack: &Stack) -> Result<(), AllocError>
-    ensures { OnOk result (out.new.items ≡ out.old.items ++ joined_lines (header second ∷ numbered (codes "next") stack.now.content.next
-        ∷ name_spelled (object_or stack.now.content 0).name ∷ codes "script 0" ∷ [])) }
+    requires { IsWellFormed stack.now.content }
+    ensures { OnOk result (out.new.items ≡ with_lines out.old.items (header second ∷ numbered (codes "next") stack.now.content.next
+        ∷ name_spelled (object_or stack.now.content 0).name ∷ script_lines (object_or stack.now.content 0).script)) }
 {
+    let Some(object) = stack.object(0) else {
+        unreachable!();
+    };
     put_line(out, b"htstack 2")?;
     number_line(out, b"next", stack.next_id() as usize)?;
-    let (name, _) = object_of(stack, 0);
-    name_line(out, name)?;
-    put_line(out, b"script 0")
+    name_line(out, object.name.as_slice())?;
+    block(out, b"script", object.script.as_slice())
 }
 
 /// The text of a stack in version 2, its only spelling there. It takes time near linear in the text.
@@ -257,6 +292,7 @@ pub fn write(alloc: Global, stack: &Stack) -> Result<Vec<u8>, AllocError>
     requires { IsWellFormed stack.now.content }
     ensures text { IfOk result (λ v. v.items ≡ spelling second stack.now.content) }
     ensures spells { IfOk result (λ v. Spells v.items stack.now.content) }
+    ensures only { (bytes : List ℕ) → IsOfVersion second bytes → Spells bytes stack.now.content → IfOk result (λ v. v.items ≡ bytes) }
 {
     let mut out = Vec::new(alloc);
     put_head(&mut out, stack)?;

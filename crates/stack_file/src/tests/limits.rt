@@ -2,6 +2,8 @@
 
 ghost use Rattle.std.specs.Prelude.{◌<◌};
 
+use super::reading::fault_of;
+use super::written_again;
 use crate::*;
 use itoa::Buffer;
 use std::alloc::{AllocError, Global};
@@ -94,5 +96,79 @@ fn five_thousand_backgrounds_have_a_card_each(rt: HostRuntime) -> Result<(), Fai
     let stack = read(rt.alloc(), &text).ok().ok_or("a stack")?;
     assert_eq!(rt; stack.backgrounds().len(), 5_000);
     assert_eq!(rt; stack.card_at(5_000), Some(10_000));
+    Ok(())
+}
+
+/// The empty stack with these lines for its script.
+fn text_of_script(alloc: Global, script: &[u8]) -> Result<Vec<u8>, AllocError> {
+    let mut text = Vec::new(alloc);
+    text.extend_from_slice(b"htstack 2\nnext 3\nname |\n")?;
+    text.extend_from_slice(script)?;
+    text.extend_from_slice(
+        b"backgrounds 1\nbackground 1\nname |\ncantDelete false\nscript 0\nparts 0\n",
+    )?;
+    text.extend_from_slice(
+        b"cards 1\ncard 2 1\nname |\ncantDelete false\nscript 0\nparts 0\nend\n",
+    )?;
+    Ok(text)
+}
+
+#[test]
+fn a_script_has_thirty_thousand_bytes_and_no_more(rt: HostRuntime) -> Result<(), Fail> {
+    let mut script = Vec::new(rt.alloc());
+    script.extend_from_slice(b"script 30001\n")?;
+    for _ in 0..30_001 {
+        script.extend_from_slice(b"|\n")?;
+    }
+    let text = text_of_script(rt.alloc(), &script)?;
+    let stack = read(rt.alloc(), &text).ok().ok_or("a stack")?;
+    let length = stack.object(0).map(|o| o.script.len());
+    assert_eq!(rt; length, Some(30_000));
+    assert_eq!(rt;
+        written_again(rt.alloc(), &text).as_deref(),
+        Some(text.as_slice())
+    );
+    script.pop();
+    script.extend_from_slice(b"a\n")?;
+    let text = text_of_script(rt.alloc(), &script)?;
+    assert_eq!(rt;
+        fault_of(rt.alloc(), &text),
+        Some(FileError::BadLine(30_005))
+    );
+    Ok(())
+}
+
+#[test]
+fn one_empty_piece_is_no_text(rt: HostRuntime) -> Result<(), Fail> {
+    let text = text_of_script(rt.alloc(), b"script 1\n|\n")?;
+    assert_eq!(rt; fault_of(rt.alloc(), &text), Some(FileError::BadLine(5)));
+    let text = text_of_script(rt.alloc(), b"script 1\n|\\0d\n")?;
+    assert_eq!(rt; fault_of(rt.alloc(), &text), Some(FileError::BadLine(5)));
+    Ok(())
+}
+
+#[test]
+fn a_script_has_every_byte(rt: HostRuntime) -> Result<(), Fail> {
+    let mut script = Vec::new(rt.alloc());
+    script.extend_from_slice(b"script 2\n|")?;
+    for byte in 0..13 {
+        spell_into(&mut script, &[byte])?;
+    }
+    script.extend_from_slice(b"\n|")?;
+    for byte in 14..=255 {
+        spell_into(&mut script, &[byte])?;
+    }
+    script.push(b'\n')?;
+    let text = text_of_script(rt.alloc(), &script)?;
+    let stack = read(rt.alloc(), &text).ok().ok_or("a stack")?;
+    let object = stack.object(0).ok_or("the stack")?;
+    for (place, byte) in object.script.as_slice().iter().enumerate() {
+        assert_eq!(rt; usize::from(*byte), place);
+    }
+    assert_eq!(rt; object.script.len(), 256);
+    assert_eq!(rt;
+        written_again(rt.alloc(), &text).as_deref(),
+        Some(text.as_slice())
+    );
     Ok(())
 }

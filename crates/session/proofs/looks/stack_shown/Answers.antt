@@ -1,6 +1,7 @@
 use Rattle.std.proofs.Common.{◌∙◌, ap}
-use Rattle.stack_file.specs.Spelling.{second, document_lines}
-use Rattle.stack_file.specs.Listing.{document_of, spelling}
+use Rattle.stack_text.specs.declared.sheets.Version.TheVariants.{Second as second}
+use Rattle.stack_text.specs.Spelling.{document_lines}
+use Rattle.stack_text.specs.Listing.{document_of, spelling}
 use Rattle.session.proofs.LineFeeds.{splits_whole}
 use Rattle.session.proofs.looks.stack_shown.Goals as goal
 

@@ -1,7 +1,7 @@
 use Rattle.std.proofs.Common.{rules, ◌∙◌, sym, ap, Ok}
-use Rattle.stack_file.specs.Listing.{content_of}
-use Rattle.stack_file.specs.Reading.{read_as}
-use Rattle.stack_file.proofs.Laws.{stack_found, stack_again, refused_for_memory}
+use Rattle.stack_text.specs.Listing.{content_of}
+use Rattle.stack_text.specs.Reading.{read_as}
+use Rattle.stack_text.proofs.Laws.{stack_found, stack_again, refused_for_memory}
 use Rattle.stack_file.proofs.building.read.Goals as goal
 
 pub returns-in_err-lines-clause-only : goal.returns-in_err-lines-clause-only

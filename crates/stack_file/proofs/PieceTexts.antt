@@ -1,0 +1,127 @@
+-- Pieces that are read one after the other into one text.
+use Rattle.std.proofs.Common.{◌≡◌, ℕ, zero, suc, ◌+◌, ◌-◌, ◌<◌, ◌≤◌, List, [], ◌∷◌, ◌++◌, length, Result, Ok, Err, refl, sym, ap, subst, ◌∙◌, arith, append_assoc, add-one, is_some, IsSome, true, false, true≢false, leb}
+use Rattle.std.specs.Prelude.{Bool, Option, Some, None, codes, ◌==◌, flat_map}
+use Rattle.std.specs.Option.{option_to_list}
+use Rattle.std.specs.List.{join_with_byte}
+use Rattle.std.proofs.lemmas.List.{append-nil, append_cancel_right, length-append}
+use Rattle.ht_values.specs.Outcome.{within_limit}
+use Rattle.ht_values.specs.declared.fault.Fault.{Fault}
+use Rattle.std.proofs.lemmas.Bool.Decides.{nat_tests}
+use Rattle.stack_text.specs.Reading.{Spot, chain, ◌>>=◌, give, line_after, piece_at, pieces_at, text_of_pieces, Fails}
+use Rattle.stack_text.specs.declared.fault.FileError.{FileError}
+use Rattle.stack_text.specs.declared.fault.ReadError.{ReadError}
+use Rattle.stack_text.specs.declared.fault.ReadError.TheVariants as errors
+use Rattle.stack_text.proofs.Forms.{chain_ok}
+use Rattle.stack_text.proofs.Blocks.{text_of_pieces-reads}
+use Rattle.stack_file.specs.Pieces.{ended, ended_at}
+
+-- a text, and then the pieces that are read
+abbrev pub with_text : List ℕ → Result (List (List ℕ) × Spot) FileError → Result (List ℕ × Spot) FileError
+with_text text (Ok x) = Ok (text ++ ended x.0, x.1)
+with_text text (Err e) = Err e
+
+onto : (text piece : List ℕ) (r : Result (List (List ℕ) × Spot) FileError) → with_text text (chain r (λ others. give (piece ∷ others))) ≡ with_text (text ++ (piece ++ 13 ∷ [])) r
+onto text piece (Ok p) = ap (λ (t : List ℕ). let x : Result (List ℕ × Spot) FileError = Ok (t, p.1) in x) (sym (append_assoc text (piece ++ 13 ∷ []) (ended p.0)))
+onto text piece (Err e) = refl
+
+go : (alone : Bool) (m room : ℕ) (text piece : List ℕ) (spot after : Spot) → line_after (codes "|") (piece_at alone room) spot ≡ Ok (piece, after)
+    → with_text text (pieces_at alone (suc m) room spot) ≡ with_text (text ++ (piece ++ 13 ∷ [])) (pieces_at alone m (room - (length piece + 1)) after)
+go alone m room text piece spot after e =
+    ap (λ (o : Result (List ℕ × Spot) FileError). with_text text (chain o (λ p. pieces_at alone m (room - (length p + 1)) >>= λ others. give (p ∷ others)))) e ∙ onto text piece (pieces_at alone m (room - (length piece + 1)) after)
+
+-- one more piece is read
+pub piece-step : (alone : Bool) (n m room left : ℕ) (text more piece : List ℕ) (spot after : Spot) → n ≡ m + 1 → line_after (codes "|") (piece_at alone room) spot ≡ Ok (piece, after) → more ≡ (text ++ piece) ++ 13 ∷ [] → left ≡ room - (length piece + 1)
+    → with_text more (pieces_at alone m left after) ≡ with_text text (pieces_at alone n room spot)
+piece-step alone n m room left text more piece spot after is e added same = rw (is, add-one, added, same, append_assoc text piece (13 ∷ [])) (sym (go alone m room text piece spot after e))
+
+fail : (alone : Bool) (m room : ℕ) (text : List ℕ) (spot : Spot) (f : FileError) → line_after (codes "|") (piece_at alone room) spot ≡ Err f → with_text text (pieces_at alone (suc m) room spot) ≡ Err f
+fail alone m room text spot f e = ap (λ (o : Result (List ℕ × Spot) FileError). with_text text (chain o (λ p. pieces_at alone m (room - (length p + 1)) >>= λ others. give (p ∷ others)))) e
+
+pub piece-fail : (alone : Bool) (n m room : ℕ) (text : List ℕ) (spot : Spot) (e : ReadError) → n ≡ m + 1 → Fails e (line_after (codes "|") (piece_at alone room) spot) → Fails e (with_text text (pieces_at alone n room spot))
+piece-fail alone n m room text spot errors.Memory is h = tt
+piece-fail alone n m room text spot (errors.File f) is h = rw (is, add-one) (fail alone m room text spot f h)
+
+pub piece-none : (alone : Bool) (n room : ℕ) (text : List ℕ) (spot : Spot) → n ≡ 0 → with_text text (pieces_at alone n room spot) ≡ Ok (text, spot)
+piece-none alone zero room text spot e = ap (λ (t : List ℕ). let x : Result (List ℕ × Spot) FileError = Ok (t, spot) in x) (append-nil text)
+piece-none alone (suc n) room text spot e = absurd (omega arith)
+
+pub ended_at-is : (count : ℕ) (spot : Spot) → ended_at count spot ≡ with_text [] (pieces_at (count == 1) count 30001 spot)
+ended_at-is count spot = by (pieces_at (count == 1) count 30001 spot)
+  where
+    by : (r : Result (List (List ℕ) × Spot) FileError) → chain r (λ ps. give (ended ps)) ≡ with_text [] r
+    by (Ok p) = refl
+    by (Err e) = refl
+
+-- ---- without the return behind the last
+
+ended-joined : (p : List ℕ) (ps : List (List ℕ)) → ended (p ∷ ps) ≡ join_with_byte 13 (p ∷ ps) ++ 13 ∷ []
+ended-joined p [] = append-nil (p ++ 13 ∷ [])
+ended-joined p (q ∷ ps) =
+    ap (λ (t : List ℕ). (p ++ 13 ∷ []) ++ t) (ended-joined q ps)
+    ∙ append_assoc p (13 ∷ []) (join_with_byte 13 (q ∷ ps) ++ 13 ∷ [])
+    ∙ sym (append_assoc p (13 ∷ join_with_byte 13 (q ∷ ps)) (13 ∷ []))
+
+last_same : (a b : List ℕ) (x y : ℕ) → a ++ x ∷ [] ≡ b ++ y ∷ [] → a ≡ b
+last_same [] [] x y e = refl
+last_same [] (b ∷ []) x y e = absurd (let n : 1 ≡ 2 = ap length e in omega (arith, n))
+last_same [] (b ∷ c ∷ bs) x y e = absurd (let n : 1 ≡ length (b ∷ c ∷ bs ++ y ∷ []) = ap length e in omega (arith, n))
+last_same (a ∷ []) [] x y e = absurd (let n : 2 ≡ 1 = ap length e in omega (arith, n))
+last_same (a ∷ c ∷ as') [] x y e = absurd (let n : length (a ∷ c ∷ as' ++ x ∷ []) ≡ 1 = ap length e in omega (arith, n))
+last_same (a ∷ as') (b ∷ bs) x y e =
+    let front : a ≡ b = cc in
+    let back : as' ++ x ∷ [] ≡ bs ++ y ∷ [] = cc in
+    ap (λ (z : ℕ). z ∷ as') front ∙ ap (λ (zs : List ℕ). b ∷ zs) (last_same as' bs x y back)
+
+-- nothing was read, and so the text has no piece
+pub ended_none : (ps : List (List ℕ)) → ended ps ≡ [] → join_with_byte 13 ps ≡ []
+ended_none [] e = refl
+ended_none (p ∷ ps) e = absurd (let n : length (join_with_byte 13 (p ∷ ps) ++ 13 ∷ []) ≡ 0 = ap length (sym (ended-joined p ps) ∙ e) in omega (arith, n, length-append (join_with_byte 13 (p ∷ ps)) (13 ∷ [])))
+
+pub ended_some : (ps : List (List ℕ)) (t : List ℕ) (x : ℕ) → ended ps ≡ t ++ x ∷ [] → join_with_byte 13 ps ≡ t
+ended_some [] t x e = absurd (let n : 0 ≡ length (t ++ x ∷ []) = ap length e in omega (arith, n, length-append t (x ∷ [])))
+ended_some (p ∷ ps) t x e = last_same (join_with_byte 13 (p ∷ ps)) t 13 x (sym (ended-joined p ps) ∙ e)
+
+-- what is read without the last return is the text of the pieces
+pub text-read : (count : ℕ) (spot after : Spot) (bytes t : List ℕ) → ended_at count spot ≡ Ok (bytes, after) → ((ps : List (List ℕ)) → ended ps ≡ bytes → join_with_byte 13 ps ≡ t) → text_of_pieces count spot ≡ Ok (t, after)
+unfolding text_of_pieces
+text-read count spot after bytes t e same = by (pieces_at (count == 1) count 30001 spot) refl e
+  where
+    by : (r : Result (List (List ℕ) × Spot) FileError) → pieces_at (count == 1) count 30001 spot ≡ r → chain r (λ ps. give (ended ps)) ≡ Ok (bytes, after) → chain r (λ ps. give (join_with_byte 13 ps)) ≡ Ok (t, after)
+    by (Err f) is h = absurd cc
+    by (Ok p) is h =
+        let q : ◌≡◌ {A = List ℕ × Spot} (ended p.0, p.1) (bytes, after) = cc in
+        ap (λ (z : List ℕ × Spot). let x : Result (List ℕ × Spot) FileError = Ok z in x) (λ i. (same p.0 (ap (λ (z : List ℕ × Spot). z.0) q) i, (q i).1))
+
+pub text-fails : (count : ℕ) (spot : Spot) (e : ReadError) → Fails e (ended_at count spot) → Fails e (text_of_pieces count spot)
+unfolding text_of_pieces
+text-fails count spot errors.Memory h = tt
+text-fails count spot (errors.File f) h = by (pieces_at (count == 1) count 30001 spot) h
+  where
+    by : (r : Result (List (List ℕ) × Spot) FileError) → chain r (λ ps. give (ended ps)) ≡ Err f → chain r (λ ps. give (join_with_byte 13 ps)) ≡ Err f
+    by (Ok p) k = absurd cc
+    by (Err g) k = cc
+
+-- and it is no longer than a text may be
+pub text-short : (count : ℕ) (spot after : Spot) (t : List ℕ) → text_of_pieces count spot ≡ Ok (t, after) → length t ≤ 30000
+text-short count spot after t e = ((text_of_pieces-reads count).found spot after t e).0.0.short
+
+-- what is left where the last return is taken
+pub popped : (bytes left : List ℕ) (o : Option ℕ) → bytes ≡ left ++ option_to_list o → (o ≡ None → bytes ≡ []) → (ps : List (List ℕ)) → ended ps ≡ bytes → join_with_byte 13 ps ≡ left
+popped bytes left None is none ps e =
+    let empty = none refl in
+    ended_none ps (e ∙ empty) ∙ sym empty ∙ is ∙ append-nil left
+popped bytes left (Some x) is none ps e = ended_some ps left x (e ∙ is)
+
+pub none_left : (bytes : List ℕ) (n : ℕ) (o : Option ℕ) → n ≡ length bytes → (0 < n → IsSome o) → o ≡ None → bytes ≡ []
+none_left [] n o e some none = refl
+none_left (b ∷ bs) n o e some none = absurd (true≢false (sym (some (omega arith)) ∙ ap is_some none))
+
+pub fits : (t : List ℕ) → length t ≤ 30000 → within_limit t ≡ Ok t
+fits t short = by (leb (length t) 30000) refl
+  where
+    by : (b : Bool) → leb (length t) 30000 ≡ b → within_limit t ≡ Ok t
+    by true e = rw e refl
+    by false e = absurd (grind (arith, nat_tests))
+
+pub never_long : (t : List ℕ) (f : Fault) → length t ≤ 30000 → within_limit t ≡ Err f → ⊥
+never_long t f short e = absurd (let same : ◌≡◌ {A = Result (List ℕ) Fault} (Ok t) (Err f) = sym (fits t short) ∙ e in cc)

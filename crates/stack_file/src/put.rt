@@ -1,0 +1,171 @@
+//! Lines of a text, written at its end.
+
+ghost use Rattle.std.specs.Prelude.{◌≡◌, ◌≤◌, ◌==◌, ◌∷◌, ◌++◌, [], codes, count_by, decimal, length, map, OnOk};
+ghost use Rattle.stack_text.specs.Spelling.{name_line as name_spelled, layer_lines, cant_delete_of as cant_delete_in};
+ghost use Rattle.stack_text.specs.Words.{numbered, flagged, barred, block as block_lines, pieces};
+ghost use Rattle.stack_file.specs.Lines.{with_lines};
+ghost use Rattle.stack_file.specs.Written.{in_piece};
+
+use itoa::Buffer;
+use object_table::{Id, Kind, Object};
+use stack_text::spell_into;
+use std::alloc::AllocError;
+
+fn put_number(out: &mut Vec<u8>, number: usize) -> Result<(), AllocError>
+    ensures { OnOk result (out.new.items ≡ out.old.items ++ decimal number) }
+{
+    let mut digits = Buffer::new();
+    out.extend_from_slice(digits.format(number).as_bytes())?;
+    Ok(())
+}
+
+pub(crate) fn put_line(out: &mut Vec<u8>, line: &[u8]) -> Result<(), AllocError>
+    ensures { OnOk result (out.new.items ≡ with_lines out.old.items (line.now ∷ [])) }
+{
+    out.extend_from_slice(line)?;
+    out.push(b'\n')?;
+    Ok(())
+}
+
+pub(crate) fn number_line(out: &mut Vec<u8>, key: &[u8], number: usize) -> Result<(), AllocError>
+    ensures { OnOk result (out.new.items ≡ with_lines out.old.items (numbered key.now number ∷ [])) }
+{
+    out.extend_from_slice(key)?;
+    out.push(b' ')?;
+    put_number(out, number)?;
+    out.push(b'\n')?;
+    Ok(())
+}
+
+/// A key and two numbers.
+pub(crate) fn numbers_line(
+    out: &mut Vec<u8>,
+    key: &[u8],
+    first: usize,
+    second: usize,
+) -> Result<(), AllocError>
+    ensures { OnOk result (out.new.items ≡ with_lines out.old.items (numbered (numbered key.now first) second ∷ [])) }
+{
+    out.extend_from_slice(key)?;
+    out.push(b' ')?;
+    put_number(out, first)?;
+    out.push(b' ')?;
+    put_number(out, second)?;
+    out.push(b'\n')?;
+    Ok(())
+}
+
+pub(crate) fn flag_line(out: &mut Vec<u8>, key: &[u8], flag: bool) -> Result<(), AllocError>
+    ensures { OnOk result (out.new.items ≡ with_lines out.old.items (flagged key.now flag ∷ [])) }
+{
+    out.extend_from_slice(key)?;
+    if flag {
+        out.extend_from_slice(b" true\n")?;
+    } else {
+        out.extend_from_slice(b" false\n")?;
+    }
+    Ok(())
+}
+
+/// A key, an id and a flag.
+pub(crate) fn hilite_line(out: &mut Vec<u8>, button: Id, lit: bool) -> Result<(), AllocError>
+    ensures { OnOk result (out.new.items ≡ with_lines out.old.items (flagged (numbered (codes "hilite") button) lit ∷ [])) }
+{
+    out.extend_from_slice(b"hilite ")?;
+    put_number(out, button as usize)?;
+    if lit {
+        out.extend_from_slice(b" true\n")?;
+    } else {
+        out.extend_from_slice(b" false\n")?;
+    }
+    Ok(())
+}
+
+pub(crate) fn name_line(out: &mut Vec<u8>, name: &[u8]) -> Result<(), AllocError>
+    ensures { OnOk result (out.new.items ≡ with_lines out.old.items (name_spelled name.now ∷ [])) }
+{
+    out.extend_from_slice(b"name |")?;
+    spell_into(out, name)?;
+    out.push(b'\n')?;
+    Ok(())
+}
+
+fn returns_in(text: &[u8]) -> usize
+    ensures value { result ≡ count_by (λ b. b == 13) text.now }
+    ensures few { result ≤ length text.now }
+{
+    text.iter().filter(|b| **b == b'\r').count()
+}
+
+/// How many pieces a text has.
+#[tactic(auto, using(crate::proofs::Pieced::pieces_counted))]
+fn piece_count(text: &[u8]) -> usize
+    ensures { result ≡ length (pieces text.now) }
+{
+    if text.is_empty() {
+        0
+    } else {
+        returns_in(text) + 1
+    }
+}
+
+fn put_in_piece(out: &mut Vec<u8>, byte: u8) -> Result<(), AllocError>
+    ensures { OnOk result (out.new.items ≡ out.old.items ++ in_piece byte) }
+{
+    if byte == b'\r' {
+        out.extend_from_slice(b"\n|")?;
+        Ok(())
+    } else {
+        spell_into(out, &[byte])
+    }
+}
+
+/// A line for each piece of a text.
+#[tactic(auto, using(crate::proofs::Pieced::no_pieces))]
+fn put_pieces(out: &mut Vec<u8>, text: &[u8]) -> Result<(), AllocError>
+    ensures { OnOk result (out.new.items ≡ with_lines out.old.items (map barred (pieces text.now))) }
+{
+    if text.is_empty() {
+        return Ok(());
+    }
+    out.push(b'|')?;
+    for byte in text {
+        put_in_piece(out, *byte)?;
+    }
+    out.push(b'\n')?;
+    Ok(())
+}
+
+/// A key with the number of a text's pieces, and the pieces.
+pub(crate) fn block(out: &mut Vec<u8>, key: &[u8], text: &[u8]) -> Result<(), AllocError>
+    ensures { OnOk result (out.new.items ≡ with_lines out.old.items (block_lines key.now text.now)) }
+{
+    number_line(out, key, piece_count(text))?;
+    put_pieces(out, text)
+}
+
+/// The text of a field that a card keeps.
+pub(crate) fn text_block(out: &mut Vec<u8>, field: Id, text: &[u8]) -> Result<(), AllocError>
+    ensures { OnOk result (out.new.items ≡ with_lines out.old.items (block_lines (numbered (codes "text") field) text.now)) }
+{
+    numbers_line(out, b"text", field as usize, piece_count(text))?;
+    put_pieces(out, text)
+}
+
+fn cant_delete_of(kind: Kind) -> bool
+    ensures { result ≡ cant_delete_in kind }
+{
+    match kind {
+        Kind::Background { cant_delete } | Kind::Card { cant_delete, .. } => cant_delete,
+        _ => false,
+    }
+}
+
+/// The name of a background or a card, whether it can't be deleted, and its script.
+pub(crate) fn layer(out: &mut Vec<u8>, object: &Object) -> Result<(), AllocError>
+    ensures { OnOk result (out.new.items ≡ with_lines out.old.items (layer_lines object.now.name object.now.script (cant_delete_in object.now.kind))) }
+{
+    name_line(out, object.name.as_slice())?;
+    flag_line(out, b"cantDelete", cant_delete_of(object.kind))?;
+    block(out, b"script", object.script.as_slice())
+}

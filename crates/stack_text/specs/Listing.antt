@@ -1,0 +1,111 @@
+-- A stack as the document that lists it, and the stack that a document lists.
+use Rattle.std.specs.Prelude.{ℕ, Bool, false, List, [], ◌∷◌, ◌++◌, map, flat_map, filter_map, Option, Some, None, unwrap_or, option_map}
+use Rattle.std.specs.FinMap.{from_entries}
+use Rattle.object_table.specs.Content.{Content}
+use Rattle.object_table.specs.Pairs.{Pair}
+use Rattle.object_table.specs.Objects.{object_at, parts_at}
+use Rattle.object_table.specs.Kept.{text_at, hilite_at}
+use Rattle.object_table.specs.declared.object.Object.{Object}
+use Rattle.object_table.specs.declared.object.Kind.{Kind}
+use Rattle.object_table.specs.declared.object.Kind.TheVariants.{Stack, Background, Card, CardButton, BackgroundButton, CardField, BackgroundField}
+use Rattle.stack_text.specs.declared.sheets.Kept.{Kept}
+use Rattle.stack_text.specs.declared.sheets.Kept.TheVariants.{Nothing, Written, Lit}
+use Rattle.stack_text.specs.declared.sheets.Part.{Part}
+use Rattle.stack_text.specs.declared.sheets.Keeping.{Keeping}
+use Rattle.stack_text.specs.Document.{Sheet, Document, part_ids, sheet_ids, background_or}
+use Rattle.stack_text.specs.Spelling.{Version, document_text}
+
+-- the object of an id, or one that stands for none
+abbrev pub object_or : Content → ℕ → Object
+object_or s id = unwrap_or (object_at s id) (record { name = []; script = []; kind = Stack })
+
+-- what is kept beside a part of a kind, of a text and a hilite
+abbrev pub kept_by : Kind → List ℕ → Bool → Kept
+kept_by (BackgroundButton v s) text lit = Lit lit
+kept_by (CardField v l) text lit = Written text
+kept_by (BackgroundField v l s) text lit = Written text
+kept_by (CardButton v h) text lit = Nothing
+kept_by Stack text lit = Nothing
+kept_by (Background c) text lit = Nothing
+kept_by (Card b c) text lit = Nothing
+
+-- what is kept for a part on a card, or on card 0 what is shared
+abbrev pub kept_at : Content → ℕ → ℕ → Kept
+kept_at s card part = kept_by (object_or s part).kind (unwrap_or (text_at s part card) []) (unwrap_or (hilite_at s part card) false)
+
+abbrev pub part_of : Content → ℕ → ℕ → Part
+part_of s card id = record { id = id; object = object_or s id; kept = kept_at s card id }
+
+abbrev pub keeping_of : Content → ℕ → ℕ → Keeping
+keeping_of s card id = record { part = id; kept = kept_at s card id }
+
+abbrev pub background_sheet : Content → ℕ → Sheet
+background_sheet s id = record { id = id; object = object_or s id; parts = map (part_of s 0) (parts_at s id); keepings = [] }
+
+abbrev pub card_sheet : Content → ℕ → Sheet
+card_sheet s id = record {
+  id = id;
+  object = object_or s id;
+  parts = map (part_of s id) (parts_at s id);
+  keepings = map (keeping_of s id) (parts_at s (background_or (object_or s id).kind));
+}
+
+-- the document that lists a stack
+abbrev pub document_of : Content → Document
+document_of s = record { next = s.next; stack = object_or s 0; backgrounds = map (background_sheet s) s.backgrounds; cards = map (card_sheet s) s.cards }
+
+-- The way back: the stack that a document lists.
+
+abbrev pub part_entry : Part → ℕ × Object
+part_entry p = (p.id, p.object)
+
+abbrev pub object_entries : Sheet → List (ℕ × Object)
+object_entries s = (s.id, s.object) ∷ map part_entry s.parts
+
+abbrev pub parts_entry : Sheet → ℕ × List ℕ
+parts_entry s = (s.id, part_ids s.parts)
+
+-- what a sheet keeps for its parts and for those of its background
+abbrev pub kept_on : Sheet → List (ℕ × Kept)
+kept_on s = map (λ p. (p.id, p.kept)) s.parts ++ map (λ k. (k.part, k.kept)) s.keepings
+
+abbrev pub written : Kept → Option (List ℕ)
+written (Written t) = Some t
+written (Lit b) = None
+written Nothing = None
+
+abbrev pub lit : Kept → Option Bool
+lit (Lit b) = Some b
+lit (Written t) = None
+lit Nothing = None
+
+-- the entry of what a card keeps, or card 0 for what is shared
+abbrev pub kept_entry : {X : Type 0} → (Kept → Option X) → ℕ → ℕ × Kept → Option (Pair × X)
+kept_entry pick card e = option_map (λ x. ((e.0, card), x)) (pick e.1)
+
+abbrev pub kept_entries : {X : Type 0} → (Kept → Option X) → ℕ → List (ℕ × Kept) → List (Pair × X)
+kept_entries pick card kept = filter_map (kept_entry pick card) kept
+
+abbrev pub all_kept : {X : Type 0} → (Kept → Option X) → Document → List (Pair × X)
+all_kept pick d = kept_entries pick 0 (flat_map kept_on d.backgrounds) ++ flat_map (λ c. kept_entries pick c.id (kept_on c)) d.cards
+
+abbrev pub all_objects : Document → List (ℕ × Object)
+all_objects d = (0, d.stack) ∷ flat_map object_entries d.backgrounds ++ flat_map object_entries d.cards
+
+abbrev pub all_parts : Document → List (ℕ × List ℕ)
+all_parts d = map parts_entry d.backgrounds ++ map parts_entry d.cards
+
+abbrev pub content_of : Document → Content
+content_of d = record {
+  objects = from_entries (all_objects d);
+  backgrounds = sheet_ids d.backgrounds;
+  cards = sheet_ids d.cards;
+  parts = from_entries (all_parts d);
+  texts = from_entries (all_kept written d);
+  hilites = from_entries (all_kept lit d);
+  next = d.next;
+}
+
+-- the text of a stack
+abbrev pub spelling : Version → Content → List ℕ
+spelling v s = document_text v (document_of s)
