@@ -1,0 +1,13 @@
+//! The properties of the objects of a stack: reading them as texts, and testing a text that is to be set.
+#![tactic(auto)]
+
+mod flag;
+mod name;
+mod reading;
+mod setting;
+
+pub use reading::get;
+pub use setting::check;
+
+#[cfg(test)]
+mod tests;
