@@ -54,7 +54,8 @@ impl<'a> Backgrounds<'a> {
     }
 }
 
-fn background_of(kind: Kind) -> Id
+/// The background that a card is on.
+pub(crate) fn background_of(kind: Kind) -> Id
     ensures { result ≡ background_or kind }
 {
     match kind {

@@ -4,7 +4,6 @@ ghost use Rattle.std.specs.Prelude.{◌≡◌, ◌∷◌, ◌++◌, [], List, �
 ghost use Rattle.object_table.specs.Kept.{text_at, hilite_at};
 ghost use Rattle.object_table.specs.Objects.{has_kind, is_background, is_card, parts_at};
 ghost use Rattle.object_table.specs.WellFormed.{IsWellFormed};
-ghost use Rattle.stack_text.specs.Document.{background_or};
 ghost use Rattle.stack_text.specs.Laws.{Spells, IsOfVersion};
 ghost use Rattle.stack_text.specs.Listing.{object_or, part_of, keeping_of, background_sheet, card_sheet, document_of, spelling};
 ghost use Rattle.stack_text.specs.Spelling.{header, name_line as name_spelled, script_lines, lines_by, part_lines, keeping_lines, parts_lines, background_lines, card_lines};
@@ -14,6 +13,7 @@ ghost use Rattle.stack_text.specs.declared.sheets.Kept.TheVariants.{Nothing, Wri
 ghost use Rattle.object_table.specs.declared.object.Kind.TheVariants.{CardButton, BackgroundButton, CardField, BackgroundField};
 ghost use Rattle.stack_file.specs.Lines.{with_lines};
 
+use crate::backgrounds::background_of;
 use crate::put::{
     block, flag_line, hilite_line, layer, name_line, number_line, numbers_line, put_line,
     text_block,
@@ -187,15 +187,6 @@ fn put_keepings(out: &mut Vec<u8>, stack: &Stack, card: Id, ids: &[Id]) -> Resul
         put_keeping(out, stack, card, *id)?;
     }
     Ok(())
-}
-
-fn background_of(kind: Kind) -> Id
-    ensures { result ≡ background_or kind }
-{
-    match kind {
-        Kind::Card { background, .. } => background,
-        _ => 0,
-    }
 }
 
 /// The parts of a background.
