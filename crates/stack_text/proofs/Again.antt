@@ -1,5 +1,5 @@
 -- A well-formed stack is what its document lists.
-use Rattle.std.proofs.Common.{◌≡◌, ◌↔◌, ℕ, Bool, true, false, true≢false, cond, Option, Some, None, IsSome, IsTrue, unwrap_or, refl, sym, ap, ◌∙◌, []}
+use Rattle.std.proofs.Common.{◌≡◌, ◌↔◌, ℕ, Bool, true, false, true≢false, cond, Option, Some, None, IsSome, IsTrue, unwrap_or, refl, sym, ◌∙◌, []}
 use Rattle.std.specs.FinMap.{get, from_entries, same_map, get-from_entries}
 use Rattle.object_table.specs.Content.{Content}
 use Rattle.object_table.specs.Kept.{text_at, hilite_at, keeps_text, keeps_hilite}

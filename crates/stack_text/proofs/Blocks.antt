@@ -1,5 +1,5 @@
 -- Texts of many lines, in pieces.
-use Rattle.std.proofs.Common.{◌≡◌, ℕ, zero, suc, ◌+◌, ◌-◌, ◌<◌, ◌≤◌, Bool, true, false, cond, eqb, ltb, leb, List, [], ◌∷◌, ◌++◌, length, map, refl, sym, ap, subst, ◌∙◌, arith, ◌&&◌, ◌||◌, nat_eq, All}
+use Rattle.std.proofs.Common.{◌≡◌, ℕ, zero, suc, ◌+◌, ◌-◌, ◌<◌, ◌≤◌, Bool, true, false, cond, ltb, leb, List, [], ◌∷◌, ◌++◌, length, map, refl, sym, ap, subst, ◌∙◌, arith, ◌&&◌, ◌||◌}
 use Rattle.std.specs.Prelude.{◌==◌, not, codes, decimal}
 use Rattle.std.specs.List.{AllByRecursion, join_with_byte, slice_split, onto_first}
 use Rattle.std.proofs.lemmas.Bool.{lt-ltb, ltb-true}
@@ -8,9 +8,9 @@ use Rattle.std.proofs.lemmas.List.{append-nil, length-append}
 use Rattle.std.proofs.lemmas.List.Splits.{join_with_byte-slice_split, slice_split_none, slice_split_at}
 use Rattle.std.proofs.lemmas.List.Elements.{All-from_recursion, recursion_from_All}
 use Rattle.ht_values.specs.Text.{IsText}
-use Rattle.stack_text.specs.Words.{spelled, barred, pieces, numbered, block}
+use Rattle.stack_text.specs.Words.{spelled, barred, pieces}
 use Rattle.stack_text.specs.Reading.{◌>>=◌, give, line_after, is_piece, piece_at, pieces_at, text_of_pieces, count_at, block_after}
-use Rattle.stack_text.proofs.Elements.{each_append, each_so}
+use Rattle.stack_text.proofs.Elements.{each_append}
 use Rattle.stack_text.proofs.Forms.{Reads, both, both_held, gives, said, resaid}
 use Rattle.stack_text.proofs.Keyed.{has, keyed, Spelled}
 use Rattle.stack_text.proofs.Texts.{long_texts}

@@ -23,11 +23,11 @@ use Rattle.stack_text.specs.declared.sheets.Part.{Part}
 use Rattle.stack_text.specs.declared.sheets.Keeping.{Keeping}
 use Rattle.stack_text.specs.Document.{Sheet, Document, contains_id, part_ids, sheet_ids, parts_of, background_or, backgrounds_of, ids_in}
 use Rattle.stack_text.specs.Listing.{object_entries, parts_entry, kept_on, written, lit, document_of, all_kept, all_objects, all_parts, content_of}
-use Rattle.stack_text.proofs.Elements.{each_so, each_append, each_parts, each_map, each_mapped, each_true}
+use Rattle.stack_text.proofs.Elements.{each_so, each_append, each_parts, each_map, each_mapped}
 use Rattle.stack_text.proofs.Entries.{keys, len_without_first, found_each, is_some-found}
 use Rattle.stack_text.proofs.Forms.{Pairs}
 use Rattle.stack_text.proofs.Members.{IsNamed, Suits, Keeps}
-use Rattle.stack_text.proofs.Listable.{IsBackgroundSheet, IsCardSheet, IsDocument, parts_on}
+use Rattle.stack_text.proofs.Listable.{IsBackgroundSheet, IsDocument, parts_on}
 use Rattle.stack_text.proofs.DocumentIds.{keys-objects, keys-parts, objects_once, backgrounds_once, cards_once, background_parts_once, card_parts_once}
 use Rattle.stack_text.proofs.KeptIds.{rows_once, each_once}
 use Rattle.stack_text.proofs.Keepers.{HasLayers, text_listed, hilite_listed}

@@ -1,6 +1,6 @@
 -- What is read is a document that lists a stack, and each such document is read.
-use Rattle.std.proofs.Common.{◌≡◌, ℕ, suc, ◌+◌, ◌^◌, ◌<◌, ◌≤◌, Bool, true, false, cond, eqb, List, [], ◌∷◌, ◌++◌, length, map, refl, sym, subst, arith, ◌||◌, ◌&&◌}
-use Rattle.std.specs.Prelude.{◌==◌, IsTrue, flat_map, Ok}
+use Rattle.std.proofs.Common.{◌≡◌, ℕ, suc, ◌+◌, ◌^◌, ◌<◌, ◌≤◌, Bool, true, false, eqb, List, [], ◌∷◌, ◌++◌, length, refl, subst, arith, ◌||◌, ◌&&◌}
+use Rattle.std.specs.Prelude.{IsTrue, flat_map, Ok}
 use Rattle.std.specs.List.{AllByRecursion, list_all}
 use Rattle.std.proofs.lemmas.Bool.{eqb-true}
 use Rattle.std.proofs.lemmas.List.{length-append, length-map}
@@ -10,7 +10,7 @@ use Rattle.stack_text.specs.Document.{Sheet, Document, contains_id, sheet_ids, p
 use Rattle.stack_text.specs.Spelling.{Version, document_text}
 use Rattle.stack_text.specs.Reading.{document_at}
 use Rattle.stack_text.proofs.Forms.{Each, Pairs, adding}
-use Rattle.stack_text.proofs.Members.{IsBackgroundPart, IsCardPart, Keeps, SaysKind, SaysKept}
+use Rattle.stack_text.proofs.Members.{IsCardPart, Keeps, SaysKept}
 use Rattle.stack_text.proofs.Parts.{IsSaidPart, IsNewPart}
 use Rattle.stack_text.proofs.Layers.{IsNewBackground, IsNewCard, SaysKeeping}
 use Rattle.stack_text.proofs.Whole.{IsRead, read-found, read-again}

@@ -1,5 +1,5 @@
 -- The ids under which a document keeps something.
-use Rattle.std.proofs.Common.{◌≡◌, ◌++◌, ℕ, ◌+◌, ◌≤◌, Bool, true, false, cond, List, [], ◌∷◌, map, Some, refl, sym, ap, ap₂, subst, ◌∙◌, arith, nat_eq, ◌==◌}
+use Rattle.std.proofs.Common.{◌≡◌, ◌++◌, ℕ, ◌≤◌, Bool, true, false, cond, List, [], ◌∷◌, map, Some, refl, sym, ap, ap₂, subst, ◌∙◌, arith, nat_eq, ◌==◌}
 use Rattle.std.specs.Prelude.{find, option_map, unwrap_or}
 use Rattle.std.specs.List.{AllByRecursion, IsDistinct, flat_map}
 use Rattle.std.proofs.lemmas.List.{map-append, append-nil}
@@ -9,7 +9,7 @@ use Rattle.stack_text.specs.declared.sheets.Keeping.{Keeping}
 use Rattle.stack_text.specs.Document.{Sheet, Document, part_ids, sheet_ids, parts_of, background_or, ids_in}
 use Rattle.stack_text.specs.Listing.{kept_on}
 use Rattle.stack_text.proofs.Counts.{times, times-append, times_once, once_times}
-use Rattle.stack_text.proofs.Elements.{each_so, each_map, each_both}
+use Rattle.stack_text.proofs.Elements.{each_map, each_both}
 use Rattle.stack_text.proofs.Entries.{keys}
 use Rattle.stack_text.proofs.Forms.{Pairs}
 use Rattle.stack_text.proofs.Members.{Keeps}

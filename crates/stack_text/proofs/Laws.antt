@@ -6,7 +6,7 @@ use Rattle.stack_text.specs.Document.{Document}
 use Rattle.stack_text.specs.Spelling.{Version, first, second, header, document_text}
 use Rattle.stack_text.specs.Reading.{Fails, document_at, read_as}
 use Rattle.stack_text.specs.Listing.{document_of, content_of, spelling}
-use Rattle.stack_text.specs.Laws.{IsSaidIn, Spells, stack_in, IsOfVersion, ReadsEachText, OneStack, WrittenIsRead, ReadIsWritten, ReadsAgain}
+use Rattle.stack_text.specs.Laws.{Spells, stack_in, IsOfVersion, ReadsEachText, OneStack, WrittenIsRead, ReadIsWritten, ReadsAgain}
 use Rattle.stack_text.specs.declared.fault.FileError.{FileError}
 use Rattle.stack_text.specs.declared.fault.ReadError.{ReadError}
 use Rattle.stack_text.specs.declared.fault.ReadError.TheVariants.{Memory, File}

@@ -1,13 +1,12 @@
 -- Backgrounds and cards, read and spelled.
-use Rattle.std.proofs.Common.{◌≡◌, ℕ, ◌<◌, ◌≤◌, ◌^◌, Bool, true, false, true≢false, cond, eqb, List, [], ◌∷◌, ◌++◌, length, map, refl, sym, ap, ap₂, subst, ◌∙◌, arith, Option, Some, None}
-use Rattle.std.specs.Prelude.{◌==◌, codes, decimal, not, IsTrue, flat_map, find, option_map, unwrap_or}
+use Rattle.std.proofs.Common.{◌≡◌, ℕ, ◌<◌, ◌≤◌, ◌^◌, Bool, true, false, true≢false, cond, eqb, List, [], ◌∷◌, ◌++◌, length, refl, sym, ap, ap₂, subst, arith, Some}
+use Rattle.std.specs.Prelude.{◌==◌, codes, not, IsTrue, flat_map, find, option_map, unwrap_or}
 use Rattle.std.specs.List.{AllByRecursion}
 use Rattle.std.proofs.lemmas.Bool.{eqb-true}
 use Rattle.std.proofs.lemmas.Bool.Decides.{nat_tests}
 use Rattle.std.proofs.lemmas.List.{append-nil}
 use Rattle.ht_values.specs.Text.{IsText}
 use Rattle.object_table.specs.Objects.{is_background, is_card, is_background_part, is_card_part, is_part}
-use Rattle.object_table.specs.declared.object.Object.{Object}
 use Rattle.object_table.specs.declared.object.Kind.{Kind}
 use Rattle.object_table.specs.declared.object.Kind.TheVariants.{Stack, Background, Card, CardButton, BackgroundButton, CardField, BackgroundField}
 use Rattle.stack_text.specs.declared.sheets.Kept.{Kept}
@@ -16,14 +15,14 @@ use Rattle.stack_text.specs.declared.sheets.Part.{Part}
 use Rattle.stack_text.specs.declared.sheets.Keeping.{Keeping}
 use Rattle.stack_text.specs.Words.{number_at, numbered, flagged, block, pieces}
 use Rattle.stack_text.specs.Document.{Sheet, contains_id, sheet_ids, part_ids, ids_on, parts_of, background_or}
-use Rattle.stack_text.specs.Spelling.{Version, first, second, name_line, text_or_none, lit_or_not, kept_lines, keeping_lines, cant_delete_of, layer_lines, parts_lines, background_lines, card_lines}
-use Rattle.stack_text.specs.Reading.{Reader, ◌>>=◌, give, for_each, bad_id_if, name_at, flag_at, flag_after, number_after, line_after, pair_at, count_at, new_id, script_at, text_of_pieces, layer_at, background_header_at, background_at, background_part_at, own_text_at, own_hilite_at, keeping_by, keeping_at, card_header_at, card_at, card_part_at, parts_at}
+use Rattle.stack_text.specs.Spelling.{Version, first, second, text_or_none, lit_or_not, kept_lines, keeping_lines, cant_delete_of, layer_lines, parts_lines, background_lines, card_lines}
+use Rattle.stack_text.specs.Reading.{for_each, bad_id_if, name_at, flag_at, flag_after, number_after, line_after, pair_at, count_at, new_id, script_at, text_of_pieces, layer_at, background_header_at, background_at, background_part_at, own_text_at, own_hilite_at, keeping_by, keeping_at, card_header_at, card_at, card_part_at, parts_at}
 use Rattle.stack_text.proofs.Forms.{Reads, Each, Pairs, both, after, gives, said, resaid, bad_id_if-reads, for_each-reads}
 use Rattle.stack_text.proofs.Keyed.{keyed, not_false}
 use Rattle.stack_text.proofs.Flags.{number_pairs, counted_fields, lit_buttons}
 use Rattle.stack_text.proofs.Blocks.{text_of_pieces-reads, few}
 use Rattle.stack_text.proofs.Elements.{each_so}
-use Rattle.stack_text.proofs.Members.{IsNamed, Suits, IsBackgroundPart, IsCardPart, Keeps, SaysKept}
+use Rattle.stack_text.proofs.Members.{IsNamed, Suits, IsCardPart, Keeps, SaysKept}
 use Rattle.stack_text.proofs.Productions.{name_at-reads, flag_after-reads, number_after-reads, IsNew, new_id-reads}
 use Rattle.stack_text.proofs.Parts.{script-reads, IsSaidPart, IsNewPart, background_part-reads, card_part-reads, parts-reads}
 

@@ -1,5 +1,5 @@
 -- The stack that a document lists is listed by this document.
-use Rattle.std.proofs.Common.{◌≡◌, ◌++◌, ℕ, Bool, true, false, cond, true≢false, List, [], ◌∷◌, map, Option, Some, None, refl, sym, ap, ap₂, subst, ◌∙◌, nat_eq, ◌||◌, eqb}
+use Rattle.std.proofs.Common.{◌≡◌, ℕ, Bool, true, false, cond, true≢false, List, [], ◌∷◌, map, Option, Some, refl, sym, ap, ap₂, subst, ◌∙◌, nat_eq, ◌||◌, eqb}
 use Rattle.std.specs.Prelude.{IsTrue, option_and_then, option_map, unwrap_or, ◌==◌}
 use Rattle.std.specs.Ordering.{nat_cmp}
 use Rattle.std.specs.Cmp.{nat_cmp_total}
@@ -18,11 +18,11 @@ use Rattle.stack_text.specs.declared.sheets.Kept.TheVariants.{Nothing, Written, 
 use Rattle.stack_text.specs.declared.sheets.Part.{Part}
 use Rattle.stack_text.specs.declared.sheets.Keeping.{Keeping}
 use Rattle.stack_text.specs.Document.{Sheet, Document, contains_id, part_ids, sheet_ids, parts_of, background_or}
-use Rattle.stack_text.specs.Listing.{object_or, kept_by, kept_at, part_of, keeping_of, background_sheet, card_sheet, document_of, part_entry, object_entries, parts_entry, kept_on, written, lit, all_objects, all_parts, all_kept, content_of}
+use Rattle.stack_text.specs.Listing.{kept_by, kept_at, part_of, keeping_of, background_sheet, card_sheet, document_of, part_entry, object_entries, parts_entry, kept_on, written, lit, all_objects, all_parts, all_kept, content_of}
 use Rattle.stack_text.proofs.Elements.{each_so, each_both, each_parts, each_joined, each_mapped}
 use Rattle.stack_text.proofs.Entries.{found}
 use Rattle.stack_text.proofs.Forms.{Pairs}
-use Rattle.stack_text.proofs.Members.{Suits, IsBackgroundPart, IsCardPart, Keeps}
+use Rattle.stack_text.proofs.Members.{Suits, Keeps}
 use Rattle.stack_text.proofs.Listable.{IsBackgroundSheet, IsCardSheet, IsDocument}
 use Rattle.stack_text.proofs.DocumentIds.{keys-objects, keys-parts, objects_once, layers_once}
 use Rattle.stack_text.proofs.KeptIds.{each_part_of, rows_once, each_once}

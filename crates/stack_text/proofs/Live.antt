@@ -1,5 +1,5 @@
 -- What a well-formed stack holds, kind by kind.
-use Rattle.std.proofs.Common.{◌≡◌, ◌++◌, ℕ, Bool, true, false, true≢false, List, [], ◌∷◌, Option, Some, None, IsSome, IsTrue, unwrap_or, option_map, refl, sym, ◌∙◌, arith, ◌==◌}
+use Rattle.std.proofs.Common.{◌≡◌, ℕ, Bool, true, false, true≢false, List, [], ◌∷◌, Option, Some, None, IsSome, IsTrue, unwrap_or, option_map, refl, sym, ◌∙◌, arith, ◌==◌}
 use Rattle.std.specs.FinMap.{get}
 use Rattle.std.specs.List.{AllByRecursion, flat_map}
 use Rattle.std.proofs.lemmas.Bool.{or_left, or_right}

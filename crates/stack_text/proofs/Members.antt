@@ -1,11 +1,11 @@
 -- Which parts a background and a card may have, and what each version can say of them.
-use Rattle.std.proofs.Common.{◌≡◌, true, false}
+use Rattle.std.proofs.Common.{◌≡◌, false}
 use Rattle.std.specs.Prelude.{IsTrue}
 use Rattle.ht_values.specs.Text.{IsText}
 use Rattle.object_table.specs.Objects.{is_background_part, is_card_part}
 use Rattle.object_table.specs.declared.object.Object.{Object}
 use Rattle.object_table.specs.declared.object.Kind.{Kind}
-use Rattle.object_table.specs.declared.object.Kind.TheVariants.{Stack, Background, Card, CardButton, BackgroundButton, CardField, BackgroundField}
+use Rattle.object_table.specs.declared.object.Kind.TheVariants.{CardButton, BackgroundButton, CardField, BackgroundField}
 use Rattle.stack_text.specs.declared.sheets.Kept.{Kept}
 use Rattle.stack_text.specs.declared.sheets.Kept.TheVariants.{Nothing, Written, Lit}
 use Rattle.stack_text.specs.declared.sheets.Part.{Part}

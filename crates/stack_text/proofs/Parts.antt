@@ -1,10 +1,9 @@
 -- Parts and what cards keep for them, read and spelled.
 use Rattle.std.proofs.Common.{◌≡◌, ℕ, ◌<◌, ◌^◌, Bool, true, false, List, [], ◌∷◌, ◌++◌, length, map, refl, sym, ap, subst, ◌∙◌, arith, ap₂, true≢false, lit<, ◌≤◌}
-use Rattle.std.specs.Prelude.{codes, decimal, IsTrue, flat_map}
+use Rattle.std.specs.Prelude.{codes, IsTrue, flat_map}
 use Rattle.std.proofs.lemmas.List.{append-nil}
 use Rattle.ht_values.specs.Text.{IsText}
 use Rattle.object_table.specs.Objects.{is_background_part, is_card_part, is_part}
-use Rattle.object_table.specs.declared.object.Object.{Object}
 use Rattle.object_table.specs.declared.object.Kind.{Kind}
 use Rattle.object_table.specs.declared.object.Kind.TheVariants.{Stack, Background, Card, CardButton, BackgroundButton, CardField, BackgroundField}
 use Rattle.stack_text.specs.declared.sheets.Kept.{Kept}
@@ -13,8 +12,7 @@ use Rattle.stack_text.specs.declared.sheets.Part.{Part}
 use Rattle.stack_text.specs.Words.{flagged, block}
 use Rattle.stack_text.specs.Spelling.{Version, first, second, name_line, in_second, script_lines, lit_or_not, text_or_none, part_lines, parts_lines}
 use Rattle.stack_text.specs.Document.{part_ids}
-use Rattle.stack_text.specs.Reading.{Reader, ◌>>=◌, give, times, name_at, flag_after, count_after, line_after, new_id, in_second_or, script_at, block_after, background_button_at, background_field_at, background_part_at, card_button_at, card_field_at, card_part_at, part_header, part_at, parts_at}
-use Rattle.stack_text.specs.Laws.{SharesHilite}
+use Rattle.stack_text.specs.Reading.{Reader, times, name_at, flag_after, count_after, line_after, new_id, in_second_or, script_at, block_after, background_button_at, background_field_at, background_part_at, card_button_at, card_field_at, card_part_at, part_header, part_at, parts_at}
 use Rattle.ht_values.specs.declared.word.PartKind.{PartKind}
 use Rattle.ht_values.specs.declared.word.PartKind.TheVariants.{Button, Field}
 use Rattle.stack_text.proofs.Keyed.{keyed}

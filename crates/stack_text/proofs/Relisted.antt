@@ -12,7 +12,7 @@ use Rattle.object_table.specs.declared.object.Object.{Object}
 use Rattle.object_table.specs.declared.object.Kind.{Kind}
 use Rattle.object_table.specs.declared.object.Kind.TheVariants.{Stack, Background, Card, CardButton, BackgroundButton, CardField, BackgroundField}
 use Rattle.stack_text.specs.Document.{Document, contains_id, part_ids, sheet_ids, ids_in}
-use Rattle.stack_text.specs.Listing.{object_or, part_of, background_sheet, card_sheet, document_of, part_entry, object_entries, parts_entry, all_objects, all_parts, content_of}
+use Rattle.stack_text.specs.Listing.{part_of, background_sheet, card_sheet, document_of, part_entry, object_entries, parts_entry, all_objects, all_parts, content_of}
 use Rattle.stack_text.proofs.Elements.{each_append}
 use Rattle.stack_text.proofs.Counts.{times, times-append, times_some, some_times}
 use Rattle.stack_text.proofs.Entries.{keys, agrees}

@@ -18,7 +18,7 @@ use Rattle.stack_text.specs.Document.{Sheet, Document, contains_id, part_ids, sh
 use Rattle.stack_text.specs.Listing.{part_entry, object_entries, all_objects}
 use Rattle.stack_text.proofs.Elements.{each_so, each_append, each_map}
 use Rattle.stack_text.proofs.Entries.{keys}
-use Rattle.stack_text.proofs.Listable.{IsBackgroundSheet, IsCardSheet, IsDocument, parts_on}
+use Rattle.stack_text.proofs.Listable.{IsDocument, parts_on}
 
 -- the ids of the entries of which this holds
 abbrev pub ids_with : (Kind → Bool) → List (ℕ × Object) → List ℕ

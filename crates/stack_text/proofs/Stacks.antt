@@ -10,16 +10,15 @@ use Rattle.std.proofs.lemmas.List.Elements.{All-nil}
 use Rattle.ht_values.specs.Text.{IsText}
 use Rattle.object_table.specs.Content.{Content}
 use Rattle.object_table.specs.Objects.{is_stack, is_background, is_card, is_card_part, is_background_part, has_kind, parts_at, background_of as background_named}
-use Rattle.object_table.specs.Kept.{text_at, hilite_at}
+use Rattle.object_table.specs.Kept.{text_at}
 use Rattle.object_table.specs.WellFormed.{NamesEach, IsWellFormed}
 use Rattle.object_table.specs.declared.object.Object.{Object}
 use Rattle.object_table.specs.declared.object.Kind.{Kind}
 use Rattle.object_table.specs.declared.object.Kind.TheVariants.{Stack, Background, Card, CardButton, BackgroundButton, CardField, BackgroundField}
 use Rattle.stack_text.specs.declared.sheets.Part.{Part}
-use Rattle.stack_text.specs.declared.sheets.Keeping.{Keeping}
-use Rattle.stack_text.specs.Document.{Sheet, Document, contains_id, sheet_ids, parts_of, background_or, backgrounds_of, ids_in}
+use Rattle.stack_text.specs.Document.{Sheet, Document, contains_id, parts_of, background_or, backgrounds_of, ids_in}
 use Rattle.stack_text.specs.Listing.{object_or, kept_by, part_of, keeping_of, background_sheet, card_sheet, document_of, object_entries, all_objects, content_of}
-use Rattle.stack_text.proofs.Elements.{each_so, each_map, each_both, each_true}
+use Rattle.stack_text.proofs.Elements.{each_so, each_map, each_both}
 use Rattle.stack_text.proofs.Counts.{times, times_none, times_some, times_once, once_times}
 use Rattle.stack_text.proofs.Entries.{len_without_first}
 use Rattle.stack_text.proofs.DocumentIds.{keys-objects, with_stack_once}

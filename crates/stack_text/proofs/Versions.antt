@@ -1,5 +1,5 @@
 -- What a version can say, of a stack and of its document.
-use Rattle.std.proofs.Common.{◌≡◌, ◌⊎◌, inl, inr, ℕ, Bool, true, false, true≢false, cond, List, [], ◌∷◌, map, Option, Some, None, IfSome, IsTrue, unwrap_or, option_and_then, refl, sym, ap, subst, ◌∙◌, arith, ◌==◌}
+use Rattle.std.proofs.Common.{◌≡◌, ◌⊎◌, inl, inr, ℕ, Bool, false, true≢false, List, [], map, Option, Some, None, IfSome, IsTrue, unwrap_or, option_and_then, refl, sym, subst}
 use Rattle.std.specs.Ordering.{nat_cmp}
 use Rattle.std.specs.Cmp.{nat_cmp_total}
 use Rattle.std.specs.FinMap.{get, find, get-from_entries}
@@ -12,21 +12,21 @@ use Rattle.object_table.specs.WellFormed.{IsWellFormed}
 use Rattle.object_table.specs.declared.object.Object.{Object}
 use Rattle.object_table.specs.declared.object.Kind.{Kind}
 use Rattle.object_table.specs.declared.object.Kind.TheVariants.{Stack, Background, Card, CardButton, BackgroundButton, CardField, BackgroundField}
-use Rattle.object_table.proofs.Slots.{tied_apart, tied_same}
+use Rattle.object_table.proofs.Slots.{tied_apart}
 use Rattle.stack_text.specs.declared.sheets.Kept.{Kept}
 use Rattle.stack_text.specs.declared.sheets.Kept.TheVariants.{Nothing, Written, Lit}
 use Rattle.stack_text.specs.declared.sheets.Part.{Part}
 use Rattle.stack_text.specs.declared.sheets.Keeping.{Keeping}
 use Rattle.stack_text.specs.Document.{Sheet, Document, background_or}
 use Rattle.stack_text.specs.Spelling.{Version, first, second}
-use Rattle.stack_text.specs.Listing.{object_or, kept_by, kept_at, part_of, keeping_of, background_sheet, card_sheet, document_of, object_entries, kept_on, lit, all_objects, content_of}
+use Rattle.stack_text.specs.Listing.{object_or, kept_by, part_of, keeping_of, background_sheet, card_sheet, document_of, kept_on, lit, content_of}
 use Rattle.stack_text.specs.Laws.{SharesHilite, HasSharedHilites, IsSaidIn}
 use Rattle.stack_text.proofs.Elements.{each_so, each_both, each_append, each_map, each_true}
 use Rattle.stack_text.proofs.Entries.{found_each}
-use Rattle.stack_text.proofs.Members.{Suits, SaysKind, Unlit, SaysKept}
-use Rattle.stack_text.proofs.Listable.{IsBackgroundSheet, IsCardSheet, IsDocument, SaysParts, SaysKeepings, Says}
+use Rattle.stack_text.proofs.Members.{Suits, Unlit}
+use Rattle.stack_text.proofs.Listable.{IsCardSheet, IsDocument, SaysParts, SaysKeepings, Says}
 use Rattle.stack_text.proofs.Live.{cards_live}
-use Rattle.stack_text.proofs.Rows.{row_of, rows_of, looked_up}
+use Rattle.stack_text.proofs.Rows.{row_of}
 use Rattle.stack_text.proofs.Sorts.{OnSheet, each_object}
 use Rattle.stack_text.proofs.Contents.{at_each, kept-is}
 

@@ -1,5 +1,5 @@
 -- The whole of a stack text, read and spelled.
-use Rattle.std.proofs.Common.{◌≡◌, ℕ, ◌+◌, ◌≤◌, Bool, true, false, cond, eqb, List, [], ◌∷◌, ◌++◌, length, Result, Ok, Err, Some, None, refl, sym, ap, subst, ◌∙◌, append_assoc, lit<, nat_eq}
+use Rattle.std.proofs.Common.{◌≡◌, ℕ, ◌≤◌, Bool, true, false, cond, eqb, List, [], ◌∷◌, ◌++◌, length, Result, Ok, Err, Some, None, refl, sym, ap, subst, ◌∙◌, append_assoc, lit<, nat_eq}
 use Rattle.std.specs.Prelude.{codes, not, flat_map}
 use Rattle.std.specs.Cmp.Lexicographic.{pointwise, same_text}
 use Rattle.std.specs.List.{AllByRecursion, list_all}
@@ -14,7 +14,7 @@ use Rattle.stack_text.specs.Document.{Sheet, Document, contains_id, backgrounds_
 use Rattle.stack_text.specs.Spelling.{Version, first, second, header, name_line, script_lines, background_lines, card_lines, sheets_lines, document_lines, document_text, joined_lines}
 use Rattle.stack_text.specs.Reading.{Spot, Reader, chain, ◌>>=◌, give, times, bad_id_if, line_after, exactly, name_at, count_after, script_at, version_at, stack_at, background_at, backgrounds_at, card_at, cards_at, end_at, nothing_left, body_at, all_lines, document_at, value_of}
 use Rattle.stack_text.specs.declared.fault.FileError.{FileError}
-use Rattle.stack_text.proofs.Forms.{onto, onto-append, count_on, adding, spot, Took, Reads, Each, chain_ok, both, gives, said, resaid, bad_id_if-reads, times-reads}
+use Rattle.stack_text.proofs.Forms.{onto, onto-append, count_on, adding, spot, Reads, Each, chain_ok, both, gives, said, resaid, bad_id_if-reads, times-reads}
 use Rattle.stack_text.proofs.Keyed.{has, not_false, exactly-reads, keyed, Spelled}
 use Rattle.stack_text.proofs.Members.{IsNamed}
 use Rattle.stack_text.proofs.Productions.{name_at-reads, count_after-reads}
