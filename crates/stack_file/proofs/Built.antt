@@ -1,5 +1,5 @@
 -- A stack that is built from what a document lists, the last first.
-use Rattle.std.proofs.Common.{◌≡◌, ℕ, Bool, true, false, cond, List, [], ◌∷◌, ◌++◌, map, flat_map, refl, sym, ◌∙◌, ap, ap₂, Option, Some, None, nat_eq, ◌&&◌, arith}
+use Rattle.std.proofs.Common.{◌≡◌, ℕ, Bool, true, false, cond, List, [], ◌∷◌, ◌++◌, map, flat_map, refl, sym, ◌∙◌, ap, Option, Some, None, nat_eq, arith}
 use Rattle.std.proofs.lemmas.List.Elements.{filter_map-append}
 use Rattle.std.proofs.lemmas.Bool.Decides.{nat_tests}
 use Rattle.std.proofs.lemmas.List.{map-append, append-nil}
@@ -12,15 +12,14 @@ use Rattle.std.specs.FinSet as set
 use Rattle.object_table.specs.Content.{Content}
 use Rattle.object_table.specs.Pairs.{Pair, pair_cmp}
 use Rattle.object_table.specs.Empty.{empty_stack, empty_object}
-use Rattle.object_table.specs.declared.object.Object.{Object}
 use Rattle.object_table.specs.declared.object.Kind.TheVariants.{Stack, Background, Card}
 use Rattle.object_table.proofs.Pairs.{pair_tied, pair_cmp_total}
 use Rattle.stack_text.specs.declared.sheets.Kept.{Kept}
 use Rattle.stack_text.specs.declared.sheets.Part.{Part}
 use Rattle.stack_text.specs.declared.sheets.Keeping.{Keeping}
 use Rattle.stack_text.specs.Document.{Sheet, Document, sheet_ids}
-use Rattle.stack_text.specs.Listing.{part_entry, object_entries, parts_entry, kept_on, written, lit, kept_entry, kept_entries, all_objects, all_parts, all_kept, content_of}
-use Rattle.stack_file.specs.Building.{inserted, with_kept, own_kept, with_parts, with_keepings, with_sheet, card_for, with_sheets, with_stack, without, blank}
+use Rattle.stack_text.specs.Listing.{part_entry, object_entries, parts_entry, kept_on, written, lit, kept_entry, kept_entries, all_parts, all_kept, content_of}
+use Rattle.stack_file.specs.Building.{inserted, own_kept, with_parts, with_keepings, with_sheet, card_for, with_sheets, with_stack, without, blank}
 
 -- a pair that was opened is in the room
 pub opened : (room : set.FinSet pair_cmp) (part card : ℕ) → set.contains (set.insert room (part, card)) (part, card) ≡ true

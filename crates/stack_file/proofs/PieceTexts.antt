@@ -1,9 +1,9 @@
 -- Pieces that are read one after the other into one text.
-use Rattle.std.proofs.Common.{◌≡◌, ℕ, zero, suc, ◌+◌, ◌-◌, ◌<◌, ◌≤◌, List, [], ◌∷◌, ◌++◌, length, Result, Ok, Err, refl, sym, ap, subst, ◌∙◌, arith, append_assoc, add-one, is_some, IsSome, true, false, true≢false, leb}
-use Rattle.std.specs.Prelude.{Bool, Option, Some, None, codes, ◌==◌, flat_map}
+use Rattle.std.proofs.Common.{◌≡◌, ℕ, zero, suc, ◌+◌, ◌-◌, ◌<◌, ◌≤◌, List, [], ◌∷◌, ◌++◌, length, Result, Ok, Err, refl, sym, ap, ◌∙◌, arith, append_assoc, add-one, is_some, IsSome, true, false, true≢false, leb}
+use Rattle.std.specs.Prelude.{Bool, Option, Some, None, codes, ◌==◌}
 use Rattle.std.specs.Option.{option_to_list}
 use Rattle.std.specs.List.{join_with_byte}
-use Rattle.std.proofs.lemmas.List.{append-nil, append_cancel_right, length-append}
+use Rattle.std.proofs.lemmas.List.{append-nil, length-append}
 use Rattle.ht_values.specs.Outcome.{within_limit}
 use Rattle.ht_values.specs.declared.fault.Fault.{Fault}
 use Rattle.std.proofs.lemmas.Bool.Decides.{nat_tests}
@@ -11,7 +11,6 @@ use Rattle.stack_text.specs.Reading.{Spot, chain, ◌>>=◌, give, line_after, p
 use Rattle.stack_text.specs.declared.fault.FileError.{FileError}
 use Rattle.stack_text.specs.declared.fault.ReadError.{ReadError}
 use Rattle.stack_text.specs.declared.fault.ReadError.TheVariants as errors
-use Rattle.stack_text.proofs.Forms.{chain_ok}
 use Rattle.stack_text.proofs.Blocks.{text_of_pieces-reads}
 use Rattle.stack_file.specs.Pieces.{ended, ended_at}
 

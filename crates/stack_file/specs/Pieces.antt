@@ -1,5 +1,5 @@
 -- The text of a block, piece by piece.
-use Rattle.std.specs.Prelude.{ℕ, List, [], ◌∷◌, ◌++◌, flat_map, Result, ◌==◌}
+use Rattle.std.specs.Prelude.{ℕ, List, [], ◌∷◌, ◌++◌, flat_map, ◌==◌}
 use Rattle.stack_text.specs.Reading.{Reader, ◌>>=◌, give, pieces_at}
 
 -- pieces, each with a return behind it

@@ -1,7 +1,7 @@
-use Rattle.std.proofs.Common.{rules, ◌≡◌, ℕ, ◌+◌, ◌-◌, ◌≤◌, ◌<◌, ◌∷◌, ◌++◌, [], length, subst, sym, ap, ◌∙◌, arith, List}
+use Rattle.std.proofs.Common.{rules, ◌≡◌, ℕ, ◌+◌, ◌-◌, ◌<◌, ◌∷◌, ◌++◌, [], length, subst, ap, ◌∙◌, arith, List}
 use Rattle.std.specs.Prelude.{Ok, codes, ◌==◌}
 use Rattle.std.proofs.lemmas.List.{length-append}
-use Rattle.stack_text.specs.Reading.{Fails, line_after, piece_at, pieces_at}
+use Rattle.stack_text.specs.Reading.{Fails, line_after, piece_at}
 use Rattle.stack_file.specs.Pieces.{ended_at}
 use Rattle.stack_file.proofs.PieceTexts.{piece-step, piece-fail}
 use Rattle.stack_file.proofs.blocks.pieces.Goals as goal

@@ -1,5 +1,4 @@
-use Rattle.std.proofs.Common.{rules, ◌≡◌, ℕ, ◌∷◌, ◌++◌, [], List, length, sym, ◌∙◌, ap, arith}
-use Rattle.std.specs.Prelude.{Ok}
+use Rattle.std.proofs.Common.{rules, sym, ◌∙◌}
 use Rattle.stack_text.specs.Reading.{Fails, text_of_pieces as text_at}
 use Rattle.stack_file.proofs.PieceTexts.{text-read, text-fails, text-short, popped, none_left, fits, never_long}
 use Rattle.stack_file.proofs.blocks.text_of_pieces.Goals as goal

@@ -1,4 +1,4 @@
-use Rattle.std.proofs.Common.{◌≡◌, map, take}
+use Rattle.std.proofs.Common.{◌≡◌, take}
 use Rattle.stack_text.specs.Document.{part_ids}
 use Rattle.stack_file.proofs.building.ids_of_parts.Given as goal
 

@@ -1,4 +1,4 @@
-use Rattle.std.proofs.Common.{◌≡◌, ◌+◌, ◌-◌, ◌∙◌, map, arith}
+use Rattle.std.proofs.Common.{◌≡◌, ◌+◌, ◌-◌, ◌∙◌, arith}
 use Rattle.stack_text.specs.Reading.{background_at}
 use Rattle.stack_file.specs.Views.{sheet_seen}
 use Rattle.stack_file.proofs.Times.{times-push}

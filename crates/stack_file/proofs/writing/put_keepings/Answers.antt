@@ -1,4 +1,4 @@
-use Rattle.std.proofs.Common.{◌≡◌, ◌∙◌, ◌+◌, ◌<◌, ap, map, drop, length, get_or, refl, arith, List, ℕ}
+use Rattle.std.proofs.Common.{◌∙◌, ◌+◌, ◌<◌, ap, map, drop, length, get_or, refl, arith, List, ℕ}
 use Rattle.std.specs.Prelude.{flat_map}
 use Rattle.std.proofs.lemmas.Bool.Decides.{nat_tests}
 use Rattle.std.proofs.lemmas.Grind.{common_steps}
