@@ -5,4 +5,5 @@ pub mod Maps
 pub mod Numbered
 pub mod Opened
 pub mod Pairs
+pub mod Placed
 pub mod Slots

@@ -1,17 +1,16 @@
 -- Slots as finite maps from ids.
-use Rattle.std.proofs.Common.{◌≡◌, ◌≢◌, ◌++◌, ℕ, zero, suc, inl, inr, ◌+◌, ◌-◌, ◌<◌, Bool, true, false, cond, List, [], ◌∷◌, length, map, filter, get_or, set, refl, sym, ap, ◌∙◌, arith, Option, Some, None, option_and_then, slice_get, is_some, count_by, drop, get_or-set_same, get_or-set_other}
+use Rattle.std.proofs.Common.{◌≡◌, ◌≢◌, ◌++◌, ℕ, zero, suc, inl, inr, ◌+◌, ◌-◌, ◌<◌, Bool, true, false, cond, List, [], ◌∷◌, length, map, filter, get_or, set, refl, sym, ap, ◌∙◌, arith, Option, Some, None, option_and_then, is_some, count_by, drop, replicate, append_assoc, get_or-set_same, get_or-set_other}
 use Rattle.std.specs.Ordering.{nat_cmp, eq_by_cmp}
 use Rattle.std.specs.Cmp.{nat_cmp_total, unsigned_tied}
 use Rattle.std.specs.FinMap.{FinMap, empty, get-empty, find, get, remove, len, from_entries, same_map, get-from_entries, len-empty, len-insert, len-remove, nat_cmp-IsAntisymmetric}
 use Rattle.std.proofs.lemmas.Bool.Decides.{nat_tests}
-use Rattle.std.proofs.lemmas.Bool.{cases_eq, false≢true}
+use Rattle.std.proofs.lemmas.Bool.{cases_eq, cases_lt, false≢true}
 use Rattle.object_table.specs.Maps.{put_option}
-use Rattle.std.proofs.lemmas.List.{length-map, map-append, map-set}
-use Rattle.std.proofs.lemmas.Option.{slice_get-get_or, slice_get_within}
+use Rattle.std.proofs.lemmas.List.{length-map, map-append, map-set, append-nil, get_or_past}
 use Rattle.std.proofs.lemmas.List.Sums.{length-filter}
 use Rattle.std.proofs.Math.Seq.{map-set_same}
-use Rattle.object_table.specs.Slots.{numbered, slot_map}
-use Rattle.object_table.specs.declared.stack.Slot.{Slot}
+use Rattle.object_table.specs.Slots.{numbered, slot_map, empty_slot}
+use Rattle.object_table.specs.declared.slot_table.Slot.{Slot}
 use Rattle.object_table.proofs.Maps.{get-put_option}
 
 pub tied_apart : (q n : ℕ) → q ≢ n → eq_by_cmp nat_cmp q n ≡ false
@@ -58,28 +57,21 @@ module _ {X : Type 0} where
 
 -- The slots of a stack, by what f reads in each: its object, or its list of parts.
 module _ {X : Type 0} (f : Slot → Option X) where
-  read_at : (slots : List Slot) (i : ℕ) → get_or (map f slots) i None ≡ option_and_then f (slice_get slots i)
-  read_at [] i = refl
-  read_at (s ∷ slots) zero = refl
-  read_at (s ∷ slots) (suc i) = read_at slots i
+  read_at : (slots : List Slot) (i : ℕ) → f empty_slot ≡ None → get_or (map f slots) i None ≡ f (get_or slots i empty_slot)
+  read_at [] i e = sym e
+  read_at (s ∷ slots) zero e = refl
+  read_at (s ∷ slots) (suc i) e = read_at slots i e
 
-  pub get-read_slots : (slots : List Slot) (i : ℕ) → get (slot_map (map f slots)) i ≡ option_and_then f (slice_get slots i)
-  get-read_slots slots i = get-slot_map (map f slots) i ∙ read_at slots i
-
-  -- by what was found in the slots
-  pub get-found : (slots now : List Slot) (i : ℕ) (o : Option Slot) → now ≡ slots → o ≡ slice_get now i → option_and_then f o ≡ get (slot_map (map f slots)) i
-  get-found slots now i o e h = ap (λ x. option_and_then f x) h ∙ ap (λ xs. option_and_then f (slice_get xs i)) e ∙ sym (get-read_slots slots i)
-
-  pub get-read_slots_within : (slots : List Slot) (i : ℕ) (d : Slot) → i < length slots → get (slot_map (map f slots)) i ≡ f (get_or slots i d)
-  get-read_slots_within slots i d h = get-read_slots slots i ∙ ap (λ o. option_and_then f o) (slice_get-get_or slots i d h)
+  pub get-slot : (slots : List Slot) (i : ℕ) → f empty_slot ≡ None → get (slot_map (map f slots)) i ≡ f (get_or slots i empty_slot)
+  get-slot slots i e = get-slot_map (map f slots) i ∙ read_at slots i e
 
   -- where something is found there is a slot
-  pub within_found : {Y : Type 0} (g : X → Option Y) (slots : List Slot) (i : ℕ) → is_some (option_and_then g (get (slot_map (map f slots)) i)) ≡ true → i < length slots
-  within_found g slots i h = by (slice_get slots i) refl (sym (ap (λ o. is_some (option_and_then g o)) (get-read_slots slots i)) ∙ h)
-    where
-      by : (o : Option Slot) → slice_get slots i ≡ o → is_some (option_and_then g (option_and_then f o)) ≡ true → i < length slots
-      by None e some = absurd (false≢true some)
-      by (Some s) e some = slice_get_within slots i s e
+  pub found_within : {Y : Type 0} (g : X → Option Y) (slots : List Slot) (i : ℕ) → f empty_slot ≡ None → is_some (option_and_then g (f (get_or slots i empty_slot))) ≡ true → i < length slots
+  found_within g slots i e h =
+      elim (cases_lt i (length slots)) [
+        | inl within ↦ within
+        | inr past ↦ absurd (false≢true (sym (ap (λ s. is_some (option_and_then g (f s))) (get_or_past slots i empty_slot past) ∙ ap (λ o. is_some (option_and_then g o)) e) ∙ h))
+      ]
 
   pub read_slots-set : (slots : List Slot) (i : ℕ) (s : Slot) → i < length slots → slot_map (map f (set slots i s)) ≡ put_option (slot_map (map f slots)) i (f s)
   read_slots-set slots i s h = ap (λ xs. slot_map xs) (map-set f slots i s) ∙ slot_map-set (map f slots) i (f s) (omega (arith, length-map slots f))
@@ -89,6 +81,12 @@ module _ {X : Type 0} (f : Slot → Option X) where
 
   pub read_slots-push : (slots : List Slot) (s : Slot) → f s ≡ None → slot_map (map f (slots ++ s ∷ [])) ≡ slot_map (map f slots)
   read_slots-push slots s e = ap (λ xs. slot_map xs) (map-append f slots (s ∷ []) ∙ ap (λ x. map f slots ++ x ∷ []) e) ∙ slot_map-push_none (map f slots)
+
+  -- room for more ids
+  pub read_slots-opened : (slots : List Slot) (n : ℕ) (s : Slot) → f s ≡ None → slot_map (map f (slots ++ replicate n s)) ≡ slot_map (map f slots)
+  read_slots-opened slots zero s e = ap (λ xs. slot_map (map f xs)) (append-nil slots)
+  read_slots-opened slots (suc n) s e =
+      ap (λ xs. slot_map (map f xs)) (sym (append_assoc slots (s ∷ []) (replicate n s))) ∙ read_slots-opened (slots ++ s ∷ []) n s e ∙ read_slots-push slots s e
 
 -- the map has as many entries as slots have something
 len-numbered : {X : Type 0} (n : ℕ) (xs : List (Option X)) → len (from_entries {R = nat_cmp} (numbered n xs)) ≡ length (filter (λ x. is_some x) xs)

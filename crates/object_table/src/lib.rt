@@ -7,6 +7,7 @@ mod number;
 mod object;
 mod property;
 mod reference;
+mod slot_table;
 mod stack;
 
 pub use ht_values::{PartKind, Prop};

@@ -8,7 +8,6 @@ ghost use Rattle.object_table.specs.Maps.{put_option};
 ghost use Rattle.object_table.specs.Numbers.{at_number};
 ghost use Rattle.object_table.specs.Objects.{object_at, object_count as objects_counted, parts_at};
 ghost use Rattle.object_table.specs.Layers.{layer_parts};
-ghost use Rattle.object_table.specs.Slots.{objects_in, parts_in};
 ghost use Rattle.object_table.specs.Setting.{value_at, may_set, with_value_at};
 ghost use Rattle.object_table.specs.Empty.{empty_stack};
 ghost use Rattle.object_table.specs.WellFormed.{IsWellFormed};
@@ -17,17 +16,11 @@ use crate::ids::{Id, IdList};
 use crate::kept::Kept;
 use crate::object::{Kind, Layer, Object};
 use crate::property::PropValue;
+use crate::slot_table::SlotTable;
 use ht_values::Text;
 use std::alloc::{AllocError, Global};
 use std::marker::Model;
 use std::mem;
-
-/// What an id stands for: an object and, where it is a layer, the list of its parts.
-#[derive(Drop)]
-struct Slot {
-    object: Option<Object>,
-    parts: Option<IdList>,
-}
 
 /// The objects of a stack by id, the orders of its backgrounds and cards, the parts of each layer, the texts
 /// of fields and the hilites of buttons, and the next id; beside these its room, the ids and pairs of ids that
@@ -41,7 +34,7 @@ struct Slot {
 /// A stack as such may be not well formed; `Stack::new` gives a well formed one.
 #[derive(Drop)]
 pub struct Stack {
-    slots: Vec<Slot>,
+    slots: SlotTable,
     backgrounds: IdList,
     cards: IdList,
     texts: Kept<Text>,
@@ -61,32 +54,20 @@ impl Model for Stack {
 
     ghost view = { λ s. record {
       content = record {
-        objects = objects_in s.slots.items;
+        objects = objects_in s.slots;
         backgrounds = s.backgrounds;
         cards = s.cards;
-        parts = parts_in s.slots.items;
+        parts = parts_in s.slots;
         texts = kept_in s.texts.places.entries;
         hilites = kept_in s.hilites.places.entries;
         next = s.next;
       };
       room = record {
-        slots = length s.slots.items;
+        slots = length s.slots;
         texts = open_in s.texts.places.entries;
         hilites = open_in s.hilites.places.entries;
       };
     } };
-}
-
-impl Slot {
-    fn of(object: Object, parts: Option<IdList>) -> Slot
-        ensures object { result.object ≡ Some object }
-        ensures parts { result.parts ≡ parts }
-    {
-        Slot {
-            object: Some(object),
-            parts,
-        }
-    }
 }
 
 impl Stack {
@@ -101,12 +82,15 @@ impl Stack {
             cant_delete: false,
         };
         let background = Kind::Background { cant_delete: false };
+        let mut slots = SlotTable::new(alloc);
+        slots.open(2)?;
+        slots.swap_object(0, &mut Some(Object::empty(alloc, Kind::Stack)));
+        slots.swap_object(1, &mut Some(Object::empty(alloc, background)));
+        slots.swap_parts(1, &mut Some(IdList::new(alloc)));
+        slots.swap_object(2, &mut Some(Object::empty(alloc, card)));
+        slots.swap_parts(2, &mut Some(IdList::new(alloc)));
         Ok(Stack {
-            slots: vec![in alloc;
-                Slot::of(Object::empty(alloc, Kind::Stack), None),
-                Slot::of(Object::empty(alloc, background), Some(IdList::new(alloc))),
-                Slot::of(Object::empty(alloc, card), Some(IdList::new(alloc))),
-            ]?,
+            slots,
             backgrounds: IdList::from_vec(vec![in alloc; 1]?),
             cards: IdList::from_vec(vec![in alloc; 2]?),
             texts: Kept::new(alloc),
@@ -121,17 +105,14 @@ impl Stack {
         ensures value { option_copied result ≡ object_at self.now.content id }
         ensures room { OnSome result (id < self.now.room.slots) }
     {
-        slot_at(&self.slots, id)?.object.as_ref()
+        self.slots.object(id)
     }
 
     /// How many objects live, without the stack itself.
     pub fn object_count(&self) -> usize
         ensures { result ≡ objects_counted self.now.content }
     {
-        match self.slots.as_slice() {
-            [] => 0,
-            [_, others @ ..] => count_objects(others),
-        }
+        self.slots.object_count()
     }
 
     /// The parts of a layer in the order of their making. `None` where there is no such card or background.
@@ -159,7 +140,7 @@ impl Stack {
     fn list_at(&self, id: Id) -> Option<&IdList>
         ensures { option_copied result ≡ map.get self.now.content.parts id }
     {
-        slot_at(&self.slots, id)?.parts.as_ref()
+        self.slots.parts(id)
     }
 
     /// The text of a field for a card, or for 0 its shared text. `None` where there is no such text.
@@ -217,8 +198,7 @@ impl Stack {
         } }
         ensures err { OnErr result (self.new ≡ self.old) }
     {
-        let missing = (id as usize + 1).saturating_sub(self.slots.len());
-        add_slots(&mut self.slots, missing)
+        self.slots.open(id)
     }
 
     /// Makes room for the text of a field for a card, or for 0 for its shared text. Nothing else changes, and
@@ -255,8 +235,7 @@ impl Stack {
           };
         } }
     {
-        let slot = &mut self.slots[id as usize];
-        mem::swap(&mut slot.object, object);
+        self.slots.swap_object(id, object);
     }
 
     /// Exchanges the list of an id's parts, `None` where it has none, with a value.
@@ -269,8 +248,7 @@ impl Stack {
           };
         } }
     {
-        let slot = &mut self.slots[id as usize];
-        mem::swap(&mut slot.parts, parts);
+        self.slots.swap_parts(id, parts);
     }
 
     /// Exchanges the text of a field for a card, or for 0 its shared text, with a value, where `None` stands for
@@ -307,11 +285,13 @@ impl Stack {
         ensures value { value_at self.old.content id value.old ≡ Some value.new }
         ensures stack { self.new ≡ record self.old { content = with_value_at self.old.content id value.old } }
     {
-        let slot = &mut self.slots[id as usize];
-        match &mut slot.object {
+        let mut object = None;
+        self.slots.swap_object(id, &mut object);
+        match &mut object {
             Some(object) => object.swap_value(value),
             None => unreachable!(),
         }
+        self.slots.swap_object(id, &mut object);
     }
 
     /// Exchanges the order of the cards with another.
@@ -349,32 +329,4 @@ impl Stack {
     {
         mem::swap(&mut self.next, next);
     }
-}
-
-fn add_slots(slots: &mut Vec<Slot>, count: usize) -> Result<(), AllocError>
-    ensures len { OnOk result (vec_len slots.new ≡ vec_len slots.old + count) }
-    ensures objects { objects_in slots.new.items ≡ objects_in slots.old.items }
-    ensures parts { parts_in slots.new.items ≡ parts_in slots.old.items }
-    ensures err { OnErr result (slots.new.items ≡ slots.old.items) }
-{
-    slots.reserve(count)?;
-    for _ in 0..count {
-        slots.push_reserved(Slot {
-            object: None,
-            parts: None,
-        });
-    }
-    Ok(())
-}
-
-fn slot_at(slots: &[Slot], id: Id) -> Option<&Slot>
-    ensures { option_copied result ≡ slice_get slots.now id }
-{
-    slots.get(id as usize)
-}
-
-fn count_objects(slots: &[Slot]) -> usize
-    ensures { result ≡ count_by (λ slot. is_some slot.object) slots.now }
-{
-    slots.iter().filter(|slot| slot.object.is_some()).count()
 }
