@@ -23,13 +23,11 @@ objects_in slots = slot_map (map (λ s. s.object) slots)
 abbrev pub parts_in : List Slot → FinMap nat_cmp (List ℕ)
 parts_in slots = slot_map (map (λ s. s.parts) slots)
 
--- ---- slots in memory, at the places of their ids
-
--- the slot of an id that has no place
+-- the slot of an id that has no place in memory
 abbrev pub empty_slot : Slot
 empty_slot = record { object = None; parts = None }
 
--- the slot at a place
+-- the slot at a place in memory
 abbrev pub slot_of : List Slot → Option ℕ → Slot
 slot_of slots None = empty_slot
 slot_of slots (Some place) = get_or slots place empty_slot
@@ -46,6 +44,7 @@ pub record IsTable (places : List (Option ℕ)) (slots : List Slot) (capacity : 
   pub reserved : length places ≤ capacity
   pub short : length places ≤ 2 ^ 32
 
+-- their codes
 abbrev pub coded_slot : Coded Slot
 coded_slot = code_by (Option Object × Option (List ℕ)) (coded× (coded_option coded_object) (coded_option (coded_list coded_ℕ))) (λ s. (s.object, s.parts)) (λ p. record { object = p.0; parts = p.1 }) (λ _. refl)
 
