@@ -20,6 +20,9 @@ const BYTES: usize = 40_000_000;
 /// The stacks, by their groups of 100 objects.
 const GROUPS: [u32; 5] = [1, 3, 10, 30, 100];
 
+/// The steps between ids: side by side, and so far apart that the last of 10,000 is the greatest that there is.
+const STEPS: [u32; 2] = [1, 100];
+
 /// What is timed.
 #[derive(Clone, Copy)]
 enum Call {
@@ -111,11 +114,8 @@ fn measure_one<R: Clock + Print>(
     let rounds = BYTES / length.max(1);
     let bytes = (length as u64).wrapping_mul(rounds as u64);
     let copy = time_of(rt, alloc, Call::Copy, &given, rounds)?;
-    for (name, call) in [
-        ("copy", Call::Copy),
-        ("read", Call::Read),
-        ("write", Call::Write),
-    ] {
+    show(rt, "copy", bytes, copy, copy)?;
+    for (name, call) in [("read", Call::Read), ("write", Call::Write)] {
         let time = time_of(rt, alloc, call, &given, rounds)?;
         show(rt, name, bytes, time, copy)?;
     }
@@ -123,7 +123,7 @@ fn measure_one<R: Clock + Print>(
 }
 
 fn measure<R: Clock + Print>(rt: &R, alloc: Global) -> anyhow::Result<()> {
-    for step in [1, 100] {
+    for step in STEPS {
         for groups in GROUPS {
             measure_one(rt, alloc, groups, step)?;
         }
