@@ -4,7 +4,7 @@ mod functions;
 mod operators;
 
 use crate::fault::{Fault, TextError};
-use crate::text::{LIMIT, Text, text_of};
+use crate::text::{LIMIT, Text, law_of_text, text_of};
 use std::test::*;
 
 #[test]
@@ -27,6 +27,7 @@ fn a_text_is_its_clone_and_the_fold_of_capitals(rt: HostRuntime) -> Result<(), F
     let small = Text::from_slice(rt.alloc(), b"ab")?;
     let mixed = Text::from_slice(rt.alloc(), b"aB")?;
     assert!(rt; small.as_slice() == small.try_clone(rt.alloc())?.as_slice());
+    law_of_text(&small);
     assert!(rt; small.as_slice() == mixed.folded(rt.alloc())?.as_slice());
     assert!(rt; small.same(&mixed));
     Ok(())

@@ -1,8 +1,8 @@
 //! Texts: at most 30,000 bytes, any bytes, one byte a character.
 
-ghost use Rattle.std.specs.Prelude.{◌≡◌, ◌≤◌, ◌<◌, ◌↔◌, ℕ, List, [], length, IfOk, Err, IsErrOf, IsTrue};
+ghost use Rattle.std.specs.Prelude.{◌≡◌, ◌≤◌, ◌<◌, ◌↔◌, ℕ, List, [], length, All, IfOk, Err, IsErrOf, IsTrue};
 ghost use Rattle.ht_values.specs.Outcome.{within_limit};
-ghost use Rattle.ht_values.specs.Text.{Same, folded as folded_of, numeral};
+ghost use Rattle.ht_values.specs.Text.{Same, IsText, folded as folded_of, numeral};
 ghost use Rattle.ht_values.specs.declared.text.TheConstants.{LIMIT};
 
 use crate::fault::{Fault, TextError};
@@ -102,6 +102,22 @@ impl Text {
         ensures { IsTrue result ↔ Same self.now other.now }
     {
         self.bytes.eq_ignore_ascii_case(&other.bytes)
+    }
+}
+
+/// What a text is by its definition. A byte is known to be one as it is read, so this reads them all; nothing is done
+/// with them, and the program has no such loop.
+pub fn law_of_text(text: &Text)
+    ensures { IsText text.now }
+{
+    law_of_bytes(text.as_slice());
+}
+
+fn law_of_bytes(bytes: &[u8])
+    ensures { All (λ b. b < 256) bytes.now }
+{
+    for byte in bytes {
+        let _read = *byte;
     }
 }
 
