@@ -6,4 +6,5 @@ pub mod Numbered
 pub mod Opened
 pub mod Pairs
 pub mod Placed
+pub mod Rewritten
 pub mod Slots

@@ -1,5 +1,5 @@
 -- Values put into maps.
-use Rattle.std.proofs.Common.{◌≡◌, ◌≢◌, Bool, true, false, cond, refl, sym, ap, ◌∙◌, Option, Some, None}
+use Rattle.std.proofs.Common.{◌≡◌, ◌≢◌, Bool, true, false, cond, refl, sym, subst, ap, ◌∙◌, Option, Some, None, IfSome, is_some}
 use Rattle.std.specs.Ordering.{eq_by_cmp}
 use Rattle.std.specs.declared.cmp.Ordering.{Ordering}
 use Rattle.std.specs.Cmp.{IsTotalOrder, Equal-is, tied_itself}
@@ -53,3 +53,19 @@ module _ {K X : Type 0} {R : K → K → Ordering} (total : IsTotalOrder R) (sam
       by : (b : Bool) → eq_by_cmp R k j ≡ b → cond b v (get m k) ≡ get m k
       by true e = absurd (h (sym (same k j ((Equal-is (R k j)).0 e))))
       by false e = refl
+
+  -- the value of a key that has one changes, and no other key gains or loses one
+  pub is_some-put_option : (m : FinMap R X) (k : K) (v : X) (q : K) → is_some (get m k) ≡ true → is_some (get (put_option m k (Some v)) q) ≡ is_some (get m q)
+  is_some-put_option m k v q there = ap is_some (get-put_option m k (Some v) q) ∙ by (eq_by_cmp R q k) refl
+    where
+      by : (b : Bool) → eq_by_cmp R q k ≡ b → is_some (cond b (Some v) (get m q)) ≡ is_some (get m q)
+      by true e = sym there ∙ ap (λ x. is_some (get m x)) (sym (same q k ((Equal-is (R q k)).0 e)))
+      by false e = refl
+
+  -- what holds of each value holds still where it holds of the new one
+  pub IfSome-put_option : (P : X → Type 0) (m : FinMap R X) (k : K) (v : X) (q : K) → P v → IfSome (get m q) P → IfSome (get (put_option m k (Some v)) q) P
+  IfSome-put_option P m k v q new old = subst (λ o. IfSome o P) (sym (get-put_option m k (Some v) q)) (by (eq_by_cmp R q k))
+    where
+      by : (b : Bool) → IfSome (cond b (Some v) (get m q)) P
+      by true = new
+      by false = old

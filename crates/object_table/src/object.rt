@@ -1,6 +1,6 @@
 //! What an object is.
 
-ghost use Rattle.std.specs.Prelude.{◌≡◌, [], IsSome};
+ghost use Rattle.std.specs.Prelude.{◌≡◌, [], IsSome, is_some};
 ghost use Rattle.object_table.specs.Flags.{visible_of, hilite_of, shared_hilite_of, lock_text_of, shared_text_of, cant_delete_of, with_visible, with_hilite, with_shared_hilite, with_lock_text, with_shared_text, with_cant_delete};
 ghost use Rattle.object_table.specs.Layers.{layer_id, is_of_layer};
 ghost use Rattle.object_table.specs.Objects.{is_of};
@@ -59,6 +59,24 @@ impl Object {
             name: Text::new(alloc),
             script: Text::new(alloc),
             kind,
+        }
+    }
+
+    pub(crate) fn may_set(&self, value: &PropValue) -> bool
+        ensures { result ≡ is_some (value_in value.now self.now) }
+    {
+        match value {
+            PropValue::NameIs(_) | PropValue::ScriptIs(_) => true,
+            PropValue::VisibleIs(_) => {
+                self.kind.is_part(PartKind::Button) || self.kind.is_part(PartKind::Field)
+            }
+            PropValue::HiliteIs(_) => matches!(self.kind, Kind::CardButton { .. }),
+            PropValue::SharedHiliteIs(_) => matches!(self.kind, Kind::BackgroundButton { .. }),
+            PropValue::LockTextIs(_) => self.kind.is_part(PartKind::Field),
+            PropValue::SharedTextIs(_) => matches!(self.kind, Kind::BackgroundField { .. }),
+            PropValue::CantDeleteIs(_) => {
+                matches!(self.kind, Kind::Background { .. } | Kind::Card { .. })
+            }
         }
     }
 

@@ -294,6 +294,16 @@ impl Stack {
         self.slots.swap_object(id, &mut object);
     }
 
+    /// Whether this is a value of a property that may be set: the object is there, and has that property.
+    pub fn may_set(&self, id: Id, value: &PropValue) -> bool
+        ensures { result ≡ may_set self.now.content id value.now }
+    {
+        match self.object(id) {
+            Some(object) => object.may_set(value),
+            None => false,
+        }
+    }
+
     /// Exchanges the order of the cards with another.
     pub fn swap_order(&mut self, cards: &mut IdList)
         ensures value { cards.new ≡ self.old.content.cards }

@@ -69,6 +69,19 @@ fn has_parts(stack: &Stack, layer: Layer, parts: &[Id]) -> bool {
 }
 
 #[test]
+fn what_may_be_set(rt: HostRuntime) -> Result<(), Fail> {
+    let alloc = rt.alloc();
+    let stack = demo(alloc)?;
+    assert!(rt; stack.may_set(3, &PropValue::NameIs(Text::new(alloc))));
+    assert!(rt; stack.may_set(3, &PropValue::SharedTextIs(true)));
+    assert!(rt; !stack.may_set(3, &PropValue::HiliteIs(true)));
+    assert!(rt; stack.may_set(4, &PropValue::CantDeleteIs(true)));
+    assert!(rt; !stack.may_set(4, &PropValue::VisibleIs(true)));
+    assert!(rt; !stack.may_set(5, &PropValue::NameIs(Text::new(alloc))));
+    Ok(())
+}
+
+#[test]
 fn the_empty_stack_has_a_background_and_a_card(rt: HostRuntime) -> Result<(), Fail> {
     let stack = Stack::new(rt.alloc())?;
     assert!(rt; has_name(&stack, 0, b""));
