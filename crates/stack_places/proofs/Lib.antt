@@ -1,0 +1,4 @@
+pub mod Settings
+pub mod Exchanging
+pub mod Places
+pub mod Wider
