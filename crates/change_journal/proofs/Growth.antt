@@ -52,10 +52,10 @@ history-grown b k lot w ready opened =
     λ i. record { past = past i; now = w.state i; stamp = stamp_of b.oldest behind; future = future i; start = Some (record { state = start i; number = lot.number; undo = weight lot.entries; redo = redo i; trail = trail i }); depth = b.depth; turns = w.turns i }
 
 pub AllReady-grown : (b : Book) (k : Held) → Grows b.held k → AllReady (shape_of b.held) b.batches → AllReady (shape_of k) b.batches
-AllReady-grown b k w ready = AllReady-wider (shape_of b.held) (shape_of k) b.batches (names-grown b.held k w) (counts-grown b.held k w) ready
+AllReady-grown b k w ready = AllReady-wider (shape_of b.held) (shape_of k) b.batches (names-grown b.held k w) (counts-grown b.held k w) w.room ready
 
 pub AreReady-grown : (h k : Held) (lot : Lot) → Grows h k → AreReady (shape_of h) lot.entries → AreReady (shape_of k) lot.entries
-AreReady-grown h k lot w ready = AreReady-wider (shape_of h) (shape_of k) lot.entries (names-grown h k w) (counts-grown h k w) ready
+AreReady-grown h k lot w ready = AreReady-wider (shape_of h) (shape_of k) lot.entries (names-grown h k w) (counts-grown h k w) w.room ready
 
 pub IsSound-grown : (b : Book) (k : Held) (room : ℕ) (lot : Lot) → Grows b.held k → IsSound b room (Some lot) → IsSound (with_held b k) room (Some lot)
 IsSound-grown b k room lot w sound = record {

@@ -1,12 +1,21 @@
 -- A change, and a turn of an external, in an open batch.
-use Rattle.std.proofs.Common.{◌≡◌, ◌++◌, ℕ, ◌+◌, ◌<◌, true, false, if◌then◌else◌, List, [], ◌∷◌, length, map, take, drop, reverse, refl, sym, subst, ap, ◌∙◌, arith, Option, Some, None, inl, inr}
+use Rattle.std.proofs.Common.{Bool, ◌≡◌, ◌++◌, ℕ, ◌+◌, ◌<◌, true, false, if◌then◌else◌, List, [], ◌∷◌, length, map, take, drop, reverse, refl, sym, subst, ap, ◌∙◌, arith, Option, Some, None, inl, inr}
 use Rattle.externals.specs.Cells.{Changes, IsPatch}
 use Rattle.externals.specs.declared.external.Input.{Input}
 use Rattle.externals.specs.declared.external.Ask.{Ask}
+use Rattle.object_table.specs.Content.{Content}
+use Rattle.object_table.specs.Maps.{put_option}
+use Rattle.object_table.specs.Setting.{with_value_at}
+use Rattle.object_table.specs.declared.property.PropValue.{PropValue}
+use Rattle.object_table.proofs.Rewritten.{text-rewritten, hilite-rewritten, property-rewritten, is_card-rewritten}
+use Rattle.stack_places.specs.Places.{size_of, property, field_text, button_hilite, prop_of, setting, text, logical, put as put_in_stack}
+use Rattle.stack_places.specs.Exchange.{exchanged as exchanged_in_stack}
+use Rattle.stack_places.specs.declared.entry.StackEntry.TheVariants as stack_entries
+use Rattle.stack_places.proofs.Exchanging.{puts}
 use Rattle.journal_entries.specs.State.{State, IsState, seen_at, titles_of, are_apart}
 use Rattle.journal_entries.specs.Places.{Place, Write, put, put_all, value_at}
-use Rattle.journal_entries.specs.Changes.{changed, writes_of, fits}
-use Rattle.journal_entries.specs.Replaced.{Replacement, replaced_by, replaced_by_turn, back_weight, forth_weight, size_of}
+use Rattle.journal_entries.specs.Changes.{changed, writes_of, fits, HasTexts}
+use Rattle.journal_entries.specs.Replaced.{Replacement, replaced_by, replaced_by_turn, back_weight, forth_weight}
 use Rattle.journal_entries.specs.Trails.{Mark, at, structural, holds, marked, IsOnce}
 use Rattle.journal_entries.specs.Exchange.{Held, Lot, Shape, shape_of, exchanged, taken, back, entry_weight, mark_of, trail_of, is_structural, IsReady, AreReady}
 use Rattle.journal_entries.specs.Turning.{Carries, Turns, TurnsAtMostOnce, IsNumbered, one_more_at}
@@ -17,7 +26,7 @@ use Rattle.journal_entries.specs.declared.change.Change.TheVariants as changes
 use Rattle.journal_entries.specs.declared.change.Change.{Change}
 use Rattle.journal_entries.proofs.Going.{back-push, exchanged_back, taken_back, same_shape, AreReady-push, IsReady-taken}
 use Rattle.journal_entries.proofs.Weighing.{weight-recorded, redo-recorded, trail_of-recorded, mark_of-taken}
-use Rattle.journal_entries.proofs.Once.{back-once, redo-once, holds-trail}
+use Rattle.journal_entries.proofs.Once.{back-once, redo-once, holds-trail, plain}
 use Rattle.change_journal.specs.History.{Open, History, IsStart, IsHistory}
 use Rattle.change_journal.specs.Rising.{Rises, Made, TookTurn, BothOpen, trail_after}
 use Rattle.change_journal.specs.Batches.{Book, stamp_of, past_steps, future_steps, open_of, history_of, AllReady, IsSound}
@@ -52,12 +61,12 @@ rises-recorded h lot e w ready carries new =
     let s = h.state in
     let t = taken names s e in
     let next = exchanged names s e in
-    let undone = exchanged_back names s e ready in
+    let undone = exchanged_back h.room names s e ready in
     record {
       state = back-push names next lot.entries t ∙ ap (λ x. back names x lot.entries) undone;
       number = refl;
       undo = omega (arith, weight-recorded lot.entries t, carries.back, sum_one-back s w);
-      redo = omega (arith, redo-recorded names s next lot.entries t undone, ap entry_weight (taken_back names s e ready), carries.forth, sum_one-forth s w);
+      redo = omega (arith, redo-recorded names s next lot.entries t undone, ap entry_weight (taken_back h.room names s e ready), carries.forth, sum_one-forth s w);
       trail = trail_of-recorded names lot.entries t ∙ ap (λ m. m ∷ trail_of names lot.entries) (mark_of-taken names s e ∙ carries.mark) ∙ ap (λ b. if b then trail_of names lot.entries else at w.place ∷ trail_of names lot.entries) (sym new);
     }
   where
@@ -82,13 +91,6 @@ rises-held h lot e w only opened plain carries held there =
   where
     sum_one : (s : State) (w : Write) → forth_weight (one s w) ≡ 32 + size_of w.value
     sum_one s w = omega arith
-
--- what goes to a place isn't structural
-plain : (names : List (List ℕ)) (e : Entry) (p : Place) → mark_of names e ≡ at p → is_structural e ≡ false
-unfolding mark_of is_structural
-plain names (Global i v) p m = refl
-plain names (Current c) p m = refl
-plain names (External i q) p m = let none : structural ≡ at p → ⊥ = λ x. cc in absurd (none m)
 
 -- the open batch after a write
 rises : (h : Held) (lot : Lot) (e : Entry) (w : Write) → IsReady (shape_of h) e → IsNumbered h.names e → AreReady (shape_of h) lot.entries → Carries h.names h.state w e → (let o = open_of h.names h.state lot in Rises (one h.state w) (trail_after (one h.state w) o.trail) o (open_of h.names (exchanged h.names h.state e) (record lot { entries = kept lot.entries e (taken h.names h.state e) })))
@@ -124,14 +126,38 @@ history-made b lot e w change ready only opened carries writes =
 
 -- ---- what stays true
 
-state-changed : (s : State) (change : Change) → fits s change ≡ true → IsState s → IsState (changed s change)
+set_text : (s : Content) (field card : ℕ) (t : List ℕ) → put_in_stack s (field_text field card) (Some (text t)) ≡ record s { texts = put_option s.texts (field, card) (Some t) }
+unfolding put_in_stack
+set_text s field card t = refl
+
+set_hilite : (s : Content) (button card : ℕ) (b : Bool) → put_in_stack s (button_hilite button card) (Some (logical b)) ≡ record s { hilites = put_option s.hilites (button, card) (Some b) }
+unfolding put_in_stack
+set_hilite s button card b = refl
+
+set_property : (s : Content) (id : ℕ) (v : PropValue) → put_in_stack s (property id (prop_of v)) (Some (setting v)) ≡ with_value_at s id v
+unfolding exchanged_in_stack
+set_property s id v = sym (puts s (stack_entries.Prop id v))
+
+state-changed : (s : State) (change : Change) → fits s change ≡ true → HasTexts change → IsState s → IsState (changed s change)
 unfolding put
-state-changed s (changes.Global name v) f q = record { stack = q.stack; current = q.current; externals = q.externals }
-state-changed s (changes.Current card) f q = record { stack = q.stack; current = f; externals = q.externals }
+state-changed s (changes.Global name v) f h q = record { stack = q.stack; current = q.current; externals = q.externals }
+state-changed s (changes.FieldText field card t) f h q = rw (set_text s.stack field card t) (record { stack = text-rewritten s.stack field card t f h q.stack; current = q.current; externals = q.externals })
+state-changed s (changes.Hilite button card b) f h q = rw (set_hilite s.stack button card b) (record { stack = hilite-rewritten s.stack button card b f q.stack; current = q.current; externals = q.externals })
+state-changed s (changes.Prop id v) f h q =
+    rw (set_property s.stack id v)
+    (record {
+      stack = property-rewritten s.stack id v h q.stack;
+      current = is_card-rewritten s.stack id v s.current ∙ q.current;
+      externals = q.externals;
+    })
+state-changed s (changes.Current card) f h q = record { stack = q.stack; current = f; externals = q.externals }
 
 titles-changed : (s : State) (change : Change) → titles_of (changed s change).externals ≡ titles_of s.externals
 unfolding put
 titles-changed s (changes.Global name v) = refl
+titles-changed s (changes.FieldText field card t) = refl
+titles-changed s (changes.Hilite button card b) = refl
+titles-changed s (changes.Prop id v) = refl
 titles-changed s (changes.Current card) = refl
 
 once-marked : (p : Place) (trail : List Mark) → IsOnce trail → IsOnce (marked p trail)
@@ -147,12 +173,12 @@ start-risen ts None (Some p) rs marks once up h = absurd up
 start-risen ts (Some o) None rs marks once up h = absurd up
 start-risen ts (Some o) (Some p) rs marks once up h = (rw up.state h.0, rw up.trail (once o h.1))
 
-pub IsHistory-made : (old new : History) (change : Change) → fits old.now change ≡ true → Made old new change → IsHistory old → IsHistory new
-IsHistory-made old new change f made q =
+pub IsHistory-made : (old new : History) (change : Change) → fits old.now change ≡ true → HasTexts change → Made old new change → IsHistory old → IsHistory new
+IsHistory-made old new change f h made q =
     rw made.history (record {
       titles = q.titles;
       past = q.past;
-      now = record { state = state-changed old.now change f q.now.state; titles = titles-changed old.now change ∙ q.now.titles };
+      now = record { state = state-changed old.now change f h q.now.state; titles = titles-changed old.now change ∙ q.now.titles };
       future = q.future;
       start = start-risen q.titles old.start new.start (replaced_by old.now change) (λ o. trail_after (replaced_by old.now change) o.trail) (λ o h. once-after (replaced_by old.now change) o.trail h) made.start q.start;
     })
@@ -164,11 +190,11 @@ made-all b k lot more change m ready opened =
     let made = history-made mid lot m.entry m.prepared.write change m.prepared.ready m.prepared.numbered (AreReady-grown b.held m.mid lot m.grows opened) m.prepared.carries m.prepared.writes in
     rw (m.held, m.lot) (subst (λ h. Made h (history_of (with_held b (made_held m.mid m.entry)) (Some (made_lot m.mid lot m.entry))) change) grown made)
 
-pub IsSound-made : (b : Book) (k : Held) (room : ℕ) (lot more : Lot) (change : Change) → fits b.held.state change ≡ true → Makes b.held k lot more change → IsSound b room (Some lot) → IsSound (with_held b k) room (Some more)
-IsSound-made b k room lot more change f m sound =
+pub IsSound-made : (b : Book) (k : Held) (room : ℕ) (lot more : Lot) (change : Change) → fits b.held.state change ≡ true → HasTexts change → Makes b.held k lot more change → IsSound b room (Some lot) → IsSound (with_held b k) room (Some more)
+IsSound-made b k room lot more change f texts m sound =
     let mid = m.mid in
     let h = shape_of mid in
-    let same = same_shape mid.names mid.state m.entry in
+    let same = same_shape mid.room mid.names mid.state m.entry in
     let made = made-all b k lot more change m sound.ready sound.opened.0 in
     let shape : shape_of k ≡ h = ap shape_of m.held ∙ same in
     let entries : more.entries ≡ kept lot.entries m.entry (taken mid.names mid.state m.entry) = ap (λ l. l.entries) m.lot in
@@ -179,7 +205,7 @@ IsSound-made b k room lot more change f m sound =
       some = sound.some;
       ready = rw shape (AllReady-grown b mid m.grows sound.ready);
       opened = (rw (shape, entries) opened, sound.opened.1);
-      history = IsHistory-made (history_of b (Some lot)) (history_of (with_held b k) (Some more)) change f made sound.history;
+      history = IsHistory-made (history_of b (Some lot)) (history_of (with_held b k) (Some more)) change f texts made sound.history;
     }
 
 -- ---- a turn
@@ -230,7 +256,7 @@ IsHistory-turned old new i input ask took q =
 pub IsSound-turned : (b : Book) (k : Held) (room : ℕ) (lot more : Lot) (i : ℕ) (input : Input) (ask : Ask) (p : Changes) → i < length b.held.state.externals → Turns b.held.state k.state i input ask → IsPatch (seen_at b.held.state i).cells (seen_at k.state i).cells p → more ≡ record lot { entries = lot.entries ++ External i p ∷ [] } → k ≡ record b.held { state = k.state; turns = one_more_at b.held.turns i } → IsSound b room (Some lot) → IsSound (with_held b k) room (Some more)
 IsSound-turned b k room lot more i input ask p there turn patch lot_is held_is sound =
     let h = shape_of b.held in
-    let shape : shape_of k ≡ h = λ x. record { names = length (held_is x).names; counts = counts-turned b.held.state k.state i input ask turn x } in
+    let shape : shape_of k ≡ h = λ x. record { names = length (held_is x).names; counts = counts-turned b.held.state k.state i input ask turn x; room = (held_is x).room } in
     let entries : more.entries ≡ lot.entries ++ External i p ∷ [] = ap (λ l. l.entries) lot_is in
     record {
       within = sound.within;

@@ -31,7 +31,7 @@ IsSound-rolled_back b room lot sound = record {
   within = sound.within;
   few = sound.few;
   some = sound.some;
-  ready = rw (shape-back b.held.names b.held.state lot.entries) sound.ready;
+  ready = rw (shape-back b.held.room b.held.names b.held.state lot.entries) sound.ready;
   opened = tt;
   history = IsHistory-rolled_back (history_of b (Some lot)) (open_of b.held.names b.held.state lot) refl sound.history;
 }

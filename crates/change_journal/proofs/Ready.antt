@@ -2,6 +2,8 @@
 use Rattle.std.proofs.Common.{◌≡◌, ◌++◌, ℕ, zero, suc, ◌<◌, ◌≤◌, List, [], ◌∷◌, length, get_or, set, take, drop, reverse, arith}
 use Rattle.std.proofs.lemmas.List.{reverse-append}
 use Rattle.externals.specs.Cells.{Seen}
+use Rattle.object_table.specs.Table.{Room}
+use Rattle.stack_places.specs.Exchange.{IsWider}
 use Rattle.journal_entries.specs.State.{State}
 use Rattle.journal_entries.specs.Exchange.{Shape, Lot, AreReady}
 use Rattle.journal_entries.proofs.Growing.{AreReady-wider}
@@ -39,10 +41,10 @@ pub AllReady-reverse : (h : Shape) (bs : List Lot) → AllReady h bs → AllRead
 AllReady-reverse h [] r = tt
 AllReady-reverse h (b ∷ bs) r = rw (reverse-append (b ∷ []) bs) (AllReady-push h (reverse bs) b (AllReady-reverse h bs r.1) r.0)
 
-pub AllReady-wider : (h k : Shape) (bs : List Lot) → h.names ≤ k.names → h.counts ≡ k.counts → AllReady h bs → AllReady k bs
-AllReady-wider h k [] n c q = tt
-AllReady-wider h k (b ∷ bs) n c q = (AreReady-wider h k b.entries n c q.0, AllReady-wider h k bs n c q.1)
+pub AllReady-wider : (h k : Shape) (bs : List Lot) → h.names ≤ k.names → h.counts ≡ k.counts → IsWider h.room k.room → AllReady h bs → AllReady k bs
+AllReady-wider h k [] n c w q = tt
+AllReady-wider h k (b ∷ bs) n c w q = (AreReady-wider h k b.entries n c w q.0, AllReady-wider h k bs n c w q.1)
 
-pub AllReady-plugged : (names : List (List ℕ)) (s : State) (x : Seen) (bs : List Lot) → AllReady (shaped names s) bs → AllReady (shaped names (record s { externals = s.externals ++ x ∷ [] })) bs
-AllReady-plugged names s x [] r = tt
-AllReady-plugged names s x (b ∷ bs) r = (AreReady-plugged names s x b.entries r.0, AllReady-plugged names s x bs r.1)
+pub AllReady-plugged : (room : Room) (names : List (List ℕ)) (s : State) (x : Seen) (bs : List Lot) → AllReady (shaped room names s) bs → AllReady (shaped room names (record s { externals = s.externals ++ x ∷ [] })) bs
+AllReady-plugged room names s x [] r = tt
+AllReady-plugged room names s x (b ∷ bs) r = (AreReady-plugged room names s x b.entries r.0, AllReady-plugged room names s x bs r.1)

@@ -1,9 +1,9 @@
-ghost use Rattle.std.specs.Prelude.{◌≡◌, ◌≤◌, None, OnOk, IfOk};
+ghost use Rattle.std.specs.Prelude.{◌≡◌, ◌≤◌, None, OnOk, IfOk, IsSome};
 
 use crate::{Change, OpenError, PlugError, World};
 use externals::{Ask, External, Input, Patch, Texts};
 use ht_values::Text;
-use object_table::Stack;
+use object_table::{PropValue, Stack};
 use std::alloc::{AllocError, Global};
 use std::mem;
 use std::test::Fail;
@@ -164,6 +164,49 @@ fn turn<E: External>(
     Ok((turned, back, forth))
 }
 
+/// The name of the empty stack's card.
+fn card_name<E: External>(alloc: Global, world: &World<E>) -> Result<Text, Fail> {
+    match world.stack().object(2) {
+        Some(card) => Ok(card.name.try_clone(alloc)?),
+        None => Err("no card".into()),
+    }
+}
+
+/// Sets a property of the empty stack's card in the open batch.
+fn set_of_card<E: External>(world: &mut World<E>, value: PropValue) -> Result<(), Fail>
+    requires { IsSome world.old.history.start }
+    ensures { OnOk result (IsSome world.new.history.start) }
+{
+    let change = Change::Prop(2, value);
+    if !world.fits(&change) {
+        return Err("fits".into());
+    }
+    world.make(change)?;
+    Ok(())
+}
+
+/// One line that names the card twice and keeps it from deletion: the name after it, after a flip back and after
+/// one forth.
+fn named<E: External>(alloc: Global, externals: Vec<E>) -> Result<(Text, Text, Text), Fail> {
+    let mut world = open_world(alloc, externals, 3)?;
+    world.begin(1)?;
+    set_of_card(&mut world, PropValue::NameIs(text(alloc, b"First")?))?;
+    set_of_card(&mut world, PropValue::CantDeleteIs(true))?;
+    set_of_card(&mut world, PropValue::NameIs(text(alloc, b"Home")?))?;
+    world.commit();
+    let named = card_name(alloc, &world)?;
+    if world.undoable() == 0 {
+        return Err("no place".into());
+    }
+    world.flip_back();
+    let back = card_name(alloc, &world)?;
+    if world.redoable() == 0 {
+        return Err("no place".into());
+    }
+    world.flip_forth();
+    Ok((named, back, card_name(alloc, &world)?))
+}
+
 fn turned_cells<E: External>(alloc: Global, externals: Vec<E>) -> Result<(Text, Text, Text), Fail> {
     let mut world = open_world(alloc, externals, 3)?;
     turn(alloc, &mut world, 1)
@@ -283,6 +326,17 @@ fn lines_and_depth(rt: HostRuntime) -> Result<(), Fail> {
     assert_eq!(rt; (third.undoable, third.stamp, third.redoable), (2, 10, 0));
     let none: Vec<Box<dyn External>> = Vec::new(alloc);
     assert_eq!(rt; stamps(alloc, none)?, (6, 4, 0));
+    Ok(())
+}
+
+#[test]
+fn properties_go_back(rt: HostRuntime) -> Result<(), Fail> {
+    let alloc = rt.alloc();
+    let none: Vec<Box<dyn External>> = Vec::new(alloc);
+    let (named, back, forth) = named(alloc, none)?;
+    assert_eq!(rt; named.as_slice(), b"Home".as_slice());
+    assert_eq!(rt; back.len(), 0);
+    assert_eq!(rt; forth.as_slice(), b"Home".as_slice());
     Ok(())
 }
 

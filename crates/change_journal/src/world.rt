@@ -17,7 +17,7 @@ ghost use Rattle.change_journal.specs.Rising.{Made, TookTurn};
 use crate::fault::{OpenError, PlugError};
 use externals::{Ask, External, Input};
 use ht_values::Text;
-use journal_entries::{Batch, Change, Present, are_apart};
+use journal_entries::{Batch, Change, Present, are_apart, law_of_texts};
 use object_table::Stack;
 use std::alloc::{AllocError, Global};
 use std::collections::VecDeque;
@@ -171,7 +171,8 @@ impl<E: External> World<E> {
         }
     }
 
-    /// Whether a change fits: a global goes by its folded name, and what becomes current is a card.
+    /// Whether a change fits: a global goes by its folded name, a text, a hilite and a property are there already,
+    /// and what becomes current is a card.
     pub fn fits(&self, change: &Change) -> bool
         ensures { result ≡ fits self.now.history.now change.now }
     {
@@ -197,6 +198,7 @@ impl<E: External> World<E> {
         ensures ok { OnOk result (Made self.old.history self.new.history change) }
         ensures err { OnErr result (self.new.history ≡ self.old.history) }
     {
+        law_of_texts(&change);
         match &mut self.open {
             Some(batch) => batch.make(&mut self.present, change),
             None => unreachable!(),

@@ -6,10 +6,12 @@ use Rattle.std.specs.FinMap.{get}
 use Rattle.externals.specs.Cells.{Seen, none_seen, flipped, taken_out, IsProper}
 use Rattle.std.proofs.lemmas.Cmp.{nat_list_cmp_total}
 use Rattle.object_table.proofs.Maps.{put_option_again, put_option_same, put_option-get}
+use Rattle.object_table.specs.Table.{Room}
+use Rattle.stack_places.proofs.Exchanging as stack
 use Rattle.journal_entries.specs.State.{State}
 use Rattle.journal_entries.specs.Exchange.{Shape, counts_of, with_cells, exchanged, taken, forth, forth_taken, back, back_taken, IsReady, AreReady}
 use Rattle.journal_entries.specs.declared.entry.Entry.{Entry}
-use Rattle.journal_entries.specs.declared.entry.Entry.TheVariants.{Global, Current, External}
+use Rattle.journal_entries.specs.declared.entry.Entry.TheVariants.{Global, Current, Stack, External}
 use Rattle.journal_entries.proofs.Naming.{antisymmetric}
 use Rattle.externals.proofs.Flipping.{length-flipped, flipped_back, taken_out_back, IsProper-taken_out, set-set_same}
 
@@ -45,17 +47,19 @@ pub counts-exchanged : (names : List (List ℕ)) (s : State) (e : Entry) → cou
 unfolding exchanged
 counts-exchanged names s (Global i v) = refl
 counts-exchanged names s (Current c) = refl
+counts-exchanged names s (Stack e) = refl
 counts-exchanged names s (External i p) = counts_of-set s.externals i (flipped (at s i).cells p) (length-flipped (at s i).cells p)
 
-abbrev pub shaped : List (List ℕ) → State → Shape
-shaped names s = record { names = length names; counts = counts_of s.externals }
+abbrev pub shaped : Room → List (List ℕ) → State → Shape
+shaped room names s = record { names = length names; counts = counts_of s.externals; room = room }
 
 -- an exchange and the exchange of what came out
-pub exchanged_back : (names : List (List ℕ)) (s : State) (e : Entry) → IsReady (shaped names s) e → exchanged names (exchanged names s e) (taken names s e) ≡ s
+pub exchanged_back : (room : Room) (names : List (List ℕ)) (s : State) (e : Entry) → IsReady (shaped room names s) e → exchanged names (exchanged names s e) (taken names s e) ≡ s
 unfolding exchanged taken IsReady
-exchanged_back names s (Global i v) h = ap (λ m. record s { globals = m }) (put_option_again nat_list_cmp_total antisymmetric s.globals (get_or names i []) v (get s.globals (get_or names i [])) ∙ put_option_same nat_list_cmp_total antisymmetric s.globals (get_or names i []))
-exchanged_back names s (Current c) h = refl
-exchanged_back names s (External i p) h =
+exchanged_back room names s (Global i v) h = ap (λ m. record s { globals = m }) (put_option_again nat_list_cmp_total antisymmetric s.globals (get_or names i []) v (get s.globals (get_or names i [])) ∙ put_option_same nat_list_cmp_total antisymmetric s.globals (get_or names i []))
+exchanged_back room names s (Current c) h = refl
+exchanged_back room names s (Stack e) h = ap (λ x. record s { stack = x }) (stack.exchanged_back s.stack e)
+exchanged_back room names s (External i p) h =
     let e = at s i in
     let there : i < length s.externals = omega (arith, h.0, length-counts s.externals) in
     let proper : IsProper (length e.cells) p = subst (λ n. IsProper n p) (get_or-counts s.externals i) h.1 in
@@ -67,11 +71,12 @@ exchanged_back names s (External i p) h =
     ∙ ap (λ cs. set s.externals i (with_cells e cs)) (flipped_back e.cells p proper)
     ∙ set-get_or s.externals i none_seen)
 
-pub taken_back : (names : List (List ℕ)) (s : State) (e : Entry) → IsReady (shaped names s) e → taken names (exchanged names s e) (taken names s e) ≡ e
+pub taken_back : (room : Room) (names : List (List ℕ)) (s : State) (e : Entry) → IsReady (shaped room names s) e → taken names (exchanged names s e) (taken names s e) ≡ e
 unfolding exchanged taken IsReady
-taken_back names s (Global i v) h = ap (λ x. Global i x) (put_option-get nat_list_cmp_total antisymmetric s.globals (get_or names i []) v)
-taken_back names s (Current c) h = refl
-taken_back names s (External i p) h =
+taken_back room names s (Global i v) h = ap (λ x. Global i x) (put_option-get nat_list_cmp_total antisymmetric s.globals (get_or names i []) v)
+taken_back room names s (Current c) h = refl
+taken_back room names s (Stack e) h = ap (λ x. Stack x) (stack.taken_back s.stack e)
+taken_back room names s (External i p) h =
     let e = at s i in
     let there : i < length s.externals = omega (arith, h.0, length-counts s.externals) in
     let proper : IsProper (length e.cells) p = subst (λ n. IsProper n p) (get_or-counts s.externals i) h.1 in
@@ -83,19 +88,20 @@ pub IsReady-taken : (h : Shape) (names : List (List ℕ)) (s : State) (e : Entry
 unfolding IsReady taken
 IsReady-taken h names s (Global i v) r = r
 IsReady-taken h names s (Current c) r = tt
+IsReady-taken h names s (Stack e) r = stack.IsReady-taken h.room s.stack e r
 IsReady-taken h names s (External i p) r = (r.0, IsProper-taken_out (get_or h.counts i 0) (at s i).cells p r.1)
 
 -- the shape stays
-pub same_shape : (names : List (List ℕ)) (s : State) (e : Entry) → shaped names (exchanged names s e) ≡ shaped names s
-same_shape names s e = ap (λ cs. record { names = length names; counts = cs }) (counts-exchanged names s e)
+pub same_shape : (room : Room) (names : List (List ℕ)) (s : State) (e : Entry) → shaped room names (exchanged names s e) ≡ shaped room names s
+same_shape room names s e = ap (λ cs. record { names = length names; counts = cs; room = room }) (counts-exchanged names s e)
 
-pub shape-forth : (names : List (List ℕ)) (s : State) (es : List Entry) → shaped names (forth names s es) ≡ shaped names s
-shape-forth names s [] = refl
-shape-forth names s (e ∷ es) = shape-forth names (exchanged names s e) es ∙ same_shape names s e
+pub shape-forth : (room : Room) (names : List (List ℕ)) (s : State) (es : List Entry) → shaped room names (forth names s es) ≡ shaped room names s
+shape-forth room names s [] = refl
+shape-forth room names s (e ∷ es) = shape-forth room names (exchanged names s e) es ∙ same_shape room names s e
 
-pub shape-back : (names : List (List ℕ)) (s : State) (es : List Entry) → shaped names (back names s es) ≡ shaped names s
-shape-back names s [] = refl
-shape-back names s (e ∷ es) = same_shape names (back names s es) e ∙ shape-back names s es
+pub shape-back : (room : Room) (names : List (List ℕ)) (s : State) (es : List Entry) → shaped room names (back names s es) ≡ shaped room names s
+shape-back room names s [] = refl
+shape-back room names s (e ∷ es) = same_shape room names (back names s es) e ∙ shape-back room names s es
 
 pub AreReady-forth_taken : (h : Shape) (names : List (List ℕ)) (s : State) (es : List Entry) → AreReady h es → AreReady h (forth_taken names s es)
 AreReady-forth_taken h names s [] r = tt
@@ -106,29 +112,29 @@ AreReady-back_taken h names s [] r = tt
 AreReady-back_taken h names s (e ∷ es) r = (IsReady-taken h names (back names s es) e r.0, AreReady-back_taken h names s es r.1)
 
 -- back over what was gone forth over
-pub back-forth : (names : List (List ℕ)) (s : State) (es : List Entry) → AreReady (shaped names s) es → back names (forth names s es) (forth_taken names s es) ≡ s
-back-forth names s [] r = refl
-back-forth names s (e ∷ es) r =
+pub back-forth : (room : Room) (names : List (List ℕ)) (s : State) (es : List Entry) → AreReady (shaped room names s) es → back names (forth names s es) (forth_taken names s es) ≡ s
+back-forth room names s [] r = refl
+back-forth room names s (e ∷ es) r =
     let one = exchanged names s e in
-    let rest : AreReady (shaped names one) es = subst (λ h. AreReady h es) (sym (same_shape names s e)) r.1 in
-    ap (λ x. exchanged names x (taken names s e)) (back-forth names one es rest) ∙ exchanged_back names s e r.0
+    let rest : AreReady (shaped room names one) es = subst (λ h. AreReady h es) (sym (same_shape room names s e)) r.1 in
+    ap (λ x. exchanged names x (taken names s e)) (back-forth room names one es rest) ∙ exchanged_back room names s e r.0
 
-pub back_taken-forth : (names : List (List ℕ)) (s : State) (es : List Entry) → AreReady (shaped names s) es → back_taken names (forth names s es) (forth_taken names s es) ≡ es
-back_taken-forth names s [] r = refl
-back_taken-forth names s (e ∷ es) r =
+pub back_taken-forth : (room : Room) (names : List (List ℕ)) (s : State) (es : List Entry) → AreReady (shaped room names s) es → back_taken names (forth names s es) (forth_taken names s es) ≡ es
+back_taken-forth room names s [] r = refl
+back_taken-forth room names s (e ∷ es) r =
     let one = exchanged names s e in
-    let rest : AreReady (shaped names one) es = subst (λ h. AreReady h es) (sym (same_shape names s e)) r.1 in
-    let first = ap (λ x. taken names x (taken names s e)) (back-forth names one es rest) ∙ taken_back names s e r.0 in
-    let others = back_taken-forth names one es rest in
+    let rest : AreReady (shaped room names one) es = subst (λ h. AreReady h es) (sym (same_shape room names s e)) r.1 in
+    let first = ap (λ x. taken names x (taken names s e)) (back-forth room names one es rest) ∙ taken_back room names s e r.0 in
+    let others = back_taken-forth room names one es rest in
     λ k. first k ∷ others k
 
 -- forth over what was gone back over
-pub forth-back : (names : List (List ℕ)) (s : State) (es : List Entry) → AreReady (shaped names s) es → forth names (back names s es) (back_taken names s es) ≡ s
-forth-back names s [] r = refl
-forth-back names s (e ∷ es) r =
+pub forth-back : (room : Room) (names : List (List ℕ)) (s : State) (es : List Entry) → AreReady (shaped room names s) es → forth names (back names s es) (back_taken names s es) ≡ s
+forth-back room names s [] r = refl
+forth-back room names s (e ∷ es) r =
     let one = back names s es in
-    let ready : IsReady (shaped names one) e = subst (λ h. IsReady h e) (sym (shape-back names s es)) r.0 in
-    ap (λ x. forth names x (back_taken names s es)) (exchanged_back names one e ready) ∙ forth-back names s es r.1
+    let ready : IsReady (shaped room names one) e = subst (λ h. IsReady h e) (sym (shape-back room names s es)) r.0 in
+    ap (λ x. forth names x (back_taken names s es)) (exchanged_back room names one e ready) ∙ forth-back room names s es r.1
 
 -- one more entry at the end
 pub back-push : (names : List (List ℕ)) (s : State) (es : List Entry) (e : Entry) → back names s (es ++ e ∷ []) ≡ back names (exchanged names s e) es
@@ -179,11 +185,11 @@ AreReady-take h es i j x n l e r =
 pub AreReady-drop : (h : Shape) (es : List Entry) (i : ℕ) (x : Entry) → i < length es → x ≡ get_or es i x → AreReady h (drop i es) → IsReady h x × AreReady h (drop (i + 1) es)
 AreReady-drop h es i x l e r = subst (λ xs. AreReady h xs) (drop_more es i x l ∙ ap (λ y. y ∷ drop (i + 1) es) (sym e)) r
 
-pub forth_taken-back : (names : List (List ℕ)) (s : State) (es : List Entry) → AreReady (shaped names s) es → forth_taken names (back names s es) (back_taken names s es) ≡ es
-forth_taken-back names s [] r = refl
-forth_taken-back names s (e ∷ es) r =
+pub forth_taken-back : (room : Room) (names : List (List ℕ)) (s : State) (es : List Entry) → AreReady (shaped room names s) es → forth_taken names (back names s es) (back_taken names s es) ≡ es
+forth_taken-back room names s [] r = refl
+forth_taken-back room names s (e ∷ es) r =
     let one = back names s es in
-    let ready : IsReady (shaped names one) e = subst (λ h. IsReady h e) (sym (shape-back names s es)) r.0 in
-    let first = taken_back names one e ready in
-    let rest = ap (λ x. forth_taken names x (back_taken names s es)) (exchanged_back names one e ready) ∙ forth_taken-back names s es r.1 in
+    let ready : IsReady (shaped room names one) e = subst (λ h. IsReady h e) (sym (shape-back room names s es)) r.0 in
+    let first = taken_back room names one e ready in
+    let rest = ap (λ x. forth_taken names x (back_taken names s es)) (exchanged_back room names one e ready) ∙ forth_taken-back room names s es r.1 in
     λ k. first k ∷ rest k

@@ -3,29 +3,34 @@ use Rattle.std.proofs.Common.{◌≡◌, ◌++◌, ℕ, ◌≤◌, List, [], ◌
 use Rattle.std.proofs.Math.ListN.{get_or-append}
 use Rattle.std.specs.FinMap.{get}
 use Rattle.object_table.specs.Maps.{put_option}
+use Rattle.stack_places.specs.Exchange.{IsWider}
+use Rattle.stack_places.proofs.Exchanging as stack
 use Rattle.journal_entries.specs.State.{State}
 use Rattle.journal_entries.specs.Places.{global}
 use Rattle.journal_entries.specs.Trails.{at}
 use Rattle.journal_entries.specs.Exchange.{Shape, back, back_taken, forth, forth_taken, exchanged, taken, mark_of, trail_of, IsReady, AreReady}
 use Rattle.journal_entries.specs.declared.entry.Entry.{Entry}
-use Rattle.journal_entries.specs.declared.entry.Entry.TheVariants.{Global, Current, External}
+use Rattle.journal_entries.specs.declared.entry.Entry.TheVariants.{Global, Current, Stack, External}
 
 exchanged-more : (names more : List (List ℕ)) (h : Shape) (s : State) (e : Entry) → h.names ≡ length names → IsReady h e → exchanged (names ++ more) s e ≡ exchanged names s e
 unfolding exchanged IsReady
 exchanged-more names more h s (Global i v) n r = ap (λ k. record s { globals = put_option s.globals k v }) (get_or-append names more [] i (omega arith))
 exchanged-more names more h s (Current c) n r = refl
+exchanged-more names more h s (Stack e) n r = refl
 exchanged-more names more h s (External i p) n r = refl
 
 taken-more : (names more : List (List ℕ)) (h : Shape) (s : State) (e : Entry) → h.names ≡ length names → IsReady h e → taken (names ++ more) s e ≡ taken names s e
 unfolding taken IsReady
 taken-more names more h s (Global i v) n r = ap (λ k. Global i (get s.globals k)) (get_or-append names more [] i (omega arith))
 taken-more names more h s (Current c) n r = refl
+taken-more names more h s (Stack e) n r = refl
 taken-more names more h s (External i p) n r = refl
 
 mark_of-more : (names more : List (List ℕ)) (h : Shape) (e : Entry) → h.names ≡ length names → IsReady h e → mark_of (names ++ more) e ≡ mark_of names e
 unfolding mark_of IsReady
 mark_of-more names more h (Global i v) n r = ap (λ k. at (global k)) (get_or-append names more [] i (omega arith))
 mark_of-more names more h (Current c) n r = refl
+mark_of-more names more h (Stack e) n r = refl
 mark_of-more names more h (External i p) n r = refl
 
 pub back-more : (names more : List (List ℕ)) (h : Shape) (s : State) (es : List Entry) → h.names ≡ length names → AreReady h es → back (names ++ more) s es ≡ back names s es
@@ -60,12 +65,13 @@ marks-more names more h (e ∷ es) n r =
 pub trail_of-more : (names more : List (List ℕ)) (h : Shape) (es : List Entry) → h.names ≡ length names → AreReady h es → trail_of (names ++ more) es ≡ trail_of names es
 trail_of-more names more h es n r = ap reverse (marks-more names more h es n r)
 
-IsReady-wider : (h k : Shape) (e : Entry) → h.names ≤ k.names → h.counts ≡ k.counts → IsReady h e → IsReady k e
+IsReady-wider : (h k : Shape) (e : Entry) → h.names ≤ k.names → h.counts ≡ k.counts → IsWider h.room k.room → IsReady h e → IsReady k e
 unfolding IsReady
-IsReady-wider h k (Global i v) n c q = omega arith
-IsReady-wider h k (Current d) n c q = tt
-IsReady-wider h k (External i p) n c q = rw (← c) q
+IsReady-wider h k (Global i v) n c w q = omega arith
+IsReady-wider h k (Current d) n c w q = tt
+IsReady-wider h k (Stack e) n c w q = stack.IsReady-wider h.room k.room e w q
+IsReady-wider h k (External i p) n c w q = rw (← c) q
 
-pub AreReady-wider : (h k : Shape) (es : List Entry) → h.names ≤ k.names → h.counts ≡ k.counts → AreReady h es → AreReady k es
-AreReady-wider h k [] n c q = tt
-AreReady-wider h k (e ∷ es) n c q = (IsReady-wider h k e n c q.0, AreReady-wider h k es n c q.1)
+pub AreReady-wider : (h k : Shape) (es : List Entry) → h.names ≤ k.names → h.counts ≡ k.counts → IsWider h.room k.room → AreReady h es → AreReady k es
+AreReady-wider h k [] n c w q = tt
+AreReady-wider h k (e ∷ es) n c w q = (IsReady-wider h k e n c w q.0, AreReady-wider h k es n c w q.1)

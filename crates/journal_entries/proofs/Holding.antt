@@ -3,19 +3,26 @@ use Rattle.std.proofs.Common.{◌≡◌, ℕ, zero, suc, ◌+◌, ◌<◌, Bool,
 use Rattle.std.specs.List.{list_any}
 use Rattle.std.proofs.lemmas.List.{drop_more}
 use Rattle.std.proofs.lemmas.List.Folds.{list_any_at}
+use Rattle.stack_places.proofs.Exchanging as stack
 use Rattle.journal_entries.specs.Exchange.{of_one_place, is_structural}
 use Rattle.journal_entries.specs.Changing.{holds_one, kept}
 use Rattle.journal_entries.specs.declared.entry.Entry.{Entry}
-use Rattle.journal_entries.specs.declared.entry.Entry.TheVariants.{Global, Current, External}
+use Rattle.journal_entries.specs.declared.entry.Entry.TheVariants.{Global, Current, Stack, External}
 
 structural_apart : (e f : Entry) → is_structural f ≡ true → of_one_place e f ≡ false
 unfolding of_one_place is_structural
 structural_apart (Global i v) (Global j w) h = let none : false ≡ true → ⊥ = λ q. cc in absurd (none h)
 structural_apart (Global i v) (Current d) h = refl
+structural_apart (Global i v) (Stack f) h = refl
 structural_apart (Global i v) (External j p) h = refl
 structural_apart (Current c) (Global j w) h = refl
 structural_apart (Current c) (Current d) h = let none : false ≡ true → ⊥ = λ q. cc in absurd (none h)
+structural_apart (Current c) (Stack f) h = refl
 structural_apart (Current c) (External j p) h = refl
+structural_apart (Stack e) (Global j w) h = refl
+structural_apart (Stack e) (Current d) h = refl
+structural_apart (Stack e) (Stack f) h = stack.structural_apart e f h
+structural_apart (Stack e) (External j p) h = refl
 structural_apart (External i q) f h = refl
 
 neither : (a b c : Bool) → a ≡ false → c ≡ false → (a || (b && c)) ≡ false

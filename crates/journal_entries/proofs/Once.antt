@@ -1,5 +1,5 @@
 -- A write of a place that the segment holds already needs no further entry.
-use Rattle.std.proofs.Common.{◌≡◌, ◌≢◌, ◌++◌, ℕ, ◌+◌, ◌≤◌, Bool, true, false, not, ◌&&◌, ◌||◌, List, [], ◌∷◌, length, map, get_or, refl, sym, ap, ◌∙◌, arith, Option, nat_eq, bytes_eq}
+use Rattle.std.proofs.Common.{◌≡◌, ◌≢◌, ◌++◌, ℕ, ◌+◌, ◌≤◌, Bool, true, false, not, ◌&&◌, ◌||◌, List, [], ◌∷◌, length, map, get_or, refl, sym, ap, ◌∙◌, arith, Option, option_map, nat_eq, bytes_eq}
 use Rattle.std.specs.List.{list_any}
 use Rattle.std.specs.FinMap.{get}
 use Rattle.std.proofs.lemmas.Cmp.{nat_list_cmp_total}
@@ -10,14 +10,18 @@ use Rattle.std.proofs.lemmas.List.Sums.{sum_by-cons}
 use Rattle.std.proofs.lemmas.Slice.Eq.{bytes_eq-Decides}
 use Rattle.object_table.specs.Maps.{put_option}
 use Rattle.object_table.proofs.Maps.{put_option_again, put_option_apart, put_option-get, get-put_option_apart}
+use Rattle.stack_places.specs.Places.{size_of, text}
+use Rattle.stack_places.specs.Exchange.{is_structural as stack_is_structural, place_of as stack_place_of, of_one_place as stack_of_one_place}
+use Rattle.stack_places.specs.declared.entry.StackEntry.{StackEntry}
+use Rattle.stack_places.proofs.Exchanging as stack
 use Rattle.journal_entries.specs.State.{State}
-use Rattle.journal_entries.specs.Places.{Place, same_place, global, current_card}
+use Rattle.journal_entries.specs.Places.{Place, same_place, global, in_stack, current_card}
 use Rattle.journal_entries.specs.Trails.{Mark, at, structural, holds}
-use Rattle.journal_entries.specs.Exchange.{Shape, back, back_taken, exchanged, taken, entry_weight, weight, mark_of, trail_of, of_one_place, is_structural, IsReady, AreReady}
+use Rattle.journal_entries.specs.Exchange.{Shape, back, back_taken, exchanged, taken, entry_weight, weight, mark_of, stack_mark, trail_of, of_one_place, is_structural, IsReady, AreReady}
 use Rattle.journal_entries.specs.Turning.{IsNumbered}
 use Rattle.journal_entries.specs.Changing.{holds_one}
 use Rattle.journal_entries.specs.declared.entry.Entry.{Entry}
-use Rattle.journal_entries.specs.declared.entry.Entry.TheVariants.{Global, Current, External}
+use Rattle.journal_entries.specs.declared.entry.Entry.TheVariants.{Global, Current, Stack, External}
 use Rattle.journal_entries.proofs.Naming.{antisymmetric}
 
 false_true : {A : Type 0} → false ≡ true → A
@@ -32,8 +36,13 @@ commute : (names : List (List ℕ)) (s : State) (h : Shape) (e f : Entry) → Is
 unfolding exchanged of_one_place is_structural
 commute names s h (Global i v) (Global j w) only n r apart a b = ap (λ m. record s { globals = m }) (put_option_apart nat_list_cmp_total antisymmetric s.globals (get_or names i []) (get_or names j []) v w (named_apart names h i j v w only n r apart))
 commute names s h (Global i v) (Current d) only n r apart a b = refl
+commute names s h (Global i v) (Stack f) only n r apart a b = refl
 commute names s h (Current c) (Global j w) only n r apart a b = refl
 commute names s h (Current c) (Current d) only n r apart a b = false_true (sym apart)
+commute names s h (Current c) (Stack f) only n r apart a b = refl
+commute names s h (Stack e) (Global j w) only n r apart a b = refl
+commute names s h (Stack e) (Current d) only n r apart a b = refl
+commute names s h (Stack e) (Stack f) only n r apart a b = ap (λ x. record s { stack = x }) (stack.commute s.stack e f apart a b)
 commute names s h (External i p) f only n r apart a b = false_true (sym a)
 commute names s h e (External i p) only n r apart a b = false_true (sym b)
 
@@ -41,8 +50,13 @@ taken_apart : (names : List (List ℕ)) (s : State) (h : Shape) (e f : Entry) �
 unfolding exchanged taken of_one_place is_structural
 taken_apart names s h (Global i v) (Global j w) only n r apart a b = ap (λ x. Global j x) (get-put_option_apart nat_list_cmp_total antisymmetric s.globals (get_or names i []) (get_or names j []) v (named_apart names h i j v w only n r apart))
 taken_apart names s h (Global i v) (Current d) only n r apart a b = refl
+taken_apart names s h (Global i v) (Stack f) only n r apart a b = refl
 taken_apart names s h (Current c) (Global j w) only n r apart a b = refl
 taken_apart names s h (Current c) (Current d) only n r apart a b = false_true (sym apart)
+taken_apart names s h (Current c) (Stack f) only n r apart a b = refl
+taken_apart names s h (Stack e) (Global j w) only n r apart a b = refl
+taken_apart names s h (Stack e) (Current d) only n r apart a b = refl
+taken_apart names s h (Stack e) (Stack f) only n r apart a b = ap (λ x. Stack x) (stack.taken_apart s.stack e f apart a b)
 taken_apart names s h (External i p) f only n r apart a b = false_true (sym a)
 taken_apart names s h e (External i p) only n r apart a b = false_true (sym b)
 
@@ -53,24 +67,38 @@ overwritten names s (Global i v) (Global j w) h =
     ap (λ k. record s { globals = put_option (put_option s.globals (get_or names k []) v) (get_or names j []) w }) one
     ∙ ap (λ m. record s { globals = m }) (put_option_again nat_list_cmp_total antisymmetric s.globals (get_or names j []) v w)
 overwritten names s (Global i v) (Current d) h = false_true h
+overwritten names s (Global i v) (Stack f) h = false_true h
 overwritten names s (Global i v) (External j q) h = false_true h
 overwritten names s (Current c) (Global j w) h = false_true h
 overwritten names s (Current c) (Current d) h = refl
+overwritten names s (Current c) (Stack f) h = false_true h
 overwritten names s (Current c) (External j q) h = false_true h
+overwritten names s (Stack e) (Global j w) h = false_true h
+overwritten names s (Stack e) (Current d) h = false_true h
+overwritten names s (Stack e) (Stack f) h = ap (λ x. record s { stack = x }) (stack.overwritten s.stack e f h)
+overwritten names s (Stack e) (External j q) h = false_true h
 overwritten names s (External i p) f h = false_true h
 
--- what comes out is what was written
-written_out : (names : List (List ℕ)) (s : State) (e f : Entry) → of_one_place e f ≡ true → entry_weight (taken names (exchanged names s e) f) ≡ entry_weight e
+-- what comes out is what was written, or what would have come out
+written_out : (names : List (List ℕ)) (s : State) (e f : Entry) → of_one_place e f ≡ true → entry_weight (taken names (exchanged names s e) f) ≤ entry_weight (taken names s f) + entry_weight e
 unfolding exchanged taken entry_weight of_one_place
 written_out names s (Global i v) (Global j w) h =
     let one : i ≡ j = eqb-true i j h in
-    ap (λ k. entry_weight (Global j (get (put_option s.globals (get_or names k []) v) (get_or names j [])))) one
-    ∙ ap (λ x. entry_weight (Global j x)) (put_option-get nat_list_cmp_total antisymmetric s.globals (get_or names j []) v)
+    let seen =
+    ap (λ k. size_of (option_map (λ t. text t) (get (put_option s.globals (get_or names k []) v) (get_or names j [])))) one
+    ∙ ap (λ x. size_of (option_map (λ t. text t) x)) (put_option-get nat_list_cmp_total antisymmetric s.globals (get_or names j []) v) in
+    omega (arith, seen)
 written_out names s (Global i v) (Current d) h = false_true h
+written_out names s (Global i v) (Stack f) h = false_true h
 written_out names s (Global i v) (External j q) h = false_true h
 written_out names s (Current c) (Global j w) h = false_true h
-written_out names s (Current c) (Current d) h = refl
+written_out names s (Current c) (Current d) h = omega arith
+written_out names s (Current c) (Stack f) h = false_true h
 written_out names s (Current c) (External j q) h = false_true h
+written_out names s (Stack e) (Global j w) h = false_true h
+written_out names s (Stack e) (Current d) h = false_true h
+written_out names s (Stack e) (Stack f) h = stack.written_out s.stack e f h
+written_out names s (Stack e) (External j q) h = false_true h
 written_out names s (External i p) f h = false_true h
 
 or_left : (a b : Bool) → (a || b) ≡ false → a ≡ false
@@ -148,8 +176,9 @@ redo-once names s h e (f ∷ es) only n r a held =
       | false ↦ λ none here.
           let free : AreFree e es = record { none = and_left_true (list_any is_structural es) (of_one_place e f) here; apart = none } in
           let rest = ap weight (back_taken-free names s h e es only n r.1 a free) in
-          let here_is = ap (λ x. entry_weight (taken names x f)) (back-free names s h e es only n r.1 a free) ∙ written_out names (back names s es) e f (and_right_true (list_any is_structural es) (of_one_place e f) here) in
-          omega (arith, more, less, rest, here_is)
+          let same = ap (λ x. entry_weight (taken names x f)) (back-free names s h e es only n r.1 a free) in
+          let out = written_out names (back names s es) e f (and_right_true (list_any is_structural es) (of_one_place e f) here) in
+          omega (arith, more, less, rest, same, out)
     ] refl held
 
 -- ---- the same of trails
@@ -182,6 +211,7 @@ is_mark_of : (names : List (List ℕ)) (e : Entry) → is_mark (mark_of names e)
 unfolding mark_of is_structural
 is_mark_of names (Global i v) = refl
 is_mark_of names (Current c) = refl
+is_mark_of names (Stack e) = elim (stack_is_structural e) as (λ b. is_mark (stack_mark b (stack_place_of e)) ≡ b) [ true ↦ refl | false ↦ refl ]
 is_mark_of names (External i p) = refl
 
 any_mark : (names : List (List ℕ)) (es : List Entry) → list_any is_mark (trail_of names es) ≡ list_any is_structural es
@@ -213,18 +243,48 @@ at_global : (names : List (List ℕ)) (h : Shape) (i : ℕ) (v : Option (List �
 unfolding mark_of of_one_place
 at_global names h i v (Global j w) only n r = same_name names h i j v w only n r
 at_global names h i v (Current d) only n r = refl
+at_global names h i v (Stack f) only n r = elim (stack_is_structural f) as (λ b. is_at (global (get_or names i [])) (stack_mark b (stack_place_of f)) ≡ false) [ true ↦ refl | false ↦ refl ]
 at_global names h i v (External j q) only n r = refl
 
 at_current : (names : List (List ℕ)) (c : ℕ) (f : Entry) → is_at current_card (mark_of names f) ≡ of_one_place (Current c) f
 unfolding mark_of of_one_place
 at_current names c (Global j w) = refl
 at_current names c (Current d) = refl
+at_current names c (Stack f) = elim (stack_is_structural f) as (λ b. is_at current_card (stack_mark b (stack_place_of f)) ≡ false) [ true ↦ refl | false ↦ refl ]
 at_current names c (External j q) = refl
 
-at_is : (names : List (List ℕ)) (h : Shape) (p : Place) (e f : Entry) → mark_of names e ≡ at p → IsNumbered names e → h.names ≡ length names → IsReady h f → is_at p (mark_of names f) ≡ of_one_place e f
+-- an entry whose mark is a place isn't structural
+pub plain : (names : List (List ℕ)) (e : Entry) (p : Place) → mark_of names e ≡ at p → is_structural e ≡ false
+unfolding mark_of is_structural
+plain names (Global i v) p m = refl
+plain names (Current c) p m = refl
+plain names (Stack e) p m =
+    elim (stack_is_structural e) as (λ b. stack_mark b (stack_place_of e) ≡ at p → b ≡ false) [
+      | true ↦ λ q. let none : structural ≡ at p → ⊥ = λ x. cc in absurd (none q)
+      | false ↦ λ q. refl
+    ] m
+plain names (External i q) p m = let none : structural ≡ at p → ⊥ = λ x. cc in absurd (none m)
+
+at_stack : (names : List (List ℕ)) (e : StackEntry) (f : Entry) → stack_is_structural e ≡ false → is_at (in_stack (stack_place_of e)) (mark_of names f) ≡ of_one_place (Stack e) f
 unfolding mark_of of_one_place
+at_stack names e (Global j w) a = refl
+at_stack names e (Current d) a = refl
+at_stack names e (Stack f) a =
+    elim (stack_is_structural f) as (λ b. stack_is_structural f ≡ b → is_at (in_stack (stack_place_of e)) (stack_mark b (stack_place_of f)) ≡ stack_of_one_place e f) [
+      | true ↦ λ q. sym (stack.structural_apart e f q)
+      | false ↦ λ q. stack.same_place-is e f a
+    ] refl
+at_stack names e (External j q) a = refl
+
+place_in : (names : List (List ℕ)) (e : StackEntry) (p : Place) → mark_of names (Stack e) ≡ at p → p ≡ in_stack (stack_place_of e)
+unfolding mark_of is_structural
+place_in names e p m = place_of p _ (ap (λ b. stack_mark b (stack_place_of e)) (sym (plain names (Stack e) p m)) ∙ m)
+
+at_is : (names : List (List ℕ)) (h : Shape) (p : Place) (e f : Entry) → mark_of names e ≡ at p → IsNumbered names e → h.names ≡ length names → IsReady h f → is_at p (mark_of names f) ≡ of_one_place e f
+unfolding mark_of of_one_place is_structural
 at_is names h p (Global i v) f m only n r = rw (place_of p _ m) (at_global names h i v f only n r)
 at_is names h p (Current c) f m only n r = rw (place_of p _ m) (at_current names c f)
+at_is names h p (Stack e) f m only n r = rw (place_in names e p m) (at_stack names e f (plain names (Stack e) p m))
 at_is names h p (External i q) f m only n r = let none : structural ≡ at p → ⊥ = λ x. cc in absurd (none m)
 
 -- the segment holds the place where it has an entry of it

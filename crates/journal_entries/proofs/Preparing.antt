@@ -1,11 +1,20 @@
 -- An entry for each change.
-use Rattle.std.proofs.Common.{◌≡◌, ℕ, ◌+◌, ◌<◌, List, [], length, get_or, refl, sym, ap, ◌∙◌, Option, Some, None, option_map}
+use Rattle.std.proofs.Common.{◌≡◌, ◌∷◌, true, false, Bool, ℕ, ◌+◌, ◌<◌, List, [], length, get_or, refl, sym, ap, ◌∙◌, Option, Some, None, option_map}
 use Rattle.std.specs.FinMap.{get}
+use Rattle.std.specs.FinSet.{contains}
 use Rattle.object_table.specs.Maps.{put_option}
-use Rattle.journal_entries.specs.Places.{as_text, global, current_card, text, number, put}
-use Rattle.journal_entries.specs.Replaced.{size_of}
+use Rattle.object_table.specs.Setting.{may_set}
+use Rattle.object_table.specs.declared.property.PropValue.{PropValue}
+use Rattle.stack_places.specs.Places.{as_text, text, number, size_of, prop_of}
+use Rattle.stack_places.specs.Exchange.{value_of, place_of, is_structural, entry_weight as stack_weight, IsReady as IsStackReady}
+use Rattle.stack_places.specs.declared.entry.StackEntry.{StackEntry}
+use Rattle.stack_places.specs.declared.entry.StackEntry.TheVariants as stack_entries
+use Rattle.stack_places.proofs.Exchanging.{IsThere, puts, taken_weight}
+use Rattle.journal_entries.specs.Changes.{writes_of}
+use Rattle.journal_entries.specs.declared.change.Change.{Change}
+use Rattle.journal_entries.specs.Places.{Write, global, in_stack, current_card, put}
 use Rattle.journal_entries.specs.Trails.{at}
-use Rattle.journal_entries.specs.Exchange.{Held, exchanged, taken, mark_of, entry_weight, IsReady}
+use Rattle.journal_entries.specs.Exchange.{Held, exchanged, taken, mark_of, stack_mark, entry_weight, IsReady}
 use Rattle.journal_entries.specs.Turning.{Prepares, IsNumbered}
 use Rattle.journal_entries.specs.declared.change.Change.TheVariants as changes
 use Rattle.journal_entries.specs.declared.entry.Entry.TheVariants as entries
@@ -38,3 +47,30 @@ prepares_current h card = record {
   writes = refl;
   carries = record { mark = refl; state = refl; forth = refl; back = refl };
 }
+
+prepares_in_stack : (h : Held) (change : Change) (e : StackEntry) → IsStackReady h.room e → is_structural e ≡ false → IsThere h.state.stack e → writes_of h.state change ≡ record { place = in_stack (place_of e); value = value_of e } ∷ [] → Prepares h change (entries.Stack e)
+unfolding exchanged taken mark_of entry_weight IsReady IsNumbered put stack_weight
+prepares_in_stack h change e ready plain there writes = record {
+  ready = ready;
+  numbered = tt;
+  write = record { place = in_stack (place_of e); value = value_of e };
+  writes = writes;
+  carries = record {
+    mark = ap (λ b. stack_mark b (place_of e)) plain;
+    state = ap (λ s. record h.state { stack = s }) (puts h.state.stack e);
+    forth = refl;
+    back = taken_weight h.state.stack e there;
+  };
+}
+
+pub prepares_text : (h : Held) (field card : ℕ) (t : List ℕ) → contains h.room.texts (field, card) ≡ true → Prepares h (changes.FieldText field card t) (entries.Stack (stack_entries.FieldText field card (Some t)))
+unfolding IsStackReady is_structural
+prepares_text h field card t opened = prepares_in_stack h (changes.FieldText field card t) (stack_entries.FieldText field card (Some t)) opened refl tt refl
+
+pub prepares_hilite : (h : Held) (button card : ℕ) (b : Bool) → contains h.room.hilites (button, card) ≡ true → Prepares h (changes.Hilite button card b) (entries.Stack (stack_entries.Hilite button card (Some b)))
+unfolding IsStackReady is_structural
+prepares_hilite h button card b opened = prepares_in_stack h (changes.Hilite button card b) (stack_entries.Hilite button card (Some b)) opened refl tt refl
+
+pub prepares_property : (h : Held) (id : ℕ) (v : PropValue) → may_set h.state.stack id v ≡ true → Prepares h (changes.Prop id v) (entries.Stack (stack_entries.Prop id v))
+unfolding IsStackReady is_structural
+prepares_property h id v there = prepares_in_stack h (changes.Prop id v) (stack_entries.Prop id v) tt refl there refl

@@ -3,8 +3,9 @@ use Rattle.std.proofs.Common.{◌≡◌, ◌≢◌, ◌++◌, ℕ, zero, suc, �
 use Rattle.std.proofs.lemmas.List.Sums.{sum_by-cons, sum_by-append}
 use Rattle.std.proofs.lemmas.Slice.Eq.{bytes_eq-Decides}
 use Rattle.externals.specs.Cells.{Changes, Avoids, IsProper, HasTexts, DiffersFrom, IsPatch, taken_out}
-use Rattle.journal_entries.specs.Places.{cell, text}
-use Rattle.journal_entries.specs.Replaced.{Replacement, differing, replaced_from, replaced_by_turn, size_of, back_weight, forth_weight}
+use Rattle.stack_places.specs.Places.{size_of, text}
+use Rattle.journal_entries.specs.Places.{cell}
+use Rattle.journal_entries.specs.Replaced.{Replacement, differing, replaced_from, replaced_by_turn, back_weight, forth_weight}
 
 abbrev back_of : Replacement → ℕ
 back_of r = 32 + size_of r.old

@@ -4,11 +4,13 @@ use Rattle.std.specs.List.{list_any}
 use Rattle.std.proofs.lemmas.Bool.{eqb-true, eq-eqb}
 use Rattle.std.proofs.Math.Nat.{add-mul}
 use Rattle.std.proofs.lemmas.Slice.Eq.{bytes_eq-Decides}
-use Rattle.journal_entries.specs.Places.{Place, same_place, global, current_card, cell}
+use Rattle.stack_places.proofs.Places as stack
+use Rattle.journal_entries.specs.Places.{Place, same_place, global, in_stack, current_card, cell}
 use Rattle.journal_entries.specs.Trails.{Mark, at, structural, holds, IsOnce, structural_count, AreAmong}
 
 same_place-same : (p : Place) → same_place p p ≡ true
 same_place-same (global n) = (bytes_eq-Decides n n).1 refl
+same_place-same (in_stack p) = stack.same_place-same p
 same_place-same current_card = refl
 same_place-same (cell i c) = rw (eq-eqb i i refl, eq-eqb c c refl) refl
 
@@ -21,12 +23,19 @@ no e = let none : false ≡ true → ⊥ = λ q. cc in absurd (none e)
 
 same_place-is : (p q : Place) → same_place p q ≡ true → p ≡ q
 same_place-is (global m) (global n) h = ap (λ x. global x) ((bytes_eq-Decides m n).0 h)
+same_place-is (global m) (in_stack q) h = no h
 same_place-is (global m) current_card h = no h
 same_place-is (global m) (cell j d) h = no h
+same_place-is (in_stack p) (global n) h = no h
+same_place-is (in_stack p) (in_stack q) h = ap (λ x. in_stack x) (stack.same_place-equal p q h)
+same_place-is (in_stack p) current_card h = no h
+same_place-is (in_stack p) (cell j d) h = no h
 same_place-is current_card (global n) h = no h
+same_place-is current_card (in_stack q) h = no h
 same_place-is current_card current_card h = refl
 same_place-is current_card (cell j d) h = no h
 same_place-is (cell i c) (global n) h = no h
+same_place-is (cell i c) (in_stack q) h = no h
 same_place-is (cell i c) current_card h = no h
 same_place-is (cell i c) (cell j d) h = let parts = both (nat_eq i j) (nat_eq c d) h in λ k. cell (eqb-true i j parts.0 k) (eqb-true c d parts.1 k)
 

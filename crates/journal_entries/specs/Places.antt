@@ -1,5 +1,7 @@
 -- The places of a state, and values put there.
 use Rattle.std.specs.Prelude.{ℕ, Bool, true, false, ◌&&◌, nat_eq, bytes_eq, List, [], ◌∷◌, Option, Some, None, option_map, option_and_then, unwrap_or, slice_get, slice_set, slice_index_or}
+use Rattle.stack_places.specs.Places.{StackPlace, Value, as_text, as_number, text, number}
+use Rattle.stack_places.specs.Places as stack
 use Rattle.std.specs.FinMap.{get}
 use Rattle.externals.specs.Cells.{Seen, none_seen}
 use Rattle.object_table.specs.Maps.{put_option}
@@ -8,16 +10,14 @@ use Rattle.journal_entries.specs.State.{State}
 -- A global goes by its folded name, a cell by its external's number and its own.
 pub data Place : Type 0 where
   global : List ℕ → Place
+  in_stack : StackPlace → Place
   current_card : Place
   cell : ℕ → ℕ → Place
-
-pub data Value : Type 0 where
-  text : List ℕ → Value
-  number : ℕ → Value
 
 -- whether two places are one
 abbrev pub same_place : Place → Place → Bool
 same_place (global m) (global n) = bytes_eq m n
+same_place (in_stack p) (in_stack q) = stack.same_place p q
 same_place current_card current_card = true
 same_place (cell i c) (cell j d) = nat_eq i j && nat_eq c d
 same_place _ _ = false
@@ -25,17 +25,9 @@ same_place _ _ = false
 -- the value at a place, if there is one
 abbrev pub value_at : State → Place → Option Value
 value_at s (global name) = option_map (λ t. text t) (get s.globals name)
+value_at s (in_stack p) = stack.value_at s.stack p
 value_at s current_card = Some (number s.current)
 value_at s (cell i c) = option_map (λ t. text t) (option_and_then (λ e. slice_get e.cells c) (slice_get s.externals i))
-
--- what a value is to a place of this type; one of another type is none
-abbrev pub as_text : Option Value → Option (List ℕ)
-as_text (Some (text t)) = Some t
-as_text _ = None
-
-abbrev pub as_number : Option Value → Option ℕ
-as_number (Some (number n)) = Some n
-as_number _ = None
 
 -- the externals with a text in a cell
 abbrev pub with_cell : List Seen → ℕ → ℕ → Option (List ℕ) → List Seen
@@ -46,6 +38,7 @@ with_cell es i c (Some t) = let e = slice_index_or es i none_seen in slice_set e
 -- leaves them.
 unfoldable pub put : State → Place → Option Value → State
 put s (global name) v = record s { globals = put_option s.globals name (as_text v) }
+put s (in_stack p) v = record s { stack = stack.put s.stack p v }
 put s current_card v = record s { current = unwrap_or (as_number v) s.current }
 put s (cell i c) v = record s { externals = with_cell s.externals i c (as_text v) }
 

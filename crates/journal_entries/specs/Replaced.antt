@@ -1,7 +1,8 @@
 -- What changes and turns replace, and what that weighs.
 use Rattle.std.specs.Prelude.{ℕ, ◌+◌, List, [], ◌∷◌, ◌++◌, length, map, sum_by, bytes_eq, if◌then◌else◌, Option, Some, None}
+use Rattle.stack_places.specs.Places.{Value, size_of, text}
 use Rattle.journal_entries.specs.State.{State}
-use Rattle.journal_entries.specs.Places.{Place, Value, value_at, cell, text, number}
+use Rattle.journal_entries.specs.Places.{Place, value_at, cell}
 use Rattle.journal_entries.specs.Changes.{writes_of}
 use Rattle.journal_entries.specs.declared.change.Change.{Change}
 
@@ -28,15 +29,6 @@ replaced_from i c (t ∷ ts) (u ∷ us) = differing i c t u ++ replaced_from i (
 
 abbrev pub replaced_by_turn : ℕ → List (List ℕ) → List (List ℕ) → List Replacement
 replaced_by_turn i old new = replaced_from i 0 old new
-
--- the bytes of a text, and 8 for a number
-abbrev pub size : Value → ℕ
-size (text t) = length t
-size (number n) = 8
-
-abbrev pub size_of : Option Value → ℕ
-size_of None = 0
-size_of (Some v) = size v
 
 -- what going back over these weighs at most, and going forth
 abbrev pub back_weight : List Replacement → ℕ

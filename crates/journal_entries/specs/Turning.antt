@@ -4,15 +4,16 @@ use Rattle.externals.specs.Cells.{one_more_turn}
 use Rattle.externals.specs.Table.{Answers}
 use Rattle.externals.specs.declared.external.Input.{Input}
 use Rattle.externals.specs.declared.external.Ask.{Ask}
+use Rattle.stack_places.specs.Exchange.{IsWider}
+use Rattle.stack_places.specs.Places.{size_of}
 use Rattle.journal_entries.specs.Named.{Extends}
 use Rattle.journal_entries.specs.State.{State, seen_at}
 use Rattle.journal_entries.specs.Changes.{writes_of}
 use Rattle.journal_entries.specs.Places.{Write, put, value_at}
-use Rattle.journal_entries.specs.Replaced.{size_of}
 use Rattle.journal_entries.specs.Trails.{at}
 use Rattle.journal_entries.specs.Exchange.{Held, name_at, with_cells, IsReady, shape_of, exchanged, taken, entry_weight, mark_of}
 use Rattle.journal_entries.specs.declared.entry.Entry.{Entry}
-use Rattle.journal_entries.specs.declared.entry.Entry.TheVariants.{Global, Current, External}
+use Rattle.journal_entries.specs.declared.entry.Entry.TheVariants.{Global, Current, Stack, External}
 use Rattle.journal_entries.specs.declared.change.Change.{Change}
 
 -- the state in which the i-th external has these cells
@@ -32,16 +33,18 @@ pub record Turns (old new : State) (i : ℕ) (input : Input) (ask : Ask) : Type 
 abbrev pub TurnsAtMostOnce : Held → Held → ℕ → Type 0
 TurnsAtMostOnce old new i = (new ≡ old) ⊎ (new ≡ record old { turns = one_more_at old.turns i })
 
--- only the names grow
+-- only the names and the stack's room grow
 pub record Grows (old new : Held) : Type 0 where
   pub state : new.state ≡ old.state
   pub turns : new.turns ≡ old.turns
   pub names : Extends old.names new.names
+  pub room : IsWider old.room new.room
 
 -- no other number has the name of the entry's
 unfoldable pub IsNumbered : List (List ℕ) → Entry → Type 0
 IsNumbered names (Global i v) = (j : ℕ) → j < length names → name_at names j ≡ name_at names i → j ≡ i
 IsNumbered names (Current c) = Unit {0}
+IsNumbered names (Stack e) = Unit {0}
 IsNumbered names (External i p) = Unit {0}
 
 -- the exchange of an entry is this write of one place, and it weighs as much

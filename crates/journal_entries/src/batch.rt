@@ -1,8 +1,9 @@
 //! A batch: what goes back over the changes and turns of one command.
 
-ghost use Rattle.std.specs.Prelude.{◌≡◌, ℕ, ◌<◌, List, [], ◌∷◌, ◌++◌, length, IfOk, OnErr, OnOk};
+ghost use Rattle.std.specs.Prelude.{◌≡◌, ℕ, ◌<◌, true, List, [], ◌∷◌, ◌++◌, length, IfOk, OnErr, OnOk};
 ghost use Rattle.externals.specs.Cells.{IsPatch, Changes};
 ghost use Rattle.journal_entries.specs.State.{seen_at};
+ghost use Rattle.journal_entries.specs.Changes.{fits};
 ghost use Rattle.journal_entries.specs.Changing.{Makes, holds_one};
 ghost use Rattle.journal_entries.specs.Turning.{Grows, Turns, TurnsAtMostOnce, one_more_at};
 ghost use Rattle.journal_entries.specs.Exchange.{back, back_taken, forth, forth_taken, exchanged, taken, shape_of, AreReady, IsReady};
@@ -107,6 +108,7 @@ impl Batch {
         present: &mut Present<E>,
         change: Change,
     ) -> Result<(), AllocError>
+        requires { fits present.old.state change ≡ true }
         ensures ok { OnOk result (Makes present.old present.new self.old self.new change) }
         ensures err { OnErr result (Grows present.old present.new × (self.new ≡ self.old)) }
     {

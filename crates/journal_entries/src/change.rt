@@ -1,12 +1,34 @@
 //! The changes of a state.
 
-use ht_values::Text;
+ghost use Rattle.journal_entries.specs.Changes.{HasTexts};
+
+use ht_values::{Text, law_of_text};
+use object_table::{Id, PropValue};
 
 /// A change of the present state.
 #[derive(Drop)]
 pub enum Change {
     /// A global, by its folded name, gets this value, or none.
     Global(Text, Option<Text>),
+    /// A text of a field that is there: for a card, or for 0 the text that the cards share.
+    FieldText(Id, Id, Text),
+    /// A hilite of a background's button that is there: for a card, or for 0 the hilite that the cards share.
+    Hilite(Id, Id, bool),
+    /// A property of an object, which has that property.
+    Prop(Id, PropValue),
     /// The card of this id becomes the current one.
-    Current(u32),
+    Current(Id),
+}
+
+/// What the texts of a change are by their type.
+pub fn law_of_texts(change: &Change)
+    ensures { HasTexts change.now }
+{
+    match change {
+        Change::FieldText(_, _, text)
+        | Change::Prop(_, PropValue::NameIs(text))
+        | Change::Prop(_, PropValue::ScriptIs(text)) => law_of_text(text),
+        Change::Global(_, _) | Change::Hilite(_, _, _) | Change::Prop(_, _) | Change::Current(_) =>
+            {}
+    }
 }

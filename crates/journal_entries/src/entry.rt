@@ -5,6 +5,7 @@ ghost use Rattle.journal_entries.specs.Exchange.{is_structural, of_one_place};
 
 use externals::Patch;
 use ht_values::Text;
+use stack_places::StackEntry;
 
 /// A place with the value that isn't there now, or an external's number with a patch.
 #[derive(Drop)]
@@ -12,6 +13,7 @@ pub enum Entry {
     /// The number of a global's name.
     Global(usize, Option<Text>),
     Current(u32),
+    Stack(StackEntry),
     External(usize, Patch),
 }
 
@@ -20,7 +22,11 @@ pub enum Entry {
 pub fn is_structural_entry(entry: &Entry) -> bool
     ensures { result ≡ is_structural entry.now }
 {
-    matches!(entry, Entry::External(_, _))
+    match entry {
+        Entry::Stack(entry) => entry.is_structural(),
+        Entry::External(_, _) => true,
+        Entry::Global(_, _) | Entry::Current(_) => false,
+    }
 }
 
 /// Whether both entries are of one place.
@@ -31,6 +37,7 @@ pub fn are_of_one_place(entry: &Entry, other: &Entry) -> bool
     match (entry, other) {
         (Entry::Global(i, _), Entry::Global(j, _)) => *i == *j,
         (Entry::Current(_), Entry::Current(_)) => true,
+        (Entry::Stack(entry), Entry::Stack(other)) => entry.is_of_place_of(other),
         _ => false,
     }
 }

@@ -10,7 +10,7 @@ mod names;
 mod present;
 
 pub use batch::Batch;
-pub use change::Change;
+pub use change::{Change, law_of_texts};
 pub use entry::Entry;
 pub use globals::Globals;
 pub use laws::law_of_trails;

@@ -1,6 +1,6 @@
 //! The one state that is held: the stack, the globals, the current card and the externals.
 
-ghost use Rattle.std.specs.Prelude.{◌≡◌, ℕ, ◌<◌, List, [], ◌∷◌, ◌++◌, length, ◌+◌, take, drop, IfOk, IfErr, OnErr, OnOk, slice_index_or, slice_get, Some, option_copied, map};
+ghost use Rattle.std.specs.Prelude.{◌≡◌, ℕ, ◌<◌, List, [], ◌∷◌, ◌++◌, length, ◌+◌, true, take, drop, IfOk, IfErr, OnErr, OnOk, slice_index_or, slice_get, Some, option_copied, map};
 ghost use Rattle.std.specs.FinMap as finite;
 ghost use Rattle.externals.specs.Cells.{IsPatch};
 ghost use Rattle.journal_entries.specs.State.{seen_by, seen_at, first_state, titles_of, has_name as has_title, index_of as index_of_title};
@@ -17,6 +17,7 @@ use crate::names::{has_name, index_of};
 use externals::{Ask, External, Input, Patch};
 use ht_values::Text;
 use object_table::{Kind, Stack};
+use stack_places::StackEntry;
 use std::alloc::{AllocError, Global};
 use std::marker::Model;
 use std::mem;
@@ -49,6 +50,7 @@ impl<E: External> Model for Present<E> {
       };
       names = p.globals.names;
       turns = map E.turn_count p.externals.items;
+      room = p.stack.room;
     } };
 }
 
@@ -59,6 +61,7 @@ impl<E: External> Present<E> {
           state = record { stack = stack.content; globals = finite.empty; current = current; externals = map (seen_by E.title E.sort E.answers_calls E.cells) externals.items };
           names = [];
           turns = map E.turn_count externals.items;
+          room = stack.room;
         } }
     {
         Present {
@@ -79,6 +82,7 @@ impl<E: External> Present<E> {
         match entry {
             Entry::Global(i, value) => self.globals.swap(*i, value),
             Entry::Current(current) => mem::swap(&mut self.current, current),
+            Entry::Stack(entry) => entry.exchange(&mut self.stack),
             Entry::External(i, patch) => self.externals[*i].flip(patch),
         }
     }
@@ -110,11 +114,21 @@ impl<E: External> Present<E> {
     /// Grows what a change needs, and hands out the entry that makes it.
     #[tactic(auto, unfolding(crate::specs::Exchange::exchanged, crate::specs::Exchange::taken, crate::specs::Exchange::mark_of, crate::specs::Exchange::entry_weight, crate::specs::Exchange::IsReady, crate::specs::Places::put, crate::specs::Turning::IsNumbered))]
     pub fn prepare(&mut self, change: Change) -> Result<Entry, AllocError>
+        requires { fits self.old.state change ≡ true }
         ensures entry { IfOk result (Prepares self.new change) }
         ensures grows { Grows self.old self.new }
     {
         match change {
             Change::Global(name, value) => Ok(Entry::Global(self.globals.number(name)?, value)),
+            Change::FieldText(field, card, text) => {
+                self.stack.open_text(field, card)?;
+                Ok(Entry::Stack(StackEntry::FieldText(field, card, Some(text))))
+            }
+            Change::Hilite(button, card, hilite) => {
+                self.stack.open_hilite(button, card)?;
+                Ok(Entry::Stack(StackEntry::Hilite(button, card, Some(hilite))))
+            }
+            Change::Prop(id, value) => Ok(Entry::Stack(StackEntry::Prop(id, value))),
             Change::Current(card) => Ok(Entry::Current(card)),
         }
     }
@@ -194,6 +208,9 @@ impl<E: External> Present<E> {
     {
         match change {
             Change::Global(name, _) => is_folded(name),
+            Change::FieldText(field, card, _) => self.stack.text(*field, *card).is_some(),
+            Change::Hilite(button, card, _) => self.stack.hilite(*button, *card).is_some(),
+            Change::Prop(id, value) => self.stack.may_set(*id, value),
             Change::Current(card) => is_card(&self.stack, *card),
         }
     }

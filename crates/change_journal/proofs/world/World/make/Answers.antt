@@ -12,7 +12,7 @@ invariant_of-self g c =
     let sound = rw c.in-Some.is at c.self.invariant in
     let fit = rw (← c.self.view_is, c.in-Some.is) at c.requires.fits in
     either c.make.result c.make.ensures.ok c.make.ensures.err
-    (λ m. IsSound-made b k _ c.in-Some.batch c.make.new.self c.args.change fit m sound)
+    (λ m. IsSound-made b k _ c.in-Some.batch c.make.new.self c.args.change fit c.law_of_texts.ensures m sound)
     (λ e. rw e.1 (IsSound-grown b k _ c.in-Some.batch e.0 sound))
 
 pub returns-clause-ok : goal.returns-clause-ok

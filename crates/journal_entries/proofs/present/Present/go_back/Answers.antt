@@ -26,8 +26,9 @@ loop-i-preserved g c =
     rw (self_is, entry_is) (record {
       names = v.names;
       turns = v.turns;
+      room = v.room;
       within = omega (arith, length-set es j (taken s.names s.state x));
-      ready = rw (same_shape s.names s.state x, take-set es j (taken s.names s.state x)) parts.1;
+      ready = rw (same_shape s.room s.names s.state x, take-set es j (taken s.names s.state x)) parts.1;
       state = back_step s.names s.state es j x within c.index-entries-i.is ∙ ap (λ n. back s.names s.state (take n es)) (sym more) ∙ v.state;
       entries = back_taken_step s.names s.state es j x within c.index-entries-i.is ∙ ap (λ n. back_taken s.names s.state (take n es) ++ drop n es) (sym more) ∙ v.entries;
     })

@@ -6,6 +6,7 @@ abbrev pub invariant-loop-i : goal.invariant-loop-i
 invariant-loop-i g l = record {
   names : l.self.names ≡ l.initial.self.names;
   turns : l.self.turns ≡ l.initial.self.turns;
+  room : l.self.room ≡ l.initial.self.room;
   within : l.i ≤ length l.entries;
   ready : AreReady (shape_of l.self) (take l.i l.entries);
   state : back l.self.names l.self.state (take l.i l.entries) ≡ back l.initial.self.names l.initial.self.state l.initial.entries;

@@ -18,7 +18,8 @@ loop-i-preserved g c =
     rw (self_is, entry_is) (record {
       names = v.names;
       turns = v.turns;
-      ready = rw (same_shape s.names s.state x, drop-set-lt (i + 1) es i (taken s.names s.state x) (omega arith)) parts.1;
+      room = v.room;
+      ready = rw (same_shape s.room s.names s.state x, drop-set-lt (i + 1) es i (taken s.names s.state x) (omega arith)) parts.1;
       state = forth_step s.names s.state es i x within c.index-entries-i.is ∙ v.state;
       entries = forth_taken_step s.names s.state es i x within c.index-entries-i.is ∙ v.entries;
     })

@@ -6,6 +6,7 @@ abbrev pub invariant-loop-i : goal.invariant-loop-i
 invariant-loop-i g l = record {
   names : l.self.names ≡ l.initial.self.names;
   turns : l.self.turns ≡ l.initial.self.turns;
+  room : l.self.room ≡ l.initial.self.room;
   ready : AreReady (shape_of l.self) (drop l.i l.entries);
   state : forth l.self.names l.self.state (drop l.i l.entries) ≡ forth l.initial.self.names l.initial.self.state l.initial.entries;
   entries : take l.i l.entries ++ forth_taken l.self.names l.self.state (drop l.i l.entries) ≡ forth_taken l.initial.self.names l.initial.self.state l.initial.entries;
