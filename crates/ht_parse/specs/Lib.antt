@@ -2,3 +2,4 @@ pub mod Contexts
 pub mod Lists
 pub mod Answer
 pub mod Blocks
+pub mod Stops

@@ -1,11 +1,12 @@
 //! Texts, whole.
 
-ghost use Rattle.std.specs.Prelude.{◌≤◌, length};
+ghost use Rattle.std.specs.Prelude.{◌≡◌, ◌≤◌, length, slice_get};
 ghost use Rattle.ht_grammar.specs.Reads.{ReadsExpr, ReadsLines, ReadsScript, ReadsPart, ReadsType, ReadsMessage};
 ghost use Rattle.ht_tree.specs.View.{part_of};
 ghost use Rattle.ht_tree.specs.StatementView.{stmts_of};
 ghost use Rattle.ht_tree.specs.ScriptView.{script_of, message_of, typing_of};
 ghost use Rattle.ht_parse.specs.Answer.{Lexes, Places, Parses};
+ghost use Rattle.ht_parse.specs.Stops.{start_or_end, error_at};
 
 use crate::error::ParseError;
 use crate::whole::{clicked_part, expression, script, sent_message, typed_lines, typed_text};
@@ -34,19 +35,20 @@ fn tokens_of(alloc: Global, text: &Text) -> Result<Tokens<'_>, ParseError>
 
 /// Where a token begins, or the end of the text after the last.
 fn place_of(tokens: &Tokens<'_>, token: usize) -> usize
-    ensures { result ≤ length tokens.now.text }
+    ensures value { result ≡ start_or_end (length tokens.now.text) (slice_get tokens.now.spans token) }
+    ensures within { result ≤ length tokens.now.text }
 {
     let end = tokens.text().len();
-    if token < tokens.len() {
-        tokens.at(token).start.min(end)
-    } else {
-        end
+    match tokens.spans().get(token) {
+        Some(span) => span.start.min(end),
+        None => end,
     }
 }
 
 /// The error of a reader that stopped with so many tokens left.
 fn error_of(tokens: &Tokens<'_>, left: usize, stop: Stop) -> ParseError
-    ensures { Places (length tokens.now.text) stop result }
+    ensures value { result ≡ error_at tokens.now left stop }
+    ensures within { Places (length tokens.now.text) stop result }
 {
     match stop {
         Stop::Memory => ParseError::Memory,
