@@ -2,12 +2,14 @@
 #![tactic(auto)]
 
 mod fault;
+mod given;
 mod runs;
 mod words;
 
 pub use fault::{CliFault, cut, verdict};
+pub use given::Words;
 pub use runs::play;
-pub use words::{Words, words_of};
+pub use words::words_of;
 
 #[cfg(test)]
 mod tests;

@@ -9,7 +9,7 @@ ghost use Rattle.stack_text.specs.Laws.{Spells};
 ghost use Rattle.command_line.specs.Plays.{Plays, Ends, IsRefusal, fault_of_run};
 
 use crate::fault::CliFault;
-use crate::words::Words;
+use crate::given::Words;
 use externals::External;
 use object_table::Stack;
 use session::{RunFault, Session, run};

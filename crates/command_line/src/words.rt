@@ -1,12 +1,17 @@
 //! The words that follow the program's name.
 
-ghost use Rattle.std.specs.Prelude.{◌≤◌, IfErr};
+ghost use Rattle.std.specs.Prelude.{◌≡◌, ◌≤◌, [], true, map, IfOk, IfErr};
+ghost use Rattle.std.specs.String.{string_bytes};
+ghost use Rattle.clap.specs.Words.{app_of, fault_of, kind_of, found_of, rows_of, matches_of, one_of};
 ghost use Rattle.command_line.specs.Verdicts.{IsFaultOfWords};
+ghost use Rattle.command_line.specs.Words.{program as program_said, IsNumber, Says};
 
 use crate::fault::{CliFault, cut};
+use crate::given::Words;
+use clap::builder::ValueParser;
 use clap::error::ErrorKind;
-use clap::{Arg, ArgAction, Command, Error};
-use std::alloc::Global;
+use clap::{Arg, ArgAction, ArgMatches, Command, Error};
+use std::alloc::{AllocError, Global};
 
 /// The most steps of a command, and how many there are unless the words say so.
 const MOST_STEPS: u32 = 10_000_000;
@@ -16,79 +21,78 @@ const STEPS: u32 = 100_000;
 /// The greatest depth of the history, in places, which is also its depth unless the words say so.
 const MOST_DEPTH: u32 = 1_000_000;
 
-/// What the words say: `STACK [--steps N] [--depth D] [--watch]`.
-#[derive(Debug, Drop)]
-pub struct Words {
-    /// The path of the stack.
-    pub stack: String,
-    /// How many steps a command may take, 1 to 10,000,000.
-    pub steps: u32,
-    /// How many places the history keeps, 1 to 1,000,000.
-    pub depth: u32,
-    /// Whether the messages that are sent are shown.
-    pub watch: bool,
-    ghost some_steps: { 1 ≤ steps },
-    ghost few_steps: { steps ≤ 10000000 },
-    ghost some_depth: { 1 ≤ depth },
-    ghost few_depth: { depth ≤ 1000000 },
-}
-
 /// The program as `clap` knows it.
-fn program<'a>(alloc: Global) -> Result<Command<'a>, Error> {
+fn program<'a>(alloc: Global) -> Result<Command<'a>, AllocError>
+    ensures { IfOk result (λ c. app_of c ≡ program_said) }
+{
     let stack = Arg::new(alloc, "STACK")
         .required(true)
         .action(ArgAction::Set);
     let steps = Arg::new(alloc, "steps")
         .long("steps")
         .action(ArgAction::Set)
-        .value_parser(clap::value_parser!(u64).range(1..=10_000_000));
+        .value_parser(ValueParser::unsigned(1, MOST_STEPS as u64));
     let depth = Arg::new(alloc, "depth")
         .long("depth")
         .action(ArgAction::Set)
-        .value_parser(clap::value_parser!(u64).range(1..=1_000_000));
+        .value_parser(ValueParser::unsigned(1, MOST_DEPTH as u64));
     let watch = Arg::new(alloc, "watch")
         .long("watch")
         .action(ArgAction::SetTrue);
-    Ok(
-        Command::new(alloc, "card_cli")
-            .arg(stack)?
-            .arg(steps)?
-            .arg(depth)?
-            .arg(watch)?,
-    )
+    Command::new(alloc, "card_cli")
+        .arg(stack)?
+        .arg(steps)?
+        .arg(depth)?
+        .arg(watch)
 }
 
 /// A number that `clap` let through, from 1 to the most, or this one where none was given.
-fn number(given: Option<u64>, unless: u32, most: u32) -> u32
+fn number(matches: &ArgMatches<'_>, name: &str, unless: u32, most: u32) -> u32
     requires some { 1 ≤ unless }
     requires few { unless ≤ most }
     ensures some { 1 ≤ result }
     ensures few { result ≤ most }
+    ensures value { IsNumber (one_of name.now (rows_of (found_of matches.now))) unless most result }
 {
-    match given {
+    match matches.get_one::<u64>(name) {
         Some(number) => number.clamp(1, most as u64) as u32,
         None => unless,
     }
 }
 
-/// Reads the words, of which the first is the program's name. What `clap` doesn't take, `--help` included, is
-/// a usage fault with `clap`'s text; `Memory` where a growth was refused, and no other fault.
-pub fn words_of(alloc: Global, given: &[String]) -> Result<Words, CliFault>
-    ensures { IfErr result IsFaultOfWords }
+/// What the matches say.
+fn said(alloc: Global, matches: &ArgMatches<'_>) -> Result<Words, AllocError>
+    ensures { IfOk result (Says (rows_of (found_of matches.now))) }
 {
-    let command = match program(alloc) {
-        Ok(command) => command,
-        Err(_) => return Err(CliFault::Memory),
-    };
+    Ok(Words {
+        stack: String::from_str(alloc, matches.get_str("STACK").unwrap_or(""))?,
+        steps: number(matches, "steps", STEPS, MOST_STEPS),
+        depth: number(matches, "depth", MOST_DEPTH, MOST_DEPTH),
+        watch: matches.get_flag("watch"),
+    })
+}
+
+/// Whether a growth was refused.
+fn is_want_of_memory(error: &Error) -> bool
+    ensures { kind_of error.now ≡ ErrorKind.OutOfMemory → result ≡ true }
+{
+    matches!(error.kind(), ErrorKind::OutOfMemory)
+}
+
+/// Reads the words, of which the first is the program's name: what `clap` finds in them, exactly. What `clap` doesn't
+/// take, `--help` included, is a usage fault with `clap`'s text, and words that it takes never are; `Memory` where a
+/// growth was refused, and no other fault.
+pub fn words_of(alloc: Global, given: &[String]) -> Result<Words, CliFault>
+    ensures ok { IfOk result (Says (matches_of program_said (map (λ s. string_bytes s) given.now))) }
+    ensures taken { IfOk result (λ w. fault_of program_said (map (λ s. string_bytes s) given.now) ≡ []) }
+    ensures err { IfErr result IsFaultOfWords }
+    ensures memory { IfErr result (λ f. fault_of program_said (map (λ s. string_bytes s) given.now) ≡ [] → f ≡ CliFault.Memory) }
+{
+    let command = program(alloc)?;
     match command.try_get_matches_from(given) {
-        Ok(matches) => Ok(Words {
-            stack: String::from_str(alloc, matches.get_str("STACK").unwrap_or(""))?,
-            steps: number(matches.get_one::<u64>("steps"), STEPS, MOST_STEPS),
-            depth: number(matches.get_one::<u64>("depth"), MOST_DEPTH, MOST_DEPTH),
-            watch: matches.get_flag("watch"),
-        }),
+        Ok(matches) => Ok(said(alloc, &matches)?),
         Err(error) => {
-            if matches!(error.kind(), ErrorKind::OutOfMemory) {
+            if is_want_of_memory(&error) {
                 return Err(CliFault::Memory);
             }
             let text = error.to_string(alloc)?;

@@ -1,0 +1,44 @@
+-- What the program's words say.
+use Rattle.std.specs.Prelude.{◌≡◌, ℕ, Bool, true, false, List, [], Option, Some, None, min, max, unwrap_or, codes, ◌<◌, ◌^◌}
+use Rattle.std.specs.Str.Parse.{IsNumeral, digits_value, without_leading_plus}
+use Rattle.std.specs.String.{string_bytes}
+use Rattle.clap.specs.Words.{App, Row, Rule, Text, new_app, new_rule, with_rule, first_of, one_of}
+use Rattle.clap.specs.declared.builder.action.ArgAction.TheVariants.{Set, SetTrue}
+use Rattle.clap.specs.declared.builder.value_parser.ValueParser.TheVariants.{Unsigned}
+use Rattle.command_line.specs.declared.given.Words.{Words}
+
+-- STACK has to be there; --steps and --depth have a number in their range, and --watch stands alone
+abbrev pub stack_rule : Rule
+stack_rule = record (new_rule (codes "STACK")) { required = true; action = Some Set }
+
+abbrev pub number_rule : Text → ℕ → Rule
+number_rule name most = record (new_rule name) { long = Some name; action = Some Set; parser = Some (Unsigned 1 most) }
+
+abbrev pub watch_rule : Rule
+watch_rule = record (new_rule (codes "watch")) { long = Some (codes "watch"); action = Some SetTrue }
+
+abbrev pub program : App
+program = with_rule (with_rule (with_rule (with_rule (new_app (codes "card_cli")) stack_rule) (number_rule (codes "steps") 10000000)) (number_rule (codes "depth") 1000000)) watch_rule
+
+-- whether a text is a number that a word can hold
+abbrev pub Reads : Text → Type 0
+Reads t = IsNumeral 10 (without_leading_plus t) × (digits_value 10 (without_leading_plus t) < 2 ^ 64)
+
+-- the number that a text writes, from 1 to the most, or another one where there is no such text
+pub record IsNumber (given : Option Text) (unless most n : ℕ) : Type 0 where
+  pub none : given ≡ None → n ≡ unless
+  pub some : (t : Text) → given ≡ Some t → Reads t → n ≡ max 1 (min (digits_value 10 (without_leading_plus t)) most)
+  pub other : (t : Text) → given ≡ Some t → ¬ Reads t → n ≡ unless
+
+-- whether a flag was given
+pub record IsFlag (given : Option Text) (b : Bool) : Type 0 where
+  pub none : given ≡ None → b ≡ false
+  pub yes : given ≡ Some (codes "true") → b ≡ true
+  pub no : given ≡ Some (codes "false") → b ≡ false
+
+-- what was found in the words, said
+pub record Says (rows : List Row) (w : Words) : Type 0 where
+  pub stack : string_bytes w.stack ≡ unwrap_or (first_of (codes "STACK") rows) []
+  pub steps : IsNumber (one_of (codes "steps") rows) 100000 10000000 w.steps
+  pub depth : IsNumber (one_of (codes "depth") rows) 1000000 1000000 w.depth
+  pub watch : IsFlag (one_of (codes "watch") rows) w.watch

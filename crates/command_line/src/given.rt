@@ -1,0 +1,20 @@
+//! What the program's words give.
+
+ghost use Rattle.std.specs.Prelude.{◌≤◌};
+
+/// What the words say: `STACK [--steps N] [--depth D] [--watch]`.
+#[derive(Debug, Drop)]
+pub struct Words {
+    /// The path of the stack.
+    pub stack: String,
+    /// How many steps a command may take, 1 to 10,000,000.
+    pub steps: u32,
+    /// How many places the history keeps, 1 to 1,000,000.
+    pub depth: u32,
+    /// Whether the messages that are sent are shown.
+    pub watch: bool,
+    ghost some_steps: { 1 ≤ steps },
+    ghost few_steps: { steps ≤ 10000000 },
+    ghost some_depth: { 1 ≤ depth },
+    ghost few_depth: { depth ≤ 1000000 },
+}
