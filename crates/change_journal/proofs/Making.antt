@@ -21,7 +21,7 @@ use Rattle.journal_entries.specs.Exchange.{Held, Lot, Shape, shape_of, exchanged
 use Rattle.journal_entries.specs.Turning.{Carries, Turns, TurnsAtMostOnce, IsNumbered, one_more_at}
 use Rattle.journal_entries.specs.Changing.{Makes, kept, holds_one}
 use Rattle.journal_entries.specs.declared.entry.Entry.{Entry}
-use Rattle.journal_entries.specs.declared.entry.Entry.TheVariants.{Global, Current, External}
+use Rattle.journal_entries.specs.declared.entry.Entry.TheVariants.{External}
 use Rattle.journal_entries.specs.declared.change.Change.TheVariants as changes
 use Rattle.journal_entries.specs.declared.change.Change.{Change}
 use Rattle.journal_entries.proofs.Going.{back-push, exchanged_back, taken_back, same_shape, AreReady-push, IsReady-taken}

@@ -5,14 +5,14 @@ use Rattle.std.specs.FinSet.{contains}
 use Rattle.object_table.specs.Maps.{put_option}
 use Rattle.object_table.specs.Setting.{may_set}
 use Rattle.object_table.specs.declared.property.PropValue.{PropValue}
-use Rattle.stack_places.specs.Places.{as_text, text, number, size_of, prop_of}
+use Rattle.stack_places.specs.Places.{as_text, text, number, size_of}
 use Rattle.stack_places.specs.Exchange.{value_of, place_of, is_structural, entry_weight as stack_weight, IsReady as IsStackReady}
 use Rattle.stack_places.specs.declared.entry.StackEntry.{StackEntry}
 use Rattle.stack_places.specs.declared.entry.StackEntry.TheVariants as stack_entries
 use Rattle.stack_places.proofs.Exchanging.{IsThere, puts, taken_weight}
 use Rattle.journal_entries.specs.Changes.{writes_of}
 use Rattle.journal_entries.specs.declared.change.Change.{Change}
-use Rattle.journal_entries.specs.Places.{Write, global, in_stack, current_card, put}
+use Rattle.journal_entries.specs.Places.{global, in_stack, current_card, put}
 use Rattle.journal_entries.specs.Trails.{at}
 use Rattle.journal_entries.specs.Exchange.{Held, exchanged, taken, mark_of, stack_mark, entry_weight, IsReady}
 use Rattle.journal_entries.specs.Turning.{Prepares, IsNumbered}

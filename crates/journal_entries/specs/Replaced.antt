@@ -1,5 +1,5 @@
 -- What changes and turns replace, and what that weighs.
-use Rattle.std.specs.Prelude.{ℕ, ◌+◌, List, [], ◌∷◌, ◌++◌, length, map, sum_by, bytes_eq, if◌then◌else◌, Option, Some, None}
+use Rattle.std.specs.Prelude.{ℕ, ◌+◌, List, [], ◌∷◌, ◌++◌, map, sum_by, bytes_eq, if◌then◌else◌, Option, Some}
 use Rattle.stack_places.specs.Places.{Value, size_of, text}
 use Rattle.journal_entries.specs.State.{State}
 use Rattle.journal_entries.specs.Places.{Place, value_at, cell}

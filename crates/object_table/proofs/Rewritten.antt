@@ -1,5 +1,5 @@
 -- A well formed stack stays one when a text, a hilite or a property that is there gets another value.
-use Rattle.std.proofs.Common.{◌≡◌, ℕ, Bool, true, false, cond, List, [], refl, sym, subst, ap, ◌∙◌, Option, Some, None, IsSome, IsTrue, IfSome, is_some, option_map, option_and_then, unwrap_or, flat_map, ◌&&◌, ◌||◌, ◌==◌, ◌+◌, ◌↔◌, ◌≤◌}
+use Rattle.std.proofs.Common.{◌≡◌, ℕ, Bool, true, false, cond, List, refl, sym, subst, ap, ◌∙◌, Option, Some, None, IsSome, IsTrue, IfSome, is_some, option_map, option_and_then, unwrap_or, flat_map, ◌&&◌, ◌||◌, ◌==◌, ◌+◌, ◌↔◌}
 use Rattle.std.proofs.lemmas.Bool.{false≢true}
 use Rattle.std.specs.Ordering.{nat_cmp, eq_by_cmp}
 use Rattle.std.specs.Cmp.{nat_cmp_total, Equal-is}

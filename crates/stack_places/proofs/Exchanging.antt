@@ -1,7 +1,6 @@
 -- Exchanges in a stack: back and forth, at one place and at two.
 use Rattle.std.proofs.Common.{◌≡◌, ◌≢◌, ◌≤◌, ◌+◌, ◌&&◌, ℕ, Bool, true, false, nat_eq, List, refl, sym, subst, ap, ◌∙◌, arith, Option, Some, None, is_some, option_map, option_and_then, unwrap_or}
 use Rattle.std.proofs.lemmas.Bool.{eqb-true, eq-eqb, false≢true}
-use Rattle.std.specs.Ordering.{nat_cmp}
 use Rattle.std.specs.Cmp.{nat_cmp_total}
 use Rattle.std.specs.FinMap.{get, nat_cmp-IsAntisymmetric}
 use Rattle.object_table.specs.Content.{Content}
@@ -15,7 +14,7 @@ use Rattle.object_table.specs.declared.object.Object as objects
 use Rattle.object_table.specs.declared.property.PropValue.{PropValue}
 use Rattle.object_table.proofs.Maps.{put_option-get, put_option_again, put_option_apart, put_option_same, get-put_option_apart}
 use Rattle.object_table.proofs.Pairs.{pair_cmp_total, pair_cmp-IsAntisymmetric}
-use Rattle.stack_places.specs.Places.{StackPlace, Value, put, value_at, same_place, size_of, as_text, as_logical, as_object, as_ids, setting_of, prop_of, property, setting_size, with_setting, text, logical, setting, object, ids}
+use Rattle.stack_places.specs.Places.{put, value_at, same_place, size_of, as_text, as_logical, as_object, as_ids, setting_of, prop_of, property, setting_size, with_setting, text, logical, setting, object, ids}
 use Rattle.stack_places.specs.Exchange.{exchanged, taken, place_of, value_of, of_one_place, of_one_property, is_structural, entry_weight, IsReady, IsWider}
 use Rattle.stack_places.specs.declared.entry.StackEntry.{StackEntry}
 use Rattle.stack_places.specs.declared.entry.StackEntry.TheVariants.{Prop, FieldText, Hilite, Object, CardOrder, BackgroundOrder, Parts, NextId}

@@ -1,5 +1,5 @@
 -- Values of properties, put into an object.
-use Rattle.std.proofs.Common.{◌≡◌, ◌≤◌, ◌+◌, ℕ, Bool, true, false, if◌then◌else◌, List, refl, sym, ap, ◌∙◌, arith, Option, Some, None, is_some, option_map, option_and_then, unwrap_or}
+use Rattle.std.proofs.Common.{◌≡◌, ◌≤◌, ◌+◌, ℕ, true, false, if◌then◌else◌, List, refl, sym, ap, ◌∙◌, arith, Option, Some, None, is_some, option_map, option_and_then, unwrap_or}
 use Rattle.std.proofs.lemmas.Bool.{false≢true}
 use Rattle.object_table.specs.Setting.{with_value, value_in}
 use Rattle.object_table.specs.declared.object.Object.{Object}

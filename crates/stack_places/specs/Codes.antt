@@ -1,5 +1,5 @@
 -- Places as numbers.
-use Rattle.std.specs.Prelude.{◌≡◌, ℕ, List, [], ◌∷◌, slice_index_or, refl}
+use Rattle.std.specs.Prelude.{◌≡◌, ℕ, [], ◌∷◌, slice_index_or, refl}
 use Rattle.ht_values.specs.declared.word.Prop.{Prop}
 use Rattle.ht_values.specs.declared.word.Prop.TheVariants as props
 use Rattle.stack_places.specs.Places.{StackPlace, prop_number, property, field_text, button_hilite, whole, card_order, background_order, layer_parts, next_id}

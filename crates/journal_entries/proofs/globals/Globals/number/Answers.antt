@@ -1,8 +1,8 @@
-use Rattle.std.proofs.Common.{◌≡◌, ◌≢◌, ℕ, ◌<◌, ◌++◌, ◌∷◌, [], false, if◌then◌else◌, None, Some, length, map, get_or, ap, sym, ◌∙◌, arith, length-append}
+use Rattle.std.proofs.Common.{◌≡◌, ◌≢◌, ℕ, ◌<◌, ◌++◌, ◌∷◌, [], false, if◌then◌else◌, None, length, get_or, ap, sym, ◌∙◌, arith, length-append}
 use Rattle.std.specs.List.{list_any}
 use Rattle.std.specs.Str.{bytes_eq}
 use Rattle.std.proofs.lemmas.List.{map-append}
-use Rattle.journal_entries.specs.Named.{entries_of, AreDistinct}
+use Rattle.journal_entries.specs.Named.{AreDistinct}
 use Rattle.journal_entries.proofs.Naming.{AreDistinct-push, entries_of-none, same_number}
 use Rattle.journal_entries.proofs.Numbering.{position-found, position-absent, list_any-absent}
 use Rattle.journal_entries.proofs.globals.Globals.number.Goals as goal

@@ -1,4 +1,4 @@
-use Rattle.std.proofs.Common.{◌∷◌, [], refl, sym, append-nil}
+use Rattle.std.proofs.Common.{[], refl, sym, append-nil}
 use Rattle.stack_places.proofs.Wider.{IsWider-text, IsWider-hilite}
 use Rattle.journal_entries.proofs.Preparing.{prepares_global, prepares_current, prepares_text, prepares_hilite, prepares_property}
 use Rattle.journal_entries.proofs.present.Present.prepare.Goals as goal
