@@ -1,6 +1,6 @@
 //! The words that follow the program's name.
 
-ghost use Rattle.std.specs.Prelude.{◌≡◌, ◌≤◌, [], true, map, IfOk, IfErr};
+ghost use Rattle.std.specs.Prelude.{◌≡◌, ◌≤◌, ◌↔◌, [], map, IfOk, IfErr, IsTrue};
 ghost use Rattle.std.specs.String.{string_bytes};
 ghost use Rattle.clap.specs.Words.{app_of, fault_of, kind_of, found_of, rows_of, matches_of, one_of};
 ghost use Rattle.command_line.specs.Verdicts.{IsFaultOfWords};
@@ -72,9 +72,9 @@ fn said(alloc: Global, matches: &ArgMatches<'_>) -> Result<Words, AllocError>
     })
 }
 
-/// Whether a growth was refused.
+/// Whether an error is of a growth that was refused.
 fn is_want_of_memory(error: &Error) -> bool
-    ensures { kind_of error.now ≡ ErrorKind.OutOfMemory → result ≡ true }
+    ensures { IsTrue result ↔ kind_of error.now ≡ ErrorKind.OutOfMemory }
 {
     matches!(error.kind(), ErrorKind::OutOfMemory)
 }
