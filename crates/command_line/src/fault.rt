@@ -5,7 +5,7 @@ ghost use Rattle.ht_values.specs.declared.text.TheConstants.{LIMIT};
 ghost use Rattle.command_line.specs.declared.fault.CliFault.TheVariants.{Memory};
 ghost use Rattle.command_line.specs.Verdicts.{status_of, message_of, refusal_of};
 
-use ht_values::{LIMIT, Text};
+use ht_values::{LIMIT, Text, TextError};
 use itoa::Buffer;
 use stack_file::FileError;
 use std::alloc::{AllocError, AllocFailed, Global};
@@ -66,7 +66,8 @@ pub fn cut(alloc: Global, bytes: &[u8]) -> Result<Text, AllocError>
 {
     match Text::from_slice(alloc, first(bytes, LIMIT)) {
         Ok(text) => Ok(text),
-        Err(_) => Err(AllocError),
+        Err(TextError::Memory) => Err(AllocError),
+        Err(TextError::TooLong) => unreachable!(),
     }
 }
 

@@ -3,7 +3,7 @@
 ghost use Rattle.std.specs.Prelude.{◌≡◌, ℕ, List, map, true, OnOk, IfOk, IfErr, IsErrOf};
 ghost use Rattle.std.specs.Io.KnownBytes.{Appends, Consumes, IsAtEnd};
 ghost use Rattle.journal_entries.specs.State.{seen_by, are_apart};
-ghost use Rattle.session.specs.Opening.{opened};
+ghost use Rattle.session.specs.Headline.{beginning};
 ghost use Rattle.stack_file.specs.Watching.{device_of, failures_of, Rose};
 ghost use Rattle.stack_text.specs.Laws.{Spells};
 ghost use Rattle.command_line.specs.Plays.{Plays, Ends, IsRefusal, fault_of_run};
@@ -12,7 +12,7 @@ use crate::fault::CliFault;
 use crate::given::Words;
 use externals::External;
 use object_table::Stack;
-use session::{RunFault, Session, run};
+use session::{Ran, RunFault, Session, run, runs_follow, stops_follow};
 use stack_file::{ReadError, Watched, read};
 use std::alloc::Global;
 use std::io::{Read, Write};
@@ -42,11 +42,11 @@ fn fault_of(fault: RunFault) -> CliFault
 }
 
 /// Reads the stack text, opens a session with these externals as the words say, and runs the reader to the
-/// writer, up to `.quit` or the end of the input.
+/// writer, up to `.quit` or the end of the input, which it tells.
 ///
 /// What is written is the answers to the lines that are read, those of a list of whole states with a cursor.
 /// `Refused` where the bytes are no stack text, and `Read`, `Write` and `TooManyLines` as `run` has them; `Memory`
-/// where a growth was refused.
+/// where a growth was refused. A device is blamed where it failed, and nowhere else.
 pub fn play<E: External, R: Read, W: Write>(
     alloc: Global,
     words: &Words,
@@ -54,26 +54,30 @@ pub fn play<E: External, R: Read, W: Write>(
     externals: Vec<E>,
     reader: &mut Watched<R>,
     writer: &mut Watched<W>,
-) -> Result<(), CliFault>
+) -> Result<Ran, CliFault>
     requires { are_apart (map E.title externals.items) ≡ true }
-    ensures ok { OnOk result ((read : List ℕ) × (written : List ℕ)
+    ensures ok { IfOk result (λ ran. (read : List ℕ) × (written : List ℕ)
         × Consumes (R.remaining (device_of reader.old)) (R.remaining (device_of reader.new)) read
         × Appends (W.contents (device_of writer.old)) (W.contents (device_of writer.new)) written
-        × Plays bytes.now (λ stack. opened stack (map (seen_by E.title E.sort E.answers_calls E.cells) externals.items) (map E.turn_count externals.items) words.now.steps words.now.depth) read written) }
+        × Plays (IsAtEnd (R.remaining (device_of reader.new))) ran bytes.now (λ stack. beginning stack (map (seen_by E.title E.sort E.answers_calls E.cells) externals.items) words.now.steps words.now.depth) read written) }
     ensures err { IfErr result (λ fault. (read : List ℕ) × (written : List ℕ)
         × Consumes (R.remaining (device_of reader.old)) (R.remaining (device_of reader.new)) read
         × Appends (W.contents (device_of writer.old)) (W.contents (device_of writer.new)) written
-        × Ends (IsAtEnd (R.remaining (device_of reader.new))) fault bytes.now (λ stack. opened stack (map (seen_by E.title E.sort E.answers_calls E.cells) externals.items) (map E.turn_count externals.items) words.now.steps words.now.depth) read written) }
+        × Ends (IsAtEnd (R.remaining (device_of reader.new))) fault bytes.now (λ stack. beginning stack (map (seen_by E.title E.sort E.answers_calls E.cells) externals.items) words.now.steps words.now.depth) read written) }
     ensures read_failed { IsErrOf result CliFault.Read → Rose (failures_of reader.old) (failures_of reader.new) }
+    ensures read_sound { ¬ IsErrOf result CliFault.Read → failures_of reader.new ≡ failures_of reader.old }
     ensures write_failed { IsErrOf result CliFault.Write → Rose (failures_of writer.old) (failures_of writer.new) }
+    ensures write_sound { ¬ IsErrOf result CliFault.Write → failures_of writer.new ≡ failures_of writer.old }
 {
     let stack = stack_of(alloc, bytes)?;
     let mut session = match Session::open(alloc, stack, externals, words.steps, words.depth) {
         Ok(session) => session,
         Err(_) => unreachable!(),
     };
+    runs_follow();
+    stops_follow();
     match run(&mut session, alloc, reader, writer) {
-        Ok(_) => Ok(()),
+        Ok(ran) => Ok(ran),
         Err(fault) => Err(fault_of(fault)),
     }
 }

@@ -19,7 +19,8 @@ use Rattle.change_journal.specs.Rising.{Made, Rises, BothOpen, trail_after}
 use Rattle.journal_entries.specs.Trails.{IsOnce}
 use Rattle.session.specs.Commands.{Statement}
 use Rattle.session.specs.Meaning.{effect, replaced_of, after_change}
-use Rattle.session.specs.TakesLine.{Adds, ended}
+use Rattle.session.specs.Replies.{ended}
+use Rattle.session.specs.TakesLine.{Adds}
 use Rattle.session.specs.declared.reply.Ending.{Ending}
 
 not_upper : (b : ℕ) → not (is_ascii_uppercase (to_ascii_lowercase b)) ≡ true

@@ -1,9 +1,11 @@
 pub mod Conversing
 pub mod Effects
+pub mod Following
 pub mod GlobalsInOrder
 pub mod LineFeeds
-pub mod Listing
 pub mod Moving
 pub mod Opened
 pub mod Refusing
+pub mod Sessions
 pub mod Spaces
+pub mod Within

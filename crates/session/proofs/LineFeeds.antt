@@ -7,7 +7,7 @@ use Rattle.std.proofs.lemmas.List.Quantifiers.{position-Some}
 use Rattle.std.proofs.lemmas.List.Sums.{fails_before_first}
 use Rattle.std.proofs.lemmas.Bool.{cases_lt, lt-ltb, eqb-true, eq-eqb}
 use Rattle.session.specs.Splits.{IsLine, ended_lines, Splits}
-use Rattle.session.proofs.Conversing.{ended_lines-snoc, all-append}
+use Rattle.session.proofs.Sessions.{ended_lines-snoc, all-append}
 
 -- the bytes in front of a place, where none before it is a line feed
 IsLine-take : (xs : List ℕ) (i : ℕ) → i ≤ length xs → ((k : ℕ) → k < i → (get_or xs k 0 == 10) ≡ false) → IsLine (take i xs)

@@ -5,7 +5,8 @@ use Rattle.change_journal.specs.History.{History}
 use Rattle.session.specs.Commands.{Said, run, undo, redo, undo_to, show, globals, current_card, history, quit, said}
 use Rattle.session.specs.Moves.{undone, redone, undone_to}
 use Rattle.session.specs.Standing.{Standing}
-use Rattle.session.specs.TakesLine.{TakesLine, Performs, Moves, MayRunOut, ended, refused}
+use Rattle.session.specs.Replies.{ended, Refuses, Moves}
+use Rattle.session.specs.TakesLine.{TakesLine, Performs, MayRunOut}
 use Rattle.session.specs.declared.reply.Refusal.TheVariants as refusals
 use Rattle.session.specs.declared.reply.Ending.{Ending}
 use Rattle.session.specs.declared.reply.Ending.TheVariants as endings
@@ -19,15 +20,15 @@ other : (reply : Reply) (ending : Ending) → reply ≡ ended ending → RunsOut
 other reply ending is out = sym (ap (λ (r : Reply). r.ending) is) ∙ out
 
 undo_never : (there : Option History) (old : History) (reply : Reply) (new : History) → Moves there refusals.NothingToUndo old reply new → RunsOutOf reply → ⊥
-undo_never None old reply new m out = let e = other reply (endings.Refused refusals.NothingToUndo) m.0 out in cc
+undo_never None old reply new m out = let e = other reply (endings.Refused refusals.NothingToUndo) m.answer out in cc
 undo_never (Some there) old reply new m out = let e = other reply endings.Ok m.0 out in cc
 
 redo_never : (there : Option History) (old : History) (reply : Reply) (new : History) → Moves there refusals.NothingToRedo old reply new → RunsOutOf reply → ⊥
-redo_never None old reply new m out = let e = other reply (endings.Refused refusals.NothingToRedo) m.0 out in cc
+redo_never None old reply new m out = let e = other reply (endings.Refused refusals.NothingToRedo) m.answer out in cc
 redo_never (Some there) old reply new m out = let e = other reply endings.Ok m.0 out in cc
 
 pub may_run_out : (said : Option Said) (number : ℕ) (old : History) (reply : Reply) (new : History) → Performs said number old reply new → RunsOutOf reply → MayRunOut said
-may_run_out None number old reply new p out = let e = other reply (endings.Refused refusals.BadCommand) p.0 out in cc
+may_run_out None number old reply new p out = let e = other reply (endings.Refused refusals.BadCommand) p.answer out in cc
 may_run_out (Some (run statement)) number old reply new p out = tt
 may_run_out (Some (undo k)) number old reply new p out = undo_never (undone k old) old reply new p out
 may_run_out (Some (redo k)) number old reply new p out = redo_never (redone k old) old reply new p out
@@ -41,7 +42,7 @@ may_run_out (Some quit) number old reply new p out = let e = other reply endings
 -- no move of the cursor, no `.quit` and no other refusal is for memory
 pub lines_run_out : (line : List ℕ) (old : Standing) (reply : Reply) (new : Standing) → TakesLine line old reply new → RunsOutOf reply → MayRunOut (said line)
 lines_run_out line old reply new t out =
-    elim (nat_lt 30000 (length line)) as (λ b. MatchBool b ((reply ≡ refused refusals.LineTooLong) × (new.history ≡ old.history)) (Performs (said line) new.lines old.history reply new.history) → MayRunOut (said line)) [
-      | true ↦ λ p. (let e = other reply (endings.Refused refusals.LineTooLong) p.0 out in cc)
+    elim (nat_lt 30000 (length line)) as (λ b. MatchBool b (Refuses refusals.LineTooLong old.history reply new.history) (Performs (said line) new.lines old.history reply new.history) → MayRunOut (said line)) [
+      | true ↦ λ p. (let e = other reply (endings.Refused refusals.LineTooLong) p.answer out in cc)
       | false ↦ λ p. may_run_out (said line) new.lines old.history reply new.history p out
     ] t.performed

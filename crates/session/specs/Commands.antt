@@ -1,5 +1,5 @@
 -- What a line says.
-use Rattle.std.specs.Prelude.{ℕ, Bool, true, false, not, ◌||◌, ◌==◌, nat_eq, List, [], ◌∷◌, length, take, drop, filter, codes, Option, Some, None, option_map, option_and_then, if◌then◌else◌, slice_index}
+use Rattle.std.specs.Prelude.{ℕ, ◌≤◌, Bool, true, false, not, ◌||◌, ◌==◌, nat_eq, List, [], ◌∷◌, length, take, drop, filter, codes, Option, Some, None, option_map, option_and_then, if◌then◌else◌, slice_index}
 use Rattle.std.specs.Cmp.Lexicographic.{pointwise}
 use Rattle.std.specs.Borrow.{Bor}
 use Rattle.std.specs.List.{slice_split, position, list_any}
@@ -126,3 +126,8 @@ dot_said _ = None
 -- what a line says, if it says anything; a dot line begins with the dot
 abbrev pub said : List ℕ → Option Said
 said line = if slice_index line 0 == 46 then dot_said (words line) else option_map run (statement_said line)
+
+-- the parts of what is said are no longer than this
+abbrev pub IsWithin : ℕ → Said → Type 0
+IsWithin most (run (put text name)) = (length text ≤ most) × (length name ≤ most)
+IsWithin most _ = Unit {0}

@@ -1,11 +1,14 @@
 pub mod Answers
 pub mod Commands
 pub mod Conversation
+pub mod Headline
+pub mod Intake
 pub mod Meaning
 pub mod Moves
 pub mod Opening
+pub mod Replies
 pub mod Splits
 pub mod Standing
 pub mod Stops
 pub mod TakesLine
-pub mod WholeStates
+pub mod Unzipped

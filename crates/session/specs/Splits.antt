@@ -28,3 +28,10 @@ last_line (b ∷ bs) = (b ∷ bs) ∷ []
 -- the lines of an input
 abbrev pub all_lines : List (List ℕ) → List ℕ → List (List ℕ)
 all_lines lines rest = map without_return lines ++ last_line rest
+
+-- these are the lines of the bytes
+pub record AreLines (bytes : List ℕ) (lines : List (List ℕ)) : Type 0 where
+  pub ended : List (List ℕ)
+  pub rest : List ℕ
+  pub splits : Splits bytes ended rest
+  pub all : lines ≡ all_lines ended rest

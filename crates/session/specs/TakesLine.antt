@@ -1,9 +1,5 @@
 -- How a session takes a line.
-use Rattle.std.specs.Prelude.{◌≡◌, ◌⊎◌, ℕ, ◌≤◌, List, [], ◌∷◌, ◌++◌, length, map, decimal, Option, Some, None, Result, Ok, Err, nat_lt, MatchBool}
-use Rattle.std.specs.FinMap.{entries}
-use Rattle.stack_text.specs.declared.sheets.Version.TheVariants.{Second as second}
-use Rattle.stack_text.specs.Listing.{spelling}
-use Rattle.stack_text.specs.Words.{spelled}
+use Rattle.std.specs.Prelude.{◌≡◌, ◌⊎◌, ℕ, ◌≤◌, List, [], ◌∷◌, length, decimal, Option, Some, None, nat_lt, MatchBool}
 use Rattle.journal_entries.specs.State.{State}
 use Rattle.journal_entries.specs.Replaced.{Replacement, back_weight, forth_weight}
 use Rattle.journal_entries.specs.Trails.{IsOnce}
@@ -12,37 +8,11 @@ use Rattle.change_journal.specs.Rising.{trail_after}
 use Rattle.session.specs.Commands.{Statement, Said, run, undo, redo, undo_to, show, globals, current_card, history, quit, said}
 use Rattle.session.specs.Meaning.{Fresh}
 use Rattle.session.specs.Moves.{undone, redone, undone_to}
-use Rattle.session.specs.Splits.{Splits}
+use Rattle.session.specs.Replies.{ended, Refuses, Moves, Looks, ShowsStack, global_lines, history_line}
 use Rattle.session.specs.Standing.{Standing, next_number}
-use Rattle.session.specs.declared.reply.Refusal.{Refusal}
 use Rattle.session.specs.declared.reply.Refusal.TheVariants.{NothingToUndo, NothingToRedo, BadCommand, NoMemory, LineTooLong}
-use Rattle.session.specs.declared.reply.Ending.{Ending}
 use Rattle.session.specs.declared.reply.Ending.TheVariants as endings
 use Rattle.session.specs.declared.reply.Reply.{Reply}
-
--- an answer that shows and sends nothing
-abbrev pub ended : Ending → Reply
-ended ending = record { shown = []; sent = []; ending = ending }
-
-abbrev pub refused : Refusal → Reply
-refused refusal = ended (endings.Refused refusal)
-
-abbrev pub moved_reply : Result (Unit {0}) Refusal → Reply
-moved_reply (Ok done) = ended endings.Ok
-moved_reply (Err refusal) = refused refusal
-
-abbrev pub shown_reply : {E : Type 0} → Result (List (List ℕ)) E → Reply
-shown_reply (Ok shown) = record { shown = shown; sent = []; ending = endings.Ok }
-shown_reply (Err e) = refused NoMemory
-
-abbrev pub ran_reply : {E : Type 0} → Result Ending E → Reply
-ran_reply (Ok ending) = ended ending
-ran_reply (Err e) = refused NoMemory
-
--- a growth was refused, and nothing is left of what the line did
-pub record RunsOut (old : History) (reply : Reply) (new : History) : Type 0 where
-  pub refusal : reply ≡ refused NoMemory
-  pub same : new ≡ old
 
 -- A fresh command adds the state that it leaves, in place of all after the cursor. The step to it weighs no more
 -- than what the command replaced, and has each place once between what is made, removed or an external's.
@@ -60,44 +30,17 @@ pub record Adds (statement : Statement) (number : ℕ) (old : History) (reply : 
   pub once : IsOnce batch.trail
   pub joined : new ≡ committed (record old { now = state; start = Some batch })
 
--- the cursor moves to another place, or there is none
-abbrev pub Moves : Option History → Refusal → History → Reply → History → Type 0
-Moves (Some there) refusal old reply new = (reply ≡ ended endings.Ok) × (new ≡ there)
-Moves None refusal old reply new = (reply ≡ refused refusal) × (new ≡ old)
-
--- a look shows these lines, and changes nothing
-pub record Looks (shown : List (List ℕ)) (old : History) (reply : Reply) (new : History) : Type 0 where
-  pub answer : reply ≡ record { shown = shown; sent = []; ending = endings.Ok }
-  pub same : new ≡ old
-
--- the lines of the stack's text, as they stand
-pub record ShowsStack (old : History) (reply : Reply) (new : History) : Type 0 where
-  pub lines : Splits (spelling second old.now.stack) reply.shown []
-  pub look : Looks reply.shown old reply new
-
--- a name, a space and a value, spelled as a text
-abbrev pub global_line : List ℕ × List ℕ → List ℕ
-global_line g = spelled (g.0 ++ 32 ∷ g.1)
-
--- the globals in the order of their names' bytes
-abbrev pub global_lines : State → List (List ℕ)
-global_lines s = map global_line (entries s.globals)
-
--- how many places can be undone and redone
-abbrev pub history_line : History → List ℕ
-history_line h = decimal (length h.past) ++ 32 ∷ decimal (length h.future)
-
 -- what a line does by what it says, given its number
 abbrev pub Performs : Option Said → ℕ → History → Reply → History → Type 0
-Performs None number old reply new = (reply ≡ refused BadCommand) × (new ≡ old)
-Performs (Some (run statement)) number old reply new = Adds statement number old reply new ⊎ RunsOut old reply new
+Performs None number old reply new = Refuses BadCommand old reply new
+Performs (Some (run statement)) number old reply new = Adds statement number old reply new ⊎ Refuses NoMemory old reply new
 Performs (Some (undo k)) number old reply new = Moves (undone k old) NothingToUndo old reply new
 Performs (Some (redo k)) number old reply new = Moves (redone k old) NothingToRedo old reply new
 Performs (Some (undo_to n)) number old reply new = Moves (undone_to n old) NothingToUndo old reply new
-Performs (Some show) number old reply new = ShowsStack old reply new ⊎ RunsOut old reply new
-Performs (Some globals) number old reply new = Looks (global_lines old.now) old reply new ⊎ RunsOut old reply new
-Performs (Some current_card) number old reply new = Looks (decimal old.now.current ∷ []) old reply new ⊎ RunsOut old reply new
-Performs (Some history) number old reply new = Looks (history_line old ∷ []) old reply new ⊎ RunsOut old reply new
+Performs (Some show) number old reply new = ShowsStack old.now old reply new ⊎ Refuses NoMemory old reply new
+Performs (Some globals) number old reply new = Looks (global_lines old.now) old reply new ⊎ Refuses NoMemory old reply new
+Performs (Some current_card) number old reply new = Looks (decimal old.now.current ∷ []) old reply new ⊎ Refuses NoMemory old reply new
+Performs (Some history) number old reply new = Looks (history_line (length old.past) (length old.future) ∷ []) old reply new ⊎ Refuses NoMemory old reply new
 Performs (Some quit) number old reply new = (reply ≡ ended endings.Quit) × (new ≡ old)
 
 -- What may be refused for memory: no move of the cursor, and neither `.quit` nor a line that says nothing.
@@ -111,7 +54,7 @@ MayRunOut _ = ⊥
 
 -- a line over 30,000 bytes is refused unread
 abbrev pub PerformsLine : List ℕ → ℕ → History → Reply → History → Type 0
-PerformsLine line number old reply new = MatchBool (nat_lt 30000 (length line)) ((reply ≡ refused LineTooLong) × (new ≡ old)) (Performs (said line) number old reply new)
+PerformsLine line number old reply new = MatchBool (nat_lt 30000 (length line)) (Refuses LineTooLong old reply new) (Performs (said line) number old reply new)
 
 -- A session takes a line: it is counted, answered, and the history goes on.
 pub record TakesLine (line : List ℕ) (old : Standing) (reply : Reply) (new : Standing) : Type 0 where

@@ -1,14 +1,18 @@
 //! A session over a reader and a writer: the headline.
 
 ghost use Rattle.std.specs.Prelude.{◌≡◌, ◌+◌, ◌-◌, ◌<◌, ◌≤◌, ◌≢◌, ◌↔◌, ◌⊎◌, ℕ, IsTrue, List, [], ◌∷◌, ◌++◌, length, take, IfOk, IfErr, OnOk, OnErr, IsErrOf, Ok, true, false};
+ghost use Rattle.std.specs.Vec.{vec_capacity};
 ghost use Rattle.std.specs.Io.KnownBytes.{Appends, Consumes, IsAtEnd};
 ghost use Rattle.stack_file.specs.Watching.{device_of, failures_of, Rose};
 ghost use Rattle.session.specs.Answers.{answer};
 ghost use Rattle.session.specs.Standing.{Standing};
 ghost use Rattle.session.specs.TakesLine.{TakesLine};
-ghost use Rattle.session.specs.Splits.{without_return as line_of_ended};
-ghost use Rattle.session.specs.Conversation.{is_quit, Converses, Breaks, Reached, Onward};
+ghost use Rattle.session.specs.Splits.{without_return as line_of_ended, AreLines};
+ghost use Rattle.session.specs.Conversation.{is_quit, IsCut, Breaks, Finishes};
+ghost use Rattle.session.specs.Intake.{Reached, Onward, Broken};
 ghost use Rattle.session.specs.Stops.{Ended, Stopped};
+ghost use Rattle.session.specs.Headline.{Headline};
+ghost use Rattle.session.specs.Unzipped.{timeline_of};
 ghost use Rattle.session.specs.declared.reply.Reply.{Reply};
 
 use crate::reply::{Ending, answer_of};
@@ -54,19 +58,19 @@ fn answer_line<E: External, W: Write>(
         × TakesLine line.now session.old reply session.new × (is_quit reply.ending ≡ quits)
         × Appends (W.contents (device_of writer.old)) (W.contents (device_of writer.new))
         (answer reply)) }
-    ensures err { OnErr result ((reply : Reply) × (sent : List ℕ) × (unsent : List ℕ)
-        × TakesLine line.now session.old reply session.new × (answer reply ≡ sent ++ unsent)
+    ensures err { IfErr result (λ e. (reply : Reply) × (sent : List ℕ)
+        × TakesLine line.now session.old reply session.new × IsCut e (answer reply) sent
         × Appends (W.contents (device_of writer.old)) (W.contents (device_of writer.new)) sent) }
     ensures which { IfErr result (λ e. (e ≢ RunFault.Read) × (e ≢ RunFault.TooManyLines)) }
     ensures failed { IsErrOf result RunFault.Write
         → Rose (failures_of writer.old) (failures_of writer.new) }
-    ensures sound { OnOk result (failures_of writer.new ≡ failures_of writer.old) }
+    ensures sound { ¬ IsErrOf result RunFault.Write
+        → failures_of writer.new ≡ failures_of writer.old }
 {
     let reply = session.line(line);
     let quits = matches!(reply.ending, Ending::Quit);
-    let bytes = match answer_of(alloc, &reply) {
-        Ok(bytes) => bytes,
-        Err(_) => return Err(RunFault::Memory),
+    let Ok(bytes) = answer_of(alloc, &reply) else {
+        return Err(RunFault::Memory);
     };
     match write_to(&bytes, writer) {
         Ok(()) => Ok(quits),
@@ -89,6 +93,7 @@ struct Intake {
     bytes: u32,
     ghost few: { lines ≤ 1000000 },
     ghost short: { bytes ≤ 1000000000 },
+    ghost room: { 30002 ≤ vec_capacity pending },
 }
 
 impl Intake {
@@ -124,18 +129,19 @@ fn take_byte<E: External, W: Write>(
         × ((start : Standing) (read written : List ℕ)
         → Reached start read written session.old
         intake.old.pending.items intake.old.lines intake.old.bytes
-        → Onward quits start (read ++ byte ∷ []) (written ++ text) session.new
+        → Onward 0 quits start (read ++ byte ∷ []) (written ++ text) session.new
         intake.new.pending.items intake.new.lines intake.new.bytes)) }
-    ensures err { OnErr result ((text : List ℕ)
+    ensures err { IfErr result (λ e. (text : List ℕ)
         × Appends (W.contents (device_of writer.old)) (W.contents (device_of writer.new)) text
         × ((start : Standing) (read written : List ℕ)
         → Reached start read written session.old
         intake.old.pending.items intake.old.lines intake.old.bytes
-        → Breaks ⊥ start (read ++ byte ∷ []) (written ++ text) session.new)) }
+        → Broken 0 e start (read ++ byte ∷ []) (written ++ text) session.new)) }
     ensures which { IfErr result (λ e. (e ≢ RunFault.Read) × (e ≢ RunFault.TooManyLines)) }
     ensures failed { IsErrOf result RunFault.Write
         → Rose (failures_of writer.old) (failures_of writer.new) }
-    ensures sound { OnOk result (failures_of writer.new ≡ failures_of writer.old) }
+    ensures sound { ¬ IsErrOf result RunFault.Write
+        → failures_of writer.new ≡ failures_of writer.old }
 {
     intake.bytes += 1;
     if byte == b'\n' {
@@ -145,10 +151,7 @@ fn take_byte<E: External, W: Write>(
         return Ok(quits);
     }
     if intake.pending.len() < KEPT {
-        match intake.pending.push(byte) {
-            Ok(()) => {}
-            Err(_) => return Err(RunFault::Memory),
-        }
+        intake.pending.push_reserved(byte);
     }
     Ok(false)
 }
@@ -161,23 +164,25 @@ fn take_block<E: External, W: Write>(
     block: &[u8],
     writer: &mut Watched<W>,
 ) -> Result<bool, RunFault>
+    requires { length block.now ≤ 4096 }
     ensures ok { IfOk result (λ quits. (text : List ℕ)
         × Appends (W.contents (device_of writer.old)) (W.contents (device_of writer.new)) text
         × ((start : Standing) (read written : List ℕ)
         → Reached start read written session.old
         intake.old.pending.items intake.old.lines intake.old.bytes
-        → Onward quits start (read ++ block.now) (written ++ text) session.new
+        → Onward 4095 quits start (read ++ block.now) (written ++ text) session.new
         intake.new.pending.items intake.new.lines intake.new.bytes)) }
     ensures err { IfErr result (λ e. (text : List ℕ)
         × Appends (W.contents (device_of writer.old)) (W.contents (device_of writer.new)) text
         × ((start : Standing) (read written : List ℕ)
         → Reached start read written session.old
         intake.old.pending.items intake.old.lines intake.old.bytes
-        → Stopped ⊥ e start (read ++ block.now) (written ++ text) session.new)) }
+        → Stopped TakesLine ⊥ e start (read ++ block.now) (written ++ text) session.new)) }
     ensures which { IfErr result (λ e. e ≢ RunFault.Read) }
     ensures failed { IsErrOf result RunFault.Write
         → Rose (failures_of writer.old) (failures_of writer.new) }
-    ensures sound { OnOk result (failures_of writer.new ≡ failures_of writer.old) }
+    ensures sound { ¬ IsErrOf result RunFault.Write
+        → failures_of writer.new ≡ failures_of writer.old }
 {
     for byte in block {
         if intake.is_full() {
@@ -196,59 +201,79 @@ fn take_last<E: External, W: Write>(
     alloc: Global,
     intake: &Intake,
     writer: &mut Watched<W>,
-) -> Result<(), RunFault>
-    ensures ok { OnOk result ((text : List ℕ)
+) -> Result<Ran, RunFault>
+    ensures ok { IfOk result (λ ran. (text : List ℕ)
         × Appends (W.contents (device_of writer.old)) (W.contents (device_of writer.new)) text
         × ((start : Standing) (read written : List ℕ)
         → Reached start read written session.old
         intake.now.pending.items intake.now.lines intake.now.bytes
-        → Converses start read (written ++ text) session.new)) }
-    ensures err { OnErr result ((text : List ℕ)
+        → Ended TakesLine (Unit {0}) ran start read (written ++ text) session.new)) }
+    ensures err { IfErr result (λ e. (text : List ℕ)
         × Appends (W.contents (device_of writer.old)) (W.contents (device_of writer.new)) text
         × ((start : Standing) (read written : List ℕ)
         → Reached start read written session.old
         intake.now.pending.items intake.now.lines intake.now.bytes
-        → Breaks (Unit {0}) start read (written ++ text) session.new)) }
+        → Breaks TakesLine (Unit {0}) e start read (written ++ text) session.new)) }
     ensures which { IfErr result (λ e. (e ≢ RunFault.Read) × (e ≢ RunFault.TooManyLines)) }
     ensures failed { IsErrOf result RunFault.Write
         → Rose (failures_of writer.old) (failures_of writer.new) }
+    ensures sound { ¬ IsErrOf result RunFault.Write
+        → failures_of writer.new ≡ failures_of writer.old }
 {
-    if !intake.pending.is_empty() {
-        answer_line(session, alloc, &intake.pending, writer)?;
+    if intake.pending.is_empty() {
+        return Ok(Ran::EndOfInput);
     }
-    Ok(())
+    if answer_line(session, alloc, &intake.pending, writer)? {
+        return Ok(Ran::Quit);
+    }
+    Ok(Ran::EndOfInput)
 }
 
 /// How many bytes one read may take.
 const BLOCK: usize = 4096;
 
 /// Answers each line of the input, up to the first that quits. A line ends with a line feed, and one
-/// carriage return before it is dropped; a last line that nothing ends counts if it isn't empty. Each
-/// answer is written whole before the next line is read. `TooManyLines` where a byte comes after
-/// 1,000,000 lines or 1,000,000,000 bytes; `Read` and `Write` only where the device failed.
+/// carriage return before it is dropped; a last line that nothing ends counts if it isn't empty. The
+/// answer to a line is written whole before the next line is done; input is read in blocks of at most
+/// 4,096 bytes.
+///
+/// `TooManyLines` where a byte comes after 1,000,000 lines or 1,000,000,000 bytes; `Read` and `Write`
+/// only where the device failed, and then no line is done further; `Memory` where none was there to
+/// begin, or for the answer to the last line that was done.
 pub fn run<E: External, R: Read, W: Write>(
     session: &mut Session<E>,
     alloc: Global,
     reader: &mut Watched<R>,
     writer: &mut Watched<W>,
 ) -> Result<Ran, RunFault>
-    // What is written is the answers to the lines that are read, and the session stands after them.
+    // The headline: what is written is the answers to the lines that are read, those of a list of
+    // whole states with a cursor.
+    ensures headline { OnOk result ((read : List ℕ) × (lines : List (List ℕ)) × (text : List ℕ)
+        × Consumes (R.remaining (device_of reader.old)) (R.remaining (device_of reader.new)) read
+        × Appends (W.contents (device_of writer.old)) (W.contents (device_of writer.new)) text
+        × AreLines read lines
+        × Headline (timeline_of session.old) lines text (timeline_of session.new)) }
+    // How far it read, and where the session stands, with the weight of each step.
     ensures ok { IfOk result (λ ran. (read : List ℕ) × (written : List ℕ)
         × Consumes (R.remaining (device_of reader.old)) (R.remaining (device_of reader.new)) read
         × Appends (W.contents (device_of writer.old)) (W.contents (device_of writer.new)) written
-        × Ended ran session.old read written session.new) }
-    ensures end { result ≡ Ok Ran.EndOfInput → IsAtEnd (R.remaining (device_of reader.new)) }
+        × Ended TakesLine (IsAtEnd (R.remaining (device_of reader.new))) ran
+        session.old read written session.new) }
     // A fault leaves the session after the lines so far.
     ensures err { IfErr result (λ e. (read : List ℕ) × (written : List ℕ)
         × Consumes (R.remaining (device_of reader.old)) (R.remaining (device_of reader.new)) read
         × Appends (W.contents (device_of writer.old)) (W.contents (device_of writer.new)) written
-        × Stopped (IsAtEnd (R.remaining (device_of reader.new))) e
+        × Stopped TakesLine (IsAtEnd (R.remaining (device_of reader.new))) e
         session.old read written session.new) }
-    // A device is blamed only where it failed.
+    // A device is blamed where it failed, and nowhere else.
     ensures read_failed { IsErrOf result RunFault.Read
         → Rose (failures_of reader.old) (failures_of reader.new) }
+    ensures read_sound { ¬ IsErrOf result RunFault.Read
+        → failures_of reader.new ≡ failures_of reader.old }
     ensures write_failed { IsErrOf result RunFault.Write
         → Rose (failures_of writer.old) (failures_of writer.new) }
+    ensures write_sound { ¬ IsErrOf result RunFault.Write
+        → failures_of writer.new ≡ failures_of writer.old }
 {
     let mut intake = match Intake::new(alloc) {
         Ok(intake) => intake,
@@ -261,8 +286,8 @@ pub fn run<E: External, R: Read, W: Write>(
             Err(_) => return Err(RunFault::Read),
         };
         if count == 0 {
-            take_last(session, alloc, &intake, writer)?;
-            return Ok(Ran::EndOfInput);
+            let ran = take_last(session, alloc, &intake, writer)?;
+            return Ok(ran);
         }
         if take_block(session, alloc, &mut intake, &block[..count], writer)? {
             return Ok(Ran::Quit);

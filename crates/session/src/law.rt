@@ -1,9 +1,34 @@
-//! What lines do to the list of whole states: the headline's words as a law over the definitions.
+//! What lines, calls and runs do to the list of whole states: the headline as laws over the definitions.
 
-ghost use Rattle.session.specs.WholeStates.{LinesMoveTheList};
+ghost use Rattle.session.specs.Unzipped.{LinesFollow, MovesFollow, PlugsFollow, OpensFollow, RunsFollow, StopsFollow};
 
 /// A fresh command, however it ended, replaces all after the cursor by a state that its meaning allows,
-/// undo and redo only move the cursor, and a line refused for memory changes nothing.
-pub fn lines_move_the_list()
-    ensures { LinesMoveTheList }
+/// undo and redo only move the cursor, and a line refused for memory changes nothing but its number.
+pub fn lines_follow()
+    ensures { LinesFollow }
+{}
+
+/// The calls that undo and redo move the cursor as the lines do.
+pub fn moves_follow()
+    ensures { MovesFollow }
+{}
+
+/// An external that is plugged in joins each state; one that is unplugged leaves the present state alone.
+pub fn plugs_follow()
+    ensures { PlugsFollow }
+{}
+
+/// A session begins with one state.
+pub fn opens_follow()
+    ensures { OpensFollow }
+{}
+
+/// A run that ended did to the list what the headline says, line after line.
+pub fn runs_follow()
+    ensures { RunsFollow }
+{}
+
+/// A run that stopped did so as far as it came.
+pub fn stops_follow()
+    ensures { StopsFollow }
 {}

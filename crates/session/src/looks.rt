@@ -7,7 +7,7 @@ ghost use Rattle.std.specs.Map.Iter.{deref_pair};
 ghost use Rattle.stack_text.specs.declared.sheets.Version.TheVariants.{Second as second};
 ghost use Rattle.stack_text.specs.Listing.{spelling};
 ghost use Rattle.session.specs.Splits.{Splits};
-ghost use Rattle.session.specs.TakesLine.{history_line as line_of_history, global_line, global_lines};
+ghost use Rattle.session.specs.Replies.{history_line as line_of_history, global_line, global_lines};
 
 use crate::reply::Shown;
 use change_journal::World;
@@ -63,7 +63,7 @@ pub fn card_shown<E: External>(alloc: Global, world: &World<E>) -> Result<Shown,
 
 /// How many places can be undone and redone.
 pub fn history_shown<E: External>(alloc: Global, world: &World<E>) -> Result<Shown, AllocError>
-    ensures { IfOk result (λ shown. shown ≡ line_of_history world.now.history ∷ []) }
+    ensures { IfOk result (λ shown. shown ≡ line_of_history (length world.now.history.past) (length world.now.history.future) ∷ []) }
 {
     let mut line = Vec::new(alloc);
     write_number(&mut line, world.undoable())?;

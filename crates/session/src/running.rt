@@ -1,18 +1,20 @@
 //! Statements of HyperTalk, run in a world.
 
-ghost use Rattle.std.specs.Prelude.{◌≡◌, true, None, Some, IfSome, IfOk, OnErr};
+ghost use Rattle.std.specs.Prelude.{◌≡◌, ◌≤◌, length, true, None, Some, IfSome, IfOk, OnErr};
 ghost use Rattle.ht_values.specs.Text.{folded};
 ghost use Rattle.object_table.specs.Numbers.{at_number};
 ghost use Rattle.journal_entries.specs.Changes.{fits};
-ghost use Rattle.session.specs.Commands.{statement_of};
+ghost use Rattle.ht_values.specs.declared.text.TheConstants.{LIMIT};
+ghost use Rattle.session.specs.Commands.{statement_of, IsWithin, run};
 ghost use Rattle.session.specs.Meaning.{effect, going};
-ghost use Rattle.session.specs.TakesLine.{Adds, ended};
+ghost use Rattle.session.specs.TakesLine.{Adds};
+ghost use Rattle.session.specs.Replies.{ended};
 
 use crate::command::Statement;
 use crate::reply::Ending;
 use change_journal::{Change, World};
 use externals::External;
-use ht_values::{Fault, Text};
+use ht_values::{Fault, Text, TextError};
 use std::alloc::{AllocError, Global};
 
 /// What a statement does: the change that it makes, if it makes one, and how it ends.
@@ -23,15 +25,19 @@ struct Effect {
 }
 
 fn text_of_bytes(alloc: Global, bytes: &[u8]) -> Result<Text, AllocError>
+    requires { length bytes.now ≤ LIMIT }
     ensures { IfOk result (λ t. t ≡ bytes.now) }
 {
     match Text::from_slice(alloc, bytes) {
         Ok(text) => Ok(text),
-        Err(_) => Err(AllocError),
+        Err(TextError::Memory) => Err(AllocError),
+        Err(TextError::TooLong) => unreachable!(),
     }
 }
 
 fn global_change(alloc: Global, text: &[u8], name: &[u8]) -> Result<Change, AllocError>
+    requires text { length text.now ≤ LIMIT }
+    requires name { length name.now ≤ LIMIT }
     ensures { IfOk result (λ c. c ≡ Change.Global (folded name.now) (Some text.now)) }
 {
     let value = text_of_bytes(alloc, text)?;
@@ -67,6 +73,7 @@ fn effect_of<E: External>(
     world: &World<E>,
     statement: Statement<'_>,
 ) -> Result<Effect, AllocError>
+    requires { IsWithin LIMIT (run (statement_of statement)) }
     ensures effect { IfOk result (λ e.
         (e.change, e.ending) ≡ effect world.now.history.now (statement_of statement.entry)) }
     ensures fits { IfOk result (λ e.
@@ -81,14 +88,15 @@ fn effect_of<E: External>(
     }
 }
 
-/// Runs a statement as the line of this number.
+/// Runs a statement, whose text and name are texts, as the line of this number.
 pub fn run_statement<E: External>(
     alloc: Global,
     world: &mut World<E>,
     number: u32,
     statement: Statement<'_>,
 ) -> Result<Ending, AllocError>
-    requires { world.old.history.start ≡ None }
+    requires closed { world.old.history.start ≡ None }
+    requires within { IsWithin LIMIT (run (statement_of statement)) }
     ensures ok { IfOk result (λ ending.
         Adds (statement_of statement.entry) number world.old.history (ended ending) world.new.history) }
     ensures err { OnErr result (world.new.history ≡ world.old.history) }

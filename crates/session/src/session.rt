@@ -4,12 +4,13 @@ ghost use Rattle.std.specs.Prelude.{◌≡◌, ◌≤◌, ◌==◌, ◌⊎◌, [
 ghost use Rattle.object_table.specs.WellFormed.{IsWellFormed};
 ghost use Rattle.journal_entries.specs.State.{seen_by, seen_at, titles_of, has_name, index_of};
 ghost use Rattle.change_journal.specs.History.{plugged, unplugged};
-ghost use Rattle.session.specs.Commands.{said_of, said as said_by};
+ghost use Rattle.session.specs.Commands.{said_of, said as said_by, IsWithin};
 ghost use Rattle.session.specs.Moves.{MovesTo, undone, redone, undone_to};
 ghost use Rattle.session.specs.Opening.{open_fault, opened};
 ghost use Rattle.stack_text.specs.declared.sheets.Version.TheVariants.{Second as second};
 ghost use Rattle.stack_text.specs.Listing.{spelling};
-ghost use Rattle.session.specs.TakesLine.{TakesLine, Performs, MayRunOut, ended as ended_by, refused as refused_by, shown_reply, moved_reply, ran_reply};
+ghost use Rattle.session.specs.TakesLine.{TakesLine, Performs, MayRunOut};
+ghost use Rattle.session.specs.Replies.{ended as ended_by, refused as refused_by, shown_reply, moved_reply, ran_reply};
 
 use crate::command::{Said, said_in};
 use crate::fault::OpenError;
@@ -104,9 +105,10 @@ fn ran(alloc: Global, outcome: Result<Ending, AllocError>) -> Reply
     }
 }
 
-/// Does what a line of this number says.
+/// Does what a line of this number says; its parts are texts.
 fn perform<E: External>(alloc: Global, world: &mut World<E>, number: u32, said: Said<'_>) -> Reply
-    requires { world.old.history.start ≡ None }
+    requires closed { world.old.history.start ≡ None }
+    requires within { IsWithin 30000 (said_of said) }
     ensures performed { Performs (Some (said_of said.entry)) number
         world.old.history result world.new.history }
     ensures closed { world.new.history.start ≡ None }

@@ -193,67 +193,74 @@ fn hear<E: External>(
     })
 }
 
-fn answers<E: External>(alloc: Global, externals: Vec<E>, input: &[u8]) -> Result<Vec<u8>, Fail> {
-    Ok(hear(alloc, externals, input, NEVER, 4096, NEVER)?.written)
+/// Lines, and the answers to them.
+#[derive(Clone, Copy)]
+struct Talk {
+    name: &'static str,
+    input: &'static [u8],
+    wanted: &'static [u8],
+    ran: Ran,
 }
 
-#[test]
-fn the_first_run(rt: HostRuntime) -> Result<(), Fail> {
-    let alloc = rt.alloc();
-    let input = b"put \"hello\" into g\ngo card 2\n.undo 2\n.redo\n.globals\n.where\n";
-    let heard = hear(alloc, none(alloc), input, NEVER, 1, NEVER)?;
-    assert_eq!(rt; heard.ran, Ok(Ran::EndOfInput));
-    assert!(rt; heard.written.as_slice() == b"ok\nok\nok\nok\n> g hello\nok\n> 2\nok\n".as_slice());
-    Ok(())
-}
+const TALKS: [Talk; 8] = [
+    Talk {
+        name: "the first run",
+        input: b"put \"hello\" into g\ngo card 2\n.undo 2\n.redo\n.globals\n.where\n",
+        wanted: b"ok\nok\nok\nok\n> g hello\nok\n> 2\nok\n",
+        ran: Ran::EndOfInput,
+    },
+    Talk {
+        name: "a fault adds a place",
+        input: b"go card 3\n.history\n.undo\n.undo\n",
+        wanted: b"fault 3\n> 1 0\nok\nok\nrefused 1\n",
+        ran: Ran::EndOfInput,
+    },
+    Talk {
+        name: "nothing to undo or redo",
+        input: b".undo\n.undo 0\n.redo\n",
+        wanted: b"refused 1\nrefused 3\nrefused 2\n",
+        ran: Ran::EndOfInput,
+    },
+    Talk {
+        name: "undo goes back to a line",
+        input: b"put \"1\" into g\nput \"2\" into G\n.where\nput \"3\" into g\n.undo to 3\n.globals\n.undo  to   3 \n.undo to 0\n.globals\n.redo 3\n.globals\n.quit\n.where\n",
+        wanted: b"ok\nok\n> 2\nok\nok\nok\n> g 2\nok\nrefused 1\nok\nok\nok\n> g 3\nok\nok\n",
+        ran: Ran::Quit,
+    },
+    Talk {
+        name: "globals stand in the order of their bytes",
+        input: b"put \"x\" into b2\nput \"\" into B\nput \"a\\b\xC9\" into _a\n.globals\n",
+        wanted: b"ok\nok\nok\n> _a a\\5cb\\c9\n> b \n> b2 x\nok\n",
+        ran: Ran::EndOfInput,
+    },
+    Talk {
+        name: "other lines are refused",
+        input: b"put (\n.bogus\ngo card 02\ngo  card 2\nput \"a\" into put\nGo card 2\n\n.undo\t1\n .where\n.undo to\n",
+        wanted: b"refused 3\nrefused 3\nrefused 3\nrefused 3\nrefused 3\nrefused 3\nrefused 3\nrefused 3\nrefused 3\nrefused 3\n",
+        ran: Ran::EndOfInput,
+    },
+    Talk {
+        name: "a last line quits though nothing ends it",
+        input: b".where\n.quit",
+        wanted: b"> 2\nok\nok\n",
+        ran: Ran::Quit,
+    },
+    Talk {
+        name: "a last return is no end of a line",
+        input: b".where\r\n.where\r",
+        wanted: b"> 2\nok\nrefused 3\n",
+        ran: Ran::EndOfInput,
+    },
+];
 
 #[test]
-fn a_fault_adds_a_place(rt: HostRuntime) -> Result<(), Fail> {
+fn lines_are_answered(rt: HostRuntime) -> Result<(), Fail> {
     let alloc = rt.alloc();
-    let written = answers(alloc, none(alloc), b"go card 3\n.history\n.undo\n.undo\n")?;
-    assert!(rt; written.as_slice() == b"fault 3\n> 1 0\nok\nok\nrefused 1\n".as_slice());
-    Ok(())
-}
-
-#[test]
-fn nothing_to_undo_or_redo(rt: HostRuntime) -> Result<(), Fail> {
-    let alloc = rt.alloc();
-    let written = answers(alloc, none(alloc), b".undo\n.undo 0\n.redo\n")?;
-    assert!(rt; written.as_slice() == b"refused 1\nrefused 3\nrefused 2\n".as_slice());
-    Ok(())
-}
-
-#[test]
-fn undo_goes_back_to_a_line(rt: HostRuntime) -> Result<(), Fail> {
-    let alloc = rt.alloc();
-    let input =
-        b"put \"1\" into g\nput \"2\" into G\n.where\nput \"3\" into g\n.undo to 3\n.globals\n.undo  to   3 \n.undo to 0\n.globals\n.redo 3\n.globals\n.quit\n.where\n";
-    let heard = hear(alloc, none(alloc), input, NEVER, 4096, NEVER)?;
-    let wanted = b"ok\nok\n> 2\nok\nok\nok\n> g 2\nok\nrefused 1\nok\nok\nok\n> g 3\nok\nok\n";
-    assert_eq!(rt; heard.ran, Ok(Ran::Quit));
-    assert!(rt; heard.written.as_slice() == wanted.as_slice());
-    Ok(())
-}
-
-#[test]
-fn globals_stand_in_the_order_of_their_bytes(rt: HostRuntime) -> Result<(), Fail> {
-    let alloc = rt.alloc();
-    let input = b"put \"x\" into b2\nput \"\" into B\nput \"a\\b\xC9\" into _a\n.globals\n";
-    let written = answers(alloc, none(alloc), input)?;
-    let wanted = b"ok\nok\nok\n> _a a\\5cb\\c9\n> b \n> b2 x\nok\n";
-    assert!(rt; written.as_slice() == wanted.as_slice());
-    Ok(())
-}
-
-#[test]
-fn other_lines_are_refused(rt: HostRuntime) -> Result<(), Fail> {
-    let alloc = rt.alloc();
-    let input =
-        b"put (\n.bogus\ngo card 02\ngo  card 2\nput \"a\" into put\nGo card 2\n\n.undo\t1\n .where\n.undo to\n";
-    let written = answers(alloc, none(alloc), input)?;
-    let wanted =
-        b"refused 3\nrefused 3\nrefused 3\nrefused 3\nrefused 3\nrefused 3\nrefused 3\nrefused 3\nrefused 3\nrefused 3\n";
-    assert!(rt; written.as_slice() == wanted.as_slice());
+    for talk in TALKS {
+        let heard = hear(alloc, none(alloc), talk.input, NEVER, 1, NEVER)?;
+        assert_eq!(rt; heard.ran, Ok(talk.ran), "at {}", talk.name);
+        assert!(rt; heard.written.as_slice() == talk.wanted, "at {}", talk.name);
+    }
     Ok(())
 }
 
@@ -262,23 +269,29 @@ fn a_line_that_is_too_long_is_skipped(rt: HostRuntime) -> Result<(), Fail> {
     let alloc = rt.alloc();
     let mut input = vec![in alloc; b'x'; LONGEST_LINE + 1]?;
     input.extend_from_slice(b"\r\n.where\r\n.where")?;
-    let written = answers(alloc, none(alloc), &input)?;
-    assert!(rt; written.as_slice() == b"refused 5\n> 2\nok\n> 2\nok\n".as_slice());
+    let heard = hear(alloc, none(alloc), &input, NEVER, 4096, NEVER)?;
+    assert!(rt; heard.written.as_slice() == b"refused 5\n> 2\nok\n> 2\nok\n".as_slice());
     Ok(())
+}
+
+/// The lines of a stack text as they are shown.
+fn shown_lines(alloc: Global, text: &[u8]) -> Result<Vec<u8>, AllocError> {
+    let mut shown = Vec::new(alloc);
+    for line in text.split(|b| *b == b'\n') {
+        shown.extend_from_slice(b"> ")?;
+        shown.extend_from_slice(line)?;
+        shown.push(b'\n')?;
+    }
+    shown.extend_from_slice(b"ok\n")?;
+    Ok(shown)
 }
 
 #[test]
 fn the_stack_is_shown_as_it_is_saved(rt: HostRuntime) -> Result<(), Fail> {
     let alloc = rt.alloc();
-    let written = answers(alloc, none(alloc), b".show\n")?;
-    let mut wanted: Vec<u8> = Vec::new(alloc);
-    for line in TWO_CARDS[..TWO_CARDS.len() - 1].split(|b| *b == b'\n') {
-        wanted.extend_from_slice(b"> ")?;
-        wanted.extend_from_slice(line)?;
-        wanted.push(b'\n')?;
-    }
-    wanted.extend_from_slice(b"ok\n")?;
-    assert!(rt; written.as_slice() == wanted.as_slice());
+    let heard = hear(alloc, none(alloc), b".show\n", NEVER, 4096, NEVER)?;
+    let wanted = shown_lines(alloc, &TWO_CARDS[..TWO_CARDS.len() - 1])?;
+    assert!(rt; heard.written.as_slice() == wanted.as_slice());
     Ok(())
 }
 
@@ -356,30 +369,16 @@ fn steps_come_before_depth_and_depth_before_names(rt: HostRuntime) -> Result<(),
     let large: Boxed = Box::new(alloc, make_quiet(alloc, b"ECHO")?)?;
     twice.push(small).ok().ok_or("memory")?;
     twice.push(large).ok().ok_or("memory")?;
-    assert_eq!(rt;
-        refusal_to_open(alloc, none(alloc), 0, 1)?,
-        Some((OpenError::BadSteps, 0))
-    );
-    assert_eq!(rt;
-        refusal_to_open(alloc, none(alloc), 100, 0)?,
-        Some((OpenError::BadDepth, 0))
-    );
-    assert_eq!(rt;
-        refusal_to_open(alloc, none(alloc), 0, 0)?,
-        Some((OpenError::BadSteps, 0))
-    );
-    assert_eq!(rt;
-        refusal_to_open(alloc, none(alloc), 10_000_001, 1)?,
-        Some((OpenError::BadSteps, 0))
-    );
-    assert_eq!(rt;
-        refusal_to_open(alloc, none(alloc), 1, 1_000_001)?,
-        Some((OpenError::BadDepth, 0))
-    );
-    assert_eq!(rt;
-        refusal_to_open(alloc, none(alloc), 10_000_000, 1_000_000)?,
-        None
-    );
+    for (steps, depth, wanted) in [
+        (0, 1, Some((OpenError::BadSteps, 0))),
+        (100, 0, Some((OpenError::BadDepth, 0))),
+        (0, 0, Some((OpenError::BadSteps, 0))),
+        (10_000_001, 1, Some((OpenError::BadSteps, 0))),
+        (1, 1_000_001, Some((OpenError::BadDepth, 0))),
+        (10_000_000, 1_000_000, None),
+    ] {
+        assert_eq!(rt; refusal_to_open(alloc, none(alloc), steps, depth)?, wanted);
+    }
     assert_eq!(rt;
         refusal_to_open(alloc, twice, 1, 1)?,
         Some((OpenError::DuplicateName, 2))
@@ -443,7 +442,6 @@ fn calls_of_a_session(rt: HostRuntime) -> Result<(), Fail> {
     assert!(rt; !called.plugged_again);
     assert!(rt; called.unplugged);
     assert_eq!(rt; called.closed, 1);
-    lines_move_the_list();
     Ok(())
 }
 
@@ -494,12 +492,27 @@ fn replies_show_lines_and_end(rt: HostRuntime) -> Result<(), Fail> {
 
 #[test]
 fn refusals_are_numbered_from_one_to_seven(rt: HostRuntime) -> Result<(), Fail> {
-    assert_eq!(rt; Refusal::NothingToUndo.number(), 1);
-    assert_eq!(rt; Refusal::NothingToRedo.number(), 2);
-    assert_eq!(rt; Refusal::BadCommand.number(), 3);
-    assert_eq!(rt; Refusal::NoMemory.number(), 4);
-    assert_eq!(rt; Refusal::LineTooLong.number(), 5);
-    assert_eq!(rt; Refusal::FieldLocked.number(), 6);
-    assert_eq!(rt; Refusal::SaveFailed.number(), 7);
+    for (refusal, number) in [
+        (Refusal::NothingToUndo, 1),
+        (Refusal::NothingToRedo, 2),
+        (Refusal::BadCommand, 3),
+        (Refusal::NoMemory, 4),
+        (Refusal::LineTooLong, 5),
+        (Refusal::FieldLocked, 6),
+        (Refusal::SaveFailed, 7),
+    ] {
+        assert_eq!(rt; refusal.number(), number);
+    }
+    Ok(())
+}
+
+#[test]
+fn laws_are_called(_rt: HostRuntime) -> Result<(), Fail> {
+    lines_follow();
+    moves_follow();
+    plugs_follow();
+    opens_follow();
+    runs_follow();
+    stops_follow();
     Ok(())
 }

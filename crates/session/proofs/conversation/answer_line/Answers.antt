@@ -1,8 +1,12 @@
-use Rattle.std.proofs.Common.{◌≡◌, [], refl, take, drop, sym, ◌∙◌}
+use Rattle.std.proofs.Common.{◌≡◌, ◌≢◌, ℕ, ◌<◌, List, [], length, refl, take, drop, sym, ap, ◌∙◌, arith, length-drop}
 use Rattle.std.proofs.lemmas.List.{take-append-drop}
 use Rattle.session.specs.Answers.{answer}
 use Rattle.session.proofs.Conversing.{Appends-nothing}
 use Rattle.session.proofs.conversation.answer_line.Goals as goal
+
+-- bytes are left behind those that went out
+left : (n : ℕ) (bytes : List ℕ) → n < length bytes → drop n bytes ≢ []
+left n bytes lt is = let none : length (drop n bytes) ≡ 0 = ap length is in omega (arith, none, length-drop n bytes)
 
 -- a part of the answer went out
 pub returns-clause-err : goal.returns-clause-err
@@ -10,8 +14,9 @@ returns-clause-err g c =
     let n = c.in-Err-write_to.field-0.written in
     let bytes = c.deref.result.now in
     let whole : bytes ≡ answer c.line-reply.result = c.deref.ensures.value ∙ c.in-Ok.ensures in
-    (c.line-reply.result, take n bytes, drop n bytes, c.line-reply.ensures.step, sym whole ∙ sym (take-append-drop n bytes), c.in-Err-write_to.ensures.part.1)
+    let part = c.in-Err-write_to.ensures.part in
+    (c.line-reply.result, take n bytes, c.line-reply.ensures.step, (drop n bytes, left n bytes part.0, sym whole ∙ sym (take-append-drop n bytes)), part.1)
 
 -- nothing of the answer went out
 pub returns-in-Err-clause-err : goal.returns-in-Err-clause-err
-returns-in-Err-clause-err g c = (c.line-reply.result, [], answer c.line-reply.result, c.line-reply.ensures.step, refl, Appends-nothing _)
+returns-in-Err-clause-err g c = (c.line-reply.result, [], c.line-reply.ensures.step, refl, Appends-nothing _)

@@ -1,39 +1,44 @@
-use Rattle.std.proofs.Common.{◌≢◌, ◌+◌, ◌≤◌, [], ◌++◌, length, take, ◌∙◌, arith, refl, length-append, length-take}
+use Rattle.std.proofs.Common.{◌≡◌, ◌≢◌, ◌+◌, ◌≤◌, List, ℕ, [], ◌++◌, length, take, ◌∙◌, arith, refl, length-append, length-take, inl}
 use Rattle.std.proofs.lemmas.List.{append-nil}
 use Rattle.std.proofs.lemmas.Result.{err_from_is_err_and}
 use Rattle.stack_file.proofs.Known.{Appends-Appends, Consumes-Consumes}
-use Rattle.session.proofs.Conversing.{Appends-nothing, Consumes-nothing, Breaks-none, Breaks-by, Stopped-Breaks, Stopped-by, Quits-Converses}
+use Rattle.session.specs.Conversation.{NeverBegan}
+use Rattle.session.specs.TakesLine.{TakesLine}
+use Rattle.session.proofs.Sessions.{Breaks-by, Quits-by, Ended-by, Stopped-Breaks, Stopped-by}
+use Rattle.session.specs.declared.conversation.Ran.TheVariants.{Quit}
+use Rattle.session.proofs.Conversing.{Appends-nothing, Consumes-nothing}
+use Rattle.session.proofs.Following.{runs_follow}
 use Rattle.session.proofs.conversation.run.Goals as goal
 
 pub returns-in-Err-clause-err : goal.returns-in-Err-clause-err
-returns-in-Err-clause-err g c = ([], [], Consumes-nothing _, Appends-nothing _, Breaks-none _ _)
+returns-in-Err-clause-err g c = ([], [], Consumes-nothing _, Appends-nothing _, inl (record { unread = refl; unwritten = refl; same = refl }))
 
-pub returns-in_err-take_last-clause-err : goal.returns-in_err-take_last-clause-err
-returns-in_err-take_last-clause-err g c =
+pub returns-in_err-ran-clause-err : goal.returns-in_err-ran-clause-err
+returns-in_err-ran-clause-err g c =
     let inv = c.loop.invariant.reached in
-    let h = c.in_err-take_last.ensures.err in
+    let h = c.in_err-ran.ensures.err in
     let nothing = rw c.if-count-eq0.true at c.in-Ok-read.ensures.bytes in
-    let consumed = Consumes-Consumes _ _ _ inv.0 [] inv.2 nothing.0 in
-    let read_on = rw append-nil at consumed in
+    let read_on = rw append-nil at (Consumes-Consumes _ _ _ inv.0 [] inv.2 nothing.0) in
     let p = err_from_is_err_and c.from_residual.result c.from_residual.ensures.1 in
     let new = c.take_last.new.session in
-    let broken = Breaks-by c.args.session.now inv.0 (inv.1 ++ h.0) new (λ t. nothing.1 refl (omega arith)) (h.2 c.args.session.now inv.0 inv.1 inv.4) in
-    rw (p.1, p.2) (
-      inv.0,
-      inv.1 ++ h.0,
-      read_on,
-      Appends-Appends _ _ _ inv.1 h.0 inv.3 h.1,
-      Stopped-Breaks _ _ c.args.session.now inv.0 (inv.1 ++ h.0) new c.in_err-take_last.ensures.which broken,
-    )
+    let fault = c.in_err-ran.field-0.0 in
+    let broken = Breaks-by TakesLine fault c.args.session.now inv.0 (inv.1 ++ h.0) new (λ t. nothing.1 refl (omega arith)) (h.2 c.args.session.now inv.0 inv.1 inv.4) in
+    rw (p.1, p.2) (inv.0, inv.1 ++ h.0, read_on, Appends-Appends _ _ _ inv.1 h.0 inv.3 h.1, Stopped-Breaks TakesLine _ fault c.args.session.now inv.0 (inv.1 ++ h.0) new broken)
 
 pub returns-then-count-eq0-clause-ok : goal.returns-then-count-eq0-clause-ok
 returns-then-count-eq0-clause-ok g c =
     let inv = c.loop.invariant.reached in
-    let h = c.in_ok-take_last.ensures.ok in
+    let h = c.in_ok-ran.ensures.ok in
     let nothing = rw c.if-count-eq0.true at c.in-Ok-read.ensures.bytes in
-    let consumed = Consumes-Consumes _ _ _ inv.0 [] inv.2 nothing.0 in
-    let read_on = rw append-nil at consumed in
-    (inv.0, inv.1 ++ h.0, read_on, Appends-Appends _ _ _ inv.1 h.0 inv.3 h.1, h.2 c.args.session.now inv.0 inv.1 inv.4)
+    let read_on = rw append-nil at (Consumes-Consumes _ _ _ inv.0 [] inv.2 nothing.0) in
+    let new = c.take_last.new.session in
+    (inv.0, inv.1 ++ h.0, read_on, Appends-Appends _ _ _ inv.1 h.0 inv.3 h.1, Ended-by TakesLine c.in_ok-ran.ran c.args.session.now inv.0 (inv.1 ++ h.0) new (λ t. nothing.1 refl (omega arith)) (h.2 c.args.session.now inv.0 inv.1 inv.4))
+
+pub returns-then-count-eq0-clause-headline : goal.returns-then-count-eq0-clause-headline
+returns-then-count-eq0-clause-headline g c =
+    let h = returns-then-count-eq0-clause-ok g c in
+    let f = (runs_follow (g.R.Read.remaining c.read.new.self.device) c.in_ok-ran.ran c.args.session.now h.0 h.1 c.take_last.new.session h.4).1 in
+    (h.0, f.0, h.1, h.2, h.3, f.1, f.2)
 
 pub returns-in_err-take_block-clause-err : goal.returns-in_err-take_block-clause-err
 returns-in_err-take_block-clause-err g c =
@@ -41,21 +46,33 @@ returns-in_err-take_block-clause-err g c =
     let h = c.in_err-take_block.ensures.err in
     let block = take c.in-Ok-read.count c.read.new.buf in
     let p = err_from_is_err_and c.from_residual-in_err-take_block.result c.from_residual-in_err-take_block.ensures.1 in
-    rw (p.1, p.2)
-    (inv.0 ++ block, inv.1 ++ h.0, Consumes-Consumes _ _ _ inv.0 block inv.2 c.in-Ok-read.ensures.bytes.0, Appends-Appends _ _ _ inv.1 h.0 inv.3 h.1, Stopped-by _ _ c.args.session.now (inv.0 ++ block) (inv.1 ++ h.0) c.take_block.new.session (h.2 c.args.session.now inv.0 inv.1 inv.4))
+    rw (p.1, p.2) (
+      inv.0 ++ block,
+      inv.1 ++ h.0,
+      Consumes-Consumes _ _ _ inv.0 block inv.2 c.in-Ok-read.ensures.bytes.0,
+      Appends-Appends _ _ _ inv.1 h.0 inv.3 h.1,
+      Stopped-by TakesLine _ c.in_err-take_block.field-0.0 c.args.session.now (inv.0 ++ block) (inv.1 ++ h.0) c.take_block.new.session (h.2 c.args.session.now inv.0 inv.1 inv.4),
+    )
 
 pub returns-then-branch-clause-ok : goal.returns-then-branch-clause-ok
 returns-then-branch-clause-ok g c =
     let inv = c.loop.invariant.reached in
     let h = rw c.if-branch.true at c.in_ok-take_block.ensures.ok in
     let block = take c.in-Ok-read.count c.read.new.buf in
+    let new = c.take_block.new.session in
     let quits = h.2 c.args.session.now inv.0 inv.1 inv.4 in (
       inv.0 ++ block,
       inv.1 ++ h.0,
       Consumes-Consumes _ _ _ inv.0 block inv.2 c.in-Ok-read.ensures.bytes.0,
       Appends-Appends _ _ _ inv.1 h.0 inv.3 h.1,
-      (Quits-Converses c.args.session.now (inv.0 ++ block) (inv.1 ++ h.0) c.take_block.new.session quits, quits),
+      Quits-by TakesLine c.args.session.now (inv.0 ++ block) (inv.1 ++ h.0) new (λ never. absurd never) quits.0,
     )
+
+pub returns-then-branch-clause-headline : goal.returns-then-branch-clause-headline
+returns-then-branch-clause-headline g c =
+    let h = returns-then-branch-clause-ok g c in
+    let f = (runs_follow (g.R.Read.remaining c.read.new.self.device) Quit c.args.session.now h.0 h.1 c.take_block.new.session h.4).1 in
+    (h.0, f.0, h.1, h.2, h.3, f.1, f.2)
 
 pub loop-preserved : goal.loop-preserved
 loop-preserved g c =
@@ -69,5 +86,5 @@ loop-preserved g c =
       reached =
           (inv.0 ++ block, inv.1 ++ h.0, Consumes-Consumes _ _ _ inv.0 block inv.2 c.in-Ok-read.ensures.bytes.0, Appends-Appends _ _ _ inv.1 h.0 inv.3 h.1, h.2 c.args.session.now inv.0 inv.1 inv.4, more);
       read_sound = c.in-Ok-read.ensures.failures ∙ c.loop.invariant.read_sound;
-      write_sound = c.in_ok-take_block.ensures.sound ∙ c.loop.invariant.write_sound;
+      write_sound = c.in_ok-take_block.ensures.sound (λ e. cc) ∙ c.loop.invariant.write_sound;
     }

@@ -1,6 +1,6 @@
 use Rattle.std.proofs.Common.{◌≡◌, ◌≤◌, ℕ, List, length}
 use Rattle.std.specs.Io.KnownBytes.{Appends, Consumes}
-use Rattle.session.specs.Conversation.{Reached}
+use Rattle.session.specs.Intake.{Reached}
 use Rattle.session.proofs.conversation.run.Given as goal
 
 -- what is read so far is answered, each read gave some byte, and no call failed

@@ -1,8 +1,11 @@
-use Rattle.std.proofs.Common.{◌≡◌, ℕ, ◌+◌, ◌<◌, ◌⊎◌, List, [], ◌∷◌, ◌++◌, length, take, drop, get_or, sym, ◌∙◌, subst, arith, append_assoc}
+use Rattle.std.proofs.Common.{◌≡◌, ◌≤◌, ℕ, ◌+◌, ◌<◌, ◌⊎◌, List, [], ◌∷◌, ◌++◌, length, take, drop, get_or, sym, ◌∙◌, subst, arith, append_assoc, length-drop}
 use Rattle.std.proofs.lemmas.Result.{err_from_is_err_and}
 use Rattle.stack_file.proofs.Known.{Appends-Appends}
-use Rattle.session.specs.Conversation.{Reached, Breaks, Quits}
-use Rattle.session.proofs.Conversing.{Breaks-more, Quits-more, Stopped-Breaks, reached_full, block_parts, block_more}
+use Rattle.session.specs.Conversation.{Breaks, Quits}
+use Rattle.session.specs.Intake.{Reached}
+use Rattle.session.specs.TakesLine.{TakesLine}
+use Rattle.session.proofs.Sessions.{Stopped-Breaks}
+use Rattle.session.proofs.Conversing.{Breaks-more, Quits-more, reached_full, block_parts, block_more}
 use Rattle.session.proofs.conversation.take_block.Goals as goal
 
 -- what was taken before, and one byte more
@@ -11,6 +14,10 @@ parted : (P : List ℕ → List ℕ → Type 0) (read block : List ℕ) (i : ℕ
 parted P read block i written text more lt p =
     let whole : (read ++ take i block) ++ (get_or block i 0 ∷ []) ++ drop (i + 1) block ≡ read ++ block = append_assoc (read ++ take i block) (get_or block i 0 ∷ []) (drop (i + 1) block) ∙ block_parts read block i lt in
     subst (λ (t : List ℕ). P (read ++ block) t) (append_assoc written text more) (subst (λ (t : List ℕ). P t ((written ++ text) ++ more)) whole p)
+
+-- less than a block stands behind a byte of it
+behind : (i : ℕ) (block : List ℕ) → length block ≤ 4096 → i < length block → length (drop (i + 1) block) < 4096
+behind i block most lt = omega (arith, length-drop (i + 1) block)
 
 pub returns-then-is_full-clause-err : goal.returns-then-is_full-clause-err
 returns-then-is_full-clause-err g c =
@@ -22,8 +29,8 @@ returns-then-is_full-clause-err g c =
       inv.0,
       inv.1,
       λ start read written r.
-          reached_full start (read ++ take i block) (written ++ inv.0) c.loop-byte.session c.loop-byte.intake.pending.items c.loop-byte.intake.lines c.loop-byte.intake.bytes (read ++ block)
-          (get_or block i 0) (drop (i + 1) block) (sym (block_parts read block i lt)) most (inv.2 start read written r),
+          reached_full start (read ++ take i block) (written ++ inv.0) c.loop-byte.session c.loop-byte.intake.pending.items c.loop-byte.intake.lines c.loop-byte.intake.bytes (inv.2 start read written r)
+          (read ++ block) (get_or block i 0) (drop (i + 1) block) (sym (block_parts read block i lt)) most (behind i block c.requires lt),
     )
 
 pub returns-in_err-take_byte-clause-err : goal.returns-in_err-take_byte-clause-err
@@ -33,14 +40,15 @@ returns-in_err-take_byte-clause-err g c =
     let block = c.args.block.now in
     let lt : i < length block = omega arith in
     let h = c.in_err-take_byte.ensures.err in
+    let new = c.take_byte.new.session in
     let p = err_from_is_err_and c.from_residual.result c.from_residual.ensures.1 in
     rw (p.1, p.2) (
       inv.0 ++ h.0,
       Appends-Appends _ _ _ inv.0 h.0 inv.1 h.1,
       λ start read written r.
-          Stopped-Breaks ⊥ _ start (read ++ block) (written ++ (inv.0 ++ h.0)) c.take_byte.new.session c.in_err-take_byte.ensures.which
-          (parted (λ (t u : List ℕ). Breaks ⊥ start t u c.take_byte.new.session) read block i written inv.0 h.0 lt
-          (Breaks-more start ((read ++ take i block) ++ (get_or block i 0 ∷ [])) ((written ++ inv.0) ++ h.0) c.take_byte.new.session (drop (i + 1) block)
+          Stopped-Breaks TakesLine ⊥ c.in_err-take_byte.field-0.0 start (read ++ block) (written ++ (inv.0 ++ h.0)) new
+          (parted (λ (t u : List ℕ). Breaks TakesLine ⊥ c.in_err-take_byte.field-0.0 start t u new) read block i written inv.0 h.0 lt
+          (Breaks-more c.in_err-take_byte.field-0.0 start ((read ++ take i block) ++ (get_or block i 0 ∷ [])) ((written ++ inv.0) ++ h.0) new (drop (i + 1) block) (behind i block c.requires lt)
           (h.2 start (read ++ take i block) (written ++ inv.0) (inv.2 start read written r)))),
     )
 
@@ -50,13 +58,16 @@ returns-then-branch-clause-ok g c =
     let i = c.loop-byte.byte-index in
     let block = c.args.block.now in
     let lt : i < length block = omega arith in
-    let h = rw c.if-branch.true at c.in_ok-take_byte.ensures.ok in (
+    let new = c.take_byte.new.session in
+    let h = rw c.if-branch.true at c.in_ok-take_byte.ensures.ok in
+    let close : length (drop (i + 1) block) < 4096 = behind i block c.requires lt in (
       inv.0 ++ h.0,
       Appends-Appends _ _ _ inv.0 h.0 inv.1 h.1,
       λ start read written r.
-          parted (λ (t u : List ℕ). Quits start t u c.take_byte.new.session) read block i written inv.0 h.0 lt
-          (Quits-more start ((read ++ take i block) ++ (get_or block i 0 ∷ [])) ((written ++ inv.0) ++ h.0) c.take_byte.new.session (drop (i + 1) block)
-          (h.2 start (read ++ take i block) (written ++ inv.0) (inv.2 start read written r))),
+          parted (λ (t u : List ℕ). (q : Quits TakesLine ⊥ start t u new) × (length q.taken.ahead ≤ 4095)) read block i written inv.0 h.0 lt
+          (let q = Quits-more start ((read ++ take i block) ++ (get_or block i 0 ∷ [])) ((written ++ inv.0) ++ h.0) new (drop (i + 1) block) close
+              (h.2 start (read ++ take i block) (written ++ inv.0) (inv.2 start read written r)) in
+          (q.0, omega (arith, q.1, close))),
     )
 
 pub loop-byte-preserved : goal.loop-byte-preserved
@@ -75,5 +86,5 @@ loop-byte-preserved g c =
             subst (λ (u : List ℕ). P (read ++ take (i + 1) block) u) (append_assoc written inv.0 h.0)
             (subst (λ (t : List ℕ). P t ((written ++ inv.0) ++ h.0)) (block_more read block i lt) (h.2 start (read ++ take i block) (written ++ inv.0) (inv.2 start read written r)))),
       );
-      sound = c.in_ok-take_byte.ensures.sound ∙ c.loop-byte.invariant.sound;
+      sound = c.in_ok-take_byte.ensures.sound (λ e. cc) ∙ c.loop-byte.invariant.sound;
     }

@@ -1,7 +1,7 @@
 use Rattle.std.proofs.Common.{◌≡◌, ℕ, List, ◌++◌, take}
 use Rattle.std.specs.Io.KnownBytes.{Appends}
 use Rattle.session.specs.Standing.{Standing}
-use Rattle.session.specs.Conversation.{Reached}
+use Rattle.session.specs.Intake.{Reached}
 use Rattle.session.proofs.conversation.take_block.Given as goal
 
 -- the front of the block is taken, and no call failed

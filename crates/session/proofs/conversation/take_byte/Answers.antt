@@ -1,11 +1,12 @@
-use Rattle.std.proofs.Common.{◌+◌, refl, ◌≡◌, ◌≢◌, ℕ, inl, inr, List, [], ◌∷◌, ◌++◌, ◌∙◌, ap, subst, arith, true, false}
+use Rattle.std.proofs.Common.{◌+◌, refl, ◌≡◌, ◌≢◌, ◌<◌, ℕ, inl, inr, List, [], ◌∷◌, ◌++◌, ◌∙◌, ap, subst, arith, true, false}
 use Rattle.std.proofs.lemmas.Result.{err_from_is_err_and}
 use Rattle.session.specs.Answers.{answer}
 use Rattle.session.specs.Standing.{Standing}
 use Rattle.session.specs.TakesLine.{TakesLine}
 use Rattle.session.specs.Splits.{without_return}
-use Rattle.session.specs.Conversation.{Onward, is_quit}
-use Rattle.session.proofs.Conversing.{Appends-nothing, reached_more, reached_line, reached_quit, reached_break, reached_stop}
+use Rattle.session.specs.Conversation.{is_quit}
+use Rattle.session.specs.Intake.{Onward}
+use Rattle.session.proofs.Conversing.{Appends-nothing, reached_more, reached_line, reached_quit, reached_break}
 use Rattle.session.specs.declared.reply.Reply.{Reply}
 use Rattle.session.proofs.conversation.take_byte.Goals as goal
 
@@ -16,42 +17,41 @@ as_kept line pending old reply new e s = subst (λ (t : List ℕ). TakesLine t o
 pub returns-in_err-quits-clause-err : goal.returns-in_err-quits-clause-err
 returns-in_err-quits-clause-err g c =
     let h = c.in_err-quits.ensures.err in
-    let line_is : c.without_return.result.now ≡ without_return c.args.intake.now.pending.items = c.without_return.ensures ∙ ap without_return c.deref.ensures.value in
-    let kept : TakesLine (without_return c.args.intake.now.pending.items) c.args.session.now h.0 c.answer_line.new.session = as_kept _ c.args.intake.now.pending.items _ _ _ line_is h.3 in
+    let old = c.args.intake.now in
+    let line_is : c.without_return.result.now ≡ without_return old.pending.items = c.without_return.ensures ∙ ap without_return c.deref.ensures.value in
+    let kept : TakesLine (without_return old.pending.items) c.args.session.now h.0 c.answer_line.new.session = as_kept _ old.pending.items _ _ _ line_is h.2 in
     let p = err_from_is_err_and c.from_residual.result c.from_residual.ensures.1 in
-    rw p.1 (
+    rw (p.1, p.2) (
       h.1,
-      h.5,
+      h.4,
       λ start read written r.
           rw c.if-byte-eq10.true
-          (reached_break start read written c.args.session.now c.args.intake.now.pending.items c.args.intake.now.lines c.args.intake.now.bytes h.0 h.1 h.2 c.answer_line.new.session r kept h.4),
+          (reached_break start read written c.args.session.now old.pending.items old.lines old.bytes r _ h.0 h.1 c.answer_line.new.session c.requires.lines c.requires.bytes kept h.3),
     )
 
 pub returns-then-byte-eq10-clause-ok : goal.returns-then-byte-eq10-clause-ok
 returns-then-byte-eq10-clause-ok g c =
     let h = c.in_ok-quits.ensures.ok in
-    let line_is : c.without_return.result.now ≡ without_return c.args.intake.now.pending.items = c.without_return.ensures ∙ ap without_return c.deref.ensures.value in
-    let kept : TakesLine (without_return c.args.intake.now.pending.items) c.args.session.now h.0 c.answer_line.new.session = as_kept _ c.args.intake.now.pending.items _ _ _ line_is h.1 in (
+    let old = c.args.intake.now in
+    let new = c.answer_line.new.session in
+    let line_is : c.without_return.result.now ≡ without_return old.pending.items = c.without_return.ensures ∙ ap without_return c.deref.ensures.value in
+    let kept : TakesLine (without_return old.pending.items) c.args.session.now h.0 new = as_kept _ old.pending.items _ _ _ line_is h.1 in (
       answer h.0,
       h.3,
       λ start read written r.
           rw (c.if-byte-eq10.true, c.clear.ensures.items)
-          (elim c.in_ok-quits.quits as (λ b. is_quit h.0.ending ≡ b → Onward b start (read ++ 10 ∷ []) (written ++ answer h.0) c.answer_line.new.session [] (c.args.intake.now.lines + 1) (c.args.intake.now.bytes + 1)) [
-            | true ↦ λ q. reached_quit start read written c.args.session.now c.args.intake.now.pending.items c.args.intake.now.lines c.args.intake.now.bytes h.0 c.answer_line.new.session r kept q
-            | false ↦ λ q. reached_line start read written c.args.session.now c.args.intake.now.pending.items c.args.intake.now.lines c.args.intake.now.bytes h.0 c.answer_line.new.session r kept q
+          (elim c.in_ok-quits.quits as (λ b. is_quit h.0.ending ≡ b → Onward 0 b start (read ++ 10 ∷ []) (written ++ answer h.0) new [] (old.lines + 1) (old.bytes + 1)) [
+            | true ↦ λ q. reached_quit start read written c.args.session.now old.pending.items old.lines old.bytes r h.0 new c.requires.lines c.requires.bytes kept q
+            | false ↦ λ q. reached_line start read written c.args.session.now old.pending.items old.lines old.bytes r h.0 new kept q
           ] h.2),
     )
 
-pub returns-in-Err-clause-err : goal.returns-in-Err-clause-err
-returns-in-Err-clause-err g c =
-    ([], Appends-nothing _, λ start read written r. reached_stop start read written _ _ _ _ (c.args.byte ∷ []) r)
-
-pub returns-in-Ok-clause-ok : goal.returns-in-Ok-clause-ok
-returns-in-Ok-clause-ok g c =
+pub returns-then-len-lt-KEPT-clause-ok : goal.returns-then-len-lt-KEPT-clause-ok
+returns-then-len-lt-KEPT-clause-ok g c =
     let ne : c.args.byte ≢ 10 = c.if-byte-eq10.false in
-    ([], Appends-nothing _, λ start read written r. reached_more start read written _ _ _ _ c.args.byte _ ne (inl (c.in-Ok.ensures.items, omega arith)) r)
+    ([], Appends-nothing _, λ start read written r. reached_more start read written _ _ _ _ r c.args.byte _ ne c.requires.lines (inl (c.push_reserved.ensures.items, omega arith)))
 
 pub returns-else-len-lt-KEPT-clause-ok : goal.returns-else-len-lt-KEPT-clause-ok
 returns-else-len-lt-KEPT-clause-ok g c =
     let ne : c.args.byte ≢ 10 = c.if-byte-eq10.false in
-    ([], Appends-nothing _, λ start read written r. reached_more start read written _ _ _ _ c.args.byte _ ne (inr (refl, omega arith)) r)
+    ([], Appends-nothing _, λ start read written r. reached_more start read written _ _ _ _ r c.args.byte _ ne c.requires.lines (inr (refl, omega arith)))

@@ -1,34 +1,49 @@
-use Rattle.std.proofs.Common.{◌≡◌, ℕ, ◌<◌, List, [], length, subst, arith}
+use Rattle.std.proofs.Common.{◌≡◌, ◌≤◌, ℕ, ◌<◌, List, [], length, refl, subst, arith}
 use Rattle.std.proofs.lemmas.Bool.Decides.{nat_tests}
 use Rattle.std.proofs.lemmas.Grind.{common_steps}
 use Rattle.std.proofs.lemmas.Result.{err_from_is_err_and}
 use Rattle.session.specs.Answers.{answer}
 use Rattle.session.specs.Standing.{Standing}
 use Rattle.session.specs.TakesLine.{TakesLine}
-use Rattle.session.proofs.Conversing.{Appends-nothing, reached_last, reached_last_break, reached_end}
+use Rattle.session.proofs.Conversing.{Appends-nothing, last_quits, last_breaks, last_finishes, none_finishes}
 use Rattle.session.specs.declared.reply.Reply.{Reply}
 use Rattle.session.proofs.conversation.take_last.Goals as goal
 
 as_kept : (line pending : List ℕ) (old : Standing) (reply : Reply) (new : Standing) → line ≡ pending → TakesLine line old reply new → TakesLine pending old reply new
 as_kept line pending old reply new e s = subst (λ (t : List ℕ). TakesLine t old reply new) e s
 
+pub returns-then-is_empty-clause-ok : goal.returns-then-is_empty-clause-ok
+returns-then-is_empty-clause-ok g c =
+    let none : length c.args.intake.now.pending.items ≡ 0 = grind (arith, common_steps, nat_tests) in
+    let few : c.args.intake.now.lines ≤ 1000000 = omega arith in
+    let short : c.args.intake.now.bytes ≤ 1000000000 = omega arith in
+    ([], Appends-nothing _, λ start read written r. (none_finishes start read written _ _ _ _ r none few short, tt))
+
 pub returns-in_err-answer_line-clause-err : goal.returns-in_err-answer_line-clause-err
 returns-in_err-answer_line-clause-err g c =
     let h = c.in_err-answer_line.ensures.err in
-    let kept : TakesLine c.args.intake.now.pending.items c.args.session.now h.0 c.answer_line.new.session = as_kept _ c.args.intake.now.pending.items _ _ _ c.deref.ensures.value h.3 in
-    let some : 0 < length c.args.intake.now.pending.items = grind (arith, common_steps, nat_tests) in
+    let old = c.args.intake.now in
+    let kept : TakesLine old.pending.items c.args.session.now h.0 c.answer_line.new.session = as_kept _ old.pending.items _ _ _ c.deref.ensures.value h.2 in
+    let some : 0 < length old.pending.items = grind (arith, common_steps, nat_tests) in
+    let short : old.bytes ≤ 1000000000 = omega arith in
     let p = err_from_is_err_and c.from_residual.result c.from_residual.ensures.1 in
-    rw p.1
-    (h.1, h.5, λ start read written r. reached_last_break start read written c.args.session.now c.args.intake.now.pending.items c.args.intake.now.lines c.args.intake.now.bytes h.0 h.1 h.2 c.answer_line.new.session r some kept h.4)
+    rw (p.1, p.2)
+    (h.1, h.4, λ start read written r. last_breaks start read written c.args.session.now old.pending.items old.lines old.bytes r c.in_err-answer_line.field-0.0 h.0 h.1 c.answer_line.new.session some short kept h.3)
 
-pub returns-in_ok-answer_line-clause-ok : goal.returns-in_ok-answer_line-clause-ok
-returns-in_ok-answer_line-clause-ok g c =
-    let h = c.in_ok-answer_line.ensures.ok in
-    let kept : TakesLine c.args.intake.now.pending.items c.args.session.now h.0 c.answer_line.new.session = as_kept _ c.args.intake.now.pending.items _ _ _ c.deref.ensures.value h.1 in
-    let some : 0 < length c.args.intake.now.pending.items = grind (arith, common_steps, nat_tests) in
-    (answer h.0, h.3, λ start read written r. reached_last start read written c.args.session.now c.args.intake.now.pending.items c.args.intake.now.lines c.args.intake.now.bytes h.0 c.answer_line.new.session r some kept)
+pub returns-then-branch-clause-ok : goal.returns-then-branch-clause-ok
+returns-then-branch-clause-ok g c =
+    let h = rw c.if-branch.true at c.in_ok-answer_line.ensures.ok in
+    let old = c.args.intake.now in
+    let kept : TakesLine old.pending.items c.args.session.now h.0 c.answer_line.new.session = as_kept _ old.pending.items _ _ _ c.deref.ensures.value h.1 in
+    let some : 0 < length old.pending.items = grind (arith, common_steps, nat_tests) in
+    let short : old.bytes ≤ 1000000000 = omega arith in
+    (answer h.0, h.3, λ start read written r. last_quits start read written c.args.session.now old.pending.items old.lines old.bytes r h.0 c.answer_line.new.session some short kept h.2)
 
-pub returns-else-not-is_empty-clause-ok : goal.returns-else-not-is_empty-clause-ok
-returns-else-not-is_empty-clause-ok g c =
-    let none : length c.args.intake.now.pending.items ≡ 0 = grind (arith, common_steps, nat_tests) in
-    ([], Appends-nothing _, λ start read written r. reached_end start read written c.args.session.now c.args.intake.now.pending.items c.args.intake.now.lines c.args.intake.now.bytes r none)
+pub returns-clause-ok : goal.returns-clause-ok
+returns-clause-ok g c =
+    let h = rw c.if-branch.false at c.in_ok-answer_line.ensures.ok in
+    let old = c.args.intake.now in
+    let kept : TakesLine old.pending.items c.args.session.now h.0 c.answer_line.new.session = as_kept _ old.pending.items _ _ _ c.deref.ensures.value h.1 in
+    let some : 0 < length old.pending.items = grind (arith, common_steps, nat_tests) in
+    let short : old.bytes ≤ 1000000000 = omega arith in
+    (answer h.0, h.3, λ start read written r. (last_finishes start read written c.args.session.now old.pending.items old.lines old.bytes r h.0 c.answer_line.new.session some short kept h.2, tt))

@@ -1,0 +1,69 @@
+-- Where a session stands, as a list of whole states with a cursor; and the laws that each line, each call and each run
+-- does to it what the headline says.
+use Rattle.std.specs.Prelude.{◌≡◌, ℕ, List, [], ◌∷◌, ◌++◌, length, map, reverse, Option, Some, None, option_map}
+use Rattle.std.specs.Io.KnownBytes.{IsAtEnd}
+use Rattle.externals.specs.Cells.{Seen}
+use Rattle.object_table.specs.Content.{Content}
+use Rattle.journal_entries.specs.State.{titles_of, index_of}
+use Rattle.change_journal.specs.History.{History, Step, plugged, unplugged}
+use Rattle.session.specs.Headline.{Snapshot, Timeline, Line, Headline, at_cursor, cursor_back, cursor_forth, cursor_back_to, beginning, with_plugged, without_plugged}
+use Rattle.session.specs.Moves.{undone, redone, undone_to}
+use Rattle.session.specs.Opening.{opened}
+use Rattle.session.specs.Splits.{AreLines}
+use Rattle.session.specs.Standing.{Standing}
+use Rattle.session.specs.Stops.{Ended, Stopped}
+use Rattle.session.specs.TakesLine.{TakesLine}
+use Rattle.session.specs.declared.conversation.Ran.{Ran}
+use Rattle.session.specs.declared.conversation.RunFault.{RunFault}
+use Rattle.session.specs.declared.reply.Reply.{Reply}
+
+abbrev pub snapshots_of : List Step → List Snapshot
+snapshots_of = map (λ step. record { state = step.state; number = step.stamp })
+
+-- the states before the cursor, turned round, the present one, and those after it
+abbrev pub all_snapshots : History → List Snapshot
+all_snapshots h = reverse (snapshots_of h.past) ++ record { state = h.now; number = h.stamp } ∷ snapshots_of h.future
+
+abbrev pub timeline_of : Standing → Timeline
+timeline_of s = record { snapshots = all_snapshots s.history; cursor = length s.history.past; depth = s.history.depth; lines = s.lines; steps = s.steps }
+
+-- a session whose history is this one
+abbrev pub with_history : Standing → History → Standing
+with_history s h = record s { history = h }
+
+-- ---- laws
+
+-- each line that a session takes does so to the list of its states
+abbrev pub LinesFollow : Type 0
+LinesFollow = (line : List ℕ) (old : Standing) (reply : Reply) (new : Standing) → TakesLine line old reply new → Line line (timeline_of old) reply (timeline_of new)
+
+-- and so does each move of the cursor that a call makes
+abbrev pub MovesFollow : Type 0
+MovesFollow = (s : Standing) (n : ℕ)
+    → (option_map (λ h. timeline_of (with_history s h)) (undone n s.history) ≡ option_map (at_cursor (timeline_of s)) (cursor_back n (timeline_of s)))
+    × (option_map (λ h. timeline_of (with_history s h)) (redone n s.history) ≡ option_map (at_cursor (timeline_of s)) (cursor_forth n (timeline_of s)))
+    × (option_map (λ h. timeline_of (with_history s h)) (undone_to n s.history) ≡ option_map (at_cursor (timeline_of s)) (cursor_back_to n (timeline_of s)))
+
+-- a session that is opened, plugged and unplugged has the list that these give
+abbrev pub without_if : Option ℕ → Timeline → Timeline
+without_if None t = t
+without_if (Some i) t = without_plugged i t
+
+abbrev pub PlugsFollow : Type 0
+PlugsFollow = (s : Standing) (x : Seen) (turns : ℕ) (name : List ℕ)
+    → (timeline_of (with_history s (plugged s.history x turns)) ≡ with_plugged x (timeline_of s))
+    × (timeline_of (with_history s (unplugged name s.history)) ≡ without_if (index_of name (titles_of s.history.now.externals)) (timeline_of s))
+
+abbrev pub OpensFollow : Type 0
+OpensFollow = (stack : Content) (externals : List Seen) (turns : List ℕ) (steps depth : ℕ) → timeline_of (opened stack externals turns steps depth) ≡ beginning stack externals steps depth
+
+-- A run that ended, with this left to read where that is known, did what the headline says to the list of the
+-- session's states.
+abbrev pub RunsFollow : Type 0
+RunsFollow = (left : Option (List ℕ)) (ran : Ran) (old : Standing) (read written : List ℕ) (new : Standing) → Ended TakesLine (IsAtEnd left) ran old read written new
+    → Ended Line (IsAtEnd left) ran (timeline_of old) read written (timeline_of new) × ((lines : List (List ℕ)) × AreLines read lines × Headline (timeline_of old) lines written (timeline_of new))
+
+-- and so did a run that stopped, as far as it came
+abbrev pub StopsFollow : Type 0
+StopsFollow = (left : Option (List ℕ)) (fault : RunFault) (old : Standing) (read written : List ℕ) (new : Standing) → Stopped TakesLine (IsAtEnd left) fault old read written new
+    → Stopped Line (IsAtEnd left) fault (timeline_of old) read written (timeline_of new)
