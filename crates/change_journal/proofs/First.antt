@@ -1,5 +1,8 @@
 -- The first state of a well formed stack.
-use Rattle.std.proofs.Common.{◌≡◌, ℕ, ◌<◌, true, false, ◌||◌, List, [], ◌∷◌, length, get_or, refl, sym, ap, ◌∙◌, arith, Option, Some, None, option_map, option_and_then, unwrap_or, eqb}
+use Rattle.std.proofs.Common.{◌≡◌, ℕ, ◌<◌, true, false, ◌||◌, List, [], ◌∷◌, length, get_or, refl, sym, subst, ap, ◌∙◌, arith, Option, Some, None, IfSome, option_map, option_and_then, unwrap_or, eqb}
+use Rattle.std.specs.Ordering.{nat_cmp}
+use Rattle.std.specs.Cmp.Lexicographic.{slice_cmp}
+use Rattle.std.specs.FinMap.{empty, get-empty}
 use Rattle.std.specs.List.{list_any}
 use Rattle.std.proofs.lemmas.Bool.{eq-eqb}
 use Rattle.object_table.specs.Content.{Content}
@@ -8,7 +11,7 @@ use Rattle.object_table.specs.WellFormed.{IsWellFormed}
 use Rattle.object_table.specs.declared.object.Object.{Object}
 use Rattle.object_table.specs.declared.object.Kind.{Kind}
 use Rattle.object_table.specs.declared.object.Kind.TheVariants.{Stack, Background, Card, CardButton, BackgroundButton, CardField, BackgroundField}
-use Rattle.journal_entries.specs.State.{IsState, titles_of}
+use Rattle.journal_entries.specs.State.{IsState, IsGlobal, AreGlobals, titles_of}
 use Rattle.journal_entries.specs.Exchange.{Held}
 use Rattle.change_journal.specs.Batches.{IsSound}
 
@@ -42,6 +45,9 @@ first-card s w =
     let card : has_kind is_card s some.0 ≡ true = object-card (object_at s some.0) first some.1 in
     let there : 0 < length s.cards = some-contained s.cards some.0 (w.cards.each some.0 ∙ card) in
     sym (w.cards.each (get_or s.cards 0 0)) ∙ first-contained s.cards there
+
+pub no_globals : AreGlobals empty
+no_globals name = subst (λ o. IfSome o (λ value. IsGlobal name value)) (sym (get-empty (slice_cmp nat_cmp) name)) tt
 
 pub IsSound-opened : (h : Held) (depth room : ℕ) → 0 < depth → IsState h.state → IsSound (record { held = h; oldest = 0; depth = depth; batches = []; cursor = 0 }) room None
 IsSound-opened h depth room some state = record {

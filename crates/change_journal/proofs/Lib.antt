@@ -9,3 +9,5 @@ pub mod Commits
 pub mod Plugs
 pub mod Book
 pub mod Making
+pub mod Globals
+pub mod Short

@@ -1,6 +1,8 @@
 -- A change, and a turn of an external, in an open batch.
-use Rattle.std.proofs.Common.{Bool, ◌≡◌, ◌++◌, ℕ, ◌+◌, ◌<◌, true, false, if◌then◌else◌, List, [], ◌∷◌, length, map, take, drop, reverse, refl, sym, subst, ap, ◌∙◌, arith, Option, Some, None, inl, inr}
-use Rattle.externals.specs.Cells.{Changes, IsPatch}
+use Rattle.std.proofs.Common.{Bool, ◌≡◌, ◌++◌, ℕ, ◌+◌, ◌<◌, true, false, if◌then◌else◌, List, [], ◌∷◌, length, get_or, set, map, take, drop, reverse, refl, sym, subst, ap, ◌∙◌, arith, Option, Some, None}
+use Rattle.std.proofs.lemmas.List.{get_or-set_same}
+use Rattle.std.proofs.lemmas.List.Elements.{All-set}
+use Rattle.externals.specs.Cells.{Changes, IsPatch, IsExternal, none_seen}
 use Rattle.externals.specs.declared.external.Input.{Input}
 use Rattle.externals.specs.declared.external.Ask.{Ask}
 use Rattle.object_table.specs.Content.{Content}
@@ -17,8 +19,8 @@ use Rattle.journal_entries.specs.Places.{Place, Write, put, put_all, value_at}
 use Rattle.journal_entries.specs.Changes.{changed, writes_of, fits, HasTexts}
 use Rattle.journal_entries.specs.Replaced.{Replacement, replaced_by, replaced_by_turn, back_weight, forth_weight}
 use Rattle.journal_entries.specs.Trails.{Mark, at, structural, holds, marked, IsOnce}
-use Rattle.journal_entries.specs.Exchange.{Held, Lot, Shape, shape_of, exchanged, taken, back, entry_weight, mark_of, trail_of, is_structural, IsReady, AreReady}
-use Rattle.journal_entries.specs.Turning.{Carries, Turns, TurnsAtMostOnce, IsNumbered, one_more_at}
+use Rattle.journal_entries.specs.Exchange.{Held, Lot, Shape, with_cells, shape_of, exchanged, taken, back, entry_weight, mark_of, trail_of, is_structural, IsReady, AreReady}
+use Rattle.journal_entries.specs.Turning.{Carries, Turns, IsNumbered, one_more_at, with_cells_at}
 use Rattle.journal_entries.specs.Changing.{Makes, kept, holds_one}
 use Rattle.journal_entries.specs.declared.entry.Entry.{Entry}
 use Rattle.journal_entries.specs.declared.entry.Entry.TheVariants.{External}
@@ -33,6 +35,7 @@ use Rattle.change_journal.specs.Batches.{Book, stamp_of, past_steps, future_step
 use Rattle.journal_entries.proofs.Turned.{turned_back, counts-turned, IsReady-turned, titles-turned}
 use Rattle.journal_entries.proofs.Replacing.{patch_back, patch_forth}
 use Rattle.change_journal.proofs.Growth.{with_held, history-grown, AllReady-grown, AreReady-grown}
+use Rattle.change_journal.proofs.Globals.{globals-put}
 
 -- the history where the batch goes back to the same state
 history-round : (b : Book) (k : Held) (lot more : Lot) → k.names ≡ b.held.names → back b.held.names k.state more.entries ≡ back b.held.names b.held.state lot.entries → history_of (with_held b k) (Some more) ≡ record (history_of b (Some lot)) { now = k.state; start = Some (open_of k.names k.state more); turns = k.turns }
@@ -140,17 +143,20 @@ set_property s id v = sym (puts s (stack_entries.Prop id v))
 
 state-changed : (s : State) (change : Change) → fits s change ≡ true → HasTexts change → IsState s → IsState (changed s change)
 unfolding put
-state-changed s (changes.Global name v) f h q = record { stack = q.stack; current = q.current; externals = q.externals }
-state-changed s (changes.FieldText field card t) f h q = rw (set_text s.stack field card t) (record { stack = text-rewritten s.stack field card t f h q.stack; current = q.current; externals = q.externals })
-state-changed s (changes.Hilite button card b) f h q = rw (set_hilite s.stack button card b) (record { stack = hilite-rewritten s.stack button card b f q.stack; current = q.current; externals = q.externals })
+state-changed s (changes.Global name None) f h q = record { stack = q.stack; globals = globals-put s.globals name None f h q.globals; current = q.current; externals = q.externals; apart = q.apart }
+state-changed s (changes.Global name (Some t)) f h q = record { stack = q.stack; globals = globals-put s.globals name (Some t) f h q.globals; current = q.current; externals = q.externals; apart = q.apart }
+state-changed s (changes.FieldText field card t) f h q = rw (set_text s.stack field card t) (record { stack = text-rewritten s.stack field card t f h q.stack; globals = q.globals; current = q.current; externals = q.externals; apart = q.apart })
+state-changed s (changes.Hilite button card b) f h q = rw (set_hilite s.stack button card b) (record { stack = hilite-rewritten s.stack button card b f q.stack; globals = q.globals; current = q.current; externals = q.externals; apart = q.apart })
 state-changed s (changes.Prop id v) f h q =
     rw (set_property s.stack id v)
     (record {
       stack = property-rewritten s.stack id v h q.stack;
+      globals = q.globals;
       current = is_card-rewritten s.stack id v s.current ∙ q.current;
       externals = q.externals;
+      apart = q.apart;
     })
-state-changed s (changes.Current card) f h q = record { stack = q.stack; current = f; externals = q.externals }
+state-changed s (changes.Current card) f h q = record { stack = q.stack; globals = q.globals; current = f; externals = q.externals; apart = q.apart }
 
 titles-changed : (s : State) (change : Change) → titles_of (changed s change).externals ≡ titles_of s.externals
 unfolding put
@@ -236,25 +242,41 @@ turned-all b k lot more i input ask p there turn patch lot_is held_is =
       start = rw names up;
     })
 
-pub IsHistory-turned : (old new : History) (i : ℕ) (input : Input) (ask : Ask) → TookTurn old new i input ask → IsHistory old → IsHistory new
-IsHistory-turned old new i input ask took q =
+-- a turn puts what is seen of the i-th external in the place of what was seen
+set-seen : (old new : State) (i : ℕ) → i < length old.externals → new ≡ with_cells_at old i (seen_at new i).cells → new.externals ≡ set old.externals i (seen_at new i)
+set-seen old new i there is =
+    let e = with_cells (seen_at old i) (seen_at new i).cells in
+    let whole : new.externals ≡ set old.externals i e = ap (λ s. s.externals) is in
+    let found : seen_at new i ≡ e = ap (λ es. get_or es i none_seen) whole ∙ get_or-set_same old.externals i e none_seen there in
+    whole ∙ ap (set old.externals i) (sym found)
+
+pub IsHistory-turned : (old new : History) (i : ℕ) (input : Input) (ask : Ask) → i < length old.now.externals → IsExternal (seen_at new.now i) → TookTurn old new i input ask → IsHistory old → IsHistory new
+IsHistory-turned old new i input ask there known took q =
     let cells = (seen_at new.now i).cells in
     let same : titles_of new.now.externals ≡ titles_of old.now.externals = ap (λ s. titles_of s.externals) took.turn.state ∙ titles-turned old.now.externals i cells in
     let stack : new.now.stack ≡ old.now.stack = ap (λ s. s.stack) took.turn.state in
+    let globals : new.now.globals ≡ old.now.globals = ap (λ s. s.globals) took.turn.state in
     let current : new.now.current ≡ old.now.current = ap (λ s. s.current) took.turn.state in
+    let externals : new.now.externals ≡ set old.now.externals i (seen_at new.now i) = set-seen old.now new.now i there took.turn.state in
     rw took.history (record {
       titles = q.titles;
       past = q.past;
       now = record {
-        state = record { stack = rw stack q.now.state.stack; current = rw (stack, current) q.now.state.current; externals = ap are_apart same ∙ q.now.state.externals };
+        state = record {
+          stack = rw stack q.now.state.stack;
+          globals = rw globals q.now.state.globals;
+          current = rw (stack, current) q.now.state.current;
+          externals = rw externals (All-set IsExternal old.now.externals i (seen_at new.now i) known q.now.state.externals);
+          apart = ap are_apart same ∙ q.now.state.apart;
+        };
         titles = same ∙ q.now.titles;
       };
       future = q.future;
       start = start-risen q.titles old.start new.start _ (λ o. structural ∷ o.trail) (λ o h. h) took.start q.start;
     })
 
-pub IsSound-turned : (b : Book) (k : Held) (room : ℕ) (lot more : Lot) (i : ℕ) (input : Input) (ask : Ask) (p : Changes) → i < length b.held.state.externals → Turns b.held.state k.state i input ask → IsPatch (seen_at b.held.state i).cells (seen_at k.state i).cells p → more ≡ record lot { entries = lot.entries ++ External i p ∷ [] } → k ≡ record b.held { state = k.state; turns = one_more_at b.held.turns i } → IsSound b room (Some lot) → IsSound (with_held b k) room (Some more)
-IsSound-turned b k room lot more i input ask p there turn patch lot_is held_is sound =
+pub IsSound-turned : (b : Book) (k : Held) (room : ℕ) (lot more : Lot) (i : ℕ) (input : Input) (ask : Ask) (p : Changes) → i < length b.held.state.externals → IsExternal (seen_at k.state i) → Turns b.held.state k.state i input ask → IsPatch (seen_at b.held.state i).cells (seen_at k.state i).cells p → more ≡ record lot { entries = lot.entries ++ External i p ∷ [] } → k ≡ record b.held { state = k.state; turns = one_more_at b.held.turns i } → IsSound b room (Some lot) → IsSound (with_held b k) room (Some more)
+IsSound-turned b k room lot more i input ask p there known turn patch lot_is held_is sound =
     let h = shape_of b.held in
     let shape : shape_of k ≡ h = λ x. record { names = length (held_is x).names; counts = counts-turned b.held.state k.state i input ask turn x; room = (held_is x).room } in
     let entries : more.entries ≡ lot.entries ++ External i p ∷ [] = ap (λ l. l.entries) lot_is in
@@ -264,10 +286,5 @@ IsSound-turned b k room lot more i input ask p there turn patch lot_is held_is s
       some = sound.some;
       ready = rw shape sound.ready;
       opened = (rw (shape, entries) (AreReady-push h lot.entries (External i p) sound.opened.0 (IsReady-turned h b.held.state k.state i p refl there patch)), sound.opened.1);
-      history = IsHistory-turned (history_of b (Some lot)) (history_of (with_held b k) (Some more)) i input ask (turned-all b k lot more i input ask p there turn patch lot_is held_is) sound.history;
+      history = IsHistory-turned (history_of b (Some lot)) (history_of (with_held b k) (Some more)) i input ask there known (turned-all b k lot more i input ask p there turn patch lot_is held_is) sound.history;
     }
-
--- a turn that memory cut short
-pub IsSound-counted : (b : Book) (k : Held) (room i : ℕ) (lot : Lot) → TurnsAtMostOnce b.held k i → IsSound b room (Some lot) → IsSound (with_held b k) room (Some lot)
-IsSound-counted b k room i lot (inl e) sound = rw e sound
-IsSound-counted b k room i lot (inr e) sound = rw e (record { within = sound.within; few = sound.few; some = sound.some; ready = sound.ready; opened = sound.opened; history = record { titles = sound.history.titles; past = sound.history.past; now = sound.history.now; future = sound.history.future; start = sound.history.start } })

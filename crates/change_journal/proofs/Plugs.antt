@@ -1,6 +1,6 @@
 -- One more external in each state.
 use Rattle.std.proofs.Common.{◌≡◌, ◌++◌, ℕ, List, [], ◌∷◌, map, take, drop, reverse, refl, sym, subst, ap, ◌∙◌, None, false}
-use Rattle.externals.specs.Cells.{Seen}
+use Rattle.externals.specs.Cells.{Seen, IsExternal}
 use Rattle.object_table.specs.Table.{Room}
 use Rattle.journal_entries.specs.State.{State, has_name, titles_of}
 use Rattle.journal_entries.specs.Exchange.{Lot, shape_of, back, forth, weight, trail_of}
@@ -39,12 +39,12 @@ history-plugged b x turns ready =
     let future = future-plugged h.room h.names h.state x (drop b.cursor b.batches) (AllReady-drop (shape_of h) b.batches b.cursor ready) in
     λ i. record { past = past i; now = with_external x h.state; stamp = stamp_of b.oldest (reverse (take b.cursor b.batches)); future = future i; start = None; depth = b.depth; turns = h.turns ++ turns ∷ [] }
 
-pub IsSound-plugged : (b : Book) (room : ℕ) (x : Seen) (turns : ℕ) → has_name x.title (titles_of b.held.state.externals) ≡ false → IsSound b room None → IsSound (book_plugged b x turns) room None
-IsSound-plugged b room x turns new sound = record {
+pub IsSound-plugged : (b : Book) (room : ℕ) (x : Seen) (turns : ℕ) → IsExternal x → has_name x.title (titles_of b.held.state.externals) ≡ false → IsSound b room None → IsSound (book_plugged b x turns) room None
+IsSound-plugged b room x turns known new sound = record {
   within = sound.within;
   few = sound.few;
   some = sound.some;
   ready = AllReady-plugged b.held.room b.held.names b.held.state x b.batches sound.ready;
   opened = tt;
-  history = rw (history-plugged b x turns sound.ready) (IsHistory-plugged (history_of b None) x turns refl new sound.history);
+  history = rw (history-plugged b x turns sound.ready) (IsHistory-plugged (history_of b None) x turns refl known new sound.history);
 }

@@ -2,8 +2,9 @@
 use Rattle.std.proofs.Common.{◌≡◌, ◌++◌, ◌+◌, ℕ, zero, suc, Bool, true, false, not, ◌&&◌, ◌||◌, List, [], ◌∷◌, map, take, drop, refl, sym, ap, ◌∙◌, arith, Option, Some, None}
 use Rattle.std.proofs.lemmas.Slice.Eq.{bytes_eq-Decides}
 use Rattle.std.proofs.lemmas.List.{map-append}
+use Rattle.std.proofs.lemmas.List.Elements.{All-append, All-push, All-take, All-drop}
 use Rattle.ht_values.specs.Text.{same, folded}
-use Rattle.externals.specs.Cells.{Seen}
+use Rattle.externals.specs.Cells.{Seen, IsExternal}
 use Rattle.journal_entries.proofs.Turned.{map-without}
 use Rattle.journal_entries.specs.State.{State, titles_of, has_name, are_apart}
 use Rattle.change_journal.specs.History.{Step, Open, History, AreStates, IsStateOf, IsHistory, begun, committed, rolled_back, flipped_back, flipped_forth, plugged, unplugged_at, with_external, step_with_external, without_at}
@@ -82,30 +83,32 @@ are_apart-without (n ∷ ns) (suc i) a =
     let parts = and_true (has_name n ns) (are_apart ns) a in
     rw (m, has_name-without n ns i parts.0, are_apart-without ns i parts.1) refl
 
-state-plugged : (ts : List (List ℕ)) (x : Seen) (s : State) → has_name x.title ts ≡ false → IsStateOf ts s → IsStateOf (ts ++ x.title ∷ []) (with_external x s)
-state-plugged ts x s new q =
+state-plugged : (ts : List (List ℕ)) (x : Seen) (s : State) → IsExternal x → has_name x.title ts ≡ false → IsStateOf ts s → IsStateOf (ts ++ x.title ∷ []) (with_external x s)
+state-plugged ts x s known new q =
     let titles : titles_of (s.externals ++ x ∷ []) ≡ ts ++ x.title ∷ [] = map-append (λ e. e.title) s.externals (x ∷ []) ∙ ap (λ ns. ns ++ x.title ∷ []) q.titles in
     record {
       state = record {
         stack = q.state.stack;
+        globals = q.state.globals;
         current = q.state.current;
-        externals = ap are_apart titles ∙ are_apart-push ts x.title (sym (ap are_apart q.titles) ∙ q.state.externals) new;
+        externals = All-push IsExternal s.externals x q.state.externals known;
+        apart = ap are_apart titles ∙ are_apart-push ts x.title (sym (ap are_apart q.titles) ∙ q.state.apart) new;
       };
       titles = titles;
     }
 
-steps-plugged : (ts : List (List ℕ)) (x : Seen) (steps : List Step) → has_name x.title ts ≡ false → AreStates ts steps → AreStates (ts ++ x.title ∷ []) (map (step_with_external x) steps)
-steps-plugged ts x [] new h = tt
-steps-plugged ts x (s ∷ steps) new h = (state-plugged ts x s.state new h.0, steps-plugged ts x steps new h.1)
+steps-plugged : (ts : List (List ℕ)) (x : Seen) (steps : List Step) → IsExternal x → has_name x.title ts ≡ false → AreStates ts steps → AreStates (ts ++ x.title ∷ []) (map (step_with_external x) steps)
+steps-plugged ts x [] known new h = tt
+steps-plugged ts x (s ∷ steps) known new h = (state-plugged ts x s.state known new h.0, steps-plugged ts x steps known new h.1)
 
-pub IsHistory-plugged : (h : History) (x : Seen) (turns : ℕ) → h.start ≡ None → has_name x.title (titles_of h.now.externals) ≡ false → IsHistory h → IsHistory (plugged h x turns)
-IsHistory-plugged h x turns none new q =
+pub IsHistory-plugged : (h : History) (x : Seen) (turns : ℕ) → h.start ≡ None → IsExternal x → has_name x.title (titles_of h.now.externals) ≡ false → IsHistory h → IsHistory (plugged h x turns)
+IsHistory-plugged h x turns none known new q =
     let free : has_name x.title q.titles ≡ false = rw q.now.titles at new in
     record {
       titles = q.titles ++ x.title ∷ [];
-      past = steps-plugged q.titles x h.past free q.past;
-      now = state-plugged q.titles x h.now free q.now;
-      future = steps-plugged q.titles x h.future free q.future;
+      past = steps-plugged q.titles x h.past known free q.past;
+      now = state-plugged q.titles x h.now known free q.now;
+      future = steps-plugged q.titles x h.future known free q.future;
       start = rw none tt;
     }
 
@@ -119,8 +122,10 @@ IsHistory-unplugged h (Some i) q =
       now = record {
         state = record {
           stack = q.now.state.stack;
+          globals = q.now.state.globals;
           current = q.now.state.current;
-          externals = ap are_apart titles ∙ are_apart-without (titles_of h.now.externals) i q.now.state.externals;
+          externals = All-append IsExternal (take i h.now.externals) (drop (i + 1) h.now.externals) (All-take IsExternal i h.now.externals q.now.state.externals) (All-drop IsExternal (i + 1) h.now.externals q.now.state.externals);
+          apart = ap are_apart titles ∙ are_apart-without (titles_of h.now.externals) i q.now.state.apart;
         };
         titles = refl;
       };

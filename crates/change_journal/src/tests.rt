@@ -282,6 +282,7 @@ fn plugging<E: External>(
     }
     let more = world.external_count();
     let out = world.unplug(&text(alloc, b"NEW")?);
+    world.law_of_states();
     if out.is_none() || world.undoable() != 0 {
         return Err("not unplugged".into());
     }

@@ -7,17 +7,17 @@ ghost use Rattle.object_table.specs.Objects.{has_kind, is_card};
 ghost use Rattle.journal_entries.specs.State.{seen_by, seen_at, first_state, titles_of, has_name, index_of, are_apart as apart_titles};
 ghost use Rattle.journal_entries.specs.Named.{listed, Lists};
 ghost use Rattle.journal_entries.specs.Changes.{fits};
-ghost use Rattle.journal_entries.specs.Trails.{IsOnce};
+ghost use Rattle.journal_entries.specs.Trails.{IsOnce, IsShort, different, places_in};
 ghost use Rattle.journal_entries.specs.Turning.{one_more_at};
-ghost use Rattle.change_journal.specs.History.{alone, begun, committed, rolled_back, flipped_back, flipped_forth, plugged, unplugged, stamp_at};
+ghost use Rattle.change_journal.specs.History.{IsHistory, alone, begun, committed, rolled_back, flipped_back, flipped_forth, plugged, unplugged, stamp_at};
 ghost use Rattle.std.specs.VecDeque.{deque_len, deque_capacity};
 ghost use Rattle.change_journal.specs.Batches.{newest, oldest_of};
 ghost use Rattle.change_journal.specs.Rising.{Made, TookTurn};
 
 use crate::fault::{OpenError, PlugError};
-use externals::{Ask, External, Input};
+use externals::{Ask, External, Input, law_of_external};
 use ht_values::Text;
-use journal_entries::{Batch, Change, Present, are_apart, law_of_texts};
+use journal_entries::{Batch, Change, Present, are_apart, law_of_externals, law_of_texts};
 use object_table::Stack;
 use std::alloc::{AllocError, Global};
 use std::collections::VecDeque;
@@ -76,6 +76,7 @@ impl<E: External> World<E> {
         if !are_apart(&externals) {
             return Err((OpenError::DuplicateName, stack, externals));
         }
+        law_of_externals(&externals);
         let first = stack.card_at(1).unwrap_or(0);
         Ok(World {
             present: Present::new(alloc, stack, first, externals),
@@ -213,19 +214,23 @@ impl<E: External> World<E> {
         ensures ok { IfOk result (λ ask. TookTurn self.old.history self.new.history i input.now ask) }
         ensures err { OnErr result ((self.new.history ≡ self.old.history) ⊎ (self.new.history ≡ record self.old.history { turns = one_more_at self.old.history.turns i })) }
     {
-        match &mut self.open {
-            Some(batch) => batch.turn(&mut self.present, i, self.alloc, input),
+        let ask = match &mut self.open {
+            Some(batch) => batch.turn(&mut self.present, i, self.alloc, input)?,
             None => unreachable!(),
-        }
+        };
+        law_of_external(self.present.external(i));
+        Ok(ask)
     }
 
     /// The open batch leads back from a new state of the history, what stood after the cursor goes, and so does
     /// the oldest state where more than `depth` would stand before it. The batch has each place once between two
-    /// structural entries, before the first and after the last.
+    /// structural entries, before the first and after the last. So with s structural entries it holds at most
+    /// s + (s + 1) * p entries, where p is how many different places they have.
     pub fn commit(&mut self)
         requires { IsSome self.old.history.start }
         ensures history { self.new.history ≡ committed self.old.history }
         ensures once { IfSome self.old.history.start (λ o. IsOnce o.trail) }
+        ensures short { IfSome self.old.history.start (λ o. IsShort o.trail (different (places_in o.trail))) }
     {
         if let Some(batch) = self.open.take() {
             self.batches.truncate(self.cursor);
@@ -276,6 +281,7 @@ impl<E: External> World<E> {
         if self.present.has_external(external.name()) {
             return Err((PlugError::DuplicateName, external));
         }
+        law_of_external(&external);
         match self.present.plug(external) {
             Ok(()) => {}
             Err(external) => return Err((PlugError::Memory, external)),
@@ -283,18 +289,26 @@ impl<E: External> World<E> {
         Ok(())
     }
 
-    /// Takes out the external whose name is the same, and hands it out. The history is then the present state
-    /// alone, which keeps its number. Where no external has the name nothing changes.
+    /// Takes out the external whose name is the same, and hands it out as it is: it takes no turn. The history is
+    /// then the present state alone, which keeps its number. Where no external has the name nothing changes.
     pub fn unplug(&mut self, name: &Text) -> Option<E>
         requires { self.old.history.start ≡ None }
         ensures history { self.new.history ≡ unplugged name.now self.old.history }
         ensures external { option_map (seen_by E.title E.sort E.answers_calls E.cells) result ≡ option_map (seen_at self.old.history.now) (index_of name.now (titles_of self.old.history.now.externals)) }
+        ensures turns { option_map E.turn_count result ≡ option_map (λ i. slice_index_or self.old.history.turns i 0) (index_of name.now (titles_of self.old.history.now.externals)) }
     {
         let i = self.present.external_number(name)?;
         self.oldest = self.stamp(0);
         self.batches.clear();
         self.cursor = 0;
         Some(self.present.unplug(i))
+    }
+
+    /// What holds of every state of the history, at any time. It does nothing.
+    pub fn law_of_states(&self)
+        ensures { IsHistory self.now.history }
+    {
+        let _ = &self.present;
     }
 
     /// The externals in the order of plugging, with their cells of now.

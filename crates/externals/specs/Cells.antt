@@ -1,6 +1,7 @@
 -- Cells of an external, patches of them, and their flips.
 use Rattle.std.specs.Coded.{Coded, code_by, coded×, coded_ℕ, coded_bool, coded_list}
-use Rattle.std.specs.Prelude.{refl, true, false, Bool, ◌≡◌, ◌≢◌, ℕ, ◌+◌, ◌-◌, ◌<◌, ◌^◌, min, List, [], ◌∷◌, length, slice_set, slice_index_or, slice_get, Some}
+use Rattle.std.specs.Prelude.{refl, true, false, Bool, ◌≡◌, ◌≢◌, ℕ, ◌+◌, ◌-◌, ◌<◌, ◌^◌, min, List, [], ◌∷◌, length, All, slice_set, slice_index_or, slice_get, Some}
+use Rattle.ht_values.specs.Text.{IsText}
 
 -- numbers of cells with texts
 abbrev pub Changes : Type 0
@@ -68,3 +69,10 @@ coded_seen = code_by (List ℕ × (ℕ × (Bool × List (List ℕ)))) (coded× (
 -- what stands past the end of a list of externals
 abbrev pub none_seen : Seen
 none_seen = record { title = []; sort = 0; answers_calls = false; cells = [] }
+
+-- what holds of an external: its name and its cells are texts, and its flag and its number of cells are those of
+-- its kind
+pub record IsExternal (e : Seen) : Type 0 where
+  pub title : IsText e.title
+  pub cells : All IsText e.cells
+  pub form : IsKind e.sort e.answers_calls (length e.cells)

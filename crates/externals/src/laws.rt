@@ -1,7 +1,10 @@
-//! What flips of patches do, for the layers above.
+//! What flips of patches do and what each external is, for the layers above.
 
 ghost use Rattle.std.specs.Prelude.{◌≡◌, ℕ, List, length};
-ghost use Rattle.externals.specs.Cells.{Changes, flipped, taken_out, IsProper, IsPatch};
+ghost use Rattle.externals.specs.Cells.{Changes, flipped, taken_out, IsProper, IsPatch, IsExternal};
+
+use crate::external::External;
+use ht_values::law_of_text;
 
 /// A flip of what came out takes a flip back, and the patch after it is the first one again. The patch of a
 /// turn flips the new cells to the old ones.
@@ -11,3 +14,15 @@ pub fn laws_of_flips()
     ensures proper { (n : ℕ) (cells : List (List ℕ)) (p : Changes) → IsProper n p → IsProper n (taken_out cells p) }
     ensures turn { (old new : List (List ℕ)) (p : Changes) → IsPatch old new p → flipped new p ≡ old }
 {}
+
+/// What an external is by its types. A text is known to be one as its bytes are read, so this reads the name and
+/// all cells; nothing is done with them.
+pub fn law_of_external<E: External>(external: &E)
+    ensures { IsExternal (record { title = E.title external.now; sort = E.sort external.now; answers_calls = E.answers_calls external.now; cells = E.cells external.now }) }
+{
+    law_of_text(external.name());
+    let _kind = external.kind();
+    for i in 0..external.cell_count() {
+        law_of_text(external.cell(i));
+    }
+}

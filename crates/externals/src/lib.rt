@@ -9,7 +9,7 @@ mod patch;
 mod texts;
 
 pub use external::{Ask, External, Input};
-pub use laws::laws_of_flips;
+pub use laws::{law_of_external, laws_of_flips};
 pub use note::Note;
 pub use patch::Patch;
 pub use texts::Texts;

@@ -1,4 +1,4 @@
-use crate::{Ask, External, Input, Note, Patch, Texts, laws_of_flips};
+use crate::{Ask, External, Input, Note, Patch, Texts, law_of_external, laws_of_flips};
 use ht_values::Text;
 use std::alloc::{AllocError, Global};
 use std::mem;
@@ -123,6 +123,7 @@ fn meet<E: External>(alloc: Global, mut external: E, flipped: bool) -> Result<Me
     if flipped {
         external.flip(&mut patch);
     }
+    law_of_external(&external);
     let cells = external.cell_count();
     if cells == 0 {
         return Err("no cell".into());

@@ -1,14 +1,14 @@
 -- How many entries a batch has.
-use Rattle.std.proofs.Common.{◌≡◌, ℕ, ◌+◌, ◌*◌, ◌≤◌, Bool, true, false, ◌&&◌, ◌||◌, nat_eq, List, [], ◌∷◌, length, refl, sym, ap, ◌∙◌, arith}
+use Rattle.std.proofs.Common.{◌≡◌, ℕ, ◌+◌, ◌*◌, ◌≤◌, Bool, true, false, ◌&&◌, ◌||◌, if◌then◌else◌, nat_eq, List, [], ◌∷◌, length, refl, sym, ap, ◌∙◌, arith}
 use Rattle.std.specs.List.{list_any}
 use Rattle.std.proofs.lemmas.Bool.{eqb-true, eq-eqb}
 use Rattle.std.proofs.Math.Nat.{add-mul}
 use Rattle.std.proofs.lemmas.Slice.Eq.{bytes_eq-Decides}
 use Rattle.stack_places.proofs.Places as stack
 use Rattle.journal_entries.specs.Places.{Place, same_place, global, in_stack, current_card, cell}
-use Rattle.journal_entries.specs.Trails.{Mark, at, structural, holds, IsOnce, structural_count, AreAmong}
+use Rattle.journal_entries.specs.Trails.{Mark, at, structural, holds, IsOnce, structural_count, AreAmong, places_in, different, IsShort}
 
-same_place-same : (p : Place) → same_place p p ≡ true
+pub same_place-same : (p : Place) → same_place p p ≡ true
 same_place-same (global n) = (bytes_eq-Decides n n).1 refl
 same_place-same (in_stack p) = stack.same_place-same p
 same_place-same current_card = refl
@@ -96,7 +96,66 @@ counted (structural ∷ trail) ps once among =
 counted (at p ∷ trail) ps once among =
     omega (arith, counted trail ps once.1 among.1, free-less trail p ps among.0 once.0)
 
--- a batch with s structural entries, in which each place stands once in each segment and is one of p places,
--- has at most s + (s + 1) * p entries
-pub length-trail : (trail : List Mark) (ps : List Place) → IsOnce trail → AreAmong ps trail → length trail ≤ structural_count trail + (structural_count trail + 1) * length ps
-length-trail trail ps once among = omega (arith, counted trail ps once among)
+-- each of these places once: the last of those that are the same
+last_ones : List Place → List Place
+last_ones [] = []
+last_ones (p ∷ ps) = if list_any (same_place p) ps then last_ones ps else p ∷ last_ones ps
+
+length-last_ones : (ps : List Place) → length (last_ones ps) ≡ different ps
+unfolding last_ones
+length-last_ones [] = refl
+length-last_ones (p ∷ ps) = elim (list_any (same_place p) ps) as (λ b. length (if b then last_ones ps else p ∷ last_ones ps) ≡ (if b then different ps else different ps + 1)) [ true ↦ length-last_ones ps | false ↦ omega (arith, length-last_ones ps) ]
+
+pub or_right : (a b : Bool) → b ≡ true → (a || b) ≡ true
+or_right true b h = refl
+or_right false b h = h
+
+pub or_left : (a b : Bool) → a ≡ true → (a || b) ≡ true
+or_left true b h = refl
+or_left false b h = no h
+
+-- a place that is one of them is one of the last ones
+any-last_ones : (p : Place) (ps : List Place) → list_any (same_place p) ps ≡ true → list_any (same_place p) (last_ones ps) ≡ true
+unfolding last_ones
+any-last_ones p [] h = h
+any-last_ones p (q ∷ ps) h =
+    elim (list_any (same_place q) ps) as (λ b. list_any (same_place q) ps ≡ b → list_any (same_place p) (if b then last_ones ps else q ∷ last_ones ps) ≡ true) [
+      | true ↦ λ again. any-last_ones p ps (there again)
+      | false ↦ λ last. first_or_later (any-last_ones p ps)
+    ] refl
+  where
+    there : list_any (same_place q) ps ≡ true → list_any (same_place p) ps ≡ true
+    there again = elim (same_place p q) as (λ b. same_place p q ≡ b → list_any (same_place p) ps ≡ true) [
+      | true ↦ λ e. ap (λ x. list_any (same_place x) ps) (same_place-is p q e) ∙ again
+      | false ↦ λ e. or_false_left (same_place p q) (list_any (same_place p) ps) e h
+    ] refl
+
+    first_or_later : (list_any (same_place p) ps ≡ true → list_any (same_place p) (last_ones ps) ≡ true) → (same_place p q || list_any (same_place p) (last_ones ps)) ≡ true
+    first_or_later later = elim (same_place p q) as (λ b. same_place p q ≡ b → (same_place p q || list_any (same_place p) (last_ones ps)) ≡ true) [
+      | true ↦ λ e. or_left (same_place p q) (list_any (same_place p) (last_ones ps)) e
+      | false ↦ λ e. or_right (same_place p q) (list_any (same_place p) (last_ones ps)) (later (or_false_left (same_place p q) (list_any (same_place p) ps) e h))
+    ] refl
+
+among-last_ones : (ps : List Place) (trail : List Mark) → AreAmong ps trail → AreAmong (last_ones ps) trail
+among-last_ones ps [] h = tt
+among-last_ones ps (structural ∷ trail) h = among-last_ones ps trail h
+among-last_ones ps (at p ∷ trail) h = (any-last_ones p ps h.0, among-last_ones ps trail h.1)
+
+-- a batch with s structural entries, in which each place stands once in each segment and is one of p different
+-- places, has at most s + (s + 1) * p entries
+pub short : (trail : List Mark) (ps : List Place) → IsOnce trail → AreAmong ps trail → IsShort trail (different ps)
+short trail ps once among = rw (← length-last_ones ps) (omega (arith, counted trail (last_ones ps) once (among-last_ones ps trail among)))
+
+-- the places of a trail are its own
+among-more : (p : Place) (ps : List Place) (trail : List Mark) → AreAmong ps trail → AreAmong (p ∷ ps) trail
+among-more p ps [] h = tt
+among-more p ps (structural ∷ trail) h = among-more p ps trail h
+among-more p ps (at q ∷ trail) h = (or_right (same_place q p) (list_any (same_place q) ps) h.0, among-more p ps trail h.1)
+
+among-own : (trail : List Mark) → AreAmong (places_in trail) trail
+among-own [] = tt
+among-own (structural ∷ trail) = among-own trail
+among-own (at p ∷ trail) = (or_left (same_place p p) (list_any (same_place p) (places_in trail)) (same_place-same p), among-more p (places_in trail) trail (among-own trail))
+
+pub short-own : (trail : List Mark) → IsOnce trail → IsShort trail (different (places_in trail))
+short-own trail once = short trail (places_in trail) once (among-own trail)

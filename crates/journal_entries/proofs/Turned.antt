@@ -1,5 +1,5 @@
 -- Turns of the i-th of some externals.
-use Rattle.std.proofs.Common.{take, drop, ◌≡◌, ◌++◌, ℕ, zero, suc, ◌+◌, ◌<◌, List, [], ◌∷◌, length, map, get_or, set, refl, sym, ap, ◌∙◌, arith, length-set, Result, Ok, Err, OnErr, OnOk, IfOk}
+use Rattle.std.proofs.Common.{take, drop, ◌≡◌, ◌++◌, ℕ, zero, suc, ◌+◌, ◌<◌, List, [], ◌∷◌, length, map, get_or, set, refl, sym, ap, ◌∙◌, arith, length-set, Result, Ok, Err, OnErr, OnOk}
 use Rattle.std.proofs.lemmas.List.{map-set, get_or-map, get_or-set_same, set-get_or}
 use Rattle.externals.specs.Cells.{Seen, none_seen, Changes, IsPatch, flipped}
 use Rattle.externals.specs.Table.{Answers}
@@ -73,16 +73,6 @@ pub either : {T E P Q R : Type 0} (r : Result T E) → OnOk r P → OnErr r Q �
 either (Ok x) p q f h = f p
 either (Err e) p q f h = h q
 
--- what holds either way, from several clauses
-pub either_of : {T E Q S U V R : Type 0} (r : Result T E) (P : T → Type 0) → IfOk r P → OnOk r Q → OnOk r S → OnErr r U → OnErr r V → ((x : T) → P x → Q → S → R) → (U → V → R) → R
-either_of (Ok x) P p q s u v f h = f x p q s
-either_of (Err e) P p q s u v f h = h u v
-
--- what an ok value's facts give
-pub ok_of : {T E Q S R : Type 0} (r : Result T E) (P : T → Type 0) → IfOk r P → OnOk r Q → OnOk r S → ((x : T) → P x → Q → S → R) → OnOk r R
-ok_of (Ok x) P p q s f = f x p q s
-ok_of (Err e) P p q s f = tt
-
 pub map-title : {X : Type 0} (f : X → Seen) (xs : List X) → map (λ x. (f x).title) xs ≡ map (λ s. s.title) (map f xs)
 map-title f [] = refl
 map-title f (x ∷ xs) = ap (λ ts. (f x).title ∷ ts) (map-title f xs)
@@ -107,7 +97,3 @@ on_ok (Err e) f p = tt
 pub on_error : {T E P Q : Type 0} (r : Result T E) → (P → Q) → OnErr r P → OnErr r Q
 on_error (Ok x) f p = tt
 on_error (Err e) f p = f p
-
-pub if_ok_of : {T E Q S : Type 0} (r : Result T E) (P R : T → Type 0) → IfOk r P → OnOk r Q → OnOk r S → ((x : T) → P x → Q → S → R x) → IfOk r R
-if_ok_of (Ok x) P R p q s f = f x p q s
-if_ok_of (Err e) P R p q s f = tt

@@ -1,13 +1,12 @@
 -- The changes: where each fits, what it writes, and the state after it.
-use Rattle.std.specs.Prelude.{ℕ, Bool, not, List, [], ◌∷◌, Some, option_map, is_some}
-use Rattle.std.specs.List.{list_all}
-use Rattle.std.specs.Char.{is_ascii_uppercase}
+use Rattle.std.specs.Prelude.{Bool, List, [], ◌∷◌, Some, IfSome, option_map, is_some}
 use Rattle.ht_values.specs.Text.{IsText}
 use Rattle.object_table.specs.Kept.{text_at, hilite_at}
 use Rattle.object_table.specs.Objects.{has_kind, is_card}
 use Rattle.object_table.specs.Setting as settings
 use Rattle.stack_places.specs.Places.{prop_of, property, field_text, button_hilite, text, logical, setting, number}
 use Rattle.journal_entries.specs.State.{State}
+pub use Rattle.journal_entries.specs.State.{is_folded}
 use Rattle.journal_entries.specs.Places.{Write, put_all, global, in_stack, current_card}
 use Rattle.journal_entries.specs.declared.change.Change.{Change}
 use Rattle.journal_entries.specs.declared.change.Change.TheVariants.{Global, FieldText, Hilite, Prop, Current}
@@ -24,10 +23,6 @@ writes_of s (Current card) = record { place = current_card; value = Some (number
 abbrev pub changed : State → Change → State
 changed s change = put_all s (writes_of s change)
 
--- whether no byte of the name is one of A-Z
-abbrev pub is_folded : List ℕ → Bool
-is_folded name = list_all (λ b. not (is_ascii_uppercase b)) name
-
 -- whether a change fits: a global goes by its folded name, a text, a hilite and a property are there already, and
 -- what becomes current is a card
 abbrev pub fits : State → Change → Bool
@@ -37,8 +32,9 @@ fits s (Hilite button card b) = is_some (hilite_at s.stack button card)
 fits s (Prop id v) = settings.may_set s.stack id v
 fits s (Current card) = has_kind is_card s.stack card
 
--- what is written to a field, and a name and a script, are texts
+-- the name and the value of a global, what is written to a field, and a name and a script, are texts
 abbrev pub HasTexts : Change → Type 0
+HasTexts (Global name v) = IsText name × IfSome v IsText
 HasTexts (FieldText field card t) = IsText t
 HasTexts (Prop id v) = settings.HasTexts v
 HasTexts _ = Unit {0}

@@ -16,6 +16,10 @@ pub record Replacement : Type 0 where
 abbrev pub replaced_by : State → Change → List Replacement
 replaced_by s change = map (λ w. record { place = w.place; old = value_at s w.place; new = w.value }) (writes_of s change)
 
+-- the places that are replaced
+abbrev pub places_of : List Replacement → List Place
+places_of = map (λ r. r.place)
+
 -- a cell whose text differs
 abbrev pub differing : ℕ → ℕ → List ℕ → List ℕ → List Replacement
 differing i c t u = if bytes_eq t u then [] else record { place = cell i c; old = Some (text t); new = Some (text u) } ∷ []

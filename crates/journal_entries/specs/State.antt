@@ -1,11 +1,13 @@
 -- A state: the stack, the globals, the current card, and the externals with their cells.
-use Rattle.std.specs.Prelude.{◌≡◌, ℕ, suc, Option, Some, None, option_map, if◌then◌else◌, Bool, true, false, not, ◌&&◌, ◌||◌, List, [], ◌∷◌, map, refl, slice_index_or}
+use Rattle.std.specs.Prelude.{◌≡◌, ℕ, suc, Option, Some, None, IfSome, option_map, if◌then◌else◌, Bool, true, false, not, ◌&&◌, ◌||◌, List, [], ◌∷◌, map, All, refl, slice_index_or}
+use Rattle.std.specs.List.{list_all}
+use Rattle.std.specs.Char.{is_ascii_uppercase}
 use Rattle.std.specs.Ordering.{nat_cmp}
 use Rattle.std.specs.Cmp.Lexicographic.{slice_cmp}
-use Rattle.std.specs.FinMap.{FinMap, empty, code as map_code}
+use Rattle.std.specs.FinMap.{FinMap, get, empty, code as map_code}
 use Rattle.std.specs.Coded.{Coded, code_by, coded×, coded_ℕ, coded_list}
-use Rattle.ht_values.specs.Text.{same}
-use Rattle.externals.specs.Cells.{Seen, coded_seen, none_seen}
+use Rattle.ht_values.specs.Text.{IsText, same}
+use Rattle.externals.specs.Cells.{Seen, coded_seen, none_seen, IsExternal}
 use Rattle.object_table.specs.Content.{Content, coded_content}
 use Rattle.object_table.specs.WellFormed.{IsWellFormed}
 use Rattle.object_table.specs.Objects.{has_kind, is_card}
@@ -56,9 +58,25 @@ are_apart (n ∷ ns) = not (has_name n ns) && are_apart ns
 abbrev pub first_state : Content → List Seen → State
 first_state stack externals = record { stack = stack; globals = empty; current = slice_index_or stack.cards 0 0; externals = externals }
 
--- what holds of each state: the stack is well formed, the current card is a card of it, and no two externals
--- have names that are the same
+-- whether no byte of the name is one of A-Z
+abbrev pub is_folded : List ℕ → Bool
+is_folded name = list_all (λ b. not (is_ascii_uppercase b)) name
+
+-- what holds of a global: its name is a folded text, and its value is a text
+pub record IsGlobal (n v : List ℕ) : Type 0 where
+  pub folded : is_folded n ≡ true
+  pub name : IsText n
+  pub value : IsText v
+
+-- this holds of each name with its value
+abbrev pub AreGlobals : Globals → Type 0
+AreGlobals m = (name : List ℕ) → IfSome (get m name) (λ value. IsGlobal name value)
+
+-- what holds of each state: the stack is well formed, the globals have folded names and are texts, the current
+-- card is a card of the stack, and the externals are as their kinds fix it, no two with names that are the same
 pub record IsState (s : State) : Type 0 where
   pub stack : IsWellFormed s.stack
+  pub globals : AreGlobals s.globals
   pub current : has_kind is_card s.stack s.current ≡ true
-  pub externals : are_apart (titles_of s.externals) ≡ true
+  pub externals : All IsExternal s.externals
+  pub apart : are_apart (titles_of s.externals) ≡ true

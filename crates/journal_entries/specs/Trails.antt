@@ -1,5 +1,5 @@
 -- What the entries of a batch replace, the latest first.
-use Rattle.std.specs.Prelude.{◌≡◌, ℕ, ◌+◌, Bool, true, false, ◌||◌, List, [], ◌∷◌, if◌then◌else◌}
+use Rattle.std.specs.Prelude.{◌≡◌, ℕ, ◌+◌, ◌*◌, ◌≤◌, Bool, true, false, ◌||◌, List, [], ◌∷◌, length, if◌then◌else◌}
 use Rattle.std.specs.List.{list_any}
 use Rattle.journal_entries.specs.Places.{Place, same_place}
 
@@ -35,3 +35,18 @@ abbrev pub AreAmong : List Place → List Mark → Type 0
 AreAmong places [] = Unit {0}
 AreAmong places (structural ∷ trail) = AreAmong places trail
 AreAmong places (at p ∷ trail) = (list_any (same_place p) places ≡ true) × AreAmong places trail
+
+-- the places of a trail
+abbrev pub places_in : List Mark → List Place
+places_in [] = []
+places_in (structural ∷ trail) = places_in trail
+places_in (at p ∷ trail) = p ∷ places_in trail
+
+-- how many different places these are: one that is the same as a later one isn't counted
+abbrev pub different : List Place → ℕ
+different [] = 0
+different (p ∷ ps) = if list_any (same_place p) ps then different ps else different ps + 1
+
+-- where s of the entries are structural, they are at most s + (s + 1) * p
+abbrev pub IsShort : List Mark → ℕ → Type 0
+IsShort trail p = length trail ≤ structural_count trail + (structural_count trail + 1) * p

@@ -25,10 +25,15 @@ pub fn law_of_texts(change: &Change)
     ensures { HasTexts change.now }
 {
     match change {
+        Change::Global(name, value) => {
+            law_of_text(name);
+            if let Some(text) = value {
+                law_of_text(text);
+            }
+        }
         Change::FieldText(_, _, text)
         | Change::Prop(_, PropValue::NameIs(text))
         | Change::Prop(_, PropValue::ScriptIs(text)) => law_of_text(text),
-        Change::Global(_, _) | Change::Hilite(_, _, _) | Change::Prop(_, _) | Change::Current(_) =>
-            {}
+        Change::Hilite(_, _, _) | Change::Prop(_, _) | Change::Current(_) => {}
     }
 }

@@ -13,7 +13,7 @@ pub use batch::Batch;
 pub use change::{Change, law_of_texts};
 pub use entry::Entry;
 pub use globals::Globals;
-pub use laws::law_of_trails;
+pub use laws::{law_of_externals, law_of_trails};
 pub use names::{are_apart, index_of};
 pub use present::Present;
 

@@ -3,10 +3,10 @@
 ghost use Rattle.std.specs.Prelude.{◌≡◌, ℕ, ◌<◌, List, [], ◌∷◌, ◌++◌, length, ◌+◌, true, take, drop, IfOk, IfErr, OnErr, OnOk, slice_index_or, slice_get, Some, option_copied, map};
 ghost use Rattle.std.specs.FinMap as finite;
 ghost use Rattle.externals.specs.Cells.{IsPatch};
-ghost use Rattle.journal_entries.specs.State.{seen_by, seen_at, first_state, titles_of, has_name as has_title, index_of as index_of_title};
+ghost use Rattle.journal_entries.specs.State.{seen_by, seen_at, first_state, titles_of, has_name as has_title, index_of as index_of_title, is_folded as is_folded_name};
 ghost use Rattle.object_table.specs.Objects.{has_kind, is_card as is_card_kind};
 ghost use Rattle.journal_entries.specs.Named.{listed, Lists};
-ghost use Rattle.journal_entries.specs.Changes.{fits, is_folded as is_folded_name};
+ghost use Rattle.journal_entries.specs.Changes.{fits};
 ghost use Rattle.journal_entries.specs.Exchange.{exchanged, taken, back, back_taken, forth, forth_taken, shape_of, IsReady, AreReady};
 ghost use Rattle.journal_entries.specs.Turning.{Grows, Prepares, Turns, one_more_at};
 
@@ -243,10 +243,11 @@ impl<E: External> Present<E> {
         }
     }
 
-    /// Takes out the i-th external, from 0.
+    /// Takes out the i-th external, from 0, as it is: it takes no turn.
     pub fn unplug(&mut self, i: usize) -> E
         requires { i < length self.old.state.externals }
         ensures seen { seen_by E.title E.sort E.answers_calls E.cells result ≡ seen_at self.old.state i }
+        ensures turns { E.turn_count result ≡ slice_index_or self.old.turns i 0 }
         ensures held { self.new ≡ record self.old {
           state = record self.old.state { externals = take i self.old.state.externals ++ drop (i + 1) self.old.state.externals };
           turns = take i self.old.turns ++ drop (i + 1) self.old.turns;

@@ -1,5 +1,6 @@
 use crate::{
-    Batch, Change, Entry, Globals, Present, are_apart, index_of, law_of_texts, law_of_trails,
+    Batch, Change, Entry, Globals, Present, are_apart, index_of, law_of_externals, law_of_texts,
+    law_of_trails,
 };
 use externals::{Ask, External, Input, Patch, Texts};
 use ht_values::Text;
@@ -107,6 +108,7 @@ fn numbers_names(rt: HostRuntime) -> Result<(), Fail> {
 fn names_of_externals(rt: HostRuntime) -> Result<(), Fail> {
     let alloc = rt.alloc();
     let two = mutes(alloc, &[b"a".as_slice(), b"b".as_slice()])?;
+    law_of_externals(&two);
     assert!(rt; are_apart(&two));
     assert_eq!(rt; index_of(&two, &text(alloc, b"B")?), Some(1));
     assert_eq!(rt; index_of(&two, &text(alloc, b"c")?), None);

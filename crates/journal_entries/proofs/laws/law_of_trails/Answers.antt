@@ -1,5 +1,5 @@
-use Rattle.journal_entries.proofs.Trails.{length-trail}
+use Rattle.journal_entries.proofs.Trails.{short}
 use Rattle.journal_entries.proofs.laws.law_of_trails.Goals as goal
 
 pub returns : goal.returns
-returns c = length-trail
+returns c = short

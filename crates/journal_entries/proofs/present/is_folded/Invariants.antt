@@ -1,5 +1,5 @@
 use Rattle.std.proofs.Common.{◌≡◌, drop}
-use Rattle.journal_entries.specs.Changes.{is_folded}
+use Rattle.journal_entries.specs.State.{is_folded}
 use Rattle.journal_entries.proofs.present.is_folded.Given as goal
 
 abbrev pub invariant-loop-byte : goal.invariant-loop-byte

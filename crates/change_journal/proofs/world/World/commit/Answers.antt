@@ -1,4 +1,7 @@
-use Rattle.std.proofs.Common.{◌≡◌, ◌++◌, [], ◌∷◌, Some, length, take, ap, ◌∙◌, arith}
+use Rattle.std.proofs.Common.{◌≡◌, ◌++◌, [], ◌∷◌, Some, IfSome, length, take, ap, subst, ◌∙◌, arith}
+use Rattle.journal_entries.specs.Exchange.{trail_of}
+use Rattle.journal_entries.specs.Trails.{IsShort, different, places_in}
+use Rattle.journal_entries.proofs.Trails.{short-own}
 use Rattle.change_journal.specs.History.{committed}
 use Rattle.change_journal.specs.Batches.{history_of, newest, oldest_of}
 use Rattle.change_journal.proofs.Book.{book}
@@ -27,3 +30,12 @@ returns-in-Some-clause-history g c =
     let count : c.len-self-inside.result ≡ length (newest w.depth (take w.cursor w.batches.items ++ lot ∷ [])) = omega (arith, c.len-self-inside.ensures, ap length items) in
     let before : history_of b (Some lot) ≡ c.args.self.now.history = ap (history_of b) c.in-Some.ensures.value ∙ ap (λ j. j.history) c.self.view_is in
     rw (c.in-Some.ensures.after, items, oldest, count) (history-committed b lot c.self.invariant.within c.self.invariant.few ∙ ap committed before)
+
+pub returns-in-Some-clause-short : goal.returns-in-Some-clause-short
+returns-in-Some-clause-short g c =
+    let w = c.self.inside in
+    let b = book w.present w.oldest w.depth w.batches.items w.cursor in
+    let lot = c.in-Some.batch in
+    let sound = rw (← c.in-Some.ensures.value) at c.self.invariant in
+    let before : history_of b (Some lot) ≡ c.args.self.now.history = ap (history_of b) c.in-Some.ensures.value ∙ ap (λ j. j.history) c.self.view_is in
+    subst (λ h. IfSome h.start (λ o. IsShort o.trail (different (places_in o.trail)))) before (short-own (trail_of w.present.names lot.entries) sound.history.start.1)

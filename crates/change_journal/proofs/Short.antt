@@ -1,0 +1,32 @@
+-- How many entries the batch of a line has, by the places that it replaced.
+use Rattle.std.proofs.Common.{◌≡◌, true, false, if◌then◌else◌, List, [], ◌∷◌}
+use Rattle.std.specs.List.{list_any}
+use Rattle.journal_entries.specs.Places.{Place, same_place}
+use Rattle.journal_entries.specs.Replaced.{Replacement, places_of}
+use Rattle.journal_entries.specs.Trails.{Mark, at, holds, marked, IsOnce, AreAmong, IsShort, different}
+use Rattle.journal_entries.proofs.Trails.{short, or_left, or_right, same_place-same}
+use Rattle.change_journal.specs.Rising.{trail_after}
+
+-- each place that is replaced is one of these
+abbrev pub AreOf : List Place → List Replacement → Type 0
+AreOf ps [] = Unit {0}
+AreOf ps (r ∷ rs) = (list_any (same_place r.place) ps ≡ true) × AreOf ps rs
+
+of-more : (p : Place) (ps : List Place) (rs : List Replacement) → AreOf ps rs → AreOf (p ∷ ps) rs
+of-more p ps [] h = tt
+of-more p ps (r ∷ rs) h = (or_right (same_place r.place p) (list_any (same_place r.place) ps) h.0, of-more p ps rs h.1)
+
+pub of-own : (rs : List Replacement) → AreOf (places_of rs) rs
+of-own [] = tt
+of-own (r ∷ rs) = (or_left (same_place r.place r.place) (list_any (same_place r.place) (places_of rs)) (same_place-same r.place), of-more r.place (places_of rs) rs (of-own rs))
+
+among-marked : (ps : List Place) (p : Place) (trail : List Mark) → list_any (same_place p) ps ≡ true → AreAmong ps trail → AreAmong ps (marked p trail)
+among-marked ps p trail one h = elim (holds p trail) as (λ b. AreAmong ps (if b then trail else at p ∷ trail)) [ true ↦ h | false ↦ (one, h) ]
+
+pub among-after : (ps : List Place) (rs : List Replacement) (trail : List Mark) → AreOf ps rs → AreAmong ps trail → AreAmong ps (trail_after rs trail)
+among-after ps [] trail of h = h
+among-after ps (r ∷ rs) trail of h = among-after ps rs (marked r.place trail) of.1 (among-marked ps r.place trail of.0 h)
+
+-- the trail of what was replaced has few entries for its different places
+pub short-after : (rs : List Replacement) (trail : List Mark) → trail ≡ trail_after rs [] → IsOnce trail → IsShort trail (different (places_of rs))
+short-after rs trail is once = short trail (places_of rs) once (rw is (among-after (places_of rs) rs [] (of-own rs) tt))
