@@ -121,8 +121,7 @@ module _ (old : Standing) (read written : List ℕ) (now : Standing) (pending : 
   ended_one reply new few short s =
       let whole : read ++ 10 ∷ [] ≡ ended_lines r.lines ++ (r.rest ++ 10 ∷ []) = ap (λ (t : List ℕ). t ++ 10 ∷ []) r.splits.whole ∙ append_assoc (ended_lines r.lines) r.rest (10 ∷ []) in
       let size : length (read ++ 10 ∷ []) ≡ length (ended_lines r.lines ++ (r.rest ++ 10 ∷ [])) = ap length whole in
-      let one : length (read ++ 10 ∷ []) ≡ length read + 1 = length-append read (10 ∷ []) in
-      (
+      let one : length (read ++ 10 ∷ []) ≡ length read + 1 = length-append read (10 ∷ []) in (
         record {
           lines = r.lines;
           bytes = r.rest ++ 10 ∷ [];
@@ -244,8 +243,7 @@ module _ (old : Standing) (read written : List ℕ) (now : Standing) (pending : 
 one_more_behind : (old : Standing) (read text : List ℕ) (reply : Reply) (new : Standing) (more : List ℕ) (o : OneMore TakesLine ⊥ old read text reply new) → length o.ahead ≤ 0 → length more < 4096
     → (p : OneMore TakesLine ⊥ old (read ++ more) text reply new) × (length p.ahead ≤ length more)
 one_more_behind old read text reply new more o none close =
-    let size : length (o.ahead ++ more) ≡ length o.ahead + length more = length-append o.ahead more in
-    (
+    let size : length (o.ahead ++ more) ≡ length o.ahead + length more = length-append o.ahead more in (
       record {
         lines = o.lines;
         bytes = o.bytes;
@@ -283,4 +281,3 @@ block_parts read block i lt =
 
 pub block_more : (read block : List ℕ) (i : ℕ) → i < length block → (read ++ take i block) ++ (get_or block i 0 ∷ []) ≡ read ++ take (i + 1) block
 block_more read block i lt = append_assoc read (take i block) (get_or block i 0 ∷ []) ∙ ap (λ (t : List ℕ). read ++ t) (rw add-one (sym (take-suc block i 0 lt)))
-

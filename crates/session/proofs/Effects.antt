@@ -16,6 +16,7 @@ use Rattle.journal_entries.specs.Replaced.{replaced_by}
 use Rattle.journal_entries.specs.declared.change.Change.{Change}
 use Rattle.change_journal.specs.History.{History, Open, begun, committed, rolled_back}
 use Rattle.change_journal.specs.Rising.{Made, Rises, BothOpen, trail_after}
+use Rattle.change_journal.proofs.Short.{short-after}
 use Rattle.journal_entries.specs.Trails.{IsOnce}
 use Rattle.session.specs.Commands.{Statement}
 use Rattle.session.specs.Meaning.{effect, replaced_of, after_change}
@@ -66,6 +67,7 @@ adds_nothing statement number old ending new is once joined = record {
   forth = omega arith;
   trail = refl;
   once = once;
+  few = short-after [] [] refl once;
   joined = joined;
 }
 
@@ -102,6 +104,7 @@ adds_change statement number old change ending made new is m once joined =
       forth = omega (arith, b.2.redo);
       trail = b.2.trail;
       once = rw b.1 at once;
+      few = short-after (replaced_by old.now change) b.0.trail b.2.trail (rw b.1 at once);
       joined = joined ∙ ap committed (m.history ∙ ap (λ (s : Option Open). record old { now = changed old.now change; start = s }) b.1);
     }
 

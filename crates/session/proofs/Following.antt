@@ -125,9 +125,9 @@ position-cons p x xs =
     elim (p x) as (λ b. cond (nat_lt (cond (not b) (1 + n) 0) (suc (length xs))) (Some (cond (not b) (1 + n) 0)) None ≡ cond b (Some 0) (option_map suc (position p xs))) [
       | true ↦ ap (λ (here : Bool). cond here (Some 0) None) (lt-ltb 0 (suc (length xs)) (omega arith))
       | false ↦ elim (cases_lt n (length xs)) [
-          | inl lt ↦ rw (lt-ltb n (length xs) lt, lt-ltb (1 + n) (suc (length xs)) (omega arith)) (ap Some (let e : 1 + n ≡ suc n = omega arith in e))
-          | inr ge ↦ rw (le-ltb n (length xs) ge, le-ltb (1 + n) (suc (length xs)) (omega arith)) refl
-        ]
+        | inl lt ↦ rw (lt-ltb n (length xs) lt, lt-ltb (1 + n) (suc (length xs)) (omega arith)) (ap Some (let e : 1 + n ≡ suc n = omega arith in e))
+        | inr ge ↦ rw (le-ltb n (length xs) ge, le-ltb (1 + n) (suc (length xs)) (omega arith)) refl
+      ]
     ]
 
 last-snoc : (n : ℕ) (ys : List Snapshot) (y : Snapshot) → last_numbered n (ys ++ y ∷ []) ≡ cond (nat_le y.number n) (Some (length ys)) (last_numbered n ys)
@@ -231,7 +231,7 @@ module _ (lines steps : ℕ) where
       let same : numbered ≡ added = ap (λ (n : ℕ). let x : Snapshot = record { state = a.state; number = n } in x) a.numbered in
       let size : length (take old.depth (step ∷ old.past)) ≡ min old.depth (length old.past + 1) = length-take old.depth (step ∷ old.past) ∙ ap (min old.depth) (let one : length (step ∷ old.past) ≡ length old.past + 1 = omega arith in one) in
       let all : reverse (snapshots_of (take old.depth (step ∷ old.past))) ++ numbered ∷ [] ≡ drop (length old.past + 1 - old.depth) (take (length old.past + 1) (all_snapshots old) ++ added ∷ []) =
-          ap (λ (s : Snapshot). reverse (snapshots_of (take old.depth (step ∷ old.past))) ++ s ∷ []) same ∙ joined_list old.depth old step added is in
+      ap (λ (s : Snapshot). reverse (snapshots_of (take old.depth (step ∷ old.past))) ++ s ∷ []) same ∙ joined_list old.depth old step added is in
       record {
         replaced = a.replaced;
         after = a.state;

@@ -151,8 +151,7 @@ module _ {S : Type 0} (takes : List ℕ → S → Reply → S → Type 0) where
       let front = lines ++ e.before ∷ [] in
       let behind = map without_return others.0 ++ last_line others.1 in
       let is : bytes ++ ahead ≡ (e.before ++ 10 ∷ []) ++ ahead = ap (λ (t : List ℕ). t ++ ahead) e.whole in
-      let taken : takes (without_return e.before) mid reply new = subst (λ (t : List ℕ). takes t mid reply new) e.taken step in
-      (
+      let taken : takes (without_return e.before) mid reply new = subst (λ (t : List ℕ). takes t mid reply new) e.taken step in (
         all_lines (front ++ others.0) others.1,
         record {
           ended = front ++ others.0;
@@ -169,7 +168,7 @@ module _ {S : Type 0} (takes : List ℕ → S → Reply → S → Type 0) where
           all = refl;
         },
         subst (λ (ls : List (List ℕ)). Session takes old ls (text ++ answer reply) new) (sym (regrouped lines e.before others.0 (last_line others.1)))
-        (Session-after old (map without_return lines) (without_return e.before ∷ behind) text (answer reply) mid new before (Session-quit mid (without_return e.before) behind reply new taken quits)),
+            (Session-after old (map without_return lines) (without_return e.before ∷ behind) text (answer reply) mid new before (Session-quit mid (without_return e.before) behind reply new taken quits)),
       )
 
   -- the input ended it
@@ -186,7 +185,7 @@ module _ {S : Type 0} (takes : List ℕ → S → Reply → S → Type 0) where
           all = refl;
         },
         subst (λ (ls : List (List ℕ)). Session takes old (map without_return lines ++ ls) (text ++ answer reply) new) (sym (last_line-some bytes e.some))
-        (Session-after old (map without_return lines) (bytes ∷ []) text (answer reply) mid new before (Session-quit mid bytes [] reply new taken quits)),
+            (Session-after old (map without_return lines) (bytes ∷ []) text (answer reply) mid new before (Session-quit mid bytes [] reply new taken quits)),
       )
 
   quit_lines : (ends : Type 0) (old : S) (read written : List ℕ) (new : S) → Quits takes ends old read written new

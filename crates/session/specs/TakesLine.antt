@@ -1,8 +1,8 @@
 -- How a session takes a line.
 use Rattle.std.specs.Prelude.{◌≡◌, ◌⊎◌, ℕ, ◌≤◌, List, [], ◌∷◌, length, decimal, Option, Some, None, nat_lt, MatchBool}
 use Rattle.journal_entries.specs.State.{State}
-use Rattle.journal_entries.specs.Replaced.{Replacement, back_weight, forth_weight}
-use Rattle.journal_entries.specs.Trails.{IsOnce}
+use Rattle.journal_entries.specs.Replaced.{Replacement, places_of, back_weight, forth_weight}
+use Rattle.journal_entries.specs.Trails.{IsOnce, IsShort, different}
 use Rattle.change_journal.specs.History.{History, Open, committed}
 use Rattle.change_journal.specs.Rising.{trail_after}
 use Rattle.session.specs.Commands.{Statement, Said, run, undo, redo, undo_to, show, globals, current_card, history, quit, said}
@@ -15,7 +15,8 @@ use Rattle.session.specs.declared.reply.Ending.TheVariants as endings
 use Rattle.session.specs.declared.reply.Reply.{Reply}
 
 -- A fresh command adds the state that it leaves, in place of all after the cursor. The step to it weighs no more
--- than what the command replaced, and has each place once between what is made, removed or an external's.
+-- than what the command replaced, and has each place once between what is made, removed or an external's: so with s
+-- such entries it has at most s + (s + 1) * p entries, where p is how many different places were replaced.
 pub record Adds (statement : Statement) (number : ℕ) (old : History) (reply : Reply) (new : History) : Type 0 where
   pub replaced : List Replacement
   pub state : State
@@ -28,6 +29,7 @@ pub record Adds (statement : Statement) (number : ℕ) (old : History) (reply : 
   pub forth : batch.redo ≤ forth_weight replaced
   pub trail : batch.trail ≡ trail_after replaced []
   pub once : IsOnce batch.trail
+  pub few : IsShort batch.trail (different (places_of replaced))
   pub joined : new ≡ committed (record old { now = state; start = Some batch })
 
 -- what a line does by what it says, given its number

@@ -14,9 +14,7 @@ mod session;
 pub use change_journal::PlugError;
 pub use conversation::{Ran, RunFault, run};
 pub use fault::OpenError;
-pub use law::{
-    lines_follow, moves_follow, opens_follow, plugs_follow, runs_follow, stops_follow,
-};
+pub use law::{lines_follow, moves_follow, opens_follow, plugs_follow, runs_follow, stops_follow};
 pub use reply::{Bytes, Ending, Line, Message, Refusal, Reply, Sent, Shown};
 pub use session::{LONGEST_LINE, Session};
 

@@ -1,6 +1,6 @@
 //! A session: a world, and the lines that it takes.
 
-ghost use Rattle.std.specs.Prelude.{◌≡◌, ◌≤◌, ◌==◌, ◌⊎◌, [], ◌∷◌, length, true, OnOk, OnErr, IfOk, IfErr, IsErr, IsErrOf, IsOk, MatchBool, Some, None, map, option_map};
+ghost use Rattle.std.specs.Prelude.{◌≡◌, ◌≤◌, ◌==◌, ◌⊎◌, [], ◌∷◌, length, true, OnOk, OnErr, IfOk, IfErr, IsErr, IsErrOf, IsOk, MatchBool, Some, None, map, option_map, slice_index_or};
 ghost use Rattle.object_table.specs.WellFormed.{IsWellFormed};
 ghost use Rattle.journal_entries.specs.State.{seen_by, seen_at, titles_of, has_name, index_of};
 ghost use Rattle.change_journal.specs.History.{plugged, unplugged};
@@ -189,12 +189,16 @@ impl<E: External> Session<E> {
         self.world.plug(external)
     }
 
-    /// Takes out the external whose name is the same, and hands it out. The history is then the present
-    /// state alone, which keeps its number. Where no external has the name nothing changes.
+    /// Takes out the external whose name is the same, and hands it out as it is: it takes no turn. The
+    /// history is then the present state alone, which keeps its number. Where no external has the name
+    /// nothing changes.
     pub fn unplug(&mut self, name: &Text) -> Option<E>
         ensures history { self.new ≡ record self.old { history = unplugged name.now self.old.history } }
         ensures external { option_map (seen_by E.title E.sort E.answers_calls E.cells) result
             ≡ option_map (seen_at self.old.history.now)
+            (index_of name.now (titles_of self.old.history.now.externals)) }
+        ensures turns { option_map E.turn_count result
+            ≡ option_map (λ i. slice_index_or self.old.history.turns i 0)
             (index_of name.now (titles_of self.old.history.now.externals)) }
     {
         self.world.unplug(name)

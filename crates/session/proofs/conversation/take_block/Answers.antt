@@ -66,7 +66,7 @@ returns-then-branch-clause-ok g c =
       λ start read written r.
           parted (λ (t u : List ℕ). (q : Quits TakesLine ⊥ start t u new) × (length q.taken.ahead ≤ 4095)) read block i written inv.0 h.0 lt
           (let q = Quits-more start ((read ++ take i block) ++ (get_or block i 0 ∷ [])) ((written ++ inv.0) ++ h.0) new (drop (i + 1) block) close
-              (h.2 start (read ++ take i block) (written ++ inv.0) (inv.2 start read written r)) in
+          (h.2 start (read ++ take i block) (written ++ inv.0) (inv.2 start read written r)) in
           (q.0, omega (arith, q.1, close))),
     )
 
