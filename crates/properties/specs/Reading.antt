@@ -1,5 +1,5 @@
 -- The properties of objects, as texts.
-use Rattle.std.specs.Prelude.{ℕ, Bool, true, false, List, decimal, Option, Some, None, Result, Ok, Err}
+use Rattle.std.specs.Prelude.{ℕ, zero, suc, Bool, true, false, List, decimal, Option, Some, None, Result, Ok, Err}
 use Rattle.ht_values.specs.Operators.{in_words}
 use Rattle.ht_values.specs.Outcome.{and_then, within_limit}
 use Rattle.ht_values.specs.declared.fault.Fault.{Fault}
@@ -26,11 +26,16 @@ abbrev pub kept : {A : Type 0} → Option A → Result A Fault
 kept None = Err NoSuchObject
 kept (Some x) = Ok x
 
+-- a card's own hilite of a button; 0 is no card, under it stands the shared one
+abbrev pub own_hilite : Content → ℕ → ℕ → Option Bool
+own_hilite s zero id = None
+own_hilite s (suc card) id = hilite_at s id (suc card)
+
 -- the hilite of a button: of a background's button the shared one, or else the one of this card
 abbrev pub hilite_for : Content → ℕ → ℕ → Kind → Result Bool Fault
 hilite_for s card id (CardButton v lit) = Ok lit
 hilite_for s card id (BackgroundButton v true) = kept (hilite_at s id 0)
-hilite_for s card id (BackgroundButton v false) = kept (hilite_at s id card)
+hilite_for s card id (BackgroundButton v false) = kept (own_hilite s card id)
 hilite_for s card id _ = Err NoSuchProperty
 
 -- a number, or that there is none

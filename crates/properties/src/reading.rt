@@ -12,10 +12,10 @@ use itoa::Buffer;
 use object_table::{Id, Kind, Object, Stack};
 use std::alloc::Global;
 
-/// The text of a property of the object with an id; `card` is the card whose hilite is meant where the object is a
-/// background's button that shares none. A fault is `NoSuchProperty` where there is no such object or it has no such
-/// property, `NoSuchObject` where the card isn't of the button's background, and `TooLong` for a name that with its
-/// kind is over 30,000 bytes; else it is `Memory` where a growth was refused.
+/// The text of a property of the object with an id; `card` is the card whose hilite is meant if the object is a
+/// background's button that shares none. A fault is `NoSuchProperty` if there is no such object or it has no such
+/// property, `NoSuchObject` if the card isn't of the button's background (0 is no card), and `TooLong` for a name that
+/// with its kind is over 30,000 bytes; else it is `Memory` if a growth was refused.
 pub fn get(alloc: Global, stack: &Stack, card: Id, id: Id, prop: Prop) -> Result<Text, Failure>
     ensures { Gives result (properties.property_of stack.now.content card id prop) }
 {
@@ -79,13 +79,28 @@ fn hilite(stack: &Stack, card: Id, id: Id, kind: Kind) -> Result<bool, Fault>
     match kind {
         Kind::CardButton { hilite, .. } => Ok(hilite),
         Kind::BackgroundButton { shared_hilite, .. } => {
-            let kept = if shared_hilite { 0 } else { card };
-            stack.hilite(id, kept).ok_or(Fault::NoSuchObject)
+            let kept = if shared_hilite {
+                stack.hilite(id, 0)
+            } else {
+                own_hilite(stack, card, id)
+            };
+            kept.ok_or(Fault::NoSuchObject)
         }
         Kind::Stack
         | Kind::Background { .. }
         | Kind::Card { .. }
         | Kind::CardField { .. }
         | Kind::BackgroundField { .. } => Err(Fault::NoSuchProperty),
+    }
+}
+
+/// A card's own hilite of a button. Id 0 is no card: under it stands the hilite that is shared.
+fn own_hilite(stack: &Stack, card: Id, id: Id) -> Option<bool>
+    ensures { result ≡ properties.own_hilite stack.now.content card id }
+{
+    if card == 0 {
+        None
+    } else {
+        stack.hilite(id, card)
     }
 }

@@ -267,6 +267,7 @@ fn a_hilite_is_shared_or_the_one_of_the_card(rt: HostRuntime) -> Result<(), Fail
     assert!(rt; reads(rt.alloc(), &stack, 6, Prop::SharedHilite, b"false"));
     assert!(rt; reads(rt.alloc(), &stack, 6, Prop::Hilite, b"false"));
     assert!(rt; faults(rt.alloc(), &stack, 4, 6, Prop::Hilite, Fault::NoSuchObject));
+    assert!(rt; faults(rt.alloc(), &stack, 0, 6, Prop::Hilite, Fault::NoSuchObject));
     Ok(())
 }
 

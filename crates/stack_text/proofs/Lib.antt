@@ -8,6 +8,9 @@ pub mod Elements
 pub mod Entries
 pub mod Flags
 pub mod Forms
+pub mod Fronts
+pub mod Faults
+pub mod LocalForms
 pub mod Ids
 pub mod Keepers
 pub mod KeptIds

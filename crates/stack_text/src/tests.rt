@@ -50,4 +50,7 @@ fn the_laws_hold(_rt: HostRuntime) {
     law::written_is_read();
     law::read_is_written();
     law::reads_again();
+    law::fault_is_of_its_line();
+    law::prefix_is_truncated();
+    law::more_is_bad_line();
 }
