@@ -1,17 +1,33 @@
 //! A stack's session over standard input and output: `card_cli STACK [--steps N] [--depth D] [--watch]`.
 #![tactic(auto)]
 
-use command_line::{CliFault, Words, cut, play, verdict, words_of};
+use command_line::{CliFault, MOST_OF_STACK, Words, bytes_of, cut, play, verdict, words_of};
 use externals::External;
 use stack_file::Watched;
-use std::io::{ErrorKind, Lock, Write};
+use std::env;
+use std::fs::File;
+use std::io::{Error, ErrorKind, Lock, Write};
 use std::process::ExitCode;
-use std::{env, fs};
+
+/// What is told where a word of the program is no text.
+const NO_TEXT: &[u8] = b"card_cli: a word is not UTF-8 text";
+
+/// The fault for an error of the outside: `Memory` where it is want of memory, or else this one.
+fn fault_of(error: Error, other: CliFault) -> CliFault {
+    match error.kind() {
+        ErrorKind::OutOfMemory => CliFault::Memory,
+        _ => other,
+    }
+}
 
 /// The words behind the program's name, and that name first.
 fn words(rt: &HostRuntime) -> Result<Words, CliFault> {
-    let Ok(args) = env::args(rt) else {
-        return Err(CliFault::Memory);
+    let args = match env::args(rt) {
+        Ok(args) => args,
+        Err(error) => {
+            let usage = CliFault::Usage(cut(rt.alloc(), NO_TEXT)?);
+            return Err(fault_of(error, usage));
+        }
     };
     let mut given = Vec::new(rt.alloc());
     for arg in args {
@@ -20,15 +36,22 @@ fn words(rt: &HostRuntime) -> Result<Words, CliFault> {
     words_of(rt.alloc(), given.as_slice())
 }
 
+/// The file of the stack. One whose size is known to be over the limit can't be read.
+fn opened(rt: &HostRuntime, path: &str) -> Result<File, Error> {
+    let file = File::open(rt, path)?;
+    if file.metadata()?.len() > MOST_OF_STACK as u64 {
+        return Err(Error::from(ErrorKind::FileTooLarge));
+    }
+    Ok(file)
+}
+
 /// Reads the stack and runs standard input to standard output.
 fn perform(rt: &HostRuntime, words: &Words) -> Result<(), CliFault> {
-    let bytes = match fs::read(rt, words.stack.as_str()) {
-        Ok(bytes) => bytes,
-        Err(error) if matches!(error.kind(), ErrorKind::OutOfMemory) => {
-            return Err(CliFault::Memory);
-        }
-        Err(_) => return Err(CliFault::CannotRead),
+    let file = match opened(rt, words.stack.as_str()) {
+        Ok(file) => file,
+        Err(error) => return Err(fault_of(error, CliFault::CannotRead)),
     };
+    let bytes = bytes_of(rt.alloc(), &mut Watched::new(file), MOST_OF_STACK)?;
     let externals: Vec<Box<dyn External>> = Vec::new(rt.alloc());
     let mut reader = Watched::new(rt.stdin().lock());
     let mut writer = Watched::new(rt.stdout().lock());

@@ -1,3 +1,4 @@
 pub mod Verdicts
 pub mod Words
 pub mod Plays
+pub mod StackBytes

@@ -1,15 +1,19 @@
-//! The program's words, a whole run over a reader and a writer, and the verdict on each fault that ends it.
+//! The program's words, the bytes of a stack, a whole run over a reader and a writer, and the verdict on each fault that ends it.
 #![tactic(auto)]
 
 mod fault;
 mod given;
 mod runs;
+mod stack_bytes;
 mod words;
 
 pub use fault::{CliFault, cut, verdict};
 pub use given::Words;
 pub use runs::play;
+pub use stack_bytes::{BytesFault, MOST_OF_STACK, bytes_of};
 pub use words::words_of;
 
+#[cfg(test)]
+mod stack_bytes_tests;
 #[cfg(test)]
 mod tests;
