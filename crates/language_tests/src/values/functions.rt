@@ -1,11 +1,6 @@
 //! What the functions of texts give.
 
-use crate::failure::Failure;
-use crate::fault::Fault;
-use crate::function::built_in;
-use crate::join::joined;
-use crate::operator::Func;
-use crate::text::{LIMIT, Text};
+use ht_values::{Failure, Fault, Func, LIMIT, Text, built_in, joined};
 use std::test::*;
 
 /// Each function gives this of its arguments, which `;` separates.

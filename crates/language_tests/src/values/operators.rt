@@ -1,12 +1,9 @@
 //! What operators give, by the table of the profile.
 
-use crate::failure::Failure;
-use crate::fault::Fault;
-use crate::logic::truth_of;
-use crate::number::{number_of, numeral, without_front_spaces};
-use crate::operator::{Op, UnOp, ValueType};
-use crate::text::{LIMIT, Text};
-use crate::value::{binary, in_word, unary};
+use ht_values::{
+    Failure, Fault, LIMIT, Op, Text, UnOp, ValueType, binary, in_word, number_of, numeral,
+    truth_of, unary, without_front_spaces,
+};
 use std::alloc::Global;
 use std::process::Abort;
 use std::test::*;

@@ -1,10 +1,9 @@
-//! Examples, with ample memory.
+//! Texts and their values.
 
 mod functions;
 mod operators;
 
-use crate::fault::{Fault, TextError};
-use crate::text::{LIMIT, Text, law_of_text, text_of};
+use ht_values::{Fault, LIMIT, Text, TextError, law_of_text, text_of};
 use std::test::*;
 
 #[test]
