@@ -13,6 +13,3 @@ pub use change::{delete, put, take};
 pub use chunk::{Chunk, Index, Kind, Span, Where};
 pub use law::{none_deleted, one_list, parts_cut, piece_is_put, pieces_stand, put_reads_back};
 pub use reading::{count, find};
-
-#[cfg(test)]
-mod tests;

@@ -18,6 +18,3 @@ pub use grammar::{Level, WHOLE};
 pub use reading::{arguments, chunk_head, field, part, read, reference, spot};
 pub use stop::{Stop, text_of};
 pub use word::{prop_front, run_prop};
-
-#[cfg(test)]
-mod tests;

@@ -12,6 +12,3 @@ pub use ht_values::PartKind;
 pub use key::{Constant, Key, Kind, Ordinal, Piece};
 pub use tokens::{LexError, Span, Token, Tokens};
 pub use word::{is_name, is_same};
-
-#[cfg(test)]
-mod tests;

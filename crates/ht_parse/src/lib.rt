@@ -12,6 +12,3 @@ mod word;
 
 pub use error::ParseError;
 pub use parse::{parse_expr, parse_lines, parse_message, parse_part, parse_script, parse_type};
-
-#[cfg(test)]
-mod tests;

@@ -10,6 +10,3 @@ pub use container::{Container, ContainerKind};
 pub use expr::{Chunk, Count, Expr, ExprKind, Exprs, Owner, Part, Ref, Spot, Which};
 pub use script::{Handler, Message, Script, Typing};
 pub use statement::{Goal, Head, Names, Stmt, StmtKind, Stmts};
-
-#[cfg(test)]
-mod tests;

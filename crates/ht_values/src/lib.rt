@@ -29,6 +29,3 @@ pub use operator::{Func, Op, UnOp, ValueType};
 pub use text::{LIMIT, Text, law_of_text, text_of};
 pub use value::{binary, in_word, unary};
 pub use word::{PartKind, Prop};
-
-#[cfg(test)]
-mod tests;

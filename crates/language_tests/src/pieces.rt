@@ -1,0 +1,319 @@
+//! The edges of chunks.
+
+use chunks::{Chunk, Index, Kind, Span, Where, count, delete, find, put, take};
+use ht_values::{Failure, Fault, LIMIT, Text};
+use std::alloc::Global;
+use std::test::*;
+
+/// The pieces of a kind from one number to another.
+fn pieces(kind: Kind, from: i64, to: i64) -> Chunk {
+    Chunk {
+        kind,
+        from: Index::At(from),
+        to: Index::At(to),
+    }
+}
+
+/// The last piece of a kind.
+fn last(kind: Kind) -> Chunk {
+    Chunk {
+        kind,
+        from: Index::Last,
+        to: Index::Last,
+    }
+}
+
+/// Whether the chunk reads this part.
+fn takes(
+    alloc: Global,
+    text: &[u8],
+    chunk: &Chunk,
+    delimiter: u8,
+    part: &[u8],
+) -> Result<bool, Fail> {
+    let text = Text::from_slice(alloc, text)?;
+    Ok(take(alloc, &text, chunk, delimiter)?.as_slice() == part)
+}
+
+/// Whether this is left when the chunk is deleted.
+fn leaves(alloc: Global, text: &[u8], chunk: &Chunk, left: &[u8]) -> Result<bool, Fail> {
+    let text = Text::from_slice(alloc, text)?;
+    Ok(delete(alloc, &text, chunk, b',')?.as_slice() == left)
+}
+
+/// Whether a put at the chunk makes this text.
+fn makes(
+    alloc: Global,
+    text: &[u8],
+    chunk: &Chunk,
+    place: Where,
+    new: &[u8],
+    whole: &[u8],
+) -> Result<bool, Fail> {
+    let text = Text::from_slice(alloc, text)?;
+    let new = Text::from_slice(alloc, new)?;
+    Ok(put(alloc, &text, chunk, place, &new, b',')?.as_slice() == whole)
+}
+
+/// Whether a put into the chunk has this fault.
+fn faults(alloc: Global, chunk: &Chunk, fault: Fault) -> Result<bool, Fail> {
+    let text = Text::from_slice(alloc, b"a")?;
+    let new = Text::from_slice(alloc, b"x")?;
+    let given = put(alloc, &text, chunk, Where::Into, &new, b',');
+    Ok(matches!(given, Err(Failure::Fault(given)) if given == fault))
+}
+
+/// Whether the text has so many pieces of the kind.
+fn has(alloc: Global, text: &[u8], kind: Kind, many: usize) -> Result<bool, Fail> {
+    let text = Text::from_slice(alloc, text)?;
+    Ok(count(&text, kind, b',') == many)
+}
+
+/// Whether the chunk is found from this byte up to that one, or nowhere.
+fn is_found(text: &Text, chunk: &Chunk, part: Option<(usize, usize)>) -> bool {
+    let part = part.map(|(start, after)| Span { start, after });
+    find(text, chunk, b',') == part
+}
+
+#[test]
+fn reads_of_pieces(rt: HostRuntime) -> Result<(), Fail> {
+    let rows: &[(&[u8], Kind, i64, i64, &[u8])] = &[
+        (b"a,b", Kind::Item, 2, 2, b"b"),
+        (b"  a  bb c ", Kind::Word, 2, 3, b"bb c"),
+        (b"a\rb", Kind::Line, 0, 0, b""),
+        (b"a\rb\rc", Kind::Line, -1, 2, b"a\rb"),
+        (b"abc", Kind::Char, 2, 9, b"bc"),
+        (b"abc", Kind::Char, 3, 2, b""),
+        (b"abc", Kind::Char, 4, 4, b""),
+        (
+            b"abc",
+            Kind::Char,
+            9_223_372_036_854_775_807,
+            9_223_372_036_854_775_807,
+            b"",
+        ),
+        (
+            b"abc",
+            Kind::Char,
+            -9_223_372_036_854_775_808,
+            9_223_372_036_854_775_807,
+            b"abc",
+        ),
+        (b"a,b,", Kind::Item, 3, 3, b""),
+        (b"a,b,", Kind::Item, 2, 3, b"b,"),
+        (b",a", Kind::Item, 1, 1, b""),
+        (b"a b\rc", Kind::Word, 2, 3, b"b\rc"),
+        (b"a,b;c", Kind::Item, 2, 2, b"b;c"),
+        (b"", Kind::Line, 1, 1, b""),
+    ];
+    for (text, kind, from, to, part) in rows {
+        let chunk = pieces(*kind, *from, *to);
+        assert!(rt;
+            takes(rt.alloc(), text, &chunk, b',', part)?,
+            "{text:?} {chunk:?}"
+        );
+    }
+    Ok(())
+}
+
+#[test]
+fn reads_of_the_last_piece(rt: HostRuntime) -> Result<(), Fail> {
+    let rows: &[(&[u8], Kind, &[u8])] = &[
+        (b"a bb ", Kind::Word, b"bb"),
+        (b"a;b", Kind::Item, b"b"),
+        (b"a;b;", Kind::Item, b""),
+        (b"", Kind::Item, b""),
+        (b"", Kind::Char, b""),
+        (b"  ", Kind::Word, b""),
+        (b"a\rb", Kind::Line, b"b"),
+        (b"abc", Kind::Char, b"c"),
+    ];
+    for (text, kind, part) in rows {
+        assert!(rt;
+            takes(rt.alloc(), text, &last(*kind), b';', part)?,
+            "{text:?} {kind:?}"
+        );
+    }
+    Ok(())
+}
+
+#[test]
+fn places_of_parts(rt: HostRuntime) -> Result<(), Fail> {
+    let rows: &[(&[u8], Kind, i64, i64, Option<(usize, usize)>)] = &[
+        (b"a,b,c", Kind::Item, 2, 7, Some((2, 5))),
+        (b"a,b,c", Kind::Item, 4, 7, None),
+        (b",", Kind::Item, 1, 1, Some((0, 0))),
+        (b"", Kind::Item, 1, 1, None),
+    ];
+    for (bytes, kind, from, to, span) in rows {
+        let chunk = pieces(*kind, *from, *to);
+        let text = Text::from_slice(rt.alloc(), bytes)?;
+        assert!(rt; is_found(&text, &chunk, *span), "{bytes:?} {chunk:?}");
+    }
+    Ok(())
+}
+
+#[test]
+fn counts_of_pieces(rt: HostRuntime) -> Result<(), Fail> {
+    let rows: &[(&[u8], Kind, usize)] = &[
+        (b",", Kind::Item, 2),
+        (b"", Kind::Item, 0),
+        (b"a", Kind::Item, 1),
+        (b"", Kind::Line, 0),
+        (b"\r", Kind::Line, 2),
+        (b"a\rb\r", Kind::Line, 3),
+        (b"  ", Kind::Word, 0),
+        (b" a\rb  c ", Kind::Word, 3),
+        (b"a,b c", Kind::Word, 2),
+        (b"abc", Kind::Char, 3),
+    ];
+    for (text, kind, many) in rows {
+        assert!(rt; has(rt.alloc(), text, *kind, *many)?, "{text:?} {kind:?}");
+    }
+    Ok(())
+}
+
+#[test]
+fn puts_at_pieces(rt: HostRuntime) -> Result<(), Fail> {
+    let rows: &[(&[u8], Kind, i64, i64, Where, &[u8], &[u8])] = &[
+        (b"a,b", Kind::Item, 4, 4, Where::Into, b"x", b"a,b,,x"),
+        (b"", Kind::Item, 3, 3, Where::Into, b"x", b",,x"),
+        (b"", Kind::Item, 1, 1, Where::Into, b"x", b"x"),
+        (b"", Kind::Line, 2, 2, Where::Into, b"x", b"\rx"),
+        (b"a", Kind::Line, 2, 5, Where::After, b"x", b"a\rx"),
+        (b"ab", Kind::Char, 5, 5, Where::Before, b"z", b"abz"),
+        (b"a", Kind::Word, 3, 3, Where::After, b"b", b"a b"),
+        (b"", Kind::Word, 3, 3, Where::Into, b"b", b"b"),
+        (b" ", Kind::Word, 1, 1, Where::Into, b"b", b"  b"),
+        (b"a,b,c", Kind::Item, 2, 9, Where::Before, b"x", b"a,xb,c"),
+        (b"a,b,c", Kind::Item, 2, 9, Where::Into, b"x", b"a,x"),
+        (b"a,b,c", Kind::Item, 1, 2, Where::After, b"x", b"a,bx,c"),
+        (b"a  b c", Kind::Word, 1, 2, Where::After, b"x", b"a  bx c"),
+        (b"a,b,", Kind::Item, 3, 3, Where::Into, b"x", b"a,b,x"),
+        (b"a,b,", Kind::Item, 4, 4, Where::Into, b"x", b"a,b,,x"),
+        (b"abc", Kind::Char, 2, 2, Where::Into, b"", b"ac"),
+    ];
+    for (text, kind, from, to, place, new, whole) in rows {
+        let chunk = pieces(*kind, *from, *to);
+        assert!(rt;
+            makes(rt.alloc(), text, &chunk, *place, new, whole)?,
+            "{chunk:?} {place:?}"
+        );
+    }
+    Ok(())
+}
+
+#[test]
+fn faults_of_puts(rt: HostRuntime) -> Result<(), Fail> {
+    let rows: &[(Kind, i64, i64, Fault)] = &[
+        (Kind::Item, 0, 0, Fault::BadArgument),
+        (Kind::Item, -1, 2, Fault::BadArgument),
+        (Kind::Item, 2, 1, Fault::BadArgument),
+        (Kind::Item, 30_001, 30_001, Fault::TooLong),
+        (
+            Kind::Line,
+            9_223_372_036_854_775_807,
+            9_223_372_036_854_775_807,
+            Fault::TooLong,
+        ),
+    ];
+    for (kind, from, to, fault) in rows {
+        let chunk = pieces(*kind, *from, *to);
+        assert!(rt; faults(rt.alloc(), &chunk, *fault)?, "{chunk:?}");
+    }
+    Ok(())
+}
+
+#[test]
+fn puts_at_the_last_piece(rt: HostRuntime) -> Result<(), Fail> {
+    let rows: &[(&[u8], &[u8])] = &[(b"", b"x"), (b"a,b", b"a,bx")];
+    for (text, whole) in rows {
+        let chunk = last(Kind::Item);
+        assert!(rt;
+            makes(rt.alloc(), text, &chunk, Where::After, b"x", whole)?,
+            "{text:?}"
+        );
+    }
+    Ok(())
+}
+
+#[test]
+fn a_put_fills_up_to_the_limit(rt: HostRuntime) -> Result<(), Fail> {
+    let none = Text::new(rt.alloc());
+    let new = Text::from_slice(rt.alloc(), b"x")?;
+    let far = pieces(Kind::Item, 30_000, 30_000);
+    let whole = put(rt.alloc(), &none, &far, Where::Into, &new, b',')?;
+    assert_eq!(rt; whole.len(), LIMIT);
+    Ok(())
+}
+
+#[test]
+fn deletes_of_pieces(rt: HostRuntime) -> Result<(), Fail> {
+    let rows: &[(&[u8], Kind, i64, i64, &[u8])] = &[
+        (b"a,b,c", Kind::Item, 3, 3, b"a,b"),
+        (b"a,b,c", Kind::Item, 1, 1, b"b,c"),
+        (b"a,b,c", Kind::Item, 2, 2, b"a,c"),
+        (b"a", Kind::Item, 1, 1, b""),
+        (b",", Kind::Item, 2, 2, b""),
+        (b",", Kind::Item, 1, 2, b""),
+        (b"a,b,", Kind::Item, 3, 3, b"a,b"),
+        (b"a b  c", Kind::Word, 2, 2, b"a c"),
+        (b"a b", Kind::Word, 2, 2, b"a "),
+        (b"a b\rc", Kind::Word, 2, 2, b"a \rc"),
+        (b"a\rb", Kind::Line, 1, 2, b""),
+        (b"ab", Kind::Char, 3, 3, b"ab"),
+        (b"abc", Kind::Char, 2, 2, b"ac"),
+        (b"a,b", Kind::Item, 0, 0, b"a,b"),
+        (b"", Kind::Word, 1, 1, b""),
+    ];
+    for (text, kind, from, to, left) in rows {
+        let chunk = pieces(*kind, *from, *to);
+        assert!(rt;
+            leaves(rt.alloc(), text, &chunk, left)?,
+            "{text:?} {chunk:?}"
+        );
+    }
+    Ok(())
+}
+
+/// The longest text: 1,000 items of 29 bytes, with commas between.
+fn longest(alloc: Global) -> Result<Text, Fail> {
+    let mut bytes = Vec::with_capacity(alloc, LIMIT)?;
+    for at in 0..LIMIT {
+        let is_comma = at % 30 == 29 && at + 1 < LIMIT;
+        bytes.push(if is_comma { b',' } else { b'x' })?;
+    }
+    Ok(Text::from_vec(bytes)?)
+}
+
+#[test]
+fn pieces_of_the_longest_text(rt: HostRuntime) -> Result<(), Fail> {
+    let text = longest(rt.alloc())?;
+    let rows: &[(Kind, i64, i64, Option<(usize, usize)>)] = &[
+        (Kind::Item, 1, 1, Some((0, 29))),
+        (Kind::Item, 6, 6, Some((150, 179))),
+        (Kind::Item, 7, 7, Some((180, 209))),
+        (Kind::Item, 6, 8, Some((150, 239))),
+        (Kind::Item, 999, 1_000, Some((29_940, 30_000))),
+        (Kind::Item, 1_000, 1_000, Some((29_970, 30_000))),
+        (Kind::Item, 1_001, 1_001, None),
+        (Kind::Line, 1, 1, Some((0, LIMIT))),
+        (Kind::Line, 2, 2, None),
+        (Kind::Word, 1, 9, Some((0, LIMIT))),
+    ];
+    for (kind, from, to, span) in rows {
+        let chunk = pieces(*kind, *from, *to);
+        assert!(rt; is_found(&text, &chunk, *span), "{chunk:?}");
+    }
+    Ok(())
+}
+
+#[test]
+fn counts_in_the_longest_text(rt: HostRuntime) -> Result<(), Fail> {
+    let text = longest(rt.alloc())?;
+    assert_eq!(rt; count(&text, Kind::Item, b','), 1_000);
+    assert_eq!(rt; count(&text, Kind::Line, b','), 1);
+    let last = pieces(Kind::Item, 1_000, 1_000);
+    assert_eq!(rt; delete(rt.alloc(), &text, &last, b',')?.len(), 29_969);
+    Ok(())
+}

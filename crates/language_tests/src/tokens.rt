@@ -1,0 +1,167 @@
+//! The tokens of texts.
+
+use ht_lex::{Key, Kind, LexError, Piece, is_name, lex};
+use ht_values::{PartKind, Text};
+use std::alloc::Global;
+use std::test::*;
+
+/// Whether a text has tokens of these kinds, and no other.
+fn has_kinds(alloc: Global, bytes: &[u8], want: &[Kind]) -> Result<bool, Fail> {
+    let text = Text::from_slice(alloc, bytes)?;
+    let tokens = lex(alloc, &text)?;
+    let mut kinds = Vec::new(alloc);
+    for place in 0..tokens.len() {
+        kinds.push(tokens.at(place).kind)?;
+    }
+    Ok(kinds.as_slice() == want)
+}
+
+/// Whether the token of this number begins there, is of the kind and has these bytes.
+fn has_token(
+    alloc: Global,
+    bytes: &[u8],
+    place: usize,
+    start: usize,
+    kind: Kind,
+    want: &[u8],
+) -> Result<bool, Fail> {
+    let text = Text::from_slice(alloc, bytes)?;
+    let tokens = lex(alloc, &text)?;
+    if tokens.len() <= place {
+        return Ok(false);
+    }
+    let token = tokens.at(place);
+    Ok(token.start == start && token.kind == kind && token.text == want)
+}
+
+/// Whether no token begins at this place, and tokens stand before it.
+fn stops_at(alloc: Global, bytes: &[u8], place: usize) -> Result<bool, Fail> {
+    let text = Text::from_slice(alloc, bytes)?;
+    Ok(matches!(lex(alloc, &text), Err(LexError::Syntax(stop)) if stop == place))
+}
+
+#[test]
+fn kinds_of_texts(rt: HostRuntime) -> Result<(), Fail> {
+    let rows: &[(&[u8], &[Kind])] = &[
+        (b"put 1 -- x", &[Kind::Key(Key::Put), Kind::Number]),
+        (
+            b"1--2\r--\r3",
+            &[Kind::Number, Kind::Eol, Kind::Eol, Kind::Number],
+        ),
+        (
+            b"<><=<&&&-(",
+            &[
+                Kind::Key(Key::NotEqual),
+                Kind::Key(Key::LessEqual),
+                Kind::Key(Key::Less),
+                Kind::Key(Key::DoubleAmpersand),
+                Kind::Key(Key::Ampersand),
+                Kind::Key(Key::Minus),
+                Kind::Key(Key::LeftParen),
+            ],
+        ),
+        (
+            b"\xB2\xB3\xAD",
+            &[
+                Kind::Key(Key::LessEqual),
+                Kind::Key(Key::GreaterEqual),
+                Kind::Key(Key::NotEqual),
+            ],
+        ),
+        (
+            b"<= >= <>",
+            &[
+                Kind::Key(Key::LessEqual),
+                Kind::Key(Key::GreaterEqual),
+                Kind::Key(Key::NotEqual),
+            ],
+        ),
+        (
+            b"12ab_1\t\"it's -- x\"",
+            &[Kind::Number, Kind::Name, Kind::Quoted],
+        ),
+        // A line goes on after the byte 194.
+        (b"a\xC2 \t\rb\xC2\r\r", &[Kind::Name, Kind::Name, Kind::Eol]),
+        (b"", &[]),
+    ];
+    for (bytes, kinds) in rows {
+        assert!(rt; has_kinds(rt.alloc(), bytes, kinds)?, "{bytes:?}");
+    }
+    Ok(())
+}
+
+#[test]
+fn synonyms_have_one_key_in_any_case(rt: HostRuntime) -> Result<(), Fail> {
+    let rows: &[(&[u8], Kind)] = &[
+        (b"bkgnd", Kind::Key(Key::Background)),
+        (b"BG", Kind::Key(Key::Background)),
+        (b"Prev", Kind::Key(Key::Previous)),
+        (b"character", Kind::Key(Key::Piece(Piece::Char))),
+        (b"btns", Kind::Key(Key::Parts(PartKind::Button))),
+        (b"times", Kind::Name),
+    ];
+    for (word, kind) in rows {
+        assert!(rt; has_kinds(rt.alloc(), word, &[*kind])?, "{word:?}");
+    }
+    Ok(())
+}
+
+#[test]
+fn tokens_stand_at_their_places(rt: HostRuntime) -> Result<(), Fail> {
+    let put: &[u8] = b"put 1 -- x";
+    let words: &[u8] = b"12ab_1\t\"it's -- x\"";
+    let rows: &[(&[u8], usize, usize, Kind, &[u8])] = &[
+        (put, 0, 0, Kind::Key(Key::Put), b"put"),
+        (put, 1, 4, Kind::Number, b"1"),
+        (words, 0, 0, Kind::Number, b"12"),
+        (words, 1, 2, Kind::Name, b"ab_1"),
+        (words, 2, 7, Kind::Quoted, b"\"it's -- x\""),
+    ];
+    for (bytes, place, start, kind, want) in rows {
+        assert!(rt;
+            has_token(rt.alloc(), bytes, *place, *start, *kind, want)?,
+            "{want:?}"
+        );
+    }
+    Ok(())
+}
+
+#[test]
+fn the_first_byte_without_a_token_is_told(rt: HostRuntime) -> Result<(), Fail> {
+    let rows: &[(&[u8], usize)] = &[
+        (b"put \"a", 4),
+        (b"put \"a\rb\"", 4),
+        (b"ab \xC2x", 3),
+        (b"a\xC2", 1),
+        (b"1 + #2 $", 4),
+        (b"\x00", 0),
+    ];
+    for (bytes, place) in rows {
+        assert!(rt; stops_at(rt.alloc(), bytes, *place)?, "{bytes:?}");
+    }
+    Ok(())
+}
+
+#[test]
+fn a_name_is_a_word_that_is_not_reserved(rt: HostRuntime) {
+    let rows: &[(&[u8], bool)] = &[
+        (b"g", true),
+        (b"Total_1", true),
+        (b"_", true),
+        (b"mouseUp", true),
+        (b"times", true),
+        (b"put1", true),
+        (b"", false),
+        (b"1a", false),
+        (b"a b", false),
+        (b"a-b", false),
+        (b"\xE4", false),
+        (b"put", false),
+        (b"PUT", false),
+        (b"lineFeed", false),
+        (b"linefeed", false),
+    ];
+    for (word, is_one) in rows {
+        assert!(rt; is_name(word) == *is_one, "{word:?}");
+    }
+}
