@@ -62,7 +62,8 @@ fn perform(rt: &HostRuntime, words: &Words) -> Result<(), CliFault> {
         externals,
         &mut reader,
         &mut writer,
-    )
+    )?;
+    Ok(())
 }
 
 /// Tells a fault on standard error, and gives the status; a line that finds no memory is `no memory`.

@@ -52,7 +52,8 @@ fn run_on(
     let externals: Vec<Box<dyn External>> = Vec::new(alloc);
     let mut reader = Watched::new(input);
     let mut writer = Watched::new(answers);
-    play(alloc, &words, stack, externals, &mut reader, &mut writer)
+    play(alloc, &words, stack, externals, &mut reader, &mut writer)?;
+    Ok(())
 }
 
 /// Runs a row as the program would.
