@@ -1,6 +1,6 @@
 -- What lines, calls and runs do to the list of whole states.
 use Rattle.std.proofs.Common.{◌≡◌, ℕ, zero, suc, ◌+◌, ◌-◌, ◌<◌, ◌≤◌, ◌⊎◌, inl, inr, min, Bool, true, false, cond, List, [], ◌∷◌, ◌++◌, length, map, take, drop, refl, sym, ◌∙◌, ap, ap₂, subst, arith, append_assoc, length-append, length-take, length-drop}
-use Rattle.std.specs.Prelude.{Option, Some, None, option_map, slice_get, nat_le, nat_lt, reverse, not, MatchBool}
+use Rattle.std.specs.Prelude.{Option, Some, None, option_map, Result, IsErrOf, ◌==◌, slice_get, nat_le, nat_lt, reverse, not, MatchBool}
 use Rattle.std.proofs.lemmas.List.{reverse-append, length-reverse, length-map, map-append, drop-append-le, take-append-drop}
 use Rattle.std.specs.Io.KnownBytes.{IsAtEnd}
 use Rattle.std.specs.List.{position, position_or_len, take-map}
@@ -11,8 +11,8 @@ use Rattle.externals.specs.Cells.{Seen}
 use Rattle.journal_entries.specs.State.{State, titles_of, index_of}
 use Rattle.change_journal.specs.History.{History, Step, step_with_external, plugged, unplugged_at, flipped_back, flipped_back_from, flipped_forth, flipped_forth_from}
 use Rattle.session.specs.Commands.{Statement, Said, run, undo, redo, undo_to, show, globals, current_card, history, quit, said}
-use Rattle.session.specs.Headline.{Snapshot, Timeline, Line, Does, Replaces, at_cursor, cursor_back, cursor_forth, cursor_back_to, before, later_or_here, last_numbered, with_one_more, without_one, counted}
-use Rattle.session.specs.Moves.{back_by, forth_by, stamps, undone, redone, undone_to, undone_by, places_to}
+use Rattle.session.specs.Headline.{Snapshot, Timeline, Line, Does, Replaces, Moved, at_cursor, cursor_back, cursor_forth, cursor_back_to, before, later_or_here, last_numbered, with_one_more, without_one, counted}
+use Rattle.session.specs.Moves.{MovesTo, back_by, forth_by, stamps, undone, redone, undone_to, undone_by, places_to}
 use Rattle.session.specs.Replies.{ended, refused, Refuses, Moves, Looks, ShowsStack}
 use Rattle.session.specs.Standing.{Standing, next_number}
 use Rattle.session.specs.TakesLine.{TakesLine, Adds, Performs}
@@ -84,6 +84,9 @@ length-all h = omega (arith, length-append (reverse (snapshots_of h.past)) (pres
 
 length-before : (h : History) → length (reverse (snapshots_of h.past)) ≡ length h.past
 length-before h = length-reverse (snapshots_of h.past) ∙ length-map h.past snapshot_of
+
+abbrev standing_of : ℕ → ℕ → History → Standing
+standing_of lines steps h = record { history = h; lines = lines; steps = steps }
 
 module _ (lines steps : ℕ) where
   abbrev at : History → Timeline
@@ -181,8 +184,33 @@ module _ (lines steps : ℕ) where
           let within : suc k ≤ length h.past = omega (arith, found.0, length-map h.past (λ step. step.stamp)) in
           rw (lt-ltb (length h.past - suc k) (length h.past) (omega (arith, within))) (ap Some (back_moves lines steps (suc k) h within))
 
+module _ (lines steps : ℕ) (refusal : Refusal) (old h : History) (result : Result (Unit {0}) Refusal) where
+  -- what a call does where it finds this history, and where it finds this place
+  moved : (there : Option History) (place : Option ℕ) → option_map (at lines steps) there ≡ option_map (at_cursor (at lines steps old)) place
+      → MovesTo there refusal old result h → Moved place refusal (at lines steps old) result (at lines steps h)
+  moved None None is m = (m.0, ap (at lines steps) m.1)
+  moved None (Some place) is m = let no : ⊥ = cc in absurd no
+  moved (Some there) None is m = let no : ⊥ = cc in absurd no
+  moved (Some there) (Some place) is m = (m.0, ap (at lines steps) m.1 ∙ cc)
+
+  -- and where no places at all are asked for
+  counted_moved : (k : ℕ) (there : Option History) (place : Option ℕ) → option_map (at lines steps) there ≡ option_map (at_cursor (at lines steps old)) place
+      → MatchBool (k == 0) (IsErrOf result refusals.BadCommand × (standing_of lines steps h ≡ standing_of lines steps old)) (MovesTo there refusal old result h)
+      → MatchBool (k == 0) (IsErrOf result refusals.BadCommand × (at lines steps h ≡ at lines steps old)) (Moved place refusal (at lines steps old) result (at lines steps h))
+  counted_moved k there place is m =
+      elim (k == 0) as (λ b. MatchBool b (IsErrOf result refusals.BadCommand × (standing_of lines steps h ≡ standing_of lines steps old)) (MovesTo there refusal old result h)
+      → MatchBool b (IsErrOf result refusals.BadCommand × (at lines steps h ≡ at lines steps old)) (Moved place refusal (at lines steps old) result (at lines steps h))) [
+        | true ↦ λ p. (p.0, ap timeline_of p.1)
+        | false ↦ λ p. moved there place is p
+      ] m
+
 pub moves_follow : MovesFollow
-moves_follow s n = (undone_is s.lines s.steps n s.history, redone_is s.lines s.steps n s.history, undone_to_is s.lines s.steps n s.history)
+moves_follow s k result h =
+    let t = timeline_of s in (
+      λ m. counted_moved s.lines s.steps refusals.NothingToUndo s.history h result k (undone k s.history) (cursor_back k t) (undone_is s.lines s.steps k s.history) m,
+      λ m. counted_moved s.lines s.steps refusals.NothingToRedo s.history h result k (redone k s.history) (cursor_forth k t) (redone_is s.lines s.steps k s.history) m,
+      λ m. moved s.lines s.steps refusals.NothingToUndo s.history h result (undone_to k s.history) (cursor_back_to k t) (undone_to_is s.lines s.steps k s.history) m,
+    )
 
 -- ---- a state that is added
 

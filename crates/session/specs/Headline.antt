@@ -1,5 +1,5 @@
 -- The headline: a list of whole states with a cursor, and what each line and each call does to it.
-use Rattle.std.specs.Prelude.{◌≡◌, ◌⊎◌, ℕ, zero, suc, ◌+◌, ◌-◌, ◌<◌, ◌≤◌, min, Bool, List, [], ◌∷◌, ◌++◌, length, map, take, drop, decimal, Option, Some, None, option_map, slice_get, nat_le, nat_lt, if◌then◌else◌, MatchBool}
+use Rattle.std.specs.Prelude.{◌≡◌, ◌⊎◌, ℕ, zero, suc, ◌+◌, ◌-◌, ◌<◌, ◌≤◌, min, Bool, List, [], ◌∷◌, ◌++◌, length, map, take, drop, decimal, Option, Some, None, option_map, Result, IsOk, IsErrOf, ◌==◌, slice_get, nat_le, nat_lt, if◌then◌else◌, MatchBool}
 use Rattle.externals.specs.Cells.{Seen}
 use Rattle.object_table.specs.Content.{Content}
 use Rattle.journal_entries.specs.State.{State, first_state}
@@ -10,6 +10,7 @@ use Rattle.session.specs.Conversation.{Session}
 use Rattle.session.specs.Meaning.{Fresh}
 use Rattle.session.specs.Replies.{ended, Refuses, Moves, Looks, ShowsStack, global_lines, history_line}
 use Rattle.session.specs.Standing.{next_number}
+use Rattle.session.specs.declared.reply.Refusal.{Refusal}
 use Rattle.session.specs.declared.reply.Refusal.TheVariants.{NothingToUndo, NothingToRedo, BadCommand, NoMemory, LineTooLong}
 use Rattle.session.specs.declared.reply.Ending.TheVariants as endings
 use Rattle.session.specs.declared.reply.Reply.{Reply}
@@ -105,6 +106,21 @@ pub record Line (line : List ℕ) (old : Timeline) (reply : Reply) (new : Timeli
   pub does : MatchBool (nat_lt 30000 (length line)) (Refuses LineTooLong (counted old) reply new) (Does (said line) state (counted old) reply new)
 
 -- ---- calls beside lines
+
+-- a call moves the cursor as its line does, and tells a refusal as an error
+abbrev pub Moved : Option ℕ → Refusal → Timeline → Result (Unit {0}) Refusal → Timeline → Type 0
+Moved (Some place) refusal old result new = IsOk result × (new ≡ at_cursor old place)
+Moved None refusal old result new = IsErrOf result refusal × (new ≡ old)
+
+-- no place at all is a bad command
+abbrev pub Undoes : ℕ → Timeline → Result (Unit {0}) Refusal → Timeline → Type 0
+Undoes k old result new = MatchBool (k == 0) (IsErrOf result BadCommand × (new ≡ old)) (Moved (cursor_back k old) NothingToUndo old result new)
+
+abbrev pub Redoes : ℕ → Timeline → Result (Unit {0}) Refusal → Timeline → Type 0
+Redoes k old result new = MatchBool (k == 0) (IsErrOf result BadCommand × (new ≡ old)) (Moved (cursor_forth k old) NothingToRedo old result new)
+
+abbrev pub UndoesTo : ℕ → Timeline → Result (Unit {0}) Refusal → Timeline → Type 0
+UndoesTo n old result new = Moved (cursor_back_to n old) NothingToUndo old result new
 
 -- a session begins with one state: the stack, no global, its first card, and the externals with their cells of now
 abbrev pub beginning : Content → List Seen → ℕ → ℕ → Timeline

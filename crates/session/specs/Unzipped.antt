@@ -1,13 +1,13 @@
 -- Where a session stands, as a list of whole states with a cursor; and the laws that each line, each call and each run
 -- does to it what the headline says.
-use Rattle.std.specs.Prelude.{◌≡◌, ℕ, List, [], ◌∷◌, ◌++◌, length, map, reverse, Option, Some, None, option_map}
+use Rattle.std.specs.Prelude.{◌≡◌, ℕ, List, [], ◌∷◌, ◌++◌, length, map, reverse, Option, Some, None, Result, IsErrOf, ◌==◌, MatchBool}
 use Rattle.std.specs.Io.KnownBytes.{IsAtEnd}
 use Rattle.externals.specs.Cells.{Seen}
 use Rattle.object_table.specs.Content.{Content}
 use Rattle.journal_entries.specs.State.{titles_of, index_of}
 use Rattle.change_journal.specs.History.{History, Step, plugged, unplugged}
-use Rattle.session.specs.Headline.{Snapshot, Timeline, Line, Headline, at_cursor, cursor_back, cursor_forth, cursor_back_to, beginning, with_plugged, without_plugged}
-use Rattle.session.specs.Moves.{undone, redone, undone_to}
+use Rattle.session.specs.Headline.{Snapshot, Timeline, Line, Headline, Undoes, Redoes, UndoesTo, beginning, with_plugged, without_plugged}
+use Rattle.session.specs.Moves.{MovesTo, undone, redone, undone_to}
 use Rattle.session.specs.Opening.{opened}
 use Rattle.session.specs.Splits.{AreLines}
 use Rattle.session.specs.Standing.{Standing}
@@ -15,6 +15,8 @@ use Rattle.session.specs.Stops.{Ended, Stopped}
 use Rattle.session.specs.TakesLine.{TakesLine}
 use Rattle.session.specs.declared.conversation.Ran.{Ran}
 use Rattle.session.specs.declared.conversation.RunFault.{RunFault}
+use Rattle.session.specs.declared.reply.Refusal.{Refusal}
+use Rattle.session.specs.declared.reply.Refusal.TheVariants.{NothingToUndo, NothingToRedo, BadCommand}
 use Rattle.session.specs.declared.reply.Reply.{Reply}
 
 abbrev pub snapshots_of : List Step → List Snapshot
@@ -37,12 +39,12 @@ with_history s h = record s { history = h }
 abbrev pub LinesFollow : Type 0
 LinesFollow = (line : List ℕ) (old : Standing) (reply : Reply) (new : Standing) → TakesLine line old reply new → Line line (timeline_of old) reply (timeline_of new)
 
--- and so does each move of the cursor that a call makes
+-- and so do `undo`, `redo` and `undo_to`
 abbrev pub MovesFollow : Type 0
-MovesFollow = (s : Standing) (n : ℕ)
-    → (option_map (λ h. timeline_of (with_history s h)) (undone n s.history) ≡ option_map (at_cursor (timeline_of s)) (cursor_back n (timeline_of s)))
-    × (option_map (λ h. timeline_of (with_history s h)) (redone n s.history) ≡ option_map (at_cursor (timeline_of s)) (cursor_forth n (timeline_of s)))
-    × (option_map (λ h. timeline_of (with_history s h)) (undone_to n s.history) ≡ option_map (at_cursor (timeline_of s)) (cursor_back_to n (timeline_of s)))
+MovesFollow = (s : Standing) (k : ℕ) (result : Result (Unit {0}) Refusal) (h : History)
+    → (MatchBool (k == 0) (IsErrOf result BadCommand × (with_history s h ≡ s)) (MovesTo (undone k s.history) NothingToUndo s.history result h) → Undoes k (timeline_of s) result (timeline_of (with_history s h)))
+    × (MatchBool (k == 0) (IsErrOf result BadCommand × (with_history s h ≡ s)) (MovesTo (redone k s.history) NothingToRedo s.history result h) → Redoes k (timeline_of s) result (timeline_of (with_history s h)))
+    × (MovesTo (undone_to k s.history) NothingToUndo s.history result h → UndoesTo k (timeline_of s) result (timeline_of (with_history s h)))
 
 -- a session that is opened, plugged and unplugged has the list that these give
 abbrev pub without_if : Option ℕ → Timeline → Timeline
