@@ -3,58 +3,101 @@
 mod functions;
 mod operators;
 
-use ht_values::{Fault, LIMIT, Text, TextError, law_of_text, text_of};
+use ht_values::{Failure, Fault, LIMIT, Text, TextError, law_of_text, text_of};
+use std::alloc::Global;
 use std::test::*;
+
+/// Whether the answer is this value or this fault.
+fn is_given(answer: Result<Text, Failure>, expected: &Result<&[u8], Fault>) -> bool {
+    match answer {
+        Ok(given) => matches!(expected, Ok(value) if given.as_slice() == *value),
+        Err(Failure::Fault(given)) => matches!(expected, Err(fault) if given == *fault),
+        Err(Failure::Memory) => false,
+    }
+}
+
+/// Whether so many bytes are a text, and not too long for one.
+fn is_text(alloc: Global, size: usize) -> Result<bool, Fail> {
+    let bytes = vec![in alloc; b'x'; size]?;
+    match Text::from_slice(alloc, &bytes) {
+        Ok(text) => Ok(text.len() == size),
+        Err(TextError::TooLong) => Ok(false),
+        Err(TextError::Memory) => Err("out of memory".into()),
+    }
+}
+
+/// Whether the text of these bytes has them, and its clone too.
+fn is_cloned(alloc: Global, bytes: &[u8]) -> Result<bool, Fail> {
+    let text = Text::from_slice(alloc, bytes)?;
+    law_of_text(&text);
+    Ok(text.as_slice() == bytes && text.try_clone(alloc)?.as_slice() == bytes)
+}
+
+/// Whether the text is folded to these bytes.
+fn is_folded(alloc: Global, bytes: &[u8], want: &[u8]) -> Result<bool, Fail> {
+    let text = Text::from_slice(alloc, bytes)?;
+    Ok(text.folded(alloc)?.as_slice() == want)
+}
+
+/// Whether the two texts are the same.
+fn are_same(alloc: Global, left: &[u8], right: &[u8]) -> Result<bool, Fail> {
+    let left = Text::from_slice(alloc, left)?;
+    let right = Text::from_slice(alloc, right)?;
+    Ok(left.same(&right))
+}
+
+/// Whether this is the numeral of the number.
+fn is_spelled(alloc: Global, number: i64, want: &[u8]) -> Result<bool, Fail> {
+    Ok(text_of(alloc, number)?.as_slice() == want)
+}
 
 #[test]
 fn thirty_thousand_bytes_are_a_text_and_one_more_is_not(rt: HostRuntime) -> Result<(), Fail> {
-    let bytes = vec![in rt.alloc(); b'x'; LIMIT + 1]?;
-    assert!(rt;
-        matches!(
-            Text::from_slice(rt.alloc(), &bytes),
-            Err(TextError::TooLong)
-        )
-    );
-    let text = Text::from_slice(rt.alloc(), &bytes[..LIMIT])?;
-    assert_eq!(rt; text.len(), 30_000);
+    assert_eq!(rt; LIMIT, 30_000);
+    assert!(rt; is_text(rt.alloc(), LIMIT)?);
+    assert!(rt; !is_text(rt.alloc(), LIMIT + 1)?);
     assert_eq!(rt; Text::new(rt.alloc()).len(), 0);
     Ok(())
 }
 
 #[test]
-fn a_text_is_its_clone_and_the_fold_of_capitals(rt: HostRuntime) -> Result<(), Fail> {
-    let small = Text::from_slice(rt.alloc(), b"ab")?;
-    let mixed = Text::from_slice(rt.alloc(), b"aB")?;
-    assert!(rt; small.as_slice() == small.try_clone(rt.alloc())?.as_slice());
-    law_of_text(&small);
-    assert!(rt; small.as_slice() == mixed.folded(rt.alloc())?.as_slice());
-    assert!(rt; small.same(&mixed));
+fn a_text_is_its_clone(rt: HostRuntime) -> Result<(), Fail> {
+    assert!(rt; is_cloned(rt.alloc(), b"ab")?);
     Ok(())
 }
 
 #[test]
 fn only_a_to_z_are_folded(rt: HostRuntime) -> Result<(), Fail> {
-    let upper = Text::from_slice(rt.alloc(), b"@Z[\xC4")?;
-    assert!(rt; upper.folded(rt.alloc())?.as_slice() == b"@z[\xC4".as_slice());
-    let lower = Text::from_slice(rt.alloc(), b"@z[\xE4")?;
-    assert!(rt; !upper.same(&lower));
+    assert!(rt; is_folded(rt.alloc(), b"aB", b"ab")?);
+    assert!(rt; is_folded(rt.alloc(), b"@Z[\xC4", b"@z[\xC4")?);
+    assert!(rt; are_same(rt.alloc(), b"ab", b"aB")?);
+    assert!(rt; !are_same(rt.alloc(), b"@Z[\xC4", b"@z[\xE4")?);
     Ok(())
 }
 
 #[test]
 fn the_least_number_has_its_numeral(rt: HostRuntime) -> Result<(), Fail> {
-    let least = text_of(rt.alloc(), -9_223_372_036_854_775_808)?;
-    assert!(rt; least.as_slice() == b"-9223372036854775808".as_slice());
-    assert!(rt; text_of(rt.alloc(), 0)?.as_slice() == b"0".as_slice());
+    assert!(rt;
+        is_spelled(
+            rt.alloc(),
+            -9_223_372_036_854_775_808,
+            b"-9223372036854775808"
+        )?
+    );
+    assert!(rt; is_spelled(rt.alloc(), 0, b"0")?);
     Ok(())
 }
 
 #[test]
-fn faults_are_numbered_from_one_to_sixteen(rt: HostRuntime) -> Result<(), Fail> {
-    assert_eq!(rt; Fault::Syntax.number(), 1);
-    assert_eq!(rt; Fault::NoSuchObject.number(), 3);
-    assert_eq!(rt; Fault::TooLong.number(), 8);
-    assert_eq!(rt; Fault::TooDeep.number(), 12);
-    assert_eq!(rt; Fault::BadArgument.number(), 16);
-    Ok(())
+fn faults_are_numbered_from_one_to_sixteen(rt: HostRuntime) {
+    let rows = [
+        (Fault::Syntax, 1),
+        (Fault::NoSuchObject, 3),
+        (Fault::TooLong, 8),
+        (Fault::TooDeep, 12),
+        (Fault::BadArgument, 16),
+    ];
+    for (fault, number) in rows {
+        assert!(rt; fault.number() == number, "{fault:?}");
+    }
 }

@@ -1,7 +1,18 @@
 //! What the functions of texts give.
 
-use ht_values::{Failure, Fault, Func, LIMIT, Text, built_in, joined};
+use super::is_given;
+use ht_values::{Fault, Func, LIMIT, Text, built_in, joined};
+use std::alloc::Global;
 use std::test::*;
+
+/// The texts that `;` separates.
+fn arguments_of(alloc: Global, bytes: &[u8]) -> Result<Vec<Text>, Fail> {
+    let mut arguments = Vec::new(alloc);
+    for bytes in bytes.split(|byte| *byte == b';') {
+        arguments.push(Text::from_slice(alloc, bytes)?)?;
+    }
+    Ok(arguments)
+}
 
 /// Each function gives this of its arguments, which `;` separates.
 #[test]
@@ -41,15 +52,11 @@ fn functions_of_texts(rt: HostRuntime) -> Result<(), Fail> {
         (Func::Offset, b"a", Err(Fault::BadArgument)),
     ];
     for (func, given, expected) in rows {
-        let mut arguments = Vec::new(rt.alloc());
-        for bytes in given.split(|byte| *byte == b';') {
-            arguments.push(Text::from_slice(rt.alloc(), bytes)?)?;
-        }
-        match (built_in(rt.alloc(), *func, &arguments), expected) {
-            (Ok(given), Ok(value)) => assert!(rt; given.as_slice() == *value, "{func:?}"),
-            (Err(Failure::Fault(given)), Err(fault)) => assert!(rt; given == *fault, "{func:?}"),
-            _ => assert!(rt; false, "{func:?}"),
-        }
+        let arguments = arguments_of(rt.alloc(), given)?;
+        assert!(rt;
+            is_given(built_in(rt.alloc(), *func, &arguments), expected),
+            "{func:?} {given:?}"
+        );
     }
     Ok(())
 }
@@ -58,19 +65,26 @@ fn functions_of_texts(rt: HostRuntime) -> Result<(), Fail> {
 fn no_argument_is_a_bad_argument(rt: HostRuntime) {
     for func in [Func::Abs, Func::Max, Func::Min, Func::Length, Func::Offset] {
         let given = built_in(rt.alloc(), func, &[]);
-        assert!(rt;
-            matches!(given, Err(Failure::Fault(Fault::BadArgument))),
-            "{func:?}"
-        );
+        assert!(rt; is_given(given, &Err(Fault::BadArgument)), "{func:?}");
     }
 }
 
+/// The longest text, without its type.
+fn longest(alloc: Global) -> Result<Vec<u8>, Fail> {
+    Ok(vec![in alloc; b'x'; LIMIT]?)
+}
+
 #[test]
-fn three_parts_are_joined_within_the_limit(rt: HostRuntime) -> Result<(), Fail> {
-    assert!(rt; joined(rt.alloc(), b"a", b"-", b"b")?.as_slice() == b"a-b".as_slice());
-    let whole = vec![in rt.alloc(); b'x'; LIMIT]?;
-    assert!(rt; joined(rt.alloc(), &whole, b"", b"")?.len() == LIMIT);
+fn three_parts_are_joined(rt: HostRuntime) {
+    let given = joined(rt.alloc(), b"a", b"-", b"b");
+    assert!(rt; is_given(given, &Ok(b"a-b")));
+}
+
+#[test]
+fn what_is_joined_goes_to_the_limit(rt: HostRuntime) -> Result<(), Fail> {
+    let whole = longest(rt.alloc())?;
+    assert_eq!(rt; joined(rt.alloc(), &whole, b"", b"")?.len(), LIMIT);
     let over = joined(rt.alloc(), &whole, b"", b"y");
-    assert!(rt; matches!(over, Err(Failure::Fault(Fault::TooLong))));
+    assert!(rt; is_given(over, &Err(Fault::TooLong)));
     Ok(())
 }

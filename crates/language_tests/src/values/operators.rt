@@ -1,8 +1,9 @@
 //! What operators give, by the table of the profile.
 
+use super::is_given;
 use ht_values::{
-    Failure, Fault, LIMIT, Op, Text, UnOp, ValueType, binary, in_word, number_of, numeral,
-    truth_of, unary, without_front_spaces,
+    Fault, LIMIT, Op, Text, UnOp, ValueType, binary, in_word, number_of, numeral, truth_of, unary,
+    without_front_spaces,
 };
 use std::alloc::Global;
 use std::process::Abort;
@@ -12,13 +13,26 @@ const LEAST: &[u8] = b"-9223372036854775808";
 
 const GREATEST: &[u8] = b"9223372036854775807";
 
+/// Whether the operator gives this of these texts.
+fn gives(
+    alloc: Global,
+    op: Op,
+    left: &[u8],
+    right: &[u8],
+    expected: &Result<&[u8], Fault>,
+) -> Result<bool, Fail> {
+    let left = Text::from_slice(alloc, left)?;
+    let right = Text::from_slice(alloc, right)?;
+    Ok(is_given(binary(alloc, op, &left, &right), expected))
+}
+
 /// Each operator gives this value of these texts.
 fn values(rt: &impl Abort, alloc: Global, rows: &[(Op, &[u8], &[u8], &[u8])]) -> Result<(), Fail> {
     for (op, left, right, value) in rows {
-        let left = Text::from_slice(alloc, left)?;
-        let right = Text::from_slice(alloc, right)?;
-        let given = binary(alloc, *op, &left, &right)?;
-        assert!(rt; given.as_slice() == *value, "{op:?}");
+        assert!(rt;
+            gives(alloc, *op, left, right, &Ok(value))?,
+            "{op:?} {left:?}"
+        );
     }
     Ok(())
 }
@@ -26,12 +40,10 @@ fn values(rt: &impl Abort, alloc: Global, rows: &[(Op, &[u8], &[u8], &[u8])]) ->
 /// Each operator gives this fault of these texts.
 fn faults(rt: &impl Abort, alloc: Global, rows: &[(Op, &[u8], &[u8], Fault)]) -> Result<(), Fail> {
     for (op, left, right, fault) in rows {
-        let left = Text::from_slice(alloc, left)?;
-        let right = Text::from_slice(alloc, right)?;
-        match binary(alloc, *op, &left, &right) {
-            Err(Failure::Fault(given)) => assert!(rt; given == *fault, "{op:?}"),
-            _ => assert!(rt; false, "{op:?}"),
-        }
+        assert!(rt;
+            gives(alloc, *op, left, right, &Err(*fault))?,
+            "{op:?} {left:?}"
+        );
     }
     Ok(())
 }
@@ -230,18 +242,26 @@ fn texts_are_joined_and_searched(rt: HostRuntime) -> Result<(), Fail> {
     )
 }
 
+/// Whether what the operator makes of the longest text and this one is the longest text, or this fault.
+fn joins_longest(alloc: Global, op: Op, right: &[u8], fault: Option<Fault>) -> Result<bool, Fail> {
+    let bytes = vec![in alloc; b'x'; LIMIT]?;
+    let expected = match fault {
+        Some(fault) => Err(fault),
+        None => Ok(bytes.as_slice()),
+    };
+    gives(alloc, op, &bytes, right, &expected)
+}
+
 #[test]
 fn a_join_over_thirty_thousand_bytes_is_too_long(rt: HostRuntime) -> Result<(), Fail> {
-    let bytes = vec![in rt.alloc(); b'x'; LIMIT]?;
-    let whole = Text::from_vec(bytes)?;
-    let none = Text::new(rt.alloc());
-    let one = Text::from_slice(rt.alloc(), b"y")?;
-    let joined = binary(rt.alloc(), Op::Join, &whole, &none)?;
-    assert_eq!(rt; joined.len(), LIMIT);
-    let over = binary(rt.alloc(), Op::Join, &whole, &one);
-    assert!(rt; matches!(over, Err(Failure::Fault(Fault::TooLong))));
-    let spaced = binary(rt.alloc(), Op::JoinSpaced, &whole, &none);
-    assert!(rt; matches!(spaced, Err(Failure::Fault(Fault::TooLong))));
+    let rows: &[(Op, &[u8], Option<Fault>)] = &[
+        (Op::Join, b"", None),
+        (Op::Join, b"y", Some(Fault::TooLong)),
+        (Op::JoinSpaced, b"", Some(Fault::TooLong)),
+    ];
+    for (op, right, fault) in rows {
+        assert!(rt; joins_longest(rt.alloc(), *op, right, *fault)?, "{op:?}");
+    }
     Ok(())
 }
 
@@ -267,22 +287,23 @@ fn operators_of_one_operand(rt: HostRuntime) -> Result<(), Fail> {
     ];
     for (op, operand, expected) in rows {
         let operand = Text::from_slice(rt.alloc(), operand)?;
-        match (unary(rt.alloc(), *op, &operand), expected) {
-            (Ok(given), Ok(value)) => assert!(rt; given.as_slice() == *value, "{op:?}"),
-            (Err(Failure::Fault(given)), Err(fault)) => assert!(rt; given == *fault, "{op:?}"),
-            _ => assert!(rt; false, "{op:?}"),
-        }
+        let given = unary(rt.alloc(), *op, &operand);
+        assert!(rt; is_given(given, expected), "{op:?}");
     }
     Ok(())
 }
 
 #[test]
 fn truth_values_are_words(rt: HostRuntime) -> Result<(), Fail> {
-    let yes = Text::from_slice(rt.alloc(), b"TRUE")?;
-    let no = in_word(rt.alloc(), false)?;
-    assert!(rt; no.as_slice() == b"false".as_slice());
-    assert!(rt; truth_of(&yes) == Ok(true));
-    assert!(rt; truth_of(&no) == Ok(false));
-    assert!(rt; truth_of(&Text::new(rt.alloc())) == Err(Fault::NotLogical));
+    assert!(rt; is_given(in_word(rt.alloc(), false), &Ok(b"false")));
+    let rows: &[(&[u8], Result<bool, Fault>)] = &[
+        (b"TRUE", Ok(true)),
+        (b"false", Ok(false)),
+        (b"", Err(Fault::NotLogical)),
+    ];
+    for (bytes, truth) in rows {
+        let text = Text::from_slice(rt.alloc(), bytes)?;
+        assert!(rt; truth_of(&text) == *truth, "{bytes:?}");
+    }
     Ok(())
 }
