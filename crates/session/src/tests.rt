@@ -159,6 +159,15 @@ struct Heard {
 /// Never reached.
 const NEVER: usize = 1_000_000;
 
+fn ran_by<E: External, R: Read, W: Write>(
+    session: &mut Session<E>,
+    alloc: Global,
+    reader: &mut Watched<R>,
+    writer: &mut Watched<W>,
+) -> Result<Ran, RunFault> {
+    run(session, alloc, reader, writer)
+}
+
 /// Runs a session on the stack of two cards, over a reader that fails at a call and a writer that takes as many
 /// bytes at a time and fails at a call.
 fn hear<E: External>(
@@ -169,8 +178,7 @@ fn hear<E: External>(
     most: usize,
     write_fails_at: usize,
 ) -> Result<Heard, Fail> {
-    let opened = Session::open(alloc, two_cards(alloc)?, externals, 100_000, 1_000_000);
-    let mut session = opened.ok().ok_or("open")?;
+    let mut session = session_of(alloc, externals, 100_000)?;
     let mut reader = Watched::new(Drip {
         bytes: input,
         calls: 0,
@@ -183,7 +191,7 @@ fn hear<E: External>(
         fails_at: write_fails_at,
     };
     let mut writer = Watched::new(&mut taken);
-    let ran = run(&mut session, alloc, &mut reader, &mut writer);
+    let ran = ran_by(&mut session, alloc, &mut reader, &mut writer);
     let write_failures = writer.failures();
     Ok(Heard {
         written: taken.taken,
@@ -394,34 +402,77 @@ struct Called {
     redone: Result<(), Refusal>,
     undone_to: Result<(), Refusal>,
     saved: Bytes,
+    plugged: bool,
     plugged_again: bool,
     unplugged: bool,
     closed: usize,
 }
 
+// Each call by a function that promises nothing, so that no test carries the clauses of many.
+
+fn ending_of<E: External>(session: &mut Session<E>, line: &[u8]) -> Ending {
+    session.line(line).ending
+}
+
+fn undone<E: External>(session: &mut Session<E>, places: u32) -> Result<(), Refusal> {
+    session.undo(places)
+}
+
+fn redone<E: External>(session: &mut Session<E>, places: u32) -> Result<(), Refusal> {
+    session.redo(places)
+}
+
+fn undone_to<E: External>(session: &mut Session<E>, line: u32) -> Result<(), Refusal> {
+    session.undo_to(line)
+}
+
+fn saved_by<E: External>(session: &Session<E>) -> Result<Bytes, AllocError> {
+    session.saved()
+}
+
+fn is_plugged<E: External>(session: &mut Session<E>, external: E) -> bool {
+    session.plug(external).is_ok()
+}
+
+fn is_unplugged<E: External>(session: &mut Session<E>, name: &Text) -> bool {
+    session.unplug(name).is_some()
+}
+
+fn count_at_close<E: External>(session: Session<E>) -> usize {
+    session.close().len()
+}
+
+fn session_of<E: External>(
+    alloc: Global,
+    externals: Vec<E>,
+    steps: u32,
+) -> Result<Session<E>, Fail> {
+    let opened = Session::open(alloc, two_cards(alloc)?, externals, steps, 1_000_000);
+    Ok(opened.ok().ok_or("open")?)
+}
+
 fn call<E: External>(alloc: Global, first: Vec<E>, second: E, third: E) -> Result<Called, Fail> {
-    let opened = Session::open(alloc, two_cards(alloc)?, first, 100, 10);
-    let mut session = opened.ok().ok_or("open")?;
-    let _ = session.line(b"put \"1\" into g");
-    let undone_none = session.undo(0);
-    let undone = session.undo(1);
-    let redone = session.redo(1);
-    let undone_to = session.undo_to(0);
-    let saved = session.saved()?;
-    session.plug(second).ok().ok_or("plug")?;
-    let plugged_again = session.plug(third).is_ok();
-    let unplugged = session
-        .unplug(&Text::from_slice(alloc, b"quiet")?)
-        .is_some();
+    let mut session = session_of(alloc, first, 100)?;
+    let _ = ending_of(&mut session, b"put \"1\" into g");
+    let undone_none = undone(&mut session, 0);
+    let undone = undone(&mut session, 1);
+    let redone = redone(&mut session, 1);
+    let undone_to = undone_to(&mut session, 0);
+    let saved = saved_by(&session)?;
+    let plugged = is_plugged(&mut session, second);
+    let plugged_again = is_plugged(&mut session, third);
+    let name = Text::from_slice(alloc, b"quiet")?;
+    let unplugged = is_unplugged(&mut session, &name);
     Ok(Called {
         undone,
         undone_none,
         redone,
         undone_to,
         saved,
+        plugged,
         plugged_again,
         unplugged,
-        closed: session.close().len(),
+        closed: count_at_close(session),
     })
 }
 
@@ -439,6 +490,7 @@ fn calls_of_a_session(rt: HostRuntime) -> Result<(), Fail> {
     assert_eq!(rt; called.redone, Ok(()));
     assert_eq!(rt; called.undone_to, Ok(()));
     assert!(rt; called.saved.as_slice() == TWO_CARDS);
+    assert!(rt; called.plugged);
     assert!(rt; !called.plugged_again);
     assert!(rt; called.unplugged);
     assert_eq!(rt; called.closed, 1);
@@ -453,10 +505,18 @@ struct Seen {
     shown: Vec<u8>,
 }
 
-fn reply_of<E: External>(alloc: Global, externals: Vec<E>, line: &[u8]) -> Result<Seen, Fail> {
+fn reply_to<E: External>(session: &mut Session<E>, line: &[u8]) -> Reply {
+    session.line(line)
+}
+
+fn empty_session<E: External>(alloc: Global, externals: Vec<E>) -> Result<Session<E>, Fail> {
     let opened = Session::open(alloc, Stack::new(alloc)?, externals, 100, 10);
-    let mut session = opened.ok().ok_or("open")?;
-    let reply = session.line(line);
+    Ok(opened.ok().ok_or("open")?)
+}
+
+fn reply_of<E: External>(alloc: Global, externals: Vec<E>, line: &[u8]) -> Result<Seen, Fail> {
+    let mut session = empty_session(alloc, externals)?;
+    let reply = reply_to(&mut session, line);
     let mut shown = Vec::new(alloc);
     for i in 0..reply.shown.len() {
         shown.extend_from_slice(reply.shown.at(i).as_slice())?;
