@@ -4,7 +4,7 @@ use Rattle.std.specs.Io.KnownBytes.{IsAtEnd}
 use Rattle.externals.specs.Cells.{Seen}
 use Rattle.object_table.specs.Content.{Content}
 use Rattle.stack_text.specs.Laws.{Spells}
-use Rattle.session.specs.Headline.{Timeline, Line, Headline, beginning}
+use Rattle.session.specs.Headline.{Timeline, LineMoves, Headline, beginning}
 use Rattle.session.specs.Opening.{opened}
 use Rattle.session.specs.Splits.{AreLines}
 use Rattle.session.specs.Standing.{Standing}

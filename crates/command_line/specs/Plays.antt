@@ -3,7 +3,7 @@ use Rattle.std.specs.Prelude.{◌≡◌, ◌⊎◌, ℕ, List, [], Err}
 use Rattle.object_table.specs.Content.{Content}
 use Rattle.stack_text.specs.Laws.{Spells}
 use Rattle.stack_text.specs.Reading.{document_at}
-use Rattle.session.specs.Headline.{Timeline, Line, Headline}
+use Rattle.session.specs.Headline.{Timeline, LineMoves, Headline}
 use Rattle.session.specs.Splits.{AreLines}
 use Rattle.session.specs.Stops.{Ended, Stopped}
 use Rattle.session.specs.declared.conversation.Ran.{Ran}
@@ -18,7 +18,7 @@ pub record Plays (ends : Type 0) (ran : Ran) (bytes : List ℕ) (beginning : Con
   pub stack : Content
   pub spelled : Spells bytes stack
   pub last : Timeline
-  pub finish : Ended Line ends ran (beginning stack) read written last
+  pub finish : Ended LineMoves ends ran (beginning stack) read written last
   pub lines : List (List ℕ)
   pub input : AreLines read lines
   pub headline : Headline (beginning stack) lines written last
@@ -28,7 +28,7 @@ pub record Stops (ends : Type 0) (fault : RunFault) (bytes : List ℕ) (beginnin
   pub stack : Content
   pub spelled : Spells bytes stack
   pub last : Timeline
-  pub stopped : Stopped Line ends fault (beginning stack) read written last
+  pub stopped : Stopped LineMoves ends fault (beginning stack) read written last
 
 -- no stack was read: the bytes are no stack text, or memory was refused
 abbrev pub IsRefusal : List ℕ → CliFault → Type 0

@@ -11,7 +11,7 @@ use Rattle.externals.specs.Cells.{Seen}
 use Rattle.journal_entries.specs.State.{State, titles_of, index_of}
 use Rattle.change_journal.specs.History.{History, Step, step_with_external, plugged, unplugged_at, flipped_back, flipped_back_from, flipped_forth, flipped_forth_from}
 use Rattle.session.specs.Commands.{Statement, Said, run, undo, redo, undo_to, show, globals, current_card, history, quit, said}
-use Rattle.session.specs.Headline.{Snapshot, Timeline, Line, Does, Replaces, Moved, at_cursor, cursor_back, cursor_forth, cursor_back_to, before, later_or_here, last_numbered, with_one_more, without_one, counted}
+use Rattle.session.specs.Headline.{Snapshot, Timeline, LineMoves, Does, Replaces, Moved, at_cursor, cursor_back, cursor_forth, cursor_back_to, before, later_or_here, last_numbered, with_one_more, without_one, line_counted}
 use Rattle.session.specs.Moves.{MovesTo, back_by, forth_by, stamps, undone, redone, undone_to, undone_by, places_to}
 use Rattle.session.specs.Replies.{ended, refused, Refuses, Moves, Looks, ShowsStack}
 use Rattle.session.specs.Standing.{Standing, next_number}
@@ -312,7 +312,7 @@ lines_follow line old reply new t =
       state = old.history.now;
       present = (old.history.stamp, present_is old.history);
       does =
-          subst (λ (n : Timeline). MatchBool (nat_lt 30000 (length line)) (Refuses refusals.LineTooLong (counted (timeline_of old)) reply n) (Does (said line) old.history.now (counted (timeline_of old)) reply n)) (sym here)
+          subst (λ (n : Timeline). MatchBool (nat_lt 30000 (length line)) (Refuses refusals.LineTooLong (line_counted (timeline_of old)) reply n) (Does (said line) old.history.now (line_counted (timeline_of old)) reply n)) (sym here)
           (elim (nat_lt 30000 (length line)) as (λ b. MatchBool b (Refuses refusals.LineTooLong old.history reply new.history) (Performs (said line) lines old.history reply new.history)
           → MatchBool b (Refuses refusals.LineTooLong (at lines old.steps old.history) reply (at lines old.steps new.history)) (Does (said line) old.history.now (at lines old.steps old.history) reply (at lines old.steps new.history))) [
             | true ↦ λ p. refuses_follow lines old.steps refusals.LineTooLong old.history reply new.history p
@@ -359,8 +359,8 @@ opens_follow stack externals turns steps depth = refl
 
 pub runs_follow : RunsFollow
 runs_follow left ran old read written new e =
-    let followed = ended_follows TakesLine Line timeline_of lines_follow (IsAtEnd left) ran old read written new e in
-    (followed, run_lines Line (IsAtEnd left) ran (timeline_of old) read written (timeline_of new) followed)
+    let followed = ended_follows TakesLine LineMoves timeline_of lines_follow (IsAtEnd left) ran old read written new e in
+    (followed, run_lines LineMoves (IsAtEnd left) ran (timeline_of old) read written (timeline_of new) followed)
 
 pub stops_follow : StopsFollow
-stops_follow left fault old read written new s = stopped_follows TakesLine Line timeline_of lines_follow (IsAtEnd left) fault old read written new s
+stops_follow left fault old read written new s = stopped_follows TakesLine LineMoves timeline_of lines_follow (IsAtEnd left) fault old read written new s

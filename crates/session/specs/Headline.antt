@@ -96,14 +96,14 @@ Does (Some history) state old reply new = Looks (history_line old.cursor (length
 Does (Some quit) state old reply new = (reply ≡ ended endings.Quit) × (new ≡ old)
 
 -- the line is counted
-abbrev pub counted : Timeline → Timeline
-counted t = record t { lines = next_number t.lines }
+abbrev pub line_counted : Timeline → Timeline
+line_counted t = record t { lines = next_number t.lines }
 
 -- what a line does; one over 30,000 bytes is refused
-pub record Line (line : List ℕ) (old : Timeline) (reply : Reply) (new : Timeline) : Type 0 where
+pub record LineMoves (line : List ℕ) (old : Timeline) (reply : Reply) (new : Timeline) : Type 0 where
   pub state : State
   pub present : IsPresent state old
-  pub does : MatchBool (nat_lt 30000 (length line)) (Refuses LineTooLong (counted old) reply new) (Does (said line) state (counted old) reply new)
+  pub does : MatchBool (nat_lt 30000 (length line)) (Refuses LineTooLong (line_counted old) reply new) (Does (said line) state (line_counted old) reply new)
 
 -- ---- calls beside lines
 
@@ -147,4 +147,4 @@ without_plugged i t = record t { snapshots = map (without_one i) (take 1 (drop t
 -- by a state that the written meaning of HyperTalk allows; undo and redo only move the cursor; a command refused for
 -- memory changes nothing.
 abbrev pub Headline : Timeline → List (List ℕ) → List ℕ → Timeline → Type 0
-Headline old lines text new = Session Line old lines text new
+Headline old lines text new = Session LineMoves old lines text new

@@ -6,7 +6,7 @@ use Rattle.externals.specs.Cells.{Seen}
 use Rattle.object_table.specs.Content.{Content}
 use Rattle.journal_entries.specs.State.{titles_of, index_of}
 use Rattle.change_journal.specs.History.{History, Step, plugged, unplugged}
-use Rattle.session.specs.Headline.{Snapshot, Timeline, Line, Headline, Undoes, Redoes, UndoesTo, beginning, with_plugged, without_plugged}
+use Rattle.session.specs.Headline.{Snapshot, Timeline, LineMoves, Headline, Undoes, Redoes, UndoesTo, beginning, with_plugged, without_plugged}
 use Rattle.session.specs.Moves.{MovesTo, undone, redone, undone_to}
 use Rattle.session.specs.Opening.{opened}
 use Rattle.session.specs.Splits.{AreLines}
@@ -37,7 +37,7 @@ with_history s h = record s { history = h }
 
 -- each line that a session takes does so to the list of its states
 abbrev pub LinesFollow : Type 0
-LinesFollow = (line : List ℕ) (old : Standing) (reply : Reply) (new : Standing) → TakesLine line old reply new → Line line (timeline_of old) reply (timeline_of new)
+LinesFollow = (line : List ℕ) (old : Standing) (reply : Reply) (new : Standing) → TakesLine line old reply new → LineMoves line (timeline_of old) reply (timeline_of new)
 
 -- and so do `undo`, `redo` and `undo_to`
 abbrev pub MovesFollow : Type 0
@@ -63,9 +63,9 @@ OpensFollow = (stack : Content) (externals : List Seen) (turns : List ℕ) (step
 -- session's states.
 abbrev pub RunsFollow : Type 0
 RunsFollow = (left : Option (List ℕ)) (ran : Ran) (old : Standing) (read written : List ℕ) (new : Standing) → Ended TakesLine (IsAtEnd left) ran old read written new
-    → Ended Line (IsAtEnd left) ran (timeline_of old) read written (timeline_of new) × ((lines : List (List ℕ)) × AreLines read lines × Headline (timeline_of old) lines written (timeline_of new))
+    → Ended LineMoves (IsAtEnd left) ran (timeline_of old) read written (timeline_of new) × ((lines : List (List ℕ)) × AreLines read lines × Headline (timeline_of old) lines written (timeline_of new))
 
 -- and so did a run that stopped, as far as it came
 abbrev pub StopsFollow : Type 0
 StopsFollow = (left : Option (List ℕ)) (fault : RunFault) (old : Standing) (read written : List ℕ) (new : Standing) → Stopped TakesLine (IsAtEnd left) fault old read written new
-    → Stopped Line (IsAtEnd left) fault (timeline_of old) read written (timeline_of new)
+    → Stopped LineMoves (IsAtEnd left) fault (timeline_of old) read written (timeline_of new)
