@@ -85,18 +85,37 @@ fn sample(alloc: Global, shared: bool) -> Result<Stack, Fail> {
     Ok(stack)
 }
 
-/// The properties of an object with card 2, each its text, or `None` where there is none.
-fn has_properties(alloc: Global, stack: &Stack, id: Id, rows: &[(Prop, Option<&[u8]>)]) -> bool {
-    for (prop, text) in rows {
-        let is_so = match text {
+/// The properties in the order of the tables.
+const PROPS: [Prop; 12] = [
+    Prop::Name,
+    Prop::ShortName,
+    Prop::Id,
+    Prop::ShortId,
+    Prop::Number,
+    Prop::Script,
+    Prop::Visible,
+    Prop::Hilite,
+    Prop::SharedHilite,
+    Prop::LockText,
+    Prop::SharedText,
+    Prop::CantDelete,
+];
+
+/// Whether an object has these properties with card 2: their texts in the order of `PROPS` with a bar between them, `-`
+/// for none.
+fn has_properties(alloc: Global, stack: &Stack, id: Id, table: &[u8]) -> bool {
+    let mut texts = table.split(|byte| *byte == b'|');
+    for prop in &PROPS {
+        let is_so = match texts.next() {
+            Some(b"-") => faults(alloc, stack, 2, id, *prop, Fault::NoSuchProperty),
             Some(text) => reads(alloc, stack, id, *prop, text),
-            None => faults(alloc, stack, 2, id, *prop, Fault::NoSuchProperty),
+            None => false,
         };
         if !is_so {
             return false;
         }
     }
-    true
+    texts.next().is_none()
 }
 
 fn reads(alloc: Global, stack: &Stack, id: Id, prop: Prop, text: &[u8]) -> bool {
@@ -115,149 +134,32 @@ fn faults(alloc: Global, stack: &Stack, card: Id, id: Id, prop: Prop, due: Fault
 }
 
 #[test]
-fn the_stack_has_its_properties(rt: HostRuntime) -> Result<(), Fail> {
+fn each_object_has_its_properties(rt: HostRuntime) -> Result<(), Fail> {
     let stack = sample(rt.alloc(), true)?;
-    let rows: &[(Prop, Option<&[u8]>)] = &[
-        (Prop::Name, Some(b"stack \"Demo\"")),
-        (Prop::ShortName, Some(b"Demo")),
-        (Prop::Id, None),
-        (Prop::ShortId, None),
-        (Prop::Number, None),
-        (Prop::Script, Some(b"s")),
-        (Prop::Visible, None),
-        (Prop::Hilite, None),
-        (Prop::SharedHilite, None),
-        (Prop::LockText, None),
-        (Prop::SharedText, None),
-        (Prop::CantDelete, None),
+    let tables: &[(Id, &[u8])] = &[
+        (0, b"stack \"Demo\"|Demo|-|-|-|s|-|-|-|-|-|-"),
+        (1, b"bkgnd \"X\"|X|1|1|1|s|-|-|-|-|-|true"),
+        (2, b"card \"A\"|A|-|2|1|s|-|-|-|-|-|false"),
+        (
+            3,
+            b"bkgnd field \"Note\"|Note|3|3|1|s|true|-|-|false|true|-",
+        ),
+        (
+            5,
+            b"card button id 5|card button id 5|5|5|1|s|true|false|-|-|-|-",
+        ),
+        (6, b"bkgnd button \"B\"|B|6|6|1|s|false|true|true|-|-|-"),
+        (
+            7,
+            b"card field id 7|card field id 7|7|7|1|s|true|-|-|true|-|-",
+        ),
     ];
-    assert!(rt; has_properties(rt.alloc(), &stack, 0, rows));
-    Ok(())
-}
-
-#[test]
-fn a_background_has_its_properties(rt: HostRuntime) -> Result<(), Fail> {
-    let stack = sample(rt.alloc(), true)?;
-    let rows: &[(Prop, Option<&[u8]>)] = &[
-        (Prop::Name, Some(b"bkgnd \"X\"")),
-        (Prop::ShortName, Some(b"X")),
-        (Prop::Id, Some(b"1")),
-        (Prop::ShortId, Some(b"1")),
-        (Prop::Number, Some(b"1")),
-        (Prop::Script, Some(b"s")),
-        (Prop::Visible, None),
-        (Prop::Hilite, None),
-        (Prop::SharedHilite, None),
-        (Prop::LockText, None),
-        (Prop::SharedText, None),
-        (Prop::CantDelete, Some(b"true")),
-    ];
-    assert!(rt; has_properties(rt.alloc(), &stack, 1, rows));
-    Ok(())
-}
-
-#[test]
-fn a_card_has_its_properties(rt: HostRuntime) -> Result<(), Fail> {
-    let stack = sample(rt.alloc(), true)?;
-    let rows: &[(Prop, Option<&[u8]>)] = &[
-        (Prop::Name, Some(b"card \"A\"")),
-        (Prop::ShortName, Some(b"A")),
-        (Prop::Id, None),
-        (Prop::ShortId, Some(b"2")),
-        (Prop::Number, Some(b"1")),
-        (Prop::Script, Some(b"s")),
-        (Prop::Visible, None),
-        (Prop::Hilite, None),
-        (Prop::SharedHilite, None),
-        (Prop::LockText, None),
-        (Prop::SharedText, None),
-        (Prop::CantDelete, Some(b"false")),
-    ];
-    assert!(rt; has_properties(rt.alloc(), &stack, 2, rows));
-    Ok(())
-}
-
-#[test]
-fn a_card_button_has_its_properties(rt: HostRuntime) -> Result<(), Fail> {
-    let stack = sample(rt.alloc(), true)?;
-    let rows: &[(Prop, Option<&[u8]>)] = &[
-        (Prop::Name, Some(b"card button id 5")),
-        (Prop::ShortName, Some(b"card button id 5")),
-        (Prop::Id, Some(b"5")),
-        (Prop::ShortId, Some(b"5")),
-        (Prop::Number, Some(b"1")),
-        (Prop::Script, Some(b"s")),
-        (Prop::Visible, Some(b"true")),
-        (Prop::Hilite, Some(b"false")),
-        (Prop::SharedHilite, None),
-        (Prop::LockText, None),
-        (Prop::SharedText, None),
-        (Prop::CantDelete, None),
-    ];
-    assert!(rt; has_properties(rt.alloc(), &stack, 5, rows));
-    Ok(())
-}
-
-#[test]
-fn a_background_button_has_its_properties(rt: HostRuntime) -> Result<(), Fail> {
-    let stack = sample(rt.alloc(), true)?;
-    let rows: &[(Prop, Option<&[u8]>)] = &[
-        (Prop::Name, Some(b"bkgnd button \"B\"")),
-        (Prop::ShortName, Some(b"B")),
-        (Prop::Id, Some(b"6")),
-        (Prop::ShortId, Some(b"6")),
-        (Prop::Number, Some(b"1")),
-        (Prop::Script, Some(b"s")),
-        (Prop::Visible, Some(b"false")),
-        (Prop::Hilite, Some(b"true")),
-        (Prop::SharedHilite, Some(b"true")),
-        (Prop::LockText, None),
-        (Prop::SharedText, None),
-        (Prop::CantDelete, None),
-    ];
-    assert!(rt; has_properties(rt.alloc(), &stack, 6, rows));
-    Ok(())
-}
-
-#[test]
-fn a_card_field_has_its_properties(rt: HostRuntime) -> Result<(), Fail> {
-    let stack = sample(rt.alloc(), true)?;
-    let rows: &[(Prop, Option<&[u8]>)] = &[
-        (Prop::Name, Some(b"card field id 7")),
-        (Prop::ShortName, Some(b"card field id 7")),
-        (Prop::Id, Some(b"7")),
-        (Prop::ShortId, Some(b"7")),
-        (Prop::Number, Some(b"1")),
-        (Prop::Script, Some(b"s")),
-        (Prop::Visible, Some(b"true")),
-        (Prop::Hilite, None),
-        (Prop::SharedHilite, None),
-        (Prop::LockText, Some(b"true")),
-        (Prop::SharedText, None),
-        (Prop::CantDelete, None),
-    ];
-    assert!(rt; has_properties(rt.alloc(), &stack, 7, rows));
-    Ok(())
-}
-
-#[test]
-fn a_background_field_has_its_properties(rt: HostRuntime) -> Result<(), Fail> {
-    let stack = sample(rt.alloc(), true)?;
-    let rows: &[(Prop, Option<&[u8]>)] = &[
-        (Prop::Name, Some(b"bkgnd field \"Note\"")),
-        (Prop::ShortName, Some(b"Note")),
-        (Prop::Id, Some(b"3")),
-        (Prop::ShortId, Some(b"3")),
-        (Prop::Number, Some(b"1")),
-        (Prop::Script, Some(b"s")),
-        (Prop::Visible, Some(b"true")),
-        (Prop::Hilite, None),
-        (Prop::SharedHilite, None),
-        (Prop::LockText, Some(b"false")),
-        (Prop::SharedText, Some(b"true")),
-        (Prop::CantDelete, None),
-    ];
-    assert!(rt; has_properties(rt.alloc(), &stack, 3, rows));
+    for (id, table) in tables {
+        assert!(rt;
+            has_properties(rt.alloc(), &stack, *id, table),
+            "object {id}"
+        );
+    }
     Ok(())
 }
 

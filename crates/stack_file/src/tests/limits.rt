@@ -2,10 +2,10 @@
 
 ghost use Rattle.std.specs.Prelude.{◌<◌};
 
-use super::reading::fault_of;
-use super::written_again;
+use super::{fault_of, has_script, is_written, stack_of};
 use crate::*;
 use itoa::Buffer;
+use object_table::Stack;
 use std::alloc::{AllocError, Global};
 use std::test::*;
 
@@ -77,25 +77,18 @@ fn text_of_backgrounds(alloc: Global, count: u32) -> Result<Vec<u8>, AllocError>
 #[test]
 fn ten_thousand_objects_are_read_and_one_more_is_too_many(rt: HostRuntime) -> Result<(), Fail> {
     let text = text_of_fields(rt.alloc(), 9_998)?;
-    let stack = read(rt.alloc(), &text).ok().ok_or("a stack")?;
-    assert_eq!(rt; stack.object_count(), 10_000);
-    assert_eq!(rt; stack.next_id(), 10_001);
+    let stack = stack_of(rt.alloc(), &text)?;
+    assert!(rt; stack.object_count() == 10_000 && stack.next_id() == 10_001);
     let text = text_of_fields(rt.alloc(), 9_999)?;
-    assert!(rt;
-        matches!(
-            read(rt.alloc(), &text),
-            Err(ReadError::File(FileError::TooMany))
-        )
-    );
+    assert!(rt; fault_of(rt.alloc(), &text) == Some(FileError::TooMany));
     Ok(())
 }
 
 #[test]
 fn five_thousand_backgrounds_have_a_card_each(rt: HostRuntime) -> Result<(), Fail> {
     let text = text_of_backgrounds(rt.alloc(), 5_000)?;
-    let stack = read(rt.alloc(), &text).ok().ok_or("a stack")?;
-    assert_eq!(rt; stack.backgrounds().len(), 5_000);
-    assert_eq!(rt; stack.card_at(5_000), Some(10_000));
+    let stack = stack_of(rt.alloc(), &text)?;
+    assert!(rt; stack.backgrounds().len() == 5_000 && stack.card_at(5_000) == Some(10_000));
     Ok(())
 }
 
@@ -113,43 +106,59 @@ fn text_of_script(alloc: Global, script: &[u8]) -> Result<Vec<u8>, AllocError> {
     Ok(text)
 }
 
-#[test]
-fn a_script_has_thirty_thousand_bytes_and_no_more(rt: HostRuntime) -> Result<(), Fail> {
-    let mut script = Vec::new(rt.alloc());
+/// The lines of a script of 30,000 returns, and then this.
+fn long_script(alloc: Global, last: &[u8]) -> Result<Vec<u8>, AllocError> {
+    let mut script = Vec::new(alloc);
     script.extend_from_slice(b"script 30001\n")?;
-    for _ in 0..30_001 {
+    for _ in 0..30_000 {
         script.extend_from_slice(b"|\n")?;
     }
-    let text = text_of_script(rt.alloc(), &script)?;
-    let stack = read(rt.alloc(), &text).ok().ok_or("a stack")?;
-    let length = stack.object(0).map(|o| o.script.len());
-    assert_eq!(rt; length, Some(30_000));
-    assert_eq!(rt;
-        written_again(rt.alloc(), &text).as_deref(),
-        Some(text.as_slice())
-    );
-    script.pop();
-    script.extend_from_slice(b"a\n")?;
-    let text = text_of_script(rt.alloc(), &script)?;
-    assert_eq!(rt;
-        fault_of(rt.alloc(), &text),
-        Some(FileError::BadLine(30_005))
-    );
+    script.push(b'|')?;
+    script.extend_from_slice(last)?;
+    script.push(b'\n')?;
+    Ok(script)
+}
+
+fn script_length(stack: &Stack) -> Option<usize> {
+    match stack.object(0) {
+        Some(object) => Some(object.script.len()),
+        None => None,
+    }
+}
+
+#[test]
+fn a_script_has_thirty_thousand_bytes_and_no_more(rt: HostRuntime) -> Result<(), Fail> {
+    let text = text_of_script(rt.alloc(), &long_script(rt.alloc(), b"")?)?;
+    let stack = stack_of(rt.alloc(), &text)?;
+    assert!(rt; script_length(&stack) == Some(30_000));
+    assert!(rt; is_written(rt.alloc(), &text, &text));
+    let text = text_of_script(rt.alloc(), &long_script(rt.alloc(), b"a")?)?;
+    assert!(rt; fault_of(rt.alloc(), &text) == Some(FileError::BadLine(30_005)));
     Ok(())
 }
 
 #[test]
 fn one_empty_piece_is_no_text(rt: HostRuntime) -> Result<(), Fail> {
-    let text = text_of_script(rt.alloc(), b"script 1\n|\n")?;
-    assert_eq!(rt; fault_of(rt.alloc(), &text), Some(FileError::BadLine(5)));
-    let text = text_of_script(rt.alloc(), b"script 1\n|\\0d\n")?;
-    assert_eq!(rt; fault_of(rt.alloc(), &text), Some(FileError::BadLine(5)));
+    let scripts: &[&[u8]] = &[b"script 1\n|\n", b"script 1\n|\\0d\n"];
+    for script in scripts {
+        let text = text_of_script(rt.alloc(), script)?;
+        assert!(rt; fault_of(rt.alloc(), &text) == Some(FileError::BadLine(5)));
+    }
     Ok(())
 }
 
-#[test]
-fn a_script_has_every_byte(rt: HostRuntime) -> Result<(), Fail> {
-    let mut script = Vec::new(rt.alloc());
+/// The bytes from 0 to 255.
+fn every_byte(alloc: Global) -> Result<Vec<u8>, AllocError> {
+    let mut bytes = Vec::new(alloc);
+    for byte in 0..=255 {
+        bytes.push(byte)?;
+    }
+    Ok(bytes)
+}
+
+/// Two lines of every byte: one before the return, and one behind it.
+fn script_of_every_byte(alloc: Global) -> Result<Vec<u8>, AllocError> {
+    let mut script = Vec::new(alloc);
     script.extend_from_slice(b"script 2\n|")?;
     for byte in 0..13 {
         spell_into(&mut script, &[byte])?;
@@ -159,16 +168,14 @@ fn a_script_has_every_byte(rt: HostRuntime) -> Result<(), Fail> {
         spell_into(&mut script, &[byte])?;
     }
     script.push(b'\n')?;
-    let text = text_of_script(rt.alloc(), &script)?;
-    let stack = read(rt.alloc(), &text).ok().ok_or("a stack")?;
-    let object = stack.object(0).ok_or("the stack")?;
-    for (place, byte) in object.script.as_slice().iter().enumerate() {
-        assert_eq!(rt; usize::from(*byte), place);
-    }
-    assert_eq!(rt; object.script.len(), 256);
-    assert_eq!(rt;
-        written_again(rt.alloc(), &text).as_deref(),
-        Some(text.as_slice())
-    );
+    Ok(script)
+}
+
+#[test]
+fn a_script_has_every_byte(rt: HostRuntime) -> Result<(), Fail> {
+    let text = text_of_script(rt.alloc(), &script_of_every_byte(rt.alloc())?)?;
+    let stack = stack_of(rt.alloc(), &text)?;
+    assert!(rt; has_script(&stack, 0, &every_byte(rt.alloc())?));
+    assert!(rt; is_written(rt.alloc(), &text, &text));
     Ok(())
 }

@@ -1,13 +1,13 @@
 //! Stack texts, read.
 
+use super::{fault_of, has_kind, has_name, has_parts, has_script, stack_of};
 use crate::*;
-use object_table::{Kind, Layer, Stack};
+use object_table::{Layer, Stack};
 use std::alloc::{AllocError, Global};
-use std::process::Abort;
 use std::test::*;
 
 /// A stack of two cards on one background, which has one field.
-pub(super) const TWO_CARDS: [&[u8]; 31] = [
+const TWO_CARDS: [&[u8]; 31] = [
     b"htstack 1",
     b"next 5",
     b"name |Demo",
@@ -59,126 +59,106 @@ pub(super) fn text_with(
     Ok(text)
 }
 
-pub(super) fn fault_of(alloc: Global, bytes: &[u8]) -> Option<FileError> {
-    match read(alloc, bytes) {
-        Err(ReadError::File(fault)) => Some(fault),
-        _ => None,
-    }
+/// Whether an object has this name and no script.
+fn is_named(stack: &Stack, id: u32, name: &[u8]) -> bool {
+    has_name(stack, id, name) && has_script(stack, id, b"")
 }
 
-fn name_is(stack: &Stack, id: u32, name: &[u8]) -> bool {
-    match stack.object(id) {
-        Some(object) => object.name.as_slice() == name && object.script.len() == 0,
-        None => false,
-    }
+fn has_objects(stack: &Stack) -> bool {
+    is_named(stack, 0, b"Demo")
+        && is_named(stack, 1, b"")
+        && is_named(stack, 2, b"A")
+        && is_named(stack, 3, b"Note")
+        && is_named(stack, 4, b"B")
 }
 
-fn expect_two_cards(rt: &impl Abort, stack: &Stack) {
-    assert_eq!(rt; stack.next_id(), 5);
-    assert_eq!(rt; stack.object_count(), 4);
-    assert!(rt; stack.backgrounds().as_slice() == [1].as_slice());
-    assert!(rt; stack.cards().as_slice() == [2, 4].as_slice());
-    assert!(rt; name_is(stack, 0, b"Demo"));
-    assert!(rt; name_is(stack, 1, b""));
-    assert!(rt; name_is(stack, 2, b"A"));
-    assert!(rt; name_is(stack, 3, b"Note"));
-    assert!(rt; name_is(stack, 4, b"B"));
-    let fields = stack.parts(Layer::OfBackground(1));
-    assert!(rt; fields.is_some_and(|ids| ids.as_slice() == [3].as_slice()));
-    let parts = stack.parts(Layer::OfCard(4));
-    assert!(rt; parts.is_some_and(|ids| ids.len() == 0));
-    let kind = stack.object(3).map(|o| o.kind);
-    assert!(rt;
-        matches!(
-            kind,
-            Some(Kind::BackgroundField {
-                visible: true,
-                lock_text: false,
-                shared_text: false,
-            })
-        )
-    );
-    let kind = stack.object(4).map(|o| o.kind);
-    assert!(rt;
-        matches!(
-            kind,
-            Some(Kind::Card {
-                background: 1,
-                cant_delete: false,
-            })
-        )
-    );
+fn has_lists(stack: &Stack) -> bool {
+    stack.backgrounds().as_slice() == [1].as_slice()
+        && stack.cards().as_slice() == [2, 4].as_slice()
 }
+
+const NOTE: &str = "BackgroundField { visible: true, lock_text: false, shared_text: false }";
 
 #[test]
 fn both_versions_are_read(rt: HostRuntime) -> Result<(), Fail> {
     for header in [b"htstack 1", b"htstack 2"] {
         let text = text_with(rt.alloc(), 1, header)?;
-        let stack = read(rt.alloc(), &text).ok().ok_or("a stack")?;
-        expect_two_cards(&rt, &stack);
+        let stack = stack_of(rt.alloc(), &text)?;
+        assert!(rt; stack.next_id() == 5 && stack.object_count() == 4);
+        assert!(rt; has_lists(&stack));
+        assert!(rt; has_objects(&stack));
+        assert!(rt; has_parts(&stack, Layer::OfBackground(1), &[3]));
+        assert!(rt; has_parts(&stack, Layer::OfCard(4), &[]));
+        assert!(rt; has_kind(rt.alloc(), &stack, 3, NOTE)?);
+        assert!(rt;
+            has_kind(
+                rt.alloc(),
+                &stack,
+                4,
+                "Card { background: 1, cant_delete: false }"
+            )?
+        );
     }
     Ok(())
 }
 
+const LOCKED: &str = "BackgroundField { visible: true, lock_text: true, shared_text: false }";
+
 #[test]
 fn escapes_and_flags_are_read(rt: HostRuntime) -> Result<(), Fail> {
     let text = text_with(rt.alloc(), 3, b"name |\\5c\\0d\\ff~")?;
-    let stack = read(rt.alloc(), &text).ok().ok_or("a stack")?;
-    assert!(rt; name_is(&stack, 0, b"\\\r\xff~"));
+    let stack = stack_of(rt.alloc(), &text)?;
+    assert!(rt; is_named(&stack, 0, b"\\\r\xff~"));
     let text = text_with(rt.alloc(), 14, b"lockText true")?;
-    let stack = read(rt.alloc(), &text).ok().ok_or("a stack")?;
-    let kind = stack.object(3).map(|o| o.kind);
-    assert!(rt;
-        matches!(
-            kind,
-            Some(Kind::BackgroundField {
-                lock_text: true,
-                ..
-            })
-        )
-    );
+    let stack = stack_of(rt.alloc(), &text)?;
+    assert!(rt; has_kind(rt.alloc(), &stack, 3, LOCKED)?);
     Ok(())
 }
 
+/// A line of another form for the one of this number, and the fault that it makes.
+const CHANGES: &[(usize, &[u8], FileError)] = &[
+    (1, b"htstack 3", FileError::BadLine(1)),
+    (2, b"next 05", FileError::BadLine(2)),
+    (2, b"next 2", FileError::BadLine(2)),
+    (2, b"next 1000002", FileError::TooMany),
+    (2, b"next 10000000", FileError::BadLine(2)),
+    (2, b"next 4", FileError::BadId(25)),
+    (3, b"name |\\4A", FileError::BadLine(3)),
+    (3, b"name |\\4a", FileError::BadLine(3)),
+    (3, b"name |J\\", FileError::BadLine(3)),
+    (4, b"script 30002", FileError::BadLine(4)),
+    (4, b"script 1", FileError::BadLine(5)),
+    (5, b"backgrounds 0", FileError::BadLine(5)),
+    (5, b"backgrounds 10001", FileError::TooMany),
+    (5, b"backgrounds 2", FileError::BadLine(18)),
+    (6, b"background 0", FileError::BadId(6)),
+    (8, b"cantDelete no", FileError::BadLine(8)),
+    (10, b"parts 10001", FileError::TooMany),
+    (11, b"card 3", FileError::BadLine(11)),
+    (11, b"button 03", FileError::BadLine(11)),
+    (11, b"button 3", FileError::BadLine(14)),
+    (11, b"button 5", FileError::BadId(11)),
+    (11, b"field 1", FileError::BadId(11)),
+    (17, b"shared 1", FileError::BadLine(18)),
+    (19, b"card 3 1", FileError::BadId(19)),
+    (19, b"card 2 3", FileError::BadId(19)),
+    (19, b"card 2", FileError::BadLine(19)),
+    (23, b"parts 1", FileError::BadLine(24)),
+    (24, b"text 2 0", FileError::BadId(24)),
+    (24, b"text 2 1", FileError::BadId(24)),
+    (24, b"text 2 30002", FileError::BadLine(24)),
+    (24, b"text 3 1", FileError::BadLine(25)),
+    (31, b"end\n", FileError::BadLine(32)),
+];
+
 #[test]
 fn the_first_line_at_fault_decides(rt: HostRuntime) -> Result<(), Fail> {
-    let cases = [
-        (1, b"htstack 3".as_slice(), FileError::BadLine(1)),
-        (2, b"next 05".as_slice(), FileError::BadLine(2)),
-        (2, b"next 2".as_slice(), FileError::BadLine(2)),
-        (2, b"next 1000002".as_slice(), FileError::TooMany),
-        (2, b"next 10000000".as_slice(), FileError::BadLine(2)),
-        (2, b"next 4".as_slice(), FileError::BadId(25)),
-        (3, b"name |\\4A".as_slice(), FileError::BadLine(3)),
-        (3, b"name |\\4a".as_slice(), FileError::BadLine(3)),
-        (3, b"name |J\\".as_slice(), FileError::BadLine(3)),
-        (4, b"script 30002".as_slice(), FileError::BadLine(4)),
-        (4, b"script 1".as_slice(), FileError::BadLine(5)),
-        (5, b"backgrounds 0".as_slice(), FileError::BadLine(5)),
-        (5, b"backgrounds 10001".as_slice(), FileError::TooMany),
-        (5, b"backgrounds 2".as_slice(), FileError::BadLine(18)),
-        (6, b"background 0".as_slice(), FileError::BadId(6)),
-        (8, b"cantDelete no".as_slice(), FileError::BadLine(8)),
-        (10, b"parts 10001".as_slice(), FileError::TooMany),
-        (11, b"card 3".as_slice(), FileError::BadLine(11)),
-        (11, b"button 03".as_slice(), FileError::BadLine(11)),
-        (11, b"button 3".as_slice(), FileError::BadLine(14)),
-        (11, b"button 5".as_slice(), FileError::BadId(11)),
-        (11, b"field 1".as_slice(), FileError::BadId(11)),
-        (17, b"shared 1".as_slice(), FileError::BadLine(18)),
-        (19, b"card 3 1".as_slice(), FileError::BadId(19)),
-        (19, b"card 2 3".as_slice(), FileError::BadId(19)),
-        (19, b"card 2".as_slice(), FileError::BadLine(19)),
-        (23, b"parts 1".as_slice(), FileError::BadLine(24)),
-        (24, b"text 2 0".as_slice(), FileError::BadId(24)),
-        (24, b"text 2 1".as_slice(), FileError::BadId(24)),
-        (24, b"text 2 30002".as_slice(), FileError::BadLine(24)),
-        (24, b"text 3 1".as_slice(), FileError::BadLine(25)),
-        (31, b"end\n".as_slice(), FileError::BadLine(32)),
-    ];
-    for (number, line, fault) in cases {
-        let text = text_with(rt.alloc(), number, line)?;
-        assert_eq!(rt; fault_of(rt.alloc(), &text), Some(fault));
+    for (number, line, fault) in CHANGES {
+        let text = text_with(rt.alloc(), *number, line)?;
+        assert!(rt;
+            fault_of(rt.alloc(), &text) == Some(*fault),
+            "line {number}"
+        );
     }
     Ok(())
 }
@@ -189,17 +169,14 @@ fn a_background_without_a_card_is_a_fault_of_the_end(rt: HostRuntime) {
         background 1\nname |\ncantDelete false\nscript 0\nparts 0\n\
         background 3\nname |\ncantDelete false\nscript 0\nparts 0\n\
         cards 1\ncard 2 1\nname |\ncantDelete false\nscript 0\nparts 0\nend\n";
-    assert_eq!(rt; fault_of(rt.alloc(), text), Some(FileError::BadId(22)));
+    assert!(rt; fault_of(rt.alloc(), text) == Some(FileError::BadId(22)));
 }
 
 #[test]
 fn each_part_of_a_text_is_truncated(rt: HostRuntime) -> Result<(), Fail> {
     let text = text_with(rt.alloc(), 0, b"")?;
     for cut in 0..text.len() {
-        assert_eq!(rt;
-            fault_of(rt.alloc(), &text[..cut]),
-            Some(FileError::Truncated)
-        );
+        assert!(rt; fault_of(rt.alloc(), &text[..cut]) == Some(FileError::Truncated));
     }
     Ok(())
 }

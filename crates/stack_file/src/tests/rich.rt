@@ -1,7 +1,6 @@
 //! A stack with every kind of object.
 
-use super::reading::fault_of;
-use super::written_again;
+use super::{fault_of, has_hilite, has_parts, has_text, is_written, stack_of};
 use crate::*;
 use object_table::Layer;
 use std::test::*;
@@ -25,33 +24,30 @@ hilite 5 false\ntext 6 0\ntext 7 1\n|z\nend\n";
 
 #[test]
 fn a_rich_stack_is_written_as_it_was_read(rt: HostRuntime) -> Result<(), Fail> {
-    assert_eq!(rt; written_again(rt.alloc(), RICH).as_deref(), Some(RICH));
+    assert!(rt; is_written(rt.alloc(), RICH, RICH));
     Ok(())
 }
 
 #[test]
 fn a_rich_stack_has_its_parts(rt: HostRuntime) -> Result<(), Fail> {
-    let stack = read(rt.alloc(), RICH).ok().ok_or("a stack")?;
-    let parts = stack.parts(Layer::OfBackground(1));
-    assert!(rt; parts.is_some_and(|ids| ids.as_slice() == [5, 6, 7].as_slice()));
+    let stack = stack_of(rt.alloc(), RICH)?;
+    assert!(rt; has_parts(&stack, Layer::OfBackground(1), &[5, 6, 7]));
     Ok(())
 }
 
 #[test]
 fn a_rich_stack_has_its_texts(rt: HostRuntime) -> Result<(), Fail> {
-    let stack = read(rt.alloc(), RICH).ok().ok_or("a stack")?;
-    let text = stack.text(6, 0).ok_or("a shared text")?;
-    assert_eq!(rt; text.as_slice(), b"a\rb\xff".as_slice());
-    let text = stack.text(6, 2).ok_or("a card's text")?;
-    assert_eq!(rt; text.as_slice(), b"own".as_slice());
+    let stack = stack_of(rt.alloc(), RICH)?;
+    assert!(rt; has_text(&stack, 6, 0, b"a\rb\xff"));
+    assert!(rt; has_text(&stack, 6, 2, b"own"));
     Ok(())
 }
 
 #[test]
 fn a_rich_stack_has_its_hilites(rt: HostRuntime) -> Result<(), Fail> {
-    let stack = read(rt.alloc(), RICH).ok().ok_or("a stack")?;
-    assert_eq!(rt; stack.hilite(5, 0), Some(true));
-    assert_eq!(rt; stack.hilite(5, 9), Some(false));
+    let stack = stack_of(rt.alloc(), RICH)?;
+    assert!(rt; has_hilite(&stack, 5, 0, true));
+    assert!(rt; has_hilite(&stack, 5, 9, false));
     Ok(())
 }
 
@@ -68,10 +64,10 @@ cards 1\ncard 2 1\nname |\ncantDelete false\nscript 0\nparts 0\nhilite 3 false\n
 
 #[test]
 fn a_button_of_version_1_shares_its_hilite(rt: HostRuntime) -> Result<(), Fail> {
-    assert_eq!(rt; written_again(rt.alloc(), FIRST).as_deref(), Some(SECOND));
-    let again = read(rt.alloc(), SECOND).ok().ok_or("a stack")?;
-    assert_eq!(rt; again.hilite(3, 0), Some(true));
-    assert_eq!(rt; again.hilite(3, 2), Some(false));
+    assert!(rt; is_written(rt.alloc(), FIRST, SECOND));
+    let again = stack_of(rt.alloc(), SECOND)?;
+    assert!(rt; has_hilite(&again, 3, 0, true));
+    assert!(rt; has_hilite(&again, 3, 2, false));
     Ok(())
 }
 
@@ -80,6 +76,6 @@ fn another_part_than_the_one_due_is_a_bad_id(rt: HostRuntime) -> Result<(), Fail
     let mut text = Vec::new(rt.alloc());
     text.extend_from_slice(&SECOND[..SECOND.len().saturating_sub(19)])?;
     text.extend_from_slice(b"hilite 1 false\nend\n")?;
-    assert_eq!(rt; fault_of(rt.alloc(), &text), Some(FileError::BadId(23)));
+    assert!(rt; fault_of(rt.alloc(), &text) == Some(FileError::BadId(23)));
     Ok(())
 }
