@@ -7,62 +7,75 @@ use ht_values::{Op, Text};
 use std::alloc::Global;
 use std::test::*;
 
-/// Whether the next three tokens are of these kinds.
+/// Whether the cursor is before three tokens of these kinds.
 fn is_before(cursor: &Cursor<'_>, first: Kind, second: Kind, third: Kind) -> bool {
     cursor.peek() == Some(first) && cursor.second() == Some(second) && cursor.third() == Some(third)
 }
 
-/// Whether the token that the cursor is before has this text, also when it is taken, and so many are left after it.
-fn takes(cursor: &mut Cursor<'_>, want: &[u8], left: usize) -> bool {
+/// Whether the second of four tokens has this text, also when it is taken, and a mark stays before the first.
+fn takes_second(alloc: Global, text: &Text, want: &[u8]) -> Result<bool, Fail> {
+    let _size = text.len();
+    let tokens = lex(alloc, text)?;
+    let mut cursor = Cursor::new(&tokens);
+    let mark = cursor.mark();
+    cursor.skip();
     let is_seen = cursor.text() == want;
     let is_taken = cursor.take() == want;
-    is_seen && is_taken && cursor.left() == left
+    Ok(is_seen && is_taken && cursor.left() == 2 && mark.left() == 4)
 }
 
-/// Whether an expression is read in front, a power.
-fn reads_power(alloc: Global, cursor: &mut Cursor<'_>) -> bool {
-    match read(alloc, cursor, WHOLE, 100) {
+/// Whether a cursor is at the end when it has skipped so many tokens.
+fn ends_after(alloc: Global, text: &Text, many: usize) -> Result<bool, Fail> {
+    let _size = text.len();
+    let tokens = lex(alloc, text)?;
+    let mut cursor = Cursor::new(&tokens);
+    let left = cursor.left();
+    for _ in 0..many {
+        cursor.skip();
+    }
+    Ok(left == many && cursor.peek().is_none())
+}
+
+/// Whether a power is read from the tokens of the text, and then this token stands there, at which no expression begins.
+fn reads_power_before(alloc: Global, text: &Text, next: Kind) -> Result<bool, Fail> {
+    let _size = text.len();
+    let tokens = lex(alloc, text)?;
+    let mut cursor = Cursor::new(&tokens);
+    let is_power = match read(alloc, &mut cursor, WHOLE, 100) {
         Ok(power) => matches!(power.kind(), ExprKind::Binary(Op::Power, _, _)),
         Err(_) => false,
-    }
-}
-
-/// Whether no expression stands in front.
-fn reads_none(alloc: Global, cursor: &mut Cursor<'_>) -> bool {
-    matches!(read(alloc, cursor, WHOLE, 100), Err(Stop::Syntax))
+    };
+    let is_next = cursor.peek() == Some(next);
+    let is_none = matches!(read(alloc, &mut cursor, WHOLE, 100), Err(Stop::Syntax));
+    Ok(is_power && is_next && is_none)
 }
 
 #[test]
-fn a_cursor_goes_over_the_tokens(rt: HostRuntime) -> Result<(), Fail> {
+fn a_cursor_is_before_the_tokens(rt: HostRuntime) -> Result<(), Fail> {
     let text = Text::from_slice(rt.alloc(), b"put \"a b\" into c")?;
     let tokens = lex(rt.alloc(), &text)?;
-    let mut cursor = Cursor::new(&tokens);
-    assert_eq!(rt; cursor.left(), 4);
     assert!(rt;
         is_before(
-            &cursor,
+            &Cursor::new(&tokens),
             Kind::Key(Key::Put),
             Kind::Quoted,
             Kind::Key(Key::Into)
         )
     );
-    let before = cursor.mark();
-    cursor.skip();
-    assert!(rt; takes(&mut cursor, b"a b", 2));
-    assert_eq!(rt; before.left(), 4);
-    cursor.skip();
-    cursor.skip();
-    assert_eq!(rt; cursor.peek(), None);
+    Ok(())
+}
+
+#[test]
+fn a_cursor_goes_over_the_tokens(rt: HostRuntime) -> Result<(), Fail> {
+    let text = Text::from_slice(rt.alloc(), b"put \"a b\" into c")?;
+    assert!(rt; takes_second(rt.alloc(), &text, b"a b")?);
+    assert!(rt; ends_after(rt.alloc(), &text, 4)?);
     Ok(())
 }
 
 #[test]
 fn an_expression_ends_before_what_is_none(rt: HostRuntime) -> Result<(), Fail> {
     let text = Text::from_slice(rt.alloc(), b"2 ^ 3 ^ 4 into x")?;
-    let tokens = lex(rt.alloc(), &text)?;
-    let mut cursor = Cursor::new(&tokens);
-    assert!(rt; reads_power(rt.alloc(), &mut cursor));
-    assert_eq!(rt; cursor.peek(), Some(Kind::Key(Key::Into)));
-    assert!(rt; reads_none(rt.alloc(), &mut cursor));
+    assert!(rt; reads_power_before(rt.alloc(), &text, Kind::Key(Key::Into))?);
     Ok(())
 }
