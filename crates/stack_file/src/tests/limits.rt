@@ -106,16 +106,19 @@ fn text_of_script(alloc: Global, script: &[u8]) -> Result<Vec<u8>, AllocError> {
     Ok(text)
 }
 
+fn push_empty_lines(text: &mut Vec<u8>, count: usize) -> Result<(), AllocError> {
+    for _ in 0..count {
+        text.extend_from_slice(b"|\n")?;
+    }
+    Ok(())
+}
+
 /// The lines of a script of 30,000 returns, and then this.
 fn long_script(alloc: Global, last: &[u8]) -> Result<Vec<u8>, AllocError> {
     let mut script = Vec::new(alloc);
     script.extend_from_slice(b"script 30001\n")?;
-    for _ in 0..30_000 {
-        script.extend_from_slice(b"|\n")?;
-    }
-    script.push(b'|')?;
+    push_empty_lines(&mut script, 30_000)?;
     script.extend_from_slice(last)?;
-    script.push(b'\n')?;
     Ok(script)
 }
 
@@ -128,11 +131,11 @@ fn script_length(stack: &Stack) -> Option<usize> {
 
 #[test]
 fn a_script_has_thirty_thousand_bytes_and_no_more(rt: HostRuntime) -> Result<(), Fail> {
-    let text = text_of_script(rt.alloc(), &long_script(rt.alloc(), b"")?)?;
+    let text = text_of_script(rt.alloc(), &long_script(rt.alloc(), b"|\n")?)?;
     let stack = stack_of(rt.alloc(), &text)?;
     assert!(rt; script_length(&stack) == Some(30_000));
     assert!(rt; is_written(rt.alloc(), &text, &text));
-    let text = text_of_script(rt.alloc(), &long_script(rt.alloc(), b"a")?)?;
+    let text = text_of_script(rt.alloc(), &long_script(rt.alloc(), b"|a\n")?)?;
     assert!(rt; fault_of(rt.alloc(), &text) == Some(FileError::BadLine(30_005)));
     Ok(())
 }

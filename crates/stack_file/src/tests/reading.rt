@@ -79,36 +79,49 @@ fn has_lists(stack: &Stack) -> bool {
 
 const NOTE: &str = "BackgroundField { visible: true, lock_text: false, shared_text: false }";
 
+const LOCKED: &str = "BackgroundField { visible: true, lock_text: true, shared_text: false }";
+
+const CARD: &str = "Card { background: 1, cant_delete: false }";
+
+fn has_layers(stack: &Stack) -> bool {
+    has_parts(stack, Layer::OfBackground(1), &[3]) && has_parts(stack, Layer::OfCard(4), &[])
+}
+
+fn has_kinds(alloc: Global, stack: &Stack) -> Result<bool, Fail> {
+    Ok(has_kind(alloc, stack, 3, NOTE)? && has_kind(alloc, stack, 4, CARD)?)
+}
+
+fn is_two_cards(alloc: Global, stack: &Stack) -> Result<bool, Fail> {
+    let counts = stack.next_id() == 5 && stack.object_count() == 4;
+    Ok(
+        counts
+            && has_lists(stack)
+            && has_objects(stack)
+            && has_layers(stack)
+            && has_kinds(alloc, stack)?,
+    )
+}
+
 #[test]
 fn both_versions_are_read(rt: HostRuntime) -> Result<(), Fail> {
     for header in [b"htstack 1", b"htstack 2"] {
         let text = text_with(rt.alloc(), 1, header)?;
         let stack = stack_of(rt.alloc(), &text)?;
-        assert!(rt; stack.next_id() == 5 && stack.object_count() == 4);
-        assert!(rt; has_lists(&stack));
-        assert!(rt; has_objects(&stack));
-        assert!(rt; has_parts(&stack, Layer::OfBackground(1), &[3]));
-        assert!(rt; has_parts(&stack, Layer::OfCard(4), &[]));
-        assert!(rt; has_kind(rt.alloc(), &stack, 3, NOTE)?);
-        assert!(rt;
-            has_kind(
-                rt.alloc(),
-                &stack,
-                4,
-                "Card { background: 1, cant_delete: false }"
-            )?
-        );
+        assert!(rt; is_two_cards(rt.alloc(), &stack)?);
     }
     Ok(())
 }
 
-const LOCKED: &str = "BackgroundField { visible: true, lock_text: true, shared_text: false }";
-
 #[test]
-fn escapes_and_flags_are_read(rt: HostRuntime) -> Result<(), Fail> {
+fn escapes_are_read(rt: HostRuntime) -> Result<(), Fail> {
     let text = text_with(rt.alloc(), 3, b"name |\\5c\\0d\\ff~")?;
     let stack = stack_of(rt.alloc(), &text)?;
     assert!(rt; is_named(&stack, 0, b"\\\r\xff~"));
+    Ok(())
+}
+
+#[test]
+fn flags_are_read(rt: HostRuntime) -> Result<(), Fail> {
     let text = text_with(rt.alloc(), 14, b"lockText true")?;
     let stack = stack_of(rt.alloc(), &text)?;
     assert!(rt; has_kind(rt.alloc(), &stack, 3, LOCKED)?);
