@@ -106,7 +106,7 @@ impl Text {
 }
 
 /// What a text is by its definition. A byte is known to be one as it is read, so this reads them all; nothing is done
-/// with them, and the program has no such loop.
+/// with them, so a compiler may take the loop out.
 pub fn law_of_text(text: &Text)
     ensures { IsText text.now }
 {

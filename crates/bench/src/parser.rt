@@ -1,12 +1,11 @@
-//! Times of parsing scripts from 300 to 30,000 bytes, for a byte each. It measures where its one word is `measure`; else it
-//! says so, so that what it prints stays the same.
-#![tactic(auto)]
+//! Times of parsing scripts from 300 to 30,000 bytes, for a byte each.
 
+use crate::timing::{Tenths, ratio, time_of};
 use ht_parse::parse_script;
 use ht_values::Text;
 use std::alloc::Global;
-use std::time::{Clock, Instant};
-use std::{env, io};
+use std::io;
+use std::time::Clock;
 
 /// How many bytes are parsed in a measurement.
 const BYTES: usize = 3_000_000;
@@ -71,39 +70,26 @@ fn script_of(alloc: Global, shape: Shape, size: usize) -> anyhow::Result<(Text, 
     Ok((Text::from_vec(bytes)?, lines))
 }
 
-/// The nanoseconds of parsing a script so many times.
-fn time_of(rt: &impl Clock, alloc: Global, script: &Text, rounds: usize) -> anyhow::Result<u64> {
-    let mut handlers: usize = 0;
-    let start = Instant::now(rt)?;
-    for _ in 0..rounds {
-        handlers = handlers.wrapping_add(parse_script(alloc, script)?.handlers.len());
-    }
-    if handlers == 0 {
-        anyhow::bail!("a script has no handler");
-    }
-    let elapsed = start.elapsed(rt)?.as_nanos();
-    Ok(u64::try_from(elapsed).unwrap_or(u64::MAX))
-}
-
-/// Prints a line of the table: the size, the time of a byte, and how many lines are parsed in a second.
+/// Prints a line of the table: the size, the time of a byte, and how many lines are parsed in a second. It is told the
+/// nanoseconds of so many rounds of a script of so many bytes and lines.
 fn show(
     rt: &impl Print,
     name: &str,
-    size: usize,
+    (bytes, lines): (usize, usize),
+    rounds: usize,
     time: u64,
-    bytes: u64,
-    lines: u64,
 ) -> io::Result<()> {
-    let tenths = u128::from(time) * 10 / u128::from(bytes.max(1));
-    let second = u128::from(lines) * 1_000_000_000 / u128::from(time.max(1));
+    let all_bytes = (bytes as u64).wrapping_mul(rounds as u64);
+    let all_lines = (lines as u64).wrapping_mul(rounds as u64);
     println!(rt;
-        "{name:<10} {size:>6} bytes {:>6}.{} ns a byte {second:>10} lines a second",
-        tenths / 10,
-        tenths % 10
+        "{name:<10} {bytes:>6} bytes {} ns a byte {:>10} lines a second",
+        Tenths::new(time, all_bytes),
+        ratio(all_lines, time, 1_000_000_000)
     )
 }
 
-fn measure<R: Clock + Print>(rt: &R, alloc: Global) -> anyhow::Result<()> {
+/// Prints the times of scripts of each shape and size.
+pub(crate) fn measure<R: Clock + Print>(rt: &R, alloc: Global) -> anyhow::Result<()> {
     let shapes = [
         ("flat", Shape::Flat),
         ("chained", Shape::Chained),
@@ -113,22 +99,11 @@ fn measure<R: Clock + Print>(rt: &R, alloc: Global) -> anyhow::Result<()> {
         for size in SIZES {
             let (script, lines) = script_of(alloc, shape, size)?;
             let rounds = BYTES / script.len().max(1);
-            let time = time_of(rt, alloc, &script, rounds)?;
-            let bytes = (script.len() as u64).wrapping_mul(rounds as u64);
-            let all = (lines as u64).wrapping_mul(rounds as u64);
-            show(rt, name, script.len(), time, bytes, all)?;
+            let time = time_of(rt, rounds, || {
+                Ok(parse_script(alloc, &script)?.handlers.len())
+            })?;
+            show(rt, name, (script.len(), lines), rounds, time)?;
         }
     }
     Ok(())
-}
-
-fn main(rt: HostRuntime) -> anyhow::Result<()> {
-    let asked = env::args(&rt)?.nth(1);
-    match asked {
-        Some(word) if word.as_str() == "measure" => measure(&rt, rt.alloc()),
-        _ => {
-            println!(rt; "parser_bench measure: times of parsing scripts")?;
-            Ok(())
-        }
-    }
 }

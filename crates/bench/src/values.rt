@@ -1,15 +1,14 @@
-//! Times of calls on texts and chunks, each as its ratio to a plain copy of the same bytes. It measures where its one
-//! word is `measure`; else it says so, so that what it prints stays the same.
-#![tactic(auto)]
+//! Times of calls on texts and chunks, each as its ratio to a plain copy of the same bytes.
 
+use crate::timing::{Tenths, time_of};
 use chunks::{Chunk, Index, Kind, Where, delete, put, take};
 use ht_values::{Func, LIMIT, Op, Text, binary, built_in};
 use std::alloc::Global;
-use std::time::{Clock, Instant};
-use std::{env, io};
+use std::io;
+use std::time::Clock;
 
 /// How often each call is timed.
-const ROUNDS: u32 = 5_000;
+const ROUNDS: usize = 5_000;
 
 /// The bytes of an item and its delimiter: 1,000 of them are the longest text.
 const ITEM_LENGTH: usize = 30;
@@ -50,6 +49,7 @@ fn items(alloc: Global) -> anyhow::Result<Text> {
     Ok(Text::from_vec(bytes)?)
 }
 
+/// What all calls are given.
 fn inputs(alloc: Global) -> anyhow::Result<Given> {
     let items = items(alloc)?;
     let mut search = Vec::new(alloc);
@@ -84,34 +84,23 @@ fn made(alloc: Global, call: Call, given: &Given) -> anyhow::Result<usize> {
 }
 
 /// The nanoseconds of all rounds of a call.
-fn time_of(rt: &impl Clock, alloc: Global, call: Call, given: &Given) -> anyhow::Result<u64> {
-    let mut bytes: usize = 0;
-    let start = Instant::now(rt)?;
-    for _ in 0..ROUNDS {
-        bytes = bytes.wrapping_add(made(alloc, call, given)?);
-    }
-    if bytes == 0 {
-        anyhow::bail!("a call gave nothing");
-    }
-    let elapsed = start.elapsed(rt)?.as_nanos();
-    Ok(u64::try_from(elapsed).unwrap_or(u64::MAX))
+fn time(rt: &impl Clock, alloc: Global, call: Call, given: &Given) -> anyhow::Result<u64> {
+    time_of(rt, ROUNDS, || made(alloc, call, given))
 }
 
 /// Prints a line of the table: a call, its time, and the ratio to the copy.
 fn show(rt: &impl Print, name: &str, time: u64, copy: u64) -> io::Result<()> {
-    let one = u64::from(ROUNDS);
-    let tenths = u128::from(time) * 10 / u128::from(copy.max(1));
     println!(rt;
-        "{name:<32} {:>9} ns {:>6}.{} copies",
-        time / one,
-        tenths / 10,
-        tenths % 10
+        "{name:<32} {:>9} ns {} copies",
+        time / ROUNDS as u64,
+        Tenths::new(time, copy)
     )
 }
 
-fn measure<R: Clock + Print>(rt: &R, alloc: Global) -> anyhow::Result<()> {
+/// Prints the times of all calls.
+pub(crate) fn measure<R: Clock + Print>(rt: &R, alloc: Global) -> anyhow::Result<()> {
     let given = inputs(alloc)?;
-    let copy = time_of(rt, alloc, Call::CopyText, &given)?;
+    let copy = time(rt, alloc, Call::CopyText, &given)?;
     show(rt, "copy of 30,000 bytes", copy, copy)?;
     let rows = [
         ("item 1,000 of them read", Call::TakeItem),
@@ -120,26 +109,11 @@ fn measure<R: Clock + Print>(rt: &R, alloc: Global) -> anyhow::Result<()> {
         ("offset of 20 bytes in them", Call::Offset),
     ];
     for (name, call) in rows {
-        show(rt, name, time_of(rt, alloc, call, &given)?, copy)?;
+        show(rt, name, time(rt, alloc, call, &given)?, copy)?;
     }
-    let copy = time_of(rt, alloc, Call::CopyNumeral, &given)?;
+    let copy = time(rt, alloc, Call::CopyNumeral, &given)?;
     show(rt, "copy of a numeral", copy, copy)?;
-    show(
-        rt,
-        "sum of two numerals",
-        time_of(rt, alloc, Call::Sum, &given)?,
-        copy,
-    )?;
+    let sum = time(rt, alloc, Call::Sum, &given)?;
+    show(rt, "sum of two numerals", sum, copy)?;
     Ok(())
-}
-
-fn main(rt: HostRuntime) -> anyhow::Result<()> {
-    let asked = env::args(&rt)?.nth(1);
-    match asked {
-        Some(word) if word.as_str() == "measure" => measure(&rt, rt.alloc()),
-        _ => {
-            println!(rt; "values_bench measure: times of calls on texts and chunks")?;
-            Ok(())
-        }
-    }
 }

@@ -1,0 +1,27 @@
+//! Times of calls, by one word: `values`, `parser` or `stack`. Without one of these it says what each word times, so that
+//! what it prints stays the same.
+#![tactic(auto)]
+
+mod parser;
+mod stack;
+mod timing;
+mod values;
+
+use std::{env, io};
+
+/// Prints each word with what it times.
+fn print_words(rt: &impl Print) -> io::Result<()> {
+    println!(rt; "bench values: times of calls on texts and chunks")?;
+    println!(rt; "bench parser: times of parsing scripts")?;
+    println!(rt; "bench stack: times of reading and writing stacks")
+}
+
+fn main(rt: HostRuntime) -> anyhow::Result<()> {
+    let word = env::args(&rt)?.nth(1);
+    match word.as_ref().map_or("", |word| word.as_str()) {
+        "values" => values::measure(&rt, rt.alloc()),
+        "parser" => parser::measure(&rt, rt.alloc()),
+        "stack" => stack::measure(&rt, rt.alloc()),
+        _ => Ok(print_words(&rt)?),
+    }
+}
