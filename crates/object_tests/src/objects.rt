@@ -81,6 +81,16 @@ fn has_lists(stack: &Stack, backgrounds: &[Id], cards: &[Id]) -> bool {
     stack.backgrounds().as_slice() == backgrounds && stack.cards().as_slice() == cards
 }
 
+fn taken_backgrounds(alloc: Global, stack: &mut Stack) -> IdList {
+    let mut backgrounds = IdList::new(alloc);
+    stack.swap_backgrounds(&mut backgrounds);
+    backgrounds
+}
+
+fn has_ids(list: &IdList, ids: &[Id]) -> bool {
+    list.as_slice() == ids
+}
+
 fn counts(stack: &Stack) -> (usize, Id) {
     (stack.object_count(), stack.next_id())
 }
@@ -258,10 +268,8 @@ fn an_exchange_gives_the_object_that_was_there(rt: HostRuntime) -> Result<(), Fa
 #[test]
 fn an_exchange_gives_the_backgrounds_that_were_there(rt: HostRuntime) -> Result<(), Fail> {
     let mut stack = demo(rt.alloc())?;
-    let mut backgrounds = IdList::new(rt.alloc());
-    stack.swap_backgrounds(&mut backgrounds);
-    assert!(rt; backgrounds.as_slice() == [1].as_slice());
-    assert!(rt; has_lists(&stack, &[], &[2, 4]));
+    let backgrounds = taken_backgrounds(rt.alloc(), &mut stack);
+    assert!(rt; has_ids(&backgrounds, &[1]) && has_lists(&stack, &[], &[2, 4]));
     Ok(())
 }
 

@@ -1,11 +1,11 @@
 //! Entries, globals and changes, with ample memory.
 
 use crate::quiet::{Quiet, make_quiet};
+use ht_values::Text;
 use journal_entries::{
     Batch, Change, Entry, Globals, Present, are_apart, index_of, law_of_externals, law_of_texts,
     law_of_trails,
 };
-use ht_values::Text;
 use object_table::{Id, Kind, Object, PropValue, Stack};
 use stack_places::StackEntry;
 use std::alloc::Global;

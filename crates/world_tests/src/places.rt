@@ -1,8 +1,8 @@
 //! Examples, with ample memory, on the empty stack.
 
-use stack_places::{StackEntry, laws_of_exchanges};
 use ht_values::Text;
 use object_table::{Id, IdList, Kind, Layer, Object, PropValue, Stack};
+use stack_places::{StackEntry, laws_of_exchanges};
 use std::alloc::Global;
 use std::test::Fail;
 

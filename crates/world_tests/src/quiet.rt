@@ -71,4 +71,3 @@ pub(crate) fn make_quiet(alloc: Global, name: &[u8]) -> Result<Quiet, Fail> {
         turns: 0,
     })
 }
-

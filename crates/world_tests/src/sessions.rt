@@ -3,10 +3,11 @@
 ghost use Rattle.std.specs.Prelude.{IfOk};
 ghost use Rattle.object_table.specs.WellFormed.{IsWellFormed};
 
-use crate::quiet::{Quiet, make_quiet};
+use crate::quiet::make_quiet;
 use externals::External;
 use ht_values::{Fault, Text};
 use object_table::Stack;
+use session::*;
 use stack_file::{Watched, read};
 use std::alloc::{AllocError, Global};
 use std::io;
