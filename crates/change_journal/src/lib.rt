@@ -7,6 +7,3 @@ mod world;
 pub use fault::{OpenError, PlugError};
 pub use journal_entries::Change;
 pub use world::World;
-
-#[cfg(test)]
-mod tests;

@@ -13,6 +13,3 @@ pub use laws::{law_of_external, laws_of_flips};
 pub use note::Note;
 pub use patch::Patch;
 pub use texts::Texts;
-
-#[cfg(test)]
-mod tests;

@@ -16,6 +16,3 @@ pub use globals::Globals;
 pub use laws::{law_of_externals, law_of_trails};
 pub use names::{are_apart, index_of};
 pub use present::Present;
-
-#[cfg(test)]
-mod tests;

@@ -16,6 +16,3 @@ pub use object::{Kind, Layer, Object};
 pub use property::PropValue;
 pub use reference::Which;
 pub use stack::Stack;
-
-#[cfg(test)]
-mod tests;

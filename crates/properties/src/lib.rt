@@ -8,6 +8,3 @@ mod setting;
 
 pub use reading::get;
 pub use setting::check;
-
-#[cfg(test)]
-mod tests;

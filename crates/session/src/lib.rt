@@ -17,6 +17,3 @@ pub use fault::OpenError;
 pub use law::{lines_follow, moves_follow, opens_follow, plugs_follow, runs_follow, stops_follow};
 pub use reply::{Bytes, Ending, Line, Message, Refusal, Reply, Sent, Shown};
 pub use session::{LONGEST_LINE, Session};
-
-#[cfg(test)]
-mod tests;

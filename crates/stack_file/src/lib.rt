@@ -19,6 +19,3 @@ pub use building::read;
 pub use stack_text::{FileError, ReadError, number_at, spell_into, unspell};
 pub use watched::{Watched, WriteFault, write_to};
 pub use writing::write;
-
-#[cfg(test)]
-mod tests;

@@ -6,6 +6,3 @@ mod laws;
 
 pub use entry::StackEntry;
 pub use laws::laws_of_exchanges;
-
-#[cfg(test)]
-mod tests;

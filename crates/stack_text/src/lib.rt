@@ -9,6 +9,3 @@ mod words;
 pub use fault::{FileError, ReadError};
 pub use sheets::{Keeping, Kept, Part, Version};
 pub use words::{number_at, spell_into, unspell};
-
-#[cfg(test)]
-mod tests;

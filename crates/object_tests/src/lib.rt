@@ -1,0 +1,14 @@
+//! Examples of the crates of objects, with ample memory. A crate that has tests is proved a second time for them, so they stand
+//! here, above the crates that they try, where nothing else is to be proved.
+#![tactic(auto)]
+
+#[cfg(test)]
+mod external_cells;
+#[cfg(test)]
+mod files;
+#[cfg(test)]
+mod objects;
+#[cfg(test)]
+mod property_values;
+#[cfg(test)]
+mod spelling;

@@ -1,0 +1,134 @@
+//! Examples, with ample memory, on the empty stack.
+
+use ht_values::Text;
+use object_table::{Id, IdList, Kind, Layer, Object, PropValue, Stack};
+use stack_places::{StackEntry, laws_of_exchanges};
+use std::alloc::Global;
+use std::test::Fail;
+
+const FIELD: Kind = Kind::BackgroundField {
+    visible: true,
+    lock_text: false,
+    shared_text: false,
+};
+
+fn text(alloc: Global, bytes: &[u8]) -> Result<Text, Fail> {
+    Ok(Text::from_slice(alloc, bytes)?)
+}
+
+fn put(stack: &mut Stack, id: Id, object: Object) -> Result<(), Fail> {
+    stack.open_slot(id)?;
+    let mut object = Some(object);
+    stack.swap_object(id, &mut object);
+    Ok(())
+}
+
+fn has_text(stack: &Stack, bytes: &[u8]) -> bool {
+    match stack.text(3, 2) {
+        Some(text) => text.as_slice() == bytes,
+        None => false,
+    }
+}
+
+#[test]
+#[tactic(auto, unfolding(stack_places::specs::Exchange::IsReady, stack_places::specs::Exchange::taken))]
+fn a_text_goes_back(rt: HostRuntime) -> Result<(), Fail> {
+    let new = text(rt.alloc(), b"new")?;
+    let mut stack = Stack::new(rt.alloc())?;
+    stack.open_text(3, 2)?;
+    let mut entry = StackEntry::FieldText(3, 2, Some(new));
+    entry.exchange(&mut stack);
+    assert!(rt; has_text(&stack, b"new"));
+    entry.exchange(&mut stack);
+    assert!(rt; stack.text(3, 2).is_none());
+    Ok(())
+}
+
+#[test]
+#[tactic(auto, unfolding(stack_places::specs::Exchange::IsReady, stack_places::specs::Exchange::taken))]
+fn a_hilite_goes_back(rt: HostRuntime) -> Result<(), Fail> {
+    let mut stack = Stack::new(rt.alloc())?;
+    stack.open_hilite(4, 2)?;
+    let mut entry = StackEntry::Hilite(4, 2, Some(true));
+    entry.exchange(&mut stack);
+    assert_eq!(rt; stack.hilite(4, 2), Some(true));
+    entry.exchange(&mut stack);
+    assert_eq!(rt; stack.hilite(4, 2), None);
+    Ok(())
+}
+
+#[test]
+#[tactic(auto, unfolding(stack_places::specs::Exchange::IsReady))]
+fn a_property_goes_back(rt: HostRuntime) -> Result<(), Fail> {
+    let mut stack = Stack::new(rt.alloc())?;
+    put(&mut stack, 3, Object::empty(rt.alloc(), FIELD))?;
+    let mut entry = StackEntry::Prop(3, PropValue::LockTextIs(true));
+    entry.exchange(&mut stack);
+    assert!(rt; matches!(entry, StackEntry::Prop(3, PropValue::LockTextIs(false))));
+    let mut nowhere = StackEntry::Prop(3, PropValue::HiliteIs(true));
+    nowhere.exchange(&mut stack);
+    assert!(rt; matches!(nowhere, StackEntry::Prop(3, PropValue::HiliteIs(true))));
+    Ok(())
+}
+
+#[test]
+#[tactic(auto, unfolding(stack_places::specs::Exchange::IsReady, stack_places::specs::Exchange::taken))]
+fn an_object_goes_back(rt: HostRuntime) -> Result<(), Fail> {
+    let field = Object::empty(rt.alloc(), FIELD);
+    let mut stack = Stack::new(rt.alloc())?;
+    stack.open_slot(4)?;
+    let mut object = StackEntry::Object(4, Some(field));
+    object.exchange(&mut stack);
+    assert!(rt; stack.object(4).is_some());
+    object.exchange(&mut stack);
+    assert!(rt; stack.object(4).is_none());
+    Ok(())
+}
+
+#[test]
+#[tactic(auto, unfolding(stack_places::specs::Exchange::IsReady))]
+fn orders_are_exchanged(rt: HostRuntime) -> Result<(), Fail> {
+    let mut stack = Stack::new(rt.alloc())?;
+    let mut cards = StackEntry::CardOrder(IdList::from_vec(vec![in rt.alloc(); 2, 5]?));
+    cards.exchange(&mut stack);
+    assert_eq!(rt; stack.cards().as_slice(), [2, 5].as_slice());
+    let mut backgrounds = StackEntry::BackgroundOrder(IdList::from_vec(vec![in rt.alloc(); 1, 6]?));
+    backgrounds.exchange(&mut stack);
+    assert_eq!(rt; stack.backgrounds().as_slice(), [1, 6].as_slice());
+    Ok(())
+}
+
+#[test]
+#[tactic(auto, unfolding(stack_places::specs::Exchange::IsReady, stack_places::specs::Exchange::taken))]
+fn parts_and_the_next_id_go_back(rt: HostRuntime) -> Result<(), Fail> {
+    let mut stack = Stack::new(rt.alloc())?;
+    stack.open_slot(2)?;
+    let mut parts = StackEntry::Parts(2, None);
+    parts.exchange(&mut stack);
+    assert!(rt; stack.parts(Layer::OfCard(2)).is_none());
+    let mut next = StackEntry::NextId(7);
+    next.exchange(&mut stack);
+    assert_eq!(rt; stack.next_id(), 7);
+    next.exchange(&mut stack);
+    assert_eq!(rt; stack.next_id(), 3);
+    laws_of_exchanges();
+    Ok(())
+}
+
+#[test]
+fn places(rt: HostRuntime) -> Result<(), Fail> {
+    let alloc = rt.alloc();
+    let own = StackEntry::FieldText(3, 2, None);
+    let shared = StackEntry::FieldText(3, 0, None);
+    assert!(rt; own.is_of_place_of(&StackEntry::FieldText(3, 2, Some(text(alloc, b"x")?))));
+    assert!(rt; !own.is_of_place_of(&shared));
+    assert!(rt; !own.is_of_place_of(&StackEntry::Hilite(3, 2, None)));
+    let name = StackEntry::Prop(3, PropValue::NameIs(text(alloc, b"a")?));
+    assert!(rt;
+        !name.is_of_place_of(&StackEntry::Prop(3, PropValue::ScriptIs(text(alloc, b"a")?)))
+    );
+    let gone = StackEntry::Object(3, None);
+    assert!(rt; gone.is_structural() && !gone.is_of_place_of(&gone));
+    assert!(rt; !own.is_structural());
+    Ok(())
+}
