@@ -12,7 +12,7 @@ use Rattle.object_table.specs.declared.object.Object.{Object}
 use Rattle.object_table.specs.declared.object.Kind.{Kind}
 use Rattle.object_table.specs.declared.object.Kind.TheVariants.{Stack, Background, Card, CardButton, BackgroundButton, CardField, BackgroundField}
 use Rattle.journal_entries.specs.State.{IsState, IsGlobal, AreGlobals, titles_of}
-use Rattle.journal_entries.specs.Exchange.{Held}
+use Rattle.journal_entries.specs.Exchange.{PresentView}
 use Rattle.change_journal.specs.Batches.{IsSound}
 
 first-contained : (ids : List ℕ) → 0 < length ids → contains_id (get_or ids 0 0) ids ≡ true
@@ -49,7 +49,7 @@ first-card s w =
 pub no_globals : AreGlobals empty
 no_globals name = subst (λ o. IfSome o (λ value. IsGlobal name value)) (sym (get-empty (slice_cmp nat_cmp) name)) tt
 
-pub IsSound-opened : (h : Held) (depth room : ℕ) → 0 < depth → IsState h.state → IsSound (record { held = h; oldest = 0; depth = depth; batches = []; cursor = 0 }) room None
+pub IsSound-opened : (h : PresentView) (depth room : ℕ) → 0 < depth → IsState h.state → IsSound (record { present = h; oldest = 0; depth = depth; batches = []; cursor = 0 }) room None
 IsSound-opened h depth room some state = record {
   within = omega arith;
   few = omega arith;

@@ -4,7 +4,7 @@ use thiserror::Error;
 
 /// Why a world isn't opened.
 #[derive(Clone, Copy, Debug, Error, Eq, PartialEq)]
-pub enum OpenError {
+pub enum WorldError {
     #[error("two externals have names that are the same")]
     DuplicateName,
 }

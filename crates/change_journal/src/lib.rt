@@ -4,7 +4,7 @@
 mod fault;
 mod world;
 
-pub use fault::{OpenError, PlugError};
+pub use fault::{PlugError, WorldError};
 pub use journal_entries::Change;
 pub use world::World;
 

@@ -5,7 +5,7 @@ use Rattle.std.specs.String.{string_bytes}
 use Rattle.clap.specs.Words.{App, Row, Rule, Text, new_app, new_rule, with_rule, first_of, one_of}
 use Rattle.clap.specs.declared.builder.action.ArgAction.TheVariants.{Set, SetTrue}
 use Rattle.clap.specs.declared.builder.value_parser.ValueParser.TheVariants.{Unsigned}
-use Rattle.command_line.specs.declared.given.Words.{Words}
+use Rattle.command_line.specs.declared.options.Options.{Options}
 
 -- STACK has to be there; --steps and --depth have a number in their range, and --watch stands alone
 abbrev pub stack_rule : Rule
@@ -37,7 +37,7 @@ pub record IsFlag (given : Option Text) (b : Bool) : Type 0 where
   pub no : given ≡ Some (codes "false") → b ≡ false
 
 -- what was found in the words, said
-pub record Says (rows : List Row) (w : Words) : Type 0 where
+pub record Says (rows : List Row) (w : Options) : Type 0 where
   pub stack : string_bytes w.stack ≡ unwrap_or (first_of (codes "STACK") rows) []
   pub steps : IsNumber (one_of (codes "steps") rows) 100000 10000000 w.steps
   pub depth : IsNumber (one_of (codes "depth") rows) 1000000 1000000 w.depth

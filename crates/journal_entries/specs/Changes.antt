@@ -1,7 +1,7 @@
 -- The changes: where each fits, what it writes, and the state after it.
 use Rattle.std.specs.Prelude.{Bool, List, [], ◌∷◌, Some, IfSome, option_map, is_some}
 use Rattle.ht_values.specs.Text.{IsText}
-use Rattle.object_table.specs.Kept.{text_at, hilite_at}
+use Rattle.object_table.specs.PartContents.{text_at, hilite_at}
 use Rattle.object_table.specs.Objects.{has_kind, is_card}
 use Rattle.object_table.specs.Setting as settings
 use Rattle.stack_places.specs.Places.{prop_of, property, field_text, button_hilite, text, logical, setting, number}

@@ -14,7 +14,7 @@ use Rattle.object_table.specs.WellFormed.{NamesEach, IsWellFormed}
 use Rattle.object_table.specs.declared.object.Object.{Object}
 use Rattle.object_table.specs.declared.object.Kind.{Kind}
 use Rattle.object_table.specs.declared.object.Kind.TheVariants.{Stack, Background, Card, CardButton, BackgroundButton, CardField, BackgroundField}
-use Rattle.object_table.specs.declared.object.Layer.TheVariants.{OfCard, OfBackground}
+use Rattle.object_table.specs.declared.object.LayerId.TheVariants.{OfCard, OfBackground}
 
 -- an object of a kind is there
 pub has_kind-object : (p : Kind → Bool) (s : Content) (id : ℕ) → has_kind p s id ≡ true → (o : Object) × (object_at s id ≡ Some o) × (p o.kind ≡ true)

@@ -3,7 +3,7 @@
 ghost use Rattle.std.specs.Prelude.{◌≡◌, ◌<◌, ◌≤◌, ◌+◌, true, vec_len, slice_get, count_by, is_some, option_copied, OnSome, IfOk, OnOk, OnErr};
 ghost use Rattle.std.specs.FinMap as map;
 ghost use Rattle.std.specs.FinSet as set;
-ghost use Rattle.object_table.specs.Kept.{text_at, hilite_at};
+ghost use Rattle.object_table.specs.PartContents.{text_at, hilite_at};
 ghost use Rattle.object_table.specs.Maps.{put_option};
 ghost use Rattle.object_table.specs.Numbers.{at_number};
 ghost use Rattle.object_table.specs.Objects.{object_at, object_count as objects_counted, parts_at};
@@ -13,8 +13,8 @@ ghost use Rattle.object_table.specs.Empty.{empty_stack};
 ghost use Rattle.object_table.specs.WellFormed.{IsWellFormed};
 
 use crate::ids::{Id, IdList};
-use crate::kept::Kept;
-use crate::object::{Kind, Layer, Object};
+use crate::object::{Kind, LayerId, Object};
+use crate::pair_table::PairTable;
 use crate::property::PropValue;
 use crate::slot_table::SlotTable;
 use ht_values::Text;
@@ -37,14 +37,14 @@ pub struct Stack {
     slots: SlotTable,
     backgrounds: IdList,
     cards: IdList,
-    texts: Kept<Text>,
-    hilites: Kept<bool>,
+    texts: PairTable<Text>,
+    hilites: PairTable<bool>,
     next: u32,
 }
 
 impl Model for Stack {
     ghost use Rattle.std.specs.Prelude.{length};
-    ghost use Rattle.object_table.specs.Opened.{kept_in, open_in};
+    ghost use Rattle.object_table.specs.Opened.{values_in, open_in};
     ghost use Rattle.object_table.specs.Table.{Table, coded_table};
     ghost use Rattle.object_table.specs.Slots.{objects_in, parts_in};
 
@@ -58,8 +58,8 @@ impl Model for Stack {
         backgrounds = s.backgrounds;
         cards = s.cards;
         parts = parts_in s.slots;
-        texts = kept_in s.texts.places.entries;
-        hilites = kept_in s.hilites.places.entries;
+        texts = values_in s.texts.places.entries;
+        hilites = values_in s.hilites.places.entries;
         next = s.next;
       };
       room = record {
@@ -93,8 +93,8 @@ impl Stack {
             slots,
             backgrounds: IdList::from_vec(vec![in alloc; 1]?),
             cards: IdList::from_vec(vec![in alloc; 2]?),
-            texts: Kept::new(alloc),
-            hilites: Kept::new(alloc),
+            texts: PairTable::new(alloc),
+            hilites: PairTable::new(alloc),
             next: 3,
         })
     }
@@ -116,7 +116,7 @@ impl Stack {
     }
 
     /// The parts of a layer in the order of their making. `None` where there is no such card or background.
-    pub fn parts(&self, layer: Layer) -> Option<&IdList>
+    pub fn parts(&self, layer: LayerId) -> Option<&IdList>
         ensures { option_copied result ≡ layer_parts self.now.content layer }
     {
         let object = self.object(layer.id())?;

@@ -5,8 +5,8 @@ mod command;
 mod conversation;
 mod fault;
 mod law;
-mod looks;
 mod moves;
+mod queries;
 mod reply;
 mod running;
 mod session;
@@ -15,7 +15,7 @@ pub use change_journal::PlugError;
 pub use conversation::{Ran, RunFault, run};
 pub use fault::OpenError;
 pub use law::{lines_follow, moves_follow, opens_follow, plugs_follow, runs_follow, stops_follow};
-pub use reply::{Bytes, Ending, Line, Message, Refusal, Reply, Sent, Shown};
+pub use reply::{Bytes, Ending, Line, Refusal, Reply, Sent, SentMessage, Shown};
 pub use session::{LONGEST_LINE, Session};
 
 #[cfg(test)]

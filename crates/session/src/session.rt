@@ -4,7 +4,7 @@ ghost use Rattle.std.specs.Prelude.{◌≡◌, ◌≤◌, ◌==◌, ◌⊎◌, [
 ghost use Rattle.object_table.specs.WellFormed.{IsWellFormed};
 ghost use Rattle.journal_entries.specs.State.{seen_by, seen_at, titles_of, has_name, index_of};
 ghost use Rattle.change_journal.specs.History.{plugged, unplugged};
-ghost use Rattle.session.specs.Commands.{said_of, said as said_by, IsWithin};
+ghost use Rattle.session.specs.Commands.{command_of, command_in as command_by, IsWithin};
 ghost use Rattle.session.specs.Moves.{MovesTo, undone, redone, undone_to};
 ghost use Rattle.session.specs.Opening.{open_fault, opened};
 ghost use Rattle.stack_text.specs.declared.sheets.Version.TheVariants.{Second as second};
@@ -12,10 +12,10 @@ ghost use Rattle.stack_text.specs.Listing.{spelling};
 ghost use Rattle.session.specs.TakesLine.{TakesLine, Performs, MayRunOut};
 ghost use Rattle.session.specs.Replies.{ended as ended_by, refused as refused_by, shown_reply, moved_reply, ran_reply};
 
-use crate::command::{Said, said_in};
+use crate::command::{Command, command_in};
 use crate::fault::OpenError;
-use crate::looks::{card_shown, globals_shown, history_shown, stack_shown};
 use crate::moves::{go_back, go_back_to, go_forth};
+use crate::queries::{card_shown, globals_shown, history_shown, stack_shown};
 use crate::reply::{Bytes, Ending, Refusal, Reply, Sent, Shown};
 use crate::running::run_statement;
 use change_journal::{PlugError, World};
@@ -106,23 +106,28 @@ fn ran(alloc: Global, outcome: Result<Ending, AllocError>) -> Reply
 }
 
 /// Does what a line of this number says; its parts are texts.
-fn perform<E: External>(alloc: Global, world: &mut World<E>, number: u32, said: Said<'_>) -> Reply
+fn perform<E: External>(
+    alloc: Global,
+    world: &mut World<E>,
+    number: u32,
+    command: Command<'_>,
+) -> Reply
     requires closed { world.old.history.start ≡ None }
-    requires within { IsWithin 30000 (said_of said) }
-    ensures performed { Performs (Some (said_of said.entry)) number
+    requires within { IsWithin 30000 (command_of command) }
+    ensures performed { Performs (Some (command_of command.entry)) number
         world.old.history result world.new.history }
     ensures closed { world.new.history.start ≡ None }
 {
-    match said {
-        Said::Run(statement) => ran(alloc, run_statement(alloc, world, number, statement)),
-        Said::Undo(places) => moved(alloc, go_back(world, places)),
-        Said::Redo(places) => moved(alloc, go_forth(world, places)),
-        Said::UndoTo(line) => moved(alloc, go_back_to(world, line)),
-        Said::Show => looked(alloc, stack_shown(alloc, world)),
-        Said::Globals => looked(alloc, globals_shown(alloc, world)),
-        Said::Where => looked(alloc, card_shown(alloc, world)),
-        Said::History => looked(alloc, history_shown(alloc, world)),
-        Said::Quit => ended(alloc, Ending::Quit),
+    match command {
+        Command::Run(statement) => ran(alloc, run_statement(alloc, world, number, statement)),
+        Command::Undo(places) => moved(alloc, go_back(world, places)),
+        Command::Redo(places) => moved(alloc, go_forth(world, places)),
+        Command::UndoTo(line) => moved(alloc, go_back_to(world, line)),
+        Command::Show => looked(alloc, stack_shown(alloc, world)),
+        Command::Globals => looked(alloc, globals_shown(alloc, world)),
+        Command::Where => looked(alloc, card_shown(alloc, world)),
+        Command::History => looked(alloc, history_shown(alloc, world)),
+        Command::Quit => ended(alloc, Ending::Quit),
     }
 }
 
@@ -227,7 +232,7 @@ impl<E: External> Session<E> {
     pub fn line(&mut self, line: &[u8]) -> Reply
         ensures step { TakesLine line.now self.old result self.new }
         ensures memory { result.ending ≡ Ending.Refused Refusal.NoMemory
-            → MayRunOut (said_by line.now) }
+            → MayRunOut (command_by line.now) }
     {
         if self.lines < LAST_NUMBER {
             self.lines += 1;
@@ -235,9 +240,9 @@ impl<E: External> Session<E> {
         if LONGEST_LINE < line.len() {
             return refused(self.alloc, Refusal::LineTooLong);
         }
-        match said_in(line) {
+        match command_in(line) {
             None => refused(self.alloc, Refusal::BadCommand),
-            Some(said) => perform(self.alloc, &mut self.world, self.lines, said),
+            Some(command) => perform(self.alloc, &mut self.world, self.lines, command),
         }
     }
 

@@ -1,7 +1,7 @@
 use Rattle.std.proofs.Common.{sym}
 use Rattle.journal_entries.specs.Named.{listed}
 use Rattle.session.proofs.GlobalsInOrder.{in_order_more, entries-empty}
-use Rattle.session.proofs.looks.globals_in_order.Goals as goal
+use Rattle.session.proofs.queries.globals_in_order.Goals as goal
 
 pub loop-i-init : goal.loop-i-init
 loop-i-init g c = rw c.new-ordered.ensures.empty (sym entries-empty)

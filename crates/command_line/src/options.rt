@@ -1,10 +1,10 @@
-//! What the program's words give.
+//! The options of the program.
 
 ghost use Rattle.std.specs.Prelude.{◌≤◌};
 
-/// What the words say: `STACK [--steps N] [--depth D] [--watch]`.
+/// What the words of the program say: `STACK [--steps N] [--depth D] [--watch]`.
 #[derive(Debug, Drop)]
-pub struct Words {
+pub struct Options {
     /// The path of the stack.
     pub stack: String,
     /// How many steps a command may take, 1 to 10,000,000.

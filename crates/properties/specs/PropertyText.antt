@@ -8,7 +8,7 @@ use Rattle.ht_values.specs.declared.word.Prop.{Prop}
 use Rattle.ht_values.specs.declared.word.Prop.TheVariants.{Name, ShortName, Id, ShortId, Number, Script, Visible, Hilite, SharedHilite, LockText, SharedText, CantDelete}
 use Rattle.object_table.specs.Content.{Content}
 use Rattle.object_table.specs.Flags.{visible_of, shared_hilite_of, lock_text_of, shared_text_of, cant_delete_of}
-use Rattle.object_table.specs.Kept.{hilite_at}
+use Rattle.object_table.specs.PartContents.{hilite_at}
 use Rattle.object_table.specs.Numbers.{number_of}
 use Rattle.object_table.specs.Objects.{object_at}
 use Rattle.object_table.specs.declared.object.Object.{Object}

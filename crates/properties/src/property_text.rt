@@ -3,7 +3,7 @@
 ghost use Rattle.std.specs.Prelude.{◌≡◌};
 ghost use Rattle.ht_values.specs.Operators.{in_words};
 ghost use Rattle.ht_values.specs.Outcome.{Gives};
-ghost use Rattle.properties.specs.Reading as properties;
+ghost use Rattle.properties.specs.PropertyText as properties;
 
 use crate::flag::{cant_delete, lock_text, shared_hilite, shared_text, visible};
 use crate::name::{full_name, own_id, short_id, short_name};

@@ -3,7 +3,7 @@ use Rattle.std.specs.FinMap.{entries, from_entries}
 use Rattle.std.specs.Map.Iter.{deref_pair}
 use Rattle.journal_entries.specs.Named.{listed}
 use Rattle.journal_entries.specs.State.{Globals}
-use Rattle.session.proofs.looks.globals_in_order.Given as goal
+use Rattle.session.proofs.queries.globals_in_order.Given as goal
 
 -- the globals so far are in order
 abbrev pub invariant-loop-i : goal.invariant-loop-i

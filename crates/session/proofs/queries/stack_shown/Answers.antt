@@ -3,7 +3,7 @@ use Rattle.stack_text.specs.declared.sheets.Version.TheVariants.{Second as secon
 use Rattle.stack_text.specs.Spelling.{document_lines}
 use Rattle.stack_text.specs.Listing.{document_of, spelling}
 use Rattle.session.proofs.LineFeeds.{splits_whole}
-use Rattle.session.proofs.looks.stack_shown.Goals as goal
+use Rattle.session.proofs.queries.stack_shown.Goals as goal
 
 pub returns : goal.returns
 returns g c =

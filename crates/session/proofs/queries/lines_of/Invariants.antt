@@ -1,7 +1,7 @@
 use Rattle.std.proofs.Common.{◌≡◌, ◌++◌, length}
 use Rattle.std.specs.List.{AllByRecursion}
 use Rattle.session.specs.Splits.{ended_lines, IsLine}
-use Rattle.session.proofs.looks.lines_of.Given as goal
+use Rattle.session.proofs.queries.lines_of.Given as goal
 
 -- the lines so far, and what is left
 abbrev pub invariant-loop-end : goal.invariant-loop-end

@@ -1,6 +1,6 @@
 use Rattle.std.proofs.Common.{sym, ◌∙◌}
 use Rattle.session.proofs.LineFeeds.{IsLine-found, IsLine-none, line_cut, lines_more}
-use Rattle.session.proofs.looks.lines_of.Goals as goal
+use Rattle.session.proofs.queries.lines_of.Goals as goal
 
 pub loop-end-preserved : goal.loop-end-preserved
 loop-end-preserved c =

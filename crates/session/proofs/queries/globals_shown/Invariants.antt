@@ -1,7 +1,7 @@
 use Rattle.std.proofs.Common.{◌≡◌, ◌++◌, map}
 use Rattle.std.specs.Map.Iter.{deref_pair}
 use Rattle.session.specs.Replies.{global_line, global_lines}
-use Rattle.session.proofs.looks.globals_shown.Given as goal
+use Rattle.session.proofs.queries.globals_shown.Given as goal
 
 -- what is shown, and then the globals that are left
 abbrev pub invariant-loop-name : goal.invariant-loop-name

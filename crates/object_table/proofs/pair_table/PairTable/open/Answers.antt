@@ -2,12 +2,12 @@ use Rattle.std.proofs.Common.{sym, ap, ◌∙◌, refl}
 use Rattle.std.specs.FinSet as set
 use Rattle.object_table.specs.Opened.{open_in}
 use Rattle.object_table.specs.Pairs.{Pair}
-use Rattle.object_table.proofs.Opened.{kept_in-opened, open_in-updated, open_in-again, contains-open_in, none_found, contains-inserted}
-use Rattle.object_table.proofs.kept.Kept.open.Goals as goal
+use Rattle.object_table.proofs.Opened.{values_in-opened, open_in-updated, open_in-again, contains-open_in, none_found, contains-inserted}
+use Rattle.object_table.proofs.pair_table.PairTable.open.Goals as goal
 
-pub returns-in_ok-insert-clause-kept : goal.returns-in_ok-insert-clause-kept
-returns-in_ok-insert-clause-kept g c =
-    kept_in-opened c.args.self.now.places.entries c.insert.new.self.entries (c.args.part, c.args.card) _ c.in_ok-insert.ensures.updates.0 refl (none_found _ (sym (c.if-not-contains_key.ensures)))
+pub returns-in_ok-insert-clause-values : goal.returns-in_ok-insert-clause-values
+returns-in_ok-insert-clause-values g c =
+    values_in-opened c.args.self.now.places.entries c.insert.new.self.entries (c.args.part, c.args.card) _ c.in_ok-insert.ensures.updates.0 refl (none_found _ (sym (c.if-not-contains_key.ensures)))
 
 pub returns-in_ok-insert-clause-room : goal.returns-in_ok-insert-clause-room
 returns-in_ok-insert-clause-room g c =
