@@ -9,7 +9,8 @@ ghost use Rattle.object_table.specs.Numbers.{at_number};
 ghost use Rattle.object_table.specs.Objects.{object_at, object_count as objects_counted, parts_at};
 ghost use Rattle.object_table.specs.Layers.{layer_parts};
 ghost use Rattle.object_table.specs.Setting.{value_at, may_set, with_value_at};
-ghost use Rattle.object_table.specs.Empty.{empty_stack};
+ghost use Rattle.object_table.specs.Empty.{empty_stack, blank_stack};
+ghost use Rattle.object_table.specs.Table.{no_room};
 ghost use Rattle.object_table.specs.WellFormed.{IsWellFormed};
 
 use crate::ids::{Id, IdList};
@@ -31,7 +32,8 @@ use std::mem;
 /// background and a shared one, and a button of a background so has hilites; what is shared stands where the
 /// card is 0.
 ///
-/// A stack as such may be not well formed; `Stack::new` gives a well formed one.
+/// A stack as such may be not well formed; `Stack::new` gives a well formed one, and `Stack::blank` one that is to be
+/// filled.
 #[derive(Drop)]
 pub struct Stack {
     slots: SlotTable,
@@ -97,6 +99,22 @@ impl Stack {
             hilites: PairTable::new(alloc),
             next: 3,
         })
+    }
+
+    /// The stack of no object, not even itself, with no room, for a reader that fills it. It isn't well formed. The next
+    /// id is 1. It takes no memory.
+    pub fn blank(alloc: Global) -> Stack
+        ensures content { result.content ≡ blank_stack }
+        ensures room { result.room ≡ no_room }
+    {
+        Stack {
+            slots: SlotTable::new(alloc),
+            backgrounds: IdList::new(alloc),
+            cards: IdList::new(alloc),
+            texts: PairTable::new(alloc),
+            hilites: PairTable::new(alloc),
+            next: 1,
+        }
     }
 
     /// The object of an id, with its name, its script, its flags and, of a card, its background. `None`
