@@ -1,15 +1,15 @@
 -- An entry for each change.
-use Rattle.std.proofs.Common.{◌≡◌, ◌∷◌, true, false, Bool, ℕ, ◌+◌, ◌<◌, List, [], length, get_or, refl, sym, ap, ◌∙◌, Option, Some, None, option_map}
+use Rattle.std.proofs.Common.{◌≡◌, ◌∷◌, true, false, Bool, ℕ, ◌+◌, ◌<◌, List, [], length, get_or, refl, sym, ap, ◌∙◌, Option, Some, option_map}
 use Rattle.std.specs.FinMap.{get}
 use Rattle.std.specs.FinSet.{contains}
 use Rattle.object_table.specs.Maps.{put_option}
 use Rattle.object_table.specs.Setting.{may_set}
 use Rattle.object_table.specs.declared.property.PropValue.{PropValue}
-use Rattle.stack_places.specs.Places.{as_text, text, number, size_of}
+use Rattle.stack_places.specs.Places.{text, number, size_of}
 use Rattle.stack_places.specs.Exchange.{value_of, place_of, is_structural, entry_weight as stack_weight, IsReady as IsStackReady}
 use Rattle.stack_places.specs.declared.entry.StackEntry.{StackEntry}
 use Rattle.stack_places.specs.declared.entry.StackEntry.TheVariants as stack_entries
-use Rattle.stack_places.proofs.Exchanging.{IsThere, puts, taken_weight}
+use Rattle.stack_places.proofs.Exchanging.{IsThere, puts, taken_weight, texts_back}
 use Rattle.journal_entries.specs.Changes.{writes_of}
 use Rattle.journal_entries.specs.declared.change.Change.{Change}
 use Rattle.journal_entries.specs.Places.{global, in_stack, current_card, put}
@@ -18,10 +18,6 @@ use Rattle.journal_entries.specs.Exchange.{PresentView, exchanged, taken, mark_o
 use Rattle.journal_entries.specs.Turning.{Prepares, IsNumbered}
 use Rattle.journal_entries.specs.declared.change.Change.TheVariants as changes
 use Rattle.journal_entries.specs.declared.entry.Entry.TheVariants as entries
-
-texts_back : (v : Option (List ℕ)) → as_text (option_map (λ t. text t) v) ≡ v
-texts_back None = refl
-texts_back (Some t) = refl
 
 pub prepares_global : (h : PresentView) (i : ℕ) (name : List ℕ) (v : Option (List ℕ)) → i < length h.names → get_or h.names i [] ≡ name → ((j : ℕ) → j < length h.names → get_or h.names j [] ≡ get_or h.names i [] → j ≡ i) → Prepares h (changes.Global name v) (entries.Global i v)
 unfolding exchanged taken mark_of entry_weight IsReady IsNumbered put
