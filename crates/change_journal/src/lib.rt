@@ -6,7 +6,7 @@ mod world;
 
 pub use fault::{PlugError, WorldError};
 pub use journal_entries::Change;
-pub use world::World;
+pub use world::{MOST_DEPTH, World};
 
 #[cfg(test)]
 mod tests;

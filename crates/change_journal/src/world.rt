@@ -13,6 +13,7 @@ ghost use Rattle.change_journal.specs.History.{IsHistory, alone, begun, committe
 ghost use Rattle.std.specs.VecDeque.{deque_len, deque_capacity};
 ghost use Rattle.change_journal.specs.Batches.{newest, oldest_of};
 ghost use Rattle.change_journal.specs.Rising.{Made, TookTurn};
+ghost use Rattle.change_journal.specs.declared.world.TheConstants.{MOST_DEPTH};
 
 use crate::fault::{PlugError, WorldError};
 use externals::{Ask, External, Input, law_of_external};
@@ -22,6 +23,9 @@ use object_table::Stack;
 use std::alloc::{AllocError, Global};
 use std::collections::VecDeque;
 use std::marker::Model;
+
+/// The most states that can stand before the present one.
+pub const MOST_DEPTH: u32 = 1_000_000;
 
 /// The present state of a stack, its globals, its current card and its externals, with the history of states
 /// round it. Nothing else writes: a change or a turn of an external is made in an open batch, which `commit`
@@ -67,7 +71,7 @@ impl<E: External> World<E> {
         depth: u32,
     ) -> Result<World<E>, (WorldError, Stack, Vec<E>)>
         requires low { 1 ≤ depth }
-        requires high { depth ≤ 1000000 }
+        requires high { depth ≤ MOST_DEPTH }
         requires stack { IsWellFormed stack.content }
         ensures apart { is_ok result ≡ apart_titles (map E.title externals.items) }
         ensures ok { IfOk result (λ w. w.history ≡ alone (first_state stack.content (map (seen_by E.title E.sort E.answers_calls E.cells) externals.items)) 0 depth (map E.turn_count externals.items)) }
@@ -270,7 +274,8 @@ impl<E: External> World<E> {
     }
 
     /// Adds an external, with its cells of now, to every state of the history. `DuplicateName` where another has
-    /// a name that is the same; it and want of memory hand the external back, and then nothing changes.
+    /// a name that is the same, `Memory` where it is out of memory; either hands the external back, and then nothing
+    /// changes.
     pub fn plug(&mut self, external: E) -> Result<(), (PlugError, E)>
         requires { self.old.history.start ≡ None }
         ensures ok { OnOk result (self.new.history ≡ plugged self.old.history (seen_by E.title E.sort E.answers_calls E.cells external) (E.turn_count external)) }

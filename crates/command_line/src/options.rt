@@ -1,6 +1,8 @@
 //! The options of the program.
 
 ghost use Rattle.std.specs.Prelude.{◌≤◌};
+ghost use Rattle.change_journal.specs.declared.world.TheConstants.{MOST_DEPTH};
+ghost use Rattle.session.specs.declared.limits.TheConstants.{MOST_STEPS};
 
 /// What the words of the program say: `STACK [--steps N] [--depth D] [--watch]`.
 #[derive(Debug, Drop)]
@@ -14,7 +16,7 @@ pub struct Options {
     /// Whether the messages that are sent are shown.
     pub watch: bool,
     ghost some_steps: { 1 ≤ steps },
-    ghost few_steps: { steps ≤ 10000000 },
+    ghost few_steps: { steps ≤ MOST_STEPS },
     ghost some_depth: { 1 ≤ depth },
-    ghost few_depth: { depth ≤ 1000000 },
+    ghost few_depth: { depth ≤ MOST_DEPTH },
 }

@@ -11,15 +11,11 @@ use crate::options::Options;
 use clap::builder::ValueParser;
 use clap::error::ErrorKind;
 use clap::{Arg, ArgAction, ArgMatches, Command, Error};
+use session::{MOST_DEPTH, MOST_STEPS};
 use std::alloc::{AllocError, Global};
 
-/// The most steps of a command, and how many there are unless the words say so.
-const MOST_STEPS: u32 = 10_000_000;
-
-const STEPS: u32 = 100_000;
-
-/// The greatest depth of the history, in places, which is also its depth unless the words say so.
-const MOST_DEPTH: u32 = 1_000_000;
+/// How many steps a command may take unless the words say so. The history is as deep as it can be unless they say so.
+const DEFAULT_STEPS: u32 = 100_000;
 
 /// The program as `clap` knows it.
 fn program<'a>(alloc: Global) -> Result<Command<'a>, AllocError>
@@ -66,14 +62,14 @@ fn options_in(alloc: Global, matches: &ArgMatches<'_>) -> Result<Options, AllocE
 {
     Ok(Options {
         stack: String::from_str(alloc, matches.get_str("STACK").unwrap_or(""))?,
-        steps: number(matches, "steps", STEPS, MOST_STEPS),
+        steps: number(matches, "steps", DEFAULT_STEPS, MOST_STEPS),
         depth: number(matches, "depth", MOST_DEPTH, MOST_DEPTH),
         watch: matches.get_flag("watch"),
     })
 }
 
 /// Whether an error is of a growth that was refused.
-fn is_want_of_memory(error: &Error) -> bool
+fn is_out_of_memory(error: &Error) -> bool
     ensures { IsTrue result ↔ kind_of error.now ≡ ErrorKind.OutOfMemory }
 {
     matches!(error.kind(), ErrorKind::OutOfMemory)
@@ -92,7 +88,7 @@ pub fn options_of(alloc: Global, words: &[String]) -> Result<Options, CliFault>
     match command.try_get_matches_from(words) {
         Ok(matches) => Ok(options_in(alloc, &matches)?),
         Err(error) => {
-            if is_want_of_memory(&error) {
+            if is_out_of_memory(&error) {
                 return Err(CliFault::Memory);
             }
             let text = error.to_string(alloc)?;

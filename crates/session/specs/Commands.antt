@@ -127,7 +127,7 @@ dot_command _ = None
 abbrev pub command_in : List ℕ → Option Command
 command_in line = if slice_index line 0 == 46 then dot_command (words line) else option_map run (statement_in line)
 
--- the parts of what is said are no longer than this
+-- the parts of a command are no longer than this
 abbrev pub IsWithin : ℕ → Command → Type 0
 IsWithin most (run (put text name)) = (length text ≤ most) × (length name ≤ most)
 IsWithin most _ = Unit {0}

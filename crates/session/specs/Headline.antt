@@ -10,6 +10,7 @@ use Rattle.session.specs.Conversation.{Session}
 use Rattle.session.specs.Meaning.{Fresh}
 use Rattle.session.specs.Replies.{ended, Refuses, Moves, Looks, ShowsStack, global_lines, history_line}
 use Rattle.session.specs.Standing.{next_number}
+use Rattle.session.specs.declared.limits.TheConstants.{LONGEST_LINE}
 use Rattle.session.specs.declared.reply.Refusal.{Refusal}
 use Rattle.session.specs.declared.reply.Refusal.TheVariants.{NothingToUndo, NothingToRedo, BadCommand, NoMemory, LineTooLong}
 use Rattle.session.specs.declared.reply.Ending.TheVariants as endings
@@ -99,11 +100,11 @@ Does (Some quit) state old reply new = (reply ≡ ended endings.Quit) × (new �
 abbrev pub line_counted : Timeline → Timeline
 line_counted t = record t { lines = next_number t.lines }
 
--- what a line does; one over 30,000 bytes is refused
+-- what a line does; one over the longest is refused
 pub record LineMoves (line : List ℕ) (old : Timeline) (reply : Reply) (new : Timeline) : Type 0 where
   pub state : State
   pub present : IsPresent state old
-  pub does : MatchBool (nat_lt 30000 (length line)) (Refuses LineTooLong (line_counted old) reply new) (Does (command_in line) state (line_counted old) reply new)
+  pub does : MatchBool (nat_lt LONGEST_LINE (length line)) (Refuses LineTooLong (line_counted old) reply new) (Does (command_in line) state (line_counted old) reply new)
 
 -- ---- calls beside lines
 

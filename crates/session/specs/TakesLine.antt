@@ -10,6 +10,7 @@ use Rattle.session.specs.Meaning.{Fresh}
 use Rattle.session.specs.Moves.{undone, redone, undone_to}
 use Rattle.session.specs.Replies.{ended, Refuses, Moves, Looks, ShowsStack, global_lines, history_line}
 use Rattle.session.specs.Standing.{Standing, next_number}
+use Rattle.session.specs.declared.limits.TheConstants.{LONGEST_LINE}
 use Rattle.session.specs.declared.reply.Refusal.TheVariants.{NothingToUndo, NothingToRedo, BadCommand, NoMemory, LineTooLong}
 use Rattle.session.specs.declared.reply.Ending.TheVariants as endings
 use Rattle.session.specs.declared.reply.Reply.{Reply}
@@ -54,9 +55,9 @@ MayRunOut (Some current_card) = Unit {0}
 MayRunOut (Some history) = Unit {0}
 MayRunOut _ = ⊥
 
--- a line over 30,000 bytes is refused unread
+-- a line over the longest is refused unread
 abbrev pub PerformsLine : List ℕ → ℕ → History → Reply → History → Type 0
-PerformsLine line number old reply new = MatchBool (nat_lt 30000 (length line)) (Refuses LineTooLong old reply new) (Performs (command_in line) number old reply new)
+PerformsLine line number old reply new = MatchBool (nat_lt LONGEST_LINE (length line)) (Refuses LineTooLong old reply new) (Performs (command_in line) number old reply new)
 
 -- A session takes a line: it is counted, answered, and the history goes on.
 pub record TakesLine (line : List ℕ) (old : Standing) (reply : Reply) (new : Standing) : Type 0 where

@@ -3,7 +3,8 @@
 ghost use Rattle.std.specs.Prelude.{◌≡◌, ◌<◌, ◌≤◌, ◌==◌, ◌↔◌, ℕ, List, [], ◌∷◌, IsTrue, IfSome, length, nat_eq, codes};
 ghost use Rattle.std.specs.Option.{option_map, option_copied};
 ghost use Rattle.std.specs.List.{list_any, position, position_or_len};
-ghost use Rattle.session.specs.Commands.{after as what_follows, after_spaces as from_first_word, is as is_word, dot_command, statement_of, statement_in as statement_by, put_statement, command_of, command_in as command_by, words, word_and_rest, places, named, counted, to_line};
+ghost use Rattle.session.specs.Commands as commands;
+ghost use Rattle.session.specs.Commands.{after as what_follows, after_spaces as from_first_word, is as is_word, dot_command, statement_of, put_statement, command_of, words, word_and_rest, places, named, counted, to_line};
 
 use ht_lex::is_name;
 use stack_file::number_at;
@@ -63,7 +64,7 @@ fn put_in(line: &[u8]) -> Option<Statement<'_>>
 }
 
 fn statement_in(line: &[u8]) -> Option<Statement<'_>>
-    ensures { option_map statement_of result ≡ statement_by line.now }
+    ensures { option_map statement_of result ≡ commands.statement_in line.now }
 {
     if let Some(digits) = after(line, b"go card ") {
         return Some(Statement::GoCard(number_at(digits)?));
@@ -73,7 +74,7 @@ fn statement_in(line: &[u8]) -> Option<Statement<'_>>
 
 /// What a line says, or `None` where it says nothing.
 pub fn command_in(line: &[u8]) -> Option<Command<'_>>
-    ensures { option_map command_of result ≡ command_by line.now }
+    ensures { option_map command_of result ≡ commands.command_in line.now }
 {
     if line.first() == Some(&b'.') {
         return dot_line_in(line);

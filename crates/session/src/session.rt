@@ -4,37 +4,30 @@ ghost use Rattle.std.specs.Prelude.{◌≡◌, ◌≤◌, ◌==◌, ◌⊎◌, [
 ghost use Rattle.object_table.specs.WellFormed.{IsWellFormed};
 ghost use Rattle.journal_entries.specs.State.{seen_by, seen_at, titles_of, has_name, index_of};
 ghost use Rattle.change_journal.specs.History.{plugged, unplugged};
-ghost use Rattle.session.specs.Commands.{command_of, command_in as command_by, IsWithin};
+ghost use Rattle.session.specs.Commands as commands;
+ghost use Rattle.session.specs.Commands.{command_of, IsWithin};
 ghost use Rattle.session.specs.Moves.{MovesTo, undone, redone, undone_to};
 ghost use Rattle.session.specs.Opening.{open_fault, opened};
 ghost use Rattle.stack_text.specs.declared.sheets.Version.TheVariants.{Second as second};
 ghost use Rattle.stack_text.specs.Listing.{spelling};
 ghost use Rattle.session.specs.TakesLine.{TakesLine, Performs, MayRunOut};
+ghost use Rattle.session.specs.declared.limits.TheConstants.{LONGEST_LINE};
 ghost use Rattle.session.specs.Replies.{ended as ended_by, refused as refused_by, shown_reply, moved_reply, ran_reply};
 
 use crate::command::{Command, command_in};
 use crate::fault::OpenError;
+use crate::limits::{LAST_NUMBER, LONGEST_LINE, MOST_STEPS};
 use crate::moves::{go_back, go_back_to, go_forth};
 use crate::queries::{card_shown, globals_shown, history_shown, stack_shown};
 use crate::reply::{Bytes, Ending, Refusal, Reply, Sent, Shown};
 use crate::running::run_statement;
-use change_journal::{PlugError, World};
+use change_journal::{MOST_DEPTH, PlugError, World};
 use externals::External;
 use ht_values::Text;
 use object_table::Stack;
 use stack_file::write;
 use std::alloc::{AllocError, Global};
 use std::marker::Model;
-
-/// The longest line, in bytes.
-pub const LONGEST_LINE: usize = 30_000;
-
-/// The greatest number of a line.
-const LAST_NUMBER: u32 = 9_999_999;
-
-const MOST_STEPS: u32 = 10_000_000;
-
-const MOST_DEPTH: u32 = 1_000_000;
 
 /// A world and the number of lines that it took.
 #[derive(Drop)]
@@ -47,6 +40,7 @@ pub struct Session<E: External> {
 
 impl<E: External> Model for Session<E> {
     ghost use Rattle.std.specs.Prelude.{◌≡◌, ◌≤◌, None};
+    ghost use Rattle.session.specs.declared.limits.TheConstants.{LAST_NUMBER};
     ghost use Rattle.session.specs.Standing.{Standing, coded_standing};
 
     ghost Value = { Standing };
@@ -55,7 +49,7 @@ impl<E: External> Model for Session<E> {
 
     ghost view = { λ s. record { history = s.world.history; lines = s.lines; steps = s.steps } };
 
-    ghost invariant = { λ s. (s.world.history.start ≡ None) × (s.lines ≤ 9999999) };
+    ghost invariant = { λ s. (s.world.history.start ≡ None) × (s.lines ≤ LAST_NUMBER) };
 }
 
 fn ended(alloc: Global, ending: Ending) -> Reply
@@ -113,7 +107,7 @@ fn perform<E: External>(
     command: Command<'_>,
 ) -> Reply
     requires closed { world.old.history.start ≡ None }
-    requires within { IsWithin 30000 (command_of command) }
+    requires within { IsWithin LONGEST_LINE (command_of command) }
     ensures performed { Performs (Some (command_of command.entry)) number
         world.old.history result world.new.history }
     ensures closed { world.new.history.start ≡ None }
@@ -178,8 +172,8 @@ impl<E: External> Session<E> {
     }
 
     /// Adds an external, with its cells of now, to every place of the history. `DuplicateName` where
-    /// another has a name that is the same; it and want of memory hand the external back, and then
-    /// nothing changes.
+    /// another has a name that is the same, `Memory` where it is out of memory; either hands the external
+    /// back, and then nothing changes.
     pub fn plug(&mut self, external: E) -> Result<(), (PlugError, E)>
         ensures ok { OnOk result (self.new ≡ record self.old {
           history = plugged self.old.history
@@ -232,7 +226,7 @@ impl<E: External> Session<E> {
     pub fn line(&mut self, line: &[u8]) -> Reply
         ensures step { TakesLine line.now self.old result self.new }
         ensures memory { result.ending ≡ Ending.Refused Refusal.NoMemory
-            → MayRunOut (command_by line.now) }
+            → MayRunOut (commands.command_in line.now) }
     {
         if self.lines < LAST_NUMBER {
             self.lines += 1;

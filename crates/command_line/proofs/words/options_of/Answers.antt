@@ -15,6 +15,6 @@ returns-in_ok-cut-in-Err-clause-memory c =
     let known = c.in_ok-command.ensures in
     let words : List (List ℕ) = map (λ s. string_bytes s) c.args.words.now in
     λ none. elim (c.in-Err.ensures.kinds (ap is_simple_and_free known)) [
-      | inl h ↦ absurd (false≢true (sym c.if-is_want_of_memory.false ∙ c.is_want_of_memory.ensures.1 h))
+      | inl h ↦ absurd (false≢true (sym c.if-is_out_of_memory.false ∙ c.is_out_of_memory.ensures.1 h))
       | inr k ↦ absurd (subst (λ ks. IsAmong (kind_of c.in-Err.error) ks) (ap (λ a. fault_of a words) known ∙ none) k)
     ]
