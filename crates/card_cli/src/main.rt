@@ -12,7 +12,7 @@ use std::process::ExitCode;
 /// What is told where a word of the program is no text.
 const NO_TEXT: &[u8] = b"card_cli: a word is not UTF-8 text";
 
-/// The fault for an error of the outside: `Memory` where it is want of memory, or else this one.
+/// The fault for an error of the outside: `Memory` where it is out of memory, or else this one.
 fn fault_of(error: Error, other: CliFault) -> CliFault {
     match error.kind() {
         ErrorKind::OutOfMemory => CliFault::Memory,
@@ -66,7 +66,7 @@ fn perform(rt: &HostRuntime, options: &Options) -> Result<(), CliFault> {
     Ok(())
 }
 
-/// Tells a fault on standard error, and gives the status; a line that finds no memory is `no memory`.
+/// Tells a fault on standard error, and gives the status; where it is out of memory for the line, the line is `no memory`.
 fn told(rt: &HostRuntime, fault: &CliFault, stack: &[u8]) -> ExitCode {
     let answer = match cut(rt.alloc(), stack) {
         Ok(name) => verdict(rt.alloc(), fault, &name),

@@ -14,6 +14,6 @@ pub enum WorldError {
 pub enum PlugError {
     #[error("another external has a name that is the same")]
     DuplicateName,
-    #[error("no memory")]
+    #[error("out of memory")]
     Memory,
 }
