@@ -2,6 +2,7 @@
 use Rattle.std.proofs.Common.{◌≡◌, ℕ, List, length, sym, ◌∙◌, ap, true, false}
 use Rattle.std.specs.Prelude.{Option, Some, None, nat_lt, MatchBool}
 use Rattle.change_journal.specs.History.{History}
+use Rattle.session.specs.declared.limits.TheConstants.{LONGEST_LINE}
 use Rattle.session.specs.Commands.{Command, run, undo, redo, undo_to, show, globals, current_card, history, quit, command_in}
 use Rattle.session.specs.Moves.{undone, redone, undone_to}
 use Rattle.session.specs.Standing.{Standing}
@@ -42,7 +43,7 @@ may_run_out (Some quit) number old reply new p out = let e = other reply endings
 -- no move of the cursor, no `.quit` and no other refusal is for memory
 pub lines_run_out : (line : List ℕ) (old : Standing) (reply : Reply) (new : Standing) → TakesLine line old reply new → RunsOutOf reply → MayRunOut (command_in line)
 lines_run_out line old reply new t out =
-    elim (nat_lt 30000 (length line)) as (λ b. MatchBool b (Refuses refusals.LineTooLong old.history reply new.history) (Performs (command_in line) new.lines old.history reply new.history) → MayRunOut (command_in line)) [
+    elim (nat_lt LONGEST_LINE (length line)) as (λ b. MatchBool b (Refuses refusals.LineTooLong old.history reply new.history) (Performs (command_in line) new.lines old.history reply new.history) → MayRunOut (command_in line)) [
       | true ↦ λ p. (let e = other reply (endings.Refused refusals.LineTooLong) p.answer out in cc)
       | false ↦ λ p. may_run_out (command_in line) new.lines old.history reply new.history p out
     ] t.performed

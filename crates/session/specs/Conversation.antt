@@ -50,8 +50,8 @@ pub record IsLastLine (ends : Type 0) (bytes line ahead : List ℕ) : Type 0 whe
   pub none : ahead ≡ []
   pub ended : ends
 
--- Some lines are answered whole with this text, and one more is taken, with this reply. As many lines and bytes
--- as one run takes are taken so at most, and less than a block is read behind them.
+-- Some lines are answered whole with this text, and one more is taken, with this reply. At most 1,000,000 lines and
+-- 1,000,000,000 bytes are taken so, and less than a block of 4,096 bytes is read behind them.
 pub record OneMore {S : Type 0} (takes : List ℕ → S → Reply → S → Type 0) (ends : Type 0) (old : S) (read text : List ℕ) (reply : Reply) (new : S) : Type 0 where
   pub lines : List (List ℕ)
   pub bytes : List ℕ

@@ -100,7 +100,7 @@ Does (Some quit) state old reply new = (reply ≡ ended endings.Quit) × (new �
 abbrev pub line_counted : Timeline → Timeline
 line_counted t = record t { lines = next_number t.lines }
 
--- what a line does; one over the longest is refused
+-- what a line does; one over 30,000 bytes is refused
 pub record LineMoves (line : List ℕ) (old : Timeline) (reply : Reply) (new : Timeline) : Type 0 where
   pub state : State
   pub present : IsPresent state old

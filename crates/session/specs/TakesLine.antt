@@ -55,7 +55,7 @@ MayRunOut (Some current_card) = Unit {0}
 MayRunOut (Some history) = Unit {0}
 MayRunOut _ = ⊥
 
--- a line over the longest is refused unread
+-- a line over 30,000 bytes is refused unread
 abbrev pub PerformsLine : List ℕ → ℕ → History → Reply → History → Type 0
 PerformsLine line number old reply new = MatchBool (nat_lt LONGEST_LINE (length line)) (Refuses LineTooLong old reply new) (Performs (command_in line) number old reply new)
 

@@ -1,5 +1,6 @@
 use Rattle.std.proofs.Common.{sym, ap, subst, ◌∙◌, arith}
 use Rattle.std.specs.Prelude.{option_map, Some}
+use Rattle.session.specs.declared.limits.TheConstants.{LONGEST_LINE}
 use Rattle.session.specs.Commands.{command_of}
 use Rattle.session.specs.TakesLine.{MayRunOut}
 use Rattle.session.proofs.Refusing.{may_run_out}
@@ -13,4 +14,4 @@ returns-in-Some-clause-memory g c = λ out.
     subst MayRunOut is (may_run_out (Some (command_of c.in-Some.command)) counted.lines counted.world.history c.perform.result c.perform.new.world.history c.perform.ensures.performed out)
 
 pub perform-requires-clause-within : goal.perform-requires-clause-within
-perform-requires-clause-within g c = command_within 30000 c.args.line.now _ (omega arith) (sym c.command_in.ensures ∙ ap (option_map command_of) c.in-Some.is)
+perform-requires-clause-within g c = command_within LONGEST_LINE c.args.line.now _ (omega arith) (sym c.command_in.ensures ∙ ap (option_map command_of) c.in-Some.is)
