@@ -1,7 +1,7 @@
 //! A stack's session over standard input and output: `card_cli STACK [--steps N] [--depth D] [--watch]`.
 #![tactic(auto)]
 
-use command_line::{CliFault, MOST_OF_STACK, Words, bytes_of, cut, play, verdict, words_of};
+use command_line::{CliFault, MOST_OF_STACK, Options, bytes_of, cut, options_of, play, verdict};
 use externals::External;
 use stack_file::Watched;
 use std::env;
@@ -12,7 +12,7 @@ use std::process::ExitCode;
 /// What is told where a word of the program is no text.
 const NO_TEXT: &[u8] = b"card_cli: a word is not UTF-8 text";
 
-/// The fault for an error of the outside: `Memory` where it is want of memory, or else this one.
+/// The fault for an error of the outside: `Memory` where it is out of memory, or else this one.
 fn fault_of(error: Error, other: CliFault) -> CliFault {
     match error.kind() {
         ErrorKind::OutOfMemory => CliFault::Memory,
@@ -20,8 +20,8 @@ fn fault_of(error: Error, other: CliFault) -> CliFault {
     }
 }
 
-/// The words behind the program's name, and that name first.
-fn words(rt: &HostRuntime) -> Result<Words, CliFault> {
+/// The options that the words say, the program's name and those behind it.
+fn options(rt: &HostRuntime) -> Result<Options, CliFault> {
     let args = match env::args(rt) {
         Ok(args) => args,
         Err(error) => {
@@ -29,11 +29,11 @@ fn words(rt: &HostRuntime) -> Result<Words, CliFault> {
             return Err(fault_of(error, usage));
         }
     };
-    let mut given = Vec::new(rt.alloc());
+    let mut words = Vec::new(rt.alloc());
     for arg in args {
-        given.push(arg)?;
+        words.push(arg)?;
     }
-    words_of(rt.alloc(), given.as_slice())
+    options_of(rt.alloc(), words.as_slice())
 }
 
 /// The file of the stack. One whose size is known to be over the limit can't be read.
@@ -46,8 +46,8 @@ fn opened(rt: &HostRuntime, path: &str) -> Result<File, Error> {
 }
 
 /// Reads the stack and runs standard input to standard output.
-fn perform(rt: &HostRuntime, words: &Words) -> Result<(), CliFault> {
-    let file = match opened(rt, words.stack.as_str()) {
+fn perform(rt: &HostRuntime, options: &Options) -> Result<(), CliFault> {
+    let file = match opened(rt, options.stack.as_str()) {
         Ok(file) => file,
         Err(error) => return Err(fault_of(error, CliFault::CannotRead)),
     };
@@ -57,7 +57,7 @@ fn perform(rt: &HostRuntime, words: &Words) -> Result<(), CliFault> {
     let mut writer = Watched::new(rt.stdout().lock());
     play(
         rt.alloc(),
-        words,
+        options,
         &bytes,
         externals,
         &mut reader,
@@ -66,7 +66,7 @@ fn perform(rt: &HostRuntime, words: &Words) -> Result<(), CliFault> {
     Ok(())
 }
 
-/// Tells a fault on standard error, and gives the status; a line that finds no memory is `no memory`.
+/// Tells a fault on standard error, and gives the status; where it is out of memory for the line, the line is `no memory`.
 fn told(rt: &HostRuntime, fault: &CliFault, stack: &[u8]) -> ExitCode {
     let answer = match cut(rt.alloc(), stack) {
         Ok(name) => verdict(rt.alloc(), fault, &name),
@@ -87,12 +87,12 @@ fn told(rt: &HostRuntime, fault: &CliFault, stack: &[u8]) -> ExitCode {
 }
 
 fn main(rt: HostRuntime) -> ExitCode {
-    let words = match words(&rt) {
-        Ok(words) => words,
+    let options = match options(&rt) {
+        Ok(options) => options,
         Err(fault) => return told(&rt, &fault, b""),
     };
-    match perform(&rt, &words) {
+    match perform(&rt, &options) {
         Ok(()) => ExitCode::SUCCESS,
-        Err(fault) => told(&rt, &fault, words.stack.as_bytes()),
+        Err(fault) => told(&rt, &fault, options.stack.as_bytes()),
     }
 }

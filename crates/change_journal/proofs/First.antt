@@ -11,8 +11,9 @@ use Rattle.object_table.specs.WellFormed.{IsWellFormed}
 use Rattle.object_table.specs.declared.object.Object.{Object}
 use Rattle.object_table.specs.declared.object.Kind.{Kind}
 use Rattle.object_table.specs.declared.object.Kind.TheVariants.{Stack, Background, Card, CardButton, BackgroundButton, CardField, BackgroundField}
+use Rattle.stack_places.proofs.Exchanging.{false_true}
 use Rattle.journal_entries.specs.State.{IsState, IsGlobal, AreGlobals, titles_of}
-use Rattle.journal_entries.specs.Exchange.{Held}
+use Rattle.journal_entries.specs.Exchange.{PresentView}
 use Rattle.change_journal.specs.Batches.{IsSound}
 
 first-contained : (ids : List ℕ) → 0 < length ids → contains_id (get_or ids 0 0) ids ≡ true
@@ -20,7 +21,7 @@ first-contained [] h = absurd (omega arith)
 first-contained (x ∷ ids) h = ap (λ b. b || list_any (λ y. eqb y x) ids) (eq-eqb x x refl)
 
 some-contained : (ids : List ℕ) (id : ℕ) → contains_id id ids ≡ true → 0 < length ids
-some-contained [] id h = let none : false ≡ true → ⊥ = λ q. cc in absurd (none h)
+some-contained [] id h = false_true h
 some-contained (x ∷ ids) id h = omega arith
 
 kind-card : (k : Kind) (b : ℕ) → background_of k ≡ Some b → is_card k ≡ true
@@ -49,7 +50,7 @@ first-card s w =
 pub no_globals : AreGlobals empty
 no_globals name = subst (λ o. IfSome o (λ value. IsGlobal name value)) (sym (get-empty (slice_cmp nat_cmp) name)) tt
 
-pub IsSound-opened : (h : Held) (depth room : ℕ) → 0 < depth → IsState h.state → IsSound (record { held = h; oldest = 0; depth = depth; batches = []; cursor = 0 }) room None
+pub IsSound-opened : (h : PresentView) (depth room : ℕ) → 0 < depth → IsState h.state → IsSound (record { present = h; oldest = 0; depth = depth; batches = []; cursor = 0 }) room None
 IsSound-opened h depth room some state = record {
   within = omega arith;
   few = omega arith;

@@ -7,7 +7,7 @@ pub mod Moves
 pub mod Flips
 pub mod Commits
 pub mod Plugs
-pub mod Book
+pub mod Journal
 pub mod Making
 pub mod Globals
 pub mod Short

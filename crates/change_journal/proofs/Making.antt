@@ -19,7 +19,7 @@ use Rattle.journal_entries.specs.Places.{Place, Write, put, put_all, value_at}
 use Rattle.journal_entries.specs.Changes.{changed, writes_of, fits, HasTexts}
 use Rattle.journal_entries.specs.Replaced.{Replacement, replaced_by, replaced_by_turn, back_weight, forth_weight}
 use Rattle.journal_entries.specs.Trails.{Mark, at, structural, holds, marked, IsOnce}
-use Rattle.journal_entries.specs.Exchange.{Held, Lot, Shape, with_cells, shape_of, exchanged, taken, back, entry_weight, mark_of, trail_of, is_structural, IsReady, AreReady}
+use Rattle.journal_entries.specs.Exchange.{PresentView, BatchView, Shape, with_cells, shape_of, exchanged, taken, back, entry_weight, mark_of, trail_of, is_structural, IsReady, AreReady}
 use Rattle.journal_entries.specs.Turning.{Carries, Turns, IsNumbered, one_more_at, with_cells_at}
 use Rattle.journal_entries.specs.Changing.{Makes, kept, holds_one}
 use Rattle.journal_entries.specs.declared.entry.Entry.{Entry}
@@ -31,16 +31,16 @@ use Rattle.journal_entries.proofs.Weighing.{weight-recorded, redo-recorded, trai
 use Rattle.journal_entries.proofs.Once.{back-once, redo-once, holds-trail, plain}
 use Rattle.change_journal.specs.History.{Open, History, IsStart, IsHistory}
 use Rattle.change_journal.specs.Rising.{Rises, Made, TookTurn, BothOpen, trail_after}
-use Rattle.change_journal.specs.Batches.{Book, stamp_of, past_steps, future_steps, open_of, history_of, AllReady, IsSound}
+use Rattle.change_journal.specs.Batches.{Journal, stamp_of, past_steps, future_steps, open_of, history_of, AllReady, IsSound}
 use Rattle.journal_entries.proofs.Turned.{turned_back, counts-turned, IsReady-turned, titles-turned}
 use Rattle.journal_entries.proofs.Replacing.{patch_back, patch_forth}
-use Rattle.change_journal.proofs.Growth.{with_held, history-grown, AllReady-grown, AreReady-grown}
+use Rattle.change_journal.proofs.Growth.{with_present, history-grown, AllReady-grown, AreReady-grown}
 use Rattle.change_journal.proofs.Globals.{globals-put}
 
 -- the history where the batch goes back to the same state
-history-round : (b : Book) (k : Held) (lot more : Lot) → k.names ≡ b.held.names → back b.held.names k.state more.entries ≡ back b.held.names b.held.state lot.entries → history_of (with_held b k) (Some more) ≡ record (history_of b (Some lot)) { now = k.state; start = Some (open_of k.names k.state more); turns = k.turns }
-history-round b k lot more names same =
-    let s : back k.names k.state more.entries ≡ back b.held.names b.held.state lot.entries = (λ i. back (names i) k.state more.entries) ∙ same in
+history-round : (b : Journal) (k : PresentView) (batch more : BatchView) → k.names ≡ b.present.names → back b.present.names k.state more.entries ≡ back b.present.names b.present.state batch.entries → history_of (with_present b k) (Some more) ≡ record (history_of b (Some batch)) { now = k.state; start = Some (open_of k.names k.state more); turns = k.turns }
+history-round b k batch more names same =
+    let s : back k.names k.state more.entries ≡ back b.present.names b.present.state batch.entries = (λ i. back (names i) k.state more.entries) ∙ same in
     λ i. record {
       past = past_steps (names i) b.oldest (s i) (reverse (take b.cursor b.batches));
       now = k.state;
@@ -58,19 +58,19 @@ abbrev one : State → Write → List Replacement
 one s w = record { place = w.place; old = value_at s w.place; new = w.value } ∷ []
 
 -- the entry of a write that is recorded
-rises-recorded : (h : Held) (lot : Lot) (e : Entry) (w : Write) → IsReady (shape_of h) e → Carries h.names h.state w e → holds w.place (trail_of h.names lot.entries) ≡ false → (let t = taken h.names h.state e in let o = open_of h.names h.state lot in Rises (one h.state w) (trail_after (one h.state w) o.trail) o (open_of h.names (exchanged h.names h.state e) (record lot { entries = lot.entries ++ t ∷ [] })))
-rises-recorded h lot e w ready carries new =
+rises-recorded : (h : PresentView) (batch : BatchView) (e : Entry) (w : Write) → IsReady (shape_of h) e → Carries h.names h.state w e → holds w.place (trail_of h.names batch.entries) ≡ false → (let t = taken h.names h.state e in let o = open_of h.names h.state batch in Rises (one h.state w) (trail_after (one h.state w) o.trail) o (open_of h.names (exchanged h.names h.state e) (record batch { entries = batch.entries ++ t ∷ [] })))
+rises-recorded h batch e w ready carries new =
     let names = h.names in
     let s = h.state in
     let t = taken names s e in
     let next = exchanged names s e in
     let undone = exchanged_back h.room names s e ready in
     record {
-      state = back-push names next lot.entries t ∙ ap (λ x. back names x lot.entries) undone;
+      state = back-push names next batch.entries t ∙ ap (λ x. back names x batch.entries) undone;
       number = refl;
-      undo = omega (arith, weight-recorded lot.entries t, carries.back, sum_one-back s w);
-      redo = omega (arith, redo-recorded names s next lot.entries t undone, ap entry_weight (taken_back h.room names s e ready), carries.forth, sum_one-forth s w);
-      trail = trail_of-recorded names lot.entries t ∙ ap (λ m. m ∷ trail_of names lot.entries) (mark_of-taken names s e ∙ carries.mark) ∙ ap (λ b. if b then trail_of names lot.entries else at w.place ∷ trail_of names lot.entries) (sym new);
+      undo = omega (arith, weight-recorded batch.entries t, carries.back, sum_one-back s w);
+      redo = omega (arith, redo-recorded names s next batch.entries t undone, ap entry_weight (taken_back h.room names s e ready), carries.forth, sum_one-forth s w);
+      trail = trail_of-recorded names batch.entries t ∙ ap (λ m. m ∷ trail_of names batch.entries) (mark_of-taken names s e ∙ carries.mark) ∙ ap (λ b. if b then trail_of names batch.entries else at w.place ∷ trail_of names batch.entries) (sym new);
     }
   where
     sum_one-back : (s : State) (w : Write) → back_weight (one s w) ≡ 32 + size_of (value_at s w.place)
@@ -80,50 +80,50 @@ rises-recorded h lot e w ready carries new =
     sum_one-forth s w = omega arith
 
 -- a write of a place that has its entry
-rises-held : (h : Held) (lot : Lot) (e : Entry) (w : Write) → IsNumbered h.names e → AreReady (shape_of h) lot.entries → is_structural e ≡ false → Carries h.names h.state w e → holds_one e lot.entries ≡ true → holds w.place (trail_of h.names lot.entries) ≡ true → (let o = open_of h.names h.state lot in Rises (one h.state w) (trail_after (one h.state w) o.trail) o (open_of h.names (exchanged h.names h.state e) lot))
-rises-held h lot e w only opened plain carries held there =
+rises-held : (h : PresentView) (batch : BatchView) (e : Entry) (w : Write) → IsNumbered h.names e → AreReady (shape_of h) batch.entries → is_structural e ≡ false → Carries h.names h.state w e → holds_one e batch.entries ≡ true → holds w.place (trail_of h.names batch.entries) ≡ true → (let o = open_of h.names h.state batch in Rises (one h.state w) (trail_after (one h.state w) o.trail) o (open_of h.names (exchanged h.names h.state e) batch))
+rises-held h batch e w only opened plain carries held there =
     let names = h.names in
     let s = h.state in
     record {
-      state = back-once names s (shape_of h) e lot.entries only refl opened plain held;
+      state = back-once names s (shape_of h) e batch.entries only refl opened plain held;
       number = refl;
       undo = omega arith;
-      redo = omega (arith, redo-once names s (shape_of h) e lot.entries only refl opened plain held, carries.forth, sum_one s w);
-      trail = ap (λ b. if b then trail_of names lot.entries else at w.place ∷ trail_of names lot.entries) (sym there);
+      redo = omega (arith, redo-once names s (shape_of h) e batch.entries only refl opened plain held, carries.forth, sum_one s w);
+      trail = ap (λ b. if b then trail_of names batch.entries else at w.place ∷ trail_of names batch.entries) (sym there);
     }
   where
     sum_one : (s : State) (w : Write) → forth_weight (one s w) ≡ 32 + size_of w.value
     sum_one s w = omega arith
 
 -- the open batch after a write
-rises : (h : Held) (lot : Lot) (e : Entry) (w : Write) → IsReady (shape_of h) e → IsNumbered h.names e → AreReady (shape_of h) lot.entries → Carries h.names h.state w e → (let o = open_of h.names h.state lot in Rises (one h.state w) (trail_after (one h.state w) o.trail) o (open_of h.names (exchanged h.names h.state e) (record lot { entries = kept lot.entries e (taken h.names h.state e) })))
-rises h lot e w ready only opened carries =
+rises : (h : PresentView) (batch : BatchView) (e : Entry) (w : Write) → IsReady (shape_of h) e → IsNumbered h.names e → AreReady (shape_of h) batch.entries → Carries h.names h.state w e → (let o = open_of h.names h.state batch in Rises (one h.state w) (trail_after (one h.state w) o.trail) o (open_of h.names (exchanged h.names h.state e) (record batch { entries = kept batch.entries e (taken h.names h.state e) })))
+rises h batch e w ready only opened carries =
     let t = taken h.names h.state e in
-    let same = holds-trail h.names (shape_of h) w.place e lot.entries carries.mark only refl opened in
-    elim (holds_one e lot.entries) as (λ b. holds_one e lot.entries ≡ b → (let o = open_of h.names h.state lot in Rises (one h.state w) (trail_after (one h.state w) o.trail) o (open_of h.names (exchanged h.names h.state e) (record lot { entries = if b then lot.entries else lot.entries ++ t ∷ [] })))) [
-      | true ↦ λ held. rises-held h lot e w only opened (plain h.names e w.place carries.mark) carries held (same ∙ held)
-      | false ↦ λ new. rises-recorded h lot e w ready carries (same ∙ new)
+    let same = holds-trail h.names (shape_of h) w.place e batch.entries carries.mark only refl opened in
+    elim (holds_one e batch.entries) as (λ b. holds_one e batch.entries ≡ b → (let o = open_of h.names h.state batch in Rises (one h.state w) (trail_after (one h.state w) o.trail) o (open_of h.names (exchanged h.names h.state e) (record batch { entries = if b then batch.entries else batch.entries ++ t ∷ [] })))) [
+      | true ↦ λ held. rises-held h batch e w only opened (plain h.names e w.place carries.mark) carries held (same ∙ held)
+      | false ↦ λ new. rises-recorded h batch e w ready carries (same ∙ new)
     ] refl
 
 ready-kept : (h : Shape) (es : List Entry) (e t : Entry) → AreReady h es → IsReady h t → AreReady h (kept es e t)
 ready-kept h es e t r q = elim (holds_one e es) as (λ b. AreReady h (if b then es else es ++ t ∷ [])) [ true ↦ r | false ↦ AreReady-push h es t r q ]
 
 -- the state that a kept batch leads back to
-abbrev made_lot : Held → Lot → Entry → Lot
-made_lot h lot e = record lot { entries = kept lot.entries e (taken h.names h.state e) }
+abbrev made_batch : PresentView → BatchView → Entry → BatchView
+made_batch h batch e = record batch { entries = kept batch.entries e (taken h.names h.state e) }
 
-abbrev made_held : Held → Entry → Held
-made_held h e = record h { state = exchanged h.names h.state e }
+abbrev made_present : PresentView → Entry → PresentView
+made_present h e = record h { state = exchanged h.names h.state e }
 
-history-made : (b : Book) (lot : Lot) (e : Entry) (w : Write) (change : Change) → IsReady (shape_of b.held) e → IsNumbered b.held.names e → AreReady (shape_of b.held) lot.entries → Carries b.held.names b.held.state w e → writes_of b.held.state change ≡ w ∷ [] → Made (history_of b (Some lot)) (history_of (with_held b (made_held b.held e)) (Some (made_lot b.held lot e))) change
-history-made b lot e w change ready only opened carries writes =
-    let h = b.held in
-    let up = rises h lot e w ready only opened carries in
-    let round = history-round b (made_held h e) lot (made_lot h lot e) refl up.state in
+history-made : (b : Journal) (batch : BatchView) (e : Entry) (w : Write) (change : Change) → IsReady (shape_of b.present) e → IsNumbered b.present.names e → AreReady (shape_of b.present) batch.entries → Carries b.present.names b.present.state w e → writes_of b.present.state change ≡ w ∷ [] → Made (history_of b (Some batch)) (history_of (with_present b (made_present b.present e)) (Some (made_batch b.present batch e))) change
+history-made b batch e w change ready only opened carries writes =
+    let h = b.present in
+    let up = rises h batch e w ready only opened carries in
+    let round = history-round b (made_present h e) batch (made_batch h batch e) refl up.state in
     let now : exchanged h.names h.state e ≡ changed h.state change = carries.state ∙ ap (λ ws. put_all h.state ws) (sym writes) in
     let replaced : replaced_by h.state change ≡ one h.state w = ap (λ ws. map (λ x. record { place = x.place; old = value_at h.state x.place; new = x.value }) ws) writes in
     record {
-      history = round ∙ ap (λ s. record (history_of b (Some lot)) { now = s; start = Some (open_of h.names (exchanged h.names h.state e) (made_lot h lot e)) }) now;
+      history = round ∙ ap (λ s. record (history_of b (Some batch)) { now = s; start = Some (open_of h.names (exchanged h.names h.state e) (made_batch h batch e)) }) now;
       start = rw replaced up;
     }
 
@@ -189,56 +189,56 @@ IsHistory-made old new change f h made q =
       start = start-risen q.titles old.start new.start (replaced_by old.now change) (λ o. trail_after (replaced_by old.now change) o.trail) (λ o h. once-after (replaced_by old.now change) o.trail h) made.start q.start;
     })
 
-pub made-all : (b : Book) (k : Held) (lot more : Lot) (change : Change) → Makes b.held k lot more change → AllReady (shape_of b.held) b.batches → AreReady (shape_of b.held) lot.entries → Made (history_of b (Some lot)) (history_of (with_held b k) (Some more)) change
-made-all b k lot more change m ready opened =
-    let mid = with_held b m.mid in
-    let grown = history-grown b m.mid lot m.grows ready opened in
-    let made = history-made mid lot m.entry m.prepared.write change m.prepared.ready m.prepared.numbered (AreReady-grown b.held m.mid lot m.grows opened) m.prepared.carries m.prepared.writes in
-    rw (m.held, m.lot) (subst (λ h. Made h (history_of (with_held b (made_held m.mid m.entry)) (Some (made_lot m.mid lot m.entry))) change) grown made)
+pub made-all : (b : Journal) (k : PresentView) (batch more : BatchView) (change : Change) → Makes b.present k batch more change → AllReady (shape_of b.present) b.batches → AreReady (shape_of b.present) batch.entries → Made (history_of b (Some batch)) (history_of (with_present b k) (Some more)) change
+made-all b k batch more change m ready opened =
+    let mid = with_present b m.mid in
+    let grown = history-grown b m.mid batch m.grows ready opened in
+    let made = history-made mid batch m.entry m.prepared.write change m.prepared.ready m.prepared.numbered (AreReady-grown b.present m.mid batch m.grows opened) m.prepared.carries m.prepared.writes in
+    rw (m.present, m.batch) (subst (λ h. Made h (history_of (with_present b (made_present m.mid m.entry)) (Some (made_batch m.mid batch m.entry))) change) grown made)
 
-pub IsSound-made : (b : Book) (k : Held) (room : ℕ) (lot more : Lot) (change : Change) → fits b.held.state change ≡ true → HasTexts change → Makes b.held k lot more change → IsSound b room (Some lot) → IsSound (with_held b k) room (Some more)
-IsSound-made b k room lot more change f texts m sound =
+pub IsSound-made : (b : Journal) (k : PresentView) (room : ℕ) (batch more : BatchView) (change : Change) → fits b.present.state change ≡ true → HasTexts change → Makes b.present k batch more change → IsSound b room (Some batch) → IsSound (with_present b k) room (Some more)
+IsSound-made b k room batch more change f texts m sound =
     let mid = m.mid in
     let h = shape_of mid in
     let same = same_shape mid.room mid.names mid.state m.entry in
-    let made = made-all b k lot more change m sound.ready sound.opened.0 in
-    let shape : shape_of k ≡ h = ap shape_of m.held ∙ same in
-    let entries : more.entries ≡ kept lot.entries m.entry (taken mid.names mid.state m.entry) = ap (λ l. l.entries) m.lot in
-    let opened : AreReady h (kept lot.entries m.entry (taken mid.names mid.state m.entry)) = ready-kept h lot.entries m.entry (taken mid.names mid.state m.entry) (AreReady-grown b.held mid lot m.grows sound.opened.0) (IsReady-taken h mid.names mid.state m.entry m.prepared.ready) in
+    let made = made-all b k batch more change m sound.ready sound.opened.0 in
+    let shape : shape_of k ≡ h = ap shape_of m.present ∙ same in
+    let entries : more.entries ≡ kept batch.entries m.entry (taken mid.names mid.state m.entry) = ap (λ l. l.entries) m.batch in
+    let opened : AreReady h (kept batch.entries m.entry (taken mid.names mid.state m.entry)) = ready-kept h batch.entries m.entry (taken mid.names mid.state m.entry) (AreReady-grown b.present mid batch m.grows sound.opened.0) (IsReady-taken h mid.names mid.state m.entry m.prepared.ready) in
     record {
       within = sound.within;
       few = sound.few;
       some = sound.some;
       ready = rw shape (AllReady-grown b mid m.grows sound.ready);
       opened = (rw (shape, entries) opened, sound.opened.1);
-      history = IsHistory-made (history_of b (Some lot)) (history_of (with_held b k) (Some more)) change f texts made sound.history;
+      history = IsHistory-made (history_of b (Some batch)) (history_of (with_present b k) (Some more)) change f texts made sound.history;
     }
 
 -- ---- a turn
 
-rises-turned : (h : Held) (lot : Lot) (k : Held) (i : ℕ) (input : Input) (ask : Ask) (p : Changes) → k.names ≡ h.names → i < length h.state.externals → Turns h.state k.state i input ask → IsPatch (seen_at h.state i).cells (seen_at k.state i).cells p → (let o = open_of h.names h.state lot in Rises (replaced_by_turn i (seen_at h.state i).cells (seen_at k.state i).cells) (structural ∷ o.trail) o (open_of h.names k.state (record lot { entries = lot.entries ++ External i p ∷ [] })))
+rises-turned : (h : PresentView) (batch : BatchView) (k : PresentView) (i : ℕ) (input : Input) (ask : Ask) (p : Changes) → k.names ≡ h.names → i < length h.state.externals → Turns h.state k.state i input ask → IsPatch (seen_at h.state i).cells (seen_at k.state i).cells p → (let o = open_of h.names h.state batch in Rises (replaced_by_turn i (seen_at h.state i).cells (seen_at k.state i).cells) (structural ∷ o.trail) o (open_of h.names k.state (record batch { entries = batch.entries ++ External i p ∷ [] })))
 unfolding entry_weight taken mark_of
-rises-turned h lot k i input ask p names there turn patch =
+rises-turned h batch k i input ask p names there turn patch =
     let undone = turned_back h.names h.state k.state i input ask p there turn patch in
     record {
-      state = back-push h.names k.state lot.entries (External i p) ∙ ap (λ x. back h.names x lot.entries) undone;
+      state = back-push h.names k.state batch.entries (External i p) ∙ ap (λ x. back h.names x batch.entries) undone;
       number = refl;
-      undo = omega (arith, weight-recorded lot.entries (External i p), patch_back i (seen_at h.state i).cells (seen_at k.state i).cells p patch);
-      redo = omega (arith, redo-recorded h.names h.state k.state lot.entries (External i p) undone, patch_forth i (seen_at h.state i).cells (seen_at k.state i).cells p patch);
-      trail = trail_of-recorded h.names lot.entries (External i p);
+      undo = omega (arith, weight-recorded batch.entries (External i p), patch_back i (seen_at h.state i).cells (seen_at k.state i).cells p patch);
+      redo = omega (arith, redo-recorded h.names h.state k.state batch.entries (External i p) undone, patch_forth i (seen_at h.state i).cells (seen_at k.state i).cells p patch);
+      trail = trail_of-recorded h.names batch.entries (External i p);
     }
 
-pub turned-all : (b : Book) (k : Held) (lot more : Lot) (i : ℕ) (input : Input) (ask : Ask) (p : Changes) → i < length b.held.state.externals → Turns b.held.state k.state i input ask → IsPatch (seen_at b.held.state i).cells (seen_at k.state i).cells p → more ≡ record lot { entries = lot.entries ++ External i p ∷ [] } → k ≡ record b.held { state = k.state; turns = one_more_at b.held.turns i } → TookTurn (history_of b (Some lot)) (history_of (with_held b k) (Some more)) i input ask
-turned-all b k lot more i input ask p there turn patch lot_is held_is =
-    let h = b.held in
-    let names : k.names ≡ h.names = ap (λ x. x.names) held_is in
-    let turns : k.turns ≡ one_more_at h.turns i = ap (λ x. x.turns) held_is in
-    let new : Lot = record lot { entries = lot.entries ++ External i p ∷ [] } in
-    let up = rises-turned h lot k i input ask p names there turn patch in
-    let round = history-round b k lot new names up.state in
-    rw lot_is (record {
+pub turned-all : (b : Journal) (k : PresentView) (batch more : BatchView) (i : ℕ) (input : Input) (ask : Ask) (p : Changes) → i < length b.present.state.externals → Turns b.present.state k.state i input ask → IsPatch (seen_at b.present.state i).cells (seen_at k.state i).cells p → more ≡ record batch { entries = batch.entries ++ External i p ∷ [] } → k ≡ record b.present { state = k.state; turns = one_more_at b.present.turns i } → TookTurn (history_of b (Some batch)) (history_of (with_present b k) (Some more)) i input ask
+turned-all b k batch more i input ask p there turn patch batch_is present_is =
+    let h = b.present in
+    let names : k.names ≡ h.names = ap (λ x. x.names) present_is in
+    let turns : k.turns ≡ one_more_at h.turns i = ap (λ x. x.turns) present_is in
+    let new : BatchView = record batch { entries = batch.entries ++ External i p ∷ [] } in
+    let up = rises-turned h batch k i input ask p names there turn patch in
+    let round = history-round b k batch new names up.state in
+    rw batch_is (record {
       turn = turn;
-      history = round ∙ ap (λ ts. record (history_of b (Some lot)) { now = k.state; start = Some (open_of k.names k.state new); turns = ts }) turns;
+      history = round ∙ ap (λ ts. record (history_of b (Some batch)) { now = k.state; start = Some (open_of k.names k.state new); turns = ts }) turns;
       start = rw names up;
     })
 
@@ -275,16 +275,16 @@ IsHistory-turned old new i input ask there known took q =
       start = start-risen q.titles old.start new.start _ (λ o. structural ∷ o.trail) (λ o h. h) took.start q.start;
     })
 
-pub IsSound-turned : (b : Book) (k : Held) (room : ℕ) (lot more : Lot) (i : ℕ) (input : Input) (ask : Ask) (p : Changes) → i < length b.held.state.externals → IsExternal (seen_at k.state i) → Turns b.held.state k.state i input ask → IsPatch (seen_at b.held.state i).cells (seen_at k.state i).cells p → more ≡ record lot { entries = lot.entries ++ External i p ∷ [] } → k ≡ record b.held { state = k.state; turns = one_more_at b.held.turns i } → IsSound b room (Some lot) → IsSound (with_held b k) room (Some more)
-IsSound-turned b k room lot more i input ask p there known turn patch lot_is held_is sound =
-    let h = shape_of b.held in
-    let shape : shape_of k ≡ h = λ x. record { names = length (held_is x).names; counts = counts-turned b.held.state k.state i input ask turn x; room = (held_is x).room } in
-    let entries : more.entries ≡ lot.entries ++ External i p ∷ [] = ap (λ l. l.entries) lot_is in
+pub IsSound-turned : (b : Journal) (k : PresentView) (room : ℕ) (batch more : BatchView) (i : ℕ) (input : Input) (ask : Ask) (p : Changes) → i < length b.present.state.externals → IsExternal (seen_at k.state i) → Turns b.present.state k.state i input ask → IsPatch (seen_at b.present.state i).cells (seen_at k.state i).cells p → more ≡ record batch { entries = batch.entries ++ External i p ∷ [] } → k ≡ record b.present { state = k.state; turns = one_more_at b.present.turns i } → IsSound b room (Some batch) → IsSound (with_present b k) room (Some more)
+IsSound-turned b k room batch more i input ask p there known turn patch batch_is present_is sound =
+    let h = shape_of b.present in
+    let shape : shape_of k ≡ h = λ x. record { names = length (present_is x).names; counts = counts-turned b.present.state k.state i input ask turn x; room = (present_is x).room } in
+    let entries : more.entries ≡ batch.entries ++ External i p ∷ [] = ap (λ l. l.entries) batch_is in
     record {
       within = sound.within;
       few = sound.few;
       some = sound.some;
       ready = rw shape sound.ready;
-      opened = (rw (shape, entries) (AreReady-push h lot.entries (External i p) sound.opened.0 (IsReady-turned h b.held.state k.state i p refl there patch)), sound.opened.1);
-      history = IsHistory-turned (history_of b (Some lot)) (history_of (with_held b k) (Some more)) i input ask there known (turned-all b k lot more i input ask p there turn patch lot_is held_is) sound.history;
+      opened = (rw (shape, entries) (AreReady-push h batch.entries (External i p) sound.opened.0 (IsReady-turned h b.present.state k.state i p refl there patch)), sound.opened.1);
+      history = IsHistory-turned (history_of b (Some batch)) (history_of (with_present b k) (Some more)) i input ask there known (turned-all b k batch more i input ask p there turn patch batch_is present_is) sound.history;
     }

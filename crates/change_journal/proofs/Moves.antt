@@ -2,15 +2,15 @@
 use Rattle.std.proofs.Common.{◌≡◌, ◌++◌, ℕ, suc, ◌+◌, ◌<◌, List, [], ◌∷◌, length, take, drop, refl, arith, Option, Some, None, option_map, if◌then◌else◌, true, false}
 use Rattle.journal_entries.specs.State.{index_of}
 use Rattle.ht_values.specs.Text.{same}
-use Rattle.journal_entries.specs.Exchange.{Lot, back}
+use Rattle.journal_entries.specs.Exchange.{BatchView, back}
 use Rattle.journal_entries.proofs.Going.{shape-back}
-use Rattle.change_journal.specs.Batches.{Book, open_of, history_of, IsSound}
+use Rattle.change_journal.specs.Batches.{Journal, open_of, history_of, IsSound}
 use Rattle.change_journal.proofs.States.{IsHistory-begun, IsHistory-rolled_back, IsHistory-unplugged}
 
-abbrev pub empty_lot : ℕ → Lot
-empty_lot number = record { number = number; entries = [] }
+abbrev pub empty_batch : ℕ → BatchView
+empty_batch number = record { number = number; entries = [] }
 
-pub IsSound-begun : (b : Book) (number room more : ℕ) (o : Option Lot) → o ≡ None → length b.batches < more → IsSound b room o → IsSound b more (Some (empty_lot number))
+pub IsSound-begun : (b : Journal) (number room more : ℕ) (o : Option BatchView) → o ≡ None → length b.batches < more → IsSound b room o → IsSound b more (Some (empty_batch number))
 IsSound-begun b number room more o none l sound =
     let was = rw none at sound.history in
     record {
@@ -23,24 +23,24 @@ IsSound-begun b number room more o none l sound =
     }
 
 -- the state that the open batch leads back to
-abbrev pub gone_back : Book → Lot → Book
-gone_back b lot = record b { held = record b.held { state = back b.held.names b.held.state lot.entries } }
+abbrev pub gone_back : Journal → BatchView → Journal
+gone_back b batch = record b { present = record b.present { state = back b.present.names b.present.state batch.entries } }
 
-pub IsSound-rolled_back : (b : Book) (room : ℕ) (lot : Lot) → IsSound b room (Some lot) → IsSound (gone_back b lot) room None
-IsSound-rolled_back b room lot sound = record {
+pub IsSound-rolled_back : (b : Journal) (room : ℕ) (batch : BatchView) → IsSound b room (Some batch) → IsSound (gone_back b batch) room None
+IsSound-rolled_back b room batch sound = record {
   within = sound.within;
   few = sound.few;
   some = sound.some;
-  ready = rw (shape-back b.held.room b.held.names b.held.state lot.entries) sound.ready;
+  ready = rw (shape-back b.present.room b.present.names b.present.state batch.entries) sound.ready;
   opened = tt;
-  history = IsHistory-rolled_back (history_of b (Some lot)) (open_of b.held.names b.held.state lot) refl sound.history;
+  history = IsHistory-rolled_back (history_of b (Some batch)) (open_of b.present.names b.present.state batch) refl sound.history;
 }
 
 -- the present state alone, without an external
-abbrev pub book_unplugged : Book → ℕ → ℕ → Book
-book_unplugged b oldest i = record b { held = record b.held { state = record b.held.state { externals = take i b.held.state.externals ++ drop (i + 1) b.held.state.externals }; turns = take i b.held.turns ++ drop (i + 1) b.held.turns }; oldest = oldest; batches = []; cursor = 0 }
+abbrev pub journal_unplugged : Journal → ℕ → ℕ → Journal
+journal_unplugged b oldest i = record b { present = record b.present { state = record b.present.state { externals = take i b.present.state.externals ++ drop (i + 1) b.present.state.externals }; turns = take i b.present.turns ++ drop (i + 1) b.present.turns }; oldest = oldest; batches = []; cursor = 0 }
 
-pub IsSound-unplugged : (b : Book) (room more oldest i : ℕ) → IsSound b room None → IsSound (book_unplugged b oldest i) more None
+pub IsSound-unplugged : (b : Journal) (room more oldest i : ℕ) → IsSound b room None → IsSound (journal_unplugged b oldest i) more None
 IsSound-unplugged b room more oldest i sound =
     let alone = IsHistory-unplugged (history_of b None) (Some i) sound.history in
     record {

@@ -1,10 +1,11 @@
 -- How many entries the batch of a line has, by the places that it replaced.
 use Rattle.std.proofs.Common.{◌≡◌, true, false, if◌then◌else◌, List, [], ◌∷◌}
+use Rattle.std.proofs.lemmas.Bool.{or_left, or_right}
 use Rattle.std.specs.List.{list_any}
 use Rattle.journal_entries.specs.Places.{Place, same_place}
 use Rattle.journal_entries.specs.Replaced.{Replacement, places_of}
 use Rattle.journal_entries.specs.Trails.{Mark, at, holds, marked, IsOnce, AreAmong, IsShort, different}
-use Rattle.journal_entries.proofs.Trails.{short, or_left, or_right, same_place-same}
+use Rattle.journal_entries.proofs.Trails.{short, same_place-same}
 use Rattle.change_journal.specs.Rising.{trail_after}
 
 -- each place that is replaced is one of these

@@ -1,10 +1,12 @@
 -- What each move keeps of what holds of a history.
-use Rattle.std.proofs.Common.{◌≡◌, ◌++◌, ◌+◌, ℕ, zero, suc, Bool, true, false, not, ◌&&◌, ◌||◌, List, [], ◌∷◌, map, take, drop, refl, sym, ap, ◌∙◌, arith, Option, Some, None}
+use Rattle.std.proofs.Common.{◌≡◌, ◌++◌, ◌+◌, ℕ, zero, suc, Bool, true, false, List, [], ◌∷◌, map, take, drop, refl, sym, ap, ◌∙◌, arith, Option, Some, None}
+use Rattle.std.proofs.lemmas.Bool.{false_from_ne_true, false≢true, or_parts}
 use Rattle.std.proofs.lemmas.Slice.Eq.{bytes_eq-Decides}
 use Rattle.std.proofs.lemmas.List.{map-append}
 use Rattle.std.proofs.lemmas.List.Elements.{All-append, All-push, All-take, All-drop}
 use Rattle.ht_values.specs.Text.{same, folded}
 use Rattle.externals.specs.Cells.{Seen, IsExternal}
+use Rattle.journal_entries.proofs.Once.{and_not_parts}
 use Rattle.journal_entries.proofs.Turned.{map-without}
 use Rattle.journal_entries.specs.State.{State, titles_of, has_name, are_apart}
 use Rattle.change_journal.specs.History.{Step, Open, History, AreStates, IsStateOf, IsHistory, begun, committed, rolled_back, flipped_back, flipped_forth, plugged, unplugged_at, with_external, step_with_external, without_at}
@@ -44,43 +46,35 @@ same-turned : (a b : List ℕ) → same a b ≡ true → same b a ≡ true
 same-turned a b e = (bytes_eq-Decides (folded b) (folded a)).1 (sym ((bytes_eq-Decides (folded a) (folded b)).0 e))
 
 differ-turned : (a b : List ℕ) → same a b ≡ false → same b a ≡ false
-differ-turned a b e = elim (same b a) as (λ t. same b a ≡ t → t ≡ false) [ true ↦ λ t. let none : false ≡ true → ⊥ = λ q. cc in absurd (none (sym e ∙ same-turned b a t)) | false ↦ λ t. refl ] refl
-
-or_false : (a b : Bool) → (a || b) ≡ false → (a ≡ false) × (b ≡ false)
-or_false true b h = let none : true ≡ false → ⊥ = λ q. cc in absurd (none h)
-or_false false b h = (refl, h)
-
-and_true : (a b : Bool) → (not a && b) ≡ true → (a ≡ false) × (b ≡ true)
-and_true true b h = let none : false ≡ true → ⊥ = λ q. cc in absurd (none h)
-and_true false b h = (refl, h)
+differ-turned a b e = false_from_ne_true (same b a) (λ t. false≢true (sym e ∙ same-turned b a t))
 
 has_name-push : (n : List ℕ) (ns : List (List ℕ)) (t : List ℕ) → has_name n ns ≡ false → same t n ≡ false → has_name n (ns ++ t ∷ []) ≡ false
 has_name-push n [] t h e = rw e refl
-has_name-push n (m ∷ ms) t h e = let parts = or_false (same m n) (has_name n ms) h in rw (parts.0, has_name-push n ms t parts.1 e) refl
+has_name-push n (m ∷ ms) t h e = let parts = or_parts (same m n) (has_name n ms) h in rw (parts.0, has_name-push n ms t parts.1 e) refl
 
 are_apart-push : (ns : List (List ℕ)) (t : List ℕ) → are_apart ns ≡ true → has_name t ns ≡ false → are_apart (ns ++ t ∷ []) ≡ true
 are_apart-push [] t a h = refl
 are_apart-push (n ∷ ns) t a h =
-    let one = and_true (has_name n ns) (are_apart ns) a in
-    let other = or_false (same n t) (has_name t ns) h in
+    let one = and_not_parts (has_name n ns) (are_apart ns) a in
+    let other = or_parts (same n t) (has_name t ns) h in
     rw (has_name-push n ns t one.0 (differ-turned n t other.0), are_apart-push ns t one.1 other.1) refl
 
 has_name-without : (n : List ℕ) (ns : List (List ℕ)) (i : ℕ) → has_name n ns ≡ false → has_name n (take i ns ++ drop (i + 1) ns) ≡ false
 has_name-without n [] zero h = refl
 has_name-without n [] (suc i) h = let m : suc i + 1 ≡ suc (i + 1) = omega arith in rw m refl
-has_name-without n (k ∷ ns) zero h = (or_false (same k n) (has_name n ns) h).1
+has_name-without n (k ∷ ns) zero h = (or_parts (same k n) (has_name n ns) h).1
 has_name-without n (k ∷ ns) (suc i) h =
     let m : suc i + 1 ≡ suc (i + 1) = omega arith in
-    let parts = or_false (same k n) (has_name n ns) h in
+    let parts = or_parts (same k n) (has_name n ns) h in
     rw (m, parts.0, has_name-without n ns i parts.1) refl
 
 are_apart-without : (ns : List (List ℕ)) (i : ℕ) → are_apart ns ≡ true → are_apart (take i ns ++ drop (i + 1) ns) ≡ true
 are_apart-without [] zero a = refl
 are_apart-without [] (suc i) a = let m : suc i + 1 ≡ suc (i + 1) = omega arith in rw m refl
-are_apart-without (n ∷ ns) zero a = (and_true (has_name n ns) (are_apart ns) a).1
+are_apart-without (n ∷ ns) zero a = (and_not_parts (has_name n ns) (are_apart ns) a).1
 are_apart-without (n ∷ ns) (suc i) a =
     let m : suc i + 1 ≡ suc (i + 1) = omega arith in
-    let parts = and_true (has_name n ns) (are_apart ns) a in
+    let parts = and_not_parts (has_name n ns) (are_apart ns) a in
     rw (m, has_name-without n ns i parts.0, are_apart-without ns i parts.1) refl
 
 state-plugged : (ts : List (List ℕ)) (x : Seen) (s : State) → IsExternal x → has_name x.title ts ≡ false → IsStateOf ts s → IsStateOf (ts ++ x.title ∷ []) (with_external x s)

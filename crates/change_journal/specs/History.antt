@@ -143,9 +143,9 @@ pub record IsHistory (h : History) : Type 0 where
 
 -- A history as World shows it, beside it the globals that have a value in an order of their own: nothing that
 -- is said of histories speaks of that order.
-pub record Journal : Type 0 where
+pub record WorldView : Type 0 where
   pub history : History
   pub names : List (List ℕ)
 
-abbrev pub coded_journal : Coded Journal
-coded_journal = code_by (History × List (List ℕ)) (coded× coded_history (coded_list (coded_list coded_ℕ))) (λ j. (j.history, j.names)) (λ p. record { history = p.0; names = p.1 }) (λ _. refl)
+abbrev pub coded_world_view : Coded WorldView
+coded_world_view = code_by (History × List (List ℕ)) (coded× coded_history (coded_list (coded_list coded_ℕ))) (λ j. (j.history, j.names)) (λ p. record { history = p.0; names = p.1 }) (λ _. refl)

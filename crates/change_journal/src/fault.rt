@@ -4,7 +4,7 @@ use thiserror::Error;
 
 /// Why a world isn't opened.
 #[derive(Clone, Copy, Debug, Error, Eq, PartialEq)]
-pub enum OpenError {
+pub enum WorldError {
     #[error("two externals have names that are the same")]
     DuplicateName,
 }
@@ -14,6 +14,6 @@ pub enum OpenError {
 pub enum PlugError {
     #[error("another external has a name that is the same")]
     DuplicateName,
-    #[error("no memory")]
+    #[error("out of memory")]
     Memory,
 }

@@ -4,6 +4,6 @@
 mod fault;
 mod world;
 
-pub use fault::{OpenError, PlugError};
+pub use fault::{PlugError, WorldError};
 pub use journal_entries::Change;
-pub use world::World;
+pub use world::{MOST_DEPTH, World};

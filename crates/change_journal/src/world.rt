@@ -13,8 +13,9 @@ ghost use Rattle.change_journal.specs.History.{IsHistory, alone, begun, committe
 ghost use Rattle.std.specs.VecDeque.{deque_len, deque_capacity};
 ghost use Rattle.change_journal.specs.Batches.{newest, oldest_of};
 ghost use Rattle.change_journal.specs.Rising.{Made, TookTurn};
+ghost use Rattle.change_journal.specs.declared.world.TheConstants.{MOST_DEPTH};
 
-use crate::fault::{OpenError, PlugError};
+use crate::fault::{PlugError, WorldError};
 use externals::{Ask, External, Input, law_of_external};
 use ht_values::Text;
 use journal_entries::{Batch, Change, Present, are_apart, law_of_externals, law_of_texts};
@@ -22,6 +23,9 @@ use object_table::Stack;
 use std::alloc::{AllocError, Global};
 use std::collections::VecDeque;
 use std::marker::Model;
+
+/// The most states that can stand before the present one.
+pub const MOST_DEPTH: u32 = 1_000_000;
 
 /// The present state of a stack, its globals, its current card and its externals, with the history of states
 /// round it. Nothing else writes: a change or a turn of an external is made in an open batch, which `commit`
@@ -41,19 +45,19 @@ pub struct World<E: External> {
 
 impl<E: External> Model for World<E> {
     ghost use Rattle.std.specs.VecDeque.{deque_capacity};
-    ghost use Rattle.change_journal.specs.History.{Journal, coded_journal};
+    ghost use Rattle.change_journal.specs.History.{WorldView, coded_world_view};
     ghost use Rattle.change_journal.specs.Batches.{history_of, IsSound};
 
-    ghost Value = { Journal };
+    ghost Value = { WorldView };
 
-    ghost coded = { coded_journal };
+    ghost coded = { coded_world_view };
 
     ghost view = { λ w. record {
-      history = history_of (record { held = w.present; oldest = w.oldest; depth = w.depth; batches = w.batches.items; cursor = w.cursor }) w.«open»;
+      history = history_of (record { present = w.present; oldest = w.oldest; depth = w.depth; batches = w.batches.items; cursor = w.cursor }) w.«open»;
       names = w.present.names;
     } };
 
-    ghost invariant = { λ w. IsSound (record { held = w.present; oldest = w.oldest; depth = w.depth; batches = w.batches.items; cursor = w.cursor }) (deque_capacity w.batches) w.«open» };
+    ghost invariant = { λ w. IsSound (record { present = w.present; oldest = w.oldest; depth = w.depth; batches = w.batches.items; cursor = w.cursor }) (deque_capacity w.batches) w.«open» };
 }
 
 impl<E: External> World<E> {
@@ -65,16 +69,16 @@ impl<E: External> World<E> {
         stack: Stack,
         externals: Vec<E>,
         depth: u32,
-    ) -> Result<World<E>, (OpenError, Stack, Vec<E>)>
+    ) -> Result<World<E>, (WorldError, Stack, Vec<E>)>
         requires low { 1 ≤ depth }
-        requires high { depth ≤ 1000000 }
+        requires high { depth ≤ MOST_DEPTH }
         requires stack { IsWellFormed stack.content }
         ensures apart { is_ok result ≡ apart_titles (map E.title externals.items) }
         ensures ok { IfOk result (λ w. w.history ≡ alone (first_state stack.content (map (seen_by E.title E.sort E.answers_calls E.cells) externals.items)) 0 depth (map E.turn_count externals.items)) }
-        ensures err { IfErr result (λ e. (e.0 ≡ OpenError.DuplicateName) × (e.1 ≡ stack) × (e.2.items ≡ externals.items)) }
+        ensures err { IfErr result (λ e. (e.0 ≡ WorldError.DuplicateName) × (e.1 ≡ stack) × (e.2.items ≡ externals.items)) }
     {
         if !are_apart(&externals) {
-            return Err((OpenError::DuplicateName, stack, externals));
+            return Err((WorldError::DuplicateName, stack, externals));
         }
         law_of_externals(&externals);
         let first = stack.card_at(1).unwrap_or(0);
@@ -270,7 +274,8 @@ impl<E: External> World<E> {
     }
 
     /// Adds an external, with its cells of now, to every state of the history. `DuplicateName` where another has
-    /// a name that is the same; it and want of memory hand the external back, and then nothing changes.
+    /// a name that is the same, `Memory` where it is out of memory; either hands the external back, and then nothing
+    /// changes.
     pub fn plug(&mut self, external: E) -> Result<(), (PlugError, E)>
         requires { self.old.history.start ≡ None }
         ensures ok { OnOk result (self.new.history ≡ plugged self.old.history (seen_by E.title E.sort E.answers_calls E.cells external) (E.turn_count external)) }

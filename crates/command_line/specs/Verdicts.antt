@@ -2,6 +2,7 @@
 use Rattle.std.specs.Prelude.{ℕ, List, ◌++◌, take, codes, decimal}
 use Rattle.stack_text.specs.declared.fault.FileError.{FileError}
 use Rattle.stack_text.specs.declared.fault.FileError.TheVariants.{BadLine, BadId, Truncated, TooMany}
+use Rattle.command_line.specs.declared.fault.TheConstants.{MOST_OF_NAME}
 use Rattle.command_line.specs.declared.fault.CliFault.{CliFault}
 use Rattle.command_line.specs.declared.fault.CliFault.TheVariants.{Usage, CannotRead, Refused, Read, Write, TooManyLines, Memory}
 
@@ -27,7 +28,7 @@ refusal_of TooMany = codes "card_cli: stack refused 4"
 -- the line of a fault, by the name of the stack
 abbrev pub message_of : CliFault → List ℕ → List ℕ
 message_of (Usage text) stack = text
-message_of CannotRead stack = codes "card_cli: cannot read " ++ take 4096 stack
+message_of CannotRead stack = codes "card_cli: cannot read " ++ take MOST_OF_NAME stack
 message_of (Refused fault) stack = refusal_of fault
 message_of Read stack = codes "card_cli: read fault"
 message_of Write stack = codes "card_cli: write fault"

@@ -5,7 +5,10 @@ use Rattle.std.specs.String.{string_bytes}
 use Rattle.clap.specs.Words.{App, Row, Rule, Text, new_app, new_rule, with_rule, first_of, one_of}
 use Rattle.clap.specs.declared.builder.action.ArgAction.TheVariants.{Set, SetTrue}
 use Rattle.clap.specs.declared.builder.value_parser.ValueParser.TheVariants.{Unsigned}
-use Rattle.command_line.specs.declared.given.Words.{Words}
+use Rattle.change_journal.specs.declared.world.TheConstants.{MOST_DEPTH}
+use Rattle.session.specs.declared.limits.TheConstants.{MOST_STEPS}
+use Rattle.command_line.specs.declared.options.Options.{Options}
+use Rattle.command_line.specs.declared.words.TheConstants.{DEFAULT_STEPS}
 
 -- STACK has to be there; --steps and --depth have a number in their range, and --watch stands alone
 abbrev pub stack_rule : Rule
@@ -18,7 +21,7 @@ abbrev pub watch_rule : Rule
 watch_rule = record (new_rule (codes "watch")) { long = Some (codes "watch"); action = Some SetTrue }
 
 abbrev pub program : App
-program = with_rule (with_rule (with_rule (with_rule (new_app (codes "card_cli")) stack_rule) (number_rule (codes "steps") 10000000)) (number_rule (codes "depth") 1000000)) watch_rule
+program = with_rule (with_rule (with_rule (with_rule (new_app (codes "card_cli")) stack_rule) (number_rule (codes "steps") MOST_STEPS)) (number_rule (codes "depth") MOST_DEPTH)) watch_rule
 
 -- whether a text is a number that a word can hold
 abbrev pub Reads : Text → Type 0
@@ -37,8 +40,8 @@ pub record IsFlag (given : Option Text) (b : Bool) : Type 0 where
   pub no : given ≡ Some (codes "false") → b ≡ false
 
 -- what was found in the words, said
-pub record Says (rows : List Row) (w : Words) : Type 0 where
+pub record Says (rows : List Row) (w : Options) : Type 0 where
   pub stack : string_bytes w.stack ≡ unwrap_or (first_of (codes "STACK") rows) []
-  pub steps : IsNumber (one_of (codes "steps") rows) 100000 10000000 w.steps
-  pub depth : IsNumber (one_of (codes "depth") rows) 1000000 1000000 w.depth
+  pub steps : IsNumber (one_of (codes "steps") rows) DEFAULT_STEPS MOST_STEPS w.steps
+  pub depth : IsNumber (one_of (codes "depth") rows) MOST_DEPTH MOST_DEPTH w.depth
   pub watch : IsFlag (one_of (codes "watch") rows) w.watch

@@ -3,6 +3,7 @@
 ghost use Rattle.std.specs.Prelude.{◌≡◌, ◌++◌, take, length, ◌≤◌, codes, IfOk};
 ghost use Rattle.ht_values.specs.declared.text.TheConstants.{LIMIT};
 ghost use Rattle.command_line.specs.declared.fault.CliFault.TheVariants.{Memory};
+ghost use Rattle.command_line.specs.declared.fault.TheConstants.{MOST_OF_NAME};
 ghost use Rattle.command_line.specs.Verdicts.{status_of, message_of, refusal_of};
 
 use ht_values::{LIMIT, Text, TextError};
@@ -73,7 +74,7 @@ pub fn cut(alloc: Global, bytes: &[u8]) -> Result<Text, AllocError>
 
 /// `card_cli: cannot read` and the name, cut.
 fn cannot_read(alloc: Global, stack: &Text) -> Result<Vec<u8>, AllocError>
-    ensures { IfOk result (λ m. m.items ≡ codes "card_cli: cannot read " ++ take 4096 stack.now) }
+    ensures { IfOk result (λ m. m.items ≡ codes "card_cli: cannot read " ++ take MOST_OF_NAME stack.now) }
 {
     let mut line = Vec::from_slice(alloc, b"card_cli: cannot read ")?;
     line.extend_from_slice(first(stack.as_slice(), MOST_OF_NAME))?;

@@ -2,16 +2,16 @@
 #![tactic(auto)]
 
 mod fault;
-mod given;
+mod options;
 mod runs;
 mod stack_bytes;
 mod words;
 
 pub use fault::{CliFault, cut, verdict};
-pub use given::Words;
+pub use options::Options;
 pub use runs::play;
 pub use stack_bytes::{BytesFault, MOST_OF_STACK, bytes_of};
-pub use words::words_of;
+pub use words::options_of;
 
 #[cfg(test)]
 mod stack_bytes_tests;

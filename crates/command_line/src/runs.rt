@@ -9,7 +9,7 @@ ghost use Rattle.stack_text.specs.Laws.{Spells};
 ghost use Rattle.command_line.specs.Plays.{Plays, Ends, IsRefusal, fault_of_run};
 
 use crate::fault::CliFault;
-use crate::given::Words;
+use crate::options::Options;
 use externals::External;
 use object_table::Stack;
 use session::{Ran, RunFault, Session, run, runs_follow, stops_follow};
@@ -41,7 +41,7 @@ fn fault_of(fault: RunFault) -> CliFault
     }
 }
 
-/// Reads the stack text, opens a session with these externals as the words say, and runs the reader to the
+/// Reads the stack text, opens a session with these externals as the options say, and runs the reader to the
 /// writer, up to `.quit` or the end of the input, which it tells.
 ///
 /// What is written is the answers to the lines that are read, those of a list of whole states with a cursor.
@@ -49,7 +49,7 @@ fn fault_of(fault: RunFault) -> CliFault
 /// where a growth was refused. A device is blamed where it failed, and nowhere else.
 pub fn play<E: External, R: Read, W: Write>(
     alloc: Global,
-    words: &Words,
+    options: &Options,
     bytes: &[u8],
     externals: Vec<E>,
     reader: &mut Watched<R>,
@@ -59,18 +59,18 @@ pub fn play<E: External, R: Read, W: Write>(
     ensures ok { IfOk result (λ ran. (read : List ℕ) × (written : List ℕ)
         × Consumes (R.remaining (device_of reader.old)) (R.remaining (device_of reader.new)) read
         × Appends (W.contents (device_of writer.old)) (W.contents (device_of writer.new)) written
-        × Plays (IsAtEnd (R.remaining (device_of reader.new))) ran bytes.now (λ stack. beginning stack (map (seen_by E.title E.sort E.answers_calls E.cells) externals.items) words.now.steps words.now.depth) read written) }
+        × Plays (IsAtEnd (R.remaining (device_of reader.new))) ran bytes.now (λ stack. beginning stack (map (seen_by E.title E.sort E.answers_calls E.cells) externals.items) options.now.steps options.now.depth) read written) }
     ensures err { IfErr result (λ fault. (read : List ℕ) × (written : List ℕ)
         × Consumes (R.remaining (device_of reader.old)) (R.remaining (device_of reader.new)) read
         × Appends (W.contents (device_of writer.old)) (W.contents (device_of writer.new)) written
-        × Ends (IsAtEnd (R.remaining (device_of reader.new))) fault bytes.now (λ stack. beginning stack (map (seen_by E.title E.sort E.answers_calls E.cells) externals.items) words.now.steps words.now.depth) read written) }
+        × Ends (IsAtEnd (R.remaining (device_of reader.new))) fault bytes.now (λ stack. beginning stack (map (seen_by E.title E.sort E.answers_calls E.cells) externals.items) options.now.steps options.now.depth) read written) }
     ensures read_failed { IsErrOf result CliFault.Read → Rose (failures_of reader.old) (failures_of reader.new) }
     ensures read_sound { ¬ IsErrOf result CliFault.Read → failures_of reader.new ≡ failures_of reader.old }
     ensures write_failed { IsErrOf result CliFault.Write → Rose (failures_of writer.old) (failures_of writer.new) }
     ensures write_sound { ¬ IsErrOf result CliFault.Write → failures_of writer.new ≡ failures_of writer.old }
 {
     let stack = stack_of(alloc, bytes)?;
-    let mut session = match Session::open(alloc, stack, externals, words.steps, words.depth) {
+    let mut session = match Session::open(alloc, stack, externals, options.steps, options.depth) {
         Ok(session) => session,
         Err(_) => unreachable!(),
     };

@@ -1,7 +1,7 @@
 //! The words and the verdicts, as this project's profile has them.
 
 use crate::fault::{CliFault, cut, verdict};
-use crate::words::words_of;
+use crate::words::options_of;
 use ht_values::Text;
 use stack_file::FileError;
 use std::alloc::{AllocError, Global};
@@ -19,14 +19,14 @@ fn given(alloc: Global, words: &str) -> Result<Vec<String>, AllocError> {
 
 fn is_usage_fault(alloc: Global, words: &str) -> Result<bool, AllocError> {
     let given = given(alloc, words)?;
-    let outcome = words_of(alloc, given.as_slice());
+    let outcome = options_of(alloc, given.as_slice());
     Ok(matches!(&outcome, Err(CliFault::Usage(_))))
 }
 
 #[test]
 fn a_stack_alone_has_the_usual_limits(rt: HostRuntime) -> Result<(), Fail> {
     let given = given(rt.alloc(), "a.stack")?;
-    let Ok(words) = words_of(rt.alloc(), given.as_slice()) else {
+    let Ok(words) = options_of(rt.alloc(), given.as_slice()) else {
         return Err(Fail::from(AllocError));
     };
     assert!(rt; words.stack.as_str() == "a.stack");
@@ -39,7 +39,7 @@ fn a_stack_alone_has_the_usual_limits(rt: HostRuntime) -> Result<(), Fail> {
 #[test]
 fn options_are_taken_in_any_order(rt: HostRuntime) -> Result<(), Fail> {
     let given = given(rt.alloc(), "--depth=2 --watch a.stack --steps 10000000")?;
-    let Ok(words) = words_of(rt.alloc(), given.as_slice()) else {
+    let Ok(words) = options_of(rt.alloc(), given.as_slice()) else {
         return Err(Fail::from(AllocError));
     };
     assert_eq!(rt; words.steps, 10_000_000);

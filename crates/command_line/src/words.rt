@@ -4,26 +4,22 @@ ghost use Rattle.std.specs.Prelude.{◌≡◌, ◌≤◌, ◌↔◌, [], map, If
 ghost use Rattle.std.specs.String.{string_bytes};
 ghost use Rattle.clap.specs.Words.{app_of, fault_of, kind_of, found_of, rows_of, matches_of, one_of};
 ghost use Rattle.command_line.specs.Verdicts.{IsFaultOfWords};
-ghost use Rattle.command_line.specs.Words.{program as program_said, IsNumber, Says};
+ghost use Rattle.command_line.specs.Words.{program as program_by, IsNumber, Says};
 
 use crate::fault::{CliFault, cut};
-use crate::given::Words;
+use crate::options::Options;
 use clap::builder::ValueParser;
 use clap::error::ErrorKind;
 use clap::{Arg, ArgAction, ArgMatches, Command, Error};
+use session::{MOST_DEPTH, MOST_STEPS};
 use std::alloc::{AllocError, Global};
 
-/// The most steps of a command, and how many there are unless the words say so.
-const MOST_STEPS: u32 = 10_000_000;
-
-const STEPS: u32 = 100_000;
-
-/// The greatest depth of the history, in places, which is also its depth unless the words say so.
-const MOST_DEPTH: u32 = 1_000_000;
+/// How many steps a command may take unless the words say so. The history is as deep as it can be unless they say so.
+const DEFAULT_STEPS: u32 = 100_000;
 
 /// The program as `clap` knows it.
 fn program<'a>(alloc: Global) -> Result<Command<'a>, AllocError>
-    ensures { IfOk result (λ c. app_of c ≡ program_said) }
+    ensures { IfOk result (λ c. app_of c ≡ program_by) }
 {
     let stack = Arg::new(alloc, "STACK")
         .required(true)
@@ -60,20 +56,20 @@ fn number(matches: &ArgMatches<'_>, name: &str, unless: u32, most: u32) -> u32
     }
 }
 
-/// What the matches say.
-fn said(alloc: Global, matches: &ArgMatches<'_>) -> Result<Words, AllocError>
+/// The options that the matches say.
+fn options_in(alloc: Global, matches: &ArgMatches<'_>) -> Result<Options, AllocError>
     ensures { IfOk result (Says (rows_of (found_of matches.now))) }
 {
-    Ok(Words {
+    Ok(Options {
         stack: String::from_str(alloc, matches.get_str("STACK").unwrap_or(""))?,
-        steps: number(matches, "steps", STEPS, MOST_STEPS),
+        steps: number(matches, "steps", DEFAULT_STEPS, MOST_STEPS),
         depth: number(matches, "depth", MOST_DEPTH, MOST_DEPTH),
         watch: matches.get_flag("watch"),
     })
 }
 
 /// Whether an error is of a growth that was refused.
-fn is_want_of_memory(error: &Error) -> bool
+fn is_out_of_memory(error: &Error) -> bool
     ensures { IsTrue result ↔ kind_of error.now ≡ ErrorKind.OutOfMemory }
 {
     matches!(error.kind(), ErrorKind::OutOfMemory)
@@ -82,17 +78,17 @@ fn is_want_of_memory(error: &Error) -> bool
 /// Reads the words, of which the first is the program's name: what `clap` finds in them, exactly. What `clap` doesn't
 /// take, `--help` included, is a usage fault with `clap`'s text, and words that it takes never are; `Memory` where a
 /// growth was refused, and no other fault.
-pub fn words_of(alloc: Global, given: &[String]) -> Result<Words, CliFault>
-    ensures ok { IfOk result (Says (matches_of program_said (map (λ s. string_bytes s) given.now))) }
-    ensures taken { IfOk result (λ w. fault_of program_said (map (λ s. string_bytes s) given.now) ≡ []) }
+pub fn options_of(alloc: Global, words: &[String]) -> Result<Options, CliFault>
+    ensures ok { IfOk result (Says (matches_of program_by (map (λ s. string_bytes s) words.now))) }
+    ensures taken { IfOk result (λ w. fault_of program_by (map (λ s. string_bytes s) words.now) ≡ []) }
     ensures err { IfErr result IsFaultOfWords }
-    ensures memory { IfErr result (λ f. fault_of program_said (map (λ s. string_bytes s) given.now) ≡ [] → f ≡ CliFault.Memory) }
+    ensures memory { IfErr result (λ f. fault_of program_by (map (λ s. string_bytes s) words.now) ≡ [] → f ≡ CliFault.Memory) }
 {
     let command = program(alloc)?;
-    match command.try_get_matches_from(given) {
-        Ok(matches) => Ok(said(alloc, &matches)?),
+    match command.try_get_matches_from(words) {
+        Ok(matches) => Ok(options_in(alloc, &matches)?),
         Err(error) => {
-            if is_want_of_memory(&error) {
+            if is_out_of_memory(&error) {
                 return Err(CliFault::Memory);
             }
             let text = error.to_string(alloc)?;

@@ -32,7 +32,7 @@ slice_get-set_same [] i a h = absurd (omega arith)
 slice_get-set_same (x ∷ xs) zero a h = refl
 slice_get-set_same (x ∷ xs) (suc i) a h = slice_get-set_same xs i a (omega arith)
 
-slice_get-set_other : {X : Type 0} (xs : List X) (i j : ℕ) (a : X) → j ≢ i → slice_get (set xs i a) j ≡ slice_get xs j
+pub slice_get-set_other : {X : Type 0} (xs : List X) (i j : ℕ) (a : X) → j ≢ i → slice_get (set xs i a) j ≡ slice_get xs j
 slice_get-set_other [] i j a h = refl
 slice_get-set_other (x ∷ xs) zero zero a h = absurd (h refl)
 slice_get-set_other (x ∷ xs) zero (suc j) a h = refl

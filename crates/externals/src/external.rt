@@ -3,7 +3,6 @@
 ghost use Rattle.std.specs.Prelude.{◌≡◌, ℕ, ◌<◌, Bool, List, length, IfOk, OnErr, slice_get, Some};
 ghost use Rattle.externals.specs.Cells.{flipped, taken_out, IsProper, IsPatch, IsKind, one_more_turn};
 
-use crate::note::Note;
 use crate::patch::Patch;
 use crate::texts::Texts;
 use ht_values::Text;
@@ -15,20 +14,21 @@ pub enum Input {
     /// A handler called it with these arguments.
     Start(Texts),
     /// The call-back with this note has this value.
-    Answer(Note, Text),
+    Answer(Texts, Text),
 }
 
-/// What an external wants after a turn: a call-back, whose answer comes with the same note, or an end.
+/// What an external wants after a turn: a call-back, whose answer comes with the same note, or an end. The first member
+/// of a call-back is its note.
 #[derive(Drop)]
 pub enum Ask {
     /// Run the text as a typed line.
-    SendCardMessage(Note, Text),
+    SendCardMessage(Texts, Text),
     /// Compute the text as an expression.
-    EvalExpr(Note, Text),
+    EvalExpr(Texts, Text),
     /// Put the value (second) into the global of this name (first).
-    SetGlobal(Note, Text, Text),
+    SetGlobal(Texts, Text, Text),
     /// Put the value into the first field of this name, on the card (`true`) or its background (`false`).
-    SetFieldByName(Note, bool, Text, Text),
+    SetFieldByName(Texts, bool, Text, Text),
     /// The conversation ends with this value; with `true` the message is passed on and the value dropped.
     Done(Text, bool),
     /// The conversation ends by the fault of an external.

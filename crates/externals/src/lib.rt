@@ -4,12 +4,10 @@
 mod boxed;
 mod external;
 mod laws;
-mod note;
 mod patch;
 mod texts;
 
 pub use external::{Ask, External, Input};
 pub use laws::{law_of_external, laws_of_flips};
-pub use note::Note;
 pub use patch::Patch;
 pub use texts::Texts;

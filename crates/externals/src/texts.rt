@@ -1,4 +1,4 @@
-//! A list of texts: the arguments that an external is started with.
+//! A list of texts: the arguments that an external is started with, or the note that it gives with a call-back.
 
 ghost use Rattle.std.specs.Prelude.{◌≡◌, ℕ, ◌<◌, List, [], ◌∷◌, ◌++◌, length, IfErr, OnOk, slice_get, Some};
 
@@ -6,7 +6,7 @@ use ht_values::Text;
 use std::alloc::Global;
 use std::marker::Model;
 
-/// Texts in order, which contracts see as their list.
+/// Texts in order, which contracts see as their list: arguments, or a note, which comes again with the answer.
 #[derive(Drop)]
 pub struct Texts {
     items: Vec<Text>,

@@ -11,12 +11,12 @@ use Rattle.journal_entries.specs.declared.entry.Entry.TheVariants.{Global, Curre
 
 structural_apart : (e f : Entry) → is_structural f ≡ true → of_one_place e f ≡ false
 unfolding of_one_place is_structural
-structural_apart (Global i v) (Global j w) h = let none : false ≡ true → ⊥ = λ q. cc in absurd (none h)
+structural_apart (Global i v) (Global j w) h = stack.false_true h
 structural_apart (Global i v) (Current d) h = refl
 structural_apart (Global i v) (Stack f) h = refl
 structural_apart (Global i v) (External j p) h = refl
 structural_apart (Current c) (Global j w) h = refl
-structural_apart (Current c) (Current d) h = let none : false ≡ true → ⊥ = λ q. cc in absurd (none h)
+structural_apart (Current c) (Current d) h = stack.false_true h
 structural_apart (Current c) (Stack f) h = refl
 structural_apart (Current c) (External j p) h = refl
 structural_apart (Stack e) (Global j w) h = refl

@@ -3,7 +3,7 @@ use Rattle.std.proofs.Common.{◌≡◌, ◌≢◌, ◌++◌, ℕ, ◌+◌, ◌�
 use Rattle.std.specs.List.{list_any}
 use Rattle.std.specs.FinMap.{get}
 use Rattle.std.proofs.lemmas.Cmp.{nat_list_cmp_total}
-use Rattle.std.proofs.lemmas.Bool.{eqb-true, eq-eqb}
+use Rattle.std.proofs.lemmas.Bool.{and_parts, or_parts, not-true, eqb-true, eq-eqb}
 use Rattle.std.proofs.lemmas.List.{reverse-append}
 use Rattle.std.proofs.lemmas.List.Folds.{list_any-append}
 use Rattle.std.proofs.lemmas.List.Sums.{sum_by-cons}
@@ -14,6 +14,7 @@ use Rattle.stack_places.specs.Places.{size_of, text}
 use Rattle.stack_places.specs.Exchange.{is_structural as stack_is_structural, place_of as stack_place_of, of_one_place as stack_of_one_place}
 use Rattle.stack_places.specs.declared.entry.StackEntry.{StackEntry}
 use Rattle.stack_places.proofs.Exchanging as stack
+use Rattle.stack_places.proofs.Exchanging.{false_true}
 use Rattle.journal_entries.specs.State.{State}
 use Rattle.journal_entries.specs.Places.{Place, same_place, global, in_stack, current_card}
 use Rattle.journal_entries.specs.Trails.{Mark, at, structural, holds}
@@ -23,9 +24,7 @@ use Rattle.journal_entries.specs.Changing.{holds_one}
 use Rattle.journal_entries.specs.declared.entry.Entry.{Entry}
 use Rattle.journal_entries.specs.declared.entry.Entry.TheVariants.{Global, Current, Stack, External}
 use Rattle.journal_entries.proofs.Naming.{antisymmetric}
-
-false_true : {A : Type 0} → false ≡ true → A
-false_true e = let none : false ≡ true → ⊥ = λ q. cc in absurd (none e)
+use Rattle.journal_entries.proofs.Replacing.{bytes_differ}
 
 -- another number has another name
 named_apart : (names : List (List ℕ)) (h : Shape) (i j : ℕ) (v w : Option (List ℕ)) → IsNumbered names (Global i v) → h.names ≡ length names → IsReady h (Global j w) → of_one_place (Global i v) (Global j w) ≡ false → get_or names i [] ≢ get_or names j []
@@ -101,25 +100,13 @@ written_out names s (Stack e) (Stack f) h = stack.written_out s.stack e f h
 written_out names s (Stack e) (External j q) h = false_true h
 written_out names s (External i p) f h = false_true h
 
-or_left : (a b : Bool) → (a || b) ≡ false → a ≡ false
-or_left true b h = h
-or_left false b h = refl
-
-or_right : (a b : Bool) → (a || b) ≡ false → b ≡ false
-or_right true b h = false_true (sym h)
-or_right false b h = h
+-- two tests of which the first fails
+pub and_not_parts : (a b : Bool) → (not a && b) ≡ true → (a ≡ false) × (b ≡ true)
+and_not_parts a b h = let parts = and_parts (not a) b h in (not-true a parts.0, parts.1)
 
 and_right : (a b : Bool) → (not a && b) ≡ false → a ≡ false → b ≡ false
 and_right true b h e = false_true (sym e)
 and_right false b h e = h
-
-and_left_true : (a b : Bool) → (not a && b) ≡ true → a ≡ false
-and_left_true true b h = false_true h
-and_left_true false b h = refl
-
-and_right_true : (a b : Bool) → (not a && b) ≡ true → b ≡ true
-and_right_true true b h = false_true h
-and_right_true false b h = h
 
 -- entries of other places, none of them structural
 record AreFree (e : Entry) (es : List Entry) : Type 0 where
@@ -127,13 +114,13 @@ record AreFree (e : Entry) (es : List Entry) : Type 0 where
   apart : holds_one e es ≡ false
 
 rest_free : (e f : Entry) (es : List Entry) → AreFree e (f ∷ es) → AreFree e es
-rest_free e f es h = record { none = or_right (is_structural f) (list_any is_structural es) h.none; apart = or_left (holds_one e es) (not (list_any is_structural es) && of_one_place e f) h.apart }
+rest_free e f es h = record { none = (or_parts (is_structural f) (list_any is_structural es) h.none).1; apart = (or_parts (holds_one e es) (not (list_any is_structural es) && of_one_place e f) h.apart).0 }
 
 first_free : (e f : Entry) (es : List Entry) → AreFree e (f ∷ es) → of_one_place e f ≡ false
-first_free e f es h = and_right (list_any is_structural es) (of_one_place e f) (or_right (holds_one e es) _ h.apart) (or_right (is_structural f) (list_any is_structural es) h.none)
+first_free e f es h = and_right (list_any is_structural es) (of_one_place e f) (or_parts (holds_one e es) _ h.apart).1 (or_parts (is_structural f) (list_any is_structural es) h.none).1
 
 first_plain : (e f : Entry) (es : List Entry) → AreFree e (f ∷ es) → is_structural f ≡ false
-first_plain e f es h = or_left (is_structural f) (list_any is_structural es) h.none
+first_plain e f es h = (or_parts (is_structural f) (list_any is_structural es) h.none).0
 
 back-free : (names : List (List ℕ)) (s : State) (h : Shape) (e : Entry) (es : List Entry) → IsNumbered names e → h.names ≡ length names → AreReady h es → is_structural e ≡ false → AreFree e es → back names (exchanged names s e) es ≡ exchanged names (back names s es) e
 back-free names s h e [] only n r a free = refl
@@ -156,9 +143,9 @@ back-once names s h e (f ∷ es) only n r a held =
     elim (holds_one e es) as (λ b. holds_one e es ≡ b → (b || (not (list_any is_structural es) && of_one_place e f)) ≡ true → exchanged names (back names (exchanged names s e) es) f ≡ exchanged names (back names s es) f) [
       | true ↦ λ later _. ap (λ x. exchanged names x f) (back-once names s h e es only n r.1 a later)
       | false ↦ λ none here.
-          let free : AreFree e es = record { none = and_left_true (list_any is_structural es) (of_one_place e f) here; apart = none } in
+          let free : AreFree e es = record { none = (and_not_parts (list_any is_structural es) (of_one_place e f) here).0; apart = none } in
           ap (λ x. exchanged names x f) (back-free names s h e es only n r.1 a free)
-          ∙ overwritten names (back names s es) e f (and_right_true (list_any is_structural es) (of_one_place e f) here)
+          ∙ overwritten names (back names s es) e f (and_not_parts (list_any is_structural es) (of_one_place e f) here).1
     ] refl held
 
 -- and the value that is there now weighs no more than what was there and what is written
@@ -174,10 +161,10 @@ redo-once names s h e (f ∷ es) only n r a held =
           let same = ap (λ x. entry_weight (taken names x f)) (back-once names s h e es only n r.1 a later) in
           omega (arith, more, less, same, redo-once names s h e es only n r.1 a later)
       | false ↦ λ none here.
-          let free : AreFree e es = record { none = and_left_true (list_any is_structural es) (of_one_place e f) here; apart = none } in
+          let free : AreFree e es = record { none = (and_not_parts (list_any is_structural es) (of_one_place e f) here).0; apart = none } in
           let rest = ap weight (back_taken-free names s h e es only n r.1 a free) in
           let same = ap (λ x. entry_weight (taken names x f)) (back-free names s h e es only n r.1 a free) in
-          let out = written_out names (back names s es) e f (and_right_true (list_any is_structural es) (of_one_place e f) here) in
+          let out = written_out names (back names s es) e f (and_not_parts (list_any is_structural es) (of_one_place e f) here).1 in
           omega (arith, more, less, rest, same, out)
     ] refl held
 
@@ -222,17 +209,11 @@ any_mark names (e ∷ es) =
     ∙ (λ i. any_mark names es i || (is_mark_of names e i || false))
     ∙ swap_or (list_any is_structural es) (is_structural e)
 
-bytes_same : (a b : List ℕ) → a ≡ b → bytes_eq a b ≡ true
-bytes_same a b e = (bytes_eq-Decides a b).1 e
-
-bytes_differ : (a b : List ℕ) → a ≢ b → bytes_eq a b ≡ false
-bytes_differ a b h = elim (bytes_eq a b) as (λ t. bytes_eq a b ≡ t → t ≡ false) [ true ↦ λ e. absurd (h ((bytes_eq-Decides a b).0 e)) | false ↦ λ e. refl ] refl
-
 same_name : (names : List (List ℕ)) (h : Shape) (i j : ℕ) (v w : Option (List ℕ)) → IsNumbered names (Global i v) → h.names ≡ length names → IsReady h (Global j w) → bytes_eq (get_or names i []) (get_or names j []) ≡ of_one_place (Global i v) (Global j w)
 unfolding of_one_place
 same_name names h i j v w only n r =
     elim (nat_eq i j) as (λ b. nat_eq i j ≡ b → bytes_eq (get_or names i []) (get_or names j []) ≡ b) [
-      | true ↦ λ e. bytes_same _ _ (ap (λ k. get_or names k []) (eqb-true i j e))
+      | true ↦ λ e. (bytes_eq-Decides _ _).1 (ap (λ k. get_or names k []) (eqb-true i j e))
       | false ↦ λ e. bytes_differ _ _ (named_apart names h i j v w only n r e)
     ] refl
 

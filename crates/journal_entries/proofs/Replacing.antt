@@ -1,7 +1,9 @@
 -- What a turn's patch weighs.
 use Rattle.std.proofs.Common.{◌≡◌, ◌≢◌, ◌++◌, ℕ, zero, suc, ◌+◌, ◌<◌, ◌≤◌, true, false, List, [], ◌∷◌, length, get_or, set, slice_get, sum_by, bytes_eq, refl, sym, ap, ◌∙◌, arith, Some, length-set}
 use Rattle.std.proofs.lemmas.List.Sums.{sum_by-cons, sum_by-append}
+use Rattle.std.proofs.lemmas.Bool.{false_from_ne_true}
 use Rattle.std.proofs.lemmas.Slice.Eq.{bytes_eq-Decides}
+use Rattle.externals.proofs.Flipping.{slice_get-set_other}
 use Rattle.externals.specs.Cells.{Changes, Avoids, IsProper, HasTexts, DiffersFrom, IsPatch, taken_out}
 use Rattle.stack_places.specs.Places.{size_of, text}
 use Rattle.journal_entries.specs.Places.{cell}
@@ -16,8 +18,8 @@ forth_of r = 32 + size_of r.new
 bytes_same : (t : List ℕ) → bytes_eq t t ≡ true
 bytes_same t = (bytes_eq-Decides t t).1 refl
 
-bytes_differ : (a b : List ℕ) → a ≢ b → bytes_eq a b ≡ false
-bytes_differ a b h = elim (bytes_eq a b) as (λ t. bytes_eq a b ≡ t → t ≡ false) [ true ↦ λ e. absurd (h ((bytes_eq-Decides a b).0 e)) | false ↦ λ e. refl ] refl
+pub bytes_differ : (a b : List ℕ) → a ≢ b → bytes_eq a b ≡ false
+bytes_differ a b h = false_from_ne_true (bytes_eq a b) (λ e. h ((bytes_eq-Decides a b).0 e))
 
 differing-same : (i c : ℕ) (t : List ℕ) → differing i c t t ≡ []
 differing-same i c t = rw bytes_same refl
@@ -56,13 +58,6 @@ restore-forth i c (s ∷ ts) (u ∷ us) zero t l n h d =
     let same : s ≡ t = cc in
     rw (← same) (restore-head forth_of i c s u ts us (λ e. d (ap (λ x. Some x) (sym e ∙ same))))
 restore-forth i c (s ∷ ts) (u ∷ us) (suc j) t l n h d = restore-tail forth_of i c s u ts us (set us j t) (32 + length (get_or us j t)) (restore-forth i (c + 1) ts us j t (omega arith) (omega arith) h d)
-
-slice_get-set_other : (xs : List (List ℕ)) (i j : ℕ) (a : List ℕ) → j ≢ i → slice_get (set xs i a) j ≡ slice_get xs j
-slice_get-set_other [] i j a h = refl
-slice_get-set_other (x ∷ xs) zero zero a h = absurd (h refl)
-slice_get-set_other (x ∷ xs) zero (suc j) a h = refl
-slice_get-set_other (x ∷ xs) (suc i) zero a h = refl
-slice_get-set_other (x ∷ xs) (suc i) (suc j) a h = slice_get-set_other xs i j a (λ e. h (ap suc e))
 
 -- other cells differ as before
 still-differs : (new : List (List ℕ)) (p : Changes) (c : ℕ) (t : List ℕ) → Avoids c p → DiffersFrom new p → DiffersFrom (set new c t) p

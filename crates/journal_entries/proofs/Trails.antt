@@ -1,9 +1,10 @@
 -- How many entries a batch has.
-use Rattle.std.proofs.Common.{◌≡◌, ℕ, ◌+◌, ◌*◌, ◌≤◌, Bool, true, false, ◌&&◌, ◌||◌, if◌then◌else◌, nat_eq, List, [], ◌∷◌, length, refl, sym, ap, ◌∙◌, arith}
+use Rattle.std.proofs.Common.{◌≡◌, ℕ, ◌+◌, ◌*◌, ◌≤◌, Bool, true, false, ◌||◌, if◌then◌else◌, nat_eq, List, [], ◌∷◌, length, refl, sym, ap, ◌∙◌, arith}
 use Rattle.std.specs.List.{list_any}
-use Rattle.std.proofs.lemmas.Bool.{eqb-true, eq-eqb}
+use Rattle.std.proofs.lemmas.Bool.{and_parts, or_left, or_right, eqb-true, eq-eqb}
 use Rattle.std.proofs.Math.Nat.{add-mul}
 use Rattle.std.proofs.lemmas.Slice.Eq.{bytes_eq-Decides}
+use Rattle.stack_places.proofs.Exchanging.{false_true}
 use Rattle.stack_places.proofs.Places as stack
 use Rattle.journal_entries.specs.Places.{Place, same_place, global, in_stack, current_card, cell}
 use Rattle.journal_entries.specs.Trails.{Mark, at, structural, holds, IsOnce, structural_count, AreAmong, places_in, different, IsShort}
@@ -14,30 +15,23 @@ same_place-same (in_stack p) = stack.same_place-same p
 same_place-same current_card = refl
 same_place-same (cell i c) = rw (eq-eqb i i refl, eq-eqb c c refl) refl
 
-both : (a b : Bool) → (a && b) ≡ true → (a ≡ true) × (b ≡ true)
-both true b h = (refl, h)
-both false b h = let none : false ≡ true → ⊥ = λ q. cc in absurd (none h)
-
-no : {A : Type 0} → false ≡ true → A
-no e = let none : false ≡ true → ⊥ = λ q. cc in absurd (none e)
-
 same_place-is : (p q : Place) → same_place p q ≡ true → p ≡ q
 same_place-is (global m) (global n) h = ap (λ x. global x) ((bytes_eq-Decides m n).0 h)
-same_place-is (global m) (in_stack q) h = no h
-same_place-is (global m) current_card h = no h
-same_place-is (global m) (cell j d) h = no h
-same_place-is (in_stack p) (global n) h = no h
+same_place-is (global m) (in_stack q) h = false_true h
+same_place-is (global m) current_card h = false_true h
+same_place-is (global m) (cell j d) h = false_true h
+same_place-is (in_stack p) (global n) h = false_true h
 same_place-is (in_stack p) (in_stack q) h = ap (λ x. in_stack x) (stack.same_place-equal p q h)
-same_place-is (in_stack p) current_card h = no h
-same_place-is (in_stack p) (cell j d) h = no h
-same_place-is current_card (global n) h = no h
-same_place-is current_card (in_stack q) h = no h
+same_place-is (in_stack p) current_card h = false_true h
+same_place-is (in_stack p) (cell j d) h = false_true h
+same_place-is current_card (global n) h = false_true h
+same_place-is current_card (in_stack q) h = false_true h
 same_place-is current_card current_card h = refl
-same_place-is current_card (cell j d) h = no h
-same_place-is (cell i c) (global n) h = no h
-same_place-is (cell i c) (in_stack q) h = no h
-same_place-is (cell i c) current_card h = no h
-same_place-is (cell i c) (cell j d) h = let parts = both (nat_eq i j) (nat_eq c d) h in λ k. cell (eqb-true i j parts.0 k) (eqb-true c d parts.1 k)
+same_place-is current_card (cell j d) h = false_true h
+same_place-is (cell i c) (global n) h = false_true h
+same_place-is (cell i c) (in_stack q) h = false_true h
+same_place-is (cell i c) current_card h = false_true h
+same_place-is (cell i c) (cell j d) h = let parts = and_parts (nat_eq i j) (nat_eq c d) h in λ k. cell (eqb-true i j parts.0 k) (eqb-true c d parts.1 k)
 
 -- 1 for a place that the segment doesn't hold
 abbrev free_one : Bool → ℕ
@@ -74,13 +68,13 @@ head_less trail p q e new =
     (ap (λ b. free_one (b || holds q trail)) (ap (λ x. same_place x p) is ∙ same_place-same p), ap (λ b. free_one b) (ap (λ x. holds x trail) is ∙ new))
 
 or_false_left : (a b : Bool) → a ≡ false → (a || b) ≡ true → b ≡ true
-or_false_left true b e h = no (sym e)
+or_false_left true b e h = false_true (sym e)
 or_false_left false b e h = h
 
 -- a place that the segment holds now is free no more
 free-less : (trail : List Mark) (p : Place) (ps : List Place) → list_any (same_place p) ps ≡ true → holds p trail ≡ false → free (at p ∷ trail) ps + 1 ≤ free trail ps
 unfolding free
-free-less trail p [] among new = no among
+free-less trail p [] among new = false_true among
 free-less trail p (q ∷ ps) among new =
     elim (same_place p q) as (λ b. same_place p q ≡ b → free_one (same_place q p || holds q trail) + free (at p ∷ trail) ps + 1 ≤ free_one (holds q trail) + free trail ps) [
       | true ↦ λ e. let here = head_less trail p q e new in omega (arith, here.0, here.1, free-more trail p ps)
@@ -105,14 +99,6 @@ length-last_ones : (ps : List Place) → length (last_ones ps) ≡ different ps
 unfolding last_ones
 length-last_ones [] = refl
 length-last_ones (p ∷ ps) = elim (list_any (same_place p) ps) as (λ b. length (if b then last_ones ps else p ∷ last_ones ps) ≡ (if b then different ps else different ps + 1)) [ true ↦ length-last_ones ps | false ↦ omega (arith, length-last_ones ps) ]
-
-pub or_right : (a b : Bool) → b ≡ true → (a || b) ≡ true
-or_right true b h = refl
-or_right false b h = h
-
-pub or_left : (a b : Bool) → a ≡ true → (a || b) ≡ true
-or_left true b h = refl
-or_left false b h = no h
 
 -- a place that is one of them is one of the last ones
 any-last_ones : (p : Place) (ps : List Place) → list_any (same_place p) ps ≡ true → list_any (same_place p) (last_ones ps) ≡ true

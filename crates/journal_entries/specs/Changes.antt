@@ -1,12 +1,11 @@
 -- The changes: where each fits, what it writes, and the state after it.
 use Rattle.std.specs.Prelude.{Bool, List, [], ◌∷◌, Some, IfSome, option_map, is_some}
 use Rattle.ht_values.specs.Text.{IsText}
-use Rattle.object_table.specs.Kept.{text_at, hilite_at}
+use Rattle.object_table.specs.PartContents.{text_at, hilite_at}
 use Rattle.object_table.specs.Objects.{has_kind, is_card}
 use Rattle.object_table.specs.Setting as settings
 use Rattle.stack_places.specs.Places.{prop_of, property, field_text, button_hilite, text, logical, setting, number}
-use Rattle.journal_entries.specs.State.{State}
-pub use Rattle.journal_entries.specs.State.{is_folded}
+use Rattle.journal_entries.specs.State.{State, is_folded}
 use Rattle.journal_entries.specs.Places.{Write, put_all, global, in_stack, current_card}
 use Rattle.journal_entries.specs.declared.change.Change.{Change}
 use Rattle.journal_entries.specs.declared.change.Change.TheVariants.{Global, FieldText, Hilite, Prop, Current}

@@ -14,17 +14,17 @@ use Rattle.journal_entries.specs.declared.entry.Entry.{Entry}
 use Rattle.journal_entries.specs.declared.entry.Entry.TheVariants.{Global, Current, Stack, External}
 
 -- a state, with the names of globals that have numbers, each external's turns and the stack's room
-pub record Held : Type 0 where
+pub record PresentView : Type 0 where
   pub state : State
   pub names : List (List ℕ)
   pub turns : List ℕ
   pub room : Room
 
-abbrev pub coded_held : Coded Held
-coded_held = code_by (State × (List (List ℕ) × (List ℕ × Room))) (coded× coded_state (coded× (coded_list (coded_list coded_ℕ)) (coded× (coded_list coded_ℕ) coded_room))) (λ h. (h.state, (h.names, (h.turns, h.room)))) (λ p. record { state = p.0; names = p.1.0; turns = p.1.1.0; room = p.1.1.1 }) (λ _. refl)
+abbrev pub coded_present_view : Coded PresentView
+coded_present_view = code_by (State × (List (List ℕ) × (List ℕ × Room))) (coded× coded_state (coded× (coded_list (coded_list coded_ℕ)) (coded× (coded_list coded_ℕ) coded_room))) (λ h. (h.state, (h.names, (h.turns, h.room)))) (λ p. record { state = p.0; names = p.1.0; turns = p.1.1.0; room = p.1.1.1 }) (λ _. refl)
 
 -- a batch: the number of the line that it belongs to, and its entries
-pub record Lot : Type 0 where
+pub record BatchView : Type 0 where
   pub number : ℕ
   pub entries : List Entry
 
@@ -114,7 +114,7 @@ pub record Shape : Type 0 where
 abbrev pub counts_of : List Seen → List ℕ
 counts_of = map (λ e. length e.cells)
 
-abbrev pub shape_of : Held → Shape
+abbrev pub shape_of : PresentView → Shape
 shape_of h = record { names = length h.names; counts = counts_of h.state.externals; room = h.room }
 
 -- there is room for the value at the entry's place, and a patch is proper

@@ -11,7 +11,7 @@ use Rattle.journal_entries.specs.State.{State, seen_at}
 use Rattle.journal_entries.specs.Changes.{writes_of}
 use Rattle.journal_entries.specs.Places.{Write, put, value_at}
 use Rattle.journal_entries.specs.Trails.{at}
-use Rattle.journal_entries.specs.Exchange.{Held, name_at, with_cells, IsReady, shape_of, exchanged, taken, entry_weight, mark_of}
+use Rattle.journal_entries.specs.Exchange.{PresentView, name_at, with_cells, IsReady, shape_of, exchanged, taken, entry_weight, mark_of}
 use Rattle.journal_entries.specs.declared.entry.Entry.{Entry}
 use Rattle.journal_entries.specs.declared.entry.Entry.TheVariants.{Global, Current, Stack, External}
 use Rattle.journal_entries.specs.declared.change.Change.{Change}
@@ -30,11 +30,11 @@ pub record Turns (old new : State) (i : ℕ) (input : Input) (ask : Ask) : Type 
   pub state : new ≡ with_cells_at old i (seen_at new i).cells
 
 -- nothing changes but the count of turns, which rises once at most
-abbrev pub TurnsAtMostOnce : Held → Held → ℕ → Type 0
+abbrev pub TurnsAtMostOnce : PresentView → PresentView → ℕ → Type 0
 TurnsAtMostOnce old new i = (new ≡ old) ⊎ (new ≡ record old { turns = one_more_at old.turns i })
 
 -- only the names and the stack's room grow
-pub record Grows (old new : Held) : Type 0 where
+pub record Grows (old new : PresentView) : Type 0 where
   pub state : new.state ≡ old.state
   pub turns : new.turns ≡ old.turns
   pub names : Extends old.names new.names
@@ -55,7 +55,7 @@ pub record Carries (names : List (List ℕ)) (s : State) (w : Write) (e : Entry)
   pub back : entry_weight (taken names s e) ≡ 32 + size_of (value_at s w.place)
 
 -- the entry is ready to make the change, which is one write
-pub record Prepares (h : Held) (change : Change) (e : Entry) : Type 0 where
+pub record Prepares (h : PresentView) (change : Change) (e : Entry) : Type 0 where
   pub ready : IsReady (shape_of h) e
   pub numbered : IsNumbered h.names e
   pub write : Write

@@ -23,9 +23,9 @@ pub struct Batch {
 }
 
 impl Model for Batch {
-    ghost use Rattle.journal_entries.specs.Exchange.{Lot};
+    ghost use Rattle.journal_entries.specs.Exchange.{BatchView};
 
-    ghost Value = { Lot };
+    ghost Value = { BatchView };
 
     ghost view = { λ b. record { number = b.number; entries = b.entries.items } };
 }
@@ -132,9 +132,9 @@ impl Batch {
         ensures turn { IfOk result (λ ask. Turns present.old.state present.new.state i input.now ask) }
         ensures entry { OnOk result ((p : Changes) × IsPatch (seen_at present.old.state i).cells (seen_at present.new.state i).cells p
             × (self.new ≡ record self.old { entries = self.old.entries ++ Entry.External i p ∷ [] })) }
-        ensures held { OnOk result (present.new ≡ record present.old { state = present.new.state; turns = one_more_at present.old.turns i }) }
+        ensures present { OnOk result (present.new ≡ record present.old { state = present.new.state; turns = one_more_at present.old.turns i }) }
         ensures err { OnErr result (self.new ≡ self.old) }
-        ensures held_err { OnErr result (TurnsAtMostOnce present.old present.new i) }
+        ensures present_err { OnErr result (TurnsAtMostOnce present.old present.new i) }
     {
         self.entries.reserve(1)?;
         let (ask, patch) = present.turn(i, alloc, input)?;

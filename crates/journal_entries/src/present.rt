@@ -1,4 +1,4 @@
-//! The one state that is held: the stack, the globals, the current card and the externals.
+//! The present state: the stack, the globals, the current card and the externals.
 
 ghost use Rattle.std.specs.Prelude.{◌≡◌, ℕ, ◌<◌, List, [], ◌∷◌, ◌++◌, length, ◌+◌, true, take, drop, IfOk, IfErr, OnErr, OnOk, slice_index_or, slice_get, Some, option_copied, map};
 ghost use Rattle.std.specs.FinMap as finite;
@@ -35,11 +35,11 @@ pub struct Present<E: External> {
 impl<E: External> Model for Present<E> {
     ghost use Rattle.std.specs.Prelude.{map};
     ghost use Rattle.journal_entries.specs.State.{seen_by};
-    ghost use Rattle.journal_entries.specs.Exchange.{Held, coded_held};
+    ghost use Rattle.journal_entries.specs.Exchange.{PresentView, coded_present_view};
 
-    ghost Value = { Held };
+    ghost Value = { PresentView };
 
-    ghost coded = { coded_held };
+    ghost coded = { coded_present_view };
 
     ghost view = { λ p. record {
       state = record {
@@ -143,7 +143,7 @@ impl<E: External> Present<E> {
         requires { i < length self.old.state.externals }
         ensures turn { IfOk result (λ r. Turns self.old.state self.new.state i input.now r.0) }
         ensures patch { IfOk result (λ r. IsPatch (seen_at self.old.state i).cells (seen_at self.new.state i).cells r.1) }
-        ensures held { self.new ≡ record self.old { state = self.new.state; turns = one_more_at self.old.turns i } }
+        ensures present { self.new ≡ record self.old { state = self.new.state; turns = one_more_at self.old.turns i } }
         ensures err { OnErr result (self.new.state ≡ self.old.state) }
     {
         self.externals[i].turn(alloc, input)
@@ -248,7 +248,7 @@ impl<E: External> Present<E> {
         requires { i < length self.old.state.externals }
         ensures seen { seen_by E.title E.sort E.answers_calls E.cells result ≡ seen_at self.old.state i }
         ensures turns { E.turn_count result ≡ slice_index_or self.old.turns i 0 }
-        ensures held { self.new ≡ record self.old {
+        ensures present { self.new ≡ record self.old {
           state = record self.old.state { externals = take i self.old.state.externals ++ drop (i + 1) self.old.state.externals };
           turns = take i self.old.turns ++ drop (i + 1) self.old.turns;
         } }

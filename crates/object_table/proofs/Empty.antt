@@ -7,7 +7,7 @@ use Rattle.std.proofs.lemmas.Bool.Decides.{nat_tests}
 use Rattle.std.proofs.lemmas.List.Elements.{All-nil}
 use Rattle.ht_values.specs.Text.{IsText}
 use Rattle.object_table.specs.Empty.{empty_object, empty_stack}
-use Rattle.object_table.specs.Kept.{is_kept_for, keeps_text, keeps_hilite}
+use Rattle.object_table.specs.PartContents.{is_kept_for, keeps_text, keeps_hilite}
 use Rattle.object_table.specs.Objects.{is_stack, is_background, is_card, is_card_field, is_background_field, is_background_button, is_card_part, is_background_part, is_layer, has_kind, background_of, object_at, parts_at, contains_id, background_at}
 use Rattle.object_table.specs.Pairs.{pair_cmp}
 use Rattle.object_table.specs.WellFormed.{NamesEach, IsWellFormed}

@@ -1,6 +1,6 @@
 -- What stands in the lists of a well formed stack.
 use Rattle.std.proofs.Common.{◌≡◌, ◌==◌, ◌||◌, ℕ, inl, inr, cond, is_some, ◌-◌, ◌<◌, ◌≤◌, Bool, true, false, List, [], ◌∷◌, length, get_or, refl, sym, ap, ◌∙◌, arith, Option, Some, None, IsSome, option_map, option_and_then, unwrap_or, flat_map, slice_get}
-use Rattle.std.proofs.lemmas.Bool.{cases_eq, false≢true}
+use Rattle.std.proofs.lemmas.Bool.{cases_eq, false≢true, or_right}
 use Rattle.std.proofs.lemmas.Bool.Decides.{nat_tests}
 use Rattle.std.proofs.lemmas.List.Folds.{list_any_at, list_any-append}
 use Rattle.std.proofs.lemmas.Option.{get_or_from_slice_get, slice_get_within}
@@ -14,7 +14,7 @@ use Rattle.object_table.specs.WellFormed.{NamesEach, IsWellFormed}
 use Rattle.object_table.specs.declared.object.Object.{Object}
 use Rattle.object_table.specs.declared.object.Kind.{Kind}
 use Rattle.object_table.specs.declared.object.Kind.TheVariants.{Stack, Background, Card, CardButton, BackgroundButton, CardField, BackgroundField}
-use Rattle.object_table.specs.declared.object.Layer.TheVariants.{OfCard, OfBackground}
+use Rattle.object_table.specs.declared.object.LayerId.TheVariants.{OfCard, OfBackground}
 
 -- an object of a kind is there
 pub has_kind-object : (p : Kind → Bool) (s : Content) (id : ℕ) → has_kind p s id ≡ true → (o : Object) × (object_at s id ≡ Some o) × (p o.kind ≡ true)
@@ -50,10 +50,6 @@ contains_id-at_number ids number id = by (number == 0)
     by true e = absurd (false≢true (ap (λ o. is_some o) e))
     by false e = contains_id-slice_get ids (number - 1) id e
 
-or_true : (a : Bool) {b : Bool} → b ≡ true → (a || b) ≡ true
-or_true true e = refl
-or_true false e = e
-
 -- what a piece contains, the pieces together contain
 pub contains_id-flat_map : (f : ℕ → List ℕ) (xs : List ℕ) (x id : ℕ) → contains_id x xs ≡ true → contains_id id (f x) ≡ true → contains_id id (flat_map f xs) ≡ true
 contains_id-flat_map f [] x id found h = absurd (false≢true found)
@@ -61,7 +57,7 @@ contains_id-flat_map f (y ∷ ys) x id found h =
     list_any-append (λ n. n == id) (f y) (flat_map f ys)
     ∙ elim (cases_eq y x) [
       | inl e ↦ ap (λ b. b || contains_id id (flat_map f ys)) (ap (λ n. contains_id id (f n)) e ∙ h)
-      | inr n ↦ or_true (contains_id id (f y)) (contains_id-flat_map f ys x id (contains_id-later x y ys n found) h)
+      | inr n ↦ or_right (contains_id id (f y)) _ (contains_id-flat_map f ys x id (contains_id-later x y ys n found) h)
     ]
 
 -- a list that contains nothing is empty
@@ -114,7 +110,7 @@ some_parts (Some ids) h = refl
 pub layer_parts-card : (s : Content) → IsWellFormed s → (card : ℕ) → has_kind is_card s card ≡ true → layer_parts s (OfCard card) ≡ Some (parts_at s card)
 layer_parts-card s well card h =
     ap (λ b. cond b (get s.parts card) None) h
-    ∙ some_parts (get s.parts card) ((well.layers card).1 (has_kind-weaker is_card is_layer s card (λ k a. or_true (is_background k) a) h))
+    ∙ some_parts (get s.parts card) ((well.layers card).1 (has_kind-weaker is_card is_layer s card (λ k a. or_right (is_background k) _ a) h))
 
 pub layer_parts-background : (s : Content) → IsWellFormed s → (background : ℕ) → has_kind is_background s background ≡ true → layer_parts s (OfBackground background) ≡ Some (parts_at s background)
 layer_parts-background s well background h =

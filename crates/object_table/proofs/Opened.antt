@@ -8,7 +8,7 @@ use Rattle.std.specs.Ordering.{eq_by_cmp}
 use Rattle.std.specs.FinMap.{get, get-empty, same_map}
 use Rattle.std.specs.FinSet as set
 use Rattle.object_table.specs.Maps.{put_option}
-use Rattle.object_table.specs.Opened.{kept_in, open_in}
+use Rattle.object_table.specs.Opened.{values_in, open_in}
 use Rattle.object_table.specs.Pairs.{Pair, pair_cmp}
 use Rattle.object_table.proofs.Maps.{get-put_option, put_option_same}
 use Rattle.object_table.proofs.Pairs.{same_pair, same_pair_sym, pair_tied, pair_cmp_total, pair_cmp-IsAntisymmetric}
@@ -19,11 +19,11 @@ module _ {X : Type 0} where
   chosen false v o = refl
 
   -- what is kept at a pair, by its entry
-  pub get-kept_in : (es : List (Pair × Option X)) (q : Pair) → get (kept_in es) q ≡ option_and_then (λ x. x) (lookup (same_pair q) es)
-  get-kept_in [] q = get-empty pair_cmp q
-  get-kept_in (e ∷ es) q =
-      get-put_option pair_cmp_total pair_cmp-IsAntisymmetric (kept_in es) e.0 e.1 q
-      ∙ (λ i. cond (pair_tied q e.0 i) e.1 (get-kept_in es q i))
+  pub get-values_in : (es : List (Pair × Option X)) (q : Pair) → get (values_in es) q ≡ option_and_then (λ x. x) (lookup (same_pair q) es)
+  get-values_in [] q = get-empty pair_cmp q
+  get-values_in (e ∷ es) q =
+      get-put_option pair_cmp_total pair_cmp-IsAntisymmetric (values_in es) e.0 e.1 q
+      ∙ (λ i. cond (pair_tied q e.0 i) e.1 (get-values_in es q i))
       ∙ sym (chosen (same_pair q e.0) e.1 (lookup (same_pair q) es))
 
   found : (b : Bool) (v : Option X) (o : Option (Option X)) → is_some (cond b (Some v) o) ≡ (b || is_some o)
@@ -43,14 +43,14 @@ module _ {X : Type 0} where
     tied_to q = same_pair_sym k q ∙ sym (pair_tied q k)
 
     -- a value is put at a pair
-    pub kept_in-updated : kept_in fs ≡ put_option (kept_in es) k w
-    kept_in-updated =
+    pub values_in-updated : values_in fs ≡ put_option (values_in es) k w
+    values_in-updated =
         same_map pair_cmp_total pair_cmp-IsAntisymmetric _ _ (λ q.
-        get-kept_in fs q
+        get-values_in fs q
         ∙ ap (option_and_then (λ x. x)) (updates q)
         ∙ chosen (same_pair k q) w (lookup (same_pair q) es)
-        ∙ (λ i. cond (tied_to q i) w (sym (get-kept_in es q) i))
-        ∙ sym (get-put_option pair_cmp_total pair_cmp-IsAntisymmetric (kept_in es) k w q))
+        ∙ (λ i. cond (tied_to q i) w (sym (get-values_in es q) i))
+        ∙ sym (get-put_option pair_cmp_total pair_cmp-IsAntisymmetric (values_in es) k w q))
 
     -- the pair is open then
     pub open_in-updated : open_in fs ≡ set.insert (open_in es) k
@@ -63,11 +63,11 @@ module _ {X : Type 0} where
         ∙ sym (set.contains-insert pair_cmp_total (open_in es) k q))
 
     -- nothing is kept at a pair that is opened
-    pub kept_in-opened : w ≡ None → lookup (same_pair k) es ≡ None → kept_in fs ≡ kept_in es
-    kept_in-opened none absent =
-        kept_in-updated
-        ∙ ap (put_option (kept_in es) k) (none ∙ sym (get-kept_in es k ∙ ap (option_and_then (λ x. x)) absent))
-        ∙ put_option_same pair_cmp_total pair_cmp-IsAntisymmetric (kept_in es) k
+    pub values_in-opened : w ≡ None → lookup (same_pair k) es ≡ None → values_in fs ≡ values_in es
+    values_in-opened none absent =
+        values_in-updated
+        ∙ ap (put_option (values_in es) k) (none ∙ sym (get-values_in es k ∙ ap (option_and_then (λ x. x)) absent))
+        ∙ put_option_same pair_cmp_total pair_cmp-IsAntisymmetric (values_in es) k
 
   -- a pair that is open stays
   pub open_in-again : (es : List (Pair × Option X)) (k : Pair) → set.contains (open_in es) k ≡ true → open_in es ≡ set.insert (open_in es) k

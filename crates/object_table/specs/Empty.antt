@@ -1,4 +1,4 @@
--- The stack of one background and one card, all empty.
+-- The stack of one background and one card, all empty, and the stack of no object.
 use Rattle.std.specs.Prelude.{false, [], ◌∷◌}
 use Rattle.std.specs.FinMap.{from_entries, empty}
 use Rattle.object_table.specs.Content.{Content}
@@ -19,4 +19,16 @@ empty_stack = record {
   texts = empty;
   hilites = empty;
   next = 3;
+}
+
+-- no object, not even the stack itself
+abbrev pub blank_stack : Content
+blank_stack = record {
+  objects = empty;
+  backgrounds = [];
+  cards = [];
+  parts = empty;
+  texts = empty;
+  hilites = empty;
+  next = 1;
 }

@@ -1,7 +1,7 @@
 pub mod Content
 pub mod Empty
 pub mod Flags
-pub mod Kept
+pub mod PartContents
 pub mod Layers
 pub mod Maps
 pub mod Numbers

@@ -1,4 +1,4 @@
--- What is kept at pairs that are open.
+-- Values at pairs that are open.
 use Rattle.std.specs.Prelude.{List, [], ◌∷◌, map, Option}
 use Rattle.std.specs.FinMap.{empty}
 use Rattle.std.specs.FinSet.{FinSet, from_list}
@@ -6,9 +6,9 @@ use Rattle.object_table.specs.Maps.{put_option}
 use Rattle.object_table.specs.Pairs.{Pair, pair_cmp, PairMap}
 
 -- what stands at each pair, by entries that have a value or none
-abbrev pub kept_in : {X : Type 0} → List (Pair × Option X) → PairMap X
-kept_in [] = empty
-kept_in (e ∷ es) = put_option (kept_in es) e.0 e.1
+abbrev pub values_in : {X : Type 0} → List (Pair × Option X) → PairMap X
+values_in [] = empty
+values_in (e ∷ es) = put_option (values_in es) e.0 e.1
 
 -- the pairs that have an entry
 abbrev pub open_in : {X : Type 0} → List (Pair × Option X) → FinSet pair_cmp

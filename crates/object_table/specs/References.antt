@@ -5,7 +5,7 @@ use Rattle.object_table.specs.Content.{Content}
 use Rattle.object_table.specs.Layers.{layer_parts}
 use Rattle.object_table.specs.Numbers.{at_number, of_kind}
 use Rattle.object_table.specs.Objects.{object_at}
-use Rattle.object_table.specs.declared.object.Layer.{Layer}
+use Rattle.object_table.specs.declared.object.LayerId.{LayerId}
 use Rattle.ht_values.specs.declared.word.PartKind.{PartKind}
 use Rattle.object_table.specs.declared.reference.Which.{Which}
 use Rattle.object_table.specs.declared.reference.Which.TheVariants.{Number, Id, Name}
@@ -21,5 +21,5 @@ pick s (Id id) ids = find (λ x. x == id) ids
 pick s (Name name) ids = find (is_named s name.now) ids
 
 -- the part of a kind on a layer that a reference finds
-abbrev pub part_found : Content → Layer → PartKind → Which → Option ℕ
+abbrev pub part_found : Content → LayerId → PartKind → Which → Option ℕ
 part_found s layer kind which = option_and_then (λ parts. pick s which (of_kind s kind parts)) (layer_parts s layer)

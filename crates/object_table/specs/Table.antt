@@ -1,6 +1,6 @@
 -- What a stack is to its callers: what it holds, and its room.
 use Rattle.std.specs.Prelude.{ℕ, refl}
-use Rattle.std.specs.FinSet.{FinSet, code as set_code}
+use Rattle.std.specs.FinSet.{FinSet, empty, code as set_code}
 use Rattle.std.specs.Coded.{Coded, code_by, coded×, coded_ℕ}
 use Rattle.object_table.specs.Pairs.{pair_cmp, coded_pair}
 use Rattle.object_table.specs.Content.{Content, coded_content}
@@ -10,6 +10,10 @@ pub record Room : Type 0 where
   pub slots : ℕ
   pub texts : FinSet pair_cmp
   pub hilites : FinSet pair_cmp
+
+-- nothing is open
+abbrev pub no_room : Room
+no_room = record { slots = 0; texts = empty; hilites = empty }
 
 -- a stack with its room
 pub record Table : Type 0 where

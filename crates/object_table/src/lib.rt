@@ -2,9 +2,9 @@
 #![tactic(auto)]
 
 mod ids;
-mod kept;
 mod number;
 mod object;
+mod pair_table;
 mod property;
 mod reference;
 mod slot_table;
@@ -12,7 +12,7 @@ mod stack;
 
 pub use ht_values::{PartKind, Prop};
 pub use ids::{Id, IdList};
-pub use object::{Kind, Layer, Object};
+pub use object::{Kind, LayerId, Object};
 pub use property::PropValue;
 pub use reference::Which;
 pub use stack::Stack;

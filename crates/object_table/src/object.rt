@@ -100,30 +100,30 @@ impl Object {
 
 /// What has parts: a card or a background, by its id.
 #[derive(Clone, Copy, Debug)]
-pub enum Layer {
+pub enum LayerId {
     OfCard(Id),
     OfBackground(Id),
 }
 
-impl Layer {
+impl LayerId {
     /// The id of the card or background.
     pub(crate) fn id(self) -> Id
         ensures { result ≡ layer_id self }
     {
         match self {
-            Layer::OfCard(id) | Layer::OfBackground(id) => id,
+            LayerId::OfCard(id) | LayerId::OfBackground(id) => id,
         }
     }
 }
 
 impl Kind {
     /// Whether this is the kind of what the layer says: a card or a background.
-    pub(crate) fn is_of(self, layer: Layer) -> bool
+    pub(crate) fn is_of(self, layer: LayerId) -> bool
         ensures { result ≡ is_of_layer layer self }
     {
         match layer {
-            Layer::OfCard(_) => matches!(&self, Kind::Card { .. }),
-            Layer::OfBackground(_) => matches!(&self, Kind::Background { .. }),
+            LayerId::OfCard(_) => matches!(&self, Kind::Card { .. }),
+            LayerId::OfBackground(_) => matches!(&self, Kind::Background { .. }),
         }
     }
 

@@ -6,7 +6,7 @@ ghost use Rattle.object_table.specs.Objects.{has_kind, is_of};
 ghost use Rattle.object_table.specs.References.{is_named, part_found};
 
 use crate::ids::Id;
-use crate::object::Layer;
+use crate::object::LayerId;
 use crate::stack::Stack;
 use ht_values::{PartKind, Text};
 
@@ -24,7 +24,7 @@ pub enum Which<'a> {
 impl Stack {
     /// The part of this kind on a layer that is meant. `None` where there is no such layer or no such part
     /// on it.
-    pub fn find_part(&self, layer: Layer, kind: PartKind, which: Which<'_>) -> Option<Id>
+    pub fn find_part(&self, layer: LayerId, kind: PartKind, which: Which<'_>) -> Option<Id>
         ensures { result ≡ part_found self.now.content layer kind which.entry }
     {
         let parts = self.parts(layer)?.as_slice();

@@ -3,18 +3,19 @@
 ghost use Rattle.std.specs.Prelude.{◌≡◌, ◌<◌, ◌≤◌, ◌+◌, true, vec_len, slice_get, count_by, is_some, option_copied, OnSome, IfOk, OnOk, OnErr};
 ghost use Rattle.std.specs.FinMap as map;
 ghost use Rattle.std.specs.FinSet as set;
-ghost use Rattle.object_table.specs.Kept.{text_at, hilite_at};
+ghost use Rattle.object_table.specs.PartContents.{text_at, hilite_at};
 ghost use Rattle.object_table.specs.Maps.{put_option};
 ghost use Rattle.object_table.specs.Numbers.{at_number};
 ghost use Rattle.object_table.specs.Objects.{object_at, object_count as objects_counted, parts_at};
 ghost use Rattle.object_table.specs.Layers.{layer_parts};
 ghost use Rattle.object_table.specs.Setting.{value_at, may_set, with_value_at};
-ghost use Rattle.object_table.specs.Empty.{empty_stack};
+ghost use Rattle.object_table.specs.Empty.{empty_stack, blank_stack};
+ghost use Rattle.object_table.specs.Table.{no_room};
 ghost use Rattle.object_table.specs.WellFormed.{IsWellFormed};
 
 use crate::ids::{Id, IdList};
-use crate::kept::Kept;
-use crate::object::{Kind, Layer, Object};
+use crate::object::{Kind, LayerId, Object};
+use crate::pair_table::PairTable;
 use crate::property::PropValue;
 use crate::slot_table::SlotTable;
 use ht_values::Text;
@@ -31,20 +32,21 @@ use std::mem;
 /// background and a shared one, and a button of a background so has hilites; what is shared stands where the
 /// card is 0.
 ///
-/// A stack as such may be not well formed; `Stack::new` gives a well formed one.
+/// A stack as such may be not well formed; `Stack::new` gives a well formed one, and `Stack::blank` one that is to be
+/// filled.
 #[derive(Drop)]
 pub struct Stack {
     slots: SlotTable,
     backgrounds: IdList,
     cards: IdList,
-    texts: Kept<Text>,
-    hilites: Kept<bool>,
+    texts: PairTable<Text>,
+    hilites: PairTable<bool>,
     next: u32,
 }
 
 impl Model for Stack {
     ghost use Rattle.std.specs.Prelude.{length};
-    ghost use Rattle.object_table.specs.Opened.{kept_in, open_in};
+    ghost use Rattle.object_table.specs.Opened.{values_in, open_in};
     ghost use Rattle.object_table.specs.Table.{Table, coded_table};
     ghost use Rattle.object_table.specs.Slots.{objects_in, parts_in};
 
@@ -58,8 +60,8 @@ impl Model for Stack {
         backgrounds = s.backgrounds;
         cards = s.cards;
         parts = parts_in s.slots;
-        texts = kept_in s.texts.places.entries;
-        hilites = kept_in s.hilites.places.entries;
+        texts = values_in s.texts.places.entries;
+        hilites = values_in s.hilites.places.entries;
         next = s.next;
       };
       room = record {
@@ -93,10 +95,26 @@ impl Stack {
             slots,
             backgrounds: IdList::from_vec(vec![in alloc; 1]?),
             cards: IdList::from_vec(vec![in alloc; 2]?),
-            texts: Kept::new(alloc),
-            hilites: Kept::new(alloc),
+            texts: PairTable::new(alloc),
+            hilites: PairTable::new(alloc),
             next: 3,
         })
+    }
+
+    /// The stack of no object, not even itself, with no room, for a reader that fills it. It isn't well formed. The next
+    /// id is 1. It takes no memory.
+    pub fn blank(alloc: Global) -> Stack
+        ensures content { result.content ≡ blank_stack }
+        ensures room { result.room ≡ no_room }
+    {
+        Stack {
+            slots: SlotTable::new(alloc),
+            backgrounds: IdList::new(alloc),
+            cards: IdList::new(alloc),
+            texts: PairTable::new(alloc),
+            hilites: PairTable::new(alloc),
+            next: 1,
+        }
     }
 
     /// The object of an id, with its name, its script, its flags and, of a card, its background. `None`
@@ -116,7 +134,7 @@ impl Stack {
     }
 
     /// The parts of a layer in the order of their making. `None` where there is no such card or background.
-    pub fn parts(&self, layer: Layer) -> Option<&IdList>
+    pub fn parts(&self, layer: LayerId) -> Option<&IdList>
         ensures { option_copied result ≡ layer_parts self.now.content layer }
     {
         let object = self.object(layer.id())?;

@@ -1,4 +1,4 @@
-use externals::{Ask, External, Input, Note, Patch, Texts, law_of_external, laws_of_flips};
+use externals::{Ask, External, Input, Patch, Texts, law_of_external, laws_of_flips};
 use ht_values::Text;
 use std::alloc::{AllocError, Global};
 use std::mem;
@@ -62,7 +62,7 @@ impl External for Echo {
                 mem::swap(&mut self.cell, &mut next);
                 let mut patch = Patch::new(alloc);
                 match patch.push(0, next) {
-                    Ok(()) => Ok((Ask::EvalExpr(Note::new(alloc), asked), patch)),
+                    Ok(()) => Ok((Ask::EvalExpr(Texts::new(alloc), asked), patch)),
                     Err(old) => {
                         self.cell = old;
                         Err(AllocError)
@@ -161,7 +161,7 @@ fn turns_and_flips(rt: HostRuntime) -> Result<(), Fail> {
 fn lists_of_texts(rt: HostRuntime) -> Result<(), Fail> {
     let alloc = rt.alloc();
     let mut texts = Texts::new(alloc);
-    let mut note = Note::new(alloc);
+    let mut note = Texts::new(alloc);
     for word in ["a", "b"] {
         assert!(rt; texts.push(text(alloc, word.as_bytes())?).is_ok());
         assert!(rt; note.push(text(alloc, word.as_bytes())?).is_ok());

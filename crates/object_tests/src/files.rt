@@ -6,7 +6,7 @@ mod reading;
 mod rich;
 mod writing;
 
-use object_table::{Id, Layer, Stack};
+use object_table::{Id, LayerId, Stack};
 use stack_file::*;
 use std::alloc::Global;
 use std::io;
@@ -58,7 +58,7 @@ fn has_kind(alloc: Global, stack: &Stack, id: Id, printed: &str) -> Result<bool,
     }
 }
 
-fn has_parts(stack: &Stack, layer: Layer, parts: &[Id]) -> bool {
+fn has_parts(stack: &Stack, layer: LayerId, parts: &[Id]) -> bool {
     match stack.parts(layer) {
         Some(list) => list.as_slice() == parts,
         None => false,

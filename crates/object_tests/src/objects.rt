@@ -2,7 +2,7 @@
 //! and whose cards are 2 A and 4 B.
 
 use ht_values::{PartKind, Text};
-use object_table::{Id, IdList, Kind, Layer, Object, PropValue, Stack, Which};
+use object_table::{Id, IdList, Kind, LayerId, Object, PropValue, Stack, Which};
 use std::alloc::Global;
 use std::test::*;
 
@@ -69,7 +69,7 @@ fn has_script(stack: &Stack, id: Id, script: &[u8]) -> bool {
 }
 
 /// Whether the layer has these parts, or with `None` is no layer.
-fn has_parts(stack: &Stack, layer: Layer, parts: Option<&[Id]>) -> bool {
+fn has_parts(stack: &Stack, layer: LayerId, parts: Option<&[Id]>) -> bool {
     match (stack.parts(layer), parts) {
         (Some(list), Some(parts)) => list.as_slice() == parts,
         (None, None) => true,
@@ -140,20 +140,20 @@ fn the_empty_stack_has_a_background_and_a_card(rt: HostRuntime) -> Result<(), Fa
     let stack = empty_stack(rt.alloc())?;
     assert!(rt; counts(&stack) == (2, 3));
     assert!(rt; has_lists(&stack, &[1], &[2]));
-    assert!(rt; has_parts(&stack, Layer::OfBackground(1), Some(&[])));
-    assert!(rt; has_parts(&stack, Layer::OfCard(2), Some(&[])));
+    assert!(rt; has_parts(&stack, LayerId::OfBackground(1), Some(&[])));
+    assert!(rt; has_parts(&stack, LayerId::OfCard(2), Some(&[])));
     Ok(())
 }
 
 #[test]
 fn a_layer_is_named_by_its_kind(rt: HostRuntime) -> Result<(), Fail> {
     let stack = demo(rt.alloc())?;
-    let rows: &[(Layer, Option<&[Id]>)] = &[
-        (Layer::OfBackground(1), Some(&[3])),
-        (Layer::OfCard(4), Some(&[])),
-        (Layer::OfCard(1), None),
-        (Layer::OfBackground(3), None),
-        (Layer::OfCard(9), None),
+    let rows: &[(LayerId, Option<&[Id]>)] = &[
+        (LayerId::OfBackground(1), Some(&[3])),
+        (LayerId::OfCard(4), Some(&[])),
+        (LayerId::OfCard(1), None),
+        (LayerId::OfBackground(3), None),
+        (LayerId::OfCard(9), None),
     ];
     for (layer, parts) in rows {
         assert!(rt; has_parts(&stack, *layer, *parts), "{layer:?}");
@@ -200,7 +200,7 @@ fn objects_are_numbered_from_one(rt: HostRuntime) -> Result<(), Fail> {
 #[test]
 fn a_part_is_found_by_its_number(rt: HostRuntime) -> Result<(), Fail> {
     let stack = demo(rt.alloc())?;
-    let layer = Layer::OfBackground(1);
+    let layer = LayerId::OfBackground(1);
     let rows: &[(PartKind, u32, Option<Id>)] = &[
         (PartKind::Field, 1, Some(3)),
         (PartKind::Field, 0, None),
@@ -219,10 +219,10 @@ fn a_part_is_found_by_its_number(rt: HostRuntime) -> Result<(), Fail> {
 #[test]
 fn a_part_is_found_by_its_id(rt: HostRuntime) -> Result<(), Fail> {
     let stack = demo(rt.alloc())?;
-    let rows: &[(Layer, Id, Option<Id>)] = &[
-        (Layer::OfBackground(1), 3, Some(3)),
-        (Layer::OfBackground(1), 2, None),
-        (Layer::OfCard(2), 3, None),
+    let rows: &[(LayerId, Id, Option<Id>)] = &[
+        (LayerId::OfBackground(1), 3, Some(3)),
+        (LayerId::OfBackground(1), 2, None),
+        (LayerId::OfCard(2), 3, None),
     ];
     for (layer, id, due) in rows {
         assert!(rt;
@@ -236,7 +236,7 @@ fn a_part_is_found_by_its_id(rt: HostRuntime) -> Result<(), Fail> {
 #[test]
 fn a_part_is_found_by_its_name(rt: HostRuntime) -> Result<(), Fail> {
     let stack = demo(rt.alloc())?;
-    let layer = Layer::OfBackground(1);
+    let layer = LayerId::OfBackground(1);
     let rows: &[(&[u8], Option<Id>)] = &[(b"nOTE", Some(3)), (b"Not", None)];
     for (name, due) in rows {
         let name = Text::from_slice(rt.alloc(), name)?;

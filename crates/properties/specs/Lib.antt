@@ -1,3 +1,3 @@
 pub mod Names
-pub mod Reading
+pub mod PropertyText
 pub mod Setting

@@ -3,8 +3,8 @@
 
 mod flag;
 mod name;
-mod reading;
+mod property_text;
 mod setting;
 
-pub use reading::get;
+pub use property_text::get;
 pub use setting::check;

@@ -2,9 +2,9 @@
 
 use std::alloc::{AllocError, Global};
 
-/// What is kept of the answers, to compare later ones with.
+/// A shown text that was kept under a name, to compare later ones with.
 #[derive(Drop)]
-struct Kept {
+struct NamedText {
     name: String,
     text: String,
 }
@@ -61,14 +61,14 @@ fn passes(
     check: &str,
     shown: String,
     stack: &str,
-    kept: &mut Vec<Kept>,
+    kept: &mut Vec<NamedText>,
 ) -> Result<bool, AllocError> {
     if let Some(wanted) = check.strip_prefix("in ") {
         return stands_in(alloc, shown.as_str(), wanted);
     }
     if let Some(name) = check.strip_prefix("keep ") {
         let name = String::from_str(alloc, name)?;
-        kept.push(Kept { name, text: shown })?;
+        kept.push(NamedText { name, text: shown })?;
         return Ok(true);
     }
     if let Some(name) = check.strip_prefix("same ") {
@@ -86,7 +86,7 @@ fn passes(
 #[derive(Drop)]
 struct Comparison<'a> {
     rest: &'a str,
-    kept: Vec<Kept>,
+    kept: Vec<NamedText>,
 }
 
 impl<'a> Comparison<'a> {

@@ -9,7 +9,7 @@ mod row;
 
 use crate::answers::first_unmet;
 use crate::row::{Row, edited, input_of, row_of};
-use command_line::{CliFault, cut, play, verdict, words_of};
+use command_line::{CliFault, cut, options_of, play, verdict};
 use externals::External;
 use ht_values::Text;
 use stack_file::Watched;
@@ -29,7 +29,7 @@ struct Ended {
 const STACK: &str = "two_cards.stack";
 
 /// The words of the program: its name, the stack's and those of the row.
-fn given(alloc: Global, args: &str) -> Result<Vec<String>, AllocError> {
+fn words(alloc: Global, args: &str) -> Result<Vec<String>, AllocError> {
     let mut words = Vec::new(alloc);
     words.push(String::from_str(alloc, "card_cli")?)?;
     words.push(String::from_str(alloc, STACK)?)?;
@@ -47,12 +47,12 @@ fn run_on(
     input: &[u8],
     answers: &mut Vec<u8>,
 ) -> Result<(), CliFault> {
-    let given = given(alloc, args)?;
-    let words = words_of(alloc, given.as_slice())?;
+    let words = words(alloc, args)?;
+    let options = options_of(alloc, words.as_slice())?;
     let externals: Vec<Box<dyn External>> = Vec::new(alloc);
     let mut reader = Watched::new(input);
     let mut writer = Watched::new(answers);
-    play(alloc, &words, stack, externals, &mut reader, &mut writer)?;
+    play(alloc, &options, stack, externals, &mut reader, &mut writer)?;
     Ok(())
 }
 

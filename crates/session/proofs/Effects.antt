@@ -1,17 +1,16 @@
 -- Statements that are run.
-use Rattle.std.proofs.Common.{◌≡◌, ℕ, ◌-◌, true, false, cond, not, List, [], ◌∷◌, refl, sym, ap, ◌∙◌, arith, get_or}
-use Rattle.std.specs.Prelude.{Option, Some, None, IfSome, slice_get, ◌==◌}
+use Rattle.std.proofs.Common.{◌≡◌, ℕ, true, not, List, [], ◌∷◌, refl, sym, ap, ◌∙◌, arith}
+use Rattle.std.specs.Prelude.{Option, Some, None, IfSome}
 use Rattle.std.specs.Char.{is_ascii_uppercase, to_ascii_lowercase}
 use Rattle.std.proofs.lemmas.Bool.Decides.{nat_tests}
-use Rattle.std.proofs.lemmas.List.Folds.{list_any_at}
-use Rattle.std.proofs.lemmas.Option.{slice_get_within, get_or_from_slice_get}
-use Rattle.std.proofs.lemmas.Bool.{eq-eqb}
 use Rattle.ht_values.specs.Text.{folded}
 use Rattle.object_table.specs.Content.{Content}
 use Rattle.object_table.specs.Numbers.{at_number}
-use Rattle.object_table.specs.Objects.{has_kind, is_card, contains_id}
+use Rattle.object_table.specs.Objects.{has_kind, is_card}
 use Rattle.object_table.specs.WellFormed.{IsWellFormed}
-use Rattle.journal_entries.specs.Changes.{is_folded, changed}
+use Rattle.object_table.proofs.Listed.{contains_id-at_number}
+use Rattle.journal_entries.specs.Changes.{changed}
+use Rattle.journal_entries.specs.State.{is_folded}
 use Rattle.journal_entries.specs.Replaced.{replaced_by}
 use Rattle.journal_entries.specs.declared.change.Change.{Change}
 use Rattle.change_journal.specs.History.{History, Open, begun, committed, rolled_back}
@@ -31,18 +30,6 @@ not_upper b = grind (arith, nat_tests)
 pub is_folded-folded : (name : List ℕ) → is_folded (folded name) ≡ true
 is_folded-folded [] = refl
 is_folded-folded (b ∷ bs) = rw (not_upper b) (is_folded-folded bs)
-
-contains_id-get : (ids : List ℕ) (i card : ℕ) → slice_get ids i ≡ Some card → contains_id card ids ≡ true
-contains_id-get ids i card is =
-    let here : get_or ids i 0 ≡ card = get_or_from_slice_get ids i card 0 is in
-    list_any_at (λ x. x == card) ids i 0 (slice_get_within ids i card is) (eq-eqb (get_or ids i 0) card here)
-
-contains_id-at_number : (ids : List ℕ) (n card : ℕ) → at_number ids n ≡ Some card → contains_id card ids ≡ true
-contains_id-at_number ids n card is =
-    elim (n == 0) as (λ b. cond b None (slice_get ids (n - 1)) ≡ Some card → contains_id card ids ≡ true) [
-      | true ↦ λ never. cc
-      | false ↦ λ here. contains_id-get ids (n - 1) card here
-    ] is
 
 -- a card that has a number is a card
 pub is_card-at_number : (s stack : Content) (n card : ℕ) → s ≡ stack → IsWellFormed s → Some card ≡ at_number s.cards n → has_kind is_card stack card ≡ true

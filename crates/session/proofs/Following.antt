@@ -10,7 +10,8 @@ use Rattle.std.proofs.Math.Seq.{take-append-add, drop-append_seam}
 use Rattle.externals.specs.Cells.{Seen}
 use Rattle.journal_entries.specs.State.{State, titles_of, index_of}
 use Rattle.change_journal.specs.History.{History, Step, step_with_external, plugged, unplugged_at, flipped_back, flipped_back_from, flipped_forth, flipped_forth_from}
-use Rattle.session.specs.Commands.{Statement, Said, run, undo, redo, undo_to, show, globals, current_card, history, quit, said}
+use Rattle.session.specs.declared.limits.TheConstants.{LONGEST_LINE}
+use Rattle.session.specs.Commands.{Statement, Command, run, undo, redo, undo_to, show, globals, current_card, history, quit, command_in}
 use Rattle.session.specs.Headline.{Snapshot, Timeline, LineMoves, Does, Replaces, Moved, at_cursor, cursor_back, cursor_forth, cursor_back_to, before, later_or_here, last_numbered, with_one_more, without_one, line_counted}
 use Rattle.session.specs.Moves.{MovesTo, back_by, forth_by, stamps, undone, redone, undone_to, undone_by, places_to}
 use Rattle.session.specs.Replies.{ended, refused, Refuses, Moves, Looks, ShowsStack}
@@ -286,7 +287,7 @@ module _ (lines steps : ℕ) where
   after_cursor : (h : History) → length (all_snapshots h) - (length h.past + 1) ≡ length h.future
   after_cursor h = omega (arith, length-all h)
 
-  performs_follow : (said : Option Said) (old : History) (reply : Reply) (new : History) → Performs said lines old reply new → Does said old.now (at lines steps old) reply (at lines steps new)
+  performs_follow : (command : Option Command) (old : History) (reply : Reply) (new : History) → Performs command lines old reply new → Does command old.now (at lines steps old) reply (at lines steps new)
   performs_follow None old reply new p = refuses_follow refusals.BadCommand old reply new p
   performs_follow (Some (run statement)) old reply new (inl a) = inl (adds_follow statement old reply new a)
   performs_follow (Some (run statement)) old reply new (inr r) = inr (refuses_follow refusals.NoMemory old reply new r)
@@ -312,11 +313,11 @@ lines_follow line old reply new t =
       state = old.history.now;
       present = (old.history.stamp, present_is old.history);
       does =
-          subst (λ (n : Timeline). MatchBool (nat_lt 30000 (length line)) (Refuses refusals.LineTooLong (line_counted (timeline_of old)) reply n) (Does (said line) old.history.now (line_counted (timeline_of old)) reply n)) (sym here)
-          (elim (nat_lt 30000 (length line)) as (λ b. MatchBool b (Refuses refusals.LineTooLong old.history reply new.history) (Performs (said line) lines old.history reply new.history)
-          → MatchBool b (Refuses refusals.LineTooLong (at lines old.steps old.history) reply (at lines old.steps new.history)) (Does (said line) old.history.now (at lines old.steps old.history) reply (at lines old.steps new.history))) [
+          subst (λ (n : Timeline). MatchBool (nat_lt LONGEST_LINE (length line)) (Refuses refusals.LineTooLong (line_counted (timeline_of old)) reply n) (Does (command_in line) old.history.now (line_counted (timeline_of old)) reply n)) (sym here)
+          (elim (nat_lt LONGEST_LINE (length line)) as (λ b. MatchBool b (Refuses refusals.LineTooLong old.history reply new.history) (Performs (command_in line) lines old.history reply new.history)
+          → MatchBool b (Refuses refusals.LineTooLong (at lines old.steps old.history) reply (at lines old.steps new.history)) (Does (command_in line) old.history.now (at lines old.steps old.history) reply (at lines old.steps new.history))) [
             | true ↦ λ p. refuses_follow lines old.steps refusals.LineTooLong old.history reply new.history p
-            | false ↦ λ p. performs_follow lines old.steps (said line) old.history reply new.history p
+            | false ↦ λ p. performs_follow lines old.steps (command_in line) old.history reply new.history p
           ] performed);
     }
 

@@ -2,7 +2,8 @@
 use Rattle.std.proofs.Common.{◌≡◌, ℕ, List, length, sym, ◌∙◌, ap, true, false}
 use Rattle.std.specs.Prelude.{Option, Some, None, nat_lt, MatchBool}
 use Rattle.change_journal.specs.History.{History}
-use Rattle.session.specs.Commands.{Said, run, undo, redo, undo_to, show, globals, current_card, history, quit, said}
+use Rattle.session.specs.declared.limits.TheConstants.{LONGEST_LINE}
+use Rattle.session.specs.Commands.{Command, run, undo, redo, undo_to, show, globals, current_card, history, quit, command_in}
 use Rattle.session.specs.Moves.{undone, redone, undone_to}
 use Rattle.session.specs.Standing.{Standing}
 use Rattle.session.specs.Replies.{ended, Refuses, Moves}
@@ -27,7 +28,7 @@ redo_never : (there : Option History) (old : History) (reply : Reply) (new : His
 redo_never None old reply new m out = let e = other reply (endings.Refused refusals.NothingToRedo) m.answer out in cc
 redo_never (Some there) old reply new m out = let e = other reply endings.Ok m.0 out in cc
 
-pub may_run_out : (said : Option Said) (number : ℕ) (old : History) (reply : Reply) (new : History) → Performs said number old reply new → RunsOutOf reply → MayRunOut said
+pub may_run_out : (command : Option Command) (number : ℕ) (old : History) (reply : Reply) (new : History) → Performs command number old reply new → RunsOutOf reply → MayRunOut command
 may_run_out None number old reply new p out = let e = other reply (endings.Refused refusals.BadCommand) p.answer out in cc
 may_run_out (Some (run statement)) number old reply new p out = tt
 may_run_out (Some (undo k)) number old reply new p out = undo_never (undone k old) old reply new p out
@@ -40,9 +41,9 @@ may_run_out (Some history) number old reply new p out = tt
 may_run_out (Some quit) number old reply new p out = let e = other reply endings.Quit p.0 out in cc
 
 -- no move of the cursor, no `.quit` and no other refusal is for memory
-pub lines_run_out : (line : List ℕ) (old : Standing) (reply : Reply) (new : Standing) → TakesLine line old reply new → RunsOutOf reply → MayRunOut (said line)
+pub lines_run_out : (line : List ℕ) (old : Standing) (reply : Reply) (new : Standing) → TakesLine line old reply new → RunsOutOf reply → MayRunOut (command_in line)
 lines_run_out line old reply new t out =
-    elim (nat_lt 30000 (length line)) as (λ b. MatchBool b (Refuses refusals.LineTooLong old.history reply new.history) (Performs (said line) new.lines old.history reply new.history) → MayRunOut (said line)) [
+    elim (nat_lt LONGEST_LINE (length line)) as (λ b. MatchBool b (Refuses refusals.LineTooLong old.history reply new.history) (Performs (command_in line) new.lines old.history reply new.history) → MayRunOut (command_in line)) [
       | true ↦ λ p. (let e = other reply (endings.Refused refusals.LineTooLong) p.answer out in cc)
-      | false ↦ λ p. may_run_out (said line) new.lines old.history reply new.history p out
+      | false ↦ λ p. may_run_out (command_in line) new.lines old.history reply new.history p out
     ] t.performed

@@ -4,16 +4,16 @@ use Rattle.std.specs.Prelude.{Option, Some, None, IfSome, option_map, option_and
 use Rattle.std.specs.List.{position, list_any}
 use Rattle.ht_lex.specs.Words.{is_name}
 use Rattle.stack_text.specs.Words.{number_at}
-use Rattle.session.specs.Commands.{Statement, put, go_card, Said, run, undo, redo, undo_to, show, globals, current_card, history, quit, IsWithin, is, after, put_text, put_quoted, put_said, go_said, statement_by, statement_said, words, places, named, counted, to_line, dot_said, said}
+use Rattle.session.specs.Commands.{Statement, put, go_card, Command, run, undo, redo, undo_to, show, globals, current_card, history, quit, IsWithin, is, after, put_text, put_quoted, put_statement, go_statement, statement_by, statement_in, words, places, named, counted, to_line, dot_command, command_in}
 
-abbrev Short : ℕ → Option Said → Type 0
+abbrev Short : ℕ → Option Command → Type 0
 Short most o = IfSome o (IsWithin most)
 
-either : (most : ℕ) (b : Bool) (x y : Option Said) → Short most x → Short most y → Short most (cond b x y)
+either : (most : ℕ) (b : Bool) (x y : Option Command) → Short most x → Short most y → Short most (cond b x y)
 either most true x y p q = p
 either most false x y p q = q
 
-by_number : (most : ℕ) (f : ℕ → Said) → ((n : ℕ) → IsWithin most (f n)) → (o : Option ℕ) → Short most (option_map f o)
+by_number : (most : ℕ) (f : ℕ → Command) → ((n : ℕ) → IsWithin most (f n)) → (o : Option ℕ) → Short most (option_map f o)
 by_number most f within None = tt
 by_number most f within (Some n) = within n
 
@@ -31,7 +31,7 @@ counted_short most name word =
 to_line_short : (most : ℕ) (name to word : List ℕ) → Short most (to_line name to word)
 to_line_short most name to word = either most (is name (codes ".undo")) _ _ (either most (is to (codes "to")) _ _ (by_number most undo_to (λ n. tt) (number_at word)) tt) tt
 
-dot_short : (most : ℕ) (ws : List (List ℕ)) → Short most (dot_said ws)
+dot_short : (most : ℕ) (ws : List (List ℕ)) → Short most (dot_command ws)
 dot_short most [] = tt
 dot_short most (name ∷ []) = named_short most name
 dot_short most (name ∷ word ∷ []) = counted_short most name word
@@ -67,7 +67,7 @@ by_place : (most : ℕ) (bytes : List ℕ) → length bytes ≤ most → (o : Op
 by_place most bytes le None = tt
 by_place most bytes le (Some end) = put_quoted_short most bytes end le
 
-put_short : (most : ℕ) (line : List ℕ) → length line ≤ most → ShortStatement most (put_said line)
+put_short : (most : ℕ) (line : List ℕ) → length line ≤ most → ShortStatement most (put_statement line)
 put_short most line le =
     and_then most (length line) (λ bytes. option_and_then (put_quoted bytes) (position (λ b. b == 34) bytes)) (after (codes "put \"") line) (after_shorter (codes "put \"") line)
     (λ bytes shorter. by_place most bytes (omega arith) (position (λ b. b == 34) bytes))
@@ -80,10 +80,10 @@ statement_short : (most : ℕ) (line : List ℕ) → length line ≤ most → (o
 statement_short most line le (Some digits) = go_short most (number_at digits)
 statement_short most line le None = put_short most line le
 
-said_short : (most : ℕ) (line : List ℕ) → length line ≤ most → Short most (said line)
-said_short most line le =
-    either most (slice_index line 0 == 46) (dot_said (words line)) (option_map run (statement_said line)) (dot_short most (words line)) (statement_short most line le (after (codes "go card ") line))
+command_short : (most : ℕ) (line : List ℕ) → length line ≤ most → Short most (command_in line)
+command_short most line le =
+    either most (slice_index line 0 == 46) (dot_command (words line)) (option_map run (statement_in line)) (dot_short most (words line)) (statement_short most line le (after (codes "go card ") line))
 
 -- what a line says is no longer than the line
-pub said_within : (most : ℕ) (line : List ℕ) (s : Said) → length line ≤ most → said line ≡ Some s → IsWithin most s
-said_within most line s le is = rw is at (said_short most line le)
+pub command_within : (most : ℕ) (line : List ℕ) (s : Command) → length line ≤ most → command_in line ≡ Some s → IsWithin most s
+command_within most line s le is = rw is at (command_short most line le)

@@ -6,39 +6,39 @@ use Rattle.std.specs.List.{slice_split, position, list_any}
 use Rattle.ht_lex.specs.Words.{is_name}
 use Rattle.stack_text.specs.Words.{number_at}
 use Rattle.session.specs.declared.command.Statement as statements
-use Rattle.session.specs.declared.command.Said as sayings
+use Rattle.session.specs.declared.command.Command as commands
 
 -- a statement of HyperTalk: a text that is put into a global, or the number of a card to go to
 pub data Statement : Type 0 where
   put : List ℕ → List ℕ → Statement
   go_card : ℕ → Statement
 
-pub data Said : Type 0 where
-  run : Statement → Said
-  undo : ℕ → Said
-  redo : ℕ → Said
-  undo_to : ℕ → Said
-  show : Said
-  globals : Said
-  current_card : Said
-  history : Said
-  quit : Said
+pub data Command : Type 0 where
+  run : Statement → Command
+  undo : ℕ → Command
+  redo : ℕ → Command
+  undo_to : ℕ → Command
+  show : Command
+  globals : Command
+  current_card : Command
+  history : Command
+  quit : Command
 
 -- what code holds of these, without where the bytes lie
 abbrev pub statement_of : statements.Statement → Statement
 statement_of (statements.TheVariants.Put text name) = put text.now name.now
 statement_of (statements.TheVariants.GoCard n) = go_card n
 
-abbrev pub said_of : sayings.Said → Said
-said_of (sayings.TheVariants.Run statement) = run (statement_of statement)
-said_of (sayings.TheVariants.Undo k) = undo k
-said_of (sayings.TheVariants.Redo k) = redo k
-said_of (sayings.TheVariants.UndoTo n) = undo_to n
-said_of sayings.TheVariants.Show = show
-said_of sayings.TheVariants.Globals = globals
-said_of sayings.TheVariants.Where = current_card
-said_of sayings.TheVariants.History = history
-said_of sayings.TheVariants.Quit = quit
+abbrev pub command_of : commands.Command → Command
+command_of (commands.TheVariants.Run statement) = run (statement_of statement)
+command_of (commands.TheVariants.Undo k) = undo k
+command_of (commands.TheVariants.Redo k) = redo k
+command_of (commands.TheVariants.UndoTo n) = undo_to n
+command_of commands.TheVariants.Show = show
+command_of commands.TheVariants.Globals = globals
+command_of commands.TheVariants.Where = current_card
+command_of commands.TheVariants.History = history
+command_of commands.TheVariants.Quit = quit
 
 abbrev pub is : List ℕ → List ℕ → Bool
 is word name = pointwise nat_eq word name
@@ -58,19 +58,19 @@ abbrev pub put_quoted : List ℕ → ℕ → Option Statement
 put_quoted bytes end = option_and_then (put_text (take end bytes)) (after (codes "\" into ") (drop end bytes))
 
 -- `put "TEXT" into NAME`
-abbrev pub put_said : List ℕ → Option Statement
-put_said line = option_and_then (λ bytes. option_and_then (put_quoted bytes) (position (λ b. b == 34) bytes)) (after (codes "put \"") line)
+abbrev pub put_statement : List ℕ → Option Statement
+put_statement line = option_and_then (λ bytes. option_and_then (put_quoted bytes) (position (λ b. b == 34) bytes)) (after (codes "put \"") line)
 
 -- `go card N`
-abbrev pub go_said : List ℕ → Option Statement
-go_said digits = option_map go_card (number_at digits)
+abbrev pub go_statement : List ℕ → Option Statement
+go_statement digits = option_map go_card (number_at digits)
 
 abbrev pub statement_by : List ℕ → Option (List ℕ) → Option Statement
-statement_by line (Some digits) = go_said digits
-statement_by line None = put_said line
+statement_by line (Some digits) = go_statement digits
+statement_by line None = put_statement line
 
-abbrev pub statement_said : List ℕ → Option Statement
-statement_said line = statement_by line (after (codes "go card ") line)
+abbrev pub statement_in : List ℕ → Option Statement
+statement_in line = statement_by line (after (codes "go card ") line)
 
 -- ---- dot lines
 
@@ -97,7 +97,7 @@ abbrev pub places : List ℕ → Option ℕ
 places word = option_and_then (λ k. if k == 0 then None else Some k) (number_at word)
 
 -- a name alone
-abbrev pub named : List ℕ → Option Said
+abbrev pub named : List ℕ → Option Command
 named name =
     if is name (codes ".undo") then Some (undo 1) else
     (if is name (codes ".redo") then Some (redo 1) else
@@ -108,26 +108,26 @@ named name =
     (if is name (codes ".quit") then Some quit else None))))))
 
 -- `.undo K` and `.redo K`
-abbrev pub counted : List ℕ → List ℕ → Option Said
+abbrev pub counted : List ℕ → List ℕ → Option Command
 counted name word =
     if is name (codes ".undo") then option_map undo (places word) else
     (if is name (codes ".redo") then option_map redo (places word) else None)
 
 -- `.undo to N`
-abbrev pub to_line : List ℕ → List ℕ → List ℕ → Option Said
+abbrev pub to_line : List ℕ → List ℕ → List ℕ → Option Command
 to_line name to word = if is name (codes ".undo") then (if is to (codes "to") then option_map undo_to (number_at word) else None) else None
 
-abbrev pub dot_said : List (List ℕ) → Option Said
-dot_said (name ∷ []) = named name
-dot_said (name ∷ word ∷ []) = counted name word
-dot_said (name ∷ to ∷ word ∷ []) = to_line name to word
-dot_said _ = None
+abbrev pub dot_command : List (List ℕ) → Option Command
+dot_command (name ∷ []) = named name
+dot_command (name ∷ word ∷ []) = counted name word
+dot_command (name ∷ to ∷ word ∷ []) = to_line name to word
+dot_command _ = None
 
 -- what a line says, if it says anything; a dot line begins with the dot
-abbrev pub said : List ℕ → Option Said
-said line = if slice_index line 0 == 46 then dot_said (words line) else option_map run (statement_said line)
+abbrev pub command_in : List ℕ → Option Command
+command_in line = if slice_index line 0 == 46 then dot_command (words line) else option_map run (statement_in line)
 
--- the parts of what is said are no longer than this
-abbrev pub IsWithin : ℕ → Said → Type 0
+-- the parts of a command are no longer than this
+abbrev pub IsWithin : ℕ → Command → Type 0
 IsWithin most (run (put text name)) = (length text ≤ most) × (length name ≤ most)
 IsWithin most _ = Unit {0}

@@ -4,8 +4,10 @@ use Rattle.std.specs.Prelude.{◌≡◌, ◌≢◌, ◌⊎◌, ℕ, ◌<◌, ◌
 use Rattle.std.specs.List.{AllByRecursion}
 use Rattle.session.specs.Answers.{answer}
 use Rattle.session.specs.Splits.{Splits, IsLine, ended_lines, without_return, all_lines}
+use Rattle.session.specs.declared.conversation.TheConstants.{BLOCK}
 use Rattle.session.specs.declared.conversation.RunFault.{RunFault}
 use Rattle.session.specs.declared.conversation.RunFault.TheVariants as faults
+use Rattle.session.specs.declared.limits.TheConstants.{MOST_BYTES, MOST_LINES}
 use Rattle.session.specs.declared.reply.Ending.{Ending}
 use Rattle.session.specs.declared.reply.Ending.TheVariants.{Quit}
 use Rattle.session.specs.declared.reply.Reply.{Reply}
@@ -61,9 +63,9 @@ pub record OneMore {S : Type 0} (takes : List ℕ → S → Reply → S → Type
   pub line : List ℕ
   pub next : IsEndedLine bytes line ⊎ IsLastLine ends bytes line ahead
   pub step : takes line mid reply new
-  pub few_lines : length lines < 1000000
-  pub few_bytes : length (ended_lines lines ++ bytes) ≤ 1000000000
-  pub close : length ahead < 4096
+  pub few_lines : length lines < MOST_LINES
+  pub few_bytes : length (ended_lines lines ++ bytes) ≤ MOST_BYTES
+  pub close : length ahead < BLOCK
 
 -- ---- how a run ends
 
@@ -73,8 +75,8 @@ pub record Finishes {S : Type 0} (takes : List ℕ → S → Reply → S → Typ
   pub rest : List ℕ
   pub splits : Splits read lines rest
   pub answers : Answered takes old (all_lines lines rest) written new
-  pub few_lines : length (all_lines lines rest) ≤ 1000000
-  pub few_bytes : length read ≤ 1000000000
+  pub few_lines : length (all_lines lines rest) ≤ MOST_LINES
+  pub few_bytes : length read ≤ MOST_BYTES
 
 -- one line more quits
 pub record Quits {S : Type 0} (takes : List ℕ → S → Reply → S → Type 0) (ends : Type 0) (old : S) (read written : List ℕ) (new : S) : Type 0 where
@@ -84,7 +86,7 @@ pub record Quits {S : Type 0} (takes : List ℕ → S → Reply → S → Type 0
   pub quits : is_quit reply.ending ≡ true
   pub sent : written ≡ text ++ answer reply
 
--- What went out of an answer: nothing where there was no memory for it, and where the writer failed not all of it.
+-- What went out of an answer: nothing where it was out of memory, and where the writer failed not all of it.
 abbrev pub IsCut : RunFault → List ℕ → List ℕ → Type 0
 IsCut faults.Memory whole sent = sent ≡ []
 IsCut faults.Write whole sent = (unsent : List ℕ) × (unsent ≢ []) × (whole ≡ sent ++ unsent)
@@ -113,5 +115,5 @@ pub record Exceeds {S : Type 0} (takes : List ℕ → S → Reply → S → Type
   pub ahead : List ℕ
   pub whole : read ≡ front ++ byte ∷ ahead
   pub stands : Stands takes old front written new
-  pub most : (length stands.lines ≡ 1000000) ⊎ (length front ≡ 1000000000)
-  pub close : length ahead < 4096
+  pub most : (length stands.lines ≡ MOST_LINES) ⊎ (length front ≡ MOST_BYTES)
+  pub close : length ahead < BLOCK

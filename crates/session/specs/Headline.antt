@@ -5,11 +5,12 @@ use Rattle.object_table.specs.Content.{Content}
 use Rattle.journal_entries.specs.State.{State, first_state}
 use Rattle.journal_entries.specs.Replaced.{Replacement}
 use Rattle.change_journal.specs.History.{with_external, without_at}
-use Rattle.session.specs.Commands.{Statement, Said, run, undo, redo, undo_to, show, globals, current_card, history, quit, said}
+use Rattle.session.specs.Commands.{Statement, Command, run, undo, redo, undo_to, show, globals, current_card, history, quit, command_in}
 use Rattle.session.specs.Conversation.{Session}
 use Rattle.session.specs.Meaning.{Fresh}
 use Rattle.session.specs.Replies.{ended, Refuses, Moves, Looks, ShowsStack, global_lines, history_line}
 use Rattle.session.specs.Standing.{next_number}
+use Rattle.session.specs.declared.limits.TheConstants.{LONGEST_LINE}
 use Rattle.session.specs.declared.reply.Refusal.{Refusal}
 use Rattle.session.specs.declared.reply.Refusal.TheVariants.{NothingToUndo, NothingToRedo, BadCommand, NoMemory, LineTooLong}
 use Rattle.session.specs.declared.reply.Ending.TheVariants as endings
@@ -83,7 +84,7 @@ cursor_back_to n t = before t.cursor (last_numbered n (take (t.cursor + 1) t.sna
 -- ---- lines
 
 -- what a line does by what it says, and by the state at the cursor
-abbrev pub Does : Option Said → State → Timeline → Reply → Timeline → Type 0
+abbrev pub Does : Option Command → State → Timeline → Reply → Timeline → Type 0
 Does None state old reply new = Refuses BadCommand old reply new
 Does (Some (run statement)) state old reply new = Replaces statement state old reply new ⊎ Refuses NoMemory old reply new
 Does (Some (undo k)) state old reply new = Moves (option_map (at_cursor old) (cursor_back k old)) NothingToUndo old reply new
@@ -103,7 +104,7 @@ line_counted t = record t { lines = next_number t.lines }
 pub record LineMoves (line : List ℕ) (old : Timeline) (reply : Reply) (new : Timeline) : Type 0 where
   pub state : State
   pub present : IsPresent state old
-  pub does : MatchBool (nat_lt 30000 (length line)) (Refuses LineTooLong (line_counted old) reply new) (Does (said line) state (line_counted old) reply new)
+  pub does : MatchBool (nat_lt LONGEST_LINE (length line)) (Refuses LineTooLong (line_counted old) reply new) (Does (command_in line) state (line_counted old) reply new)
 
 -- ---- calls beside lines
 

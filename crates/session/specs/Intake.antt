@@ -4,7 +4,9 @@ use Rattle.session.specs.Conversation.{Answered, Quits, Breaks}
 use Rattle.session.specs.Splits.{Splits, without_return}
 use Rattle.session.specs.Standing.{Standing}
 use Rattle.session.specs.TakesLine.{TakesLine}
+use Rattle.session.specs.declared.conversation.TheConstants.{KEPT}
 use Rattle.session.specs.declared.conversation.RunFault.{RunFault}
+use Rattle.session.specs.declared.limits.TheConstants.{MOST_LINES}
 
 -- After these bytes this text is written, and this much is kept of the line that isn't ended. Such a line begins only
 -- where there may be one more.
@@ -13,8 +15,8 @@ pub record Reached (old : Standing) (read written : List ℕ) (now : Standing) (
   pub rest : List ℕ
   pub splits : Splits read lines rest
   pub answers : Answered TakesLine old (map without_return lines) written now
-  pub kept : pending ≡ take 30002 rest
-  pub room : (rest ≡ []) ⊎ (line_count < 1000000)
+  pub kept : pending ≡ take KEPT rest
+  pub room : (rest ≡ []) ⊎ (line_count < MOST_LINES)
   pub lines_counted : line_count ≡ length lines
   pub bytes_counted : byte_count ≡ length read
 

@@ -2,6 +2,7 @@
 use Rattle.std.specs.Prelude.{ℕ, ◌+◌, min, refl}
 use Rattle.std.specs.Coded.{Coded, code_by, coded×, coded_ℕ}
 use Rattle.change_journal.specs.History.{History, coded_history}
+use Rattle.session.specs.declared.limits.TheConstants.{LAST_NUMBER}
 
 -- its history, how many lines it has taken, and how many steps a command may take
 pub record Standing : Type 0 where
@@ -14,4 +15,4 @@ coded_standing = code_by (History × (ℕ × ℕ)) (coded× coded_history (coded
 
 -- The number of the line after so many; it stays at its greatest value.
 abbrev pub next_number : ℕ → ℕ
-next_number lines = min (lines + 1) 9999999
+next_number lines = min (lines + 1) LAST_NUMBER

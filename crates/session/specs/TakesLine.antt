@@ -5,11 +5,12 @@ use Rattle.journal_entries.specs.Replaced.{Replacement, places_of, back_weight, 
 use Rattle.journal_entries.specs.Trails.{IsOnce, IsShort, different}
 use Rattle.change_journal.specs.History.{History, Open, committed}
 use Rattle.change_journal.specs.Rising.{trail_after}
-use Rattle.session.specs.Commands.{Statement, Said, run, undo, redo, undo_to, show, globals, current_card, history, quit, said}
+use Rattle.session.specs.Commands.{Statement, Command, run, undo, redo, undo_to, show, globals, current_card, history, quit, command_in}
 use Rattle.session.specs.Meaning.{Fresh}
 use Rattle.session.specs.Moves.{undone, redone, undone_to}
 use Rattle.session.specs.Replies.{ended, Refuses, Moves, Looks, ShowsStack, global_lines, history_line}
 use Rattle.session.specs.Standing.{Standing, next_number}
+use Rattle.session.specs.declared.limits.TheConstants.{LONGEST_LINE}
 use Rattle.session.specs.declared.reply.Refusal.TheVariants.{NothingToUndo, NothingToRedo, BadCommand, NoMemory, LineTooLong}
 use Rattle.session.specs.declared.reply.Ending.TheVariants as endings
 use Rattle.session.specs.declared.reply.Reply.{Reply}
@@ -33,7 +34,7 @@ pub record Adds (statement : Statement) (number : ℕ) (old : History) (reply : 
   pub joined : new ≡ committed (record old { now = state; start = Some batch })
 
 -- what a line does by what it says, given its number
-abbrev pub Performs : Option Said → ℕ → History → Reply → History → Type 0
+abbrev pub Performs : Option Command → ℕ → History → Reply → History → Type 0
 Performs None number old reply new = Refuses BadCommand old reply new
 Performs (Some (run statement)) number old reply new = Adds statement number old reply new ⊎ Refuses NoMemory old reply new
 Performs (Some (undo k)) number old reply new = Moves (undone k old) NothingToUndo old reply new
@@ -46,7 +47,7 @@ Performs (Some history) number old reply new = Looks (history_line (length old.p
 Performs (Some quit) number old reply new = (reply ≡ ended endings.Quit) × (new ≡ old)
 
 -- What may be refused for memory: no move of the cursor, and neither `.quit` nor a line that says nothing.
-abbrev pub MayRunOut : Option Said → Type 0
+abbrev pub MayRunOut : Option Command → Type 0
 MayRunOut (Some (run statement)) = Unit {0}
 MayRunOut (Some show) = Unit {0}
 MayRunOut (Some globals) = Unit {0}
@@ -56,7 +57,7 @@ MayRunOut _ = ⊥
 
 -- a line over 30,000 bytes is refused unread
 abbrev pub PerformsLine : List ℕ → ℕ → History → Reply → History → Type 0
-PerformsLine line number old reply new = MatchBool (nat_lt 30000 (length line)) (Refuses LineTooLong old reply new) (Performs (said line) number old reply new)
+PerformsLine line number old reply new = MatchBool (nat_lt LONGEST_LINE (length line)) (Refuses LineTooLong old reply new) (Performs (command_in line) number old reply new)
 
 -- A session takes a line: it is counted, answered, and the history goes on.
 pub record TakesLine (line : List ℕ) (old : Standing) (reply : Reply) (new : Standing) : Type 0 where

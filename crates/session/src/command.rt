@@ -3,7 +3,8 @@
 ghost use Rattle.std.specs.Prelude.{◌≡◌, ◌<◌, ◌≤◌, ◌==◌, ◌↔◌, ℕ, List, [], ◌∷◌, IsTrue, IfSome, length, nat_eq, codes};
 ghost use Rattle.std.specs.Option.{option_map, option_copied};
 ghost use Rattle.std.specs.List.{list_any, position, position_or_len};
-ghost use Rattle.session.specs.Commands.{after as what_follows, after_spaces as from_first_word, is as is_word, dot_said, statement_of, statement_said, put_said, said_of, said as said_by, words, word_and_rest, places, named, counted, to_line};
+ghost use Rattle.session.specs.Commands as commands;
+ghost use Rattle.session.specs.Commands.{after as what_follows, after_spaces as from_first_word, is as is_word, dot_command, statement_of, put_statement, command_of, words, word_and_rest, places, named, counted, to_line};
 
 use ht_lex::is_name;
 use stack_file::number_at;
@@ -17,7 +18,7 @@ pub enum Statement<'a> {
 
 /// What a line says.
 #[derive(Clone, Copy)]
-pub enum Said<'a> {
+pub enum Command<'a> {
     Run(Statement<'a>),
     Undo(u32),
     Redo(u32),
@@ -50,7 +51,7 @@ fn has_return(bytes: &[u8]) -> bool
 
 /// `put "TEXT" into NAME`
 fn put_in(line: &[u8]) -> Option<Statement<'_>>
-    ensures { option_map statement_of result ≡ put_said line.now }
+    ensures { option_map statement_of result ≡ put_statement line.now }
 {
     let bytes = after(line, b"put \"")?;
     let end = quote_in(bytes)?;
@@ -63,7 +64,7 @@ fn put_in(line: &[u8]) -> Option<Statement<'_>>
 }
 
 fn statement_in(line: &[u8]) -> Option<Statement<'_>>
-    ensures { option_map statement_of result ≡ statement_said line.now }
+    ensures { option_map statement_of result ≡ commands.statement_in line.now }
 {
     if let Some(digits) = after(line, b"go card ") {
         return Some(Statement::GoCard(number_at(digits)?));
@@ -72,13 +73,13 @@ fn statement_in(line: &[u8]) -> Option<Statement<'_>>
 }
 
 /// What a line says, or `None` where it says nothing.
-pub fn said_in(line: &[u8]) -> Option<Said<'_>>
-    ensures { option_map said_of result ≡ said_by line.now }
+pub fn command_in(line: &[u8]) -> Option<Command<'_>>
+    ensures { option_map command_of result ≡ commands.command_in line.now }
 {
     if line.first() == Some(&b'.') {
         return dot_line_in(line);
     }
-    Some(Said::Run(statement_in(line)?))
+    Some(Command::Run(statement_in(line)?))
 }
 
 fn after_spaces(line: &[u8]) -> &[u8]
@@ -132,8 +133,8 @@ fn is(word: &[u8], name: &[u8]) -> bool
     word == name
 }
 
-fn dot_line_in(line: &[u8]) -> Option<Said<'_>>
-    ensures { option_map said_of result ≡ dot_said (words line.now) }
+fn dot_line_in(line: &[u8]) -> Option<Command<'_>>
+    ensures { option_map command_of result ≡ dot_command (words line.now) }
 {
     let (name, rest) = next_word(line)?;
     let Some((second, rest)) = next_word(rest) else {
@@ -148,47 +149,47 @@ fn dot_line_in(line: &[u8]) -> Option<Said<'_>>
     }
 }
 
-fn named_in(name: &[u8]) -> Option<Said<'static>>
-    ensures { option_map said_of result ≡ named name.now }
+fn named_in(name: &[u8]) -> Option<Command<'static>>
+    ensures { option_map command_of result ≡ named name.now }
 {
     if is(name, b".undo") {
-        Some(Said::Undo(1))
+        Some(Command::Undo(1))
     } else if is(name, b".redo") {
-        Some(Said::Redo(1))
+        Some(Command::Redo(1))
     } else if is(name, b".show") {
-        Some(Said::Show)
+        Some(Command::Show)
     } else if is(name, b".globals") {
-        Some(Said::Globals)
+        Some(Command::Globals)
     } else if is(name, b".where") {
-        Some(Said::Where)
+        Some(Command::Where)
     } else if is(name, b".history") {
-        Some(Said::History)
+        Some(Command::History)
     } else if is(name, b".quit") {
-        Some(Said::Quit)
+        Some(Command::Quit)
     } else {
         None
     }
 }
 
 /// `.undo K` and `.redo K`
-fn counted_in(name: &[u8], word: &[u8]) -> Option<Said<'static>>
-    ensures { option_map said_of result ≡ counted name.now word.now }
+fn counted_in(name: &[u8], word: &[u8]) -> Option<Command<'static>>
+    ensures { option_map command_of result ≡ counted name.now word.now }
 {
     if is(name, b".undo") {
-        return Some(Said::Undo(places_in(word)?));
+        return Some(Command::Undo(places_in(word)?));
     }
     if is(name, b".redo") {
-        return Some(Said::Redo(places_in(word)?));
+        return Some(Command::Redo(places_in(word)?));
     }
     None
 }
 
 /// `.undo to N`
-fn to_line_in(name: &[u8], to: &[u8], word: &[u8]) -> Option<Said<'static>>
-    ensures { option_map said_of result ≡ to_line name.now to.now word.now }
+fn to_line_in(name: &[u8], to: &[u8], word: &[u8]) -> Option<Command<'static>>
+    ensures { option_map command_of result ≡ to_line name.now to.now word.now }
 {
     if is(name, b".undo") && is(to, b"to") {
-        return Some(Said::UndoTo(number_at(word)?));
+        return Some(Command::UndoTo(number_at(word)?));
     }
     None
 }

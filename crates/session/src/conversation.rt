@@ -13,8 +13,11 @@ ghost use Rattle.session.specs.Intake.{Reached, Onward, Broken};
 ghost use Rattle.session.specs.Stops.{Ended, Stopped};
 ghost use Rattle.session.specs.Headline.{Headline};
 ghost use Rattle.session.specs.Unzipped.{timeline_of};
+ghost use Rattle.session.specs.declared.conversation.TheConstants.{BLOCK, KEPT};
+ghost use Rattle.session.specs.declared.limits.TheConstants.{MOST_BYTES, MOST_LINES};
 ghost use Rattle.session.specs.declared.reply.Reply.{Reply};
 
+use crate::limits::{LONGEST_LINE, MOST_BYTES, MOST_LINES};
 use crate::reply::{Ending, answer_of};
 use crate::session::Session;
 use externals::External;
@@ -79,11 +82,7 @@ fn answer_line<E: External, W: Write>(
 }
 
 /// The longest line with its carriage return, and one byte more, which shows that it is too long.
-const KEPT: usize = 30_002;
-
-const MOST_LINES: u32 = 1_000_000;
-
-const MOST_BYTES: u32 = 1_000_000_000;
+const KEPT: usize = LONGEST_LINE + 2;
 
 /// What is read and not yet answered, and how much was read before.
 #[derive(Drop)]
@@ -91,9 +90,9 @@ struct Intake {
     pending: Vec<u8>,
     lines: u32,
     bytes: u32,
-    ghost few: { lines ≤ 1000000 },
-    ghost short: { bytes ≤ 1000000000 },
-    ghost room: { 30002 ≤ vec_capacity pending },
+    ghost few: { lines ≤ MOST_LINES },
+    ghost short: { bytes ≤ MOST_BYTES },
+    ghost room: { KEPT ≤ vec_capacity pending },
 }
 
 impl Intake {
@@ -108,7 +107,7 @@ impl Intake {
     }
 
     fn is_full(&self) -> bool
-        ensures { IsTrue result ↔ ((self.now.lines ≡ 1000000) ⊎ (self.now.bytes ≡ 1000000000)) }
+        ensures { IsTrue result ↔ ((self.now.lines ≡ MOST_LINES) ⊎ (self.now.bytes ≡ MOST_BYTES)) }
     {
         self.lines == MOST_LINES || self.bytes == MOST_BYTES
     }
@@ -122,8 +121,8 @@ fn take_byte<E: External, W: Write>(
     byte: u8,
     writer: &mut Watched<W>,
 ) -> Result<bool, RunFault>
-    requires lines { intake.old.lines < 1000000 }
-    requires bytes { intake.old.bytes < 1000000000 }
+    requires lines { intake.old.lines < MOST_LINES }
+    requires bytes { intake.old.bytes < MOST_BYTES }
     ensures ok { IfOk result (λ quits. (text : List ℕ)
         × Appends (W.contents (device_of writer.old)) (W.contents (device_of writer.new)) text
         × ((start : Standing) (read written : List ℕ)
@@ -164,13 +163,13 @@ fn take_block<E: External, W: Write>(
     block: &[u8],
     writer: &mut Watched<W>,
 ) -> Result<bool, RunFault>
-    requires { length block.now ≤ 4096 }
+    requires { length block.now ≤ BLOCK }
     ensures ok { IfOk result (λ quits. (text : List ℕ)
         × Appends (W.contents (device_of writer.old)) (W.contents (device_of writer.new)) text
         × ((start : Standing) (read written : List ℕ)
         → Reached start read written session.old
         intake.old.pending.items intake.old.lines intake.old.bytes
-        → Onward 4095 quits start (read ++ block.now) (written ++ text) session.new
+        → Onward (BLOCK - 1) quits start (read ++ block.now) (written ++ text) session.new
         intake.new.pending.items intake.new.lines intake.new.bytes)) }
     ensures err { IfErr result (λ e. (text : List ℕ)
         × Appends (W.contents (device_of writer.old)) (W.contents (device_of writer.new)) text
@@ -230,7 +229,7 @@ fn take_last<E: External, W: Write>(
 }
 
 /// How many bytes one read may take.
-const BLOCK: usize = 4096;
+const BLOCK: usize = 4_096;
 
 /// Answers each line of the input, up to the first that quits. A line ends with a line feed, and one
 /// carriage return before it is dropped; a last line that nothing ends counts if it isn't empty. The

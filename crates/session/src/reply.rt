@@ -117,7 +117,7 @@ impl Bytes {
 
 /// A message that was sent, and the id of the object that it was sent to.
 #[derive(Drop)]
-pub struct Message {
+pub struct SentMessage {
     pub name: Text,
     pub object: u32,
 }
@@ -125,14 +125,14 @@ pub struct Message {
 /// The messages that a line sent, in their order.
 #[derive(Drop)]
 pub struct Sent {
-    messages: Vec<Message>,
+    messages: Vec<SentMessage>,
 }
 
 impl Model for Sent {
     ghost use Rattle.std.specs.Prelude.{List};
-    ghost use Rattle.session.specs.declared.reply.Message.{Message};
+    ghost use Rattle.session.specs.declared.reply.SentMessage.{SentMessage};
 
-    ghost Value = { List Message };
+    ghost Value = { List SentMessage };
 
     ghost view = { λ s. s.messages.items };
 }
@@ -161,7 +161,7 @@ impl Sent {
     }
 
     /// The message at a place, from 0.
-    pub fn at(&self, i: usize) -> &Message
+    pub fn at(&self, i: usize) -> &SentMessage
         requires { i < length self.now }
         ensures { slice_get self.now i ≡ Some result.now }
     {

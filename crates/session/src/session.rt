@@ -4,37 +4,30 @@ ghost use Rattle.std.specs.Prelude.{◌≡◌, ◌≤◌, ◌==◌, ◌⊎◌, [
 ghost use Rattle.object_table.specs.WellFormed.{IsWellFormed};
 ghost use Rattle.journal_entries.specs.State.{seen_by, seen_at, titles_of, has_name, index_of};
 ghost use Rattle.change_journal.specs.History.{plugged, unplugged};
-ghost use Rattle.session.specs.Commands.{said_of, said as said_by, IsWithin};
+ghost use Rattle.session.specs.Commands as commands;
+ghost use Rattle.session.specs.Commands.{command_of, IsWithin};
 ghost use Rattle.session.specs.Moves.{MovesTo, undone, redone, undone_to};
 ghost use Rattle.session.specs.Opening.{open_fault, opened};
 ghost use Rattle.stack_text.specs.declared.sheets.Version.TheVariants.{Second as second};
 ghost use Rattle.stack_text.specs.Listing.{spelling};
 ghost use Rattle.session.specs.TakesLine.{TakesLine, Performs, MayRunOut};
+ghost use Rattle.session.specs.declared.limits.TheConstants.{LONGEST_LINE};
 ghost use Rattle.session.specs.Replies.{ended as ended_by, refused as refused_by, shown_reply, moved_reply, ran_reply};
 
-use crate::command::{Said, said_in};
+use crate::command::{Command, command_in};
 use crate::fault::OpenError;
-use crate::looks::{card_shown, globals_shown, history_shown, stack_shown};
+use crate::limits::{LAST_NUMBER, LONGEST_LINE, MOST_STEPS};
 use crate::moves::{go_back, go_back_to, go_forth};
+use crate::queries::{card_shown, globals_shown, history_shown, stack_shown};
 use crate::reply::{Bytes, Ending, Refusal, Reply, Sent, Shown};
 use crate::running::run_statement;
-use change_journal::{PlugError, World};
+use change_journal::{MOST_DEPTH, PlugError, World};
 use externals::External;
 use ht_values::Text;
 use object_table::Stack;
 use stack_file::write;
 use std::alloc::{AllocError, Global};
 use std::marker::Model;
-
-/// The longest line, in bytes.
-pub const LONGEST_LINE: usize = 30_000;
-
-/// The greatest number of a line.
-const LAST_NUMBER: u32 = 9_999_999;
-
-const MOST_STEPS: u32 = 10_000_000;
-
-const MOST_DEPTH: u32 = 1_000_000;
 
 /// A world and the number of lines that it took.
 #[derive(Drop)]
@@ -47,6 +40,7 @@ pub struct Session<E: External> {
 
 impl<E: External> Model for Session<E> {
     ghost use Rattle.std.specs.Prelude.{◌≡◌, ◌≤◌, None};
+    ghost use Rattle.session.specs.declared.limits.TheConstants.{LAST_NUMBER};
     ghost use Rattle.session.specs.Standing.{Standing, coded_standing};
 
     ghost Value = { Standing };
@@ -55,7 +49,7 @@ impl<E: External> Model for Session<E> {
 
     ghost view = { λ s. record { history = s.world.history; lines = s.lines; steps = s.steps } };
 
-    ghost invariant = { λ s. (s.world.history.start ≡ None) × (s.lines ≤ 9999999) };
+    ghost invariant = { λ s. (s.world.history.start ≡ None) × (s.lines ≤ LAST_NUMBER) };
 }
 
 fn ended(alloc: Global, ending: Ending) -> Reply
@@ -106,23 +100,28 @@ fn ran(alloc: Global, outcome: Result<Ending, AllocError>) -> Reply
 }
 
 /// Does what a line of this number says; its parts are texts.
-fn perform<E: External>(alloc: Global, world: &mut World<E>, number: u32, said: Said<'_>) -> Reply
+fn perform<E: External>(
+    alloc: Global,
+    world: &mut World<E>,
+    number: u32,
+    command: Command<'_>,
+) -> Reply
     requires closed { world.old.history.start ≡ None }
-    requires within { IsWithin 30000 (said_of said) }
-    ensures performed { Performs (Some (said_of said.entry)) number
+    requires within { IsWithin LONGEST_LINE (command_of command) }
+    ensures performed { Performs (Some (command_of command.entry)) number
         world.old.history result world.new.history }
     ensures closed { world.new.history.start ≡ None }
 {
-    match said {
-        Said::Run(statement) => ran(alloc, run_statement(alloc, world, number, statement)),
-        Said::Undo(places) => moved(alloc, go_back(world, places)),
-        Said::Redo(places) => moved(alloc, go_forth(world, places)),
-        Said::UndoTo(line) => moved(alloc, go_back_to(world, line)),
-        Said::Show => looked(alloc, stack_shown(alloc, world)),
-        Said::Globals => looked(alloc, globals_shown(alloc, world)),
-        Said::Where => looked(alloc, card_shown(alloc, world)),
-        Said::History => looked(alloc, history_shown(alloc, world)),
-        Said::Quit => ended(alloc, Ending::Quit),
+    match command {
+        Command::Run(statement) => ran(alloc, run_statement(alloc, world, number, statement)),
+        Command::Undo(places) => moved(alloc, go_back(world, places)),
+        Command::Redo(places) => moved(alloc, go_forth(world, places)),
+        Command::UndoTo(line) => moved(alloc, go_back_to(world, line)),
+        Command::Show => looked(alloc, stack_shown(alloc, world)),
+        Command::Globals => looked(alloc, globals_shown(alloc, world)),
+        Command::Where => looked(alloc, card_shown(alloc, world)),
+        Command::History => looked(alloc, history_shown(alloc, world)),
+        Command::Quit => ended(alloc, Ending::Quit),
     }
 }
 
@@ -173,8 +172,8 @@ impl<E: External> Session<E> {
     }
 
     /// Adds an external, with its cells of now, to every place of the history. `DuplicateName` where
-    /// another has a name that is the same; it and want of memory hand the external back, and then
-    /// nothing changes.
+    /// another has a name that is the same, `Memory` where it is out of memory; either hands the external
+    /// back, and then nothing changes.
     pub fn plug(&mut self, external: E) -> Result<(), (PlugError, E)>
         ensures ok { OnOk result (self.new ≡ record self.old {
           history = plugged self.old.history
@@ -227,7 +226,7 @@ impl<E: External> Session<E> {
     pub fn line(&mut self, line: &[u8]) -> Reply
         ensures step { TakesLine line.now self.old result self.new }
         ensures memory { result.ending ≡ Ending.Refused Refusal.NoMemory
-            → MayRunOut (said_by line.now) }
+            → MayRunOut (commands.command_in line.now) }
     {
         if self.lines < LAST_NUMBER {
             self.lines += 1;
@@ -235,9 +234,9 @@ impl<E: External> Session<E> {
         if LONGEST_LINE < line.len() {
             return refused(self.alloc, Refusal::LineTooLong);
         }
-        match said_in(line) {
+        match command_in(line) {
             None => refused(self.alloc, Refusal::BadCommand),
-            Some(said) => perform(self.alloc, &mut self.world, self.lines, said),
+            Some(command) => perform(self.alloc, &mut self.world, self.lines, command),
         }
     }
 

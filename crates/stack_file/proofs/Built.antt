@@ -1,25 +1,23 @@
 -- A stack that is built from what a document lists, the last first.
-use Rattle.std.proofs.Common.{◌≡◌, ℕ, Bool, true, false, cond, List, [], ◌∷◌, ◌++◌, map, flat_map, refl, sym, ◌∙◌, ap, Option, Some, None, nat_eq, arith}
+use Rattle.std.proofs.Common.{◌≡◌, ℕ, Bool, true, false, List, [], ◌∷◌, ◌++◌, map, flat_map, refl, sym, ◌∙◌, ap, Option, nat_eq, arith}
 use Rattle.std.proofs.lemmas.List.Elements.{filter_map-append}
 use Rattle.std.proofs.lemmas.Bool.Decides.{nat_tests}
 use Rattle.std.proofs.lemmas.List.{map-append, append-nil}
 use Rattle.std.proofs.lemmas.Grind.{flat_map-append}
 use Rattle.std.specs.declared.cmp.Ordering.{Ordering}
-use Rattle.std.specs.Ordering.{nat_cmp, eq_by_cmp}
-use Rattle.std.specs.Cmp.{nat_cmp_total}
-use Rattle.std.specs.FinMap.{FinMap, empty, insert, from_entries, same_map, gets, nat_cmp-IsAntisymmetric}
+use Rattle.std.specs.Ordering.{nat_cmp}
+use Rattle.std.specs.FinMap.{FinMap, empty, insert, from_entries}
 use Rattle.std.specs.FinSet as set
 use Rattle.object_table.specs.Content.{Content}
 use Rattle.object_table.specs.Pairs.{Pair, pair_cmp}
-use Rattle.object_table.specs.Empty.{empty_stack, empty_object}
-use Rattle.object_table.specs.declared.object.Kind.TheVariants.{Stack, Background, Card}
+use Rattle.object_table.specs.Empty.{blank_stack}
 use Rattle.object_table.proofs.Pairs.{pair_tied, pair_cmp_total}
 use Rattle.stack_text.specs.declared.sheets.Kept.{Kept}
 use Rattle.stack_text.specs.declared.sheets.Part.{Part}
 use Rattle.stack_text.specs.declared.sheets.Keeping.{Keeping}
 use Rattle.stack_text.specs.Document.{Sheet, Document, sheet_ids}
 use Rattle.stack_text.specs.Listing.{part_entry, object_entries, parts_entry, kept_on, written, lit, kept_entry, kept_entries, all_parts, all_kept, content_of}
-use Rattle.stack_file.specs.Building.{inserted, own_kept, with_parts, with_keepings, with_sheet, card_for, with_sheets, with_stack, without, blank}
+use Rattle.stack_file.specs.Building.{inserted, own_kept, with_parts, with_keepings, with_sheet, card_for, with_sheets, with_stack}
 
 -- a pair that was opened is in the room
 pub opened : (room : set.FinSet pair_cmp) (part card : ℕ) → set.contains (set.insert room (part, card)) (part, card) ≡ true
@@ -90,38 +88,11 @@ sheets-onto shared xs x s =
 pub step : {X : Type 0} (view : X → Sheet) (shared : Bool) (xs all : List X) (x : X) (s : Content) → all ≡ xs ++ x ∷ [] → with_sheets shared (map view xs) (with_sheet (card_for shared (view x).id) (view x) s) ≡ with_sheets shared (map view all) s
 step view shared xs all x s e = sheets-onto shared (map view xs) (view x) s ∙ ap (λ l. with_sheets shared l s) (sym (map-append view xs (x ∷ []))) ∙ ap (λ l. with_sheets shared (map view l) s) (sym e)
 
-vanish : {X : Type 0} (a b c : Bool) (x y z : X) → cond c None (cond b None (cond a None (cond a (Some x) (cond b (Some y) (cond c (Some z) None))))) ≡ None
-vanish true true true x y z = refl
-vanish true true false x y z = refl
-vanish true false true x y z = refl
-vanish true false false x y z = refl
-vanish false true true x y z = refl
-vanish false true false x y z = refl
-vanish false false true x y z = refl
-vanish false false false x y z = refl
-
-vanish_parts : {X : Type 0} (a b c : Bool) (y z : X) → cond c None (cond b None (cond a None (cond b (Some y) (cond c (Some z) None)))) ≡ None
-vanish_parts true true true y z = refl
-vanish_parts true true false y z = refl
-vanish_parts true false true y z = refl
-vanish_parts true false false y z = refl
-vanish_parts false true true y z = refl
-vanish_parts false true false y z = refl
-vanish_parts false false true y z = refl
-vanish_parts false false false y z = refl
-
--- the empty stack without its objects
-pub blank_is : without 2 (without 1 (without 0 empty_stack)) ≡ blank
-blank_is =
-    let objects : (without 2 (without 1 (without 0 empty_stack))).objects ≡ empty = same_map nat_cmp_total nat_cmp-IsAntisymmetric _ _ (λ q. simp gets (vanish (eq_by_cmp nat_cmp q 0) (eq_by_cmp nat_cmp q 1) (eq_by_cmp nat_cmp q 2) (empty_object Stack) (empty_object (Background false)) (empty_object (Card 1 false)))) in
-    let parts : (without 2 (without 1 (without 0 empty_stack))).parts ≡ empty = same_map nat_cmp_total nat_cmp-IsAntisymmetric _ _ (λ q. simp gets (vanish_parts (eq_by_cmp nat_cmp q 0) (eq_by_cmp nat_cmp q 1) (eq_by_cmp nat_cmp q 2) [] [])) in
-    λ i. record empty_stack { objects = objects i; parts = parts i }
-
 -- what is built is the stack that the document lists
 abbrev own : {X : Type 0} → (Kept → Option X) → Sheet → List (Pair × X)
 own pick x = kept_entries pick x.id (kept_on x)
 
-pub built-is : (d : Document) → record (with_stack d.stack (with_sheets true d.backgrounds (with_sheets false d.cards blank))) { next = d.next; backgrounds = sheet_ids d.backgrounds; cards = sheet_ids d.cards } ≡ content_of d
+pub built-is : (d : Document) → record (with_stack d.stack (with_sheets true d.backgrounds (with_sheets false d.cards blank_stack))) { next = d.next; backgrounds = sheet_ids d.backgrounds; cards = sheet_ids d.cards } ≡ content_of d
 built-is d =
     let objects = inserted-empty {R = nat_cmp} (flat_map object_entries d.backgrounds ++ flat_map object_entries d.cards) ∙ inserted-append empty (flat_map object_entries d.backgrounds) (flat_map object_entries d.cards) in
     let parts = inserted-empty {R = nat_cmp} (all_parts d) ∙ inserted-append empty (map parts_entry d.backgrounds) (map parts_entry d.cards) in
@@ -135,6 +106,6 @@ built-is d =
     in
     λ i. record (content_of d) { objects = insert ((sym objects) i) 0 d.stack; parts = (sym parts) i; texts = (sym texts) i; hilites = (sym hilites) i }
 
-pub ordered : (d : Document) (s : Content) (backgrounds cards : List ℕ) → s ≡ with_stack d.stack (with_sheets true d.backgrounds (with_sheets false d.cards blank)) → backgrounds ≡ sheet_ids d.backgrounds → cards ≡ sheet_ids d.cards
+pub ordered : (d : Document) (s : Content) (backgrounds cards : List ℕ) → s ≡ with_stack d.stack (with_sheets true d.backgrounds (with_sheets false d.cards blank_stack)) → backgrounds ≡ sheet_ids d.backgrounds → cards ≡ sheet_ids d.cards
     → record s { next = d.next; backgrounds = backgrounds; cards = cards } ≡ content_of d
 ordered d s backgrounds cards is bs cs = (λ i. record (is i) { next = d.next; backgrounds = bs i; cards = cs i }) ∙ built-is d

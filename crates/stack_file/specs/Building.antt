@@ -1,9 +1,8 @@
 -- A stack with more in it, from the last that a document lists to the first.
 use Rattle.std.specs.Prelude.{ℕ, Bool, true, false, List, [], ◌∷◌, map, flat_map}
 use Rattle.std.specs.declared.cmp.Ordering.{Ordering}
-use Rattle.std.specs.FinMap.{FinMap, empty, insert, remove}
+use Rattle.std.specs.FinMap.{FinMap, insert}
 use Rattle.object_table.specs.Content.{Content}
-use Rattle.object_table.specs.Empty.{empty_stack}
 use Rattle.object_table.specs.declared.object.Object.{Object}
 use Rattle.stack_text.specs.declared.sheets.Kept.{Kept}
 use Rattle.stack_text.specs.declared.sheets.Part.{Part}
@@ -57,11 +56,3 @@ with_sheets shared xs s = record s {
 -- with the stack itself
 abbrev pub with_stack : Object → Content → Content
 with_stack o s = record s { objects = insert s.objects 0 o }
-
--- without an object and its parts
-abbrev pub without : ℕ → Content → Content
-without id s = record s { objects = remove s.objects id; parts = remove s.parts id }
-
--- no object, not even the stack
-abbrev pub blank : Content
-blank = record empty_stack { objects = empty; parts = empty }

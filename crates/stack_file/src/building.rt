@@ -3,11 +3,12 @@
 ghost use Rattle.std.specs.Prelude.{◌≡◌, ◌∷◌, [], true, false, map, IfOk, IfErr, OnOk, Ok};
 ghost use Rattle.std.specs.FinMap.{insert};
 ghost use Rattle.object_table.specs.Content.{Content};
+ghost use Rattle.object_table.specs.Empty.{blank_stack};
 ghost use Rattle.stack_text.specs.Document.{part_ids, sheet_ids};
 ghost use Rattle.stack_text.specs.Listing.{content_of};
 ghost use Rattle.stack_text.specs.Laws.{Spells};
 ghost use Rattle.stack_text.specs.Reading.{Gives, Fails, document_at};
-ghost use Rattle.stack_file.specs.Building.{with_kept, with_parts, with_keepings, with_sheet, with_sheets, card_for as card_for_sheet, with_stack, without, blank};
+ghost use Rattle.stack_file.specs.Building.{with_kept, with_parts, with_keepings, with_sheet, with_sheets, card_for as card_for_sheet, with_stack};
 ghost use Rattle.stack_file.specs.Views.{sheet_seen, text_seen};
 
 use crate::reading::document;
@@ -53,27 +54,6 @@ fn put_hilite(stack: &mut Stack, button: Id, card: Id, lit: bool) -> Result<(), 
     let mut slot = Some(lit);
     stack.swap_hilite(button, card, &mut slot);
     Ok(())
-}
-
-fn clear(stack: &mut Stack, id: Id) -> Result<(), AllocError>
-    ensures { OnOk result (stack.new.content ≡ without id stack.old.content) }
-{
-    stack.open_slot(id)?;
-    stack.swap_object(id, &mut None);
-    stack.swap_parts(id, &mut None);
-    Ok(())
-}
-
-/// A stack without objects.
-#[tactic(auto, using(crate::proofs::Built::blank_is))]
-fn blank_stack(alloc: Global) -> Result<Stack, AllocError>
-    ensures { IfOk result (λ s. s.content ≡ blank) }
-{
-    let mut stack = Stack::new(alloc)?;
-    clear(&mut stack, 0)?;
-    clear(&mut stack, 1)?;
-    clear(&mut stack, 2)?;
-    Ok(stack)
 }
 
 /// What is kept for a part on a card, or on card 0 what is shared.
@@ -191,9 +171,9 @@ fn listed_objects(
     cards: Vec<SheetLines>,
 ) -> Result<Stack, AllocError>
     ensures { IfOk result (λ s. s.content ≡ with_stack object
-        (with_sheets true (map sheet_seen backgrounds.items) (with_sheets false (map sheet_seen cards.items) blank))) }
+        (with_sheets true (map sheet_seen backgrounds.items) (with_sheets false (map sheet_seen cards.items) blank_stack))) }
 {
-    let mut stack = blank_stack(alloc)?;
+    let mut stack = Stack::blank(alloc);
     add_sheets(&mut stack, alloc, false, cards)?;
     add_sheets(&mut stack, alloc, true, backgrounds)?;
     put_object(&mut stack, 0, object)?;

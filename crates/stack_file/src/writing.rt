@@ -1,7 +1,7 @@
 //! Writing the text of a stack, line by line.
 
 ghost use Rattle.std.specs.Prelude.{◌≡◌, ◌∷◌, ◌++◌, [], List, ℕ, All, IsTrue, codes, flat_map, length, map, unwrap_or, false, OnOk, IfOk};
-ghost use Rattle.object_table.specs.Kept.{text_at, hilite_at};
+ghost use Rattle.object_table.specs.PartContents.{text_at, hilite_at};
 ghost use Rattle.object_table.specs.Objects.{has_kind, is_background, is_card, parts_at};
 ghost use Rattle.object_table.specs.WellFormed.{IsWellFormed};
 ghost use Rattle.stack_text.specs.Laws.{Spells, IsOfVersion};
@@ -18,7 +18,7 @@ use crate::put::{
     block, flag_line, hilite_line, layer, name_line, number_line, numbers_line, put_line,
     text_block,
 };
-use object_table::{Id, Kind, Layer, Object, Stack};
+use object_table::{Id, Kind, LayerId, Object, Stack};
 use std::alloc::{AllocError, Global};
 
 /// The text that is kept for a field, empty where none is.
@@ -194,7 +194,7 @@ fn parts_on(stack: &Stack, id: Id) -> &[Id]
     requires { IsTrue (has_kind is_background stack.now.content id) }
     ensures { result.now ≡ parts_at stack.now.content id }
 {
-    match stack.parts(Layer::OfBackground(id)) {
+    match stack.parts(LayerId::OfBackground(id)) {
         Some(parts) => parts.as_slice(),
         None => &[],
     }
@@ -205,7 +205,7 @@ fn parts_of(stack: &Stack, id: Id) -> &[Id]
     requires { IsTrue (has_kind is_card stack.now.content id) }
     ensures { result.now ≡ parts_at stack.now.content id }
 {
-    match stack.parts(Layer::OfCard(id)) {
+    match stack.parts(LayerId::OfCard(id)) {
         Some(parts) => parts.as_slice(),
         None => &[],
     }

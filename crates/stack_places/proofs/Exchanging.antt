@@ -1,10 +1,10 @@
 -- Exchanges in a stack: back and forth, at one place and at two.
 use Rattle.std.proofs.Common.{◌≡◌, ◌≢◌, ◌≤◌, ◌+◌, ◌&&◌, ℕ, Bool, true, false, nat_eq, List, refl, sym, subst, ap, ◌∙◌, arith, Option, Some, None, is_some, option_map, option_and_then, unwrap_or}
-use Rattle.std.proofs.lemmas.Bool.{eqb-true, eq-eqb, false≢true}
+use Rattle.std.proofs.lemmas.Bool.{and_parts, eqb-true, eq-eqb, false≢true}
 use Rattle.std.specs.Cmp.{nat_cmp_total}
 use Rattle.std.specs.FinMap.{get, nat_cmp-IsAntisymmetric}
 use Rattle.object_table.specs.Content.{Content}
-use Rattle.object_table.specs.Kept.{text_at, hilite_at}
+use Rattle.object_table.specs.PartContents.{text_at, hilite_at}
 use Rattle.object_table.specs.Maps.{put_option}
 use Rattle.object_table.specs.Objects.{object_at}
 use Rattle.object_table.specs.Pairs.{Pair}
@@ -20,12 +20,13 @@ use Rattle.stack_places.specs.declared.entry.StackEntry.{StackEntry}
 use Rattle.stack_places.specs.declared.entry.StackEntry.TheVariants.{Prop, FieldText, Hilite, Object, CardOrder, BackgroundOrder, Parts, NextId}
 use Rattle.stack_places.proofs.Settings.{own, own_back, own_again, own_prop, own_apart, own_over, put_over, put_both, put_nowhere, setting_of-prop, as_setting-prop, same_prop-is}
 
-false_true : {A : Type 0} → false ≡ true → A
+-- nothing is both
+pub false_true : {A : Type 0} → false ≡ true → A
 false_true e = absurd (false≢true e)
 
 -- ---- an exchange is a value put at the entry's place
 
-texts_back : (v : Option (List ℕ)) → as_text (option_map (λ t. text t) v) ≡ v
+pub texts_back : (v : Option (List ℕ)) → as_text (option_map (λ t. text t) v) ≡ v
 texts_back None = refl
 texts_back (Some t) = refl
 
@@ -83,14 +84,6 @@ unset s id v h = ap (λ o. record s { objects = put_option s.objects id o }) (pu
 differ : (i j : ℕ) → nat_eq i j ≡ false → i ≢ j
 differ i j h e = false≢true (sym h ∙ eq-eqb i j e)
 
-and_true_left : (a b : Bool) → (a && b) ≡ true → a ≡ true
-and_true_left true b h = refl
-and_true_left false b h = h
-
-and_true_right : (a b : Bool) → (a && b) ≡ true → b ≡ true
-and_true_right true b h = h
-and_true_right false b h = false_true h
-
 pairs_differ : (f c g d : ℕ) → (nat_eq f g && nat_eq c d) ≡ false → ◌≢◌ {A = Pair} (f, c) (g, d)
 pairs_differ f c g d h e =
     let first = eq-eqb f g (λ i. (e i).0) in
@@ -99,8 +92,8 @@ pairs_differ f c g d h e =
 
 same_pair : (f c g d : ℕ) → (nat_eq f g && nat_eq c d) ≡ true → ◌≡◌ {A = Pair} (f, c) (g, d)
 same_pair f c g d h =
-    let first = eqb-true f g (and_true_left (nat_eq f g) (nat_eq c d) h) in
-    let second = eqb-true c d (and_true_right (nat_eq f g) (nat_eq c d) h) in
+    let first = eqb-true f g (and_parts (nat_eq f g) (nat_eq c d) h).0 in
+    let second = eqb-true c d (and_parts (nat_eq f g) (nat_eq c d) h).1 in
     λ i. (first i, second i)
 
 -- ---- back and forth
@@ -237,8 +230,8 @@ taken_apart s e f apart a b = refl
 pub overwritten : (s : Content) (e f : StackEntry) → of_one_place e f ≡ true → exchanged (exchanged s e) f ≡ exchanged s f
 unfolding exchanged of_one_place
 overwritten s (Prop i v) (Prop j w) h =
-    let one = eqb-true i j (and_true_left (nat_eq i j) (of_one_property v w) h) in
-    let same = and_true_right (nat_eq i j) (of_one_property v w) h in
+    let one = eqb-true i j (and_parts (nat_eq i j) (of_one_property v w) h).0 in
+    let same = (and_parts (nat_eq i j) (of_one_property v w) h).1 in
     ap (λ k. with_value_at (with_value_at s k v) j w) one
     ∙ twice s j v w
     ∙ ap (λ o. record s { objects = put_option s.objects j o }) (put_over v w (object_at s j) same)
@@ -257,8 +250,8 @@ overwritten s e f h = false_true h
 pub written_out : (s : Content) (e f : StackEntry) → of_one_place e f ≡ true → entry_weight (taken (exchanged s e) f) ≤ entry_weight (taken s f) + entry_weight e
 unfolding exchanged taken of_one_place entry_weight
 written_out s (Prop i v) (Prop j w) h =
-    let one = eqb-true i j (and_true_left (nat_eq i j) (of_one_property v w) h) in
-    let same = and_true_right (nat_eq i j) (of_one_property v w) h in
+    let one = eqb-true i j (and_parts (nat_eq i j) (of_one_property v w) h).0 in
+    let same = (and_parts (nat_eq i j) (of_one_property v w) h).1 in
     let seen = ap (λ k. setting_size (own w (object_at (with_value_at s k v) j))) one ∙ ap setting_size (seen_same s j v w) in
     omega (arith, seen, own_over v w (object_at s j) same)
 written_out s (FieldText f c v) (FieldText g d w) h =

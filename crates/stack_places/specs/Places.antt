@@ -5,7 +5,7 @@ use Rattle.ht_values.specs.declared.word.Prop.{Prop}
 use Rattle.ht_values.specs.declared.word.Prop.TheVariants as props
 use Rattle.object_table.specs.Content.{Content}
 use Rattle.object_table.specs.Flags.{visible_of, hilite_of, shared_hilite_of, lock_text_of, shared_text_of, cant_delete_of}
-use Rattle.object_table.specs.Kept.{text_at, hilite_at}
+use Rattle.object_table.specs.PartContents.{text_at, hilite_at}
 use Rattle.object_table.specs.Maps.{put_option}
 use Rattle.object_table.specs.Objects.{object_at}
 use Rattle.object_table.specs.Setting.{with_value}

@@ -2,7 +2,7 @@
 use Rattle.std.proofs.Common.{◌≡◌, ◌↔◌, ℕ, Bool, true, false, true≢false, cond, Option, Some, None, IsSome, IsTrue, unwrap_or, refl, sym, ◌∙◌, []}
 use Rattle.std.specs.FinMap.{get, from_entries, same_map, get-from_entries}
 use Rattle.object_table.specs.Content.{Content}
-use Rattle.object_table.specs.Kept.{text_at, hilite_at, keeps_text, keeps_hilite}
+use Rattle.object_table.specs.PartContents.{text_at, hilite_at, keeps_text, keeps_hilite}
 use Rattle.object_table.specs.Pairs.{pair_cmp}
 use Rattle.object_table.specs.WellFormed.{IsWellFormed}
 use Rattle.object_table.proofs.Pairs.{pair_cmp_total, pair_cmp-IsAntisymmetric}

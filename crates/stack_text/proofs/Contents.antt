@@ -10,7 +10,7 @@ use Rattle.std.proofs.lemmas.List.{length-map}
 use Rattle.ht_values.specs.Text.{IsText}
 use Rattle.object_table.specs.Content.{Content}
 use Rattle.object_table.specs.Objects.{is_stack, is_background, is_card, is_card_part, is_background_part, is_layer, has_kind, parts_at, background_of, background_at}
-use Rattle.object_table.specs.Kept.{text_at, hilite_at, keeps_text, keeps_hilite}
+use Rattle.object_table.specs.PartContents.{text_at, hilite_at, keeps_text, keeps_hilite}
 use Rattle.object_table.specs.Pairs.{pair_cmp}
 use Rattle.object_table.specs.WellFormed.{NamesEach, IsWellFormed}
 use Rattle.object_table.specs.declared.object.Object.{Object}

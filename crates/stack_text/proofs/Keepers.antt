@@ -9,7 +9,7 @@ use Rattle.std.proofs.lemmas.List.{map-append, append-nil}
 use Rattle.std.proofs.lemmas.List.Folds.{list_any-append}
 use Rattle.object_table.specs.Content.{Content}
 use Rattle.object_table.specs.Objects.{is_stack, is_background, is_card, is_card_field, is_background_field, is_background_button, is_card_part, is_background_part, is_layer, has_kind, parts_at, background_at, background_of}
-use Rattle.object_table.specs.Kept.{text_at, hilite_at, is_on_background_of, is_kept_for, keeps_text, keeps_hilite}
+use Rattle.object_table.specs.PartContents.{text_at, hilite_at, is_on_background_of, is_kept_for, keeps_text, keeps_hilite}
 use Rattle.object_table.specs.WellFormed.{NamesEach}
 use Rattle.object_table.specs.declared.object.Object.{Object}
 use Rattle.object_table.specs.declared.object.Kind.{Kind}

@@ -2,7 +2,7 @@
 use Rattle.std.specs.Prelude.{◌≡◌, ◌↔◌, ◌⊎◌, ℕ, zero, suc, ◌<◌, true, false, List, [], ◌∷◌, ◌++◌, length, take, Ok, Err, Result, IfSome, ◌==◌, if◌then◌else◌}
 use Rattle.object_table.specs.Content.{Content}
 use Rattle.object_table.specs.Objects.{object_at}
-use Rattle.object_table.specs.Kept.{hilite_at}
+use Rattle.object_table.specs.PartContents.{hilite_at}
 use Rattle.object_table.specs.WellFormed.{IsWellFormed}
 use Rattle.object_table.specs.declared.object.Kind.{Kind}
 use Rattle.object_table.specs.declared.object.Kind.TheVariants.{BackgroundButton}

@@ -1,6 +1,6 @@
 ghost use Rattle.std.specs.Prelude.{◌≡◌, ◌≤◌, None, OnOk, IfOk, IsSome};
 
-use change_journal::{Change, OpenError, PlugError, World};
+use change_journal::{Change, PlugError, World, WorldError};
 use externals::{Ask, External, Input, Patch, Texts};
 use ht_values::Text;
 use object_table::{PropValue, Stack};
@@ -297,7 +297,7 @@ fn plugging<E: External>(
 fn names_refused<E: External>(
     alloc: Global,
     externals: Vec<E>,
-) -> Result<(OpenError, usize), Fail> {
+) -> Result<(WorldError, usize), Fail> {
     match World::open(alloc, Stack::new(alloc)?, externals, 1) {
         Ok(_) => Err("opened".into()),
         Err((error, stack, externals)) => {
@@ -367,6 +367,6 @@ fn plugs_and_names(rt: HostRuntime) -> Result<(), Fail> {
     let mut two: Vec<Turner> = Vec::new(alloc);
     two.push(make_turner(alloc, b"a")?)?;
     two.push(make_turner(alloc, b"A")?)?;
-    assert_eq!(rt; names_refused(alloc, two)?, (OpenError::DuplicateName, 2));
+    assert_eq!(rt; names_refused(alloc, two)?, (WorldError::DuplicateName, 2));
     Ok(())
 }

@@ -1,7 +1,7 @@
 //! Examples, with ample memory, on the empty stack.
 
 use ht_values::Text;
-use object_table::{Id, IdList, Kind, Layer, Object, PropValue, Stack};
+use object_table::{Id, IdList, Kind, LayerId, Object, PropValue, Stack};
 use stack_places::{StackEntry, laws_of_exchanges};
 use std::alloc::Global;
 use std::test::Fail;
@@ -105,7 +105,7 @@ fn parts_and_the_next_id_go_back(rt: HostRuntime) -> Result<(), Fail> {
     stack.open_slot(2)?;
     let mut parts = StackEntry::Parts(2, None);
     parts.exchange(&mut stack);
-    assert!(rt; stack.parts(Layer::OfCard(2)).is_none());
+    assert!(rt; stack.parts(LayerId::OfCard(2)).is_none());
     let mut next = StackEntry::NextId(7);
     next.exchange(&mut stack);
     assert_eq!(rt; stack.next_id(), 7);

@@ -1,7 +1,7 @@
 //! Stack texts, read.
 
 use super::{fault_of, has_kind, has_name, has_parts, has_script, stack_of};
-use object_table::{Layer, Stack};
+use object_table::{LayerId, Stack};
 use stack_file::*;
 use std::alloc::{AllocError, Global};
 use std::test::*;
@@ -84,7 +84,7 @@ const LOCKED: &str = "BackgroundField { visible: true, lock_text: true, shared_t
 const CARD: &str = "Card { background: 1, cant_delete: false }";
 
 fn has_layers(stack: &Stack) -> bool {
-    has_parts(stack, Layer::OfBackground(1), &[3]) && has_parts(stack, Layer::OfCard(4), &[])
+    has_parts(stack, LayerId::OfBackground(1), &[3]) && has_parts(stack, LayerId::OfCard(4), &[])
 }
 
 fn has_kinds(alloc: Global, stack: &Stack) -> Result<bool, Fail> {

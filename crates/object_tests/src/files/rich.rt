@@ -1,7 +1,7 @@
 //! A stack with every kind of object.
 
 use super::{fault_of, has_hilite, has_parts, has_text, is_written, stack_of};
-use object_table::Layer;
+use object_table::LayerId;
 use stack_file::*;
 use std::test::*;
 
@@ -31,7 +31,7 @@ fn a_rich_stack_is_written_as_it_was_read(rt: HostRuntime) -> Result<(), Fail> {
 #[test]
 fn a_rich_stack_has_its_parts(rt: HostRuntime) -> Result<(), Fail> {
     let stack = stack_of(rt.alloc(), RICH)?;
-    assert!(rt; has_parts(&stack, Layer::OfBackground(1), &[5, 6, 7]));
+    assert!(rt; has_parts(&stack, LayerId::OfBackground(1), &[5, 6, 7]));
     Ok(())
 }
 

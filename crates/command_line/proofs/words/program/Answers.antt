@@ -3,6 +3,8 @@ use Rattle.std.proofs.lemmas.Result.{IfOk-weaker}
 use Rattle.clap.specs.Words.{Rule, rule_of, with_rule}
 use Rattle.clap.specs.declared.builder.arg.Arg.{Arg}
 use Rattle.clap.specs.declared.builder.action.ArgAction.TheVariants.{Set}
+use Rattle.change_journal.specs.declared.world.TheConstants.{MOST_DEPTH}
+use Rattle.session.specs.declared.limits.TheConstants.{MOST_STEPS}
 use Rattle.command_line.specs.Words.{stack_rule, number_rule, watch_rule}
 use Rattle.command_line.proofs.words.program.Goals as goal
 
@@ -19,8 +21,8 @@ pub returns : goal.returns
 returns c =
     let stack_arg : c.action-stack.result ≡ set (required c.new.result) = c.action-stack.ensures ∙ ap set c.required.ensures in
     let stack_is : rule_of c.action-stack.result ≡ stack_rule = ap rule_of stack_arg ∙ ap set_rule c.new.ensures.rule in
-    let steps_is : rule_of c.value_parser-steps.result ≡ number_rule (codes "steps") 10000000 = search rules in
-    let depth_is : rule_of c.value_parser-depth.result ≡ number_rule (codes "depth") 1000000 = search rules in
+    let steps_is : rule_of c.value_parser-steps.result ≡ number_rule (codes "steps") MOST_STEPS = search rules in
+    let depth_is : rule_of c.value_parser-depth.result ≡ number_rule (codes "depth") MOST_DEPTH = search rules in
     let watch_is : rule_of c.action-watch.result ≡ watch_rule = search rules in
     let one = c.in_ok-arg.ensures.shape (ap (λ a. a.global) stack_arg ∙ c.new.ensures.optional.1) ∙ ap₂ with_rule c.new-5.ensures.app stack_is in
     let two = c.in_ok-arg-2.ensures.shape (search rules) ∙ ap₂ with_rule one steps_is in

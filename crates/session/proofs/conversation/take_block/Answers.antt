@@ -1,6 +1,8 @@
-use Rattle.std.proofs.Common.{◌≡◌, ◌≤◌, ℕ, ◌+◌, ◌<◌, ◌⊎◌, List, [], ◌∷◌, ◌++◌, length, take, drop, get_or, sym, ◌∙◌, subst, arith, append_assoc, length-drop}
+use Rattle.std.proofs.Common.{◌-◌, ◌≡◌, ◌≤◌, ℕ, ◌+◌, ◌<◌, ◌⊎◌, List, [], ◌∷◌, ◌++◌, length, take, drop, get_or, sym, ◌∙◌, subst, arith, append_assoc, length-drop}
 use Rattle.std.proofs.lemmas.Result.{err_from_is_err_and}
 use Rattle.stack_file.proofs.Known.{Appends-Appends}
+use Rattle.session.specs.declared.conversation.TheConstants.{BLOCK}
+use Rattle.session.specs.declared.limits.TheConstants.{MOST_BYTES, MOST_LINES}
 use Rattle.session.specs.Conversation.{Breaks, Quits}
 use Rattle.session.specs.Intake.{Reached}
 use Rattle.session.specs.TakesLine.{TakesLine}
@@ -16,7 +18,7 @@ parted P read block i written text more lt p =
     subst (λ (t : List ℕ). P (read ++ block) t) (append_assoc written text more) (subst (λ (t : List ℕ). P t ((written ++ text) ++ more)) whole p)
 
 -- less than a block stands behind a byte of it
-behind : (i : ℕ) (block : List ℕ) → length block ≤ 4096 → i < length block → length (drop (i + 1) block) < 4096
+behind : (i : ℕ) (block : List ℕ) → length block ≤ BLOCK → i < length block → length (drop (i + 1) block) < BLOCK
 behind i block most lt = omega (arith, length-drop (i + 1) block)
 
 pub returns-then-is_full-clause-err : goal.returns-then-is_full-clause-err
@@ -25,7 +27,7 @@ returns-then-is_full-clause-err g c =
     let i = c.loop-byte.byte-index in
     let block = c.args.block.now in
     let lt : i < length block = omega arith in
-    let most : (c.loop-byte.intake.lines ≡ 1000000) ⊎ (c.loop-byte.intake.bytes ≡ 1000000000) = c.is_full.ensures.0 c.if-is_full.true in (
+    let most : (c.loop-byte.intake.lines ≡ MOST_LINES) ⊎ (c.loop-byte.intake.bytes ≡ MOST_BYTES) = c.is_full.ensures.0 c.if-is_full.true in (
       inv.0,
       inv.1,
       λ start read written r.
@@ -60,11 +62,11 @@ returns-then-branch-clause-ok g c =
     let lt : i < length block = omega arith in
     let new = c.take_byte.new.session in
     let h = rw c.if-branch.true at c.in_ok-take_byte.ensures.ok in
-    let close : length (drop (i + 1) block) < 4096 = behind i block c.requires lt in (
+    let close : length (drop (i + 1) block) < BLOCK = behind i block c.requires lt in (
       inv.0 ++ h.0,
       Appends-Appends _ _ _ inv.0 h.0 inv.1 h.1,
       λ start read written r.
-          parted (λ (t u : List ℕ). (q : Quits TakesLine ⊥ start t u new) × (length q.taken.ahead ≤ 4095)) read block i written inv.0 h.0 lt
+          parted (λ (t u : List ℕ). (q : Quits TakesLine ⊥ start t u new) × (length q.taken.ahead ≤ BLOCK - 1)) read block i written inv.0 h.0 lt
           (let q = Quits-more start ((read ++ take i block) ++ (get_or block i 0 ∷ [])) ((written ++ inv.0) ++ h.0) new (drop (i + 1) block) close
           (h.2 start (read ++ take i block) (written ++ inv.0) (inv.2 start read written r)) in
           (q.0, omega (arith, q.1, close))),

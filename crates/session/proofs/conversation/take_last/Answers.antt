@@ -2,6 +2,7 @@ use Rattle.std.proofs.Common.{◌≡◌, ◌≤◌, ℕ, ◌<◌, List, [], leng
 use Rattle.std.proofs.lemmas.Bool.Decides.{nat_tests}
 use Rattle.std.proofs.lemmas.Grind.{common_steps}
 use Rattle.std.proofs.lemmas.Result.{err_from_is_err_and}
+use Rattle.session.specs.declared.limits.TheConstants.{MOST_BYTES, MOST_LINES}
 use Rattle.session.specs.Answers.{answer}
 use Rattle.session.specs.Standing.{Standing}
 use Rattle.session.specs.TakesLine.{TakesLine}
@@ -15,8 +16,8 @@ as_kept line pending old reply new e s = subst (λ (t : List ℕ). TakesLine t o
 pub returns-then-is_empty-clause-ok : goal.returns-then-is_empty-clause-ok
 returns-then-is_empty-clause-ok g c =
     let none : length c.args.intake.now.pending.items ≡ 0 = grind (arith, common_steps, nat_tests) in
-    let few : c.args.intake.now.lines ≤ 1000000 = omega arith in
-    let short : c.args.intake.now.bytes ≤ 1000000000 = omega arith in
+    let few : c.args.intake.now.lines ≤ MOST_LINES = omega arith in
+    let short : c.args.intake.now.bytes ≤ MOST_BYTES = omega arith in
     ([], Appends-nothing _, λ start read written r. (none_finishes start read written _ _ _ _ r none few short, tt))
 
 pub returns-in_err-answer_line-clause-err : goal.returns-in_err-answer_line-clause-err
@@ -25,7 +26,7 @@ returns-in_err-answer_line-clause-err g c =
     let old = c.args.intake.now in
     let kept : TakesLine old.pending.items c.args.session.now h.0 c.answer_line.new.session = as_kept _ old.pending.items _ _ _ c.deref.ensures.value h.2 in
     let some : 0 < length old.pending.items = grind (arith, common_steps, nat_tests) in
-    let short : old.bytes ≤ 1000000000 = omega arith in
+    let short : old.bytes ≤ MOST_BYTES = omega arith in
     let p = err_from_is_err_and c.from_residual.result c.from_residual.ensures.1 in
     rw (p.1, p.2)
     (h.1, h.4, λ start read written r. last_breaks start read written c.args.session.now old.pending.items old.lines old.bytes r c.in_err-answer_line.field-0.0 h.0 h.1 c.answer_line.new.session some short kept h.3)
@@ -36,7 +37,7 @@ returns-then-branch-clause-ok g c =
     let old = c.args.intake.now in
     let kept : TakesLine old.pending.items c.args.session.now h.0 c.answer_line.new.session = as_kept _ old.pending.items _ _ _ c.deref.ensures.value h.1 in
     let some : 0 < length old.pending.items = grind (arith, common_steps, nat_tests) in
-    let short : old.bytes ≤ 1000000000 = omega arith in
+    let short : old.bytes ≤ MOST_BYTES = omega arith in
     (answer h.0, h.3, λ start read written r. last_quits start read written c.args.session.now old.pending.items old.lines old.bytes r h.0 c.answer_line.new.session some short kept h.2)
 
 pub returns-clause-ok : goal.returns-clause-ok
@@ -45,5 +46,5 @@ returns-clause-ok g c =
     let old = c.args.intake.now in
     let kept : TakesLine old.pending.items c.args.session.now h.0 c.answer_line.new.session = as_kept _ old.pending.items _ _ _ c.deref.ensures.value h.1 in
     let some : 0 < length old.pending.items = grind (arith, common_steps, nat_tests) in
-    let short : old.bytes ≤ 1000000000 = omega arith in
+    let short : old.bytes ≤ MOST_BYTES = omega arith in
     (answer h.0, h.3, λ start read written r. (last_finishes start read written c.args.session.now old.pending.items old.lines old.bytes r h.0 c.answer_line.new.session some short kept h.2, tt))

@@ -4,38 +4,38 @@ use Rattle.journal_entries.specs.Trails.{IsShort, different, places_in}
 use Rattle.journal_entries.proofs.Trails.{short-own}
 use Rattle.change_journal.specs.History.{committed}
 use Rattle.change_journal.specs.Batches.{history_of, newest, oldest_of}
-use Rattle.change_journal.proofs.Book.{book}
+use Rattle.change_journal.proofs.Journal.{journal}
 use Rattle.change_journal.proofs.Commits.{IsSound-committed, history-committed}
 use Rattle.change_journal.proofs.world.World.commit.Goals as goal
 
 pub invariant_of-self : goal.invariant_of-self
 invariant_of-self g c =
     let w = c.self.inside in
-    let b = book w.present w.oldest w.depth w.batches.items w.cursor in
-    let lot = c.in-Some.batch in
+    let b = journal w.present w.oldest w.depth w.batches.items w.cursor in
+    let batch = c.in-Some.batch in
     let e = c.keep-self-inside.ensures in
-    let items : c.keep-self-inside.new.batches.items ≡ newest w.depth (take w.cursor w.batches.items ++ lot ∷ []) = e.batches ∙ ap (λ xs. newest w.depth (xs ++ lot ∷ [])) c.truncate.ensures.items in
-    let oldest : c.keep-self-inside.result ≡ oldest_of w.depth w.oldest (take w.cursor w.batches.items ++ lot ∷ []) = e.oldest ∙ ap (λ xs. oldest_of w.depth w.oldest (xs ++ lot ∷ [])) c.truncate.ensures.items in
-    let count : c.len-self-inside.result ≡ length (newest w.depth (take w.cursor w.batches.items ++ lot ∷ [])) = omega (arith, c.len-self-inside.ensures, ap length items) in
-    rw (c.in-Some.ensures.after, items, oldest, count) (IsSound-committed b _ _ lot (rw (← c.in-Some.ensures.value) at c.self.invariant))
+    let items : c.keep-self-inside.new.batches.items ≡ newest w.depth (take w.cursor w.batches.items ++ batch ∷ []) = e.batches ∙ ap (λ xs. newest w.depth (xs ++ batch ∷ [])) c.truncate.ensures.items in
+    let oldest : c.keep-self-inside.result ≡ oldest_of w.depth w.oldest (take w.cursor w.batches.items ++ batch ∷ []) = e.oldest ∙ ap (λ xs. oldest_of w.depth w.oldest (xs ++ batch ∷ [])) c.truncate.ensures.items in
+    let count : c.len-self-inside.result ≡ length (newest w.depth (take w.cursor w.batches.items ++ batch ∷ [])) = omega (arith, c.len-self-inside.ensures, ap length items) in
+    rw (c.in-Some.ensures.after, items, oldest, count) (IsSound-committed b _ _ batch (rw (← c.in-Some.ensures.value) at c.self.invariant))
 
 pub returns-in-Some-clause-history : goal.returns-in-Some-clause-history
 returns-in-Some-clause-history g c =
     let w = c.self.inside in
-    let b = book w.present w.oldest w.depth w.batches.items w.cursor in
-    let lot = c.in-Some.batch in
+    let b = journal w.present w.oldest w.depth w.batches.items w.cursor in
+    let batch = c.in-Some.batch in
     let e = c.keep-self-inside.ensures in
-    let items : c.keep-self-inside.new.batches.items ≡ newest w.depth (take w.cursor w.batches.items ++ lot ∷ []) = e.batches ∙ ap (λ xs. newest w.depth (xs ++ lot ∷ [])) c.truncate.ensures.items in
-    let oldest : c.keep-self-inside.result ≡ oldest_of w.depth w.oldest (take w.cursor w.batches.items ++ lot ∷ []) = e.oldest ∙ ap (λ xs. oldest_of w.depth w.oldest (xs ++ lot ∷ [])) c.truncate.ensures.items in
-    let count : c.len-self-inside.result ≡ length (newest w.depth (take w.cursor w.batches.items ++ lot ∷ [])) = omega (arith, c.len-self-inside.ensures, ap length items) in
-    let before : history_of b (Some lot) ≡ c.args.self.now.history = ap (history_of b) c.in-Some.ensures.value ∙ ap (λ j. j.history) c.self.view_is in
-    rw (c.in-Some.ensures.after, items, oldest, count) (history-committed b lot c.self.invariant.within c.self.invariant.few ∙ ap committed before)
+    let items : c.keep-self-inside.new.batches.items ≡ newest w.depth (take w.cursor w.batches.items ++ batch ∷ []) = e.batches ∙ ap (λ xs. newest w.depth (xs ++ batch ∷ [])) c.truncate.ensures.items in
+    let oldest : c.keep-self-inside.result ≡ oldest_of w.depth w.oldest (take w.cursor w.batches.items ++ batch ∷ []) = e.oldest ∙ ap (λ xs. oldest_of w.depth w.oldest (xs ++ batch ∷ [])) c.truncate.ensures.items in
+    let count : c.len-self-inside.result ≡ length (newest w.depth (take w.cursor w.batches.items ++ batch ∷ [])) = omega (arith, c.len-self-inside.ensures, ap length items) in
+    let before : history_of b (Some batch) ≡ c.args.self.now.history = ap (history_of b) c.in-Some.ensures.value ∙ ap (λ j. j.history) c.self.view_is in
+    rw (c.in-Some.ensures.after, items, oldest, count) (history-committed b batch c.self.invariant.within c.self.invariant.few ∙ ap committed before)
 
 pub returns-in-Some-clause-short : goal.returns-in-Some-clause-short
 returns-in-Some-clause-short g c =
     let w = c.self.inside in
-    let b = book w.present w.oldest w.depth w.batches.items w.cursor in
-    let lot = c.in-Some.batch in
+    let b = journal w.present w.oldest w.depth w.batches.items w.cursor in
+    let batch = c.in-Some.batch in
     let sound = rw (← c.in-Some.ensures.value) at c.self.invariant in
-    let before : history_of b (Some lot) ≡ c.args.self.now.history = ap (history_of b) c.in-Some.ensures.value ∙ ap (λ j. j.history) c.self.view_is in
-    subst (λ h. IfSome h.start (λ o. IsShort o.trail (different (places_in o.trail)))) before (short-own (trail_of w.present.names lot.entries) sound.history.start.1)
+    let before : history_of b (Some batch) ≡ c.args.self.now.history = ap (history_of b) c.in-Some.ensures.value ∙ ap (λ j. j.history) c.self.view_is in
+    subst (λ h. IfSome h.start (λ o. IsShort o.trail (different (places_in o.trail)))) before (short-own (trail_of w.present.names batch.entries) sound.history.start.1)

@@ -2,7 +2,7 @@ use Rattle.std.proofs.Common.{◌≡◌, ◌-◌, ◌<◌, None, length, ap, sym
 use Rattle.journal_entries.specs.Exchange.{shape_of}
 use Rattle.change_journal.specs.History.{flipped_back}
 use Rattle.change_journal.specs.Batches.{history_of}
-use Rattle.change_journal.proofs.Book.{book}
+use Rattle.change_journal.proofs.Journal.{journal}
 use Rattle.change_journal.proofs.Ready.{AllReady-get}
 use Rattle.change_journal.proofs.Steps.{length-past, closed}
 use Rattle.change_journal.proofs.Flips.{IsSound-back, history-back}
@@ -11,7 +11,7 @@ use Rattle.change_journal.proofs.world.World.flip_back.Goals as goal
 pub go_back-requires : goal.go_back-requires
 go_back-requires g c =
     let w = c.self.inside in
-    let b = book w.present w.oldest w.depth w.batches.items w.cursor in
+    let b = journal w.present w.oldest w.depth w.batches.items w.cursor in
     let there = length-past b w.«open» c.self.invariant.within ∙ ap (λ j. length j.history.past) c.self.view_is in
     let some : 0 < w.cursor = omega (arith, there, c.requires.there) in
     AllReady-get (shape_of w.present) w.batches.items (w.cursor - 1) c.index_mut.result.now (omega (arith, c.self.invariant.within)) c.index_mut.ensures.value c.self.invariant.ready
@@ -19,7 +19,7 @@ go_back-requires g c =
 pub invariant_of-self : goal.invariant_of-self
 invariant_of-self g c =
     let w = c.self.inside in
-    let b = book w.present w.oldest w.depth w.batches.items w.cursor in
+    let b = journal w.present w.oldest w.depth w.batches.items w.cursor in
     let there = length-past b w.«open» c.self.invariant.within ∙ ap (λ j. length j.history.past) c.self.view_is in
     let some : 0 < w.cursor = omega (arith, there, c.requires.there) in
     let none = closed b w.«open» (ap (λ j. j.history.start) c.self.view_is ∙ c.requires.closed) in
@@ -28,7 +28,7 @@ invariant_of-self g c =
 pub returns : goal.returns
 returns g c =
     let w = c.self.inside in
-    let b = book w.present w.oldest w.depth w.batches.items w.cursor in
+    let b = journal w.present w.oldest w.depth w.batches.items w.cursor in
     let there = length-past b w.«open» c.self.invariant.within ∙ ap (λ j. length j.history.past) c.self.view_is in
     let some : 0 < w.cursor = omega (arith, there, c.requires.there) in
     let last : w.cursor - 1 < length w.batches.items = omega (arith, c.self.invariant.within) in

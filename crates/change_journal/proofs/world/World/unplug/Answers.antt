@@ -1,7 +1,7 @@
 use Rattle.std.proofs.Common.{ap, sym, ◌∙◌, arith}
 use Rattle.std.proofs.lemmas.List.{length-map}
 use Rattle.journal_entries.specs.State.{titles_of}
-use Rattle.change_journal.proofs.Book.{book}
+use Rattle.change_journal.proofs.Journal.{journal}
 use Rattle.change_journal.proofs.Steps.{closed}
 use Rattle.change_journal.proofs.Moves.{IsSound-unplugged, index-within}
 use Rattle.change_journal.proofs.world.World.unplug.Goals as goal
@@ -15,6 +15,6 @@ unplug-requires g c =
 pub invariant_of-self : goal.invariant_of-self
 invariant_of-self g c =
     let w = c.self.inside in
-    let b = book w.present w.oldest w.depth w.batches.items w.cursor in
+    let b = journal w.present w.oldest w.depth w.batches.items w.cursor in
     let none = closed b w.«open» (ap (λ j. j.history.start) c.self.view_is ∙ c.requires) in
-    rw (c.unplug.ensures.held, c.clear.ensures.items, none) (IsSound-unplugged b _ _ _ c.in_ok-i.i (rw none at c.self.invariant))
+    rw (c.unplug.ensures.present, c.clear.ensures.items, none) (IsSound-unplugged b _ _ _ c.in_ok-i.i (rw none at c.self.invariant))

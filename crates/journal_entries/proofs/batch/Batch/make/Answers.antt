@@ -13,8 +13,8 @@ returns-then-holds-clause-ok g c =
       entry = e;
       grows = c.prepare.ensures.grows;
       prepared = c.in_ok-entry.ensures.entry;
-      held = c.exchange.ensures.state;
-      lot = ap (λ es. record c.args.self.now { entries = es }) (sym (kept-held c.args.self.now.entries e (taken mid.names mid.state e) (sym c.holds.ensures ∙ c.if-holds.true)));
+      present = c.exchange.ensures.state;
+      batch = ap (λ es. record c.args.self.now { entries = es }) (sym (kept-held c.args.self.now.entries e (taken mid.names mid.state e) (sym c.holds.ensures ∙ c.if-holds.true)));
     }
 
 pub returns-clause-ok : goal.returns-clause-ok
@@ -26,6 +26,6 @@ returns-clause-ok g c =
       entry = e;
       grows = c.prepare.ensures.grows;
       prepared = c.in_ok-entry.ensures.entry;
-      held = p;
-      lot = q ∙ ap (λ es. record c.args.self.now { entries = es }) (sym (kept-new c.args.self.now.entries e (taken mid.names mid.state e) (sym c.holds.ensures ∙ c.if-holds.false)));
+      present = p;
+      batch = q ∙ ap (λ es. record c.args.self.now { entries = es }) (sym (kept-new c.args.self.now.entries e (taken mid.names mid.state e) (sym c.holds.ensures ∙ c.if-holds.false)));
     }) c.record.ensures.state c.record.ensures.entries

@@ -25,8 +25,8 @@ returns-clause-patch g c =
     let there : c.args.i < length xs = omega (arith, c.requires, ap (λ w. length w.state.externals) c.self.view_is, length-map xs f) in
     rw (← c.self.view_is) (IfOk-weaker c.turn.result _ _ (λ r a. patched f xs c.args.i c.index_mut.result.now c.turn.new.self r.1 there c.index_mut.ensures.value a) c.turn.ensures.patch)
 
-pub returns-clause-held : goal.returns-clause-held
-returns-clause-held g c =
+pub returns-clause-present : goal.returns-clause-present
+returns-clause-present g c =
     let f = seen_by g.E.External.title g.E.External.sort g.E.External.answers_calls g.E.External.cells in
     let xs = c.self.inside.externals.items in
     let there : c.args.i < length xs = omega (arith, c.requires, ap (λ w. length w.state.externals) c.self.view_is, length-map xs f) in

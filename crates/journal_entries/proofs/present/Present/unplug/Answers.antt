@@ -3,8 +3,8 @@ use Rattle.journal_entries.specs.State.{seen_by}
 use Rattle.journal_entries.proofs.Turned.{map-without}
 use Rattle.journal_entries.proofs.present.Present.unplug.Goals as goal
 
-pub returns-clause-held : goal.returns-clause-held
-returns-clause-held g c =
+pub returns-clause-present : goal.returns-clause-present
+returns-clause-present g c =
     let f = seen_by g.E.External.title g.E.External.sort g.E.External.answers_calls g.E.External.cells in
     let xs = c.self.inside.externals.items in
     let items = c.remove.ensures.by_index.2 in

@@ -1,0 +1,12 @@
+use Rattle.std.proofs.Common.{◌≡◌, map, take}
+use Rattle.std.specs.FinMap.{entries, from_entries}
+use Rattle.std.specs.Map.Iter.{deref_pair}
+use Rattle.journal_entries.specs.Named.{listed}
+use Rattle.journal_entries.specs.State.{Globals}
+use Rattle.session.proofs.queries.globals_in_order.Given as goal
+
+-- the globals so far are in order
+abbrev pub invariant-loop-i : goal.invariant-loop-i
+invariant-loop-i g l =
+    let so_far : Globals = from_entries (take l.i (listed l.world.names l.world.history.now.globals)) in
+    map deref_pair l.ordered.entries ≡ entries so_far
