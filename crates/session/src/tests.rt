@@ -4,10 +4,11 @@ ghost use Rattle.std.specs.Prelude.{IfOk};
 ghost use Rattle.object_table.specs.WellFormed.{IsWellFormed};
 
 use crate::*;
+use devices::Watched;
 use externals::{Ask, External, Input, Patch};
 use ht_values::{Fault, Text};
 use object_table::Stack;
-use stack_file::{Watched, read};
+use stack_file::read;
 use std::alloc::{AllocError, Global};
 use std::io;
 use std::io::{Read, Write};
