@@ -4,13 +4,13 @@
 mod backgrounds;
 mod blocks;
 mod building;
+mod document;
 mod forms;
 mod layers;
 mod lines;
 mod parts;
 mod placed;
 mod put;
-mod reading;
 mod sheets;
 mod writing;
 

@@ -10,7 +10,7 @@ use Rattle.stack_text.specs.Document.{Sheet, Document, contains_id, sheet_ids, p
 use Rattle.stack_text.specs.Spelling.{Version, document_text}
 use Rattle.stack_text.specs.Reading.{document_at}
 use Rattle.stack_text.proofs.Forms.{Each, Pairs, adding}
-use Rattle.stack_text.proofs.Members.{IsCardPart, Keeps, SaysKept}
+use Rattle.stack_text.proofs.Members.{IsCardPart, Keeps, SaysContent}
 use Rattle.stack_text.proofs.Parts.{IsSaidPart, IsNewPart}
 use Rattle.stack_text.proofs.Layers.{IsNewBackground, IsNewCard, SaysKeeping}
 use Rattle.stack_text.proofs.Whole.{IsRead, read-found, read-again}
@@ -34,13 +34,13 @@ backgrounds-news v next used (b ∷ bs) h =
       ((record { is = h.0.is; named = h.0.named; parts = each_so (λ x k. k.0) b.parts p.1; none = h.0.none }, q.1.0), (each_so (λ x k. k.1) b.parts p.1, q.1.1)),
     )
 
-pairs_apart : (v : Version) (ps : List Part) (ks : List Keeping) → Pairs (SaysKeeping v) ps ks → Pairs Keeps ps ks × AllByRecursion (λ (k : Keeping). SaysKept v k.kept) ks
+pairs_apart : (v : Version) (ps : List Part) (ks : List Keeping) → Pairs (SaysKeeping v) ps ks → Pairs Keeps ps ks × AllByRecursion (λ (k : Keeping). SaysContent v k.content) ks
 pairs_apart v [] [] h = (tt, tt)
 pairs_apart v [] (k ∷ ks) h = absurd h
 pairs_apart v (p ∷ ps) [] h = absurd h
 pairs_apart v (p ∷ ps) (k ∷ ks) h = let rest = pairs_apart v ps ks h.1 in ((h.0.0, rest.0), (h.0.1, rest.1))
 
-pairs_joined : (v : Version) (ps : List Part) (ks : List Keeping) → Pairs Keeps ps ks → AllByRecursion (λ (k : Keeping). SaysKept v k.kept) ks → Pairs (SaysKeeping v) ps ks
+pairs_joined : (v : Version) (ps : List Part) (ks : List Keeping) → Pairs Keeps ps ks → AllByRecursion (λ (k : Keeping). SaysContent v k.content) ks → Pairs (SaysKeeping v) ps ks
 pairs_joined v [] [] h s = tt
 pairs_joined v [] (k ∷ ks) h s = absurd h
 pairs_joined v (p ∷ ps) [] h s = absurd h

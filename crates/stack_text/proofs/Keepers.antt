@@ -15,11 +15,11 @@ use Rattle.object_table.specs.declared.object.Object.{Object}
 use Rattle.object_table.specs.declared.object.Kind.{Kind}
 use Rattle.object_table.specs.declared.object.Kind.TheVariants.{Stack, Background, Card, CardButton, BackgroundButton, CardField, BackgroundField}
 use Rattle.object_table.proofs.Slots.{tied_apart, tied_same}
-use Rattle.stack_text.specs.declared.sheets.Kept.{Kept}
+use Rattle.stack_text.specs.declared.sheets.PartContent.{PartContent}
 use Rattle.stack_text.specs.declared.sheets.Part.{Part}
 use Rattle.stack_text.specs.declared.sheets.Keeping.{Keeping}
 use Rattle.stack_text.specs.Document.{contains_id, background_or}
-use Rattle.stack_text.specs.Listing.{object_or, kept_by, kept_at, part_of, keeping_of, background_sheet, card_sheet, document_of, kept_on, written, lit}
+use Rattle.stack_text.specs.Listing.{object_or, content_by, content_at, part_of, keeping_of, background_sheet, card_sheet, document_of, contents_on, written, lit}
 use Rattle.stack_text.proofs.Entries.{keys, found_at}
 use Rattle.stack_text.proofs.Rows.{row_of, rows_of, looked_up}
 use Rattle.stack_text.proofs.Stacks.{card_on}
@@ -41,68 +41,68 @@ module _ {X : Type 0} (g : ℕ → X) where
   find-paired q ids = found_at (λ x. Some (g x)) q (paired g ids) (said_of ids) ∙ ap (λ (xs : List ℕ). cond (contains_id q xs) (Some (g q)) None) (keys-paired ids)
 
 module _ (s : Content) where
-  own-paired : (card : ℕ) (ids : List ℕ) → map (λ (p : Part). (p.id, p.kept)) (map (part_of s card) ids) ≡ paired (kept_at s card) ids
+  own-paired : (card : ℕ) (ids : List ℕ) → map (λ (p : Part). (p.id, p.content)) (map (part_of s card) ids) ≡ paired (content_at s card) ids
   own-paired card [] = refl
-  own-paired card (id ∷ ids) = ap (λ (es : List (ℕ × Kept)). (id, kept_at s card id) ∷ es) (own-paired card ids)
+  own-paired card (id ∷ ids) = ap (λ (es : List (ℕ × PartContent)). (id, content_at s card id) ∷ es) (own-paired card ids)
 
-  keepings-paired : (card : ℕ) (ids : List ℕ) → map (λ (k : Keeping). (k.part, k.kept)) (map (keeping_of s card) ids) ≡ paired (kept_at s card) ids
+  keepings-paired : (card : ℕ) (ids : List ℕ) → map (λ (k : Keeping). (k.part, k.content)) (map (keeping_of s card) ids) ≡ paired (content_at s card) ids
   keepings-paired card [] = refl
-  keepings-paired card (id ∷ ids) = ap (λ (es : List (ℕ × Kept)). (id, kept_at s card id) ∷ es) (keepings-paired card ids)
+  keepings-paired card (id ∷ ids) = ap (λ (es : List (ℕ × PartContent)). (id, content_at s card id) ∷ es) (keepings-paired card ids)
 
-  shared-paired : (ids : List ℕ) → flat_map kept_on (map (background_sheet s) ids) ≡ paired (kept_at s 0) (flat_map (parts_at s) ids)
+  shared-paired : (ids : List ℕ) → flat_map contents_on (map (background_sheet s) ids) ≡ paired (content_at s 0) (flat_map (parts_at s) ids)
   shared-paired [] = refl
   shared-paired (id ∷ ids) =
-      ap₂ (λ (a b : List (ℕ × Kept)). a ++ b) (append-nil (map (λ (p : Part). (p.id, p.kept)) (map (part_of s 0) (parts_at s id))) ∙ own-paired 0 (parts_at s id)) (shared-paired ids)
-      ∙ sym (map-append (λ x. (x, kept_at s 0 x)) (parts_at s id) (flat_map (parts_at s) ids))
+      ap₂ (λ (a b : List (ℕ × PartContent)). a ++ b) (append-nil (map (λ (p : Part). (p.id, p.content)) (map (part_of s 0) (parts_at s id))) ∙ own-paired 0 (parts_at s id)) (shared-paired ids)
+      ∙ sym (map-append (λ x. (x, content_at s 0 x)) (parts_at s id) (flat_map (parts_at s) ids))
 
   -- the parts of a card, and of its background
   abbrev on_card : ℕ → List ℕ
   on_card card = parts_at s card ++ parts_at s (background_or (object_or s card).kind)
 
-  card-paired : (card : ℕ) → kept_on (card_sheet s card) ≡ paired (kept_at s card) (on_card card)
+  card-paired : (card : ℕ) → contents_on (card_sheet s card) ≡ paired (content_at s card) (on_card card)
   card-paired card =
-      ap₂ (λ (a b : List (ℕ × Kept)). a ++ b) (own-paired card (parts_at s card)) (keepings-paired card (parts_at s (background_or (object_or s card).kind)))
-      ∙ sym (map-append (λ x. (x, kept_at s card x)) (parts_at s card) (parts_at s (background_or (object_or s card).kind)))
+      ap₂ (λ (a b : List (ℕ × PartContent)). a ++ b) (own-paired card (parts_at s card)) (keepings-paired card (parts_at s (background_or (object_or s card).kind)))
+      ∙ sym (map-append (λ x. (x, content_at s card x)) (parts_at s card) (parts_at s (background_or (object_or s card).kind)))
 
-  rows-paired : (ids : List ℕ) → map row_of (map (card_sheet s) ids) ≡ paired (λ c. kept_on (card_sheet s c)) ids
+  rows-paired : (ids : List ℕ) → map row_of (map (card_sheet s) ids) ≡ paired (λ c. contents_on (card_sheet s c)) ids
   rows-paired [] = refl
-  rows-paired (id ∷ ids) = ap (λ (es : List (ℕ × List (ℕ × Kept))). (id, kept_on (card_sheet s id)) ∷ es) (rows-paired ids)
+  rows-paired (id ∷ ids) = ap (λ (es : List (ℕ × List (ℕ × PartContent))). (id, contents_on (card_sheet s id)) ∷ es) (rows-paired ids)
 
   -- whether the document lists something for a part on a card, or as shared
   abbrev pub is_listed : ℕ → ℕ → Bool
   is_listed part card = cond (card == 0) (contains_id part (flat_map (parts_at s) s.backgrounds)) (contains_id card s.cards && contains_id part (on_card card))
 
-  module _ {X : Type 0} (pick : Kept → Option X) where
-    abbrev seen : Option Kept → Option X
+  module _ {X : Type 0} (pick : PartContent → Option X) where
+    abbrev seen : Option PartContent → Option X
     seen o = option_and_then pick o
 
-    in_row : (part card : ℕ) (b c : Bool) → option_and_then (λ (row : List (ℕ × Kept)). seen (find nat_cmp part row)) (cond b (Some (kept_on (card_sheet s card))) None) ≡ cond (b && contains_id part (on_card card)) (pick (kept_at s card part)) None
+    in_row : (part card : ℕ) (b c : Bool) → option_and_then (λ (row : List (ℕ × PartContent)). seen (find nat_cmp part row)) (cond b (Some (contents_on (card_sheet s card))) None) ≡ cond (b && contains_id part (on_card card)) (pick (content_at s card part)) None
     in_row part card false c = refl
-    in_row part card true c = ap (λ (row : List (ℕ × Kept)). seen (find nat_cmp part row)) (card-paired card) ∙ ap seen (find-paired (kept_at s card) part (on_card card)) ∙ by (contains_id part (on_card card))
+    in_row part card true c = ap (λ (row : List (ℕ × PartContent)). seen (find nat_cmp part row)) (card-paired card) ∙ ap seen (find-paired (content_at s card) part (on_card card)) ∙ by (contains_id part (on_card card))
       where
-        by : (t : Bool) → seen (cond t (Some (kept_at s card part)) None) ≡ cond t (pick (kept_at s card part)) None
+        by : (t : Bool) → seen (cond t (Some (content_at s card part)) None) ≡ cond t (pick (content_at s card part)) None
         by true = refl
         by false = refl
 
     -- what the rows of the document have
-    pub looked_up-listed : (part card : ℕ) → looked_up pick part card (rows_of (document_of s)) ≡ cond (is_listed part card) (pick (kept_at s card part)) None
+    pub looked_up-listed : (part card : ℕ) → looked_up pick part card (rows_of (document_of s)) ≡ cond (is_listed part card) (pick (content_at s card part)) None
     looked_up-listed part card = elim (cases_eq card 0) [
       | inl k ↦
           let here : (card == 0) ≡ true = grind (arith, nat_tests) in
           rw (tied_same card 0 k, here)
-          (ap (λ (row : List (ℕ × Kept)). seen (find nat_cmp part row)) (shared-paired s.backgrounds)
-          ∙ ap seen (find-paired (kept_at s 0) part (flat_map (parts_at s) s.backgrounds))
+          (ap (λ (row : List (ℕ × PartContent)). seen (find nat_cmp part row)) (shared-paired s.backgrounds)
+          ∙ ap seen (find-paired (content_at s 0) part (flat_map (parts_at s) s.backgrounds))
           ∙ by (contains_id part (flat_map (parts_at s) s.backgrounds))
-          ∙ ap (λ (c : ℕ). cond (contains_id part (flat_map (parts_at s) s.backgrounds)) (pick (kept_at s c part)) None) (sym k))
+          ∙ ap (λ (c : ℕ). cond (contains_id part (flat_map (parts_at s) s.backgrounds)) (pick (content_at s c part)) None) (sym k))
       | inr k ↦
           let other : (card == 0) ≡ false = grind (arith, nat_tests) in
           rw (tied_apart card 0 k, other)
-          (ap (λ (rows : List (ℕ × List (ℕ × Kept))). option_and_then (λ (row : List (ℕ × Kept)). seen (find nat_cmp part row)) (find nat_cmp card rows)) (rows-paired s.cards)
-          ∙ ap (option_and_then (λ (row : List (ℕ × Kept)). seen (find nat_cmp part row))) (find-paired (λ c. kept_on (card_sheet s c)) card s.cards)
+          (ap (λ (rows : List (ℕ × List (ℕ × PartContent))). option_and_then (λ (row : List (ℕ × PartContent)). seen (find nat_cmp part row)) (find nat_cmp card rows)) (rows-paired s.cards)
+          ∙ ap (option_and_then (λ (row : List (ℕ × PartContent)). seen (find nat_cmp part row))) (find-paired (λ c. contents_on (card_sheet s c)) card s.cards)
           ∙ in_row part card (contains_id card s.cards) true)
     ]
       where
-        by : (t : Bool) → seen (cond t (Some (kept_at s 0 part)) None) ≡ cond t (pick (kept_at s 0 part)) None
+        by : (t : Bool) → seen (cond t (Some (content_at s 0 part)) None) ≡ cond t (pick (content_at s 0 part)) None
         by true = refl
         by false = refl
 
@@ -273,14 +273,14 @@ module _ (s : Content) (is : HasLayers s) (part card : ℕ) where
   Has k = (p : Kind → Bool) → p Stack ≡ false → has_kind p s part ≡ p k
 
   -- a text where one is kept
-  text_by : (k : Kind) → Has k → cond (is_listed s part card) (written (kept_by k own_text own_lit)) None ≡ cond (keeps_text s part card) (Some own_text) None
+  text_by : (k : Kind) → Has k → cond (is_listed s part card) (written (content_by k own_text own_lit)) None ≡ cond (keeps_text s part card) (Some own_text) None
   text_by k has = go k has
     where
       nothing : {X : Type 0} (b : Bool) → ◌≡◌ {A = Option X} (cond b None None) None
       nothing true = refl
       nothing false = refl
 
-      go : (x : Kind) → Has x → cond (is_listed s part card) (written (kept_by x own_text own_lit)) None ≡ cond (keeps_text s part card) (Some own_text) None
+      go : (x : Kind) → Has x → cond (is_listed s part card) (written (content_by x own_text own_lit)) None ≡ cond (keeps_text s part card) (Some own_text) None
       go (CardField a b) h = rw (own_same s is part card (h is_card_part refl), h is_card_field refl, h is_background_field refl) (by (contains_id part (parts_at s card)))
         where
           by : (t : Bool) → cond t (Some own_text) None ≡ cond ((true && t) || (false && is_kept_for s part card)) (Some own_text) None
@@ -294,14 +294,14 @@ module _ (s : Content) (is : HasLayers s) (part card : ℕ) where
       go (Card b c) h = rw (h is_card_field refl, h is_background_field refl) (nothing (is_listed s part card))
 
   -- a hilite where one is kept
-  hilite_by : (k : Kind) → Has k → cond (is_listed s part card) (lit (kept_by k own_text own_lit)) None ≡ cond (keeps_hilite s part card) (Some own_lit) None
+  hilite_by : (k : Kind) → Has k → cond (is_listed s part card) (lit (content_by k own_text own_lit)) None ≡ cond (keeps_hilite s part card) (Some own_lit) None
   hilite_by k has = go k has
     where
       nothing : {X : Type 0} (b : Bool) → ◌≡◌ {A = Option X} (cond b None None) None
       nothing true = refl
       nothing false = refl
 
-      go : (x : Kind) → Has x → cond (is_listed s part card) (lit (kept_by x own_text own_lit)) None ≡ cond (keeps_hilite s part card) (Some own_lit) None
+      go : (x : Kind) → Has x → cond (is_listed s part card) (lit (content_by x own_text own_lit)) None ≡ cond (keeps_hilite s part card) (Some own_lit) None
       go (BackgroundButton a b) h = rw (shared_same s is part card (h is_background_part refl), h is_background_button refl) refl
       go (CardField a b) h = rw (h is_background_button refl) (nothing (is_listed s part card))
       go (BackgroundField a b c) h = rw (h is_background_button refl) (nothing (is_listed s part card))

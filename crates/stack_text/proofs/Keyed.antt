@@ -11,9 +11,9 @@ use Rattle.std.proofs.lemmas.List.{take_at, drop_at, take-append-drop, get_or-ta
 use Rattle.std.proofs.lemmas.List.Folds.{list_any-append, list_any_none}
 use Rattle.std.proofs.lemmas.List.Quantifiers.{position-Some}
 use Rattle.std.proofs.Math.Seq.{drop-cons}
-use Rattle.stack_text.specs.Reading.{Spot, cut_at, next_line, or_bad_line, line_after, after_prefix, exactly, bad_line_if}
+use Rattle.stack_text.specs.Reading.{Position, cut_at, next_line, or_bad_line, line_after, after_prefix, exactly, bad_line_if}
 use Rattle.stack_text.specs.declared.fault.FileError.{FileError}
-use Rattle.stack_text.proofs.Forms.{onto, spot, Took, Reads, chain_ok, bad_line_if-reads}
+use Rattle.stack_text.proofs.Forms.{onto, position_at, Took, Reads, chain_ok, bad_line_if-reads}
 
 -- a byte stands in a list
 abbrev pub has : ℕ → List ℕ → Bool
@@ -46,29 +46,29 @@ splits_at c bytes i e =
           ap (λ (b : ℕ). eqb b c) same ∙ p.2 k few),
     )
 
-IsOk : {A : Type 0} → Result (A × Spot) FileError → A → Spot → Type 0
+IsOk : {A : Type 0} → Result (A × Position) FileError → A → Position → Type 0
 IsOk r x t = r ≡ Ok (x, t)
 
 -- one line
-pub next_line-found : (s t : Spot) (line : List ℕ) → next_line s ≡ Ok (line, t) → (has 10 line ≡ false) × Took s t (line ∷ []) []
+pub next_line-found : (s t : Position) (line : List ℕ) → next_line s ≡ Ok (line, t) → (has 10 line ≡ false) × Took s t (line ∷ []) []
 unfolding next_line
 next_line-found s t line e = by (position (λ b. b == 10) s.bytes) refl e
   where
     by : (o : Option ℕ) → position (λ b. b == 10) s.bytes ≡ o → cut_at s o ≡ Ok (line, t) → (has 10 line ≡ false) × Took s t (line ∷ []) []
     by None is h = absurd cc
     by (Some i) is h =
-        let p : ◌≡◌ {A = List ℕ × Spot} (take i s.bytes, record s { bytes = drop (i + 1) s.bytes; number = s.number + 1 }) (line, t) = cc in
+        let p : ◌≡◌ {A = List ℕ × Position} (take i s.bytes, record s { bytes = drop (i + 1) s.bytes; number = s.number + 1 }) (line, t) = cc in
         let q = splits_at 10 s.bytes i is in
-        let line-is = ap (λ (z : List ℕ × Spot). z.0) p in
-        let t-is = ap (λ (z : List ℕ × Spot). z.1) p in (
+        let line-is = ap (λ (z : List ℕ × Position). z.0) p in
+        let t-is = ap (λ (z : List ℕ × Position). z.1) p in (
           rw (← line-is) q.1,
           record {
-            bytes = q.0 ∙ ap (λ (z : List ℕ × Spot). z.0 ++ 10 ∷ z.1.bytes) p;
-            used = ap (λ (z : List ℕ × Spot). z.1.used) (sym p);
+            bytes = q.0 ∙ ap (λ (z : List ℕ × Position). z.0 ++ 10 ∷ z.1.bytes) p;
+            used = ap (λ (z : List ℕ × Position). z.1.used) (sym p);
           },
         )
 
-pub next_line-again : (n : ℕ) (used rest line : List ℕ) → has 10 line ≡ false → next_line (spot n used (onto (line ∷ []) rest)) ≡ Ok (line, spot (n + 1) used rest)
+pub next_line-again : (n : ℕ) (used rest line : List ℕ) → has 10 line ≡ false → next_line (position_at n used (onto (line ∷ []) rest)) ≡ Ok (line, position_at (n + 1) used rest)
 unfolding next_line
 next_line-again n used rest line e =
     let len : length line ≡ length line = refl in
@@ -101,17 +101,17 @@ after_prefix-again prefix rest =
     let same = nat_list_eq_equiv.refl prefix in
     rw (take_at prefix rest (length prefix) refl, same, drop_at prefix rest (length prefix) refl) refl
 
-pub or_bad_line_ok : {A : Type 0} (o : Option A) (x : A) (s t : Spot) → or_bad_line o s ≡ Ok (x, t) → (o ≡ Some x) × (s ≡ t)
+pub or_bad_line_ok : {A : Type 0} (o : Option A) (x : A) (s t : Position) → or_bad_line o s ≡ Ok (x, t) → (o ≡ Some x) × (s ≡ t)
 or_bad_line_ok None x s t e = absurd cc
 or_bad_line_ok {A} (Some y) x s t e =
-    let p : ◌≡◌ {A = A × Spot} (y, s) (x, t) = cc in
-    (ap (λ (z : A × Spot). Some z.0) p, ap (λ (z : A × Spot). z.1) p)
+    let p : ◌≡◌ {A = A × Position} (y, s) (x, t) = cc in
+    (ap (λ (z : A × Position). Some z.0) p, ap (λ (z : A × Position). z.1) p)
 
 pub has-append : (c : ℕ) (a b : List ℕ) → has c a ≡ false → has c b ≡ false → has c (a ++ b) ≡ false
 has-append c a b p q = list_any-append (λ x. x == c) a b ∙ rw (p, q) refl
 
 module _ {A : Type 0} (key : List ℕ) (form : List ℕ → Option A) {Holds : A → Type 0} {spell : A → List ℕ} (word : Spelled form Holds spell) (plain : has 10 key ≡ false) where
-  keyed-found : (s t : Spot) (x : A) → line_after key form s ≡ Ok (x, t) → Holds x × Took s t ((key ++ spell x) ∷ []) []
+  keyed-found : (s t : Position) (x : A) → line_after key form s ≡ Ok (x, t) → Holds x × Took s t ((key ++ spell x) ∷ []) []
   keyed-found s t x e =
       let c = chain_ok (next_line s) (λ line. or_bad_line (option_and_then form (after_prefix key line))) x t e in
       let o = or_bad_line_ok (option_and_then form (after_prefix key c.0)) x c.1 t c.3 in
@@ -119,9 +119,9 @@ module _ {A : Type 0} (key : List ℕ) (form : List ℕ → Option A) {Holds : A
       let p = word.found rest x read in
       let line-is : c.0 ≡ key ++ spell x = after_prefix-found key c.0 rest is ∙ ap (λ (w : List ℕ). key ++ w) p.1 in
       let took = (next_line-found s c.1 c.0 c.2).1 in
-      (p.0, subst (λ (z : Spot). Took s z ((key ++ spell x) ∷ []) []) o.1 (subst (λ (l : List ℕ). Took s c.1 (l ∷ []) []) line-is took)))
+      (p.0, subst (λ (z : Position). Took s z ((key ++ spell x) ∷ []) []) o.1 (subst (λ (l : List ℕ). Took s c.1 (l ∷ []) []) line-is took)))
 
-  keyed-again : (n : ℕ) (used rest : List ℕ) (x : A) → Holds x → line_after key form (spot n used (onto ((key ++ spell x) ∷ []) rest)) ≡ Ok (x, spot (n + 1) used rest)
+  keyed-again : (n : ℕ) (used rest : List ℕ) (x : A) → Holds x → line_after key form (position_at n used (onto ((key ++ spell x) ∷ []) rest)) ≡ Ok (x, position_at (n + 1) used rest)
   keyed-again n used rest x h =
       let line = next_line-again n used rest (key ++ spell x) (has-append 10 key (spell x) plain (word.line x h)) in
       rw (line, after_prefix-again key (spell x), word.again x h) refl

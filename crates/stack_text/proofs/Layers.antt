@@ -9,20 +9,20 @@ use Rattle.ht_values.specs.Text.{IsText}
 use Rattle.object_table.specs.Objects.{is_background, is_card, is_background_part, is_card_part, is_part}
 use Rattle.object_table.specs.declared.object.Kind.{Kind}
 use Rattle.object_table.specs.declared.object.Kind.TheVariants.{Stack, Background, Card, CardButton, BackgroundButton, CardField, BackgroundField}
-use Rattle.stack_text.specs.declared.sheets.Kept.{Kept}
-use Rattle.stack_text.specs.declared.sheets.Kept.TheVariants.{Nothing, Written, Lit}
+use Rattle.stack_text.specs.declared.sheets.PartContent.{PartContent}
+use Rattle.stack_text.specs.declared.sheets.PartContent.TheVariants.{Nothing, Written, Lit}
 use Rattle.stack_text.specs.declared.sheets.Part.{Part}
 use Rattle.stack_text.specs.declared.sheets.Keeping.{Keeping}
 use Rattle.stack_text.specs.Words.{number_at, numbered, flagged, block, pieces}
 use Rattle.stack_text.specs.Document.{Sheet, contains_id, sheet_ids, part_ids, ids_on, parts_of, background_or}
-use Rattle.stack_text.specs.Spelling.{Version, first, second, text_or_none, lit_or_not, kept_lines, keeping_lines, cant_delete_of, layer_lines, parts_lines, background_lines, card_lines}
+use Rattle.stack_text.specs.Spelling.{Version, first, second, text_or_none, lit_or_not, content_lines, keeping_lines, cant_delete_of, layer_lines, parts_lines, background_lines, card_lines}
 use Rattle.stack_text.specs.Reading.{for_each, bad_id_if, name_at, flag_at, flag_after, number_after, line_after, pair_at, count_at, new_id, script_at, text_of_pieces, layer_at, background_header_at, background_at, background_part_at, own_text_at, own_hilite_at, keeping_by, keeping_at, card_header_at, card_at, card_part_at, parts_at}
 use Rattle.stack_text.proofs.Forms.{Reads, Each, Pairs, both, after, gives, said, resaid, bad_id_if-reads, for_each-reads}
 use Rattle.stack_text.proofs.Keyed.{keyed, not_false}
 use Rattle.stack_text.proofs.Flags.{number_pairs, counted_fields, lit_buttons}
 use Rattle.stack_text.proofs.Blocks.{text_of_pieces-reads, few}
 use Rattle.stack_text.proofs.Elements.{each_so}
-use Rattle.stack_text.proofs.Members.{IsNamed, Suits, IsCardPart, Keeps, SaysKept}
+use Rattle.stack_text.proofs.Members.{IsNamed, Suits, IsCardPart, Keeps, SaysContent}
 use Rattle.stack_text.proofs.Productions.{name_at-reads, flag_after-reads, number_after-reads, IsNew, new_id-reads}
 use Rattle.stack_text.proofs.Parts.{script-reads, IsSaidPart, IsNewPart, background_part-reads, card_part-reads, parts-reads}
 
@@ -119,75 +119,75 @@ same_id : (n : ℕ) → not (eqb n n) ≡ false
 same_id n = grind (arith, nat_tests)
 
 abbrev own_text : ℕ → List ℕ → Keeping
-own_text due t = record { part = due; kept = Written t }
+own_text due t = record { part = due; content = Written t }
 
-own_text-reads : (due : ℕ) → due < 10 ^ 7 → Reads (own_text_at due) (λ used k. IsText (text_or_none k.kept) × (k ≡ own_text due (text_or_none k.kept))) (λ k. block (numbered (codes "text") due) (text_or_none k.kept)) (λ k. [])
+own_text-reads : (due : ℕ) → due < 10 ^ 7 → Reads (own_text_at due) (λ used k. IsText (text_or_none k.content) × (k ≡ own_text due (text_or_none k.content))) (λ k. block (numbered (codes "text") due) (text_or_none k.content)) (λ k. [])
 unfolding own_text_at
 own_text-reads due small =
     resaid (both (line_after (codes "text ") (pair_at number_at count_at)) _ (keyed (codes "text ") (pair_at number_at count_at) counted_fields refl)
     (λ head. after (bad_id_if (not (head.0 == due))) _ (bad_id_if-reads (not (head.0 == due)))
-    (both (text_of_pieces head.1) _ (text_of_pieces-reads head.1) (λ t. gives (own_text due t)) (λ k. text_or_none k.kept) (λ t used k h. ap (λ (z : Keeping). text_or_none z.kept) h)))
-    (λ k. (due, length (pieces (text_or_none k.kept)))) (λ head used k h. ap₂ (λ (a b : ℕ). (a, b)) (sym (eqb-true _ _ (not_false _ h.0))) h.1.0.1))
-    (λ used k h. ((h.1.1.0.0, h.1.1.1), append-nil (block (numbered (codes "text") due) (text_or_none k.kept)), refl))
-    (λ used k h. ((small, few (text_or_none k.kept) h.0), (same_id due, ((h.0, refl), h.1))))
+    (both (text_of_pieces head.1) _ (text_of_pieces-reads head.1) (λ t. gives (own_text due t)) (λ k. text_or_none k.content) (λ t used k h. ap (λ (z : Keeping). text_or_none z.content) h)))
+    (λ k. (due, length (pieces (text_or_none k.content)))) (λ head used k h. ap₂ (λ (a b : ℕ). (a, b)) (sym (eqb-true _ _ (not_false _ h.0))) h.1.0.1))
+    (λ used k h. ((h.1.1.0.0, h.1.1.1), append-nil (block (numbered (codes "text") due) (text_or_none k.content)), refl))
+    (λ used k h. ((small, few (text_or_none k.content) h.0), (same_id due, ((h.0, refl), h.1))))
 
 abbrev own_hilite : ℕ → Bool → Keeping
-own_hilite due b = record { part = due; kept = Lit b }
+own_hilite due b = record { part = due; content = Lit b }
 
-own_hilite-reads : (due : ℕ) → due < 10 ^ 7 → Reads (own_hilite_at due) (λ used k. k ≡ own_hilite due (lit_or_not k.kept)) (λ k. flagged (numbered (codes "hilite") due) (lit_or_not k.kept) ∷ []) (λ k. [])
+own_hilite-reads : (due : ℕ) → due < 10 ^ 7 → Reads (own_hilite_at due) (λ used k. k ≡ own_hilite due (lit_or_not k.content)) (λ k. flagged (numbered (codes "hilite") due) (lit_or_not k.content) ∷ []) (λ k. [])
 unfolding own_hilite_at
 own_hilite-reads due small =
     said (both (line_after (codes "hilite ") (pair_at number_at flag_at)) _ (keyed (codes "hilite ") (pair_at number_at flag_at) lit_buttons refl)
     (λ head. after (bad_id_if (not (head.0 == due))) _ (bad_id_if-reads (not (head.0 == due))) (gives (own_hilite due head.1)))
-    (λ k. (due, lit_or_not k.kept)) (λ head used k h. ap₂ (λ (a : ℕ) (b : Bool). let pair : ℕ × Bool = (a, b) in pair) (sym (eqb-true _ _ (not_false _ h.0))) (ap (λ (z : Keeping). lit_or_not z.kept) h.1)))
+    (λ k. (due, lit_or_not k.content)) (λ head used k h. ap₂ (λ (a : ℕ) (b : Bool). let pair : ℕ × Bool = (a, b) in pair) (sym (eqb-true _ _ (not_false _ h.0))) (ap (λ (z : Keeping). lit_or_not z.content) h.1)))
     (λ used k h. h.1.1)
     (λ used k h. ((small, tt), (same_id due, h)))
 
 -- what a card keeps for a part of its background, and a version can say
 abbrev pub SaysKeeping : Version → Part → Keeping → Type 0
-SaysKeeping v p k = Keeps p k × SaysKept v k.kept
+SaysKeeping v p k = Keeps p k × SaysContent v k.content
 
-says_text : (v : Version) (t : List ℕ) → SaysKept v (Written t)
+says_text : (v : Version) (t : List ℕ) → SaysContent v (Written t)
 says_text first t = tt
 says_text second t = tt
 
 abbrev KeepsBy : Version → ℕ → Kind → Keeping → Type 0
-KeepsBy v id kind k = ((k.part ≡ id) × Suits kind k.kept) × SaysKept v k.kept
+KeepsBy v id kind k = ((k.part ≡ id) × Suits kind k.content) × SaysContent v k.content
 
-text_is : (a b c : Bool) (x : Kept) → Suits (BackgroundField a b c) x → IsText (text_or_none x) × (x ≡ Written (text_or_none x))
+text_is : (a b c : Bool) (x : PartContent) → Suits (BackgroundField a b c) x → IsText (text_or_none x) × (x ≡ Written (text_or_none x))
 text_is a b c (Written t) h = (h, refl)
 text_is a b c (Lit t) h = absurd h
 text_is a b c Nothing h = absurd h
 
-hilite_is : (a b : Bool) (x : Kept) → Suits (BackgroundButton a b) x → x ≡ Lit (lit_or_not x)
+hilite_is : (a b : Bool) (x : PartContent) → Suits (BackgroundButton a b) x → x ≡ Lit (lit_or_not x)
 hilite_is a b (Lit t) h = refl
 hilite_is a b (Written t) h = absurd h
 hilite_is a b Nothing h = absurd h
 
-unlit : (a b : Bool) (x : Kept) → Suits (BackgroundButton a b) x → SaysKept first x → x ≡ Lit false
+unlit : (a b : Bool) (x : PartContent) → Suits (BackgroundButton a b) x → SaysContent first x → x ≡ Lit false
 unlit a b (Lit t) h says = ap Lit says
 unlit a b (Written t) h says = absurd h
 unlit a b Nothing h says = absurd h
 
-keeping_is : (k : Keeping) (id : ℕ) (x : Kept) → k.part ≡ id → k.kept ≡ x → k ≡ record { part = id; kept = x }
-keeping_is k id x p e = ap₂ (λ (a : ℕ) (b : Kept). let z : Keeping = record { part = a; kept = b } in z) p e
+keeping_is : (k : Keeping) (id : ℕ) (x : PartContent) → k.part ≡ id → k.content ≡ x → k ≡ record { part = id; content = x }
+keeping_is k id x p e = ap₂ (λ (a : ℕ) (b : PartContent). let z : Keeping = record { part = a; content = b } in z) p e
 
-kept_along : (v : Version) (id : ℕ) (k : Keeping) (x : Kept) → k ≡ record { part = id; kept = x } → keeping_lines v k ≡ kept_lines v id x
-kept_along v id k x e = ap (λ (z : Keeping). keeping_lines v z) e
+content_along : (v : Version) (id : ℕ) (k : Keeping) (x : PartContent) → k ≡ record { part = id; content = x } → keeping_lines v k ≡ content_lines v id x
+content_along v id k x e = ap (λ (z : Keeping). keeping_lines v z) e
 
 keeping_by-reads : (v : Version) (id : ℕ) (kind : Kind) → id < 10 ^ 7 → IsTrue (is_background_part kind) → Reads (keeping_by v id kind) (λ used k. KeepsBy v id kind k) (keeping_lines v) (λ k. [])
 keeping_by-reads v id (BackgroundField a b c) small is =
     resaid (own_text-reads id small)
-    (λ used k h. (subst (λ (z : Keeping). KeepsBy v id (BackgroundField a b c) z) (sym h.1) ((refl, h.0), says_text v (text_or_none k.kept)), sym (kept_along v id k (Written (text_or_none k.kept)) h.1), refl))
-    (λ used k h. let t = text_is a b c k.kept h.0.1 in (t.0, keeping_is k id (Written (text_or_none k.kept)) h.0.0 t.1))
+    (λ used k h. (subst (λ (z : Keeping). KeepsBy v id (BackgroundField a b c) z) (sym h.1) ((refl, h.0), says_text v (text_or_none k.content)), sym (content_along v id k (Written (text_or_none k.content)) h.1), refl))
+    (λ used k h. let t = text_is a b c k.content h.0.1 in (t.0, keeping_is k id (Written (text_or_none k.content)) h.0.0 t.1))
 keeping_by-reads second id (BackgroundButton a b) small is =
     resaid (own_hilite-reads id small)
-    (λ used k h. (subst (λ (z : Keeping). KeepsBy second id (BackgroundButton a b) z) (sym h) ((refl, tt), tt), sym (kept_along second id k (Lit (lit_or_not k.kept)) h), refl))
-    (λ used k h. keeping_is k id (Lit (lit_or_not k.kept)) h.0.0 (hilite_is a b k.kept h.0.1))
+    (λ used k h. (subst (λ (z : Keeping). KeepsBy second id (BackgroundButton a b) z) (sym h) ((refl, tt), tt), sym (content_along second id k (Lit (lit_or_not k.content)) h), refl))
+    (λ used k h. keeping_is k id (Lit (lit_or_not k.content)) h.0.0 (hilite_is a b k.content h.0.1))
 keeping_by-reads first id (BackgroundButton a b) small is =
     resaid (gives (own_hilite id false))
-    (λ used k h. (subst (λ (z : Keeping). KeepsBy first id (BackgroundButton a b) z) (sym h) ((refl, tt), refl), sym (kept_along first id k (Lit false) h), refl))
-    (λ used k h. keeping_is k id (Lit false) h.0.0 (unlit a b k.kept h.0.1 h.1))
+    (λ used k h. (subst (λ (z : Keeping). KeepsBy first id (BackgroundButton a b) z) (sym h) ((refl, tt), refl), sym (content_along first id k (Lit false) h), refl))
+    (λ used k h. keeping_is k id (Lit false) h.0.0 (unlit a b k.content h.0.1 h.1))
 keeping_by-reads v id Stack small is = absurd (true≢false (sym is))
 keeping_by-reads v id (Background a) small is = absurd (true≢false (sym is))
 keeping_by-reads v id (Card a b) small is = absurd (true≢false (sym is))

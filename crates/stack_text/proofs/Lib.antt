@@ -13,7 +13,7 @@ pub mod Faults
 pub mod LocalForms
 pub mod Ids
 pub mod Keepers
-pub mod KeptIds
+pub mod ContentIds
 pub mod Keyed
 pub mod Members
 pub mod Listed

@@ -17,7 +17,7 @@ use Rattle.object_table.specs.declared.object.Kind.{Kind}
 use Rattle.object_table.specs.declared.object.Kind.TheVariants.{Stack, Background, Card, CardButton, BackgroundButton, CardField, BackgroundField}
 use Rattle.stack_text.specs.declared.sheets.Part.{Part}
 use Rattle.stack_text.specs.Document.{Sheet, Document, contains_id, parts_of, background_or, backgrounds_of, ids_in}
-use Rattle.stack_text.specs.Listing.{object_or, kept_by, part_of, keeping_of, background_sheet, card_sheet, document_of, object_entries, all_objects, content_of}
+use Rattle.stack_text.specs.Listing.{object_or, content_by, part_of, keeping_of, background_sheet, card_sheet, document_of, object_entries, all_objects, content_of}
 use Rattle.stack_text.proofs.Elements.{each_so, each_map, each_both}
 use Rattle.stack_text.proofs.Counts.{times, times_none, times_some, times_once, once_times}
 use Rattle.stack_text.proofs.Entries.{len_without_first}
@@ -81,7 +81,7 @@ some_text : (o : Option (List ℕ)) → IfSome o IsText → IsText (unwrap_or o 
 some_text None h = no_bytes
 some_text (Some t) h = h
 
-on_background_suits : (k : Kind) (t : List ℕ) (b : Bool) → IsTrue (is_background_part k) → IsText t → Suits k (kept_by k t b)
+on_background_suits : (k : Kind) (t : List ℕ) (b : Bool) → IsTrue (is_background_part k) → IsText t → Suits k (content_by k t b)
 on_background_suits (BackgroundButton v s) t b is h = tt
 on_background_suits (BackgroundField v l s) t b is h = h
 on_background_suits Stack t b is h = absurd (true≢false (sym is))
@@ -90,7 +90,7 @@ on_background_suits (Card x c) t b is h = absurd (true≢false (sym is))
 on_background_suits (CardButton x c) t b is h = absurd (true≢false (sym is))
 on_background_suits (CardField x c) t b is h = absurd (true≢false (sym is))
 
-on_card_suits : (k : Kind) (t : List ℕ) (b : Bool) → IsTrue (is_card_part k) → IsText t → Suits k (kept_by k t b)
+on_card_suits : (k : Kind) (t : List ℕ) (b : Bool) → IsTrue (is_card_part k) → IsText t → Suits k (content_by k t b)
 on_card_suits (CardButton v s) t b is h = tt
 on_card_suits (CardField v l) t b is h = h
 on_card_suits Stack t b is h = absurd (true≢false (sym is))

@@ -13,13 +13,13 @@ use Rattle.object_table.specs.declared.object.Object.{Object}
 use Rattle.object_table.specs.declared.object.Kind.{Kind}
 use Rattle.object_table.specs.declared.object.Kind.TheVariants.{Stack, Background, Card, CardButton, BackgroundButton, CardField, BackgroundField}
 use Rattle.object_table.proofs.Slots.{tied_apart}
-use Rattle.stack_text.specs.declared.sheets.Kept.{Kept}
-use Rattle.stack_text.specs.declared.sheets.Kept.TheVariants.{Nothing, Written, Lit}
+use Rattle.stack_text.specs.declared.sheets.PartContent.{PartContent}
+use Rattle.stack_text.specs.declared.sheets.PartContent.TheVariants.{Nothing, Written, Lit}
 use Rattle.stack_text.specs.declared.sheets.Part.{Part}
 use Rattle.stack_text.specs.declared.sheets.Keeping.{Keeping}
 use Rattle.stack_text.specs.Document.{Sheet, Document, background_or}
 use Rattle.stack_text.specs.Spelling.{Version, first, second}
-use Rattle.stack_text.specs.Listing.{object_or, kept_by, part_of, keeping_of, background_sheet, card_sheet, document_of, kept_on, lit, content_of}
+use Rattle.stack_text.specs.Listing.{object_or, content_by, part_of, keeping_of, background_sheet, card_sheet, document_of, contents_on, lit, content_of}
 use Rattle.stack_text.specs.Laws.{SharesHilite, HasSharedHilites, IsSaidIn}
 use Rattle.stack_text.proofs.Elements.{each_so, each_both, each_append, each_map, each_true}
 use Rattle.stack_text.proofs.Entries.{found_each}
@@ -28,7 +28,7 @@ use Rattle.stack_text.proofs.Listable.{IsCardSheet, IsDocument, SaysParts, SaysK
 use Rattle.stack_text.proofs.Live.{cards_live}
 use Rattle.stack_text.proofs.Rows.{row_of}
 use Rattle.stack_text.proofs.Sorts.{OnSheet, each_object}
-use Rattle.stack_text.proofs.Contents.{at_each, kept-is}
+use Rattle.stack_text.proofs.Contents.{at_each, content-is}
 
 -- ---- from a document
 
@@ -60,7 +60,7 @@ card_part_no_button (BackgroundField a b c) h = tt
 card_part_no_button (BackgroundButton a b) h = absurd (true≢false (sym h))
 
 -- a card's own part has no hilite beside it
-own_unlit : (k : Kind) (x : Kept) → IsTrue (is_card_part k) → Suits k x → Unlit x
+own_unlit : (k : Kind) (x : PartContent) → IsTrue (is_card_part k) → Suits k x → Unlit x
 own_unlit k (Written t) is h = tt
 own_unlit k Nothing is h = tt
 own_unlit (CardButton a b) (Lit l) is h = absurd h
@@ -71,22 +71,22 @@ own_unlit (Card b c) (Lit l) is h = absurd h
 own_unlit (BackgroundField a b c) (Lit l) is h = absurd h
 own_unlit (BackgroundButton a b) (Lit l) is h = absurd (true≢false (sym is))
 
-abbrev AreUnlit : List (ℕ × Kept) → Type 0
-AreUnlit row = AllByRecursion (λ (e : ℕ × Kept). Unlit e.1) row
+abbrev AreUnlit : List (ℕ × PartContent) → Type 0
+AreUnlit row = AllByRecursion (λ (e : ℕ × PartContent). Unlit e.1) row
 
-card-unlit : (bs : List Sheet) (c : Sheet) → IsCardSheet bs c → SaysKeepings first c → AreUnlit (kept_on c)
+card-unlit : (bs : List Sheet) (c : Sheet) → IsCardSheet bs c → SaysKeepings first c → AreUnlit (contents_on c)
 card-unlit bs c is says =
-    each_append _ (map (λ (p : Part). (p.id, p.kept)) c.parts) (map (λ (x : Keeping). (x.part, x.kept)) c.keepings)
-    (each_map _ (λ (p : Part). (p.id, p.kept)) c.parts (each_so {Q = λ (p : Part). Unlit p.kept} (λ p h. own_unlit p.object.kind p.kept h.0 h.1.1) c.parts is.parts))
-    (each_map _ (λ (x : Keeping). (x.part, x.kept)) c.keepings says)
+    each_append _ (map (λ (p : Part). (p.id, p.content)) c.parts) (map (λ (x : Keeping). (x.part, x.content)) c.keepings)
+    (each_map _ (λ (p : Part). (p.id, p.content)) c.parts (each_so {Q = λ (p : Part). Unlit p.content} (λ p h. own_unlit p.object.kind p.content h.0 h.1.1) c.parts is.parts))
+    (each_map _ (λ (x : Keeping). (x.part, x.content)) c.keepings says)
 
-lit_there : (o : Option Kept) → IfSome o Unlit → IfSome (option_and_then lit o) (λ b. b ≡ false)
+lit_there : (o : Option PartContent) → IfSome o Unlit → IfSome (option_and_then lit o) (λ b. b ≡ false)
 lit_there None h = tt
 lit_there (Some (Lit b)) h = h
 lit_there (Some (Written t)) h = tt
 lit_there (Some Nothing) h = tt
 
-unlit_in : (button : ℕ) (o : Option (List (ℕ × Kept))) → IfSome o AreUnlit → IfSome (option_and_then (λ (row : List (ℕ × Kept)). option_and_then lit (find nat_cmp button row)) o) (λ b. b ≡ false)
+unlit_in : (button : ℕ) (o : Option (List (ℕ × PartContent))) → IfSome o AreUnlit → IfSome (option_and_then (λ (row : List (ℕ × PartContent)). option_and_then lit (find nat_cmp button row)) o) (λ b. b ≡ false)
 unlit_in button None h = tt
 unlit_in button (Some row) h = lit_there (find nat_cmp button row) (found_each Unlit button row h)
 
@@ -107,10 +107,10 @@ module _ (d : Document) (is : IsDocument d) where
   unlit-said : Says first d → (button card : ℕ) → IfSome (hilite_at (content_of d) button card) (λ b. (card ≡ 0) ⊎ (b ≡ false))
   unlit-said says button card = elim (cases_eq card 0) [
     | inl k ↦ anyway (hilite_at (content_of d) button card) (card ≡ 0) k
-    | inr k ↦ either_way (hilite_at (content_of d) button card) (card ≡ 0) (subst (λ o. IfSome o (λ b. b ≡ false)) (sym (kept-is d is lit button card)) (rw (tied_apart card 0 k) (unlit_in button (find nat_cmp card (map row_of d.cards)) (found_each AreUnlit card (map row_of d.cards) rows))))
+    | inr k ↦ either_way (hilite_at (content_of d) button card) (card ≡ 0) (subst (λ o. IfSome o (λ b. b ≡ false)) (sym (content-is d is lit button card)) (rw (tied_apart card 0 k) (unlit_in button (find nat_cmp card (map row_of d.cards)) (found_each AreUnlit card (map row_of d.cards) rows))))
   ]
     where
-      rows : AllByRecursion (λ (r : ℕ × List (ℕ × Kept)). AreUnlit r.1) (map row_of d.cards)
+      rows : AllByRecursion (λ (r : ℕ × List (ℕ × PartContent)). AreUnlit r.1) (map row_of d.cards)
       rows = each_map _ row_of d.cards (each_both (card-unlit d.backgrounds) d.cards is.cards says.1)
 
   -- what a version says of a document it can say of its stack
@@ -124,7 +124,7 @@ shares : (o : Option Object) → IfSome o (λ x. SharesHilite x.kind) → Shares
 shares None h = tt
 shares (Some o) h = h
 
-is_unlit : (k : Kind) (t : List ℕ) (o : Option Bool) → IfSome o (λ b. b ≡ false) → Unlit (kept_by k t (unwrap_or o false))
+is_unlit : (k : Kind) (t : List ℕ) (o : Option Bool) → IfSome o (λ b. b ≡ false) → Unlit (content_by k t (unwrap_or o false))
 is_unlit (BackgroundButton a b) t None h = refl
 is_unlit (BackgroundButton a b) t (Some x) h = h
 is_unlit (CardButton a b) t o h = tt

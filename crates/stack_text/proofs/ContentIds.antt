@@ -3,11 +3,11 @@ use Rattle.std.proofs.Common.{◌≡◌, ◌++◌, ℕ, ◌≤◌, Bool, true, f
 use Rattle.std.specs.Prelude.{find, option_map, unwrap_or}
 use Rattle.std.specs.List.{AllByRecursion, IsDistinct, flat_map}
 use Rattle.std.proofs.lemmas.List.{map-append, append-nil}
-use Rattle.stack_text.specs.declared.sheets.Kept.{Kept}
+use Rattle.stack_text.specs.declared.sheets.PartContent.{PartContent}
 use Rattle.stack_text.specs.declared.sheets.Part.{Part}
 use Rattle.stack_text.specs.declared.sheets.Keeping.{Keeping}
 use Rattle.stack_text.specs.Document.{Sheet, Document, part_ids, sheet_ids, parts_of, background_or, ids_in}
-use Rattle.stack_text.specs.Listing.{kept_on}
+use Rattle.stack_text.specs.Listing.{contents_on}
 use Rattle.stack_text.proofs.Counts.{times, times-append, times_once, once_times}
 use Rattle.stack_text.proofs.Elements.{each_map, each_both}
 use Rattle.stack_text.proofs.Entries.{keys}
@@ -29,22 +29,22 @@ each_part_of P (s ∷ ss) id h = by (s.id == id) (each_part_of P ss id h.1)
 abbrev pub keeping_ids : List Keeping → List ℕ
 keeping_ids ks = map (λ k. k.part) ks
 
-keys-own : (ps : List Part) → keys (map (λ (p : Part). (p.id, p.kept)) ps) ≡ part_ids ps
+keys-own : (ps : List Part) → keys (map (λ (p : Part). (p.id, p.content)) ps) ≡ part_ids ps
 keys-own [] = refl
 keys-own (p ∷ ps) = ap (λ ids. p.id ∷ ids) (keys-own ps)
 
-keys-keepings : (ks : List Keeping) → keys (map (λ (k : Keeping). (k.part, k.kept)) ks) ≡ keeping_ids ks
+keys-keepings : (ks : List Keeping) → keys (map (λ (k : Keeping). (k.part, k.content)) ks) ≡ keeping_ids ks
 keys-keepings [] = refl
 keys-keepings (k ∷ ks) = ap (λ ids. k.part ∷ ids) (keys-keepings ks)
 
-keys-kept : (s : Sheet) → keys (kept_on s) ≡ part_ids s.parts ++ keeping_ids s.keepings
-keys-kept s = map-append (λ e. e.0) (map (λ (p : Part). (p.id, p.kept)) s.parts) (map (λ (k : Keeping). (k.part, k.kept)) s.keepings) ∙ ap₂ (λ (a b : List ℕ). a ++ b) (keys-own s.parts) (keys-keepings s.keepings)
+keys-contents : (s : Sheet) → keys (contents_on s) ≡ part_ids s.parts ++ keeping_ids s.keepings
+keys-contents s = map-append (λ e. e.0) (map (λ (p : Part). (p.id, p.content)) s.parts) (map (λ (k : Keeping). (k.part, k.content)) s.keepings) ∙ ap₂ (λ (a b : List ℕ). a ++ b) (keys-own s.parts) (keys-keepings s.keepings)
 
-pub keys-shared : (bs : List Sheet) → AllByRecursion IsBackgroundSheet bs → keys (flat_map kept_on bs) ≡ parts_on bs
+pub keys-shared : (bs : List Sheet) → AllByRecursion IsBackgroundSheet bs → keys (flat_map contents_on bs) ≡ parts_on bs
 keys-shared [] h = refl
 keys-shared (b ∷ bs) h =
-    map-append (λ e. e.0) (kept_on b) (flat_map kept_on bs)
-    ∙ ap₂ (λ (x y : List ℕ). x ++ y) (keys-kept b ∙ ap (λ (ks : List Keeping). part_ids b.parts ++ keeping_ids ks) h.0.none ∙ append-nil (part_ids b.parts)) (keys-shared bs h.1)
+    map-append (λ e. e.0) (contents_on b) (flat_map contents_on bs)
+    ∙ ap₂ (λ (x y : List ℕ). x ++ y) (keys-contents b ∙ ap (λ (ks : List Keeping). part_ids b.parts ++ keeping_ids ks) h.0.none ∙ append-nil (part_ids b.parts)) (keys-shared bs h.1)
 
 ids-kept : (ps : List Part) (ks : List Keeping) → Pairs Keeps ps ks → keeping_ids ks ≡ part_ids ps
 ids-kept [] [] h = refl
@@ -52,8 +52,8 @@ ids-kept [] (k ∷ ks) h = absurd h
 ids-kept (p ∷ ps) [] h = absurd h
 ids-kept (p ∷ ps) (k ∷ ks) h = ap₂ (λ (a : ℕ) (b : List ℕ). a ∷ b) h.0.0 (ids-kept ps ks h.1)
 
-pub keys-card : (bs : List Sheet) (c : Sheet) → IsCardSheet bs c → keys (kept_on c) ≡ part_ids c.parts ++ part_ids (parts_of bs (background_or c.object.kind))
-keys-card bs c h = keys-kept c ∙ ap (λ (ids : List ℕ). part_ids c.parts ++ ids) (ids-kept (parts_of bs (background_or c.object.kind)) c.keepings h.keepings)
+pub keys-card : (bs : List Sheet) (c : Sheet) → IsCardSheet bs c → keys (contents_on c) ≡ part_ids c.parts ++ part_ids (parts_of bs (background_or c.object.kind))
+keys-card bs c h = keys-contents c ∙ ap (λ (ids : List ℕ). part_ids c.parts ++ ids) (ids-kept (parts_of bs (background_or c.object.kind)) c.keepings h.keepings)
 
 keys-rows : (cs : List Sheet) → keys (map row_of cs) ≡ sheet_ids cs
 keys-rows [] = refl
@@ -85,13 +85,13 @@ module _ (d : Document) (is : IsDocument d) where
       subst (λ (ids : List ℕ). IsDistinct nat_eq (0 ∷ ids)) (sym (keys-rows d.cards))
       (once_times (0 ∷ sheet_ids d.cards) (λ q. omega (arith, times_once (0 ∷ ids_in d) (objects_once d is) q, cons_within q 0 (sheet_ids d.cards) (ids_in d) (omega (arith, times-ids q d)))))
 
-  card_once : (c : Sheet) → IsCardSheet d.backgrounds c → IsWithin d.cards c → IsDistinct nat_eq (keys (kept_on c))
+  card_once : (c : Sheet) → IsCardSheet d.backgrounds c → IsWithin d.cards c → IsDistinct nat_eq (keys (contents_on c))
   card_once c card within =
       subst (λ ids. IsDistinct nat_eq ids) (sym (keys-card d.backgrounds c card))
       (once_times (part_ids c.parts ++ part_ids (parts_of d.backgrounds (background_or c.object.kind))) (λ q. omega (arith, all_parts_once d is q, within q, within_one q d.backgrounds (background_or c.object.kind), times-append q (part_ids c.parts) (part_ids (parts_of d.backgrounds (background_or c.object.kind))))))
 
   -- in each row each part stands once
-  pub each_once : AllByRecursion (λ (r : ℕ × List (ℕ × Kept)). IsDistinct nat_eq (keys r.1)) (rows_of d)
+  pub each_once : AllByRecursion (λ (r : ℕ × List (ℕ × PartContent)). IsDistinct nat_eq (keys r.1)) (rows_of d)
   each_once = (
     subst (λ ids. IsDistinct nat_eq ids) (sym (keys-shared d.backgrounds is.backgrounds)) (background_parts_once d is),
     each_map _ row_of d.cards (each_both card_once d.cards is.cards (each_within d.cards d.cards (λ q. omega arith))),
