@@ -71,22 +71,14 @@ module _ (s : Content) where
 
       of_kind : (k : Kind) → IsTrue (is_card k) → background_of k ≡ Some (background_or k)
       of_kind (Card b x) h = refl
-      of_kind Stack h = absurd (true≢false (sym h))
-      of_kind (Background x) h = absurd (true≢false (sym h))
-      of_kind (CardButton x y) h = absurd (true≢false (sym h))
-      of_kind (CardField x y) h = absurd (true≢false (sym h))
-      of_kind (BackgroundButton x y) h = absurd (true≢false (sym h))
-      of_kind (BackgroundField x y z) h = absurd (true≢false (sym h))
+      of_kind k h = absurd (true≢false (sym h))
 
 -- what is kept is a text, where it is one
 abbrev HasText : PartContent → Type 0
 HasText (Written t) = IsText t
-HasText (Lit b) = Unit {0}
-HasText Nothing = Unit {0}
+HasText x = Unit {0}
 
 suits_text : (k : Kind) (x : PartContent) → Suits k x → HasText x
-suits_text k (Lit b) h = tt
-suits_text k Nothing h = tt
 suits_text (CardField v l) (Written t) h = h
 suits_text (BackgroundField v l s) (Written t) h = h
 suits_text Stack (Written t) h = absurd h
@@ -94,6 +86,7 @@ suits_text (Background c) (Written t) h = absurd h
 suits_text (Card b c) (Written t) h = absurd h
 suits_text (CardButton b c) (Written t) h = absurd h
 suits_text (BackgroundButton b c) (Written t) h = absurd h
+suits_text k x h = tt
 
 keepings-texts : (ps : List Part) (ks : List Keeping) → Pairs Keeps ps ks → AllByRecursion (λ (k : Keeping). HasText k.content) ks
 keepings-texts [] [] h = tt
@@ -165,40 +158,20 @@ module _ (d : Document) (is : IsDocument d) where
   on_none k e = subst (λ o. IfSome o (λ b. IsTrue (has_kind is_background (content_of d) b))) (sym e) tt
 
   part_on_none : (k : Kind) → IsTrue (is_background_part k) → background_of k ≡ None
-  part_on_none (BackgroundButton a b) h = refl
-  part_on_none (BackgroundField a b c) h = refl
-  part_on_none Stack h = refl
-  part_on_none (Background c) h = refl
-  part_on_none (CardButton a b) h = refl
-  part_on_none (CardField a b) h = refl
   part_on_none (Card b c) h = absurd (true≢false (sym h))
+  part_on_none k h = refl
 
   card_part_on_none : (k : Kind) → IsTrue (is_card_part k) → background_of k ≡ None
-  card_part_on_none (BackgroundButton a b) h = refl
-  card_part_on_none (BackgroundField a b c) h = refl
-  card_part_on_none Stack h = refl
-  card_part_on_none (Background c) h = refl
-  card_part_on_none (CardButton a b) h = refl
-  card_part_on_none (CardField a b) h = refl
   card_part_on_none (Card b c) h = absurd (true≢false (sym h))
+  card_part_on_none k h = refl
 
   background_on_none : (k : Kind) → IsTrue (is_background k) → background_of k ≡ None
-  background_on_none (Background c) h = refl
-  background_on_none Stack h = refl
-  background_on_none (BackgroundButton a b) h = refl
-  background_on_none (BackgroundField a b c) h = refl
-  background_on_none (CardButton a b) h = refl
-  background_on_none (CardField a b) h = refl
   background_on_none (Card b c) h = absurd (true≢false (sym h))
+  background_on_none k h = refl
 
   card_on_one : (k : Kind) → IsTrue (contains_id (background_or k) (sheet_ids d.backgrounds)) → IfSome (background_of k) (λ b. IsTrue (has_kind is_background (content_of d) b))
   card_on_one (Card b c) h = has is_background _ (ids-background d is) b ∙ h
-  card_on_one Stack h = tt
-  card_on_one (Background c) h = tt
-  card_on_one (BackgroundButton x y) h = tt
-  card_on_one (BackgroundField x y z) h = tt
-  card_on_one (CardButton x y) h = tt
-  card_on_one (CardField x y) h = tt
+  card_on_one k h = tt
 
   cards_are_on : (card : ℕ) → IfSome (background_at (content_of d) card) (λ b. IsTrue (has_kind is_background (content_of d) b))
   cards_are_on card =

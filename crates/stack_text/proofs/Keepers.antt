@@ -150,20 +150,11 @@ never_both p q no' (Some o) h k = no' o.kind h k
 card_or_background : (k : Kind) → IsTrue (is_card_part k) → IsTrue (is_background_part k) → ⊥
 card_or_background (CardButton a b) h k = true≢false (sym k)
 card_or_background (CardField a b) h k = true≢false (sym k)
-card_or_background Stack h k = true≢false (sym h)
-card_or_background (Background c) h k = true≢false (sym h)
-card_or_background (Card b c) h k = true≢false (sym h)
-card_or_background (BackgroundButton a b) h k = true≢false (sym h)
-card_or_background (BackgroundField a b c) h k = true≢false (sym h)
+card_or_background kind h k = true≢false (sym h)
 
 stack_or_card : (k : Kind) → IsTrue (is_stack k) → IsTrue (is_card k) → ⊥
 stack_or_card Stack h k = true≢false (sym k)
-stack_or_card (Background c) h k = true≢false (sym h)
-stack_or_card (Card b c) h k = true≢false (sym h)
-stack_or_card (CardButton a b) h k = true≢false (sym h)
-stack_or_card (CardField a b) h k = true≢false (sym h)
-stack_or_card (BackgroundButton a b) h k = true≢false (sym h)
-stack_or_card (BackgroundField a b c) h k = true≢false (sym h)
+stack_or_card kind h k = true≢false (sym h)
 
 layer_cases : (o : Option Object) → IsTrue (passing is_layer o) → IsTrue (passing is_background o) ⊎ IsTrue (passing is_card o)
 layer_cases None h = inl h
@@ -180,12 +171,7 @@ card_background (Some o) h = by o.kind h
   where
     by : (k : Kind) → IsTrue (is_card k) → background_of k ≡ Some (background_or k)
     by (Card b c) e = refl
-    by Stack e = absurd (true≢false (sym e))
-    by (Background c) e = absurd (true≢false (sym e))
-    by (CardButton a b) e = absurd (true≢false (sym e))
-    by (CardField a b) e = absurd (true≢false (sym e))
-    by (BackgroundButton a b) e = absurd (true≢false (sym e))
-    by (BackgroundField a b c) e = absurd (true≢false (sym e))
+    by k e = absurd (true≢false (sym e))
 
 module _ (s : Content) (is : HasLayers s) where
   not_zero : (card : ℕ) → IsTrue (has_kind is_card s card) → (card == 0) ≡ false
@@ -287,11 +273,7 @@ module _ (s : Content) (is : HasLayers s) (part card : ℕ) where
           by true = refl
           by false = refl
       go (BackgroundField a b c) h = rw (shared_same s is part card (h is_background_part refl), h is_card_field refl, h is_background_field refl) refl
-      go (CardButton a b) h = rw (h is_card_field refl, h is_background_field refl) (nothing (is_listed s part card))
-      go (BackgroundButton a b) h = rw (h is_card_field refl, h is_background_field refl) (nothing (is_listed s part card))
-      go Stack h = rw (h is_card_field refl, h is_background_field refl) (nothing (is_listed s part card))
-      go (Background c) h = rw (h is_card_field refl, h is_background_field refl) (nothing (is_listed s part card))
-      go (Card b c) h = rw (h is_card_field refl, h is_background_field refl) (nothing (is_listed s part card))
+      go k h = rw (h is_card_field refl, h is_background_field refl) (nothing (is_listed s part card))
 
   -- a hilite where one is kept
   hilite_by : (k : Kind) → Has k → cond (is_listed s part card) (lit (content_by k own_text own_lit)) None ≡ cond (keeps_hilite s part card) (Some own_lit) None
@@ -303,12 +285,7 @@ module _ (s : Content) (is : HasLayers s) (part card : ℕ) where
 
       go : (x : Kind) → Has x → cond (is_listed s part card) (lit (content_by x own_text own_lit)) None ≡ cond (keeps_hilite s part card) (Some own_lit) None
       go (BackgroundButton a b) h = rw (shared_same s is part card (h is_background_part refl), h is_background_button refl) refl
-      go (CardField a b) h = rw (h is_background_button refl) (nothing (is_listed s part card))
-      go (BackgroundField a b c) h = rw (h is_background_button refl) (nothing (is_listed s part card))
-      go (CardButton a b) h = rw (h is_background_button refl) (nothing (is_listed s part card))
-      go Stack h = rw (h is_background_button refl) (nothing (is_listed s part card))
-      go (Background c) h = rw (h is_background_button refl) (nothing (is_listed s part card))
-      go (Card b c) h = rw (h is_background_button refl) (nothing (is_listed s part card))
+      go k h = rw (h is_background_button refl) (nothing (is_listed s part card))
 
   kinds_of : (o : Option Object) (p : Kind → Bool) → p Stack ≡ false → passing p o ≡ p (unwrap_or o (record { name = []; script = []; kind = Stack })).kind
   kinds_of None p e = sym e

@@ -13,7 +13,8 @@ use Rattle.stack_text.specs.declared.sheets.PartContent.{PartContent}
 use Rattle.stack_text.specs.declared.sheets.PartContent.TheVariants.{Nothing, Written, Lit}
 use Rattle.stack_text.specs.declared.sheets.Part.{Part}
 use Rattle.stack_text.specs.declared.sheets.Keeping.{Keeping}
-use Rattle.stack_text.specs.Words.{number_at, numbered, flagged, block, pieces}
+use Rattle.ht_values.specs.Delimited.{delimited}
+use Rattle.stack_text.specs.Words.{number_at, numbered, flagged, block}
 use Rattle.stack_text.specs.Document.{Sheet, contains_id, sheet_ids, part_ids, ids_on, parts_of, background_or}
 use Rattle.stack_text.specs.Spelling.{Version, first, second, text_or_none, lit_or_not, content_lines, keeping_lines, cant_delete_of, layer_lines, parts_lines, background_lines, card_lines}
 use Rattle.stack_text.specs.Reading.{for_each, bad_id_if, name_at, flag_at, flag_after, number_after, line_after, pair_at, count_at, new_id, script_at, text_of_pieces, layer_at, background_header_at, background_at, background_part_at, own_text_at, own_hilite_at, keeping_by, keeping_at, card_header_at, card_at, card_part_at, parts_at}
@@ -61,11 +62,7 @@ background_parts v p h = by p.object.kind h.0.0
     by : (k : Kind) → IsTrue (is_background_part k) → IsTrue (is_part k)
     by (BackgroundButton a b) e = refl
     by (BackgroundField a b c) e = refl
-    by Stack e = absurd (true≢false (sym e))
-    by (Background c) e = absurd (true≢false (sym e))
-    by (Card b c) e = absurd (true≢false (sym e))
-    by (CardButton a b) e = absurd (true≢false (sym e))
-    by (CardField a b) e = absurd (true≢false (sym e))
+    by k e = absurd (true≢false (sym e))
 
 card_parts : (p : Part) → IsCardPart p → IsTrue (is_part p.object.kind)
 card_parts p h = by p.object.kind h.0
@@ -73,11 +70,7 @@ card_parts p h = by p.object.kind h.0
     by : (k : Kind) → IsTrue (is_card_part k) → IsTrue (is_part k)
     by (CardButton a b) e = refl
     by (CardField a b) e = refl
-    by Stack e = absurd (true≢false (sym e))
-    by (Background c) e = absurd (true≢false (sym e))
-    by (Card b c) e = absurd (true≢false (sym e))
-    by (BackgroundButton a b) e = absurd (true≢false (sym e))
-    by (BackgroundField a b c) e = absurd (true≢false (sym e))
+    by k e = absurd (true≢false (sym e))
 
 abbrev background : ℕ → List ℕ × Bool × List ℕ → List Part → Sheet
 background id layer parts = record { id = id; object = record { name = layer.0; script = layer.2; kind = Background layer.1 }; parts = parts; keepings = [] }
@@ -90,12 +83,7 @@ background_is y is none = by y.object.kind y.keepings is none
   where
     by : (k : Kind) (ks : List Keeping) → IsTrue (is_background k) → ks ≡ [] → ◌≡◌ {A = Sheet} (record { id = y.id; object = record { name = y.object.name; script = y.object.script; kind = k }; parts = y.parts; keepings = ks }) (background y.id (y.object.name, cant_delete_of k, y.object.script) y.parts)
     by (Background c) ks e h = ap (λ (z : List Keeping). let s : Sheet = record { id = y.id; object = record { name = y.object.name; script = y.object.script; kind = Background c }; parts = y.parts; keepings = z } in s) h
-    by Stack ks e h = absurd (true≢false (sym e))
-    by (Card b c) ks e h = absurd (true≢false (sym e))
-    by (CardButton a b) ks e h = absurd (true≢false (sym e))
-    by (CardField a b) ks e h = absurd (true≢false (sym e))
-    by (BackgroundButton a b) ks e h = absurd (true≢false (sym e))
-    by (BackgroundField a b c) ks e h = absurd (true≢false (sym e))
+    by k ks e h = absurd (true≢false (sym e))
 
 pub background-reads : (v : Version) (next : ℕ) → Reads (background_at v next) (IsNewBackground v next) (background_lines v) ids_on
 unfolding background_at
@@ -127,7 +115,7 @@ own_text-reads due small =
     resaid (both (line_after (codes "text ") (pair_at number_at count_at)) _ (keyed (codes "text ") (pair_at number_at count_at) counted_fields refl)
     (λ head. after (bad_id_if (not (head.0 == due))) _ (bad_id_if-reads (not (head.0 == due)))
     (both (text_of_pieces head.1) _ (text_of_pieces-reads head.1) (λ t. gives (own_text due t)) (λ k. text_or_none k.content) (λ t used k h. ap (λ (z : Keeping). text_or_none z.content) h)))
-    (λ k. (due, length (pieces (text_or_none k.content)))) (λ head used k h. ap₂ (λ (a b : ℕ). (a, b)) (sym (eqb-true _ _ (not_false _ h.0))) h.1.0.1))
+    (λ k. (due, length (delimited 13 (text_or_none k.content)))) (λ head used k h. ap₂ (λ (a b : ℕ). (a, b)) (sym (eqb-true _ _ (not_false _ h.0))) h.1.0.1))
     (λ used k h. ((h.1.1.0.0, h.1.1.1), append-nil (block (numbered (codes "text") due) (text_or_none k.content)), refl))
     (λ used k h. ((small, few (text_or_none k.content) h.0), (same_id due, ((h.0, refl), h.1))))
 
@@ -156,18 +144,15 @@ KeepsBy v id kind k = ((k.part ≡ id) × Suits kind k.content) × SaysContent v
 
 text_is : (a b c : Bool) (x : PartContent) → Suits (BackgroundField a b c) x → IsText (text_or_none x) × (x ≡ Written (text_or_none x))
 text_is a b c (Written t) h = (h, refl)
-text_is a b c (Lit t) h = absurd h
-text_is a b c Nothing h = absurd h
+text_is a b c x h = absurd h
 
 hilite_is : (a b : Bool) (x : PartContent) → Suits (BackgroundButton a b) x → x ≡ Lit (lit_or_not x)
 hilite_is a b (Lit t) h = refl
-hilite_is a b (Written t) h = absurd h
-hilite_is a b Nothing h = absurd h
+hilite_is a b x h = absurd h
 
 unlit : (a b : Bool) (x : PartContent) → Suits (BackgroundButton a b) x → SaysContent first x → x ≡ Lit false
 unlit a b (Lit t) h says = ap Lit says
-unlit a b (Written t) h says = absurd h
-unlit a b Nothing h says = absurd h
+unlit a b x h says = absurd h
 
 keeping_is : (k : Keeping) (id : ℕ) (x : PartContent) → k.part ≡ id → k.content ≡ x → k ≡ record { part = id; content = x }
 keeping_is k id x p e = ap₂ (λ (a : ℕ) (b : PartContent). let z : Keeping = record { part = a; content = b } in z) p e
@@ -188,11 +173,7 @@ keeping_by-reads first id (BackgroundButton a b) small is =
     resaid (gives (own_hilite id false))
     (λ used k h. (subst (λ (z : Keeping). KeepsBy first id (BackgroundButton a b) z) (sym h) ((refl, tt), refl), sym (content_along first id k (Lit false) h), refl))
     (λ used k h. keeping_is k id (Lit false) h.0.0 (unlit a b k.content h.0.1 h.1))
-keeping_by-reads v id Stack small is = absurd (true≢false (sym is))
-keeping_by-reads v id (Background a) small is = absurd (true≢false (sym is))
-keeping_by-reads v id (Card a b) small is = absurd (true≢false (sym is))
-keeping_by-reads v id (CardButton a b) small is = absurd (true≢false (sym is))
-keeping_by-reads v id (CardField a b) small is = absurd (true≢false (sym is))
+keeping_by-reads v id k small is = absurd (true≢false (sym is))
 
 -- ---- cards
 
@@ -240,12 +221,7 @@ card_is y is = by y.object.kind is
   where
     by : (k : Kind) → IsTrue (is_card k) → ◌≡◌ {A = Sheet} (record { id = y.id; object = record { name = y.object.name; script = y.object.script; kind = k }; parts = y.parts; keepings = y.keepings }) (card (y.id, background_or k) (y.object.name, cant_delete_of k, y.object.script) y.parts y.keepings)
     by (Card b c) e = refl
-    by Stack e = absurd (true≢false (sym e))
-    by (Background c) e = absurd (true≢false (sym e))
-    by (CardButton a b) e = absurd (true≢false (sym e))
-    by (CardField a b) e = absurd (true≢false (sym e))
-    by (BackgroundButton a b) e = absurd (true≢false (sym e))
-    by (BackgroundField a b c) e = absurd (true≢false (sym e))
+    by k e = absurd (true≢false (sym e))
 
 pub card-reads : (v : Version) (next : ℕ) (backgrounds : List Sheet) → AreKeptFor backgrounds → Reads (card_at v next backgrounds) (IsNewCard v next backgrounds) (card_lines v) ids_on
 unfolding card_at

@@ -62,35 +62,10 @@ module _ (d : Document) (is : IsDocument d) where
 -- what suits a kind is told by its text and its hilite
 pub content_again : (k : Kind) (x : PartContent) → Suits k x → content_by k (unwrap_or (written x) []) (unwrap_or (lit x) false) ≡ x
 content_again (BackgroundButton v s) (Lit b) h = refl
-content_again (BackgroundButton v s) (Written t) h = absurd h
-content_again (BackgroundButton v s) Nothing h = absurd h
 content_again (CardField v l) (Written t) h = refl
-content_again (CardField v l) (Lit b) h = absurd h
-content_again (CardField v l) Nothing h = absurd h
 content_again (BackgroundField v l s) (Written t) h = refl
-content_again (BackgroundField v l s) (Lit b) h = absurd h
-content_again (BackgroundField v l s) Nothing h = absurd h
 content_again (CardButton v b) Nothing h = refl
-content_again (CardButton v b) (Lit t) h = absurd h
-content_again (CardButton v b) (Written t) h = absurd h
-content_again Stack x h = absurd (none x h)
-  where
-    none : (y : PartContent) → Suits Stack y → ⊥
-    none Nothing h = h
-    none (Lit b) h = h
-    none (Written t) h = h
-content_again (Background c) x h = absurd (none x h)
-  where
-    none : (y : PartContent) → Suits (Background c) y → ⊥
-    none Nothing h = h
-    none (Lit b) h = h
-    none (Written t) h = h
-content_again (Card b c) x h = absurd (none x h)
-  where
-    none : (y : PartContent) → Suits (Card b c) y → ⊥
-    none Nothing h = h
-    none (Lit b) h = h
-    none (Written t) h = h
+content_again k x h = absurd h
 
 -- The sheets of a stack that has the entries are the sheets that these were made of.
 module _ (s : Content) where

@@ -126,11 +126,7 @@ keeping-local : (v : Version) (id : ℕ) (kind : Kind) → IsLocal (keeping_by v
 keeping-local v id (BackgroundField l t s) = own_text-local id
 keeping-local second id (BackgroundButton l s) = own_hilite-local id
 keeping-local first id (BackgroundButton l s) = give-local _
-keeping-local v id Stack = give-local _
-keeping-local v id (Background c) = give-local _
-keeping-local v id (Card b c) = give-local _
-keeping-local v id (CardButton l h) = give-local _
-keeping-local v id (CardField l t) = give-local _
+keeping-local v id k = give-local _
 
 card-local : (v : Version) (next : ℕ) (bs : List Sheet) → IsLocal (card_at v next bs)
 unfolding card_at card_header_at

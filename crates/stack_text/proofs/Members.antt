@@ -42,8 +42,7 @@ SaysKind second kind = Unit {0}
 
 abbrev pub Unlit : PartContent → Type 0
 Unlit (Lit b) = b ≡ false
-Unlit (Written t) = Unit {0}
-Unlit Nothing = Unit {0}
+Unlit x = Unit {0}
 
 abbrev pub SaysContent : Version → PartContent → Type 0
 SaysContent first content = Unlit content

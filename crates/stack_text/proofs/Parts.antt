@@ -195,47 +195,27 @@ IsSaidPart v p = IsBackgroundPart p × SaysKind v p.object.kind
 
 background_button_is : (v : Version) (id : ℕ) (n s : List ℕ) (x : PartContent) (k : Kind) → IsTrue (is_background_part k) → part_kind k ≡ Button → Suits k x → SaysKind v k → SaysFlag v (second_flag k) × (whole id n s x k ≡ background_button id n (visible_in k) (second_flag k) (lit_or_not x) s)
 background_button_is v id n s (Lit b) (BackgroundButton a c) is kind suits says = (says_kind v a c says, refl)
-background_button_is v id n s (Written t) (BackgroundButton a c) is kind suits says = absurd suits
-background_button_is v id n s Nothing (BackgroundButton a c) is kind suits says = absurd suits
+background_button_is v id n s x (BackgroundButton a c) is kind suits says = absurd suits
 background_button_is v id n s x (BackgroundField a b c) is kind suits says = absurd cc
-background_button_is v id n s x (CardButton a b) is kind suits says = absurd (true≢false (sym is))
-background_button_is v id n s x (CardField a b) is kind suits says = absurd (true≢false (sym is))
-background_button_is v id n s x Stack is kind suits says = absurd (true≢false (sym is))
-background_button_is v id n s x (Background a) is kind suits says = absurd (true≢false (sym is))
-background_button_is v id n s x (Card a b) is kind suits says = absurd (true≢false (sym is))
+background_button_is v id n s x k is kind suits says = absurd (true≢false (sym is))
 
 background_field_is : (id : ℕ) (n s : List ℕ) (x : PartContent) (k : Kind) → IsTrue (is_background_part k) → part_kind k ≡ Field → Suits k x → IsText (text_or_none x) × (whole id n s x k ≡ background_field id n (visible_in k) (second_flag k) (third_flag k) s (text_or_none x))
 background_field_is id n s (Written t) (BackgroundField a b c) is kind suits = (suits, refl)
-background_field_is id n s (Lit t) (BackgroundField a b c) is kind suits = absurd suits
-background_field_is id n s Nothing (BackgroundField a b c) is kind suits = absurd suits
+background_field_is id n s x (BackgroundField a b c) is kind suits = absurd suits
 background_field_is id n s x (BackgroundButton a c) is kind suits = absurd cc
-background_field_is id n s x (CardButton a b) is kind suits = absurd (true≢false (sym is))
-background_field_is id n s x (CardField a b) is kind suits = absurd (true≢false (sym is))
-background_field_is id n s x Stack is kind suits = absurd (true≢false (sym is))
-background_field_is id n s x (Background a) is kind suits = absurd (true≢false (sym is))
-background_field_is id n s x (Card a b) is kind suits = absurd (true≢false (sym is))
+background_field_is id n s x k is kind suits = absurd (true≢false (sym is))
 
 card_button_is : (id : ℕ) (n s : List ℕ) (x : PartContent) (k : Kind) → IsTrue (is_card_part k) → part_kind k ≡ Button → Suits k x → whole id n s x k ≡ card_button id n (visible_in k) (second_flag k) s
 card_button_is id n s Nothing (CardButton a b) is kind suits = refl
-card_button_is id n s (Lit t) (CardButton a b) is kind suits = absurd suits
-card_button_is id n s (Written t) (CardButton a b) is kind suits = absurd suits
+card_button_is id n s x (CardButton a b) is kind suits = absurd suits
 card_button_is id n s x (CardField a b) is kind suits = absurd cc
-card_button_is id n s x (BackgroundButton a c) is kind suits = absurd (true≢false (sym is))
-card_button_is id n s x (BackgroundField a b c) is kind suits = absurd (true≢false (sym is))
-card_button_is id n s x Stack is kind suits = absurd (true≢false (sym is))
-card_button_is id n s x (Background a) is kind suits = absurd (true≢false (sym is))
-card_button_is id n s x (Card a b) is kind suits = absurd (true≢false (sym is))
+card_button_is id n s x k is kind suits = absurd (true≢false (sym is))
 
 card_field_is : (id : ℕ) (n s : List ℕ) (x : PartContent) (k : Kind) → IsTrue (is_card_part k) → part_kind k ≡ Field → Suits k x → IsText (text_or_none x) × (whole id n s x k ≡ card_field id n (visible_in k) (second_flag k) s (text_or_none x))
 card_field_is id n s (Written t) (CardField a b) is kind suits = (suits, refl)
-card_field_is id n s (Lit t) (CardField a b) is kind suits = absurd suits
-card_field_is id n s Nothing (CardField a b) is kind suits = absurd suits
+card_field_is id n s x (CardField a b) is kind suits = absurd suits
 card_field_is id n s x (CardButton a b) is kind suits = absurd cc
-card_field_is id n s x (BackgroundButton a c) is kind suits = absurd (true≢false (sym is))
-card_field_is id n s x (BackgroundField a b c) is kind suits = absurd (true≢false (sym is))
-card_field_is id n s x Stack is kind suits = absurd (true≢false (sym is))
-card_field_is id n s x (Background a) is kind suits = absurd (true≢false (sym is))
-card_field_is id n s x (Card a b) is kind suits = absurd (true≢false (sym is))
+card_field_is id n s x k is kind suits = absurd (true≢false (sym is))
 
 -- a part of which this holds, of the kind and the id of its header
 abbrev pub Of : (Part → Type 0) → PartKind × ℕ → Part → Type 0
@@ -266,13 +246,10 @@ card_part-reads v (Field, id) =
 -- ---- a part with its header
 
 with_header : (v : Version) (id : ℕ) (n s : List ℕ) (x : PartContent) (k : Kind) → IsTrue (is_part k) → part_word (part_kind k, id) ∷ behind (part_lines v (whole id n s x k)) ≡ part_lines v (whole id n s x k)
-with_header v id n s x (CardButton a b) is = refl
-with_header v id n s x (BackgroundButton a c) is = refl
-with_header v id n s x (CardField a b) is = refl
-with_header v id n s x (BackgroundField a b c) is = refl
 with_header v id n s x Stack is = absurd (true≢false (sym is))
 with_header v id n s x (Background a) is = absurd (true≢false (sym is))
 with_header v id n s x (Card a b) is = absurd (true≢false (sym is))
+with_header v id n s x k is = refl
 
 -- a part that is read where so many ids are used
 pub record IsNewPart (Q : Part → Type 0) (next : ℕ) (used : List ℕ) (p : Part) : Type 0 where

@@ -103,10 +103,9 @@ module _ (s : Content) (is : IsWellFormed s) where
       go Stack has = or_left (0 == q) (contains_id q (ids_in (document_of s))) (let zero_it : q ≡ 0 = (is.stack q).0 (has is_stack) in grind (arith, nat_tests))
       go (Background c) has = listed (omega (arith, times-listed s q, times_some q s.backgrounds (is.backgrounds.each q ∙ has is_background)))
       go (Card b c) has = listed (omega (arith, times-listed s q, times_some q s.cards (is.cards.each q ∙ has is_card)))
-      go (BackgroundField v x t) has = listed (omega (arith, times-listed s q, times_some q (flat_map (parts_at s) s.backgrounds) (is.background_parts.each q ∙ has is_background_part)))
-      go (BackgroundButton v h) has = listed (omega (arith, times-listed s q, times_some q (flat_map (parts_at s) s.backgrounds) (is.background_parts.each q ∙ has is_background_part)))
       go (CardButton v h) has = listed (omega (arith, times-listed s q, times_some q (flat_map (parts_at s) s.cards) (is.card_parts.each q ∙ has is_card_part)))
       go (CardField v h) has = listed (omega (arith, times-listed s q, times_some q (flat_map (parts_at s) s.cards) (is.card_parts.each q ∙ has is_card_part)))
+      go k has = listed (omega (arith, times-listed s q, times_some q (flat_map (parts_at s) s.backgrounds) (is.background_parts.each q ∙ has is_background_part)))
 
   in_document : (q : ℕ) (o : Option Object) → get s.objects q ≡ o → IsSome o → IsTrue (contains_id q (0 ∷ ids_in (document_of s)))
   in_document q None e h = absurd (true≢false (sym h))

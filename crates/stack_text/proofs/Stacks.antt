@@ -42,12 +42,7 @@ one_kind (Some o) = by o.kind
   where
     by : (k : Kind) → bit (is_background k) + bit (is_background_part k) + bit (is_card k) + bit (is_card_part k) ≤ 1
     by Stack = omega arith
-    by (Background c) = omega arith
-    by (Card b c) = omega arith
-    by (CardButton v h) = omega arith
-    by (BackgroundButton v h) = omega arith
-    by (CardField v l) = omega arith
-    by (BackgroundField v l t) = omega arith
+    by k = omega arith
 
 -- and what has one of these is not the stack
 not_stack : (o : Option Object) → 1 ≤ bit (passes is_background o) + bit (passes is_background_part o) + bit (passes is_card o) + bit (passes is_card_part o) → IsSome o × (passes is_stack o ≡ false)
@@ -84,20 +79,12 @@ some_text (Some t) h = h
 on_background_suits : (k : Kind) (t : List ℕ) (b : Bool) → IsTrue (is_background_part k) → IsText t → Suits k (content_by k t b)
 on_background_suits (BackgroundButton v s) t b is h = tt
 on_background_suits (BackgroundField v l s) t b is h = h
-on_background_suits Stack t b is h = absurd (true≢false (sym is))
-on_background_suits (Background c) t b is h = absurd (true≢false (sym is))
-on_background_suits (Card x c) t b is h = absurd (true≢false (sym is))
-on_background_suits (CardButton x c) t b is h = absurd (true≢false (sym is))
-on_background_suits (CardField x c) t b is h = absurd (true≢false (sym is))
+on_background_suits k t b is h = absurd (true≢false (sym is))
 
 on_card_suits : (k : Kind) (t : List ℕ) (b : Bool) → IsTrue (is_card_part k) → IsText t → Suits k (content_by k t b)
 on_card_suits (CardButton v s) t b is h = tt
 on_card_suits (CardField v l) t b is h = h
-on_card_suits Stack t b is h = absurd (true≢false (sym is))
-on_card_suits (Background c) t b is h = absurd (true≢false (sym is))
-on_card_suits (Card x c) t b is h = absurd (true≢false (sym is))
-on_card_suits (BackgroundButton x c) t b is h = absurd (true≢false (sym is))
-on_card_suits (BackgroundField x c y) t b is h = absurd (true≢false (sym is))
+on_card_suits k t b is h = absurd (true≢false (sym is))
 
 contains_mapped : (f : ℕ → ℕ) (q : ℕ) (ids : List ℕ) → IsTrue (contains_id q ids) → IsTrue (contains_id (f q) (map f ids))
 contains_mapped f q [] h = absurd (true≢false (sym h))

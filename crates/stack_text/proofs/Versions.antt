@@ -33,36 +33,19 @@ use Rattle.stack_text.proofs.Contents.{at_each, content-is}
 -- ---- from a document
 
 not_button : (k : Kind) → IsTrue (is_background k) → SharesHilite k
-not_button (Background c) h = tt
-not_button Stack h = tt
-not_button (Card b c) h = tt
-not_button (CardButton a b) h = tt
-not_button (CardField a b) h = tt
-not_button (BackgroundField a b c) h = tt
 not_button (BackgroundButton a b) h = absurd (true≢false (sym h))
+not_button k h = tt
 
 card_no_button : (k : Kind) → IsTrue (is_card k) → SharesHilite k
-card_no_button (Card b c) h = tt
-card_no_button Stack h = tt
-card_no_button (Background c) h = tt
-card_no_button (CardButton a b) h = tt
-card_no_button (CardField a b) h = tt
-card_no_button (BackgroundField a b c) h = tt
 card_no_button (BackgroundButton a b) h = absurd (true≢false (sym h))
+card_no_button k h = tt
 
 card_part_no_button : (k : Kind) → IsTrue (is_card_part k) → SharesHilite k
-card_part_no_button (CardButton a b) h = tt
-card_part_no_button (CardField a b) h = tt
-card_part_no_button Stack h = tt
-card_part_no_button (Background c) h = tt
-card_part_no_button (Card b c) h = tt
-card_part_no_button (BackgroundField a b c) h = tt
 card_part_no_button (BackgroundButton a b) h = absurd (true≢false (sym h))
+card_part_no_button k h = tt
 
 -- a card's own part has no hilite beside it
 own_unlit : (k : Kind) (x : PartContent) → IsTrue (is_card_part k) → Suits k x → Unlit x
-own_unlit k (Written t) is h = tt
-own_unlit k Nothing is h = tt
 own_unlit (CardButton a b) (Lit l) is h = absurd h
 own_unlit (CardField a b) (Lit l) is h = absurd h
 own_unlit Stack (Lit l) is h = absurd h
@@ -70,6 +53,7 @@ own_unlit (Background c) (Lit l) is h = absurd h
 own_unlit (Card b c) (Lit l) is h = absurd h
 own_unlit (BackgroundField a b c) (Lit l) is h = absurd h
 own_unlit (BackgroundButton a b) (Lit l) is h = absurd (true≢false (sym is))
+own_unlit k x is h = tt
 
 abbrev AreUnlit : List (ℕ × PartContent) → Type 0
 AreUnlit row = AllByRecursion (λ (e : ℕ × PartContent). Unlit e.1) row
@@ -127,12 +111,7 @@ shares (Some o) h = h
 is_unlit : (k : Kind) (t : List ℕ) (o : Option Bool) → IfSome o (λ b. b ≡ false) → Unlit (content_by k t (unwrap_or o false))
 is_unlit (BackgroundButton a b) t None h = refl
 is_unlit (BackgroundButton a b) t (Some x) h = h
-is_unlit (CardButton a b) t o h = tt
-is_unlit (CardField a b) t o h = tt
-is_unlit (BackgroundField a b c) t o h = tt
-is_unlit Stack t o h = tt
-is_unlit (Background c) t o h = tt
-is_unlit (Card b c) t o h = tt
+is_unlit k t o h = tt
 
 not_here : (o : Option Bool) (A : Type 0) → (A → ⊥) → IfSome o (λ b. A ⊎ (b ≡ false)) → IfSome o (λ b. b ≡ false)
 not_here None A no' h = tt
@@ -144,12 +123,7 @@ no_card (Some o) h k = by o.kind h k
   where
     by : (x : Kind) → IsTrue (is_stack x) → IsTrue (is_card x) → ⊥
     by Stack h k = true≢false (sym k)
-    by (Background c) h k = true≢false (sym h)
-    by (Card b c) h k = true≢false (sym h)
-    by (CardButton a b) h k = true≢false (sym h)
-    by (CardField a b) h k = true≢false (sym h)
-    by (BackgroundButton a b) h k = true≢false (sym h)
-    by (BackgroundField a b c) h k = true≢false (sym h)
+    by kind h k = true≢false (sym h)
 
 module _ (s : Content) (is : IsWellFormed s) where
   parts-said : HasSharedHilites s → (id : ℕ) → SaysParts first (background_sheet s id)

@@ -11,7 +11,8 @@ use Rattle.object_table.specs.declared.object.Kind.TheVariants.{Stack}
 use Rattle.stack_text.specs.declared.sheets.Part.{Part}
 use Rattle.stack_text.specs.Words.{numbered}
 use Rattle.stack_text.specs.Document.{Sheet, Document, contains_id, backgrounds_of, ids_on}
-use Rattle.stack_text.specs.Spelling.{Version, first, second, header, name_line, script_lines, background_lines, card_lines, sheets_lines, document_lines, document_text, joined_lines}
+use Rattle.ht_values.specs.Delimited.{ended_lines}
+use Rattle.stack_text.specs.Spelling.{Version, first, second, header, name_line, script_lines, background_lines, card_lines, sheets_lines, document_lines, document_text}
 use Rattle.stack_text.specs.Reading.{Position, Reader, chain, ◌>>=◌, give, times, bad_id_if, line_after, exactly, name_at, count_after, script_at, version_at, stack_at, background_at, backgrounds_at, card_at, cards_at, end_at, nothing_left, body_at, all_lines, document_at, value_of}
 use Rattle.stack_text.specs.declared.fault.FileError.{FileError}
 use Rattle.stack_text.proofs.Forms.{onto, onto-append, count_on, adding, position_at, Reads, Each, chain_ok, both, gives, said, resaid, bad_id_if-reads, times-reads}
@@ -227,9 +228,9 @@ version-header second = refl
 version_line-reads : Reads (line_after (codes "htstack ") version_at) (λ used v. Unit {0}) (λ v. header v ∷ []) (λ v. [])
 version_line-reads = resaid (keyed (codes "htstack ") version_at versions refl) (λ used v h. (tt, ap (λ (l : List ℕ). l ∷ []) (version-header v), refl)) (λ used v h. tt)
 
-pub joined_onto : (lines : List (List ℕ)) → onto lines [] ≡ joined_lines lines
+pub joined_onto : (lines : List (List ℕ)) → onto lines [] ≡ ended_lines lines
 joined_onto [] = refl
-joined_onto (l ∷ ls) = ap (λ (b : List ℕ). l ++ 10 ∷ b) (joined_onto ls) ∙ sym (append_assoc l (10 ∷ []) (joined_lines ls))
+joined_onto (l ∷ ls) = ap (λ (b : List ℕ). l ++ 10 ∷ b) (joined_onto ls) ∙ sym (append_assoc l (10 ∷ []) (ended_lines ls))
 
 start : List ℕ → Position
 start bytes = record { bytes = bytes; number = 0; used = [] }

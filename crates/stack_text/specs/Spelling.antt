@@ -8,6 +8,7 @@ use Rattle.stack_text.specs.declared.sheets.Part.{Part}
 pub use Rattle.stack_text.specs.declared.sheets.Version.{Version}
 pub use Rattle.stack_text.specs.declared.sheets.Version.TheVariants.{First as first, Second as second}
 use Rattle.stack_text.specs.declared.sheets.Keeping.{Keeping}
+use Rattle.ht_values.specs.Delimited.{ended_lines}
 use Rattle.stack_text.specs.Words.{numbered, flagged, barred, block}
 use Rattle.stack_text.specs.Document.{Sheet, Document, background_or}
 
@@ -84,9 +85,5 @@ sheets_lines key lines sheets = numbered key (length sheets) ∷ flat_map lines 
 abbrev pub document_lines : Version → Document → List (List ℕ)
 document_lines v d = header v ∷ numbered (codes "next") d.next ∷ name_line d.stack.name ∷ script_lines d.stack.script ++ (sheets_lines (codes "backgrounds") (background_lines v) d.backgrounds ++ (sheets_lines (codes "cards") (card_lines v) d.cards ++ codes "end" ∷ []))
 
--- each line ends with a line feed
-abbrev pub joined_lines : List (List ℕ) → List ℕ
-joined_lines lines = flat_map (λ line. line ++ 10 ∷ []) lines
-
 abbrev pub document_text : Version → Document → List ℕ
-document_text v d = joined_lines (document_lines v d)
+document_text v d = ended_lines (document_lines v d)
