@@ -3,6 +3,7 @@ use Rattle.std.proofs.Common.{◌≡◌, ◌++◌, ℕ, ◌≤◌, Bool, true, f
 use Rattle.std.specs.Prelude.{find, option_map, unwrap_or}
 use Rattle.std.specs.List.{AllByRecursion, IsDistinct, flat_map}
 use Rattle.std.proofs.lemmas.List.{map-append, append-nil}
+use Rattle.std.proofs.lemmas.Simd.{map-map}
 use Rattle.stack_text.specs.declared.sheets.PartContent.{PartContent}
 use Rattle.stack_text.specs.declared.sheets.Part.{Part}
 use Rattle.stack_text.specs.declared.sheets.Keeping.{Keeping}
@@ -29,16 +30,8 @@ each_part_of P (s ∷ ss) id h = by (s.id == id) (each_part_of P ss id h.1)
 abbrev pub keeping_ids : List Keeping → List ℕ
 keeping_ids ks = map (λ k. k.part) ks
 
-keys-own : (ps : List Part) → keys (map (λ (p : Part). (p.id, p.content)) ps) ≡ part_ids ps
-keys-own [] = refl
-keys-own (p ∷ ps) = ap (λ ids. p.id ∷ ids) (keys-own ps)
-
-keys-keepings : (ks : List Keeping) → keys (map (λ (k : Keeping). (k.part, k.content)) ks) ≡ keeping_ids ks
-keys-keepings [] = refl
-keys-keepings (k ∷ ks) = ap (λ ids. k.part ∷ ids) (keys-keepings ks)
-
 keys-contents : (s : Sheet) → keys (contents_on s) ≡ part_ids s.parts ++ keeping_ids s.keepings
-keys-contents s = map-append (λ e. e.0) (map (λ (p : Part). (p.id, p.content)) s.parts) (map (λ (k : Keeping). (k.part, k.content)) s.keepings) ∙ ap₂ (λ (a b : List ℕ). a ++ b) (keys-own s.parts) (keys-keepings s.keepings)
+keys-contents s = map-append (λ e. e.0) (map (λ (p : Part). (p.id, p.content)) s.parts) (map (λ (k : Keeping). (k.part, k.content)) s.keepings) ∙ ap₂ (λ (a b : List ℕ). a ++ b) (map-map (λ e. e.0) (λ (p : Part). (p.id, p.content)) s.parts) (map-map (λ e. e.0) (λ (k : Keeping). (k.part, k.content)) s.keepings)
 
 pub keys-shared : (bs : List Sheet) → AllByRecursion IsBackgroundSheet bs → keys (flat_map contents_on bs) ≡ parts_on bs
 keys-shared [] h = refl
@@ -54,10 +47,6 @@ ids-kept (p ∷ ps) (k ∷ ks) h = ap₂ (λ (a : ℕ) (b : List ℕ). a ∷ b) 
 
 pub keys-card : (bs : List Sheet) (c : Sheet) → IsCardSheet bs c → keys (contents_on c) ≡ part_ids c.parts ++ part_ids (parts_of bs (background_or c.object.kind))
 keys-card bs c h = keys-contents c ∙ ap (λ (ids : List ℕ). part_ids c.parts ++ ids) (ids-kept (parts_of bs (background_or c.object.kind)) c.keepings h.keepings)
-
-keys-rows : (cs : List Sheet) → keys (map row_of cs) ≡ sheet_ids cs
-keys-rows [] = refl
-keys-rows (c ∷ cs) = ap (λ ids. c.id ∷ ids) (keys-rows cs)
 
 -- the parts of one sheet are among those of all
 within_one : (q : ℕ) (ss : List Sheet) (id : ℕ) → times q (part_ids (parts_of ss id)) ≤ times q (parts_on ss)
@@ -82,7 +71,7 @@ module _ (d : Document) (is : IsDocument d) where
   -- no card stands twice, and none is 0
   pub rows_once : IsDistinct nat_eq (keys (rows_of d))
   rows_once =
-      subst (λ (ids : List ℕ). IsDistinct nat_eq (0 ∷ ids)) (sym (keys-rows d.cards))
+      subst (λ (ids : List ℕ). IsDistinct nat_eq (0 ∷ ids)) (sym (map-map (λ e. e.0) row_of d.cards))
       (once_times (0 ∷ sheet_ids d.cards) (λ q. omega (arith, times_once (0 ∷ ids_in d) (objects_once d is) q, cons_within q 0 (sheet_ids d.cards) (ids_in d) (omega (arith, times-ids q d)))))
 
   card_once : (c : Sheet) → IsCardSheet d.backgrounds c → IsWithin d.cards c → IsDistinct nat_eq (keys (contents_on c))

@@ -23,7 +23,7 @@ use Rattle.stack_text.specs.declared.sheets.Part.{Part}
 use Rattle.stack_text.specs.declared.sheets.Keeping.{Keeping}
 use Rattle.stack_text.specs.Document.{Sheet, Document, contains_id, part_ids, sheet_ids, parts_of, background_or, backgrounds_of, ids_in}
 use Rattle.stack_text.specs.Listing.{object_entries, parts_entry, contents_on, written, lit, document_of, all_contents, all_objects, all_parts, content_of}
-use Rattle.stack_text.proofs.Elements.{each_so, each_append, each_parts, each_map, each_mapped}
+use Rattle.stack_text.proofs.Elements.{each_so, each_append, each_parts, each_map, each_mapped, each_join}
 use Rattle.stack_text.proofs.Entries.{keys, len_without_first, found_each, is_some-found}
 use Rattle.stack_text.proofs.Forms.{Pairs}
 use Rattle.stack_text.proofs.Members.{IsNamed, Suits, Keeps}
@@ -34,6 +34,7 @@ use Rattle.stack_text.proofs.Keepers.{HasLayers, text_listed, hilite_listed}
 use Rattle.stack_text.proofs.Listed.{objects_known, parts_known, listed_again}
 use Rattle.stack_text.proofs.Rows.{row_of, rows_of, looked_up, content-found}
 use Rattle.stack_text.proofs.Sorts.{ids_with, passes-found, ids-stack, ids-background, ids-card, ids-layer, ids-card_part, ids-background_part, OnSheet, each_object}
+use Rattle.stack_text.proofs.Live.{card_background}
 
 -- what holds of each id holds of one that is among them
 each_at : (P : ℕ → Type 0) (q : ℕ) (ids : List ℕ) → AllByRecursion P ids → IsTrue (contains_id q ids) → P q
@@ -62,16 +63,12 @@ module _ (s : Content) where
   card_there id (c ∷ cs) cards h e =
       let p = each_parts _ (object_entries c) (flat_map object_entries cs) h in
       elim (or_cases (background_or c.object.kind == id) (contains_id id (backgrounds_of cs)) e) [
-        | inl k ↦ (c.id, ap (λ o. option_and_then (λ (x : Object). background_of x.kind) o) p.0.0 ∙ of_kind c.object.kind cards.0 ∙ ap Some (same (background_or c.object.kind) k))
+        | inl k ↦ (c.id, ap (λ o. option_and_then (λ (x : Object). background_of x.kind) o) p.0.0 ∙ card_background c.object.kind cards.0 ∙ ap Some (same (background_or c.object.kind) k))
         | inr k ↦ card_there id cs cards.1 p.1 k
       ]
     where
       same : (b : ℕ) → (b == id) ≡ true → b ≡ id
       same b k = grind (arith, nat_tests)
-
-      of_kind : (k : Kind) → IsTrue (is_card k) → background_of k ≡ Some (background_or k)
-      of_kind (Card b x) h = refl
-      of_kind k h = absurd (true≢false (sym h))
 
 -- what is kept is a text, where it is one
 abbrev HasText : PartContent → Type 0
@@ -101,11 +98,7 @@ sheet-texts : (s : Sheet) → AllByRecursion (λ (p : Part). HasText p.content) 
 sheet-texts s h k = each_append _ (map (λ (p : Part). (p.id, p.content)) s.parts) (map (λ (x : Keeping). (x.part, x.content)) s.keepings) (each_map _ (λ (p : Part). (p.id, p.content)) s.parts h) (each_map _ (λ (x : Keeping). (x.part, x.content)) s.keepings k)
 
 shared-texts : (bs : List Sheet) → AllByRecursion IsBackgroundSheet bs → HasTexts (flat_map contents_on bs)
-shared-texts [] h = tt
-shared-texts (b ∷ bs) h =
-    each_append _ (contents_on b) (flat_map contents_on bs)
-    (sheet-texts b (each_so (λ p q. suits_text p.object.kind p.content q.1.1) b.parts h.0.parts) (subst (λ (ks : List Keeping). AllByRecursion (λ (k : Keeping). HasText k.content) ks) (sym h.0.none) tt))
-    (shared-texts bs h.1)
+shared-texts bs h = each_join _ contents_on bs (each_so (λ b k. sheet-texts b (each_so (λ p q. suits_text p.object.kind p.content q.1.1) b.parts k.parts) (subst (λ (ks : List Keeping). AllByRecursion (λ (k : Keeping). HasText k.content) ks) (sym k.none) tt)) bs h)
 
 of_some : (o : Option PartContent) → IfSome o HasText → IfSome (option_and_then written o) IsText
 of_some None h = tt

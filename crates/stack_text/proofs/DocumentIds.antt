@@ -3,6 +3,7 @@ use Rattle.std.proofs.Common.{◌≡◌, ℕ, ◌++◌, ◌+◌, ◌<◌, false,
 use Rattle.std.specs.List.{AllByRecursion, IsDistinct, flat_map}
 use Rattle.std.proofs.lemmas.List.{map-append}
 use Rattle.std.proofs.lemmas.Bool.Decides.{nat_tests}
+use Rattle.std.proofs.lemmas.Simd.{map-map}
 use Rattle.stack_text.specs.declared.sheets.Part.{Part}
 use Rattle.stack_text.specs.Document.{Sheet, Document, part_ids, sheet_ids, ids_on, ids_in}
 use Rattle.stack_text.specs.Listing.{part_entry, object_entries, parts_entry, all_objects, all_parts}
@@ -10,27 +11,19 @@ use Rattle.stack_text.proofs.Counts.{times, times-append, times-heads, times_onc
 use Rattle.stack_text.proofs.Entries.{keys}
 use Rattle.stack_text.proofs.Listable.{IsDocument, parts_on}
 
-keys-of_parts : (ps : List Part) → keys (map part_entry ps) ≡ part_ids ps
-keys-of_parts [] = refl
-keys-of_parts (p ∷ ps) = ap (λ ids. p.id ∷ ids) (keys-of_parts ps)
-
 keys-sheets : (ss : List Sheet) → keys (flat_map object_entries ss) ≡ flat_map ids_on ss
 keys-sheets [] = refl
 keys-sheets (s ∷ ss) =
     map-append (λ e. e.0) (object_entries s) (flat_map object_entries ss)
-    ∙ ap₂ (λ (a b : List ℕ). (s.id ∷ a) ++ b) (keys-of_parts s.parts) (keys-sheets ss)
+    ∙ ap₂ (λ (a b : List ℕ). (s.id ∷ a) ++ b) (map-map (λ e. e.0) part_entry s.parts) (keys-sheets ss)
 
 -- the stack, and each id of the text
 pub keys-objects : (d : Document) → keys (all_objects d) ≡ 0 ∷ ids_in d
 keys-objects d = ap (λ ids. 0 ∷ ids) (map-append (λ e. e.0) (flat_map object_entries d.backgrounds) (flat_map object_entries d.cards) ∙ ap₂ (λ (a b : List ℕ). a ++ b) (keys-sheets d.backgrounds) (keys-sheets d.cards))
 
-keys-listed : (ss : List Sheet) → keys (map parts_entry ss) ≡ sheet_ids ss
-keys-listed [] = refl
-keys-listed (s ∷ ss) = ap (λ ids. s.id ∷ ids) (keys-listed ss)
-
 -- each background and each card
 pub keys-parts : (d : Document) → keys (all_parts d) ≡ sheet_ids d.backgrounds ++ sheet_ids d.cards
-keys-parts d = map-append (λ e. e.0) (map parts_entry d.backgrounds) (map parts_entry d.cards) ∙ ap₂ (λ (a b : List ℕ). a ++ b) (keys-listed d.backgrounds) (keys-listed d.cards)
+keys-parts d = map-append (λ e. e.0) (map parts_entry d.backgrounds) (map parts_entry d.cards) ∙ ap₂ (λ (a b : List ℕ). a ++ b) (map-map (λ e. e.0) parts_entry d.backgrounds) (map-map (λ e. e.0) parts_entry d.cards)
 
 pub times-ids : (q : ℕ) (d : Document) → times q (ids_in d) ≡ times q (sheet_ids d.backgrounds) + times q (parts_on d.backgrounds) + times q (sheet_ids d.cards) + times q (parts_on d.cards)
 times-ids q d = omega (arith, times-append q (flat_map ids_on d.backgrounds) (flat_map ids_on d.cards), times-heads (λ s. s.id) (λ s. part_ids s.parts) q d.backgrounds, times-heads (λ s. s.id) (λ s. part_ids s.parts) q d.cards)

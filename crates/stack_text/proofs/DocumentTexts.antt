@@ -2,7 +2,7 @@
 use Rattle.std.proofs.Common.{◌≡◌, ℕ, suc, ◌+◌, ◌^◌, ◌<◌, ◌≤◌, Bool, true, false, eqb, List, [], ◌∷◌, ◌++◌, length, refl, subst, arith, ◌||◌, ◌&&◌}
 use Rattle.std.specs.Prelude.{IsTrue, flat_map, Ok}
 use Rattle.std.specs.List.{AllByRecursion, list_all}
-use Rattle.std.proofs.lemmas.Bool.{eqb-true}
+use Rattle.std.proofs.lemmas.Bool.{eqb-true, and_parts}
 use Rattle.std.proofs.lemmas.List.{length-append, length-map}
 use Rattle.stack_text.specs.declared.sheets.Part.{Part}
 use Rattle.stack_text.specs.declared.sheets.Keeping.{Keeping}
@@ -56,13 +56,9 @@ cards-news v next bs used (c ∷ cs) h =
       ((record { is = h.0.is; named = h.0.named; parts = p.1; on = h.0.on; keepings = k.0 }, q.1.0), (k.1, q.1.1)),
     )
 
-both_true : (a b : Bool) → (a && b) ≡ true → (a ≡ true) × (b ≡ true)
-both_true true b e = (refl, e)
-both_true false b e = absurd cc
-
 each_from_all : {X : Type 0} (p : X → Bool) (xs : List X) → list_all p xs ≡ true → AllByRecursion (λ x. IsTrue (p x)) xs
 each_from_all p [] e = tt
-each_from_all p (x ∷ xs) e = let q = both_true (p x) (list_all p xs) e in (q.0, each_from_all p xs q.1)
+each_from_all p (x ∷ xs) e = let q = and_parts (p x) (list_all p xs) e in (q.0, each_from_all p xs q.1)
 
 all_from_each : {X : Type 0} (p : X → Bool) (xs : List X) → AllByRecursion (λ x. IsTrue (p x)) xs → list_all p xs ≡ true
 all_from_each p [] h = refl

@@ -36,3 +36,7 @@ module _ {X : Type 0} (P : X → Type 0) where
     pub each_joined : (ys : List Y) → AllByRecursion P (flat_map f ys) → AllByRecursion (λ y. AllByRecursion P (f y)) ys
     each_joined [] h = tt
     each_joined (y ∷ ys) h = let both = each_parts P (f y) (flat_map f ys) h in (both.0, each_joined ys both.1)
+
+    pub each_join : (ys : List Y) → AllByRecursion (λ y. AllByRecursion P (f y)) ys → AllByRecursion P (flat_map f ys)
+    each_join [] h = tt
+    each_join (y ∷ ys) h = each_append (f y) (flat_map f ys) h.0 (each_join ys h.1)

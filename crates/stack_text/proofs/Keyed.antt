@@ -5,7 +5,7 @@ use Rattle.std.specs.List.{list_any, position_or_len}
 use Rattle.std.specs.Cmp.Lexicographic.{pointwise, same_text}
 use Rattle.std.proofs.lemmas.Option.{option_and_then_some}
 use Rattle.std.proofs.lemmas.Cmp.{nat_list_eq_equiv}
-use Rattle.std.proofs.lemmas.Bool.{eqb-true, lt-ltb}
+use Rattle.std.proofs.lemmas.Bool.{eqb-true, lt-ltb, not-false}
 use Rattle.std.proofs.lemmas.Bool.Decides.{nat_tests}
 use Rattle.std.proofs.lemmas.List.{take_at, drop_at, take-append-drop, get_or-take, get_or_default, length-append, length-take}
 use Rattle.std.proofs.lemmas.List.Folds.{list_any-append, list_any_none}
@@ -130,11 +130,6 @@ module _ {A : Type 0} (key : List ℕ) (form : List ℕ → Option A) {Holds : A
   pub keyed : Reads (line_after key form) (λ used x. Holds x) (λ x. (key ++ spell x) ∷ []) (λ x. [])
   keyed = record { found = keyed-found; again = λ n used rest x h. keyed-again n used rest x h }
 
--- what a test that did not fail tells
-pub not_false : (b : Bool) → not b ≡ false → b ≡ true
-not_false true e = refl
-not_false false e = absurd cc
-
 -- a line that has these bytes
 pub exactly-reads : (line : List ℕ) → has 10 line ≡ false → Reads (exactly line) (λ used x. Unit {0}) (λ x. line ∷ []) (λ x. [])
 unfolding exactly
@@ -142,7 +137,7 @@ exactly-reads line plain = record {
   found = λ s t x e.
       let c = chain_ok (next_line s) (λ l. bad_line_if (not (pointwise nat_eq l line))) x t e in
       let g = (bad_line_if-reads (not (pointwise nat_eq c.0 line))).found c.1 t x c.3 in
-      let is : c.0 ≡ line = same_text _ _ (sym (not_false (pointwise nat_eq c.0 line) g.0)) in
+      let is : c.0 ≡ line = same_text _ _ (sym (not-false (pointwise nat_eq c.0 line) g.0)) in
       let took = (next_line-found s c.1 c.0 c.2).1 in
       (tt, record { bytes = took.bytes ∙ ap (λ (l : List ℕ). l ++ 10 ∷ c.1.bytes) is ∙ ap (λ (b : List ℕ). line ++ 10 ∷ b) g.1.bytes; used = g.1.used ∙ took.used });
   again = λ n used rest x h. let same = nat_list_eq_equiv.refl line in rw (next_line-again n used rest line plain, same) refl;

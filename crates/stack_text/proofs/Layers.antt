@@ -2,7 +2,7 @@
 use Rattle.std.proofs.Common.{◌≡◌, ℕ, ◌<◌, ◌≤◌, ◌^◌, Bool, true, false, true≢false, cond, eqb, List, [], ◌∷◌, ◌++◌, length, refl, sym, ap, ap₂, subst, arith, Some}
 use Rattle.std.specs.Prelude.{◌==◌, codes, not, IsTrue, flat_map, find, option_map, unwrap_or}
 use Rattle.std.specs.List.{AllByRecursion}
-use Rattle.std.proofs.lemmas.Bool.{eqb-true}
+use Rattle.std.proofs.lemmas.Bool.{eqb-true, not-false, eq-eqb, not_from_true}
 use Rattle.std.proofs.lemmas.Bool.Decides.{nat_tests}
 use Rattle.std.proofs.lemmas.List.{append-nil}
 use Rattle.ht_values.specs.Text.{IsText}
@@ -19,7 +19,7 @@ use Rattle.stack_text.specs.Document.{Sheet, contains_id, sheet_ids, part_ids, i
 use Rattle.stack_text.specs.Spelling.{Version, first, second, text_or_none, lit_or_not, content_lines, keeping_lines, cant_delete_of, layer_lines, parts_lines, background_lines, card_lines}
 use Rattle.stack_text.specs.Reading.{for_each, bad_id_if, name_at, flag_at, flag_after, number_after, line_after, pair_at, count_at, new_id, script_at, text_of_pieces, layer_at, background_header_at, background_at, background_part_at, own_text_at, own_hilite_at, keeping_by, keeping_at, card_header_at, card_at, card_part_at, parts_at}
 use Rattle.stack_text.proofs.Forms.{Reads, Each, Pairs, both, after, gives, said, resaid, bad_id_if-reads, for_each-reads}
-use Rattle.stack_text.proofs.Keyed.{keyed, not_false}
+use Rattle.stack_text.proofs.Keyed.{keyed}
 use Rattle.stack_text.proofs.Flags.{number_pairs, counted_fields, lit_buttons}
 use Rattle.stack_text.proofs.Blocks.{text_of_pieces-reads, few}
 use Rattle.stack_text.proofs.Elements.{each_so}
@@ -103,9 +103,6 @@ background-reads v next =
 
 -- ---- what a card keeps
 
-same_id : (n : ℕ) → not (eqb n n) ≡ false
-same_id n = grind (arith, nat_tests)
-
 abbrev own_text : ℕ → List ℕ → Keeping
 own_text due t = record { part = due; content = Written t }
 
@@ -115,9 +112,9 @@ own_text-reads due small =
     resaid (both (line_after (codes "text ") (pair_at number_at count_at)) _ (keyed (codes "text ") (pair_at number_at count_at) counted_fields refl)
     (λ head. after (bad_id_if (not (head.0 == due))) _ (bad_id_if-reads (not (head.0 == due)))
     (both (text_of_pieces head.1) _ (text_of_pieces-reads head.1) (λ t. gives (own_text due t)) (λ k. text_or_none k.content) (λ t used k h. ap (λ (z : Keeping). text_or_none z.content) h)))
-    (λ k. (due, length (delimited 13 (text_or_none k.content)))) (λ head used k h. ap₂ (λ (a b : ℕ). (a, b)) (sym (eqb-true _ _ (not_false _ h.0))) h.1.0.1))
+    (λ k. (due, length (delimited 13 (text_or_none k.content)))) (λ head used k h. ap₂ (λ (a b : ℕ). (a, b)) (sym (eqb-true _ _ (not-false _ h.0))) h.1.0.1))
     (λ used k h. ((h.1.1.0.0, h.1.1.1), append-nil (block (numbered (codes "text") due) (text_or_none k.content)), refl))
-    (λ used k h. ((small, few (text_or_none k.content) h.0), (same_id due, ((h.0, refl), h.1))))
+    (λ used k h. ((small, few (text_or_none k.content) h.0), (not_from_true _ (eq-eqb due due refl), ((h.0, refl), h.1))))
 
 abbrev own_hilite : ℕ → Bool → Keeping
 own_hilite due b = record { part = due; content = Lit b }
@@ -127,9 +124,9 @@ unfolding own_hilite_at
 own_hilite-reads due small =
     said (both (line_after (codes "hilite ") (pair_at number_at flag_at)) _ (keyed (codes "hilite ") (pair_at number_at flag_at) lit_buttons refl)
     (λ head. after (bad_id_if (not (head.0 == due))) _ (bad_id_if-reads (not (head.0 == due))) (gives (own_hilite due head.1)))
-    (λ k. (due, lit_or_not k.content)) (λ head used k h. ap₂ (λ (a : ℕ) (b : Bool). let pair : ℕ × Bool = (a, b) in pair) (sym (eqb-true _ _ (not_false _ h.0))) (ap (λ (z : Keeping). lit_or_not z.content) h.1)))
+    (λ k. (due, lit_or_not k.content)) (λ head used k h. ap₂ (λ (a : ℕ) (b : Bool). let pair : ℕ × Bool = (a, b) in pair) (sym (eqb-true _ _ (not-false _ h.0))) (ap (λ (z : Keeping). lit_or_not z.content) h.1)))
     (λ used k h. h.1.1)
-    (λ used k h. ((small, tt), (same_id due, h)))
+    (λ used k h. ((small, tt), (not_from_true _ (eq-eqb due due refl), h)))
 
 -- what a card keeps for a part of its background, and a version can say
 abbrev pub SaysKeeping : Version → Part → Keeping → Type 0

@@ -2,6 +2,7 @@
 use Rattle.std.proofs.Common.{◌≡◌, ℕ, ◌<◌, ◌^◌, Bool, true, false, List, [], ◌∷◌, ◌++◌, length, map, refl, sym, ap, subst, ◌∙◌, arith, ap₂, true≢false, lit<, ◌≤◌}
 use Rattle.std.specs.Prelude.{codes, IsTrue, flat_map}
 use Rattle.std.proofs.lemmas.List.{append-nil}
+use Rattle.std.proofs.lemmas.List.Concat.{flat_map_single}
 use Rattle.ht_values.specs.Text.{IsText}
 use Rattle.object_table.specs.Objects.{is_background_part, is_card_part, is_part}
 use Rattle.object_table.specs.declared.object.Kind.{Kind}
@@ -271,9 +272,5 @@ module _ (v : Version) (next : ℕ) (rest : PartKind × ℕ → Reader Part) (Q 
   unfolding parts_at
   parts-reads =
       resaid (both (count_after (codes "parts ") 0 10000) (λ n. times n (part_at next rest)) (count_after-reads (codes "parts ") 0 10000 refl (lit< tt)) (times-reads (part_at next rest) part-reads) length (λ n used y h. h.0))
-      (λ used y h. ((h.0.1, h.1.1), refl, singles (λ (p : Part). p.id) y))
+      (λ used y h. ((h.0.1, h.1.1), refl, flat_map_single (λ (p : Part). p.id) y))
       (λ used y h. ((omega arith, h.0), (refl, h.1)))
-    where
-      singles : {A B : Type 0} (f : A → B) (xs : List A) → flat_map (λ x. f x ∷ []) xs ≡ map f xs
-      singles f [] = refl
-      singles f (x ∷ xs) = ap (λ (ys : List _). f x ∷ ys) (singles f xs)

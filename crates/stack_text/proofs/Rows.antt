@@ -4,7 +4,7 @@ use Rattle.std.specs.Ordering.{nat_cmp, eq_by_cmp}
 use Rattle.std.specs.declared.cmp.Ordering.{Ordering}
 use Rattle.std.specs.FinMap.{find}
 use Rattle.std.specs.List.{AllByRecursion, IsDistinct, flat_map}
-use Rattle.std.proofs.lemmas.Bool.{cases_eq}
+use Rattle.std.proofs.lemmas.Bool.{cases_eq, and_right}
 use Rattle.std.proofs.lemmas.Bool.Decides.{nat_tests}
 use Rattle.object_table.specs.Pairs.{Pair, pair_cmp}
 use Rattle.object_table.proofs.Pairs.{pair_tied}
@@ -23,12 +23,8 @@ find-append : {K X : Type 0} (R : K → K → Ordering) (q : K) (xs ys : List (K
 find-append R q [] ys = refl
 find-append R q (e ∷ xs) ys = elim (eq_by_cmp R q e.0) as (λ b. cond b (Some e.1) (find R q (xs ++ ys)) ≡ either (cond b (Some e.1) (find R q xs)) (find R q ys)) [ true ↦ refl | false ↦ find-append R q xs ys ]
 
-and_false : (a b : Bool) → b ≡ false → (a && b) ≡ false
-and_false true b e = e
-and_false false b e = refl
-
 pair_apart : (f c e n : ℕ) → nat_eq c n ≡ false → eq_by_cmp pair_cmp (f, c) (e, n) ≡ false
-pair_apart f c e n h = pair_tied (f, c) (e, n) ∙ and_false (nat_eq f e) (nat_eq c n) h
+pair_apart f c e n h = pair_tied (f, c) (e, n) ∙ and_right (nat_eq f e) (nat_eq c n) h
 
 pair_other : (f c e n : ℕ) → nat_eq f e ≡ false → eq_by_cmp pair_cmp (f, c) (e, n) ≡ false
 pair_other f c e n h = pair_tied (f, c) (e, n) ∙ rw h refl

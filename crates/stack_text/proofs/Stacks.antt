@@ -7,6 +7,7 @@ use Rattle.std.proofs.lemmas.Bool.{or_left, or_right, or_cases, cases_eq, eqb-tr
 use Rattle.std.proofs.lemmas.Bool.Decides.{nat_tests}
 use Rattle.std.proofs.lemmas.List.{length-map}
 use Rattle.std.proofs.lemmas.List.Elements.{All-nil}
+use Rattle.std.proofs.lemmas.Simd.{map-map}
 use Rattle.ht_values.specs.Text.{IsText}
 use Rattle.object_table.specs.Content.{Content}
 use Rattle.object_table.specs.Objects.{is_stack, is_background, is_card, is_card_part, is_background_part, has_kind, parts_at, background_of as background_named}
@@ -25,12 +26,8 @@ use Rattle.stack_text.proofs.DocumentIds.{keys-objects, with_stack_once}
 use Rattle.stack_text.proofs.Forms.{Pairs}
 use Rattle.stack_text.proofs.Members.{IsNamed, Suits, IsBackgroundPart, IsCardPart, Keeps}
 use Rattle.stack_text.proofs.Listable.{IsBackgroundSheet, IsCardSheet, IsDocument}
-use Rattle.stack_text.proofs.Live.{each_member, backgrounds_live, cards_live, background_parts_live, card_parts_live}
+use Rattle.stack_text.proofs.Live.{passes, each_member, backgrounds_live, cards_live, background_parts_live, card_parts_live, card_background}
 use Rattle.stack_text.proofs.Relisted.{backgrounds-listed, times-listed, same_objects}
-
--- an object with a kind that passes, or false where there is none
-abbrev pub passes : (Kind → Bool) → Option Object → Bool
-passes p o = unwrap_or (option_map (λ x. p x.kind) o) false
 
 abbrev bit : Bool → ℕ
 bit b = cond b 1 0
@@ -99,11 +96,7 @@ contains_mapped f q (id ∷ ids) h = elim (or_cases (id == q) (contains_id q ids
 -- a card's background, in the document and in the stack
 on_listed : (o : Option Object) (P : ℕ → Type 0) → IsTrue (passes is_card o) → IfSome (option_and_then (λ x. background_named x.kind) o) P → P (background_or (unwrap_or o (record { name = []; script = []; kind = Stack })).kind)
 on_listed None P h e = absurd (true≢false (sym h))
-on_listed (Some o) P h e = by o.kind h e
-  where
-    by : (k : Kind) → IsTrue (is_card k) → IfSome (background_named k) P → P (background_or k)
-    by (Card b c) h e = e
-    by _ h e = absurd (true≢false (sym h))
+on_listed (Some o) P h e = subst (λ b. IfSome b P) (card_background o.kind h) e
 
 pub card_on : (o : Option Object) (b : ℕ) → option_and_then (λ x. background_named x.kind) o ≡ Some b → IsTrue (passes is_card o) × (background_or (unwrap_or o (record { name = []; script = []; kind = Stack })).kind ≡ b)
 card_on None b e = absurd cc
@@ -112,10 +105,6 @@ card_on (Some o) b e = by o.kind e
     by : (k : Kind) → background_named k ≡ Some b → IsTrue (is_card k) × (background_or k ≡ b)
     by (Card a c) e = (refl, cc)
     by _ e = absurd cc
-
-on-listed : (s : Content) (ids : List ℕ) → backgrounds_of (map (card_sheet s) ids) ≡ map (λ x. background_or (object_or s x).kind) ids
-on-listed s [] = refl
-on-listed s (id ∷ ids) = ap (λ rest. background_or (object_or s id).kind ∷ rest) (on-listed s ids)
 
 -- the parts of a listed background
 parts_of-listed : (s : Content) (ids : List ℕ) (b : ℕ) → IsTrue (contains_id b ids) → parts_of (map (background_sheet s) ids) b ≡ map (part_of s 0) (parts_at s b)
@@ -211,7 +200,7 @@ module _ (s : Content) (is : IsWellFormed s) where
       has_card id h =
           let card = is.some_card id h in
           let there = card_on (get s.objects card.0) id card.1 in
-          subst (λ ids. IsTrue (contains_id id ids)) (sym (on-listed s s.cards)) (subst (λ b. IsTrue (contains_id b (map (λ x. background_or (object_or s x).kind) s.cards))) there.1 (contains_mapped (λ x. background_or (object_or s x).kind) card.0 s.cards (is.cards.each card.0 ∙ there.0)))
+          subst (λ ids. IsTrue (contains_id id ids)) (sym (map-map (λ c. background_or c.object.kind) (card_sheet s) s.cards)) (subst (λ b. IsTrue (contains_id b (map (λ x. background_or (object_or s x).kind) s.cards))) there.1 (contains_mapped (λ x. background_or (object_or s x).kind) card.0 s.cards (is.cards.each card.0 ∙ there.0)))
 
   stack_alone : (k : Kind) → IsTrue (is_stack k) → k ≡ Stack
   stack_alone Stack h = refl

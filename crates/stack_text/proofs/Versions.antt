@@ -25,7 +25,7 @@ use Rattle.stack_text.proofs.Elements.{each_so, each_both, each_append, each_map
 use Rattle.stack_text.proofs.Entries.{found_each}
 use Rattle.stack_text.proofs.Members.{Suits, Unlit}
 use Rattle.stack_text.proofs.Listable.{IsCardSheet, IsDocument, SaysParts, SaysKeepings, Says}
-use Rattle.stack_text.proofs.Live.{cards_live}
+use Rattle.stack_text.proofs.Live.{cards_live, never_both, stack_or_card}
 use Rattle.stack_text.proofs.Rows.{row_of}
 use Rattle.stack_text.proofs.Sorts.{OnSheet, each_object}
 use Rattle.stack_text.proofs.Contents.{at_each, content-is}
@@ -117,21 +117,13 @@ not_here : (o : Option Bool) (A : Type 0) → (A → ⊥) → IfSome o (λ b. A 
 not_here None A no' h = tt
 not_here (Some b) A no' h = elim h [ inl a ↦ absurd (no' a) | inr e ↦ e ]
 
-no_card : (o : Option Object) → IsTrue (unwrap_or (Rattle.std.specs.Prelude.option_map (λ (x : Object). is_stack x.kind) o) false) → IsTrue (unwrap_or (Rattle.std.specs.Prelude.option_map (λ (x : Object). is_card x.kind) o) false) → ⊥
-no_card None h k = true≢false (sym h)
-no_card (Some o) h k = by o.kind h k
-  where
-    by : (x : Kind) → IsTrue (is_stack x) → IsTrue (is_card x) → ⊥
-    by Stack h k = true≢false (sym k)
-    by kind h k = true≢false (sym h)
-
 module _ (s : Content) (is : IsWellFormed s) where
   parts-said : HasSharedHilites s → (id : ℕ) → SaysParts first (background_sheet s id)
   parts-said says id = each_map _ (part_of s 0) (parts_at s id) (each_true _ (λ p. shares (get s.objects p) (says.shared p)) (parts_at s id))
 
   keepings-said : HasSharedHilites s → (card : ℕ) → IsTrue (has_kind is_card s card) → SaysKeepings first (card_sheet s card)
   keepings-said says card live =
-      let no_zero : card ≡ 0 → ⊥ = λ e. no_card (get s.objects 0) ((is.stack 0).1 refl) (subst (λ c. IsTrue (has_kind is_card s c)) e live) in
+      let no_zero : card ≡ 0 → ⊥ = λ e. never_both is_stack is_card stack_or_card (get s.objects 0) ((is.stack 0).1 refl) (subst (λ c. IsTrue (has_kind is_card s c)) e live) in
       let ids = parts_at s (background_or (object_or s card).kind) in
       each_map _ (keeping_of s card) ids (each_true _ (λ p. is_unlit (object_or s p).kind _ (hilite_at s p card) (not_here (hilite_at s p card) (card ≡ 0) no_zero (says.unlit p card))) ids)
 

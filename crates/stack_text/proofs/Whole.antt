@@ -3,7 +3,7 @@ use Rattle.std.proofs.Common.{◌≡◌, ℕ, ◌≤◌, Bool, true, false, cond
 use Rattle.std.specs.Prelude.{codes, not, flat_map}
 use Rattle.std.specs.Cmp.Lexicographic.{pointwise, same_text}
 use Rattle.std.specs.List.{AllByRecursion, list_all}
-use Rattle.std.proofs.lemmas.Bool.{eqb-true}
+use Rattle.std.proofs.lemmas.Bool.{eqb-true, not-false}
 use Rattle.std.proofs.lemmas.List.{nil_from_length, append-nil}
 use Rattle.object_table.specs.declared.object.Object.{Object}
 use Rattle.object_table.specs.declared.object.Kind.{Kind}
@@ -16,7 +16,7 @@ use Rattle.stack_text.specs.Spelling.{Version, first, second, header, name_line,
 use Rattle.stack_text.specs.Reading.{Position, Reader, chain, ◌>>=◌, give, times, bad_id_if, line_after, exactly, name_at, count_after, script_at, version_at, stack_at, background_at, backgrounds_at, card_at, cards_at, end_at, nothing_left, body_at, all_lines, document_at, value_of}
 use Rattle.stack_text.specs.declared.fault.FileError.{FileError}
 use Rattle.stack_text.proofs.Forms.{onto, onto-append, count_on, adding, position_at, Reads, Each, chain_ok, both, gives, said, resaid, bad_id_if-reads, times-reads}
-use Rattle.stack_text.proofs.Keyed.{has, not_false, exactly-reads, keyed, Spelled}
+use Rattle.stack_text.proofs.Keyed.{has, exactly-reads, keyed, Spelled}
 use Rattle.stack_text.proofs.Members.{IsNamed}
 use Rattle.stack_text.proofs.Productions.{name_at-reads, count_after-reads}
 use Rattle.stack_text.proofs.Parts.{script-reads, IsSaidPart, IsNewPart}
@@ -187,7 +187,7 @@ body-found v s t d none e =
         some_card = h.1.1.0.0.0;
         few_cards = h.1.1.0.0.1;
         cards = subst (λ u. Each (IsNewCard v d.next d.backgrounds) ids_on (adding u (flat_map ids_on d.backgrounds)) d.cards) none h.1.1.0.1;
-        have = not_false _ h.1.1.1.0.1.0;
+        have = not-false _ h.1.1.1.0.1.0;
       },
       p.1,
     )
