@@ -18,15 +18,6 @@ use Rattle.stack_text.proofs.Listable.{IsBackgroundSheet, IsCardSheet, IsDocumen
 use Rattle.stack_text.proofs.DocumentIds.{times-ids, objects_once, background_parts_once, all_parts_once}
 use Rattle.stack_text.proofs.Rows.{row_of, rows_of}
 
--- what holds of the parts of each sheet holds of those of the sheet of an id
-pub each_part_of : (P : Part → Type 0) (ss : List Sheet) (id : ℕ) → AllByRecursion (λ (s : Sheet). AllByRecursion P s.parts) ss → AllByRecursion P (parts_of ss id)
-each_part_of P [] id h = tt
-each_part_of P (s ∷ ss) id h = by (s.id == id) (each_part_of P ss id h.1)
-  where
-    by : (t : Bool) → AllByRecursion P (parts_of ss id) → AllByRecursion P (unwrap_or (option_map (λ (x : Sheet). x.parts) (cond t (Some s) (find (λ x. x.id == id) ss))) [])
-    by true k = h.0
-    by false k = k
-
 abbrev pub keeping_ids : List Keeping → List ℕ
 keeping_ids ks = map (λ k. k.part) ks
 

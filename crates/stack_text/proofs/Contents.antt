@@ -23,7 +23,7 @@ use Rattle.stack_text.specs.declared.sheets.Part.{Part}
 use Rattle.stack_text.specs.declared.sheets.Keeping.{Keeping}
 use Rattle.stack_text.specs.Document.{Sheet, Document, contains_id, part_ids, sheet_ids, parts_of, background_or, backgrounds_of, ids_in}
 use Rattle.stack_text.specs.Listing.{object_entries, parts_entry, contents_on, written, lit, document_of, all_contents, all_objects, all_parts, content_of}
-use Rattle.stack_text.proofs.Elements.{each_so, each_append, each_parts, each_map, each_mapped, each_join}
+use Rattle.stack_text.proofs.Elements.{each_so, each_append, each_parts, each_map, each_mapped, each_join, each_at}
 use Rattle.stack_text.proofs.Entries.{keys, len_without_first, found_each, is_some-found}
 use Rattle.stack_text.proofs.Forms.{Pairs}
 use Rattle.stack_text.proofs.Members.{IsNamed, Suits, Keeps}
@@ -35,14 +35,6 @@ use Rattle.stack_text.proofs.Listed.{objects_known, parts_known, listed_again}
 use Rattle.stack_text.proofs.Rows.{row_of, rows_of, looked_up, content-found}
 use Rattle.stack_text.proofs.Sorts.{ids_with, passes-found, ids-stack, ids-background, ids-card, ids-layer, ids-card_part, ids-background_part, OnSheet, each_object}
 use Rattle.stack_text.proofs.Live.{card_background}
-
--- what holds of each id holds of one that is among them
-each_at : (P : ℕ → Type 0) (q : ℕ) (ids : List ℕ) → AllByRecursion P ids → IsTrue (contains_id q ids) → P q
-each_at P q [] h e = absurd (true≢false (sym e))
-each_at P q (id ∷ ids) h e = elim (or_cases (id == q) (contains_id q ids) e) [
-  | inl k ↦ let same : id ≡ q = grind (arith, nat_tests) in subst P same h.0
-  | inr k ↦ each_at P q ids h.1 k
-]
 
 is_stack_alone : (id : ℕ) (b : Bool) → b ≡ contains_id id (0 ∷ []) → IsTrue b ↔ (id ≡ 0)
 is_stack_alone id b e = (λ h. grind (arith, nat_tests), λ h. grind (arith, nat_tests))

@@ -14,7 +14,7 @@ use Rattle.stack_text.proofs.Members.{IsCardPart, Keeps, SaysContent}
 use Rattle.stack_text.proofs.Parts.{IsSaidPart, IsNewPart}
 use Rattle.stack_text.proofs.Layers.{IsNewBackground, IsNewCard, SaysKeeping}
 use Rattle.stack_text.proofs.Whole.{IsRead, read-found, read-again}
-use Rattle.stack_text.proofs.Elements.{each_so, each_both, each_parts}
+use Rattle.stack_text.proofs.Elements.{each_so, each_both, each_parts, each_at, each_map, each_joined}
 use Rattle.stack_text.proofs.Ids.{News, News-parts, News-joined, News-room, News-range, News-once, News-from, apart_from_none}
 use Rattle.stack_text.proofs.Listable.{IsBackgroundSheet, IsCardSheet, IsDocument, SaysParts, SaysKeepings, Says}
 
@@ -124,12 +124,7 @@ backgrounds-each v next used (b ∷ bs) high h are says =
     )
 
 small_contained : (bs : List Sheet) (id : ℕ) → AllByRecursion Small (flat_map ids_on bs) → IsTrue (contains_id id (sheet_ids bs)) → Small id
-small_contained [] id h e = absurd cc
-small_contained (b ∷ bs) id h e = by (eqb b.id id) refl e (small_contained bs id (each_parts Small (ids_on b) (flat_map ids_on bs) h).1)
-  where
-    by : (t : Bool) → eqb b.id id ≡ t → (t || contains_id id (sheet_ids bs)) ≡ true → (IsTrue (contains_id id (sheet_ids bs)) → Small id) → Small id
-    by true is k others = subst Small (eqb-true b.id id is) h.0
-    by false is k others = others k
+small_contained bs id h e = each_at Small id (sheet_ids bs) (each_map Small (λ s. s.id) bs (each_so (λ s k. k.0) bs (each_joined Small ids_on bs h))) e
 
 cards-each : (v : Version) (next : ℕ) (bs : List Sheet) (used : List ℕ) (cs : List Sheet) → next ≤ 1000001 → AllByRecursion Small (flat_map ids_on bs) → News next used (flat_map ids_on cs) → AllByRecursion (IsCardSheet bs) cs → AllByRecursion (SaysKeepings v) cs → Each (IsNewCard v next bs) ids_on used cs
 cards-each v next bs used [] high small h are says = tt

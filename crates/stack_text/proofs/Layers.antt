@@ -22,7 +22,7 @@ use Rattle.stack_text.proofs.Forms.{Reads, Each, Pairs, both, after, gives, said
 use Rattle.stack_text.proofs.Keyed.{keyed}
 use Rattle.stack_text.proofs.Flags.{number_pairs, counted_fields, lit_buttons}
 use Rattle.stack_text.proofs.Blocks.{text_of_pieces-reads, few}
-use Rattle.stack_text.proofs.Elements.{each_so}
+use Rattle.stack_text.proofs.Elements.{each_so, each_part_of}
 use Rattle.stack_text.proofs.Members.{IsNamed, Suits, IsCardPart, Keeps, SaysContent}
 use Rattle.stack_text.proofs.Productions.{name_at-reads, flag_after-reads, number_after-reads, IsNew, new_id-reads}
 use Rattle.stack_text.proofs.Parts.{script-reads, IsSaidPart, IsNewPart, background_part-reads, card_part-reads, parts-reads}
@@ -190,14 +190,6 @@ IsKeptFor p = (p.id < 10 ^ 7) × IsTrue (is_background_part p.object.kind)
 abbrev pub AreKeptFor : List Sheet → Type 0
 AreKeptFor backgrounds = AllByRecursion (λ (b : Sheet). AllByRecursion IsKeptFor b.parts) backgrounds
 
-kept_for : (backgrounds : List Sheet) (id : ℕ) → AreKeptFor backgrounds → AllByRecursion IsKeptFor (parts_of backgrounds id)
-kept_for [] id h = tt
-kept_for (b ∷ bs) id h = by (b.id == id) (kept_for bs id h.1)
-  where
-    by : (t : Bool) → AllByRecursion IsKeptFor (parts_of bs id) → AllByRecursion IsKeptFor (unwrap_or (option_map (λ (s : Sheet). s.parts) (cond t (Some b) (find (λ s. s.id == id) bs))) [])
-    by true k = h.0
-    by false k = k
-
 -- a card that is read where so many ids are used
 pub record IsNewCard (v : Version) (next : ℕ) (backgrounds : List Sheet) (used : List ℕ) (c : Sheet) : Type 0 where
   pub small : c.id < 10 ^ 7
@@ -226,7 +218,7 @@ card-reads v next backgrounds kept =
     resaid (both (card_header_at next backgrounds) _ (card_header-reads next backgrounds)
     (λ head. both layer_at _ layer-reads
     (λ layer. both (parts_at next card_part_at) _ (parts-reads v next card_part_at IsCardPart card_parts (card_part-reads v))
-    (λ parts. both (for_each (parts_of backgrounds head.1) (keeping_at v)) _ (for_each-reads (keeping_at v) (SaysKeeping v) (keeping_lines v) (parts_of backgrounds head.1) (each_so (λ p k. keeping_by-reads v p.id p.object.kind k.0 k.1) (parts_of backgrounds head.1) (kept_for backgrounds head.1 kept)))
+    (λ parts. both (for_each (parts_of backgrounds head.1) (keeping_at v)) _ (for_each-reads (keeping_at v) (SaysKeeping v) (keeping_lines v) (parts_of backgrounds head.1) (each_so (λ p k. keeping_by-reads v p.id p.object.kind k.0 k.1) (parts_of backgrounds head.1) (each_part_of IsKeptFor backgrounds head.1 kept)))
     (λ keepings. gives (card head layer parts keepings))
     (λ y. y.keepings) (λ keepings used y h. ap (λ (z : Sheet). z.keepings) h))
     (λ y. y.parts) (λ parts used y h. ap (λ (z : Sheet). z.parts) h.1))

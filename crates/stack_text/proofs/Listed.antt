@@ -19,13 +19,13 @@ use Rattle.stack_text.specs.declared.sheets.Part.{Part}
 use Rattle.stack_text.specs.declared.sheets.Keeping.{Keeping}
 use Rattle.stack_text.specs.Document.{Sheet, Document, contains_id, part_ids, sheet_ids, parts_of, background_or}
 use Rattle.stack_text.specs.Listing.{content_by, content_at, part_of, keeping_of, background_sheet, card_sheet, document_of, part_entry, object_entries, parts_entry, contents_on, written, lit, all_objects, all_parts, all_contents, content_of}
-use Rattle.stack_text.proofs.Elements.{each_so, each_both, each_parts, each_joined, each_mapped}
+use Rattle.stack_text.proofs.Elements.{each_so, each_both, each_parts, each_joined, each_mapped, each_part_of}
 use Rattle.stack_text.proofs.Entries.{found}
 use Rattle.stack_text.proofs.Forms.{Pairs}
 use Rattle.stack_text.proofs.Members.{Suits, Keeps}
 use Rattle.stack_text.proofs.Listable.{IsBackgroundSheet, IsCardSheet, IsDocument}
 use Rattle.stack_text.proofs.DocumentIds.{keys-objects, keys-parts, objects_once, layers_once}
-use Rattle.stack_text.proofs.ContentIds.{each_part_of, rows_once, each_once}
+use Rattle.stack_text.proofs.ContentIds.{rows_once, each_once}
 use Rattle.stack_text.proofs.Rows.{row_of, rows_of, content-found}
 
 -- what is kept under an id on a card, or as shared on card 0, is in the stack

@@ -13,7 +13,7 @@ use Rattle.object_table.specs.WellFormed.{IsWellFormed}
 use Rattle.object_table.specs.declared.object.Object.{Object}
 use Rattle.object_table.specs.declared.object.Kind.{Kind}
 use Rattle.object_table.specs.declared.object.Kind.TheVariants.{Stack, Background, Card, CardButton, BackgroundButton, CardField, BackgroundField}
-use Rattle.stack_text.specs.Document.{Document, contains_id, part_ids, sheet_ids, ids_in}
+use Rattle.stack_text.specs.Document.{Document, contains_id, part_ids, sheet_ids, ids_in, Sheet}
 use Rattle.stack_text.specs.Listing.{part_of, background_sheet, card_sheet, document_of, part_entry, object_entries, parts_entry, all_objects, all_parts, content_of}
 use Rattle.stack_text.proofs.Elements.{each_append, each_so, each_both, each_map, each_join}
 use Rattle.stack_text.proofs.Counts.{times, times-append, times_some, some_times}
@@ -34,16 +34,12 @@ module _ (s : Content) where
   pub cards-listed : (ids : List ℕ) → sheet_ids (map (card_sheet s) ids) ≡ ids
   cards-listed ids = map-map (λ c. c.id) (card_sheet s) ids ∙ map-id ids
 
-  pub background_parts-listed : (ids : List ℕ) → parts_on (map (background_sheet s) ids) ≡ flat_map (parts_at s) ids
-  background_parts-listed [] = refl
-  background_parts-listed (id ∷ ids) = ap₂ (λ these rest. these ++ rest) (parts-listed 0 (parts_at s id)) (background_parts-listed ids)
-
-  pub card_parts-listed : (ids : List ℕ) → parts_on (map (card_sheet s) ids) ≡ flat_map (parts_at s) ids
-  card_parts-listed [] = refl
-  card_parts-listed (id ∷ ids) = ap₂ (λ these rest. these ++ rest) (parts-listed id (parts_at s id)) (card_parts-listed ids)
+  sheet_parts-listed : (f : ℕ → Sheet) → ((id : ℕ) → part_ids (f id).parts ≡ parts_at s id) → (ids : List ℕ) → parts_on (map f ids) ≡ flat_map (parts_at s) ids
+  sheet_parts-listed f is [] = refl
+  sheet_parts-listed f is (id ∷ ids) = ap₂ (λ these rest. these ++ rest) (is id) (sheet_parts-listed f is ids)
 
   pub times-listed : (q : ℕ) → times q (ids_in (document_of s)) ≡ times q s.backgrounds + times q (flat_map (parts_at s) s.backgrounds) + times q s.cards + times q (flat_map (parts_at s) s.cards)
-  times-listed q = times-ids q (document_of s) ∙ rw (backgrounds-listed s.backgrounds, background_parts-listed s.backgrounds, cards-listed s.cards, card_parts-listed s.cards) refl
+  times-listed q = times-ids q (document_of s) ∙ rw (backgrounds-listed s.backgrounds, sheet_parts-listed (background_sheet s) (λ id. parts-listed 0 (parts_at s id)) s.backgrounds, cards-listed s.cards, sheet_parts-listed (card_sheet s) (λ id. parts-listed id (parts_at s id)) s.cards) refl
 
 -- an object that is there, as its document has it
 there : (p : Kind → Bool) (o : Option Object) → IsTrue (unwrap_or (option_map (λ x. p x.kind) o) false) → o ≡ Some (unwrap_or o (record { name = []; script = []; kind = Stack }))

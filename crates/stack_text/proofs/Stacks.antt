@@ -19,7 +19,7 @@ use Rattle.object_table.specs.declared.object.Kind.TheVariants.{Stack, Backgroun
 use Rattle.stack_text.specs.declared.sheets.Part.{Part}
 use Rattle.stack_text.specs.Document.{Sheet, Document, contains_id, parts_of, background_or, backgrounds_of, ids_in}
 use Rattle.stack_text.specs.Listing.{object_or, content_by, part_of, keeping_of, background_sheet, card_sheet, document_of, object_entries, all_objects, content_of}
-use Rattle.stack_text.proofs.Elements.{each_so, each_map, each_both}
+use Rattle.stack_text.proofs.Elements.{each_so, each_map, each_both, each_at}
 use Rattle.stack_text.proofs.Counts.{times, times_none, times_some, times_once, once_times}
 use Rattle.stack_text.proofs.Entries.{len_without_first}
 use Rattle.stack_text.proofs.DocumentIds.{keys-objects, with_stack_once}
@@ -151,14 +151,7 @@ module _ (s : Content) (is : IsWellFormed s) where
   background_there id h = is.backgrounds.each (background_or (object_or s id).kind) ∙ on_listed (get s.objects id) (λ b. IsTrue (has_kind is_background s b)) h (is.on_background id)
 
   parts_at_known : (b : ℕ) → IsTrue (contains_id b s.backgrounds) → AllByRecursion (λ f. IsTrue (has_kind is_background_part s f)) (parts_at s b)
-  parts_at_known b h = at b s.backgrounds h (background_parts_live s is)
-    where
-      at : (x : ℕ) (ids : List ℕ) → IsTrue (contains_id x ids) → AllByRecursion (λ c. AllByRecursion (λ f. IsTrue (has_kind is_background_part s f)) (parts_at s c)) ids → AllByRecursion (λ f. IsTrue (has_kind is_background_part s f)) (parts_at s x)
-      at x [] h k = absurd (true≢false (sym h))
-      at x (id ∷ ids) h k = elim (or_cases (id == x) (contains_id x ids) h) [
-        | inl e ↦ let same : id ≡ x = grind (arith, nat_tests) in subst (λ y. AllByRecursion (λ f. IsTrue (has_kind is_background_part s f)) (parts_at s y)) same k.0
-        | inr e ↦ at x ids e k.1
-      ]
+  parts_at_known b h = each_at (λ c. AllByRecursion (λ f. IsTrue (has_kind is_background_part s f)) (parts_at s c)) b s.backgrounds (background_parts_live s is) h
 
   text_kept : (field card : ℕ) → IsText (unwrap_or (text_at s field card) [])
   text_kept field card = some_text (text_at s field card) (is.field_texts field card)
