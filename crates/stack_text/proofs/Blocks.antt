@@ -2,7 +2,7 @@
 use Rattle.std.proofs.Common.{◌≡◌, ℕ, zero, suc, ◌+◌, ◌-◌, ◌<◌, ◌≤◌, Bool, true, false, cond, ltb, leb, List, [], ◌∷◌, ◌++◌, length, map, refl, sym, ap, subst, ◌∙◌, arith, ◌&&◌, ◌||◌}
 use Rattle.std.specs.Prelude.{◌==◌, not, codes, decimal}
 use Rattle.std.specs.List.{AllByRecursion, join_with_byte, slice_split, onto_first}
-use Rattle.std.proofs.lemmas.Bool.{lt-ltb, ltb-true}
+use Rattle.std.proofs.lemmas.Bool.{lt-ltb, ltb-true, and_parts, or_parts, not-true}
 use Rattle.std.proofs.lemmas.Bool.Decides.{nat_tests}
 use Rattle.std.proofs.lemmas.List.{append-nil, length-append}
 use Rattle.std.proofs.lemmas.List.Splits.{join_with_byte-slice_split, slice_split_none, slice_split_at}
@@ -75,22 +75,14 @@ abbrev joined : List (List ℕ) → List ℕ
 joined ps = join_with_byte 13 ps
 
 piece_tests : (alone : Bool) (room : ℕ) (p : List ℕ) → is_piece alone room p ≡ true → (has 13 p ≡ false) × (length p < room) × ((alone && (length p == 0)) ≡ false)
-piece_tests alone room p h = by (has 13 p) (ltb (length p) room) (alone && (length p == 0)) refl refl refl h
-  where
-    by : (a b c : Bool) → has 13 p ≡ a → ltb (length p) room ≡ b → (alone && (length p == 0)) ≡ c → (not a && (b && not c)) ≡ true → (has 13 p ≡ false) × (length p < room) × ((alone && (length p == 0)) ≡ false)
-    by false true false x y z e = (x, ltb-true _ _ y, z)
-    by true b c x y z e = absurd cc
-    by false false c x y z e = absurd cc
-    by false true true x y z e = absurd cc
+piece_tests alone room p h =
+    let p0 = and_parts (not (has 13 p)) (ltb (length p) room && not (alone && (length p == 0))) h in
+    let p1 = and_parts (ltb (length p) room) (not (alone && (length p == 0))) p0.1 in
+    (not-true _ p0.0, ltb-true _ _ p1.0, not-true _ p1.1)
 
 none_has : (p : List ℕ) → has 13 p ≡ false → AllByRecursion (λ b. is_return b ≡ false) p
 none_has [] h = tt
-none_has (b ∷ p) h = by (b == 13) (has 13 p) refl refl h (none_has p)
-  where
-    by : (x y : Bool) → (b == 13) ≡ x → has 13 p ≡ y → (x || y) ≡ false → (has 13 p ≡ false → AllByRecursion (λ c. is_return c ≡ false) p) → (is_return b ≡ false) × AllByRecursion (λ c. is_return c ≡ false) p
-    by false false u v e others = (u, others v)
-    by true y u v e others = absurd cc
-    by false true u v e others = absurd cc
+none_has (b ∷ p) h = let q = or_parts (b == 13) (has 13 p) h in (q.0, none_has p q.1)
 
 has_none : (p : List ℕ) → AllByRecursion (λ b. is_return b ≡ false) p → has 13 p ≡ false
 has_none [] h = refl
@@ -204,7 +196,7 @@ text_of_pieces-reads n =
     (λ used t h. ((subst IsText (sym h.1) (joined_text (n == 1) (delimited 13 t) h.0.1), h.0.0), append-nil (map barred (delimited 13 t)), refl))
     (λ used t h. ((h.1, subst (λ k. FitInTurn (k == 1) 30001 (delimited 13 t)) h.1 (pieces-fit t h.0)), sym (joined-pieces t)))
 
-few_pieces : (t : List ℕ) → IsText t → (length (delimited 13 t) < 10000000) × (leb (length (delimited 13 t)) 30001 ≡ true)
+pub few_pieces : (t : List ℕ) → IsText t → (length (delimited 13 t) < 10000000) × (leb (length (delimited 13 t)) 30001 ≡ true)
 few_pieces t h = (omega (arith, few), grind (arith, nat_tests, few))
   where
     least : (ps : List (List ℕ)) → length ps ≤ length (joined ps) + 1
@@ -225,7 +217,3 @@ block-reads key plain =
     said (both (line_after key count_at) (λ n. text_of_pieces n) (keyed key count_at piece_counts plain) text_of_pieces-reads (λ t. length (delimited 13 t)) (λ n used t h. h.1))
     (λ used t h. h.1.0)
     (λ used t h. (few_pieces t h, (h, refl)))
-
--- behind an own number of pieces
-pub few : (t : List ℕ) → IsText t → (length (delimited 13 t) < 10000000) × (leb (length (delimited 13 t)) 30001 ≡ true)
-few t h = few_pieces t h

@@ -3,9 +3,9 @@ use Rattle.std.proofs.Common.{◌≡◌, ℕ, ◌+◌, ◌<◌, Bool, true, fals
 use Rattle.std.specs.Prelude.{◌==◌, position, option_and_then, not}
 use Rattle.std.specs.List.{list_any, position_or_len}
 use Rattle.std.specs.Cmp.Lexicographic.{pointwise, same_text}
-use Rattle.std.proofs.lemmas.Option.{option_and_then_some}
+use Rattle.std.proofs.lemmas.Option.{option_and_then_some, cond_some}
 use Rattle.std.proofs.lemmas.Cmp.{nat_list_eq_equiv}
-use Rattle.std.proofs.lemmas.Bool.{eqb-true, lt-ltb, not-false}
+use Rattle.std.proofs.lemmas.Bool.{eqb-true, lt-ltb, not-false, or_parts}
 use Rattle.std.proofs.lemmas.Bool.Decides.{nat_tests}
 use Rattle.std.proofs.lemmas.List.{take_at, drop_at, take-append-drop, get_or-take, get_or_default, length-append, length-take}
 use Rattle.std.proofs.lemmas.List.Folds.{list_any-append, list_any_none}
@@ -15,18 +15,25 @@ use Rattle.stack_text.specs.Reading.{Position, cut_at, next_line, or_bad_line, l
 use Rattle.stack_text.specs.declared.fault.FileError.{FileError}
 use Rattle.stack_text.proofs.Forms.{onto, position_at, Took, Reads, chain_ok, bad_line_if-reads}
 
+-- which side of a choice gave a value
+pub then_given : {A : Type 0} (b : Bool) (o : Option A) (y : A) → cond b o None ≡ Some y → (b ≡ true) × (o ≡ Some y)
+then_given true o y e = (refl, e)
+then_given false o y e = absurd cc
+
+pub else_given : {A : Type 0} (b : Bool) (o : Option A) (y : A) → cond b None o ≡ Some y → (b ≡ false) × (o ≡ Some y)
+else_given true o y e = absurd cc
+else_given false o y e = (refl, e)
+
+pub same_value : {A : Type 0} (x y : A) → Option.Some x ≡ Some y → x ≡ y
+same_value x y e = cc
+
 -- a byte stands in a list
 abbrev pub has : ℕ → List ℕ → Bool
 has c bytes = list_any (λ b. b == c) bytes
 
-not_first : (c x : ℕ) (l rest : List ℕ) (b : Bool) → eqb x c ≡ b → (b || has c l) ≡ false → (has c l ≡ false → position_or_len (λ y. y == c) (l ++ c ∷ rest) ≡ length l)
-    → position_or_len (λ y. y == c) (x ∷ l ++ c ∷ rest) ≡ length (x ∷ l)
-not_first c x l rest true is e others = absurd cc
-not_first c x l rest false is e others = rw (is, others e, one-add) refl
-
 first_at : (c : ℕ) (l rest : List ℕ) → has c l ≡ false → position_or_len (λ b. b == c) (l ++ c ∷ rest) ≡ length l
 first_at c [] rest e = grind (arith, nat_tests)
-first_at c (x ∷ l) rest e = not_first c x l rest (eqb x c) refl e (λ h. first_at c l rest h)
+first_at c (x ∷ l) rest e = let p = or_parts (eqb x c) (has c l) e in rw (p.0, first_at c l rest p.1, one-add) refl
 
 pub found_at : (c : ℕ) (l rest : List ℕ) → has c l ≡ false → position (λ b. b == c) (l ++ c ∷ rest) ≡ Some (length l)
 found_at c l rest e =
@@ -87,14 +94,10 @@ pub record Spelled {A : Type 0} (form : List ℕ → Option A) (Holds : A → Ty
   pub line : (x : A) → Holds x → has 10 (spell x) ≡ false
 
 pub after_prefix-found : (prefix xs rest : List ℕ) → after_prefix prefix xs ≡ Some rest → xs ≡ prefix ++ rest
-after_prefix-found prefix xs rest e = by (pointwise nat_eq (take (length prefix) xs) prefix) refl e
-  where
-    by : (b : Bool) → pointwise nat_eq (take (length prefix) xs) prefix ≡ b → cond b (Some (drop (length prefix) xs)) None ≡ Some rest → xs ≡ prefix ++ rest
-    by true is h =
-        let same : take (length prefix) xs ≡ prefix = same_text _ _ (sym is) in
-        let left : drop (length prefix) xs ≡ rest = cc in
-        sym (take-append-drop (length prefix) xs) ∙ rw (same, left) refl
-    by false is h = absurd cc
+after_prefix-found prefix xs rest e =
+    let p = cond_some (pointwise nat_eq (take (length prefix) xs) prefix) (drop (length prefix) xs) rest e in
+    let same : take (length prefix) xs ≡ prefix = same_text _ _ (sym p.0) in
+    sym (take-append-drop (length prefix) xs) ∙ rw (same, p.1) refl
 
 pub after_prefix-again : (prefix rest : List ℕ) → after_prefix prefix (prefix ++ rest) ≡ Some rest
 after_prefix-again prefix rest =

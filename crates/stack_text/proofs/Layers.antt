@@ -21,7 +21,7 @@ use Rattle.stack_text.specs.Reading.{for_each, bad_id_if, name_at, flag_at, flag
 use Rattle.stack_text.proofs.Forms.{Reads, Each, Pairs, both, after, gives, said, resaid, bad_id_if-reads, for_each-reads}
 use Rattle.stack_text.proofs.Keyed.{keyed}
 use Rattle.stack_text.proofs.Flags.{number_pairs, counted_fields, lit_buttons}
-use Rattle.stack_text.proofs.Blocks.{text_of_pieces-reads, few}
+use Rattle.stack_text.proofs.Blocks.{text_of_pieces-reads, few_pieces}
 use Rattle.stack_text.proofs.Elements.{each_so, each_part_of}
 use Rattle.stack_text.proofs.Members.{IsNamed, Suits, IsCardPart, Keeps, SaysContent}
 use Rattle.stack_text.proofs.Productions.{name_at-reads, flag_after-reads, number_after-reads, IsNew, new_id-reads}
@@ -114,7 +114,7 @@ own_text-reads due small =
     (both (text_of_pieces head.1) _ (text_of_pieces-reads head.1) (λ t. gives (own_text due t)) (λ k. text_or_none k.content) (λ t used k h. ap (λ (z : Keeping). text_or_none z.content) h)))
     (λ k. (due, length (delimited 13 (text_or_none k.content)))) (λ head used k h. ap₂ (λ (a b : ℕ). (a, b)) (sym (eqb-true _ _ (not-false _ h.0))) h.1.0.1))
     (λ used k h. ((h.1.1.0.0, h.1.1.1), append-nil (block (numbered (codes "text") due) (text_or_none k.content)), refl))
-    (λ used k h. ((small, few (text_or_none k.content) h.0), (not_from_true _ (eq-eqb due due refl), ((h.0, refl), h.1))))
+    (λ used k h. ((small, few_pieces (text_or_none k.content) h.0), (not_from_true _ (eq-eqb due due refl), ((h.0, refl), h.1))))
 
 abbrev own_hilite : ℕ → Bool → Keeping
 own_hilite due b = record { part = due; content = Lit b }

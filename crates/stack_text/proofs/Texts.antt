@@ -10,7 +10,7 @@ use Rattle.std.proofs.lemmas.List.Elements.{All-from_recursion, recursion_from_A
 use Rattle.ht_values.specs.Text.{IsText}
 use Rattle.stack_text.specs.Words.{hex_digit, hex_value, is_plain, escape_of, spelled_byte, spelled, char_at, unspelled_within, unspelled}
 use Rattle.stack_text.specs.Reading.{short_text}
-use Rattle.stack_text.proofs.Keyed.{has, has-append, Spelled}
+use Rattle.stack_text.proofs.Keyed.{has, has-append, Spelled, then_given, else_given, same_value}
 use Rattle.stack_text.proofs.Spelled.{unspelled-nil, unspelled-step}
 
 -- ---- digits
@@ -76,14 +76,10 @@ plain-high b e = grind (arith, nat_tests)
 escape-found : (o p : Option ℕ) (b : ℕ) → escape_of o p ≡ Some b → (h : ℕ) × (l : ℕ) × (o ≡ Some h) × (p ≡ Some l) × (is_plain b ≡ false) × (b ≡ h * 16 + l)
 escape-found None p b e = absurd cc
 escape-found (Some h) None b e = absurd cc
-escape-found (Some h) (Some l) b e = by (is_plain (h * 16 + l)) refl e
-  where
-    by : (t : Bool) → is_plain (h * 16 + l) ≡ t → cond t None (Some (h * 16 + l)) ≡ Some b
-        → (high : ℕ) × (low : ℕ) × (Option.Some h ≡ Some high) × (Option.Some l ≡ Some low) × (is_plain b ≡ false) × (b ≡ high * 16 + low)
-    by true t is = absurd cc
-    by false t is =
-        let same : h * 16 + l ≡ b = cc in
-        (h, l, refl, refl, rw (← same) t, sym same)
+escape-found (Some h) (Some l) b e =
+    let p = else_given (is_plain (h * 16 + l)) (Some (h * 16 + l)) b e in
+    let same = same_value (h * 16 + l) b p.1 in
+    (h, l, refl, refl, rw (← same) p.0, sym same)
 
 -- a byte, and what is left
 abbrev Char : Type 0
@@ -123,16 +119,8 @@ escaped_char x c d after b rest is e = by (escape_of (hex_value c) (hex_value d)
 
 char-found : (bytes : List ℕ) (b : ℕ) (rest : List ℕ) → char_at bytes ≡ Some (b, rest) → (b < 256) × (bytes ≡ spelled_byte b ++ rest)
 char-found [] b rest e = absurd cc
-char-found (x ∷ []) b rest e = by (is_plain x) refl e
-  where
-    by : (t : Bool) → is_plain x ≡ t → cond t (char x []) None ≡ char b rest → (b < 256) × (x ∷ [] ≡ spelled_byte b ++ rest)
-    by true t h = one_char x [] b rest t h
-    by false t h = absurd cc
-char-found (x ∷ c ∷ []) b rest e = by (is_plain x) refl e
-  where
-    by : (t : Bool) → is_plain x ≡ t → cond t (char x (c ∷ [])) None ≡ char b rest → (b < 256) × (x ∷ c ∷ [] ≡ spelled_byte b ++ rest)
-    by true t h = one_char x (c ∷ []) b rest t h
-    by false t h = absurd cc
+char-found (x ∷ []) b rest e = let p = then_given (is_plain x) (char x []) (b, rest) e in one_char x [] b rest p.0 p.1
+char-found (x ∷ c ∷ []) b rest e = let p = then_given (is_plain x) (char x (c ∷ [])) (b, rest) e in one_char x (c ∷ []) b rest p.0 p.1
 char-found (x ∷ c ∷ d ∷ after) b rest e = by (is_plain x) (eqb x 92) refl refl e
   where
     by : (t u : Bool) → is_plain x ≡ t → eqb x 92 ≡ u → cond t (char x (c ∷ d ∷ after)) (cond u (before after (escape_of (hex_value c) (hex_value d))) None) ≡ char b rest
@@ -222,14 +210,9 @@ spelled-line (b ∷ t) fits = has-append 10 (spelled_byte b) (spelled t) (byte-l
 short-found : (word t : List ℕ) → short_text word ≡ Some t → IsText t × (word ≡ spelled t)
 short-found word t e =
     option_and_then_some (λ x. cond (ltb 30000 (length x)) None (Some x)) (unspelled word) t e (λ x is short.
+    let p = else_given (ltb 30000 (length x)) (Some x) t short in
     let f = text-found (length word) word x is in
-    by x (ltb 30000 (length x)) refl short f)
-  where
-    by : (x : List ℕ) (b : Bool) → ltb 30000 (length x) ≡ b → cond b None (Some x) ≡ Some t → AllByRecursion (λ y. y < 256) x × (word ≡ spelled x) → IsText t × (word ≡ spelled t)
-    by x true is h f = absurd cc
-    by x false is h f =
-        let same : x ≡ t = cc in
-        subst (λ (y : List ℕ). IsText y × (word ≡ spelled y)) same (record { short = ltb-false _ _ is; bytes = All-from_recursion (λ y. y < 256) x f.0 }, f.1)
+    subst (λ (y : List ℕ). IsText y × (word ≡ spelled y)) (same_value x t p.1) (record { short = ltb-false _ _ p.0; bytes = All-from_recursion (λ y. y < 256) x f.0 }, f.1))
 
 text-bytes : (t : List ℕ) → IsText t → AllByRecursion (λ b. b < 256) t
 text-bytes t h = recursion_from_All (λ b. b < 256) t h.bytes

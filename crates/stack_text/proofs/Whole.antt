@@ -1,5 +1,5 @@
 -- The whole of a stack text, read and spelled.
-use Rattle.std.proofs.Common.{◌≡◌, ℕ, ◌≤◌, Bool, true, false, cond, eqb, List, [], ◌∷◌, ◌++◌, length, Result, Ok, Err, Some, None, refl, sym, ap, subst, ◌∙◌, append_assoc, lit<, nat_eq}
+use Rattle.std.proofs.Common.{◌≡◌, ℕ, ◌≤◌, Bool, true, false, cond, eqb, List, [], ◌∷◌, ◌++◌, length, Result, Ok, Err, Some, None, refl, sym, ap, subst, ◌∙◌, append_assoc, lit<, nat_eq, inl, inr}
 use Rattle.std.specs.Prelude.{codes, not, flat_map}
 use Rattle.std.specs.Cmp.Lexicographic.{pointwise, same_text}
 use Rattle.std.specs.List.{AllByRecursion, list_all}
@@ -21,6 +21,7 @@ use Rattle.stack_text.proofs.Members.{IsNamed}
 use Rattle.stack_text.proofs.Productions.{name_at-reads, count_after-reads}
 use Rattle.stack_text.proofs.Parts.{script-reads, IsSaidPart, IsNewPart}
 use Rattle.stack_text.proofs.Layers.{IsNewBackground, background-reads, IsKeptFor, AreKeptFor, IsNewCard, card-reads}
+use Rattle.stack_text.proofs.Flags.{chosen-found}
 
 -- ---- forms that go to the end
 
@@ -203,12 +204,11 @@ version_word first = codes "1"
 version_word second = codes "2"
 
 version-found : (word : List ℕ) (v : Version) → version_at word ≡ Some v → Unit {0} × (word ≡ version_word v)
-version-found word v e = by (pointwise nat_eq word (codes "1")) (pointwise nat_eq word (codes "2")) refl refl e
-  where
-    by : (a b : Bool) → pointwise nat_eq word (codes "1") ≡ a → pointwise nat_eq word (codes "2") ≡ b → cond a (Some first) (cond b (Some second) None) ≡ Some v → Unit {0} × (word ≡ version_word v)
-    by true b p q is = let same : first ≡ v = cc in (tt, same_text _ _ (sym p) ∙ ap version_word same)
-    by false true p q is = let same : second ≡ v = cc in (tt, same_text _ _ (sym q) ∙ ap version_word same)
-    by false false p q is = absurd cc
+version-found word v e =
+    elim (chosen-found word (codes "1") (codes "2") first second v e) [
+      | inl h ↦ (tt, rw h.0 h.1)
+      | inr h ↦ (tt, rw h.0 h.1)
+    ]
 
 version-again : (v : Version) → version_at (version_word v) ≡ Some v
 version-again first = refl
