@@ -142,17 +142,9 @@ module _ (d : Document) (is : IsDocument d) where
   on_none : (k : Kind) → background_of k ≡ None → IfSome (background_of k) (λ b. IsTrue (has_kind is_background (content_of d) b))
   on_none k e = subst (λ o. IfSome o (λ b. IsTrue (has_kind is_background (content_of d) b))) (sym e) tt
 
-  part_on_none : (k : Kind) → IsTrue (is_background_part k) → background_of k ≡ None
-  part_on_none (Card b c) h = absurd (true≢false (sym h))
-  part_on_none k h = refl
-
-  card_part_on_none : (k : Kind) → IsTrue (is_card_part k) → background_of k ≡ None
-  card_part_on_none (Card b c) h = absurd (true≢false (sym h))
-  card_part_on_none k h = refl
-
-  background_on_none : (k : Kind) → IsTrue (is_background k) → background_of k ≡ None
-  background_on_none (Card b c) h = absurd (true≢false (sym h))
-  background_on_none k h = refl
+  on_none_of : (p : Kind → Bool) → ((b : ℕ) (c : Bool) → p (Card b c) ≡ false) → (k : Kind) → IsTrue (p k) → background_of k ≡ None
+  on_none_of p never (Card b c) h = absurd (true≢false (sym h ∙ never b c))
+  on_none_of p never k h = refl
 
   card_on_one : (k : Kind) → IsTrue (contains_id (background_or k) (sheet_ids d.backgrounds)) → IfSome (background_of k) (λ b. IsTrue (has_kind is_background (content_of d) b))
   card_on_one (Card b c) h = has is_background _ (ids-background d is) b ∙ h
@@ -162,8 +154,8 @@ module _ (d : Document) (is : IsDocument d) where
   cards_are_on card =
       on_object (get (content_of d).objects card) _
       (at_each OnBackground (each_object OnBackground d (on_none d.stack.kind (ap background_of is.stack))
-      (each_so {Q = OnSheet OnBackground} (λ b h. (on_none b.object.kind (background_on_none b.object.kind h.is), each_so {Q = λ (x : Part). OnBackground x.object} (λ p q. on_none p.object.kind (part_on_none p.object.kind q.0)) b.parts h.parts)) d.backgrounds is.backgrounds)
-      (each_so {Q = OnSheet OnBackground} (λ c h. (card_on_one c.object.kind h.on, each_so {Q = λ (x : Part). OnBackground x.object} (λ p q. on_none p.object.kind (card_part_on_none p.object.kind q.0)) c.parts h.parts)) d.cards is.cards)) card)
+      (each_so {Q = OnSheet OnBackground} (λ b h. (on_none b.object.kind (on_none_of is_background (λ x c. refl) b.object.kind h.is), each_so {Q = λ (x : Part). OnBackground x.object} (λ p q. on_none p.object.kind (on_none_of is_background_part (λ x c. refl) p.object.kind q.0)) b.parts h.parts)) d.backgrounds is.backgrounds)
+      (each_so {Q = OnSheet OnBackground} (λ c h. (card_on_one c.object.kind h.on, each_so {Q = λ (x : Part). OnBackground x.object} (λ p q. on_none p.object.kind (on_none_of is_card_part (λ x c. refl) p.object.kind q.0)) c.parts h.parts)) d.cards is.cards)) card)
 
   has_card : (id : ℕ) → IsTrue (has_kind is_background (content_of d) id) → (card : ℕ) × (background_at (content_of d) card ≡ Some id)
   has_card id h =

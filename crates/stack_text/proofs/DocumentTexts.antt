@@ -4,6 +4,8 @@ use Rattle.std.specs.Prelude.{IsTrue, flat_map, Ok}
 use Rattle.std.specs.List.{AllByRecursion, list_all}
 use Rattle.std.proofs.lemmas.Bool.{eqb-true, and_parts}
 use Rattle.std.proofs.lemmas.List.{length-append, length-map}
+use Rattle.std.proofs.lemmas.List.Sums.{AllPass-from_list_all, list_all-from_AllPass}
+use Rattle.std.proofs.lemmas.List.Elements.{All-from_recursion, recursion_from_All}
 use Rattle.stack_text.specs.declared.sheets.Part.{Part}
 use Rattle.stack_text.specs.declared.sheets.Keeping.{Keeping}
 use Rattle.stack_text.specs.Document.{Sheet, Document, contains_id, sheet_ids, part_ids, parts_of, background_or, backgrounds_of, ids_on, ids_in}
@@ -56,14 +58,6 @@ cards-news v next bs used (c ∷ cs) h =
       ((record { is = h.0.is; named = h.0.named; parts = p.1; on = h.0.on; keepings = k.0 }, q.1.0), (k.1, q.1.1)),
     )
 
-each_from_all : {X : Type 0} (p : X → Bool) (xs : List X) → list_all p xs ≡ true → AllByRecursion (λ x. IsTrue (p x)) xs
-each_from_all p [] e = tt
-each_from_all p (x ∷ xs) e = let q = and_parts (p x) (list_all p xs) e in (q.0, each_from_all p xs q.1)
-
-all_from_each : {X : Type 0} (p : X → Bool) (xs : List X) → AllByRecursion (λ x. IsTrue (p x)) xs → list_all p xs ≡ true
-all_from_each p [] h = refl
-all_from_each p (x ∷ xs) h = let others = all_from_each p xs h.1 in rw (h.0, others) refl
-
 document-from_read : (v : Version) (d : Document) → IsRead v d → IsDocument d × Says v d
 document-from_read v d h =
     let b = backgrounds-news v d.next [] d.backgrounds h.backgrounds in
@@ -80,7 +74,7 @@ document-from_read v d h =
         some_background = h.some_background;
         backgrounds = b.1.0;
         cards = c.1.0;
-        some_card = each_from_all (λ x. contains_id x.id (backgrounds_of d.cards)) d.backgrounds h.have;
+        some_card = recursion_from_All _ d.backgrounds (AllPass-from_list_all (λ x. contains_id x.id (backgrounds_of d.cards)) d.backgrounds h.have);
       },
       (b.1.1, c.1.1),
     )
@@ -175,7 +169,7 @@ read-from_document v d h says =
       some_card = some_card d.backgrounds d.cards h.some_background h.some_card;
       few_cards = omega arith;
       cards = cards-each v d.next d.backgrounds (adding [] (flat_map ids_on d.backgrounds)) d.cards high small news.1 h.cards says.1;
-      have = all_from_each (λ b. contains_id b.id (backgrounds_of d.cards)) d.backgrounds h.some_card;
+      have = list_all-from_AllPass (λ b. contains_id b.id (backgrounds_of d.cards)) d.backgrounds (All-from_recursion _ d.backgrounds h.some_card);
     }
   where
     below_high : (next : ℕ) → next ≤ 1000001 → (id : ℕ) → (0 < id) × (id < next) → Small id

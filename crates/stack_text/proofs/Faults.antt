@@ -155,9 +155,7 @@ more_is_bad_line bytes s is = more_than_text bytes s (stack_again bytes s is)
 cut_text : (bytes : List ℕ) (b : ℕ) (behind : List ℕ) (t : Content) → stack_in (bytes ++ b ∷ behind) ≡ Ok t → (o : Result Content FileError) → stack_in bytes ≡ o → o ≡ Err Truncated
 cut_text bytes b behind t whole (Ok s) e = absurd (let more = more_than_text bytes s e b behind in let no = sym whole ∙ more.1 in cc)
 cut_text bytes b behind t whole (Err Truncated) e = refl
-cut_text bytes b behind t whole (Err (BadLine n)) e = absurd (let no = sym whole ∙ fault_stays bytes (b ∷ behind) (BadLine n) e (λ h. absurd cc) in cc)
-cut_text bytes b behind t whole (Err (BadId n)) e = absurd (let no = sym whole ∙ fault_stays bytes (b ∷ behind) (BadId n) e (λ h. absurd cc) in cc)
-cut_text bytes b behind t whole (Err TooMany) e = absurd (let no = sym whole ∙ fault_stays bytes (b ∷ behind) TooMany e (λ h. absurd cc) in cc)
+cut_text bytes b behind t whole (Err f) e = absurd (let no = sym whole ∙ fault_stays bytes (b ∷ behind) f e (λ h. absurd cc) in cc)
 
 pub prefix_is_truncated : PrefixIsTruncated
 prefix_is_truncated bytes s is k lt = by (drop k bytes) (take-append-drop k bytes) (length-drop k bytes)

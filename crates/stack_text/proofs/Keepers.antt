@@ -205,34 +205,24 @@ module _ (s : Content) (is : HasLayers s) (part card : ℕ) where
   abbrev Has : Kind → Type 0
   Has k = (p : Kind → Bool) → p Stack ≡ false → has_kind p s part ≡ p k
 
+  nothing : {X : Type 0} (b : Bool) → ◌≡◌ {A = Option X} (cond b None None) None
+  nothing true = refl
+  nothing false = refl
+
+  own_text_where : (b c : Bool) → cond b (Some own_text) None ≡ cond ((true && b) || (false && c)) (Some own_text) None
+  own_text_where true c = refl
+  own_text_where false c = refl
+
   -- a text where one is kept
   text_by : (k : Kind) → Has k → cond (is_listed s part card) (written (content_by k own_text own_lit)) None ≡ cond (keeps_text s part card) (Some own_text) None
-  text_by k has = go k has
-    where
-      nothing : {X : Type 0} (b : Bool) → ◌≡◌ {A = Option X} (cond b None None) None
-      nothing true = refl
-      nothing false = refl
-
-      go : (x : Kind) → Has x → cond (is_listed s part card) (written (content_by x own_text own_lit)) None ≡ cond (keeps_text s part card) (Some own_text) None
-      go (CardField a b) h = rw (own_same s is part card (h is_card_part refl), h is_card_field refl, h is_background_field refl) (by (contains_id part (parts_at s card)))
-        where
-          by : (t : Bool) → cond t (Some own_text) None ≡ cond ((true && t) || (false && is_kept_for s part card)) (Some own_text) None
-          by true = refl
-          by false = refl
-      go (BackgroundField a b c) h = rw (shared_same s is part card (h is_background_part refl), h is_card_field refl, h is_background_field refl) refl
-      go k h = rw (h is_card_field refl, h is_background_field refl) (nothing (is_listed s part card))
+  text_by (CardField a b) h = rw (own_same s is part card (h is_card_part refl), h is_card_field refl, h is_background_field refl) (own_text_where (contains_id part (parts_at s card)) (is_kept_for s part card))
+  text_by (BackgroundField a b c) h = rw (shared_same s is part card (h is_background_part refl), h is_card_field refl, h is_background_field refl) refl
+  text_by k h = rw (h is_card_field refl, h is_background_field refl) (nothing (is_listed s part card))
 
   -- a hilite where one is kept
   hilite_by : (k : Kind) → Has k → cond (is_listed s part card) (lit (content_by k own_text own_lit)) None ≡ cond (keeps_hilite s part card) (Some own_lit) None
-  hilite_by k has = go k has
-    where
-      nothing : {X : Type 0} (b : Bool) → ◌≡◌ {A = Option X} (cond b None None) None
-      nothing true = refl
-      nothing false = refl
-
-      go : (x : Kind) → Has x → cond (is_listed s part card) (lit (content_by x own_text own_lit)) None ≡ cond (keeps_hilite s part card) (Some own_lit) None
-      go (BackgroundButton a b) h = rw (shared_same s is part card (h is_background_part refl), h is_background_button refl) refl
-      go k h = rw (h is_background_button refl) (nothing (is_listed s part card))
+  hilite_by (BackgroundButton a b) h = rw (shared_same s is part card (h is_background_part refl), h is_background_button refl) refl
+  hilite_by k h = rw (h is_background_button refl) (nothing (is_listed s part card))
 
   kinds_of : (o : Option Object) (p : Kind → Bool) → p Stack ≡ false → passes p o ≡ p (unwrap_or o (record { name = []; script = []; kind = Stack })).kind
   kinds_of None p e = sym e

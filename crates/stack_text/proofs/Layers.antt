@@ -2,7 +2,7 @@
 use Rattle.std.proofs.Common.{◌≡◌, ℕ, ◌<◌, ◌≤◌, ◌^◌, Bool, true, false, true≢false, cond, eqb, List, [], ◌∷◌, ◌++◌, length, refl, sym, ap, ap₂, subst, arith, Some}
 use Rattle.std.specs.Prelude.{◌==◌, codes, not, IsTrue, flat_map, find, option_map, unwrap_or}
 use Rattle.std.specs.List.{AllByRecursion}
-use Rattle.std.proofs.lemmas.Bool.{eqb-true, not-false, eq-eqb, not_from_true}
+use Rattle.std.proofs.lemmas.Bool.{eqb-true, not-false, eq-eqb, not_from_true, or_left, or_right}
 use Rattle.std.proofs.lemmas.Bool.Decides.{nat_tests}
 use Rattle.std.proofs.lemmas.List.{append-nil}
 use Rattle.ht_values.specs.Text.{IsText}
@@ -56,22 +56,6 @@ pub record IsNewBackground (v : Version) (next : ℕ) (used : List ℕ) (b : She
   pub parts : Each (IsNewPart (IsSaidPart v) next) (λ p. p.id ∷ []) (used ++ b.id ∷ []) b.parts
   pub none : b.keepings ≡ []
 
-background_parts : (v : Version) (p : Part) → IsSaidPart v p → IsTrue (is_part p.object.kind)
-background_parts v p h = by p.object.kind h.0.0
-  where
-    by : (k : Kind) → IsTrue (is_background_part k) → IsTrue (is_part k)
-    by (BackgroundButton a b) e = refl
-    by (BackgroundField a b c) e = refl
-    by k e = absurd (true≢false (sym e))
-
-card_parts : (p : Part) → IsCardPart p → IsTrue (is_part p.object.kind)
-card_parts p h = by p.object.kind h.0
-  where
-    by : (k : Kind) → IsTrue (is_card_part k) → IsTrue (is_part k)
-    by (CardButton a b) e = refl
-    by (CardField a b) e = refl
-    by k e = absurd (true≢false (sym e))
-
 abbrev background : ℕ → List ℕ × Bool × List ℕ → List Part → Sheet
 background id layer parts = record { id = id; object = record { name = layer.0; script = layer.2; kind = Background layer.1 }; parts = parts; keepings = [] }
 
@@ -90,7 +74,7 @@ unfolding background_at
 background-reads v next =
     resaid (both (background_header_at next) _ (background_header-reads next)
     (λ id. both layer_at _ layer-reads
-    (λ layer. both (parts_at next (background_part_at v)) _ (parts-reads v next (background_part_at v) (IsSaidPart v) (background_parts v) (background_part-reads v)) (λ parts. gives (background id layer parts))
+    (λ layer. both (parts_at next (background_part_at v)) _ (parts-reads v next (background_part_at v) (IsSaidPart v) (λ p h. or_right (is_card_part p.object.kind) (is_background_part p.object.kind) h.0.0) (background_part-reads v)) (λ parts. gives (background id layer parts))
     (λ y. y.parts) (λ parts used y h. ap (λ (z : Sheet). z.parts) h))
     layer_of (λ layer used y h. ap layer_of h.1))
     (λ y. y.id) (λ id used y h. ap (λ (z : Sheet). z.id) h.1.1))
@@ -217,7 +201,7 @@ unfolding card_at
 card-reads v next backgrounds kept =
     resaid (both (card_header_at next backgrounds) _ (card_header-reads next backgrounds)
     (λ head. both layer_at _ layer-reads
-    (λ layer. both (parts_at next card_part_at) _ (parts-reads v next card_part_at IsCardPart card_parts (card_part-reads v))
+    (λ layer. both (parts_at next card_part_at) _ (parts-reads v next card_part_at IsCardPart (λ p h. or_left (is_card_part p.object.kind) (is_background_part p.object.kind) h.0) (card_part-reads v))
     (λ parts. both (for_each (parts_of backgrounds head.1) (keeping_at v)) _ (for_each-reads (keeping_at v) (SaysKeeping v) (keeping_lines v) (parts_of backgrounds head.1) (each_so (λ p k. keeping_by-reads v p.id p.object.kind k.0 k.1) (parts_of backgrounds head.1) (each_part_of IsKeptFor backgrounds head.1 kept)))
     (λ keepings. gives (card head layer parts keepings))
     (λ y. y.keepings) (λ keepings used y h. ap (λ (z : Sheet). z.keepings) h))

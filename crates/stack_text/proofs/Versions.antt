@@ -1,5 +1,5 @@
 -- What a version can say, of a stack and of its document.
-use Rattle.std.proofs.Common.{◌≡◌, ◌⊎◌, inl, inr, ℕ, Bool, false, true≢false, List, [], map, Option, Some, None, IfSome, IsTrue, unwrap_or, option_and_then, refl, sym, subst}
+use Rattle.std.proofs.Common.{◌≡◌, ◌⊎◌, inl, inr, ℕ, Bool, false, true≢false, List, [], map, Option, Some, None, IfSome, IsTrue, unwrap_or, option_and_then, refl, sym, subst, ◌∙◌}
 use Rattle.std.specs.Ordering.{nat_cmp}
 use Rattle.std.specs.Cmp.{nat_cmp_total}
 use Rattle.std.specs.FinMap.{get, find, get-from_entries}
@@ -32,27 +32,14 @@ use Rattle.stack_text.proofs.Contents.{at_each, content-is}
 
 -- ---- from a document
 
-not_button : (k : Kind) → IsTrue (is_background k) → SharesHilite k
-not_button (BackgroundButton a b) h = absurd (true≢false (sym h))
-not_button k h = tt
-
-card_no_button : (k : Kind) → IsTrue (is_card k) → SharesHilite k
-card_no_button (BackgroundButton a b) h = absurd (true≢false (sym h))
-card_no_button k h = tt
-
-card_part_no_button : (k : Kind) → IsTrue (is_card_part k) → SharesHilite k
-card_part_no_button (BackgroundButton a b) h = absurd (true≢false (sym h))
-card_part_no_button k h = tt
+no_button : (p : Kind → Bool) → ((v s : Bool) → p (BackgroundButton v s) ≡ false) → (k : Kind) → IsTrue (p k) → SharesHilite k
+no_button p never (BackgroundButton v s) h = absurd (true≢false (sym h ∙ never v s))
+no_button p never k h = tt
 
 -- a card's own part has no hilite beside it
 own_unlit : (k : Kind) (x : PartContent) → IsTrue (is_card_part k) → Suits k x → Unlit x
-own_unlit (CardButton a b) (Lit l) is h = absurd h
-own_unlit (CardField a b) (Lit l) is h = absurd h
-own_unlit Stack (Lit l) is h = absurd h
-own_unlit (Background c) (Lit l) is h = absurd h
-own_unlit (Card b c) (Lit l) is h = absurd h
-own_unlit (BackgroundField a b c) (Lit l) is h = absurd h
 own_unlit (BackgroundButton a b) (Lit l) is h = absurd (true≢false (sym is))
+own_unlit k (Lit l) is h = absurd h
 own_unlit k x is h = tt
 
 abbrev AreUnlit : List (ℕ × PartContent) → Type 0
@@ -85,8 +72,8 @@ anyway (Some b) A h = inl h
 module _ (d : Document) (is : IsDocument d) where
   shared-said : Says first d → (id : ℕ) → IfSome (get (content_of d).objects id) (λ o. SharesHilite o.kind)
   shared-said says = at_each d is _ (each_object (λ o. SharesHilite o.kind) d (subst (λ k. SharesHilite k) (sym is.stack) tt)
-      (each_both {R = OnSheet (λ o. SharesHilite o.kind)} (λ b h s. (not_button b.object.kind h.is, s)) d.backgrounds is.backgrounds says.0)
-      (each_so {Q = OnSheet (λ o. SharesHilite o.kind)} (λ c h. (card_no_button c.object.kind h.is, each_so {Q = λ (x : Part). SharesHilite x.object.kind} (λ p q. card_part_no_button p.object.kind q.0) c.parts h.parts)) d.cards is.cards))
+      (each_both {R = OnSheet (λ o. SharesHilite o.kind)} (λ b h s. (no_button is_background (λ v t. refl) b.object.kind h.is, s)) d.backgrounds is.backgrounds says.0)
+      (each_so {Q = OnSheet (λ o. SharesHilite o.kind)} (λ c h. (no_button is_card (λ v t. refl) c.object.kind h.is, each_so {Q = λ (x : Part). SharesHilite x.object.kind} (λ p q. no_button is_card_part (λ v t. refl) p.object.kind q.0) c.parts h.parts)) d.cards is.cards))
 
   unlit-said : Says first d → (button card : ℕ) → IfSome (hilite_at (content_of d) button card) (λ b. (card ≡ 0) ⊎ (b ≡ false))
   unlit-said says button card = elim (cases_eq card 0) [
