@@ -1,5 +1,5 @@
 -- Texts of many lines, in pieces.
-use Rattle.std.proofs.Common.{◌≡◌, ℕ, zero, suc, ◌+◌, ◌-◌, ◌<◌, ◌≤◌, Bool, true, false, cond, ltb, leb, List, [], ◌∷◌, ◌++◌, length, map, refl, sym, ap, subst, ◌∙◌, arith, ◌&&◌, ◌||◌}
+use Rattle.std.proofs.Common.{◌≡◌, ℕ, zero, suc, ◌+◌, ◌-◌, ◌<◌, ◌≤◌, Bool, true, false, cond, ltb, leb, List, [], ◌∷◌, ◌++◌, length, map, refl, sym, ap, subst, ◌∙◌, arith, ◌&&◌}
 use Rattle.std.specs.Prelude.{◌==◌, not, codes, decimal}
 use Rattle.std.specs.List.{AllByRecursion, join_with_byte, slice_split, onto_first}
 use Rattle.std.proofs.lemmas.Bool.{lt-ltb, ltb-true, and_parts, or_parts, not-true}

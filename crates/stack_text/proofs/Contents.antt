@@ -28,8 +28,7 @@ use Rattle.stack_text.proofs.Entries.{keys, len_without_first, found_each, is_so
 use Rattle.stack_text.proofs.Forms.{Pairs}
 use Rattle.stack_text.proofs.Members.{IsNamed, Suits, Keeps}
 use Rattle.stack_text.proofs.Listable.{IsBackgroundSheet, IsDocument, parts_on}
-use Rattle.stack_text.proofs.DocumentIds.{keys-objects, keys-parts, objects_once, backgrounds_once, cards_once, background_parts_once, card_parts_once}
-use Rattle.stack_text.proofs.ContentIds.{rows_once, each_once}
+use Rattle.stack_text.proofs.DocumentIds.{keys-objects, keys-parts, objects_once, backgrounds_once, cards_once, background_parts_once, card_parts_once, rows_once, each_once}
 use Rattle.stack_text.proofs.Keepers.{HasLayers, text_listed, hilite_listed}
 use Rattle.stack_text.proofs.Listed.{objects_known, parts_known, listed_again}
 use Rattle.stack_text.proofs.Rows.{row_of, rows_of, looked_up, content-found}

@@ -8,7 +8,7 @@ use Rattle.stack_text.specs.Reading.{Position, Reader, chain, ◌>>=◌, give, n
 use Rattle.stack_text.specs.Listing.{content_of}
 use Rattle.stack_text.specs.Laws.{stack_in, first_lines, MayBeAt, FaultIsOfItsLine, PrefixIsTruncated, MoreIsBadLine}
 use Rattle.stack_text.specs.declared.fault.FileError.{FileError}
-use Rattle.stack_text.specs.declared.fault.FileError.TheVariants.{Truncated, BadLine, TooMany, BadId}
+use Rattle.stack_text.specs.declared.fault.FileError.TheVariants.{Truncated, BadLine}
 use Rattle.stack_text.proofs.Laws.{stack_again}
 use Rattle.stack_text.proofs.Forms.{chain_ok}
 use Rattle.stack_text.proofs.Fronts.{over, Failed, IsLocal, failed_by, bad_id_if-local}

@@ -1,5 +1,5 @@
 -- What a stack's document keeps for a part is what the stack keeps for it.
-use Rattle.std.proofs.Common.{◌≡◌, ◌++◌, ◌⊎◌, inl, inr, ℕ, Bool, true, false, true≢false, cond, List, [], ◌∷◌, map, Option, Some, None, IsSome, IsTrue, IfSome, unwrap_or, option_map, option_and_then, refl, sym, ap, ap₂, subst, ◌∙◌, arith, ◌==◌, ◌&&◌, ◌||◌}
+use Rattle.std.proofs.Common.{◌≡◌, ◌++◌, inl, inr, ℕ, Bool, true, false, true≢false, cond, List, [], ◌∷◌, map, Option, Some, None, IsSome, IsTrue, IfSome, unwrap_or, option_map, option_and_then, refl, sym, ap, ap₂, subst, ◌∙◌, arith, ◌==◌, ◌&&◌, ◌||◌}
 use Rattle.std.specs.Ordering.{nat_cmp}
 use Rattle.std.specs.FinMap.{get, find}
 use Rattle.std.specs.List.{AllByRecursion, flat_map}
@@ -13,7 +13,7 @@ use Rattle.object_table.specs.Kept.{text_at, hilite_at, is_on_background_of, is_
 use Rattle.object_table.specs.WellFormed.{NamesEach}
 use Rattle.object_table.specs.declared.object.Object.{Object}
 use Rattle.object_table.specs.declared.object.Kind.{Kind}
-use Rattle.object_table.specs.declared.object.Kind.TheVariants.{Stack, Background, Card, CardButton, BackgroundButton, CardField, BackgroundField}
+use Rattle.object_table.specs.declared.object.Kind.TheVariants.{Stack, CardButton, BackgroundButton, CardField, BackgroundField}
 use Rattle.std.specs.Cmp.{both_ways}
 use Rattle.std.proofs.lemmas.Simd.{map-map}
 use Rattle.object_table.proofs.Listed.{contains_id-flat_map}
@@ -23,7 +23,7 @@ use Rattle.stack_text.specs.declared.sheets.Part.{Part}
 use Rattle.stack_text.specs.declared.sheets.Keeping.{Keeping}
 use Rattle.stack_text.specs.Document.{contains_id, background_or}
 use Rattle.stack_text.specs.Listing.{object_or, content_by, content_at, part_of, keeping_of, background_sheet, card_sheet, document_of, contents_on, written, lit}
-use Rattle.stack_text.proofs.Entries.{keys, found_at}
+use Rattle.stack_text.proofs.Entries.{found_at}
 use Rattle.stack_text.proofs.Rows.{row_of, rows_of, looked_up}
 use Rattle.stack_text.proofs.Stacks.{card_on}
 use Rattle.stack_text.proofs.Live.{passes, never_both, stack_or_card, layer_cases, card_background}

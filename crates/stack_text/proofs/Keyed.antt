@@ -1,5 +1,5 @@
 -- A line that begins with a key and goes on with a word.
-use Rattle.std.proofs.Common.{◌≡◌, ℕ, ◌+◌, ◌<◌, Bool, true, false, cond, eqb, List, [], ◌∷◌, ◌++◌, length, take, drop, get_or, Result, Ok, Option, Some, None, refl, sym, ap, subst, ◌∙◌, arith, append_assoc, add-one, one-add, nat_eq, ◌||◌}
+use Rattle.std.proofs.Common.{◌≡◌, ℕ, ◌+◌, ◌<◌, Bool, true, false, cond, eqb, List, [], ◌∷◌, ◌++◌, length, take, drop, get_or, Result, Ok, Option, Some, None, refl, sym, ap, subst, ◌∙◌, arith, append_assoc, add-one, one-add, nat_eq}
 use Rattle.std.specs.Prelude.{◌==◌, position, option_and_then, not}
 use Rattle.std.specs.List.{list_any, position_or_len}
 use Rattle.std.specs.Cmp.Lexicographic.{pointwise, same_text}

@@ -10,7 +10,7 @@ use Rattle.object_table.specs.Content.{Content}
 use Rattle.object_table.specs.Objects.{parts_at}
 use Rattle.object_table.specs.declared.object.Object.{Object}
 use Rattle.object_table.specs.declared.object.Kind.{Kind}
-use Rattle.object_table.specs.declared.object.Kind.TheVariants.{Stack, Background, Card, CardButton, BackgroundButton, CardField, BackgroundField}
+use Rattle.object_table.specs.declared.object.Kind.TheVariants.{Stack, CardButton, BackgroundButton, CardField, BackgroundField}
 use Rattle.object_table.specs.Pairs.{pair_cmp}
 use Rattle.object_table.proofs.Pairs.{pair_cmp_total}
 use Rattle.stack_text.specs.declared.sheets.PartContent.{PartContent}
@@ -24,8 +24,7 @@ use Rattle.stack_text.proofs.Entries.{found}
 use Rattle.stack_text.proofs.Forms.{Pairs}
 use Rattle.stack_text.proofs.Members.{Suits, Keeps}
 use Rattle.stack_text.proofs.Listable.{IsBackgroundSheet, IsCardSheet, IsDocument}
-use Rattle.stack_text.proofs.DocumentIds.{keys-objects, keys-parts, objects_once, layers_once}
-use Rattle.stack_text.proofs.ContentIds.{rows_once, each_once}
+use Rattle.stack_text.proofs.DocumentIds.{keys-objects, keys-parts, objects_once, layers_once, rows_once, each_once}
 use Rattle.stack_text.proofs.Rows.{row_of, rows_of, content-found}
 
 -- what is kept under an id on a card, or as shared on card 0, is in the stack

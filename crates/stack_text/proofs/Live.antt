@@ -1,9 +1,8 @@
 -- What a well-formed stack holds, kind by kind.
-use Rattle.std.proofs.Common.{◌≡◌, ℕ, Bool, true, false, true≢false, List, [], ◌∷◌, Option, Some, None, IsSome, IsTrue, unwrap_or, option_map, refl, sym, ◌∙◌, arith, ◌==◌, ◌⊎◌, inl, inr}
+use Rattle.std.proofs.Common.{◌≡◌, ℕ, Bool, false, true≢false, List, [], ◌∷◌, Option, Some, None, IsSome, IsTrue, unwrap_or, option_map, refl, sym, ◌∙◌, ◌==◌, ◌⊎◌, inl}
 use Rattle.std.specs.FinMap.{get}
 use Rattle.std.specs.List.{AllByRecursion, flat_map}
 use Rattle.std.proofs.lemmas.Bool.{or_left, or_right, eq-eqb, or_cases}
-use Rattle.std.proofs.lemmas.Bool.Decides.{nat_tests}
 use Rattle.object_table.specs.Content.{Content}
 use Rattle.object_table.specs.Objects.{is_background, is_card, is_card_part, is_background_part, is_layer, has_kind, parts_at, is_stack, background_of}
 use Rattle.object_table.specs.WellFormed.{NamesEach, IsWellFormed}

@@ -1,9 +1,9 @@
 -- The objects and the parts of a well-formed stack are what its document lists.
-use Rattle.std.proofs.Common.{◌≡◌, ◌++◌, ◌⊎◌, inl, inr, ℕ, ◌+◌, ◌≤◌, Bool, false, true≢false, List, [], ◌∷◌, map, Option, Some, None, IsSome, IsTrue, unwrap_or, option_map, refl, sym, ap, ap₂, subst, ◌∙◌, arith, ◌==◌}
+use Rattle.std.proofs.Common.{◌≡◌, ◌++◌, inl, inr, ℕ, ◌+◌, ◌≤◌, Bool, false, true≢false, List, [], ◌∷◌, map, Option, Some, None, IsSome, IsTrue, unwrap_or, option_map, refl, sym, ap, ap₂, subst, ◌∙◌, arith, ◌==◌}
 use Rattle.std.specs.Cmp.{nat_cmp_total}
 use Rattle.std.specs.FinMap.{get, same_map, get-from_entries, nat_cmp-IsAntisymmetric}
 use Rattle.std.specs.List.{AllByRecursion, flat_map}
-use Rattle.std.proofs.lemmas.Bool.{or_left, or_right, or_cases}
+use Rattle.std.proofs.lemmas.Bool.{or_left, or_right}
 use Rattle.std.proofs.lemmas.Bool.Decides.{nat_tests}
 use Rattle.std.proofs.lemmas.Simd.{map-map}
 use Rattle.std.proofs.lemmas.List.{map-id}
@@ -12,7 +12,7 @@ use Rattle.object_table.specs.Objects.{is_stack, is_background, is_card, is_card
 use Rattle.object_table.specs.WellFormed.{IsWellFormed}
 use Rattle.object_table.specs.declared.object.Object.{Object}
 use Rattle.object_table.specs.declared.object.Kind.{Kind}
-use Rattle.object_table.specs.declared.object.Kind.TheVariants.{Stack, Background, Card, CardButton, BackgroundButton, CardField, BackgroundField}
+use Rattle.object_table.specs.declared.object.Kind.TheVariants.{Stack, Background, Card, CardButton, CardField}
 use Rattle.stack_text.specs.Document.{Document, contains_id, part_ids, sheet_ids, ids_in, Sheet}
 use Rattle.stack_text.specs.Listing.{part_of, background_sheet, card_sheet, document_of, part_entry, object_entries, parts_entry, all_objects, all_parts, content_of}
 use Rattle.stack_text.proofs.Elements.{each_append, each_so, each_both, each_map, each_join}

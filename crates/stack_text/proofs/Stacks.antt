@@ -15,7 +15,7 @@ use Rattle.object_table.specs.Kept.{text_at}
 use Rattle.object_table.specs.WellFormed.{NamesEach, IsWellFormed}
 use Rattle.object_table.specs.declared.object.Object.{Object}
 use Rattle.object_table.specs.declared.object.Kind.{Kind}
-use Rattle.object_table.specs.declared.object.Kind.TheVariants.{Stack, Background, Card, CardButton, BackgroundButton, CardField, BackgroundField}
+use Rattle.object_table.specs.declared.object.Kind.TheVariants.{Stack, Card, CardButton, BackgroundButton, CardField, BackgroundField}
 use Rattle.stack_text.specs.declared.sheets.Part.{Part}
 use Rattle.stack_text.specs.Document.{Sheet, Document, contains_id, parts_of, background_or, backgrounds_of, ids_in}
 use Rattle.stack_text.specs.Listing.{object_or, content_by, part_of, keeping_of, background_sheet, card_sheet, document_of, object_entries, all_objects, content_of}

@@ -1,9 +1,9 @@
 -- Texts and their one spelling.
-use Rattle.std.proofs.Common.{◌≡◌, ◌≢◌, All, ℕ, zero, suc, ◌+◌, ◌-◌, ◌*◌, ◌/◌, ◌%◌, ◌<◌, ◌≤◌, Bool, true, false, cond, eqb, ltb, leb, List, [], ◌∷◌, ◌++◌, length, Option, Some, None, refl, sym, ap, subst, ◌∙◌, arith, inl, inr, ◌&&◌}
-use Rattle.std.specs.Prelude.{◌==◌, option_map}
+use Rattle.std.proofs.Common.{◌≡◌, ◌≢◌, All, ℕ, zero, suc, ◌+◌, ◌-◌, ◌*◌, ◌/◌, ◌%◌, ◌<◌, ◌≤◌, Bool, true, false, cond, eqb, ltb, leb, List, [], ◌∷◌, ◌++◌, length, Option, Some, None, refl, sym, ap, subst, ◌∙◌, arith, ◌&&◌, append_assoc, add-one}
+use Rattle.std.specs.Prelude.{◌==◌, option_map, unwrap_or}
 use Rattle.std.specs.List.{AllByRecursion}
 use Rattle.std.proofs.lemmas.Bool.Decides.{nat_tests}
-use Rattle.std.proofs.lemmas.Bool.{cases_lt, lt-ltb, le-ltb, ltb-false, eqb-true}
+use Rattle.std.proofs.lemmas.Bool.{lt-ltb, le-ltb, ltb-false, eqb-true, agree_below_at, leb-true, false≢true}
 use Rattle.std.proofs.lemmas.List.{length-append}
 use Rattle.std.proofs.lemmas.Option.{option_and_then_some}
 use Rattle.std.proofs.lemmas.List.Elements.{All-from_recursion, recursion_from_All}
@@ -11,7 +11,6 @@ use Rattle.ht_values.specs.Text.{IsText}
 use Rattle.stack_text.specs.Words.{hex_digit, hex_value, is_plain, escape_of, spelled_byte, spelled, char_at, unspelled_within, unspelled}
 use Rattle.stack_text.specs.Reading.{short_text}
 use Rattle.stack_text.proofs.Keyed.{has, has-append, Spelled, then_given, else_given, same_value}
-use Rattle.stack_text.proofs.Spelled.{unspelled-nil, unspelled-step}
 
 -- ---- digits
 
@@ -33,31 +32,16 @@ digit-found c h e = by (leb 48 c && leb c 57) (leb 97 c && leb c 102) refl refl 
         (omega arith, rw (le-ltb h 10 ten) (omega arith))
     by false false p q is = absurd cc
 
-digit-low : (h : ℕ) → h < 10 → hex_value (48 + h) ≡ Some h
-digit-low h lt =
-    let t : (leb 48 (48 + h) && leb (48 + h) 57) ≡ true = grind (arith, nat_tests) in
-    rw t (ap Some (omega arith))
-
-digit-high : (h : ℕ) → 10 ≤ h → h < 16 → hex_value (87 + h) ≡ Some h
-digit-high h ge lt =
-    let f : (leb 48 (87 + h) && leb (87 + h) 57) ≡ false = grind (arith, nat_tests) in
-    let t : (leb 97 (87 + h) && leb (87 + h) 102) ≡ true = grind (arith, nat_tests) in
-    rw (f, t) (ap Some (omega arith))
+same_some : (o : Option ℕ) (h : ℕ) → unwrap_or (option_map (λ n. n == h) o) false ≡ true → o ≡ Some h
+same_some None h e = absurd (false≢true e)
+same_some (Some n) h e = ap Some (eqb-true n h e)
 
 digit-again : (h : ℕ) → h < 16 → hex_value (hex_digit h) ≡ Some h
-digit-again h lt =
-    elim (cases_lt h 10) [
-      | inl low ↦ rw (lt-ltb h 10 low) (digit-low h low)
-      | inr high ↦ rw (le-ltb h 10 high) (digit-high h high lt)
-    ]
+digit-again h lt = same_some (hex_value (hex_digit h)) h (agree_below_at (λ d. unwrap_or (option_map (λ n. n == d) (hex_value (hex_digit d))) false) (λ d. true) 16 h refl lt)
 
 -- a digit is no control byte
-digit-above : (h : ℕ) → h < 16 → (48 ≤ hex_digit h) × (hex_digit h < 128)
-digit-above h lt =
-    elim (cases_lt h 10) [
-      | inl low ↦ rw (lt-ltb h 10 low) (omega arith, omega arith)
-      | inr high ↦ rw (le-ltb h 10 high) (omega arith, omega arith)
-    ]
+digit-above : (h : ℕ) → h < 16 → 48 ≤ hex_digit h
+digit-above h lt = leb-true 48 (hex_digit h) (agree_below_at (λ d. leb 48 (hex_digit d)) (λ d. true) 16 h refl lt)
 
 -- ---- bytes
 
@@ -156,14 +140,39 @@ byte-line b fits = by (is_plain b) refl
     by false t =
         let high = digit-above (b / 16) (omega arith) in
         let low = digit-above (b % 16) (omega arith) in
-        let no : eqb (hex_digit (b / 16)) 10 ≡ false = apart _ 10 (omega (arith, high.0)) in
-        let nor : eqb (hex_digit (b % 16)) 10 ≡ false = apart _ 10 (omega (arith, low.0)) in
+        let no : eqb (hex_digit (b / 16)) 10 ≡ false = apart _ 10 (omega (arith, high)) in
+        let nor : eqb (hex_digit (b % 16)) 10 ≡ false = apart _ 10 (omega (arith, low)) in
         ap (has 10) (spelled-escaped b t) ∙ rw (no, nor) refl
       where
         apart : (x y : ℕ) → y < x → eqb x y ≡ false
         apart x y lt = grind (arith, nat_tests)
 
 -- ---- texts
+
+pub unspelled-nil : (n : ℕ) (rest : List ℕ) → length rest ≡ 0 → unspelled_within n rest ≡ Some []
+unfolding unspelled_within
+unspelled-nil zero [] e = refl
+unspelled-nil (suc n) [] e = refl
+unspelled-nil n (b ∷ bs) e = absurd (omega arith)
+
+pub unspelled-bad : (n : ℕ) (rest : List ℕ) → 0 < length rest → char_at rest ≡ None → unspelled_within n rest ≡ None
+unfolding unspelled_within
+unspelled-bad n [] some e = absurd (omega arith)
+unspelled-bad zero (b ∷ bs) some e = refl
+unspelled-bad (suc n) (b ∷ bs) some e = rw e refl
+
+step : (m : ℕ) (rest : List ℕ) (b : ℕ) (after : List ℕ) → 0 < length rest → char_at rest ≡ Some (b, after) → unspelled_within (suc m) rest ≡ option_map (λ t. b ∷ t) (unspelled_within m after)
+unfolding unspelled_within
+step m [] b after some e = absurd (omega arith)
+step m (x ∷ xs) b after some e = rw e refl
+
+pub unspelled-step : (n m : ℕ) (rest : List ℕ) (b : ℕ) (after : List ℕ) → n ≡ m + 1 → 0 < length rest → char_at rest ≡ Some (b, after) → unspelled_within n rest ≡ option_map (λ t. b ∷ t) (unspelled_within m after)
+unspelled-step n m [] b after is some e = absurd (omega arith)
+unspelled-step n m (x ∷ xs) b after is some e = rw (is, add-one) (step m (x ∷ xs) b after some e)
+
+pub onto-text : (text : List ℕ) (b : ℕ) (x : Option (List ℕ)) → option_map (λ t. (text ++ b ∷ []) ++ t) x ≡ option_map (λ t. text ++ t) (option_map (λ t. b ∷ t) x)
+onto-text text b None = refl
+onto-text text b (Some t) = ap Some (append_assoc text (b ∷ []) t)
 
 pub text-found : (n : ℕ) (bytes t : List ℕ) → unspelled_within n bytes ≡ Some t → AllByRecursion (λ b. b < 256) t × (bytes ≡ spelled t)
 unfolding unspelled_within

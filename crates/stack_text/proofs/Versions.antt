@@ -1,9 +1,8 @@
 -- What a version can say, of a stack and of its document.
 use Rattle.std.proofs.Common.{◌≡◌, ◌⊎◌, inl, inr, ℕ, Bool, false, true≢false, List, [], map, Option, Some, None, IfSome, IsTrue, unwrap_or, option_and_then, refl, sym, subst, ◌∙◌}
 use Rattle.std.specs.Ordering.{nat_cmp}
-use Rattle.std.specs.Cmp.{nat_cmp_total}
-use Rattle.std.specs.FinMap.{get, find, get-from_entries}
-use Rattle.std.specs.List.{AllByRecursion, flat_map}
+use Rattle.std.specs.FinMap.{get, find}
+use Rattle.std.specs.List.{AllByRecursion}
 use Rattle.std.proofs.lemmas.Bool.{cases_eq}
 use Rattle.object_table.specs.Content.{Content}
 use Rattle.object_table.specs.Objects.{is_stack, is_background, is_card, is_card_part, has_kind, parts_at}
@@ -11,7 +10,7 @@ use Rattle.object_table.specs.Kept.{hilite_at}
 use Rattle.object_table.specs.WellFormed.{IsWellFormed}
 use Rattle.object_table.specs.declared.object.Object.{Object}
 use Rattle.object_table.specs.declared.object.Kind.{Kind}
-use Rattle.object_table.specs.declared.object.Kind.TheVariants.{Stack, Background, Card, CardButton, BackgroundButton, CardField, BackgroundField}
+use Rattle.object_table.specs.declared.object.Kind.TheVariants.{Stack, BackgroundButton}
 use Rattle.object_table.proofs.Slots.{tied_apart}
 use Rattle.stack_text.specs.declared.sheets.PartContent.{PartContent}
 use Rattle.stack_text.specs.declared.sheets.PartContent.TheVariants.{Nothing, Written, Lit}
