@@ -2,8 +2,8 @@
 #![tactic(auto)]
 
 use command_line::{CliFault, MOST_OF_STACK, Options, bytes_of, cut, options_of, play, verdict};
+use devices::Watched;
 use externals::External;
-use stack_file::Watched;
 use std::env;
 use std::fs::File;
 use std::io::{Error, ErrorKind, Lock, Write};

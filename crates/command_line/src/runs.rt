@@ -4,16 +4,17 @@ ghost use Rattle.std.specs.Prelude.{◌≡◌, ℕ, List, map, true, OnOk, IfOk,
 ghost use Rattle.std.specs.Io.KnownBytes.{Appends, Consumes, IsAtEnd};
 ghost use Rattle.journal_entries.specs.State.{seen_by, are_apart};
 ghost use Rattle.session.specs.Headline.{beginning};
-ghost use Rattle.stack_file.specs.Watching.{device_of, failures_of, Rose};
+ghost use Rattle.devices.specs.Watching.{device_of, failures_of, Rose};
 ghost use Rattle.stack_text.specs.Laws.{Spells};
 ghost use Rattle.command_line.specs.Plays.{Plays, Ends, IsRefusal, fault_of_run};
 
 use crate::fault::CliFault;
 use crate::options::Options;
+use devices::Watched;
 use externals::External;
 use object_table::Stack;
 use session::{Ran, RunFault, Session, run, runs_follow, stops_follow};
-use stack_file::{ReadError, Watched, read};
+use stack_file::{ReadError, read};
 use std::alloc::Global;
 use std::io::{Read, Write};
 

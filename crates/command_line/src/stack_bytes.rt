@@ -1,12 +1,12 @@
 //! All the bytes of a reader, up to a limit.
 
 ghost use Rattle.std.specs.Prelude.{◌≡◌, IfOk, IfErr, IsErrOf};
-ghost use Rattle.stack_file.specs.Watching.{device_of, failures_of, Rose};
+ghost use Rattle.devices.specs.Watching.{device_of, failures_of, Rose};
 ghost use Rattle.command_line.specs.declared.stack_bytes.BytesFault.TheVariants.{Memory};
 ghost use Rattle.command_line.specs.StackBytes.{ReadsAll, StopsAfter, fault_of_bytes};
 
 use crate::fault::CliFault;
-use stack_file::Watched;
+use devices::Watched;
 use std::alloc::{AllocError, Global};
 use std::io::Read;
 

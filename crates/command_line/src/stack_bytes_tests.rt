@@ -2,7 +2,7 @@
 
 use crate::fault::CliFault;
 use crate::stack_bytes::{BytesFault, bytes_of};
-use stack_file::Watched;
+use devices::Watched;
 use std::alloc::Global;
 use std::io;
 use std::io::Read;

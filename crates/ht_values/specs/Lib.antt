@@ -1,3 +1,4 @@
+pub mod Delimited
 pub mod Faults
 pub mod Functions
 pub mod Laws

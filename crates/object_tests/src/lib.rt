@@ -12,3 +12,5 @@ mod objects;
 mod property_values;
 #[cfg(test)]
 mod spelling;
+#[cfg(test)]
+mod watched_devices;

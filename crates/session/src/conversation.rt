@@ -3,7 +3,7 @@
 ghost use Rattle.std.specs.Prelude.{◌≡◌, ◌+◌, ◌-◌, ◌<◌, ◌≤◌, ◌≢◌, ◌↔◌, ◌⊎◌, ℕ, IsTrue, List, [], ◌∷◌, ◌++◌, length, take, IfOk, IfErr, OnOk, OnErr, IsErrOf, Ok, true, false};
 ghost use Rattle.std.specs.Vec.{vec_capacity};
 ghost use Rattle.std.specs.Io.KnownBytes.{Appends, Consumes, IsAtEnd};
-ghost use Rattle.stack_file.specs.Watching.{device_of, failures_of, Rose};
+ghost use Rattle.devices.specs.Watching.{device_of, failures_of, Rose};
 ghost use Rattle.session.specs.Answers.{answer};
 ghost use Rattle.session.specs.Standing.{Standing};
 ghost use Rattle.session.specs.TakesLine.{TakesLine};
@@ -20,8 +20,8 @@ ghost use Rattle.session.specs.declared.reply.Reply.{Reply};
 use crate::limits::{LONGEST_LINE, MOST_BYTES, MOST_LINES};
 use crate::reply::{Ending, answer_of};
 use crate::session::Session;
+use devices::{Watched, write_to};
 use externals::External;
-use stack_file::{Watched, write_to};
 use std::alloc::{AllocError, Global};
 use std::io::{Read, Write};
 

@@ -4,12 +4,12 @@ use Rattle.std.specs.Prelude.{flat_map, map, Result, Ok, Err, OnOk}
 use Rattle.std.specs.declared.alloc.AllocError.{AllocError}
 use Rattle.std.proofs.lemmas.List.{append-nil}
 use Rattle.std.proofs.Math.Seq.{drop-cons}
-use Rattle.stack_text.specs.Spelling.{joined_lines}
+use Rattle.ht_values.specs.Delimited.{ended_lines}
 use Rattle.stack_file.specs.Lines.{with_lines}
 
-pub with_lines-joined : (out : List ℕ) (lines : List (List ℕ)) → with_lines out lines ≡ out ++ joined_lines lines
+pub with_lines-joined : (out : List ℕ) (lines : List (List ℕ)) → with_lines out lines ≡ out ++ ended_lines lines
 with_lines-joined out [] = sym (append-nil out)
-with_lines-joined out (l ∷ ls) = with_lines-joined (out ++ (l ++ 10 ∷ [])) ls ∙ append_assoc out (l ++ 10 ∷ []) (joined_lines ls)
+with_lines-joined out (l ∷ ls) = with_lines-joined (out ++ (l ++ 10 ∷ [])) ls ∙ append_assoc out (l ++ 10 ∷ []) (ended_lines ls)
 
 -- lines, and then others
 pub with_lines_append : (out : List ℕ) (a b : List (List ℕ)) → with_lines out (a ++ b) ≡ with_lines (with_lines out a) b

@@ -12,12 +12,12 @@ use Rattle.object_table.specs.Content.{Content}
 use Rattle.object_table.specs.Pairs.{Pair, pair_cmp}
 use Rattle.object_table.specs.Empty.{blank_stack}
 use Rattle.object_table.proofs.Pairs.{pair_tied, pair_cmp_total}
-use Rattle.stack_text.specs.declared.sheets.Kept.{Kept}
+use Rattle.stack_text.specs.declared.sheets.PartContent.{PartContent}
 use Rattle.stack_text.specs.declared.sheets.Part.{Part}
 use Rattle.stack_text.specs.declared.sheets.Keeping.{Keeping}
 use Rattle.stack_text.specs.Document.{Sheet, Document, sheet_ids}
-use Rattle.stack_text.specs.Listing.{part_entry, object_entries, parts_entry, kept_on, written, lit, kept_entry, kept_entries, all_parts, all_kept, content_of}
-use Rattle.stack_file.specs.Building.{inserted, own_kept, with_parts, with_keepings, with_sheet, card_for, with_sheets, with_stack}
+use Rattle.stack_text.specs.Listing.{part_entry, object_entries, parts_entry, contents_on, written, lit, content_entry, content_entries, all_parts, all_contents, content_of}
+use Rattle.stack_file.specs.Building.{inserted, own_contents, with_parts, with_keepings, with_sheet, card_for, with_sheets, with_stack}
 
 -- a pair that was opened is in the room
 pub opened : (room : set.FinSet pair_cmp) (part card : ℕ) → set.contains (set.insert room (part, card)) (part, card) ≡ true
@@ -36,32 +36,32 @@ inserted-empty (e ∷ es) = ap (λ n. insert n e.0 e.1) (inserted-empty es)
 
 -- ---- what is kept, in parts
 
-module _ {X : Type 0} (pick : Kept → Option X) (card : ℕ) where
-  kept-append : (a b : List (ℕ × Kept)) → kept_entries pick card (a ++ b) ≡ kept_entries pick card a ++ kept_entries pick card b
-  kept-append a b = filter_map-append (kept_entry pick card) a b
+module _ {X : Type 0} (pick : PartContent → Option X) (card : ℕ) where
+  content_entries-append : (a b : List (ℕ × PartContent)) → content_entries pick card (a ++ b) ≡ content_entries pick card a ++ content_entries pick card b
+  content_entries-append a b = filter_map-append (content_entry pick card) a b
 
-  kept-sheets : (xs : List Sheet) → kept_entries pick card (flat_map kept_on xs) ≡ flat_map (λ (x : Sheet). kept_entries pick card (kept_on x)) xs
-  kept-sheets [] = refl
-  kept-sheets (x ∷ xs) = kept-append (kept_on x) (flat_map kept_on xs) ∙ ap (λ (es : List (Pair × X)). kept_entries pick card (kept_on x) ++ es) (kept-sheets xs)
+  content_entries-sheets : (xs : List Sheet) → content_entries pick card (flat_map contents_on xs) ≡ flat_map (λ (x : Sheet). content_entries pick card (contents_on x)) xs
+  content_entries-sheets [] = refl
+  content_entries-sheets (x ∷ xs) = content_entries-append (contents_on x) (flat_map contents_on xs) ∙ ap (λ (es : List (Pair × X)). content_entries pick card (contents_on x) ++ es) (content_entries-sheets xs)
 
-  inserted-kept : (m : FinMap pair_cmp X) (a b : List (ℕ × Kept)) → inserted (inserted m (kept_entries pick card b)) (kept_entries pick card a) ≡ inserted m (kept_entries pick card (a ++ b))
-  inserted-kept m a b = sym (inserted-append m (kept_entries pick card a) (kept_entries pick card b)) ∙ ap (inserted m) (sym (kept-append a b))
+  inserted-contents : (m : FinMap pair_cmp X) (a b : List (ℕ × PartContent)) → inserted (inserted m (content_entries pick card b)) (content_entries pick card a) ≡ inserted m (content_entries pick card (a ++ b))
+  inserted-contents m a b = sym (inserted-append m (content_entries pick card a) (content_entries pick card b)) ∙ ap (inserted m) (sym (content_entries-append a b))
 
 -- one more behind the others comes in before them
 pub parts-onto : (card : ℕ) (ps : List Part) (p : Part) (s : Content) → with_parts card ps (with_parts card (p ∷ []) s) ≡ with_parts card (ps ++ p ∷ []) s
 parts-onto card ps p s =
-    let own : own_kept ps ++ own_kept (p ∷ []) ≡ own_kept (ps ++ p ∷ []) = sym (map-append (λ x. (x.id, x.kept)) ps (p ∷ [])) in
+    let own : own_contents ps ++ own_contents (p ∷ []) ≡ own_contents (ps ++ p ∷ []) = sym (map-append (λ x. (x.id, x.content)) ps (p ∷ [])) in
     let objects = sym (ap (inserted s.objects) (map-append part_entry ps (p ∷ [])) ∙ inserted-append s.objects (map part_entry ps) (part_entry p ∷ [])) in
-    let texts = inserted-kept written card s.texts (own_kept ps) (own_kept (p ∷ [])) ∙ ap (λ ks. inserted s.texts (kept_entries written card ks)) own in
-    let hilites = inserted-kept lit card s.hilites (own_kept ps) (own_kept (p ∷ [])) ∙ ap (λ ks. inserted s.hilites (kept_entries lit card ks)) own in
+    let texts = inserted-contents written card s.texts (own_contents ps) (own_contents (p ∷ [])) ∙ ap (λ ks. inserted s.texts (content_entries written card ks)) own in
+    let hilites = inserted-contents lit card s.hilites (own_contents ps) (own_contents (p ∷ [])) ∙ ap (λ ks. inserted s.hilites (content_entries lit card ks)) own in
     λ i. record s { objects = objects i; texts = texts i; hilites = hilites i }
 
 pub keepings-onto : (card : ℕ) (ks : List Keeping) (k : Keeping) (s : Content) → with_keepings card ks (with_keepings card (k ∷ []) s) ≡ with_keepings card (ks ++ k ∷ []) s
 keepings-onto card ks k s =
-    let pair : Keeping → ℕ × Kept = λ x. (x.part, x.kept) in
+    let pair : Keeping → ℕ × PartContent = λ x. (x.part, x.content) in
     let both = sym (map-append pair ks (k ∷ [])) in
-    let texts = inserted-kept written card s.texts (map pair ks) (pair k ∷ []) ∙ ap (λ es. inserted s.texts (kept_entries written card es)) both in
-    let hilites = inserted-kept lit card s.hilites (map pair ks) (pair k ∷ []) ∙ ap (λ es. inserted s.hilites (kept_entries lit card es)) both in
+    let texts = inserted-contents written card s.texts (map pair ks) (pair k ∷ []) ∙ ap (λ es. inserted s.texts (content_entries written card es)) both in
+    let hilites = inserted-contents lit card s.hilites (map pair ks) (pair k ∷ []) ∙ ap (λ es. inserted s.hilites (content_entries lit card es)) both in
     λ i. record s { texts = texts i; hilites = hilites i }
 
 -- a sheet, from its keepings to its parts and its own object
@@ -69,7 +69,7 @@ pub sheet-is : (card : ℕ) (x : Sheet) (s a b c d : Content) (ids : List ℕ) �
 sheet-is card x s a b c d ids keepings parts object list last =
     last ∙ (λ i. record (object i) { parts = insert (object i).parts x.id (list i) }) ∙ (λ i. record (parts i) { objects = insert (parts i).objects x.id x.object; parts = insert (parts i).parts x.id (parts_entry x).1 })
     ∙ (λ i. record (with_parts card x.parts (keepings i)) { objects = insert (with_parts card x.parts (keepings i)).objects x.id x.object; parts = insert (keepings i).parts x.id (parts_entry x).1 })
-    ∙ (λ i. record (with_sheet card x s) { texts = inserted-kept written card s.texts (own_kept x.parts) (map (λ k. (k.part, k.kept)) x.keepings) i; hilites = inserted-kept lit card s.hilites (own_kept x.parts) (map (λ k. (k.part, k.kept)) x.keepings) i })
+    ∙ (λ i. record (with_sheet card x s) { texts = inserted-contents written card s.texts (own_contents x.parts) (map (λ k. (k.part, k.content)) x.keepings) i; hilites = inserted-contents lit card s.hilites (own_contents x.parts) (map (λ k. (k.part, k.content)) x.keepings) i })
 
 last-joined : {Y : Type 0} (f : Sheet → List Y) (xs : List Sheet) (x : Sheet) → flat_map f (xs ++ x ∷ []) ≡ flat_map f xs ++ f x
 last-joined f xs x = flat_map-append f xs (x ∷ []) ∙ ap (λ t. flat_map f xs ++ t) (append-nil (f x))
@@ -78,8 +78,8 @@ pub sheets-onto : (shared : Bool) (xs : List Sheet) (x : Sheet) (s : Content) �
 sheets-onto shared xs x s =
     let objects = sym (ap (inserted s.objects) (last-joined object_entries xs x) ∙ inserted-append s.objects (flat_map object_entries xs) (object_entries x)) in
     let parts = sym (ap (inserted s.parts) (map-append parts_entry xs (x ∷ [])) ∙ inserted-append s.parts (map parts_entry xs) (parts_entry x ∷ [])) in
-    let text : Sheet → List (Pair × List ℕ) = λ y. kept_entries written (card_for shared y.id) (kept_on y) in
-    let light : Sheet → List (Pair × Bool) = λ y. kept_entries lit (card_for shared y.id) (kept_on y) in
+    let text : Sheet → List (Pair × List ℕ) = λ y. content_entries written (card_for shared y.id) (contents_on y) in
+    let light : Sheet → List (Pair × Bool) = λ y. content_entries lit (card_for shared y.id) (contents_on y) in
     let texts = sym (ap (inserted s.texts) (last-joined text xs x) ∙ inserted-append s.texts (flat_map text xs) (text x)) in
     let hilites = sym (ap (inserted s.hilites) (last-joined light xs x) ∙ inserted-append s.hilites (flat_map light xs) (light x)) in
     λ i. record s { objects = objects i; parts = parts i; texts = texts i; hilites = hilites i }
@@ -89,20 +89,20 @@ pub step : {X : Type 0} (view : X → Sheet) (shared : Bool) (xs all : List X) (
 step view shared xs all x s e = sheets-onto shared (map view xs) (view x) s ∙ ap (λ l. with_sheets shared l s) (sym (map-append view xs (x ∷ []))) ∙ ap (λ l. with_sheets shared (map view l) s) (sym e)
 
 -- what is built is the stack that the document lists
-abbrev own : {X : Type 0} → (Kept → Option X) → Sheet → List (Pair × X)
-own pick x = kept_entries pick x.id (kept_on x)
+abbrev own : {X : Type 0} → (PartContent → Option X) → Sheet → List (Pair × X)
+own pick x = content_entries pick x.id (contents_on x)
 
 pub built-is : (d : Document) → record (with_stack d.stack (with_sheets true d.backgrounds (with_sheets false d.cards blank_stack))) { next = d.next; backgrounds = sheet_ids d.backgrounds; cards = sheet_ids d.cards } ≡ content_of d
 built-is d =
     let objects = inserted-empty {R = nat_cmp} (flat_map object_entries d.backgrounds ++ flat_map object_entries d.cards) ∙ inserted-append empty (flat_map object_entries d.backgrounds) (flat_map object_entries d.cards) in
     let parts = inserted-empty {R = nat_cmp} (all_parts d) ∙ inserted-append empty (map parts_entry d.backgrounds) (map parts_entry d.cards) in
     let texts =
-    inserted-empty {R = pair_cmp} (all_kept written d) ∙ inserted-append empty (kept_entries written 0 (flat_map kept_on d.backgrounds)) (flat_map (own written) d.cards)
-    ∙ ap (inserted (inserted empty (flat_map (own written) d.cards))) (kept-sheets written 0 d.backgrounds)
+    inserted-empty {R = pair_cmp} (all_contents written d) ∙ inserted-append empty (content_entries written 0 (flat_map contents_on d.backgrounds)) (flat_map (own written) d.cards)
+    ∙ ap (inserted (inserted empty (flat_map (own written) d.cards))) (content_entries-sheets written 0 d.backgrounds)
     in
     let hilites =
-    inserted-empty {R = pair_cmp} (all_kept lit d) ∙ inserted-append empty (kept_entries lit 0 (flat_map kept_on d.backgrounds)) (flat_map (own lit) d.cards)
-    ∙ ap (inserted (inserted empty (flat_map (own lit) d.cards))) (kept-sheets lit 0 d.backgrounds)
+    inserted-empty {R = pair_cmp} (all_contents lit d) ∙ inserted-append empty (content_entries lit 0 (flat_map contents_on d.backgrounds)) (flat_map (own lit) d.cards)
+    ∙ ap (inserted (inserted empty (flat_map (own lit) d.cards))) (content_entries-sheets lit 0 d.backgrounds)
     in
     λ i. record (content_of d) { objects = insert ((sym objects) i) 0 d.stack; parts = (sym parts) i; texts = (sym texts) i; hilites = (sym hilites) i }
 

@@ -1,6 +1,5 @@
 pub mod Adding
 pub mod Built
-pub mod Known
 pub mod PieceTexts
 pub mod Pieced
 pub mod Places

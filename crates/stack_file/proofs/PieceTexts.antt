@@ -4,56 +4,57 @@ use Rattle.std.specs.Prelude.{Bool, Option, Some, None, codes, ◌==◌}
 use Rattle.std.specs.Option.{option_to_list}
 use Rattle.std.specs.List.{join_with_byte}
 use Rattle.std.proofs.lemmas.List.{append-nil, length-append}
+use Rattle.ht_values.specs.Delimited.{ended}
 use Rattle.ht_values.specs.Outcome.{within_limit}
 use Rattle.ht_values.specs.declared.fault.Fault.{Fault}
 use Rattle.std.proofs.lemmas.Bool.Decides.{nat_tests}
-use Rattle.stack_text.specs.Reading.{Spot, chain, ◌>>=◌, give, line_after, piece_at, pieces_at, text_of_pieces, Fails}
+use Rattle.stack_text.specs.Reading.{Position, chain, ◌>>=◌, give, line_after, piece_at, pieces_at, text_of_pieces, Fails}
 use Rattle.stack_text.specs.declared.fault.FileError.{FileError}
 use Rattle.stack_text.specs.declared.fault.ReadError.{ReadError}
 use Rattle.stack_text.specs.declared.fault.ReadError.TheVariants as errors
 use Rattle.stack_text.proofs.Blocks.{text_of_pieces-reads}
-use Rattle.stack_file.specs.Pieces.{ended, ended_at}
+use Rattle.stack_file.specs.Pieces.{ended_at}
 
 -- a text, and then the pieces that are read
-abbrev pub with_text : List ℕ → Result (List (List ℕ) × Spot) FileError → Result (List ℕ × Spot) FileError
-with_text text (Ok x) = Ok (text ++ ended x.0, x.1)
+abbrev pub with_text : List ℕ → Result (List (List ℕ) × Position) FileError → Result (List ℕ × Position) FileError
+with_text text (Ok x) = Ok (text ++ ended 13 x.0, x.1)
 with_text text (Err e) = Err e
 
-onto : (text piece : List ℕ) (r : Result (List (List ℕ) × Spot) FileError) → with_text text (chain r (λ others. give (piece ∷ others))) ≡ with_text (text ++ (piece ++ 13 ∷ [])) r
-onto text piece (Ok p) = ap (λ (t : List ℕ). let x : Result (List ℕ × Spot) FileError = Ok (t, p.1) in x) (sym (append_assoc text (piece ++ 13 ∷ []) (ended p.0)))
+onto : (text piece : List ℕ) (r : Result (List (List ℕ) × Position) FileError) → with_text text (chain r (λ others. give (piece ∷ others))) ≡ with_text (text ++ (piece ++ 13 ∷ [])) r
+onto text piece (Ok p) = ap (λ (t : List ℕ). let x : Result (List ℕ × Position) FileError = Ok (t, p.1) in x) (sym (append_assoc text (piece ++ 13 ∷ []) (ended 13 p.0)))
 onto text piece (Err e) = refl
 
-go : (alone : Bool) (m room : ℕ) (text piece : List ℕ) (spot after : Spot) → line_after (codes "|") (piece_at alone room) spot ≡ Ok (piece, after)
-    → with_text text (pieces_at alone (suc m) room spot) ≡ with_text (text ++ (piece ++ 13 ∷ [])) (pieces_at alone m (room - (length piece + 1)) after)
-go alone m room text piece spot after e =
-    ap (λ (o : Result (List ℕ × Spot) FileError). with_text text (chain o (λ p. pieces_at alone m (room - (length p + 1)) >>= λ others. give (p ∷ others)))) e ∙ onto text piece (pieces_at alone m (room - (length piece + 1)) after)
+go : (alone : Bool) (m room : ℕ) (text piece : List ℕ) (start after : Position) → line_after (codes "|") (piece_at alone room) start ≡ Ok (piece, after)
+    → with_text text (pieces_at alone (suc m) room start) ≡ with_text (text ++ (piece ++ 13 ∷ [])) (pieces_at alone m (room - (length piece + 1)) after)
+go alone m room text piece start after e =
+    ap (λ (o : Result (List ℕ × Position) FileError). with_text text (chain o (λ p. pieces_at alone m (room - (length p + 1)) >>= λ others. give (p ∷ others)))) e ∙ onto text piece (pieces_at alone m (room - (length piece + 1)) after)
 
 -- one more piece is read
-pub piece-step : (alone : Bool) (n m room left : ℕ) (text more piece : List ℕ) (spot after : Spot) → n ≡ m + 1 → line_after (codes "|") (piece_at alone room) spot ≡ Ok (piece, after) → more ≡ (text ++ piece) ++ 13 ∷ [] → left ≡ room - (length piece + 1)
-    → with_text more (pieces_at alone m left after) ≡ with_text text (pieces_at alone n room spot)
-piece-step alone n m room left text more piece spot after is e added same = rw (is, add-one, added, same, append_assoc text piece (13 ∷ [])) (sym (go alone m room text piece spot after e))
+pub piece-step : (alone : Bool) (n m room left : ℕ) (text more piece : List ℕ) (start after : Position) → n ≡ m + 1 → line_after (codes "|") (piece_at alone room) start ≡ Ok (piece, after) → more ≡ (text ++ piece) ++ 13 ∷ [] → left ≡ room - (length piece + 1)
+    → with_text more (pieces_at alone m left after) ≡ with_text text (pieces_at alone n room start)
+piece-step alone n m room left text more piece start after is e added same = rw (is, add-one, added, same, append_assoc text piece (13 ∷ [])) (sym (go alone m room text piece start after e))
 
-fail : (alone : Bool) (m room : ℕ) (text : List ℕ) (spot : Spot) (f : FileError) → line_after (codes "|") (piece_at alone room) spot ≡ Err f → with_text text (pieces_at alone (suc m) room spot) ≡ Err f
-fail alone m room text spot f e = ap (λ (o : Result (List ℕ × Spot) FileError). with_text text (chain o (λ p. pieces_at alone m (room - (length p + 1)) >>= λ others. give (p ∷ others)))) e
+fail : (alone : Bool) (m room : ℕ) (text : List ℕ) (start : Position) (f : FileError) → line_after (codes "|") (piece_at alone room) start ≡ Err f → with_text text (pieces_at alone (suc m) room start) ≡ Err f
+fail alone m room text start f e = ap (λ (o : Result (List ℕ × Position) FileError). with_text text (chain o (λ p. pieces_at alone m (room - (length p + 1)) >>= λ others. give (p ∷ others)))) e
 
-pub piece-fail : (alone : Bool) (n m room : ℕ) (text : List ℕ) (spot : Spot) (e : ReadError) → n ≡ m + 1 → Fails e (line_after (codes "|") (piece_at alone room) spot) → Fails e (with_text text (pieces_at alone n room spot))
-piece-fail alone n m room text spot errors.Memory is h = tt
-piece-fail alone n m room text spot (errors.File f) is h = rw (is, add-one) (fail alone m room text spot f h)
+pub piece-fail : (alone : Bool) (n m room : ℕ) (text : List ℕ) (start : Position) (e : ReadError) → n ≡ m + 1 → Fails e (line_after (codes "|") (piece_at alone room) start) → Fails e (with_text text (pieces_at alone n room start))
+piece-fail alone n m room text start errors.Memory is h = tt
+piece-fail alone n m room text start (errors.File f) is h = rw (is, add-one) (fail alone m room text start f h)
 
-pub piece-none : (alone : Bool) (n room : ℕ) (text : List ℕ) (spot : Spot) → n ≡ 0 → with_text text (pieces_at alone n room spot) ≡ Ok (text, spot)
-piece-none alone zero room text spot e = ap (λ (t : List ℕ). let x : Result (List ℕ × Spot) FileError = Ok (t, spot) in x) (append-nil text)
-piece-none alone (suc n) room text spot e = absurd (omega arith)
+pub piece-none : (alone : Bool) (n room : ℕ) (text : List ℕ) (start : Position) → n ≡ 0 → with_text text (pieces_at alone n room start) ≡ Ok (text, start)
+piece-none alone zero room text start e = ap (λ (t : List ℕ). let x : Result (List ℕ × Position) FileError = Ok (t, start) in x) (append-nil text)
+piece-none alone (suc n) room text start e = absurd (omega arith)
 
-pub ended_at-is : (count : ℕ) (spot : Spot) → ended_at count spot ≡ with_text [] (pieces_at (count == 1) count 30001 spot)
-ended_at-is count spot = by (pieces_at (count == 1) count 30001 spot)
+pub ended_at-is : (count : ℕ) (start : Position) → ended_at count start ≡ with_text [] (pieces_at (count == 1) count 30001 start)
+ended_at-is count start = by (pieces_at (count == 1) count 30001 start)
   where
-    by : (r : Result (List (List ℕ) × Spot) FileError) → chain r (λ ps. give (ended ps)) ≡ with_text [] r
+    by : (r : Result (List (List ℕ) × Position) FileError) → chain r (λ ps. give (ended 13 ps)) ≡ with_text [] r
     by (Ok p) = refl
     by (Err e) = refl
 
 -- ---- without the return behind the last
 
-ended-joined : (p : List ℕ) (ps : List (List ℕ)) → ended (p ∷ ps) ≡ join_with_byte 13 (p ∷ ps) ++ 13 ∷ []
+ended-joined : (p : List ℕ) (ps : List (List ℕ)) → ended 13 (p ∷ ps) ≡ join_with_byte 13 (p ∷ ps) ++ 13 ∷ []
 ended-joined p [] = append-nil (p ++ 13 ∷ [])
 ended-joined p (q ∷ ps) =
     ap (λ (t : List ℕ). (p ++ 13 ∷ []) ++ t) (ended-joined q ps)
@@ -72,40 +73,40 @@ last_same (a ∷ as') (b ∷ bs) x y e =
     ap (λ (z : ℕ). z ∷ as') front ∙ ap (λ (zs : List ℕ). b ∷ zs) (last_same as' bs x y back)
 
 -- nothing was read, and so the text has no piece
-pub ended_none : (ps : List (List ℕ)) → ended ps ≡ [] → join_with_byte 13 ps ≡ []
+pub ended_none : (ps : List (List ℕ)) → ended 13 ps ≡ [] → join_with_byte 13 ps ≡ []
 ended_none [] e = refl
 ended_none (p ∷ ps) e = absurd (let n : length (join_with_byte 13 (p ∷ ps) ++ 13 ∷ []) ≡ 0 = ap length (sym (ended-joined p ps) ∙ e) in omega (arith, n, length-append (join_with_byte 13 (p ∷ ps)) (13 ∷ [])))
 
-pub ended_some : (ps : List (List ℕ)) (t : List ℕ) (x : ℕ) → ended ps ≡ t ++ x ∷ [] → join_with_byte 13 ps ≡ t
+pub ended_some : (ps : List (List ℕ)) (t : List ℕ) (x : ℕ) → ended 13 ps ≡ t ++ x ∷ [] → join_with_byte 13 ps ≡ t
 ended_some [] t x e = absurd (let n : 0 ≡ length (t ++ x ∷ []) = ap length e in omega (arith, n, length-append t (x ∷ [])))
 ended_some (p ∷ ps) t x e = last_same (join_with_byte 13 (p ∷ ps)) t 13 x (sym (ended-joined p ps) ∙ e)
 
 -- what is read without the last return is the text of the pieces
-pub text-read : (count : ℕ) (spot after : Spot) (bytes t : List ℕ) → ended_at count spot ≡ Ok (bytes, after) → ((ps : List (List ℕ)) → ended ps ≡ bytes → join_with_byte 13 ps ≡ t) → text_of_pieces count spot ≡ Ok (t, after)
+pub text-read : (count : ℕ) (start after : Position) (bytes t : List ℕ) → ended_at count start ≡ Ok (bytes, after) → ((ps : List (List ℕ)) → ended 13 ps ≡ bytes → join_with_byte 13 ps ≡ t) → text_of_pieces count start ≡ Ok (t, after)
 unfolding text_of_pieces
-text-read count spot after bytes t e same = by (pieces_at (count == 1) count 30001 spot) refl e
+text-read count start after bytes t e same = by (pieces_at (count == 1) count 30001 start) refl e
   where
-    by : (r : Result (List (List ℕ) × Spot) FileError) → pieces_at (count == 1) count 30001 spot ≡ r → chain r (λ ps. give (ended ps)) ≡ Ok (bytes, after) → chain r (λ ps. give (join_with_byte 13 ps)) ≡ Ok (t, after)
+    by : (r : Result (List (List ℕ) × Position) FileError) → pieces_at (count == 1) count 30001 start ≡ r → chain r (λ ps. give (ended 13 ps)) ≡ Ok (bytes, after) → chain r (λ ps. give (join_with_byte 13 ps)) ≡ Ok (t, after)
     by (Err f) is h = absurd cc
     by (Ok p) is h =
-        let q : ◌≡◌ {A = List ℕ × Spot} (ended p.0, p.1) (bytes, after) = cc in
-        ap (λ (z : List ℕ × Spot). let x : Result (List ℕ × Spot) FileError = Ok z in x) (λ i. (same p.0 (ap (λ (z : List ℕ × Spot). z.0) q) i, (q i).1))
+        let q : ◌≡◌ {A = List ℕ × Position} (ended 13 p.0, p.1) (bytes, after) = cc in
+        ap (λ (z : List ℕ × Position). let x : Result (List ℕ × Position) FileError = Ok z in x) (λ i. (same p.0 (ap (λ (z : List ℕ × Position). z.0) q) i, (q i).1))
 
-pub text-fails : (count : ℕ) (spot : Spot) (e : ReadError) → Fails e (ended_at count spot) → Fails e (text_of_pieces count spot)
+pub text-fails : (count : ℕ) (start : Position) (e : ReadError) → Fails e (ended_at count start) → Fails e (text_of_pieces count start)
 unfolding text_of_pieces
-text-fails count spot errors.Memory h = tt
-text-fails count spot (errors.File f) h = by (pieces_at (count == 1) count 30001 spot) h
+text-fails count start errors.Memory h = tt
+text-fails count start (errors.File f) h = by (pieces_at (count == 1) count 30001 start) h
   where
-    by : (r : Result (List (List ℕ) × Spot) FileError) → chain r (λ ps. give (ended ps)) ≡ Err f → chain r (λ ps. give (join_with_byte 13 ps)) ≡ Err f
+    by : (r : Result (List (List ℕ) × Position) FileError) → chain r (λ ps. give (ended 13 ps)) ≡ Err f → chain r (λ ps. give (join_with_byte 13 ps)) ≡ Err f
     by (Ok p) k = absurd cc
     by (Err g) k = cc
 
 -- and it is no longer than a text may be
-pub text-short : (count : ℕ) (spot after : Spot) (t : List ℕ) → text_of_pieces count spot ≡ Ok (t, after) → length t ≤ 30000
-text-short count spot after t e = ((text_of_pieces-reads count).found spot after t e).0.0.short
+pub text-short : (count : ℕ) (start after : Position) (t : List ℕ) → text_of_pieces count start ≡ Ok (t, after) → length t ≤ 30000
+text-short count start after t e = ((text_of_pieces-reads count).found start after t e).0.0.short
 
 -- what is left where the last return is taken
-pub popped : (bytes left : List ℕ) (o : Option ℕ) → bytes ≡ left ++ option_to_list o → (o ≡ None → bytes ≡ []) → (ps : List (List ℕ)) → ended ps ≡ bytes → join_with_byte 13 ps ≡ left
+pub popped : (bytes left : List ℕ) (o : Option ℕ) → bytes ≡ left ++ option_to_list o → (o ≡ None → bytes ≡ []) → (ps : List (List ℕ)) → ended 13 ps ≡ bytes → join_with_byte 13 ps ≡ left
 popped bytes left None is none ps e =
     let empty = none refl in
     ended_none ps (e ∙ empty) ∙ sym empty ∙ is ∙ append-nil left

@@ -3,18 +3,18 @@ use Rattle.std.proofs.Common.{◌≡◌, ℕ, ◌+◌, ◌<◌, Bool, true, fals
 use Rattle.std.specs.Prelude.{flat_map, ◌==◌}
 use Rattle.std.specs.List.{slice_split, onto_first}
 use Rattle.std.proofs.lemmas.List.Splits.{length-slice_split}
-use Rattle.stack_text.specs.Spelling.{joined_lines}
-use Rattle.stack_text.specs.Words.{spelled_byte, spelled, barred, pieces}
+use Rattle.ht_values.specs.Delimited.{delimited, ended_lines}
+use Rattle.stack_text.specs.Words.{spelled_byte, spelled, barred}
 use Rattle.stack_file.specs.Lines.{with_lines}
 use Rattle.stack_file.specs.Written.{in_piece}
 use Rattle.stack_file.proofs.Adding.{with_lines-joined}
 
-pub pieces_counted : (t : List ℕ) → 0 < length t → length (pieces t) ≡ count_by (λ b. b == 13) t + 1
+pub pieces_counted : (t : List ℕ) → 0 < length t → length (delimited 13 t) ≡ count_by (λ b. b == 13) t + 1
 pieces_counted [] h = absurd (omega arith)
 pieces_counted (b ∷ bs) h = length-slice_split (λ c. c == 13) (b ∷ bs)
 
 abbrev all_written : List (List ℕ) → List ℕ
-all_written ps = joined_lines (map barred ps)
+all_written ps = ended_lines (map barred ps)
 
 in_first : (b : ℕ) (ps : List (List ℕ)) (rest : List ℕ) → 0 < length ps → all_written ps ≡ 124 ∷ rest → all_written (onto_first b ps) ≡ 124 ∷ spelled_byte b ++ rest
 in_first b [] rest some e = absurd (omega arith)
@@ -37,13 +37,13 @@ split-written (b ∷ bs) = by (b == 13) refl (split-written bs)
     by false e others = rw e (in_first b (slice_split (λ c. c == 13) bs) (flat_map in_piece bs ++ 10 ∷ []) (some_parts bs) others ∙ ap (λ (t : List ℕ). 124 ∷ t) (sym (append_assoc (spelled_byte b) (flat_map in_piece bs) (10 ∷ []))))
 
 -- the pieces of a text that is not empty
-pub pieces_written : (out t last : List ℕ) → 0 < length t → last ≡ ((out ++ 124 ∷ []) ++ flat_map in_piece t) ++ 10 ∷ [] → last ≡ with_lines out (map barred (pieces t))
+pub pieces_written : (out t last : List ℕ) → 0 < length t → last ≡ ((out ++ 124 ∷ []) ++ flat_map in_piece t) ++ 10 ∷ [] → last ≡ with_lines out (map barred (delimited 13 t))
 pieces_written out [] last some e = absurd (omega arith)
 pieces_written out (b ∷ bs) last some e =
     e ∙ append_assoc (out ++ 124 ∷ []) (flat_map in_piece (b ∷ bs)) (10 ∷ []) ∙ append_assoc out (124 ∷ []) (flat_map in_piece (b ∷ bs) ++ 10 ∷ [])
     ∙ ap (λ (t : List ℕ). out ++ t) (sym (split-written (b ∷ bs)))
-    ∙ sym (with_lines-joined out (map barred (pieces (b ∷ bs))))
+    ∙ sym (with_lines-joined out (map barred (delimited 13 (b ∷ bs))))
 
-pub no_pieces : (out t : List ℕ) → length t ≡ 0 → out ≡ with_lines out (map barred (pieces t))
+pub no_pieces : (out t : List ℕ) → length t ≡ 0 → out ≡ with_lines out (map barred (delimited 13 t))
 no_pieces out [] e = refl
 no_pieces out (b ∷ bs) e = absurd (omega arith)

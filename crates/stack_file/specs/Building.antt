@@ -4,11 +4,11 @@ use Rattle.std.specs.declared.cmp.Ordering.{Ordering}
 use Rattle.std.specs.FinMap.{FinMap, insert}
 use Rattle.object_table.specs.Content.{Content}
 use Rattle.object_table.specs.declared.object.Object.{Object}
-use Rattle.stack_text.specs.declared.sheets.Kept.{Kept}
+use Rattle.stack_text.specs.declared.sheets.PartContent.{PartContent}
 use Rattle.stack_text.specs.declared.sheets.Part.{Part}
 use Rattle.stack_text.specs.declared.sheets.Keeping.{Keeping}
 use Rattle.stack_text.specs.Document.{Sheet}
-use Rattle.stack_text.specs.Listing.{part_entry, object_entries, parts_entry, kept_on, written, lit, kept_entries}
+use Rattle.stack_text.specs.Listing.{part_entry, object_entries, parts_entry, contents_on, written, lit, content_entries}
 
 -- the map with these entries, where the first of a key counts
 abbrev pub inserted : {K X : Type 0} {R : K → K → Ordering} → FinMap R X → List (K × X) → FinMap R X
@@ -16,28 +16,28 @@ inserted m [] = m
 inserted m (e ∷ es) = insert (inserted m es) e.0 e.1
 
 -- with what is kept on a card, or on card 0 for what is shared
-abbrev pub with_kept : ℕ → List (ℕ × Kept) → Content → Content
-with_kept card kept s = record s { texts = inserted s.texts (kept_entries written card kept); hilites = inserted s.hilites (kept_entries lit card kept) }
+abbrev pub with_contents : ℕ → List (ℕ × PartContent) → Content → Content
+with_contents card contents s = record s { texts = inserted s.texts (content_entries written card contents); hilites = inserted s.hilites (content_entries lit card contents) }
 
-abbrev pub own_kept : List Part → List (ℕ × Kept)
-own_kept parts = map (λ p. (p.id, p.kept)) parts
+abbrev pub own_contents : List Part → List (ℕ × PartContent)
+own_contents parts = map (λ p. (p.id, p.content)) parts
 
 abbrev pub with_parts : ℕ → List Part → Content → Content
 with_parts card parts s = record s {
   objects = inserted s.objects (map part_entry parts);
-  texts = inserted s.texts (kept_entries written card (own_kept parts));
-  hilites = inserted s.hilites (kept_entries lit card (own_kept parts));
+  texts = inserted s.texts (content_entries written card (own_contents parts));
+  hilites = inserted s.hilites (content_entries lit card (own_contents parts));
 }
 
 abbrev pub with_keepings : ℕ → List Keeping → Content → Content
-with_keepings card keepings s = with_kept card (map (λ k. (k.part, k.kept)) keepings) s
+with_keepings card keepings s = with_contents card (map (λ k. (k.part, k.content)) keepings) s
 
 abbrev pub with_sheet : ℕ → Sheet → Content → Content
 with_sheet card x s = record s {
   objects = inserted s.objects (object_entries x);
   parts = inserted s.parts (parts_entry x ∷ []);
-  texts = inserted s.texts (kept_entries written card (kept_on x));
-  hilites = inserted s.hilites (kept_entries lit card (kept_on x));
+  texts = inserted s.texts (content_entries written card (contents_on x));
+  hilites = inserted s.hilites (content_entries lit card (contents_on x));
 }
 
 -- the card for which a sheet's parts are kept
@@ -49,8 +49,8 @@ abbrev pub with_sheets : Bool → List Sheet → Content → Content
 with_sheets shared xs s = record s {
   objects = inserted s.objects (flat_map object_entries xs);
   parts = inserted s.parts (map parts_entry xs);
-  texts = inserted s.texts (flat_map (λ x. kept_entries written (card_for shared x.id) (kept_on x)) xs);
-  hilites = inserted s.hilites (flat_map (λ x. kept_entries lit (card_for shared x.id) (kept_on x)) xs);
+  texts = inserted s.texts (flat_map (λ x. content_entries written (card_for shared x.id) (contents_on x)) xs);
+  hilites = inserted s.hilites (flat_map (λ x. content_entries lit (card_for shared x.id) (contents_on x)) xs);
 }
 
 -- with the stack itself

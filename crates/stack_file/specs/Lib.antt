@@ -1,4 +1,3 @@
-pub mod Watching
 pub mod Pieces
 pub mod Owners
 pub mod Views

@@ -8,14 +8,14 @@ ghost use Rattle.stack_text.specs.Document.{part_ids, sheet_ids};
 ghost use Rattle.stack_text.specs.Listing.{content_of};
 ghost use Rattle.stack_text.specs.Laws.{Spells};
 ghost use Rattle.stack_text.specs.Reading.{Gives, Fails, document_at};
-ghost use Rattle.stack_file.specs.Building.{with_kept, with_parts, with_keepings, with_sheet, with_sheets, card_for as card_for_sheet, with_stack};
+ghost use Rattle.stack_file.specs.Building.{with_contents, with_parts, with_keepings, with_sheet, with_sheets, card_for as card_for_sheet, with_stack};
 ghost use Rattle.stack_file.specs.Views.{sheet_seen, text_seen};
 
-use crate::reading::document;
+use crate::document::document;
 use crate::sheets::{SheetLines, TextLines};
 use ht_values::Text;
 use object_table::{Id, IdList, Object, Stack};
-use stack_text::{Keeping, Kept, Part, ReadError};
+use stack_text::{Keeping, Part, PartContent, ReadError};
 use std::alloc::{AllocError, Global};
 
 fn put_object(stack: &mut Stack, id: Id, object: Object) -> Result<(), AllocError>
@@ -57,22 +57,31 @@ fn put_hilite(stack: &mut Stack, button: Id, card: Id, lit: bool) -> Result<(), 
 }
 
 /// What is kept for a part on a card, or on card 0 what is shared.
-fn put_kept(stack: &mut Stack, card: Id, part: Id, kept: Kept) -> Result<(), AllocError>
-    ensures { OnOk result (stack.new.content ≡ with_kept card ((part, kept) ∷ []) stack.old.content) }
+fn put_content(
+    stack: &mut Stack,
+    card: Id,
+    part: Id,
+    content: PartContent,
+) -> Result<(), AllocError>
+    ensures { OnOk result (stack.new.content ≡ with_contents card ((part, content) ∷ []) stack.old.content) }
 {
-    match kept {
-        Kept::Nothing => Ok(()),
-        Kept::Written(text) => put_text(stack, part, card, text),
-        Kept::Lit(lit) => put_hilite(stack, part, card, lit),
+    match content {
+        PartContent::Nothing => Ok(()),
+        PartContent::Written(text) => put_text(stack, part, card, text),
+        PartContent::Lit(lit) => put_hilite(stack, part, card, lit),
     }
 }
 
 fn put_part(stack: &mut Stack, card: Id, part: Part) -> Result<(), AllocError>
     ensures { OnOk result (stack.new.content ≡ with_parts card (part ∷ []) stack.old.content) }
 {
-    let Part { id, object, kept } = part;
+    let Part {
+        id,
+        object,
+        content,
+    } = part;
     put_object(stack, id, object)?;
-    put_kept(stack, card, id, kept)
+    put_content(stack, card, id, content)
 }
 
 fn add_parts(stack: &mut Stack, card: Id, mut parts: Vec<Part>) -> Result<(), AllocError>
@@ -87,8 +96,8 @@ fn add_parts(stack: &mut Stack, card: Id, mut parts: Vec<Part>) -> Result<(), Al
 fn put_keeping(stack: &mut Stack, card: Id, keeping: Keeping) -> Result<(), AllocError>
     ensures { OnOk result (stack.new.content ≡ with_keepings card (keeping ∷ []) stack.old.content) }
 {
-    let Keeping { part, kept } = keeping;
-    put_kept(stack, card, part, kept)
+    let Keeping { part, content } = keeping;
+    put_content(stack, card, part, content)
 }
 
 fn add_keepings(stack: &mut Stack, card: Id, mut keepings: Vec<Keeping>) -> Result<(), AllocError>

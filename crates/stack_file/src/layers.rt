@@ -11,7 +11,7 @@ use crate::parts::{Owner, parts};
 use crate::sheets::SheetLines;
 use ht_values::Text;
 use object_table::{Id, Kind, Object};
-use stack_text::{Keeping, Kept, Part, ReadError, Version};
+use stack_text::{Keeping, Part, PartContent, ReadError, Version};
 use std::alloc::Global;
 
 /// The name of a background or a card, whether it can't be deleted, and its script.
@@ -67,7 +67,7 @@ fn own_text(lines: &mut Lines, alloc: Global, due: Id) -> Result<Keeping, ReadEr
     let text = text_of_pieces(lines, alloc, count)?;
     Ok(Keeping {
         part: due,
-        kept: Kept::Written(text),
+        content: PartContent::Written(text),
     })
 }
 
@@ -82,7 +82,7 @@ fn own_hilite(lines: &mut Lines, due: Id) -> Result<Keeping, ReadError>
     }
     Ok(Keeping {
         part: due,
-        kept: Kept::Lit(lit),
+        content: PartContent::Lit(lit),
     })
 }
 
@@ -101,7 +101,7 @@ fn keeping(
             Version::Second => own_hilite(lines, part.id),
             Version::First => Ok(Keeping {
                 part: part.id,
-                kept: Kept::Lit(false),
+                content: PartContent::Lit(false),
             }),
         },
         Kind::Stack
@@ -110,7 +110,7 @@ fn keeping(
         | Kind::CardButton { .. }
         | Kind::CardField { .. } => Ok(Keeping {
             part: part.id,
-            kept: Kept::Nothing,
+            content: PartContent::Nothing,
         }),
     }
 }

@@ -29,11 +29,11 @@ pub(crate) struct Lines<'a> {
 
 impl<'a> Model for Lines<'a> {
     ghost use Rattle.std.specs.Prelude.{◌+◌, ◌<◌, ◌^◌, length};
-    ghost use Rattle.stack_text.specs.Reading.{Spot, coded_spot};
+    ghost use Rattle.stack_text.specs.Reading.{Position, coded_position};
 
-    ghost Value = { Spot };
+    ghost Value = { Position };
 
-    ghost coded = { coded_spot };
+    ghost coded = { coded_position };
 
     ghost view = { λ l. record { bytes = l.bytes.now; number = l.number; used = l.used } };
 

@@ -8,7 +8,7 @@ use crate::blocks::{block, script};
 use crate::lines::{Lines, MOST_OBJECTS};
 use ht_values::PartKind;
 use object_table::{Id, Kind, Object};
-use stack_text::{Kept, Part, ReadError, Version};
+use stack_text::{Part, PartContent, ReadError, Version};
 use std::alloc::Global;
 
 /// What a part stands on.
@@ -50,7 +50,7 @@ fn background_button(
     Ok(Part {
         id,
         object,
-        kept: Kept::Lit(lit),
+        content: PartContent::Lit(lit),
     })
 }
 
@@ -73,7 +73,7 @@ fn background_field(lines: &mut Lines, alloc: Global, id: Id) -> Result<Part, Re
     Ok(Part {
         id,
         object,
-        kept: Kept::Written(text),
+        content: PartContent::Written(text),
     })
 }
 
@@ -105,7 +105,7 @@ fn card_button(lines: &mut Lines, alloc: Global, id: Id) -> Result<Part, ReadErr
     Ok(Part {
         id,
         object,
-        kept: Kept::Nothing,
+        content: PartContent::Nothing,
     })
 }
 
@@ -123,7 +123,7 @@ fn card_field(lines: &mut Lines, alloc: Global, id: Id) -> Result<Part, ReadErro
     Ok(Part {
         id,
         object,
-        kept: Kept::Written(text),
+        content: PartContent::Written(text),
     })
 }
 

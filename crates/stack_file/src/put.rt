@@ -1,8 +1,9 @@
 //! Lines of a text, written at its end.
 
 ghost use Rattle.std.specs.Prelude.{◌≡◌, ◌≤◌, ◌==◌, ◌∷◌, ◌++◌, [], codes, count_by, decimal, length, map, OnOk};
+ghost use Rattle.ht_values.specs.Delimited.{delimited};
 ghost use Rattle.stack_text.specs.Spelling.{name_line as name_spelled, layer_lines, cant_delete_of as cant_delete_in};
-ghost use Rattle.stack_text.specs.Words.{numbered, flagged, barred, block as block_lines, pieces};
+ghost use Rattle.stack_text.specs.Words.{numbered, flagged, barred, block as block_lines};
 ghost use Rattle.stack_file.specs.Lines.{with_lines};
 ghost use Rattle.stack_file.specs.Written.{in_piece};
 
@@ -100,7 +101,7 @@ fn returns_in(text: &[u8]) -> usize
 /// How many pieces a text has.
 #[tactic(auto, using(crate::proofs::Pieced::pieces_counted))]
 fn piece_count(text: &[u8]) -> usize
-    ensures { result ≡ length (pieces text.now) }
+    ensures { result ≡ length (delimited 13 text.now) }
 {
     if text.is_empty() {
         0
@@ -123,7 +124,7 @@ fn put_in_piece(out: &mut Vec<u8>, byte: u8) -> Result<(), AllocError>
 /// A line for each piece of a text.
 #[tactic(auto, using(crate::proofs::Pieced::no_pieces))]
 fn put_pieces(out: &mut Vec<u8>, text: &[u8]) -> Result<(), AllocError>
-    ensures { OnOk result (out.new.items ≡ with_lines out.old.items (map barred (pieces text.now))) }
+    ensures { OnOk result (out.new.items ≡ with_lines out.old.items (map barred (delimited 13 text.now))) }
 {
     if text.is_empty() {
         return Ok(());

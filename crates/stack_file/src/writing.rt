@@ -9,7 +9,7 @@ ghost use Rattle.stack_text.specs.Listing.{object_or, part_of, keeping_of, backg
 ghost use Rattle.stack_text.specs.Spelling.{header, name_line as name_spelled, script_lines, lines_by, part_lines, keeping_lines, parts_lines, background_lines, card_lines};
 ghost use Rattle.stack_text.specs.Words.{numbered};
 ghost use Rattle.stack_text.specs.declared.sheets.Version.TheVariants.{Second as second};
-ghost use Rattle.stack_text.specs.declared.sheets.Kept.TheVariants.{Nothing, Written, Lit};
+ghost use Rattle.stack_text.specs.declared.sheets.PartContent.TheVariants.{Nothing, Written, Lit};
 ghost use Rattle.object_table.specs.declared.object.Kind.TheVariants.{CardButton, BackgroundButton, CardField, BackgroundField};
 ghost use Rattle.stack_file.specs.Lines.{with_lines};
 

@@ -1,18 +1,15 @@
 -- A well-formed stack is what its document lists.
-use Rattle.std.proofs.Common.{◌≡◌, ◌↔◌, ℕ, Bool, true, false, true≢false, cond, Option, Some, None, IsSome, IsTrue, unwrap_or, refl, sym, ◌∙◌, []}
-use Rattle.std.specs.FinMap.{get, from_entries, same_map, get-from_entries}
+use Rattle.std.proofs.Common.{◌≡◌, ◌↔◌, Bool, true, false, true≢false, cond, Option, Some, None, IsSome, IsTrue, unwrap_or, refl, sym, ◌∙◌, []}
+use Rattle.std.specs.FinMap.{same_map}
 use Rattle.object_table.specs.Content.{Content}
 use Rattle.object_table.specs.PartContents.{text_at, hilite_at, keeps_text, keeps_hilite}
-use Rattle.object_table.specs.Pairs.{pair_cmp}
 use Rattle.object_table.specs.WellFormed.{IsWellFormed}
 use Rattle.object_table.proofs.Pairs.{pair_cmp_total, pair_cmp-IsAntisymmetric}
-use Rattle.stack_text.specs.declared.sheets.Kept.{Kept}
-use Rattle.stack_text.specs.Listing.{written, lit, document_of, all_kept, content_of}
-use Rattle.stack_text.proofs.KeptIds.{rows_once, each_once}
+use Rattle.stack_text.specs.Listing.{written, lit, document_of, content_of}
 use Rattle.stack_text.proofs.Keepers.{HasLayers, text_listed, hilite_listed}
 use Rattle.stack_text.proofs.Relisted.{backgrounds-listed, cards-listed, same_objects, same_parts}
-use Rattle.stack_text.proofs.Rows.{rows_of, looked_up, kept-found}
 use Rattle.stack_text.proofs.Stacks.{document_listed}
+use Rattle.stack_text.proofs.Contents.{content-is}
 
 -- where a value is there just where one is kept, it is that one
 there_where_kept : {X : Type 0} (b : Bool) (x : X) (o : Option X) → IsSome o ↔ IsTrue b → cond b (Some (unwrap_or o x)) None ≡ o
@@ -33,14 +30,11 @@ module _ (s : Content) (is : IsWellFormed s) where
     stack = (is.stack 0).1 refl;
   }
 
-  kept-is : {X : Type 0} (pick : Kept → Option X) (part card : ℕ) → get (from_entries {R = pair_cmp} (all_kept pick (document_of s))) (part, card) ≡ looked_up pick part card (rows_of (document_of s))
-  kept-is pick part card = let listed = document_listed s is in get-from_entries pair_cmp_total (all_kept pick (document_of s)) (part, card) ∙ kept-found pick (document_of s) part card (rows_once (document_of s) listed) (each_once (document_of s) listed)
-
   same_texts : (content_of (document_of s)).texts ≡ s.texts
-  same_texts = same_map pair_cmp_total pair_cmp-IsAntisymmetric _ _ (λ q. kept-is written q.0 q.1 ∙ text_listed s layers_known q.0 q.1 ∙ there_where_kept (keeps_text s q.0 q.1) [] (text_at s q.0 q.1) (is.texts q.0 q.1))
+  same_texts = same_map pair_cmp_total pair_cmp-IsAntisymmetric _ _ (λ q. content-is (document_of s) (document_listed s is) written q.0 q.1 ∙ text_listed s layers_known q.0 q.1 ∙ there_where_kept (keeps_text s q.0 q.1) [] (text_at s q.0 q.1) (is.texts q.0 q.1))
 
   same_hilites : (content_of (document_of s)).hilites ≡ s.hilites
-  same_hilites = same_map pair_cmp_total pair_cmp-IsAntisymmetric _ _ (λ q. kept-is lit q.0 q.1 ∙ hilite_listed s layers_known q.0 q.1 ∙ there_where_kept (keeps_hilite s q.0 q.1) false (hilite_at s q.0 q.1) (is.hilites q.0 q.1))
+  same_hilites = same_map pair_cmp_total pair_cmp-IsAntisymmetric _ _ (λ q. content-is (document_of s) (document_listed s is) lit q.0 q.1 ∙ hilite_listed s layers_known q.0 q.1 ∙ there_where_kept (keeps_hilite s q.0 q.1) false (hilite_at s q.0 q.1) (is.hilites q.0 q.1))
 
 same_contents : (s t : Content) → t.objects ≡ s.objects → t.backgrounds ≡ s.backgrounds → t.cards ≡ s.cards → t.parts ≡ s.parts → t.texts ≡ s.texts → t.hilites ≡ s.hilites → t.next ≡ s.next → t ≡ s
 same_contents s t o b c p x h n = λ i. record { objects = o i; backgrounds = b i; cards = c i; parts = p i; texts = x i; hilites = h i; next = n i }

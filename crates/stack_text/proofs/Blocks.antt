@@ -1,14 +1,15 @@
 -- Texts of many lines, in pieces.
-use Rattle.std.proofs.Common.{◌≡◌, ℕ, zero, suc, ◌+◌, ◌-◌, ◌<◌, ◌≤◌, Bool, true, false, cond, ltb, leb, List, [], ◌∷◌, ◌++◌, length, map, refl, sym, ap, subst, ◌∙◌, arith, ◌&&◌, ◌||◌}
+use Rattle.std.proofs.Common.{◌≡◌, ℕ, zero, suc, ◌+◌, ◌-◌, ◌<◌, ◌≤◌, Bool, true, false, cond, ltb, leb, List, [], ◌∷◌, ◌++◌, length, map, refl, sym, ap, subst, ◌∙◌, arith, ◌&&◌}
 use Rattle.std.specs.Prelude.{◌==◌, not, codes, decimal}
 use Rattle.std.specs.List.{AllByRecursion, join_with_byte, slice_split, onto_first}
-use Rattle.std.proofs.lemmas.Bool.{lt-ltb, ltb-true}
+use Rattle.std.proofs.lemmas.Bool.{lt-ltb, ltb-true, and_parts, or_parts, not-true}
 use Rattle.std.proofs.lemmas.Bool.Decides.{nat_tests}
 use Rattle.std.proofs.lemmas.List.{append-nil, length-append}
 use Rattle.std.proofs.lemmas.List.Splits.{join_with_byte-slice_split, slice_split_none, slice_split_at}
 use Rattle.std.proofs.lemmas.List.Elements.{All-from_recursion, recursion_from_All}
 use Rattle.ht_values.specs.Text.{IsText}
-use Rattle.stack_text.specs.Words.{spelled, barred, pieces}
+use Rattle.ht_values.specs.Delimited.{delimited}
+use Rattle.stack_text.specs.Words.{spelled, barred}
 use Rattle.stack_text.specs.Reading.{◌>>=◌, give, line_after, is_piece, piece_at, pieces_at, text_of_pieces, count_at, block_after}
 use Rattle.stack_text.proofs.Elements.{each_append}
 use Rattle.stack_text.proofs.Forms.{Reads, both, both_held, gives, said, resaid}
@@ -74,22 +75,14 @@ abbrev joined : List (List ℕ) → List ℕ
 joined ps = join_with_byte 13 ps
 
 piece_tests : (alone : Bool) (room : ℕ) (p : List ℕ) → is_piece alone room p ≡ true → (has 13 p ≡ false) × (length p < room) × ((alone && (length p == 0)) ≡ false)
-piece_tests alone room p h = by (has 13 p) (ltb (length p) room) (alone && (length p == 0)) refl refl refl h
-  where
-    by : (a b c : Bool) → has 13 p ≡ a → ltb (length p) room ≡ b → (alone && (length p == 0)) ≡ c → (not a && (b && not c)) ≡ true → (has 13 p ≡ false) × (length p < room) × ((alone && (length p == 0)) ≡ false)
-    by false true false x y z e = (x, ltb-true _ _ y, z)
-    by true b c x y z e = absurd cc
-    by false false c x y z e = absurd cc
-    by false true true x y z e = absurd cc
+piece_tests alone room p h =
+    let p0 = and_parts (not (has 13 p)) (ltb (length p) room && not (alone && (length p == 0))) h in
+    let p1 = and_parts (ltb (length p) room) (not (alone && (length p == 0))) p0.1 in
+    (not-true _ p0.0, ltb-true _ _ p1.0, not-true _ p1.1)
 
 none_has : (p : List ℕ) → has 13 p ≡ false → AllByRecursion (λ b. is_return b ≡ false) p
 none_has [] h = tt
-none_has (b ∷ p) h = by (b == 13) (has 13 p) refl refl h (none_has p)
-  where
-    by : (x y : Bool) → (b == 13) ≡ x → has 13 p ≡ y → (x || y) ≡ false → (has 13 p ≡ false → AllByRecursion (λ c. is_return c ≡ false) p) → (is_return b ≡ false) × AllByRecursion (λ c. is_return c ≡ false) p
-    by false false u v e others = (u, others v)
-    by true y u v e others = absurd cc
-    by false true u v e others = absurd cc
+none_has (b ∷ p) h = let q = or_parts (b == 13) (has 13 p) h in (q.0, none_has p q.1)
 
 has_none : (p : List ℕ) → AllByRecursion (λ b. is_return b ≡ false) p → has 13 p ≡ false
 has_none [] h = refl
@@ -101,11 +94,11 @@ split-joined alone room p (q ∷ ps) h =
     slice_split_at is_return p 13 (joined (q ∷ ps)) (All-from_recursion _ p (none_has p (piece_tests alone room p h.0.1).0)) refl
     ∙ ap (λ (ls : List (List ℕ)). p ∷ ls) (split-joined alone (room - (length p + 1)) q ps h.1)
 
-some_pieces : (t : List ℕ) → 0 < length t → pieces t ≡ slice_split is_return t
+some_pieces : (t : List ℕ) → 0 < length t → delimited 13 t ≡ slice_split is_return t
 some_pieces [] h = absurd (omega arith)
 some_pieces (b ∷ bs) h = refl
 
-pieces-joined : (n : ℕ) (ps : List (List ℕ)) → length ps ≡ n → FitInTurn (n == 1) 30001 ps → pieces (joined ps) ≡ ps
+pieces-joined : (n : ℕ) (ps : List (List ℕ)) → length ps ≡ n → FitInTurn (n == 1) 30001 ps → delimited 13 (joined ps) ≡ ps
 pieces-joined n [] e h = refl
 pieces-joined n (p ∷ []) e h =
     let one : (n == 1) ≡ true = rw (← e) refl in
@@ -114,7 +107,7 @@ pieces-joined n (p ∷ []) e h =
     some_pieces p (grind (arith, nat_tests)) ∙ split-joined (n == 1) 30001 p [] h
 pieces-joined n (p ∷ q ∷ ps) e h = some_pieces (joined (p ∷ q ∷ ps)) (omega (arith, length-append p (13 ∷ joined (q ∷ ps)))) ∙ split-joined (n == 1) 30001 p (q ∷ ps) h
 
-joined-pieces : (t : List ℕ) → joined (pieces t) ≡ t
+joined-pieces : (t : List ℕ) → joined (delimited 13 t) ≡ t
 joined-pieces [] = refl
 joined-pieces (b ∷ bs) = join_with_byte-slice_split 13 (b ∷ bs)
 
@@ -153,7 +146,7 @@ split-pieces (b ∷ bs) h = by (is_return b) refl (split-pieces bs h.1)
     by true e others = ((tt, tt), others)
     by false e others = onto_first-pieces b (slice_split is_return bs) h.0 e others
 
-pieces-are : (t : List ℕ) → AreBytes t → AllByRecursion IsPiece (pieces t)
+pieces-are : (t : List ℕ) → AreBytes t → AllByRecursion IsPiece (delimited 13 t)
 pieces-are [] h = tt
 pieces-are (b ∷ bs) h = split-pieces (b ∷ bs) h
 
@@ -171,21 +164,21 @@ none_alone [] = tt
 none_alone (p ∷ ps) = (refl, none_alone ps)
 
 -- they fit
-pieces-fit : (t : List ℕ) → IsText t → FitInTurn (length (pieces t) == 1) 30001 (pieces t)
-pieces-fit t h = by (pieces t) (joined-pieces t) (pieces-are t (recursion_from_All (λ b. b < 256) t h.bytes)) refl
+pieces-fit : (t : List ℕ) → IsText t → FitInTurn (length (delimited 13 t) == 1) 30001 (delimited 13 t)
+pieces-fit t h = by (delimited 13 t) (joined-pieces t) (pieces-are t (recursion_from_All (λ b. b < 256) t h.bytes)) refl
   where
     short : length t ≤ 30000
     short = h.short
 
     -- the empty text has no piece
-    some : (p : List ℕ) → pieces t ≡ p ∷ [] → joined (p ∷ []) ≡ t → (true && (length p == 0)) ≡ false
+    some : (p : List ℕ) → delimited 13 t ≡ p ∷ [] → joined (p ∷ []) ≡ t → (true && (length p == 0)) ≡ false
     some p e is = at t e is
       where
-        at : (u : List ℕ) → pieces u ≡ p ∷ [] → p ≡ u → (length p == 0) ≡ false
+        at : (u : List ℕ) → delimited 13 u ≡ p ∷ [] → p ≡ u → (length p == 0) ≡ false
         at [] e is = absurd cc
         at (b ∷ bs) e is = let n : length p ≡ length (b ∷ bs) = ap length is in let some : 0 < length p = omega (arith, n) in grind (arith, nat_tests)
 
-    by : (ps : List (List ℕ)) → joined ps ≡ t → AllByRecursion IsPiece ps → pieces t ≡ ps → FitInTurn (length ps == 1) 30001 ps
+    by : (ps : List (List ℕ)) → joined ps ≡ t → AllByRecursion IsPiece ps → delimited 13 t ≡ ps → FitInTurn (length ps == 1) 30001 ps
     by [] is each e = tt
     by (p ∷ []) is each e = fit-from true 30001 p [] each (let n : length p ≡ length t = ap length is in omega (arith, n)) (some p e is, tt)
     by (p ∷ q ∷ ps) is each e =
@@ -195,15 +188,15 @@ pieces-fit t h = by (pieces t) (joined-pieces t) (pieces-are t (recursion_from_A
 
 -- ---- blocks
 
-pub text_of_pieces-reads : (n : ℕ) → Reads (text_of_pieces n) (λ used t. IsText t × (length (pieces t) ≡ n)) (λ t. map barred (pieces t)) (λ t. [])
+pub text_of_pieces-reads : (n : ℕ) → Reads (text_of_pieces n) (λ used t. IsText t × (length (delimited 13 t) ≡ n)) (λ t. map barred (delimited 13 t)) (λ t. [])
 unfolding text_of_pieces
 text_of_pieces-reads n =
-    resaid (both_held (pieces_at (n == 1) n 30001) (λ ps. give (joined ps)) (pieces-reads (n == 1) n 30001) (λ ps. gives (joined ps)) pieces
-    (λ ps used t h. ap pieces h.1 ∙ pieces-joined n ps h.0.0 h.0.1))
-    (λ used t h. ((subst IsText (sym h.1) (joined_text (n == 1) (pieces t) h.0.1), h.0.0), append-nil (map barred (pieces t)), refl))
-    (λ used t h. ((h.1, subst (λ k. FitInTurn (k == 1) 30001 (pieces t)) h.1 (pieces-fit t h.0)), sym (joined-pieces t)))
+    resaid (both_held (pieces_at (n == 1) n 30001) (λ ps. give (joined ps)) (pieces-reads (n == 1) n 30001) (λ ps. gives (joined ps)) (delimited 13)
+    (λ ps used t h. ap (delimited 13) h.1 ∙ pieces-joined n ps h.0.0 h.0.1))
+    (λ used t h. ((subst IsText (sym h.1) (joined_text (n == 1) (delimited 13 t) h.0.1), h.0.0), append-nil (map barred (delimited 13 t)), refl))
+    (λ used t h. ((h.1, subst (λ k. FitInTurn (k == 1) 30001 (delimited 13 t)) h.1 (pieces-fit t h.0)), sym (joined-pieces t)))
 
-few_pieces : (t : List ℕ) → IsText t → (length (pieces t) < 10000000) × (leb (length (pieces t)) 30001 ≡ true)
+pub few_pieces : (t : List ℕ) → IsText t → (length (delimited 13 t) < 10000000) × (leb (length (delimited 13 t)) 30001 ≡ true)
 few_pieces t h = (omega (arith, few), grind (arith, nat_tests, few))
   where
     least : (ps : List (List ℕ)) → length ps ≤ length (joined ps) + 1
@@ -211,20 +204,16 @@ few_pieces t h = (omega (arith, few), grind (arith, nat_tests, few))
     least (p ∷ []) = omega arith
     least (p ∷ q ∷ ps) = omega (arith, least (q ∷ ps), length-append p (13 ∷ joined (q ∷ ps)))
 
-    few : length (pieces t) ≤ 30001
+    few : length (delimited 13 t) ≤ 30001
     few =
         let short : length t ≤ 30000 = h.short in
-        let same : length (joined (pieces t)) ≡ length t = ap length (joined-pieces t) in
-        omega (arith, least (pieces t))
+        let same : length (joined (delimited 13 t)) ≡ length t = ap length (joined-pieces t) in
+        omega (arith, least (delimited 13 t))
 
 -- a key, the number of pieces, and the pieces
-pub block-reads : (key : List ℕ) → has 10 key ≡ false → Reads (block_after key) (λ used t. IsText t) (λ t. (key ++ decimal (length (pieces t))) ∷ map barred (pieces t)) (λ t. [])
+pub block-reads : (key : List ℕ) → has 10 key ≡ false → Reads (block_after key) (λ used t. IsText t) (λ t. (key ++ decimal (length (delimited 13 t))) ∷ map barred (delimited 13 t)) (λ t. [])
 unfolding block_after
 block-reads key plain =
-    said (both (line_after key count_at) (λ n. text_of_pieces n) (keyed key count_at piece_counts plain) text_of_pieces-reads (λ t. length (pieces t)) (λ n used t h. h.1))
+    said (both (line_after key count_at) (λ n. text_of_pieces n) (keyed key count_at piece_counts plain) text_of_pieces-reads (λ t. length (delimited 13 t)) (λ n used t h. h.1))
     (λ used t h. h.1.0)
     (λ used t h. (few_pieces t h, (h, refl)))
-
--- behind an own number of pieces
-pub few : (t : List ℕ) → IsText t → (length (pieces t) < 10000000) × (leb (length (pieces t)) 30001 ≡ true)
-few t h = few_pieces t h

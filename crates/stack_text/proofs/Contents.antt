@@ -17,31 +17,23 @@ use Rattle.object_table.specs.declared.object.Object.{Object}
 use Rattle.object_table.specs.declared.object.Kind.{Kind}
 use Rattle.object_table.specs.declared.object.Kind.TheVariants.{Stack, Background, Card, CardButton, BackgroundButton, CardField, BackgroundField}
 use Rattle.object_table.proofs.Pairs.{pair_cmp_total}
-use Rattle.stack_text.specs.declared.sheets.Kept.{Kept}
-use Rattle.stack_text.specs.declared.sheets.Kept.TheVariants.{Nothing, Written, Lit}
+use Rattle.stack_text.specs.declared.sheets.PartContent.{PartContent}
+use Rattle.stack_text.specs.declared.sheets.PartContent.TheVariants.{Nothing, Written, Lit}
 use Rattle.stack_text.specs.declared.sheets.Part.{Part}
 use Rattle.stack_text.specs.declared.sheets.Keeping.{Keeping}
 use Rattle.stack_text.specs.Document.{Sheet, Document, contains_id, part_ids, sheet_ids, parts_of, background_or, backgrounds_of, ids_in}
-use Rattle.stack_text.specs.Listing.{object_entries, parts_entry, kept_on, written, lit, document_of, all_kept, all_objects, all_parts, content_of}
-use Rattle.stack_text.proofs.Elements.{each_so, each_append, each_parts, each_map, each_mapped}
+use Rattle.stack_text.specs.Listing.{object_entries, parts_entry, contents_on, written, lit, document_of, all_contents, all_objects, all_parts, content_of}
+use Rattle.stack_text.proofs.Elements.{each_so, each_append, each_parts, each_map, each_mapped, each_join, each_at}
 use Rattle.stack_text.proofs.Entries.{keys, len_without_first, found_each, is_some-found}
 use Rattle.stack_text.proofs.Forms.{Pairs}
 use Rattle.stack_text.proofs.Members.{IsNamed, Suits, Keeps}
 use Rattle.stack_text.proofs.Listable.{IsBackgroundSheet, IsDocument, parts_on}
-use Rattle.stack_text.proofs.DocumentIds.{keys-objects, keys-parts, objects_once, backgrounds_once, cards_once, background_parts_once, card_parts_once}
-use Rattle.stack_text.proofs.KeptIds.{rows_once, each_once}
+use Rattle.stack_text.proofs.DocumentIds.{keys-objects, keys-parts, objects_once, backgrounds_once, cards_once, background_parts_once, card_parts_once, rows_once, each_once}
 use Rattle.stack_text.proofs.Keepers.{HasLayers, text_listed, hilite_listed}
 use Rattle.stack_text.proofs.Listed.{objects_known, parts_known, listed_again}
-use Rattle.stack_text.proofs.Rows.{row_of, rows_of, looked_up, kept-found}
+use Rattle.stack_text.proofs.Rows.{row_of, rows_of, looked_up, content-found}
 use Rattle.stack_text.proofs.Sorts.{ids_with, passes-found, ids-stack, ids-background, ids-card, ids-layer, ids-card_part, ids-background_part, OnSheet, each_object}
-
--- what holds of each id holds of one that is among them
-each_at : (P : ℕ → Type 0) (q : ℕ) (ids : List ℕ) → AllByRecursion P ids → IsTrue (contains_id q ids) → P q
-each_at P q [] h e = absurd (true≢false (sym e))
-each_at P q (id ∷ ids) h e = elim (or_cases (id == q) (contains_id q ids) e) [
-  | inl k ↦ let same : id ≡ q = grind (arith, nat_tests) in subst P same h.0
-  | inr k ↦ each_at P q ids h.1 k
-]
+use Rattle.stack_text.proofs.Live.{card_background}
 
 is_stack_alone : (id : ℕ) (b : Bool) → b ≡ contains_id id (0 ∷ []) → IsTrue b ↔ (id ≡ 0)
 is_stack_alone id b e = (λ h. grind (arith, nat_tests), λ h. grind (arith, nat_tests))
@@ -62,31 +54,19 @@ module _ (s : Content) where
   card_there id (c ∷ cs) cards h e =
       let p = each_parts _ (object_entries c) (flat_map object_entries cs) h in
       elim (or_cases (background_or c.object.kind == id) (contains_id id (backgrounds_of cs)) e) [
-        | inl k ↦ (c.id, ap (λ o. option_and_then (λ (x : Object). background_of x.kind) o) p.0.0 ∙ of_kind c.object.kind cards.0 ∙ ap Some (same (background_or c.object.kind) k))
+        | inl k ↦ (c.id, ap (λ o. option_and_then (λ (x : Object). background_of x.kind) o) p.0.0 ∙ card_background c.object.kind cards.0 ∙ ap Some (same (background_or c.object.kind) k))
         | inr k ↦ card_there id cs cards.1 p.1 k
       ]
     where
       same : (b : ℕ) → (b == id) ≡ true → b ≡ id
       same b k = grind (arith, nat_tests)
 
-      of_kind : (k : Kind) → IsTrue (is_card k) → background_of k ≡ Some (background_or k)
-      of_kind (Card b x) h = refl
-      of_kind Stack h = absurd (true≢false (sym h))
-      of_kind (Background x) h = absurd (true≢false (sym h))
-      of_kind (CardButton x y) h = absurd (true≢false (sym h))
-      of_kind (CardField x y) h = absurd (true≢false (sym h))
-      of_kind (BackgroundButton x y) h = absurd (true≢false (sym h))
-      of_kind (BackgroundField x y z) h = absurd (true≢false (sym h))
-
 -- what is kept is a text, where it is one
-abbrev HasText : Kept → Type 0
+abbrev HasText : PartContent → Type 0
 HasText (Written t) = IsText t
-HasText (Lit b) = Unit {0}
-HasText Nothing = Unit {0}
+HasText x = Unit {0}
 
-suits_text : (k : Kind) (x : Kept) → Suits k x → HasText x
-suits_text k (Lit b) h = tt
-suits_text k Nothing h = tt
+suits_text : (k : Kind) (x : PartContent) → Suits k x → HasText x
 suits_text (CardField v l) (Written t) h = h
 suits_text (BackgroundField v l s) (Written t) h = h
 suits_text Stack (Written t) h = absurd h
@@ -94,33 +74,30 @@ suits_text (Background c) (Written t) h = absurd h
 suits_text (Card b c) (Written t) h = absurd h
 suits_text (CardButton b c) (Written t) h = absurd h
 suits_text (BackgroundButton b c) (Written t) h = absurd h
+suits_text k x h = tt
 
-keepings-texts : (ps : List Part) (ks : List Keeping) → Pairs Keeps ps ks → AllByRecursion (λ (k : Keeping). HasText k.kept) ks
+keepings-texts : (ps : List Part) (ks : List Keeping) → Pairs Keeps ps ks → AllByRecursion (λ (k : Keeping). HasText k.content) ks
 keepings-texts [] [] h = tt
 keepings-texts [] (k ∷ ks) h = absurd h
 keepings-texts (p ∷ ps) [] h = absurd h
-keepings-texts (p ∷ ps) (k ∷ ks) h = (suits_text p.object.kind k.kept h.0.1, keepings-texts ps ks h.1)
+keepings-texts (p ∷ ps) (k ∷ ks) h = (suits_text p.object.kind k.content h.0.1, keepings-texts ps ks h.1)
 
-abbrev HasTexts : List (ℕ × Kept) → Type 0
-HasTexts row = AllByRecursion (λ (e : ℕ × Kept). HasText e.1) row
+abbrev HasTexts : List (ℕ × PartContent) → Type 0
+HasTexts row = AllByRecursion (λ (e : ℕ × PartContent). HasText e.1) row
 
-sheet-texts : (s : Sheet) → AllByRecursion (λ (p : Part). HasText p.kept) s.parts → AllByRecursion (λ (k : Keeping). HasText k.kept) s.keepings → HasTexts (kept_on s)
-sheet-texts s h k = each_append _ (map (λ (p : Part). (p.id, p.kept)) s.parts) (map (λ (x : Keeping). (x.part, x.kept)) s.keepings) (each_map _ (λ (p : Part). (p.id, p.kept)) s.parts h) (each_map _ (λ (x : Keeping). (x.part, x.kept)) s.keepings k)
+sheet-texts : (s : Sheet) → AllByRecursion (λ (p : Part). HasText p.content) s.parts → AllByRecursion (λ (k : Keeping). HasText k.content) s.keepings → HasTexts (contents_on s)
+sheet-texts s h k = each_append _ (map (λ (p : Part). (p.id, p.content)) s.parts) (map (λ (x : Keeping). (x.part, x.content)) s.keepings) (each_map _ (λ (p : Part). (p.id, p.content)) s.parts h) (each_map _ (λ (x : Keeping). (x.part, x.content)) s.keepings k)
 
-shared-texts : (bs : List Sheet) → AllByRecursion IsBackgroundSheet bs → HasTexts (flat_map kept_on bs)
-shared-texts [] h = tt
-shared-texts (b ∷ bs) h =
-    each_append _ (kept_on b) (flat_map kept_on bs)
-    (sheet-texts b (each_so (λ p q. suits_text p.object.kind p.kept q.1.1) b.parts h.0.parts) (subst (λ (ks : List Keeping). AllByRecursion (λ (k : Keeping). HasText k.kept) ks) (sym h.0.none) tt))
-    (shared-texts bs h.1)
+shared-texts : (bs : List Sheet) → AllByRecursion IsBackgroundSheet bs → HasTexts (flat_map contents_on bs)
+shared-texts bs h = each_join _ contents_on bs (each_so (λ b k. sheet-texts b (each_so (λ p q. suits_text p.object.kind p.content q.1.1) b.parts k.parts) (subst (λ (ks : List Keeping). AllByRecursion (λ (k : Keeping). HasText k.content) ks) (sym k.none) tt)) bs h)
 
-of_some : (o : Option Kept) → IfSome o HasText → IfSome (option_and_then written o) IsText
+of_some : (o : Option PartContent) → IfSome o HasText → IfSome (option_and_then written o) IsText
 of_some None h = tt
 of_some (Some (Written t)) h = h
 of_some (Some (Lit b)) h = tt
 of_some (Some Nothing) h = tt
 
-of_row : (part : ℕ) (o : Option (List (ℕ × Kept))) → IfSome o HasTexts → IfSome (option_and_then (λ (row : List (ℕ × Kept)). option_and_then written (find nat_cmp part row)) o) IsText
+of_row : (part : ℕ) (o : Option (List (ℕ × PartContent))) → IfSome o HasTexts → IfSome (option_and_then (λ (row : List (ℕ × PartContent)). option_and_then written (find nat_cmp part row)) o) IsText
 of_row part None h = tt
 of_row part (Some row) h = of_some (find nat_cmp part row) (found_each HasText part row h)
 
@@ -164,48 +141,20 @@ module _ (d : Document) (is : IsDocument d) where
   on_none : (k : Kind) → background_of k ≡ None → IfSome (background_of k) (λ b. IsTrue (has_kind is_background (content_of d) b))
   on_none k e = subst (λ o. IfSome o (λ b. IsTrue (has_kind is_background (content_of d) b))) (sym e) tt
 
-  part_on_none : (k : Kind) → IsTrue (is_background_part k) → background_of k ≡ None
-  part_on_none (BackgroundButton a b) h = refl
-  part_on_none (BackgroundField a b c) h = refl
-  part_on_none Stack h = refl
-  part_on_none (Background c) h = refl
-  part_on_none (CardButton a b) h = refl
-  part_on_none (CardField a b) h = refl
-  part_on_none (Card b c) h = absurd (true≢false (sym h))
-
-  card_part_on_none : (k : Kind) → IsTrue (is_card_part k) → background_of k ≡ None
-  card_part_on_none (BackgroundButton a b) h = refl
-  card_part_on_none (BackgroundField a b c) h = refl
-  card_part_on_none Stack h = refl
-  card_part_on_none (Background c) h = refl
-  card_part_on_none (CardButton a b) h = refl
-  card_part_on_none (CardField a b) h = refl
-  card_part_on_none (Card b c) h = absurd (true≢false (sym h))
-
-  background_on_none : (k : Kind) → IsTrue (is_background k) → background_of k ≡ None
-  background_on_none (Background c) h = refl
-  background_on_none Stack h = refl
-  background_on_none (BackgroundButton a b) h = refl
-  background_on_none (BackgroundField a b c) h = refl
-  background_on_none (CardButton a b) h = refl
-  background_on_none (CardField a b) h = refl
-  background_on_none (Card b c) h = absurd (true≢false (sym h))
+  on_none_of : (p : Kind → Bool) → ((b : ℕ) (c : Bool) → p (Card b c) ≡ false) → (k : Kind) → IsTrue (p k) → background_of k ≡ None
+  on_none_of p never (Card b c) h = absurd (true≢false (sym h ∙ never b c))
+  on_none_of p never k h = refl
 
   card_on_one : (k : Kind) → IsTrue (contains_id (background_or k) (sheet_ids d.backgrounds)) → IfSome (background_of k) (λ b. IsTrue (has_kind is_background (content_of d) b))
   card_on_one (Card b c) h = has is_background _ (ids-background d is) b ∙ h
-  card_on_one Stack h = tt
-  card_on_one (Background c) h = tt
-  card_on_one (BackgroundButton x y) h = tt
-  card_on_one (BackgroundField x y z) h = tt
-  card_on_one (CardButton x y) h = tt
-  card_on_one (CardField x y) h = tt
+  card_on_one k h = tt
 
   cards_are_on : (card : ℕ) → IfSome (background_at (content_of d) card) (λ b. IsTrue (has_kind is_background (content_of d) b))
   cards_are_on card =
       on_object (get (content_of d).objects card) _
       (at_each OnBackground (each_object OnBackground d (on_none d.stack.kind (ap background_of is.stack))
-      (each_so {Q = OnSheet OnBackground} (λ b h. (on_none b.object.kind (background_on_none b.object.kind h.is), each_so {Q = λ (x : Part). OnBackground x.object} (λ p q. on_none p.object.kind (part_on_none p.object.kind q.0)) b.parts h.parts)) d.backgrounds is.backgrounds)
-      (each_so {Q = OnSheet OnBackground} (λ c h. (card_on_one c.object.kind h.on, each_so {Q = λ (x : Part). OnBackground x.object} (λ p q. on_none p.object.kind (card_part_on_none p.object.kind q.0)) c.parts h.parts)) d.cards is.cards)) card)
+      (each_so {Q = OnSheet OnBackground} (λ b h. (on_none b.object.kind (on_none_of is_background (λ x c. refl) b.object.kind h.is), each_so {Q = λ (x : Part). OnBackground x.object} (λ p q. on_none p.object.kind (on_none_of is_background_part (λ x c. refl) p.object.kind q.0)) b.parts h.parts)) d.backgrounds is.backgrounds)
+      (each_so {Q = OnSheet OnBackground} (λ c h. (card_on_one c.object.kind h.on, each_so {Q = λ (x : Part). OnBackground x.object} (λ p q. on_none p.object.kind (on_none_of is_card_part (λ x c. refl) p.object.kind q.0)) c.parts h.parts)) d.cards is.cards)) card)
 
   has_card : (id : ℕ) → IsTrue (has_kind is_background (content_of d) id) → (card : ℕ) × (background_at (content_of d) card ≡ Some id)
   has_card id h =
@@ -257,26 +206,26 @@ module _ (d : Document) (is : IsDocument d) where
   }
 
   -- what is kept, found by the rows of the document
-  pub kept-is : {X : Type 0} (pick : Kept → Option X) (part card : ℕ) → get (from_entries {R = pair_cmp} (all_kept pick d)) (part, card) ≡ looked_up pick part card (rows_of d)
-  kept-is pick part card = get-from_entries pair_cmp_total (all_kept pick d) (part, card) ∙ kept-found pick d part card (rows_once d is) (each_once d is)
+  pub content-is : {X : Type 0} (pick : PartContent → Option X) (part card : ℕ) → get (from_entries {R = pair_cmp} (all_contents pick d)) (part, card) ≡ looked_up pick part card (rows_of d)
+  content-is pick part card = get-from_entries pair_cmp_total (all_contents pick d) (part, card) ∙ content-found pick d part card (rows_once d is) (each_once d is)
 
   again : document_of (content_of d) ≡ d
   again = listed_again d is
 
   texts_kept : (field card : ℕ) → IsSome (text_at (content_of d) field card) ↔ IsTrue (keeps_text (content_of d) field card)
-  texts_kept field card = kept_or_not (keeps_text (content_of d) field card) _ (text_at (content_of d) field card) (kept-is written field card ∙ ap (λ x. looked_up written field card (rows_of x)) (sym again) ∙ text_listed (content_of d) layers_known field card)
+  texts_kept field card = kept_or_not (keeps_text (content_of d) field card) _ (text_at (content_of d) field card) (content-is written field card ∙ ap (λ x. looked_up written field card (rows_of x)) (sym again) ∙ text_listed (content_of d) layers_known field card)
 
   hilites_kept : (button card : ℕ) → IsSome (hilite_at (content_of d) button card) ↔ IsTrue (keeps_hilite (content_of d) button card)
-  hilites_kept button card = kept_or_not (keeps_hilite (content_of d) button card) _ (hilite_at (content_of d) button card) (kept-is lit button card ∙ ap (λ x. looked_up lit button card (rows_of x)) (sym again) ∙ hilite_listed (content_of d) layers_known button card)
+  hilites_kept button card = kept_or_not (keeps_hilite (content_of d) button card) _ (hilite_at (content_of d) button card) (content-is lit button card ∙ ap (λ x. looked_up lit button card (rows_of x)) (sym again) ∙ hilite_listed (content_of d) layers_known button card)
 
-  rows-texts : AllByRecursion (λ (r : ℕ × List (ℕ × Kept)). HasTexts r.1) (rows_of d)
+  rows-texts : AllByRecursion (λ (r : ℕ × List (ℕ × PartContent)). HasTexts r.1) (rows_of d)
   rows-texts = (
     shared-texts d.backgrounds is.backgrounds,
-    each_map _ row_of d.cards (each_so (λ c h. sheet-texts c (each_so (λ p q. suits_text p.object.kind p.kept q.1.1) c.parts h.parts) (keepings-texts (parts_of d.backgrounds (background_or c.object.kind)) c.keepings h.keepings)) d.cards is.cards),
+    each_map _ row_of d.cards (each_so (λ c h. sheet-texts c (each_so (λ p q. suits_text p.object.kind p.content q.1.1) c.parts h.parts) (keepings-texts (parts_of d.backgrounds (background_or c.object.kind)) c.keepings h.keepings)) d.cards is.cards),
   )
 
   texts_are : (field card : ℕ) → IfSome (text_at (content_of d) field card) IsText
-  texts_are field card = subst (λ o. IfSome o IsText) (sym (kept-is written field card)) (of_row field (find nat_cmp card (rows_of d)) (found_each HasTexts card (rows_of d) rows-texts))
+  texts_are field card = subst (λ o. IfSome o IsText) (sym (content-is written field card)) (of_row field (find nat_cmp card (rows_of d)) (found_each HasTexts card (rows_of d) rows-texts))
 
   -- the stack that the document lists is well formed
   pub content_listed : IsWellFormed (content_of d)

@@ -1,20 +1,21 @@
 -- What is read is a document that lists a stack, and each such document is read.
-use Rattle.std.proofs.Common.{◌≡◌, ℕ, suc, ◌+◌, ◌^◌, ◌<◌, ◌≤◌, Bool, true, false, eqb, List, [], ◌∷◌, ◌++◌, length, refl, subst, arith, ◌||◌, ◌&&◌}
+use Rattle.std.proofs.Common.{◌≡◌, ℕ, suc, ◌+◌, ◌^◌, ◌<◌, ◌≤◌, true, false, List, [], ◌∷◌, ◌++◌, length, arith}
 use Rattle.std.specs.Prelude.{IsTrue, flat_map, Ok}
-use Rattle.std.specs.List.{AllByRecursion, list_all}
-use Rattle.std.proofs.lemmas.Bool.{eqb-true}
+use Rattle.std.specs.List.{AllByRecursion}
 use Rattle.std.proofs.lemmas.List.{length-append, length-map}
+use Rattle.std.proofs.lemmas.List.Sums.{AllPass-from_list_all, list_all-from_AllPass}
+use Rattle.std.proofs.lemmas.List.Elements.{All-from_recursion, recursion_from_All}
 use Rattle.stack_text.specs.declared.sheets.Part.{Part}
 use Rattle.stack_text.specs.declared.sheets.Keeping.{Keeping}
 use Rattle.stack_text.specs.Document.{Sheet, Document, contains_id, sheet_ids, part_ids, parts_of, background_or, backgrounds_of, ids_on, ids_in}
 use Rattle.stack_text.specs.Spelling.{Version, document_text}
 use Rattle.stack_text.specs.Reading.{document_at}
 use Rattle.stack_text.proofs.Forms.{Each, Pairs, adding}
-use Rattle.stack_text.proofs.Members.{IsCardPart, Keeps, SaysKept}
+use Rattle.stack_text.proofs.Members.{IsCardPart, Keeps, SaysContent}
 use Rattle.stack_text.proofs.Parts.{IsSaidPart, IsNewPart}
 use Rattle.stack_text.proofs.Layers.{IsNewBackground, IsNewCard, SaysKeeping}
 use Rattle.stack_text.proofs.Whole.{IsRead, read-found, read-again}
-use Rattle.stack_text.proofs.Elements.{each_so, each_both, each_parts}
+use Rattle.stack_text.proofs.Elements.{each_so, each_both, each_parts, each_at, each_map, each_joined}
 use Rattle.stack_text.proofs.Ids.{News, News-parts, News-joined, News-room, News-range, News-once, News-from, apart_from_none}
 use Rattle.stack_text.proofs.Listable.{IsBackgroundSheet, IsCardSheet, IsDocument, SaysParts, SaysKeepings, Says}
 
@@ -34,13 +35,13 @@ backgrounds-news v next used (b ∷ bs) h =
       ((record { is = h.0.is; named = h.0.named; parts = each_so (λ x k. k.0) b.parts p.1; none = h.0.none }, q.1.0), (each_so (λ x k. k.1) b.parts p.1, q.1.1)),
     )
 
-pairs_apart : (v : Version) (ps : List Part) (ks : List Keeping) → Pairs (SaysKeeping v) ps ks → Pairs Keeps ps ks × AllByRecursion (λ (k : Keeping). SaysKept v k.kept) ks
+pairs_apart : (v : Version) (ps : List Part) (ks : List Keeping) → Pairs (SaysKeeping v) ps ks → Pairs Keeps ps ks × AllByRecursion (λ (k : Keeping). SaysContent v k.content) ks
 pairs_apart v [] [] h = (tt, tt)
 pairs_apart v [] (k ∷ ks) h = absurd h
 pairs_apart v (p ∷ ps) [] h = absurd h
 pairs_apart v (p ∷ ps) (k ∷ ks) h = let rest = pairs_apart v ps ks h.1 in ((h.0.0, rest.0), (h.0.1, rest.1))
 
-pairs_joined : (v : Version) (ps : List Part) (ks : List Keeping) → Pairs Keeps ps ks → AllByRecursion (λ (k : Keeping). SaysKept v k.kept) ks → Pairs (SaysKeeping v) ps ks
+pairs_joined : (v : Version) (ps : List Part) (ks : List Keeping) → Pairs Keeps ps ks → AllByRecursion (λ (k : Keeping). SaysContent v k.content) ks → Pairs (SaysKeeping v) ps ks
 pairs_joined v [] [] h s = tt
 pairs_joined v [] (k ∷ ks) h s = absurd h
 pairs_joined v (p ∷ ps) [] h s = absurd h
@@ -55,18 +56,6 @@ cards-news v next bs used (c ∷ cs) h =
       News-joined next used (ids_on c) (flat_map ids_on cs) (h.0.new, p.0) q.0,
       ((record { is = h.0.is; named = h.0.named; parts = p.1; on = h.0.on; keepings = k.0 }, q.1.0), (k.1, q.1.1)),
     )
-
-both_true : (a b : Bool) → (a && b) ≡ true → (a ≡ true) × (b ≡ true)
-both_true true b e = (refl, e)
-both_true false b e = absurd cc
-
-each_from_all : {X : Type 0} (p : X → Bool) (xs : List X) → list_all p xs ≡ true → AllByRecursion (λ x. IsTrue (p x)) xs
-each_from_all p [] e = tt
-each_from_all p (x ∷ xs) e = let q = both_true (p x) (list_all p xs) e in (q.0, each_from_all p xs q.1)
-
-all_from_each : {X : Type 0} (p : X → Bool) (xs : List X) → AllByRecursion (λ x. IsTrue (p x)) xs → list_all p xs ≡ true
-all_from_each p [] h = refl
-all_from_each p (x ∷ xs) h = let others = all_from_each p xs h.1 in rw (h.0, others) refl
 
 document-from_read : (v : Version) (d : Document) → IsRead v d → IsDocument d × Says v d
 document-from_read v d h =
@@ -84,7 +73,7 @@ document-from_read v d h =
         some_background = h.some_background;
         backgrounds = b.1.0;
         cards = c.1.0;
-        some_card = each_from_all (λ x. contains_id x.id (backgrounds_of d.cards)) d.backgrounds h.have;
+        some_card = recursion_from_All _ d.backgrounds (AllPass-from_list_all (λ x. contains_id x.id (backgrounds_of d.cards)) d.backgrounds h.have);
       },
       (b.1.1, c.1.1),
     )
@@ -128,12 +117,7 @@ backgrounds-each v next used (b ∷ bs) high h are says =
     )
 
 small_contained : (bs : List Sheet) (id : ℕ) → AllByRecursion Small (flat_map ids_on bs) → IsTrue (contains_id id (sheet_ids bs)) → Small id
-small_contained [] id h e = absurd cc
-small_contained (b ∷ bs) id h e = by (eqb b.id id) refl e (small_contained bs id (each_parts Small (ids_on b) (flat_map ids_on bs) h).1)
-  where
-    by : (t : Bool) → eqb b.id id ≡ t → (t || contains_id id (sheet_ids bs)) ≡ true → (IsTrue (contains_id id (sheet_ids bs)) → Small id) → Small id
-    by true is k others = subst Small (eqb-true b.id id is) h.0
-    by false is k others = others k
+small_contained bs id h e = each_at Small id (sheet_ids bs) (each_map Small (λ s. s.id) bs (each_so (λ s k. k.0) bs (each_joined Small ids_on bs h))) e
 
 cards-each : (v : Version) (next : ℕ) (bs : List Sheet) (used : List ℕ) (cs : List Sheet) → next ≤ 1000001 → AllByRecursion Small (flat_map ids_on bs) → News next used (flat_map ids_on cs) → AllByRecursion (IsCardSheet bs) cs → AllByRecursion (SaysKeepings v) cs → Each (IsNewCard v next bs) ids_on used cs
 cards-each v next bs used [] high small h are says = tt
@@ -184,7 +168,7 @@ read-from_document v d h says =
       some_card = some_card d.backgrounds d.cards h.some_background h.some_card;
       few_cards = omega arith;
       cards = cards-each v d.next d.backgrounds (adding [] (flat_map ids_on d.backgrounds)) d.cards high small news.1 h.cards says.1;
-      have = all_from_each (λ b. contains_id b.id (backgrounds_of d.cards)) d.backgrounds h.some_card;
+      have = list_all-from_AllPass (λ b. contains_id b.id (backgrounds_of d.cards)) d.backgrounds (All-from_recursion _ d.backgrounds h.some_card);
     }
   where
     below_high : (next : ℕ) → next ≤ 1000001 → (id : ℕ) → (0 < id) × (id < next) → Small id

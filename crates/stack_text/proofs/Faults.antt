@@ -4,11 +4,11 @@ use Rattle.std.proofs.lemmas.Bool.Decides.{nat_tests}
 use Rattle.std.proofs.lemmas.List.{take-append-drop, length-drop}
 use Rattle.object_table.specs.Content.{Content}
 use Rattle.stack_text.specs.Document.{Sheet, Document}
-use Rattle.stack_text.specs.Reading.{Spot, Reader, chain, ◌>>=◌, give, nothing_left, end_at, body_at, all_lines, document_at, value_of, read_as}
+use Rattle.stack_text.specs.Reading.{Position, Reader, chain, ◌>>=◌, give, nothing_left, end_at, body_at, all_lines, document_at, value_of, read_as}
 use Rattle.stack_text.specs.Listing.{content_of}
 use Rattle.stack_text.specs.Laws.{stack_in, first_lines, MayBeAt, FaultIsOfItsLine, PrefixIsTruncated, MoreIsBadLine}
 use Rattle.stack_text.specs.declared.fault.FileError.{FileError}
-use Rattle.stack_text.specs.declared.fault.FileError.TheVariants.{Truncated, BadLine, TooMany, BadId}
+use Rattle.stack_text.specs.declared.fault.FileError.TheVariants.{Truncated, BadLine}
 use Rattle.stack_text.proofs.Laws.{stack_again}
 use Rattle.stack_text.proofs.Forms.{chain_ok}
 use Rattle.stack_text.proofs.Fronts.{over, Failed, IsLocal, failed_by, bad_id_if-local}
@@ -16,8 +16,8 @@ use Rattle.stack_text.proofs.LocalForms.{line_after-local, exactly-local, stack-
 
 -- A reader that reads all bytes: one byte more is a bad line.
 pub record Closes {A : Type 0} (r : Reader A) : Type 0 where
-  pub more : (s t : Spot) (x : A) → r s ≡ Ok (x, t) → (b : ℕ) (behind : List ℕ) → r (over s (s.bytes ++ b ∷ behind)) ≡ Err (BadLine (t.number + 1))
-  pub failed : (s : Spot) (f : FileError) → r s ≡ Err f → ¬ (f ≡ Truncated) → Failed s (λ b. r (over s b)) f (λ o. ¬ (o ≡ Err f))
+  pub more : (s t : Position) (x : A) → r s ≡ Ok (x, t) → (b : ℕ) (behind : List ℕ) → r (over s (s.bytes ++ b ∷ behind)) ≡ Err (BadLine (t.number + 1))
+  pub failed : (s : Position) (f : FileError) → r s ≡ Err f → ¬ (f ≡ Truncated) → Failed s (λ b. r (over s b)) f (λ o. ¬ (o ≡ Err f))
 
 -- a local reader, and then one that reads all
 closes : {A B : Type 0} {r : Reader A} {f : A → Reader B} → IsLocal r → ((x : A) → Closes (f x)) → Closes (r >>= f)
@@ -27,7 +27,7 @@ closes {A} {B} {r} {f} one all = record {
       let is = (one.from s).taken c.0 c.1 c.2 in
       ap (λ (z : List ℕ). (r >>= f) (over s (z ++ b ∷ behind))) is.bytes
       ∙ ap (λ (z : List ℕ). (r >>= f) (over s z)) (append_assoc is.front c.1.bytes (b ∷ behind))
-      ∙ ap (λ (o : Result (A × Spot) FileError). chain o f) (is.always (c.1.bytes ++ b ∷ behind))
+      ∙ ap (λ (o : Result (A × Position) FileError). chain o f) (is.always (c.1.bytes ++ b ∷ behind))
       ∙ (all c.0).more c.1 u y c.3 b behind;
   failed = λ s e is not. failed_by s (λ b. r (over s b)) f (one.from s) e (λ o. ¬ (o ≡ Err e)) (λ h. let k : Truncated ≡ e = cc in not (sym k)) (r s) refl is not (λ x t h. (all x).failed t e h not);
 }
@@ -37,40 +37,40 @@ closes_gives : {A B : Type 0} {r : Reader A} (y : B) → Closes r → Closes (r 
 closes_gives {A} {B} {r} y all = record {
   more = λ s u z e b behind.
       let c = chain_ok (r s) (λ x. give y) z u e in
-      let same : ◌≡◌ {A = B × Spot} (y, c.1) (z, u) = let h = c.3 in cc in
-      ap (λ (o : Result (A × Spot) FileError). chain o (λ x. give y)) (all.more s c.1 c.0 c.2 b behind) ∙ ap (λ (p : B × Spot). Err (BadLine (p.1.number + 1))) same;
+      let same : ◌≡◌ {A = B × Position} (y, c.1) (z, u) = let h = c.3 in cc in
+      ap (λ (o : Result (A × Position) FileError). chain o (λ x. give y)) (all.more s c.1 c.0 c.2 b behind) ∙ ap (λ (p : B × Position). Err (BadLine (p.1.number + 1))) same;
   failed = λ s e is not.
       let h = all.failed s e (was (r s) e is) not in
       record {
         lines = h.lines;
         line = h.line;
-        always = λ more. ap (λ (o : Result (A × Spot) FileError). chain o (λ x. give y)) (h.always more);
+        always = λ more. ap (λ (o : Result (A × Position) FileError). chain o (λ x. give y)) (h.always more);
         cut = λ k lt g. h.cut k lt (was _ e g);
       };
 }
   where
-    was : (o : Result (A × Spot) FileError) (e : FileError) → ◌≡◌ {A = Result (B × Spot) FileError} (chain o (λ x. give y)) (Err e) → o ≡ Err e
+    was : (o : Result (A × Position) FileError) (e : FileError) → ◌≡◌ {A = Result (B × Position) FileError} (chain o (λ x. give y)) (Err e) → o ≡ Err e
     was (Ok p) e h = absurd cc
     was (Err d) e h = let same : d ≡ e = cc in ap Err same
 
-some_left : (s : Spot) (b : ℕ) (bytes : List ℕ) → nothing_left (over s (b ∷ bytes)) ≡ Err (BadLine (s.number + 1))
+some_left : (s : Position) (b : ℕ) (bytes : List ℕ) → nothing_left (over s (b ∷ bytes)) ≡ Err (BadLine (s.number + 1))
 some_left s b bytes = let some : eqb (length (b ∷ bytes)) 0 ≡ false = grind (arith, nat_tests) in rw some refl
 
 nothing_left-closes : Closes nothing_left
 nothing_left-closes = record { more = λ s t x e b behind. at_end s t x s.bytes e b behind; failed = λ s f e not. past_end s f s.bytes e }
   where
-    at_end : (s t : Spot) (x : Unit {0}) (bytes : List ℕ) → nothing_left (over s bytes) ≡ Ok (x, t) → (b : ℕ) (behind : List ℕ) → nothing_left (over s (bytes ++ b ∷ behind)) ≡ Err (BadLine (t.number + 1))
-    at_end s t x [] e b behind = let same : ◌≡◌ {A = Unit {0} × Spot} (tt, over s []) (x, t) = cc in some_left s b behind ∙ ap (λ (p : Unit {0} × Spot). Err (BadLine (p.1.number + 1))) same
+    at_end : (s t : Position) (x : Unit {0}) (bytes : List ℕ) → nothing_left (over s bytes) ≡ Ok (x, t) → (b : ℕ) (behind : List ℕ) → nothing_left (over s (bytes ++ b ∷ behind)) ≡ Err (BadLine (t.number + 1))
+    at_end s t x [] e b behind = let same : ◌≡◌ {A = Unit {0} × Position} (tt, over s []) (x, t) = cc in some_left s b behind ∙ ap (λ (p : Unit {0} × Position). Err (BadLine (p.1.number + 1))) same
     at_end s t x (c ∷ bytes) e b behind = absurd (let no = sym (some_left s c bytes) ∙ e in cc)
 
-    none_before : (s : Spot) (f : FileError) (bytes : List ℕ) (k : ℕ) → k < 1 → ¬ (nothing_left (over s (first_lines k bytes)) ≡ Err f)
+    none_before : (s : Position) (f : FileError) (bytes : List ℕ) (k : ℕ) → k < 1 → ¬ (nothing_left (over s (first_lines k bytes)) ≡ Err f)
     none_before s f bytes zero lt h = absurd cc
     none_before s f bytes (suc k) lt h = absurd (omega (arith, lt))
 
-    past_end : (s : Spot) (f : FileError) (bytes : List ℕ) → nothing_left (over s bytes) ≡ Err f → Failed (over s bytes) (λ b. nothing_left (over s b)) f (λ o. ¬ (o ≡ Err f))
+    past_end : (s : Position) (f : FileError) (bytes : List ℕ) → nothing_left (over s bytes) ≡ Err f → Failed (over s bytes) (λ b. nothing_left (over s b)) f (λ o. ¬ (o ≡ Err f))
     past_end s f [] e = absurd cc
     past_end s f (c ∷ bytes) e =
-        let same : ◌≡◌ {A = Result (Unit {0} × Spot) FileError} (Err (BadLine (s.number + 1))) (Err f) = sym (some_left s c bytes) ∙ e in
+        let same : ◌≡◌ {A = Result (Unit {0} × Position) FileError} (Err (BadLine (s.number + 1))) (Err f) = sym (some_left s c bytes) ∙ e in
         let is : BadLine (s.number + 1) ≡ f = cc in
         record {
           lines = 1;
@@ -89,17 +89,17 @@ all-closes = search (closes, closes_gives, end-closes, line_after-local, stack-l
 
 -- ---- the laws
 
-start : List ℕ → Spot
+start : List ℕ → Position
 start bytes = record { bytes = bytes; number = 0; used = [] }
 
-seen : Result (Document × Spot) FileError → Result Content FileError
+seen : Result (Document × Position) FileError → Result Content FileError
 seen o = read_as content_of (value_of o)
 
 stack_seen : (bytes : List ℕ) → stack_in bytes ≡ seen (all_lines (start bytes))
 unfolding document_at start seen
 stack_seen bytes = refl
 
-fault_seen : (o : Result (Document × Spot) FileError) (f : FileError) → seen o ≡ Err f → o ≡ Err f
+fault_seen : (o : Result (Document × Position) FileError) (f : FileError) → seen o ≡ Err f → o ≡ Err f
 unfolding seen
 fault_seen (Ok p) f e = absurd cc
 fault_seen (Err d) f e = let same : d ≡ f = cc in ap Err same
@@ -144,7 +144,7 @@ more_than_text : (bytes : List ℕ) (s : Content) → stack_in bytes ≡ Ok s �
 unfolding seen start
 more_than_text bytes s e b behind = by (all_lines (start bytes)) refl (sym (stack_seen bytes) ∙ e)
   where
-    by : (o : Result (Document × Spot) FileError) → all_lines (start bytes) ≡ o → seen o ≡ Ok s → (n : ℕ) × (stack_in (bytes ++ b ∷ behind) ≡ Err (BadLine n))
+    by : (o : Result (Document × Position) FileError) → all_lines (start bytes) ≡ o → seen o ≡ Ok s → (n : ℕ) × (stack_in (bytes ++ b ∷ behind) ≡ Err (BadLine n))
     by (Ok p) is k = (p.1.number + 1, seen_fault (bytes ++ b ∷ behind) (BadLine (p.1.number + 1)) (all-closes.more (start bytes) p.1 p.0 is b behind))
     by (Err f) is k = absurd cc
 
@@ -155,9 +155,7 @@ more_is_bad_line bytes s is = more_than_text bytes s (stack_again bytes s is)
 cut_text : (bytes : List ℕ) (b : ℕ) (behind : List ℕ) (t : Content) → stack_in (bytes ++ b ∷ behind) ≡ Ok t → (o : Result Content FileError) → stack_in bytes ≡ o → o ≡ Err Truncated
 cut_text bytes b behind t whole (Ok s) e = absurd (let more = more_than_text bytes s e b behind in let no = sym whole ∙ more.1 in cc)
 cut_text bytes b behind t whole (Err Truncated) e = refl
-cut_text bytes b behind t whole (Err (BadLine n)) e = absurd (let no = sym whole ∙ fault_stays bytes (b ∷ behind) (BadLine n) e (λ h. absurd cc) in cc)
-cut_text bytes b behind t whole (Err (BadId n)) e = absurd (let no = sym whole ∙ fault_stays bytes (b ∷ behind) (BadId n) e (λ h. absurd cc) in cc)
-cut_text bytes b behind t whole (Err TooMany) e = absurd (let no = sym whole ∙ fault_stays bytes (b ∷ behind) TooMany e (λ h. absurd cc) in cc)
+cut_text bytes b behind t whole (Err f) e = absurd (let no = sym whole ∙ fault_stays bytes (b ∷ behind) f e (λ h. absurd cc) in cc)
 
 pub prefix_is_truncated : PrefixIsTruncated
 prefix_is_truncated bytes s is k lt = by (drop k bytes) (take-append-drop k bytes) (length-drop k bytes)

@@ -4,16 +4,16 @@ use Rattle.std.specs.Prelude.{◌==◌, option_map, option_and_then, codes, deci
 use Rattle.std.specs.Cmp.Lexicographic.{pointwise, same_text}
 use Rattle.std.proofs.lemmas.Bool.{ltb-false, le-ltb}
 use Rattle.std.proofs.lemmas.List.{take_at, drop_at, length-append}
-use Rattle.std.proofs.lemmas.Option.{option_and_then_some}
+use Rattle.std.proofs.lemmas.Option.{option_and_then_some, cond_some}
 use Rattle.stack_text.specs.Words.{spelled_flag, number_at}
 use Rattle.ht_values.specs.declared.word.PartKind.{PartKind}
 use Rattle.ht_values.specs.declared.word.PartKind.TheVariants.{Button, Field}
 use Rattle.stack_text.specs.Reading.{flag_at, count_at, both, pair_at, at_least, after_prefix, first_of, part_header}
-use Rattle.stack_text.proofs.Keyed.{has, has-append, found_at, splits_at, Spelled, after_prefix-found, after_prefix-again}
+use Rattle.stack_text.proofs.Keyed.{has, has-append, found_at, splits_at, Spelled, else_given, same_value, after_prefix-found, after_prefix-again}
 use Rattle.stack_text.proofs.Numbers.{numbers, has-decimal}
 
 -- a choice of two words
-chosen-found : {A : Type 0} (word v w : List ℕ) (x y z : A) → cond (pointwise nat_eq word v) (Some x) (cond (pointwise nat_eq word w) (Some y) None) ≡ Some z → ((z ≡ x) × (word ≡ v)) ⊎ ((z ≡ y) × (word ≡ w))
+pub chosen-found : {A : Type 0} (word v w : List ℕ) (x y z : A) → cond (pointwise nat_eq word v) (Some x) (cond (pointwise nat_eq word w) (Some y) None) ≡ Some z → ((z ≡ x) × (word ≡ v)) ⊎ ((z ≡ y) × (word ≡ w))
 chosen-found word v w x y z e = by (pointwise nat_eq word v) (pointwise nat_eq word w) refl refl e
   where
     by : (a b : Bool) → pointwise nat_eq word v ≡ a → pointwise nat_eq word w ≡ b → cond a (Some x) (cond b (Some y) None) ≡ Some z → ((z ≡ x) × (word ≡ v)) ⊎ ((z ≡ y) × (word ≡ w))
@@ -42,13 +42,10 @@ flags = record { found = flag-found; again = λ b h. flag-again b; line = λ b h
 -- numbers from a least one on
 least-found : (least : ℕ) (word : List ℕ) (n : ℕ) → at_least least word ≡ Some n → ((n < 10 ^ 7) × (least ≤ n)) × (word ≡ decimal n)
 least-found least word n e =
-    option_and_then_some (λ m. cond (ltb m least) None (Some m)) (number_at word) n e (λ m is high. by m (ltb m least) refl high (numbers.found word m is))
-  where
-    by : (m : ℕ) (b : Bool) → ltb m least ≡ b → cond b None (Some m) ≡ Some n → (m < 10 ^ 7) × (word ≡ decimal m) → ((n < 10 ^ 7) × (least ≤ n)) × (word ≡ decimal n)
-    by m true is h f = absurd cc
-    by m false is h f =
-        let same : m ≡ n = cc in
-        subst (λ k. ((k < 10 ^ 7) × (least ≤ k)) × (word ≡ decimal k)) same ((f.0, ltb-false _ _ is), f.1)
+    option_and_then_some (λ m. cond (ltb m least) None (Some m)) (number_at word) n e (λ m is high.
+    let p = else_given (ltb m least) (Some m) n high in
+    let f = numbers.found word m is in
+    subst (λ k. ((k < 10 ^ 7) × (least ≤ k)) × (word ≡ decimal k)) (same_value m n p.1) ((f.0, ltb-false _ _ p.0), f.1))
 
 pub least_numbers : (least : ℕ) → Spelled (at_least least) (λ n. (n < 10 ^ 7) × (least ≤ n)) decimal
 least_numbers least = record {
@@ -60,13 +57,10 @@ least_numbers least = record {
 -- words of which a test is true
 module _ {A : Type 0} {form : List ℕ → Option A} {P : A → Type 0} {spell : A → List ℕ} (word : Spelled form P spell) (test : A → Bool) where
   tested-found : (w : List ℕ) (x : A) → option_and_then (λ y. cond (test y) (Some y) None) (form w) ≡ Some x → (P x × (test x ≡ true)) × (w ≡ spell x)
-  tested-found w x e = option_and_then_some (λ y. cond (test y) (Some y) None) (form w) x e (λ y is right. by y (test y) refl right (word.found w y is))
-    where
-      by : (y : A) (b : Bool) → test y ≡ b → cond b (Some y) None ≡ Some x → P y × (w ≡ spell y) → (P x × (test x ≡ true)) × (w ≡ spell x)
-      by y true is h f =
-          let same : y ≡ x = cc in
-          subst (λ z. (P z × (test z ≡ true)) × (w ≡ spell z)) same ((f.0, is), f.1)
-      by y false is h f = absurd cc
+  tested-found w x e = option_and_then_some (λ y. cond (test y) (Some y) None) (form w) x e (λ y is right.
+      let p = cond_some (test y) y x right in
+      let f = word.found w y is in
+      subst (λ z. (P z × (test z ≡ true)) × (w ≡ spell z)) p.1 ((f.0, p.0), f.1))
 
   pub tested : Spelled (λ w. option_and_then (λ y. cond (test y) (Some y) None) (form w)) (λ x. P x × (test x ≡ true)) spell
   tested = record {

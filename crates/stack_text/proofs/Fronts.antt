@@ -2,23 +2,23 @@
 use Rattle.std.proofs.Common.{◌≡◌, ℕ, zero, suc, ◌+◌, ◌-◌, ◌<◌, ◌≤◌, ◌⊎◌, inl, inr, Bool, true, false, eqb, List, [], ◌∷◌, ◌++◌, Result, Ok, Err, Option, Some, None, refl, sym, ap, subst, ◌∙◌, arith, append_assoc, add_assoc, add-zero, zero-add, one-add, ◌||◌}
 use Rattle.std.specs.Prelude.{position, ◌==◌}
 use Rattle.std.proofs.lemmas.Bool.{cases_lt}
-use Rattle.stack_text.specs.Reading.{Spot, Reader, chain, ◌>>=◌, give, times, for_each, or_bad_line, bad_line_if, too_many_if, bad_id_if, cut_at, next_line}
+use Rattle.stack_text.specs.Reading.{Position, Reader, chain, ◌>>=◌, give, times, for_each, or_bad_line, bad_line_if, too_many_if, bad_id_if, cut_at, next_line}
 use Rattle.stack_text.specs.Laws.{first_lines, MayBeAt}
 use Rattle.stack_text.specs.declared.fault.FileError.{FileError}
 use Rattle.stack_text.specs.declared.fault.FileError.TheVariants.{Truncated, BadLine, TooMany, BadId}
-use Rattle.stack_text.proofs.Forms.{spot, chain_ok}
+use Rattle.stack_text.proofs.Forms.{position_at, chain_ok}
 use Rattle.stack_text.proofs.Keyed.{has, next_line-found, next_line-again}
 
--- the same spot before other bytes
-abbrev pub over : Spot → List ℕ → Spot
+-- the same position before other bytes
+abbrev pub over : Position → List ℕ → Position
 over s bytes = record s { bytes = bytes }
 
--- a reading of bytes from a spot on
+-- a reading of bytes from a position on
 abbrev pub From : Type 0 → Type 0
-From A = List ℕ → Result (A × Spot) FileError
+From A = List ℕ → Result (A × Position) FileError
 
 -- The reading took these lines, and fewer are truncated.
-pub record Taken {A : Type 0} (s : Spot) (r : From A) (x : A) (t : Spot) : Type 0 where
+pub record Taken {A : Type 0} (s : Position) (r : From A) (x : A) (t : Position) : Type 0 where
   pub lines : ℕ
   pub front : List ℕ
   pub bytes : s.bytes ≡ front ++ t.bytes
@@ -28,23 +28,23 @@ pub record Taken {A : Type 0} (s : Spot) (r : From A) (x : A) (t : Spot) : Type 
   pub cut : (k : ℕ) (more : List ℕ) → k < lines → r (first_lines k (front ++ more)) ≡ Err Truncated
 
 -- The reading fails at the last of these lines, and of fewer lines this holds.
-pub record Failed {A : Type 0} (s : Spot) (r : From A) (f : FileError) (Fewer : Result (A × Spot) FileError → Type 0) : Type 0 where
+pub record Failed {A : Type 0} (s : Position) (r : From A) (f : FileError) (Fewer : Result (A × Position) FileError → Type 0) : Type 0 where
   pub lines : ℕ
   pub line : MayBeAt f (s.number + lines)
   pub always : (more : List ℕ) → r (first_lines lines s.bytes ++ more) ≡ Err f
   pub cut : (k : ℕ) → k < lines → Fewer (r (first_lines k s.bytes))
 
-abbrev pub IsTruncated : {A : Type 0} → Result (A × Spot) FileError → Type 0
+abbrev pub IsTruncated : {A : Type 0} → Result (A × Position) FileError → Type 0
 IsTruncated o = o ≡ Err Truncated
 
 -- what is taken and what fails, both so
-pub record Local {A : Type 0} (s : Spot) (r : From A) : Type 0 where
-  pub taken : (x : A) (t : Spot) → r s.bytes ≡ Ok (x, t) → Taken s r x t
+pub record Local {A : Type 0} (s : Position) (r : From A) : Type 0 where
+  pub taken : (x : A) (t : Position) → r s.bytes ≡ Ok (x, t) → Taken s r x t
   pub failed : (f : FileError) → r s.bytes ≡ Err f → ¬ (f ≡ Truncated) → Failed s r f IsTruncated
 
--- the reader is so from each spot on
+-- the reader is so from each position on
 pub record IsLocal {A : Type 0} (r : Reader A) : Type 0 where
-  pub from : (s : Spot) → Local s (λ b. r (over s b))
+  pub from : (s : Position) → Local s (λ b. r (over s b))
 
 -- ---- one after another
 
@@ -55,22 +55,22 @@ split_at k n m lt = by (cases_lt k n)
     by (inl less) = inl less
     by (inr le) = inr (omega (arith, le), omega (arith, lt, le))
 
-module _ {A B : Type 0} (s : Spot) (r : From A) (f : A → Reader B) (first : Local s r) where
+module _ {A B : Type 0} (s : Position) (r : From A) (f : A → Reader B) (first : Local s r) where
   abbrev Chained : From B
   Chained b = chain (r b) f
 
   -- what the first took, and what is read behind it
-  behind : (x : A) (t : Spot) (is : Taken s r x t) (more : List ℕ) → Chained (is.front ++ more) ≡ f x (over t more)
-  behind x t is more = ap (λ (o : Result (A × Spot) FileError). chain o f) (is.always more)
+  behind : (x : A) (t : Position) (is : Taken s r x t) (more : List ℕ) → Chained (is.front ++ more) ≡ f x (over t more)
+  behind x t is more = ap (λ (o : Result (A × Position) FileError). chain o f) (is.always more)
 
-  cut_before : (x : A) (t : Spot) (is : Taken s r x t) (k : ℕ) (more : List ℕ) → k < is.lines → Chained (first_lines k (is.front ++ more)) ≡ Err Truncated
-  cut_before x t is k more lt = ap (λ (o : Result (A × Spot) FileError). chain o f) (is.cut k more lt)
+  cut_before : (x : A) (t : Position) (is : Taken s r x t) (k : ℕ) (more : List ℕ) → k < is.lines → Chained (first_lines k (is.front ++ more)) ≡ Err Truncated
+  cut_before x t is k more lt = ap (λ (o : Result (A × Position) FileError). chain o f) (is.cut k more lt)
 
   -- so many lines more
-  further : (x : A) (t : Spot) (is : Taken s r x t) (k : ℕ) (more : List ℕ) → Chained (first_lines (is.lines + k) (is.front ++ more)) ≡ f x (over t (first_lines k more))
+  further : (x : A) (t : Position) (is : Taken s r x t) (k : ℕ) (more : List ℕ) → Chained (first_lines (is.lines + k) (is.front ++ more)) ≡ f x (over t (first_lines k more))
   further x t is k more = ap Chained (is.counted k more) ∙ behind x t is (first_lines k more)
 
-  module _ (y : B) (u : Spot) (x : A) (t : Spot) (is : Taken s r x t) (others : Taken t (λ b. f x (over t b)) y u) where
+  module _ (y : B) (u : Position) (x : A) (t : Position) (is : Taken s r x t) (others : Taken t (λ b. f x (over t b)) y u) where
     both_taken : Taken s Chained y u
     both_taken = record {
       lines = is.lines + others.lines;
@@ -94,8 +94,8 @@ module _ {A B : Type 0} (s : Spot) (r : From A) (f : A → Reader B) (first : Lo
             ∙ further x t is (k - is.lines) (others.front ++ more)
             ∙ others.cut (k - is.lines) more h.1
 
-  module _ (e : FileError) (Fewer : Result (B × Spot) FileError → Type 0) (short : Fewer (Err Truncated)) where
-    module _ (x : A) (t : Spot) (is : Taken s r x t) (others : Failed t (λ b. f x (over t b)) e Fewer) where
+  module _ (e : FileError) (Fewer : Result (B × Position) FileError → Type 0) (short : Fewer (Err Truncated)) where
+    module _ (x : A) (t : Position) (is : Taken s r x t) (others : Failed t (λ b. f x (over t b)) e Fewer) where
       failed_behind : Failed s Chained e Fewer
       failed_behind = record {
         lines = is.lines + others.lines;
@@ -119,11 +119,11 @@ module _ {A B : Type 0} (s : Spot) (r : From A) (f : A → Reader B) (first : Lo
     failed_first d same is = record {
       lines = is.lines;
       line = subst (λ (z : FileError). MayBeAt z (s.number + is.lines)) same is.line;
-      always = λ more. ap (λ (o : Result (A × Spot) FileError). chain o f) (is.always more) ∙ ap Err same;
-      cut = λ k lt. subst Fewer (sym (ap (λ (o : Result (A × Spot) FileError). chain o f) (is.cut k lt))) short;
+      always = λ more. ap (λ (o : Result (A × Position) FileError). chain o f) (is.always more) ∙ ap Err same;
+      cut = λ k lt. subst Fewer (sym (ap (λ (o : Result (A × Position) FileError). chain o f) (is.cut k lt))) short;
     }
 
-    pub failed_by : (o : Result (A × Spot) FileError) → r s.bytes ≡ o → chain o f ≡ Err e → ¬ (e ≡ Truncated) → ((x : A) (t : Spot) → f x t ≡ Err e → Failed t (λ b. f x (over t b)) e Fewer) → Failed s Chained e Fewer
+    pub failed_by : (o : Result (A × Position) FileError) → r s.bytes ≡ o → chain o f ≡ Err e → ¬ (e ≡ Truncated) → ((x : A) (t : Position) → f x t ≡ Err e → Failed t (λ b. f x (over t b)) e Fewer) → Failed s Chained e Fewer
     failed_by (Ok p) is h not others = failed_behind p.0 p.1 (first.taken p.0 p.1 is) (others p.0 p.1 h)
     failed_by (Err d) is h not others = let same : d ≡ e = cc in failed_first d same (first.failed d is (λ k. not (sym same ∙ k)))
 
@@ -147,14 +147,14 @@ pub stays : {A : Type 0} (x : A) (used : List ℕ → List ℕ) → IsLocal (λ 
 stays {A} x used = record {
   from = λ s. record {
     taken = λ y t e.
-        let p : ◌≡◌ {A = A × Spot} (x, record s { used = used s.used }) (y, t) = cc in
+        let p : ◌≡◌ {A = A × Position} (x, record s { used = used s.used }) (y, t) = cc in
         record {
           lines = 0;
           front = [];
-          bytes = ap (λ (z : A × Spot). z.1.bytes) p;
-          number = ap (λ (z : A × Spot). z.1.number) (sym p) ∙ sym (add-zero s.number);
+          bytes = ap (λ (z : A × Position). z.1.bytes) p;
+          number = ap (λ (z : A × Position). z.1.number) (sym p) ∙ sym (add-zero s.number);
           counted = λ k more. ap (λ (n : ℕ). first_lines n more) (zero-add k);
-          always = λ more. ap (λ (z : A × Spot). Ok (z.0, over z.1 more)) p;
+          always = λ more. ap (λ (z : A × Position). Ok (z.0, over z.1 more)) p;
           cut = λ k more lt. absurd (omega (arith, lt));
         };
     failed = λ f e not. absurd cc;
@@ -210,28 +210,28 @@ one_line (x ∷ line) plain k more = by (eqb x 10) refl plain (λ e. one_line li
     by true is e others = absurd cc
     by false is e others = rw is (ap (λ (b : List ℕ). x ∷ b) (others e))
 
-no_line : (s : Spot) (k : ℕ) (bytes : List ℕ) → k < 1 → next_line (over s (first_lines k bytes)) ≡ Err Truncated
+no_line : (s : Position) (k : ℕ) (bytes : List ℕ) → k < 1 → next_line (over s (first_lines k bytes)) ≡ Err Truncated
 unfolding next_line
 no_line s zero bytes lt = refl
 no_line s (suc k) bytes lt = absurd (omega (arith, lt))
 
-line_taken : (s t : Spot) (line : List ℕ) → next_line s ≡ Ok (line, t) → Taken s (λ b. next_line (over s b)) line t
+line_taken : (s t : Position) (line : List ℕ) → next_line s ≡ Ok (line, t) → Taken s (λ b. next_line (over s b)) line t
 line_taken s t line e =
     let p = next_line-found s t line e in
     let again = λ (more : List ℕ). next_line-again s.number s.used more line p.0 in
     let whole : next_line (over s (line ++ 10 ∷ t.bytes)) ≡ Ok (line, t) = ap (λ (b : List ℕ). next_line (over s b)) (sym p.1.bytes) ∙ e in
-    let q : ◌≡◌ {A = List ℕ × Spot} (line, spot (s.number + 1) s.used t.bytes) (line, t) = let both = sym (again t.bytes) ∙ whole in cc in
+    let q : ◌≡◌ {A = List ℕ × Position} (line, position_at (s.number + 1) s.used t.bytes) (line, t) = let both = sym (again t.bytes) ∙ whole in cc in
     record {
       lines = 1;
       front = line ++ 10 ∷ [];
       bytes = p.1.bytes ∙ sym (append_assoc line (10 ∷ []) t.bytes);
-      number = ap (λ (z : List ℕ × Spot). z.1.number) (sym q);
+      number = ap (λ (z : List ℕ × Position). z.1.number) (sym q);
       counted = λ k more. ap (λ (n : ℕ). first_lines n ((line ++ 10 ∷ []) ++ more)) (one-add k) ∙ ap (first_lines (suc k)) (append_assoc line (10 ∷ []) more) ∙ one_line line p.0 k more ∙ sym (append_assoc line (10 ∷ []) (first_lines k more));
-      always = λ more. ap (λ (b : List ℕ). next_line (over s b)) (append_assoc line (10 ∷ []) more) ∙ again more ∙ ap (λ (z : List ℕ × Spot). Ok (line, over z.1 more)) q;
+      always = λ more. ap (λ (b : List ℕ). next_line (over s b)) (append_assoc line (10 ∷ []) more) ∙ again more ∙ ap (λ (z : List ℕ × Position). Ok (line, over z.1 more)) q;
       cut = λ k more lt. no_line s k ((line ++ 10 ∷ []) ++ more) lt;
     }
 
-line_failed : (s : Spot) (f : FileError) → next_line s ≡ Err f → f ≡ Truncated
+line_failed : (s : Position) (f : FileError) → next_line s ≡ Err f → f ≡ Truncated
 unfolding next_line
 line_failed s f e = by (position (λ b. b == 10) s.bytes) e
   where

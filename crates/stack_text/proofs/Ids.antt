@@ -1,9 +1,10 @@
 -- Ids that are each new in their turn are distinct ids within the limits.
-use Rattle.std.proofs.Common.{◌≡◌, ℕ, suc, ◌+◌, ◌<◌, ◌≤◌, Bool, true, false, eqb, List, [], ◌∷◌, ◌++◌, length, refl, sym, ◌∙◌, arith, nat_eq, ◌||◌}
+use Rattle.std.proofs.Common.{◌≡◌, ℕ, suc, ◌+◌, ◌<◌, ◌≤◌, false, eqb, List, [], ◌∷◌, ◌++◌, length, refl, sym, ◌∙◌, arith, nat_eq, ◌||◌}
 use Rattle.std.specs.Prelude.{◌==◌}
 use Rattle.std.specs.List.{AllByRecursion, IsDistinct}
 use Rattle.std.proofs.lemmas.List.{length-append}
 use Rattle.std.proofs.lemmas.List.Folds.{list_any-append}
+use Rattle.std.proofs.lemmas.Bool.{or_parts}
 use Rattle.stack_text.specs.Document.{contains_id}
 use Rattle.stack_text.proofs.Elements.{each_so, each_both}
 use Rattle.stack_text.proofs.Forms.{adding}
@@ -39,22 +40,17 @@ News-range next used (i ∷ ids) h = ((h.0.some, h.0.below), News-range next (us
 contains-push : (y x : ℕ) (used : List ℕ) → contains_id y (used ++ x ∷ []) ≡ (contains_id y used || (eqb x y || false))
 contains-push y x used = list_any-append (λ z. z == y) used (x ∷ [])
 
-neither : (a b : Bool) → (a || (b || false)) ≡ false → (a ≡ false) × (b ≡ false)
-neither true b e = absurd cc
-neither false true e = absurd cc
-neither false false e = (refl, refl)
-
 -- none is among those before
 News-apart : (next : ℕ) (used ids : List ℕ) → News next used ids → AllByRecursion (λ id. contains_id id used ≡ false) ids
 News-apart next used [] h = tt
 News-apart next used (i ∷ ids) h =
-    (h.0.new, each_so (λ y e. (neither (contains_id y used) (eqb i y) (sym (contains-push y i used) ∙ e)).0) ids (News-apart next (used ++ i ∷ []) ids h.1))
+    (h.0.new, each_so (λ y e. (or_parts _ _ (sym (contains-push y i used) ∙ e)).0) ids (News-apart next (used ++ i ∷ []) ids h.1))
 
 pub News-once : (next : ℕ) (used ids : List ℕ) → News next used ids → IsDistinct nat_eq ids
 unfolding IsDistinct
 News-once next used [] h = tt
 News-once next used (i ∷ ids) h =
-    (each_so (λ y e. (neither (contains_id y used) (eqb i y) (sym (contains-push y i used) ∙ e)).1) ids (News-apart next (used ++ i ∷ []) ids h.1), News-once next (used ++ i ∷ []) ids h.1)
+    (each_so (λ y e. (or_parts _ _ (or_parts _ _ (sym (contains-push y i used) ∙ e)).1).0) ids (News-apart next (used ++ i ∷ []) ids h.1), News-once next (used ++ i ∷ []) ids h.1)
 
 pushed : (i : ℕ) (used : List ℕ) (y : ℕ) → contains_id y used ≡ false → eqb i y ≡ false → contains_id y (used ++ i ∷ []) ≡ false
 pushed i used y e f = contains-push y i used ∙ rw (e, f) refl

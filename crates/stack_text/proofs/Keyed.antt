@@ -1,32 +1,39 @@
 -- A line that begins with a key and goes on with a word.
-use Rattle.std.proofs.Common.{◌≡◌, ℕ, ◌+◌, ◌<◌, Bool, true, false, cond, eqb, List, [], ◌∷◌, ◌++◌, length, take, drop, get_or, Result, Ok, Option, Some, None, refl, sym, ap, subst, ◌∙◌, arith, append_assoc, add-one, one-add, nat_eq, ◌||◌}
+use Rattle.std.proofs.Common.{◌≡◌, ℕ, ◌+◌, ◌<◌, Bool, true, false, cond, eqb, List, [], ◌∷◌, ◌++◌, length, take, drop, get_or, Result, Ok, Option, Some, None, refl, sym, ap, subst, ◌∙◌, arith, append_assoc, add-one, one-add, nat_eq}
 use Rattle.std.specs.Prelude.{◌==◌, position, option_and_then, not}
 use Rattle.std.specs.List.{list_any, position_or_len}
 use Rattle.std.specs.Cmp.Lexicographic.{pointwise, same_text}
-use Rattle.std.proofs.lemmas.Option.{option_and_then_some}
+use Rattle.std.proofs.lemmas.Option.{option_and_then_some, cond_some}
 use Rattle.std.proofs.lemmas.Cmp.{nat_list_eq_equiv}
-use Rattle.std.proofs.lemmas.Bool.{eqb-true, lt-ltb}
+use Rattle.std.proofs.lemmas.Bool.{eqb-true, lt-ltb, not-false, or_parts}
 use Rattle.std.proofs.lemmas.Bool.Decides.{nat_tests}
 use Rattle.std.proofs.lemmas.List.{take_at, drop_at, take-append-drop, get_or-take, get_or_default, length-append, length-take}
 use Rattle.std.proofs.lemmas.List.Folds.{list_any-append, list_any_none}
 use Rattle.std.proofs.lemmas.List.Quantifiers.{position-Some}
 use Rattle.std.proofs.Math.Seq.{drop-cons}
-use Rattle.stack_text.specs.Reading.{Spot, cut_at, next_line, or_bad_line, line_after, after_prefix, exactly, bad_line_if}
+use Rattle.stack_text.specs.Reading.{Position, cut_at, next_line, or_bad_line, line_after, after_prefix, exactly, bad_line_if}
 use Rattle.stack_text.specs.declared.fault.FileError.{FileError}
-use Rattle.stack_text.proofs.Forms.{onto, spot, Took, Reads, chain_ok, bad_line_if-reads}
+use Rattle.stack_text.proofs.Forms.{onto, position_at, Took, Reads, chain_ok, bad_line_if-reads}
+
+-- which side of a choice gave a value
+pub then_given : {A : Type 0} (b : Bool) (o : Option A) (y : A) → cond b o None ≡ Some y → (b ≡ true) × (o ≡ Some y)
+then_given true o y e = (refl, e)
+then_given false o y e = absurd cc
+
+pub else_given : {A : Type 0} (b : Bool) (o : Option A) (y : A) → cond b None o ≡ Some y → (b ≡ false) × (o ≡ Some y)
+else_given true o y e = absurd cc
+else_given false o y e = (refl, e)
+
+pub same_value : {A : Type 0} (x y : A) → Option.Some x ≡ Some y → x ≡ y
+same_value x y e = cc
 
 -- a byte stands in a list
 abbrev pub has : ℕ → List ℕ → Bool
 has c bytes = list_any (λ b. b == c) bytes
 
-not_first : (c x : ℕ) (l rest : List ℕ) (b : Bool) → eqb x c ≡ b → (b || has c l) ≡ false → (has c l ≡ false → position_or_len (λ y. y == c) (l ++ c ∷ rest) ≡ length l)
-    → position_or_len (λ y. y == c) (x ∷ l ++ c ∷ rest) ≡ length (x ∷ l)
-not_first c x l rest true is e others = absurd cc
-not_first c x l rest false is e others = rw (is, others e, one-add) refl
-
 first_at : (c : ℕ) (l rest : List ℕ) → has c l ≡ false → position_or_len (λ b. b == c) (l ++ c ∷ rest) ≡ length l
 first_at c [] rest e = grind (arith, nat_tests)
-first_at c (x ∷ l) rest e = not_first c x l rest (eqb x c) refl e (λ h. first_at c l rest h)
+first_at c (x ∷ l) rest e = let p = or_parts (eqb x c) (has c l) e in rw (p.0, first_at c l rest p.1, one-add) refl
 
 pub found_at : (c : ℕ) (l rest : List ℕ) → has c l ≡ false → position (λ b. b == c) (l ++ c ∷ rest) ≡ Some (length l)
 found_at c l rest e =
@@ -46,29 +53,29 @@ splits_at c bytes i e =
           ap (λ (b : ℕ). eqb b c) same ∙ p.2 k few),
     )
 
-IsOk : {A : Type 0} → Result (A × Spot) FileError → A → Spot → Type 0
+IsOk : {A : Type 0} → Result (A × Position) FileError → A → Position → Type 0
 IsOk r x t = r ≡ Ok (x, t)
 
 -- one line
-pub next_line-found : (s t : Spot) (line : List ℕ) → next_line s ≡ Ok (line, t) → (has 10 line ≡ false) × Took s t (line ∷ []) []
+pub next_line-found : (s t : Position) (line : List ℕ) → next_line s ≡ Ok (line, t) → (has 10 line ≡ false) × Took s t (line ∷ []) []
 unfolding next_line
 next_line-found s t line e = by (position (λ b. b == 10) s.bytes) refl e
   where
     by : (o : Option ℕ) → position (λ b. b == 10) s.bytes ≡ o → cut_at s o ≡ Ok (line, t) → (has 10 line ≡ false) × Took s t (line ∷ []) []
     by None is h = absurd cc
     by (Some i) is h =
-        let p : ◌≡◌ {A = List ℕ × Spot} (take i s.bytes, record s { bytes = drop (i + 1) s.bytes; number = s.number + 1 }) (line, t) = cc in
+        let p : ◌≡◌ {A = List ℕ × Position} (take i s.bytes, record s { bytes = drop (i + 1) s.bytes; number = s.number + 1 }) (line, t) = cc in
         let q = splits_at 10 s.bytes i is in
-        let line-is = ap (λ (z : List ℕ × Spot). z.0) p in
-        let t-is = ap (λ (z : List ℕ × Spot). z.1) p in (
+        let line-is = ap (λ (z : List ℕ × Position). z.0) p in
+        let t-is = ap (λ (z : List ℕ × Position). z.1) p in (
           rw (← line-is) q.1,
           record {
-            bytes = q.0 ∙ ap (λ (z : List ℕ × Spot). z.0 ++ 10 ∷ z.1.bytes) p;
-            used = ap (λ (z : List ℕ × Spot). z.1.used) (sym p);
+            bytes = q.0 ∙ ap (λ (z : List ℕ × Position). z.0 ++ 10 ∷ z.1.bytes) p;
+            used = ap (λ (z : List ℕ × Position). z.1.used) (sym p);
           },
         )
 
-pub next_line-again : (n : ℕ) (used rest line : List ℕ) → has 10 line ≡ false → next_line (spot n used (onto (line ∷ []) rest)) ≡ Ok (line, spot (n + 1) used rest)
+pub next_line-again : (n : ℕ) (used rest line : List ℕ) → has 10 line ≡ false → next_line (position_at n used (onto (line ∷ []) rest)) ≡ Ok (line, position_at (n + 1) used rest)
 unfolding next_line
 next_line-again n used rest line e =
     let len : length line ≡ length line = refl in
@@ -87,31 +94,27 @@ pub record Spelled {A : Type 0} (form : List ℕ → Option A) (Holds : A → Ty
   pub line : (x : A) → Holds x → has 10 (spell x) ≡ false
 
 pub after_prefix-found : (prefix xs rest : List ℕ) → after_prefix prefix xs ≡ Some rest → xs ≡ prefix ++ rest
-after_prefix-found prefix xs rest e = by (pointwise nat_eq (take (length prefix) xs) prefix) refl e
-  where
-    by : (b : Bool) → pointwise nat_eq (take (length prefix) xs) prefix ≡ b → cond b (Some (drop (length prefix) xs)) None ≡ Some rest → xs ≡ prefix ++ rest
-    by true is h =
-        let same : take (length prefix) xs ≡ prefix = same_text _ _ (sym is) in
-        let left : drop (length prefix) xs ≡ rest = cc in
-        sym (take-append-drop (length prefix) xs) ∙ rw (same, left) refl
-    by false is h = absurd cc
+after_prefix-found prefix xs rest e =
+    let p = cond_some (pointwise nat_eq (take (length prefix) xs) prefix) (drop (length prefix) xs) rest e in
+    let same : take (length prefix) xs ≡ prefix = same_text _ _ (sym p.0) in
+    sym (take-append-drop (length prefix) xs) ∙ rw (same, p.1) refl
 
 pub after_prefix-again : (prefix rest : List ℕ) → after_prefix prefix (prefix ++ rest) ≡ Some rest
 after_prefix-again prefix rest =
     let same = nat_list_eq_equiv.refl prefix in
     rw (take_at prefix rest (length prefix) refl, same, drop_at prefix rest (length prefix) refl) refl
 
-pub or_bad_line_ok : {A : Type 0} (o : Option A) (x : A) (s t : Spot) → or_bad_line o s ≡ Ok (x, t) → (o ≡ Some x) × (s ≡ t)
+pub or_bad_line_ok : {A : Type 0} (o : Option A) (x : A) (s t : Position) → or_bad_line o s ≡ Ok (x, t) → (o ≡ Some x) × (s ≡ t)
 or_bad_line_ok None x s t e = absurd cc
 or_bad_line_ok {A} (Some y) x s t e =
-    let p : ◌≡◌ {A = A × Spot} (y, s) (x, t) = cc in
-    (ap (λ (z : A × Spot). Some z.0) p, ap (λ (z : A × Spot). z.1) p)
+    let p : ◌≡◌ {A = A × Position} (y, s) (x, t) = cc in
+    (ap (λ (z : A × Position). Some z.0) p, ap (λ (z : A × Position). z.1) p)
 
 pub has-append : (c : ℕ) (a b : List ℕ) → has c a ≡ false → has c b ≡ false → has c (a ++ b) ≡ false
 has-append c a b p q = list_any-append (λ x. x == c) a b ∙ rw (p, q) refl
 
 module _ {A : Type 0} (key : List ℕ) (form : List ℕ → Option A) {Holds : A → Type 0} {spell : A → List ℕ} (word : Spelled form Holds spell) (plain : has 10 key ≡ false) where
-  keyed-found : (s t : Spot) (x : A) → line_after key form s ≡ Ok (x, t) → Holds x × Took s t ((key ++ spell x) ∷ []) []
+  keyed-found : (s t : Position) (x : A) → line_after key form s ≡ Ok (x, t) → Holds x × Took s t ((key ++ spell x) ∷ []) []
   keyed-found s t x e =
       let c = chain_ok (next_line s) (λ line. or_bad_line (option_and_then form (after_prefix key line))) x t e in
       let o = or_bad_line_ok (option_and_then form (after_prefix key c.0)) x c.1 t c.3 in
@@ -119,9 +122,9 @@ module _ {A : Type 0} (key : List ℕ) (form : List ℕ → Option A) {Holds : A
       let p = word.found rest x read in
       let line-is : c.0 ≡ key ++ spell x = after_prefix-found key c.0 rest is ∙ ap (λ (w : List ℕ). key ++ w) p.1 in
       let took = (next_line-found s c.1 c.0 c.2).1 in
-      (p.0, subst (λ (z : Spot). Took s z ((key ++ spell x) ∷ []) []) o.1 (subst (λ (l : List ℕ). Took s c.1 (l ∷ []) []) line-is took)))
+      (p.0, subst (λ (z : Position). Took s z ((key ++ spell x) ∷ []) []) o.1 (subst (λ (l : List ℕ). Took s c.1 (l ∷ []) []) line-is took)))
 
-  keyed-again : (n : ℕ) (used rest : List ℕ) (x : A) → Holds x → line_after key form (spot n used (onto ((key ++ spell x) ∷ []) rest)) ≡ Ok (x, spot (n + 1) used rest)
+  keyed-again : (n : ℕ) (used rest : List ℕ) (x : A) → Holds x → line_after key form (position_at n used (onto ((key ++ spell x) ∷ []) rest)) ≡ Ok (x, position_at (n + 1) used rest)
   keyed-again n used rest x h =
       let line = next_line-again n used rest (key ++ spell x) (has-append 10 key (spell x) plain (word.line x h)) in
       rw (line, after_prefix-again key (spell x), word.again x h) refl
@@ -130,11 +133,6 @@ module _ {A : Type 0} (key : List ℕ) (form : List ℕ → Option A) {Holds : A
   pub keyed : Reads (line_after key form) (λ used x. Holds x) (λ x. (key ++ spell x) ∷ []) (λ x. [])
   keyed = record { found = keyed-found; again = λ n used rest x h. keyed-again n used rest x h }
 
--- what a test that did not fail tells
-pub not_false : (b : Bool) → not b ≡ false → b ≡ true
-not_false true e = refl
-not_false false e = absurd cc
-
 -- a line that has these bytes
 pub exactly-reads : (line : List ℕ) → has 10 line ≡ false → Reads (exactly line) (λ used x. Unit {0}) (λ x. line ∷ []) (λ x. [])
 unfolding exactly
@@ -142,7 +140,7 @@ exactly-reads line plain = record {
   found = λ s t x e.
       let c = chain_ok (next_line s) (λ l. bad_line_if (not (pointwise nat_eq l line))) x t e in
       let g = (bad_line_if-reads (not (pointwise nat_eq c.0 line))).found c.1 t x c.3 in
-      let is : c.0 ≡ line = same_text _ _ (sym (not_false (pointwise nat_eq c.0 line) g.0)) in
+      let is : c.0 ≡ line = same_text _ _ (sym (not-false (pointwise nat_eq c.0 line) g.0)) in
       let took = (next_line-found s c.1 c.0 c.2).1 in
       (tt, record { bytes = took.bytes ∙ ap (λ (l : List ℕ). l ++ 10 ∷ c.1.bytes) is ∙ ap (λ (b : List ℕ). line ++ 10 ∷ b) g.1.bytes; used = g.1.used ∙ took.used });
   again = λ n used rest x h. let same = nat_list_eq_equiv.refl line in rw (next_line-again n used rest line plain, same) refl;

@@ -1,28 +1,28 @@
 -- Backgrounds and cards, read and spelled.
-use Rattle.std.proofs.Common.{◌≡◌, ℕ, ◌<◌, ◌≤◌, ◌^◌, Bool, true, false, true≢false, cond, eqb, List, [], ◌∷◌, ◌++◌, length, refl, sym, ap, ap₂, subst, arith, Some}
-use Rattle.std.specs.Prelude.{◌==◌, codes, not, IsTrue, flat_map, find, option_map, unwrap_or}
+use Rattle.std.proofs.Common.{◌≡◌, ℕ, ◌<◌, ◌≤◌, ◌^◌, Bool, true, false, true≢false, List, [], ◌∷◌, ◌++◌, length, refl, sym, ap, ap₂, subst}
+use Rattle.std.specs.Prelude.{◌==◌, codes, not, IsTrue, flat_map}
 use Rattle.std.specs.List.{AllByRecursion}
-use Rattle.std.proofs.lemmas.Bool.{eqb-true}
-use Rattle.std.proofs.lemmas.Bool.Decides.{nat_tests}
+use Rattle.std.proofs.lemmas.Bool.{eqb-true, not-false, eq-eqb, not_from_true, or_left, or_right}
 use Rattle.std.proofs.lemmas.List.{append-nil}
 use Rattle.ht_values.specs.Text.{IsText}
-use Rattle.object_table.specs.Objects.{is_background, is_card, is_background_part, is_card_part, is_part}
+use Rattle.object_table.specs.Objects.{is_background, is_card, is_background_part, is_card_part}
 use Rattle.object_table.specs.declared.object.Kind.{Kind}
-use Rattle.object_table.specs.declared.object.Kind.TheVariants.{Stack, Background, Card, CardButton, BackgroundButton, CardField, BackgroundField}
-use Rattle.stack_text.specs.declared.sheets.Kept.{Kept}
-use Rattle.stack_text.specs.declared.sheets.Kept.TheVariants.{Nothing, Written, Lit}
+use Rattle.object_table.specs.declared.object.Kind.TheVariants.{Background, Card, BackgroundButton, BackgroundField}
+use Rattle.stack_text.specs.declared.sheets.PartContent.{PartContent}
+use Rattle.stack_text.specs.declared.sheets.PartContent.TheVariants.{Written, Lit}
 use Rattle.stack_text.specs.declared.sheets.Part.{Part}
 use Rattle.stack_text.specs.declared.sheets.Keeping.{Keeping}
-use Rattle.stack_text.specs.Words.{number_at, numbered, flagged, block, pieces}
+use Rattle.ht_values.specs.Delimited.{delimited}
+use Rattle.stack_text.specs.Words.{number_at, numbered, flagged, block}
 use Rattle.stack_text.specs.Document.{Sheet, contains_id, sheet_ids, part_ids, ids_on, parts_of, background_or}
-use Rattle.stack_text.specs.Spelling.{Version, first, second, text_or_none, lit_or_not, kept_lines, keeping_lines, cant_delete_of, layer_lines, parts_lines, background_lines, card_lines}
+use Rattle.stack_text.specs.Spelling.{Version, first, second, text_or_none, lit_or_not, content_lines, keeping_lines, cant_delete_of, layer_lines, parts_lines, background_lines, card_lines}
 use Rattle.stack_text.specs.Reading.{for_each, bad_id_if, name_at, flag_at, flag_after, number_after, line_after, pair_at, count_at, new_id, script_at, text_of_pieces, layer_at, background_header_at, background_at, background_part_at, own_text_at, own_hilite_at, keeping_by, keeping_at, card_header_at, card_at, card_part_at, parts_at}
 use Rattle.stack_text.proofs.Forms.{Reads, Each, Pairs, both, after, gives, said, resaid, bad_id_if-reads, for_each-reads}
-use Rattle.stack_text.proofs.Keyed.{keyed, not_false}
+use Rattle.stack_text.proofs.Keyed.{keyed}
 use Rattle.stack_text.proofs.Flags.{number_pairs, counted_fields, lit_buttons}
-use Rattle.stack_text.proofs.Blocks.{text_of_pieces-reads, few}
-use Rattle.stack_text.proofs.Elements.{each_so}
-use Rattle.stack_text.proofs.Members.{IsNamed, Suits, IsCardPart, Keeps, SaysKept}
+use Rattle.stack_text.proofs.Blocks.{text_of_pieces-reads, few_pieces}
+use Rattle.stack_text.proofs.Elements.{each_so, each_part_of}
+use Rattle.stack_text.proofs.Members.{IsNamed, Suits, IsCardPart, Keeps, SaysContent}
 use Rattle.stack_text.proofs.Productions.{name_at-reads, flag_after-reads, number_after-reads, IsNew, new_id-reads}
 use Rattle.stack_text.proofs.Parts.{script-reads, IsSaidPart, IsNewPart, background_part-reads, card_part-reads, parts-reads}
 
@@ -55,30 +55,6 @@ pub record IsNewBackground (v : Version) (next : ℕ) (used : List ℕ) (b : She
   pub parts : Each (IsNewPart (IsSaidPart v) next) (λ p. p.id ∷ []) (used ++ b.id ∷ []) b.parts
   pub none : b.keepings ≡ []
 
-background_parts : (v : Version) (p : Part) → IsSaidPart v p → IsTrue (is_part p.object.kind)
-background_parts v p h = by p.object.kind h.0.0
-  where
-    by : (k : Kind) → IsTrue (is_background_part k) → IsTrue (is_part k)
-    by (BackgroundButton a b) e = refl
-    by (BackgroundField a b c) e = refl
-    by Stack e = absurd (true≢false (sym e))
-    by (Background c) e = absurd (true≢false (sym e))
-    by (Card b c) e = absurd (true≢false (sym e))
-    by (CardButton a b) e = absurd (true≢false (sym e))
-    by (CardField a b) e = absurd (true≢false (sym e))
-
-card_parts : (p : Part) → IsCardPart p → IsTrue (is_part p.object.kind)
-card_parts p h = by p.object.kind h.0
-  where
-    by : (k : Kind) → IsTrue (is_card_part k) → IsTrue (is_part k)
-    by (CardButton a b) e = refl
-    by (CardField a b) e = refl
-    by Stack e = absurd (true≢false (sym e))
-    by (Background c) e = absurd (true≢false (sym e))
-    by (Card b c) e = absurd (true≢false (sym e))
-    by (BackgroundButton a b) e = absurd (true≢false (sym e))
-    by (BackgroundField a b c) e = absurd (true≢false (sym e))
-
 abbrev background : ℕ → List ℕ × Bool × List ℕ → List Part → Sheet
 background id layer parts = record { id = id; object = record { name = layer.0; script = layer.2; kind = Background layer.1 }; parts = parts; keepings = [] }
 
@@ -90,19 +66,14 @@ background_is y is none = by y.object.kind y.keepings is none
   where
     by : (k : Kind) (ks : List Keeping) → IsTrue (is_background k) → ks ≡ [] → ◌≡◌ {A = Sheet} (record { id = y.id; object = record { name = y.object.name; script = y.object.script; kind = k }; parts = y.parts; keepings = ks }) (background y.id (y.object.name, cant_delete_of k, y.object.script) y.parts)
     by (Background c) ks e h = ap (λ (z : List Keeping). let s : Sheet = record { id = y.id; object = record { name = y.object.name; script = y.object.script; kind = Background c }; parts = y.parts; keepings = z } in s) h
-    by Stack ks e h = absurd (true≢false (sym e))
-    by (Card b c) ks e h = absurd (true≢false (sym e))
-    by (CardButton a b) ks e h = absurd (true≢false (sym e))
-    by (CardField a b) ks e h = absurd (true≢false (sym e))
-    by (BackgroundButton a b) ks e h = absurd (true≢false (sym e))
-    by (BackgroundField a b c) ks e h = absurd (true≢false (sym e))
+    by k ks e h = absurd (true≢false (sym e))
 
 pub background-reads : (v : Version) (next : ℕ) → Reads (background_at v next) (IsNewBackground v next) (background_lines v) ids_on
 unfolding background_at
 background-reads v next =
     resaid (both (background_header_at next) _ (background_header-reads next)
     (λ id. both layer_at _ layer-reads
-    (λ layer. both (parts_at next (background_part_at v)) _ (parts-reads v next (background_part_at v) (IsSaidPart v) (background_parts v) (background_part-reads v)) (λ parts. gives (background id layer parts))
+    (λ layer. both (parts_at next (background_part_at v)) _ (parts-reads v next (background_part_at v) (IsSaidPart v) (λ p h. or_right (is_card_part p.object.kind) (is_background_part p.object.kind) h.0.0) (background_part-reads v)) (λ parts. gives (background id layer parts))
     (λ y. y.parts) (λ parts used y h. ap (λ (z : Sheet). z.parts) h))
     layer_of (λ layer used y h. ap layer_of h.1))
     (λ y. y.id) (λ id used y h. ap (λ (z : Sheet). z.id) h.1.1))
@@ -115,84 +86,74 @@ background-reads v next =
 
 -- ---- what a card keeps
 
-same_id : (n : ℕ) → not (eqb n n) ≡ false
-same_id n = grind (arith, nat_tests)
-
 abbrev own_text : ℕ → List ℕ → Keeping
-own_text due t = record { part = due; kept = Written t }
+own_text due t = record { part = due; content = Written t }
 
-own_text-reads : (due : ℕ) → due < 10 ^ 7 → Reads (own_text_at due) (λ used k. IsText (text_or_none k.kept) × (k ≡ own_text due (text_or_none k.kept))) (λ k. block (numbered (codes "text") due) (text_or_none k.kept)) (λ k. [])
+own_text-reads : (due : ℕ) → due < 10 ^ 7 → Reads (own_text_at due) (λ used k. IsText (text_or_none k.content) × (k ≡ own_text due (text_or_none k.content))) (λ k. block (numbered (codes "text") due) (text_or_none k.content)) (λ k. [])
 unfolding own_text_at
 own_text-reads due small =
     resaid (both (line_after (codes "text ") (pair_at number_at count_at)) _ (keyed (codes "text ") (pair_at number_at count_at) counted_fields refl)
     (λ head. after (bad_id_if (not (head.0 == due))) _ (bad_id_if-reads (not (head.0 == due)))
-    (both (text_of_pieces head.1) _ (text_of_pieces-reads head.1) (λ t. gives (own_text due t)) (λ k. text_or_none k.kept) (λ t used k h. ap (λ (z : Keeping). text_or_none z.kept) h)))
-    (λ k. (due, length (pieces (text_or_none k.kept)))) (λ head used k h. ap₂ (λ (a b : ℕ). (a, b)) (sym (eqb-true _ _ (not_false _ h.0))) h.1.0.1))
-    (λ used k h. ((h.1.1.0.0, h.1.1.1), append-nil (block (numbered (codes "text") due) (text_or_none k.kept)), refl))
-    (λ used k h. ((small, few (text_or_none k.kept) h.0), (same_id due, ((h.0, refl), h.1))))
+    (both (text_of_pieces head.1) _ (text_of_pieces-reads head.1) (λ t. gives (own_text due t)) (λ k. text_or_none k.content) (λ t used k h. ap (λ (z : Keeping). text_or_none z.content) h)))
+    (λ k. (due, length (delimited 13 (text_or_none k.content)))) (λ head used k h. ap₂ (λ (a b : ℕ). (a, b)) (sym (eqb-true _ _ (not-false _ h.0))) h.1.0.1))
+    (λ used k h. ((h.1.1.0.0, h.1.1.1), append-nil (block (numbered (codes "text") due) (text_or_none k.content)), refl))
+    (λ used k h. ((small, few_pieces (text_or_none k.content) h.0), (not_from_true _ (eq-eqb due due refl), ((h.0, refl), h.1))))
 
 abbrev own_hilite : ℕ → Bool → Keeping
-own_hilite due b = record { part = due; kept = Lit b }
+own_hilite due b = record { part = due; content = Lit b }
 
-own_hilite-reads : (due : ℕ) → due < 10 ^ 7 → Reads (own_hilite_at due) (λ used k. k ≡ own_hilite due (lit_or_not k.kept)) (λ k. flagged (numbered (codes "hilite") due) (lit_or_not k.kept) ∷ []) (λ k. [])
+own_hilite-reads : (due : ℕ) → due < 10 ^ 7 → Reads (own_hilite_at due) (λ used k. k ≡ own_hilite due (lit_or_not k.content)) (λ k. flagged (numbered (codes "hilite") due) (lit_or_not k.content) ∷ []) (λ k. [])
 unfolding own_hilite_at
 own_hilite-reads due small =
     said (both (line_after (codes "hilite ") (pair_at number_at flag_at)) _ (keyed (codes "hilite ") (pair_at number_at flag_at) lit_buttons refl)
     (λ head. after (bad_id_if (not (head.0 == due))) _ (bad_id_if-reads (not (head.0 == due))) (gives (own_hilite due head.1)))
-    (λ k. (due, lit_or_not k.kept)) (λ head used k h. ap₂ (λ (a : ℕ) (b : Bool). let pair : ℕ × Bool = (a, b) in pair) (sym (eqb-true _ _ (not_false _ h.0))) (ap (λ (z : Keeping). lit_or_not z.kept) h.1)))
+    (λ k. (due, lit_or_not k.content)) (λ head used k h. ap₂ (λ (a : ℕ) (b : Bool). let pair : ℕ × Bool = (a, b) in pair) (sym (eqb-true _ _ (not-false _ h.0))) (ap (λ (z : Keeping). lit_or_not z.content) h.1)))
     (λ used k h. h.1.1)
-    (λ used k h. ((small, tt), (same_id due, h)))
+    (λ used k h. ((small, tt), (not_from_true _ (eq-eqb due due refl), h)))
 
 -- what a card keeps for a part of its background, and a version can say
 abbrev pub SaysKeeping : Version → Part → Keeping → Type 0
-SaysKeeping v p k = Keeps p k × SaysKept v k.kept
+SaysKeeping v p k = Keeps p k × SaysContent v k.content
 
-says_text : (v : Version) (t : List ℕ) → SaysKept v (Written t)
+says_text : (v : Version) (t : List ℕ) → SaysContent v (Written t)
 says_text first t = tt
 says_text second t = tt
 
 abbrev KeepsBy : Version → ℕ → Kind → Keeping → Type 0
-KeepsBy v id kind k = ((k.part ≡ id) × Suits kind k.kept) × SaysKept v k.kept
+KeepsBy v id kind k = ((k.part ≡ id) × Suits kind k.content) × SaysContent v k.content
 
-text_is : (a b c : Bool) (x : Kept) → Suits (BackgroundField a b c) x → IsText (text_or_none x) × (x ≡ Written (text_or_none x))
+text_is : (a b c : Bool) (x : PartContent) → Suits (BackgroundField a b c) x → IsText (text_or_none x) × (x ≡ Written (text_or_none x))
 text_is a b c (Written t) h = (h, refl)
-text_is a b c (Lit t) h = absurd h
-text_is a b c Nothing h = absurd h
+text_is a b c x h = absurd h
 
-hilite_is : (a b : Bool) (x : Kept) → Suits (BackgroundButton a b) x → x ≡ Lit (lit_or_not x)
+hilite_is : (a b : Bool) (x : PartContent) → Suits (BackgroundButton a b) x → x ≡ Lit (lit_or_not x)
 hilite_is a b (Lit t) h = refl
-hilite_is a b (Written t) h = absurd h
-hilite_is a b Nothing h = absurd h
+hilite_is a b x h = absurd h
 
-unlit : (a b : Bool) (x : Kept) → Suits (BackgroundButton a b) x → SaysKept first x → x ≡ Lit false
+unlit : (a b : Bool) (x : PartContent) → Suits (BackgroundButton a b) x → SaysContent first x → x ≡ Lit false
 unlit a b (Lit t) h says = ap Lit says
-unlit a b (Written t) h says = absurd h
-unlit a b Nothing h says = absurd h
+unlit a b x h says = absurd h
 
-keeping_is : (k : Keeping) (id : ℕ) (x : Kept) → k.part ≡ id → k.kept ≡ x → k ≡ record { part = id; kept = x }
-keeping_is k id x p e = ap₂ (λ (a : ℕ) (b : Kept). let z : Keeping = record { part = a; kept = b } in z) p e
+keeping_is : (k : Keeping) (id : ℕ) (x : PartContent) → k.part ≡ id → k.content ≡ x → k ≡ record { part = id; content = x }
+keeping_is k id x p e = ap₂ (λ (a : ℕ) (b : PartContent). let z : Keeping = record { part = a; content = b } in z) p e
 
-kept_along : (v : Version) (id : ℕ) (k : Keeping) (x : Kept) → k ≡ record { part = id; kept = x } → keeping_lines v k ≡ kept_lines v id x
-kept_along v id k x e = ap (λ (z : Keeping). keeping_lines v z) e
+content_along : (v : Version) (id : ℕ) (k : Keeping) (x : PartContent) → k ≡ record { part = id; content = x } → keeping_lines v k ≡ content_lines v id x
+content_along v id k x e = ap (λ (z : Keeping). keeping_lines v z) e
 
 keeping_by-reads : (v : Version) (id : ℕ) (kind : Kind) → id < 10 ^ 7 → IsTrue (is_background_part kind) → Reads (keeping_by v id kind) (λ used k. KeepsBy v id kind k) (keeping_lines v) (λ k. [])
 keeping_by-reads v id (BackgroundField a b c) small is =
     resaid (own_text-reads id small)
-    (λ used k h. (subst (λ (z : Keeping). KeepsBy v id (BackgroundField a b c) z) (sym h.1) ((refl, h.0), says_text v (text_or_none k.kept)), sym (kept_along v id k (Written (text_or_none k.kept)) h.1), refl))
-    (λ used k h. let t = text_is a b c k.kept h.0.1 in (t.0, keeping_is k id (Written (text_or_none k.kept)) h.0.0 t.1))
+    (λ used k h. (subst (λ (z : Keeping). KeepsBy v id (BackgroundField a b c) z) (sym h.1) ((refl, h.0), says_text v (text_or_none k.content)), sym (content_along v id k (Written (text_or_none k.content)) h.1), refl))
+    (λ used k h. let t = text_is a b c k.content h.0.1 in (t.0, keeping_is k id (Written (text_or_none k.content)) h.0.0 t.1))
 keeping_by-reads second id (BackgroundButton a b) small is =
     resaid (own_hilite-reads id small)
-    (λ used k h. (subst (λ (z : Keeping). KeepsBy second id (BackgroundButton a b) z) (sym h) ((refl, tt), tt), sym (kept_along second id k (Lit (lit_or_not k.kept)) h), refl))
-    (λ used k h. keeping_is k id (Lit (lit_or_not k.kept)) h.0.0 (hilite_is a b k.kept h.0.1))
+    (λ used k h. (subst (λ (z : Keeping). KeepsBy second id (BackgroundButton a b) z) (sym h) ((refl, tt), tt), sym (content_along second id k (Lit (lit_or_not k.content)) h), refl))
+    (λ used k h. keeping_is k id (Lit (lit_or_not k.content)) h.0.0 (hilite_is a b k.content h.0.1))
 keeping_by-reads first id (BackgroundButton a b) small is =
     resaid (gives (own_hilite id false))
-    (λ used k h. (subst (λ (z : Keeping). KeepsBy first id (BackgroundButton a b) z) (sym h) ((refl, tt), refl), sym (kept_along first id k (Lit false) h), refl))
-    (λ used k h. keeping_is k id (Lit false) h.0.0 (unlit a b k.kept h.0.1 h.1))
-keeping_by-reads v id Stack small is = absurd (true≢false (sym is))
-keeping_by-reads v id (Background a) small is = absurd (true≢false (sym is))
-keeping_by-reads v id (Card a b) small is = absurd (true≢false (sym is))
-keeping_by-reads v id (CardButton a b) small is = absurd (true≢false (sym is))
-keeping_by-reads v id (CardField a b) small is = absurd (true≢false (sym is))
+    (λ used k h. (subst (λ (z : Keeping). KeepsBy first id (BackgroundButton a b) z) (sym h) ((refl, tt), refl), sym (content_along first id k (Lit false) h), refl))
+    (λ used k h. keeping_is k id (Lit false) h.0.0 (unlit a b k.content h.0.1 h.1))
+keeping_by-reads v id k small is = absurd (true≢false (sym is))
 
 -- ---- cards
 
@@ -211,14 +172,6 @@ IsKeptFor p = (p.id < 10 ^ 7) × IsTrue (is_background_part p.object.kind)
 
 abbrev pub AreKeptFor : List Sheet → Type 0
 AreKeptFor backgrounds = AllByRecursion (λ (b : Sheet). AllByRecursion IsKeptFor b.parts) backgrounds
-
-kept_for : (backgrounds : List Sheet) (id : ℕ) → AreKeptFor backgrounds → AllByRecursion IsKeptFor (parts_of backgrounds id)
-kept_for [] id h = tt
-kept_for (b ∷ bs) id h = by (b.id == id) (kept_for bs id h.1)
-  where
-    by : (t : Bool) → AllByRecursion IsKeptFor (parts_of bs id) → AllByRecursion IsKeptFor (unwrap_or (option_map (λ (s : Sheet). s.parts) (cond t (Some b) (find (λ s. s.id == id) bs))) [])
-    by true k = h.0
-    by false k = k
 
 -- a card that is read where so many ids are used
 pub record IsNewCard (v : Version) (next : ℕ) (backgrounds : List Sheet) (used : List ℕ) (c : Sheet) : Type 0 where
@@ -240,20 +193,15 @@ card_is y is = by y.object.kind is
   where
     by : (k : Kind) → IsTrue (is_card k) → ◌≡◌ {A = Sheet} (record { id = y.id; object = record { name = y.object.name; script = y.object.script; kind = k }; parts = y.parts; keepings = y.keepings }) (card (y.id, background_or k) (y.object.name, cant_delete_of k, y.object.script) y.parts y.keepings)
     by (Card b c) e = refl
-    by Stack e = absurd (true≢false (sym e))
-    by (Background c) e = absurd (true≢false (sym e))
-    by (CardButton a b) e = absurd (true≢false (sym e))
-    by (CardField a b) e = absurd (true≢false (sym e))
-    by (BackgroundButton a b) e = absurd (true≢false (sym e))
-    by (BackgroundField a b c) e = absurd (true≢false (sym e))
+    by k e = absurd (true≢false (sym e))
 
 pub card-reads : (v : Version) (next : ℕ) (backgrounds : List Sheet) → AreKeptFor backgrounds → Reads (card_at v next backgrounds) (IsNewCard v next backgrounds) (card_lines v) ids_on
 unfolding card_at
 card-reads v next backgrounds kept =
     resaid (both (card_header_at next backgrounds) _ (card_header-reads next backgrounds)
     (λ head. both layer_at _ layer-reads
-    (λ layer. both (parts_at next card_part_at) _ (parts-reads v next card_part_at IsCardPart card_parts (card_part-reads v))
-    (λ parts. both (for_each (parts_of backgrounds head.1) (keeping_at v)) _ (for_each-reads (keeping_at v) (SaysKeeping v) (keeping_lines v) (parts_of backgrounds head.1) (each_so (λ p k. keeping_by-reads v p.id p.object.kind k.0 k.1) (parts_of backgrounds head.1) (kept_for backgrounds head.1 kept)))
+    (λ layer. both (parts_at next card_part_at) _ (parts-reads v next card_part_at IsCardPart (λ p h. or_left (is_card_part p.object.kind) (is_background_part p.object.kind) h.0) (card_part-reads v))
+    (λ parts. both (for_each (parts_of backgrounds head.1) (keeping_at v)) _ (for_each-reads (keeping_at v) (SaysKeeping v) (keeping_lines v) (parts_of backgrounds head.1) (each_so (λ p k. keeping_by-reads v p.id p.object.kind k.0 k.1) (parts_of backgrounds head.1) (each_part_of IsKeptFor backgrounds head.1 kept)))
     (λ keepings. gives (card head layer parts keepings))
     (λ y. y.keepings) (λ keepings used y h. ap (λ (z : Sheet). z.keepings) h))
     (λ y. y.parts) (λ parts used y h. ap (λ (z : Sheet). z.parts) h.1))

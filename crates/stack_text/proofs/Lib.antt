@@ -13,7 +13,6 @@ pub mod Faults
 pub mod LocalForms
 pub mod Ids
 pub mod Keepers
-pub mod KeptIds
 pub mod Keyed
 pub mod Members
 pub mod Listed
@@ -27,7 +26,6 @@ pub mod Listable
 pub mod Relisted
 pub mod Rows
 pub mod Sorts
-pub mod Spelled
 pub mod Stacks
 pub mod Texts
 pub mod Versions

@@ -9,7 +9,7 @@ use Rattle.stack_text.specs.declared.sheets.Keeping.{Keeping}
 use Rattle.stack_text.specs.Document.{Sheet, Document, contains_id, sheet_ids, part_ids, parts_of, background_or, backgrounds_of, ids_in}
 use Rattle.stack_text.specs.Spelling.{Version}
 use Rattle.stack_text.proofs.Forms.{Pairs}
-use Rattle.stack_text.proofs.Members.{IsNamed, IsBackgroundPart, IsCardPart, Keeps, SaysKind, SaysKept}
+use Rattle.stack_text.proofs.Members.{IsNamed, IsBackgroundPart, IsCardPart, Keeps, SaysKind, SaysContent}
 
 pub record IsBackgroundSheet (b : Sheet) : Type 0 where
   pub is : IsTrue (is_background b.object.kind)
@@ -44,7 +44,7 @@ abbrev pub SaysParts : Version → Sheet → Type 0
 SaysParts v s = AllByRecursion (λ (p : Part). SaysKind v p.object.kind) s.parts
 
 abbrev pub SaysKeepings : Version → Sheet → Type 0
-SaysKeepings v s = AllByRecursion (λ (k : Keeping). SaysKept v k.kept) s.keepings
+SaysKeepings v s = AllByRecursion (λ (k : Keeping). SaysContent v k.content) s.keepings
 
 -- a version can say the document
 abbrev pub Says : Version → Document → Type 0

@@ -4,7 +4,7 @@ use Rattle.std.specs.Prelude.{not, nat_le, ◌||◌, ◌==◌}
 use Rattle.ht_values.specs.declared.word.PartKind.{PartKind}
 use Rattle.ht_values.specs.declared.word.PartKind.TheVariants.{Button, Field}
 use Rattle.object_table.specs.declared.object.Kind.{Kind}
-use Rattle.object_table.specs.declared.object.Kind.TheVariants.{Stack, Background, Card, CardButton, BackgroundButton, CardField, BackgroundField}
+use Rattle.object_table.specs.declared.object.Kind.TheVariants.{BackgroundButton, BackgroundField}
 use Rattle.stack_text.specs.declared.sheets.Part.{Part}
 use Rattle.stack_text.specs.Document.{Sheet, contains_id}
 use Rattle.stack_text.specs.Spelling.{Version, first, second}
@@ -22,22 +22,6 @@ line_after-local prefix form = search steps
 pub exactly-local : (line : List ℕ) → IsLocal (exactly line)
 unfolding exactly
 exactly-local line = search steps
-
-name_at-local : IsLocal name_at
-unfolding name_at
-name_at-local = search steps
-
-number_after-local : (prefix : List ℕ) → IsLocal (number_after prefix)
-unfolding number_after
-number_after-local prefix = search steps
-
-flag_after-local : (prefix : List ℕ) → IsLocal (flag_after prefix)
-unfolding flag_after
-flag_after-local prefix = search steps
-
-count_after-local : (prefix : List ℕ) (least most : ℕ) → IsLocal (count_after prefix least most)
-unfolding count_after
-count_after-local prefix least most = search steps
 
 take_id-local : (id : ℕ) → IsLocal (take_id id)
 take_id-local id = stays tt (λ used. used ++ id ∷ [])
@@ -58,79 +42,43 @@ text_of_pieces-local : (count : ℕ) → IsLocal (text_of_pieces count)
 unfolding text_of_pieces
 text_of_pieces-local count = search (steps, pieces-local)
 
-block_after-local : (prefix : List ℕ) → IsLocal (block_after prefix)
-unfolding block_after
-block_after-local prefix = search (steps, text_of_pieces-local)
-
-script_at-local : IsLocal script_at
-unfolding script_at
-script_at-local = block_after-local _
-
 -- ---- parts
 
 in_second_or-local : (v : Version) (b : Bool) {r : Reader Bool} → IsLocal r → IsLocal (in_second_or v b r)
 in_second_or-local first b one = give-local b
 in_second_or-local second b one = one
 
-ruleset forms = (steps, name_at-local, flag_after-local, number_after-local, count_after-local, in_second_or-local, block_after-local, script_at-local, text_of_pieces-local, new_id-local)
-
-background_button-local : (v : Version) (id : ℕ) → IsLocal (background_button_at v id)
-unfolding background_button_at
-background_button-local v id = search forms depth 16
-
-background_field-local : (id : ℕ) → IsLocal (background_field_at id)
-unfolding background_field_at
-background_field-local id = search forms depth 16
+ruleset forms = (steps, line_after-local, in_second_or-local, text_of_pieces-local, new_id-local)
 
 background_part-local : (v : Version) (head : PartKind × ℕ) → IsLocal (background_part_at v head)
-unfolding background_part_at
-background_part-local v (Button, id) = background_button-local v id
-background_part-local v (Field, id) = background_field-local id
-
-card_button-local : (id : ℕ) → IsLocal (card_button_at id)
-unfolding card_button_at
-card_button-local id = search forms depth 16
-
-card_field-local : (id : ℕ) → IsLocal (card_field_at id)
-unfolding card_field_at
-card_field-local id = search forms depth 16
+unfolding background_part_at background_button_at background_field_at name_at flag_after script_at block_after
+background_part-local v (Button, id) = search forms depth 16
+background_part-local v (Field, id) = search forms depth 16
 
 card_part-local : (head : PartKind × ℕ) → IsLocal (card_part_at head)
-unfolding card_part_at
-card_part-local (Button, id) = card_button-local id
-card_part-local (Field, id) = card_field-local id
+unfolding card_part_at card_button_at card_field_at name_at flag_after script_at block_after
+card_part-local (Button, id) = search forms depth 16
+card_part-local (Field, id) = search forms depth 16
 
 parts-local : (next : ℕ) (rest : PartKind × ℕ → Reader Part) → ((head : PartKind × ℕ) → IsLocal (rest head)) → IsLocal (parts_at next rest)
-unfolding parts_at part_at
+unfolding parts_at part_at count_after
 parts-local next rest each = search (forms, times-local) depth 16
 
 -- ---- backgrounds and cards
 
 layer-local : IsLocal layer_at
-unfolding layer_at
+unfolding layer_at name_at flag_after script_at block_after
 layer-local = search forms depth 16
 
 background-local : (v : Version) (next : ℕ) → IsLocal (background_at v next)
-unfolding background_at background_header_at
+unfolding background_at background_header_at number_after
 background-local v next = search (forms, layer-local, parts-local, background_part-local) depth 16
 
-own_text-local : (due : ℕ) → IsLocal (own_text_at due)
-unfolding own_text_at
-own_text-local due = search forms depth 16
-
-own_hilite-local : (due : ℕ) → IsLocal (own_hilite_at due)
-unfolding own_hilite_at
-own_hilite-local due = search forms depth 16
-
 keeping-local : (v : Version) (id : ℕ) (kind : Kind) → IsLocal (keeping_by v id kind)
-keeping-local v id (BackgroundField l t s) = own_text-local id
-keeping-local second id (BackgroundButton l s) = own_hilite-local id
-keeping-local first id (BackgroundButton l s) = give-local _
-keeping-local v id Stack = give-local _
-keeping-local v id (Background c) = give-local _
-keeping-local v id (Card b c) = give-local _
-keeping-local v id (CardButton l h) = give-local _
-keeping-local v id (CardField l t) = give-local _
+unfolding own_text_at own_hilite_at
+keeping-local v id (BackgroundField l t s) = search forms depth 16
+keeping-local second id (BackgroundButton l s) = search forms depth 16
+keeping-local v id k = give-local _
 
 card-local : (v : Version) (next : ℕ) (bs : List Sheet) → IsLocal (card_at v next bs)
 unfolding card_at card_header_at
@@ -139,13 +87,13 @@ card-local v next bs = search (forms, layer-local, parts-local, card_part-local,
 -- ---- the whole, but for the end
 
 pub stack-local : IsLocal stack_at
-unfolding stack_at
+unfolding stack_at count_after name_at script_at block_after
 stack-local = search forms depth 16
 
 pub backgrounds-local : (v : Version) (next : ℕ) → IsLocal (backgrounds_at v next)
-unfolding backgrounds_at
+unfolding backgrounds_at count_after
 backgrounds-local v next = search (forms, times-local, background-local)
 
 pub cards-local : (v : Version) (next : ℕ) (bs : List Sheet) → IsLocal (cards_at v next bs)
-unfolding cards_at
+unfolding cards_at count_after
 cards-local v next bs = search (forms, times-local, card-local)

@@ -1,5 +1,5 @@
 -- Numbers and their one spelling.
-use Rattle.std.proofs.Common.{◌≡◌, Option, None, ◌≢◌, ℕ, zero, suc, ◌+◌, ◌-◌, ◌*◌, ◌^◌, ◌<◌, ◌≤◌, Bool, true, false, cond, eqb, ltb, leb, List, [], ◌∷◌, length, get_or, Some, refl, sym, ap, ◌∙◌, arith, rules, lit<, lit≤, inl, inr, ◌||◌, ◌&&◌}
+use Rattle.std.proofs.Common.{◌≡◌, Option, None, ◌≢◌, ℕ, zero, suc, ◌+◌, ◌-◌, ◌*◌, ◌^◌, ◌<◌, ◌≤◌, true, false, eqb, ltb, leb, List, [], ◌∷◌, length, get_or, Some, refl, sym, ap, ◌∙◌, arith, rules, lit<, lit≤, inl, inr, ◌||◌, ◌&&◌}
 use Rattle.std.specs.Prelude.{◌==◌, not, decimal, IfSome, IfNone}
 use Rattle.std.specs.Int.{IsInRange}
 use Rattle.std.specs.Str.{all_ascii_digits}
@@ -8,8 +8,9 @@ use Rattle.std.proofs.lemmas.Fmt.{digits_decimal, digits_value-decimal, length-d
 use Rattle.std.proofs.lemmas.List.{get_or_default}
 use Rattle.std.proofs.lemmas.List.Folds.{list_any_none}
 use Rattle.std.proofs.lemmas.Str.Parse.{IsNumeralModel, numerals_by_fold, not_in_digits, digits_value_short}
+use Rattle.std.proofs.lemmas.Bool.{and_parts}
 use Rattle.stack_text.specs.Words.{digits_after, is_misspelled, number_at}
-use Rattle.stack_text.proofs.Keyed.{has, Spelled}
+use Rattle.stack_text.proofs.Keyed.{has, Spelled, then_given, else_given}
 
 -- the number whose digits follow those of n
 abbrev read_on : ℕ → List ℕ → ℕ
@@ -21,22 +22,17 @@ own = numerals_by_fold _ (search rules) read_on (search rules)
 
 digits_after-found : (ds : List ℕ) (n m : ℕ) → digits_after n ds ≡ Some m → (all_ascii_digits ds ≡ true) × (read_on n ds ≡ m)
 digits_after-found [] n m e = (refl, cc)
-digits_after-found (d ∷ ds) n m e = by (leb 48 d && leb d 57) refl e (digits_after-found ds (n * 10 + (d - 48)) m)
-  where
-    by : (b : Bool) → (leb 48 d && leb d 57) ≡ b → cond b (digits_after (n * 10 + (d - 48)) ds) None ≡ Some m
-        → (digits_after (n * 10 + (d - 48)) ds ≡ Some m → (all_ascii_digits ds ≡ true) × (read_on (n * 10 + (d - 48)) ds ≡ m))
-        → (all_ascii_digits (d ∷ ds) ≡ true) × (read_on n (d ∷ ds) ≡ m)
-    by true is h others = let p = others h in (rw (is, p.0) refl, p.1)
-    by false is h others = absurd cc
+digits_after-found (d ∷ ds) n m e =
+    let p = then_given (leb 48 d && leb d 57) (digits_after (n * 10 + (d - 48)) ds) m e in
+    let others = digits_after-found ds (n * 10 + (d - 48)) m p.1 in
+    (rw (p.0, others.0) refl, others.1)
 
 digits_after-again : (ds : List ℕ) (n : ℕ) → all_ascii_digits ds ≡ true → digits_after n ds ≡ Some (read_on n ds)
 digits_after-again [] n e = refl
-digits_after-again (d ∷ ds) n e = by (leb 48 d && leb d 57) refl e (digits_after-again ds (n * 10 + (d - 48)))
-  where
-    by : (b : Bool) → (leb 48 d && leb d 57) ≡ b → (b && all_ascii_digits ds) ≡ true
-        → (all_ascii_digits ds ≡ true → digits_after (n * 10 + (d - 48)) ds ≡ Some (read_on (n * 10 + (d - 48)) ds)) → digits_after n (d ∷ ds) ≡ Some (read_on n (d ∷ ds))
-    by true is h others = rw (is, others h) refl
-    by false is h others = absurd cc
+digits_after-again (d ∷ ds) n e =
+    let p = and_parts (leb 48 d && leb d 57) (all_ascii_digits ds) e in
+    let others = digits_after-again ds (n * 10 + (d - 48)) p.1 in
+    rw (p.0, others) refl
 
 short : (d n : ℕ) → (ltb 6 n || (eqb d 48 && not (eqb n 0))) ≡ false → n ≤ 6
 short d n e = grind (arith, nat_tests)
@@ -84,16 +80,13 @@ decimal-well (suc n) lt =
     }
 
 number-found : (word : List ℕ) (n : ℕ) → number_at word ≡ Some n → (n < 10 ^ 7) × (word ≡ decimal n)
-number-found word n e = by (is_misspelled word) refl e
-  where
-    by : (b : Bool) → is_misspelled word ≡ b → cond b None (digits_after 0 word) ≡ Some n → (n < 10 ^ 7) × (word ≡ decimal n)
-    by true is h = absurd cc
-    by false is h =
-        let w = well word is in
-        let p = digits_after-found word 0 n h in
-        let low : read_on 0 word < 10 ^ 7 = digits_value_short own word 7 p.0 w.few in
-        let back = decimal-digits_value own word p.0 w.some w.zero_alone (omega arith) in
-        (rw (← p.1) low, sym back ∙ ap decimal p.1)
+number-found word n e =
+    let p = else_given (is_misspelled word) (digits_after 0 word) n e in
+    let w = well word p.0 in
+    let q = digits_after-found word 0 n p.1 in
+    let low : read_on 0 word < 10 ^ 7 = digits_value_short own word 7 q.0 w.few in
+    let back = decimal-digits_value own word q.0 w.some w.zero_alone (omega arith) in
+    (rw (← q.1) low, sym back ∙ ap decimal q.1)
 
 number-again : (n : ℕ) → n < 10 ^ 7 → number_at (decimal n) ≡ Some n
 number-again n lt =

@@ -7,7 +7,7 @@ use Rattle.ht_values.specs.Text.{IsText}
 use Rattle.stack_text.specs.Words.{number_at, spelled_flag}
 use Rattle.stack_text.specs.Document.{contains_id}
 use Rattle.stack_text.specs.Spelling.{name_line}
-use Rattle.stack_text.specs.Reading.{Spot, ◌>>=◌, give, too_many_if, bad_id_if, line_after, name_at, short_text, number_after, at_least, count_after, flag_at, flag_after, take_id, new_id}
+use Rattle.stack_text.specs.Reading.{Position, ◌>>=◌, give, too_many_if, bad_id_if, line_after, name_at, short_text, number_after, at_least, count_after, flag_at, flag_after, take_id, new_id}
 use Rattle.stack_text.proofs.Forms.{Reads, both, after, gives, said, bad_id_if-reads, too_many_if-reads}
 use Rattle.stack_text.proofs.Keyed.{has, keyed}
 use Rattle.stack_text.proofs.Numbers.{numbers}
@@ -49,14 +49,14 @@ take_id-reads : (id : ℕ) → Reads (take_id id) (λ used x. Unit {0}) (λ x. [
 take_id-reads id = record {
   found = λ s t x e.
       let p : record s { used = s.used ++ id ∷ [] } ≡ t = took s t x e in
-      (tt, record { bytes = ap (λ (z : Spot). z.bytes) p; used = ap (λ (z : Spot). z.used) (sym p) });
+      (tt, record { bytes = ap (λ (z : Position). z.bytes) p; used = ap (λ (z : Position). z.used) (sym p) });
   again = λ n used rest x h. refl;
 }
   where
-    took : (s t : Spot) (x : Unit {0}) → take_id id s ≡ Ok (x, t) → record s { used = s.used ++ id ∷ [] } ≡ t
+    took : (s t : Position) (x : Unit {0}) → take_id id s ≡ Ok (x, t) → record s { used = s.used ++ id ∷ [] } ≡ t
     took s t x e =
-        let p : ◌≡◌ {A = Unit {0} × Spot} (tt, record s { used = s.used ++ id ∷ [] }) (x, t) = cc in
-        ap (λ (z : Unit {0} × Spot). z.1) p
+        let p : ◌≡◌ {A = Unit {0} × Position} (tt, record s { used = s.used ++ id ∷ [] }) (x, t) = cc in
+        ap (λ (z : Unit {0} × Position). z.1) p
 
 -- the tests of a header, and their meaning
 header_tests : (full wrong : Bool) (id : ℕ) → Reads (too_many_if full >>= λ few. bad_id_if wrong >>= λ done. take_id id) (λ used x. (full ≡ false) × ((wrong ≡ false) × Unit {0})) (λ x. []) (λ x. id ∷ [])

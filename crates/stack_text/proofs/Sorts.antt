@@ -16,7 +16,7 @@ use Rattle.object_table.specs.declared.object.Kind.TheVariants.{Stack, Backgroun
 use Rattle.stack_text.specs.declared.sheets.Part.{Part}
 use Rattle.stack_text.specs.Document.{Sheet, Document, contains_id, part_ids, sheet_ids}
 use Rattle.stack_text.specs.Listing.{part_entry, object_entries, all_objects}
-use Rattle.stack_text.proofs.Elements.{each_so, each_append, each_map}
+use Rattle.stack_text.proofs.Elements.{each_so, each_append, each_map, each_join}
 use Rattle.stack_text.proofs.Entries.{keys}
 use Rattle.stack_text.proofs.Listable.{IsDocument, parts_on}
 
@@ -135,8 +135,7 @@ module _ (P : Object → Type 0) where
   OnSheet s = P s.object × AllByRecursion (λ (x : Part). P x.object) s.parts
 
   on_sheets : (ss : List Sheet) → AllByRecursion OnSheet ss → AllByRecursion (λ (e : ℕ × Object). P e.1) (flat_map object_entries ss)
-  on_sheets [] h = tt
-  on_sheets (s ∷ ss) h = each_append _ (object_entries s) (flat_map object_entries ss) (h.0.0, each_map _ part_entry s.parts h.0.1) (on_sheets ss h.1)
+  on_sheets ss h = each_join _ object_entries ss (each_so (λ s k. (k.0, each_map _ part_entry s.parts k.1)) ss h)
 
   pub each_object : (d : Document) → P d.stack → AllByRecursion OnSheet d.backgrounds → AllByRecursion OnSheet d.cards → AllByRecursion (λ (e : ℕ × Object). P e.1) (all_objects d)
   each_object d s b c = (s, each_append _ (flat_map object_entries d.backgrounds) (flat_map object_entries d.cards) (on_sheets d.backgrounds b) (on_sheets d.cards c))

@@ -7,6 +7,7 @@ use Rattle.std.proofs.lemmas.Bool.{or_left, or_right, or_cases, cases_eq, eqb-tr
 use Rattle.std.proofs.lemmas.Bool.Decides.{nat_tests}
 use Rattle.std.proofs.lemmas.List.{length-map}
 use Rattle.std.proofs.lemmas.List.Elements.{All-nil}
+use Rattle.std.proofs.lemmas.Simd.{map-map}
 use Rattle.ht_values.specs.Text.{IsText}
 use Rattle.object_table.specs.Content.{Content}
 use Rattle.object_table.specs.Objects.{is_stack, is_background, is_card, is_card_part, is_background_part, has_kind, parts_at, background_of as background_named}
@@ -14,23 +15,19 @@ use Rattle.object_table.specs.PartContents.{text_at}
 use Rattle.object_table.specs.WellFormed.{NamesEach, IsWellFormed}
 use Rattle.object_table.specs.declared.object.Object.{Object}
 use Rattle.object_table.specs.declared.object.Kind.{Kind}
-use Rattle.object_table.specs.declared.object.Kind.TheVariants.{Stack, Background, Card, CardButton, BackgroundButton, CardField, BackgroundField}
+use Rattle.object_table.specs.declared.object.Kind.TheVariants.{Stack, Card, CardButton, BackgroundButton, CardField, BackgroundField}
 use Rattle.stack_text.specs.declared.sheets.Part.{Part}
 use Rattle.stack_text.specs.Document.{Sheet, Document, contains_id, parts_of, background_or, backgrounds_of, ids_in}
-use Rattle.stack_text.specs.Listing.{object_or, kept_by, part_of, keeping_of, background_sheet, card_sheet, document_of, object_entries, all_objects, content_of}
-use Rattle.stack_text.proofs.Elements.{each_so, each_map, each_both}
+use Rattle.stack_text.specs.Listing.{object_or, content_by, part_of, keeping_of, background_sheet, card_sheet, document_of, object_entries, all_objects, content_of}
+use Rattle.stack_text.proofs.Elements.{each_so, each_map, each_both, each_at}
 use Rattle.stack_text.proofs.Counts.{times, times_none, times_some, times_once, once_times}
 use Rattle.stack_text.proofs.Entries.{len_without_first}
 use Rattle.stack_text.proofs.DocumentIds.{keys-objects, with_stack_once}
 use Rattle.stack_text.proofs.Forms.{Pairs}
 use Rattle.stack_text.proofs.Members.{IsNamed, Suits, IsBackgroundPart, IsCardPart, Keeps}
 use Rattle.stack_text.proofs.Listable.{IsBackgroundSheet, IsCardSheet, IsDocument}
-use Rattle.stack_text.proofs.Live.{each_member, backgrounds_live, cards_live, background_parts_live, card_parts_live}
+use Rattle.stack_text.proofs.Live.{passes, each_member, backgrounds_live, cards_live, background_parts_live, card_parts_live, card_background}
 use Rattle.stack_text.proofs.Relisted.{backgrounds-listed, times-listed, same_objects}
-
--- an object with a kind that passes, or false where there is none
-abbrev pub passes : (Kind → Bool) → Option Object → Bool
-passes p o = unwrap_or (option_map (λ x. p x.kind) o) false
 
 abbrev bit : Bool → ℕ
 bit b = cond b 1 0
@@ -42,12 +39,7 @@ one_kind (Some o) = by o.kind
   where
     by : (k : Kind) → bit (is_background k) + bit (is_background_part k) + bit (is_card k) + bit (is_card_part k) ≤ 1
     by Stack = omega arith
-    by (Background c) = omega arith
-    by (Card b c) = omega arith
-    by (CardButton v h) = omega arith
-    by (BackgroundButton v h) = omega arith
-    by (CardField v l) = omega arith
-    by (BackgroundField v l t) = omega arith
+    by k = omega arith
 
 -- and what has one of these is not the stack
 not_stack : (o : Option Object) → 1 ≤ bit (passes is_background o) + bit (passes is_background_part o) + bit (passes is_card o) + bit (passes is_card_part o) → IsSome o × (passes is_stack o ≡ false)
@@ -81,23 +73,15 @@ some_text : (o : Option (List ℕ)) → IfSome o IsText → IsText (unwrap_or o 
 some_text None h = no_bytes
 some_text (Some t) h = h
 
-on_background_suits : (k : Kind) (t : List ℕ) (b : Bool) → IsTrue (is_background_part k) → IsText t → Suits k (kept_by k t b)
+on_background_suits : (k : Kind) (t : List ℕ) (b : Bool) → IsTrue (is_background_part k) → IsText t → Suits k (content_by k t b)
 on_background_suits (BackgroundButton v s) t b is h = tt
 on_background_suits (BackgroundField v l s) t b is h = h
-on_background_suits Stack t b is h = absurd (true≢false (sym is))
-on_background_suits (Background c) t b is h = absurd (true≢false (sym is))
-on_background_suits (Card x c) t b is h = absurd (true≢false (sym is))
-on_background_suits (CardButton x c) t b is h = absurd (true≢false (sym is))
-on_background_suits (CardField x c) t b is h = absurd (true≢false (sym is))
+on_background_suits k t b is h = absurd (true≢false (sym is))
 
-on_card_suits : (k : Kind) (t : List ℕ) (b : Bool) → IsTrue (is_card_part k) → IsText t → Suits k (kept_by k t b)
+on_card_suits : (k : Kind) (t : List ℕ) (b : Bool) → IsTrue (is_card_part k) → IsText t → Suits k (content_by k t b)
 on_card_suits (CardButton v s) t b is h = tt
 on_card_suits (CardField v l) t b is h = h
-on_card_suits Stack t b is h = absurd (true≢false (sym is))
-on_card_suits (Background c) t b is h = absurd (true≢false (sym is))
-on_card_suits (Card x c) t b is h = absurd (true≢false (sym is))
-on_card_suits (BackgroundButton x c) t b is h = absurd (true≢false (sym is))
-on_card_suits (BackgroundField x c y) t b is h = absurd (true≢false (sym is))
+on_card_suits k t b is h = absurd (true≢false (sym is))
 
 contains_mapped : (f : ℕ → ℕ) (q : ℕ) (ids : List ℕ) → IsTrue (contains_id q ids) → IsTrue (contains_id (f q) (map f ids))
 contains_mapped f q [] h = absurd (true≢false (sym h))
@@ -112,11 +96,7 @@ contains_mapped f q (id ∷ ids) h = elim (or_cases (id == q) (contains_id q ids
 -- a card's background, in the document and in the stack
 on_listed : (o : Option Object) (P : ℕ → Type 0) → IsTrue (passes is_card o) → IfSome (option_and_then (λ x. background_named x.kind) o) P → P (background_or (unwrap_or o (record { name = []; script = []; kind = Stack })).kind)
 on_listed None P h e = absurd (true≢false (sym h))
-on_listed (Some o) P h e = by o.kind h e
-  where
-    by : (k : Kind) → IsTrue (is_card k) → IfSome (background_named k) P → P (background_or k)
-    by (Card b c) h e = e
-    by _ h e = absurd (true≢false (sym h))
+on_listed (Some o) P h e = subst (λ b. IfSome b P) (card_background o.kind h) e
 
 pub card_on : (o : Option Object) (b : ℕ) → option_and_then (λ x. background_named x.kind) o ≡ Some b → IsTrue (passes is_card o) × (background_or (unwrap_or o (record { name = []; script = []; kind = Stack })).kind ≡ b)
 card_on None b e = absurd cc
@@ -125,10 +105,6 @@ card_on (Some o) b e = by o.kind e
     by : (k : Kind) → background_named k ≡ Some b → IsTrue (is_card k) × (background_or k ≡ b)
     by (Card a c) e = (refl, cc)
     by _ e = absurd cc
-
-on-listed : (s : Content) (ids : List ℕ) → backgrounds_of (map (card_sheet s) ids) ≡ map (λ x. background_or (object_or s x).kind) ids
-on-listed s [] = refl
-on-listed s (id ∷ ids) = ap (λ rest. background_or (object_or s id).kind ∷ rest) (on-listed s ids)
 
 -- the parts of a listed background
 parts_of-listed : (s : Content) (ids : List ℕ) (b : ℕ) → IsTrue (contains_id b ids) → parts_of (map (background_sheet s) ids) b ≡ map (part_of s 0) (parts_at s b)
@@ -175,14 +151,7 @@ module _ (s : Content) (is : IsWellFormed s) where
   background_there id h = is.backgrounds.each (background_or (object_or s id).kind) ∙ on_listed (get s.objects id) (λ b. IsTrue (has_kind is_background s b)) h (is.on_background id)
 
   parts_at_known : (b : ℕ) → IsTrue (contains_id b s.backgrounds) → AllByRecursion (λ f. IsTrue (has_kind is_background_part s f)) (parts_at s b)
-  parts_at_known b h = at b s.backgrounds h (background_parts_live s is)
-    where
-      at : (x : ℕ) (ids : List ℕ) → IsTrue (contains_id x ids) → AllByRecursion (λ c. AllByRecursion (λ f. IsTrue (has_kind is_background_part s f)) (parts_at s c)) ids → AllByRecursion (λ f. IsTrue (has_kind is_background_part s f)) (parts_at s x)
-      at x [] h k = absurd (true≢false (sym h))
-      at x (id ∷ ids) h k = elim (or_cases (id == x) (contains_id x ids) h) [
-        | inl e ↦ let same : id ≡ x = grind (arith, nat_tests) in subst (λ y. AllByRecursion (λ f. IsTrue (has_kind is_background_part s f)) (parts_at s y)) same k.0
-        | inr e ↦ at x ids e k.1
-      ]
+  parts_at_known b h = each_at (λ c. AllByRecursion (λ f. IsTrue (has_kind is_background_part s f)) (parts_at s c)) b s.backgrounds (background_parts_live s is) h
 
   text_kept : (field card : ℕ) → IsText (unwrap_or (text_at s field card) [])
   text_kept field card = some_text (text_at s field card) (is.field_texts field card)
@@ -224,7 +193,7 @@ module _ (s : Content) (is : IsWellFormed s) where
       has_card id h =
           let card = is.some_card id h in
           let there = card_on (get s.objects card.0) id card.1 in
-          subst (λ ids. IsTrue (contains_id id ids)) (sym (on-listed s s.cards)) (subst (λ b. IsTrue (contains_id b (map (λ x. background_or (object_or s x).kind) s.cards))) there.1 (contains_mapped (λ x. background_or (object_or s x).kind) card.0 s.cards (is.cards.each card.0 ∙ there.0)))
+          subst (λ ids. IsTrue (contains_id id ids)) (sym (map-map (λ c. background_or c.object.kind) (card_sheet s) s.cards)) (subst (λ b. IsTrue (contains_id b (map (λ x. background_or (object_or s x).kind) s.cards))) there.1 (contains_mapped (λ x. background_or (object_or s x).kind) card.0 s.cards (is.cards.each card.0 ∙ there.0)))
 
   stack_alone : (k : Kind) → IsTrue (is_stack k) → k ≡ Stack
   stack_alone Stack h = refl

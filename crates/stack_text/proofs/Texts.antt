@@ -1,17 +1,16 @@
 -- Texts and their one spelling.
-use Rattle.std.proofs.Common.{◌≡◌, ◌≢◌, All, ℕ, zero, suc, ◌+◌, ◌-◌, ◌*◌, ◌/◌, ◌%◌, ◌<◌, ◌≤◌, Bool, true, false, cond, eqb, ltb, leb, List, [], ◌∷◌, ◌++◌, length, Option, Some, None, refl, sym, ap, subst, ◌∙◌, arith, inl, inr, ◌&&◌}
-use Rattle.std.specs.Prelude.{◌==◌, option_map}
+use Rattle.std.proofs.Common.{◌≡◌, ◌≢◌, All, ℕ, zero, suc, ◌+◌, ◌-◌, ◌*◌, ◌/◌, ◌%◌, ◌<◌, ◌≤◌, Bool, true, false, cond, eqb, ltb, leb, List, [], ◌∷◌, ◌++◌, length, Option, Some, None, refl, sym, ap, subst, ◌∙◌, arith, ◌&&◌, append_assoc, add-one}
+use Rattle.std.specs.Prelude.{◌==◌, option_map, unwrap_or}
 use Rattle.std.specs.List.{AllByRecursion}
 use Rattle.std.proofs.lemmas.Bool.Decides.{nat_tests}
-use Rattle.std.proofs.lemmas.Bool.{cases_lt, lt-ltb, le-ltb, ltb-false, eqb-true}
+use Rattle.std.proofs.lemmas.Bool.{lt-ltb, le-ltb, ltb-false, eqb-true, agree_below_at, leb-true, false≢true}
 use Rattle.std.proofs.lemmas.List.{length-append}
 use Rattle.std.proofs.lemmas.Option.{option_and_then_some}
 use Rattle.std.proofs.lemmas.List.Elements.{All-from_recursion, recursion_from_All}
 use Rattle.ht_values.specs.Text.{IsText}
 use Rattle.stack_text.specs.Words.{hex_digit, hex_value, is_plain, escape_of, spelled_byte, spelled, char_at, unspelled_within, unspelled}
 use Rattle.stack_text.specs.Reading.{short_text}
-use Rattle.stack_text.proofs.Keyed.{has, has-append, Spelled}
-use Rattle.stack_text.proofs.Spelled.{unspelled-nil, unspelled-step}
+use Rattle.stack_text.proofs.Keyed.{has, has-append, Spelled, then_given, else_given, same_value}
 
 -- ---- digits
 
@@ -33,31 +32,16 @@ digit-found c h e = by (leb 48 c && leb c 57) (leb 97 c && leb c 102) refl refl 
         (omega arith, rw (le-ltb h 10 ten) (omega arith))
     by false false p q is = absurd cc
 
-digit-low : (h : ℕ) → h < 10 → hex_value (48 + h) ≡ Some h
-digit-low h lt =
-    let t : (leb 48 (48 + h) && leb (48 + h) 57) ≡ true = grind (arith, nat_tests) in
-    rw t (ap Some (omega arith))
-
-digit-high : (h : ℕ) → 10 ≤ h → h < 16 → hex_value (87 + h) ≡ Some h
-digit-high h ge lt =
-    let f : (leb 48 (87 + h) && leb (87 + h) 57) ≡ false = grind (arith, nat_tests) in
-    let t : (leb 97 (87 + h) && leb (87 + h) 102) ≡ true = grind (arith, nat_tests) in
-    rw (f, t) (ap Some (omega arith))
+same_some : (o : Option ℕ) (h : ℕ) → unwrap_or (option_map (λ n. n == h) o) false ≡ true → o ≡ Some h
+same_some None h e = absurd (false≢true e)
+same_some (Some n) h e = ap Some (eqb-true n h e)
 
 digit-again : (h : ℕ) → h < 16 → hex_value (hex_digit h) ≡ Some h
-digit-again h lt =
-    elim (cases_lt h 10) [
-      | inl low ↦ rw (lt-ltb h 10 low) (digit-low h low)
-      | inr high ↦ rw (le-ltb h 10 high) (digit-high h high lt)
-    ]
+digit-again h lt = same_some (hex_value (hex_digit h)) h (agree_below_at (λ d. unwrap_or (option_map (λ n. n == d) (hex_value (hex_digit d))) false) (λ d. true) 16 h refl lt)
 
 -- a digit is no control byte
-digit-above : (h : ℕ) → h < 16 → (48 ≤ hex_digit h) × (hex_digit h < 128)
-digit-above h lt =
-    elim (cases_lt h 10) [
-      | inl low ↦ rw (lt-ltb h 10 low) (omega arith, omega arith)
-      | inr high ↦ rw (le-ltb h 10 high) (omega arith, omega arith)
-    ]
+digit-above : (h : ℕ) → h < 16 → 48 ≤ hex_digit h
+digit-above h lt = leb-true 48 (hex_digit h) (agree_below_at (λ d. leb 48 (hex_digit d)) (λ d. true) 16 h refl lt)
 
 -- ---- bytes
 
@@ -76,14 +60,10 @@ plain-high b e = grind (arith, nat_tests)
 escape-found : (o p : Option ℕ) (b : ℕ) → escape_of o p ≡ Some b → (h : ℕ) × (l : ℕ) × (o ≡ Some h) × (p ≡ Some l) × (is_plain b ≡ false) × (b ≡ h * 16 + l)
 escape-found None p b e = absurd cc
 escape-found (Some h) None b e = absurd cc
-escape-found (Some h) (Some l) b e = by (is_plain (h * 16 + l)) refl e
-  where
-    by : (t : Bool) → is_plain (h * 16 + l) ≡ t → cond t None (Some (h * 16 + l)) ≡ Some b
-        → (high : ℕ) × (low : ℕ) × (Option.Some h ≡ Some high) × (Option.Some l ≡ Some low) × (is_plain b ≡ false) × (b ≡ high * 16 + low)
-    by true t is = absurd cc
-    by false t is =
-        let same : h * 16 + l ≡ b = cc in
-        (h, l, refl, refl, rw (← same) t, sym same)
+escape-found (Some h) (Some l) b e =
+    let p = else_given (is_plain (h * 16 + l)) (Some (h * 16 + l)) b e in
+    let same = same_value (h * 16 + l) b p.1 in
+    (h, l, refl, refl, rw (← same) p.0, sym same)
 
 -- a byte, and what is left
 abbrev Char : Type 0
@@ -123,16 +103,8 @@ escaped_char x c d after b rest is e = by (escape_of (hex_value c) (hex_value d)
 
 char-found : (bytes : List ℕ) (b : ℕ) (rest : List ℕ) → char_at bytes ≡ Some (b, rest) → (b < 256) × (bytes ≡ spelled_byte b ++ rest)
 char-found [] b rest e = absurd cc
-char-found (x ∷ []) b rest e = by (is_plain x) refl e
-  where
-    by : (t : Bool) → is_plain x ≡ t → cond t (char x []) None ≡ char b rest → (b < 256) × (x ∷ [] ≡ spelled_byte b ++ rest)
-    by true t h = one_char x [] b rest t h
-    by false t h = absurd cc
-char-found (x ∷ c ∷ []) b rest e = by (is_plain x) refl e
-  where
-    by : (t : Bool) → is_plain x ≡ t → cond t (char x (c ∷ [])) None ≡ char b rest → (b < 256) × (x ∷ c ∷ [] ≡ spelled_byte b ++ rest)
-    by true t h = one_char x (c ∷ []) b rest t h
-    by false t h = absurd cc
+char-found (x ∷ []) b rest e = let p = then_given (is_plain x) (char x []) (b, rest) e in one_char x [] b rest p.0 p.1
+char-found (x ∷ c ∷ []) b rest e = let p = then_given (is_plain x) (char x (c ∷ [])) (b, rest) e in one_char x (c ∷ []) b rest p.0 p.1
 char-found (x ∷ c ∷ d ∷ after) b rest e = by (is_plain x) (eqb x 92) refl refl e
   where
     by : (t u : Bool) → is_plain x ≡ t → eqb x 92 ≡ u → cond t (char x (c ∷ d ∷ after)) (cond u (before after (escape_of (hex_value c) (hex_value d))) None) ≡ char b rest
@@ -168,14 +140,39 @@ byte-line b fits = by (is_plain b) refl
     by false t =
         let high = digit-above (b / 16) (omega arith) in
         let low = digit-above (b % 16) (omega arith) in
-        let no : eqb (hex_digit (b / 16)) 10 ≡ false = apart _ 10 (omega (arith, high.0)) in
-        let nor : eqb (hex_digit (b % 16)) 10 ≡ false = apart _ 10 (omega (arith, low.0)) in
+        let no : eqb (hex_digit (b / 16)) 10 ≡ false = apart _ 10 (omega (arith, high)) in
+        let nor : eqb (hex_digit (b % 16)) 10 ≡ false = apart _ 10 (omega (arith, low)) in
         ap (has 10) (spelled-escaped b t) ∙ rw (no, nor) refl
       where
         apart : (x y : ℕ) → y < x → eqb x y ≡ false
         apart x y lt = grind (arith, nat_tests)
 
 -- ---- texts
+
+pub unspelled-nil : (n : ℕ) (rest : List ℕ) → length rest ≡ 0 → unspelled_within n rest ≡ Some []
+unfolding unspelled_within
+unspelled-nil zero [] e = refl
+unspelled-nil (suc n) [] e = refl
+unspelled-nil n (b ∷ bs) e = absurd (omega arith)
+
+pub unspelled-bad : (n : ℕ) (rest : List ℕ) → 0 < length rest → char_at rest ≡ None → unspelled_within n rest ≡ None
+unfolding unspelled_within
+unspelled-bad n [] some e = absurd (omega arith)
+unspelled-bad zero (b ∷ bs) some e = refl
+unspelled-bad (suc n) (b ∷ bs) some e = rw e refl
+
+step : (m : ℕ) (rest : List ℕ) (b : ℕ) (after : List ℕ) → 0 < length rest → char_at rest ≡ Some (b, after) → unspelled_within (suc m) rest ≡ option_map (λ t. b ∷ t) (unspelled_within m after)
+unfolding unspelled_within
+step m [] b after some e = absurd (omega arith)
+step m (x ∷ xs) b after some e = rw e refl
+
+pub unspelled-step : (n m : ℕ) (rest : List ℕ) (b : ℕ) (after : List ℕ) → n ≡ m + 1 → 0 < length rest → char_at rest ≡ Some (b, after) → unspelled_within n rest ≡ option_map (λ t. b ∷ t) (unspelled_within m after)
+unspelled-step n m [] b after is some e = absurd (omega arith)
+unspelled-step n m (x ∷ xs) b after is some e = rw (is, add-one) (step m (x ∷ xs) b after some e)
+
+pub onto-text : (text : List ℕ) (b : ℕ) (x : Option (List ℕ)) → option_map (λ t. (text ++ b ∷ []) ++ t) x ≡ option_map (λ t. text ++ t) (option_map (λ t. b ∷ t) x)
+onto-text text b None = refl
+onto-text text b (Some t) = ap Some (append_assoc text (b ∷ []) t)
 
 pub text-found : (n : ℕ) (bytes t : List ℕ) → unspelled_within n bytes ≡ Some t → AllByRecursion (λ b. b < 256) t × (bytes ≡ spelled t)
 unfolding unspelled_within
@@ -222,14 +219,9 @@ spelled-line (b ∷ t) fits = has-append 10 (spelled_byte b) (spelled t) (byte-l
 short-found : (word t : List ℕ) → short_text word ≡ Some t → IsText t × (word ≡ spelled t)
 short-found word t e =
     option_and_then_some (λ x. cond (ltb 30000 (length x)) None (Some x)) (unspelled word) t e (λ x is short.
+    let p = else_given (ltb 30000 (length x)) (Some x) t short in
     let f = text-found (length word) word x is in
-    by x (ltb 30000 (length x)) refl short f)
-  where
-    by : (x : List ℕ) (b : Bool) → ltb 30000 (length x) ≡ b → cond b None (Some x) ≡ Some t → AllByRecursion (λ y. y < 256) x × (word ≡ spelled x) → IsText t × (word ≡ spelled t)
-    by x true is h f = absurd cc
-    by x false is h f =
-        let same : x ≡ t = cc in
-        subst (λ (y : List ℕ). IsText y × (word ≡ spelled y)) same (record { short = ltb-false _ _ is; bytes = All-from_recursion (λ y. y < 256) x f.0 }, f.1)
+    subst (λ (y : List ℕ). IsText y × (word ≡ spelled y)) (same_value x t p.1) (record { short = ltb-false _ _ p.0; bytes = All-from_recursion (λ y. y < 256) x f.0 }, f.1))
 
 text-bytes : (t : List ℕ) → IsText t → AllByRecursion (λ b. b < 256) t
 text-bytes t h = recursion_from_All (λ b. b < 256) t h.bytes

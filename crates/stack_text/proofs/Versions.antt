@@ -1,9 +1,8 @@
 -- What a version can say, of a stack and of its document.
-use Rattle.std.proofs.Common.{◌≡◌, ◌⊎◌, inl, inr, ℕ, Bool, false, true≢false, List, [], map, Option, Some, None, IfSome, IsTrue, unwrap_or, option_and_then, refl, sym, subst}
+use Rattle.std.proofs.Common.{◌≡◌, ◌⊎◌, inl, inr, ℕ, Bool, false, true≢false, List, [], map, Option, Some, None, IfSome, IsTrue, unwrap_or, option_and_then, refl, sym, subst, ◌∙◌}
 use Rattle.std.specs.Ordering.{nat_cmp}
-use Rattle.std.specs.Cmp.{nat_cmp_total}
-use Rattle.std.specs.FinMap.{get, find, get-from_entries}
-use Rattle.std.specs.List.{AllByRecursion, flat_map}
+use Rattle.std.specs.FinMap.{get, find}
+use Rattle.std.specs.List.{AllByRecursion}
 use Rattle.std.proofs.lemmas.Bool.{cases_eq}
 use Rattle.object_table.specs.Content.{Content}
 use Rattle.object_table.specs.Objects.{is_stack, is_background, is_card, is_card_part, has_kind, parts_at}
@@ -11,82 +10,53 @@ use Rattle.object_table.specs.PartContents.{hilite_at}
 use Rattle.object_table.specs.WellFormed.{IsWellFormed}
 use Rattle.object_table.specs.declared.object.Object.{Object}
 use Rattle.object_table.specs.declared.object.Kind.{Kind}
-use Rattle.object_table.specs.declared.object.Kind.TheVariants.{Stack, Background, Card, CardButton, BackgroundButton, CardField, BackgroundField}
+use Rattle.object_table.specs.declared.object.Kind.TheVariants.{Stack, BackgroundButton}
 use Rattle.object_table.proofs.Slots.{tied_apart}
-use Rattle.stack_text.specs.declared.sheets.Kept.{Kept}
-use Rattle.stack_text.specs.declared.sheets.Kept.TheVariants.{Nothing, Written, Lit}
+use Rattle.stack_text.specs.declared.sheets.PartContent.{PartContent}
+use Rattle.stack_text.specs.declared.sheets.PartContent.TheVariants.{Nothing, Written, Lit}
 use Rattle.stack_text.specs.declared.sheets.Part.{Part}
 use Rattle.stack_text.specs.declared.sheets.Keeping.{Keeping}
 use Rattle.stack_text.specs.Document.{Sheet, Document, background_or}
 use Rattle.stack_text.specs.Spelling.{Version, first, second}
-use Rattle.stack_text.specs.Listing.{object_or, kept_by, part_of, keeping_of, background_sheet, card_sheet, document_of, kept_on, lit, content_of}
+use Rattle.stack_text.specs.Listing.{object_or, content_by, part_of, keeping_of, background_sheet, card_sheet, document_of, contents_on, lit, content_of}
 use Rattle.stack_text.specs.Laws.{SharesHilite, HasSharedHilites, IsSaidIn}
 use Rattle.stack_text.proofs.Elements.{each_so, each_both, each_append, each_map, each_true}
 use Rattle.stack_text.proofs.Entries.{found_each}
 use Rattle.stack_text.proofs.Members.{Suits, Unlit}
 use Rattle.stack_text.proofs.Listable.{IsCardSheet, IsDocument, SaysParts, SaysKeepings, Says}
-use Rattle.stack_text.proofs.Live.{cards_live}
+use Rattle.stack_text.proofs.Live.{cards_live, never_both, stack_or_card}
 use Rattle.stack_text.proofs.Rows.{row_of}
 use Rattle.stack_text.proofs.Sorts.{OnSheet, each_object}
-use Rattle.stack_text.proofs.Contents.{at_each, kept-is}
+use Rattle.stack_text.proofs.Contents.{at_each, content-is}
 
 -- ---- from a document
 
-not_button : (k : Kind) → IsTrue (is_background k) → SharesHilite k
-not_button (Background c) h = tt
-not_button Stack h = tt
-not_button (Card b c) h = tt
-not_button (CardButton a b) h = tt
-not_button (CardField a b) h = tt
-not_button (BackgroundField a b c) h = tt
-not_button (BackgroundButton a b) h = absurd (true≢false (sym h))
-
-card_no_button : (k : Kind) → IsTrue (is_card k) → SharesHilite k
-card_no_button (Card b c) h = tt
-card_no_button Stack h = tt
-card_no_button (Background c) h = tt
-card_no_button (CardButton a b) h = tt
-card_no_button (CardField a b) h = tt
-card_no_button (BackgroundField a b c) h = tt
-card_no_button (BackgroundButton a b) h = absurd (true≢false (sym h))
-
-card_part_no_button : (k : Kind) → IsTrue (is_card_part k) → SharesHilite k
-card_part_no_button (CardButton a b) h = tt
-card_part_no_button (CardField a b) h = tt
-card_part_no_button Stack h = tt
-card_part_no_button (Background c) h = tt
-card_part_no_button (Card b c) h = tt
-card_part_no_button (BackgroundField a b c) h = tt
-card_part_no_button (BackgroundButton a b) h = absurd (true≢false (sym h))
+no_button : (p : Kind → Bool) → ((v s : Bool) → p (BackgroundButton v s) ≡ false) → (k : Kind) → IsTrue (p k) → SharesHilite k
+no_button p never (BackgroundButton v s) h = absurd (true≢false (sym h ∙ never v s))
+no_button p never k h = tt
 
 -- a card's own part has no hilite beside it
-own_unlit : (k : Kind) (x : Kept) → IsTrue (is_card_part k) → Suits k x → Unlit x
-own_unlit k (Written t) is h = tt
-own_unlit k Nothing is h = tt
-own_unlit (CardButton a b) (Lit l) is h = absurd h
-own_unlit (CardField a b) (Lit l) is h = absurd h
-own_unlit Stack (Lit l) is h = absurd h
-own_unlit (Background c) (Lit l) is h = absurd h
-own_unlit (Card b c) (Lit l) is h = absurd h
-own_unlit (BackgroundField a b c) (Lit l) is h = absurd h
+own_unlit : (k : Kind) (x : PartContent) → IsTrue (is_card_part k) → Suits k x → Unlit x
 own_unlit (BackgroundButton a b) (Lit l) is h = absurd (true≢false (sym is))
+own_unlit k (Lit l) is h = absurd h
+own_unlit k x is h = tt
 
-abbrev AreUnlit : List (ℕ × Kept) → Type 0
-AreUnlit row = AllByRecursion (λ (e : ℕ × Kept). Unlit e.1) row
+abbrev AreUnlit : List (ℕ × PartContent) → Type 0
+AreUnlit row = AllByRecursion (λ (e : ℕ × PartContent). Unlit e.1) row
 
-card-unlit : (bs : List Sheet) (c : Sheet) → IsCardSheet bs c → SaysKeepings first c → AreUnlit (kept_on c)
+card-unlit : (bs : List Sheet) (c : Sheet) → IsCardSheet bs c → SaysKeepings first c → AreUnlit (contents_on c)
 card-unlit bs c is says =
-    each_append _ (map (λ (p : Part). (p.id, p.kept)) c.parts) (map (λ (x : Keeping). (x.part, x.kept)) c.keepings)
-    (each_map _ (λ (p : Part). (p.id, p.kept)) c.parts (each_so {Q = λ (p : Part). Unlit p.kept} (λ p h. own_unlit p.object.kind p.kept h.0 h.1.1) c.parts is.parts))
-    (each_map _ (λ (x : Keeping). (x.part, x.kept)) c.keepings says)
+    each_append _ (map (λ (p : Part). (p.id, p.content)) c.parts) (map (λ (x : Keeping). (x.part, x.content)) c.keepings)
+    (each_map _ (λ (p : Part). (p.id, p.content)) c.parts (each_so {Q = λ (p : Part). Unlit p.content} (λ p h. own_unlit p.object.kind p.content h.0 h.1.1) c.parts is.parts))
+    (each_map _ (λ (x : Keeping). (x.part, x.content)) c.keepings says)
 
-lit_there : (o : Option Kept) → IfSome o Unlit → IfSome (option_and_then lit o) (λ b. b ≡ false)
+lit_there : (o : Option PartContent) → IfSome o Unlit → IfSome (option_and_then lit o) (λ b. b ≡ false)
 lit_there None h = tt
 lit_there (Some (Lit b)) h = h
 lit_there (Some (Written t)) h = tt
 lit_there (Some Nothing) h = tt
 
-unlit_in : (button : ℕ) (o : Option (List (ℕ × Kept))) → IfSome o AreUnlit → IfSome (option_and_then (λ (row : List (ℕ × Kept)). option_and_then lit (find nat_cmp button row)) o) (λ b. b ≡ false)
+unlit_in : (button : ℕ) (o : Option (List (ℕ × PartContent))) → IfSome o AreUnlit → IfSome (option_and_then (λ (row : List (ℕ × PartContent)). option_and_then lit (find nat_cmp button row)) o) (λ b. b ≡ false)
 unlit_in button None h = tt
 unlit_in button (Some row) h = lit_there (find nat_cmp button row) (found_each Unlit button row h)
 
@@ -101,16 +71,16 @@ anyway (Some b) A h = inl h
 module _ (d : Document) (is : IsDocument d) where
   shared-said : Says first d → (id : ℕ) → IfSome (get (content_of d).objects id) (λ o. SharesHilite o.kind)
   shared-said says = at_each d is _ (each_object (λ o. SharesHilite o.kind) d (subst (λ k. SharesHilite k) (sym is.stack) tt)
-      (each_both {R = OnSheet (λ o. SharesHilite o.kind)} (λ b h s. (not_button b.object.kind h.is, s)) d.backgrounds is.backgrounds says.0)
-      (each_so {Q = OnSheet (λ o. SharesHilite o.kind)} (λ c h. (card_no_button c.object.kind h.is, each_so {Q = λ (x : Part). SharesHilite x.object.kind} (λ p q. card_part_no_button p.object.kind q.0) c.parts h.parts)) d.cards is.cards))
+      (each_both {R = OnSheet (λ o. SharesHilite o.kind)} (λ b h s. (no_button is_background (λ v t. refl) b.object.kind h.is, s)) d.backgrounds is.backgrounds says.0)
+      (each_so {Q = OnSheet (λ o. SharesHilite o.kind)} (λ c h. (no_button is_card (λ v t. refl) c.object.kind h.is, each_so {Q = λ (x : Part). SharesHilite x.object.kind} (λ p q. no_button is_card_part (λ v t. refl) p.object.kind q.0) c.parts h.parts)) d.cards is.cards))
 
   unlit-said : Says first d → (button card : ℕ) → IfSome (hilite_at (content_of d) button card) (λ b. (card ≡ 0) ⊎ (b ≡ false))
   unlit-said says button card = elim (cases_eq card 0) [
     | inl k ↦ anyway (hilite_at (content_of d) button card) (card ≡ 0) k
-    | inr k ↦ either_way (hilite_at (content_of d) button card) (card ≡ 0) (subst (λ o. IfSome o (λ b. b ≡ false)) (sym (kept-is d is lit button card)) (rw (tied_apart card 0 k) (unlit_in button (find nat_cmp card (map row_of d.cards)) (found_each AreUnlit card (map row_of d.cards) rows))))
+    | inr k ↦ either_way (hilite_at (content_of d) button card) (card ≡ 0) (subst (λ o. IfSome o (λ b. b ≡ false)) (sym (content-is d is lit button card)) (rw (tied_apart card 0 k) (unlit_in button (find nat_cmp card (map row_of d.cards)) (found_each AreUnlit card (map row_of d.cards) rows))))
   ]
     where
-      rows : AllByRecursion (λ (r : ℕ × List (ℕ × Kept)). AreUnlit r.1) (map row_of d.cards)
+      rows : AllByRecursion (λ (r : ℕ × List (ℕ × PartContent)). AreUnlit r.1) (map row_of d.cards)
       rows = each_map _ row_of d.cards (each_both (card-unlit d.backgrounds) d.cards is.cards says.1)
 
   -- what a version says of a document it can say of its stack
@@ -124,32 +94,14 @@ shares : (o : Option Object) → IfSome o (λ x. SharesHilite x.kind) → Shares
 shares None h = tt
 shares (Some o) h = h
 
-is_unlit : (k : Kind) (t : List ℕ) (o : Option Bool) → IfSome o (λ b. b ≡ false) → Unlit (kept_by k t (unwrap_or o false))
+is_unlit : (k : Kind) (t : List ℕ) (o : Option Bool) → IfSome o (λ b. b ≡ false) → Unlit (content_by k t (unwrap_or o false))
 is_unlit (BackgroundButton a b) t None h = refl
 is_unlit (BackgroundButton a b) t (Some x) h = h
-is_unlit (CardButton a b) t o h = tt
-is_unlit (CardField a b) t o h = tt
-is_unlit (BackgroundField a b c) t o h = tt
-is_unlit Stack t o h = tt
-is_unlit (Background c) t o h = tt
-is_unlit (Card b c) t o h = tt
+is_unlit k t o h = tt
 
 not_here : (o : Option Bool) (A : Type 0) → (A → ⊥) → IfSome o (λ b. A ⊎ (b ≡ false)) → IfSome o (λ b. b ≡ false)
 not_here None A no' h = tt
 not_here (Some b) A no' h = elim h [ inl a ↦ absurd (no' a) | inr e ↦ e ]
-
-no_card : (o : Option Object) → IsTrue (unwrap_or (Rattle.std.specs.Prelude.option_map (λ (x : Object). is_stack x.kind) o) false) → IsTrue (unwrap_or (Rattle.std.specs.Prelude.option_map (λ (x : Object). is_card x.kind) o) false) → ⊥
-no_card None h k = true≢false (sym h)
-no_card (Some o) h k = by o.kind h k
-  where
-    by : (x : Kind) → IsTrue (is_stack x) → IsTrue (is_card x) → ⊥
-    by Stack h k = true≢false (sym k)
-    by (Background c) h k = true≢false (sym h)
-    by (Card b c) h k = true≢false (sym h)
-    by (CardButton a b) h k = true≢false (sym h)
-    by (CardField a b) h k = true≢false (sym h)
-    by (BackgroundButton a b) h k = true≢false (sym h)
-    by (BackgroundField a b c) h k = true≢false (sym h)
 
 module _ (s : Content) (is : IsWellFormed s) where
   parts-said : HasSharedHilites s → (id : ℕ) → SaysParts first (background_sheet s id)
@@ -157,7 +109,7 @@ module _ (s : Content) (is : IsWellFormed s) where
 
   keepings-said : HasSharedHilites s → (card : ℕ) → IsTrue (has_kind is_card s card) → SaysKeepings first (card_sheet s card)
   keepings-said says card live =
-      let no_zero : card ≡ 0 → ⊥ = λ e. no_card (get s.objects 0) ((is.stack 0).1 refl) (subst (λ c. IsTrue (has_kind is_card s c)) e live) in
+      let no_zero : card ≡ 0 → ⊥ = λ e. never_both is_stack is_card stack_or_card (get s.objects 0) ((is.stack 0).1 refl) (subst (λ c. IsTrue (has_kind is_card s c)) e live) in
       let ids = parts_at s (background_or (object_or s card).kind) in
       each_map _ (keeping_of s card) ids (each_true _ (λ p. is_unlit (object_or s p).kind _ (hilite_at s p card) (not_here (hilite_at s p card) (card ≡ 0) no_zero (says.unlit p card))) ids)
 

@@ -1,9 +1,8 @@
 -- The whole of a stack text, read and spelled.
-use Rattle.std.proofs.Common.{◌≡◌, ℕ, ◌≤◌, Bool, true, false, cond, eqb, List, [], ◌∷◌, ◌++◌, length, Result, Ok, Err, Some, None, refl, sym, ap, subst, ◌∙◌, append_assoc, lit<, nat_eq}
+use Rattle.std.proofs.Common.{◌≡◌, ℕ, ◌≤◌, Bool, true, false, eqb, List, [], ◌∷◌, ◌++◌, length, Result, Ok, Err, Some, refl, sym, ap, subst, ◌∙◌, append_assoc, lit<, inl, inr}
 use Rattle.std.specs.Prelude.{codes, not, flat_map}
-use Rattle.std.specs.Cmp.Lexicographic.{pointwise, same_text}
 use Rattle.std.specs.List.{AllByRecursion, list_all}
-use Rattle.std.proofs.lemmas.Bool.{eqb-true}
+use Rattle.std.proofs.lemmas.Bool.{eqb-true, not-false}
 use Rattle.std.proofs.lemmas.List.{nil_from_length, append-nil}
 use Rattle.object_table.specs.declared.object.Object.{Object}
 use Rattle.object_table.specs.declared.object.Kind.{Kind}
@@ -11,28 +10,30 @@ use Rattle.object_table.specs.declared.object.Kind.TheVariants.{Stack}
 use Rattle.stack_text.specs.declared.sheets.Part.{Part}
 use Rattle.stack_text.specs.Words.{numbered}
 use Rattle.stack_text.specs.Document.{Sheet, Document, contains_id, backgrounds_of, ids_on}
-use Rattle.stack_text.specs.Spelling.{Version, first, second, header, name_line, script_lines, background_lines, card_lines, sheets_lines, document_lines, document_text, joined_lines}
-use Rattle.stack_text.specs.Reading.{Spot, Reader, chain, ◌>>=◌, give, times, bad_id_if, line_after, exactly, name_at, count_after, script_at, version_at, stack_at, background_at, backgrounds_at, card_at, cards_at, end_at, nothing_left, body_at, all_lines, document_at, value_of}
+use Rattle.ht_values.specs.Delimited.{ended_lines}
+use Rattle.stack_text.specs.Spelling.{Version, first, second, header, name_line, script_lines, background_lines, card_lines, sheets_lines, document_lines, document_text}
+use Rattle.stack_text.specs.Reading.{Position, Reader, chain, ◌>>=◌, give, times, bad_id_if, line_after, exactly, name_at, count_after, script_at, version_at, stack_at, background_at, backgrounds_at, card_at, cards_at, end_at, nothing_left, body_at, all_lines, document_at, value_of}
 use Rattle.stack_text.specs.declared.fault.FileError.{FileError}
-use Rattle.stack_text.proofs.Forms.{onto, onto-append, count_on, adding, spot, Reads, Each, chain_ok, both, gives, said, resaid, bad_id_if-reads, times-reads}
-use Rattle.stack_text.proofs.Keyed.{has, not_false, exactly-reads, keyed, Spelled}
+use Rattle.stack_text.proofs.Forms.{onto, onto-append, count_on, adding, position_at, Reads, Each, chain_ok, both, gives, said, resaid, bad_id_if-reads, times-reads}
+use Rattle.stack_text.proofs.Keyed.{has, exactly-reads, keyed, Spelled}
 use Rattle.stack_text.proofs.Members.{IsNamed}
 use Rattle.stack_text.proofs.Productions.{name_at-reads, count_after-reads}
 use Rattle.stack_text.proofs.Parts.{script-reads, IsSaidPart, IsNewPart}
 use Rattle.stack_text.proofs.Layers.{IsNewBackground, background-reads, IsKeptFor, AreKeptFor, IsNewCard, card-reads}
+use Rattle.stack_text.proofs.Flags.{chosen-found}
 
 -- ---- forms that go to the end
 
 -- The reader reads all that is left.
 pub record Ends {A : Type 0} (r : Reader A) (Holds : List ℕ → A → Type 0) (lines : A → List (List ℕ)) : Type 0 where
-  pub found : (s t : Spot) (x : A) → r s ≡ Ok (x, t) → Holds s.used x × (s.bytes ≡ onto (lines x) [])
-  pub again : (n : ℕ) (used : List ℕ) (x : A) → Holds used x → (t : Spot) × (r (spot n used (onto (lines x) [])) ≡ Ok (x, t))
+  pub found : (s t : Position) (x : A) → r s ≡ Ok (x, t) → Holds s.used x × (s.bytes ≡ onto (lines x) [])
+  pub again : (n : ℕ) (used : List ℕ) (x : A) → Holds used x → (t : Position) × (r (position_at n used (onto (lines x) [])) ≡ Ok (x, t))
 
 module _ {A B : Type 0} (r : Reader A) (f : A → Reader B) {P : List ℕ → A → Type 0} {l : A → List (List ℕ)} {i : A → List ℕ} {Q : A → List ℕ → B → Type 0} {m : A → B → List (List ℕ)} (first : Reads r P l i) (then : (x : A) (used : List ℕ) → P used x → Ends (f x) (Q x) (m x)) (back : B → A) (is : (x : A) (used : List ℕ) (y : B) → Q x used y → back y ≡ x) where
   abbrev Both : A → List ℕ → B → Type 0
   Both x used y = P used x × Q x (adding used (i x)) y
 
-  ends-found : (s t : Spot) (y : B) → (r >>= f) s ≡ Ok (y, t) → Both (back y) s.used y × (s.bytes ≡ onto (l (back y) ++ m (back y) y) [])
+  ends-found : (s t : Position) (y : B) → (r >>= f) s ≡ Ok (y, t) → Both (back y) s.used y × (s.bytes ≡ onto (l (back y) ++ m (back y) y) [])
   ends-found s t y e =
       let c = chain_ok (r s) f y t e in
       let p = first.found s c.1 c.0 c.2 in
@@ -40,13 +41,13 @@ module _ {A B : Type 0} (r : Reader A) (f : A → Reader B) {P : List ℕ → A 
       let at : Both c.0 s.used y × (s.bytes ≡ onto (l c.0 ++ m c.0 y) []) = ((p.0, subst (λ (u : List ℕ). Q c.0 u y) p.1.used q.0), p.1.bytes ∙ ap (onto (l c.0)) q.1 ∙ sym (onto-append (l c.0) (m c.0 y) [])) in
       subst (λ (x : A). Both x s.used y × (s.bytes ≡ onto (l x ++ m x y) [])) (sym (is c.0 c.1.used y q.0)) at
 
-  ends-again : (n : ℕ) (used : List ℕ) (y : B) → Both (back y) used y → (t : Spot) × ((r >>= f) (spot n used (onto (l (back y) ++ m (back y) y) [])) ≡ Ok (y, t))
+  ends-again : (n : ℕ) (used : List ℕ) (y : B) → Both (back y) used y → (t : Position) × ((r >>= f) (position_at n used (onto (l (back y) ++ m (back y) y) [])) ≡ Ok (y, t))
   ends-again n used y h =
       let x = back y in
       let last = (then x used h.0).again (count_on n (l x)) (adding used (i x)) y h.1 in (
         last.0,
-        ap (λ (b : List ℕ). (r >>= f) (spot n used b)) (onto-append (l x) (m x y) [])
-            ∙ ap (λ (o : Result (A × Spot) FileError). chain o f) (first.again n used (onto (m x y) []) x h.0)
+        ap (λ (b : List ℕ). (r >>= f) (position_at n used b)) (onto-append (l x) (m x y) [])
+            ∙ ap (λ (o : Result (A × Position) FileError). chain o f) (first.again n used (onto (m x y) []) x h.0)
             ∙ last.1,
       )
 
@@ -59,9 +60,9 @@ module _ {A B : Type 0} (r : Reader A) (f : A → Reader B) {P : List ℕ → A 
   ends = ends_given r f first (λ x used h. then x) back is
 
 nothing_left-ends : Ends nothing_left (λ used x. Unit {0}) (λ x. [])
-nothing_left-ends = record { found = λ s t x e. (tt, by s t x (eqb (length s.bytes) 0) refl e); again = λ n used x h. (spot n used [], refl) }
+nothing_left-ends = record { found = λ s t x e. (tt, by s t x (eqb (length s.bytes) 0) refl e); again = λ n used x h. (position_at n used [], refl) }
   where
-    by : (s t : Spot) (x : Unit {0}) (b : Bool) → eqb (length s.bytes) 0 ≡ b → nothing_left s ≡ Ok (x, t) → s.bytes ≡ []
+    by : (s t : Position) (x : Unit {0}) (b : Bool) → eqb (length s.bytes) 0 ≡ b → nothing_left s ≡ Ok (x, t) → s.bytes ≡ []
     by s t x true is h = nil_from_length s.bytes (eqb-true _ _ is)
     by s t x false is h = absurd (let k = rw is at h in cc)
 
@@ -171,7 +172,7 @@ body-ends v =
     (λ y. y.backgrounds) (λ bs used y h. ap (λ (z : Document). z.backgrounds) h.1.1))
     (λ y. (y.next, y.stack)) (λ head used y h. ap (λ (z : Document). let pair : ℕ × Object = (z.next, z.stack) in pair) h.1.1.1)
 
-body-found : (v : Version) (s t : Spot) (d : Document) → s.used ≡ [] → body_at v s ≡ Ok (d, t) → IsRead v d × (s.bytes ≡ onto (body_lines v d) [])
+body-found : (v : Version) (s t : Position) (d : Document) → s.used ≡ [] → body_at v s ≡ Ok (d, t) → IsRead v d × (s.bytes ≡ onto (body_lines v d) [])
 body-found v s t d none e =
     let p = (body-ends v).found s t d e in
     let h = p.0 in (
@@ -186,12 +187,12 @@ body-found v s t d none e =
         some_card = h.1.1.0.0.0;
         few_cards = h.1.1.0.0.1;
         cards = subst (λ u. Each (IsNewCard v d.next d.backgrounds) ids_on (adding u (flat_map ids_on d.backgrounds)) d.cards) none h.1.1.0.1;
-        have = not_false _ h.1.1.1.0.1.0;
+        have = not-false _ h.1.1.1.0.1.0;
       },
       p.1,
     )
 
-body-again : (v : Version) (n : ℕ) (d : Document) → IsRead v d → (t : Spot) × (body_at v (spot n [] (onto (body_lines v d) [])) ≡ Ok (d, t))
+body-again : (v : Version) (n : ℕ) (d : Document) → IsRead v d → (t : Position) × (body_at v (position_at n [] (onto (body_lines v d) [])) ≡ Ok (d, t))
 body-again v n d h =
     (body-ends v).again n [] d (((h.next_low, h.next_high), (h.named, h.stack)), (((h.some_background, h.few_backgrounds), h.backgrounds), (((h.some_card, h.few_cards), h.cards), ((tt, (ap not h.have, tt)), refl))))
 
@@ -202,12 +203,11 @@ version_word first = codes "1"
 version_word second = codes "2"
 
 version-found : (word : List ℕ) (v : Version) → version_at word ≡ Some v → Unit {0} × (word ≡ version_word v)
-version-found word v e = by (pointwise nat_eq word (codes "1")) (pointwise nat_eq word (codes "2")) refl refl e
-  where
-    by : (a b : Bool) → pointwise nat_eq word (codes "1") ≡ a → pointwise nat_eq word (codes "2") ≡ b → cond a (Some first) (cond b (Some second) None) ≡ Some v → Unit {0} × (word ≡ version_word v)
-    by true b p q is = let same : first ≡ v = cc in (tt, same_text _ _ (sym p) ∙ ap version_word same)
-    by false true p q is = let same : second ≡ v = cc in (tt, same_text _ _ (sym q) ∙ ap version_word same)
-    by false false p q is = absurd cc
+version-found word v e =
+    elim (chosen-found word (codes "1") (codes "2") first second v e) [
+      | inl h ↦ (tt, rw h.0 h.1)
+      | inr h ↦ (tt, rw h.0 h.1)
+    ]
 
 version-again : (v : Version) → version_at (version_word v) ≡ Some v
 version-again first = refl
@@ -227,14 +227,14 @@ version-header second = refl
 version_line-reads : Reads (line_after (codes "htstack ") version_at) (λ used v. Unit {0}) (λ v. header v ∷ []) (λ v. [])
 version_line-reads = resaid (keyed (codes "htstack ") version_at versions refl) (λ used v h. (tt, ap (λ (l : List ℕ). l ∷ []) (version-header v), refl)) (λ used v h. tt)
 
-pub joined_onto : (lines : List (List ℕ)) → onto lines [] ≡ joined_lines lines
+pub joined_onto : (lines : List (List ℕ)) → onto lines [] ≡ ended_lines lines
 joined_onto [] = refl
-joined_onto (l ∷ ls) = ap (λ (b : List ℕ). l ++ 10 ∷ b) (joined_onto ls) ∙ sym (append_assoc l (10 ∷ []) (joined_lines ls))
+joined_onto (l ∷ ls) = ap (λ (b : List ℕ). l ++ 10 ∷ b) (joined_onto ls) ∙ sym (append_assoc l (10 ∷ []) (ended_lines ls))
 
-start : List ℕ → Spot
+start : List ℕ → Position
 start bytes = record { bytes = bytes; number = 0; used = [] }
 
-value_ok : {A : Type 0} (r : Result (A × Spot) FileError) (x : A) → value_of r ≡ Ok x → (t : Spot) × (r ≡ Ok (x, t))
+value_ok : {A : Type 0} (r : Result (A × Position) FileError) (x : A) → value_of r ≡ Ok x → (t : Position) × (r ≡ Ok (x, t))
 value_ok (Ok p) x e = let is : p.0 ≡ x = cc in (p.1, ap (λ y. Ok (y, p.1)) is)
 value_ok (Err f) x e = absurd cc
 

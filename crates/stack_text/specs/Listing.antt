@@ -8,8 +8,8 @@ use Rattle.object_table.specs.PartContents.{text_at, hilite_at}
 use Rattle.object_table.specs.declared.object.Object.{Object}
 use Rattle.object_table.specs.declared.object.Kind.{Kind}
 use Rattle.object_table.specs.declared.object.Kind.TheVariants.{Stack, Background, Card, CardButton, BackgroundButton, CardField, BackgroundField}
-use Rattle.stack_text.specs.declared.sheets.Kept.{Kept}
-use Rattle.stack_text.specs.declared.sheets.Kept.TheVariants.{Nothing, Written, Lit}
+use Rattle.stack_text.specs.declared.sheets.PartContent.{PartContent}
+use Rattle.stack_text.specs.declared.sheets.PartContent.TheVariants.{Nothing, Written, Lit}
 use Rattle.stack_text.specs.declared.sheets.Part.{Part}
 use Rattle.stack_text.specs.declared.sheets.Keeping.{Keeping}
 use Rattle.stack_text.specs.Document.{Sheet, Document, part_ids, sheet_ids, background_or}
@@ -20,24 +20,24 @@ abbrev pub object_or : Content → ℕ → Object
 object_or s id = unwrap_or (object_at s id) (record { name = []; script = []; kind = Stack })
 
 -- what is kept beside a part of a kind, of a text and a hilite
-abbrev pub kept_by : Kind → List ℕ → Bool → Kept
-kept_by (BackgroundButton v s) text lit = Lit lit
-kept_by (CardField v l) text lit = Written text
-kept_by (BackgroundField v l s) text lit = Written text
-kept_by (CardButton v h) text lit = Nothing
-kept_by Stack text lit = Nothing
-kept_by (Background c) text lit = Nothing
-kept_by (Card b c) text lit = Nothing
+abbrev pub content_by : Kind → List ℕ → Bool → PartContent
+content_by (BackgroundButton v s) text lit = Lit lit
+content_by (CardField v l) text lit = Written text
+content_by (BackgroundField v l s) text lit = Written text
+content_by (CardButton v h) text lit = Nothing
+content_by Stack text lit = Nothing
+content_by (Background c) text lit = Nothing
+content_by (Card b c) text lit = Nothing
 
 -- what is kept for a part on a card, or on card 0 what is shared
-abbrev pub kept_at : Content → ℕ → ℕ → Kept
-kept_at s card part = kept_by (object_or s part).kind (unwrap_or (text_at s part card) []) (unwrap_or (hilite_at s part card) false)
+abbrev pub content_at : Content → ℕ → ℕ → PartContent
+content_at s card part = content_by (object_or s part).kind (unwrap_or (text_at s part card) []) (unwrap_or (hilite_at s part card) false)
 
 abbrev pub part_of : Content → ℕ → ℕ → Part
-part_of s card id = record { id = id; object = object_or s id; kept = kept_at s card id }
+part_of s card id = record { id = id; object = object_or s id; content = content_at s card id }
 
 abbrev pub keeping_of : Content → ℕ → ℕ → Keeping
-keeping_of s card id = record { part = id; kept = kept_at s card id }
+keeping_of s card id = record { part = id; content = content_at s card id }
 
 abbrev pub background_sheet : Content → ℕ → Sheet
 background_sheet s id = record { id = id; object = object_or s id; parts = map (part_of s 0) (parts_at s id); keepings = [] }
@@ -66,28 +66,28 @@ abbrev pub parts_entry : Sheet → ℕ × List ℕ
 parts_entry s = (s.id, part_ids s.parts)
 
 -- what a sheet keeps for its parts and for those of its background
-abbrev pub kept_on : Sheet → List (ℕ × Kept)
-kept_on s = map (λ p. (p.id, p.kept)) s.parts ++ map (λ k. (k.part, k.kept)) s.keepings
+abbrev pub contents_on : Sheet → List (ℕ × PartContent)
+contents_on s = map (λ p. (p.id, p.content)) s.parts ++ map (λ k. (k.part, k.content)) s.keepings
 
-abbrev pub written : Kept → Option (List ℕ)
+abbrev pub written : PartContent → Option (List ℕ)
 written (Written t) = Some t
 written (Lit b) = None
 written Nothing = None
 
-abbrev pub lit : Kept → Option Bool
+abbrev pub lit : PartContent → Option Bool
 lit (Lit b) = Some b
 lit (Written t) = None
 lit Nothing = None
 
 -- the entry of what a card keeps, or card 0 for what is shared
-abbrev pub kept_entry : {X : Type 0} → (Kept → Option X) → ℕ → ℕ × Kept → Option (Pair × X)
-kept_entry pick card e = option_map (λ x. ((e.0, card), x)) (pick e.1)
+abbrev pub content_entry : {X : Type 0} → (PartContent → Option X) → ℕ → ℕ × PartContent → Option (Pair × X)
+content_entry pick card e = option_map (λ x. ((e.0, card), x)) (pick e.1)
 
-abbrev pub kept_entries : {X : Type 0} → (Kept → Option X) → ℕ → List (ℕ × Kept) → List (Pair × X)
-kept_entries pick card kept = filter_map (kept_entry pick card) kept
+abbrev pub content_entries : {X : Type 0} → (PartContent → Option X) → ℕ → List (ℕ × PartContent) → List (Pair × X)
+content_entries pick card contents = filter_map (content_entry pick card) contents
 
-abbrev pub all_kept : {X : Type 0} → (Kept → Option X) → Document → List (Pair × X)
-all_kept pick d = kept_entries pick 0 (flat_map kept_on d.backgrounds) ++ flat_map (λ c. kept_entries pick c.id (kept_on c)) d.cards
+abbrev pub all_contents : {X : Type 0} → (PartContent → Option X) → Document → List (Pair × X)
+all_contents pick d = content_entries pick 0 (flat_map contents_on d.backgrounds) ++ flat_map (λ c. content_entries pick c.id (contents_on c)) d.cards
 
 abbrev pub all_objects : Document → List (ℕ × Object)
 all_objects d = (0, d.stack) ∷ flat_map object_entries d.backgrounds ++ flat_map object_entries d.cards
@@ -101,8 +101,8 @@ content_of d = record {
   backgrounds = sheet_ids d.backgrounds;
   cards = sheet_ids d.cards;
   parts = from_entries (all_parts d);
-  texts = from_entries (all_kept written d);
-  hilites = from_entries (all_kept lit d);
+  texts = from_entries (all_contents written d);
+  hilites = from_entries (all_contents lit d);
   next = d.next;
 }
 

@@ -7,7 +7,7 @@ use Rattle.ht_values.specs.declared.word.PartKind.TheVariants.{Button, Field}
 use Rattle.object_table.specs.declared.object.Object.{Object}
 use Rattle.object_table.specs.declared.object.Kind.{Kind}
 use Rattle.object_table.specs.declared.object.Kind.TheVariants.{Stack, Background, Card, CardButton, BackgroundButton, CardField, BackgroundField}
-use Rattle.stack_text.specs.declared.sheets.Kept.TheVariants.{Nothing, Written, Lit}
+use Rattle.stack_text.specs.declared.sheets.PartContent.TheVariants.{Nothing, Written, Lit}
 use Rattle.stack_text.specs.declared.sheets.Part.{Part}
 use Rattle.stack_text.specs.declared.sheets.Keeping.{Keeping}
 use Rattle.std.specs.Cmp.Lexicographic.{pointwise}
@@ -20,52 +20,52 @@ use Rattle.stack_text.specs.declared.fault.ReadError.{ReadError}
 use Rattle.stack_text.specs.declared.fault.ReadError.TheVariants as errors
 
 -- the bytes that are left, the number of the line that was read last, and the ids so far
-pub record Spot : Type 0 where
+pub record Position : Type 0 where
   pub bytes : List ℕ
   pub number : ℕ
   pub used : List ℕ
 
-abbrev pub coded_spot : Coded Spot
-coded_spot = code_by (List ℕ × (ℕ × List ℕ)) (coded× (coded_list coded_ℕ) (coded× coded_ℕ (coded_list coded_ℕ))) (λ s. (s.bytes, (s.number, s.used))) (λ p. record { bytes = p.0; number = p.1.0; used = p.1.1 }) (λ _. refl)
+abbrev pub coded_position : Coded Position
+coded_position = code_by (List ℕ × (ℕ × List ℕ)) (coded× (coded_list coded_ℕ) (coded× coded_ℕ (coded_list coded_ℕ))) (λ s. (s.bytes, (s.number, s.used))) (λ p. record { bytes = p.0; number = p.1.0; used = p.1.1 }) (λ _. refl)
 
 -- a reading of the next lines: a value and what is left, or the first fault
 abbrev pub Reader : Type 0 → Type 0
-Reader A = Spot → Result (A × Spot) FileError
+Reader A = Position → Result (A × Position) FileError
 
-abbrev pub chain : {A B : Type 0} → Result (A × Spot) FileError → (A → Reader B) → Result (B × Spot) FileError
+abbrev pub chain : {A B : Type 0} → Result (A × Position) FileError → (A → Reader B) → Result (B × Position) FileError
 chain (Ok x) f = f x.0 x.1
 chain (Err e) f = Err e
 
 infixl 10 ◌>>=◌
 abbrev pub ◌>>=◌ : {A B : Type 0} → Reader A → (A → Reader B) → Reader B
-(r >>= f) spot = chain (r spot) f
+(r >>= f) start = chain (r start) f
 
 abbrev pub give : {A : Type 0} → A → Reader A
-give x spot = Ok (x, spot)
+give x start = Ok (x, start)
 
 -- the four faults, in the order in which they count within a line
-abbrev pub cut_at : Spot → Option ℕ → Result (List ℕ × Spot) FileError
-cut_at spot None = Err Truncated
-cut_at spot (Some i) = Ok (take i spot.bytes, record spot { bytes = drop (i + 1) spot.bytes; number = spot.number + 1 })
+abbrev pub cut_at : Position → Option ℕ → Result (List ℕ × Position) FileError
+cut_at start None = Err Truncated
+cut_at start (Some i) = Ok (take i start.bytes, record start { bytes = drop (i + 1) start.bytes; number = start.number + 1 })
 
 unfoldable pub next_line : Reader (List ℕ)
-next_line spot = cut_at spot (position (λ b. b == 10) spot.bytes)
+next_line start = cut_at start (position (λ b. b == 10) start.bytes)
 
 abbrev pub or_bad_line : {A : Type 0} → Option A → Reader A
-or_bad_line None spot = Err (BadLine spot.number)
-or_bad_line (Some x) spot = Ok (x, spot)
+or_bad_line None start = Err (BadLine start.number)
+or_bad_line (Some x) start = Ok (x, start)
 
 abbrev pub bad_line_if : Bool → Reader (Unit {0})
-bad_line_if true spot = Err (BadLine spot.number)
-bad_line_if false spot = Ok (tt, spot)
+bad_line_if true start = Err (BadLine start.number)
+bad_line_if false start = Ok (tt, start)
 
 abbrev pub too_many_if : Bool → Reader (Unit {0})
-too_many_if true spot = Err TooMany
-too_many_if false spot = Ok (tt, spot)
+too_many_if true start = Err TooMany
+too_many_if false start = Ok (tt, start)
 
 abbrev pub bad_id_if : Bool → Reader (Unit {0})
-bad_id_if true spot = Err (BadId spot.number)
-bad_id_if false spot = Ok (tt, spot)
+bad_id_if true start = Err (BadId start.number)
+bad_id_if false start = Ok (tt, start)
 
 -- so many readings in a row
 abbrev pub times : {A : Type 0} → ℕ → Reader A → Reader (List A)
@@ -161,14 +161,14 @@ count_after prefix least most = do
 
 -- the ids so far, and one more
 abbrev pub take_id : ℕ → Reader (Unit {0})
-take_id id spot = Ok (tt, record spot { used = spot.used ++ id ∷ [] })
+take_id id start = Ok (tt, record start { used = start.used ++ id ∷ [] })
 
 -- The header of the next of at most 10,000 objects: its id is new and below next, and nothing else in it is wrong.
 unfoldable pub new_id : ℕ → ℕ → Bool → Reader (Unit {0})
-new_id next id else_right spot = (do
-  few ← too_many_if (nat_le 10000 (length spot.used))
-  done ← bad_id_if (not else_right || ((id == 0) || (nat_le next id || contains_id id spot.used)))
-  take_id id) spot
+new_id next id else_right start = (do
+  few ← too_many_if (nat_le 10000 (length start.used))
+  done ← bad_id_if (not else_right || ((id == 0) || (nat_le next id || contains_id id start.used)))
+  take_id id) start
 
 -- ---- texts of many lines
 
@@ -219,7 +219,7 @@ background_button_at v id = do
   shared ← in_second_or v true (flag_after (codes "sharedHilite "))
   lit ← flag_after (codes "hilite ")
   script ← script_at
-  give (record { id = id; object = record { name = name; script = script; kind = BackgroundButton visible shared }; kept = Lit lit })
+  give (record { id = id; object = record { name = name; script = script; kind = BackgroundButton visible shared }; content = Lit lit })
 
 unfoldable pub background_field_at : ℕ → Reader Part
 background_field_at id = do
@@ -229,7 +229,7 @@ background_field_at id = do
   shared ← flag_after (codes "sharedText ")
   script ← script_at
   text ← block_after (codes "shared ")
-  give (record { id = id; object = record { name = name; script = script; kind = BackgroundField visible locked shared }; kept = Written text })
+  give (record { id = id; object = record { name = name; script = script; kind = BackgroundField visible locked shared }; content = Written text })
 
 unfoldable pub background_part_at : Version → PartKind × ℕ → Reader Part
 background_part_at v (Button, id) = background_button_at v id
@@ -242,7 +242,7 @@ card_button_at id = do
   visible ← flag_after (codes "visible ")
   lit ← flag_after (codes "hilite ")
   script ← script_at
-  give (record { id = id; object = record { name = name; script = script; kind = CardButton visible lit }; kept = Nothing })
+  give (record { id = id; object = record { name = name; script = script; kind = CardButton visible lit }; content = Nothing })
 
 unfoldable pub card_field_at : ℕ → Reader Part
 card_field_at id = do
@@ -251,7 +251,7 @@ card_field_at id = do
   locked ← flag_after (codes "lockText ")
   script ← script_at
   text ← block_after (codes "text ")
-  give (record { id = id; object = record { name = name; script = script; kind = CardField visible locked }; kept = Written text })
+  give (record { id = id; object = record { name = name; script = script; kind = CardField visible locked }; content = Written text })
 
 unfoldable pub card_part_at : PartKind × ℕ → Reader Part
 card_part_at (Button, id) = card_button_at id
@@ -301,20 +301,20 @@ own_text_at due = do
   head ← line_after (codes "text ") (pair_at number_at count_at)
   right ← bad_id_if (not (head.0 == due))
   text ← text_of_pieces head.1
-  give (record { part = due; kept = Written text })
+  give (record { part = due; content = Written text })
 
 unfoldable pub own_hilite_at : ℕ → Reader Keeping
 own_hilite_at due = do
   head ← line_after (codes "hilite ") (pair_at number_at flag_at)
   right ← bad_id_if (not (head.0 == due))
-  give (record { part = due; kept = Lit head.1 })
+  give (record { part = due; content = Lit head.1 })
 
 -- what a card keeps for a part of its background; in version 1 no button is lit
 abbrev pub keeping_by : Version → ℕ → Kind → Reader Keeping
 keeping_by v id (BackgroundField l t s) = own_text_at id
 keeping_by second id (BackgroundButton l s) = own_hilite_at id
-keeping_by first id (BackgroundButton l s) = give (record { part = id; kept = Lit false })
-keeping_by v id other = give (record { part = id; kept = Nothing })
+keeping_by first id (BackgroundButton l s) = give (record { part = id; content = Lit false })
+keeping_by v id other = give (record { part = id; content = Nothing })
 
 abbrev pub keeping_at : Version → Part → Reader Keeping
 keeping_at v part = keeping_by v part.id part.object.kind
@@ -343,7 +343,7 @@ version_at line = if pointwise nat_eq line (codes "1") then Some first else (if 
 
 -- the end: each background has a card by then, and nothing stands after it
 abbrev pub nothing_left : Reader (Unit {0})
-nothing_left spot = if length spot.bytes == 0 then Ok (tt, spot) else Err (BadLine (spot.number + 1))
+nothing_left start = if length start.bytes == 0 then Ok (tt, start) else Err (BadLine (start.number + 1))
 
 unfoldable pub end_at : List Sheet → List Sheet → Reader (Unit {0})
 end_at backgrounds cards = do
@@ -385,7 +385,7 @@ all_lines = do
   version ← line_after (codes "htstack ") version_at
   body_at version
 
-abbrev pub value_of : {A : Type 0} → Result (A × Spot) FileError → Result A FileError
+abbrev pub value_of : {A : Type 0} → Result (A × Position) FileError → Result A FileError
 value_of (Ok x) = Ok x.0
 value_of (Err e) = Err e
 

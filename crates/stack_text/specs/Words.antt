@@ -1,7 +1,7 @@
 -- How texts, numbers and flags are spelled on a line.
 use Rattle.std.specs.Prelude.{ℕ, zero, suc, ◌+◌, ◌*◌, ◌-◌, ◌/◌, ◌%◌, ◌&&◌, ◌||◌, not, Bool, true, false, List, [], ◌∷◌, ◌++◌, length, Option, Some, None, decimal, codes, map, flat_map, nat_lt, nat_le, ◌==◌, if◌then◌else◌}
-use Rattle.std.specs.List.{slice_split}
 use Rattle.std.specs.Option.{option_map, option_and_then}
+use Rattle.ht_values.specs.Delimited.{delimited}
 
 -- a lower-case hexadecimal digit
 abbrev pub hex_digit : ℕ → ℕ
@@ -34,14 +34,9 @@ flagged key b = key ++ 32 ∷ spelled_flag b
 abbrev pub barred : List ℕ → List ℕ
 barred text = 124 ∷ spelled text
 
--- the pieces between returns; the empty text has none
-abbrev pub pieces : List ℕ → List (List ℕ)
-pieces [] = []
-pieces (b ∷ bs) = slice_split (λ c. c == 13) (b ∷ bs)
-
--- a key with the number of pieces, and a line for each
+-- a key with the number of pieces between returns, and a line for each
 abbrev pub block : List ℕ → List ℕ → List (List ℕ)
-block key text = numbered key (length (pieces text)) ∷ map barred (pieces text)
+block key text = numbered key (length (delimited 13 text)) ∷ map barred (delimited 13 text)
 
 -- the value of a lower-case hexadecimal digit
 abbrev pub hex_value : ℕ → Option ℕ

@@ -7,5 +7,5 @@ mod sheets;
 mod words;
 
 pub use fault::{FileError, ReadError};
-pub use sheets::{Keeping, Kept, Part, Version};
+pub use sheets::{Keeping, Part, PartContent, Version};
 pub use words::{number_at, spell_into, unspell};

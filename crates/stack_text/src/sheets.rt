@@ -6,7 +6,7 @@ use object_table::{Id, Object};
 /// What is kept beside a part: the text of a field, the hilite of a background's button. A card's
 /// button has its hilite among its flags, and nothing is kept beside it.
 #[derive(Drop)]
-pub enum Kept {
+pub enum PartContent {
     Nothing,
     Written(Text),
     Lit(bool),
@@ -17,14 +17,14 @@ pub enum Kept {
 pub struct Part {
     pub id: Id,
     pub object: Object,
-    pub kept: Kept,
+    pub content: PartContent,
 }
 
 /// What a card keeps for a part of its background.
 #[derive(Drop)]
 pub struct Keeping {
     pub part: Id,
-    pub kept: Kept,
+    pub content: PartContent,
 }
 
 /// A version of the stack text. The first has one hilite of a background's button for all cards.

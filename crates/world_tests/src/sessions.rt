@@ -4,11 +4,12 @@ ghost use Rattle.std.specs.Prelude.{IfOk};
 ghost use Rattle.object_table.specs.WellFormed.{IsWellFormed};
 
 use crate::quiet::make_quiet;
+use devices::Watched;
 use externals::External;
 use ht_values::{Fault, Text};
 use object_table::Stack;
 use session::*;
-use stack_file::{Watched, read};
+use stack_file::read;
 use std::alloc::{AllocError, Global};
 use std::io;
 use std::io::{Read, Write};

@@ -1,6 +1,6 @@
 use Rattle.std.proofs.Common.{ℕ, ◌+◌, ◌≤◌, ◌++◌, length, take, arith, length-append, length-take}
 use Rattle.std.proofs.lemmas.Result.{err_from_is_err_and}
-use Rattle.stack_file.proofs.Known.{Consumes-Consumes}
+use Rattle.devices.proofs.Known.{Consumes-Consumes}
 use Rattle.command_line.proofs.stack_bytes.bytes_of.Goals as goal
 
 -- src/stack_bytes.rt

@@ -1,6 +1,6 @@
 use Rattle.std.proofs.Common.{◌-◌, ◌≡◌, ◌≤◌, ℕ, ◌+◌, ◌<◌, ◌⊎◌, List, [], ◌∷◌, ◌++◌, length, take, drop, get_or, sym, ◌∙◌, subst, arith, append_assoc, length-drop}
 use Rattle.std.proofs.lemmas.Result.{err_from_is_err_and}
-use Rattle.stack_file.proofs.Known.{Appends-Appends}
+use Rattle.devices.proofs.Known.{Appends-Appends}
 use Rattle.session.specs.declared.conversation.TheConstants.{BLOCK}
 use Rattle.session.specs.declared.limits.TheConstants.{MOST_BYTES, MOST_LINES}
 use Rattle.session.specs.Conversation.{Breaks, Quits}

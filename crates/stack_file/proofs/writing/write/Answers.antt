@@ -1,8 +1,9 @@
 use Rattle.std.proofs.Common.{◌∙◌, ◌∷◌, ◌++◌, [], List, ℕ, ap, sym, length, map}
 use Rattle.std.specs.Prelude.{codes, flat_map}
 use Rattle.std.proofs.lemmas.List.{length-map}
+use Rattle.ht_values.specs.Delimited.{ended_lines}
 use Rattle.stack_text.specs.Listing.{document_of, background_sheet, card_sheet}
-use Rattle.stack_text.specs.Spelling.{header, name_line, script_lines, background_lines, card_lines, sheets_lines, document_lines, joined_lines}
+use Rattle.stack_text.specs.Spelling.{header, name_line, script_lines, background_lines, card_lines, sheets_lines, document_lines}
 use Rattle.stack_text.specs.Words.{numbered}
 use Rattle.stack_text.specs.declared.sheets.Version.TheVariants.{Second as second}
 use Rattle.stack_text.proofs.Laws.{second_alone}
@@ -35,7 +36,7 @@ returns-clause-text c =
     (lines_then a1 a3 a6 backgrounds (cards ++ end) (lines_then a1 a2 a3 (numbered (codes "backgrounds") (length d.backgrounds) ∷ []) bs b_count b_lines)
     (lines_then a3 a5 a6 cards end (lines_then a3 a4 a5 (numbered (codes "cards") (length d.cards) ∷ []) cs c_count c_lines) c.in_ok-put_line.ensures))
     ∙ with_lines-joined a0 (document_lines second d)
-    ∙ ap (λ (out : List ℕ). out ++ joined_lines (document_lines second d)) c.new-out.ensures.items
+    ∙ ap (λ (out : List ℕ). out ++ ended_lines (document_lines second d)) c.new-out.ensures.items
 
 pub returns-clause-spells : goal.returns-clause-spells
 returns-clause-spells c = record { well_formed = c.requires; version = second; said = tt; text = returns-clause-text c }

@@ -5,8 +5,7 @@ use Rattle.std.proofs.lemmas.List.{append-nil}
 use Rattle.std.proofs.lemmas.Bool.Decides.{nat_tests}
 use Rattle.std.proofs.lemmas.Grind.{common_steps}
 use Rattle.stack_text.specs.Words.{unspelled_within}
-use Rattle.stack_text.proofs.Spelled.{unspelled-nil, unspelled-bad, unspelled-step, onto-text}
-use Rattle.stack_text.proofs.Texts.{text-found, no_text}
+use Rattle.stack_text.proofs.Texts.{unspelled-nil, unspelled-bad, unspelled-step, onto-text, text-found, no_text}
 use Rattle.stack_text.proofs.words.unspell.Goals as goal
 use Rattle.stack_text.proofs.words.unspell.Goals.{else-loop-test, then-loop-test+then-is_empty}
 

@@ -3,7 +3,7 @@
 ghost use Rattle.std.specs.Prelude.{◌≡◌, ◌<◌, take, length, is_err, OnOk, OnErr, IfErr};
 ghost use Rattle.std.specs.Io.{ReadsAtMost, WritesAtMost};
 ghost use Rattle.std.specs.Io.KnownBytes.{Appends, Keeps, ReadConsumes, WriteAppends};
-ghost use Rattle.stack_file.specs.Watching.{device_of, failures_of, counted, took_nothing, Rose};
+ghost use Rattle.devices.specs.Watching.{device_of, failures_of, counted, took_nothing, Rose};
 
 use std::io;
 use std::io::{Read, Write};

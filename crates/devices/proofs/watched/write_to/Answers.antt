@@ -2,8 +2,8 @@ use Rattle.std.proofs.Common.{◌+◌, ◌-◌, ◌<◌, ◌≤◌, length, arit
 use Rattle.std.proofs.lemmas.Bool.Decides.{nat_tests}
 use Rattle.std.proofs.Math.Seq.{take-add}
 use Rattle.std.proofs.lemmas.List.{take_rest}
-use Rattle.stack_file.proofs.Known.{Appends-Appends}
-use Rattle.stack_file.proofs.watched.write_to.Goals as goal
+use Rattle.devices.proofs.Known.{Appends-Appends}
+use Rattle.devices.proofs.watched.write_to.Goals as goal
 
 -- what is sent goes on by what one write took
 pub loop-written-preserved : goal.loop-written-preserved

@@ -2,7 +2,7 @@ use Rattle.std.proofs.Common.{◌≡◌, ◌+◌, ◌-◌, ◌∙◌, arith}
 use Rattle.stack_text.specs.Reading.{background_at}
 use Rattle.stack_file.specs.Views.{sheet_seen}
 use Rattle.stack_file.proofs.Times.{times-push}
-use Rattle.stack_file.proofs.reading.counted_backgrounds.Goals as goal
+use Rattle.stack_file.proofs.document.counted_backgrounds.Goals as goal
 
 pub loop-preserved : goal.loop-preserved
 loop-preserved c =
