@@ -1,8 +1,8 @@
 //! Times of calls on texts and chunks, each as its ratio to a plain copy of the same bytes.
 
 use crate::timing::{Tenths, time_of};
-use chunks::{Chunk, Index, Kind, Where, delete, put, take};
-use ht_values::{Func, LIMIT, Op, Text, binary, built_in};
+use chunks::{Chunk, Index, delete, put, take};
+use ht_values::{ChunkKind, Func, LIMIT, Op, Text, Where, binary, built_in};
 use std::alloc::Global;
 use std::io;
 use std::time::Clock;
@@ -67,7 +67,7 @@ fn inputs(alloc: Global) -> anyhow::Result<Given> {
 /// Makes a call once, and tells the length of its outcome.
 fn made(alloc: Global, call: Call, given: &Given) -> anyhow::Result<usize> {
     let item = Chunk {
-        kind: Kind::Item,
+        kind: ChunkKind::Item,
         from: Index::At(1_000),
         to: Index::At(1_000),
     };

@@ -6,8 +6,8 @@ use Rattle.std.specs.Option.{option_map, unwrap_or}
 use Rattle.std.proofs.lemmas.List.{append_assoc, drop-drop, take-append-drop}
 use Rattle.std.proofs.lemmas.List.Splits.{slice_split-cons_no, slice_split-cons_yes}
 use Rattle.chunks.specs.declared.chunk.Chunk.{Chunk}
-use Rattle.chunks.specs.declared.chunk.Kind.{Kind}
-use Rattle.chunks.specs.declared.chunk.Kind.TheVariants as kind
+use Rattle.ht_values.specs.declared.word.ChunkKind.{ChunkKind}
+use Rattle.ht_values.specs.declared.word.ChunkKind.TheVariants as kind
 use Rattle.chunks.specs.declared.chunk.Span.{Span}
 use Rattle.chunks.specs.Change.{closed_up, removed}
 use Rattle.chunks.specs.Laws.{IsCutBy, PartsCut, NoneDeleted}
@@ -76,7 +76,7 @@ delimited_order : (c : ℕ) (t : List ℕ) → InOrder 0 (length t) (spans_from 
 delimited_order c [] = tt
 delimited_order c (b ∷ bs) = parts_order (λ x. x == c) (b ∷ bs)
 
-spans_order : (d : ℕ) (k : Kind) (t : List ℕ) → InOrder 0 (length t) (spans d k t)
+spans_order : (d : ℕ) (k : ChunkKind) (t : List ℕ) → InOrder 0 (length t) (spans d k t)
 unfolding spans
 spans_order d kind.Char t = let e : 0 + length t ≡ length t = omega arith in subst (λ n. InOrder 0 n (spans_from 0 0 (map (λ b. b ∷ []) t))) e (char_order 0 t)
 spans_order d kind.Word t = filter_order 0 (length t) (spans_from 0 1 (slice_split is_gap t)) (parts_order is_gap t)
@@ -148,7 +148,7 @@ parts_cut d c t s e =
     let last : ℕ = last_to many (number_at many c.to) in
     stretch_cuts t (spans d c.kind t) first last s (nat_le first last) (spans_order d c.kind t) refl e
 
-pub stretch_within : (d : ℕ) (k : Kind) (t : List ℕ) (first last : ℕ) (o : Option Span) → o ≡ stretch (spans d k t) first last → IfSome o (IsCutBy t)
+pub stretch_within : (d : ℕ) (k : ChunkKind) (t : List ℕ) (first last : ℕ) (o : Option Span) → o ≡ stretch (spans d k t) first last → IfSome o (IsCutBy t)
 stretch_within d k t first last None e = tt
 stretch_within d k t first last (Some s) e = stretch_cuts t (spans d k t) first last s (nat_le first last) (spans_order d k t) refl (sym e)
 

@@ -14,10 +14,10 @@ use Rattle.ht_values.specs.declared.fault.Fault.{Fault}
 use Rattle.ht_values.specs.declared.fault.Fault.TheVariants.{BadArgument, TooLong}
 use Rattle.ht_values.specs.Outcome.{within_limit}
 use Rattle.ht_values.specs.declared.text.TheConstants.{LIMIT}
-use Rattle.chunks.specs.declared.chunk.Kind.{Kind}
-use Rattle.chunks.specs.declared.chunk.Kind.TheVariants as kind
+use Rattle.ht_values.specs.declared.word.ChunkKind.{ChunkKind}
+use Rattle.ht_values.specs.declared.word.ChunkKind.TheVariants as kind
 use Rattle.chunks.specs.declared.chunk.Span.{Span}
-use Rattle.chunks.specs.declared.chunk.Where.TheVariants as place
+use Rattle.ht_values.specs.declared.word.Where.TheVariants as place
 use Rattle.chunks.specs.Change.{padding, put, put_at, put_from}
 use Rattle.chunks.specs.Laws.{IsClean, IsPiece, IsReached, IsWhole, PieceIsPut, PutReadsBack, between, one, with_piece}
 use Rattle.chunks.specs.Pieces.{across, count, found, middle_of, read, delimited, is_full, is_gap, is_wide, left, middle, pieces, right, spans, spans_from, stretch}
@@ -34,10 +34,10 @@ limited : (t u : List ℕ) (v : Bool) → ◌≡◌ {A = Result (List ℕ) Fault
 limited t u true e = ap (λ r. result_unwrap_or r t) e
 limited t u false e = let no_text : ⊥ = cc in absurd no_text
 
-pub count_spans : (d : ℕ) (k : Kind) (t : List ℕ) → length (spans d k t) ≡ length (pieces d k t)
+pub count_spans : (d : ℕ) (k : ChunkKind) (t : List ℕ) → length (spans d k t) ≡ length (pieces d k t)
 count_spans d k t = sym (length-map (spans d k t) (middle t)) ∙ ap (λ ps. length ps) (pieces_stand d k t)
 
-module _ (d : ℕ) (k : Kind) (n : ℕ) (p t : List ℕ) where
+module _ (d : ℕ) (k : ChunkKind) (n : ℕ) (p t : List ℕ) where
   put_gives : (u : List ℕ) → put d (one k n) place.Into p t ≡ Ok u → put_from d k (n + 1) (n + 1) place.Into p t ≡ u
   unfolding put
   put_gives u e =
@@ -139,7 +139,7 @@ delimited_replaced c n p [] s clean e some = let no_part : ⊥ = cc in absurd no
 delimited_replaced c n p (b ∷ bs) s clean e some =
     delimited_full c (left (b ∷ bs) s ++ p ++ right (b ∷ bs) s) some ∙ part_replaced (λ x. x == c) p clean (b ∷ bs) n s e
 
-piece_replaced : (d : ℕ) (k : Kind) (n : ℕ) (p t : List ℕ) (s : Span) → IsPiece d k p → slice_get (spans d k t) n ≡ Some s → 0 < length (left t s ++ p ++ right t s) → pieces d k (left t s ++ p ++ right t s) ≡ slice_set (pieces d k t) n p
+piece_replaced : (d : ℕ) (k : ChunkKind) (n : ℕ) (p t : List ℕ) (s : Span) → IsPiece d k p → slice_get (spans d k t) n ≡ Some s → 0 < length (left t s ++ p ++ right t s) → pieces d k (left t s ++ p ++ right t s) ≡ slice_set (pieces d k t) n p
 unfolding spans
 piece_replaced d kind.Char n p t s h e some = char_replaced d n p t s h e
 piece_replaced d kind.Word n p t s h e some = word_replaced d n p t s h.0 h.1 e
@@ -207,7 +207,7 @@ delimited_added c n p (b ∷ bs) clean past some =
     ∙ ap (λ ps. slice_split (λ x. x == c) t ++ ps) (split_copies c (n - many) p clean)
     ∙ sym (append_assoc (slice_split (λ x. x == c) t) (replicate (n - many) []) (p ∷ []))
 
-piece_added : (d : ℕ) (k : Kind) (n : ℕ) (p t : List ℕ) → IsPiece d k p → length (pieces d k t) ≤ n → 0 < length (t ++ padding d k (length (pieces d k t)) (n + 1) t ++ p) → pieces d k (t ++ padding d k (length (pieces d k t)) (n + 1) t ++ p) ≡ pieces d k t ++ between k (n - length (pieces d k t)) ++ p ∷ []
+piece_added : (d : ℕ) (k : ChunkKind) (n : ℕ) (p t : List ℕ) → IsPiece d k p → length (pieces d k t) ≤ n → 0 < length (t ++ padding d k (length (pieces d k t)) (n + 1) t ++ p) → pieces d k (t ++ padding d k (length (pieces d k t)) (n + 1) t ++ p) ≡ pieces d k t ++ between k (n - length (pieces d k t)) ++ p ∷ []
 piece_added d kind.Char n p t h past some = char_added p t h
 piece_added d kind.Word n p t h past some = word_added d (length (pieces d kind.Word t)) (n + 1) p t h.0 h.1
 piece_added d kind.Item n p t h past some = delimited_added d n p t h past some
@@ -245,7 +245,7 @@ set_at_place (q ∷ qs) zero p within = refl
 set_at_place (q ∷ qs) (suc n) p within = let less : n < length qs = omega arith in set_at_place qs n p less
 
 -- the pieces before one that is put past the last
-reached : (d : ℕ) (k : Kind) (n : ℕ) (t : List ℕ) → IsReached d k n t → length (pieces d k t) ≤ n → length (pieces d k t ++ between k (n - length (pieces d k t))) ≡ n
+reached : (d : ℕ) (k : ChunkKind) (n : ℕ) (t : List ℕ) → IsReached d k n t → length (pieces d k t) ≤ n → length (pieces d k t ++ between k (n - length (pieces d k t))) ≡ n
 unfolding count
 reached d kind.Char n t h past = ap (λ ps. length ps) (append-nil (pieces d kind.Char t)) ∙ (omega arith)
 reached d kind.Word n t h past = ap (λ ps. length ps) (append-nil (pieces d kind.Word t)) ∙ (omega arith)
@@ -256,7 +256,7 @@ reached d kind.Line n t h past =
     let m : ℕ = n - length (pieces d kind.Line t) in
     length-append (pieces d kind.Line t) (replicate m []) ∙ ap (λ j. length (pieces d kind.Line t) + j) (length-replicate m []) ∙ (omega arith)
 
-piece_there : (d : ℕ) (k : Kind) (n : ℕ) (p t : List ℕ) → IsReached d k n t → (n < length (pieces d k t)) ⊎ (length (pieces d k t) ≤ n) → slice_get (with_piece k n p (pieces d k t)) n ≡ Some p
+piece_there : (d : ℕ) (k : ChunkKind) (n : ℕ) (p t : List ℕ) → IsReached d k n t → (n < length (pieces d k t)) ⊎ (length (pieces d k t) ≤ n) → slice_get (with_piece k n p (pieces d k t)) n ≡ Some p
 piece_there d k n p t h (inl within) = ap (λ ps. slice_get ps n) (replaced_with d k n p t (pieces d k t) within) ∙ set_at_place (pieces d k t) n p within
 piece_there d k n p t h (inr past) =
     let front : List (List ℕ) = pieces d k t ++ between k (n - length (pieces d k t)) in
@@ -268,7 +268,7 @@ same_text : (x p : List ℕ) → ◌≡◌ {A = Option (List ℕ)} (Some x) (Som
 same_text x p e = ap (λ o. unwrap_or o x) e
 
 -- the piece of a text at a number is what is read there
-piece_read : (d : ℕ) (k : Kind) (n : ℕ) (p u : List ℕ) → slice_get (pieces d k u) n ≡ Some p → read d (one k n) u ≡ p
+piece_read : (d : ℕ) (k : ChunkKind) (n : ℕ) (p u : List ℕ) → slice_get (pieces d k u) n ≡ Some p → read d (one k n) u ≡ p
 unfolding count found
 piece_read d k n p u e = by (slice_get_cases (spans d k u) n).1
   where
@@ -294,7 +294,7 @@ read_nothing None = refl
 read_nothing (Some s) = nil_from_length (middle [] s) (omega (arith, length-take {A = ℕ} (s.after - s.start) (drop s.start []), length-drop {A = ℕ} s.start []))
 
 -- what is put stands in the outcome
-put_within : (d : ℕ) (k : Kind) (n : ℕ) (p t u : List ℕ) → put d (one k n) place.Into p t ≡ Ok u → length p ≤ length u
+put_within : (d : ℕ) (k : ChunkKind) (n : ℕ) (p t u : List ℕ) → put d (one k n) place.Into p t ≡ Ok u → length p ≤ length u
 unfolding count
 put_within d k n p t u e = by (slice_get_cases (spans d k t) n).1
   where

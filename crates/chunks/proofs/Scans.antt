@@ -5,7 +5,7 @@ use Rattle.std.specs.List.{filter, slice_split, onto_first}
 use Rattle.std.proofs.lemmas.List.Splits.{slice_split-cons_no, slice_split-cons_yes}
 use Rattle.std.proofs.Math.Seq.{drop-cons, drop-length}
 use Rattle.std.proofs.Common.{◌≤◌}
-use Rattle.chunks.specs.declared.chunk.Kind.TheVariants as kind
+use Rattle.ht_values.specs.declared.word.ChunkKind.TheVariants as kind
 use Rattle.chunks.specs.declared.chunk.Span.{Span}
 use Rattle.chunks.specs.Pieces.{is_gap, is_wide, is_full, count, delimited, spans, spans_from}
 use Rattle.chunks.specs.Scan.{all_kept, is_delimiter, kept, scan}

@@ -5,15 +5,15 @@ use Rattle.std.proofs.lemmas.Int.{ints}
 use Rattle.std.proofs.lemmas.Option.{slice_get_cases}
 use Rattle.chunks.specs.declared.chunk.Chunk.{Chunk}
 use Rattle.chunks.specs.declared.chunk.Index.TheVariants as index
-use Rattle.chunks.specs.declared.chunk.Kind.{Kind}
+use Rattle.ht_values.specs.declared.word.ChunkKind.{ChunkKind}
 use Rattle.chunks.specs.declared.chunk.Span.{Span}
 use Rattle.chunks.specs.Pieces.{across, count, found, pieces, spans, stretch}
 use Rattle.chunks.proofs.Puts.{count_spans}
 
-abbrev at_number : Kind → ℤ → Chunk
+abbrev at_number : ChunkKind → ℤ → Chunk
 at_number k z = record { kind = k; from = index.At z; to = index.At z }
 
-module _ (d : ℕ) (k : Kind) (t : List ℕ) where
+module _ (d : ℕ) (k : ChunkKind) (t : List ℕ) where
   pub single_none : (z : ℤ) → z <ℤ pos 1 → found d (record { kind = k; from = index.At z; to = index.At z }) t ≡ None
   unfolding found
   single_none (pos zero) low = let last : min 0 (count d k t) ≡ 0 = omega arith in ap (stretch (spans d k t) 1) last

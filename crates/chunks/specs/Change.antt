@@ -6,11 +6,11 @@ use Rattle.ht_values.specs.declared.fault.Fault.TheVariants.{BadArgument}
 use Rattle.ht_values.specs.Number.{without_front_spaces}
 use Rattle.ht_values.specs.Outcome.{within_limit}
 use Rattle.chunks.specs.declared.chunk.Chunk.{Chunk}
-use Rattle.chunks.specs.declared.chunk.Kind.{Kind}
-use Rattle.chunks.specs.declared.chunk.Kind.TheVariants as kind
+use Rattle.ht_values.specs.declared.word.ChunkKind.{ChunkKind}
+use Rattle.ht_values.specs.declared.word.ChunkKind.TheVariants as kind
 use Rattle.chunks.specs.declared.chunk.Span.{Span}
-use Rattle.chunks.specs.declared.chunk.Where.{Where}
-use Rattle.chunks.specs.declared.chunk.Where.TheVariants as place
+use Rattle.ht_values.specs.declared.word.Where.{Where}
+use Rattle.ht_values.specs.declared.word.Where.TheVariants as place
 use Rattle.chunks.specs.Pieces.{count, found, left, middle, right, number_at, stretch, spans}
 
 -- a text put in the place of another, before it or after it
@@ -20,7 +20,7 @@ placed place.Before new old = new ++ old
 placed place.After new old = old ++ new
 
 -- what is added at the end of a text with `many` pieces, before the text that is put as piece number `first` past them
-abbrev pub padding : ℕ → Kind → ℕ → ℕ → List ℕ → List ℕ
+abbrev pub padding : ℕ → ChunkKind → ℕ → ℕ → List ℕ → List ℕ
 padding delimiter kind.Char many first t = []
 padding delimiter kind.Word many first [] = []
 padding delimiter kind.Word many first (b ∷ bs) = 32 ∷ []
@@ -28,12 +28,12 @@ padding delimiter kind.Item many first t = replicate (first - max many 1) delimi
 padding delimiter kind.Line many first t = replicate (first - max many 1) 13
 
 -- the middle of the text changed, or the text that is put added at the end where there is no such piece
-abbrev pub put_at : ℕ → Kind → ℕ → ℕ → Where → List ℕ → List ℕ → Option Span → List ℕ
+abbrev pub put_at : ℕ → ChunkKind → ℕ → ℕ → Where → List ℕ → List ℕ → Option Span → List ℕ
 put_at delimiter k many first w new t (Some s) = left t s ++ placed w new (middle t s) ++ right t s
 put_at delimiter k many first w new t None = t ++ padding delimiter k many first t ++ new
 
 -- a put at the pieces from one number to another, neither below 1
-abbrev pub put_from : ℕ → Kind → ℕ → ℕ → Where → List ℕ → List ℕ → List ℕ
+abbrev pub put_from : ℕ → ChunkKind → ℕ → ℕ → Where → List ℕ → List ℕ → List ℕ
 put_from delimiter k first last w new t =
     let many = count delimiter k t in
     put_at delimiter k many first w new t (stretch (spans delimiter k t) first (min last many))
@@ -53,7 +53,7 @@ joined_up before [] = take (length before - 1) before
 joined_up before (delimiter ∷ after) = before ++ after
 
 -- what is left of two parts when the pieces between them go
-abbrev pub closed_up : Kind → List ℕ → List ℕ → List ℕ
+abbrev pub closed_up : ChunkKind → List ℕ → List ℕ → List ℕ
 closed_up kind.Char before after = before ++ after
 closed_up kind.Word before after = before ++ without_front_spaces after
 closed_up kind.Item before after = joined_up before after

@@ -3,8 +3,8 @@ use Rattle.std.specs.Prelude.{ℕ, List, [], ◌∷◌, Option, Some, None, Ok, 
 use Rattle.ht_values.specs.declared.fault.Fault.{Fault}
 use Rattle.ht_values.specs.Outcome.{and_then, within_limit}
 use Rattle.chunks.specs.declared.chunk.Chunk.{Chunk}
-use Rattle.chunks.specs.declared.chunk.Where.{Where}
-use Rattle.chunks.specs.declared.chunk.Where.TheVariants as place
+use Rattle.ht_values.specs.declared.word.Where.{Where}
+use Rattle.ht_values.specs.declared.word.Where.TheVariants as place
 use Rattle.chunks.specs.Pieces.{read}
 use Rattle.chunks.specs.Change.{placed, put, removed}
 

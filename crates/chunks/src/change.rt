@@ -7,9 +7,9 @@ ghost use Rattle.chunks.specs.Change as change;
 ghost use Rattle.chunks.specs.Laws.{IsCutBy};
 ghost use Rattle.chunks.specs.Pieces as pieces;
 
-use crate::chunk::{Chunk, Kind, Span, Where};
-use crate::reading::{count, find, number_at, stretch};
-use ht_values::{Failure, Fault, LIMIT, Text, joined, without_front_spaces};
+use crate::chunk::{Chunk, Span};
+use crate::location::{count, find, number_at, stretch};
+use ht_values::{ChunkKind, Failure, Fault, LIMIT, Text, Where, joined, without_front_spaces};
 use std::alloc::{AllocError, Global};
 
 /// A text of two parts that fit.
@@ -47,15 +47,15 @@ fn without_delimiter<'a>(before: &'a [u8], after: &'a [u8]) -> (&'a [u8], &'a [u
 }
 
 /// What is left before and after the pieces that go.
-fn rest_of<'a>(kind: Kind, before: &'a [u8], after: &'a [u8]) -> (&'a [u8], &'a [u8])
+fn rest_of<'a>(kind: ChunkKind, before: &'a [u8], after: &'a [u8]) -> (&'a [u8], &'a [u8])
     ensures value { result.0.now ++ result.1.now ≡ change.closed_up kind before.now after.now }
     ensures fits { length result.0.now + length result.1.now ≤ length before.now + length after.now }
 {
     match kind {
-        Kind::Char => (before, after),
-        Kind::Word => (before, without_front_spaces(after)),
-        Kind::Item => without_delimiter(before, after),
-        Kind::Line => without_delimiter(before, after),
+        ChunkKind::Char => (before, after),
+        ChunkKind::Word => (before, without_front_spaces(after)),
+        ChunkKind::Item => without_delimiter(before, after),
+        ChunkKind::Line => without_delimiter(before, after),
     }
 }
 
@@ -94,14 +94,14 @@ fn changed(
 }
 
 /// The byte that stands at the end of a text before what is put past its pieces, and how often.
-fn padding(kind: Kind, delimiter: u8, many: usize, first: usize, text: &[u8]) -> (u8, usize)
+fn padding(kind: ChunkKind, delimiter: u8, many: usize, first: usize, text: &[u8]) -> (u8, usize)
     ensures { replicate result.1 result.0 ≡ change.padding delimiter kind many first text.now }
 {
     match kind {
-        Kind::Char => (delimiter, 0),
-        Kind::Word => (b' ', if text.is_empty() { 0 } else { 1 }),
-        Kind::Item => (delimiter, first.saturating_sub(many.max(1))),
-        Kind::Line => (13, first.saturating_sub(many.max(1))),
+        ChunkKind::Char => (delimiter, 0),
+        ChunkKind::Word => (b' ', if text.is_empty() { 0 } else { 1 }),
+        ChunkKind::Item => (delimiter, first.saturating_sub(many.max(1))),
+        ChunkKind::Line => (13, first.saturating_sub(many.max(1))),
     }
 }
 

@@ -1,13 +1,6 @@
 //! Which part of a text a chunk names.
 
-/// What a text is cut into.
-#[derive(Clone, Copy, PartialEq, Eq, Debug)]
-pub enum Kind {
-    Char,
-    Word,
-    Item,
-    Line,
-}
+use ht_values::ChunkKind;
 
 /// The number of a piece, from 1, or the last piece.
 #[derive(Clone, Copy, PartialEq, Eq, Debug)]
@@ -19,17 +12,9 @@ pub enum Index {
 /// The pieces of a kind from one number to another.
 #[derive(Clone, Copy, PartialEq, Eq, Debug)]
 pub struct Chunk {
-    pub kind: Kind,
+    pub kind: ChunkKind,
     pub from: Index,
     pub to: Index,
-}
-
-/// Where a text is put.
-#[derive(Clone, Copy, PartialEq, Eq, Debug)]
-pub enum Where {
-    Into,
-    Before,
-    After,
 }
 
 /// A part of a text: its first byte, and the first byte after it.

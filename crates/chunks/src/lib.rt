@@ -5,11 +5,11 @@ mod change;
 mod chunk;
 mod delimited;
 mod law;
+mod location;
 mod piece;
-mod reading;
-mod word;
+mod word_pieces;
 
 pub use change::{delete, put, take};
-pub use chunk::{Chunk, Index, Kind, Span, Where};
+pub use chunk::{Chunk, Index, Span};
 pub use law::{none_deleted, one_list, parts_cut, piece_is_put, pieces_stand, put_reads_back};
-pub use reading::{count, find};
+pub use location::{count, find};

@@ -2,7 +2,7 @@
 use Rattle.std.proofs.Common.{◌≡◌, List, ◌∷◌, true, Some, refl, sym, subst}
 use Rattle.ht_lex.specs.declared.key.Key.{Key}
 use Rattle.ht_lex.specs.declared.key.Key.TheVariants as k
-use Rattle.ht_lex.specs.declared.key.Kind.TheVariants as kind
+use Rattle.ht_lex.specs.declared.key.TokenKind.TheVariants as kind
 use Rattle.ht_lex.specs.Token.{Token, key, first_kind}
 use Rattle.ht_grammar.specs.Trees.{Expr, Chunk, Part}
 use Rattle.ht_grammar.specs.Statements.{Stmt}

@@ -4,9 +4,9 @@ use Rattle.std.proofs.lemmas.Bool.{le-leb}
 use Rattle.std.proofs.lemmas.Bool.Decides.{nat_tests}
 use Rattle.ht_lex.specs.declared.key.Key.{Key}
 use Rattle.ht_lex.specs.declared.key.Key.TheVariants as k
-use Rattle.ht_lex.specs.declared.key.Kind.{Kind}
-use Rattle.ht_lex.specs.declared.key.Kind.TheVariants as kind
-use Rattle.ht_lex.specs.declared.key.Piece.{Piece}
+use Rattle.ht_lex.specs.declared.key.TokenKind.{TokenKind}
+use Rattle.ht_lex.specs.declared.key.TokenKind.TheVariants as kind
+use Rattle.ht_values.specs.declared.word.ChunkKind.{ChunkKind}
 use Rattle.ht_values.specs.declared.word.PartKind.{PartKind}
 use Rattle.ht_lex.specs.Token.{Token, key, eol, first_kind, later}
 use Rattle.ht_lex.specs.Token as token
@@ -17,18 +17,18 @@ use Rattle.ht_values.specs.declared.operator.UnOp.TheVariants as un
 use Rattle.ht_values.specs.declared.word.Prop.{Prop}
 use Rattle.ht_grammar.specs.declared.vocabulary.Layer.{Layer}
 use Rattle.ht_grammar.specs.declared.vocabulary.Layer.TheVariants as layer
-use Rattle.ht_grammar.specs.Trees.{Expr, Exprs, Chunk, Which, Spot, Owner, Part, Ref, Count, none, more, kind_of_part}
+use Rattle.ht_grammar.specs.Trees.{Expr, Exprs, Chunk, Which, Selector, Owner, Part, Ref, Count, none, more, kind_of_part}
 use Rattle.ht_grammar.specs.Trees as t
-use Rattle.ht_grammar.specs.Depth.{depth, depths, chunk_depth, which_depth, spot_depth, owner_depth, part_depth, ref_depth, count_depth}
-use Rattle.ht_grammar.specs.Fronts.{Front, infix_at, test_at, neither, front, equality, after_of, past_the, same_name, is_article, prop_front, short_of}
-use Rattle.ht_grammar.specs.Expressions.{Derives, DerivesList, DerivesArticle, DerivesLayer, DerivesWhich, DerivesSpot, DerivesOwner, DerivesPart, DerivesRef, DerivesCount, DerivesChunk, Level, primary, factor, prefixed, power, rank, whole}
+use Rattle.ht_grammar.specs.Depth.{depth, depths, chunk_depth, which_depth, selector_depth, owner_depth, part_depth, ref_depth, count_depth}
+use Rattle.ht_grammar.specs.Fronts.{LeadingOperator, infix_at, test_at, neither, leading_operator, equality, after_of, past_the, same_name, is_article, prop_front, short_of}
+use Rattle.ht_grammar.specs.Expressions.{Derives, DerivesList, DerivesArticle, DerivesLayer, DerivesWhich, DerivesSelector, DerivesOwner, DerivesPart, DerivesRef, DerivesCount, DerivesChunk, Level, primary, factor, prefixed, power, rank, whole}
 use Rattle.ht_grammar.specs.Expressions as e
-use Rattle.ht_grammar.specs.Reading.{Outcome, Parser, and_then, made, snoc, closed, fitting, of_part, holder_front, part_front, if_field, which_at, spot_at, owner_at, owner_by, owner_of_layer, part_end, nth_end, part_at, field_at, ref_of_layer, ref_at, inner_ref, layered_count, count_at, piece_by, chunk_at, chunk_form, number_form, property_by, short_by, function_by, run_by, prop_or, the_name, article, list_more, list_at, primary_at, factor_at, prefixed_at, power_end, power_at, join_at, asked_at, turn, chain_at, rank_at, level_at, read}
+use Rattle.ht_grammar.specs.Reading.{Outcome, Parser, and_then, made, snoc, closed, fitting, of_part, referenced_layer, part_front, if_field, which_at, selector_at, owner_at, owner_by, owner_of_layer, part_end, nth_end, part_at, field_at, ref_of_layer, ref_at, inner_ref, layered_count, count_at, piece_by, chunk_at, chunk_form, number_form, property_by, short_by, function_by, run_by, prop_or, the_name, article, list_more, list_at, primary_at, factor_at, prefixed_at, power_end, power_at, join_at, asked_at, turn, chain_at, rank_at, level_at, read}
 use Rattle.ht_grammar.specs.Lines.{begins_expr}
-use Rattle.ht_grammar.proofs.Owner.{holder_card, holder_background}
+use Rattle.ht_grammar.proofs.Owner.{referenced_card, referenced_background}
 use Rattle.ht_grammar.proofs.Sound.{joined, joined_snoc, snoc_joined}
 use Rattle.ht_grammar.proofs.Begins.{expr_begins}
-use Rattle.ht_grammar.proofs.Follow.{tie, bound, tie_infix, tie_test, tie_no_owner, tie_no_part, tie_of, tie_owner, layer_after, depth_pos, past_cases, part_no_holder, factor_no_holder, loose_close, loose_comma, loose_to, loose_end}
+use Rattle.ht_grammar.proofs.Follow.{tie, bound, tie_infix, tie_test, tie_no_owner, tie_no_part, tie_of, tie_owner, layer_after, depth_pos, past_cases, part_no_layer, factor_no_layer, loose_close, loose_comma, loose_to, loose_end}
 use Rattle.ht_grammar.proofs.Shorter.{shorter}
 use Rattle.ht_grammar.proofs.Names.{apart, IsPlain, prop_plain, run_plain, function_plain, run_no_prop, function_no_prop, function_no_run}
 
@@ -45,17 +45,17 @@ pub left_if : {A : Type 0} (b : Bool) (x y : A) → b ≡ false → cond b x y �
 left_if b x y e = ap (λ v. cond v x y) e
 
 -- the words `card` and `background`
-abbrev pub is_holder : Key → Bool
-is_holder k.Card = true
-is_holder k.Background = true
-is_holder _ = false
+abbrev pub is_layer_key : Key → Bool
+is_layer_key k.Card = true
+is_layer_key k.Background = true
+is_layer_key _ = false
 
 abbrev pub is_comma : List Token → Bool
 is_comma (key k.CommaSign ∷ ts) = true
 is_comma _ = false
 
 -- words that only stand before a factor
-abbrev is_prefix : Option Kind → Bool
+abbrev is_prefix : Option TokenKind → Bool
 is_prefix (Some (kind.Key k.Minus)) = true
 is_prefix (Some (kind.Key k.Not)) = true
 is_prefix (Some (kind.Key k.There)) = true
@@ -138,9 +138,9 @@ module _ (deeper : Level → Parser Expr) (d : ℕ) where
   chain_stops : (n j : ℕ) (x : Expr) (c : List Token) → suc n + 2 < tie c → 0 < j → chain_at deeper d n j x c ≡ Some (x, c)
   unfolding chain_at
   chain_stops n zero x c h pos = absurd (omega arith)
-  chain_stops n (suc j) x c h pos = go (front c) refl
+  chain_stops n (suc j) x c h pos = go (leading_operator c) refl
     where
-      go : (f : Front) → front c ≡ f → turn deeper d (chain_at deeper d n j) n x c f ≡ Some (x, c)
+      go : (f : LeadingOperator) → leading_operator c ≡ f → turn deeper d (chain_at deeper d n j) n x c f ≡ Some (x, c)
       go (infix_at r op b) same = let e : r + 2 ≡ tie c = sym (tie_infix c same) in let other : nat_eq r (suc n) ≡ false = grind (arith, nat_tests) in ap (λ v. cond v (and_then (join_at deeper d n op x b) (chain_at deeper d n j)) (Some (x, c))) other
       go (test_at op b) same = let e : 7 ≡ tie c = sym (tie_test c same) in let other : nat_eq equality (suc n) ≡ false = grind (arith, nat_tests) in ap (λ v. cond v (and_then (asked_at deeper d op x b) (chain_at deeper d n j)) (Some (x, c))) other
       go neither same = refl
@@ -149,7 +149,7 @@ module _ (deeper : Level → Parser Expr) (d : ℕ) where
   same_rank n = grind (arith, nat_tests)
 
   -- a turn that takes an operator, or asks for a type
-  grows : (n j : ℕ) (x : Expr) (m : List Token) (op : Op) (b : List Token) (y : Expr) (c : List Token) → 0 < j → front m ≡ infix_at (suc n) op b → depth x ≤ d → deeper (rank n) b ≡ Some (y, c)
+  grows : (n j : ℕ) (x : Expr) (m : List Token) (op : Op) (b : List Token) (y : Expr) (c : List Token) → 0 < j → leading_operator m ≡ infix_at (suc n) op b → depth x ≤ d → deeper (rank n) b ≡ Some (y, c)
       → (i : ℕ) × (j ≡ suc i) × (chain_at deeper d n j x m ≡ chain_at deeper d n i (t.binary op x y) c)
   unfolding chain_at join_at
   grows n zero x m op b y c pos f le e = absurd (omega arith)
@@ -161,7 +161,7 @@ module _ (deeper : Level → Parser Expr) (d : ℕ) where
         ∙ step (chain_at deeper d n j) (ap (λ v. cond v (made (t.binary op x) (deeper (rank n) b)) None) (le-leb (depth x) d le) ∙ make (t.binary op x) e),
   )
 
-  asks : (j : ℕ) (x : Expr) (m : List Token) (op : UnOp) (c : List Token) → 0 < j → front m ≡ test_at op c → depth x ≤ d
+  asks : (j : ℕ) (x : Expr) (m : List Token) (op : UnOp) (c : List Token) → 0 < j → leading_operator m ≡ test_at op c → depth x ≤ d
       → (i : ℕ) × (j ≡ suc i) × (chain_at deeper d 4 j x m ≡ chain_at deeper d 4 i (t.unary op x) c)
   unfolding chain_at asked_at
   asks zero x m op c pos f le = absurd (omega arith)
@@ -287,7 +287,7 @@ module _ (deeper : Level → Parser Expr) (d : ℕ) where
   property_end : (p : Prop) (m : List Token) {a : List Token} {r : Ref} {c : List Token} → after_of (later m) ≡ Some a → inner_ref deeper d a ≡ Some (r, c) → property_by deeper d (Some p) m ≡ Some (t.property p r, c)
   property_end p m o h = ap (λ v. made (t.property p) (of_part deeper d (inner_ref deeper d) v)) o ∙ make (t.property p) h
 
-  piece_stops : (p : Piece) (i : Expr) (m : List Token) {b : List Token} → after_of m ≡ Some b → piece_by deeper d (first_kind m) p i m ≡ Some (t.piece p i, m)
+  piece_stops : (p : ChunkKind) (i : Expr) (m : List Token) {b : List Token} → after_of m ≡ Some b → piece_by deeper d (first_kind m) p i m ≡ Some (t.piece p i, m)
   piece_stops p i (key k.Of ∷ ts) o = refl
   piece_stops p i (key k.In ∷ ts) o = refl
   piece_stops p i m o = cc
@@ -312,7 +312,7 @@ module _ (deeper : Level → Parser Expr) (d : ℕ) where
   object_is_counted (e.a_part (e.part e.on_background w o)) = refl
   object_is_counted (e.a_part (e.nth_part l o)) = refl
 
-  card_is_ref : {a c : List Token} {p : Spot} → DerivesSpot k.Card a p c → ref_at deeper d a ≡ ref_of_layer deeper d (holder_front a) a
+  card_is_ref : {a c : List Token} {p : Selector} → DerivesSelector k.Card a p c → ref_at deeper d a ≡ ref_of_layer deeper d (referenced_layer a) a
   unfolding ref_at
   card_is_ref e.this = refl
   card_is_ref e.next = refl
@@ -320,7 +320,7 @@ module _ (deeper : Level → Parser Expr) (d : ℕ) where
   card_is_ref e.nth = refl
   card_is_ref (e.which w) = refl
 
-  background_is_ref : {a c : List Token} {p : Spot} → DerivesSpot k.Background a p c → ref_at deeper d a ≡ ref_of_layer deeper d (holder_front a) a
+  background_is_ref : {a c : List Token} {p : Selector} → DerivesSelector k.Background a p c → ref_at deeper d a ≡ ref_of_layer deeper d (referenced_layer a) a
   unfolding ref_at
   background_is_ref e.this = refl
   background_is_ref e.next = refl
@@ -328,18 +328,18 @@ module _ (deeper : Level → Parser Expr) (d : ℕ) where
   background_is_ref e.nth = refl
   background_is_ref (e.which w) = refl
 
-  part_is_ref : {a c : List Token} {p : Part} → DerivesPart a p c → ref_at deeper d a ≡ ref_of_layer deeper d (holder_front a) a
+  part_is_ref : {a c : List Token} {p : Part} → DerivesPart a p c → ref_at deeper d a ≡ ref_of_layer deeper d (referenced_layer a) a
   unfolding ref_at
   part_is_ref (e.part e.no_layer w o) = refl
   part_is_ref (e.part e.on_card w o) = refl
   part_is_ref (e.part e.on_background w o) = refl
   part_is_ref (e.nth_part l o) = refl
 
-  spot_goes : (h : Key) (a : List Token) → is_holder h ≡ true → spot_at deeper d (key h ∷ a) ≡ made t.which (which_at deeper d a)
-  unfolding spot_at
-  spot_goes k.Card a f = refl
-  spot_goes k.Background a f = refl
-  spot_goes h a f = cc
+  selector_goes : (h : Key) (a : List Token) → is_layer_key h ≡ true → selector_at deeper d (key h ∷ a) ≡ made t.which (which_at deeper d a)
+  unfolding selector_at
+  selector_goes k.Card a f = refl
+  selector_goes k.Background a f = refl
+  selector_goes h a f = cc
 
   part_starts : {a b : List Token} {l : Option Layer} {p : PartKind} → DerivesLayer a l (key (k.Part p) ∷ b) → part_at deeper d a ≡ and_then (part_front a) (part_end deeper d)
   unfolding part_at
@@ -355,7 +355,7 @@ module _ (deeper : Level → Parser Expr) (d : ℕ) where
       go None f = refl
       go (Some b) f = ap (λ l. owner_of_layer deeper d l c b) f
 
-  owner_goes : (m b : List Token) (l : Layer) → after_of m ≡ Some b → holder_front b ≡ Some l → owner_at deeper d m ≡ owner_of_layer deeper d (Some l) m b
+  owner_goes : (m b : List Token) (l : Layer) → after_of m ≡ Some b → referenced_layer b ≡ Some l → owner_at deeper d m ≡ owner_of_layer deeper d (Some l) m b
   unfolding owner_at
   owner_goes m b l o h = ap (λ v. owner_by deeper d v m) o ∙ ap (λ l. owner_of_layer deeper d l m b) h
 
@@ -377,8 +377,8 @@ article_complete (e.not_an {w} {c} f) = taken_if (is_article w) _ _ f
 -- Before an owner the tokens hang as an owner does.
 before_owner : {m c : List Token} {o : Owner} → DerivesOwner m o c → 1 < tie c → 0 < tie m
 before_owner e.no_owner h = omega arith
-before_owner (e.of_card {b} {c} {m} o s) h = omega (arith, tie_owner m o (holder_card s (tie_no_part c (omega arith))))
-before_owner (e.of_background {b} {c} {m} o s) h = omega (arith, tie_owner m o (holder_background s (tie_no_part c (omega arith))))
+before_owner (e.of_card {b} {c} {m} o s) h = omega (arith, tie_owner m o (referenced_card s (tie_no_part c (omega arith))))
+before_owner (e.of_background {b} {c} {m} o s) h = omega (arith, tie_owner m o (referenced_background s (tie_no_part c (omega arith))))
 
 abbrev pub Claim : Level → List Token → Expr → List Token → Type 0
 Claim (rank zero) a e c = (d : ℕ) → depth e ≤ suc d → 2 < tie c → rank_at (read d) d 0 a ≡ Some (e, c)
@@ -401,8 +401,8 @@ CountClaim a n c = (d : ℕ) → count_depth n ≤ d → 1 < tie c → count_at 
 abbrev pub RefClaim : List Token → Ref → List Token → Type 0
 RefClaim a r c = (d : ℕ) → ref_depth r ≤ suc d → 1 < tie c → ref_at (read d) d a ≡ Some (r, c)
 
-abbrev pub SpotClaim : Key → List Token → Spot → List Token → Type 0
-SpotClaim h a p c = is_holder h ≡ true → (d : ℕ) → spot_depth p ≤ d → 0 < tie c → spot_at (read d) d a ≡ Some (p, c)
+abbrev pub SelectorClaim : Key → List Token → Selector → List Token → Type 0
+SelectorClaim h a p c = is_layer_key h ≡ true → (d : ℕ) → selector_depth p ≤ d → 0 < tie c → selector_at (read d) d a ≡ Some (p, c)
 
 abbrev pub WhichClaim : List Token → Which → List Token → Type 0
 WhichClaim a w c = (d : ℕ) → which_depth w ≤ d → 0 < tie c → which_at (read d) d a ≡ Some (w, c)
@@ -427,7 +427,7 @@ finish factor a e c h (suc d) f t = h d f t
 finish primary a e c h (suc d) f t = h d f t
 
 mutual
-  unfolding tie closed list_at primary_at which_at spot_at part_end nth_end part_at field_at ref_at inner_ref count_at chunk_at chunk_form number_form factor_at prefixed_at power_at rank_at joined
+  unfolding tie closed list_at primary_at which_at selector_at part_end nth_end part_at field_at ref_at inner_ref count_at chunk_at chunk_form number_form factor_at prefixed_at power_at rank_at joined
 
   pub claim : {p : Level} {a : List Token} {e : Expr} {c : List Token} → Derives p a e c → Claim p a e c
   claim (e.join {n} {a} {b} {c} {m} {op} {x} {y} h f i) = λ d fits s.
@@ -454,7 +454,7 @@ mutual
   claim (e.no_prefix h) = λ d fits s. factor_is_prefixed (read d) d h ∙ claim h d fits s
   claim (e.no_form h) = λ d fits s. primary_is_factor (read d) d h ∙ claim h d fits (omega arith)
   claim (e.chunk {a} {b} {c} {m} {h} {x} g o f) = λ d fits s.
-      let m_hangs : 9 < tie m = omega (arith, tie_of m o (factor_no_holder f)) in
+      let m_hangs : 9 < tie m = omega (arith, tie_of m o (factor_no_layer f)) in
       chunk_is_factor (read d) d g
       ∙ step (λ h r. made (t.chunk h) (of_part (read d) d (read d factor) (after_of r))) (claim_chunk g d (omega arith) m_hangs b o)
       ∙ ap (λ v. made (t.chunk h) (of_part (read d) d (read d factor) v)) o
@@ -526,18 +526,18 @@ mutual
   claim_ref (e.the_target {w} {c} f) = λ d fits s. taken_if (same_name w (codes "target")) _ _ f
   claim_ref e.this_stack = λ d fits s. refl
   claim_ref (e.card {a} {c} {p} h) = λ d fits s.
-      card_is_ref (read d) d h ∙ ap (λ l. ref_of_layer (read d) d l a) (holder_card h (tie_no_part c (omega arith))) ∙ make t.card (claim_spot h refl d (omega arith) (omega arith))
+      card_is_ref (read d) d h ∙ ap (λ l. ref_of_layer (read d) d l a) (referenced_card h (tie_no_part c (omega arith))) ∙ make t.card (claim_selector h refl d (omega arith) (omega arith))
   claim_ref (e.background {a} {c} {p} h) = λ d fits s.
-      background_is_ref (read d) d h ∙ ap (λ l. ref_of_layer (read d) d l a) (holder_background h (tie_no_part c (omega arith))) ∙ make t.background (claim_spot h refl d (omega arith) (omega arith))
+      background_is_ref (read d) d h ∙ ap (λ l. ref_of_layer (read d) d l a) (referenced_background h (tie_no_part c (omega arith))) ∙ make t.background (claim_selector h refl d (omega arith) (omega arith))
   claim_ref (e.a_part {a} {c} {p} h) = λ d fits s.
-      part_is_ref (read d) d h ∙ ap (λ l. ref_of_layer (read d) d l a) (part_no_holder h) ∙ make t.a_part (claim_part h d fits s)
+      part_is_ref (read d) d h ∙ ap (λ l. ref_of_layer (read d) d l a) (part_no_layer h) ∙ make t.a_part (claim_part h d fits s)
 
-  pub claim_spot : {h : Key} {a : List Token} {p : Spot} {c : List Token} → DerivesSpot h a p c → SpotClaim h a p c
-  claim_spot e.this = λ f d fits s. refl
-  claim_spot e.next = λ f d fits s. refl
-  claim_spot e.previous = λ f d fits s. refl
-  claim_spot e.nth = λ f d fits s. refl
-  claim_spot (e.which {h} {a} {c} {w} g) = λ f d fits s. spot_goes (read d) d h a f ∙ make t.which (claim_which g d fits s)
+  pub claim_selector : {h : Key} {a : List Token} {p : Selector} {c : List Token} → DerivesSelector h a p c → SelectorClaim h a p c
+  claim_selector e.this = λ f d fits s. refl
+  claim_selector e.next = λ f d fits s. refl
+  claim_selector e.previous = λ f d fits s. refl
+  claim_selector e.nth = λ f d fits s. refl
+  claim_selector (e.which {h} {a} {c} {w} g) = λ f d fits s. selector_goes (read d) d h a f ∙ make t.which (claim_which g d fits s)
 
   pub claim_which : {a : List Token} {w : Which} {c : List Token} → DerivesWhich a w c → WhichClaim a w c
   claim_which (e.by_id {a} {c} {x} h) = λ d fits s. make t.by_id (finish primary a x c (claim h) d fits s)
@@ -555,11 +555,11 @@ mutual
   pub claim_owner : {m : List Token} {o : Owner} {c : List Token} → DerivesOwner m o c → OwnerClaim m o c
   claim_owner (e.no_owner {c}) = λ d fits s. owner_stops (read d) d c (tie_no_owner c s)
   claim_owner (e.of_card {b} {c} {m} {p} o h) = λ d fits s.
-      owner_goes (read d) d m b layer.Card o (holder_card h (tie_no_part c (omega arith)))
-      ∙ make t.on_card (fits_in (read d) d (λ p. suc (spot_depth p)) (claim_spot h refl d (omega arith) (omega arith)) fits)
+      owner_goes (read d) d m b layer.Card o (referenced_card h (tie_no_part c (omega arith)))
+      ∙ make t.on_card (fits_in (read d) d (λ p. suc (selector_depth p)) (claim_selector h refl d (omega arith) (omega arith)) fits)
   claim_owner (e.of_background {b} {c} {m} {p} o h) = λ d fits s.
-      owner_goes (read d) d m b layer.Background o (holder_background h (tie_no_part c (omega arith)))
-      ∙ make t.on_background (fits_in (read d) d (λ p. suc (spot_depth p)) (claim_spot h refl d (omega arith) (omega arith)) fits)
+      owner_goes (read d) d m b layer.Background o (referenced_background h (tie_no_part c (omega arith)))
+      ∙ make t.on_background (fits_in (read d) d (λ p. suc (selector_depth p)) (claim_selector h refl d (omega arith) (omega arith)) fits)
 
 -- What is in the grammar, and not deeper than this, is read.
 pub read_complete : (d : ℕ) (ts : List Token) (e : Expr) → Derives whole ts e [] → depth e ≤ d → read d whole ts ≡ Some (e, [])

@@ -72,6 +72,7 @@ expressions_exact ts e = (sound, complete)
     complete r = keeps depth (ap all_of (read_complete max_depth ts e r.derives r.fits)) r.fits
 
 pub lines_exact : ReadsExactly typed_lines ReadsLines
+unfolding token.is_key
 lines_exact ts ss = (sound, complete)
   where
     sound : typed_lines ts ≡ Some ss → ReadsLines ts ss

@@ -4,8 +4,8 @@ use Rattle.ht_lex.specs.declared.key.Key.{Key}
 use Rattle.ht_lex.specs.declared.key.Key.TheVariants as k
 use Rattle.ht_lex.specs.Token.{Token, key, eol, first_kind, later}
 use Rattle.ht_lex.specs.Token as token
-use Rattle.ht_grammar.specs.declared.vocabulary.Where.{Where}
-use Rattle.ht_grammar.specs.Fronts.{front}
+use Rattle.ht_values.specs.declared.word.Where.{Where}
+use Rattle.ht_grammar.specs.Fronts.{leading_operator}
 use Rattle.ht_grammar.specs.Ends.{past_ends, ended, past_times}
 use Rattle.ht_grammar.specs.Grammar.{Context, place_of}
 use Rattle.ht_grammar.specs.Reading.{layer_by}
@@ -21,7 +21,7 @@ stops (key k.Else ∷ ts) = true
 stops _ = false
 
 pub stop_loose : (c : List Token) → stops c ≡ true → 9 < tie c
-unfolding tie front
+unfolding tie leading_operator
 stop_loose [] f = omega arith
 stop_loose (eol ∷ ts) f = omega arith
 stop_loose (key k.Else ∷ ts) f = omega arith
@@ -64,34 +64,34 @@ else_stops (key k.Else ∷ ts) f = refl
 else_stops c f = cc
 
 pub then_loose : (c : List Token) {l : List Token} → past_ends c ≡ key k.Then ∷ l → 9 < tie c
-unfolding tie front
+unfolding tie leading_operator
 then_loose [] f = cc
 then_loose (eol ∷ ts) f = omega arith
 then_loose (key k.Then ∷ ts) f = omega arith
 then_loose c f = cc
 
 pub place_loose : (h : Key) {w : Where} (ts : List Token) → place_of h ≡ Some w → 9 < tie (key h ∷ ts)
-unfolding tie front
+unfolding tie leading_operator
 place_loose k.Into ts f = omega arith
 place_loose k.Before ts f = omega arith
 place_loose k.After ts f = omega arith
 place_loose h ts f = cc
 
 pub times_loose : (c : List Token) {l : List Token} → ended (past_times c) ≡ Some l → 9 < tie c
-unfolding tie front ended past_times
+unfolding tie leading_operator ended past_times
 times_loose [] f = omega arith
 times_loose (eol ∷ ts) f = omega arith
 times_loose (token.name w ∷ ts) f = omega arith
 times_loose c f = cc
 
 pub loose_from : (ts : List Token) → 9 < tie (key k.From ∷ ts)
-unfolding tie front
+unfolding tie leading_operator
 loose_from ts = omega arith
 
 pub loose_by : (ts : List Token) → 9 < tie (key k.By ∷ ts)
-unfolding tie front
+unfolding tie leading_operator
 loose_by ts = omega arith
 
 pub loose_name : (w : List ℕ) (ts : List Token) → 9 < tie (token.name w ∷ ts)
-unfolding tie front
+unfolding tie leading_operator
 loose_name w ts = omega arith

@@ -2,7 +2,7 @@
 use Rattle.std.proofs.Common.{◌≡◌, ℕ, zero, suc, ◌<◌, ◌≤◌, List, [], ◌∷◌, length, Some, refl, ap, ◌∙◌, subst, arith}
 use Rattle.ht_lex.specs.declared.key.Key.{Key}
 use Rattle.ht_lex.specs.declared.key.Key.TheVariants as k
-use Rattle.ht_lex.specs.Token.{Token, key, eol, first_kind, later}
+use Rattle.ht_lex.specs.Token.{Token, key, eol, first_kind, later, is_key}
 use Rattle.ht_lex.specs.Token as token
 use Rattle.ht_grammar.specs.declared.vocabulary.HandlerKind.{HandlerKind}
 use Rattle.ht_grammar.specs.declared.vocabulary.HandlerKind.TheVariants as handler_kind
@@ -13,7 +13,7 @@ use Rattle.ht_grammar.specs.Ends.{ended}
 use Rattle.ht_grammar.specs.Grammar.{in_handler, kind_of_handler, DerivesLines, DerivesNames, DerivesParams, DerivesHandler, DerivesHandlers}
 use Rattle.ht_grammar.specs.Grammar as g
 use Rattle.ht_grammar.specs.Reading.{and_then, made}
-use Rattle.ht_grammar.specs.Lines.{blocks, lines, names_at, after_key, is_end, ended_then}
+use Rattle.ht_grammar.specs.Lines.{blocks, lines, names_at, after_key, ended_then}
 use Rattle.ht_grammar.specs.Whole.{name_by, body_at, params_by, named_by, handler_by, handlers_at}
 use Rattle.ht_grammar.proofs.Steps.{became, taken, making, tested}
 use Rattle.ht_grammar.proofs.Keys.{keyed, past_end, end_key}
@@ -44,9 +44,9 @@ name_sound h f w a l m ps ss n q e i j o same = cc
 body_sound : (h : Key) (f : HandlerKind) (w : List ℕ) (a m : List Token) (ps : List (List ℕ)) (q : Handler × List Token) → kind_of_handler h ≡ Some f → DerivesParams a ps m → body_at f w ps m ≡ Some q → DerivesHandler (key h ∷ token.name w ∷ a) q.0 q.1
 body_sound h f w a m ps q e i same =
     let P : Type 0 = DerivesHandler (key h ∷ token.name w ∷ a) q.0 q.1 in
-    past_end (ended m) (λ l. and_then (blocks max_depth lines (in_handler w) l) (λ ss. after_key is_end (λ r. name_by (first_kind r) w (handler f w ps ss) r))) P same (λ l j same.
-    taken (blocks max_depth lines (in_handler w) l) (λ ss. after_key is_end (λ r. name_by (first_kind r) w (handler f w ps ss) r)) P same (λ v o same.
-    keyed is_end end_key (λ r. name_by (first_kind r) w (handler f w ps v.0) r) v.1 P same (λ n r same.
+    past_end (ended m) (λ l. and_then (blocks max_depth lines (in_handler w) l) (λ ss. after_key k.End (λ r. name_by (first_kind r) w (handler f w ps ss) r))) P same (λ l j same.
+    taken (blocks max_depth lines (in_handler w) l) (λ ss. after_key k.End (λ r. name_by (first_kind r) w (handler f w ps ss) r)) P same (λ v o same.
+    keyed end_key (λ r. name_by (first_kind r) w (handler f w ps v.0) r) v.1 P same (λ n r same.
     name_sound h f w a l m ps v.0 n q e i j (subst (λ c. DerivesLines (in_handler w) l v.0 c) r (blocks_sound max_depth lines (in_handler w) l v o)) same)))
 
 named_sound : (h : Key) (f : HandlerKind) (ts : List Token) (q : Handler × List Token) → kind_of_handler h ≡ Some f → named_by (first_kind ts) f ts ≡ Some q → DerivesHandler (key h ∷ ts) q.0 q.1
@@ -61,14 +61,14 @@ handler_sound ts q same = cc
 
 -- What is read as handlers is derived.
 pub handlers_sound : (n : ℕ) (ts : List Token) (q : Handlers × List Token) → handlers_at n ts ≡ Some q → DerivesHandlers ts q.0
-unfolding handlers_at
+unfolding handlers_at is_key
 handlers_sound zero ts q same = cc
 handlers_sound (suc n) [] q same = became (λ q. DerivesHandlers [] q.0) same g.no_handlers
 handlers_sound (suc n) (t ∷ ts) q same = taken (handler_by (first_kind (t ∷ ts)) (t ∷ ts)) (λ h r. made (and_handler h) (handlers_at n r)) (DerivesHandlers (t ∷ ts) q.0) same (λ p h same.
     making (and_handler p.0) (handlers_at n p.1) (λ q. DerivesHandlers (t ∷ ts) q.0) same (λ v i. g.and_handler (handler_sound (t ∷ ts) p h) (handlers_sound n p.1 v i)))
 
 no_params_read : (m : List Token) {l : List Token} → ended m ≡ Some l → params_by (first_kind m) m ≡ Some ([], m)
-unfolding ended
+unfolding ended is_key
 no_params_read [] f = refl
 no_params_read (eol ∷ ts) f = refl
 no_params_read m f = cc
@@ -88,7 +88,7 @@ handler_goes h f ts e = cc
 
 -- Handlers that are in the grammar, and not too deep, are read.
 pub handlers_complete : {ts : List Token} {hs : Handlers} → DerivesHandlers ts hs → handlers_depth hs ≤ max_depth → (n : ℕ) → length ts < n → handlers_at n ts ≡ Some (hs, [])
-unfolding handlers_at
+unfolding handlers_at is_key
 handlers_complete g.no_handlers fits zero le = absurd (omega arith)
 handlers_complete g.no_handlers fits (suc n) le = refl
 handlers_complete (g.and_handler i j) fits zero le = absurd (omega arith)
@@ -97,8 +97,8 @@ handlers_complete (g.and_handler {b = b} {hs = hs} (g.handler {h} {f} {w} {v} {p
     step (λ h r. made (and_handler h) (handlers_at n r))
     (handler_goes h f (token.name w ∷ a) e
     ∙ step (λ ps. body_at f w ps) (claim_params i j)
-    ∙ ap (λ o. ended_then o (λ l. and_then (blocks max_depth lines (in_handler w) l) (λ ss. after_key is_end (λ r. name_by (first_kind r) w (handler f w ps ss) r)))) j
-    ∙ step (λ ss. after_key is_end (λ r. name_by (first_kind r) w (handler f w ps ss) r)) (lines_complete max_depth o (omega arith) refl refl)
+    ∙ ap (λ o. ended_then o (λ l. and_then (blocks max_depth lines (in_handler w) l) (λ ss. after_key k.End (λ r. name_by (first_kind r) w (handler f w ps ss) r)))) j
+    ∙ step (λ ss. after_key k.End (λ r. name_by (first_kind r) w (handler f w ps ss) r)) (lines_complete max_depth o (omega arith) refl refl)
     ∙ taken_if (same_name w v) _ _ s
     ∙ ap (λ o. ended_then o (λ c. Some (handler f w ps ss, c))) t)
     ∙ make (and_handler (handler f w ps ss)) (handlers_complete q (omega arith) n (omega (arith, shorter_handler given)))

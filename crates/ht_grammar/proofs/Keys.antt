@@ -1,57 +1,64 @@
 -- Tests of the first token, and what they tell of the tokens.
-use Rattle.std.proofs.Common.{◌≡◌, List, ◌∷◌, Bool, true, Option, Some, None, refl}
+use Rattle.std.proofs.Common.{◌≡◌, List, ◌∷◌, true, Option, Some, None, refl}
 use Rattle.ht_lex.specs.declared.key.Key.{Key}
 use Rattle.ht_lex.specs.declared.key.Key.TheVariants as k
-use Rattle.ht_lex.specs.declared.key.Kind.{Kind}
-use Rattle.ht_lex.specs.Token.{Token, key, first_kind, later}
+use Rattle.ht_lex.specs.Token.{Token, key, first_kind, later, is_key}
 use Rattle.ht_grammar.specs.Reading.{Parser}
-use Rattle.ht_grammar.specs.Lines.{after_key, ended_then, is_then, is_else, is_if, is_end, is_repeat, is_to, is_from, is_by, is_equal}
+use Rattle.ht_grammar.specs.Lines.{after_key, ended_then}
 use Rattle.ht_grammar.proofs.Sound.{chosen}
 
 -- The test is true just of this key.
-abbrev pub Recognizes : (Option Kind → Bool) → Key → Type 0
-Recognizes is_it h = (ts : List Token) → is_it (first_kind ts) ≡ true → ts ≡ key h ∷ later ts
+abbrev pub Recognizes : Key → Type 0
+Recognizes h = (ts : List Token) → is_key h (first_kind ts) ≡ true → ts ≡ key h ∷ later ts
 
-pub then_key : Recognizes is_then k.Then
+pub then_key : Recognizes k.Then
+unfolding is_key
 then_key (key k.Then ∷ ts) e = refl
 then_key ts e = cc
 
-pub else_key : Recognizes is_else k.Else
+pub else_key : Recognizes k.Else
+unfolding is_key
 else_key (key k.Else ∷ ts) e = refl
 else_key ts e = cc
 
-pub if_key : Recognizes is_if k.If
+pub if_key : Recognizes k.If
+unfolding is_key
 if_key (key k.If ∷ ts) e = refl
 if_key ts e = cc
 
-pub end_key : Recognizes is_end k.End
+pub end_key : Recognizes k.End
+unfolding is_key
 end_key (key k.End ∷ ts) e = refl
 end_key ts e = cc
 
-pub repeat_key : Recognizes is_repeat k.Repeat
+pub repeat_key : Recognizes k.Repeat
+unfolding is_key
 repeat_key (key k.Repeat ∷ ts) e = refl
 repeat_key ts e = cc
 
-pub to_key : Recognizes is_to k.To
+pub to_key : Recognizes k.To
+unfolding is_key
 to_key (key k.To ∷ ts) e = refl
 to_key ts e = cc
 
-pub from_key : Recognizes is_from k.From
+pub from_key : Recognizes k.From
+unfolding is_key
 from_key (key k.From ∷ ts) e = refl
 from_key ts e = cc
 
-pub by_key : Recognizes is_by k.By
+pub by_key : Recognizes k.By
+unfolding is_key
 by_key (key k.By ∷ ts) e = refl
 by_key ts e = cc
 
-pub equal_key : Recognizes is_equal k.Equal
+pub equal_key : Recognizes k.Equal
+unfolding is_key
 equal_key (key k.Equal ∷ ts) e = refl
 equal_key ts e = cc
 
 -- What came after a key.
-pub keyed : {A : Type 0} (is_it : Option Kind → Bool) {h : Key} → Recognizes is_it h → (f : Parser A) (ts : List Token) {q : A × List Token} (P : Type 0) → after_key is_it f ts ≡ Some q
-    → ((c : List Token) → ts ≡ key h ∷ c → f c ≡ Some q → P) → P
-keyed is_it knows f ts {q} P same go = chosen (is_it (first_kind ts)) P same (λ b same. go (later ts) (knows ts b) same) (λ b same. cc)
+pub keyed : {A : Type 0} {h : Key} → Recognizes h → (f : Parser A) (ts : List Token) {q : A × List Token} (P : Type 0) → after_key h f ts ≡ Some q → ((c : List Token) → ts ≡ key h ∷ c → f c ≡ Some q → P) → P
+keyed {h = h} knows f ts {q} P same go = chosen (is_key h (first_kind ts)) P same (λ b same. go (later ts) (knows ts b) same) (λ b same. cc)
 
 -- What came after the ends of lines.
 pub past_end : {A : Type 0} (o : Option (List Token)) (f : Parser A) {q : A × List Token} (P : Type 0) → ended_then o f ≡ Some q → ((l : List Token) → o ≡ Some l → f l ≡ Some q → P) → P

@@ -9,9 +9,9 @@ use Rattle.ht_values.specs.declared.operator.UnOp.{UnOp}
 use Rattle.ht_values.specs.declared.operator.UnOp.TheVariants as un
 use Rattle.ht_values.specs.declared.operator.ValueType.{ValueType}
 use Rattle.ht_grammar.specs.declared.vocabulary.Layer.{Layer}
-use Rattle.ht_grammar.specs.Trees.{Expr, Exprs, Chunk, Which, Spot, Owner, Part, Ref, Count}
-use Rattle.ht_grammar.specs.Fronts.{Front, infix_at, test_at, neither, front, is_front, is_not_front, asked_type, test_or, after_of, past_the}
-use Rattle.ht_grammar.specs.Expressions.{Derives, DerivesList, DerivesLayer, DerivesArticle, DerivesChunk, DerivesCount, DerivesRef, DerivesSpot, DerivesWhich, DerivesPart, DerivesOwner, DerivesContainer, Level}
+use Rattle.ht_grammar.specs.Trees.{Expr, Exprs, Chunk, Which, Selector, Owner, Part, Ref, Count}
+use Rattle.ht_grammar.specs.Fronts.{LeadingOperator, infix_at, test_at, neither, leading_operator, operator_after_is, operator_after_is_not, asked_type, test_or, after_of, past_the}
+use Rattle.ht_grammar.specs.Expressions.{Derives, DerivesList, DerivesLayer, DerivesArticle, DerivesChunk, DerivesCount, DerivesRef, DerivesSelector, DerivesWhich, DerivesPart, DerivesOwner, DerivesContainer, Level}
 use Rattle.ht_grammar.specs.Expressions as e
 
 pub shorter_later : (ts : List Token) → length (later ts) ≤ length ts
@@ -28,39 +28,39 @@ shorter_of (key k.Of ∷ ts) {b} e = let same : ts ≡ b = cc in omega (arith, a
 shorter_of (key k.In ∷ ts) {b} e = let same : ts ≡ b = cc in omega (arith, ap (length {A = Token}) same)
 shorter_of _ e = cc
 
-abbrev front_rest : Front → List Token
-front_rest (infix_at r op b) = b
-front_rest (test_at op c) = c
-front_rest neither = []
+abbrev operator_rest : LeadingOperator → List Token
+operator_rest (infix_at r op b) = b
+operator_rest (test_at op c) = c
+operator_rest neither = []
 
-typed_rest : (ts : List Token) (test : ValueType → UnOp) (op : Op) (asked : Option ValueType) → length (front_rest (test_or test op ts asked)) ≤ length ts
+typed_rest : (ts : List Token) (test : ValueType → UnOp) (op : Op) (asked : Option ValueType) → length (operator_rest (test_or test op ts asked)) ≤ length ts
 typed_rest ts test op None = omega arith
 typed_rest ts test op (Some v) = omega (arith, shorter_later ts, shorter_later (later ts))
 
-is_not_rest : (ts : List Token) → length (front_rest (is_not_front ts)) ≤ length ts
-unfolding is_not_front
+is_not_rest : (ts : List Token) → length (operator_rest (operator_after_is_not ts)) ≤ length ts
+unfolding operator_after_is_not
 is_not_rest [] = typed_rest [] un.IsNotA o.NotEqual (asked_type [])
 is_not_rest (key k.In ∷ ts) = omega arith
 is_not_rest (t ∷ ts) = typed_rest (t ∷ ts) un.IsNotA o.NotEqual (asked_type (t ∷ ts))
 
-is_rest : (ts : List Token) → length (front_rest (is_front ts)) ≤ length ts
-unfolding is_front
+is_rest : (ts : List Token) → length (operator_rest (operator_after_is ts)) ≤ length ts
+unfolding operator_after_is
 is_rest [] = typed_rest [] un.IsA o.Equal (asked_type [])
 is_rest (key k.In ∷ ts) = omega arith
 is_rest (key k.Not ∷ ts) = omega (arith, is_not_rest ts)
 is_rest (t ∷ ts) = typed_rest (t ∷ ts) un.IsA o.Equal (asked_type (t ∷ ts))
 
-rest_shorter : (m : List Token) → length (front_rest (front m)) ≤ length m
-unfolding front
+rest_shorter : (m : List Token) → length (operator_rest (leading_operator m)) ≤ length m
+unfolding leading_operator
 rest_shorter [] = omega arith
 rest_shorter (key k.Is ∷ ts) = omega (arith, is_rest ts)
 rest_shorter (t ∷ ts) = omega arith
 
-after_infix : (m : List Token) {r : ℕ} {op : Op} {b : List Token} → front m ≡ infix_at r op b → length b ≤ length m
-after_infix m e = omega (arith, rest_shorter m, ap (λ f. length (front_rest f)) e)
+after_infix : (m : List Token) {r : ℕ} {op : Op} {b : List Token} → leading_operator m ≡ infix_at r op b → length b ≤ length m
+after_infix m e = omega (arith, rest_shorter m, ap (λ f. length (operator_rest f)) e)
 
-after_test : (m : List Token) {op : UnOp} {c : List Token} → front m ≡ test_at op c → length c ≤ length m
-after_test m e = omega (arith, rest_shorter m, ap (λ f. length (front_rest f)) e)
+after_test : (m : List Token) {op : UnOp} {c : List Token} → leading_operator m ≡ test_at op c → length c ≤ length m
+after_test m e = omega (arith, rest_shorter m, ap (λ f. length (operator_rest f)) e)
 
 layer_shorter : {a c : List Token} {l : Option Layer} → DerivesLayer a l c → length c ≤ length a
 layer_shorter e.no_layer = omega arith
@@ -123,16 +123,16 @@ mutual
   shorter_ref e.me = omega arith
   shorter_ref (e.the_target f) = omega arith
   shorter_ref e.this_stack = omega arith
-  shorter_ref (e.card h) = shorter_spot h
-  shorter_ref (e.background h) = shorter_spot h
+  shorter_ref (e.card h) = shorter_selector h
+  shorter_ref (e.background h) = shorter_selector h
   shorter_ref (e.a_part h) = shorter_part h
 
-  pub shorter_spot : {s : Key} {a c : List Token} {p : Spot} → DerivesSpot s a p c → length c < length a
-  shorter_spot e.this = omega arith
-  shorter_spot e.next = omega arith
-  shorter_spot e.previous = omega arith
-  shorter_spot e.nth = omega arith
-  shorter_spot (e.which h) = omega (arith, shorter_which h)
+  pub shorter_selector : {s : Key} {a c : List Token} {p : Selector} → DerivesSelector s a p c → length c < length a
+  shorter_selector e.this = omega arith
+  shorter_selector e.next = omega arith
+  shorter_selector e.previous = omega arith
+  shorter_selector e.nth = omega arith
+  shorter_selector (e.which h) = omega (arith, shorter_which h)
 
   pub shorter_which : {a c : List Token} {w : Which} → DerivesWhich a w c → length c < length a
   shorter_which (e.by_id h) = omega (arith, shorter h)
@@ -144,5 +144,5 @@ mutual
 
   pub shorter_owner : {a c : List Token} {o : Owner} → DerivesOwner a o c → length c ≤ length a
   shorter_owner e.no_owner = omega arith
-  shorter_owner (e.of_card {m = m} o h) = omega (arith, shorter_of m o, shorter_spot h)
-  shorter_owner (e.of_background {m = m} o h) = omega (arith, shorter_of m o, shorter_spot h)
+  shorter_owner (e.of_card {m = m} o h) = omega (arith, shorter_of m o, shorter_selector h)
+  shorter_owner (e.of_background {m = m} o h) = omega (arith, shorter_of m o, shorter_selector h)

@@ -5,14 +5,14 @@ use Rattle.ht_lex.specs.declared.key.Key.TheVariants as k
 use Rattle.ht_lex.specs.Token.{Token, key, eol, first_kind, later}
 use Rattle.ht_lex.specs.Token as token
 use Rattle.ht_grammar.specs.Trees.{Container}
-use Rattle.ht_grammar.specs.Statements.{Goal, Head, Stmt, Stmts, Handler}
+use Rattle.ht_grammar.specs.Statements.{Destination, Head, Stmt, Stmts, Handler}
 use Rattle.ht_grammar.specs.Fronts.{past_the, same_name}
 use Rattle.ht_grammar.specs.Ends.{past_ends, ended, past_for, past_to, past_times}
 use Rattle.ht_grammar.specs.Expressions.{DerivesContainer}
 use Rattle.ht_grammar.specs.Expressions as e
-use Rattle.ht_grammar.specs.Grammar.{Context, DerivesNames, DerivesGoal, DerivesSimple, DerivesHead, DerivesStmt, DerivesLines, DerivesElse, DerivesParams, DerivesHandler}
+use Rattle.ht_grammar.specs.Grammar.{Context, DerivesNames, DerivesDestination, DerivesSimple, DerivesHead, DerivesStmt, DerivesLines, DerivesElse, DerivesParams, DerivesHandler}
 use Rattle.ht_grammar.specs.Grammar as g
-use Rattle.ht_grammar.proofs.Shorter.{shorter, shorter_list, shorter_chunk, shorter_ref, shorter_spot, shorter_part, shorter_of, shorter_the, shorter_later}
+use Rattle.ht_grammar.proofs.Shorter.{shorter, shorter_list, shorter_chunk, shorter_ref, shorter_selector, shorter_part, shorter_of, shorter_the, shorter_later}
 
 pub shorter_ends : (ts : List Token) → length (past_ends ts) ≤ length ts
 shorter_ends [] = omega arith
@@ -54,13 +54,13 @@ pub shorter_names : {a c : List Token} {ws : List (List ℕ)} → DerivesNames a
 shorter_names g.one_name = omega arith
 shorter_names (g.more_names h) = omega (arith, shorter_names h)
 
-shorter_goal : {a c : List Token} {v : Goal} → DerivesGoal a v c → length c < length a
-shorter_goal (g.goal_card h) = shorter_spot h
-shorter_goal (g.goal_background h) = shorter_spot h
-shorter_goal g.this_alone = omega arith
-shorter_goal g.next_alone = omega arith
-shorter_goal g.previous_alone = omega arith
-shorter_goal g.nth_alone = omega arith
+shorter_destination : {a c : List Token} {v : Destination} → DerivesDestination a v c → length c < length a
+shorter_destination (g.destination_card h) = shorter_selector h
+shorter_destination (g.destination_background h) = shorter_selector h
+shorter_destination g.this_alone = omega arith
+shorter_destination g.next_alone = omega arith
+shorter_destination g.previous_alone = omega arith
+shorter_destination g.nth_alone = omega arith
 
 pub shorter_simple : {x : Context} {a c : List Token} {v : Stmt} → DerivesSimple x a v c → length c < length a
 shorter_simple (g.put h) = omega (arith, shorter h)
@@ -75,7 +75,7 @@ shorter_simple (g.divide h i) = omega (arith, shorter_container h, shorter i)
 shorter_simple (g.delete {m = m} h o i) = omega (arith, shorter_chunk h, shorter_of m o, shorter_container i)
 shorter_simple (g.do_ h) = omega (arith, shorter h)
 shorter_simple (g.send h i) = omega (arith, shorter h, shorter_ref i)
-shorter_simple (g.go {a = a} h) = omega (arith, shorter_to a, shorter_goal h)
+shorter_simple (g.go {a = a} h) = omega (arith, shorter_to a, shorter_destination h)
 shorter_simple (g.global h) = omega (arith, shorter_names h)
 shorter_simple (g.exit_repeat f) = omega arith
 shorter_simple (g.next_repeat f) = omega arith

@@ -1,7 +1,7 @@
 -- What is read is of the grammar.
 use Rattle.std.proofs.Common.{◌≡◌, ℕ, zero, suc, List, ◌∷◌, length, Bool, true, false, Option, Some, None, refl, sym, subst, ap, ◌∙◌, eqb-true, nat_le, nat_eq, cond, codes}
 use Rattle.ht_lex.specs.declared.key.Key.TheVariants as k
-use Rattle.ht_lex.specs.declared.key.Piece.{Piece}
+use Rattle.ht_values.specs.declared.word.ChunkKind.{ChunkKind}
 use Rattle.ht_values.specs.declared.word.PartKind.{PartKind}
 use Rattle.ht_values.specs.declared.word.PartKind.TheVariants as part_kind
 use Rattle.ht_lex.specs.Token.{Token, key, first_kind, later}
@@ -11,17 +11,17 @@ use Rattle.ht_grammar.specs.declared.vocabulary.RunProp.{RunProp}
 use Rattle.ht_grammar.specs.declared.vocabulary.FunctionWord.{FunctionWord}
 use Rattle.ht_grammar.specs.declared.vocabulary.Layer.{Layer}
 use Rattle.ht_grammar.specs.declared.vocabulary.Layer.TheVariants as layer
-use Rattle.ht_grammar.specs.Trees.{Expr, Exprs, Chunk, Which, Spot, Owner, Part, Ref, Count, none, more, kind_of_part}
+use Rattle.ht_grammar.specs.Trees.{Expr, Exprs, Chunk, Which, Selector, Owner, Part, Ref, Count, none, more, kind_of_part}
 use Rattle.ht_grammar.specs.Trees as t
 use Rattle.ht_grammar.specs.Depth.{depth, ref_depth}
 use Rattle.ht_values.specs.declared.operator.Op.{Op}
 use Rattle.ht_values.specs.declared.operator.Op.TheVariants as o
 use Rattle.ht_values.specs.declared.operator.UnOp.TheVariants as un
 use Rattle.ht_values.specs.declared.operator.UnOp.{UnOp}
-use Rattle.ht_grammar.specs.Fronts.{Front, infix_at, test_at, neither, front, equality, is_article, past_the, after_of, same_name, prop_front, short_of, run_prop, function_of}
-use Rattle.ht_grammar.specs.Expressions.{Derives, DerivesList, DerivesArticle, DerivesLayer, DerivesWhich, DerivesSpot, DerivesOwner, DerivesPart, DerivesRef, DerivesCount, DerivesChunk, Level, primary, factor, prefixed, power, rank, whole}
+use Rattle.ht_grammar.specs.Fronts.{LeadingOperator, infix_at, test_at, neither, leading_operator, equality, is_article, past_the, after_of, same_name, prop_front, short_of, run_prop, function_of}
+use Rattle.ht_grammar.specs.Expressions.{Derives, DerivesList, DerivesArticle, DerivesLayer, DerivesWhich, DerivesSelector, DerivesOwner, DerivesPart, DerivesRef, DerivesCount, DerivesChunk, Level, primary, factor, prefixed, power, rank, whole}
 use Rattle.ht_grammar.specs.Expressions as e
-use Rattle.ht_grammar.specs.Reading.{Parser, and_then, made, holder_front, part_front, if_field, which_at, spot_at, owner_at, part_end, nth_end, part_at, field_at, ref_of_layer, ref_at, inner_ref, of_part, count_at, piece_by, chunk_at, chunk_form, number_form, property_by, short_by, function_by, run_by, prop_or, the_name, closed, article, snoc, list_more, list_at, primary_at, factor_at, prefixed_at, power_end, power_at, join_at, asked_at, turn, chain_at, rank_at, level_at, read}
+use Rattle.ht_grammar.specs.Reading.{Parser, and_then, made, referenced_layer, part_front, if_field, which_at, selector_at, owner_at, part_end, nth_end, part_at, field_at, ref_of_layer, ref_at, inner_ref, of_part, count_at, piece_by, chunk_at, chunk_form, number_form, property_by, short_by, function_by, run_by, prop_or, the_name, closed, article, snoc, list_more, list_at, primary_at, factor_at, prefixed_at, power_end, power_at, join_at, asked_at, turn, chain_at, rank_at, level_at, read}
 use Rattle.ht_grammar.proofs.Steps.{became, taken, making, tested}
 use Rattle.ht_grammar.proofs.Owner.{which_sound, card_sound, background_sound, owner_sound, fitted}
 
@@ -105,9 +105,9 @@ module _ (deeper : Level → Parser Expr) (d : ℕ) (good : (p : Level) (ts : Li
       taken (part_at deeper d ts) (λ p. if_field (kind_of_part p) p) (Derives factor ts (t.field v.0) v.1) h (λ p i h.
       if_fielded (kind_of_part p.0) p.0 p.1 v (λ v. Derives factor ts (t.field v.0) v.1) h (λ f. e.field (part_sound ts p i) f)))
 
-  layer_ref : (l : Option Layer) (ts : List Token) (q : Ref × List Token) → holder_front ts ≡ l → ref_of_layer deeper d l ts ≡ Some q → DerivesRef ts q.0 q.1
-  layer_ref (Some layer.Card) ts q h same = making t.card (spot_at deeper d ts) (λ q. DerivesRef ts q.0 q.1) same (λ p f. e.card (card_sound deeper d good ts p h f))
-  layer_ref (Some layer.Background) ts q h same = making t.background (spot_at deeper d ts) (λ q. DerivesRef ts q.0 q.1) same (λ p f. e.background (background_sound deeper d good ts p h f))
+  layer_ref : (l : Option Layer) (ts : List Token) (q : Ref × List Token) → referenced_layer ts ≡ l → ref_of_layer deeper d l ts ≡ Some q → DerivesRef ts q.0 q.1
+  layer_ref (Some layer.Card) ts q h same = making t.card (selector_at deeper d ts) (λ q. DerivesRef ts q.0 q.1) same (λ p f. e.card (card_sound deeper d good ts p h f))
+  layer_ref (Some layer.Background) ts q h same = making t.background (selector_at deeper d ts) (λ q. DerivesRef ts q.0 q.1) same (λ p f. e.background (background_sound deeper d good ts p h f))
   layer_ref None ts q h same = making t.a_part (part_at deeper d ts) (λ q. DerivesRef ts q.0 q.1) same (λ p f. e.a_part (part_sound ts p f))
 
   pub ref_sound : (ts : List Token) (q : Ref × List Token) → ref_at deeper d ts ≡ Some q → DerivesRef ts q.0 q.1
@@ -117,7 +117,7 @@ module _ (deeper : Level → Parser Expr) (d : ℕ) (good : (p : Level) (ts : Li
       became (λ q. DerivesRef (key k.The ∷ token.name w ∷ ts) q.0 q.1) same (e.the_target b))
   ref_sound (key k.The ∷ ts) q same = cc
   ref_sound (key k.This ∷ key k.Stack ∷ ts) q same = became (λ q. DerivesRef (key k.This ∷ key k.Stack ∷ ts) q.0 q.1) same e.this_stack
-  ref_sound ts q same = layer_ref (holder_front _) _ q refl same
+  ref_sound ts q same = layer_ref (referenced_layer _) _ q refl same
 
   pub inner_sound : (ts : List Token) (q : Ref × List Token) → inner_ref deeper d ts ≡ Some q → DerivesRef ts q.0 q.1
   unfolding inner_ref
@@ -137,7 +137,7 @@ module _ (deeper : Level → Parser Expr) (d : ℕ) (good : (p : Level) (ts : Li
   count_sound (key k.Background ∷ key (k.Parts p) ∷ ts) q same = became (λ q. DerivesCount (key k.Background ∷ key (k.Parts p) ∷ ts) q.0 q.1) same (e.parts e.on_background)
   count_sound ts q same = counted _ q same
 
-  piece_sound : (p : Piece) (a m : List Token) (i : Expr) (q : Chunk × List Token) → Derives whole a i m → piece_by deeper d (first_kind m) p i m ≡ Some q → DerivesChunk (key (k.Piece p) ∷ a) q.0 q.1
+  piece_sound : (p : ChunkKind) (a m : List Token) (i : Expr) (q : Chunk × List Token) → Derives whole a i m → piece_by deeper d (first_kind m) p i m ≡ Some q → DerivesChunk (key (k.Piece p) ∷ a) q.0 q.1
   piece_sound p a (key k.To ∷ m) i q h same = making (t.pieces p i) (deeper whole m) (λ q. DerivesChunk (key (k.Piece p) ∷ a) q.0 q.1) same (λ v f. e.pieces h (good whole m v f))
   piece_sound p a m i q h same = became (λ q. DerivesChunk (key (k.Piece p) ∷ a) q.0 q.1) same (e.piece h)
 
@@ -269,22 +269,22 @@ module _ (deeper : Level → Parser Expr) (d : ℕ) (good : (p : Level) (ts : Li
   unfolding power_at
   power_sound ts q same = taken (prefixed_at deeper d ts) (power_end deeper d) (Derives power ts q.0 q.1) same (λ p h same. power_end_sound ts p.1 p.0 q (prefixed_sound ts p h) same)
 
-  join_sound : (n : ℕ) (a m b : List Token) (op : Op) (x : Expr) (p : Expr × List Token) → front m ≡ infix_at (suc n) op b → Derives (rank (suc n)) a x m → join_at deeper d n op x b ≡ Some p → Derives (rank (suc n)) a p.0 p.1
+  join_sound : (n : ℕ) (a m b : List Token) (op : Op) (x : Expr) (p : Expr × List Token) → leading_operator m ≡ infix_at (suc n) op b → Derives (rank (suc n)) a x m → join_at deeper d n op x b ≡ Some p → Derives (rank (suc n)) a p.0 p.1
   unfolding join_at
   join_sound n a m b op x p f h same = tested (nat_le (depth x) d) (Derives (rank (suc n)) a p.0 p.1) same (λ g same.
       making (t.binary op x) (deeper (rank n) b) (λ q. Derives (rank (suc n)) a q.0 q.1) same (λ v i. e.join h f (good (rank n) b v i)))
 
-  asked_sound : (n : ℕ) (a m c : List Token) (op : UnOp) (x : Expr) (p : Expr × List Token) → equality ≡ suc n → front m ≡ test_at op c → Derives (rank (suc n)) a x m → asked_at deeper d op x c ≡ Some p → Derives (rank (suc n)) a p.0 p.1
+  asked_sound : (n : ℕ) (a m c : List Token) (op : UnOp) (x : Expr) (p : Expr × List Token) → equality ≡ suc n → leading_operator m ≡ test_at op c → Derives (rank (suc n)) a x m → asked_at deeper d op x c ≡ Some p → Derives (rank (suc n)) a p.0 p.1
   unfolding asked_at
   asked_sound n a m c op x p i f h same = tested (nat_le (depth x) d) (Derives (rank (suc n)) a p.0 p.1) same (λ g same.
       became (λ q. Derives (rank (suc n)) a q.0 q.1) same (subst (λ r. Derives (rank r) a (t.unary op x) c) i (e.is_a (subst (λ r. Derives (rank r) a x m) (sym i) h) f)))
 
-  turn_sound : (n : ℕ) (again : Expr → Parser Expr) (a m : List Token) (x : Expr) (q : Expr × List Token) (f : Front) → front m ≡ f → Derives (rank (suc n)) a x m
+  turn_sound : (n : ℕ) (again : Expr → Parser Expr) (a m : List Token) (x : Expr) (q : Expr × List Token) (f : LeadingOperator) → leading_operator m ≡ f → Derives (rank (suc n)) a x m
       → ((y : Expr) (c : List Token) → Derives (rank (suc n)) a y c → again y c ≡ Some q → Derives (rank (suc n)) a q.0 q.1)
       → turn deeper d again n x m f ≡ Some q → Derives (rank (suc n)) a q.0 q.1
   turn_sound n again a m x q (infix_at r op b) g h go same = chosen (nat_eq r (suc n)) (Derives (rank (suc n)) a q.0 q.1) same
       (λ i same. taken (join_at deeper d n op x b) again (Derives (rank (suc n)) a q.0 q.1) same (λ p j same.
-      go p.0 p.1 (join_sound n a m b op x p (subst (λ r. front m ≡ infix_at r op b) (eqb-true r (suc n) i) g) h j) same))
+      go p.0 p.1 (join_sound n a m b op x p (subst (λ r. leading_operator m ≡ infix_at r op b) (eqb-true r (suc n) i) g) h j) same))
       (λ i same. became (λ q. Derives (rank (suc n)) a q.0 q.1) same h)
   turn_sound n again a m x q (test_at op c) g h go same = chosen (nat_eq equality (suc n)) (Derives (rank (suc n)) a q.0 q.1) same
       (λ i same. taken (asked_at deeper d op x c) again (Derives (rank (suc n)) a q.0 q.1) same (λ p j same.
@@ -295,7 +295,7 @@ module _ (deeper : Level → Parser Expr) (d : ℕ) (good : (p : Level) (ts : Li
   chain_sound : (n j : ℕ) (a m : List Token) (x : Expr) (q : Expr × List Token) → Derives (rank (suc n)) a x m → chain_at deeper d n j x m ≡ Some q → Derives (rank (suc n)) a q.0 q.1
   unfolding chain_at
   chain_sound n zero a m x q h same = cc
-  chain_sound n (suc j) a m x q h same = turn_sound n (chain_at deeper d n j) a m x q (front m) refl h (λ y c h same. chain_sound n j a c y q h same) same
+  chain_sound n (suc j) a m x q h same = turn_sound n (chain_at deeper d n j) a m x q (leading_operator m) refl h (λ y c h same. chain_sound n j a c y q h same) same
 
   rank_sound : (n : ℕ) (ts : List Token) (q : Expr × List Token) → rank_at deeper d n ts ≡ Some q → Derives (rank n) ts q.0 q.1
   unfolding rank_at

@@ -1,9 +1,9 @@
 -- The depth of a tree: the greatest number of nodes on a way down.
 use Rattle.std.specs.Prelude.{ℕ, suc, max}
 use Rattle.ht_grammar.specs.Trees as t
-use Rattle.ht_grammar.specs.Trees.{Expr, Exprs, Chunk, Which, Spot, Owner, Part, Ref, Count, Container}
+use Rattle.ht_grammar.specs.Trees.{Expr, Exprs, Chunk, Which, Selector, Owner, Part, Ref, Count, Container}
 use Rattle.ht_grammar.specs.Statements as s
-use Rattle.ht_grammar.specs.Statements.{Goal, Head, Stmt, Stmts, Handler, Handlers, Message, Typed}
+use Rattle.ht_grammar.specs.Statements.{Destination, Head, Stmt, Stmts, Handler, Handlers, Message, Typed}
 
 -- A chunk's indices, the parts of `is a` and the like are no nodes of their own; a reference is one, and its owner one more.
 abbrev mutual
@@ -42,17 +42,17 @@ abbrev mutual
   which_depth (t.by_id e) = depth e
   which_depth (t.by_text e) = depth e
 
-  pub spot_depth : Spot → ℕ
-  spot_depth t.this = 0
-  spot_depth t.next = 0
-  spot_depth t.previous = 0
-  spot_depth (t.nth o) = 0
-  spot_depth (t.which w) = which_depth w
+  pub selector_depth : Selector → ℕ
+  selector_depth t.this = 0
+  selector_depth t.next = 0
+  selector_depth t.previous = 0
+  selector_depth (t.nth o) = 0
+  selector_depth (t.which w) = which_depth w
 
   pub owner_depth : Owner → ℕ
   owner_depth t.no_owner = 0
-  owner_depth (t.on_card p) = suc (spot_depth p)
-  owner_depth (t.on_background p) = suc (spot_depth p)
+  owner_depth (t.on_card p) = suc (selector_depth p)
+  owner_depth (t.on_background p) = suc (selector_depth p)
 
   pub part_depth : Part → ℕ
   part_depth (t.part l k w o) = suc (max (which_depth w) (owner_depth o))
@@ -62,8 +62,8 @@ abbrev mutual
   ref_depth t.me = 1
   ref_depth t.the_target = 1
   ref_depth t.this_stack = 1
-  ref_depth (t.card p) = suc (spot_depth p)
-  ref_depth (t.background p) = suc (spot_depth p)
+  ref_depth (t.card p) = suc (selector_depth p)
+  ref_depth (t.background p) = suc (selector_depth p)
   ref_depth (t.a_part p) = part_depth p
 
   pub count_depth : Count → ℕ
@@ -79,10 +79,10 @@ container_depth (t.variable w) = 1
 container_depth (t.in_field p) = part_depth p
 container_depth (t.in_chunk h c) = suc (max (chunk_depth h) (container_depth c))
 
--- The goal is one node.
-abbrev pub goal_depth : Goal → ℕ
-goal_depth (s.to_card p) = suc (spot_depth p)
-goal_depth (s.to_background p) = suc (spot_depth p)
+-- The destination is one node.
+abbrev pub destination_depth : Destination → ℕ
+destination_depth (s.to_card p) = suc (selector_depth p)
+destination_depth (s.to_background p) = suc (selector_depth p)
 
 abbrev pub head_depth : Head → ℕ
 head_depth s.forever = 0
@@ -107,7 +107,7 @@ abbrev mutual
   stmt_depth (s.delete h c) = suc (suc (max (chunk_depth h) (container_depth c)))
   stmt_depth (s.do_ e) = suc (depth e)
   stmt_depth (s.send e r) = suc (max (depth e) (ref_depth r))
-  stmt_depth (s.go g) = suc (goal_depth g)
+  stmt_depth (s.go g) = suc (destination_depth g)
   stmt_depth (s.global ws) = 1
   stmt_depth s.exit_repeat = 1
   stmt_depth s.next_repeat = 1

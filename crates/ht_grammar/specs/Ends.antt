@@ -1,8 +1,8 @@
 -- Ends of lines, and small words that may be there.
 use Rattle.std.specs.Prelude.{List, [], ◌∷◌, Option, Some, None, if◌then◌else◌, codes}
 use Rattle.ht_lex.specs.declared.key.Key.TheVariants as k
-use Rattle.ht_lex.specs.declared.key.Kind.{Kind}
-use Rattle.ht_lex.specs.declared.key.Kind.TheVariants as kind
+use Rattle.ht_lex.specs.declared.key.TokenKind.{TokenKind}
+use Rattle.ht_lex.specs.declared.key.TokenKind.TheVariants as kind
 use Rattle.ht_lex.specs.Token.{Token, key, eol, first_kind, first_text, later}
 use Rattle.ht_lex.specs.Token as token
 use Rattle.ht_grammar.specs.Fronts.{same_name}
@@ -16,7 +16,7 @@ past_ends (token.number t ∷ ts) = token.number t ∷ ts
 past_ends (token.quoted t ∷ ts) = token.quoted t ∷ ts
 past_ends (key k ∷ ts) = key k ∷ ts
 
-abbrev pub ended_by : Option Kind → List Token → Option (List Token)
+abbrev pub ended_by : Option TokenKind → List Token → Option (List Token)
 ended_by None ts = Some ts
 ended_by (Some kind.Eol) ts = Some (past_ends ts)
 ended_by _ ts = None
@@ -25,7 +25,7 @@ ended_by _ ts = None
 unfoldable pub ended : List Token → Option (List Token)
 ended ts = ended_by (first_kind ts) ts
 
-abbrev pub for_by : Option Kind → List Token → List Token
+abbrev pub for_by : Option TokenKind → List Token → List Token
 for_by (Some (kind.Key k.For)) ts = later ts
 for_by _ ts = ts
 
@@ -33,7 +33,7 @@ for_by _ ts = ts
 abbrev pub past_for : List Token → List Token
 past_for ts = for_by (first_kind ts) ts
 
-abbrev pub to_by : Option Kind → List Token → List Token
+abbrev pub to_by : Option TokenKind → List Token → List Token
 to_by (Some (kind.Key k.To)) ts = later ts
 to_by _ ts = ts
 
@@ -41,7 +41,7 @@ to_by _ ts = ts
 abbrev pub past_to : List Token → List Token
 past_to ts = to_by (first_kind ts) ts
 
-abbrev pub times_by : Option Kind → List Token → List Token
+abbrev pub times_by : Option TokenKind → List Token → List Token
 times_by (Some kind.Name) ts = if same_name (first_text ts) (codes "times") then later ts else ts
 times_by _ ts = ts
 

@@ -2,7 +2,7 @@
 use Rattle.std.specs.Prelude.{◌≡◌, ℕ, suc, List, ◌∷◌, Bool, true, false, Option, Some, None, codes}
 use Rattle.ht_lex.specs.declared.key.Key.{Key}
 use Rattle.ht_lex.specs.declared.key.Key.TheVariants as k
-use Rattle.ht_lex.specs.declared.key.Piece.{Piece}
+use Rattle.ht_values.specs.declared.word.ChunkKind.{ChunkKind}
 use Rattle.ht_values.specs.declared.word.PartKind.{PartKind}
 use Rattle.ht_values.specs.declared.word.PartKind.TheVariants as part_kind
 use Rattle.ht_lex.specs.declared.key.Ordinal.{Ordinal}
@@ -18,9 +18,9 @@ use Rattle.ht_grammar.specs.declared.vocabulary.RunProp.{RunProp}
 use Rattle.ht_grammar.specs.declared.vocabulary.FunctionWord.{FunctionWord}
 use Rattle.ht_grammar.specs.declared.vocabulary.Layer.{Layer}
 use Rattle.ht_grammar.specs.declared.vocabulary.Layer.TheVariants as layer
-use Rattle.ht_grammar.specs.Trees.{Expr, Exprs, Chunk, Which, Spot, Owner, Part, Ref, Count, Container, none, more, kind_of_part}
+use Rattle.ht_grammar.specs.Trees.{Expr, Exprs, Chunk, Which, Selector, Owner, Part, Ref, Count, Container, none, more, kind_of_part}
 use Rattle.ht_grammar.specs.Trees as tree
-use Rattle.ht_grammar.specs.Fronts.{infix_at, test_at, front, equality, after_of, past_the, same_name, is_article, prop_front, short_of, run_prop, function_of}
+use Rattle.ht_grammar.specs.Fronts.{infix_at, test_at, leading_operator, equality, after_of, past_the, same_name, is_article, prop_front, short_of, run_prop, function_of}
 
 -- Parts of the grammar that are read as expressions.
 pub data Level : Type 0 where
@@ -51,9 +51,9 @@ mutual
   pub data Derives : Level → List Token → Expr → List Token → Type 0 where
     -- Operators of one rank are joined from the left.
     join : {n : ℕ} {a b c m : List Token} {op : Op} {x y : Expr} → Derives (rank (suc n)) a x m
-        → front m ≡ infix_at (suc n) op b → Derives (rank n) b y c → Derives (rank (suc n)) a (tree.binary op x y) c
+        → leading_operator m ≡ infix_at (suc n) op b → Derives (rank n) b y c → Derives (rank (suc n)) a (tree.binary op x y) c
     -- `is a number`, and the like
-    is_a : {a c m : List Token} {op : UnOp} {x : Expr} → Derives (rank equality) a x m → front m ≡ test_at op c
+    is_a : {a c m : List Token} {op : UnOp} {x : Expr} → Derives (rank equality) a x m → leading_operator m ≡ test_at op c
         → Derives (rank equality) a (tree.unary op x) c
     tighter : {n : ℕ} {a c : List Token} {x : Expr} → Derives (rank n) a x c → Derives (rank (suc n)) a x c
     tightest : {a c : List Token} {x : Expr} → Derives power a x c → Derives (rank 0) a x c
@@ -107,15 +107,15 @@ mutual
 
   -- The head of a chunk, up to its `of`.
   pub data DerivesChunk : List Token → Chunk → List Token → Type 0 where
-    piece : {p : Piece} {a c : List Token} {i : Expr} → Derives whole a i c
+    piece : {p : ChunkKind} {a c : List Token} {i : Expr} → Derives whole a i c
         → DerivesChunk (key (k.Piece p) ∷ a) (tree.piece p i) c
-    pieces : {p : Piece} {a b c : List Token} {i j : Expr} → Derives whole a i (key k.To ∷ b) → Derives whole b j c
+    pieces : {p : ChunkKind} {a b c : List Token} {i j : Expr} → Derives whole a i (key k.To ∷ b) → Derives whole b j c
         → DerivesChunk (key (k.Piece p) ∷ a) (tree.pieces p i j) c
-    nth_piece : {n : Ordinal} {p : Piece} {a c : List Token} → past_the a ≡ key (k.Ordinal n) ∷ key (k.Piece p) ∷ c
+    nth_piece : {n : Ordinal} {p : ChunkKind} {a c : List Token} → past_the a ≡ key (k.Ordinal n) ∷ key (k.Piece p) ∷ c
         → DerivesChunk a (tree.nth_piece n p) c
 
   pub data DerivesCount : List Token → Count → List Token → Type 0 where
-    pieces_of : {p : Piece} {b c m : List Token} {x : Expr} → after_of m ≡ Some b → Derives factor b x c
+    pieces_of : {p : ChunkKind} {b c m : List Token} {x : Expr} → after_of m ≡ Some b → Derives factor b x c
         → DerivesCount (key (k.Pieces p) ∷ m) (tree.pieces_of p x) c
     cards : {c : List Token} → DerivesCount (key k.Cards ∷ c) tree.cards c
     backgrounds : {c : List Token} → DerivesCount (key k.Backgrounds ∷ c) tree.backgrounds c
@@ -128,17 +128,17 @@ mutual
     the_target : {w : List ℕ} {c : List Token} → same_name w (codes "target") ≡ true
         → DerivesRef (key k.The ∷ token.name w ∷ c) tree.the_target c
     this_stack : {c : List Token} → DerivesRef (key k.This ∷ key k.Stack ∷ c) tree.this_stack c
-    card : {a c : List Token} {p : Spot} → DerivesSpot k.Card a p c → DerivesRef a (tree.card p) c
-    background : {a c : List Token} {p : Spot} → DerivesSpot k.Background a p c → DerivesRef a (tree.background p) c
+    card : {a c : List Token} {p : Selector} → DerivesSelector k.Card a p c → DerivesRef a (tree.card p) c
+    background : {a c : List Token} {p : Selector} → DerivesSelector k.Background a p c → DerivesRef a (tree.background p) c
     a_part : {a c : List Token} {p : Part} → DerivesPart a p c → DerivesRef a (tree.a_part p) c
 
   -- A card, or a background, as the key says.
-  pub data DerivesSpot : Key → List Token → Spot → List Token → Type 0 where
-    this : {h : Key} {c : List Token} → DerivesSpot h (key k.This ∷ key h ∷ c) tree.this c
-    next : {h : Key} {c : List Token} → DerivesSpot h (key k.Next ∷ key h ∷ c) tree.next c
-    previous : {h : Key} {c : List Token} → DerivesSpot h (key k.Previous ∷ key h ∷ c) tree.previous c
-    nth : {h : Key} {n : Ordinal} {c : List Token} → DerivesSpot h (key (k.Ordinal n) ∷ key h ∷ c) (tree.nth n) c
-    which : {h : Key} {a c : List Token} {w : Which} → DerivesWhich a w c → DerivesSpot h (key h ∷ a) (tree.which w) c
+  pub data DerivesSelector : Key → List Token → Selector → List Token → Type 0 where
+    this : {h : Key} {c : List Token} → DerivesSelector h (key k.This ∷ key h ∷ c) tree.this c
+    next : {h : Key} {c : List Token} → DerivesSelector h (key k.Next ∷ key h ∷ c) tree.next c
+    previous : {h : Key} {c : List Token} → DerivesSelector h (key k.Previous ∷ key h ∷ c) tree.previous c
+    nth : {h : Key} {n : Ordinal} {c : List Token} → DerivesSelector h (key (k.Ordinal n) ∷ key h ∷ c) (tree.nth n) c
+    which : {h : Key} {a c : List Token} {w : Which} → DerivesWhich a w c → DerivesSelector h (key h ∷ a) (tree.which w) c
 
   pub data DerivesWhich : List Token → Which → List Token → Type 0 where
     by_id : {a c : List Token} {x : Expr} → Derives primary a x c → DerivesWhich (key k.Id ∷ a) (tree.by_id x) c
@@ -154,9 +154,9 @@ mutual
   -- The owner of a part, if it has one.
   pub data DerivesOwner : List Token → Owner → List Token → Type 0 where
     no_owner : {c : List Token} → DerivesOwner c tree.no_owner c
-    of_card : {b c m : List Token} {p : Spot} → after_of m ≡ Some b → DerivesSpot k.Card b p c
+    of_card : {b c m : List Token} {p : Selector} → after_of m ≡ Some b → DerivesSelector k.Card b p c
         → DerivesOwner m (tree.on_card p) c
-    of_background : {b c m : List Token} {p : Spot} → after_of m ≡ Some b → DerivesSpot k.Background b p c
+    of_background : {b c m : List Token} {p : Selector} → after_of m ≡ Some b → DerivesSelector k.Background b p c
         → DerivesOwner m (tree.on_background p) c
 
 pub data DerivesContainer : List Token → Container → List Token → Type 0 where

@@ -7,17 +7,17 @@ use Rattle.ht_lex.specs.Token.{Token, key, later}
 use Rattle.ht_lex.specs.Token as token
 use Rattle.ht_values.specs.declared.word.Prop.{Prop}
 use Rattle.ht_grammar.specs.declared.vocabulary.RunProp.{RunProp}
-use Rattle.ht_grammar.specs.declared.vocabulary.Where.{Where}
-use Rattle.ht_grammar.specs.declared.vocabulary.Where.TheVariants as place
+use Rattle.ht_values.specs.declared.word.Where.{Where}
+use Rattle.ht_values.specs.declared.word.Where.TheVariants as place
 use Rattle.ht_grammar.specs.declared.vocabulary.HandlerKind.{HandlerKind}
 use Rattle.ht_grammar.specs.declared.vocabulary.HandlerKind.TheVariants as handler_kind
-use Rattle.ht_grammar.specs.Trees.{Expr, Exprs, Chunk, Spot, Ref, Container, none}
+use Rattle.ht_grammar.specs.Trees.{Expr, Exprs, Chunk, Selector, Ref, Container, none}
 use Rattle.ht_grammar.specs.Trees as tree
-use Rattle.ht_grammar.specs.Statements.{Goal, Head, Stmt, Stmts, Handler, Handlers, Message, stop, also}
+use Rattle.ht_grammar.specs.Statements.{Destination, Head, Stmt, Stmts, Handler, Handlers, Message, stop, also}
 use Rattle.ht_grammar.specs.Statements as s
 use Rattle.ht_grammar.specs.Fronts.{after_of, past_the, same_name, prop_front, run_prop}
 use Rattle.ht_grammar.specs.Ends.{past_ends, ended, past_for, past_to, past_times}
-use Rattle.ht_grammar.specs.Expressions.{Derives, DerivesList, DerivesChunk, DerivesRef, DerivesSpot, DerivesContainer, whole}
+use Rattle.ht_grammar.specs.Expressions.{Derives, DerivesList, DerivesChunk, DerivesRef, DerivesSelector, DerivesContainer, whole}
 
 -- Where a statement stands: inside a repeat or not, and in the handler of which name, if in one.
 pub record Context : Type 0 where
@@ -57,13 +57,13 @@ pub data DerivesNames : List Token → List (List ℕ) → List Token → Type 0
       → DerivesNames (token.name w ∷ key k.CommaSign ∷ a) (w ∷ ws) c
 
 -- where `go` goes; without a word it is a card
-pub data DerivesGoal : List Token → Goal → List Token → Type 0 where
-  goal_card : {a c : List Token} {p : Spot} → DerivesSpot k.Card a p c → DerivesGoal a (s.to_card p) c
-  goal_background : {a c : List Token} {p : Spot} → DerivesSpot k.Background a p c → DerivesGoal a (s.to_background p) c
-  this_alone : {c : List Token} → DerivesGoal (key k.This ∷ c) (s.to_card tree.this) c
-  next_alone : {c : List Token} → DerivesGoal (key k.Next ∷ c) (s.to_card tree.next) c
-  previous_alone : {c : List Token} → DerivesGoal (key k.Previous ∷ c) (s.to_card tree.previous) c
-  nth_alone : {n : Ordinal} {c : List Token} → DerivesGoal (key (k.Ordinal n) ∷ c) (s.to_card (tree.nth n)) c
+pub data DerivesDestination : List Token → Destination → List Token → Type 0 where
+  destination_card : {a c : List Token} {p : Selector} → DerivesSelector k.Card a p c → DerivesDestination a (s.to_card p) c
+  destination_background : {a c : List Token} {p : Selector} → DerivesSelector k.Background a p c → DerivesDestination a (s.to_background p) c
+  this_alone : {c : List Token} → DerivesDestination (key k.This ∷ c) (s.to_card tree.this) c
+  next_alone : {c : List Token} → DerivesDestination (key k.Next ∷ c) (s.to_card tree.next) c
+  previous_alone : {c : List Token} → DerivesDestination (key k.Previous ∷ c) (s.to_card tree.previous) c
+  nth_alone : {n : Ordinal} {c : List Token} → DerivesDestination (key (k.Ordinal n) ∷ c) (s.to_card (tree.nth n)) c
 
 pub data DerivesSimple : Context → List Token → Stmt → List Token → Type 0 where
   put : {x : Context} {a c : List Token} {e : Expr} → Derives whole a e c → DerivesSimple x (key k.Put ∷ a) (s.put e) c
@@ -88,7 +88,7 @@ pub data DerivesSimple : Context → List Token → Stmt → List Token → Type
   do_ : {x : Context} {a c : List Token} {e : Expr} → Derives whole a e c → DerivesSimple x (key k.Do ∷ a) (s.do_ e) c
   send : {x : Context} {a b c : List Token} {e : Expr} {r : Ref} → Derives whole a e (key k.To ∷ b) → DerivesRef b r c
       → DerivesSimple x (key k.Send ∷ a) (s.send e r) c
-  go : {x : Context} {a c : List Token} {g : Goal} → DerivesGoal (past_to a) g c → DerivesSimple x (key k.Go ∷ a) (s.go g) c
+  go : {x : Context} {a c : List Token} {g : Destination} → DerivesDestination (past_to a) g c → DerivesSimple x (key k.Go ∷ a) (s.go g) c
   global : {x : Context} {a c : List Token} {ws : List (List ℕ)} → DerivesNames a ws c
       → DerivesSimple x (key k.Global ∷ a) (s.global ws) c
   exit_repeat : {x : Context} {c : List Token} → x.in_repeat ≡ true

@@ -2,14 +2,14 @@
 use Rattle.std.specs.Prelude.{ℕ, List}
 use Rattle.ht_values.specs.declared.word.Prop.{Prop}
 use Rattle.ht_grammar.specs.declared.vocabulary.RunProp.{RunProp}
-use Rattle.ht_grammar.specs.declared.vocabulary.Where.{Where}
+use Rattle.ht_values.specs.declared.word.Where.{Where}
 use Rattle.ht_grammar.specs.declared.vocabulary.HandlerKind.{HandlerKind}
-use Rattle.ht_grammar.specs.Trees.{Expr, Exprs, Chunk, Spot, Part, Ref, Container}
+use Rattle.ht_grammar.specs.Trees.{Expr, Exprs, Chunk, Selector, Part, Ref, Container}
 
 -- Where `go` goes. Without a word it is a card.
-pub data Goal : Type 0 where
-  to_card : Spot → Goal
-  to_background : Spot → Goal
+pub data Destination : Type 0 where
+  to_card : Selector → Destination
+  to_background : Selector → Destination
 
 -- How often `repeat` does its lines.
 pub data Head : Type 0 where
@@ -36,7 +36,7 @@ mutual
     delete : Chunk → Container → Stmt
     do_ : Expr → Stmt
     send : Expr → Ref → Stmt
-    go : Goal → Stmt
+    go : Destination → Stmt
     -- one name or more
     global : List (List ℕ) → Stmt
     exit_repeat : Stmt

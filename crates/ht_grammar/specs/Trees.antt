@@ -1,6 +1,6 @@
 -- Trees of expressions and references.
 use Rattle.std.specs.Prelude.{ℕ, List, Bool, Option}
-use Rattle.ht_lex.specs.declared.key.Piece.{Piece}
+use Rattle.ht_values.specs.declared.word.ChunkKind.{ChunkKind}
 use Rattle.ht_values.specs.declared.word.PartKind.{PartKind}
 use Rattle.ht_lex.specs.declared.key.Ordinal.{Ordinal}
 use Rattle.ht_lex.specs.declared.key.Constant.{Constant}
@@ -45,9 +45,9 @@ mutual
 
   -- Which pieces of a text.
   pub data Chunk : Type 0 where
-    piece : Piece → Expr → Chunk
-    pieces : Piece → Expr → Expr → Chunk
-    nth_piece : Ordinal → Piece → Chunk
+    piece : ChunkKind → Expr → Chunk
+    pieces : ChunkKind → Expr → Expr → Chunk
+    nth_piece : Ordinal → ChunkKind → Chunk
 
   -- Which object: by its id, or by its number or name.
   pub data Which : Type 0 where
@@ -55,18 +55,18 @@ mutual
     by_text : Expr → Which
 
   -- Which card or background.
-  pub data Spot : Type 0 where
-    this : Spot
-    next : Spot
-    previous : Spot
-    nth : Ordinal → Spot
-    which : Which → Spot
+  pub data Selector : Type 0 where
+    this : Selector
+    next : Selector
+    previous : Selector
+    nth : Ordinal → Selector
+    which : Which → Selector
 
   -- The card or background on which a part is looked for.
   pub data Owner : Type 0 where
     no_owner : Owner
-    on_card : Spot → Owner
-    on_background : Spot → Owner
+    on_card : Selector → Owner
+    on_background : Selector → Owner
 
   -- A button or a field, with the layer that is written before it.
   pub data Part : Type 0 where
@@ -78,13 +78,13 @@ mutual
     me : Ref
     the_target : Ref
     this_stack : Ref
-    card : Spot → Ref
-    background : Spot → Ref
+    card : Selector → Ref
+    background : Selector → Ref
     a_part : Part → Ref
 
   -- What `the number of` counts, or the object whose number it is.
   pub data Count : Type 0 where
-    pieces_of : Piece → Expr → Count
+    pieces_of : ChunkKind → Expr → Count
     cards : Count
     backgrounds : Count
     parts : Option Layer → PartKind → Count

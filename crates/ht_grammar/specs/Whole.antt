@@ -1,8 +1,8 @@
 -- Reading scripts, references of dot lines and texts of `send`, as functions on lists of tokens. The laws tie them to the rules.
 use Rattle.std.specs.Prelude.{ℕ, zero, suc, List, [], ◌∷◌, length, Option, Some, None, if◌then◌else◌}
 use Rattle.ht_lex.specs.declared.key.Key.TheVariants as k
-use Rattle.ht_lex.specs.declared.key.Kind.{Kind}
-use Rattle.ht_lex.specs.declared.key.Kind.TheVariants as kind
+use Rattle.ht_lex.specs.declared.key.TokenKind.{TokenKind}
+use Rattle.ht_lex.specs.declared.key.TokenKind.TheVariants as kind
 use Rattle.ht_values.specs.declared.word.PartKind.{PartKind}
 use Rattle.ht_values.specs.declared.word.PartKind.TheVariants as part_kind
 use Rattle.ht_lex.specs.Token.{Token, first_kind, first_text, later}
@@ -15,25 +15,25 @@ use Rattle.ht_grammar.specs.Fronts.{same_name}
 use Rattle.ht_grammar.specs.Ends.{past_ends, ended}
 use Rattle.ht_grammar.specs.Grammar.{in_handler}
 use Rattle.ht_grammar.specs.Reading.{Outcome, Parser, and_then, made, all_of, not_too_deep, read, list_at, part_at}
-use Rattle.ht_grammar.specs.Lines.{blocks, lines, names_at, after_key, is_end, ended_then}
+use Rattle.ht_grammar.specs.Lines.{blocks, lines, names_at, after_key, ended_then}
 
 -- after `end`
-abbrev pub name_by : Option Kind → List ℕ → Handler → Parser Handler
+abbrev pub name_by : Option TokenKind → List ℕ → Handler → Parser Handler
 name_by (Some kind.Name) w h ts = if same_name w (first_text ts) then ended_then (ended (later ts)) (λ c. Some (h, c)) else None
 name_by _ w h ts = None
 
 abbrev pub body_at : HandlerKind → List ℕ → List (List ℕ) → Parser Handler
-body_at f w ps ts = ended_then (ended ts) (λ l. and_then (blocks max_depth lines (in_handler w) l) (λ ss. after_key is_end (λ r. name_by (first_kind r) w (handler f w ps ss) r)))
+body_at f w ps ts = ended_then (ended ts) (λ l. and_then (blocks max_depth lines (in_handler w) l) (λ ss. after_key k.End (λ r. name_by (first_kind r) w (handler f w ps ss) r)))
 
-abbrev pub params_by : Option Kind → Parser (List (List ℕ))
+abbrev pub params_by : Option TokenKind → Parser (List (List ℕ))
 params_by (Some kind.Name) ts = names_at (length ts) ts
 params_by _ ts = Some ([], ts)
 
-abbrev pub named_by : Option Kind → HandlerKind → Parser Handler
+abbrev pub named_by : Option TokenKind → HandlerKind → Parser Handler
 named_by (Some kind.Name) f ts = and_then (params_by (first_kind (later ts)) (later ts)) (λ ps. body_at f (first_text ts) ps)
 named_by _ f ts = None
 
-abbrev pub handler_by : Option Kind → Parser Handler
+abbrev pub handler_by : Option TokenKind → Parser Handler
 handler_by (Some (kind.Key k.On)) ts = named_by (first_kind (later ts)) handler_kind.Command (later ts)
 handler_by (Some (kind.Key k.Function)) ts = named_by (first_kind (later ts)) handler_kind.Function (later ts)
 handler_by _ ts = None
@@ -69,11 +69,11 @@ abbrev pub typed_for : List ℕ → Option Part → Option Typed
 typed_for w None = None
 typed_for w (Some p) = field_for (kind_of_part p) w p
 
-abbrev pub into_by : Option Kind → List ℕ → List Token → Option Typed
+abbrev pub into_by : Option TokenKind → List ℕ → List Token → Option Typed
 into_by (Some (kind.Key k.Into)) w ts = typed_for w (clicked_part ts)
 into_by _ w ts = None
 
-abbrev pub typed_by : Option Kind → List ℕ → List Token → Option Typed
+abbrev pub typed_by : Option TokenKind → List ℕ → List Token → Option Typed
 typed_by (Some kind.Quoted) w ts = into_by (first_kind ts) w (later ts)
 typed_by _ w ts = None
 
@@ -81,11 +81,11 @@ typed_by _ w ts = None
 abbrev pub typed_text : List Token → Option Typed
 typed_text ts = typed_by (first_kind ts) (first_text ts) (later ts)
 
-abbrev pub message_by : Option Kind → List ℕ → Parser Message
+abbrev pub message_by : Option TokenKind → List ℕ → Parser Message
 message_by None w ts = Some (message w none, ts)
 message_by _ w ts = made (message w) (list_at (read max_depth) max_depth (length ts) none ts)
 
-abbrev pub sent_by : Option Kind → List Token → Outcome Message
+abbrev pub sent_by : Option TokenKind → List Token → Outcome Message
 sent_by (Some kind.Name) ts = message_by (first_kind (later ts)) (first_text ts) (later ts)
 sent_by _ ts = None
 

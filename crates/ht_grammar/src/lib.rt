@@ -8,4 +8,4 @@ pub use law::{
     expressions_are_read_exactly, lines_are_read_exactly, messages_are_read_exactly,
     parts_are_read_exactly, scripts_are_read_exactly, typing_is_read_exactly,
 };
-pub use vocabulary::{FunctionWord, HandlerKind, Layer, RunProp, Where};
+pub use vocabulary::{FunctionWord, HandlerKind, Layer, RunProp};

@@ -24,14 +24,6 @@ pub enum Layer {
     Background,
 }
 
-/// Where `put` puts.
-#[derive(Clone, Copy, PartialEq, Eq, Debug)]
-pub enum Where {
-    Into,
-    Before,
-    After,
-}
-
 #[derive(Clone, Copy, PartialEq, Eq, Debug)]
 pub enum HandlerKind {
     Command,

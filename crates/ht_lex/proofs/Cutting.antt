@@ -1,11 +1,11 @@
 -- A text is cut in one way.
 use Rattle.std.proofs.Common.{◌≡◌, ℕ, ◌+◌, ◌-◌, ◌≤◌, List, [], ◌∷◌, ◌++◌, append_assoc, length, take, drop, Some, None, arith, length-drop, refl, sym, ap, ◌∙◌, subst}
 use Rattle.std.proofs.lemmas.List.{take_rest, drop_all}
-use Rattle.ht_lex.specs.declared.key.Kind.{Kind}
-use Rattle.ht_lex.specs.declared.front.Front.{Front}
+use Rattle.ht_lex.specs.declared.key.TokenKind.{TokenKind}
+use Rattle.ht_lex.specs.declared.lexeme.Lexeme.{Lexeme}
 use Rattle.ht_lex.specs.declared.tokens.Span.{Span}
 use Rattle.ht_lex.specs.Pieces.{NoLonger}
-use Rattle.ht_lex.specs.Fronts.{front_of, IsLongest}
+use Rattle.ht_lex.specs.Lexemes.{first_lexeme, IsLongest}
 use Rattle.ht_lex.specs.Tokens.{Cuts, halt, gap, token}
 use Rattle.ht_lex.proofs.Longest.{longest_is_taken, longest_once, nothing_longer, end_begins}
 
@@ -13,10 +13,10 @@ use Rattle.ht_lex.proofs.Longest.{longest_is_taken, longest_once, nothing_longer
 abbrev pub Same : List Span → ℕ → List Span → ℕ → Type 0
 Same spans stop others other = (spans ≡ others) × (stop ≡ other)
 
-gap_no_token : {k : Kind} → None ≡ Some k → ⊥
+gap_no_token : {k : TokenKind} → None ≡ Some k → ⊥
 gap_no_token e = cc
 
-token_no_gap : {k : Kind} → Some k ≡ None → ⊥
+token_no_gap : {k : TokenKind} → Some k ≡ None → ⊥
 token_no_gap e = cc
 
 pub cut_once : {text : List ℕ} {place stop other : ℕ} {spans others : List Span} → Cuts text place spans stop → Cuts text place others other → Same spans stop others other
@@ -42,8 +42,8 @@ pub taken_in : {text : List ℕ} {stop : ℕ} (found : List Span) (span : Span) 
 taken_in {text} {stop} found span rest h = subst (λ v. Cuts text 0 v stop) (sym (append_assoc found (span ∷ []) rest)) h
 
 -- What the code finds at the front of the rest of the text, as it takes the rest, is the longest there.
-pub longest_there : (text : List ℕ) (place : ℕ) (f : Front) → f ≡ front_of (take (length text - place) (drop place text)) → IsLongest (drop place text) f
-longest_there text place f e = subst (λ v. IsLongest (drop place text) v) (sym (e ∙ ap front_of (take_rest text place))) (longest_is_taken (drop place text))
+pub longest_there : (text : List ℕ) (place : ℕ) (f : Lexeme) → f ≡ first_lexeme (take (length text - place) (drop place text)) → IsLongest (drop place text) f
+longest_there text place f e = subst (λ v. IsLongest (drop place text) v) (sym (e ∙ ap first_lexeme (take_rest text place))) (longest_is_taken (drop place text))
 
 pub fits_there : (text : List ℕ) (place size : ℕ) → size ≤ length (take (length text - place) (drop place text)) → place ≤ length text → place + size ≤ length text
 fits_there text place size h le = let e = ap (length {A = ℕ}) (take_rest text place) in omega (arith, length-drop place text)

@@ -4,3 +4,5 @@ pub mod Spans
 mod Runs
 pub mod Longest
 pub mod Cutting
+pub mod Placed
+pub mod Turns

@@ -11,16 +11,19 @@ use Rattle.std.proofs.lemmas.List.Folds.{length-prefix_len}
 use Rattle.std.proofs.Math.Seq.{take-append_seam}
 use Rattle.std.proofs.lemmas.Bool.{eqb-true}
 use Rattle.ht_lex.specs.declared.key.Key.{Key}
-use Rattle.ht_lex.specs.declared.key.Kind.{Kind}
-use Rattle.ht_lex.specs.declared.key.Kind.TheVariants as kind
-use Rattle.ht_lex.specs.declared.front.Class.{Class}
-use Rattle.ht_lex.specs.declared.front.Class.TheVariants as class
-use Rattle.ht_lex.specs.declared.front.Front.{Front}
-use Rattle.ht_lex.specs.declared.front.Front.TheVariants.{Gap, Token, Nothing}
+use Rattle.ht_lex.specs.declared.key.TokenKind.{TokenKind}
+use Rattle.ht_lex.specs.declared.key.TokenKind.TheVariants as kind
+use Rattle.ht_lex.specs.declared.lexeme.Class.{Class}
+use Rattle.ht_lex.specs.declared.lexeme.Class.TheVariants as class
+use Rattle.ht_lex.specs.declared.lexeme.Lexeme.{Lexeme}
+use Rattle.ht_lex.specs.declared.lexeme.Lexeme.TheVariants.{Gap, Token, Nothing}
 use Rattle.ht_lex.specs.Words.{begins_word, goes_on_word, is_word, kind_of_word, symbols}
-use Rattle.ht_lex.specs.Fronts.{is_in, past, word_front, quoted_front, continued_front, symbol_among, symbol_front, front_of, IsLongest}
+use Rattle.ht_lex.specs.Lexemes.{is_in, past, word_lexeme, quoted_lexeme, continued_lexeme, symbol_among, symbol_lexeme, first_lexeme, IsLongest}
 use Rattle.ht_lex.specs.Pieces.{is_blank, is_return, is_quote, Among, Spells, NoLonger, Longest, word, digits, quoted, symbol, return, blanks, continued, comment}
-use Rattle.ht_lex.proofs.Runs.{both_left, both_right, both, passing_le, run_passes, run_begins, run_within, closed_len, closed_at, closed_take, closed_within}
+use mathlib.Core.Bool.{true≢false}
+use Rattle.std.specs.Cmp.{first_so, second_so}
+use Rattle.std.specs.Cmp.Derive.{both_true}
+use Rattle.ht_lex.proofs.Runs.{passing_le, run_passes, run_begins, run_within, closed_len, closed_at, closed_take, closed_within}
 
 -- What a first byte begins: blanks, a return, digits, a word, a text in quotes, a continued line, or else a comment or a symbol.
 abbrev rank : ℕ → ℕ
@@ -57,7 +60,7 @@ word_rank : (b : ℕ) → begins_word b ≡ true → rank b ≡ 3
 word_rank b e = left_of (is_blank b) _ _ (word_no_blank b e) ∙ left_of (is_return b) _ _ (word_no_return b e) ∙ left_of (is_ascii_digit b) _ _ (word_no_digit b e) ∙ taken_of (begins_word b) _ _ e
 
 -- The rank of what a kind of piece begins with.
-abbrev rank_of : {what : Option Kind} {w : List ℕ} → Spells what w → ℕ
+abbrev rank_of : {what : Option TokenKind} {w : List ℕ} → Spells what w → ℕ
 rank_of (word e) = 3
 rank_of (digits f e) = 2
 rank_of (quoted w e) = 4
@@ -86,13 +89,13 @@ are_symbols = search rules
 
 first_passes : (p : ℕ → Bool) (w : List ℕ) → 0 < length w → list_all p w ≡ true → p (slice_index w 0) ≡ true
 first_passes p [] f e = absurd (omega arith)
-first_passes p (x ∷ w) f e = both_left (p x) (list_all p w) e
+first_passes p (x ∷ w) f e = first_so (p x) (list_all p w) e
 
 begins_hyphen : (w : List ℕ) → starts_with nat_eq w (codes "--") ≡ true → w ≡ codes "--" ++ drop 2 w
 begins_hyphen w e = (starts_is Decides-eqb w (codes "--") (starts_with nat_eq w (codes "--")) refl).0 e
 
-spelled_rank : {what : Option Kind} {w : List ℕ} → (h : Spells what w) → rank (slice_index w 0) ≡ rank_of h
-spelled_rank (word {w} e) = word_rank (slice_index w 0) (both_left (begins_word (slice_index w 0)) (list_all goes_on_word w) e)
+spelled_rank : {what : Option TokenKind} {w : List ℕ} → (h : Spells what w) → rank (slice_index w 0) ≡ rank_of h
+spelled_rank (word {w} e) = word_rank (slice_index w 0) (first_so (begins_word (slice_index w 0)) (list_all goes_on_word w) e)
 spelled_rank (digits {w} f e) = digit_rank (slice_index w 0) (first_passes is_ascii_digit w f e)
 spelled_rank (quoted w e) = refl
 spelled_rank (symbol row e) = (among_symbols symbols row are_symbols e).0
@@ -107,7 +110,7 @@ first_of [] rest text e f = absurd (omega arith)
 first_of (x ∷ piece) rest text e f = ap (λ l. slice_index l 0) e
 
 -- The rank of a piece is that of the text.
-same_rank : {what : Option Kind} (text piece rest : List ℕ) (n r : ℕ) → rank (slice_index text 0) ≡ r → piece ++ rest ≡ text → n < length piece → (h : Spells what piece) → rank_of h ≡ r
+same_rank : {what : Option TokenKind} (text piece rest : List ℕ) (n r : ℕ) → rank (slice_index text 0) ≡ r → piece ++ rest ≡ text → n < length piece → (h : Spells what piece) → rank_of h ≡ r
 same_rank text piece rest n r e f le h = sym (spelled_rank h) ∙ ap rank (first_of piece rest text f (omega arith)) ∙ e
 
 past_zero : (c : Class) (text : List ℕ) → past c text 0 ≡ prefix_len (is_in c) text
@@ -130,7 +133,7 @@ no_digits text e what piece rest f le (digits {w} g p) = run_bound is_ascii_digi
 no_digits text e what piece rest f le h = absurd (omega (arith, same_rank text piece rest (prefix_len is_ascii_digit text) 2 e f le h))
 
 no_word : (text : List ℕ) → rank (slice_index text 0) ≡ 3 → NoLonger text (prefix_len goes_on_word text)
-no_word text e what piece rest f le (word {w} p) = run_bound goes_on_word text w rest f (both_right (begins_word (slice_index w 0)) (list_all goes_on_word w) p) le
+no_word text e what piece rest f le (word {w} p) = run_bound goes_on_word text w rest f (second_so (begins_word (slice_index w 0)) (list_all goes_on_word w) p) le
 no_word text e what piece rest f le h = absurd (omega (arith, same_rank text piece rest (prefix_len goes_on_word text) 3 e f le h))
 
 -- the length of a run, and of what it takes
@@ -159,13 +162,13 @@ digits_longest text e = subst (λ n. Longest (Some kind.Number) text n) (sym (pa
 begins_goes_on : (b : ℕ) → begins_word b ≡ true → goes_on_word b ≡ true
 begins_goes_on b e = grind (arith, nat_tests)
 
-word_longest : (text : List ℕ) → begins_word (slice_index text 0) ≡ true → IsLongest text (word_front text)
+word_longest : (text : List ℕ) → begins_word (slice_index text 0) ≡ true → IsLongest text (word_lexeme text)
 word_longest text e =
     let k = prefix_len goes_on_word text in
     let some : 0 < k = run_begins goes_on_word text refl (begins_goes_on (slice_index text 0) e) in
     let begins : begins_word (slice_index (take k text) 0) ≡ true = ap begins_word (take_first k text some) ∙ e in
     subst (λ n. Longest (Some (kind_of_word (take n text))) text n) (sym (past_zero class.Word text)) (record {
-      spelled = word (both begins (run_passes goes_on_word text));
+      spelled = word (both_true begins (run_passes goes_on_word text));
       within = run_within goes_on_word text;
       longest = no_word text (word_rank (slice_index text 0) e);
     })
@@ -181,7 +184,7 @@ return_longest (x ∷ text) e =
     }
 
 -- A choice that a test makes, with what the test tells.
-by_test : (b : Bool) (x y : Front) (P : Front → Type 0) → (b ≡ true → P x) → (b ≡ false → P y) → P (cond b x y)
+by_test : (b : Bool) (x y : Lexeme) (P : Lexeme → Type 0) → (b ≡ true → P x) → (b ≡ false → P y) → P (cond b x y)
 by_test true x y P f g = f refl
 by_test false x y P f g = g refl
 
@@ -200,7 +203,7 @@ shut_at : (p : ℕ → Bool) (o c : ℕ) (w rest xs : List ℕ) → list_all p w
 shut_at p o c w rest xs e f same =
     ap (slice_index xs) (shut_run p o c w rest xs e f same) ∙ ap (λ l. slice_index l (length w)) (sym (cons_same o o ((w ++ c ∷ []) ++ rest) xs same)) ∙ closed_at w rest c
 
-quoted_longest : (xs : List ℕ) → IsLongest (34 ∷ xs) (quoted_front (34 ∷ xs))
+quoted_longest : (xs : List ℕ) → IsLongest (34 ∷ xs) (quoted_lexeme (34 ∷ xs))
 quoted_longest xs =
     let q = is_in class.Quotable in
     let k = prefix_len q xs in
@@ -228,7 +231,7 @@ quoted_longest xs =
     unclosed e what piece rest f le (quoted w p) = let at : is_quote (slice_index xs (prefix_len (is_in class.Quotable) xs)) ≡ true = ap is_quote (shut_at (is_in class.Quotable) 34 34 w rest xs p refl f) in cc
     unclosed e what piece rest f le h = absurd (omega (arith, same_rank (34 ∷ xs) piece rest 0 4 refl f le h))
 
-continued_longest : (xs : List ℕ) → IsLongest (0xC2 ∷ xs) (continued_front (0xC2 ∷ xs))
+continued_longest : (xs : List ℕ) → IsLongest (0xC2 ∷ xs) (continued_lexeme (0xC2 ∷ xs))
 continued_longest xs =
     let k = prefix_len is_blank xs in
     let one : 1 + k ≡ suc k = omega arith in
@@ -298,7 +301,7 @@ later_shorter row other (r ∷ rows) h m = go m (later_shorter row other rows h.
 abbrev NoRow : List (List ℕ × Key) → List ℕ → ℕ → Type 0
 NoRow rows text n = (row : List ℕ × Key) (rest : List ℕ) → Among row rows → row.0 ++ rest ≡ text → n < length row.0 → ⊥
 
-record TheRow (rows : List (List ℕ × Key)) (text : List ℕ) (k : Kind) (n : ℕ) : Type 0 where
+record TheRow (rows : List (List ℕ × Key)) (text : List ℕ) (k : TokenKind) (n : ℕ) : Type 0 where
   row : List ℕ × Key
   among : Among row rows
   kind_is : kind.Key row.1 ≡ k
@@ -306,7 +309,7 @@ record TheRow (rows : List (List ℕ × Key)) (text : List ℕ) (k : Kind) (n : 
   begins : starts_with nat_eq text row.0 ≡ true
   longest : NoRow rows text n
 
-abbrev Chosen : List (List ℕ × Key) → List ℕ → Front → Type 0
+abbrev Chosen : List (List ℕ × Key) → List ℕ → Lexeme → Type 0
 Chosen rows text Nothing = NoRow rows text 0
 Chosen rows text (Token k n) = TheRow rows text k n
 Chosen rows text (Gap n) = ⊥
@@ -315,12 +318,9 @@ no_row_here : (row other : List ℕ × Key) (text rest : List ℕ) → row ≡ o
 no_row_here row other text rest e f g =
     let at : text ≡ row.0 ++ rest = sym g ∙ ap (λ (v : List ℕ × Key). v.0 ++ rest) (sym e) in
     let yes : starts_with nat_eq text row.0 ≡ true = (starts_is Decides-eqb text row.0 (starts_with nat_eq text row.0) refl).1 rest at in
-    absurd (false_true (sym f ∙ yes))
-  where
-    false_true : false ≡ true → ⊥
-    false_true e = cc
+    absurd (true≢false (sym yes ∙ f))
 
-passed_over : (row : List ℕ × Key) (rows : List (List ℕ × Key)) (text : List ℕ) (v : Front) → starts_with nat_eq text row.0 ≡ false → Chosen rows text v → Chosen (row ∷ rows) text v
+passed_over : (row : List ℕ × Key) (rows : List (List ℕ × Key)) (text : List ℕ) (v : Lexeme) → starts_with nat_eq text row.0 ≡ false → Chosen rows text v → Chosen (row ∷ rows) text v
 passed_over row rows text Nothing f h = λ other rest m g le. go other rest m g le
   where
     go : NoRow (row ∷ rows) text 0
@@ -349,12 +349,9 @@ no_hyphens : (text piece rest : List ℕ) → starts_with nat_eq text (codes "--
 no_hyphens text piece rest f g e =
     let at : text ≡ codes "--" ++ (drop 2 piece ++ rest) = sym g ∙ ap (λ l. l ++ rest) (begins_hyphen piece e) in
     let yes : starts_with nat_eq text (codes "--") ≡ true = (starts_is Decides-eqb text (codes "--") (starts_with nat_eq text (codes "--")) refl).1 (drop 2 piece ++ rest) at in
-    absurd (false_true (sym f ∙ yes))
-  where
-    false_true : false ≡ true → ⊥
-    false_true e = cc
+    absurd (true≢false (sym yes ∙ f))
 
-chosen_longest : (text : List ℕ) (v : Front) → rank (slice_index text 0) ≡ 6 → starts_with nat_eq text (codes "--") ≡ false → Chosen symbols text v → IsLongest text v
+chosen_longest : (text : List ℕ) (v : Lexeme) → rank (slice_index text 0) ≡ 6 → starts_with nat_eq text (codes "--") ≡ false → Chosen symbols text v → IsLongest text v
 chosen_longest text Nothing r f h = go
   where
     go : NoLonger text 0
@@ -377,25 +374,25 @@ chosen_longest text (Token k n) r f h =
     go what piece rest g le s = absurd (omega (arith, same_rank text piece rest n 6 r g le s))
 chosen_longest text (Gap n) r f h = absurd h
 
-symbol_longest : (text : List ℕ) → rank (slice_index text 0) ≡ 6 → starts_with nat_eq text (codes "--") ≡ false → IsLongest text (symbol_front text)
-unfolding symbol_front
+symbol_longest : (text : List ℕ) → rank (slice_index text 0) ≡ 6 → starts_with nat_eq text (codes "--") ≡ false → IsLongest text (symbol_lexeme text)
+unfolding symbol_lexeme
 symbol_longest text r f = chosen_longest text (symbol_among symbols text) r f (among_chosen symbols text symbols_longest_first)
 
-opened : (o : ℕ) (text : List ℕ) (front : List ℕ → Front) → 0 < o → ((xs : List ℕ) → IsLongest (o ∷ xs) (front (o ∷ xs))) → slice_index text 0 ≡ o → IsLongest text (front text)
+opened : (o : ℕ) (text : List ℕ) (front : List ℕ → Lexeme) → 0 < o → ((xs : List ℕ) → IsLongest (o ∷ xs) (front (o ∷ xs))) → slice_index text 0 ≡ o → IsLongest text (front text)
 opened o [] front f h e = absurd (omega arith)
 opened o (x ∷ xs) front f h e = subst (λ v. IsLongest (v ∷ xs) (front (v ∷ xs))) (sym e) (h xs)
 
 -- What the code finds is the longest.
-pub longest_is_taken : (text : List ℕ) → IsLongest text (front_of text)
-unfolding front_of
+pub longest_is_taken : (text : List ℕ) → IsLongest text (first_lexeme text)
+unfolding first_lexeme
 longest_is_taken text =
     let b = slice_index text 0 in
     by_test (is_blank b) _ _ (IsLongest text) (blank_longest text) (λ no_blank.
     by_test (is_return b) _ _ (IsLongest text) (return_longest text) (λ no_return.
     by_test (is_ascii_digit b) _ _ (IsLongest text) (digits_longest text) (λ no_digit.
     by_test (begins_word b) _ _ (IsLongest text) (word_longest text) (λ no_word.
-    by_test (is_quote b) _ _ (IsLongest text) (λ e. opened 34 text quoted_front (omega arith) quoted_longest (eqb-true b 34 e)) (λ no_quote.
-    by_test (b == 0xC2) _ _ (IsLongest text) (λ e. opened 0xC2 text continued_front (omega arith) continued_longest (eqb-true b 0xC2 e)) (λ no_more.
+    by_test (is_quote b) _ _ (IsLongest text) (λ e. opened 34 text quoted_lexeme (omega arith) quoted_longest (eqb-true b 34 e)) (λ no_quote.
+    by_test (b == 0xC2) _ _ (IsLongest text) (λ e. opened 0xC2 text continued_lexeme (omega arith) continued_longest (eqb-true b 0xC2 e)) (λ no_more.
     by_test (starts_with nat_eq text (codes "--")) _ _ (IsLongest text) (hyphens_longest text) (symbol_longest text
     (left_of (is_blank b) _ _ no_blank ∙ left_of (is_return b) _ _ no_return ∙ left_of (is_ascii_digit b) _ _ no_digit ∙ left_of (begins_word b) _ _ no_word ∙ left_of (is_quote b) _ _ no_quote ∙ left_of (b == 0xC2) _ _ no_more))))))))
 
@@ -451,7 +448,7 @@ comment_no_symbol : (w : List ℕ) (row : List ℕ × Key) → starts_with nat_e
 comment_no_symbol w row e m same = let no : starts_with nat_eq w (codes "--") ≡ false = ap (λ v. starts_with nat_eq v (codes "--")) same ∙ row_no_hyphens symbols row symbols_no_hyphens m in cc
 
 -- What is spelled alike is the same.
-pub spelled_once : {what other : Option Kind} {w v : List ℕ} → Spells what w → Spells other v → w ≡ v → what ≡ other
+pub spelled_once : {what other : Option TokenKind} {w v : List ℕ} → Spells what w → Spells other v → w ≡ v → what ≡ other
 spelled_once (word e) (word f) same = ap (λ w. Some (kind_of_word w)) same
 spelled_once (digits g e) (digits h f) same = refl
 spelled_once (quoted w e) (quoted v f) same = refl
@@ -465,10 +462,10 @@ spelled_once (comment {w} e f) (symbol row m) same = absurd (comment_no_symbol w
 spelled_once g h same = absurd (omega (arith, spelled_rank g, spelled_rank h, ap (λ v. rank (slice_index v 0)) same))
 
 -- A text has one longest piece at its front.
-pub longest_once : {what other : Option Kind} {text : List ℕ} {m n : ℕ} → Longest what text m → Longest other text n → (what ≡ other) × (m ≡ n)
+pub longest_once : {what other : Option TokenKind} {text : List ℕ} {m n : ℕ} → Longest what text m → Longest other text n → (what ≡ other) × (m ≡ n)
 longest_once {what} {other} {text} {m} {n} g h = (spelled_once g.spelled h.spelled (ap (λ k. take k text) same), same)
   where
-    not_less : {what other : Option Kind} {m n : ℕ} → Longest what text m → Longest other text n → m < n → ⊥
+    not_less : {what other : Option TokenKind} {m n : ℕ} → Longest what text m → Longest other text n → m < n → ⊥
     not_less {what} {other} {m} {n} g h le = g.longest other (take n text) (drop n text) (take-append-drop n text) (omega (arith, length-take-le n text h.within)) h.spelled
 
     same : m ≡ n
@@ -485,7 +482,7 @@ hyphens_some : (w : List ℕ) → starts_with nat_eq w (codes "--") ≡ true →
 hyphens_some [] e = cc
 hyphens_some (x ∷ w) e = omega arith
 
-spelled_some : {what : Option Kind} {w : List ℕ} → Spells what w → 0 < length w
+spelled_some : {what : Option TokenKind} {w : List ℕ} → Spells what w → 0 < length w
 spelled_some (word {w} e) = word_some w e
 spelled_some (digits g e) = g
 spelled_some (quoted w e) = omega arith
@@ -496,7 +493,7 @@ spelled_some (continued w e) = omega arith
 spelled_some (comment {w} e f) = hyphens_some w e
 
 -- Where nothing begins no piece does.
-pub nothing_longer : {what : Option Kind} {text : List ℕ} {n : ℕ} → NoLonger text 0 → Longest what text n → ⊥
+pub nothing_longer : {what : Option TokenKind} {text : List ℕ} {n : ℕ} → NoLonger text 0 → Longest what text n → ⊥
 nothing_longer {what} {text} {n} f h = f what (take n text) (drop n text) (take-append-drop n text) (spelled_some h.spelled) h.spelled
 
 pub end_begins : NoLonger [] 0

@@ -11,7 +11,7 @@ use Rattle.std.proofs.lemmas.List.FromFn.{get_or-map-range_with_len}
 use Rattle.std.specs.List.{range_with_len}
 use Rattle.ht_values.specs.Text.{same}
 use Rattle.ht_lex.specs.declared.key.Key.{Key}
-use Rattle.ht_lex.specs.declared.word.TheConstants.{RESERVED}
+use Rattle.ht_lex.specs.declared.names.TheConstants.{RESERVED}
 use Rattle.ht_lex.specs.Words.{Rows, reserved_words, key_among, key_of}
 
 -- the first byte, in lower case

@@ -6,11 +6,11 @@ use Rattle.std.proofs.lemmas.Bool.Decides.{Decides-eqb}
 use Rattle.std.specs.Prelude.{nat_eq}
 use Rattle.std.specs.List.{starts_with}
 use Rattle.ht_lex.specs.declared.key.Key.{Key}
-use Rattle.ht_lex.specs.declared.key.Kind.TheVariants as kind
-use Rattle.ht_lex.specs.declared.front.Front.TheVariants.{Token}
-use Rattle.ht_lex.specs.declared.front.TheConstants.{SYMBOLS}
+use Rattle.ht_lex.specs.declared.key.TokenKind.TheVariants as kind
+use Rattle.ht_lex.specs.declared.lexeme.Lexeme.TheVariants.{Token}
+use Rattle.ht_lex.specs.declared.lexeme.TheConstants.{SYMBOLS}
 use Rattle.ht_lex.specs.Words.{symbols}
-use Rattle.ht_lex.specs.Fronts.{symbol_among, symbol_front, FitsIn}
+use Rattle.ht_lex.specs.Lexemes.{symbol_among, symbol_lexeme, FitsIn}
 
 pub rows_of_symbols : map (λ row. (row.0.now, row.1)) SYMBOLS ≡ symbols
 unfolding symbols
@@ -35,6 +35,6 @@ all_have_bytes : HaveBytes symbols
 unfolding symbols
 all_have_bytes = search rules
 
-pub symbol_fits : (text : List ℕ) → FitsIn text (symbol_front text)
-unfolding symbol_front
+pub symbol_fits : (text : List ℕ) → FitsIn text (symbol_lexeme text)
+unfolding symbol_lexeme
 symbol_fits text = among_fits symbols text all_have_bytes

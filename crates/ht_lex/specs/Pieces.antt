@@ -3,8 +3,8 @@ use Rattle.std.specs.Prelude.{◌≡◌, ℕ, ◌<◌, ◌≤◌, ◌⊎◌, Boo
 use Rattle.std.specs.Char.{is_ascii_digit}
 use Rattle.std.specs.List.{list_all, starts_with}
 use Rattle.ht_lex.specs.declared.key.Key.{Key}
-use Rattle.ht_lex.specs.declared.key.Kind.{Kind}
-use Rattle.ht_lex.specs.declared.key.Kind.TheVariants as kind
+use Rattle.ht_lex.specs.declared.key.TokenKind.{TokenKind}
+use Rattle.ht_lex.specs.declared.key.TokenKind.TheVariants as kind
 use Rattle.ht_lex.specs.Words.{is_word, kind_of_word, symbols}
 
 -- a space or a tab
@@ -31,7 +31,7 @@ Among row [] = ⊥
 Among row (other ∷ others) = (other ≡ row) ⊎ Among row others
 
 -- The spelling of a token of a kind, or with None of what stands between tokens.
-pub data Spells : Option Kind → List ℕ → Type 0 where
+pub data Spells : Option TokenKind → List ℕ → Type 0 where
   word : {w : List ℕ} → is_word w ≡ true → Spells (Some (kind_of_word w)) w
   digits : {w : List ℕ} → 0 < length w → list_all is_ascii_digit w ≡ true → Spells (Some kind.Number) w
   -- between quotes neither a quote nor a return
@@ -46,10 +46,10 @@ pub data Spells : Option Kind → List ℕ → Type 0 where
 
 -- The text begins with no token and no gap that is longer than this.
 abbrev pub NoLonger : List ℕ → ℕ → Type 0
-NoLonger text size = (what : Option Kind) (piece rest : List ℕ) → piece ++ rest ≡ text → size < length piece → Spells what piece → ⊥
+NoLonger text size = (what : Option TokenKind) (piece rest : List ℕ) → piece ++ rest ≡ text → size < length piece → Spells what piece → ⊥
 
 -- The text begins with this token or gap, and with no longer one.
-pub record Longest (what : Option Kind) (text : List ℕ) (size : ℕ) : Type 0 where
+pub record Longest (what : Option TokenKind) (text : List ℕ) (size : ℕ) : Type 0 where
   pub spelled : Spells what (take size text)
   pub within : size ≤ length text
   pub longest : NoLonger text size

@@ -1,8 +1,9 @@
 -- Tokens, as the grammar sees them.
-use Rattle.std.specs.Prelude.{ℕ, List, [], ◌∷◌, ◌-◌, take, drop, Option, Some, None}
+use Rattle.std.specs.Prelude.{ℕ, List, [], ◌∷◌, ◌-◌, Bool, false, take, drop, Option, Some, None}
 use Rattle.ht_lex.specs.declared.key.Key.{Key}
-use Rattle.ht_lex.specs.declared.key.Kind.{Kind}
-use Rattle.ht_lex.specs.declared.key.Kind.TheVariants as kind
+use Rattle.ht_lex.specs.contracts.key.KeyPartialEq.TheImpl as same_key
+use Rattle.ht_lex.specs.declared.key.TokenKind.{TokenKind}
+use Rattle.ht_lex.specs.declared.key.TokenKind.TheVariants as kind
 use Rattle.ht_lex.specs.declared.tokens.Span.{Span}
 
 pub data Token : Type 0 where
@@ -20,7 +21,7 @@ pub data Token : Type 0 where
 abbrev pub inner : List ℕ → ℕ → List ℕ
 inner text size = take (size - 2) (drop 1 text)
 
-abbrev pub token_by : Kind → List ℕ → ℕ → Token
+abbrev pub token_by : TokenKind → List ℕ → ℕ → Token
 token_by kind.Name text size = name (take size text)
 token_by kind.Number text size = number (take size text)
 token_by kind.Quoted text size = quoted (inner text size)
@@ -31,7 +32,7 @@ token_by kind.Eol text size = eol
 abbrev pub token_in : List ℕ → Span → Token
 token_in text s = token_by s.kind (drop s.start text) (s.stop - s.start)
 
-abbrev pub kind_of : Token → Kind
+abbrev pub kind_of : Token → TokenKind
 kind_of (name t) = kind.Name
 kind_of (number t) = kind.Number
 kind_of (quoted t) = kind.Quoted
@@ -46,9 +47,14 @@ text_of (key k) = []
 text_of eol = []
 
 -- The kind of the first token; none at the end of the text.
-abbrev pub first_kind : List Token → Option Kind
+abbrev pub first_kind : List Token → Option TokenKind
 first_kind [] = None
 first_kind (t ∷ ts) = Some (kind_of t)
+
+-- Whether the kind is that of this key.
+unfoldable pub is_key : Key → Option TokenKind → Bool
+is_key k (Some (kind.Key found)) = same_key.ghosts.eq found k
+is_key k _ = false
 
 -- The text of the first token.
 abbrev pub first_text : List Token → List ℕ

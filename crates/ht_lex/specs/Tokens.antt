@@ -1,6 +1,6 @@
 -- The tokens of a text, by the places where they stand.
 use Rattle.std.specs.Prelude.{ℕ, ◌+◌, ◌<◌, ◌≤◌, List, [], ◌∷◌, drop, length, map, Some, None}
-use Rattle.ht_lex.specs.declared.key.Kind.{Kind}
+use Rattle.ht_lex.specs.declared.key.TokenKind.{TokenKind}
 use Rattle.ht_lex.specs.declared.tokens.Span.{Span}
 use Rattle.ht_lex.specs.Pieces.{NoLonger, Longest}
 use Rattle.ht_lex.specs.Token as tokens
@@ -12,7 +12,7 @@ pub data Cuts (text : List ℕ) : ℕ → List Span → ℕ → Type 0 where
   halt : {place : ℕ} → NoLonger (drop place text) 0 → Cuts text place [] place
   gap : {place size stop : ℕ} {spans : List Span} → Longest None (drop place text) size → Cuts text (place + size) spans stop
       → Cuts text place spans stop
-  token : {place size stop : ℕ} {kind : Kind} {spans : List Span} → Longest (Some kind) (drop place text) size
+  token : {place size stop : ℕ} {kind : TokenKind} {spans : List Span} → Longest (Some kind) (drop place text) size
       → Cuts text (place + size) spans stop
       → Cuts text place (record { kind = kind; start = place; stop = place + size } ∷ spans) stop
 

@@ -5,9 +5,9 @@ use Rattle.std.specs.List.{list_all}
 use Rattle.ht_values.specs.Text.{same}
 use Rattle.ht_lex.specs.declared.key.Key.{Key}
 use Rattle.ht_lex.specs.declared.key.Key.TheVariants as k
-use Rattle.ht_lex.specs.declared.key.Kind.{Kind}
-use Rattle.ht_lex.specs.declared.key.Kind.TheVariants as kind
-use Rattle.ht_lex.specs.declared.key.Piece.TheVariants as piece
+use Rattle.ht_lex.specs.declared.key.TokenKind.{TokenKind}
+use Rattle.ht_lex.specs.declared.key.TokenKind.TheVariants as kind
+use Rattle.ht_values.specs.declared.word.ChunkKind.TheVariants as piece
 use Rattle.ht_values.specs.declared.word.PartKind.TheVariants as part
 use Rattle.ht_lex.specs.declared.key.Ordinal.TheVariants as ordinal
 use Rattle.ht_lex.specs.declared.key.Constant.TheVariants as constant
@@ -177,12 +177,12 @@ key_among (row ∷ rows) w = if same row.0 w then Some row.1 else key_among rows
 unfoldable pub key_of : List ℕ → Option Key
 key_of w = key_among reserved_words w
 
-abbrev pub kind_by : Option Key → Kind
+abbrev pub kind_by : Option Key → TokenKind
 kind_by None = kind.Name
 kind_by (Some key) = kind.Key key
 
 -- A word is the key of its reserved word, or a name.
-abbrev pub kind_of_word : List ℕ → Kind
+abbrev pub kind_of_word : List ℕ → TokenKind
 kind_of_word w = kind_by (key_of w)
 
 -- A name is a word that isn't reserved.

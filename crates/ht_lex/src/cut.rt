@@ -5,7 +5,7 @@ ghost use Rattle.ht_lex.specs.declared.tokens.Span.{Span};
 ghost use Rattle.ht_lex.specs.Tokens.{Cuts, IsCut, InOrder};
 ghost use Rattle.ht_lex.specs.Answer.{Fails, Answers};
 
-use crate::front::{Front, front_of};
+use crate::lexeme::{Lexeme, first_lexeme};
 use crate::tokens::{LexError, Span, Tokens};
 use ht_values::Text;
 use std::alloc::Global;
@@ -23,9 +23,9 @@ pub fn lex(alloc: Global, text: &Text) -> Result<Tokens<'_>, LexError>
     let mut spans = Vec::new(alloc);
     let mut place = 0;
     while place < text.len() {
-        match front_of(&text[place..]) {
-            Front::Gap(size) => place += size,
-            Front::Token(kind, size) => {
+        match first_lexeme(&text[place..]) {
+            Lexeme::Gap(size) => place += size,
+            Lexeme::Token(kind, size) => {
                 let stop = place + size;
                 let span = Span {
                     kind,
@@ -35,7 +35,7 @@ pub fn lex(alloc: Global, text: &Text) -> Result<Tokens<'_>, LexError>
                 spans.push(span).map_err(|_| LexError::Memory)?;
                 place = stop;
             }
-            Front::Nothing => return Err(LexError::Syntax(place)),
+            Lexeme::Nothing => return Err(LexError::Syntax(place)),
         }
     }
     Ok(Tokens::new(text, spans))

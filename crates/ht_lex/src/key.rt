@@ -1,6 +1,6 @@
 //! The reserved words and symbols, as the grammar tells them apart.
 
-use ht_values::PartKind;
+use ht_values::{ChunkKind, PartKind};
 
 /// A word of the language with a meaning of its own, or a symbol. Its other spellings are the same key.
 #[derive(Clone, Copy, PartialEq, Eq, Debug)]
@@ -76,21 +76,12 @@ pub enum Key {
     Until,
     While,
     With,
-    Piece(Piece),
-    Pieces(Piece),
+    Piece(ChunkKind),
+    Pieces(ChunkKind),
     Part(PartKind),
     Parts(PartKind),
     Ordinal(Ordinal),
     Constant(Constant),
-}
-
-/// What a chunk is a piece of.
-#[derive(Clone, Copy, PartialEq, Eq, Debug)]
-pub enum Piece {
-    Char,
-    Word,
-    Item,
-    Line,
 }
 
 #[derive(Clone, Copy, PartialEq, Eq, Debug)]
@@ -136,7 +127,7 @@ pub enum Constant {
 
 /// What a token is.
 #[derive(Clone, Copy, PartialEq, Eq, Debug)]
-pub enum Kind {
+pub enum TokenKind {
     /// A word that isn't reserved.
     Name,
     /// Digits. Their value is their spelling.

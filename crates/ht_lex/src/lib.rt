@@ -1,14 +1,17 @@
 //! The words, symbols and tokens of HyperTalk.
 #![tactic(auto)]
 
+mod cursor;
 mod cut;
-mod front;
 mod key;
+mod lexeme;
+mod names;
+mod stop;
 mod tokens;
-mod word;
 
+pub use cursor::Cursor;
 pub use cut::lex;
-pub use ht_values::PartKind;
-pub use key::{Constant, Key, Kind, Ordinal, Piece};
+pub use key::{Constant, Key, Ordinal, TokenKind};
+pub use names::{is_name, is_same};
+pub use stop::{Stop, to_text};
 pub use tokens::{LexError, Span, Token, Tokens};
-pub use word::{is_name, is_same};

@@ -3,14 +3,14 @@
 ghost use Rattle.std.specs.Prelude.{◌≡◌, ◌<◌, length, slice_range};
 ghost use Rattle.std.specs.List.{HoldsAt};
 
-use crate::key::Kind;
+use crate::key::TokenKind;
 use std::marker::Model;
 use thiserror::Error;
 
 /// A kind of token, and where one stands in the text: from the byte `start` up to the byte `stop`.
 #[derive(Clone, Copy, PartialEq, Eq, Debug)]
 pub struct Span {
-    pub kind: Kind,
+    pub kind: TokenKind,
     pub start: usize,
     pub stop: usize,
 }
@@ -18,7 +18,7 @@ pub struct Span {
 /// A token: its kind, its slice of the text, and the place of its first byte there.
 #[derive(Clone, Copy, Debug)]
 pub struct Token<'a> {
-    pub kind: Kind,
+    pub kind: TokenKind,
     pub text: &'a [u8],
     pub start: usize,
 }

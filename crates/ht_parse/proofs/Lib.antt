@@ -1,4 +1,3 @@
 pub mod Deeper
-pub mod Turns
 pub mod Lists
 pub mod Texts

@@ -8,8 +8,8 @@ use Rattle.ht_lex.specs.Tokens.{Lexed, Cuts, IsCut, tokens_of}
 use Rattle.ht_lex.specs.Answer.{Fails, Answers}
 use Rattle.ht_grammar.specs.Reads.{Reads}
 use Rattle.ht_grammar.specs.Laws.{ReadsExactly, OneTreePerText}
-use Rattle.expression_parser.specs.declared.stop.Stop.{Stop}
-use Rattle.expression_parser.specs.declared.stop.Stop.TheVariants as stop
+use Rattle.ht_lex.specs.declared.stop.Stop.{Stop}
+use Rattle.ht_lex.specs.declared.stop.Stop.TheVariants as stop
 use Rattle.ht_parse.specs.declared.error.ParseError.{ParseError}
 use Rattle.ht_parse.specs.declared.error.ParseError.TheVariants as error
 use Rattle.ht_parse.specs.Answer.{Lexes, Places, Parses, IsWhole}

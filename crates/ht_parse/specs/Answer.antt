@@ -8,8 +8,8 @@ use Rattle.ht_lex.specs.declared.tokens.Span.{Span}
 use Rattle.ht_lex.specs.Tokens.{Lexed, IsCut}
 use Rattle.ht_tree.specs.declared.statement.Stmts.{Stmts}
 use Rattle.ht_tree.specs.StatementView.{stmts_of}
-use Rattle.expression_parser.specs.declared.stop.Stop.{Stop}
-use Rattle.expression_parser.specs.declared.stop.Stop.TheVariants as stop
+use Rattle.ht_lex.specs.declared.stop.Stop.{Stop}
+use Rattle.ht_lex.specs.declared.stop.Stop.TheVariants as stop
 use Rattle.ht_parse.specs.declared.error.ParseError.{ParseError}
 use Rattle.ht_parse.specs.declared.error.ParseError.TheVariants as error
 

@@ -2,8 +2,8 @@
 use Rattle.std.specs.Prelude.{◌-◌, ℕ, min, length, Option, Some, None, slice_get}
 use Rattle.ht_lex.specs.Tokens.{Lexed}
 use Rattle.ht_lex.specs.declared.tokens.Span.{Span}
-use Rattle.expression_parser.specs.declared.stop.Stop.{Stop}
-use Rattle.expression_parser.specs.declared.stop.Stop.TheVariants as stop
+use Rattle.ht_lex.specs.declared.stop.Stop.{Stop}
+use Rattle.ht_lex.specs.declared.stop.Stop.TheVariants as stop
 use Rattle.ht_parse.specs.declared.error.ParseError.{ParseError}
 use Rattle.ht_parse.specs.declared.error.ParseError.TheVariants as error
 

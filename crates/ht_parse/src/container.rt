@@ -6,10 +6,10 @@ ghost use Rattle.ht_grammar.specs.Trees as t;
 ghost use Rattle.ht_grammar.specs.Reading as r;
 ghost use Rattle.ht_grammar.specs.Depth.{container_depth, max_depth};
 ghost use Rattle.ht_grammar.specs.Lines as spec;
-ghost use Rattle.expression_parser.specs.Answer.{Reads};
+ghost use Rattle.ht_expressions.specs.Answer.{Reads};
 
-use expression_parser::{Cursor, Stop, chunk_head, eat_of, field, text_of};
-use ht_lex::{Key, Kind};
+use ht_expressions::{chunk_head, eat_of, field};
+use ht_lex::{Cursor, Key, Stop, TokenKind, to_text};
 use ht_tree::{Container, ContainerKind, Names};
 use std::alloc::Global;
 
@@ -29,14 +29,14 @@ pub(crate) fn container(
     }
     let depth = depth - 1;
     match tokens.peek() {
-        Some(Kind::Name) => {
-            let name = text_of(alloc, tokens.take())?;
+        Some(TokenKind::Name) => {
+            let name = to_text(alloc, tokens.take())?;
             Ok(Container::new(alloc, ContainerKind::Variable(name))?)
         }
-        Some(Kind::Key(Key::Part(_))) => in_field(alloc, tokens, depth),
-        Some(Kind::Key(Key::Card)) => in_field(alloc, tokens, depth),
-        Some(Kind::Key(Key::Background)) => in_field(alloc, tokens, depth),
-        Some(Kind::Key(Key::Ordinal(_))) => at_ordinal(alloc, tokens, depth),
+        Some(TokenKind::Key(Key::Part(_))) => in_field(alloc, tokens, depth),
+        Some(TokenKind::Key(Key::Card)) => in_field(alloc, tokens, depth),
+        Some(TokenKind::Key(Key::Background)) => in_field(alloc, tokens, depth),
+        Some(TokenKind::Key(Key::Ordinal(_))) => at_ordinal(alloc, tokens, depth),
         _ => in_chunk(alloc, tokens, depth),
     }
 }
@@ -57,7 +57,7 @@ fn at_ordinal(alloc: Global, tokens: &mut Cursor<'_>, depth: usize) -> Result<Co
     ensures { Reads (λ c. c) container_depth (depth + 1) (spec.ordinal_container (spec.container depth) depth (first_kind (later tokens.old)) tokens.old) result tokens.new }
 {
     match tokens.second() {
-        Some(Kind::Key(Key::Piece(_))) => in_chunk(alloc, tokens, depth),
+        Some(TokenKind::Key(Key::Piece(_))) => in_chunk(alloc, tokens, depth),
         _ => in_field(alloc, tokens, depth),
     }
 }
@@ -83,14 +83,14 @@ pub(crate) fn names(alloc: Global, tokens: &mut Cursor<'_>, turns: usize) -> Res
     let mut found = Names::new(alloc);
     for _turn in 0..turns {
         match tokens.peek() {
-            Some(Kind::Name) => {
-                let name = text_of(alloc, tokens.take())?;
+            Some(TokenKind::Name) => {
+                let name = to_text(alloc, tokens.take())?;
                 found = found.with(name)?;
             }
             _ => return Err(Stop::Syntax),
         }
         match tokens.peek() {
-            Some(Kind::Key(Key::CommaSign)) => tokens.skip(),
+            Some(TokenKind::Key(Key::CommaSign)) => tokens.skip(),
             _ => return Ok(found),
         }
     }

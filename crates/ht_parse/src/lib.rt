@@ -4,11 +4,11 @@
 mod container;
 mod context;
 mod error;
+mod line_words;
 mod lines;
 mod parse;
 mod simple;
 mod whole;
-mod word;
 
 pub use error::ParseError;
 pub use parse::{parse_expr, parse_lines, parse_message, parse_part, parse_script, parse_type};

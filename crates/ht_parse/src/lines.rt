@@ -1,7 +1,8 @@
 //! Statements over several lines.
 
 ghost use Rattle.std.specs.Prelude.{◌≡◌, ◌<◌, ◌≤◌, ◌+◌, Some, true};
-ghost use Rattle.ht_lex.specs.Token.{first_kind, later};
+ghost use Rattle.ht_lex.specs.declared.key.Key.TheVariants as k;
+ghost use Rattle.ht_lex.specs.Token.{first_kind, later, is_key};
 ghost use Rattle.ht_grammar.specs.Statements as s;
 ghost use Rattle.ht_grammar.specs.Depth.{depth, head_depth, stmt_depth, stmts_depth, max_depth};
 ghost use Rattle.ht_grammar.specs.Expressions as e;
@@ -10,19 +11,17 @@ ghost use Rattle.ht_grammar.specs.Lines as spec;
 ghost use Rattle.ht_grammar.specs.Ends as ends;
 ghost use Rattle.ht_grammar.specs.Grammar.{at_large, inside_repeat};
 ghost use Rattle.ht_tree.specs.StatementView.{head_of, stmts_of};
-ghost use Rattle.expression_parser.specs.Answer.{Reads};
+ghost use Rattle.ht_expressions.specs.Answer.{Reads};
 ghost use Rattle.ht_parse.specs.Contexts.{context_of};
 ghost use Rattle.ht_parse.specs.Answer.{GivesLines};
 ghost use Rattle.ht_parse.specs.Blocks.{statement_of, else_if_of};
 
 use crate::context::Context;
-use crate::simple::Simple;
-use crate::word::{
-    begins_simple, begins_statement, eat_end, eat_ends, eat_equal, eat_if, eat_repeat, eat_then,
-    eat_to, is_else, skip_ends, skip_for, skip_times,
+use crate::line_words::{
+    begins_simple, begins_statement, eat_ends, skip_ends, skip_for, skip_times,
 };
-use expression_parser::{Cursor, Stop, text_of};
-use ht_lex::{Key, Kind, is_same};
+use crate::simple::Simple;
+use ht_lex::{Cursor, Key, Stop, TokenKind, is_same, to_text};
 use ht_tree::{Expr, Head, Stmt, StmtKind, Stmts};
 use ht_values::Text;
 use std::alloc::Global;
@@ -42,9 +41,9 @@ impl Simple {
     fn counted_down(&self, tokens: &mut Cursor<'_>, name: Text, from: Expr) -> Result<Head, Stop>
         requires shallow { self.now.depth < max_depth }
         requires fits { depth from ≤ self.now.depth }
-        ensures { Reads head_of head_depth self.now.depth (spec.after_key spec.is_to (λ m. r.made (s.counted_down name from) (r.read self.now.depth e.whole m)) tokens.old) result tokens.new }
+        ensures { Reads head_of head_depth self.now.depth (spec.after_key k.To (λ m. r.made (s.counted_down name from) (r.read self.now.depth e.whole m)) tokens.old) result tokens.new }
     {
-        if !eat_to(tokens) {
+        if !tokens.eat(Key::To) {
             return Err(Stop::Syntax);
         }
         let to = self.expr(tokens)?;
@@ -58,11 +57,11 @@ impl Simple {
         ensures { Reads head_of head_depth self.now.depth (spec.bound_by self.now.depth at_large name from (first_kind tokens.old) tokens.old) result tokens.new }
     {
         match tokens.peek() {
-            Some(Kind::Key(Key::To)) => {
+            Some(TokenKind::Key(Key::To)) => {
                 tokens.skip();
                 self.counted_up(tokens, name, from)
             }
-            Some(Kind::Name) => {
+            Some(TokenKind::Name) => {
                 if is_same(tokens.take(), b"down") {
                     self.counted_down(tokens, name, from)
                 } else {
@@ -79,9 +78,9 @@ impl Simple {
         ensures { Reads head_of head_depth self.now.depth (spec.with_by self.now.depth at_large (first_kind tokens.old) tokens.old) result tokens.new }
     {
         match tokens.peek() {
-            Some(Kind::Name) => {
-                let name = text_of(self.alloc, tokens.take())?;
-                if !eat_equal(tokens) {
+            Some(TokenKind::Name) => {
+                let name = to_text(self.alloc, tokens.take())?;
+                if !tokens.eat(Key::Equal) {
                     return Err(Stop::Syntax);
                 }
                 let from = self.expr(tokens)?;
@@ -99,20 +98,20 @@ impl Simple {
     {
         match tokens.peek() {
             None => Ok(Head::Forever),
-            Some(Kind::Eol) => Ok(Head::Forever),
-            Some(Kind::Key(Key::Forever)) => {
+            Some(TokenKind::Eol) => Ok(Head::Forever),
+            Some(TokenKind::Key(Key::Forever)) => {
                 tokens.skip();
                 Ok(Head::Forever)
             }
-            Some(Kind::Key(Key::While)) => {
+            Some(TokenKind::Key(Key::While)) => {
                 tokens.skip();
                 Ok(Head::While(self.expr(tokens)?))
             }
-            Some(Kind::Key(Key::Until)) => {
+            Some(TokenKind::Key(Key::Until)) => {
                 tokens.skip();
                 Ok(Head::Until(self.expr(tokens)?))
             }
-            Some(Kind::Key(Key::With)) => {
+            Some(TokenKind::Key(Key::With)) => {
                 tokens.skip();
                 self.counted(tokens)
             }
@@ -163,7 +162,7 @@ impl Simple {
         let lines = self.one(stmt)?;
         let before = tokens.mark();
         skip_ends(tokens);
-        if is_else(tokens.peek()) && begins_simple(tokens.second()) {
+        if tokens.is_at(Key::Else) && begins_simple(tokens.second()) {
             tokens.skip();
             let otherwise = self.one(self.within(tokens, context)?)?;
             return Ok(Stmt::new(self.alloc, StmtKind::When(condition, lines, otherwise))?);
@@ -176,11 +175,11 @@ impl Simple {
 
 /// Goes past ends of lines and `then`.
 fn expect_then(tokens: &mut Cursor<'_>) -> bool
-    ensures there { result ≡ spec.is_then (first_kind (ends.past_ends tokens.old)) }
+    ensures there { result ≡ is_key k.Then (first_kind (ends.past_ends tokens.old)) }
     ensures past { result ≡ true → tokens.new ≡ later (ends.past_ends tokens.old) }
 {
     skip_ends(tokens);
-    eat_then(tokens)
+    tokens.eat(Key::Then)
 }
 
 /// Lines of statements of at most `depth` levels, as many as there are.
@@ -228,11 +227,11 @@ fn statement(
         depth: depth - 1,
     };
     match tokens.peek() {
-        Some(Kind::Key(Key::If)) => {
+        Some(TokenKind::Key(Key::If)) => {
             tokens.skip();
             when(rules, tokens, context)
         }
-        Some(Kind::Key(Key::Repeat)) => {
+        Some(TokenKind::Key(Key::Repeat)) => {
             tokens.skip();
             repeat(rules, tokens, context)
         }
@@ -267,7 +266,7 @@ fn then_part(
 {
     match tokens.peek() {
         None => long(rules, tokens, context, condition),
-        Some(Kind::Eol) => long(rules, tokens, context, condition),
+        Some(TokenKind::Eol) => long(rules, tokens, context, condition),
         _ => {
             let stmt = rules.within(tokens, context)?;
             rules.short_end(tokens, context, condition, stmt)
@@ -303,17 +302,17 @@ fn long(
 #[tactic(auto, unfolding(ht_grammar::specs::Lines::head_at))]
 fn repeat(rules: Simple, tokens: &mut Cursor<'_>, context: Context<'_>) -> Result<Stmt, Stop>
     requires { rules.depth < max_depth }
-    ensures { Reads (λ x. x) stmt_depth (rules.depth + 1) (r.and_then (spec.head_at rules.depth (context_of context.entry) tokens.old) (λ h m. spec.ended_then (ends.ended m) (λ l. r.and_then (spec.blocks rules.depth spec.lines (inside_repeat (context_of context.entry)) l) (λ ss. spec.after_key spec.is_end (spec.after_key spec.is_repeat (λ c. Some (s.repeat h ss, c))))))) result tokens.new }
+    ensures { Reads (λ x. x) stmt_depth (rules.depth + 1) (r.and_then (spec.head_at rules.depth (context_of context.entry) tokens.old) (λ h m. spec.ended_then (ends.ended m) (λ l. r.and_then (spec.blocks rules.depth spec.lines (inside_repeat (context_of context.entry)) l) (λ ss. spec.after_key k.End (spec.after_key k.Repeat (λ c. Some (s.repeat h ss, c))))))) result tokens.new }
 {
     let head = rules.head(tokens)?;
     if !eat_ends(tokens) {
         return Err(Stop::Syntax);
     }
     let body = lines(rules.alloc, tokens, context.inside_repeat(), rules.depth)?;
-    if !eat_end(tokens) {
+    if !tokens.eat(Key::End) {
         return Err(Stop::Syntax);
     }
-    if !eat_repeat(tokens) {
+    if !tokens.eat(Key::Repeat) {
         return Err(Stop::Syntax);
     }
     Ok(Stmt::new(rules.alloc, StmtKind::Repeat(head, body))?)
@@ -332,14 +331,14 @@ fn otherwise(
     ensures { Reads (λ x. stmts_of x.items.items) stmts_depth depth (spec.blocks depth spec.otherwise (context_of context.entry) tokens.old) result tokens.new }
 {
     match tokens.peek() {
-        Some(Kind::Key(Key::End)) => {
+        Some(TokenKind::Key(Key::End)) => {
             tokens.skip();
-            if !eat_if(tokens) {
+            if !tokens.eat(Key::If) {
                 return Err(Stop::Syntax);
             }
             Ok(Stmts::new(alloc))
         }
-        Some(Kind::Key(Key::Else)) => {
+        Some(TokenKind::Key(Key::Else)) => {
             tokens.skip();
             else_part(alloc, tokens, context, depth)
         }
@@ -360,7 +359,7 @@ fn else_part(
     ensures { Reads (λ x. stmts_of x.items.items) stmts_depth depth (spec.else_by (statement_of depth) (else_if_of depth) (first_kind tokens.old) (context_of context.entry) tokens.old) result tokens.new }
 {
     match tokens.peek() {
-        Some(Kind::Key(Key::If)) => {
+        Some(TokenKind::Key(Key::If)) => {
             tokens.skip();
             let stmt = else_if(alloc, tokens, context, depth)?;
             Ok(Stmts::new(alloc).with(stmt)?)
@@ -370,10 +369,10 @@ fn else_part(
                 return Err(Stop::Syntax);
             }
             let found = lines(alloc, tokens, context, depth)?;
-            if !eat_end(tokens) {
+            if !tokens.eat(Key::End) {
                 return Err(Stop::Syntax);
             }
-            if !eat_if(tokens) {
+            if !tokens.eat(Key::If) {
                 return Err(Stop::Syntax);
             }
             Ok(found)

@@ -10,12 +10,11 @@ ghost use Rattle.ht_parse.specs.Stops.{start_or_end, error_at};
 
 use crate::error::ParseError;
 use crate::whole::{clicked_part, expression, script, sent_message, typed_lines, typed_text};
-use expression_parser::{Cursor, Stop};
 use ht_grammar::{
     expressions_are_read_exactly, lines_are_read_exactly, messages_are_read_exactly,
     parts_are_read_exactly, scripts_are_read_exactly, typing_is_read_exactly,
 };
-use ht_lex::{LexError, Tokens, lex};
+use ht_lex::{Cursor, LexError, Stop, Tokens, lex};
 use ht_tree::{Expr, Message, Part, Script, Stmts, Typing};
 use ht_values::Text;
 use std::alloc::Global;

@@ -1,10 +1,12 @@
 //! Statements on one line.
 
 ghost use Rattle.std.specs.Prelude.{◌≡◌, ◌<◌, ◌≤◌, ◌+◌, length, Some, None, if◌then◌else◌};
+ghost use Rattle.ht_lex.specs.Stops.{Gives};
+ghost use Rattle.ht_lex.specs.declared.key.Key.TheVariants as k;
 ghost use Rattle.ht_lex.specs.Token.{first_kind, first_text, later};
 ghost use Rattle.ht_grammar.specs.Trees as t;
 ghost use Rattle.ht_grammar.specs.Statements as s;
-ghost use Rattle.ht_grammar.specs.Depth.{container_depth, goal_depth, ref_depth, stmt_depth, depth, max_depth};
+ghost use Rattle.ht_grammar.specs.Depth.{container_depth, destination_depth, ref_depth, stmt_depth, depth, max_depth};
 ghost use Rattle.ht_grammar.specs.Ends as ends;
 ghost use Rattle.ht_grammar.specs.Expressions as e;
 ghost use Rattle.ht_grammar.specs.Fronts as f;
@@ -12,31 +14,31 @@ ghost use Rattle.ht_grammar.specs.Grammar.{at_large};
 ghost use Rattle.ht_grammar.specs.Reading as r;
 ghost use Rattle.ht_grammar.specs.Lines as spec;
 ghost use Rattle.ht_tree.specs.View.{ref_of};
-ghost use Rattle.ht_tree.specs.StatementView.{goal_of, stmt_of};
-ghost use Rattle.expression_parser.specs.Answer.{Reads, ReadsExpr, Gives};
+ghost use Rattle.ht_tree.specs.StatementView.{destination_of, stmt_of};
+ghost use Rattle.ht_expressions.specs.Answer.{Reads, ReadsExpr};
 ghost use Rattle.ht_parse.specs.Contexts.{context_of};
 
 use crate::container::{container, names};
 use crate::context::Context;
-use crate::word::{begins_expr, eat_by, eat_from, eat_repeat, eat_to, skip_to};
-use expression_parser::{
-    Cursor, Stop, WHOLE, arguments, eat_of, holder, prop_front, read, reference, run_prop,
-    skip_the, spot, text_of,
+use crate::line_words::{begins_expr, skip_to};
+use ht_expressions::{
+    WHOLE, arguments, eat_of, prop_front, read, reference, referenced_layer, run_prop, selector,
+    skip_the,
 };
-use ht_grammar::{Layer, RunProp, Where};
-use ht_lex::{Key, Kind, is_same};
-use ht_tree::{Container, ContainerKind, Expr, Exprs, Goal, Ref, Spot, Stmt, StmtKind};
-use ht_values::Prop;
+use ht_grammar::{Layer, RunProp};
+use ht_lex::{Cursor, Key, Stop, TokenKind, is_same, to_text};
+use ht_tree::{Container, ContainerKind, Destination, Expr, Exprs, Ref, Selector, Stmt, StmtKind};
+use ht_values::{Prop, Where};
 use std::alloc::Global;
 
 /// Where `put` puts, by the word after its value.
-fn place_of(kind: Option<Kind>) -> Option<Where>
+fn place_of(kind: Option<TokenKind>) -> Option<Where>
     ensures { result ≡ spec.place_front 0 at_large kind }
 {
     match kind {
-        Some(Kind::Key(Key::Into)) => Some(Where::Into),
-        Some(Kind::Key(Key::Before)) => Some(Where::Before),
-        Some(Kind::Key(Key::After)) => Some(Where::After),
+        Some(TokenKind::Key(Key::Into)) => Some(Where::Into),
+        Some(TokenKind::Key(Key::Before)) => Some(Where::Before),
+        Some(TokenKind::Key(Key::After)) => Some(Where::After),
         _ => None,
     }
 }
@@ -46,7 +48,7 @@ fn run_prop_front(tokens: &Cursor<'_>) -> Option<RunProp>
     ensures { result ≡ spec.run_prop_front tokens.now }
 {
     match tokens.peek() {
-        Some(Kind::Name) => run_prop(tokens.text()),
+        Some(TokenKind::Name) => run_prop(tokens.text()),
         _ => None,
     }
 }
@@ -117,9 +119,9 @@ impl Simple {
     fn set_to(&self, tokens: &mut Cursor<'_>, prop: Prop, reference: Ref) -> Result<Stmt, Stop>
         requires shallow { self.now.depth < max_depth }
         requires fits { ref_depth (ref_of reference) ≤ self.now.depth }
-        ensures { Reads (λ s. s) stmt_depth (self.now.depth + 1) (spec.after_key spec.is_to (λ m. r.made (s.set prop (ref_of reference)) (r.read self.now.depth e.whole m)) tokens.old) result tokens.new }
+        ensures { Reads (λ s. s) stmt_depth (self.now.depth + 1) (spec.after_key k.To (λ m. r.made (s.set prop (ref_of reference)) (r.read self.now.depth e.whole m)) tokens.old) result tokens.new }
     {
-        if !eat_to(tokens) {
+        if !tokens.eat(Key::To) {
             return Err(Stop::Syntax);
         }
         let value = self.expr(tokens)?;
@@ -148,7 +150,7 @@ impl Simple {
             return Err(Stop::Syntax);
         };
         tokens.skip();
-        if !eat_to(tokens) {
+        if !tokens.eat(Key::To) {
             return Err(Stop::Syntax);
         }
         let value = self.expr(tokens)?;
@@ -168,10 +170,10 @@ impl Simple {
 
     fn add(&self, tokens: &mut Cursor<'_>) -> Result<Stmt, Stop>
         requires { self.now.depth < max_depth }
-        ensures { Reads (λ s. s) stmt_depth (self.now.depth + 1) (r.and_then (r.read self.now.depth e.whole tokens.old) (λ v. spec.after_key spec.is_to (λ m. r.made (s.add v) (spec.container self.now.depth m)))) result tokens.new }
+        ensures { Reads (λ s. s) stmt_depth (self.now.depth + 1) (r.and_then (r.read self.now.depth e.whole tokens.old) (λ v. spec.after_key k.To (λ m. r.made (s.add v) (spec.container self.now.depth m)))) result tokens.new }
     {
         let value = self.expr(tokens)?;
-        if !eat_to(tokens) {
+        if !tokens.eat(Key::To) {
             return Err(Stop::Syntax);
         }
         let container = self.container(tokens)?;
@@ -180,10 +182,10 @@ impl Simple {
 
     fn subtract(&self, tokens: &mut Cursor<'_>) -> Result<Stmt, Stop>
         requires { self.now.depth < max_depth }
-        ensures { Reads (λ s. s) stmt_depth (self.now.depth + 1) (r.and_then (r.read self.now.depth e.whole tokens.old) (λ v. spec.after_key spec.is_from (λ m. r.made (s.subtract v) (spec.container self.now.depth m)))) result tokens.new }
+        ensures { Reads (λ s. s) stmt_depth (self.now.depth + 1) (r.and_then (r.read self.now.depth e.whole tokens.old) (λ v. spec.after_key k.From (λ m. r.made (s.subtract v) (spec.container self.now.depth m)))) result tokens.new }
     {
         let value = self.expr(tokens)?;
-        if !eat_from(tokens) {
+        if !tokens.eat(Key::From) {
             return Err(Stop::Syntax);
         }
         let container = self.container(tokens)?;
@@ -192,10 +194,10 @@ impl Simple {
 
     fn multiply(&self, tokens: &mut Cursor<'_>) -> Result<Stmt, Stop>
         requires { self.now.depth < max_depth }
-        ensures { Reads (λ s. s) stmt_depth (self.now.depth + 1) (r.and_then (spec.container self.now.depth tokens.old) (λ c. spec.after_key spec.is_by (λ m. r.made (s.multiply c) (r.read self.now.depth e.whole m)))) result tokens.new }
+        ensures { Reads (λ s. s) stmt_depth (self.now.depth + 1) (r.and_then (spec.container self.now.depth tokens.old) (λ c. spec.after_key k.By (λ m. r.made (s.multiply c) (r.read self.now.depth e.whole m)))) result tokens.new }
     {
         let container = self.container(tokens)?;
-        if !eat_by(tokens) {
+        if !tokens.eat(Key::By) {
             return Err(Stop::Syntax);
         }
         let value = self.expr(tokens)?;
@@ -204,10 +206,10 @@ impl Simple {
 
     fn divide(&self, tokens: &mut Cursor<'_>) -> Result<Stmt, Stop>
         requires { self.now.depth < max_depth }
-        ensures { Reads (λ s. s) stmt_depth (self.now.depth + 1) (r.and_then (spec.container self.now.depth tokens.old) (λ c. spec.after_key spec.is_by (λ m. r.made (s.divide c) (r.read self.now.depth e.whole m)))) result tokens.new }
+        ensures { Reads (λ s. s) stmt_depth (self.now.depth + 1) (r.and_then (spec.container self.now.depth tokens.old) (λ c. spec.after_key k.By (λ m. r.made (s.divide c) (r.read self.now.depth e.whole m)))) result tokens.new }
     {
         let container = self.container(tokens)?;
-        if !eat_by(tokens) {
+        if !tokens.eat(Key::By) {
             return Err(Stop::Syntax);
         }
         let value = self.expr(tokens)?;
@@ -237,10 +239,10 @@ impl Simple {
 
     fn send(&self, tokens: &mut Cursor<'_>) -> Result<Stmt, Stop>
         requires { self.now.depth < max_depth }
-        ensures { Reads (λ s. s) stmt_depth (self.now.depth + 1) (r.and_then (r.read self.now.depth e.whole tokens.old) (λ v. spec.after_key spec.is_to (λ m. r.made (s.send v) (r.inner_ref (r.read self.now.depth) self.now.depth m)))) result tokens.new }
+        ensures { Reads (λ s. s) stmt_depth (self.now.depth + 1) (r.and_then (r.read self.now.depth e.whole tokens.old) (λ v. spec.after_key k.To (λ m. r.made (s.send v) (r.inner_ref (r.read self.now.depth) self.now.depth m)))) result tokens.new }
     {
         let text = self.expr(tokens)?;
-        if !eat_to(tokens) {
+        if !tokens.eat(Key::To) {
             return Err(Stop::Syntax);
         }
         let reference = reference(self.alloc, tokens, self.depth)?;
@@ -248,37 +250,37 @@ impl Simple {
     }
 
     /// A card or a background, by the layer's word in front; without one a card.
-    fn goal_on(&self, tokens: &mut Cursor<'_>) -> Result<Goal, Stop>
+    fn destination_on(&self, tokens: &mut Cursor<'_>) -> Result<Destination, Stop>
         requires { self.now.depth < max_depth }
-        ensures { Reads goal_of goal_depth (self.now.depth + 1) (spec.goal_by self.now.depth at_large (r.holder_front tokens.old) tokens.old) result tokens.new }
+        ensures { Reads destination_of destination_depth (self.now.depth + 1) (spec.destination_by self.now.depth at_large (r.referenced_layer tokens.old) tokens.old) result tokens.new }
     {
-        match holder(tokens) {
-            Some(Layer::Card) => Ok(Goal::ToCard(spot(self.alloc, tokens, self.depth)?)),
-            Some(Layer::Background) => Ok(Goal::ToBackground(spot(
+        match referenced_layer(tokens) {
+            Some(Layer::Card) => Ok(Destination::ToCard(selector(self.alloc, tokens, self.depth)?)),
+            Some(Layer::Background) => Ok(Destination::ToBackground(selector(
                 self.alloc, tokens, self.depth,
             )?)),
-            None => bare_goal(tokens),
+            None => bare_destination(tokens),
         }
     }
 
-    #[tactic(auto, unfolding(ht_grammar::specs::Lines::goal_at))]
-    fn goal(&self, tokens: &mut Cursor<'_>) -> Result<Goal, Stop>
+    #[tactic(auto, unfolding(ht_grammar::specs::Lines::destination_at))]
+    fn destination(&self, tokens: &mut Cursor<'_>) -> Result<Destination, Stop>
         requires { self.now.depth < max_depth }
-        ensures { Reads goal_of goal_depth self.now.depth (spec.goal_at self.now.depth at_large tokens.old) result tokens.new }
+        ensures { Reads destination_of destination_depth self.now.depth (spec.destination_at self.now.depth at_large tokens.old) result tokens.new }
     {
-        let goal = self.goal_on(tokens)?;
-        if goal.depth() > self.depth {
+        let destination = self.destination_on(tokens)?;
+        if destination.depth() > self.depth {
             return Err(Stop::Syntax);
         }
-        Ok(goal)
+        Ok(destination)
     }
 
     fn go(&self, tokens: &mut Cursor<'_>) -> Result<Stmt, Stop>
         requires { self.now.depth < max_depth }
-        ensures { Reads (λ s. s) stmt_depth (self.now.depth + 1) (r.made s.go (spec.goal_at self.now.depth at_large tokens.old)) result tokens.new }
+        ensures { Reads (λ s. s) stmt_depth (self.now.depth + 1) (r.made s.go (spec.destination_at self.now.depth at_large tokens.old)) result tokens.new }
     {
-        let goal = self.goal(tokens)?;
-        self.stmt(StmtKind::Go(goal))
+        let destination = self.destination(tokens)?;
+        self.stmt(StmtKind::Go(destination))
     }
 
     /// Names, after `global`.
@@ -296,7 +298,7 @@ impl Simple {
         ensures { Reads (λ s. s) stmt_depth (self.now.depth + 1) (spec.hypercard_by self.now.depth at_large (first_kind tokens.old) tokens.old) result tokens.new }
     {
         match tokens.peek() {
-            Some(Kind::Name) => {
+            Some(TokenKind::Name) => {
                 if is_same(tokens.take(), b"HyperCard") {
                     self.stmt(StmtKind::ExitToHyperCard)
                 } else {
@@ -313,23 +315,23 @@ impl Simple {
         ensures { Reads (λ s. s) stmt_depth (self.now.depth + 1) (spec.exit_by self.now.depth (context_of context.entry) (first_kind tokens.old) tokens.old) result tokens.new }
     {
         match tokens.peek() {
-            Some(Kind::Key(Key::Repeat)) => {
+            Some(TokenKind::Key(Key::Repeat)) => {
                 if !context.in_repeat {
                     return Err(Stop::Syntax);
                 }
                 tokens.skip();
                 self.stmt(StmtKind::ExitRepeat)
             }
-            Some(Kind::Key(Key::To)) => {
+            Some(TokenKind::Key(Key::To)) => {
                 tokens.skip();
                 self.exit_to(tokens)
             }
-            Some(Kind::Name) => {
+            Some(TokenKind::Name) => {
                 let name = tokens.take();
                 if !context.names_handler(name) {
                     return Err(Stop::Syntax);
                 }
-                self.stmt(StmtKind::Exit(text_of(self.alloc, name)?))
+                self.stmt(StmtKind::Exit(to_text(self.alloc, name)?))
             }
             _ => Err(Stop::Syntax),
         }
@@ -338,9 +340,9 @@ impl Simple {
     /// After `next`.
     fn next(&self, tokens: &mut Cursor<'_>, context: Context<'_>) -> Result<Stmt, Stop>
         requires { self.now.depth < max_depth }
-        ensures { Reads (λ s. s) stmt_depth (self.now.depth + 1) (spec.after_key spec.is_repeat (λ c. if (context_of context.entry).in_repeat then Some (s.next_repeat, c) else None) tokens.old) result tokens.new }
+        ensures { Reads (λ s. s) stmt_depth (self.now.depth + 1) (spec.after_key k.Repeat (λ c. if (context_of context.entry).in_repeat then Some (s.next_repeat, c) else None) tokens.old) result tokens.new }
     {
-        if !eat_repeat(tokens) {
+        if !tokens.eat(Key::Repeat) {
             return Err(Stop::Syntax);
         }
         if !context.in_repeat {
@@ -355,12 +357,12 @@ impl Simple {
         ensures { Reads (λ s. s) stmt_depth (self.now.depth + 1) (spec.pass_by self.now.depth (context_of context.entry) (first_kind tokens.old) tokens.old) result tokens.new }
     {
         match tokens.peek() {
-            Some(Kind::Name) => {
+            Some(TokenKind::Name) => {
                 let name = tokens.take();
                 if !context.names_handler(name) {
                     return Err(Stop::Syntax);
                 }
-                self.stmt(StmtKind::Pass(text_of(self.alloc, name)?))
+                self.stmt(StmtKind::Pass(to_text(self.alloc, name)?))
             }
             _ => Err(Stop::Syntax),
         }
@@ -385,7 +387,7 @@ impl Simple {
         ensures { Reads (λ s. s) stmt_depth (self.now.depth + 1) (if spec.begins_expr (first_kind (later tokens.old)) then r.made (s.command (first_text tokens.old)) (r.list_at (r.read self.now.depth) self.now.depth (length tokens.old) t.none (later tokens.old)) else Some (s.command (first_text tokens.old) t.none, later tokens.old)) result tokens.new }
     {
         let turns = tokens.left();
-        let name = text_of(self.alloc, tokens.take())?;
+        let name = to_text(self.alloc, tokens.take())?;
         if begins_expr(tokens.peek()) {
             let arguments = arguments(self.alloc, tokens, turns, self.depth)?;
             self.stmt(StmtKind::Command(name, arguments))
@@ -395,7 +397,7 @@ impl Simple {
     }
 
     /// A statement on one line.
-    #[tactic(auto, unfolding(ht_grammar::specs::Lines::simple_at, ht_grammar::specs::Lines::goal_at))]
+    #[tactic(auto, unfolding(ht_grammar::specs::Lines::simple_at, ht_grammar::specs::Lines::destination_at))]
     pub(crate) fn statement(
         &self,
         tokens: &mut Cursor<'_>,
@@ -405,34 +407,34 @@ impl Simple {
         ensures { Reads (λ s. s) stmt_depth (self.now.depth + 1) (spec.simple_at self.now.depth (context_of context.entry) tokens.old) result tokens.new }
     {
         let kind = tokens.peek();
-        if let Some(Kind::Name) = kind {
+        if let Some(TokenKind::Name) = kind {
             return self.command(tokens);
         }
         let turns = tokens.left();
         tokens.skip();
         match kind {
-            Some(Kind::Key(Key::Put)) => self.put(tokens),
-            Some(Kind::Key(Key::Get)) => self.get(tokens),
-            Some(Kind::Key(Key::Set)) => {
+            Some(TokenKind::Key(Key::Put)) => self.put(tokens),
+            Some(TokenKind::Key(Key::Get)) => self.get(tokens),
+            Some(TokenKind::Key(Key::Set)) => {
                 skip_the(tokens);
                 self.set(tokens)
             }
-            Some(Kind::Key(Key::Add)) => self.add(tokens),
-            Some(Kind::Key(Key::Subtract)) => self.subtract(tokens),
-            Some(Kind::Key(Key::Multiply)) => self.multiply(tokens),
-            Some(Kind::Key(Key::Divide)) => self.divide(tokens),
-            Some(Kind::Key(Key::Delete)) => self.delete(tokens),
-            Some(Kind::Key(Key::Do)) => self.do_(tokens),
-            Some(Kind::Key(Key::Send)) => self.send(tokens),
-            Some(Kind::Key(Key::Go)) => {
+            Some(TokenKind::Key(Key::Add)) => self.add(tokens),
+            Some(TokenKind::Key(Key::Subtract)) => self.subtract(tokens),
+            Some(TokenKind::Key(Key::Multiply)) => self.multiply(tokens),
+            Some(TokenKind::Key(Key::Divide)) => self.divide(tokens),
+            Some(TokenKind::Key(Key::Delete)) => self.delete(tokens),
+            Some(TokenKind::Key(Key::Do)) => self.do_(tokens),
+            Some(TokenKind::Key(Key::Send)) => self.send(tokens),
+            Some(TokenKind::Key(Key::Go)) => {
                 skip_to(tokens);
                 self.go(tokens)
             }
-            Some(Kind::Key(Key::Global)) => self.global(tokens, turns),
-            Some(Kind::Key(Key::Exit)) => self.exit(tokens, context),
-            Some(Kind::Key(Key::Next)) => self.next(tokens, context),
-            Some(Kind::Key(Key::Pass)) => self.pass(tokens, context),
-            Some(Kind::Key(Key::Return)) => {
+            Some(TokenKind::Key(Key::Global)) => self.global(tokens, turns),
+            Some(TokenKind::Key(Key::Exit)) => self.exit(tokens, context),
+            Some(TokenKind::Key(Key::Next)) => self.next(tokens, context),
+            Some(TokenKind::Key(Key::Pass)) => self.pass(tokens, context),
+            Some(TokenKind::Key(Key::Return)) => {
                 if context.handler.is_none() {
                     return Err(Stop::Syntax);
                 }
@@ -444,16 +446,18 @@ impl Simple {
 }
 
 /// A card by its place alone.
-fn bare_goal(tokens: &mut Cursor<'_>) -> Result<Goal, Stop>
-    ensures { Reads goal_of goal_depth 1 (spec.bare_goal 0 at_large (first_kind tokens.old) tokens.old) result tokens.new }
+fn bare_destination(tokens: &mut Cursor<'_>) -> Result<Destination, Stop>
+    ensures { Reads destination_of destination_depth 1 (spec.bare_destination 0 at_large (first_kind tokens.old) tokens.old) result tokens.new }
 {
     let kind = tokens.peek();
     tokens.skip();
     match kind {
-        Some(Kind::Key(Key::This)) => Ok(Goal::ToCard(Spot::This)),
-        Some(Kind::Key(Key::Next)) => Ok(Goal::ToCard(Spot::Next)),
-        Some(Kind::Key(Key::Previous)) => Ok(Goal::ToCard(Spot::Previous)),
-        Some(Kind::Key(Key::Ordinal(ordinal))) => Ok(Goal::ToCard(Spot::Nth(ordinal))),
+        Some(TokenKind::Key(Key::This)) => Ok(Destination::ToCard(Selector::This)),
+        Some(TokenKind::Key(Key::Next)) => Ok(Destination::ToCard(Selector::Next)),
+        Some(TokenKind::Key(Key::Previous)) => Ok(Destination::ToCard(Selector::Previous)),
+        Some(TokenKind::Key(Key::Ordinal(ordinal))) => Ok(Destination::ToCard(Selector::Nth(
+            ordinal,
+        ))),
         _ => Err(Stop::Syntax),
     }
 }

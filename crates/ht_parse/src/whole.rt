@@ -10,17 +10,17 @@ ghost use Rattle.ht_grammar.specs.Lines as line;
 ghost use Rattle.ht_tree.specs.View.{part_of};
 ghost use Rattle.ht_tree.specs.StatementView.{stmts_of};
 ghost use Rattle.ht_tree.specs.ScriptView.{handler_of, script_of, message_of, typing_of};
-ghost use Rattle.expression_parser.specs.Answer.{Reads};
+ghost use Rattle.ht_expressions.specs.Answer.{Reads};
 ghost use Rattle.ht_parse.specs.Answer.{IsWhole};
 ghost use Rattle.ht_parse.specs.Lists.{handler_depth};
 
 use crate::container::names;
 use crate::context::Context;
+use crate::line_words::{eat_ends, skip_ends};
 use crate::lines::lines;
-use crate::word::{eat_end, eat_ends, skip_ends};
-use expression_parser::{Cursor, Stop, WHOLE, arguments, part, read, text_of};
+use ht_expressions::{WHOLE, arguments, part, read};
 use ht_grammar::HandlerKind;
-use ht_lex::{Key, Kind, is_same};
+use ht_lex::{Cursor, Key, Stop, TokenKind, is_same, to_text};
 use ht_tree::{Expr, Exprs, Handler, Message, Names, Owner, Part, Script, Stmts, Typing};
 use ht_values::{PartKind, Text};
 use std::alloc::Global;
@@ -60,7 +60,7 @@ fn parameters(alloc: Global, tokens: &mut Cursor<'_>) -> Result<Names, Stop>
     ensures { Reads (λ names. names.items.items) (λ names. 0) 0 (spec.params_by (first_kind tokens.old) tokens.old) result tokens.new }
 {
     match tokens.peek() {
-        Some(Kind::Name) => {
+        Some(TokenKind::Name) => {
             let turns = tokens.left();
             names(alloc, tokens, turns)
         }
@@ -74,7 +74,7 @@ fn end_name(tokens: &mut Cursor<'_>, handler: Handler) -> Result<Handler, Stop>
     ensures { Reads handler_of handler_depth max_depth (spec.name_by (first_kind tokens.old) handler.name (handler_of handler) tokens.old) result tokens.new }
 {
     match tokens.peek() {
-        Some(Kind::Name) => {
+        Some(TokenKind::Name) => {
             if !is_same(handler.name.as_slice(), tokens.take()) {
                 return Err(Stop::Syntax);
             }
@@ -105,7 +105,7 @@ fn body(
         handler: Some(name.as_slice()),
     };
     let body = lines(alloc, tokens, context, MAX_DEPTH)?;
-    if !eat_end(tokens) {
+    if !tokens.eat(Key::End) {
         return Err(Stop::Syntax);
     }
     let handler = Handler {
@@ -122,8 +122,8 @@ fn named(alloc: Global, tokens: &mut Cursor<'_>, kind: HandlerKind) -> Result<Ha
     ensures { Reads handler_of handler_depth max_depth (spec.named_by (first_kind tokens.old) kind tokens.old) result tokens.new }
 {
     match tokens.peek() {
-        Some(Kind::Name) => {
-            let name = text_of(alloc, tokens.take())?;
+        Some(TokenKind::Name) => {
+            let name = to_text(alloc, tokens.take())?;
             let parameters = parameters(alloc, tokens)?;
             body(alloc, tokens, kind, name, parameters)
         }
@@ -135,11 +135,11 @@ fn handler(alloc: Global, tokens: &mut Cursor<'_>) -> Result<Handler, Stop>
     ensures { Reads handler_of handler_depth max_depth (spec.handler_by (first_kind tokens.old) tokens.old) result tokens.new }
 {
     match tokens.peek() {
-        Some(Kind::Key(Key::On)) => {
+        Some(TokenKind::Key(Key::On)) => {
             tokens.skip();
             named(alloc, tokens, HandlerKind::Command)
         }
-        Some(Kind::Key(Key::Function)) => {
+        Some(TokenKind::Key(Key::Function)) => {
             tokens.skip();
             named(alloc, tokens, HandlerKind::Function)
         }
@@ -194,8 +194,8 @@ pub(crate) fn typed_text(alloc: Global, tokens: &mut Cursor<'_>) -> Result<Typin
     ensures { IsWhole typing_of (spec.typed_text tokens.old) result }
 {
     match tokens.peek() {
-        Some(Kind::Quoted) => {
-            let text = text_of(alloc, tokens.take())?;
+        Some(TokenKind::Quoted) => {
+            let text = to_text(alloc, tokens.take())?;
             into_field(alloc, tokens, text)
         }
         _ => Err(Stop::Syntax),
@@ -207,7 +207,7 @@ fn into_field(alloc: Global, tokens: &mut Cursor<'_>, text: Text) -> Result<Typi
     ensures { IsWhole typing_of (spec.into_by (first_kind tokens.old) text (later tokens.old)) result }
 {
     match tokens.peek() {
-        Some(Kind::Key(Key::Into)) => {
+        Some(TokenKind::Key(Key::Into)) => {
             tokens.skip();
             let field = clicked_part(alloc, tokens)?;
             match field.kind() {
@@ -244,8 +244,8 @@ pub(crate) fn sent_message(alloc: Global, tokens: &mut Cursor<'_>) -> Result<Mes
     ensures { IsWhole message_of (spec.sent_message tokens.old) result }
 {
     match tokens.peek() {
-        Some(Kind::Name) => {
-            let name = text_of(alloc, tokens.take())?;
+        Some(TokenKind::Name) => {
+            let name = to_text(alloc, tokens.take())?;
             given(alloc, tokens, name)
         }
         _ => Err(Stop::Syntax),

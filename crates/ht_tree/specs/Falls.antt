@@ -2,15 +2,15 @@
 use Rattle.std.specs.Prelude.{◌+◌, ◌≤◌, max, List, [], ◌∷◌}
 use Rattle.std.proofs.Common.{arith}
 use denote.Param.Weighed.{most}
-use Rattle.ht_tree.specs.declared.expr.Expr.TheDeep.{deep-ExprKind, deep-Chunk, deep-Which, deep-Spot, deep-Owner, deep-Part, deep-Ref, deep-Count}
+use Rattle.ht_tree.specs.declared.expr.Expr.TheDeep.{deep-ExprKind, deep-Chunk, deep-Which, deep-Selector, deep-Owner, deep-Part, deep-Ref, deep-Count}
 use Rattle.ht_tree.specs.declared.expr.ExprKind.{ExprKind}
 use Rattle.ht_tree.specs.declared.expr.ExprKind.TheVariants as e
 use Rattle.ht_tree.specs.declared.expr.Chunk.{Chunk}
 use Rattle.ht_tree.specs.declared.expr.Chunk.TheVariants as chunk
 use Rattle.ht_tree.specs.declared.expr.Which.{Which}
 use Rattle.ht_tree.specs.declared.expr.Which.TheVariants as which
-use Rattle.ht_tree.specs.declared.expr.Spot.{Spot}
-use Rattle.ht_tree.specs.declared.expr.Spot.TheVariants as spot
+use Rattle.ht_tree.specs.declared.expr.Selector.{Selector}
+use Rattle.ht_tree.specs.declared.expr.Selector.TheVariants as selector
 use Rattle.ht_tree.specs.declared.expr.Owner.{Owner}
 use Rattle.ht_tree.specs.declared.expr.Owner.TheVariants as owner
 use Rattle.ht_tree.specs.declared.expr.Part.{Part}
@@ -20,8 +20,8 @@ use Rattle.ht_tree.specs.declared.expr.Ref.TheVariants as ref
 use Rattle.ht_tree.specs.declared.expr.Count.{Count}
 use Rattle.ht_tree.specs.declared.expr.Count.TheVariants as count
 use Rattle.ht_grammar.specs.Trees as t
-use Rattle.ht_grammar.specs.Depth.{depth, depths, chunk_depth, which_depth, spot_depth, owner_depth, part_depth, ref_depth, count_depth}
-use Rattle.ht_tree.specs.View.{exprs_of, chunk_of, which_of, spot_of, owner_of, part_of, ref_of, count_of, expr_of}
+use Rattle.ht_grammar.specs.Depth.{depth, depths, chunk_depth, which_depth, selector_depth, owner_depth, part_depth, ref_depth, count_depth}
+use Rattle.ht_tree.specs.View.{exprs_of, chunk_of, which_of, selector_of, owner_of, part_of, ref_of, count_of, expr_of}
 
 exprs_fall : (xs : List t.Expr) → most (λ x. depth x + 1) xs ≤ depths (exprs_of xs) + 1
 exprs_fall [] = omega arith
@@ -36,17 +36,17 @@ which_falls : (w : Which) → deep-Which w ≤ which_depth (which_of w) + 1
 which_falls (which.ById x) = omega arith
 which_falls (which.ByText x) = omega arith
 
-spot_falls : (p : Spot) → deep-Spot p ≤ spot_depth (spot_of p) + 1
-spot_falls spot.This = omega arith
-spot_falls spot.Next = omega arith
-spot_falls spot.Previous = omega arith
-spot_falls (spot.Nth n) = omega arith
-spot_falls (spot.Which w) = omega (arith, which_falls w)
+selector_falls : (p : Selector) → deep-Selector p ≤ selector_depth (selector_of p) + 1
+selector_falls selector.This = omega arith
+selector_falls selector.Next = omega arith
+selector_falls selector.Previous = omega arith
+selector_falls (selector.Nth n) = omega arith
+selector_falls (selector.Which w) = omega (arith, which_falls w)
 
 owner_falls : (o : Owner) → deep-Owner o ≤ owner_depth (owner_of o)
 owner_falls owner.NoOwner = omega arith
-owner_falls (owner.OnCard p) = omega (arith, spot_falls p)
-owner_falls (owner.OnBackground p) = omega (arith, spot_falls p)
+owner_falls (owner.OnCard p) = omega (arith, selector_falls p)
+owner_falls (owner.OnBackground p) = omega (arith, selector_falls p)
 
 part_falls : (p : Part) → deep-Part p ≤ part_depth (part_of p)
 part_falls (part.Plain l k w o) = omega (arith, which_falls w, owner_falls o)
@@ -56,8 +56,8 @@ ref_falls : (r : Ref) → deep-Ref r ≤ ref_depth (ref_of r)
 ref_falls ref.Me = omega arith
 ref_falls ref.Target = omega arith
 ref_falls ref.ThisStack = omega arith
-ref_falls (ref.Card p) = omega (arith, spot_falls p)
-ref_falls (ref.Background p) = omega (arith, spot_falls p)
+ref_falls (ref.Card p) = omega (arith, selector_falls p)
+ref_falls (ref.Background p) = omega (arith, selector_falls p)
 ref_falls (ref.Part p) = omega (arith, part_falls p)
 
 count_falls : (n : Count) → deep-Count n ≤ count_depth (count_of n) + 1

@@ -1,7 +1,7 @@
 -- Expressions in postfix form: a list of marks that gives the tree back.
 use Rattle.std.specs.Prelude.{ℕ, Bool, List, [], ◌∷◌, Option}
 use Rattle.std.proofs.Common.{◌≡◌, refl, ◌∙◌}
-use Rattle.ht_lex.specs.declared.key.Piece.{Piece}
+use Rattle.ht_values.specs.declared.word.ChunkKind.{ChunkKind}
 use Rattle.ht_lex.specs.declared.key.Ordinal.{Ordinal}
 use Rattle.ht_lex.specs.declared.key.Constant.{Constant}
 use Rattle.ht_values.specs.declared.word.PartKind.{PartKind}
@@ -11,7 +11,7 @@ use Rattle.ht_values.specs.declared.word.Prop.{Prop}
 use Rattle.ht_grammar.specs.declared.vocabulary.RunProp.{RunProp}
 use Rattle.ht_grammar.specs.declared.vocabulary.FunctionWord.{FunctionWord}
 use Rattle.ht_grammar.specs.declared.vocabulary.Layer.{Layer}
-use Rattle.ht_grammar.specs.Trees.{Expr, Exprs, Chunk, Which, Spot, Owner, Part, Ref, Count}
+use Rattle.ht_grammar.specs.Trees.{Expr, Exprs, Chunk, Which, Selector, Owner, Part, Ref, Count}
 use Rattle.ht_grammar.specs.Trees as t
 
 -- A node without its parts, which stand before it.
@@ -25,8 +25,8 @@ pub data Mark : Type 0 where
   property : Prop → Mark
   run_property : RunProp → Mark
   function : FunctionWord → Mark
-  piece pieces pieces_of : Piece → Mark
-  nth_piece : Ordinal → Piece → Mark
+  piece pieces pieces_of : ChunkKind → Mark
+  nth_piece : Ordinal → ChunkKind → Mark
   by_id by_text this next previous which no_owner on_card on_background : Mark
   nth : Ordinal → Mark
   part : Option Layer → PartKind → Mark
@@ -40,7 +40,7 @@ pub data Item : Type 0 where
   some_exprs : Exprs → Item
   a_chunk : Chunk → Item
   a_which : Which → Item
-  a_spot : Spot → Item
+  a_selector : Selector → Item
   an_owner : Owner → Item
   a_part_item : Part → Item
   a_ref : Ref → Item
@@ -81,17 +81,17 @@ abbrev mutual
   which_marks (t.by_id x) ms = expr_marks x (by_id ∷ ms)
   which_marks (t.by_text x) ms = expr_marks x (by_text ∷ ms)
 
-  pub spot_marks : Spot → List Mark → List Mark
-  spot_marks t.this ms = this ∷ ms
-  spot_marks t.next ms = next ∷ ms
-  spot_marks t.previous ms = previous ∷ ms
-  spot_marks (t.nth n) ms = nth n ∷ ms
-  spot_marks (t.which w) ms = which_marks w (which ∷ ms)
+  pub selector_marks : Selector → List Mark → List Mark
+  selector_marks t.this ms = this ∷ ms
+  selector_marks t.next ms = next ∷ ms
+  selector_marks t.previous ms = previous ∷ ms
+  selector_marks (t.nth n) ms = nth n ∷ ms
+  selector_marks (t.which w) ms = which_marks w (which ∷ ms)
 
   pub owner_marks : Owner → List Mark → List Mark
   owner_marks t.no_owner ms = no_owner ∷ ms
-  owner_marks (t.on_card p) ms = spot_marks p (on_card ∷ ms)
-  owner_marks (t.on_background p) ms = spot_marks p (on_background ∷ ms)
+  owner_marks (t.on_card p) ms = selector_marks p (on_card ∷ ms)
+  owner_marks (t.on_background p) ms = selector_marks p (on_background ∷ ms)
 
   pub part_marks : Part → List Mark → List Mark
   part_marks (t.part l k w o) ms = which_marks w (owner_marks o (part l k ∷ ms))
@@ -101,8 +101,8 @@ abbrev mutual
   ref_marks t.me ms = me ∷ ms
   ref_marks t.the_target ms = the_target ∷ ms
   ref_marks t.this_stack ms = this_stack ∷ ms
-  ref_marks (t.card p) ms = spot_marks p (card ∷ ms)
-  ref_marks (t.background p) ms = spot_marks p (background ∷ ms)
+  ref_marks (t.card p) ms = selector_marks p (card ∷ ms)
+  ref_marks (t.background p) ms = selector_marks p (background ∷ ms)
   ref_marks (t.a_part p) ms = part_marks p (a_part ∷ ms)
 
   pub count_marks : Count → List Mark → List Mark
@@ -138,21 +138,21 @@ built (pieces k) (an_expr y ∷ an_expr x ∷ ts) = a_chunk (t.pieces k x y) ∷
 built (nth_piece n k) ts = a_chunk (t.nth_piece n k) ∷ ts
 built by_id (an_expr x ∷ ts) = a_which (t.by_id x) ∷ ts
 built by_text (an_expr x ∷ ts) = a_which (t.by_text x) ∷ ts
-built this ts = a_spot t.this ∷ ts
-built next ts = a_spot t.next ∷ ts
-built previous ts = a_spot t.previous ∷ ts
-built (nth n) ts = a_spot (t.nth n) ∷ ts
-built which (a_which w ∷ ts) = a_spot (t.which w) ∷ ts
+built this ts = a_selector t.this ∷ ts
+built next ts = a_selector t.next ∷ ts
+built previous ts = a_selector t.previous ∷ ts
+built (nth n) ts = a_selector (t.nth n) ∷ ts
+built which (a_which w ∷ ts) = a_selector (t.which w) ∷ ts
 built no_owner ts = an_owner t.no_owner ∷ ts
-built on_card (a_spot p ∷ ts) = an_owner (t.on_card p) ∷ ts
-built on_background (a_spot p ∷ ts) = an_owner (t.on_background p) ∷ ts
+built on_card (a_selector p ∷ ts) = an_owner (t.on_card p) ∷ ts
+built on_background (a_selector p ∷ ts) = an_owner (t.on_background p) ∷ ts
 built (part l k) (an_owner o ∷ a_which w ∷ ts) = a_part_item (t.part l k w o) ∷ ts
 built (nth_part n l k) (an_owner o ∷ ts) = a_part_item (t.nth_part n l k o) ∷ ts
 built me ts = a_ref t.me ∷ ts
 built the_target ts = a_ref t.the_target ∷ ts
 built this_stack ts = a_ref t.this_stack ∷ ts
-built card (a_spot p ∷ ts) = a_ref (t.card p) ∷ ts
-built background (a_spot p ∷ ts) = a_ref (t.background p) ∷ ts
+built card (a_selector p ∷ ts) = a_ref (t.card p) ∷ ts
+built background (a_selector p ∷ ts) = a_ref (t.background p) ∷ ts
 built a_part (a_part_item p ∷ ts) = a_ref (t.a_part p) ∷ ts
 built (pieces_of k) (an_expr x ∷ ts) = a_count (t.pieces_of k x) ∷ ts
 built cards ts = a_count t.cards ∷ ts
@@ -203,17 +203,17 @@ mutual
   which_back (t.by_id x) ms ts = expr_back x (by_id ∷ ms) ts
   which_back (t.by_text x) ms ts = expr_back x (by_text ∷ ms) ts
 
-  pub spot_back : (x : Spot) (ms : List Mark) (ts : List Item) → run (spot_marks x ms) ts ≡ run ms (a_spot x ∷ ts)
-  spot_back t.this ms ts = refl
-  spot_back t.next ms ts = refl
-  spot_back t.previous ms ts = refl
-  spot_back (t.nth n) ms ts = refl
-  spot_back (t.which w) ms ts = which_back w (which ∷ ms) ts
+  pub selector_back : (x : Selector) (ms : List Mark) (ts : List Item) → run (selector_marks x ms) ts ≡ run ms (a_selector x ∷ ts)
+  selector_back t.this ms ts = refl
+  selector_back t.next ms ts = refl
+  selector_back t.previous ms ts = refl
+  selector_back (t.nth n) ms ts = refl
+  selector_back (t.which w) ms ts = which_back w (which ∷ ms) ts
 
   owner_back : (x : Owner) (ms : List Mark) (ts : List Item) → run (owner_marks x ms) ts ≡ run ms (an_owner x ∷ ts)
   owner_back t.no_owner ms ts = refl
-  owner_back (t.on_card p) ms ts = spot_back p (on_card ∷ ms) ts
-  owner_back (t.on_background p) ms ts = spot_back p (on_background ∷ ms) ts
+  owner_back (t.on_card p) ms ts = selector_back p (on_card ∷ ms) ts
+  owner_back (t.on_background p) ms ts = selector_back p (on_background ∷ ms) ts
 
   pub part_back : (x : Part) (ms : List Mark) (ts : List Item) → run (part_marks x ms) ts ≡ run ms (a_part_item x ∷ ts)
   part_back (t.part l k w o) ms ts = which_back w (owner_marks o (part l k ∷ ms)) ts ∙ owner_back o (part l k ∷ ms) (a_which w ∷ ts)
@@ -223,8 +223,8 @@ mutual
   ref_back t.me ms ts = refl
   ref_back t.the_target ms ts = refl
   ref_back t.this_stack ms ts = refl
-  ref_back (t.card p) ms ts = spot_back p (card ∷ ms) ts
-  ref_back (t.background p) ms ts = spot_back p (background ∷ ms) ts
+  ref_back (t.card p) ms ts = selector_back p (card ∷ ms) ts
+  ref_back (t.background p) ms ts = selector_back p (background ∷ ms) ts
   ref_back (t.a_part p) ms ts = part_back p (a_part ∷ ms) ts
 
   count_back : (x : Count) (ms : List Mark) (ts : List Item) → run (count_marks x ms) ts ≡ run ms (a_count x ∷ ts)

@@ -3,9 +3,9 @@ use Rattle.std.specs.Prelude.{ℕ, List, [], ◌∷◌}
 use Rattle.std.proofs.Common.{◌≡◌, refl, ◌∙◌}
 use Rattle.ht_values.specs.declared.word.Prop.{Prop}
 use Rattle.ht_grammar.specs.declared.vocabulary.RunProp.{RunProp}
-use Rattle.ht_grammar.specs.declared.vocabulary.Where.{Where}
+use Rattle.ht_values.specs.declared.word.Where.{Where}
 use Rattle.ht_grammar.specs.Trees.{Expr, Exprs, Chunk, Ref, Container}
-use Rattle.ht_grammar.specs.Statements.{Goal, Head, Stmt, Stmts}
+use Rattle.ht_grammar.specs.Statements.{Destination, Head, Stmt, Stmts}
 use Rattle.ht_grammar.specs.Statements as s
 
 -- A statement without the statements in it, whose marks stand before its own.
@@ -18,7 +18,7 @@ pub data Mark : Type 0 where
   multiply divide : Container → Expr → Mark
   delete : Chunk → Container → Mark
   send : Expr → Ref → Mark
-  go : Goal → Mark
+  go : Destination → Mark
   global : List (List ℕ) → Mark
   exit_repeat next_repeat exit_to_hypercard return_nothing stop also : Mark
   exit pass : List ℕ → Mark

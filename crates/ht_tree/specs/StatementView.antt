@@ -1,17 +1,17 @@
 -- The statements in memory, as plain trees.
 use Rattle.std.specs.Prelude.{List, [], ◌∷◌}
-use Rattle.ht_tree.specs.declared.statement.Goal.{Goal}
-use Rattle.ht_tree.specs.declared.statement.Goal.TheVariants as goal
+use Rattle.ht_tree.specs.declared.statement.Destination.{Destination}
+use Rattle.ht_tree.specs.declared.statement.Destination.TheVariants as destination
 use Rattle.ht_tree.specs.declared.statement.Head.{Head}
 use Rattle.ht_tree.specs.declared.statement.Head.TheVariants as head
 use Rattle.ht_tree.specs.declared.statement.StmtKind.{StmtKind}
 use Rattle.ht_tree.specs.declared.statement.StmtKind.TheVariants as stmt
 use Rattle.ht_grammar.specs.Statements as s
-use Rattle.ht_tree.specs.View.{exprs_of, chunk_of, spot_of, ref_of}
+use Rattle.ht_tree.specs.View.{exprs_of, chunk_of, selector_of, ref_of}
 
-abbrev pub goal_of : Goal → s.Goal
-goal_of (goal.ToCard p) = s.to_card (spot_of p)
-goal_of (goal.ToBackground p) = s.to_background (spot_of p)
+abbrev pub destination_of : Destination → s.Destination
+destination_of (destination.ToCard p) = s.to_card (selector_of p)
+destination_of (destination.ToBackground p) = s.to_background (selector_of p)
 
 abbrev pub head_of : Head → s.Head
 head_of head.Forever = s.forever
@@ -38,7 +38,7 @@ stmt_of (stmt.Divide c e) = s.divide c e
 stmt_of (stmt.Delete h c) = s.delete (chunk_of h) c
 stmt_of (stmt.Do e) = s.do_ e
 stmt_of (stmt.Send e r) = s.send e (ref_of r)
-stmt_of (stmt.Go g) = s.go (goal_of g)
+stmt_of (stmt.Go g) = s.go (destination_of g)
 stmt_of (stmt.Global ws) = s.global ws.items.items
 stmt_of stmt.ExitRepeat = s.exit_repeat
 stmt_of stmt.NextRepeat = s.next_repeat

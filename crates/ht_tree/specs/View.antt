@@ -6,8 +6,8 @@ use Rattle.ht_tree.specs.declared.expr.Chunk.{Chunk}
 use Rattle.ht_tree.specs.declared.expr.Chunk.TheVariants as chunk
 use Rattle.ht_tree.specs.declared.expr.Which.{Which}
 use Rattle.ht_tree.specs.declared.expr.Which.TheVariants as which
-use Rattle.ht_tree.specs.declared.expr.Spot.{Spot}
-use Rattle.ht_tree.specs.declared.expr.Spot.TheVariants as spot
+use Rattle.ht_tree.specs.declared.expr.Selector.{Selector}
+use Rattle.ht_tree.specs.declared.expr.Selector.TheVariants as selector
 use Rattle.ht_tree.specs.declared.expr.Owner.{Owner}
 use Rattle.ht_tree.specs.declared.expr.Owner.TheVariants as owner
 use Rattle.ht_tree.specs.declared.expr.Part.{Part}
@@ -31,17 +31,17 @@ abbrev pub which_of : Which → t.Which
 which_of (which.ById x) = t.by_id x
 which_of (which.ByText x) = t.by_text x
 
-abbrev pub spot_of : Spot → t.Spot
-spot_of spot.This = t.this
-spot_of spot.Next = t.next
-spot_of spot.Previous = t.previous
-spot_of (spot.Nth n) = t.nth n
-spot_of (spot.Which w) = t.which (which_of w)
+abbrev pub selector_of : Selector → t.Selector
+selector_of selector.This = t.this
+selector_of selector.Next = t.next
+selector_of selector.Previous = t.previous
+selector_of (selector.Nth n) = t.nth n
+selector_of (selector.Which w) = t.which (which_of w)
 
 abbrev pub owner_of : Owner → t.Owner
 owner_of owner.NoOwner = t.no_owner
-owner_of (owner.OnCard s) = t.on_card (spot_of s)
-owner_of (owner.OnBackground s) = t.on_background (spot_of s)
+owner_of (owner.OnCard s) = t.on_card (selector_of s)
+owner_of (owner.OnBackground s) = t.on_background (selector_of s)
 
 abbrev pub part_of : Part → t.Part
 part_of (part.Plain l k w o) = t.part l k (which_of w) (owner_of o)
@@ -51,8 +51,8 @@ abbrev pub ref_of : Ref → t.Ref
 ref_of ref.Me = t.me
 ref_of ref.Target = t.the_target
 ref_of ref.ThisStack = t.this_stack
-ref_of (ref.Card s) = t.card (spot_of s)
-ref_of (ref.Background s) = t.background (spot_of s)
+ref_of (ref.Card s) = t.card (selector_of s)
+ref_of (ref.Background s) = t.background (selector_of s)
 ref_of (ref.Part p) = t.a_part (part_of p)
 
 abbrev pub count_of : Count → t.Count

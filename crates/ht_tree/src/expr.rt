@@ -2,13 +2,13 @@
 
 ghost use Rattle.std.specs.Prelude.{◌≡◌, ◌+◌, ◌≤◌, IfOk};
 ghost use Rattle.ht_grammar.specs.Trees as t;
-ghost use Rattle.ht_grammar.specs.Depth.{depth, depths, chunk_depth, which_depth, spot_depth, owner_depth, part_depth, ref_depth, count_depth, max_depth};
+ghost use Rattle.ht_grammar.specs.Depth.{depth, depths, chunk_depth, which_depth, selector_depth, owner_depth, part_depth, ref_depth, count_depth, max_depth};
 ghost use Rattle.ht_grammar.specs.Reading.{snoc};
-ghost use Rattle.ht_tree.specs.View.{expr_of, exprs_of, chunk_of, which_of, spot_of, owner_of, part_of, ref_of, count_of};
+ghost use Rattle.ht_tree.specs.View.{expr_of, exprs_of, chunk_of, which_of, selector_of, owner_of, part_of, ref_of, count_of};
 
 use ht_grammar::{FunctionWord, Layer, RunProp};
-use ht_lex::{Constant, Ordinal, Piece};
-use ht_values::{Op, PartKind, Prop, Text, UnOp};
+use ht_lex::{Constant, Ordinal};
+use ht_values::{ChunkKind, Op, PartKind, Prop, Text, UnOp};
 use std::alloc::{AllocError, Global};
 use std::marker::Model;
 
@@ -60,9 +60,9 @@ pub struct Exprs {
 #[cycle(tree)]
 #[derive(Drop)]
 pub enum Chunk {
-    Piece(Piece, Expr),
-    Pieces(Piece, Expr, Expr),
-    NthPiece(Ordinal, Piece),
+    Piece(ChunkKind, Expr),
+    Pieces(ChunkKind, Expr, Expr),
+    NthPiece(Ordinal, ChunkKind),
 }
 
 /// Which object: by its id, or by its number or name.
@@ -76,7 +76,7 @@ pub enum Which {
 /// Which card or background.
 #[cycle(tree)]
 #[derive(Drop)]
-pub enum Spot {
+pub enum Selector {
     This,
     Next,
     Previous,
@@ -89,8 +89,8 @@ pub enum Spot {
 #[derive(Drop)]
 pub enum Owner {
     NoOwner,
-    OnCard(Spot),
-    OnBackground(Spot),
+    OnCard(Selector),
+    OnBackground(Selector),
 }
 
 /// A button or a field, with the layer that is written before it.
@@ -108,8 +108,8 @@ pub enum Ref {
     Me,
     Target,
     ThisStack,
-    Card(Spot),
-    Background(Spot),
+    Card(Selector),
+    Background(Selector),
     Part(Part),
 }
 
@@ -117,7 +117,7 @@ pub enum Ref {
 #[cycle(tree)]
 #[derive(Drop)]
 pub enum Count {
-    PiecesOf(Piece, Expr),
+    PiecesOf(ChunkKind, Expr),
     Cards,
     Backgrounds,
     Parts(Option<Layer>, PartKind),
@@ -266,15 +266,15 @@ impl Which {
     }
 }
 
-impl Spot {
+impl Selector {
     /// The depth of the id, number or name, 0 where there is none.
     pub fn depth(&self) -> usize
-        ensures value { result ≡ spot_depth (spot_of self.now) }
+        ensures value { result ≡ selector_depth (selector_of self.now) }
         ensures limit { result ≤ max_depth }
     {
         match self {
-            Spot::This | Spot::Next | Spot::Previous | Spot::Nth(_) => 0,
-            Spot::Which(which) => which.depth(),
+            Selector::This | Selector::Next | Selector::Previous | Selector::Nth(_) => 0,
+            Selector::Which(which) => which.depth(),
         }
     }
 }
@@ -287,8 +287,8 @@ impl Owner {
     {
         match self {
             Owner::NoOwner => 0,
-            Owner::OnCard(spot) => spot.depth() + 1,
-            Owner::OnBackground(spot) => spot.depth() + 1,
+            Owner::OnCard(selector) => selector.depth() + 1,
+            Owner::OnBackground(selector) => selector.depth() + 1,
         }
     }
 }
@@ -333,8 +333,8 @@ impl Ref {
     {
         match self {
             Ref::Me | Ref::Target | Ref::ThisStack => 1,
-            Ref::Card(spot) => spot.depth() + 1,
-            Ref::Background(spot) => spot.depth() + 1,
+            Ref::Card(selector) => selector.depth() + 1,
+            Ref::Background(selector) => selector.depth() + 1,
             Ref::Part(part) => part.depth(),
         }
     }

@@ -2,13 +2,13 @@
 
 ghost use Rattle.std.specs.Prelude.{◌≡◌, ◌+◌, ◌≤◌, [], ◌∷◌, ◌++◌, IfOk};
 ghost use Rattle.ht_grammar.specs.Statements as s;
-ghost use Rattle.ht_grammar.specs.Depth.{goal_depth, head_depth, stmt_depth, stmts_depth, max_depth};
-ghost use Rattle.ht_tree.specs.StatementView.{goal_of, head_of, stmt_of, stmts_of, with_stmt};
+ghost use Rattle.ht_grammar.specs.Depth.{destination_depth, head_depth, stmt_depth, stmts_depth, max_depth};
+ghost use Rattle.ht_tree.specs.StatementView.{destination_of, head_of, stmt_of, stmts_of, with_stmt};
 
 use crate::container::Container;
-use crate::expr::{Chunk, Expr, Exprs, Ref, Spot};
-use ht_grammar::{RunProp, Where};
-use ht_values::{Prop, Text};
+use crate::expr::{Chunk, Expr, Exprs, Ref, Selector};
+use ht_grammar::RunProp;
+use ht_values::{Prop, Text, Where};
 use std::alloc::{AllocError, Global};
 use std::marker::Model;
 
@@ -20,9 +20,9 @@ pub struct Names {
 
 /// Where `go` goes.
 #[derive(Drop)]
-pub enum Goal {
-    ToCard(Spot),
-    ToBackground(Spot),
+pub enum Destination {
+    ToCard(Selector),
+    ToBackground(Selector),
 }
 
 /// How often `repeat` does its lines.
@@ -64,7 +64,7 @@ pub enum StmtKind {
     Delete(Chunk, Container),
     Do(Expr),
     Send(Expr, Ref),
-    Go(Goal),
+    Go(Destination),
     /// One name or more.
     Global(Names),
     ExitRepeat,
@@ -98,10 +98,10 @@ impl Model for Stmt {
     ghost use Rattle.std.proofs.Common.{ap};
     ghost use Rattle.ht_tree.specs.contracts.expr.Expr as expr;
     ghost use Rattle.ht_tree.specs.contracts.container.Container as container;
-    ghost use Rattle.ht_tree.specs.Codes.{coded_exprs, coded_chunk, coded_spot, coded_ref};
+    ghost use Rattle.ht_tree.specs.Codes.{coded_exprs, coded_chunk, coded_selector, coded_ref};
     ghost use Rattle.ht_tree.specs.StatementCode.{Mark, run, stmt_on, stmt_marks, stmt_back};
 
-    ghost coded = { code_by (List Mark) (Prim.hlevel (codes, expr.the_row.coded, container.the_row.coded, coded_exprs (Prim.hlevel codes), coded_chunk (Prim.hlevel codes), coded_spot (Prim.hlevel codes), coded_ref (Prim.hlevel codes))) (λ x. stmt_marks x []) (λ ms. stmt_on (run ms [])) (λ x. ap stmt_on (stmt_back x [] [])) };
+    ghost coded = { code_by (List Mark) (Prim.hlevel (codes, expr.the_row.coded, container.the_row.coded, coded_exprs (Prim.hlevel codes), coded_chunk (Prim.hlevel codes), coded_selector (Prim.hlevel codes), coded_ref (Prim.hlevel codes))) (λ x. stmt_marks x []) (λ ms. stmt_on (run ms [])) (λ x. ap stmt_on (stmt_back x [] [])) };
 
     ghost use Rattle.ht_grammar.specs.Depth.{stmt_depth, max_depth};
     ghost use Rattle.ht_tree.specs.StatementView.{stmt_of};
@@ -136,15 +136,15 @@ impl Names {
     }
 }
 
-impl Goal {
+impl Destination {
     /// One more than the depth of its card or background.
     pub fn depth(&self) -> usize
-        ensures value { result ≡ goal_depth (goal_of self.now) }
+        ensures value { result ≡ destination_depth (destination_of self.now) }
         ensures limit { result ≤ max_depth + 1 }
     {
         match self {
-            Goal::ToCard(spot) => spot.depth() + 1,
-            Goal::ToBackground(spot) => spot.depth() + 1,
+            Destination::ToCard(selector) => selector.depth() + 1,
+            Destination::ToBackground(selector) => selector.depth() + 1,
         }
     }
 }
@@ -219,7 +219,7 @@ impl StmtKind {
                 reference.depth().max(value.depth()) + 1
             }
             StmtKind::Delete(chunk, container) => chunk.depth().max(container.depth()) + 2,
-            StmtKind::Go(goal) => goal.depth() + 1,
+            StmtKind::Go(destination) => destination.depth() + 1,
             StmtKind::Command(_, arguments) => arguments.depth() + 1,
             StmtKind::When(condition, lines, otherwise) => {
                 condition.depth().max(lines.depth()).max(otherwise.depth()) + 1

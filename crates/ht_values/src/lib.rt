@@ -28,4 +28,4 @@ pub use number::{number_of, numeral, without_front_spaces};
 pub use operator::{Func, Op, UnOp, ValueType};
 pub use text::{LIMIT, Text, law_of_text, text_of};
 pub use value::{binary, in_word, unary};
-pub use word::{PartKind, Prop};
+pub use word::{ChunkKind, PartKind, Prop, Where};

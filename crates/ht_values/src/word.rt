@@ -1,4 +1,21 @@
-//! Plain words that the grammar and the objects share.
+//! Plain words that texts, the grammar and the objects share.
+
+/// What a text is cut into.
+#[derive(Clone, Copy, PartialEq, Eq, Debug)]
+pub enum ChunkKind {
+    Char,
+    Word,
+    Item,
+    Line,
+}
+
+/// Where `put` puts its text: in the place of what stands there, before it or after it.
+#[derive(Clone, Copy, PartialEq, Eq, Debug)]
+pub enum Where {
+    Into,
+    Before,
+    After,
+}
 
 /// What is made on a layer: a card or a background. Buttons and fields are numbered apart.
 #[derive(Clone, Copy, PartialEq, Eq, Debug)]

@@ -1,14 +1,14 @@
 //! Expressions, read from tokens.
 
-use expression_parser::{Cursor, Stop, WHOLE, read};
-use ht_lex::{Key, Kind, lex};
+use ht_expressions::{WHOLE, read};
+use ht_lex::{Cursor, Key, Stop, TokenKind, lex};
 use ht_tree::ExprKind;
 use ht_values::{Op, Text};
 use std::alloc::Global;
 use std::test::*;
 
 /// Whether the cursor is before three tokens of these kinds.
-fn is_before(cursor: &Cursor<'_>, first: Kind, second: Kind, third: Kind) -> bool {
+fn is_before(cursor: &Cursor<'_>, first: TokenKind, second: TokenKind, third: TokenKind) -> bool {
     cursor.peek() == Some(first) && cursor.second() == Some(second) && cursor.third() == Some(third)
 }
 
@@ -37,7 +37,7 @@ fn ends_after(alloc: Global, text: &Text, many: usize) -> Result<bool, Fail> {
 }
 
 /// Whether a power is read from the tokens of the text, and then this token stands there, at which no expression begins.
-fn reads_power_before(alloc: Global, text: &Text, next: Kind) -> Result<bool, Fail> {
+fn reads_power_before(alloc: Global, text: &Text, next: TokenKind) -> Result<bool, Fail> {
     let _size = text.len();
     let tokens = lex(alloc, text)?;
     let mut cursor = Cursor::new(&tokens);
@@ -57,9 +57,9 @@ fn a_cursor_is_before_the_tokens(rt: HostRuntime) -> Result<(), Fail> {
     assert!(rt;
         is_before(
             &Cursor::new(&tokens),
-            Kind::Key(Key::Put),
-            Kind::Quoted,
-            Kind::Key(Key::Into)
+            TokenKind::Key(Key::Put),
+            TokenKind::Quoted,
+            TokenKind::Key(Key::Into)
         )
     );
     Ok(())
@@ -76,6 +76,6 @@ fn a_cursor_goes_over_the_tokens(rt: HostRuntime) -> Result<(), Fail> {
 #[test]
 fn an_expression_ends_before_what_is_none(rt: HostRuntime) -> Result<(), Fail> {
     let text = Text::from_slice(rt.alloc(), b"2 ^ 3 ^ 4 into x")?;
-    assert!(rt; reads_power_before(rt.alloc(), &text, Kind::Key(Key::Into))?);
+    assert!(rt; reads_power_before(rt.alloc(), &text, TokenKind::Key(Key::Into))?);
     Ok(())
 }

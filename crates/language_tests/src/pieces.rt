@@ -1,12 +1,12 @@
 //! The edges of chunks.
 
-use chunks::{Chunk, Index, Kind, Span, Where, count, delete, find, put, take};
-use ht_values::{Failure, Fault, LIMIT, Text};
+use chunks::{Chunk, Index, Span, count, delete, find, put, take};
+use ht_values::{ChunkKind, Failure, Fault, LIMIT, Text, Where};
 use std::alloc::Global;
 use std::test::*;
 
 /// The pieces of a kind from one number to another.
-fn pieces(kind: Kind, from: i64, to: i64) -> Chunk {
+fn pieces(kind: ChunkKind, from: i64, to: i64) -> Chunk {
     Chunk {
         kind,
         from: Index::At(from),
@@ -15,7 +15,7 @@ fn pieces(kind: Kind, from: i64, to: i64) -> Chunk {
 }
 
 /// The last piece of a kind.
-fn last(kind: Kind) -> Chunk {
+fn last(kind: ChunkKind) -> Chunk {
     Chunk {
         kind,
         from: Index::Last,
@@ -64,7 +64,7 @@ fn faults(alloc: Global, chunk: &Chunk, fault: Fault) -> Result<bool, Fail> {
 }
 
 /// Whether the text has so many pieces of the kind.
-fn has(alloc: Global, text: &[u8], kind: Kind, many: usize) -> Result<bool, Fail> {
+fn has(alloc: Global, text: &[u8], kind: ChunkKind, many: usize) -> Result<bool, Fail> {
     let text = Text::from_slice(alloc, text)?;
     Ok(count(&text, kind, b',') == many)
 }
@@ -77,34 +77,34 @@ fn is_found(text: &Text, chunk: &Chunk, part: Option<(usize, usize)>) -> bool {
 
 #[test]
 fn reads_of_pieces(rt: HostRuntime) -> Result<(), Fail> {
-    let rows: &[(&[u8], Kind, i64, i64, &[u8])] = &[
-        (b"a,b", Kind::Item, 2, 2, b"b"),
-        (b"  a  bb c ", Kind::Word, 2, 3, b"bb c"),
-        (b"a\rb", Kind::Line, 0, 0, b""),
-        (b"a\rb\rc", Kind::Line, -1, 2, b"a\rb"),
-        (b"abc", Kind::Char, 2, 9, b"bc"),
-        (b"abc", Kind::Char, 3, 2, b""),
-        (b"abc", Kind::Char, 4, 4, b""),
+    let rows: &[(&[u8], ChunkKind, i64, i64, &[u8])] = &[
+        (b"a,b", ChunkKind::Item, 2, 2, b"b"),
+        (b"  a  bb c ", ChunkKind::Word, 2, 3, b"bb c"),
+        (b"a\rb", ChunkKind::Line, 0, 0, b""),
+        (b"a\rb\rc", ChunkKind::Line, -1, 2, b"a\rb"),
+        (b"abc", ChunkKind::Char, 2, 9, b"bc"),
+        (b"abc", ChunkKind::Char, 3, 2, b""),
+        (b"abc", ChunkKind::Char, 4, 4, b""),
         (
             b"abc",
-            Kind::Char,
+            ChunkKind::Char,
             9_223_372_036_854_775_807,
             9_223_372_036_854_775_807,
             b"",
         ),
         (
             b"abc",
-            Kind::Char,
+            ChunkKind::Char,
             -9_223_372_036_854_775_808,
             9_223_372_036_854_775_807,
             b"abc",
         ),
-        (b"a,b,", Kind::Item, 3, 3, b""),
-        (b"a,b,", Kind::Item, 2, 3, b"b,"),
-        (b",a", Kind::Item, 1, 1, b""),
-        (b"a b\rc", Kind::Word, 2, 3, b"b\rc"),
-        (b"a,b;c", Kind::Item, 2, 2, b"b;c"),
-        (b"", Kind::Line, 1, 1, b""),
+        (b"a,b,", ChunkKind::Item, 3, 3, b""),
+        (b"a,b,", ChunkKind::Item, 2, 3, b"b,"),
+        (b",a", ChunkKind::Item, 1, 1, b""),
+        (b"a b\rc", ChunkKind::Word, 2, 3, b"b\rc"),
+        (b"a,b;c", ChunkKind::Item, 2, 2, b"b;c"),
+        (b"", ChunkKind::Line, 1, 1, b""),
     ];
     for (text, kind, from, to, part) in rows {
         let chunk = pieces(*kind, *from, *to);
@@ -118,15 +118,15 @@ fn reads_of_pieces(rt: HostRuntime) -> Result<(), Fail> {
 
 #[test]
 fn reads_of_the_last_piece(rt: HostRuntime) -> Result<(), Fail> {
-    let rows: &[(&[u8], Kind, &[u8])] = &[
-        (b"a bb ", Kind::Word, b"bb"),
-        (b"a;b", Kind::Item, b"b"),
-        (b"a;b;", Kind::Item, b""),
-        (b"", Kind::Item, b""),
-        (b"", Kind::Char, b""),
-        (b"  ", Kind::Word, b""),
-        (b"a\rb", Kind::Line, b"b"),
-        (b"abc", Kind::Char, b"c"),
+    let rows: &[(&[u8], ChunkKind, &[u8])] = &[
+        (b"a bb ", ChunkKind::Word, b"bb"),
+        (b"a;b", ChunkKind::Item, b"b"),
+        (b"a;b;", ChunkKind::Item, b""),
+        (b"", ChunkKind::Item, b""),
+        (b"", ChunkKind::Char, b""),
+        (b"  ", ChunkKind::Word, b""),
+        (b"a\rb", ChunkKind::Line, b"b"),
+        (b"abc", ChunkKind::Char, b"c"),
     ];
     for (text, kind, part) in rows {
         assert!(rt;
@@ -139,11 +139,11 @@ fn reads_of_the_last_piece(rt: HostRuntime) -> Result<(), Fail> {
 
 #[test]
 fn places_of_parts(rt: HostRuntime) -> Result<(), Fail> {
-    let rows: &[(&[u8], Kind, i64, i64, Option<(usize, usize)>)] = &[
-        (b"a,b,c", Kind::Item, 2, 7, Some((2, 5))),
-        (b"a,b,c", Kind::Item, 4, 7, None),
-        (b",", Kind::Item, 1, 1, Some((0, 0))),
-        (b"", Kind::Item, 1, 1, None),
+    let rows: &[(&[u8], ChunkKind, i64, i64, Option<(usize, usize)>)] = &[
+        (b"a,b,c", ChunkKind::Item, 2, 7, Some((2, 5))),
+        (b"a,b,c", ChunkKind::Item, 4, 7, None),
+        (b",", ChunkKind::Item, 1, 1, Some((0, 0))),
+        (b"", ChunkKind::Item, 1, 1, None),
     ];
     for (bytes, kind, from, to, span) in rows {
         let chunk = pieces(*kind, *from, *to);
@@ -155,17 +155,17 @@ fn places_of_parts(rt: HostRuntime) -> Result<(), Fail> {
 
 #[test]
 fn counts_of_pieces(rt: HostRuntime) -> Result<(), Fail> {
-    let rows: &[(&[u8], Kind, usize)] = &[
-        (b",", Kind::Item, 2),
-        (b"", Kind::Item, 0),
-        (b"a", Kind::Item, 1),
-        (b"", Kind::Line, 0),
-        (b"\r", Kind::Line, 2),
-        (b"a\rb\r", Kind::Line, 3),
-        (b"  ", Kind::Word, 0),
-        (b" a\rb  c ", Kind::Word, 3),
-        (b"a,b c", Kind::Word, 2),
-        (b"abc", Kind::Char, 3),
+    let rows: &[(&[u8], ChunkKind, usize)] = &[
+        (b",", ChunkKind::Item, 2),
+        (b"", ChunkKind::Item, 0),
+        (b"a", ChunkKind::Item, 1),
+        (b"", ChunkKind::Line, 0),
+        (b"\r", ChunkKind::Line, 2),
+        (b"a\rb\r", ChunkKind::Line, 3),
+        (b"  ", ChunkKind::Word, 0),
+        (b" a\rb  c ", ChunkKind::Word, 3),
+        (b"a,b c", ChunkKind::Word, 2),
+        (b"abc", ChunkKind::Char, 3),
     ];
     for (text, kind, many) in rows {
         assert!(rt; has(rt.alloc(), text, *kind, *many)?, "{text:?} {kind:?}");
@@ -175,23 +175,47 @@ fn counts_of_pieces(rt: HostRuntime) -> Result<(), Fail> {
 
 #[test]
 fn puts_at_pieces(rt: HostRuntime) -> Result<(), Fail> {
-    let rows: &[(&[u8], Kind, i64, i64, Where, &[u8], &[u8])] = &[
-        (b"a,b", Kind::Item, 4, 4, Where::Into, b"x", b"a,b,,x"),
-        (b"", Kind::Item, 3, 3, Where::Into, b"x", b",,x"),
-        (b"", Kind::Item, 1, 1, Where::Into, b"x", b"x"),
-        (b"", Kind::Line, 2, 2, Where::Into, b"x", b"\rx"),
-        (b"a", Kind::Line, 2, 5, Where::After, b"x", b"a\rx"),
-        (b"ab", Kind::Char, 5, 5, Where::Before, b"z", b"abz"),
-        (b"a", Kind::Word, 3, 3, Where::After, b"b", b"a b"),
-        (b"", Kind::Word, 3, 3, Where::Into, b"b", b"b"),
-        (b" ", Kind::Word, 1, 1, Where::Into, b"b", b"  b"),
-        (b"a,b,c", Kind::Item, 2, 9, Where::Before, b"x", b"a,xb,c"),
-        (b"a,b,c", Kind::Item, 2, 9, Where::Into, b"x", b"a,x"),
-        (b"a,b,c", Kind::Item, 1, 2, Where::After, b"x", b"a,bx,c"),
-        (b"a  b c", Kind::Word, 1, 2, Where::After, b"x", b"a  bx c"),
-        (b"a,b,", Kind::Item, 3, 3, Where::Into, b"x", b"a,b,x"),
-        (b"a,b,", Kind::Item, 4, 4, Where::Into, b"x", b"a,b,,x"),
-        (b"abc", Kind::Char, 2, 2, Where::Into, b"", b"ac"),
+    let rows: &[(&[u8], ChunkKind, i64, i64, Where, &[u8], &[u8])] = &[
+        (b"a,b", ChunkKind::Item, 4, 4, Where::Into, b"x", b"a,b,,x"),
+        (b"", ChunkKind::Item, 3, 3, Where::Into, b"x", b",,x"),
+        (b"", ChunkKind::Item, 1, 1, Where::Into, b"x", b"x"),
+        (b"", ChunkKind::Line, 2, 2, Where::Into, b"x", b"\rx"),
+        (b"a", ChunkKind::Line, 2, 5, Where::After, b"x", b"a\rx"),
+        (b"ab", ChunkKind::Char, 5, 5, Where::Before, b"z", b"abz"),
+        (b"a", ChunkKind::Word, 3, 3, Where::After, b"b", b"a b"),
+        (b"", ChunkKind::Word, 3, 3, Where::Into, b"b", b"b"),
+        (b" ", ChunkKind::Word, 1, 1, Where::Into, b"b", b"  b"),
+        (
+            b"a,b,c",
+            ChunkKind::Item,
+            2,
+            9,
+            Where::Before,
+            b"x",
+            b"a,xb,c",
+        ),
+        (b"a,b,c", ChunkKind::Item, 2, 9, Where::Into, b"x", b"a,x"),
+        (
+            b"a,b,c",
+            ChunkKind::Item,
+            1,
+            2,
+            Where::After,
+            b"x",
+            b"a,bx,c",
+        ),
+        (
+            b"a  b c",
+            ChunkKind::Word,
+            1,
+            2,
+            Where::After,
+            b"x",
+            b"a  bx c",
+        ),
+        (b"a,b,", ChunkKind::Item, 3, 3, Where::Into, b"x", b"a,b,x"),
+        (b"a,b,", ChunkKind::Item, 4, 4, Where::Into, b"x", b"a,b,,x"),
+        (b"abc", ChunkKind::Char, 2, 2, Where::Into, b"", b"ac"),
     ];
     for (text, kind, from, to, place, new, whole) in rows {
         let chunk = pieces(*kind, *from, *to);
@@ -205,13 +229,13 @@ fn puts_at_pieces(rt: HostRuntime) -> Result<(), Fail> {
 
 #[test]
 fn faults_of_puts(rt: HostRuntime) -> Result<(), Fail> {
-    let rows: &[(Kind, i64, i64, Fault)] = &[
-        (Kind::Item, 0, 0, Fault::BadArgument),
-        (Kind::Item, -1, 2, Fault::BadArgument),
-        (Kind::Item, 2, 1, Fault::BadArgument),
-        (Kind::Item, 30_001, 30_001, Fault::TooLong),
+    let rows: &[(ChunkKind, i64, i64, Fault)] = &[
+        (ChunkKind::Item, 0, 0, Fault::BadArgument),
+        (ChunkKind::Item, -1, 2, Fault::BadArgument),
+        (ChunkKind::Item, 2, 1, Fault::BadArgument),
+        (ChunkKind::Item, 30_001, 30_001, Fault::TooLong),
         (
-            Kind::Line,
+            ChunkKind::Line,
             9_223_372_036_854_775_807,
             9_223_372_036_854_775_807,
             Fault::TooLong,
@@ -228,7 +252,7 @@ fn faults_of_puts(rt: HostRuntime) -> Result<(), Fail> {
 fn puts_at_the_last_piece(rt: HostRuntime) -> Result<(), Fail> {
     let rows: &[(&[u8], &[u8])] = &[(b"", b"x"), (b"a,b", b"a,bx")];
     for (text, whole) in rows {
-        let chunk = last(Kind::Item);
+        let chunk = last(ChunkKind::Item);
         assert!(rt;
             makes(rt.alloc(), text, &chunk, Where::After, b"x", whole)?,
             "{text:?}"
@@ -241,7 +265,7 @@ fn puts_at_the_last_piece(rt: HostRuntime) -> Result<(), Fail> {
 fn a_put_fills_up_to_the_limit(rt: HostRuntime) -> Result<(), Fail> {
     let none = Text::new(rt.alloc());
     let new = Text::from_slice(rt.alloc(), b"x")?;
-    let far = pieces(Kind::Item, 30_000, 30_000);
+    let far = pieces(ChunkKind::Item, 30_000, 30_000);
     let whole = put(rt.alloc(), &none, &far, Where::Into, &new, b',')?;
     assert_eq!(rt; whole.len(), LIMIT);
     Ok(())
@@ -249,22 +273,22 @@ fn a_put_fills_up_to_the_limit(rt: HostRuntime) -> Result<(), Fail> {
 
 #[test]
 fn deletes_of_pieces(rt: HostRuntime) -> Result<(), Fail> {
-    let rows: &[(&[u8], Kind, i64, i64, &[u8])] = &[
-        (b"a,b,c", Kind::Item, 3, 3, b"a,b"),
-        (b"a,b,c", Kind::Item, 1, 1, b"b,c"),
-        (b"a,b,c", Kind::Item, 2, 2, b"a,c"),
-        (b"a", Kind::Item, 1, 1, b""),
-        (b",", Kind::Item, 2, 2, b""),
-        (b",", Kind::Item, 1, 2, b""),
-        (b"a,b,", Kind::Item, 3, 3, b"a,b"),
-        (b"a b  c", Kind::Word, 2, 2, b"a c"),
-        (b"a b", Kind::Word, 2, 2, b"a "),
-        (b"a b\rc", Kind::Word, 2, 2, b"a \rc"),
-        (b"a\rb", Kind::Line, 1, 2, b""),
-        (b"ab", Kind::Char, 3, 3, b"ab"),
-        (b"abc", Kind::Char, 2, 2, b"ac"),
-        (b"a,b", Kind::Item, 0, 0, b"a,b"),
-        (b"", Kind::Word, 1, 1, b""),
+    let rows: &[(&[u8], ChunkKind, i64, i64, &[u8])] = &[
+        (b"a,b,c", ChunkKind::Item, 3, 3, b"a,b"),
+        (b"a,b,c", ChunkKind::Item, 1, 1, b"b,c"),
+        (b"a,b,c", ChunkKind::Item, 2, 2, b"a,c"),
+        (b"a", ChunkKind::Item, 1, 1, b""),
+        (b",", ChunkKind::Item, 2, 2, b""),
+        (b",", ChunkKind::Item, 1, 2, b""),
+        (b"a,b,", ChunkKind::Item, 3, 3, b"a,b"),
+        (b"a b  c", ChunkKind::Word, 2, 2, b"a c"),
+        (b"a b", ChunkKind::Word, 2, 2, b"a "),
+        (b"a b\rc", ChunkKind::Word, 2, 2, b"a \rc"),
+        (b"a\rb", ChunkKind::Line, 1, 2, b""),
+        (b"ab", ChunkKind::Char, 3, 3, b"ab"),
+        (b"abc", ChunkKind::Char, 2, 2, b"ac"),
+        (b"a,b", ChunkKind::Item, 0, 0, b"a,b"),
+        (b"", ChunkKind::Word, 1, 1, b""),
     ];
     for (text, kind, from, to, left) in rows {
         let chunk = pieces(*kind, *from, *to);
@@ -289,17 +313,17 @@ fn longest(alloc: Global) -> Result<Text, Fail> {
 #[test]
 fn pieces_of_the_longest_text(rt: HostRuntime) -> Result<(), Fail> {
     let text = longest(rt.alloc())?;
-    let rows: &[(Kind, i64, i64, Option<(usize, usize)>)] = &[
-        (Kind::Item, 1, 1, Some((0, 29))),
-        (Kind::Item, 6, 6, Some((150, 179))),
-        (Kind::Item, 7, 7, Some((180, 209))),
-        (Kind::Item, 6, 8, Some((150, 239))),
-        (Kind::Item, 999, 1_000, Some((29_940, 30_000))),
-        (Kind::Item, 1_000, 1_000, Some((29_970, 30_000))),
-        (Kind::Item, 1_001, 1_001, None),
-        (Kind::Line, 1, 1, Some((0, LIMIT))),
-        (Kind::Line, 2, 2, None),
-        (Kind::Word, 1, 9, Some((0, LIMIT))),
+    let rows: &[(ChunkKind, i64, i64, Option<(usize, usize)>)] = &[
+        (ChunkKind::Item, 1, 1, Some((0, 29))),
+        (ChunkKind::Item, 6, 6, Some((150, 179))),
+        (ChunkKind::Item, 7, 7, Some((180, 209))),
+        (ChunkKind::Item, 6, 8, Some((150, 239))),
+        (ChunkKind::Item, 999, 1_000, Some((29_940, 30_000))),
+        (ChunkKind::Item, 1_000, 1_000, Some((29_970, 30_000))),
+        (ChunkKind::Item, 1_001, 1_001, None),
+        (ChunkKind::Line, 1, 1, Some((0, LIMIT))),
+        (ChunkKind::Line, 2, 2, None),
+        (ChunkKind::Word, 1, 9, Some((0, LIMIT))),
     ];
     for (kind, from, to, span) in rows {
         let chunk = pieces(*kind, *from, *to);
@@ -311,9 +335,9 @@ fn pieces_of_the_longest_text(rt: HostRuntime) -> Result<(), Fail> {
 #[test]
 fn counts_in_the_longest_text(rt: HostRuntime) -> Result<(), Fail> {
     let text = longest(rt.alloc())?;
-    assert_eq!(rt; count(&text, Kind::Item, b','), 1_000);
-    assert_eq!(rt; count(&text, Kind::Line, b','), 1);
-    let last = pieces(Kind::Item, 1_000, 1_000);
+    assert_eq!(rt; count(&text, ChunkKind::Item, b','), 1_000);
+    assert_eq!(rt; count(&text, ChunkKind::Line, b','), 1);
+    let last = pieces(ChunkKind::Item, 1_000, 1_000);
     assert_eq!(rt; delete(rt.alloc(), &text, &last, b',')?.len(), 29_969);
     Ok(())
 }

@@ -1,12 +1,12 @@
 //! The tokens of texts.
 
-use ht_lex::{Key, Kind, LexError, Piece, is_name, lex};
-use ht_values::{PartKind, Text};
+use ht_lex::{Key, LexError, TokenKind, is_name, lex};
+use ht_values::{ChunkKind, PartKind, Text};
 use std::alloc::Global;
 use std::test::*;
 
 /// Whether a text has tokens of these kinds, and no other.
-fn has_kinds(alloc: Global, bytes: &[u8], want: &[Kind]) -> Result<bool, Fail> {
+fn has_kinds(alloc: Global, bytes: &[u8], want: &[TokenKind]) -> Result<bool, Fail> {
     let text = Text::from_slice(alloc, bytes)?;
     let tokens = lex(alloc, &text)?;
     let mut kinds = Vec::new(alloc);
@@ -22,7 +22,7 @@ fn has_token(
     bytes: &[u8],
     place: usize,
     start: usize,
-    kind: Kind,
+    kind: TokenKind,
     want: &[u8],
 ) -> Result<bool, Fail> {
     let text = Text::from_slice(alloc, bytes)?;
@@ -42,46 +42,57 @@ fn stops_at(alloc: Global, bytes: &[u8], place: usize) -> Result<bool, Fail> {
 
 #[test]
 fn kinds_of_texts(rt: HostRuntime) -> Result<(), Fail> {
-    let rows: &[(&[u8], &[Kind])] = &[
-        (b"put 1 -- x", &[Kind::Key(Key::Put), Kind::Number]),
+    let rows: &[(&[u8], &[TokenKind])] = &[
+        (
+            b"put 1 -- x",
+            &[TokenKind::Key(Key::Put), TokenKind::Number],
+        ),
         (
             b"1--2\r--\r3",
-            &[Kind::Number, Kind::Eol, Kind::Eol, Kind::Number],
+            &[
+                TokenKind::Number,
+                TokenKind::Eol,
+                TokenKind::Eol,
+                TokenKind::Number,
+            ],
         ),
         (
             b"<><=<&&&-(",
             &[
-                Kind::Key(Key::NotEqual),
-                Kind::Key(Key::LessEqual),
-                Kind::Key(Key::Less),
-                Kind::Key(Key::DoubleAmpersand),
-                Kind::Key(Key::Ampersand),
-                Kind::Key(Key::Minus),
-                Kind::Key(Key::LeftParen),
+                TokenKind::Key(Key::NotEqual),
+                TokenKind::Key(Key::LessEqual),
+                TokenKind::Key(Key::Less),
+                TokenKind::Key(Key::DoubleAmpersand),
+                TokenKind::Key(Key::Ampersand),
+                TokenKind::Key(Key::Minus),
+                TokenKind::Key(Key::LeftParen),
             ],
         ),
         (
             b"\xB2\xB3\xAD",
             &[
-                Kind::Key(Key::LessEqual),
-                Kind::Key(Key::GreaterEqual),
-                Kind::Key(Key::NotEqual),
+                TokenKind::Key(Key::LessEqual),
+                TokenKind::Key(Key::GreaterEqual),
+                TokenKind::Key(Key::NotEqual),
             ],
         ),
         (
             b"<= >= <>",
             &[
-                Kind::Key(Key::LessEqual),
-                Kind::Key(Key::GreaterEqual),
-                Kind::Key(Key::NotEqual),
+                TokenKind::Key(Key::LessEqual),
+                TokenKind::Key(Key::GreaterEqual),
+                TokenKind::Key(Key::NotEqual),
             ],
         ),
         (
             b"12ab_1\t\"it's -- x\"",
-            &[Kind::Number, Kind::Name, Kind::Quoted],
+            &[TokenKind::Number, TokenKind::Name, TokenKind::Quoted],
         ),
         // A line goes on after the byte 194.
-        (b"a\xC2 \t\rb\xC2\r\r", &[Kind::Name, Kind::Name, Kind::Eol]),
+        (
+            b"a\xC2 \t\rb\xC2\r\r",
+            &[TokenKind::Name, TokenKind::Name, TokenKind::Eol],
+        ),
         (b"", &[]),
     ];
     for (bytes, kinds) in rows {
@@ -92,13 +103,13 @@ fn kinds_of_texts(rt: HostRuntime) -> Result<(), Fail> {
 
 #[test]
 fn synonyms_have_one_key_in_any_case(rt: HostRuntime) -> Result<(), Fail> {
-    let rows: &[(&[u8], Kind)] = &[
-        (b"bkgnd", Kind::Key(Key::Background)),
-        (b"BG", Kind::Key(Key::Background)),
-        (b"Prev", Kind::Key(Key::Previous)),
-        (b"character", Kind::Key(Key::Piece(Piece::Char))),
-        (b"btns", Kind::Key(Key::Parts(PartKind::Button))),
-        (b"times", Kind::Name),
+    let rows: &[(&[u8], TokenKind)] = &[
+        (b"bkgnd", TokenKind::Key(Key::Background)),
+        (b"BG", TokenKind::Key(Key::Background)),
+        (b"Prev", TokenKind::Key(Key::Previous)),
+        (b"character", TokenKind::Key(Key::Piece(ChunkKind::Char))),
+        (b"btns", TokenKind::Key(Key::Parts(PartKind::Button))),
+        (b"times", TokenKind::Name),
     ];
     for (word, kind) in rows {
         assert!(rt; has_kinds(rt.alloc(), word, &[*kind])?, "{word:?}");
@@ -110,12 +121,12 @@ fn synonyms_have_one_key_in_any_case(rt: HostRuntime) -> Result<(), Fail> {
 fn tokens_stand_at_their_places(rt: HostRuntime) -> Result<(), Fail> {
     let put: &[u8] = b"put 1 -- x";
     let words: &[u8] = b"12ab_1\t\"it's -- x\"";
-    let rows: &[(&[u8], usize, usize, Kind, &[u8])] = &[
-        (put, 0, 0, Kind::Key(Key::Put), b"put"),
-        (put, 1, 4, Kind::Number, b"1"),
-        (words, 0, 0, Kind::Number, b"12"),
-        (words, 1, 2, Kind::Name, b"ab_1"),
-        (words, 2, 7, Kind::Quoted, b"\"it's -- x\""),
+    let rows: &[(&[u8], usize, usize, TokenKind, &[u8])] = &[
+        (put, 0, 0, TokenKind::Key(Key::Put), b"put"),
+        (put, 1, 4, TokenKind::Number, b"1"),
+        (words, 0, 0, TokenKind::Number, b"12"),
+        (words, 1, 2, TokenKind::Name, b"ab_1"),
+        (words, 2, 7, TokenKind::Quoted, b"\"it's -- x\""),
     ];
     for (bytes, place, start, kind, want) in rows {
         assert!(rt;

@@ -1,12 +1,12 @@
 //! Trees, built by hand.
 
-use ht_grammar::{HandlerKind, Layer, Where};
-use ht_lex::{Ordinal, Piece};
+use ht_grammar::{HandlerKind, Layer};
+use ht_lex::Ordinal;
 use ht_tree::{
-    Chunk, Container, ContainerKind, Count, Expr, ExprKind, Exprs, Goal, Handler, Head, Message,
-    Names, Owner, Part, Ref, Script, Spot, Stmt, StmtKind, Stmts, Typing, Which,
+    Chunk, Container, ContainerKind, Count, Destination, Expr, ExprKind, Exprs, Handler, Head,
+    Message, Names, Owner, Part, Ref, Script, Selector, Stmt, StmtKind, Stmts, Typing, Which,
 };
-use ht_values::{Op, PartKind, Text};
+use ht_values::{ChunkKind, Op, PartKind, Text, Where};
 use std::alloc::Global;
 use std::test::*;
 
@@ -58,7 +58,7 @@ fn last_word(alloc: Global) -> Result<Container, Fail> {
     if BELOW < inner.depth() {
         return Err("too deep".into());
     }
-    let last = Chunk::NthPiece(Ordinal::Last, Piece::Word);
+    let last = Chunk::NthPiece(Ordinal::Last, ChunkKind::Word);
     Ok(Container::new(alloc, ContainerKind::Chunk(last, inner))?)
 }
 
@@ -73,7 +73,7 @@ fn delete_line(alloc: Global, container: Container) -> Result<Stmt, Fail> {
     if BELOW < container.depth() {
         return Err("too deep".into());
     }
-    let line = Chunk::NthPiece(Ordinal::First, Piece::Line);
+    let line = Chunk::NthPiece(Ordinal::First, ChunkKind::Line);
     Ok(Stmt::new(alloc, StmtKind::Delete(line, container))?)
 }
 
@@ -91,11 +91,11 @@ fn put_after(alloc: Global, value: Expr, container: Container) -> Result<Stmt, F
     Ok(Stmt::new(alloc, StmtKind::PutIn(Where::After, value, container))?)
 }
 
-fn go(alloc: Global, goal: Goal) -> Result<Stmt, Fail> {
-    if BELOW < goal.depth() {
+fn go(alloc: Global, destination: Destination) -> Result<Stmt, Fail> {
+    if BELOW < destination.depth() {
         return Err("too deep".into());
     }
-    Ok(Stmt::new(alloc, StmtKind::Go(goal))?)
+    Ok(Stmt::new(alloc, StmtKind::Go(destination))?)
 }
 
 fn repeat(alloc: Global, head: Head, lines: Stmts) -> Result<Stmt, Fail> {
@@ -129,7 +129,7 @@ fn two_arguments(alloc: Global) -> Result<Exprs, Fail> {
 
 /// The first card field of the background that has this number.
 fn first_field(which: Which) -> Part {
-    let owner = Owner::OnBackground(Spot::Which(which));
+    let owner = Owner::OnBackground(Selector::Which(which));
     Part::Nth(Ordinal::First, Some(Layer::Card), PartKind::Field, owner)
 }
 
@@ -152,9 +152,9 @@ fn an_expression_is_one_deeper_than_its_deepest_part(rt: HostRuntime) -> Result<
         number_in_parens(rt.alloc())?,
     )?;
     assert_eq!(rt; sum.depth(), 3);
-    let words = Chunk::Pieces(Piece::Word, sum, number(rt.alloc())?);
+    let words = Chunk::Pieces(ChunkKind::Word, sum, number(rt.alloc())?);
     assert_eq!(rt; words.depth(), 3);
-    assert_eq!(rt; Chunk::NthPiece(Ordinal::Last, Piece::Char).depth(), 0);
+    assert_eq!(rt; Chunk::NthPiece(Ordinal::Last, ChunkKind::Char).depth(), 0);
     Ok(())
 }
 
@@ -173,14 +173,14 @@ fn arguments_are_as_deep_as_the_deepest(rt: HostRuntime) -> Result<(), Fail> {
 }
 
 #[test]
-fn a_spot_is_as_deep_as_its_number(rt: HostRuntime) -> Result<(), Fail> {
+fn a_selector_is_as_deep_as_its_number(rt: HostRuntime) -> Result<(), Fail> {
     let which = Which::ByText(number(rt.alloc())?);
     assert_eq!(rt; which.depth(), 1);
-    assert_eq!(rt; Spot::This.depth(), 0);
-    let spot = Spot::Which(which);
-    assert_eq!(rt; spot.depth(), 1);
+    assert_eq!(rt; Selector::This.depth(), 0);
+    let selector = Selector::Which(which);
+    assert_eq!(rt; selector.depth(), 1);
     assert_eq!(rt; Owner::NoOwner.depth(), 0);
-    assert_eq!(rt; Owner::OnBackground(spot).depth(), 2);
+    assert_eq!(rt; Owner::OnBackground(selector).depth(), 2);
     Ok(())
 }
 
@@ -214,9 +214,9 @@ fn a_statement_is_one_deeper_than_its_deepest_part(rt: HostRuntime) -> Result<()
     let put = put_after(rt.alloc(), number_in_parens(rt.alloc())?, it(rt.alloc())?)?;
     assert_eq!(rt; put.depth(), 3);
     assert!(rt; matches!(put.kind(), StmtKind::PutIn(Where::After, _, _)));
-    let goal = Goal::ToCard(Spot::Which(Which::ByText(number(rt.alloc())?)));
-    assert_eq!(rt; goal.depth(), 2);
-    assert_eq!(rt; go(rt.alloc(), goal)?.depth(), 3);
+    let destination = Destination::ToCard(Selector::Which(Which::ByText(number(rt.alloc())?)));
+    assert_eq!(rt; destination.depth(), 2);
+    assert_eq!(rt; go(rt.alloc(), destination)?.depth(), 3);
     Ok(())
 }
 

@@ -1,7 +1,7 @@
 //! Expressions and references, written plainly.
 
 use ht_grammar::Layer;
-use ht_tree::{Chunk, Count, Expr, ExprKind, Exprs, Owner, Part, Ref, Spot, Which};
+use ht_tree::{Chunk, Count, Expr, ExprKind, Exprs, Owner, Part, Ref, Selector, Which};
 use ht_values::Text;
 use std::io::{self, Write};
 
@@ -134,13 +134,13 @@ fn print_which(out: &mut Vec<u8>, which: &Which) -> io::Result<()> {
 
 /// Prints which card or background.
 #[cycle(print)]
-pub fn print_spot(out: &mut Vec<u8>, spot: &Spot) -> io::Result<()> {
-    match spot {
-        Spot::This => write!(out, "this"),
-        Spot::Next => write!(out, "next"),
-        Spot::Previous => write!(out, "previous"),
-        Spot::Nth(ordinal) => write!(out, "{ordinal:?}"),
-        Spot::Which(which) => print_which(out, which),
+pub fn print_selector(out: &mut Vec<u8>, selector: &Selector) -> io::Result<()> {
+    match selector {
+        Selector::This => write!(out, "this"),
+        Selector::Next => write!(out, "next"),
+        Selector::Previous => write!(out, "previous"),
+        Selector::Nth(ordinal) => write!(out, "{ordinal:?}"),
+        Selector::Which(which) => print_which(out, which),
     }
 }
 
@@ -156,14 +156,14 @@ fn print_layer(out: &mut Vec<u8>, layer: &Option<Layer>) -> io::Result<()> {
 fn print_owner(out: &mut Vec<u8>, owner: &Owner) -> io::Result<()> {
     match owner {
         Owner::NoOwner => Ok(()),
-        Owner::OnCard(spot) => {
+        Owner::OnCard(selector) => {
             write!(out, " of (Card ")?;
-            print_spot(out, spot)?;
+            print_selector(out, selector)?;
             write!(out, ")")
         }
-        Owner::OnBackground(spot) => {
+        Owner::OnBackground(selector) => {
             write!(out, " of (Background ")?;
-            print_spot(out, spot)?;
+            print_selector(out, selector)?;
             write!(out, ")")
         }
     }
@@ -197,14 +197,14 @@ pub fn print_ref(out: &mut Vec<u8>, reference: &Ref) -> io::Result<()> {
         Ref::Me => write!(out, "(me)"),
         Ref::Target => write!(out, "(the-target)"),
         Ref::ThisStack => write!(out, "(this-stack)"),
-        Ref::Card(spot) => {
+        Ref::Card(selector) => {
             write!(out, "(Card ")?;
-            print_spot(out, spot)?;
+            print_selector(out, selector)?;
             write!(out, ")")
         }
-        Ref::Background(spot) => {
+        Ref::Background(selector) => {
             write!(out, "(Background ")?;
-            print_spot(out, spot)?;
+            print_selector(out, selector)?;
             write!(out, ")")
         }
         Ref::Part(part) => print_part(out, part),

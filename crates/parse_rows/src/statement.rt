@@ -1,10 +1,10 @@
 //! Containers and statements, written plainly.
 
 use crate::expression::{
-    print_chunk, print_expr, print_exprs, print_part, print_ref, print_spot, print_text,
+    print_chunk, print_expr, print_exprs, print_part, print_ref, print_selector, print_text,
 };
 use ht_tree::{
-    Chunk, Container, ContainerKind, Expr, Goal, Head, Names, Ref, Stmt, StmtKind, Stmts,
+    Chunk, Container, ContainerKind, Destination, Expr, Head, Names, Ref, Stmt, StmtKind, Stmts,
 };
 use std::io::{self, Write};
 
@@ -92,15 +92,15 @@ fn print_send(out: &mut Vec<u8>, message: &Expr, reference: &Ref) -> io::Result<
     write!(out, ")")
 }
 
-fn print_go(out: &mut Vec<u8>, goal: &Goal) -> io::Result<()> {
-    match goal {
-        Goal::ToCard(spot) => {
+fn print_go(out: &mut Vec<u8>, destination: &Destination) -> io::Result<()> {
+    match destination {
+        Destination::ToCard(selector) => {
             write!(out, "(go Card ")?;
-            print_spot(out, spot)?;
+            print_selector(out, selector)?;
         }
-        Goal::ToBackground(spot) => {
+        Destination::ToBackground(selector) => {
             write!(out, "(go Background ")?;
-            print_spot(out, spot)?;
+            print_selector(out, selector)?;
         }
     }
     write!(out, ")")
@@ -163,7 +163,7 @@ fn print_stmt(out: &mut Vec<u8>, stmt: &Stmt) -> io::Result<()> {
         StmtKind::Delete(chunk, container) => print_delete(out, chunk, container),
         StmtKind::Do(value) => print_one(out, "do", value),
         StmtKind::Send(message, reference) => print_send(out, message, reference),
-        StmtKind::Go(goal) => print_go(out, goal),
+        StmtKind::Go(destination) => print_go(out, destination),
         StmtKind::Global(names) => {
             write!(out, "(global ")?;
             print_names(out, names)?;

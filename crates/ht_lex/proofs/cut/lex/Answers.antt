@@ -1,5 +1,5 @@
 use Rattle.std.proofs.Common.{◌≡◌, ◌+◌, ◌++◌, [], ◌∷◌, length, rules, arith, sym, ap, subst, append-nil}
-use Rattle.ht_lex.specs.declared.front.Front.TheVariants.{Gap, Token, Nothing}
+use Rattle.ht_lex.specs.declared.lexeme.Lexeme.TheVariants.{Gap, Token, Nothing}
 use Rattle.ht_lex.specs.declared.tokens.Span.{Span}
 use Rattle.ht_lex.specs.Tokens.{Cuts, IsCut, IsStuck, InOrder, halt, gap, token}
 use Rattle.ht_lex.proofs.Spans.{order_snoc, order_wider}

@@ -3,7 +3,7 @@ use Rattle.std.proofs.lemmas.Grind.{common_steps}
 use Rattle.ht_grammar.specs.Reading.{made}
 use Rattle.ht_grammar.specs.Lines.{names_at}
 use Rattle.ht_parse.proofs.Lists.{made_names}
-use Rattle.ht_parse.proofs.Turns.{one_more, no_more}
+use Rattle.ht_lex.proofs.Turns.{one_more, no_more}
 use Rattle.ht_parse.proofs.container.names.Goals as goal
 
 pub returns-in_default : goal.returns-in_default

@@ -8,7 +8,7 @@ use Rattle.ht_parse.specs.Contexts.{context_of}
 use Rattle.ht_parse.specs.Lists.{append}
 use Rattle.ht_parse.proofs.Deeper.{lines_of}
 use Rattle.ht_parse.proofs.Lists.{append_stop, made_lines, made_nothing, with_fits}
-use Rattle.ht_parse.proofs.Turns.{one_more, no_more}
+use Rattle.ht_lex.proofs.Turns.{one_more, no_more}
 use Rattle.ht_parse.proofs.lines.+lines.Goals as goal
 
 pub lines-loop-turn-init : goal.lines-loop-turn-init

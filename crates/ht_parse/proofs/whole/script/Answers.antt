@@ -5,7 +5,7 @@ use Rattle.ht_grammar.specs.Whole.{handlers_at}
 use Rattle.ht_tree.specs.ScriptView.{script_of, handler_of}
 use Rattle.ht_parse.specs.Lists.{append_handlers}
 use Rattle.ht_parse.proofs.Lists.{append_none, made_handlers, handlers_fit}
-use Rattle.ht_parse.proofs.Turns.{one_more, no_more}
+use Rattle.ht_lex.proofs.Turns.{one_more, no_more}
 use Rattle.ht_parse.proofs.whole.script.Goals as goal
 
 pub returns-in_err-handler : goal.returns-in_err-handler

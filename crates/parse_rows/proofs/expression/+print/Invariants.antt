@@ -1,6 +1,6 @@
 use Rattle.std.proofs.Common.{◌≤◌, ◌+◌, ◌*◌, length}
-use Rattle.ht_grammar.specs.Depth.{depth, depths, chunk_depth, which_depth, spot_depth, owner_depth, part_depth, ref_depth, count_depth}
-use Rattle.ht_tree.specs.View.{exprs_of, chunk_of, which_of, spot_of, owner_of, part_of, ref_of, count_of}
+use Rattle.ht_grammar.specs.Depth.{depth, depths, chunk_depth, which_depth, selector_depth, owner_depth, part_depth, ref_depth, count_depth}
+use Rattle.ht_tree.specs.View.{exprs_of, chunk_of, which_of, selector_of, owner_of, part_of, ref_of, count_of}
 use Rattle.parse_rows.proofs.expression.+print.Given as goal
 
 abbrev pub decreases-print_expr : goal.decreases-print_expr
@@ -15,8 +15,8 @@ decreases-print_chunk l = 16 * chunk_depth (chunk_of l.chunk.now) + 10
 abbrev pub decreases-print_which : goal.decreases-print_which
 decreases-print_which l = 16 * which_depth (which_of l.which.now) + 10
 
-abbrev pub decreases-print_spot : goal.decreases-print_spot
-decreases-print_spot l = 16 * spot_depth (spot_of l.spot.now) + 11
+abbrev pub decreases-print_selector : goal.decreases-print_selector
+decreases-print_selector l = 16 * selector_depth (selector_of l.selector.now) + 11
 
 abbrev pub decreases-print_owner : goal.decreases-print_owner
 decreases-print_owner l = 16 * owner_depth (owner_of l.owner.now)

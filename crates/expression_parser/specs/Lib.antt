@@ -1,4 +1,0 @@
-pub mod Place
-pub mod Answer
-pub mod Fronts
-pub mod Nests

@@ -1,0 +1,4 @@
+pub mod Peeks
+pub mod Deeper
+pub mod Chain
+pub mod Lists

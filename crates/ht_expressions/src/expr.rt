@@ -1,0 +1,246 @@
+//! Expressions: operators, what stands before a factor, and primaries.
+
+ghost use Rattle.std.specs.Prelude.{◌≡◌, ◌<◌, ◌≤◌, ◌+◌, length};
+ghost use Rattle.ht_values.specs.declared.text.TheConstants.{LIMIT};
+ghost use Rattle.ht_lex.specs.Stops.{Gives};
+ghost use Rattle.ht_lex.specs.Token.{first_kind};
+ghost use Rattle.ht_grammar.specs.Trees as t;
+ghost use Rattle.ht_grammar.specs.Depth.{depth, depths, max_depth};
+ghost use Rattle.ht_grammar.specs.Expressions as e;
+ghost use Rattle.ht_grammar.specs.Reading as spec;
+ghost use Rattle.ht_tree.specs.View.{expr_of, exprs_of};
+ghost use Rattle.ht_expressions.specs.Answer.{Reads, ReadsExpr};
+ghost use Rattle.ht_expressions.specs.Nests.{Nests};
+
+use crate::grammar::{Grammar, Level, WHOLE};
+use crate::operator::{EQUALITY, LeadingOperator, take_operator};
+use ht_lex::{Cursor, Key, Stop, TokenKind, to_text};
+use ht_tree::{Expr, ExprKind, Exprs};
+use ht_values::{Op, Text, UnOp};
+use std::alloc::Global;
+
+/// An expression, where `)` follows.
+#[tactic(auto, unfolding(ht_grammar::specs::Reading::closed))]
+fn closed(alloc: Global, tokens: &mut Cursor<'_>, kind: ExprKind) -> Result<Expr, Stop>
+    requires { depth (expr_of kind) ≤ max_depth }
+    ensures { ReadsExpr (depth (expr_of kind)) (spec.closed (expr_of kind) tokens.old) result tokens.new }
+{
+    match tokens.peek() {
+        Some(TokenKind::Key(Key::RightParen)) => {
+            tokens.skip();
+            Ok(Expr::new(alloc, kind)?)
+        }
+        _ => Err(Stop::Syntax),
+    }
+}
+
+impl<F: Fn(Global, &mut Cursor<'_>, Level, usize) -> Result<Expr, Stop>> Grammar<F> {
+    /// Expressions with commas between, at most so many.
+    pub(crate) fn list(&self, tokens: &mut Cursor<'_>, turns: usize) -> Result<Exprs, Stop>
+        requires { Nests self.now.depth (F.pre self.now.read) (F.post self.now.read) }
+        ensures { Reads (λ xs. exprs_of xs.items.items) depths self.now.depth (spec.list_at (spec.read self.now.depth) self.now.depth turns t.none tokens.old) result tokens.new }
+    {
+        let mut found = Exprs::new(self.alloc);
+        for _turn in 0..turns {
+            let expr = self.read(tokens, WHOLE)?;
+            found = found.with(expr)?;
+            match tokens.peek() {
+                Some(TokenKind::Key(Key::CommaSign)) => tokens.skip(),
+                _ => return Ok(found),
+            }
+        }
+        Err(Stop::Syntax)
+    }
+
+    /// A call, after its name and `(`.
+    fn call(&self, tokens: &mut Cursor<'_>, name: Text) -> Result<Expr, Stop>
+        requires nests { Nests self.now.depth (F.pre self.now.read) (F.post self.now.read) }
+        requires shallow { self.now.depth < max_depth }
+        ensures { ReadsExpr (self.now.depth + 1) (spec.call_by (spec.read self.now.depth) self.now.depth (first_kind tokens.old) name tokens.old) result tokens.new }
+    {
+        match tokens.peek() {
+            Some(TokenKind::Key(Key::RightParen)) => {
+                tokens.skip();
+                Ok(Expr::new(self.alloc, ExprKind::Call(name, Exprs::new(self.alloc)))?)
+            }
+            _ => {
+                let turns = tokens.left();
+                let arguments = self.list(tokens, turns)?;
+                closed(self.alloc, tokens, ExprKind::Call(name, arguments))
+            }
+        }
+    }
+
+    /// A name, after its token, or a call.
+    fn named(&self, tokens: &mut Cursor<'_>, name: &[u8]) -> Result<Expr, Stop>
+        requires nests { Nests self.now.depth (F.pre self.now.read) (F.post self.now.read) }
+        requires shallow { self.now.depth < max_depth }
+        requires short { length name.now ≤ LIMIT }
+        ensures { ReadsExpr (self.now.depth + 1) (spec.named_by (spec.read self.now.depth) self.now.depth (first_kind tokens.old) name.now tokens.old) result tokens.new }
+    {
+        let name = to_text(self.alloc, name)?;
+        match tokens.peek() {
+            Some(TokenKind::Key(Key::LeftParen)) => {
+                tokens.skip();
+                self.call(tokens, name)
+            }
+            _ => Ok(Expr::new(self.alloc, ExprKind::Name(name))?),
+        }
+    }
+
+    /// A literal, a constant, a name, a call or an expression in parentheses.
+    #[tactic(auto, unfolding(ht_grammar::specs::Reading::primary_at))]
+    pub(crate) fn primary(&self, tokens: &mut Cursor<'_>) -> Result<Expr, Stop>
+        requires nests { Nests self.now.depth (F.pre self.now.read) (F.post self.now.read) }
+        requires shallow { self.now.depth < max_depth }
+        ensures { ReadsExpr (self.now.depth + 1) (spec.primary_at (spec.read self.now.depth) self.now.depth tokens.old) result tokens.new }
+    {
+        match tokens.peek() {
+            Some(TokenKind::Number) => {
+                let digits = to_text(self.alloc, tokens.take())?;
+                Ok(Expr::new(self.alloc, ExprKind::Number(digits))?)
+            }
+            Some(TokenKind::Quoted) => {
+                let text = to_text(self.alloc, tokens.take())?;
+                Ok(Expr::new(self.alloc, ExprKind::Quoted(text))?)
+            }
+            Some(TokenKind::Name) => {
+                let name = tokens.take();
+                self.named(tokens, name)
+            }
+            Some(TokenKind::Key(Key::LeftParen)) => {
+                tokens.skip();
+                let inner = self.read(tokens, WHOLE)?;
+                closed(self.alloc, tokens, ExprKind::Paren(inner))
+            }
+            Some(TokenKind::Key(Key::Constant(constant))) => {
+                tokens.skip();
+                Ok(Expr::new(self.alloc, ExprKind::Constant(constant))?)
+            }
+            Some(TokenKind::Key(Key::Return)) => {
+                tokens.skip();
+                Ok(Expr::new(self.alloc, ExprKind::Return)?)
+            }
+            _ => Err(Stop::Syntax),
+        }
+    }
+
+    /// An expression under a unary operator.
+    pub(crate) fn unary(&self, tokens: &mut Cursor<'_>, op: UnOp) -> Result<Expr, Stop>
+        requires nests { Nests self.now.depth (F.pre self.now.read) (F.post self.now.read) }
+        requires shallow { self.now.depth < max_depth }
+        ensures { ReadsExpr (self.now.depth + 1) (spec.made (t.unary op) (spec.read self.now.depth e.prefixed tokens.old)) result tokens.new }
+    {
+        let operand = self.read(tokens, Level::Prefixed)?;
+        Ok(Expr::new(self.alloc, ExprKind::Unary(op, operand))?)
+    }
+
+    /// `^` after its base: it joins from the right.
+    #[tactic(auto, unfolding(ht_grammar::specs::Reading::power_end))]
+    fn power_end(&self, tokens: &mut Cursor<'_>, base: Expr) -> Result<Expr, Stop>
+        requires nests { Nests self.now.depth (F.pre self.now.read) (F.post self.now.read) }
+        requires shallow { self.now.depth < max_depth }
+        requires fits { depth base ≤ self.now.depth + 1 }
+        ensures { ReadsExpr (self.now.depth + 1) (spec.power_end (spec.read self.now.depth) self.now.depth base tokens.old) result tokens.new }
+    {
+        match tokens.peek() {
+            Some(TokenKind::Key(Key::Caret)) => {
+                if base.depth() > self.depth {
+                    return Err(Stop::Syntax);
+                }
+                tokens.skip();
+                let exponent = self.read(tokens, Level::Power)?;
+                self.binary(Op::Power, base, exponent)
+            }
+            _ => Ok(base),
+        }
+    }
+
+    fn binary(&self, op: Op, left: Expr, right: Expr) -> Result<Expr, Stop>
+        requires low { self.now.depth < max_depth }
+        requires left { depth left ≤ self.now.depth }
+        requires right { depth right ≤ self.now.depth }
+        ensures { Gives (t.binary op left right) result }
+    {
+        Ok(Expr::new(self.alloc, ExprKind::Binary(op, left, right))?)
+    }
+
+    #[tactic(auto, unfolding(ht_grammar::specs::Reading::power_at))]
+    pub(crate) fn power(&self, tokens: &mut Cursor<'_>) -> Result<Expr, Stop>
+        requires nests { Nests self.now.depth (F.pre self.now.read) (F.post self.now.read) }
+        requires shallow { self.now.depth < max_depth }
+        ensures { ReadsExpr (self.now.depth + 1) (spec.power_at (spec.read self.now.depth) self.now.depth tokens.old) result tokens.new }
+    {
+        let base = self.prefixed(tokens)?;
+        self.power_end(tokens, base)
+    }
+
+    /// Joins what comes after an operator of rank `below + 1`.
+    #[tactic(auto, unfolding(ht_grammar::specs::Reading::join_at))]
+    fn join(&self, tokens: &mut Cursor<'_>, below: u8, op: Op, left: Expr) -> Result<Expr, Stop>
+        requires nests { Nests self.now.depth (F.pre self.now.read) (F.post self.now.read) }
+        requires shallow { self.now.depth < max_depth }
+        requires ranked { below < 7 }
+        ensures { ReadsExpr (self.now.depth + 1) (spec.join_at (spec.read self.now.depth) self.now.depth below op left tokens.old) result tokens.new }
+    {
+        if left.depth() > self.depth {
+            return Err(Stop::Syntax);
+        }
+        let right = self.read(tokens, Level::Rank(below))?;
+        self.binary(op, left, right)
+    }
+
+    /// Asks for the type of what comes before.
+    #[tactic(auto, unfolding(ht_grammar::specs::Reading::asked_at))]
+    fn asked(&self, tokens: &Cursor<'_>, op: UnOp, left: Expr) -> Result<Expr, Stop>
+        requires { self.now.depth < max_depth }
+        ensures { ReadsExpr (self.now.depth + 1) (spec.asked_at (spec.read self.now.depth) self.now.depth op left tokens.now) result tokens.now }
+    {
+        if left.depth() > self.depth {
+            return Err(Stop::Syntax);
+        }
+        Ok(Expr::new(self.alloc, ExprKind::Unary(op, left))?)
+    }
+
+    /// Joins operators of rank `below + 1` from the left.
+    fn chain(&self, tokens: &mut Cursor<'_>, below: u8, first: Expr) -> Result<Expr, Stop>
+        requires nests { Nests self.now.depth (F.pre self.now.read) (F.post self.now.read) }
+        requires shallow { self.now.depth < max_depth }
+        requires ranked { below < 7 }
+        requires fits { depth first ≤ self.now.depth + 1 }
+        ensures { ReadsExpr (self.now.depth + 1) (spec.chain_at (spec.read self.now.depth) self.now.depth below (self.now.depth + 2) first tokens.old) result tokens.new }
+    {
+        let mut left = first;
+        for _turn in 0..self.depth + 2 {
+            let before = tokens.mark();
+            match take_operator(tokens) {
+                LeadingOperator::Infix(rank, op) if rank == below + 1 => {
+                    left = self.join(tokens, below, op, left)?;
+                }
+                LeadingOperator::Test(op) if EQUALITY == below + 1 => {
+                    left = self.asked(tokens, op, left)?;
+                }
+                _ => {
+                    *tokens = before;
+                    return Ok(left);
+                }
+            }
+        }
+        Err(Stop::Syntax)
+    }
+
+    /// Operators up to this rank.
+    #[tactic(auto, using(crate::proofs::Deeper::rank_zero, crate::proofs::Deeper::rank_up))]
+    pub(crate) fn rank(&self, tokens: &mut Cursor<'_>, rank: u8) -> Result<Expr, Stop>
+        requires nests { Nests self.now.depth (F.pre self.now.read) (F.post self.now.read) }
+        requires shallow { self.now.depth < max_depth }
+        requires ranked { rank ≤ 7 }
+        ensures { ReadsExpr (self.now.depth + 1) (spec.rank_at (spec.read self.now.depth) self.now.depth rank tokens.old) result tokens.new }
+    {
+        if rank == 0 {
+            return self.power(tokens);
+        }
+        let first = self.rank(tokens, rank - 1)?;
+        self.chain(tokens, rank - 1, first)
+    }
+}

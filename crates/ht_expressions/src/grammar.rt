@@ -1,0 +1,45 @@
+//! The rules take the reader of an expression's parts as a parameter, so that each is proved by itself.
+
+ghost use Rattle.std.specs.Prelude.{◌≡◌, ◌<◌, ◌≤◌, ◌+◌};
+ghost use Rattle.ht_grammar.specs.Depth.{max_depth};
+ghost use Rattle.ht_grammar.specs.Reading as spec;
+ghost use Rattle.ht_expressions.specs.Answer.{ReadsExpr};
+ghost use Rattle.ht_expressions.specs.Nests.{Nests, IsRanked, level_of};
+
+use ht_lex::{Cursor, Stop};
+use ht_tree::Expr;
+use std::alloc::Global;
+
+/// A part of the grammar that is read as an expression.
+#[derive(Clone, Copy, Debug)]
+pub enum Level {
+    /// Operators up to this rank, from 0 to 7.
+    Rank(u8),
+    Power,
+    Prefixed,
+    Factor,
+    Primary,
+}
+
+/// A whole expression.
+pub const WHOLE: Level = Level::Rank(7);
+
+/// The rules of expressions with at most `depth + 1` levels, whose parts `read` reads.
+#[derive(Clone, Copy)]
+pub(crate) struct Grammar<F> {
+    pub alloc: Global,
+    /// How many levels a part may have.
+    pub depth: usize,
+    pub read: F,
+}
+
+impl<F: Fn(Global, &mut Cursor<'_>, Level, usize) -> Result<Expr, Stop>> Grammar<F> {
+    /// A part of an expression.
+    pub(crate) fn read(&self, tokens: &mut Cursor<'_>, level: Level) -> Result<Expr, Stop>
+        requires nests { Nests self.now.depth (F.pre self.now.read) (F.post self.now.read) }
+        requires ranked { IsRanked level }
+        ensures { ReadsExpr self.now.depth (spec.read self.now.depth (level_of level) tokens.old) result tokens.new }
+    {
+        (self.read)(self.alloc, tokens, level, self.depth)
+    }
+}

@@ -1,0 +1,97 @@
+//! Operators after their left operand.
+
+ghost use Rattle.std.specs.Prelude.{◌≡◌};
+ghost use Rattle.ht_grammar.specs.Fronts as f;
+ghost use Rattle.ht_expressions.specs.Fronts.{operator_view};
+
+use crate::contextual_keywords::asked_type;
+use ht_lex::{Cursor, Key, TokenKind};
+use ht_values::{Op, UnOp};
+
+/// An operator with its rank: `or` is of rank 7, and `*` of 1.
+#[derive(Clone, Copy, Debug)]
+pub(crate) enum LeadingOperator {
+    Infix(u8, Op),
+    /// `is a` or `is not a`, and a type.
+    Test(UnOp),
+    Neither,
+}
+
+/// `=`, `<>` and `is` are of one rank.
+pub(crate) const EQUALITY: u8 = 5;
+
+/// Goes on after `is not`.
+#[tactic(auto, unfolding(ht_grammar::specs::Fronts::operator_after_is_not))]
+fn take_is_not(tokens: &mut Cursor<'_>) -> LeadingOperator
+    ensures { operator_view result tokens.new ≡ f.operator_after_is_not tokens.old }
+{
+    match tokens.peek() {
+        Some(TokenKind::Key(Key::In)) => {
+            tokens.skip();
+            LeadingOperator::Infix(4, Op::IsNotIn)
+        }
+        _ => match asked_type(tokens) {
+            None => LeadingOperator::Infix(EQUALITY, Op::NotEqual),
+            Some(value_type) => {
+                tokens.skip();
+                tokens.skip();
+                LeadingOperator::Test(UnOp::IsNotA(value_type))
+            }
+        },
+    }
+}
+
+/// Goes on after `is`.
+#[tactic(auto, unfolding(ht_grammar::specs::Fronts::operator_after_is))]
+fn take_is(tokens: &mut Cursor<'_>) -> LeadingOperator
+    ensures { operator_view result tokens.new ≡ f.operator_after_is tokens.old }
+{
+    match tokens.peek() {
+        Some(TokenKind::Key(Key::In)) => {
+            tokens.skip();
+            LeadingOperator::Infix(4, Op::IsIn)
+        }
+        Some(TokenKind::Key(Key::Not)) => {
+            tokens.skip();
+            take_is_not(tokens)
+        }
+        _ => match asked_type(tokens) {
+            None => LeadingOperator::Infix(EQUALITY, Op::Equal),
+            Some(value_type) => {
+                tokens.skip();
+                tokens.skip();
+                LeadingOperator::Test(UnOp::IsA(value_type))
+            }
+        },
+    }
+}
+
+/// Goes past the operator that the tokens begin with, or past one token where there is none.
+#[tactic(auto, unfolding(ht_grammar::specs::Fronts::leading_operator))]
+pub(crate) fn take_operator(tokens: &mut Cursor<'_>) -> LeadingOperator
+    ensures { operator_view result tokens.new ≡ f.leading_operator tokens.old }
+{
+    let kind = tokens.peek();
+    tokens.skip();
+    match kind {
+        Some(TokenKind::Key(Key::Or)) => LeadingOperator::Infix(7, Op::Or),
+        Some(TokenKind::Key(Key::And)) => LeadingOperator::Infix(6, Op::And),
+        Some(TokenKind::Key(Key::Equal)) => LeadingOperator::Infix(EQUALITY, Op::Equal),
+        Some(TokenKind::Key(Key::NotEqual)) => LeadingOperator::Infix(EQUALITY, Op::NotEqual),
+        Some(TokenKind::Key(Key::Is)) => take_is(tokens),
+        Some(TokenKind::Key(Key::Less)) => LeadingOperator::Infix(4, Op::Less),
+        Some(TokenKind::Key(Key::Greater)) => LeadingOperator::Infix(4, Op::Greater),
+        Some(TokenKind::Key(Key::LessEqual)) => LeadingOperator::Infix(4, Op::LessOrEqual),
+        Some(TokenKind::Key(Key::GreaterEqual)) => LeadingOperator::Infix(4, Op::GreaterOrEqual),
+        Some(TokenKind::Key(Key::Contains)) => LeadingOperator::Infix(4, Op::Contains),
+        Some(TokenKind::Key(Key::Ampersand)) => LeadingOperator::Infix(3, Op::Join),
+        Some(TokenKind::Key(Key::DoubleAmpersand)) => LeadingOperator::Infix(3, Op::JoinSpaced),
+        Some(TokenKind::Key(Key::Plus)) => LeadingOperator::Infix(2, Op::Add),
+        Some(TokenKind::Key(Key::Minus)) => LeadingOperator::Infix(2, Op::Subtract),
+        Some(TokenKind::Key(Key::Star)) => LeadingOperator::Infix(1, Op::Multiply),
+        Some(TokenKind::Key(Key::Slash)) => LeadingOperator::Infix(1, Op::Divide),
+        Some(TokenKind::Key(Key::Div)) => LeadingOperator::Infix(1, Op::Div),
+        Some(TokenKind::Key(Key::Mod)) => LeadingOperator::Infix(1, Op::Mod),
+        _ => LeadingOperator::Neither,
+    }
+}

@@ -1,0 +1,38 @@
+//! Why nothing is read.
+
+ghost use Rattle.std.specs.Prelude.{◌≡◌, ◌≤◌, length};
+ghost use Rattle.ht_values.specs.declared.text.TheConstants.{LIMIT};
+ghost use Rattle.ht_lex.specs.Stops.{Gives};
+
+use ht_values::{Text, TextError};
+use std::alloc::{AllocError, Global};
+
+/// Why no tree is read: the tokens are none, or a growth of memory was refused.
+#[derive(Clone, Copy, PartialEq, Eq, Debug)]
+pub enum Stop {
+    Syntax,
+    Memory,
+}
+
+impl From<AllocError> for Stop {
+    ghost use Rattle.std.specs.Prelude.{◌≡◌};
+    ghost use Rattle.ht_lex.specs.declared.stop.Stop.TheVariants.{Memory};
+
+    ghost from_gives = { λ _ e. e ≡ Memory };
+
+    fn from(_: AllocError) -> Stop {
+        Stop::Memory
+    }
+}
+
+/// A text of these bytes, unless memory is refused.
+pub fn to_text(alloc: Global, bytes: &[u8]) -> Result<Text, Stop>
+    requires { length bytes.now ≤ LIMIT }
+    ensures { Gives bytes.now result }
+{
+    match Text::from_slice(alloc, bytes) {
+        Ok(text) => Ok(text),
+        Err(TextError::Memory) => Err(Stop::Memory),
+        Err(TextError::TooLong) => Err(Stop::Syntax),
+    }
+}
