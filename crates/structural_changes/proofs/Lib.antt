@@ -1,0 +1,4 @@
+pub mod Tallies
+pub mod Filled
+pub mod Grown
+pub mod Parts

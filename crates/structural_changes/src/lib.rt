@@ -1,0 +1,5 @@
+//! The changes that make and remove objects: where each fits, what it writes, and that a stack stays well formed.
+#![tactic(auto)]
+
+/// Nothing.
+pub fn nothing() {}
