@@ -1,5 +1,5 @@
 -- Values that a part gets for each of some cards, and lists of ids by a test.
-use Rattle.std.proofs.Common.{◌≡◌, ℕ, Bool, true, false, cond, ◌&&◌, ◌||◌, List, [], ◌∷◌, filter, map, nat_eq, refl, sym, ap, ◌∙◌, arith, Option, Some, is_some}
+use Rattle.std.proofs.Common.{◌≡◌, ℕ, Bool, true, false, cond, ◌&&◌, ◌||◌, List, [], ◌∷◌, ◌++◌, filter, map, nat_eq, refl, sym, ap, ◌∙◌, arith, Option, Some, is_some}
 use Rattle.std.proofs.lemmas.Bool.{false≢true}
 use Rattle.std.proofs.lemmas.Bool.Decides.{nat_tests}
 use Rattle.std.specs.Ordering.{nat_cmp, eq_by_cmp}
@@ -12,8 +12,8 @@ use Rattle.object_table.specs.Objects.{object_at, contains_id}
 use Rattle.object_table.specs.Pairs.{Pair, pair_cmp, PairMap}
 use Rattle.object_table.proofs.Maps.{get-put_option}
 use Rattle.object_table.proofs.Pairs.{pair_cmp_total, pair_cmp-IsAntisymmetric, pair_tied, same_pair}
-use Rattle.stack_places.specs.Places.{put}
-use Rattle.structural_changes.specs.Writes.{put_each, empty_texts, false_hilites, ids_where}
+use Rattle.stack_places.specs.Places.{put, field_text, button_hilite, text, logical}
+use Rattle.structural_changes.specs.Writes.{StackWrite, write, put_each, empty_texts, false_hilites, ids_where}
 
 unfoldable pub filled : {X : Type 0} → PairMap X → ℕ → List ℕ → X → PairMap X
 filled m part [] v = m
@@ -49,6 +49,49 @@ get-filled m part (card ∷ cards) v q =
     get-filled (put_option m (part, card) (Some v)) part cards v q
     ∙ ap (λ x. cond (nat_eq q.0 part && contains_id q.1 cards) (Some v) x) (get-put_option pair_cmp_total pair_cmp-IsAntisymmetric m (part, card) (Some v) q ∙ ap (λ b. cond b (Some v) (get m q)) (pair_tied q (part, card) ∙ ap (λ b. nat_eq q.0 part && b) (nat_eq_sym q.1 card)))
     ∙ first_or (nat_eq q.0 part) (nat_eq card q.1) (contains_id q.1 cards) (Some v) (get m q)
+
+-- ---- values that a card gets for each of some parts
+
+unfoldable pub filled_for : {X : Type 0} → PairMap X → List ℕ → ℕ → X → PairMap X
+filled_for m [] card v = m
+filled_for m (part ∷ parts) card v = filled_for (put_option m (part, card) (Some v)) parts card v
+
+pub texts_filled_for : (s : Content) (fields : List ℕ) (card : ℕ) → put_each s (map (λ field. write (field_text field card) (text [])) fields) ≡ record s { texts = filled_for s.texts fields card [] }
+unfolding put filled_for
+texts_filled_for s [] card = refl
+texts_filled_for s (field ∷ fields) card = texts_filled_for (record s { texts = put_option s.texts (field, card) (Some []) }) fields card
+
+pub hilites_filled_for : (s : Content) (buttons : List ℕ) (card : ℕ) → put_each s (map (λ button. write (button_hilite button card) (logical false)) buttons) ≡ record s { hilites = filled_for s.hilites buttons card false }
+unfolding put filled_for
+hilites_filled_for s [] card = refl
+hilites_filled_for s (button ∷ buttons) card = hilites_filled_for (record s { hilites = put_option s.hilites (button, card) (Some false) }) buttons card
+
+second_or : {X : Type 0} (a b c : Bool) (v f : X) → cond (c && a) v (cond (b && a) v f) ≡ cond ((b || c) && a) v f
+second_or a true true v f = by a
+  where
+    by : (a : Bool) → cond a v (cond a v f) ≡ cond a v f
+    by true = refl
+    by false = refl
+second_or a true false v f = refl
+second_or a false c v f = refl
+
+pub get-filled_for : {X : Type 0} (m : PairMap X) (parts : List ℕ) (card : ℕ) (v : X) (q : Pair) → get (filled_for m parts card v) q ≡ cond (contains_id q.0 parts && nat_eq q.1 card) (Some v) (get m q)
+unfolding filled_for
+get-filled_for m [] card v q = refl
+get-filled_for m (part ∷ parts) card v q =
+    get-filled_for (put_option m (part, card) (Some v)) parts card v q
+    ∙ ap (λ x. cond (contains_id q.0 parts && nat_eq q.1 card) (Some v) x) (get-put_option pair_cmp_total pair_cmp-IsAntisymmetric m (part, card) (Some v) q ∙ ap (λ b. cond b (Some v) (get m q)) (pair_tied q (part, card) ∙ ap (λ b. b && nat_eq q.1 card) (nat_eq_sym q.0 part)))
+    ∙ second_or (nat_eq q.1 card) (nat_eq part q.0) (contains_id q.0 parts) (Some v) (get m q)
+
+pub put_each-append : (s : Content) (xs ys : List StackWrite) → put_each s (xs ++ ys) ≡ put_each (put_each s xs) ys
+put_each-append s [] ys = refl
+put_each-append s (x ∷ xs) ys = put_each-append (put s x.place x.value) xs ys
+
+pub contents_filled : (s : Content) (fields buttons : List ℕ) (card : ℕ) → put_each s (map (λ field. write (field_text field card) (text [])) fields ++ map (λ button. write (button_hilite button card) (logical false)) buttons) ≡ record s { texts = filled_for s.texts fields card []; hilites = filled_for s.hilites buttons card false }
+contents_filled s fields buttons card =
+    put_each-append s (map (λ field. write (field_text field card) (text [])) fields) (map (λ button. write (button_hilite button card) (logical false)) buttons)
+    ∙ ap (λ x. put_each x (map (λ button. write (button_hilite button card) (logical false)) buttons)) (texts_filled_for s fields card)
+    ∙ hilites_filled_for (record s { texts = filled_for s.texts fields card [] }) buttons card
 
 -- ---- ids by a test
 

@@ -14,7 +14,7 @@ use Rattle.object_table.specs.Layers.{layer_id, layer_parts}
 use Rattle.object_table.specs.Maps.{put_option}
 use Rattle.object_table.specs.Objects.{is_stack, is_background, is_card, is_card_part, is_background_part, is_card_field, is_background_field, is_background_button, is_layer, background_of, has_kind, object_at, parts_at, contains_id, background_at, object_count}
 use Rattle.object_table.specs.Pairs.{PairMap}
-use Rattle.object_table.specs.WellFormed.{NamesEach, IsWellFormed}
+use Rattle.structural_changes.proofs.Formed.{IsFormed}
 use Rattle.object_table.specs.declared.object.Object.{Object}
 use Rattle.object_table.specs.declared.object.Kind.{Kind}
 use Rattle.object_table.specs.declared.object.Kind.TheVariants.{Stack, Background, Card, CardButton, BackgroundButton, CardField, BackgroundField}
@@ -29,7 +29,7 @@ pub same_id : (a b : ℕ) → nat_eq a b ≡ true → a ≡ b
 same_id a b q = grind (arith, nat_tests, q)
 
 -- Beside the new object, the stack has what it had.
-module _ (s : Content) (w : IsWellFormed s) (new : Object) where
+module _ (s : Content) (w : IsFormed s) (new : Object) where
   abbrev objects_with : FinMap nat_cmp Object
   objects_with = objects_and s new
 

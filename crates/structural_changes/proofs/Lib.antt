@@ -1,4 +1,6 @@
 pub mod Tallies
 pub mod Filled
+pub mod Formed
 pub mod Grown
 pub mod Parts
+pub mod Cards

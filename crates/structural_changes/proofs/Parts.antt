@@ -25,13 +25,14 @@ use Rattle.object_table.proofs.Maps.{get-put_option}
 use Rattle.stack_places.specs.Places.{put}
 use Rattle.structural_changes.specs.Writes.{put_each, writes_of_new_part, fits_new_part, has_room_for, kind_of_new, name_of_new, new_part, kept_for, is_card_of, ids_where}
 use Rattle.structural_changes.proofs.Filled.{filled, texts_filled, hilites_filled, get-filled, contains-ids_where}
+use Rattle.structural_changes.proofs.Formed.{IsFormed, HasCards, formed, whole}
 use Rattle.structural_changes.proofs.Grown.{objects_and, same_id, none_new, none_at_new, object-with, found-with, found-as_before, ids-with, count-with, names-with}
 use Rattle.structural_changes.proofs.Tallies.{one_if, total, tally, total-append, total-flat_map, total-plus, total-zero, none_more, contains-tally, named-tally, tally-named, one_member}
 
 -- ---- kinds
 
 -- whether the kind of what is found passes
-abbrev passes : (Kind → Bool) → Option Object → Bool
+abbrev pub passes : (Kind → Bool) → Option Object → Bool
 passes p found = unwrap_or (option_map (λ o. p o.kind) found) false
 
 if_passes : (p q : Kind → Bool) → ((k : Kind) → p k ≡ true → q k ≡ true) → (found : Option Object) → passes p found ≡ true → passes q found ≡ true
@@ -70,7 +71,7 @@ kept_by s (OfBackground background) c = (c == 0) || is_card_of s background c
 nat_eq_sym : (a b : ℕ) → nat_eq a b ≡ nat_eq b a
 nat_eq_sym a b = grind (arith, nat_tests)
 
-or_false : (b : Bool) → b || false ≡ b
+pub or_false : (b : Bool) → b || false ≡ b
 or_false true = refl
 or_false false = refl
 
@@ -91,12 +92,12 @@ contains-kept_for s (OfBackground background) c = λ i. nat_eq_sym 0 c i || (con
 
 -- ---- the stack with a part
 
-bool_iff : (a b : Bool) → (a ≡ true) ↔ (b ≡ true) → a ≡ b
+pub bool_iff : (a b : Bool) → (a ≡ true) ↔ (b ≡ true) → a ≡ b
 bool_iff true b h = sym (h.0 refl)
 bool_iff false true h = h.1 refl
 bool_iff false false h = refl
 
-iff_bool : (a b : Bool) → a ≡ b → (a ≡ true) ↔ (b ≡ true)
+pub iff_bool : (a b : Bool) → a ≡ b → (a ≡ true) ↔ (b ≡ true)
 iff_bool a b e = (λ h. sym e ∙ h, λ h. e ∙ h)
 
 positive_or : (n : ℕ) (b : Bool) → not (nat_eq (n + one_if b) 0) ≡ not (nat_eq n 0) || b
@@ -108,10 +109,10 @@ abbrev parts_and : Content → ℕ → FinMap nat_cmp (List ℕ)
 parts_and s layer = put_option s.parts layer (Some (parts_at s layer ++ s.next ∷ []))
 
 -- the parts of a layer in a map of these
-abbrev in_map : FinMap nat_cmp (List ℕ) → ℕ → List ℕ
+abbrev pub in_map : FinMap nat_cmp (List ℕ) → ℕ → List ℕ
 in_map m layer = unwrap_or (get m layer) []
 
-module _ (s : Content) (w : IsWellFormed s) (l : ℕ) where
+module _ (s : Content) (w : IsFormed s) (l : ℕ) where
   get-parts : (y : ℕ) → get (parts_and s l) y ≡ cond (nat_eq y l) (Some (parts_at s l ++ s.next ∷ [])) (get s.parts y)
   get-parts y = get-put_option nat_cmp_total nat_cmp-IsAntisymmetric s.parts l (Some (parts_at s l ++ s.next ∷ [])) y ∙ ap (λ b. cond b (Some (parts_at s l ++ s.next ∷ [])) (get s.parts y)) (unsigned_tied y l)
 
@@ -177,7 +178,7 @@ one_of (Some o) e other = by o.kind e other
     by Stack e other = absurd (false≢true e)
     by _ e other = absurd (false≢true e)
 
-module _ (s : Content) (w : IsWellFormed s) where
+module _ (s : Content) (w : IsFormed s) where
   -- no list of parts has the next id
   unlisted_in : (of_layer of_part : Kind → Bool) (order : List ℕ) (y : ℕ) → NamesEach (has_kind of_layer s) order → NamesEach (has_kind of_part s) (flat_map (parts_at s) order) → has_kind of_layer s y ≡ true → contains_id s.next (parts_at s y) ≡ false
   unlisted_in of_layer of_part order y layers parts e =
@@ -199,7 +200,7 @@ module _ (s : Content) (w : IsWellFormed s) where
 
 -- ---- texts and hilites
 
-and_false : (b : Bool) → b && false ≡ false
+pub and_false : (b : Bool) → b && false ≡ false
 and_false true = refl
 and_false false = refl
 
@@ -212,7 +213,7 @@ there-filled m part cards v f c = ap is_some (get-filled m part cards v (f, c)) 
     by true false = refl
     by false b = refl
 
-module _ (s : Content) (w : IsWellFormed s) (l : ℕ) (new : Object) (no_layer : background_of new.kind ≡ None) where
+module _ (s : Content) (w : IsFormed s) (l : ℕ) (new : Object) (no_layer : background_of new.kind ≡ None) where
   abbrev at_now : ℕ → Option Object
   at_now = get (objects_and s new)
 
@@ -330,14 +331,14 @@ written s (OfBackground background) Button = hilites_filled _ s.next (kept_for s
 written s (OfCard card) Field = texts_filled _ s.next (kept_for s (OfCard card))
 written s (OfBackground background) Field = texts_filled _ s.next (kept_for s (OfBackground background))
 
-text_gains : (s : Content) (w : IsWellFormed s) (layer : Layer) (kind : PartKind) (c : ℕ) → contains_id c (text_cards s layer kind) ≡ (is_card_field (kind_of_new layer kind) && nat_eq c (layer_id layer)) || (is_background_field (kind_of_new layer kind) && ((c == 0) || is_card_of s (layer_id layer) c))
+text_gains : (s : Content) (w : IsFormed s) (layer : Layer) (kind : PartKind) (c : ℕ) → contains_id c (text_cards s layer kind) ≡ (is_card_field (kind_of_new layer kind) && nat_eq c (layer_id layer)) || (is_background_field (kind_of_new layer kind) && ((c == 0) || is_card_of s (layer_id layer) c))
 unfolding text_cards
 text_gains s w (OfCard card) Field c = contains-kept_for s (OfCard card) c ∙ sym (or_false (nat_eq c card))
 text_gains s w (OfBackground background) Field c = contains-kept_for s (OfBackground background) c
 text_gains s w (OfCard card) Button c = refl
 text_gains s w (OfBackground background) Button c = refl
 
-hilite_gains : (s : Content) (w : IsWellFormed s) (layer : Layer) (kind : PartKind) (c : ℕ) → contains_id c (hilite_cards s layer kind) ≡ is_background_button (kind_of_new layer kind) && ((c == 0) || is_card_of s (layer_id layer) c)
+hilite_gains : (s : Content) (w : IsFormed s) (layer : Layer) (kind : PartKind) (c : ℕ) → contains_id c (hilite_cards s layer kind) ≡ is_background_button (kind_of_new layer kind) && ((c == 0) || is_card_of s (layer_id layer) c)
 unfolding hilite_cards
 hilite_gains s w (OfBackground background) Button c = contains-kept_for s (OfBackground background) c
 hilite_gains s w (OfCard card) Field c = refl
@@ -361,7 +362,7 @@ named : (kind : PartKind) → IsText (name_of_new kind)
 named Button = record { short = omega arith; bytes = search rules }
 named Field = record { short = omega arith; bytes = search rules }
 
-both : (a b : Bool) → a && b ≡ true → (a ≡ true) × (b ≡ true)
+pub both : (a b : Bool) → a && b ≡ true → (a ≡ true) × (b ≡ true)
 both true b e = (refl, e)
 both false b e = absurd (false≢true e)
 
@@ -389,7 +390,7 @@ as_layer : (s : Content) (layer : Layer) → has_kind (is_of_layer layer) s (lay
 as_layer s (OfCard card) e = if_passes is_card is_layer card_is_layer (object_at s card) e
 as_layer s (OfBackground background) e = if_passes is_background is_layer background_is_layer (object_at s background) e
 
-module _ (s : Content) (layer : Layer) (kind : PartKind) (w : IsWellFormed s) (room : has_room_for 1 s ≡ true) (there : is_some (layer_parts s layer) ≡ true) where
+module _ (s : Content) (layer : Layer) (kind : PartKind) (w : IsFormed s) (room : has_room_for 1 s ≡ true) (there : is_some (layer_parts s layer) ≡ true) where
   new : Object
   new = new_part layer kind
 
@@ -410,8 +411,8 @@ module _ (s : Content) (layer : Layer) (kind : PartKind) (w : IsWellFormed s) (r
       by true q = sym (ap (λ y. is_some (get s.parts y)) (same_id id (layer_id layer) q) ∙ (w.layers (layer_id layer)).1 (as_layer s layer of_kind))
       by false q = refl
 
-  well_formed : IsWellFormed (with_part s layer kind)
-  well_formed =
+  part_formed : IsFormed (with_part s layer kind)
+  part_formed =
       let fits : (leb (s.next + 1) 1000001 ≡ true) × (leb (object_count s + 1) 10000 ≡ true) = both (leb (s.next + 1) 1000001) (leb (object_count s + 1) 10000) room in
       let high : s.next + 1 ≤ 1000001 = leb_yes (subst T (sym fits.0) tt) in
       let more : object_count s + 1 ≤ 10000 = leb_yes (subst T (sym fits.1) tt) in
@@ -427,7 +428,6 @@ module _ (s : Content) (layer : Layer) (kind : PartKind) (w : IsWellFormed s) (r
         background_parts = layers-name s w (layer_id layer) (new_part layer kind) is_background is_background_part s.backgrounds w.backgrounds w.background_parts (on_backgrounds s layer kind of_kind);
         on_background = λ card. subst (λ p. IfSome (background_at (with_part s layer kind) card) (λ b. IsTrue (p b))) grounds (subst (λ q. IfSome (q card) (λ b. IsTrue (has_kind is_background s b))) homes (w.on_background card));
         some_background = w.some_background;
-        some_card = λ id h. let old = w.some_card id (ap (λ p. p id) grounds ∙ h) in (old.0, sym (ap (λ q. q old.0) homes) ∙ old.1);
         stack = subst (λ p. (id : ℕ) → IsTrue (p id) ↔ (id ≡ 0)) (same_kinds is_stack (no_layer is_stack refl refl refl refl layer kind)) w.stack;
         ids = ids-with s w (new_part layer kind);
         next_low = omega arith;
@@ -439,5 +439,14 @@ module _ (s : Content) (layer : Layer) (kind : PartKind) (w : IsWellFormed s) (r
         hilites = λ b c. iff_bool _ _ (hilites-there s w (layer_id layer) (new_part layer kind) (no_home layer kind) (hilite_cards s layer kind) (hilite_gains s w layer kind) b c);
       }
 
+  has_cards : HasCards s → HasCards (with_part s layer kind)
+  has_cards old id h =
+      let grounds : has_kind is_background s ≡ has_kind is_background (with_part s layer kind) = same_kinds is_background (no_layer is_background refl refl refl refl layer kind) in
+      let card = old id (ap (λ p. p id) grounds ∙ h) in
+      (card.0, sym (ap (λ q. q card.0) homes) ∙ card.1)
+
 pub new_part_fits : (s : Content) (layer : Layer) (kind : PartKind) → IsWellFormed s → fits_new_part s layer ≡ true → IsWellFormed (put_each s (writes_of_new_part s layer kind))
-new_part_fits s layer kind w fits = let parts = both (has_room_for 1 s) (is_some (layer_parts s layer)) fits in subst IsWellFormed (sym (written s layer kind)) (well_formed s layer kind w parts.0 parts.1)
+new_part_fits s layer kind w fits =
+    let parts = both (has_room_for 1 s) (is_some (layer_parts s layer)) fits in
+    let f = formed s w in
+    subst IsWellFormed (sym (written s layer kind)) (whole _ (part_formed s layer kind f parts.0 parts.1) (has_cards s layer kind f parts.0 parts.1 w.some_card))
