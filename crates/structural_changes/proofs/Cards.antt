@@ -41,7 +41,7 @@ card_home s card e = by (object_at s card) e
 live_home : (s : Content) (w : IsFormed s) (card : ℕ) → has_kind is_card s card ≡ true → has_kind is_background s (home s card) ≡ true
 live_home s w card e = subst (λ x. IfSome x (λ b. IsTrue (has_kind is_background s b))) (card_home s card e) (w.on_background card)
 
-abbrev parts_with : Content → FinMap nat_cmp (List ℕ)
+abbrev pub parts_with : Content → FinMap nat_cmp (List ℕ)
 parts_with s = put_option s.parts s.next (Some [])
 
 module _ (s : Content) (w : IsFormed s) where
@@ -53,18 +53,18 @@ module _ (s : Content) (w : IsFormed s) where
       by None q = refl
       by (Some ids) q = absurd (false≢true (sym (ap (passes is_layer) (none_new s w (empty_object Stack))) ∙ (w.layers s.next).0 (ap is_some q)))
 
-  get-parts : (y : ℕ) → get (parts_with s) y ≡ cond (nat_eq y s.next) (Some []) (get s.parts y)
+  pub get-parts : (y : ℕ) → get (parts_with s) y ≡ cond (nat_eq y s.next) (Some []) (get s.parts y)
   get-parts y = get-put_option nat_cmp_total nat_cmp-IsAntisymmetric s.parts s.next (Some []) y ∙ ap (λ b. cond b (Some []) (get s.parts y)) (unsigned_tied y s.next)
 
   -- so an empty one changes no layer's parts
-  same_parts : (y : ℕ) → in_map (parts_with s) y ≡ parts_at s y
+  pub same_parts : (y : ℕ) → in_map (parts_with s) y ≡ parts_at s y
   same_parts y = ap (λ found. unwrap_or found []) (get-parts y) ∙ by (nat_eq y s.next) refl
     where
       by : (b : Bool) → nat_eq y s.next ≡ b → unwrap_or (cond b (Some []) (get s.parts y)) [] ≡ parts_at s y
       by true q = sym (ap (λ z. unwrap_or (get s.parts z) []) (same_id y s.next q) ∙ ap (λ found. unwrap_or found []) no_list)
       by false q = refl
 
-  nothing_listed : parts_at s s.next ≡ []
+  pub nothing_listed : parts_at s s.next ≡ []
   nothing_listed = ap (λ found. unwrap_or found []) no_list
 
 and_true : (b : Bool) → b && true ≡ b
@@ -110,7 +110,7 @@ module _ (s : Content) (w : IsFormed s) (background place : ℕ) (live : has_kin
       by true = e
       by false = refl
 
-  homes : (card : ℕ) → background_at now card ≡ cond (nat_eq card s.next) (Some background) (background_at s card)
+  pub homes : (card : ℕ) → background_at now card ≡ cond (nat_eq card s.next) (Some background) (background_at s card)
   homes card = found-with s w new (option_and_then (λ o. background_of o.kind)) card
 
   lists : parts_at now ≡ parts_at s

@@ -4,3 +4,4 @@ pub mod Formed
 pub mod Grown
 pub mod Parts
 pub mod Cards
+pub mod Backgrounds
