@@ -27,7 +27,7 @@ use Rattle.structural_changes.proofs.Parts.{passes, bool_iff, iff_bool, in_map, 
 use Rattle.structural_changes.proofs.Tallies.{one_if, total, tally, total-flat_map, total-insert_after, none_more, named-tally, tally-named}
 
 -- a card's background, which is there
-card_home : (s : Content) (card : ℕ) → has_kind is_card s card ≡ true → background_at s card ≡ Some (home s card)
+pub card_home : (s : Content) (card : ℕ) → has_kind is_card s card ≡ true → background_at s card ≡ Some (home s card)
 card_home s card e = by (object_at s card) e
   where
     of_kind : (k : Kind) → is_card k ≡ true → background_of k ≡ Some (unwrap_or (background_of k) 0)
@@ -38,7 +38,7 @@ card_home s card e = by (object_at s card) e
     by None e = absurd (false≢true e)
     by (Some o) e = of_kind o.kind e
 
-live_home : (s : Content) (w : IsFormed s) (card : ℕ) → has_kind is_card s card ≡ true → has_kind is_background s (home s card) ≡ true
+pub live_home : (s : Content) (w : IsFormed s) (card : ℕ) → has_kind is_card s card ≡ true → has_kind is_background s (home s card) ≡ true
 live_home s w card e = subst (λ x. IfSome x (λ b. IsTrue (has_kind is_background s b))) (card_home s card e) (w.on_background card)
 
 abbrev pub parts_with : Content → FinMap nat_cmp (List ℕ)

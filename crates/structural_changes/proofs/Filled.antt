@@ -1,16 +1,17 @@
 -- Values that a part gets for each of some cards, and lists of ids by a test.
-use Rattle.std.proofs.Common.{◌≡◌, ℕ, Bool, true, false, cond, ◌&&◌, ◌||◌, List, [], ◌∷◌, ◌++◌, filter, map, nat_eq, refl, sym, ap, ◌∙◌, arith, Option, Some, is_some}
+use Rattle.std.proofs.Common.{◌≡◌, ℕ, ◌-◌, ◌≤◌, Bool, true, false, cond, ◌&&◌, ◌||◌, List, [], ◌∷◌, ◌++◌, filter, map, nat_eq, refl, sym, ap, ◌∙◌, arith, Option, Some, None, is_some}
 use Rattle.std.proofs.lemmas.Bool.{false≢true}
 use Rattle.std.proofs.lemmas.Bool.Decides.{nat_tests}
 use Rattle.std.specs.Ordering.{nat_cmp, eq_by_cmp}
-use Rattle.std.specs.Cmp.{nat_cmp_total, unsigned_tied}
-use Rattle.std.specs.FinMap.{FinMap, get, keys, contains_key-keys}
+use Rattle.std.specs.declared.cmp.Ordering.{Ordering}
+use Rattle.std.specs.Cmp.{IsTotalOrder, Equal-is, nat_cmp_total, unsigned_tied}
+use Rattle.std.specs.FinMap.{FinMap, IsAntisymmetric, get, keys, remove, len, len-remove, contains_key-keys, nat_cmp-IsAntisymmetric}
 use Rattle.std.specs.List.{list_any}
 use Rattle.object_table.specs.Content.{Content}
 use Rattle.object_table.specs.Maps.{put_option}
 use Rattle.object_table.specs.Objects.{object_at, contains_id}
 use Rattle.object_table.specs.Pairs.{Pair, pair_cmp, PairMap}
-use Rattle.object_table.proofs.Maps.{get-put_option}
+use Rattle.object_table.proofs.Maps.{get-put_option, put_option_again, put_option_apart}
 use Rattle.object_table.proofs.Pairs.{pair_cmp_total, pair_cmp-IsAntisymmetric, pair_tied, same_pair}
 use Rattle.stack_places.specs.Places.{put, field_text, button_hilite, text, logical}
 use Rattle.structural_changes.specs.Writes.{StackWrite, write, put_each, empty_texts, false_hilites, ids_where}
@@ -95,32 +96,76 @@ contents_filled s fields buttons card =
 
 -- ---- ids by a test
 
-any-filter : (id : ℕ) (p : ℕ → Bool) (xs : List ℕ) → contains_id id (filter p xs) ≡ p id && contains_id id xs
-any-filter id p [] = no (p id)
+-- a key of a filtered list is one that passes
+pub any-filter : {K : Type 0} {R : K → K → Ordering} → IsTotalOrder R → IsAntisymmetric R → (q : K) (p : K → Bool) (xs : List K) → list_any (eq_by_cmp R q) (filter p xs) ≡ p q && list_any (eq_by_cmp R q) xs
+any-filter total same q p [] = no (p q)
   where
     no : (b : Bool) → false ≡ b && false
     no true = refl
     no false = refl
-any-filter id p (x ∷ xs) = by (any-filter id p xs) (p x) refl (nat_eq x id) refl (p id) refl
+any-filter {R = R} total same q p (x ∷ xs) = by (any-filter total same q p xs) (p x) refl (eq_by_cmp R q x) refl (p q) refl
   where
-    same : nat_eq x id ≡ true → x ≡ id
-    same q = grind (arith, nat_tests, q)
+    one : eq_by_cmp R q x ≡ true → q ≡ x
+    one e = same q x ((Equal-is (R q x)).0 e)
 
-    by : contains_id id (filter p xs) ≡ p id && contains_id id xs → (a : Bool) → p x ≡ a → (b : Bool) → nat_eq x id ≡ b → (c : Bool) → p id ≡ c → contains_id id (cond a (x ∷ filter p xs) (filter p xs)) ≡ c && (b || contains_id id xs)
-    by rest true pa true q true pc = rw q refl
-    by rest true pa true q false pc = absurd (false≢true (sym pc ∙ ap p (sym (same q)) ∙ pa))
-    by rest true pa false q c pc = rw q (rest ∙ ap (λ b. b && contains_id id xs) pc)
-    by rest false pa true q true pc = absurd (false≢true (sym pa ∙ ap p (same q) ∙ pc))
-    by rest false pa true q false pc = rest ∙ ap (λ b. b && contains_id id xs) pc
-    by rest false pa false q c pc = rest ∙ ap (λ b. b && contains_id id xs) pc
+    by : list_any (eq_by_cmp R q) (filter p xs) ≡ p q && list_any (eq_by_cmp R q) xs → (a : Bool) → p x ≡ a → (b : Bool) → eq_by_cmp R q x ≡ b → (c : Bool) → p q ≡ c → list_any (eq_by_cmp R q) (cond a (x ∷ filter p xs) (filter p xs)) ≡ c && (b || list_any (eq_by_cmp R q) xs)
+    by rest true pa true e true pc = rw e refl
+    by rest true pa true e false pc = absurd (false≢true (sym pc ∙ ap p (one e) ∙ pa))
+    by rest true pa false e c pc = rw e (rest ∙ ap (λ b. b && list_any (eq_by_cmp R q) xs) pc)
+    by rest false pa true e true pc = absurd (false≢true (sym pa ∙ ap p (sym (one e)) ∙ pc))
+    by rest false pa true e false pc = rest ∙ ap (λ b. b && list_any (eq_by_cmp R q) xs) pc
+    by rest false pa false e c pc = rest ∙ ap (λ b. b && list_any (eq_by_cmp R q) xs) pc
 
-any-keys : (id : ℕ) (xs : List ℕ) → list_any (eq_by_cmp nat_cmp id) xs ≡ contains_id id xs
+pub any-keys : (id : ℕ) (xs : List ℕ) → list_any (eq_by_cmp nat_cmp id) xs ≡ contains_id id xs
 any-keys id [] = refl
 any-keys id (x ∷ xs) = (λ i. unsigned_tied id x i || any-keys id xs i) ∙ ap (λ b. b || contains_id id xs) (nat_eq_sym id x)
 
-pub contains-keys : {X : Type 0} (m : FinMap nat_cmp X) (id : ℕ) → contains_id id (keys m) ≡ is_some (get m id)
-contains-keys m id = sym (contains_key-keys m id ∙ any-keys id (keys m))
-
 -- an object that is there is among those that pass where it passes
 pub contains-ids_where : (s : Content) (p : ℕ → Bool) (id : ℕ) → contains_id id (ids_where s p) ≡ p id && is_some (object_at s id)
-contains-ids_where s p id = any-filter id p (keys s.objects) ∙ ap (λ b. p id && b) (contains-keys s.objects id)
+contains-ids_where s p id = sym (any-keys id (filter p (keys s.objects))) ∙ any-filter nat_cmp_total nat_cmp-IsAntisymmetric id p (keys s.objects) ∙ ap (λ b. p id && b) (sym (contains_key-keys s.objects id))
+
+-- ---- values that go
+
+unfoldable pub cleared : {K X : Type 0} {R : K → K → Ordering} → FinMap R X → List K → FinMap R X
+cleared m [] = m
+cleared m (k ∷ ks) = cleared (put_option m k None) ks
+
+get-cleared : {K X : Type 0} {R : K → K → Ordering} → IsTotalOrder R → IsAntisymmetric R → (m : FinMap R X) (ks : List K) (q : K) → get (cleared m ks) q ≡ cond (list_any (eq_by_cmp R q) ks) None (get m q)
+unfolding cleared
+get-cleared total same m [] q = refl
+get-cleared {R = R} total same m (k ∷ ks) q = get-cleared total same (put_option m k None) ks q ∙ ap (λ x. cond (list_any (eq_by_cmp R q) ks) None x) (get-put_option total same m k None q) ∙ by (list_any (eq_by_cmp R q) ks) (eq_by_cmp R q k)
+  where
+    by : (a b : Bool) → cond a None (cond b None (get m q)) ≡ cond (b || a) None (get m q)
+    by true true = refl
+    by true false = refl
+    by false true = refl
+    by false false = refl
+
+-- the keys that pass go
+pub get-cleared_where : {K X : Type 0} {R : K → K → Ordering} → IsTotalOrder R → IsAntisymmetric R → (m : FinMap R X) (p : K → Bool) (q : K) → get (cleared m (filter p (keys m))) q ≡ cond (p q) None (get m q)
+get-cleared_where {R = R} total same m p q =
+    get-cleared total same m (filter p (keys m)) q
+    ∙ ap (λ b. cond b None (get m q)) (any-filter total same q p (keys m) ∙ ap (λ b. p q && b) (sym (contains_key-keys m q)))
+    ∙ by (p q) (get m q)
+  where
+    by : {X : Type 0} (b : Bool) (found : Option X) → cond (b && is_some found) None found ≡ cond b None found
+    by true None = refl
+    by true (Some x) = refl
+    by false found = refl
+
+-- no more values are left
+fewer : {X : Type 0} (m : FinMap nat_cmp X) (k : ℕ) → len (remove (remove m k) 0) ≤ len (remove m 0)
+fewer m k = by (nat_eq k 0) refl
+  where
+    less : (b : Bool) (n : ℕ) → cond b (n - 1) n ≤ n
+    less true n = omega arith
+    less false n = omega arith
+
+    by : (b : Bool) → nat_eq k 0 ≡ b → len (remove (remove m k) 0) ≤ len (remove m 0)
+    by true q = let e : k ≡ 0 = grind (arith, nat_tests, q) in rw e (rw (put_option_again nat_cmp_total nat_cmp-IsAntisymmetric m 0 None None) (omega arith))
+    by false q = let apart : k ≡ 0 → ⊥ = λ e. false≢true (sym q ∙ ap (λ x. nat_eq x 0) e) in rw (put_option_apart nat_cmp_total nat_cmp-IsAntisymmetric m k 0 None None apart) (rw (len-remove nat_cmp_total (remove m 0) k) (less _ (len (remove m 0))))
+
+pub len-cleared : {X : Type 0} (m : FinMap nat_cmp X) (ks : List ℕ) → len (remove (cleared m ks) 0) ≤ len (remove m 0)
+unfolding cleared
+len-cleared m [] = omega arith
+len-cleared m (k ∷ ks) = let first = len-cleared (put_option m k None) ks in let rest = fewer m k in omega arith

@@ -5,3 +5,4 @@ pub mod Grown
 pub mod Parts
 pub mod Cards
 pub mod Backgrounds
+pub mod Deletion

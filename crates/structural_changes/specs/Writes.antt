@@ -1,6 +1,7 @@
 -- What the changes that make and remove objects write in a stack.
 use Rattle.std.specs.Prelude.{ℕ, ◌+◌, Bool, true, false, ◌&&◌, ◌||◌, not, nat_eq, leb, List, [], ◌∷◌, ◌++◌, map, filter, length, codes, Option, Some, None, option_map, unwrap_or, is_some, if◌then◌else◌}
 use Rattle.std.specs.FinMap.{keys}
+use Rattle.std.specs.List.{list_all}
 use Rattle.object_table.specs.Content.{Content}
 use Rattle.object_table.specs.Empty.{empty_object}
 use Rattle.object_table.specs.Layers.{layer_id, layer_parts}
@@ -130,9 +131,9 @@ writes_of_new_background s card =
 
 -- ---- a card that goes
 
--- whether it is the last card of its background, which goes with it
+-- whether no other card is on a card's background, which goes with it then
 abbrev pub is_last_card : Content → ℕ → Bool
-is_last_card s card = nat_eq (length (ids_where s (is_card_of s (home s card)))) 1
+is_last_card s card = list_all (λ other. nat_eq other card || not (is_card_of s (home s card) other)) s.cards
 
 -- whether a layer goes with a card
 abbrev pub goes_as_layer : Content → ℕ → ℕ → Bool

@@ -1,0 +1,263 @@
+-- A stack stays well formed when a card goes, and with the last one its background.
+use Rattle.std.proofs.Common.{◌≡◌, ℕ, zero, suc, ◌+◌, ◌<◌, ◌≤◌, Bool, true, false, cond, not, ◌&&◌, ◌||◌, ◌==◌, List, [], ◌∷◌, ◌++◌, filter, map, flat_map, length, nat_eq, leb, refl, sym, subst, ap, ◌∙◌, arith, rules, Option, Some, None, IsSome, IsTrue, IfSome, is_some, option_map, option_and_then, unwrap_or, ◌↔◌, if◌then◌else◌, T}
+use Rattle.std.proofs.lemmas.Bool.{false≢true}
+use Rattle.std.proofs.lemmas.Bool.Decides.{nat_tests}
+use Rattle.std.proofs.Math.Facts.{leb_yes}
+use Rattle.std.specs.List.{list_all, list_any}
+use Rattle.std.specs.Ordering.{nat_cmp}
+use Rattle.std.specs.Cmp.{nat_cmp_total}
+use Rattle.std.specs.FinMap.{FinMap, get, keys, nat_cmp-IsAntisymmetric}
+use Rattle.ht_values.specs.Text.{IsText}
+use Rattle.object_table.specs.Content.{Content}
+use Rattle.object_table.specs.Kept.{text_at, hilite_at, keeps_text, keeps_hilite, is_on_background_of}
+use Rattle.object_table.specs.Objects.{is_stack, is_background, is_card, is_card_part, is_background_part, is_card_field, is_background_field, is_background_button, is_layer, background_of, has_kind, object_at, parts_at, contains_id, background_at, object_count}
+use Rattle.object_table.specs.Pairs.{Pair, pair_cmp, PairMap}
+use Rattle.object_table.specs.WellFormed.{NamesEach, IsWellFormed}
+use Rattle.object_table.specs.declared.object.Object.{Object}
+use Rattle.object_table.specs.declared.object.Kind.{Kind}
+use Rattle.object_table.specs.declared.object.Kind.TheVariants.{Stack, Background, Card, CardButton, BackgroundButton, CardField, BackgroundField}
+use Rattle.object_table.proofs.Pairs.{pair_cmp_total, pair_cmp-IsAntisymmetric}
+use Rattle.stack_places.specs.Places.{put}
+use Rattle.structural_changes.specs.Writes.{put_each, writes_of_deletion, fits_deletion, home, without, is_card_of, is_last_card, goes_as_layer, goes_as_part, goes_as_content, ids_where}
+use Rattle.structural_changes.proofs.Cards.{card_home, live_home}
+use Rattle.structural_changes.proofs.Filled.{cleared, get-cleared_where, len-cleared}
+use Rattle.structural_changes.proofs.Formed.{formed}
+use Rattle.structural_changes.proofs.Grown.{same_id}
+use Rattle.structural_changes.proofs.Parts.{passes, bool_iff, iff_bool, and_false, or_false, both}
+use Rattle.structural_changes.proofs.Tallies.{one_if, total, tally, total-flat_map, contains-tally, named-tally, tally-named, none_more, one_member}
+
+-- ---- lists without an id
+
+pub total-without : (g : ℕ → ℕ) (id : ℕ) (xs : List ℕ) → total g (without id xs) ≡ total (λ x. cond (nat_eq x id) 0 (g x)) xs
+total-without g id [] = refl
+total-without g id (x ∷ xs) = by (total-without g id xs) (nat_eq x id)
+  where
+    by : total g (without id xs) ≡ total (λ y. cond (nat_eq y id) 0 (g y)) xs → (b : Bool) → total g (cond (not b) (x ∷ without id xs) (without id xs)) ≡ cond b 0 (g x) + total (λ y. cond (nat_eq y id) 0 (g y)) xs
+    by rest true = omega arith
+    by rest false = omega arith
+
+-- what an id gives, as often as it stands there, is what the sum loses without it
+total-lost : (g : ℕ → ℕ) (id : ℕ) (xs : List ℕ) → tally id xs ≤ 1 → total g xs ≡ total (λ x. cond (nat_eq x id) 0 (g x)) xs + cond (contains_id id xs) (g id) 0
+total-lost g id [] h = refl
+total-lost g id (x ∷ xs) h = by (λ k. total-lost g id xs k) (nat_eq x id) refl h
+  where
+    none_again : tally id xs ≡ 0 → contains_id id xs ≡ false
+    none_again e = contains-tally id xs ∙ ap (λ n. not (nat_eq n 0)) e
+
+    by : (tally id xs ≤ 1 → total g xs ≡ total (λ y. cond (nat_eq y id) 0 (g y)) xs + cond (contains_id id xs) (g id) 0) → (b : Bool) → nat_eq x id ≡ b → one_if b + tally id xs ≤ 1 → g x + total g xs ≡ (cond b 0 (g x) + total (λ y. cond (nat_eq y id) 0 (g y)) xs) + cond (b || contains_id id xs) (g id) 0
+    by rest true q k =
+        let none : tally id xs ≡ 0 = omega arith in
+        let few : tally id xs ≤ 1 = omega arith in
+        let others : total g xs ≡ total (λ y. cond (nat_eq y id) 0 (g y)) xs + 0 = rest few ∙ ap (λ b. total (λ y. cond (nat_eq y id) 0 (g y)) xs + cond b (g id) 0) (none_again none) in
+        let same : g x ≡ g id = ap g (same_id x id q) in
+        omega arith
+    by rest false q k =
+        let few : tally id xs ≤ 1 = omega arith in
+        let others = rest few in
+        omega arith
+
+total-among : (g h : ℕ → ℕ) (xs : List ℕ) → ((x : ℕ) → contains_id x xs ≡ true → g x ≡ h x) → total g xs ≡ total h xs
+total-among g h [] e = refl
+total-among g h (x ∷ xs) e =
+    let first : g x ≡ h x = e x (let itself : nat_eq x x ≡ true = grind (arith, nat_tests) in ap (λ b. b || contains_id x xs) itself) in
+    let rest : total g xs ≡ total h xs = total-among g h xs (λ y more. e y (ap (λ b. nat_eq x y || b) more ∙ or_true (nat_eq x y))) in
+    omega arith
+  where
+    or_true : (b : Bool) → b || true ≡ true
+    or_true true = refl
+    or_true false = refl
+
+-- ---- what goes is a layer or a part
+
+and_passes : (p q : Kind → Bool) → ((k : Kind) → p k ≡ true → q k ≡ false) → (found : Option Object) → passes p found ≡ true → passes q found ≡ true → ⊥
+and_passes p q h None e f = false≢true e
+and_passes p q h (Some o) e f = false≢true (sym (h o.kind e) ∙ f)
+
+abbrev Apart : (Kind → Bool) → (Kind → Bool) → Type 0
+Apart p q = (k : Kind) → p k ≡ true → q k ≡ false
+
+card-not : (p : Kind → Bool) → ((b : ℕ) (c : Bool) → p (Card b c) ≡ false) → Apart is_card p
+card-not p h (Card b c) e = h b c
+card-not p h _ e = absurd (false≢true e)
+
+background-not : (p : Kind → Bool) → ((c : Bool) → p (Background c) ≡ false) → Apart is_background p
+background-not p h (Background c) e = h c
+background-not p h _ e = absurd (false≢true e)
+
+card_part-not : (p : Kind → Bool) → ((v h : Bool) → p (CardButton v h) ≡ false) → ((v l : Bool) → p (CardField v l) ≡ false) → Apart is_card_part p
+card_part-not p b f (CardButton v h) e = b v h
+card_part-not p b f (CardField v l) e = f v l
+card_part-not p b f _ e = absurd (false≢true e)
+
+background_part-not : (p : Kind → Bool) → ((v h : Bool) → p (BackgroundButton v h) ≡ false) → ((v l t : Bool) → p (BackgroundField v l t) ≡ false) → Apart is_background_part p
+background_part-not p b f (BackgroundButton v h) e = b v h
+background_part-not p b f (BackgroundField v l t) e = f v l t
+background_part-not p b f _ e = absurd (false≢true e)
+
+-- a part of a layer of an order is one of the order's parts
+listed_part : (s : Content) (of_layer of_part : Kind → Bool) (order : List ℕ) (y id : ℕ) → NamesEach (has_kind of_layer s) order → NamesEach (has_kind of_part s) (flat_map (parts_at s) order) → has_kind of_layer s y ≡ true → contains_id id (parts_at s y) ≡ true → has_kind of_part s id ≡ true
+listed_part s of_layer of_part order y id layers parts e member = by (has_kind of_part s id) refl
+  where
+    less : tally id (parts_at s y) ≤ one_if (has_kind of_part s id)
+    less =
+        let one : tally id (parts_at s y) ≤ total (λ z. tally id (parts_at s z)) order = one_member (λ z. tally id (parts_at s z)) y order (layers.each y ∙ e) in
+        let sum : total (λ z. tally id (parts_at s z)) order ≡ one_if (has_kind of_part s id) = sym (total-flat_map (λ z. one_if (nat_eq z id)) (parts_at s) order) ∙ named-tally (has_kind of_part s) _ parts id in
+        omega arith
+
+    by : (b : Bool) → has_kind of_part s id ≡ b → b ≡ true
+    by true q = refl
+    by false q =
+        let none : tally id (parts_at s y) ≡ 0 = (let at_most : tally id (parts_at s y) ≤ 0 = subst (λ b. tally id (parts_at s y) ≤ one_if b) q less in omega arith) in
+        sym (contains-tally id (parts_at s y) ∙ ap (λ n. not (nat_eq n 0)) none) ∙ member
+
+-- ---- what stays
+
+not_true : (b : Bool) → (b ≡ true → ⊥) → b ≡ false
+not_true true h = absurd (h refl)
+not_true false h = refl
+
+all-member : (p : ℕ → Bool) (xs : List ℕ) (x : ℕ) → list_all p xs ≡ true → contains_id x xs ≡ true → p x ≡ true
+all-member p [] x all e = absurd (false≢true e)
+all-member p (y ∷ ys) x all e = by (λ h. all-member p ys x (both (p y) (list_all p ys) all).1 h) (nat_eq y x) refl e
+  where
+    by : (contains_id x ys ≡ true → p x ≡ true) → (b : Bool) → nat_eq y x ≡ b → b || contains_id x ys ≡ true → p x ≡ true
+    by rest true q h = sym (ap p (same_id y x q)) ∙ (both (p y) (list_all p ys) all).0
+    by rest false q h = rest h
+
+all-fails : (p : ℕ → Bool) (xs : List ℕ) → list_all p xs ≡ false → (x : ℕ) × (p x ≡ false)
+all-fails p [] e = absurd (false≢true (sym e))
+all-fails p (x ∷ xs) e = by (λ h. all-fails p xs h) (p x) refl e
+  where
+    by : (list_all p xs ≡ false → (y : ℕ) × (p y ≡ false)) → (b : Bool) → p x ≡ b → b && list_all p xs ≡ false → (y : ℕ) × (p y ≡ false)
+    by rest true q h = rest h
+    by rest false q h = (x, q)
+
+neither : (a b : Bool) → a || b ≡ false → (a ≡ false) × (b ≡ false)
+neither true b e = absurd (false≢true (sym e))
+neither false b e = (refl, e)
+
+not_false : (b : Bool) → not b ≡ false → b ≡ true
+not_false true e = refl
+not_false false e = absurd (false≢true (sym e))
+
+not_back : (b : Bool) → not b ≡ true → b ≡ false
+not_back true e = absurd (false≢true e)
+not_back false e = refl
+
+only : (a l : Bool) → (a || (l && false)) || (false || (l && false)) ≡ a
+only true l = refl
+only false true = refl
+only false false = refl
+
+only_last : (l a : Bool) → (false || (l && a)) || (false || (l && false)) ≡ l && a
+only_last true true = refl
+only_last true false = refl
+only_last false a = refl
+
+only_layer : (a l : Bool) → a || (false || (l && false)) ≡ a
+only_layer true l = refl
+only_layer false true = refl
+only_layer false false = refl
+
+only_part : (l a : Bool) → (false || (l && false)) || (a || (l && false)) ≡ a
+only_part true true = refl
+only_part true false = refl
+only_part false true = refl
+only_part false false = refl
+
+only_last_part : (l a : Bool) → (false || (l && false)) || (false || (l && a)) ≡ l && a
+only_last_part true a = refl
+only_last_part false a = refl
+
+abbrev pub gone : Content → ℕ → ℕ → Bool
+gone s c id = goes_as_layer s c id || goes_as_part s c id
+
+abbrev pub without_card : Content → ℕ → Content
+without_card s c = record {
+  objects = cleared s.objects (ids_where s (gone s c));
+  backgrounds = if is_last_card s c then without (home s c) s.backgrounds else s.backgrounds;
+  cards = without c s.cards;
+  parts = cleared s.parts (filter (goes_as_layer s c) (keys s.parts));
+  texts = cleared s.texts (filter (goes_as_content s c) (keys s.texts));
+  hilites = cleared s.hilites (filter (goes_as_content s c) (keys s.hilites));
+  next = s.next;
+}
+
+module _ (s : Content) (w : IsWellFormed s) (c : ℕ) (e : has_kind is_card s c ≡ true) where
+  abbrev now : Content
+  now = without_card s c
+
+  live : has_kind is_background s (home s c) ≡ true
+  live = live_home s (formed s w) c e
+
+  found : (id : ℕ) → object_at now id ≡ cond (gone s c id) None (object_at s id)
+  found id = get-cleared_where nat_cmp_total nat_cmp-IsAntisymmetric s.objects (gone s c) id
+
+  left : (p : Kind → Bool) (id : ℕ) → has_kind p now id ≡ not (gone s c id) && has_kind p s id
+  left p id = ap (passes p) (found id) ∙ by (gone s c id)
+    where
+      by : (b : Bool) → passes p (cond b None (object_at s id)) ≡ not b && passes p (object_at s id)
+      by true = refl
+      by false = refl
+
+  homes : (card : ℕ) → background_at now card ≡ cond (gone s c card) None (background_at s card)
+  homes card = ap (option_and_then (λ o. background_of o.kind)) (found card) ∙ by (gone s c card)
+    where
+      by : (b : Bool) → option_and_then (λ o. background_of o.kind) (cond b None (object_at s card)) ≡ cond b None (background_at s card)
+      by true = refl
+      by false = refl
+
+  lists : (id : ℕ) → get now.parts id ≡ cond (goes_as_layer s c id) None (get s.parts id)
+  lists id = get-cleared_where nat_cmp_total nat_cmp-IsAntisymmetric s.parts (goes_as_layer s c) id
+
+  -- what has a kind of its own isn't among what has another
+  module _ (q : Kind → Bool) (id : ℕ) (is : has_kind q s id ≡ true) where
+    not_c : Apart is_card q → nat_eq id c ≡ false
+    not_c h = not_true (nat_eq id c) (λ same. and_passes is_card q h (object_at s id) (ap (has_kind is_card s) (same_id id c same) ∙ e) is)
+
+    not_b : Apart is_background q → nat_eq id (home s c) ≡ false
+    not_b h = not_true (nat_eq id (home s c)) (λ same. and_passes is_background q h (object_at s id) (ap (has_kind is_background s) (same_id id (home s c) same) ∙ live) is)
+
+    not_of_c : Apart is_card_part q → contains_id id (parts_at s c) ≡ false
+    not_of_c h = not_true (contains_id id (parts_at s c)) (λ member. and_passes is_card_part q h (object_at s id) (listed_part s is_card is_card_part s.cards c id w.cards w.card_parts e member) is)
+
+    not_of_b : Apart is_background_part q → contains_id id (parts_at s (home s c)) ≡ false
+    not_of_b h = not_true (contains_id id (parts_at s (home s c))) (λ member. and_passes is_background_part q h (object_at s id) (listed_part s is_background is_background_part s.backgrounds (home s c) id w.backgrounds w.background_parts live member) is)
+
+  gone-card : (id : ℕ) → has_kind is_card s id ≡ true → gone s c id ≡ nat_eq id c
+  gone-card id is =
+      (λ i. (nat_eq id c || (is_last_card s c && not_b is_card id is (background-not is_card (λ x. refl)) i)) || (not_of_c is_card id is (card_part-not is_card (λ x y. refl) (λ x y. refl)) i || (is_last_card s c && not_of_b is_card id is (background_part-not is_card (λ x y. refl) (λ x y z. refl)) i)))
+      ∙ only (nat_eq id c) (is_last_card s c)
+
+  gone-background : (id : ℕ) → has_kind is_background s id ≡ true → gone s c id ≡ is_last_card s c && nat_eq id (home s c)
+  gone-background id is =
+      (λ i. (not_c is_background id is (card-not is_background (λ x y. refl)) i || (is_last_card s c && nat_eq id (home s c))) || (not_of_c is_background id is (card_part-not is_background (λ x y. refl) (λ x y. refl)) i || (is_last_card s c && not_of_b is_background id is (background_part-not is_background (λ x y. refl) (λ x y z. refl)) i)))
+      ∙ only_last (is_last_card s c) (nat_eq id (home s c))
+
+  gone-layer : (id : ℕ) → has_kind is_layer s id ≡ true → gone s c id ≡ goes_as_layer s c id
+  gone-layer id is =
+      (λ i. goes_as_layer s c id || (not_of_c is_layer id is (card_part-not is_layer (λ x y. refl) (λ x y. refl)) i || (is_last_card s c && not_of_b is_layer id is (background_part-not is_layer (λ x y. refl) (λ x y z. refl)) i)))
+      ∙ only_layer (goes_as_layer s c id) (is_last_card s c)
+
+  gone-card_part : (id : ℕ) → has_kind is_card_part s id ≡ true → gone s c id ≡ contains_id id (parts_at s c)
+  gone-card_part id is =
+      (λ i. (not_c is_card_part id is (card-not is_card_part (λ x y. refl)) i || (is_last_card s c && not_b is_card_part id is (background-not is_card_part (λ x. refl)) i)) || (contains_id id (parts_at s c) || (is_last_card s c && not_of_b is_card_part id is (background_part-not is_card_part (λ x y. refl) (λ x y z. refl)) i)))
+      ∙ only_part (is_last_card s c) (contains_id id (parts_at s c))
+
+  gone-background_part : (id : ℕ) → has_kind is_background_part s id ≡ true → gone s c id ≡ is_last_card s c && contains_id id (parts_at s (home s c))
+  gone-background_part id is =
+      (λ i. (not_c is_background_part id is (card-not is_background_part (λ x y. refl)) i || (is_last_card s c && not_b is_background_part id is (background-not is_background_part (λ x. refl)) i)) || (not_of_c is_background_part id is (card_part-not is_background_part (λ x y. refl) (λ x y. refl)) i || (is_last_card s c && contains_id id (parts_at s (home s c)))))
+      ∙ only_last_part (is_last_card s c) (contains_id id (parts_at s (home s c)))
+
+  gone-stack : (id : ℕ) → has_kind is_stack s id ≡ true → gone s c id ≡ false
+  gone-stack id is =
+      (λ i. (not_c is_stack id is (card-not is_stack (λ x y. refl)) i || (is_last_card s c && not_b is_stack id is (background-not is_stack (λ x. refl)) i)) || (not_of_c is_stack id is (card_part-not is_stack (λ x y. refl) (λ x y. refl)) i || (is_last_card s c && not_of_b is_stack id is (background_part-not is_stack (λ x y. refl) (λ x y z. refl)) i)))
+      ∙ only_part (is_last_card s c) false
+
+  -- where it is known what goes of a kind
+  left-by : (p : Kind → Bool) (goes : ℕ → Bool) → ((id : ℕ) → has_kind p s id ≡ true → gone s c id ≡ goes id) → (id : ℕ) → has_kind p now id ≡ not (goes id) && has_kind p s id
+  left-by p goes h id = left p id ∙ by (has_kind p s id) refl
+    where
+      by : (b : Bool) → has_kind p s id ≡ b → not (gone s c id) && b ≡ not (goes id) && b
+      by true q = ap (λ x. not x && true) (h id q)
+      by false q = and_false (not (gone s c id)) ∙ sym (and_false (not (goes id)))
