@@ -261,3 +261,111 @@ module _ (s : Content) (w : IsWellFormed s) (c : ℕ) (e : has_kind is_card s c 
       by : (b : Bool) → has_kind p s id ≡ b → not (gone s c id) && b ≡ not (goes id) && b
       by true q = ap (λ x. not x && true) (h id q)
       by false q = and_false (not (gone s c id)) ∙ sym (and_false (not (goes id)))
+
+  -- ---- orders
+
+  -- an order without a layer that it has
+  order_without : (of_layer : Kind → Bool) (order : List ℕ) (y : ℕ) → NamesEach (has_kind of_layer s) order → has_kind of_layer s y ≡ true → NamesEach (λ id. not (nat_eq id y) && has_kind of_layer s id) (without y order)
+  order_without of_layer order y layers is = tally-named _ _ (λ id.
+      total-without (λ x. one_if (nat_eq x id)) y order ∙ by id (has_kind of_layer s id) refl (nat_eq id y) refl)
+    where
+      rest : ℕ → ℕ
+      rest id = total (λ x. cond (nat_eq x y) 0 (one_if (nat_eq x id))) order
+
+      turned : (a b : ℕ) → nat_eq a b ≡ nat_eq b a
+      turned a b = grind (arith, nat_tests)
+
+      lost : (id : ℕ) → one_if (has_kind of_layer s id) ≡ total (λ x. cond (nat_eq x y) 0 (one_if (nat_eq x id))) order + one_if (nat_eq id y)
+      lost id =
+          let once : tally y order ≤ 1 = (let is_one : tally y order ≡ 1 = named-tally (has_kind of_layer s) order layers y ∙ ap one_if is in omega arith) in
+          sym (named-tally (has_kind of_layer s) order layers id)
+          ∙ total-lost (λ x. one_if (nat_eq x id)) y order once
+          ∙ ap (λ b. total (λ x. cond (nat_eq x y) 0 (one_if (nat_eq x id))) order + cond b (one_if (nat_eq y id)) 0) (layers.each y ∙ is)
+          ∙ ap (λ b. total (λ x. cond (nat_eq x y) 0 (one_if (nat_eq x id))) order + one_if b) (turned y id)
+
+      by : (id : ℕ) (a : Bool) → has_kind of_layer s id ≡ a → (b : Bool) → nat_eq id y ≡ b → total (λ x. cond (nat_eq x y) 0 (one_if (nat_eq x id))) order ≡ one_if (not b && a)
+      by id true q true z = let sum : 1 ≡ total (λ x. cond (nat_eq x y) 0 (one_if (nat_eq x id))) order + 1 = sym (ap one_if q) ∙ lost id ∙ ap (λ b. total (λ x. cond (nat_eq x y) 0 (one_if (nat_eq x id))) order + one_if b) z in omega arith
+      by id true q false z = let sum : 1 ≡ total (λ x. cond (nat_eq x y) 0 (one_if (nat_eq x id))) order + 0 = sym (ap one_if q) ∙ lost id ∙ ap (λ b. total (λ x. cond (nat_eq x y) 0 (one_if (nat_eq x id))) order + one_if b) z in omega arith
+      by id false q true z = let sum : 0 ≡ total (λ x. cond (nat_eq x y) 0 (one_if (nat_eq x id))) order + 1 = sym (ap one_if q) ∙ lost id ∙ ap (λ b. total (λ x. cond (nat_eq x y) 0 (one_if (nat_eq x id))) order + one_if b) z in absurd (omega arith)
+      by id false q false z = let sum : 0 ≡ total (λ x. cond (nat_eq x y) 0 (one_if (nat_eq x id))) order + 0 = sym (ap one_if q) ∙ lost id ∙ ap (λ b. total (λ x. cond (nat_eq x y) 0 (one_if (nat_eq x id))) order + one_if b) z in omega arith
+
+  parts_now : (y : ℕ) → parts_at now y ≡ cond (goes_as_layer s c y) [] (parts_at s y)
+  parts_now y = ap (λ x. unwrap_or x []) (lists y) ∙ by (goes_as_layer s c y)
+    where
+      by : (b : Bool) → unwrap_or (cond b None (get s.parts y)) [] ≡ cond b [] (parts_at s y)
+      by true = refl
+      by false = refl
+
+  -- the parts of an order without a layer that goes
+  parts_without : (of_layer of_part : Kind → Bool) (order : List ℕ) (y : ℕ) → NamesEach (has_kind of_layer s) order → NamesEach (has_kind of_part s) (flat_map (parts_at s) order) → has_kind of_layer s y ≡ true → ((z : ℕ) → has_kind of_layer s z ≡ true → goes_as_layer s c z ≡ nat_eq z y) → NamesEach (λ id. not (contains_id id (parts_at s y)) && has_kind of_part s id) (flat_map (parts_at now) (without y order))
+  parts_without of_layer of_part order y layers parts is goes = tally-named _ _ (λ id.
+      total-flat_map (λ x. one_if (nat_eq x id)) (parts_at now) (without y order)
+      ∙ total-without (λ z. tally id (parts_at now z)) y order
+      ∙ total-among (λ z. cond (nat_eq z y) 0 (tally id (parts_at now z))) (λ z. cond (nat_eq z y) 0 (tally id (parts_at s z))) order (λ z member. same id z (sym (layers.each z) ∙ member))
+      ∙ by id (has_kind of_part s id) refl (tally id (parts_at s y)) refl
+      ∙ ap (λ b. one_if (not b && has_kind of_part s id)) (sym (contains-tally id (parts_at s y))))
+    where
+      same : (id z : ℕ) → has_kind of_layer s z ≡ true → cond (nat_eq z y) 0 (tally id (parts_at now z)) ≡ cond (nat_eq z y) 0 (tally id (parts_at s z))
+      same id z h = ap (λ l. cond (nat_eq z y) 0 (tally id l)) (parts_now z ∙ ap (λ b. cond b [] (parts_at s z)) (goes z h)) ∙ either (nat_eq z y)
+        where
+          either : (b : Bool) → cond b 0 (tally id (cond b [] (parts_at s z))) ≡ cond b 0 (tally id (parts_at s z))
+          either true = refl
+          either false = refl
+
+      lost : (id : ℕ) → one_if (has_kind of_part s id) ≡ total (λ z. cond (nat_eq z y) 0 (tally id (parts_at s z))) order + tally id (parts_at s y)
+      lost id =
+          let once : tally y order ≤ 1 = (let is_one : tally y order ≡ 1 = named-tally (has_kind of_layer s) order layers y ∙ ap one_if is in omega arith) in
+          sym (sym (total-flat_map (λ x. one_if (nat_eq x id)) (parts_at s) order) ∙ named-tally (has_kind of_part s) _ parts id)
+          ∙ total-lost (λ z. tally id (parts_at s z)) y order once
+          ∙ ap (λ b. total (λ z. cond (nat_eq z y) 0 (tally id (parts_at s z))) order + cond b (tally id (parts_at s y)) 0) (layers.each y ∙ is)
+
+      by : (id : ℕ) (a : Bool) → has_kind of_part s id ≡ a → (n : ℕ) → tally id (parts_at s y) ≡ n → total (λ z. cond (nat_eq z y) 0 (tally id (parts_at s z))) order ≡ one_if (not (not (nat_eq n 0)) && a)
+      by id true q zero z = let sum : 1 ≡ total (λ x. cond (nat_eq x y) 0 (tally id (parts_at s x))) order + 0 = sym (ap one_if q) ∙ lost id ∙ ap (λ n. total (λ x. cond (nat_eq x y) 0 (tally id (parts_at s x))) order + n) z in omega arith
+      by id false q zero z = let sum : 0 ≡ total (λ x. cond (nat_eq x y) 0 (tally id (parts_at s x))) order + 0 = sym (ap one_if q) ∙ lost id ∙ ap (λ n. total (λ x. cond (nat_eq x y) 0 (tally id (parts_at s x))) order + n) z in omega arith
+      by id true q (suc n) z =
+          let some : nat_eq (suc n) 0 ≡ false = grind (arith, nat_tests) in
+          let sum : 1 ≡ total (λ x. cond (nat_eq x y) 0 (tally id (parts_at s x))) order + suc n = sym (ap one_if q) ∙ lost id ∙ ap (λ k. total (λ x. cond (nat_eq x y) 0 (tally id (parts_at s x))) order + k) z in
+          let none : total (λ x. cond (nat_eq x y) 0 (tally id (parts_at s x))) order ≡ 0 = omega arith in
+          none ∙ sym (ap (λ b. one_if (not (not b) && true)) some)
+      by id false q (suc n) z = let sum : 0 ≡ total (λ x. cond (nat_eq x y) 0 (tally id (parts_at s x))) order + suc n = sym (ap one_if q) ∙ lost id ∙ ap (λ k. total (λ x. cond (nat_eq x y) 0 (tally id (parts_at s x))) order + k) z in absurd (omega arith)
+
+  goes-card : (z : ℕ) → has_kind is_card s z ≡ true → goes_as_layer s c z ≡ nat_eq z c
+  goes-card z is = sym (gone-layer z (as_layer (object_at s z) is)) ∙ gone-card z is
+    where
+      as_layer : (x : Option Object) → passes is_card x ≡ true → passes is_layer x ≡ true
+      as_layer None h = absurd (false≢true h)
+      as_layer (Some o) h = of_kind o.kind h
+        where
+          of_kind : (k : Kind) → is_card k ≡ true → is_layer k ≡ true
+          of_kind (Card b x) h = refl
+          of_kind _ h = absurd (false≢true h)
+
+  goes-background : (z : ℕ) → has_kind is_background s z ≡ true → goes_as_layer s c z ≡ is_last_card s c && nat_eq z (home s c)
+  goes-background z is = sym (gone-layer z (as_layer (object_at s z) is)) ∙ gone-background z is
+    where
+      as_layer : (x : Option Object) → passes is_background x ≡ true → passes is_layer x ≡ true
+      as_layer None h = absurd (false≢true h)
+      as_layer (Some o) h = of_kind o.kind h
+        where
+          of_kind : (k : Kind) → is_background k ≡ true → is_layer k ≡ true
+          of_kind (Background x) h = refl
+          of_kind _ h = absurd (false≢true h)
+
+  card_order : NamesEach (has_kind is_card now) now.cards
+  card_order = subst (λ p. NamesEach p (without c s.cards)) (λ i id. sym (left-by is_card (λ x. nat_eq x c) gone-card id) i) (order_without is_card s.cards c w.cards e)
+
+  parts_of_cards : NamesEach (has_kind is_card_part now) (flat_map (parts_at now) now.cards)
+  parts_of_cards = subst (λ p. NamesEach p (flat_map (parts_at now) (without c s.cards))) (λ i id. sym (left-by is_card_part (λ x. contains_id x (parts_at s c)) gone-card_part id) i) (parts_without is_card is_card_part s.cards c w.cards w.card_parts e goes-card)
+
+  background_order : (l : Bool) → is_last_card s c ≡ l → NamesEach (has_kind is_background now) (if l then without (home s c) s.backgrounds else s.backgrounds)
+  background_order true q = subst (λ p. NamesEach p (without (home s c) s.backgrounds)) (λ i id. sym (left-by is_background (λ x. nat_eq x (home s c)) (λ x is. gone-background x is ∙ ap (λ b. b && nat_eq x (home s c)) q) id) i) (order_without is_background s.backgrounds (home s c) w.backgrounds live)
+  background_order false q = subst (λ p. NamesEach p s.backgrounds) (λ i id. sym (left-by is_background (λ x. false) (λ x is. gone-background x is ∙ ap (λ b. b && nat_eq x (home s c)) q) id) i) w.backgrounds
+
+  parts_of_backgrounds : (l : Bool) → is_last_card s c ≡ l → NamesEach (has_kind is_background_part now) (flat_map (parts_at now) (if l then without (home s c) s.backgrounds else s.backgrounds))
+  parts_of_backgrounds true q = subst (λ p. NamesEach p (flat_map (parts_at now) (without (home s c) s.backgrounds))) (λ i id. sym (left-by is_background_part (λ x. contains_id x (parts_at s (home s c))) (λ x is. gone-background_part x is ∙ ap (λ b. b && contains_id x (parts_at s (home s c))) q) id) i) (parts_without is_background is_background_part s.backgrounds (home s c) w.backgrounds w.background_parts live (λ z is. goes-background z is ∙ ap (λ b. b && nat_eq z (home s c)) q))
+  parts_of_backgrounds false q = tally-named _ _ (λ id.
+      total-flat_map (λ x. one_if (nat_eq x id)) (parts_at now) s.backgrounds
+      ∙ total-among (λ z. tally id (parts_at now z)) (λ z. tally id (parts_at s z)) s.backgrounds (λ z member. ap (tally id) (parts_now z ∙ ap (λ b. cond b [] (parts_at s z)) (goes-background z (sym (w.backgrounds.each z) ∙ member) ∙ ap (λ b. b && nat_eq z (home s c)) q)))
+      ∙ sym (total-flat_map (λ x. one_if (nat_eq x id)) (parts_at s) s.backgrounds)
+      ∙ named-tally (has_kind is_background_part s) _ w.background_parts id
+      ∙ ap one_if (sym (left-by is_background_part (λ x. false) (λ x is. gone-background_part x is ∙ ap (λ b. b && contains_id x (parts_at s (home s c))) q) id)))
