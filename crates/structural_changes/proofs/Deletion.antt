@@ -369,3 +369,125 @@ module _ (s : Content) (w : IsWellFormed s) (c : ℕ) (e : has_kind is_card s c 
       ∙ sym (total-flat_map (λ x. one_if (nat_eq x id)) (parts_at s) s.backgrounds)
       ∙ named-tally (has_kind is_background_part s) _ w.background_parts id
       ∙ ap one_if (sym (left-by is_background_part (λ x. false) (λ x is. gone-background_part x is ∙ ap (λ b. b && contains_id x (parts_at s (home s c))) q) id)))
+
+  -- ---- the last card of a background
+
+  itself : (n : ℕ) → nat_eq n n ≡ true
+  itself n = grind (arith, nat_tests)
+
+  home_of_c : background_at s c ≡ Some (home s c)
+  home_of_c = card_home s c e
+
+  -- what has a background is a card
+  is_a_card : (card b : ℕ) → background_at s card ≡ Some b → has_kind is_card s card ≡ true
+  is_a_card card b q = by (object_at s card) q
+    where
+      of_kind : (k : Kind) → background_of k ≡ Some b → is_card k ≡ true
+      of_kind (Card x y) h = refl
+      of_kind _ h = absurd (false≢true (ap is_some h))
+
+      by : (x : Option Object) → option_and_then (λ o. background_of o.kind) x ≡ Some b → passes is_card x ≡ true
+      by None h = absurd (false≢true (ap is_some h))
+      by (Some o) h = of_kind o.kind h
+
+  on_it : (card : ℕ) → background_at s card ≡ Some (home s c) → is_card_of s (home s c) card ≡ true
+  on_it card q = ap (λ x. unwrap_or (option_map (λ b. nat_eq b (home s c)) x) false) q ∙ itself (home s c)
+
+  it_alone : is_last_card s c ≡ true → (card : ℕ) → background_at s card ≡ Some (home s c) → nat_eq card c ≡ true
+  it_alone last card q =
+      by (nat_eq card c) (all-member (λ other. nat_eq other c || not (is_card_of s (home s c) other)) s.cards card last (w.cards.each card ∙ is_a_card card (home s c) q) ∙ refl)
+    where
+      by : (b : Bool) → b || not (is_card_of s (home s c) card) ≡ true → b ≡ true
+      by true h = refl
+      by false h = absurd (false≢true (sym (ap not (on_it card q)) ∙ h))
+
+  another : is_last_card s c ≡ false → (card : ℕ) × ((background_at s card ≡ Some (home s c)) × (nat_eq card c ≡ false))
+  another more =
+      let other = all-fails (λ x. nat_eq x c || not (is_card_of s (home s c) x)) s.cards more in
+      let parts = neither (nat_eq other.0 c) (not (is_card_of s (home s c) other.0)) other.1 in
+      (other.0, (on (background_at s other.0) (not_false _ parts.1), parts.0))
+    where
+      on : (x : Option ℕ) → unwrap_or (option_map (λ b. nat_eq b (home s c)) x) false ≡ true → x ≡ Some (home s c)
+      on None h = absurd (false≢true h)
+      on (Some b) h = ap (λ x. Some x) (same_id b (home s c) h)
+
+  -- a card that stays has its background still
+  stays : (card b : ℕ) → background_at s card ≡ Some b → nat_eq card c ≡ false → background_at now card ≡ Some b
+  stays card b q other = homes card ∙ ap (λ x. cond x None (background_at s card)) (gone-card card (is_a_card card b q) ∙ other) ∙ q
+
+  -- the background of a card that stays isn't one that goes
+  home_stays : (card b : ℕ) → background_at s card ≡ Some b → nat_eq card c ≡ false → is_last_card s c && nat_eq b (home s c) ≡ false
+  home_stays card b q other = by (is_last_card s c) refl (nat_eq b (home s c)) refl
+    where
+      by : (l : Bool) → is_last_card s c ≡ l → (x : Bool) → nat_eq b (home s c) ≡ x → l && x ≡ false
+      by false h x z = refl
+      by true h false z = refl
+      by true h true z = absurd (false≢true (sym other ∙ it_alone h card (q ∙ ap (λ y. Some y) (same_id b (home s c) z))))
+
+  on_background : (card : ℕ) → IfSome (background_at now card) (λ b. IsTrue (has_kind is_background now b))
+  on_background card = subst (λ x. IfSome x (λ b. IsTrue (has_kind is_background now b))) (sym (homes card)) (by (gone s c card) refl (background_at s card) refl)
+    where
+      by : (g : Bool) → gone s c card ≡ g → (x : Option ℕ) → background_at s card ≡ x → IfSome (cond g None x) (λ b. IsTrue (has_kind is_background now b))
+      by true h x q = tt
+      by false h None q = tt
+      by false h (Some b) q =
+          let alive : has_kind is_background s b ≡ true = subst (λ x. IfSome x (λ y. IsTrue (has_kind is_background s y))) q (w.on_background card) in
+          let other : nat_eq card c ≡ false = sym (gone-card card (is_a_card card b q)) ∙ h in
+          left is_background b ∙ (λ i. not ((gone-background b alive ∙ home_stays card b q other) i) && alive i)
+
+  has_cards : (id : ℕ) → IsTrue (has_kind is_background now id) → (card : ℕ) × (background_at now card ≡ Some id)
+  has_cards id h =
+      let parts = both (not (gone s c id)) (has_kind is_background s id) (sym (left is_background id) ∙ h) in
+      let old = w.some_card id parts.1 in
+      by old.0 old.1 (sym (gone-background id parts.1) ∙ not_back _ parts.0) (nat_eq old.0 c) refl
+    where
+      by : (card : ℕ) → background_at s card ≡ Some id → is_last_card s c && nat_eq id (home s c) ≡ false → (b : Bool) → nat_eq card c ≡ b → (k : ℕ) × (background_at now k ≡ Some id)
+      by card q alive false z = (card, stays card id q z)
+      by card q alive true z =
+          let same : home s c ≡ id = unsome (sym home_of_c ∙ ap (background_at s) (sym (same_id card c z)) ∙ q) in
+          let more : is_last_card s c ≡ false = sym (true_right (is_last_card s c)) ∙ ap (λ b. is_last_card s c && b) (sym (ap (λ x. nat_eq x (home s c)) (sym same) ∙ itself (home s c))) ∙ alive in
+          let other = another more in
+          (other.0, stays other.0 id (other.1.0 ∙ ap (λ x. Some x) same) other.1.1)
+        where
+          unsome : {a b : ℕ} → Some a ≡ Some b → a ≡ b
+          unsome p = ap (λ x. unwrap_or x 0) p
+
+          true_right : (b : Bool) → b && true ≡ b
+          true_right true = refl
+          true_right false = refl
+
+  -- a second card
+  second : (xs : List ℕ) → 2 ≤ length xs → tally c xs ≤ 1 → (d : ℕ) × ((contains_id d xs ≡ true) × (nat_eq d c ≡ false))
+  second [] long once = absurd (omega arith)
+  second (x ∷ []) long once = absurd (omega arith)
+  second (x ∷ y ∷ zs) long once = by (nat_eq x c) refl (nat_eq y c) refl
+    where
+      here : contains_id x (x ∷ y ∷ zs) ≡ true
+      here = ap (λ b. b || contains_id x (y ∷ zs)) (itself x)
+
+      there : contains_id y (x ∷ y ∷ zs) ≡ true
+      there = ap (λ b. nat_eq x y || (b || contains_id y zs)) (itself y) ∙ or_true (nat_eq x y)
+        where
+          or_true : (b : Bool) → b || true ≡ true
+          or_true true = refl
+          or_true false = refl
+
+      by : (a : Bool) → nat_eq x c ≡ a → (b : Bool) → nat_eq y c ≡ b → (d : ℕ) × ((contains_id d (x ∷ y ∷ zs) ≡ true) × (nat_eq d c ≡ false))
+      by false p b q = (x, (here, p))
+      by true p false q = (y, (there, q))
+      by true p true q = absurd (let two : 1 + (1 + tally c zs) ≤ 1 = subst (λ a. one_if a + (1 + tally c zs) ≤ 1) p (subst (λ b. one_if (nat_eq x c) + (one_if b + tally c zs) ≤ 1) q once) in omega arith)
+
+  some_background : 2 ≤ length s.cards → (l : Bool) → is_last_card s c ≡ l → 1 ≤ length (if l then without (home s c) s.backgrounds else s.backgrounds)
+  some_background many false q = w.some_background
+  some_background many true q =
+      let once : tally c s.cards ≤ 1 = (let is_one : tally c s.cards ≡ 1 = named-tally (has_kind is_card s) s.cards w.cards c ∙ ap one_if e in omega arith) in
+      let d = second s.cards many once in
+      let is : has_kind is_card s d.0 ≡ true = sym (w.cards.each d.0) ∙ d.1.0 in
+      let at : background_at s d.0 ≡ Some (home s d.0) = card_home s d.0 is in
+      let alive : has_kind is_background s (home s d.0) ≡ true = live_home s (formed s w) d.0 is in
+      let apart : nat_eq (home s d.0) (home s c) ≡ false = sym (ap (λ l. l && nat_eq (home s d.0) (home s c)) q) ∙ home_stays d.0 (home s d.0) at d.1.1 in
+      not_empty (home s d.0) (without (home s c) s.backgrounds) ((order_without is_background s.backgrounds (home s c) w.backgrounds live).each (home s d.0) ∙ (λ i. not (apart i) && alive i))
+    where
+      not_empty : (x : ℕ) (xs : List ℕ) → contains_id x xs ≡ true → 1 ≤ length xs
+      not_empty x [] h = absurd (false≢true h)
+      not_empty x (y ∷ ys) h = omega arith
