@@ -277,10 +277,10 @@ written : (s : Content) (card : ℕ) → put_each s (writes_of_new_card s card) 
 unfolding put
 written s card =
     contents_filled
-      (record s { objects = objects_and s (empty_object (Card (home s card) false)); cards = insert_after card s.next s.cards; parts = parts_with s; next = s.next + 1 })
-      (ids_where s (is_part_of is_background_field s (home s card)))
-      (ids_where s (is_part_of is_background_button s (home s card)))
-      s.next
+    (record s { objects = objects_and s (empty_object (Card (home s card) false)); cards = insert_after card s.next s.cards; parts = parts_with s; next = s.next + 1 })
+    (ids_where s (is_part_of is_background_field s (home s card)))
+    (ids_where s (is_part_of is_background_button s (home s card)))
+    s.next
 
 pub new_card_fits : (s : Content) (card : ℕ) → IsWellFormed s → has_room_for 1 s ≡ true → has_kind is_card s card ≡ true → IsWellFormed (put_each s (writes_of_new_card s card))
 new_card_fits s card w room e =

@@ -17,10 +17,10 @@ use Rattle.object_table.specs.declared.object.Object.{Object}
 use Rattle.object_table.specs.declared.object.Kind.{Kind}
 use Rattle.object_table.specs.declared.object.Kind.TheVariants.{Stack, Background, Card, CardButton, BackgroundButton, CardField, BackgroundField}
 use Rattle.object_table.proofs.Pairs.{pair_cmp_total, pair_cmp-IsAntisymmetric}
-use Rattle.stack_places.specs.Places.{put}
-use Rattle.structural_changes.specs.Writes.{put_each, writes_of_deletion, fits_deletion, home, without, is_card_of, is_last_card, goes_as_layer, goes_as_part, goes_as_content, ids_where}
+use Rattle.stack_places.specs.Places.{put, card_order, background_order, ids}
+use Rattle.structural_changes.specs.Writes.{put_each, StackWrite, write, writes_of_deletion, clears_of_deletion, fits_deletion, home, without, is_card_of, is_last_card, goes_as_layer, goes_as_part, goes_as_content, ids_where}
 use Rattle.structural_changes.proofs.Cards.{card_home, live_home}
-use Rattle.structural_changes.proofs.Filled.{cleared, get-cleared_where, len-cleared}
+use Rattle.structural_changes.proofs.Filled.{cleared, all_cleared, get-cleared_where, len-cleared}
 use Rattle.structural_changes.proofs.Formed.{formed}
 use Rattle.structural_changes.proofs.Grown.{same_id}
 use Rattle.structural_changes.proofs.Parts.{passes, bool_iff, iff_bool, and_false, or_false, both}
@@ -351,15 +351,15 @@ module _ (s : Content) (w : IsWellFormed s) (c : ℕ) (e : has_kind is_card s c 
           of_kind (Background x) h = refl
           of_kind _ h = absurd (false≢true h)
 
-  card_order : NamesEach (has_kind is_card now) now.cards
-  card_order = subst (λ p. NamesEach p (without c s.cards)) (λ i id. sym (left-by is_card (λ x. nat_eq x c) gone-card id) i) (order_without is_card s.cards c w.cards e)
+  cards_left : NamesEach (has_kind is_card now) now.cards
+  cards_left = subst (λ p. NamesEach p (without c s.cards)) (λ i id. sym (left-by is_card (λ x. nat_eq x c) gone-card id) i) (order_without is_card s.cards c w.cards e)
 
   parts_of_cards : NamesEach (has_kind is_card_part now) (flat_map (parts_at now) now.cards)
   parts_of_cards = subst (λ p. NamesEach p (flat_map (parts_at now) (without c s.cards))) (λ i id. sym (left-by is_card_part (λ x. contains_id x (parts_at s c)) gone-card_part id) i) (parts_without is_card is_card_part s.cards c w.cards w.card_parts e goes-card)
 
-  background_order : (l : Bool) → is_last_card s c ≡ l → NamesEach (has_kind is_background now) (if l then without (home s c) s.backgrounds else s.backgrounds)
-  background_order true q = subst (λ p. NamesEach p (without (home s c) s.backgrounds)) (λ i id. sym (left-by is_background (λ x. nat_eq x (home s c)) (λ x is. gone-background x is ∙ ap (λ b. b && nat_eq x (home s c)) q) id) i) (order_without is_background s.backgrounds (home s c) w.backgrounds live)
-  background_order false q = subst (λ p. NamesEach p s.backgrounds) (λ i id. sym (left-by is_background (λ x. false) (λ x is. gone-background x is ∙ ap (λ b. b && nat_eq x (home s c)) q) id) i) w.backgrounds
+  backgrounds_left : (l : Bool) → is_last_card s c ≡ l → NamesEach (has_kind is_background now) (if l then without (home s c) s.backgrounds else s.backgrounds)
+  backgrounds_left true q = subst (λ p. NamesEach p (without (home s c) s.backgrounds)) (λ i id. sym (left-by is_background (λ x. nat_eq x (home s c)) (λ x is. gone-background x is ∙ ap (λ b. b && nat_eq x (home s c)) q) id) i) (order_without is_background s.backgrounds (home s c) w.backgrounds live)
+  backgrounds_left false q = subst (λ p. NamesEach p s.backgrounds) (λ i id. sym (left-by is_background (λ x. false) (λ x is. gone-background x is ∙ ap (λ b. b && nat_eq x (home s c)) q) id) i) w.backgrounds
 
   parts_of_backgrounds : (l : Bool) → is_last_card s c ≡ l → NamesEach (has_kind is_background_part now) (flat_map (parts_at now) (if l then without (home s c) s.backgrounds else s.backgrounds))
   parts_of_backgrounds true q = subst (λ p. NamesEach p (flat_map (parts_at now) (without (home s c) s.backgrounds))) (λ i id. sym (left-by is_background_part (λ x. contains_id x (parts_at s (home s c))) (λ x is. gone-background_part x is ∙ ap (λ b. b && contains_id x (parts_at s (home s c))) q) id) i) (parts_without is_background is_background_part s.backgrounds (home s c) w.backgrounds w.background_parts live (λ z is. goes-background z is ∙ ap (λ b. b && nat_eq z (home s c)) q))
@@ -491,3 +491,200 @@ module _ (s : Content) (w : IsWellFormed s) (c : ℕ) (e : has_kind is_card s c 
       not_empty : (x : ℕ) (xs : List ℕ) → contains_id x xs ≡ true → 1 ≤ length xs
       not_empty x [] h = absurd (false≢true h)
       not_empty x (y ∷ ys) h = omega arith
+
+  -- ---- texts and hilites
+
+  not_zero : (c == 0) ≡ false
+  not_zero = not_true (c == 0) (λ z. and_passes is_stack is_card stack_is_no_card (object_at s 0) ((w.stack 0).1 refl) (ap (has_kind is_card s) (sym (same_id c 0 z)) ∙ e))
+    where
+      stack_is_no_card : Apart is_stack is_card
+      stack_is_no_card Stack h = refl
+      stack_is_no_card _ h = absurd (false≢true h)
+
+  abbrev goes_with : ℕ → ℕ → Bool
+  goes_with part k = goes_as_content s c (part, k)
+
+  -- what a card's part keeps
+  card_part_keeps : (p : Kind → Bool) → ((k : Kind) → p k ≡ true → is_card_part k ≡ true) → (f k : ℕ) → not (goes_with f k) && (has_kind p s f && contains_id f (parts_at s k)) ≡ has_kind p now f && contains_id f (parts_at now k)
+  card_part_keeps p is_part f k = by (has_kind p s f) refl (contains_id f (parts_at s k)) refl ∙ ap (λ b. b && contains_id f (parts_at now k)) (sym (left p f))
+    where
+      parts_of : has_kind p s f ≡ true → has_kind is_card_part s f ≡ true
+      parts_of q = at (object_at s f) q
+        where
+          at : (x : Option Object) → passes p x ≡ true → passes is_card_part x ≡ true
+          at None h = absurd (false≢true h)
+          at (Some o) h = is_part o.kind h
+
+      member : (b : Bool) → contains_id f (cond b [] (parts_at s k)) ≡ not b && contains_id f (parts_at s k)
+      member true = refl
+      member false = refl
+
+      same : (kc pc l : Bool) → not (kc || (pc || (l && false))) && true ≡ (not pc && true) && (not (kc || (l && false)) && true)
+      same true true true = refl
+      same true true false = refl
+      same true false true = refl
+      same true false false = refl
+      same false true true = refl
+      same false true false = refl
+      same false false true = refl
+      same false false false = refl
+
+      by : (a : Bool) → has_kind p s f ≡ a → (m : Bool) → contains_id f (parts_at s k) ≡ m → not (goes_with f k) && (a && m) ≡ (not (gone s c f) && a) && contains_id f (parts_at now k)
+      by false q m z = and_false (not (goes_with f k)) ∙ sym (ap (λ b. b && contains_id f (parts_at now k)) (and_false (not (gone s c f))))
+      by true q false z =
+          and_false (not (goes_with f k))
+          ∙ sym (ap (λ b. (not (gone s c f) && true) && b) (ap (contains_id f) (parts_now k) ∙ member (goes_as_layer s c k) ∙ ap (λ b. not (goes_as_layer s c k) && b) z ∙ and_false (not (goes_as_layer s c k))) ∙ and_false (not (gone s c f) && true))
+      by true q true z =
+          let of_b : contains_id f (parts_at s (home s c)) ≡ false = not_of_b is_card_part f (parts_of q) (background_part-not is_card_part (λ x y. refl) (λ x y t. refl)) in
+          let other : nat_eq k (home s c) ≡ false = not_true (nat_eq k (home s c)) (λ h. false≢true (sym of_b ∙ ap (λ y. contains_id f (parts_at s y)) (sym (same_id k (home s c) h)) ∙ z)) in
+          (λ i. not (nat_eq k c || (contains_id f (parts_at s c) || (is_last_card s c && of_b i))) && true)
+          ∙ same (nat_eq k c) (contains_id f (parts_at s c)) (is_last_card s c)
+          ∙ sym (λ i. (not (gone-card_part f (parts_of q) i) && true) && (ap (contains_id f) (parts_now k) ∙ member (goes_as_layer s c k) ∙ (λ j. not (nat_eq k c || (is_last_card s c && other j)) && z j)) i)
+
+  abbrev on_background_now : ℕ → ℕ → Bool
+  on_background_now part k = unwrap_or (option_map (λ b. contains_id part (parts_at now b)) (background_at now k)) false
+
+  on_background-stays : (f k : ℕ) → nat_eq k c ≡ false → on_background_now f k ≡ is_on_background_of s f k
+  on_background-stays f k other = by (background_at s k) refl
+    where
+      on : Option ℕ → Bool
+      on x = unwrap_or (option_map (λ b. contains_id f (parts_at now b)) x) false
+
+      nothing : (b : Bool) → unwrap_or (option_map (λ y. contains_id f (parts_at now y)) (cond b None None)) false ≡ false
+      nothing true = refl
+      nothing false = refl
+
+      by : (x : Option ℕ) → background_at s k ≡ x → on_background_now f k ≡ unwrap_or (option_map (λ b. contains_id f (parts_at s b)) x) false
+      by None q = ap (λ y. unwrap_or (option_map (λ b. contains_id f (parts_at now b)) y) false) (homes k ∙ ap (cond (gone s c k) None) q) ∙ nothing (gone s c k)
+      by (Some b) q =
+          let alive : has_kind is_background s b ≡ true = subst (λ x. IfSome x (λ y. IsTrue (has_kind is_background s y))) q (w.on_background k) in
+          ap (λ y. unwrap_or (option_map (λ x. contains_id f (parts_at now x)) y) false) (stays k b q other)
+          ∙ ap (contains_id f) (parts_now b ∙ ap (λ x. cond x [] (parts_at s b)) (goes-background b alive ∙ home_stays k b q other))
+
+  -- what a background's part keeps
+  background_part_keeps : (p : Kind → Bool) → ((k : Kind) → p k ≡ true → is_background_part k ≡ true) → (f k : ℕ) → not (goes_with f k) && (has_kind p s f && ((k == 0) || is_on_background_of s f k)) ≡ has_kind p now f && ((k == 0) || on_background_now f k)
+  background_part_keeps p is_part f k = by (has_kind p s f) refl ∙ ap (λ b. b && ((k == 0) || on_background_now f k)) (sym (left p f))
+    where
+      parts_of : has_kind p s f ≡ true → has_kind is_background_part s f ≡ true
+      parts_of q = at (object_at s f) q
+        where
+          at : (x : Option Object) → passes p x ≡ true → passes is_background_part x ≡ true
+          at None h = absurd (false≢true h)
+          at (Some o) h = is_part o.kind h
+
+      never : (a : Bool) → not (a || (false || true)) ≡ false
+      never true = refl
+      never false = refl
+
+      or_nothing : (a : Bool) → not (a || (false || false)) ≡ not a
+      or_nothing true = refl
+      or_nothing false = refl
+
+      gone_now : nat_eq k c ≡ true → on_background_now f k ≡ false
+      gone_now z = ap (λ y. unwrap_or (option_map (λ b. contains_id f (parts_at now b)) y) false) (homes k ∙ ap (λ b. cond b None (background_at s k)) (gone-card k (ap (has_kind is_card s) (same_id k c z) ∙ e) ∙ z))
+
+      either : (b : Bool) → nat_eq k c ≡ b → not b && ((k == 0) || is_on_background_of s f k) ≡ (k == 0) || on_background_now f k
+      either true z = sym (λ i. (ap (λ x. x == 0) (same_id k c z) ∙ not_zero) i || gone_now z i)
+      either false z = ap (λ b. (k == 0) || b) (sym (on_background-stays f k z))
+
+      by : (a : Bool) → has_kind p s f ≡ a → not (goes_with f k) && (a && ((k == 0) || is_on_background_of s f k)) ≡ (not (gone s c f) && a) && ((k == 0) || on_background_now f k)
+      by false q = and_false (not (goes_with f k)) ∙ sym (ap (λ b. b && ((k == 0) || on_background_now f k)) (and_false (not (gone s c f))))
+      by true q =
+          (λ i. not (nat_eq k c || (not_of_c is_background_part f (parts_of q) (card_part-not is_background_part (λ x y. refl) (λ x y. refl)) i || (is_last_card s c && contains_id f (parts_at s (home s c))))) && ((k == 0) || is_on_background_of s f k))
+          ∙ last (is_last_card s c && contains_id f (parts_at s (home s c)))
+          ∙ ap (λ b. (not b && true) && ((k == 0) || on_background_now f k)) (sym (gone-background_part f (parts_of q)))
+        where
+          last : (g : Bool) → not (nat_eq k c || (false || g)) && ((k == 0) || is_on_background_of s f k) ≡ (not g && true) && ((k == 0) || on_background_now f k)
+          last true = ap (λ b. b && ((k == 0) || is_on_background_of s f k)) (never (nat_eq k c))
+          last false = ap (λ b. b && ((k == 0) || is_on_background_of s f k)) (or_nothing (nat_eq k c)) ∙ either (nat_eq k c) refl
+
+  shared : (g a b : Bool) → not g && (a || b) ≡ (not g && a) || (not g && b)
+  shared true a b = refl
+  shared false a b = refl
+
+  field_of_card : (k : Kind) → is_card_field k ≡ true → is_card_part k ≡ true
+  field_of_card (CardField v l) h = refl
+  field_of_card _ h = absurd (false≢true h)
+
+  field_of_background : (k : Kind) → is_background_field k ≡ true → is_background_part k ≡ true
+  field_of_background (BackgroundField v l t) h = refl
+  field_of_background _ h = absurd (false≢true h)
+
+  button_of_background : (k : Kind) → is_background_button k ≡ true → is_background_part k ≡ true
+  button_of_background (BackgroundButton v h) i = refl
+  button_of_background _ h = absurd (false≢true h)
+
+  there_unless : {X : Type 0} (b : Bool) (x : Option X) → is_some (cond b None x) ≡ not b && is_some x
+  there_unless true x = refl
+  there_unless false x = refl
+
+  texts_there : (f k : ℕ) → is_some (text_at now f k) ≡ keeps_text now f k
+  texts_there f k =
+      ap is_some (get-cleared_where pair_cmp_total pair_cmp-IsAntisymmetric s.texts (goes_as_content s c) (f, k))
+      ∙ there_unless (goes_with f k) (text_at s f k)
+      ∙ ap (λ b. not (goes_with f k) && b) (bool_iff _ _ (w.texts f k))
+      ∙ shared (goes_with f k) (has_kind is_card_field s f && contains_id f (parts_at s k)) (has_kind is_background_field s f && ((k == 0) || is_on_background_of s f k))
+      ∙ (λ i. card_part_keeps is_card_field field_of_card f k i || background_part_keeps is_background_field field_of_background f k i)
+
+  hilites_there : (h k : ℕ) → is_some (hilite_at now h k) ≡ keeps_hilite now h k
+  hilites_there h k =
+      ap is_some (get-cleared_where pair_cmp_total pair_cmp-IsAntisymmetric s.hilites (goes_as_content s c) (h, k))
+      ∙ there_unless (goes_with h k) (hilite_at s h k)
+      ∙ ap (λ b. not (goes_with h k) && b) (bool_iff _ _ (w.hilites h k))
+      ∙ background_part_keeps is_background_button button_of_background h k
+
+  -- ---- the theorem
+
+  if_there : {X : Type 0} (P : X → Type 0) (b : Bool) (x : Option X) → IfSome x P → IfSome (cond b None x) P
+  if_there P true x h = tt
+  if_there P false x h = h
+
+  has_layers : (id : ℕ) → is_some (get now.parts id) ≡ has_kind is_layer now id
+  has_layers id =
+      ap is_some (lists id)
+      ∙ there_unless (goes_as_layer s c id) (get s.parts id)
+      ∙ ap (λ b. not (goes_as_layer s c id) && b) (bool_iff _ _ (w.layers id))
+      ∙ sym (left-by is_layer (goes_as_layer s c) gone-layer id)
+
+  pub well_formed : 2 ≤ length s.cards → IsWellFormed now
+  well_formed many =
+      let count : object_count now ≤ object_count s = len-cleared s.objects (ids_where s (gone s c)) in
+      let few : object_count s ≤ 10000 = w.few in
+      record {
+        backgrounds = backgrounds_left (is_last_card s c) refl;
+        cards = cards_left;
+        layers = λ id. iff_bool _ _ (has_layers id);
+        card_parts = parts_of_cards;
+        background_parts = parts_of_backgrounds (is_last_card s c) refl;
+        on_background = on_background;
+        some_background = some_background many (is_last_card s c) refl;
+        some_card = has_cards;
+        stack = subst {A = ℕ → Bool} (λ p. (id : ℕ) → IsTrue (p id) ↔ (id ≡ 0)) (λ i id. sym (left-by is_stack (λ x. false) gone-stack id) i) w.stack;
+        ids = λ id there. w.ids id (both _ _ (sym (there_unless (gone s c id) (object_at s id)) ∙ ap is_some (sym (found id)) ∙ there)).1;
+        next_low = w.next_low;
+        next_high = w.next_high;
+        few = omega arith;
+        names = λ id. subst (λ x. IfSome x (λ o. IsText o.name × IsText o.script)) (sym (found id)) (if_there _ (gone s c id) (object_at s id) (w.names id));
+        texts = λ f k. iff_bool _ _ (texts_there f k);
+        field_texts = λ f k. subst (λ x. IfSome x IsText) (sym (get-cleared_where pair_cmp_total pair_cmp-IsAntisymmetric s.texts (goes_as_content s c) (f, k))) (if_there IsText (goes_with f k) (text_at s f k) (w.field_texts f k));
+        hilites = λ h k. iff_bool _ _ (hilites_there h k);
+      }
+
+written : (s : Content) (card : ℕ) → put_each s (writes_of_deletion s card) ≡ without_card s card
+unfolding put
+written s card = first (is_last_card s card) ∙ rest (record s { cards = without card s.cards; backgrounds = if is_last_card s card then without (home s card) s.backgrounds else s.backgrounds })
+  where
+    first : (l : Bool) → put_each s (write card_order (ids (without card s.cards)) ∷ (if l then write background_order (ids (without (home s card) s.backgrounds)) ∷ [] else []) ++ clears_of_deletion s card) ≡ put_each (record s { cards = without card s.cards; backgrounds = if l then without (home s card) s.backgrounds else s.backgrounds }) (clears_of_deletion s card)
+    first true = refl
+    first false = refl
+
+    rest : (t : Content) → put_each t (clears_of_deletion s card) ≡ record t {
+      objects = cleared t.objects (ids_where s (gone s card));
+      parts = cleared t.parts (filter (goes_as_layer s card) (keys s.parts));
+      texts = cleared t.texts (filter (goes_as_content s card) (keys s.texts));
+      hilites = cleared t.hilites (filter (goes_as_content s card) (keys s.hilites));
+    }
+    rest t = all_cleared t (ids_where s (gone s card)) (filter (goes_as_layer s card) (keys s.parts)) (filter (goes_as_content s card) (keys s.texts)) (filter (goes_as_content s card) (keys s.hilites))
+
+pub deletion_fits : (s : Content) (card : ℕ) → IsWellFormed s → fits_deletion s ≡ true → has_kind is_card s card ≡ true → IsWellFormed (put_each s (writes_of_deletion s card))
+deletion_fits s card w fits e = subst IsWellFormed (sym (written s card)) (well_formed s w card e (leb_yes (subst T (sym fits) tt)))

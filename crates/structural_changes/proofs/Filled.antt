@@ -13,8 +13,8 @@ use Rattle.object_table.specs.Objects.{object_at, contains_id}
 use Rattle.object_table.specs.Pairs.{Pair, pair_cmp, PairMap}
 use Rattle.object_table.proofs.Maps.{get-put_option, put_option_again, put_option_apart}
 use Rattle.object_table.proofs.Pairs.{pair_cmp_total, pair_cmp-IsAntisymmetric, pair_tied, same_pair}
-use Rattle.stack_places.specs.Places.{put, field_text, button_hilite, text, logical}
-use Rattle.structural_changes.specs.Writes.{StackWrite, write, put_each, empty_texts, false_hilites, ids_where}
+use Rattle.stack_places.specs.Places.{put, field_text, button_hilite, whole, layer_parts, text, logical}
+use Rattle.structural_changes.specs.Writes.{StackWrite, write, clear, put_each, empty_texts, false_hilites, ids_where}
 
 unfoldable pub filled : {X : Type 0} → PairMap X → ℕ → List ℕ → X → PairMap X
 filled m part [] v = m
@@ -169,3 +169,42 @@ pub len-cleared : {X : Type 0} (m : FinMap nat_cmp X) (ks : List ℕ) → len (r
 unfolding cleared
 len-cleared m [] = omega arith
 len-cleared m (k ∷ ks) = let first = len-cleared (put_option m k None) ks in let rest = fewer m k in omega arith
+
+objects_cleared : (s : Content) (ids : List ℕ) → put_each s (map (λ id. clear (whole id)) ids) ≡ record s { objects = cleared s.objects ids }
+unfolding put cleared
+objects_cleared s [] = refl
+objects_cleared s (id ∷ ids) = objects_cleared (record s { objects = put_option s.objects id None }) ids
+
+parts_cleared : (s : Content) (ids : List ℕ) → put_each s (map (λ id. clear (layer_parts id)) ids) ≡ record s { parts = cleared s.parts ids }
+unfolding put cleared
+parts_cleared s [] = refl
+parts_cleared s (id ∷ ids) = parts_cleared (record s { parts = put_option s.parts id None }) ids
+
+texts_cleared : (s : Content) (pairs : List Pair) → put_each s (map (λ p. clear (field_text p.0 p.1)) pairs) ≡ record s { texts = cleared s.texts pairs }
+unfolding put cleared
+texts_cleared s [] = refl
+texts_cleared s (p ∷ pairs) = texts_cleared (record s { texts = put_option s.texts p None }) pairs
+
+hilites_cleared : (s : Content) (pairs : List Pair) → put_each s (map (λ p. clear (button_hilite p.0 p.1)) pairs) ≡ record s { hilites = cleared s.hilites pairs }
+unfolding put cleared
+hilites_cleared s [] = refl
+hilites_cleared s (p ∷ pairs) = hilites_cleared (record s { hilites = put_option s.hilites p None }) pairs
+
+pub all_cleared : (s : Content) (ids layers : List ℕ) (texts hilites : List Pair) → put_each s (map (λ id. clear (whole id)) ids ++ map (λ id. clear (layer_parts id)) layers ++ map (λ p. clear (field_text p.0 p.1)) texts ++ map (λ p. clear (button_hilite p.0 p.1)) hilites) ≡ record s { objects = cleared s.objects ids; parts = cleared s.parts layers; texts = cleared s.texts texts; hilites = cleared s.hilites hilites }
+all_cleared s ids layers texts hilites =
+    let of_texts : List StackWrite = map (λ p. clear (field_text p.0 p.1)) texts in
+    let of_hilites : List StackWrite = map (λ p. clear (button_hilite p.0 p.1)) hilites in
+    let of_layers : List StackWrite = map (λ id. clear (layer_parts id)) layers in
+    let a : Content = record s { objects = cleared s.objects ids } in
+    let b : Content = record a { parts = cleared s.parts layers } in
+    let c : Content = record b { texts = cleared s.texts texts } in
+    let of_objects : List StackWrite = map (λ id. clear (whole id)) ids in
+    put_each-append s (of_objects ++ of_layers ++ of_texts) of_hilites
+    ∙ ap (λ x. put_each x of_hilites) (
+    put_each-append s (of_objects ++ of_layers) of_texts
+    ∙ ap (λ x. put_each x of_texts) (
+    put_each-append s of_objects of_layers
+    ∙ ap (λ x. put_each x of_layers) (objects_cleared s ids)
+    ∙ parts_cleared a layers)
+    ∙ texts_cleared b texts)
+    ∙ hilites_cleared c hilites

@@ -95,39 +95,39 @@ first_contents s (OfCard card) Button part = []
 -- a new part is the last one of its layer
 abbrev pub writes_of_new_part : Content → Layer → PartKind → List StackWrite
 writes_of_new_part s layer kind =
-  write next_id (number (s.next + 1))
-  ∷ write (whole s.next) (object (new_part layer kind))
-  ∷ write (parts_of (layer_id layer)) (ids (parts_at s (layer_id layer) ++ s.next ∷ []))
-  ∷ first_contents s layer kind s.next
+    write next_id (number (s.next + 1))
+    ∷ write (whole s.next) (object (new_part layer kind))
+    ∷ write (parts_of (layer_id layer)) (ids (parts_at s (layer_id layer) ++ s.next ∷ []))
+    ∷ first_contents s layer kind s.next
 
 -- ---- a new card and a new background
 
 -- what a new card keeps of its background's parts
 abbrev pub contents_of_new_card : Content → ℕ → ℕ → List StackWrite
 contents_of_new_card s background card =
-  map (λ field. write (field_text field card) (text [])) (ids_where s (is_part_of is_background_field s background))
-  ++ map (λ button. write (button_hilite button card) (logical false)) (ids_where s (is_part_of is_background_button s background))
+    map (λ field. write (field_text field card) (text [])) (ids_where s (is_part_of is_background_field s background))
+    ++ map (λ button. write (button_hilite button card) (logical false)) (ids_where s (is_part_of is_background_button s background))
 
 -- a new card is on the background of another card, and stands after it
 abbrev pub writes_of_new_card : Content → ℕ → List StackWrite
 writes_of_new_card s card =
-  write next_id (number (s.next + 1))
-  ∷ write (whole s.next) (object (empty_object (Card (home s card) false)))
-  ∷ write card_order (ids (insert_after card s.next s.cards))
-  ∷ write (parts_of s.next) (ids [])
-  ∷ contents_of_new_card s (home s card) s.next
+    write next_id (number (s.next + 1))
+    ∷ write (whole s.next) (object (empty_object (Card (home s card) false)))
+    ∷ write card_order (ids (insert_after card s.next s.cards))
+    ∷ write (parts_of s.next) (ids [])
+    ∷ contents_of_new_card s (home s card) s.next
 
 -- a new background is the last one; its card stands after another card
 abbrev pub writes_of_new_background : Content → ℕ → List StackWrite
 writes_of_new_background s card =
-  write next_id (number (s.next + 2))
-  ∷ write (whole s.next) (object (empty_object (Background false)))
-  ∷ write (whole (s.next + 1)) (object (empty_object (Card s.next false)))
-  ∷ write card_order (ids (insert_after card (s.next + 1) s.cards))
-  ∷ write background_order (ids (s.backgrounds ++ s.next ∷ []))
-  ∷ write (parts_of s.next) (ids [])
-  ∷ write (parts_of (s.next + 1)) (ids [])
-  ∷ []
+    write next_id (number (s.next + 2))
+    ∷ write (whole s.next) (object (empty_object (Background false)))
+    ∷ write (whole (s.next + 1)) (object (empty_object (Card s.next false)))
+    ∷ write card_order (ids (insert_after card (s.next + 1) s.cards))
+    ∷ write background_order (ids (s.backgrounds ++ s.next ∷ []))
+    ∷ write (parts_of s.next) (ids [])
+    ∷ write (parts_of (s.next + 1)) (ids [])
+    ∷ []
 
 -- ---- a card that goes
 
@@ -147,14 +147,19 @@ goes_as_part s card id = contains_id id (parts_at s card) || (is_last_card s car
 abbrev pub goes_as_content : Content → ℕ → Pair → Bool
 goes_as_content s card pair = nat_eq pair.1 card || goes_as_part s card pair.0
 
+-- the objects, the lists of parts, the texts and the hilites that go, each ascending
+abbrev pub clears_of_deletion : Content → ℕ → List StackWrite
+clears_of_deletion s card =
+    map (λ id. clear (whole id)) (ids_where s (λ id. goes_as_layer s card id || goes_as_part s card id))
+    ++ map (λ id. clear (parts_of id)) (filter (goes_as_layer s card) (keys s.parts))
+    ++ map (λ p. clear (field_text p.0 p.1)) (filter (goes_as_content s card) (keys s.texts))
+    ++ map (λ p. clear (button_hilite p.0 p.1)) (filter (goes_as_content s card) (keys s.hilites))
+
 abbrev pub writes_of_deletion : Content → ℕ → List StackWrite
 writes_of_deletion s card =
-  write card_order (ids (without card s.cards))
-  ∷ (if is_last_card s card then write background_order (ids (without (home s card) s.backgrounds)) ∷ [] else [])
-  ++ map (λ id. clear (whole id)) (ids_where s (λ id. goes_as_layer s card id || goes_as_part s card id))
-  ++ map (λ id. clear (parts_of id)) (filter (goes_as_layer s card) (keys s.parts))
-  ++ map (λ p. clear (field_text p.0 p.1)) (filter (goes_as_content s card) (keys s.texts))
-  ++ map (λ p. clear (button_hilite p.0 p.1)) (filter (goes_as_content s card) (keys s.hilites))
+    write card_order (ids (without card s.cards))
+    ∷ (if is_last_card s card then write background_order (ids (without (home s card) s.backgrounds)) ∷ [] else [])
+    ++ clears_of_deletion s card
 
 -- ---- where they fit
 
