@@ -1,0 +1,6 @@
+//! The changes that make and remove objects: where each fits, what it writes, and that a stack stays well formed.
+#![tactic(auto)]
+
+mod laws;
+
+pub use laws::laws_of_changes;
