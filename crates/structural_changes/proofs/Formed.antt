@@ -3,7 +3,7 @@ use Rattle.std.proofs.Common.{◌≡◌, ℕ, ◌<◌, ◌≤◌, IsSome, IsTrue
 use Rattle.std.specs.FinMap.{get}
 use Rattle.ht_values.specs.Text.{IsText}
 use Rattle.object_table.specs.Content.{Content}
-use Rattle.object_table.specs.Kept.{text_at, hilite_at, keeps_text, keeps_hilite}
+use Rattle.object_table.specs.PartContents.{text_at, hilite_at, keeps_text, keeps_hilite}
 use Rattle.object_table.specs.Objects.{is_stack, is_background, is_card, is_card_part, is_background_part, is_layer, has_kind, object_at, parts_at, background_at, object_count}
 use Rattle.object_table.specs.WellFormed.{NamesEach, IsWellFormed}
 

@@ -10,7 +10,7 @@ use Rattle.ht_values.specs.Text.{IsText}
 use Rattle.ht_values.specs.declared.word.PartKind.{PartKind}
 use Rattle.ht_values.specs.declared.word.PartKind.TheVariants.{Button, Field}
 use Rattle.object_table.specs.Content.{Content}
-use Rattle.object_table.specs.Kept.{text_at, hilite_at, keeps_text, keeps_hilite, is_on_background_of}
+use Rattle.object_table.specs.PartContents.{text_at, hilite_at, keeps_text, keeps_hilite, is_on_background_of}
 use Rattle.object_table.specs.Layers.{layer_id, layer_parts, is_of_layer}
 use Rattle.object_table.specs.Maps.{put_option}
 use Rattle.object_table.specs.Objects.{is_stack, is_background, is_card, is_card_part, is_background_part, is_card_field, is_background_field, is_background_button, is_layer, background_of, has_kind, object_at, parts_at, contains_id, background_at, object_count}
@@ -19,8 +19,8 @@ use Rattle.object_table.specs.WellFormed.{NamesEach, IsWellFormed}
 use Rattle.object_table.specs.declared.object.Object.{Object}
 use Rattle.object_table.specs.declared.object.Kind.{Kind}
 use Rattle.object_table.specs.declared.object.Kind.TheVariants.{Stack, Background, Card, CardButton, BackgroundButton, CardField, BackgroundField}
-use Rattle.object_table.specs.declared.object.Layer.{Layer}
-use Rattle.object_table.specs.declared.object.Layer.TheVariants.{OfCard, OfBackground}
+use Rattle.object_table.specs.declared.object.LayerId.{LayerId}
+use Rattle.object_table.specs.declared.object.LayerId.TheVariants.{OfCard, OfBackground}
 use Rattle.object_table.proofs.Maps.{get-put_option}
 use Rattle.stack_places.specs.Places.{put}
 use Rattle.structural_changes.specs.Writes.{put_each, writes_of_new_part, fits_new_part, has_room_for, kind_of_new, name_of_new, new_part, kept_for, is_card_of, ids_where}
@@ -64,7 +64,7 @@ card_is_no_background _ e = absurd (false≢true e)
 -- ---- what is kept
 
 -- a card's part and a background's part keep something for different cards
-abbrev pub kept_by : Content → Layer → ℕ → Bool
+abbrev pub kept_by : Content → LayerId → ℕ → Bool
 kept_by s (OfCard card) c = nat_eq c card
 kept_by s (OfBackground background) c = (c == 0) || is_card_of s background c
 
@@ -86,7 +86,7 @@ card_is_there s background card = by (object_at s card)
         and_true true = refl
         and_true false = refl
 
-pub contains-kept_for : (s : Content) (layer : Layer) (c : ℕ) → contains_id c (kept_for s layer) ≡ kept_by s layer c
+pub contains-kept_for : (s : Content) (layer : LayerId) (c : ℕ) → contains_id c (kept_for s layer) ≡ kept_by s layer c
 contains-kept_for s (OfCard card) c = or_false (nat_eq card c) ∙ nat_eq_sym card c
 contains-kept_for s (OfBackground background) c = λ i. nat_eq_sym 0 c i || (contains-ids_where s (is_card_of s background) c ∙ card_is_there s background c) i
 
@@ -304,15 +304,15 @@ module _ (s : Content) (w : IsFormed s) (l : ℕ) (new : Object) (no_layer : bac
 
 -- ---- the theorem
 
-text_cards : Content → Layer → PartKind → List ℕ
+text_cards : Content → LayerId → PartKind → List ℕ
 text_cards s layer Field = kept_for s layer
 text_cards s layer Button = []
 
-hilite_cards : Content → Layer → PartKind → List ℕ
+hilite_cards : Content → LayerId → PartKind → List ℕ
 hilite_cards s (OfBackground background) Button = kept_for s (OfBackground background)
 hilite_cards s layer kind = []
 
-abbrev with_part : Content → Layer → PartKind → Content
+abbrev with_part : Content → LayerId → PartKind → Content
 with_part s layer kind = record {
   objects = objects_and s (new_part layer kind);
   backgrounds = s.backgrounds;
@@ -324,21 +324,21 @@ with_part s layer kind = record {
 }
 
 -- the writes give this stack
-written : (s : Content) (layer : Layer) (kind : PartKind) → put_each s (writes_of_new_part s layer kind) ≡ with_part s layer kind
+written : (s : Content) (layer : LayerId) (kind : PartKind) → put_each s (writes_of_new_part s layer kind) ≡ with_part s layer kind
 unfolding put filled text_cards hilite_cards
 written s (OfCard card) Button = refl
 written s (OfBackground background) Button = hilites_filled _ s.next (kept_for s (OfBackground background))
 written s (OfCard card) Field = texts_filled _ s.next (kept_for s (OfCard card))
 written s (OfBackground background) Field = texts_filled _ s.next (kept_for s (OfBackground background))
 
-text_gains : (s : Content) (w : IsFormed s) (layer : Layer) (kind : PartKind) (c : ℕ) → contains_id c (text_cards s layer kind) ≡ (is_card_field (kind_of_new layer kind) && nat_eq c (layer_id layer)) || (is_background_field (kind_of_new layer kind) && ((c == 0) || is_card_of s (layer_id layer) c))
+text_gains : (s : Content) (w : IsFormed s) (layer : LayerId) (kind : PartKind) (c : ℕ) → contains_id c (text_cards s layer kind) ≡ (is_card_field (kind_of_new layer kind) && nat_eq c (layer_id layer)) || (is_background_field (kind_of_new layer kind) && ((c == 0) || is_card_of s (layer_id layer) c))
 unfolding text_cards
 text_gains s w (OfCard card) Field c = contains-kept_for s (OfCard card) c ∙ sym (or_false (nat_eq c card))
 text_gains s w (OfBackground background) Field c = contains-kept_for s (OfBackground background) c
 text_gains s w (OfCard card) Button c = refl
 text_gains s w (OfBackground background) Button c = refl
 
-hilite_gains : (s : Content) (w : IsFormed s) (layer : Layer) (kind : PartKind) (c : ℕ) → contains_id c (hilite_cards s layer kind) ≡ is_background_button (kind_of_new layer kind) && ((c == 0) || is_card_of s (layer_id layer) c)
+hilite_gains : (s : Content) (w : IsFormed s) (layer : LayerId) (kind : PartKind) (c : ℕ) → contains_id c (hilite_cards s layer kind) ≡ is_background_button (kind_of_new layer kind) && ((c == 0) || is_card_of s (layer_id layer) c)
 unfolding hilite_cards
 hilite_gains s w (OfBackground background) Button c = contains-kept_for s (OfBackground background) c
 hilite_gains s w (OfCard card) Field c = refl
@@ -346,13 +346,13 @@ hilite_gains s w (OfBackground background) Field c = refl
 hilite_gains s w (OfCard card) Button c = refl
 
 -- no part has a layer's kind
-no_layer : (p : Kind → Bool) → p (CardButton true false) ≡ false → p (CardField true false) ≡ false → p (BackgroundButton true true) ≡ false → p (BackgroundField true false false) ≡ false → (layer : Layer) (kind : PartKind) → p (kind_of_new layer kind) ≡ false
+no_layer : (p : Kind → Bool) → p (CardButton true false) ≡ false → p (CardField true false) ≡ false → p (BackgroundButton true true) ≡ false → p (BackgroundField true false false) ≡ false → (layer : LayerId) (kind : PartKind) → p (kind_of_new layer kind) ≡ false
 no_layer p a b c d (OfCard card) Button = a
 no_layer p a b c d (OfCard card) Field = b
 no_layer p a b c d (OfBackground background) Button = c
 no_layer p a b c d (OfBackground background) Field = d
 
-no_home : (layer : Layer) (kind : PartKind) → background_of (kind_of_new layer kind) ≡ None
+no_home : (layer : LayerId) (kind : PartKind) → background_of (kind_of_new layer kind) ≡ None
 no_home (OfCard card) Button = refl
 no_home (OfCard card) Field = refl
 no_home (OfBackground background) Button = refl
@@ -367,30 +367,30 @@ both true b e = (refl, e)
 both false b e = absurd (false≢true e)
 
 -- a part's layer is there, of its kind
-there_of : (s : Content) (layer : Layer) → is_some (layer_parts s layer) ≡ true → has_kind (is_of_layer layer) s (layer_id layer) ≡ true
+there_of : (s : Content) (layer : LayerId) → is_some (layer_parts s layer) ≡ true → has_kind (is_of_layer layer) s (layer_id layer) ≡ true
 there_of s layer e = by (has_kind (is_of_layer layer) s (layer_id layer)) e
   where
     by : (b : Bool) → is_some (if b then get s.parts (layer_id layer) else None) ≡ true → b ≡ true
     by true e = refl
     by false e = absurd (false≢true e)
 
-on_cards : (s : Content) (layer : Layer) (kind : PartKind) → has_kind (is_of_layer layer) s (layer_id layer) ≡ true → is_card_part (kind_of_new layer kind) ≡ has_kind is_card s (layer_id layer)
+on_cards : (s : Content) (layer : LayerId) (kind : PartKind) → has_kind (is_of_layer layer) s (layer_id layer) ≡ true → is_card_part (kind_of_new layer kind) ≡ has_kind is_card s (layer_id layer)
 on_cards s (OfCard card) Button e = sym e
 on_cards s (OfCard card) Field e = sym e
 on_cards s (OfBackground background) Button e = sym (as_false is_background is_card background_is_no_card (object_at s background) e)
 on_cards s (OfBackground background) Field e = sym (as_false is_background is_card background_is_no_card (object_at s background) e)
 
-on_backgrounds : (s : Content) (layer : Layer) (kind : PartKind) → has_kind (is_of_layer layer) s (layer_id layer) ≡ true → is_background_part (kind_of_new layer kind) ≡ has_kind is_background s (layer_id layer)
+on_backgrounds : (s : Content) (layer : LayerId) (kind : PartKind) → has_kind (is_of_layer layer) s (layer_id layer) ≡ true → is_background_part (kind_of_new layer kind) ≡ has_kind is_background s (layer_id layer)
 on_backgrounds s (OfBackground background) Button e = sym e
 on_backgrounds s (OfBackground background) Field e = sym e
 on_backgrounds s (OfCard card) Button e = sym (as_false is_card is_background card_is_no_background (object_at s card) e)
 on_backgrounds s (OfCard card) Field e = sym (as_false is_card is_background card_is_no_background (object_at s card) e)
 
-as_layer : (s : Content) (layer : Layer) → has_kind (is_of_layer layer) s (layer_id layer) ≡ true → has_kind is_layer s (layer_id layer) ≡ true
+as_layer : (s : Content) (layer : LayerId) → has_kind (is_of_layer layer) s (layer_id layer) ≡ true → has_kind is_layer s (layer_id layer) ≡ true
 as_layer s (OfCard card) e = if_passes is_card is_layer card_is_layer (object_at s card) e
 as_layer s (OfBackground background) e = if_passes is_background is_layer background_is_layer (object_at s background) e
 
-module _ (s : Content) (layer : Layer) (kind : PartKind) (w : IsFormed s) (room : has_room_for 1 s ≡ true) (there : is_some (layer_parts s layer) ≡ true) where
+module _ (s : Content) (layer : LayerId) (kind : PartKind) (w : IsFormed s) (room : has_room_for 1 s ≡ true) (there : is_some (layer_parts s layer) ≡ true) where
   new : Object
   new = new_part layer kind
 
@@ -445,7 +445,7 @@ module _ (s : Content) (layer : Layer) (kind : PartKind) (w : IsFormed s) (room 
       let card = old id (ap (λ p. p id) grounds ∙ h) in
       (card.0, sym (ap (λ q. q card.0) homes) ∙ card.1)
 
-pub new_part_fits : (s : Content) (layer : Layer) (kind : PartKind) → IsWellFormed s → fits_new_part s layer ≡ true → IsWellFormed (put_each s (writes_of_new_part s layer kind))
+pub new_part_fits : (s : Content) (layer : LayerId) (kind : PartKind) → IsWellFormed s → fits_new_part s layer ≡ true → IsWellFormed (put_each s (writes_of_new_part s layer kind))
 new_part_fits s layer kind w fits =
     let parts = both (has_room_for 1 s) (is_some (layer_parts s layer)) fits in
     let f = formed s w in

@@ -10,8 +10,8 @@ use Rattle.object_table.specs.Pairs.{Pair}
 use Rattle.object_table.specs.declared.object.Object.{Object}
 use Rattle.object_table.specs.declared.object.Kind.{Kind}
 use Rattle.object_table.specs.declared.object.Kind.TheVariants.{Background, Card, CardButton, BackgroundButton, CardField, BackgroundField}
-use Rattle.object_table.specs.declared.object.Layer.{Layer}
-use Rattle.object_table.specs.declared.object.Layer.TheVariants.{OfCard, OfBackground}
+use Rattle.object_table.specs.declared.object.LayerId.{LayerId}
+use Rattle.object_table.specs.declared.object.LayerId.TheVariants.{OfCard, OfBackground}
 use Rattle.ht_values.specs.declared.word.PartKind.{PartKind}
 use Rattle.ht_values.specs.declared.word.PartKind.TheVariants.{Button, Field}
 use Rattle.stack_places.specs.Places.{StackPlace, Value, put, field_text, button_hilite, whole, card_order, background_order, layer_parts as parts_of, next_id, text, logical, object, ids, number}
@@ -69,7 +69,7 @@ false_hilites button = map (λ card. write (button_hilite button card) (logical 
 -- ---- a new part
 
 -- It is visible, and nothing else, but that a background's button has one hilite for all cards.
-abbrev pub kind_of_new : Layer → PartKind → Kind
+abbrev pub kind_of_new : LayerId → PartKind → Kind
 kind_of_new (OfCard card) Button = CardButton true false
 kind_of_new (OfCard card) Field = CardField true false
 kind_of_new (OfBackground background) Button = BackgroundButton true true
@@ -79,21 +79,21 @@ abbrev pub name_of_new : PartKind → List ℕ
 name_of_new Button = codes "New Button"
 name_of_new Field = []
 
-abbrev pub new_part : Layer → PartKind → Object
+abbrev pub new_part : LayerId → PartKind → Object
 new_part layer kind = record (empty_object (kind_of_new layer kind)) { name = name_of_new kind }
 
 -- what a part of a layer keeps something for: its card; or each card of its background, ascending, and before them 0
-abbrev pub kept_for : Content → Layer → List ℕ
+abbrev pub kept_for : Content → LayerId → List ℕ
 kept_for s (OfCard card) = card ∷ []
 kept_for s (OfBackground background) = 0 ∷ ids_where s (is_card_of s background)
 
-abbrev pub first_contents : Content → Layer → PartKind → ℕ → List StackWrite
+abbrev pub first_contents : Content → LayerId → PartKind → ℕ → List StackWrite
 first_contents s layer Field part = empty_texts part (kept_for s layer)
 first_contents s (OfBackground background) Button part = false_hilites part (kept_for s (OfBackground background))
 first_contents s (OfCard card) Button part = []
 
 -- a new part is the last one of its layer
-abbrev pub writes_of_new_part : Content → Layer → PartKind → List StackWrite
+abbrev pub writes_of_new_part : Content → LayerId → PartKind → List StackWrite
 writes_of_new_part s layer kind =
     write next_id (number (s.next + 1))
     ∷ write (whole s.next) (object (new_part layer kind))
@@ -167,7 +167,7 @@ writes_of_deletion s card =
 abbrev pub has_room_for : ℕ → Content → Bool
 has_room_for count s = leb (s.next + count) 1000001 && leb (object_count s + count) 10000
 
-abbrev pub fits_new_part : Content → Layer → Bool
+abbrev pub fits_new_part : Content → LayerId → Bool
 fits_new_part s layer = has_room_for 1 s && is_some (layer_parts s layer)
 
 -- a card goes where there is a second one

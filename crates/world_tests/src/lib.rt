@@ -12,3 +12,5 @@ mod places;
 mod quiet;
 #[cfg(test)]
 mod sessions;
+#[cfg(test)]
+mod structure;

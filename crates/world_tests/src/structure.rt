@@ -1,0 +1,9 @@
+//! The laws of the changes that make and remove objects.
+
+use std::test::HostRuntime;
+use structural_changes::laws_of_changes;
+
+#[test]
+fn a_stack_stays_well_formed(_rt: HostRuntime) {
+    laws_of_changes();
+}
