@@ -97,6 +97,12 @@ differences : expression (number (codes "1") ∷ key k.Minus ∷ number (codes "
 unfolding read level_at rank_at chain_at join_at power_at power_end prefixed_at factor_at primary_at leading_operator
 differences = refl
 
+-- `1 = 2 < 3`: an equality is looser than a comparison.
+equality_of_order : expression (number (codes "1") ∷ key k.Equal ∷ number (codes "2") ∷ key k.Less ∷ number (codes "3") ∷ [])
+    ≡ Some (t.binary o.Equal (t.number (codes "1")) (t.binary o.Less (t.number (codes "2")) (t.number (codes "3"))))
+unfolding read level_at rank_at chain_at join_at power_at power_end prefixed_at factor_at primary_at leading_operator
+equality_of_order = refl
+
 -- `x is a number`, and `x is a`, which compares with the variable `a`
 is_a_number : expression (name (codes "x") ∷ key k.Is ∷ name (codes "a") ∷ key k.Number ∷ []) ≡ Some (t.unary (un.IsA type.Number) (t.name (codes "x")))
 unfolding read level_at rank_at chain_at asked_at power_at power_end prefixed_at factor_at primary_at leading_operator operator_after_is asked_type type_front
