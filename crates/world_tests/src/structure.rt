@@ -1,6 +1,5 @@
 //! The laws of the changes that make and remove objects.
 
-use std::test::HostRuntime;
 use structural_changes::laws_of_changes;
 
 #[test]
