@@ -7,8 +7,7 @@ use Rattle.object_table.specs.WellFormed.{IsWellFormed}
 use Rattle.object_table.proofs.Pairs.{pair_cmp_total, pair_cmp-IsAntisymmetric}
 use Rattle.stack_text.specs.Listing.{written, lit, document_of, content_of}
 use Rattle.stack_text.proofs.Keepers.{HasLayers, text_listed, hilite_listed}
-use Rattle.stack_text.proofs.Relisted.{backgrounds-listed, cards-listed, same_objects, same_parts}
-use Rattle.stack_text.proofs.Stacks.{document_listed}
+use Rattle.stack_text.proofs.Stacks.{document_listed, backgrounds-listed, cards-listed, same_objects, same_parts}
 use Rattle.stack_text.proofs.Contents.{content-is}
 
 -- where a value is there just where one is kept, it is that one

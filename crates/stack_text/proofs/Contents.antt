@@ -1,8 +1,7 @@
 -- What a document lists is a well-formed stack.
 use Rattle.std.proofs.Common.{◌≡◌, ◌↔◌, ◌++◌, inl, inr, ℕ, ◌<◌, ◌≤◌, Bool, true, false, true≢false, cond, List, [], ◌∷◌, length, map, Option, Some, None, IsSome, IfSome, IsTrue, unwrap_or, option_map, option_and_then, refl, sym, ap, ap₂, subst, ◌∙◌, arith, nat_eq, ◌==◌, is_some}
-use Rattle.std.specs.Ordering.{nat_cmp}
 use Rattle.std.specs.Cmp.{nat_cmp_total}
-use Rattle.std.specs.FinMap.{get, find, len, remove, from_entries, get-from_entries}
+use Rattle.std.specs.FinMap.{get, len, remove, from_entries, get-from_entries}
 use Rattle.std.specs.List.{AllByRecursion, IsDistinct, flat_map}
 use Rattle.std.proofs.lemmas.Bool.{or_cases}
 use Rattle.std.proofs.lemmas.Bool.Decides.{nat_tests}
@@ -18,7 +17,7 @@ use Rattle.object_table.specs.declared.object.Kind.{Kind}
 use Rattle.object_table.specs.declared.object.Kind.TheVariants.{Stack, Background, Card, CardButton, BackgroundButton, CardField, BackgroundField}
 use Rattle.object_table.proofs.Pairs.{pair_cmp_total}
 use Rattle.stack_text.specs.declared.sheets.PartContent.{PartContent}
-use Rattle.stack_text.specs.declared.sheets.PartContent.TheVariants.{Nothing, Written, Lit}
+use Rattle.stack_text.specs.declared.sheets.PartContent.TheVariants.{Written}
 use Rattle.stack_text.specs.declared.sheets.Part.{Part}
 use Rattle.stack_text.specs.declared.sheets.Keeping.{Keeping}
 use Rattle.stack_text.specs.Document.{Sheet, Document, contains_id, part_ids, sheet_ids, parts_of, background_or, backgrounds_of, ids_in}
@@ -26,12 +25,11 @@ use Rattle.stack_text.specs.Listing.{object_entries, parts_entry, contents_on, w
 use Rattle.stack_text.proofs.Elements.{each_so, each_append, each_parts, each_map, each_mapped, each_join, each_at}
 use Rattle.stack_text.proofs.Entries.{keys, len_without_first, found_each, is_some-found}
 use Rattle.stack_text.proofs.Forms.{Pairs}
-use Rattle.stack_text.proofs.Members.{IsNamed, Suits, Keeps}
-use Rattle.stack_text.proofs.Listable.{IsBackgroundSheet, IsDocument, parts_on}
+use Rattle.stack_text.proofs.Listable.{IsBackgroundSheet, IsDocument, parts_on, IsNamed, Suits, Keeps}
 use Rattle.stack_text.proofs.DocumentIds.{keys-objects, keys-parts, objects_once, backgrounds_once, cards_once, background_parts_once, card_parts_once, rows_once, each_once}
 use Rattle.stack_text.proofs.Keepers.{HasLayers, text_listed, hilite_listed}
 use Rattle.stack_text.proofs.Listed.{objects_known, parts_known, listed_again}
-use Rattle.stack_text.proofs.Rows.{row_of, rows_of, looked_up, content-found}
+use Rattle.stack_text.proofs.Rows.{row_of, rows_of, looked_up, content-found, looked_up_each}
 use Rattle.stack_text.proofs.Sorts.{ids_with, passes-found, ids-stack, ids-background, ids-card, ids-layer, ids-card_part, ids-background_part, OnSheet, each_object}
 use Rattle.stack_text.proofs.Live.{card_background}
 
@@ -63,8 +61,7 @@ module _ (s : Content) where
 
 -- what is kept is a text, where it is one
 abbrev HasText : PartContent → Type 0
-HasText (Written t) = IsText t
-HasText x = Unit {0}
+HasText x = IfSome (written x) IsText
 
 suits_text : (k : Kind) (x : PartContent) → Suits k x → HasText x
 suits_text (CardField v l) (Written t) h = h
@@ -78,9 +75,8 @@ suits_text k x h = tt
 
 keepings-texts : (ps : List Part) (ks : List Keeping) → Pairs Keeps ps ks → AllByRecursion (λ (k : Keeping). HasText k.content) ks
 keepings-texts [] [] h = tt
-keepings-texts [] (k ∷ ks) h = absurd h
-keepings-texts (p ∷ ps) [] h = absurd h
 keepings-texts (p ∷ ps) (k ∷ ks) h = (suits_text p.object.kind k.content h.0.1, keepings-texts ps ks h.1)
+keepings-texts ps ks h = absurd h
 
 abbrev HasTexts : List (ℕ × PartContent) → Type 0
 HasTexts row = AllByRecursion (λ (e : ℕ × PartContent). HasText e.1) row
@@ -90,16 +86,6 @@ sheet-texts s h k = each_append _ (map (λ (p : Part). (p.id, p.content)) s.part
 
 shared-texts : (bs : List Sheet) → AllByRecursion IsBackgroundSheet bs → HasTexts (flat_map contents_on bs)
 shared-texts bs h = each_join _ contents_on bs (each_so (λ b k. sheet-texts b (each_so (λ p q. suits_text p.object.kind p.content q.1.1) b.parts k.parts) (subst (λ (ks : List Keeping). AllByRecursion (λ (k : Keeping). HasText k.content) ks) (sym k.none) tt)) bs h)
-
-of_some : (o : Option PartContent) → IfSome o HasText → IfSome (option_and_then written o) IsText
-of_some None h = tt
-of_some (Some (Written t)) h = h
-of_some (Some (Lit b)) h = tt
-of_some (Some Nothing) h = tt
-
-of_row : (part : ℕ) (o : Option (List (ℕ × PartContent))) → IfSome o HasTexts → IfSome (option_and_then (λ (row : List (ℕ × PartContent)). option_and_then written (find nat_cmp part row)) o) IsText
-of_row part None h = tt
-of_row part (Some row) h = of_some (find nat_cmp part row) (found_each HasText part row h)
 
 -- where one is kept, a value is there
 kept_or_not : {X : Type 0} (b : Bool) (x : X) (o : Option X) → o ≡ cond b (Some x) None → IsSome o ↔ IsTrue b
@@ -225,7 +211,7 @@ module _ (d : Document) (is : IsDocument d) where
   )
 
   texts_are : (field card : ℕ) → IfSome (text_at (content_of d) field card) IsText
-  texts_are field card = subst (λ o. IfSome o IsText) (sym (content-is written field card)) (of_row field (find nat_cmp card (rows_of d)) (found_each HasTexts card (rows_of d) rows-texts))
+  texts_are field card = subst (λ o. IfSome o IsText) (sym (content-is written field card)) (looked_up_each written IsText field card (rows_of d) rows-texts)
 
   -- the stack that the document lists is well formed
   pub content_listed : IsWellFormed (content_of d)

@@ -8,12 +8,10 @@ use Rattle.std.specs.Prelude.{find, option_map, unwrap_or}
 use Rattle.stack_text.specs.declared.sheets.Part.{Part}
 use Rattle.stack_text.specs.Document.{Sheet, Document, part_ids, sheet_ids, ids_on, ids_in, parts_of, background_or}
 use Rattle.stack_text.specs.Listing.{part_entry, object_entries, parts_entry, all_objects, all_parts, contents_on}
-use Rattle.stack_text.proofs.Counts.{times, times-append, times-heads, times_once, once_times}
-use Rattle.stack_text.proofs.Entries.{keys}
-use Rattle.stack_text.proofs.Listable.{IsDocument, parts_on, IsBackgroundSheet, IsCardSheet}
+use Rattle.stack_text.proofs.Entries.{keys, times, times-append, times-heads, times_once, once_times}
+use Rattle.stack_text.proofs.Listable.{IsDocument, parts_on, IsBackgroundSheet, IsCardSheet, Keeps}
 use Rattle.stack_text.proofs.Elements.{each_map, each_both}
 use Rattle.stack_text.proofs.Forms.{Pairs}
-use Rattle.stack_text.proofs.Members.{Keeps}
 use Rattle.stack_text.proofs.Rows.{row_of, rows_of}
 use Rattle.stack_text.specs.declared.sheets.PartContent.{PartContent}
 use Rattle.stack_text.specs.declared.sheets.Keeping.{Keeping}
@@ -83,9 +81,8 @@ keys-shared (b ∷ bs) h =
 
 ids-kept : (ps : List Part) (ks : List Keeping) → Pairs Keeps ps ks → keeping_ids ks ≡ part_ids ps
 ids-kept [] [] h = refl
-ids-kept [] (k ∷ ks) h = absurd h
-ids-kept (p ∷ ps) [] h = absurd h
 ids-kept (p ∷ ps) (k ∷ ks) h = ap₂ (λ (a : ℕ) (b : List ℕ). a ∷ b) h.0.0 (ids-kept ps ks h.1)
+ids-kept ps ks h = absurd h
 
 pub keys-card : (bs : List Sheet) (c : Sheet) → IsCardSheet bs c → keys (contents_on c) ≡ part_ids c.parts ++ part_ids (parts_of bs (background_or c.object.kind))
 keys-card bs c h = keys-contents c ∙ ap (λ (ids : List ℕ). part_ids c.parts ++ ids) (ids-kept (parts_of bs (background_or c.object.kind)) c.keepings h.keepings)

@@ -11,13 +11,12 @@ use Rattle.stack_text.specs.Document.{Sheet, Document, contains_id, sheet_ids, p
 use Rattle.stack_text.specs.Spelling.{Version, document_text}
 use Rattle.stack_text.specs.Reading.{document_at}
 use Rattle.stack_text.proofs.Forms.{Each, Pairs, adding}
-use Rattle.stack_text.proofs.Members.{IsCardPart, Keeps, SaysContent}
 use Rattle.stack_text.proofs.Parts.{IsSaidPart, IsNewPart}
 use Rattle.stack_text.proofs.Layers.{IsNewBackground, IsNewCard, SaysKeeping}
 use Rattle.stack_text.proofs.Whole.{IsRead, read-found, read-again}
 use Rattle.stack_text.proofs.Elements.{each_so, each_both, each_parts, each_at, each_map, each_joined}
 use Rattle.stack_text.proofs.Ids.{News, News-parts, News-joined, News-room, News-range, News-once, News-from, apart_from_none}
-use Rattle.stack_text.proofs.Listable.{IsBackgroundSheet, IsCardSheet, IsDocument, SaysParts, SaysKeepings, Says}
+use Rattle.stack_text.proofs.Listable.{IsBackgroundSheet, IsCardSheet, IsDocument, SaysParts, SaysKeepings, Says, IsCardPart, Keeps, SaysContent}
 
 -- ---- from what is read
 
@@ -37,15 +36,13 @@ backgrounds-news v next used (b ∷ bs) h =
 
 pairs_apart : (v : Version) (ps : List Part) (ks : List Keeping) → Pairs (SaysKeeping v) ps ks → Pairs Keeps ps ks × AllByRecursion (λ (k : Keeping). SaysContent v k.content) ks
 pairs_apart v [] [] h = (tt, tt)
-pairs_apart v [] (k ∷ ks) h = absurd h
-pairs_apart v (p ∷ ps) [] h = absurd h
 pairs_apart v (p ∷ ps) (k ∷ ks) h = let rest = pairs_apart v ps ks h.1 in ((h.0.0, rest.0), (h.0.1, rest.1))
+pairs_apart v ps ks h = absurd h
 
 pairs_joined : (v : Version) (ps : List Part) (ks : List Keeping) → Pairs Keeps ps ks → AllByRecursion (λ (k : Keeping). SaysContent v k.content) ks → Pairs (SaysKeeping v) ps ks
 pairs_joined v [] [] h s = tt
-pairs_joined v [] (k ∷ ks) h s = absurd h
-pairs_joined v (p ∷ ps) [] h s = absurd h
 pairs_joined v (p ∷ ps) (k ∷ ks) h s = ((h.0, s.0), pairs_joined v ps ks h.1 s.1)
+pairs_joined v ps ks h s = absurd h
 
 cards-news : (v : Version) (next : ℕ) (bs : List Sheet) (used : List ℕ) (cs : List Sheet) → Each (IsNewCard v next bs) ids_on used cs → News next used (flat_map ids_on cs) × (AllByRecursion (IsCardSheet bs) cs × AllByRecursion (SaysKeepings v) cs)
 cards-news v next bs used [] h = (tt, (tt, tt))

@@ -1,6 +1,7 @@
 -- A form of lines, read and spelled: what is read is spelled so, and what is spelled so is read.
 use Rattle.std.proofs.Common.{◌≡◌, ℕ, zero, suc, ◌+◌, Bool, true, false, List, [], ◌∷◌, ◌++◌, length, Result, Ok, Err, refl, sym, ap, subst, ◌∙◌}
 use Rattle.std.specs.List.{flat_map, AllByRecursion}
+use Rattle.std.proofs.lemmas.List.{append-nil}
 use Rattle.stack_text.specs.Reading.{Position, Reader, chain, ◌>>=◌, give, times, for_each, bad_line_if, too_many_if, bad_id_if}
 use Rattle.stack_text.specs.declared.fault.FileError.{FileError}
 
@@ -115,6 +116,10 @@ resaid {r = r} {P = P} {Q = Q} {l = l} {m = m} {i = i} {j = j} form to from = re
 pub said : {A : Type 0} {r : Reader A} {P Q : List ℕ → A → Type 0} {l : A → List (List ℕ)} {i : A → List ℕ} → Reads r P l i → ((used : List ℕ) (x : A) → P used x → Q used x) → ((used : List ℕ) (x : A) → Q used x → P used x) → Reads r Q l i
 said form to from = resaid form (λ used x h. (to used x h, refl, refl)) from
 
+-- a form whose value is part of another
+pub giving : {A B : Type 0} {r : Reader A} {P : List ℕ → A → Type 0} {l : A → List (List ℕ)} {i : A → List ℕ} → Reads r P l i → (f : A → B) (back : B → A) → ((x : A) → back (f x) ≡ x) → Reads (r >>= λ x. give (f x)) (λ used y. P used (back y) × (y ≡ f (back y))) (λ y. l (back y)) (λ y. i (back y))
+giving {r = r} {l = l} {i = i} form f back is = resaid (both r (λ x. give (f x)) form (λ x. gives (f x)) back (λ x used y h. ap back h ∙ is x)) (λ used y h. (h, append-nil (l (back y)), append-nil (i (back y)))) (λ used y h. h)
+
 -- a test that did not fail
 pub bad_line_if-reads : (b : Bool) → Reads (bad_line_if b) (λ used y. b ≡ false) (λ y. []) (λ y. [])
 bad_line_if-reads true = record { found = λ s t y e. absurd cc; again = λ n used rest y h. absurd cc }
@@ -176,9 +181,8 @@ module _ {A : Type 0} (r : Reader A) {P : List ℕ → A → Type 0} {l : A → 
 -- members and values, one of each in a row
 abbrev pub Pairs : {X A : Type 0} → (X → A → Type 0) → List X → List A → Type 0
 Pairs P [] [] = Unit {0}
-Pairs P [] (y ∷ ys) = ⊥
-Pairs P (x ∷ xs) [] = ⊥
 Pairs P (x ∷ xs) (y ∷ ys) = P x y × Pairs P xs ys
+Pairs P xs ys = ⊥
 
 module _ {X A : Type 0} (r : X → Reader A) (P : X → A → Type 0) (l : A → List (List ℕ)) where
   abbrev EachReads : List X → Type 0

@@ -1,7 +1,7 @@
 -- What a reader does with the first lines of its bytes: it reads them so whatever stands behind, and fewer are truncated.
-use Rattle.std.proofs.Common.{◌≡◌, ℕ, zero, suc, ◌+◌, ◌-◌, ◌<◌, ◌≤◌, ◌⊎◌, inl, inr, Bool, true, false, eqb, List, [], ◌∷◌, ◌++◌, Result, Ok, Err, Option, Some, None, refl, sym, ap, subst, ◌∙◌, arith, append_assoc, add_assoc, add-zero, zero-add, one-add, ◌||◌}
+use Rattle.std.proofs.Common.{◌≡◌, ℕ, zero, suc, ◌+◌, ◌-◌, ◌<◌, ◌≤◌, ◌⊎◌, inl, inr, Bool, true, false, eqb, List, [], ◌∷◌, ◌++◌, Result, Ok, Err, Option, Some, None, refl, sym, ap, subst, ◌∙◌, arith, append_assoc, add_assoc, add-zero, zero-add, one-add}
 use Rattle.std.specs.Prelude.{position, ◌==◌}
-use Rattle.std.proofs.lemmas.Bool.{cases_lt}
+use Rattle.std.proofs.lemmas.Bool.{cases_lt, or_parts}
 use Rattle.stack_text.specs.Reading.{Position, Reader, chain, ◌>>=◌, give, times, for_each, or_bad_line, bad_line_if, too_many_if, bad_id_if, cut_at, next_line}
 use Rattle.stack_text.specs.Laws.{first_lines, MayBeAt}
 use Rattle.stack_text.specs.declared.fault.FileError.{FileError}
@@ -204,11 +204,7 @@ by_used-local r each = record { from = λ s. record { taken = ((each s.used).fro
 
 one_line : (line : List ℕ) → has 10 line ≡ false → (k : ℕ) (more : List ℕ) → first_lines (suc k) (line ++ 10 ∷ more) ≡ line ++ 10 ∷ first_lines k more
 one_line [] plain k more = refl
-one_line (x ∷ line) plain k more = by (eqb x 10) refl plain (λ e. one_line line e k more)
-  where
-    by : (b : Bool) → eqb x 10 ≡ b → (b || has 10 line) ≡ false → (has 10 line ≡ false → first_lines (suc k) (line ++ 10 ∷ more) ≡ line ++ 10 ∷ first_lines k more) → first_lines (suc k) (x ∷ line ++ 10 ∷ more) ≡ x ∷ line ++ 10 ∷ first_lines k more
-    by true is e others = absurd cc
-    by false is e others = rw is (ap (λ (b : List ℕ). x ∷ b) (others e))
+one_line (x ∷ line) plain k more = let p = or_parts (eqb x 10) (has 10 line) plain in rw p.0 (ap (λ (b : List ℕ). x ∷ b) (one_line line p.1 k more))
 
 no_line : (s : Position) (k : ℕ) (bytes : List ℕ) → k < 1 → next_line (over s (first_lines k bytes)) ≡ Err Truncated
 unfolding next_line

@@ -1,6 +1,6 @@
 -- Backgrounds and cards, read and spelled.
 use Rattle.std.proofs.Common.{◌≡◌, ℕ, ◌<◌, ◌≤◌, ◌^◌, Bool, true, false, true≢false, List, [], ◌∷◌, ◌++◌, length, refl, sym, ap, ap₂, subst}
-use Rattle.std.specs.Prelude.{◌==◌, codes, not, IsTrue, flat_map}
+use Rattle.std.specs.Prelude.{◌==◌, codes, not, IsTrue}
 use Rattle.std.specs.List.{AllByRecursion}
 use Rattle.std.proofs.lemmas.Bool.{eqb-true, not-false, eq-eqb, not_from_true, or_left, or_right}
 use Rattle.std.proofs.lemmas.List.{append-nil}
@@ -15,27 +15,26 @@ use Rattle.stack_text.specs.declared.sheets.Keeping.{Keeping}
 use Rattle.ht_values.specs.Delimited.{delimited}
 use Rattle.stack_text.specs.Words.{number_at, numbered, flagged, block}
 use Rattle.stack_text.specs.Document.{Sheet, contains_id, sheet_ids, part_ids, ids_on, parts_of, background_or}
-use Rattle.stack_text.specs.Spelling.{Version, first, second, text_or_none, lit_or_not, content_lines, keeping_lines, cant_delete_of, layer_lines, parts_lines, background_lines, card_lines}
-use Rattle.stack_text.specs.Reading.{for_each, bad_id_if, name_at, flag_at, flag_after, number_after, line_after, pair_at, count_at, new_id, script_at, text_of_pieces, layer_at, background_header_at, background_at, background_part_at, own_text_at, own_hilite_at, keeping_by, keeping_at, card_header_at, card_at, card_part_at, parts_at}
-use Rattle.stack_text.proofs.Forms.{Reads, Each, Pairs, both, after, gives, said, resaid, bad_id_if-reads, for_each-reads}
+use Rattle.stack_text.specs.Spelling.{Version, first, second, text_or_none, lit_or_not, content_lines, keeping_lines, cant_delete_of, layer_lines, background_lines, card_lines}
+use Rattle.stack_text.specs.Reading.{bad_id_if, name_at, flag_at, flag_after, number_after, line_after, pair_at, count_at, new_id, layer_at, background_header_at, background_at, background_part_at, own_text_at, own_hilite_at, keeping_by, keeping_at, card_header_at, card_at, card_part_at, parts_at}
+use Rattle.stack_text.proofs.Forms.{Reads, Each, Pairs, both, after, giving, gives, said, resaid, bad_id_if-reads, for_each-reads}
 use Rattle.stack_text.proofs.Keyed.{keyed}
 use Rattle.stack_text.proofs.Flags.{number_pairs, counted_fields, lit_buttons}
 use Rattle.stack_text.proofs.Blocks.{text_of_pieces-reads, few_pieces}
 use Rattle.stack_text.proofs.Elements.{each_so, each_part_of}
-use Rattle.stack_text.proofs.Members.{IsNamed, Suits, IsCardPart, Keeps, SaysContent}
 use Rattle.stack_text.proofs.Productions.{name_at-reads, flag_after-reads, number_after-reads, IsNew, new_id-reads}
 use Rattle.stack_text.proofs.Parts.{script-reads, IsSaidPart, IsNewPart, background_part-reads, card_part-reads, parts-reads}
+use Rattle.stack_text.proofs.Listable.{IsNamed, Suits, IsCardPart, Keeps, SaysContent}
 
 layer-reads : Reads layer_at (λ used x. IsText x.0 × IsText x.2) (λ x. layer_lines x.0 x.2 x.1) (λ x. [])
 unfolding layer_at
 layer-reads =
-    resaid (both name_at _ name_at-reads
+    said (both name_at _ name_at-reads
     (λ name. both (flag_after (codes "cantDelete ")) _ (flag_after-reads (codes "cantDelete ") refl)
-    (λ cant. both script_at _ script-reads (λ script. gives (name, cant, script))
-    (λ y. y.2) (λ script used y h. ap (λ (z : List ℕ × Bool × List ℕ). z.2) h))
+    (λ cant. giving script-reads (λ script. (name, cant, script)) (λ y. y.2) (λ script. refl))
     (λ y. y.1) (λ cant used y h. ap (λ (z : List ℕ × Bool × List ℕ). z.1) h.1))
     (λ y. y.0) (λ name used y h. ap (λ (z : List ℕ × Bool × List ℕ). z.0) h.1.1))
-    (λ used y h. ((h.0, h.1.1.0), append-nil (layer_lines y.0 y.2 y.1), refl))
+    (λ used y h. (h.0, h.1.1.0))
     (λ used y h. (h.0, (tt, (h.1, refl))))
 
 background_header-reads : (next : ℕ) → Reads (background_header_at next) (λ used id. (id < 10 ^ 7) × IsNew next used id) (λ id. numbered (codes "background") id ∷ []) (λ id. id ∷ [])
@@ -71,17 +70,12 @@ background_is y is none = by y.object.kind y.keepings is none
 pub background-reads : (v : Version) (next : ℕ) → Reads (background_at v next) (IsNewBackground v next) (background_lines v) ids_on
 unfolding background_at
 background-reads v next =
-    resaid (both (background_header_at next) _ (background_header-reads next)
+    said (both (background_header_at next) _ (background_header-reads next)
     (λ id. both layer_at _ layer-reads
-    (λ layer. both (parts_at next (background_part_at v)) _ (parts-reads v next (background_part_at v) (IsSaidPart v) (λ p h. or_right (is_card_part p.object.kind) (is_background_part p.object.kind) h.0.0) (background_part-reads v)) (λ parts. gives (background id layer parts))
-    (λ y. y.parts) (λ parts used y h. ap (λ (z : Sheet). z.parts) h))
+    (λ layer. giving (parts-reads v next (background_part_at v) (IsSaidPart v) (λ p h. or_right (is_card_part p.object.kind) (is_background_part p.object.kind) h.0.0) (background_part-reads v)) (background id layer) (λ y. y.parts) (λ parts. refl))
     layer_of (λ layer used y h. ap layer_of h.1))
     (λ y. y.id) (λ id used y h. ap (λ (z : Sheet). z.id) h.1.1))
-    (λ used y h. (
-      record { small = h.0.0; new = h.0.1; is = subst (λ (z : Sheet). IsTrue (is_background z.object.kind)) (sym h.1.1.1) refl; named = h.1.0; few = h.1.1.0.0; parts = h.1.1.0.1; none = ap (λ (z : Sheet). z.keepings) h.1.1.1 },
-      ap (λ (ls : List (List ℕ)). numbered (codes "background") y.id ∷ layer_lines y.object.name y.object.script (cant_delete_of y.object.kind) ++ ls) (append-nil (parts_lines v y.parts)),
-      ap (λ (ids : List ℕ). y.id ∷ ids) (append-nil (part_ids y.parts)),
-    ))
+    (λ used y h. record { small = h.0.0; new = h.0.1; is = subst (λ (z : Sheet). IsTrue (is_background z.object.kind)) (sym h.1.1.1) refl; named = h.1.0; few = h.1.1.0.0; parts = h.1.1.0.1; none = ap (λ (z : Sheet). z.keepings) h.1.1.1 })
     (λ used y h. ((h.small, h.new), (h.named, ((h.few, h.parts), background_is y h.is h.none))))
 
 -- ---- what a card keeps
@@ -92,11 +86,11 @@ own_text due t = record { part = due; content = Written t }
 own_text-reads : (due : ℕ) → due < 10 ^ 7 → Reads (own_text_at due) (λ used k. IsText (text_or_none k.content) × (k ≡ own_text due (text_or_none k.content))) (λ k. block (numbered (codes "text") due) (text_or_none k.content)) (λ k. [])
 unfolding own_text_at
 own_text-reads due small =
-    resaid (both (line_after (codes "text ") (pair_at number_at count_at)) _ (keyed (codes "text ") (pair_at number_at count_at) counted_fields refl)
+    said (both (line_after (codes "text ") (pair_at number_at count_at)) _ (keyed (codes "text ") (pair_at number_at count_at) counted_fields refl)
     (λ head. after (bad_id_if (not (head.0 == due))) _ (bad_id_if-reads (not (head.0 == due)))
-    (both (text_of_pieces head.1) _ (text_of_pieces-reads head.1) (λ t. gives (own_text due t)) (λ k. text_or_none k.content) (λ t used k h. ap (λ (z : Keeping). text_or_none z.content) h)))
+    (giving (text_of_pieces-reads head.1) (own_text due) (λ k. text_or_none k.content) (λ t. refl)))
     (λ k. (due, length (delimited 13 (text_or_none k.content)))) (λ head used k h. ap₂ (λ (a b : ℕ). (a, b)) (sym (eqb-true _ _ (not-false _ h.0))) h.1.0.1))
-    (λ used k h. ((h.1.1.0.0, h.1.1.1), append-nil (block (numbered (codes "text") due) (text_or_none k.content)), refl))
+    (λ used k h. (h.1.1.0.0, h.1.1.1))
     (λ used k h. ((small, few_pieces (text_or_none k.content) h.0), (not_from_true _ (eq-eqb due due refl), ((h.0, refl), h.1))))
 
 abbrev own_hilite : ℕ → Bool → Keeping
@@ -201,15 +195,13 @@ card-reads v next backgrounds kept =
     resaid (both (card_header_at next backgrounds) _ (card_header-reads next backgrounds)
     (λ head. both layer_at _ layer-reads
     (λ layer. both (parts_at next card_part_at) _ (parts-reads v next card_part_at IsCardPart (λ p h. or_left (is_card_part p.object.kind) (is_background_part p.object.kind) h.0) (card_part-reads v))
-    (λ parts. both (for_each (parts_of backgrounds head.1) (keeping_at v)) _ (for_each-reads (keeping_at v) (SaysKeeping v) (keeping_lines v) (parts_of backgrounds head.1) (each_so (λ p k. keeping_by-reads v p.id p.object.kind k.0 k.1) (parts_of backgrounds head.1) (each_part_of IsKeptFor backgrounds head.1 kept)))
-    (λ keepings. gives (card head layer parts keepings))
-    (λ y. y.keepings) (λ keepings used y h. ap (λ (z : Sheet). z.keepings) h))
+    (λ parts. giving (for_each-reads (keeping_at v) (SaysKeeping v) (keeping_lines v) (parts_of backgrounds head.1) (each_so (λ p k. keeping_by-reads v p.id p.object.kind k.0 k.1) (parts_of backgrounds head.1) (each_part_of IsKeptFor backgrounds head.1 kept))) (card head layer parts) (λ y. y.keepings) (λ keepings. refl))
     (λ y. y.parts) (λ parts used y h. ap (λ (z : Sheet). z.parts) h.1))
     layer_of (λ layer used y h. ap layer_of h.1.1))
     (λ y. (y.id, background_or y.object.kind)) (λ head used y h. ap (λ (z : Sheet). let pair : ℕ × ℕ = (z.id, background_or z.object.kind) in pair) h.1.1.1))
     (λ used y h. (
       record { small = h.0.0.0; small_background = h.0.0.1; new = h.0.1.0; is = subst (λ (z : Sheet). IsTrue (is_card z.object.kind)) (sym h.1.1.1.1) refl; on = h.0.1.1; named = h.1.0; few = h.1.1.0.0; parts = h.1.1.0.1; keepings = h.1.1.1.0 },
-      ap (λ (ls : List (List ℕ)). numbered (numbered (codes "card") y.id) (background_or y.object.kind) ∷ layer_lines y.object.name y.object.script (cant_delete_of y.object.kind) ++ (parts_lines v y.parts ++ ls)) (append-nil (flat_map (keeping_lines v) y.keepings)),
+      refl,
       ap (λ (ids : List ℕ). y.id ∷ ids) (append-nil (part_ids y.parts)),
     ))
     (λ used y h. (((h.small, h.small_background), (h.new, h.on)), (h.named, ((h.few, h.parts), (h.keepings, card_is y h.is)))))

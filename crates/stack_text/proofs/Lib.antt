@@ -1,7 +1,6 @@
 pub mod Again
 pub mod Blocks
 pub mod Contents
-pub mod Counts
 pub mod DocumentIds
 pub mod DocumentTexts
 pub mod Elements
@@ -14,7 +13,6 @@ pub mod LocalForms
 pub mod Ids
 pub mod Keepers
 pub mod Keyed
-pub mod Members
 pub mod Listed
 pub mod Live
 pub mod Numbers
@@ -23,7 +21,6 @@ pub mod Productions
 pub mod Laws
 pub mod Layers
 pub mod Listable
-pub mod Relisted
 pub mod Rows
 pub mod Sorts
 pub mod Stacks

@@ -1,15 +1,55 @@
--- When a document lists a stack, and when a version can say it.
-use Rattle.std.proofs.Common.{◌≡◌, ℕ, ◌<◌, ◌≤◌, List, [], length, nat_eq}
-use Rattle.std.specs.Prelude.{IsTrue}
+-- When a document lists a stack, and what each version can say of it.
+use Rattle.std.proofs.Common.{◌≡◌, false, ℕ, ◌<◌, ◌≤◌, List, [], length, nat_eq}
+use Rattle.std.specs.Prelude.{IsTrue, IfSome}
 use Rattle.std.specs.List.{AllByRecursion, IsDistinct, flat_map}
-use Rattle.object_table.specs.Objects.{is_background, is_card}
-use Rattle.object_table.specs.declared.object.Kind.TheVariants.{Stack}
+use Rattle.ht_values.specs.Text.{IsText}
+use Rattle.object_table.specs.Objects.{is_background_part, is_card_part, is_background, is_card}
+use Rattle.object_table.specs.declared.object.Object.{Object}
+use Rattle.object_table.specs.declared.object.Kind.{Kind}
+use Rattle.object_table.specs.declared.object.Kind.TheVariants.{CardButton, BackgroundButton, CardField, BackgroundField, Stack}
+use Rattle.stack_text.specs.declared.sheets.PartContent.{PartContent}
+use Rattle.stack_text.specs.declared.sheets.PartContent.TheVariants.{Nothing, Written, Lit}
 use Rattle.stack_text.specs.declared.sheets.Part.{Part}
 use Rattle.stack_text.specs.declared.sheets.Keeping.{Keeping}
+use Rattle.stack_text.specs.Spelling.{Version, first, second}
+use Rattle.stack_text.specs.Laws.{SharesHilite}
+use Rattle.stack_text.specs.Listing.{lit}
 use Rattle.stack_text.specs.Document.{Sheet, Document, contains_id, sheet_ids, part_ids, parts_of, background_or, backgrounds_of, ids_in}
-use Rattle.stack_text.specs.Spelling.{Version}
 use Rattle.stack_text.proofs.Forms.{Pairs}
-use Rattle.stack_text.proofs.Members.{IsNamed, IsBackgroundPart, IsCardPart, Keeps, SaysKind, SaysContent}
+
+-- a name and a script that are texts
+abbrev pub IsNamed : Object → Type 0
+IsNamed o = IsText o.name × IsText o.script
+
+-- what may be kept beside a part of a kind
+abbrev pub Suits : Kind → PartContent → Type 0
+Suits (BackgroundButton v s) (Lit b) = Unit {0}
+Suits (CardField v l) (Written t) = IsText t
+Suits (BackgroundField v l s) (Written t) = IsText t
+Suits (CardButton v h) Nothing = Unit {0}
+Suits k x = ⊥
+
+abbrev pub IsBackgroundPart : Part → Type 0
+IsBackgroundPart p = IsTrue (is_background_part p.object.kind) × (IsNamed p.object × Suits p.object.kind p.content)
+
+abbrev pub IsCardPart : Part → Type 0
+IsCardPart p = IsTrue (is_card_part p.object.kind) × (IsNamed p.object × Suits p.object.kind p.content)
+
+-- what a card keeps for a part of its background
+abbrev pub Keeps : Part → Keeping → Type 0
+Keeps p k = (k.part ≡ p.id) × Suits p.object.kind k.content
+
+-- what a version can say of a kind, and of what a card keeps
+abbrev pub SaysKind : Version → Kind → Type 0
+SaysKind first kind = SharesHilite kind
+SaysKind second kind = Unit {0}
+
+abbrev pub Unlit : PartContent → Type 0
+Unlit x = IfSome (lit x) (λ b. b ≡ false)
+
+abbrev pub SaysContent : Version → PartContent → Type 0
+SaysContent first content = Unlit content
+SaysContent second content = Unit {0}
 
 pub record IsBackgroundSheet (b : Sheet) : Type 0 where
   pub is : IsTrue (is_background b.object.kind)

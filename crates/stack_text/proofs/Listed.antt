@@ -22,8 +22,7 @@ use Rattle.stack_text.specs.Listing.{content_by, content_at, part_of, keeping_of
 use Rattle.stack_text.proofs.Elements.{each_so, each_both, each_parts, each_joined, each_mapped, each_part_of}
 use Rattle.stack_text.proofs.Entries.{found}
 use Rattle.stack_text.proofs.Forms.{Pairs}
-use Rattle.stack_text.proofs.Members.{Suits, Keeps}
-use Rattle.stack_text.proofs.Listable.{IsBackgroundSheet, IsCardSheet, IsDocument}
+use Rattle.stack_text.proofs.Listable.{IsBackgroundSheet, IsCardSheet, IsDocument, Suits, Keeps}
 use Rattle.stack_text.proofs.DocumentIds.{keys-objects, keys-parts, objects_once, layers_once, rows_once, each_once}
 use Rattle.stack_text.proofs.Rows.{row_of, rows_of, content-found}
 

@@ -1,7 +1,6 @@
 -- Parts and what cards keep for them, read and spelled.
-use Rattle.std.proofs.Common.{◌≡◌, ℕ, ◌<◌, ◌^◌, Bool, true, false, List, [], ◌∷◌, ◌++◌, length, refl, sym, ap, subst, ◌∙◌, arith, ap₂, true≢false, lit<, ◌≤◌}
+use Rattle.std.proofs.Common.{◌≡◌, ℕ, ◌<◌, ◌^◌, Bool, true, false, List, [], ◌∷◌, length, refl, sym, ap, subst, ◌∙◌, arith, ap₂, true≢false, lit<, ◌≤◌}
 use Rattle.std.specs.Prelude.{codes, IsTrue}
-use Rattle.std.proofs.lemmas.List.{append-nil}
 use Rattle.std.proofs.lemmas.List.Concat.{flat_map_single}
 use Rattle.ht_values.specs.Text.{IsText}
 use Rattle.object_table.specs.Objects.{is_background_part, is_card_part, is_part}
@@ -10,18 +9,18 @@ use Rattle.object_table.specs.declared.object.Kind.TheVariants.{Stack, Backgroun
 use Rattle.stack_text.specs.declared.sheets.PartContent.{PartContent}
 use Rattle.stack_text.specs.declared.sheets.PartContent.TheVariants.{Nothing, Written, Lit}
 use Rattle.stack_text.specs.declared.sheets.Part.{Part}
-use Rattle.stack_text.specs.Words.{flagged, block}
-use Rattle.stack_text.specs.Spelling.{Version, first, second, name_line, in_second, script_lines, lit_or_not, text_or_none, part_lines, parts_lines}
+use Rattle.stack_text.specs.Words.{flagged}
+use Rattle.stack_text.specs.Spelling.{Version, first, second, in_second, script_lines, lit_or_not, text_or_none, part_lines, parts_lines}
 use Rattle.stack_text.specs.Document.{part_ids}
-use Rattle.stack_text.specs.Reading.{Reader, times, name_at, flag_after, count_after, line_after, new_id, in_second_or, script_at, block_after, background_button_at, background_field_at, background_part_at, card_button_at, card_field_at, card_part_at, part_header, part_at, parts_at}
+use Rattle.stack_text.specs.Reading.{Reader, times, name_at, flag_after, count_after, line_after, new_id, in_second_or, script_at, background_button_at, background_field_at, background_part_at, card_button_at, card_field_at, card_part_at, part_header, part_at, parts_at}
 use Rattle.ht_values.specs.declared.word.PartKind.{PartKind}
 use Rattle.ht_values.specs.declared.word.PartKind.TheVariants.{Button, Field}
 use Rattle.stack_text.proofs.Keyed.{keyed}
 use Rattle.stack_text.proofs.Flags.{part_word, part_headers}
-use Rattle.stack_text.proofs.Forms.{Reads, Each, both, after, gives, said, resaid, times-reads}
+use Rattle.stack_text.proofs.Forms.{Reads, Each, both, after, giving, gives, said, resaid, times-reads}
 use Rattle.stack_text.proofs.Blocks.{block-reads}
-use Rattle.stack_text.proofs.Members.{IsNamed, Suits, IsBackgroundPart, IsCardPart, SaysKind}
 use Rattle.stack_text.proofs.Productions.{name_at-reads, flag_after-reads, count_after-reads, IsNew, new_id-reads}
+use Rattle.stack_text.proofs.Listable.{IsNamed, Suits, IsBackgroundPart, IsCardPart, SaysKind}
 
 pub script-reads : Reads script_at (λ used t. IsText t) script_lines (λ t. [])
 unfolding script_at
@@ -73,16 +72,14 @@ background_button-reads v id =
     (λ name. both (flag_after (codes "visible ")) _ (flag_after-reads (codes "visible ") refl)
     (λ visible. both (in_second_or v true (flag_after (codes "sharedHilite "))) _ (in_second-reads v (codes "sharedHilite ") (codes "sharedHilite") (flag_after-reads (codes "sharedHilite ") refl))
     (λ shared. both (flag_after (codes "hilite ")) _ (flag_after-reads (codes "hilite ") refl)
-    (λ lit. both script_at _ script-reads (λ script. gives (background_button id name visible shared lit script))
-    (λ p. p.object.script) (λ script used p h. ap (λ (z : Part). z.object.script) h))
+    (λ lit. giving script-reads (λ script. background_button id name visible shared lit script) (λ p. p.object.script) (λ script. refl))
     (λ p. lit_or_not p.content) (λ lit used p h. ap (λ (z : Part). lit_or_not z.content) h.1))
     (λ p. second_flag p.object.kind) (λ shared used p h. ap (λ (z : Part). second_flag z.object.kind) h.1.1))
     (λ p. visible_in p.object.kind) (λ visible used p h. ap (λ (z : Part). visible_in z.object.kind) h.1.1.1))
     (λ p. p.object.name) (λ name used p h. ap (λ (z : Part). z.object.name) h.1.1.1.1))
     (λ used p h. (
       ((h.0, h.1.1.1.1.0), (h.1.1.0, h.1.1.1.1.1)),
-      ap (λ (ls : List (List ℕ)). name_line p.object.name ∷ flagged (codes "visible") (visible_in p.object.kind) ∷ in_second v (flagged (codes "sharedHilite") (second_flag p.object.kind) ∷ []) ++ flagged (codes "hilite") (lit_or_not p.content) ∷ ls) (append-nil (script_lines p.object.script))
-          ∙ sym (ap (λ (z : Part). behind (part_lines v z)) h.1.1.1.1.1),
+      sym (ap (λ (z : Part). behind (part_lines v z)) h.1.1.1.1.1),
       refl,
     ))
     (λ used p h. (h.0.0, (tt, (h.1.0, (tt, (h.0.1, h.1.1))))))
@@ -101,8 +98,7 @@ background_field-reads v id =
     (λ visible. both (flag_after (codes "lockText ")) _ (flag_after-reads (codes "lockText ") refl)
     (λ locked. both (flag_after (codes "sharedText ")) _ (flag_after-reads (codes "sharedText ") refl)
     (λ shared. both script_at _ script-reads
-    (λ script. both (block_after (codes "shared ")) _ (block-reads (codes "shared ") refl) (λ text. gives (background_field id name visible locked shared script text))
-    (λ p. text_or_none p.content) (λ text used p h. ap (λ (z : Part). text_or_none z.content) h))
+    (λ script. giving (block-reads (codes "shared ") refl) (λ text. background_field id name visible locked shared script text) (λ p. text_or_none p.content) (λ text. refl))
     (λ p. p.object.script) (λ script used p h. ap (λ (z : Part). z.object.script) h.1))
     (λ p. third_flag p.object.kind) (λ shared used p h. ap (λ (z : Part). third_flag z.object.kind) h.1.1))
     (λ p. second_flag p.object.kind) (λ locked used p h. ap (λ (z : Part). second_flag z.object.kind) h.1.1.1))
@@ -110,8 +106,7 @@ background_field-reads v id =
     (λ p. p.object.name) (λ name used p h. ap (λ (z : Part). z.object.name) h.1.1.1.1.1))
     (λ used p h. (
       ((h.0, h.1.1.1.1.0), (h.1.1.1.1.1.0, h.1.1.1.1.1.1)),
-      ap (λ (ls : List (List ℕ)). name_line p.object.name ∷ flagged (codes "visible") (visible_in p.object.kind) ∷ flagged (codes "lockText") (second_flag p.object.kind) ∷ flagged (codes "sharedText") (third_flag p.object.kind) ∷ script_lines p.object.script ++ ls) (append-nil (block (codes "shared") (text_or_none p.content)))
-          ∙ sym (ap (λ (z : Part). behind (part_lines v z)) h.1.1.1.1.1.1),
+      sym (ap (λ (z : Part). behind (part_lines v z)) h.1.1.1.1.1.1),
       refl,
     ))
     (λ used p h. (h.0.0, (tt, (tt, (tt, (h.0.1, (h.1.0, h.1.1)))))))
@@ -128,15 +123,13 @@ card_button-reads v id =
     resaid (both name_at _ name_at-reads
     (λ name. both (flag_after (codes "visible ")) _ (flag_after-reads (codes "visible ") refl)
     (λ visible. both (flag_after (codes "hilite ")) _ (flag_after-reads (codes "hilite ") refl)
-    (λ lit. both script_at _ script-reads (λ script. gives (card_button id name visible lit script))
-    (λ p. p.object.script) (λ script used p h. ap (λ (z : Part). z.object.script) h))
+    (λ lit. giving script-reads (λ script. card_button id name visible lit script) (λ p. p.object.script) (λ script. refl))
     (λ p. second_flag p.object.kind) (λ lit used p h. ap (λ (z : Part). second_flag z.object.kind) h.1))
     (λ p. visible_in p.object.kind) (λ visible used p h. ap (λ (z : Part). visible_in z.object.kind) h.1.1))
     (λ p. p.object.name) (λ name used p h. ap (λ (z : Part). z.object.name) h.1.1.1))
     (λ used p h. (
       ((h.0, h.1.1.1.0), h.1.1.1.1),
-      ap (λ (ls : List (List ℕ)). name_line p.object.name ∷ flagged (codes "visible") (visible_in p.object.kind) ∷ flagged (codes "hilite") (second_flag p.object.kind) ∷ ls) (append-nil (script_lines p.object.script))
-          ∙ sym (ap (λ (z : Part). behind (part_lines v z)) h.1.1.1.1),
+      sym (ap (λ (z : Part). behind (part_lines v z)) h.1.1.1.1),
       refl,
     ))
     (λ used p h. (h.0.0, (tt, (tt, (h.0.1, h.1)))))
@@ -154,16 +147,14 @@ card_field-reads v id =
     (λ name. both (flag_after (codes "visible ")) _ (flag_after-reads (codes "visible ") refl)
     (λ visible. both (flag_after (codes "lockText ")) _ (flag_after-reads (codes "lockText ") refl)
     (λ locked. both script_at _ script-reads
-    (λ script. both (block_after (codes "text ")) _ (block-reads (codes "text ") refl) (λ text. gives (card_field id name visible locked script text))
-    (λ p. text_or_none p.content) (λ text used p h. ap (λ (z : Part). text_or_none z.content) h))
+    (λ script. giving (block-reads (codes "text ") refl) (λ text. card_field id name visible locked script text) (λ p. text_or_none p.content) (λ text. refl))
     (λ p. p.object.script) (λ script used p h. ap (λ (z : Part). z.object.script) h.1))
     (λ p. second_flag p.object.kind) (λ locked used p h. ap (λ (z : Part). second_flag z.object.kind) h.1.1))
     (λ p. visible_in p.object.kind) (λ visible used p h. ap (λ (z : Part). visible_in z.object.kind) h.1.1.1))
     (λ p. p.object.name) (λ name used p h. ap (λ (z : Part). z.object.name) h.1.1.1.1))
     (λ used p h. (
       ((h.0, h.1.1.1.0), (h.1.1.1.1.0, h.1.1.1.1.1)),
-      ap (λ (ls : List (List ℕ)). name_line p.object.name ∷ flagged (codes "visible") (visible_in p.object.kind) ∷ flagged (codes "lockText") (second_flag p.object.kind) ∷ script_lines p.object.script ++ ls) (append-nil (block (codes "text") (text_or_none p.content)))
-          ∙ sym (ap (λ (z : Part). behind (part_lines v z)) h.1.1.1.1.1),
+      sym (ap (λ (z : Part). behind (part_lines v z)) h.1.1.1.1.1),
       refl,
     ))
     (λ used p h. (h.0.0, (tt, (tt, (h.0.1, (h.1.0, h.1.1))))))

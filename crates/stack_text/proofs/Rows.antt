@@ -1,5 +1,5 @@
 -- What is kept, in rows: a row for each card and one for what is shared, and in each an entry for each part.
-use Rattle.std.proofs.Common.{◌≡◌, ◌++◌, inl, inr, ℕ, true, false, cond, List, [], ◌∷◌, map, Option, Some, None, option_and_then, refl, ap, ◌∙◌, arith, nat_eq}
+use Rattle.std.proofs.Common.{◌≡◌, ◌++◌, inl, inr, ℕ, true, false, cond, List, [], ◌∷◌, map, Option, Some, None, option_and_then, refl, ap, ◌∙◌, arith, nat_eq, IfSome}
 use Rattle.std.specs.Ordering.{nat_cmp, eq_by_cmp}
 use Rattle.std.specs.declared.cmp.Ordering.{Ordering}
 use Rattle.std.specs.FinMap.{find}
@@ -12,7 +12,7 @@ use Rattle.object_table.proofs.Slots.{tied_apart, tied_same}
 use Rattle.stack_text.specs.declared.sheets.PartContent.{PartContent}
 use Rattle.stack_text.specs.Document.{Sheet, Document}
 use Rattle.stack_text.specs.Listing.{contents_on, content_entries, all_contents}
-use Rattle.stack_text.proofs.Entries.{keys, missing}
+use Rattle.stack_text.proofs.Entries.{keys, missing, found_each}
 
 -- the first that is found
 abbrev either : {X : Type 0} → Option X → Option X → Option X
@@ -115,3 +115,15 @@ module _ {X : Type 0} (pick : PartContent → Option X) where
   -- what a document keeps is looked up by its rows
   pub content-found : (d : Document) (f c : ℕ) → IsDistinct nat_eq (keys (rows_of d)) → AllByRecursion (λ (r : Row). IsDistinct nat_eq (keys r.1)) (rows_of d) → find pair_cmp (f, c) (all_contents pick d) ≡ looked_up pick f c (rows_of d)
   content-found d f c once each = ap (λ (es : List (Pair × X)). find pair_cmp (f, c) (content_entries pick 0 (flat_map contents_on d.backgrounds) ++ es)) (card_rows d.cards) ∙ rows-found pick f c (rows_of d) once each
+
+  -- what holds of each value that is kept holds of the one that is looked up
+  pub looked_up_each : (Q : X → Type 0) (f c : ℕ) (rows : List Row) → AllByRecursion (λ (r : Row). AllByRecursion (λ (e : ℕ × PartContent). IfSome (pick e.1) Q) r.1) rows → IfSome (looked_up pick f c rows) Q
+  looked_up_each Q f c rows h = in_row (find nat_cmp c rows) (found_each (λ (row : List (ℕ × PartContent)). AllByRecursion (λ (e : ℕ × PartContent). IfSome (pick e.1) Q) row) c rows h)
+    where
+      picked : (o : Option PartContent) → IfSome o (λ x. IfSome (pick x) Q) → IfSome (option_and_then pick o) Q
+      picked None h = tt
+      picked (Some x) h = h
+
+      in_row : (o : Option (List (ℕ × PartContent))) → IfSome o (λ row. AllByRecursion (λ (e : ℕ × PartContent). IfSome (pick e.1) Q) row) → IfSome (option_and_then (λ (row : List (ℕ × PartContent)). option_and_then pick (find nat_cmp f row)) o) Q
+      in_row None h = tt
+      in_row (Some row) h = picked (find nat_cmp f row) (found_each (λ x. IfSome (pick x) Q) f row h)

@@ -1,9 +1,9 @@
 -- What a version can say, of a stack and of its document.
-use Rattle.std.proofs.Common.{◌≡◌, ◌⊎◌, inl, inr, ℕ, Bool, false, true≢false, List, [], map, Option, Some, None, IfSome, IsTrue, unwrap_or, option_and_then, refl, sym, subst, ◌∙◌}
-use Rattle.std.specs.Ordering.{nat_cmp}
-use Rattle.std.specs.FinMap.{get, find}
+use Rattle.std.proofs.Common.{◌≡◌, ◌⊎◌, inl, inr, ℕ, Bool, false, true≢false, List, [], map, Option, Some, None, IfSome, IsTrue, unwrap_or, refl, sym, subst, ◌∙◌}
+use Rattle.std.specs.FinMap.{get}
 use Rattle.std.specs.List.{AllByRecursion}
 use Rattle.std.proofs.lemmas.Bool.{cases_eq}
+use Rattle.std.proofs.lemmas.Option.{IfSome_then}
 use Rattle.object_table.specs.Content.{Content}
 use Rattle.object_table.specs.Objects.{is_stack, is_background, is_card, is_card_part, has_kind, parts_at}
 use Rattle.object_table.specs.PartContents.{hilite_at}
@@ -13,7 +13,7 @@ use Rattle.object_table.specs.declared.object.Kind.{Kind}
 use Rattle.object_table.specs.declared.object.Kind.TheVariants.{Stack, BackgroundButton}
 use Rattle.object_table.proofs.Slots.{tied_apart}
 use Rattle.stack_text.specs.declared.sheets.PartContent.{PartContent}
-use Rattle.stack_text.specs.declared.sheets.PartContent.TheVariants.{Nothing, Written, Lit}
+use Rattle.stack_text.specs.declared.sheets.PartContent.TheVariants.{Lit}
 use Rattle.stack_text.specs.declared.sheets.Part.{Part}
 use Rattle.stack_text.specs.declared.sheets.Keeping.{Keeping}
 use Rattle.stack_text.specs.Document.{Sheet, Document, background_or}
@@ -21,11 +21,9 @@ use Rattle.stack_text.specs.Spelling.{Version, first, second}
 use Rattle.stack_text.specs.Listing.{object_or, content_by, part_of, keeping_of, background_sheet, card_sheet, document_of, contents_on, lit, content_of}
 use Rattle.stack_text.specs.Laws.{SharesHilite, HasSharedHilites, IsSaidIn}
 use Rattle.stack_text.proofs.Elements.{each_so, each_both, each_append, each_map, each_true}
-use Rattle.stack_text.proofs.Entries.{found_each}
-use Rattle.stack_text.proofs.Members.{Suits, Unlit}
-use Rattle.stack_text.proofs.Listable.{IsCardSheet, IsDocument, SaysParts, SaysKeepings, Says}
+use Rattle.stack_text.proofs.Listable.{IsCardSheet, IsDocument, SaysParts, SaysKeepings, Says, Suits, Unlit}
 use Rattle.stack_text.proofs.Live.{cards_live, never_both, stack_or_card}
-use Rattle.stack_text.proofs.Rows.{row_of}
+use Rattle.stack_text.proofs.Rows.{row_of, looked_up_each}
 use Rattle.stack_text.proofs.Sorts.{OnSheet, each_object}
 use Rattle.stack_text.proofs.Contents.{at_each, content-is}
 
@@ -50,19 +48,8 @@ card-unlit bs c is says =
     (each_map _ (λ (p : Part). (p.id, p.content)) c.parts (each_so {Q = λ (p : Part). Unlit p.content} (λ p h. own_unlit p.object.kind p.content h.0 h.1.1) c.parts is.parts))
     (each_map _ (λ (x : Keeping). (x.part, x.content)) c.keepings says)
 
-lit_there : (o : Option PartContent) → IfSome o Unlit → IfSome (option_and_then lit o) (λ b. b ≡ false)
-lit_there None h = tt
-lit_there (Some (Lit b)) h = h
-lit_there (Some (Written t)) h = tt
-lit_there (Some Nothing) h = tt
-
-unlit_in : (button : ℕ) (o : Option (List (ℕ × PartContent))) → IfSome o AreUnlit → IfSome (option_and_then (λ (row : List (ℕ × PartContent)). option_and_then lit (find nat_cmp button row)) o) (λ b. b ≡ false)
-unlit_in button None h = tt
-unlit_in button (Some row) h = lit_there (find nat_cmp button row) (found_each Unlit button row h)
-
 either_way : (o : Option Bool) (A : Type 0) → IfSome o (λ b. b ≡ false) → IfSome o (λ b. A ⊎ (b ≡ false))
-either_way None A h = tt
-either_way (Some b) A h = inr h
+either_way o A h = IfSome_then o h (λ b e. inr e)
 
 anyway : (o : Option Bool) (A : Type 0) → A → IfSome o (λ b. A ⊎ (b ≡ false))
 anyway None A h = tt
@@ -77,7 +64,7 @@ module _ (d : Document) (is : IsDocument d) where
   unlit-said : Says first d → (button card : ℕ) → IfSome (hilite_at (content_of d) button card) (λ b. (card ≡ 0) ⊎ (b ≡ false))
   unlit-said says button card = elim (cases_eq card 0) [
     | inl k ↦ anyway (hilite_at (content_of d) button card) (card ≡ 0) k
-    | inr k ↦ either_way (hilite_at (content_of d) button card) (card ≡ 0) (subst (λ o. IfSome o (λ b. b ≡ false)) (sym (content-is d is lit button card)) (rw (tied_apart card 0 k) (unlit_in button (find nat_cmp card (map row_of d.cards)) (found_each AreUnlit card (map row_of d.cards) rows))))
+    | inr k ↦ either_way (hilite_at (content_of d) button card) (card ≡ 0) (subst (λ o. IfSome o (λ b. b ≡ false)) (sym (content-is d is lit button card)) (rw (tied_apart card 0 k) (looked_up_each lit (λ b. b ≡ false) button card (map row_of d.cards) rows)))
   ]
     where
       rows : AllByRecursion (λ (r : ℕ × List (ℕ × PartContent)). AreUnlit r.1) (map row_of d.cards)
@@ -100,8 +87,7 @@ is_unlit (BackgroundButton a b) t (Some x) h = h
 is_unlit k t o h = tt
 
 not_here : (o : Option Bool) (A : Type 0) → (A → ⊥) → IfSome o (λ b. A ⊎ (b ≡ false)) → IfSome o (λ b. b ≡ false)
-not_here None A no' h = tt
-not_here (Some b) A no' h = elim h [ inl a ↦ absurd (no' a) | inr e ↦ e ]
+not_here o A no' h = IfSome_then o h (λ b s. elim s [ inl a ↦ absurd (no' a) | inr e ↦ e ])
 
 module _ (s : Content) (is : IsWellFormed s) where
   parts-said : HasSharedHilites s → (id : ℕ) → SaysParts first (background_sheet s id)

@@ -3,7 +3,7 @@ use Rattle.std.proofs.Common.{◌≡◌, ℕ, ◌≤◌, Bool, true, false, eqb,
 use Rattle.std.specs.Prelude.{codes, not, flat_map}
 use Rattle.std.specs.List.{AllByRecursion, list_all}
 use Rattle.std.proofs.lemmas.Bool.{eqb-true, not-false}
-use Rattle.std.proofs.lemmas.List.{nil_from_length, append-nil}
+use Rattle.std.proofs.lemmas.List.{nil_from_length}
 use Rattle.object_table.specs.declared.object.Object.{Object}
 use Rattle.object_table.specs.declared.object.Kind.{Kind}
 use Rattle.object_table.specs.declared.object.Kind.TheVariants.{Stack}
@@ -12,15 +12,15 @@ use Rattle.stack_text.specs.Words.{numbered}
 use Rattle.stack_text.specs.Document.{Sheet, Document, contains_id, backgrounds_of, ids_on}
 use Rattle.ht_values.specs.Delimited.{ended_lines}
 use Rattle.stack_text.specs.Spelling.{Version, first, second, header, name_line, script_lines, background_lines, card_lines, sheets_lines, document_lines, document_text}
-use Rattle.stack_text.specs.Reading.{Position, Reader, chain, ◌>>=◌, give, times, bad_id_if, line_after, exactly, name_at, count_after, script_at, version_at, stack_at, background_at, backgrounds_at, card_at, cards_at, end_at, nothing_left, body_at, all_lines, document_at, value_of}
+use Rattle.stack_text.specs.Reading.{Position, Reader, chain, ◌>>=◌, give, times, bad_id_if, line_after, exactly, name_at, count_after, version_at, stack_at, background_at, backgrounds_at, card_at, cards_at, end_at, nothing_left, body_at, all_lines, document_at, value_of}
 use Rattle.stack_text.specs.declared.fault.FileError.{FileError}
-use Rattle.stack_text.proofs.Forms.{onto, onto-append, count_on, adding, position_at, Reads, Each, chain_ok, both, gives, said, resaid, bad_id_if-reads, times-reads}
+use Rattle.stack_text.proofs.Forms.{onto, onto-append, count_on, adding, position_at, Reads, Each, chain_ok, both, gives, said, resaid, bad_id_if-reads, times-reads, giving}
 use Rattle.stack_text.proofs.Keyed.{has, exactly-reads, keyed, Spelled}
-use Rattle.stack_text.proofs.Members.{IsNamed}
 use Rattle.stack_text.proofs.Productions.{name_at-reads, count_after-reads}
 use Rattle.stack_text.proofs.Parts.{script-reads, IsSaidPart, IsNewPart}
 use Rattle.stack_text.proofs.Layers.{IsNewBackground, background-reads, IsKeptFor, AreKeptFor, IsNewCard, card-reads}
 use Rattle.stack_text.proofs.Flags.{chosen-found}
+use Rattle.stack_text.proofs.Listable.{IsNamed}
 
 -- ---- forms that go to the end
 
@@ -84,13 +84,12 @@ then_gives r x y {P} {l} form one = record {
 stack-reads : Reads stack_at (λ used x. ((3 ≤ x.0) × (x.0 ≤ 1000001)) × (IsNamed x.1 × (x.1.kind ≡ Stack))) (λ x. numbered (codes "next") x.0 ∷ name_line x.1.name ∷ script_lines x.1.script) (λ x. [])
 unfolding stack_at
 stack-reads =
-    resaid (both (count_after (codes "next ") 3 1000001) _ (count_after-reads (codes "next ") 3 1000001 refl (lit< tt))
+    said (both (count_after (codes "next ") 3 1000001) _ (count_after-reads (codes "next ") 3 1000001 refl (lit< tt))
     (λ next. both name_at _ name_at-reads
-    (λ name. both script_at _ script-reads (λ script. gives (stack next name script))
-    (λ y. y.1.script) (λ script used y h. ap (λ (z : ℕ × Object). z.1.script) h))
+    (λ name. giving script-reads (stack next name) (λ y. y.1.script) (λ script. refl))
     (λ y. y.1.name) (λ name used y h. ap (λ (z : ℕ × Object). z.1.name) h.1))
     (λ y. y.0) (λ next used y h. ap (λ (z : ℕ × Object). z.0) h.1.1))
-    (λ used y h. ((h.0, ((h.1.0, h.1.1.0), ap (λ (z : ℕ × Object). z.1.kind) h.1.1.1)), ap (λ (ls : List (List ℕ)). numbered (codes "next") y.0 ∷ name_line y.1.name ∷ ls) (append-nil (script_lines y.1.script)), refl))
+    (λ used y h. (h.0, ((h.1.0, h.1.1.0), ap (λ (z : ℕ × Object). z.1.kind) h.1.1.1)))
     (λ used y h. (h.0, (h.1.0.0, (h.1.0.1, stack_is y.0 y.1.name y.1.script y.1.kind h.1.1))))
   where
     stack : ℕ → List ℕ → List ℕ → ℕ × Object
