@@ -12,7 +12,7 @@ use Rattle.ht_values.specs.Delimited.{delimited}
 use Rattle.stack_text.specs.Words.{spelled, barred}
 use Rattle.stack_text.specs.Reading.{◌>>=◌, give, line_after, is_piece, piece_at, pieces_at, text_of_pieces, count_at, block_after}
 use Rattle.stack_text.proofs.Elements.{each_append}
-use Rattle.stack_text.proofs.Forms.{Reads, both, both_held, gives, said, resaid}
+use Rattle.stack_text.proofs.Forms.{Reads, both, both_held, gives, said, resaid, giving}
 use Rattle.stack_text.proofs.Keyed.{has, keyed, Spelled}
 use Rattle.stack_text.proofs.Texts.{long_texts}
 use Rattle.stack_text.proofs.Flags.{tested, piece_counts}
@@ -51,16 +51,16 @@ pieces-reads alone zero room = resaid (gives []) to from
     from used (p ∷ ps) h = absurd cc
 pieces-reads alone (suc n) room =
     resaid (both (line_after (codes "|") (piece_at alone room)) (λ p. pieces_at alone n (room - (length p + 1)) >>= λ ps. give (p ∷ ps)) (keyed (codes "|") (piece_at alone room) (piece_words alone room) refl)
-    (λ p. both (pieces_at alone n (room - (length p + 1))) (λ ps. give (p ∷ ps)) (pieces-reads alone n (room - (length p + 1))) (λ ps. gives (p ∷ ps)) tail_of (λ ps used y h. ap tail_of h))
+    (λ p. giving (pieces-reads alone n (room - (length p + 1))) (λ ps. p ∷ ps) tail_of (λ ps. refl))
     head_of (λ p used y h. ap head_of h.1))
     to from
   where
     Read : List (List ℕ) → Type 0
     Read y = Fits alone room (head_of y) × (((length (tail_of y) ≡ n) × FitInTurn alone (room - (length (head_of y) + 1)) (tail_of y)) × (y ≡ head_of y ∷ tail_of y))
 
-    to : (used : List ℕ) (y : List (List ℕ)) → Read y → ((length y ≡ suc n) × FitInTurn alone room y) × (barred (head_of y) ∷ (map barred (tail_of y) ++ []) ≡ map barred y) × ◌≡◌ {A = List ℕ} [] []
+    to : (used : List ℕ) (y : List (List ℕ)) → Read y → ((length y ≡ suc n) × FitInTurn alone room y) × (barred (head_of y) ∷ map barred (tail_of y) ≡ map barred y) × ◌≡◌ {A = List ℕ} [] []
     to used [] h = absurd (let e : ◌≡◌ {A = List (List ℕ)} [] ([] ∷ []) = h.1.1 in cc)
-    to used (p ∷ ps) h = ((ap suc h.1.0.0, (h.0, h.1.0.1)), ap (λ (ls : List (List ℕ)). barred p ∷ ls) (append-nil (map barred ps)), refl)
+    to used (p ∷ ps) h = ((ap suc h.1.0.0, (h.0, h.1.0.1)), refl, refl)
 
     from : (used : List ℕ) (y : List (List ℕ)) → (length y ≡ suc n) × FitInTurn alone room y → Read y
     from used [] h = absurd cc
