@@ -5,7 +5,7 @@ use Rattle.ht_lex.specs.declared.tokens.LexError.TheVariants.{Memory, Syntax}
 use Rattle.ht_lex.specs.declared.tokens.Span.{Span}
 use Rattle.ht_lex.specs.Tokens.{IsStuck}
 
--- An error other than want of memory has the first place where no token begins.
+-- An error, where it isn't for being out of memory, has the first place where no token begins.
 abbrev pub Fails : List ℕ → LexError → Type 0
 Fails text Memory = Unit {0}
 Fails text (Syntax place) = IsStuck text place

@@ -15,7 +15,7 @@ and_then (Err e) f = Err e
 abbrev pub within_limit : List ℕ → Result (List ℕ) Fault
 within_limit t = if nat_le (length t) LIMIT then Ok t else Err TooLong
 
--- the call answered this value or fault, or had no memory
+-- the call answered this value or fault, or was out of memory
 abbrev pub Gives : {A : Type 0} → Result A Failure → Result A Fault → Type 0
 Gives (Ok x) due = due ≡ Ok x
 Gives (Err (failure.Fault f)) due = due ≡ Err f

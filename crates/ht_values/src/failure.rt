@@ -4,7 +4,7 @@ use crate::fault::Fault;
 use std::alloc::AllocError;
 use thiserror::Error;
 
-/// Why a call that makes a value gave none: a fault of the command, or want of memory.
+/// Why a call that makes a value gave none: a fault of the command, or it was out of memory.
 #[derive(Clone, Copy, PartialEq, Eq, Debug, Error)]
 pub enum Failure {
     #[error("{0}")]

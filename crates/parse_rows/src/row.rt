@@ -47,11 +47,11 @@ fn nested(alloc: Global, counts: &str) -> Result<Vec<u8>, AllocError> {
     Ok(bytes)
 }
 
-/// Prints that a text isn't in the grammar, or fails where there was no memory to read it.
+/// Prints that a text isn't in the grammar, or fails where it was out of memory.
 fn refused(out: &mut Vec<u8>, error: ParseError) -> anyhow::Result<()> {
     match error {
         ParseError::Syntax(_) => write!(out, "syntax")?,
-        ParseError::Memory => anyhow::bail!("no memory"),
+        ParseError::Memory => anyhow::bail!("out of memory"),
     }
     Ok(())
 }

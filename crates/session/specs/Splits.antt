@@ -1,14 +1,11 @@
 -- Bytes as lines.
 use Rattle.std.specs.Prelude.{◌≡◌, ◌≢◌, ℕ, ◌-◌, ◌==◌, List, [], ◌∷◌, ◌++◌, length, map, take, if◌then◌else◌, slice_index}
-use Rattle.std.specs.List.{flat_map, AllByRecursion}
+use Rattle.std.specs.List.{AllByRecursion}
+pub use Rattle.ht_values.specs.Delimited.{ended_lines}
 
 -- a line has no line feed in it
 abbrev pub IsLine : List ℕ → Type 0
 IsLine line = AllByRecursion (λ b. b ≢ 10) line
-
--- lines that are each ended by a line feed
-abbrev pub ended_lines : List (List ℕ) → List ℕ
-ended_lines lines = flat_map (λ line. line ++ 10 ∷ []) lines
 
 -- the bytes are these lines, each ended by a line feed, and a rest that is not ended
 pub record Splits (bytes : List ℕ) (lines : List (List ℕ)) (rest : List ℕ) : Type 0 where

@@ -40,7 +40,7 @@ stack_again bytes s is =
     ap (read_as content_of) (ap document_at is.text ∙ document-again is.version (document_of s) (document_listed s is.well_formed) (said_in_document s is.well_formed is.version is.said))
     ∙ ap Ok (relisted_again s is.well_formed)
 
--- so a text of a stack is refused for want of memory alone
+-- so a text of a stack is refused where it is out of memory alone
 pub refused_for_memory : (bytes : List ℕ) (s : Content) → Spells bytes s → (e : ReadError) → Fails e (document_at bytes) → Fails {Y = Content} e (Ok s)
 refused_for_memory bytes s is Memory h = tt
 refused_for_memory bytes s is (File f) h = absurd (let e = sym (stack_again bytes s is) ∙ ap (read_as content_of) h in cc)
