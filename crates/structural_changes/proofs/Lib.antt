@@ -6,3 +6,4 @@ pub mod Parts
 pub mod Cards
 pub mod Backgrounds
 pub mod Deletion
+pub mod Examples
