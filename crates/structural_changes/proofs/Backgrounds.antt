@@ -15,7 +15,7 @@ use Rattle.object_table.specs.declared.object.Kind.TheVariants.{Stack, Backgroun
 use Rattle.object_table.specs.declared.object.Object.{Object}
 use Rattle.stack_places.specs.Places.{put}
 use Rattle.structural_changes.specs.Writes.{put_each, writes_of_new_background, has_room_for, is_part_of, ids_where, insert_after}
-use Rattle.structural_changes.proofs.Cards.{parts_with, get-parts, same_parts, nothing_listed, with_card, card_formed, card_kept, homes}
+use Rattle.structural_changes.proofs.Cards.{parts_with, get-parts, same_parts, nothing_listed, with_card, card_formed, card_kept, homes, kinds as card_kinds}
 use Rattle.structural_changes.proofs.Filled.{filled_for}
 use Rattle.structural_changes.proofs.Formed.{IsFormed, HasCards, formed, whole}
 use Rattle.structural_changes.proofs.Grown.{objects_and, same_id, none_new, none_at_new, found-with, found-as_before, ids-with, count-with, names-with}
@@ -155,8 +155,8 @@ written s w card i = record {
   next = two s.next i;
 }
 
-pub new_background_fits : (s : Content) (card : ℕ) → IsWellFormed s → has_room_for 2 s ≡ true → IsWellFormed (put_each s (writes_of_new_background s card))
-new_background_fits s card w room = subst IsWellFormed (sym (written s f card)) (whole _ (card_formed (with_background s) (background_formed s f first) s.next card live second) has)
+pub new_background_fits : (s : Content) (card : ℕ) → IsWellFormed s → has_room_for 2 s ≡ true → IsWellFormed (put_each s (writes_of_new_background s card)) × (has_kind is_card (put_each s (writes_of_new_background s card)) (s.next + 1) ≡ true)
+new_background_fits s card w room = (subst IsWellFormed (sym (written s f card)) (whole _ (card_formed (with_background s) (background_formed s f first) s.next card live second) has), ap (λ t. has_kind is_card t (s.next + 1)) (written s f card) ∙ card_kinds (with_background s) g s.next card live second is_card refl (s.next + 1) ∙ ap (λ b. b || has_kind is_card (with_background s) (s.next + 1)) (itself (s.next + 1)))
   where
     f : IsFormed s
     f = formed s w

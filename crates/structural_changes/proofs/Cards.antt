@@ -103,7 +103,7 @@ module _ (s : Content) (w : IsFormed s) (background place : ℕ) (live : has_kin
   same_kinds : (p : Kind → Bool) → p (Card background false) ≡ false → has_kind p s ≡ has_kind p now
   same_kinds p e i id = sym (found-as_before s w new (passes p) e id) i
 
-  kinds : (p : Kind → Bool) → p (Card background false) ≡ true → (id : ℕ) → has_kind p now id ≡ nat_eq id s.next || has_kind p s id
+  pub kinds : (p : Kind → Bool) → p (Card background false) ≡ true → (id : ℕ) → has_kind p now id ≡ nat_eq id s.next || has_kind p s id
   kinds p e id = found-with s w new (passes p) id ∙ by (nat_eq id s.next)
     where
       by : (b : Bool) → cond b (p (Card background false)) (has_kind p s id) ≡ b || has_kind p s id
@@ -287,3 +287,10 @@ new_card_fits s card w room e =
     let f = formed s w in
     let live = live_home s f card e in
     subst IsWellFormed (sym (written s card)) (whole _ (card_formed s f (home s card) card live room) (has_cards s f (home s card) card live room w.some_card))
+
+-- the new card is there
+pub new_card_is_there : (s : Content) (card : ℕ) → IsWellFormed s → has_room_for 1 s ≡ true → has_kind is_card s card ≡ true → has_kind is_card (put_each s (writes_of_new_card s card)) s.next ≡ true
+new_card_is_there s card w room e =
+    let f = formed s w in
+    let itself : nat_eq s.next s.next ≡ true = grind (arith, nat_tests) in
+    ap (λ t. has_kind is_card t s.next) (written s card) ∙ kinds s f (home s card) card (live_home s f card e) room is_card refl s.next ∙ ap (λ b. b || has_kind is_card s s.next) itself

@@ -18,7 +18,7 @@ use Rattle.object_table.specs.declared.object.Kind.{Kind}
 use Rattle.object_table.specs.declared.object.Kind.TheVariants.{Stack, Background, Card, CardButton, BackgroundButton, CardField, BackgroundField}
 use Rattle.object_table.proofs.Pairs.{pair_cmp_total, pair_cmp-IsAntisymmetric}
 use Rattle.stack_places.specs.Places.{put, card_order, background_order, ids}
-use Rattle.structural_changes.specs.Writes.{put_each, StackWrite, write, writes_of_deletion, clears_of_deletion, fits_deletion, home, without, is_card_of, is_last_card, goes_as_layer, goes_as_part, goes_as_content, ids_where}
+use Rattle.structural_changes.specs.Writes.{put_each, StackWrite, write, writes_of_deletion, clears_of_deletion, fits_deletion, first_or, behind, following, home, without, is_card_of, is_last_card, goes_as_layer, goes_as_part, goes_as_content, ids_where}
 use Rattle.structural_changes.proofs.Cards.{card_home, live_home}
 use Rattle.structural_changes.proofs.Filled.{cleared, all_cleared, get-cleared_where, len-cleared}
 use Rattle.structural_changes.proofs.Formed.{formed}
@@ -688,3 +688,62 @@ written s card = first (is_last_card s card) ∙ rest (record s { cards = withou
 
 pub deletion_fits : (s : Content) (card : ℕ) → IsWellFormed s → fits_deletion s ≡ true → has_kind is_card s card ≡ true → IsWellFormed (put_each s (writes_of_deletion s card))
 deletion_fits s card w fits e = subst IsWellFormed (sym (written s card)) (well_formed s w card e (leb_yes (subst T (sym fits) tt)))
+
+-- ---- the card that becomes current
+
+-- behind an id that stands once comes another, or nothing
+behind_another : (c : ℕ) (xs : List ℕ) → tally c xs ≤ 1 → (x : ℕ) (rest : List ℕ) → behind c xs ≡ x ∷ rest → (contains_id x xs ≡ true) × (nat_eq x c ≡ false)
+behind_another c [] once x rest e = absurd (not_nil e)
+  where
+    is_nil : List ℕ → Bool
+    is_nil [] = true
+    is_nil (y ∷ ys) = false
+
+    not_nil : [] ≡ x ∷ rest → ⊥
+    not_nil p = false≢true (sym (ap is_nil p))
+behind_another c (y ∷ ys) once x rest e = by (λ few q. behind_another c ys few x rest q) (nat_eq y c) refl once e
+  where
+    itself : (n : ℕ) → nat_eq n n ≡ true
+    itself n = grind (arith, nat_tests)
+
+    or_true : (b : Bool) → b || true ≡ true
+    or_true true = refl
+    or_true false = refl
+
+    other : (b : Bool) → nat_eq x c ≡ b → one_if b + tally c rest ≤ 0 → b ≡ false
+    other false q few = refl
+    other true q few = absurd (omega arith)
+
+    by : (tally c ys ≤ 1 → behind c ys ≡ x ∷ rest → (contains_id x ys ≡ true) × (nat_eq x c ≡ false)) → (b : Bool) → nat_eq y c ≡ b → one_if b + tally c ys ≤ 1 → cond b ys (behind c ys) ≡ x ∷ rest → (contains_id x (y ∷ ys) ≡ true) × (nat_eq x c ≡ false)
+    by again true q few p =
+        let none : one_if (nat_eq x c) + tally c rest ≤ 0 = subst (λ l. tally c l ≤ 0) p (omega arith) in
+        (ap (λ b. nat_eq y x || b) (ap (contains_id x) p ∙ ap (λ b. b || contains_id x rest) (itself x)) ∙ or_true (nat_eq y x), other (nat_eq x c) refl none)
+    by again false q few p = let found = again (let less : 0 + tally c ys ≤ 1 = few in omega arith) p in (ap (λ b. nat_eq y x || b) found.0 ∙ or_true (nat_eq y x), found.1)
+
+-- the last of two or more isn't the first
+last_of_many : (c : ℕ) (xs : List ℕ) → 2 ≤ length xs → contains_id c xs ≡ true → behind c xs ≡ [] → (contains_id (first_or c xs) xs ≡ true) × (nat_eq (first_or c xs) c ≡ false)
+last_of_many c [] many e q = absurd (omega arith)
+last_of_many c (x ∷ xs) many e q = by (nat_eq x c) refl q
+  where
+    itself : (n : ℕ) → nat_eq n n ≡ true
+    itself n = grind (arith, nat_tests)
+
+    by : (b : Bool) → nat_eq x c ≡ b → cond b xs (behind c xs) ≡ [] → (contains_id x (x ∷ xs) ≡ true) × (nat_eq x c ≡ false)
+    by true p z = absurd (let short : length xs ≡ 0 = ap length z in omega arith)
+    by false p z = (ap (λ b. b || contains_id x xs) (itself x), p)
+
+pub another_follows : (c : ℕ) (xs : List ℕ) → tally c xs ≤ 1 → 2 ≤ length xs → contains_id c xs ≡ true → (contains_id (following c xs) xs ≡ true) × (nat_eq (following c xs) c ≡ false)
+another_follows c xs once many e = by (behind c xs) refl
+  where
+    by : (l : List ℕ) → behind c xs ≡ l → (contains_id (first_or c (l ++ xs)) xs ≡ true) × (nat_eq (first_or c (l ++ xs)) c ≡ false)
+    by [] q = last_of_many c xs many e q
+    by (x ∷ rest) q = behind_another c xs once x rest q
+
+pub following_is_there : (s : Content) (card : ℕ) → IsWellFormed s → fits_deletion s ≡ true → has_kind is_card s card ≡ true → has_kind is_card (put_each s (writes_of_deletion s card)) (following card s.cards) ≡ true
+following_is_there s card w fits e =
+    let once : tally card s.cards ≤ 1 = (let is_one : tally card s.cards ≡ 1 = named-tally (has_kind is_card s) s.cards w.cards card ∙ ap one_if e in omega arith) in
+    let other = another_follows card s.cards once (leb_yes (subst T (sym fits) tt)) (w.cards.each card ∙ e) in
+    let is : has_kind is_card s (following card s.cards) ≡ true = sym (w.cards.each (following card s.cards)) ∙ other.0 in
+    ap (λ t. has_kind is_card t (following card s.cards)) (written s card)
+    ∙ left-by s w card e is_card (λ x. nat_eq x card) (gone-card s w card e) (following card s.cards)
+    ∙ (λ i. not (other.1 i) && is i)

@@ -4,14 +4,14 @@ use Rattle.std.specs.Ordering.{nat_cmp}
 use Rattle.std.specs.FinMap.{FinMap, from_sorted, get, keys, entries, find, entries-from_sorted, get-from_sorted}
 use Rattle.ht_values.specs.declared.word.PartKind.TheVariants.{Button, Field}
 use Rattle.object_table.specs.Content.{Content}
-use Rattle.object_table.specs.Empty.{empty_object, empty_stack}
+use Rattle.object_table.specs.Empty.{empty_object}
 use Rattle.object_table.specs.Objects.{object_at, parts_at}
 use Rattle.object_table.specs.Pairs.{pair_cmp, Pair}
 use Rattle.object_table.specs.declared.object.Kind.TheVariants.{Stack, Background, Card, BackgroundButton, BackgroundField}
 use Rattle.object_table.specs.declared.object.LayerId.TheVariants.{OfCard, OfBackground}
 use Rattle.object_table.specs.declared.object.Object.{Object}
 use Rattle.stack_places.specs.Places.{field_text, button_hilite, whole, card_order, background_order, layer_parts, next_id, text, logical, object, ids, number}
-use Rattle.structural_changes.specs.Writes.{write, clear, writes_of_new_part, writes_of_new_card, writes_of_new_background, writes_of_deletion, new_part, is_last_card, fits_deletion}
+use Rattle.structural_changes.specs.Writes.{write, clear, writes_of_new_part, writes_of_new_card, writes_of_new_background, writes_of_deletion, new_part, following}
 
 abbrev objects : List (ℕ × Object)
 objects = (0, empty_object Stack) ∷ (1, empty_object (Background false)) ∷ (2, empty_object (Card 1 false)) ∷ (3, empty_object (BackgroundField true false false)) ∷ (4, empty_object (Card 1 false)) ∷ (5, empty_object (BackgroundButton true true)) ∷ []
@@ -73,3 +73,10 @@ background = refl
 -- a card goes, and its background stays with the other
 one_goes : writes_of_deletion two_cards 2 ≡ write card_order (ids (4 ∷ [])) ∷ clear (whole 2) ∷ clear (layer_parts 2) ∷ clear (field_text 3 2) ∷ clear (button_hilite 5 2) ∷ []
 one_goes = simp (object_ids, found, listed, layers, text_pairs, hilite_pairs) refl
+
+-- the card behind it follows, and behind the last one the first
+behind_the_first : following 4 two_cards.cards ≡ 2
+behind_the_first = refl
+
+behind_the_last : following 2 two_cards.cards ≡ 4
+behind_the_last = refl

@@ -450,3 +450,9 @@ new_part_fits s layer kind w fits =
     let parts = both (has_room_for 1 s) (is_some (layer_parts s layer)) fits in
     let f = formed s w in
     subst IsWellFormed (sym (written s layer kind)) (whole _ (part_formed s layer kind f parts.0 parts.1) (has_cards s layer kind f parts.0 parts.1 w.some_card))
+
+-- a card stays one
+pub cards_stay : (s : Content) (layer : LayerId) (kind : PartKind) → IsWellFormed s → fits_new_part s layer ≡ true → (id : ℕ) → has_kind is_card (put_each s (writes_of_new_part s layer kind)) id ≡ has_kind is_card s id
+cards_stay s layer kind w fits id =
+    let parts = both (has_room_for 1 s) (is_some (layer_parts s layer)) fits in
+    ap (λ t. has_kind is_card t id) (written s layer kind) ∙ sym (ap (λ p. p id) (same_kinds s layer kind (formed s w) parts.0 parts.1 is_card (no_layer is_card refl refl refl refl layer kind)))

@@ -36,6 +36,20 @@ insert_after place id (x ∷ xs) = if nat_eq x place then x ∷ id ∷ xs else x
 abbrev pub without : ℕ → List ℕ → List ℕ
 without id = filter (λ x. not (nat_eq x id))
 
+-- what stands behind an id
+abbrev pub behind : ℕ → List ℕ → List ℕ
+behind place [] = []
+behind place (x ∷ xs) = if nat_eq x place then xs else behind place xs
+
+-- the first of a list, or another id where it is empty
+abbrev pub first_or : ℕ → List ℕ → ℕ
+first_or other [] = other
+first_or other (x ∷ xs) = x
+
+-- the id right behind another, or the first where that is the last
+abbrev pub following : ℕ → List ℕ → ℕ
+following place order = first_or place (behind place order ++ order)
+
 -- the ids of the objects that pass, ascending
 abbrev pub ids_where : Content → (ℕ → Bool) → List ℕ
 ids_where s p = filter p (keys s.objects)
@@ -155,6 +169,7 @@ clears_of_deletion s card =
     ++ map (λ p. clear (field_text p.0 p.1)) (filter (goes_as_content s card) (keys s.texts))
     ++ map (λ p. clear (button_hilite p.0 p.1)) (filter (goes_as_content s card) (keys s.hilites))
 
+-- The card that follows becomes current first, which is a place of the state, not of the stack.
 abbrev pub writes_of_deletion : Content → ℕ → List StackWrite
 writes_of_deletion s card =
     write card_order (ids (without card s.cards))

@@ -3,4 +3,4 @@
 
 mod laws;
 
-pub use laws::laws_of_changes;
+pub use laws::{laws_of_changes, laws_of_current_cards};

@@ -6,4 +6,4 @@ pub returns-clause-new_part : goal.returns-clause-new_part
 returns-clause-new_part c = new_part_fits
 
 pub returns-clause-new_background : goal.returns-clause-new_background
-returns-clause-new_background c = new_background_fits
+returns-clause-new_background c s card w room = (new_background_fits s card w room).0
