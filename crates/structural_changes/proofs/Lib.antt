@@ -7,3 +7,4 @@ pub mod Cards
 pub mod Backgrounds
 pub mod Deletion
 pub mod Examples
+pub mod Ascending
