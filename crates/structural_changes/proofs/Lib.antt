@@ -8,3 +8,4 @@ pub mod Backgrounds
 pub mod Deletion
 pub mod Examples
 pub mod Ascending
+pub mod Prepared

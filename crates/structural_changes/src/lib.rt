@@ -2,5 +2,6 @@
 #![tactic(auto)]
 
 mod laws;
+mod preparing;
 
 pub use laws::{laws_of_changes, laws_of_current_cards};
