@@ -1,12 +1,12 @@
 -- Lists of ids that ascend.
-use Rattle.std.proofs.Common.{◌≡◌, ℕ, ◌<◌, Bool, true, false, cond, ◌&&◌, ◌||◌, List, [], ◌∷◌, filter, map, nat_eq, eqb, refl, sym, subst, ap, ◌∙◌, arith, T, is_some}
+use Rattle.std.proofs.Common.{◌≡◌, ℕ, ◌<◌, Bool, true, false, cond, ◌&&◌, ◌||◌, List, [], ◌∷◌, filter, map, nat_eq, eqb, refl, sym, subst, ap, ◌∙◌, arith, T, Option, Some, None, is_some, option_map, option_and_then, unwrap_or}
 use Rattle.std.proofs.lemmas.Bool.{false≢true}
 use Rattle.std.proofs.lemmas.Bool.Decides.{nat_tests}
 use Rattle.std.proofs.lemmas.List.Kept.{IsStrictlySortedBy-filter, IsStrictlySortedBy-dedup}
 use Rattle.std.proofs.lemmas.List.Sorted.{list_any-IsPermutation}
 use Rattle.std.proofs.lemmas.Map.Keys.{sorted_head, sorted_tail}
 use Rattle.std.specs.Cmp.{nat_cmp_total, unsigned_tied}
-use Rattle.std.specs.FinMap.{FinMap, entries, entries_sorted, keys, is_sorted}
+use Rattle.std.specs.FinMap.{FinMap, entries, entries_sorted, keys, is_sorted, nat_cmp-IsAntisymmetric}
 use Rattle.std.specs.FinMap.Entries.{below_all}
 use Rattle.std.specs.List.{AllByRecursion, dedup, dedup_from, list_any}
 use Rattle.std.specs.List.Sorted.{IsStrictlySortedBy, IsSorted, IsPermutation}
@@ -14,9 +14,13 @@ use Rattle.std.specs.Ordering.{nat_cmp, is_lt}
 use Rattle.std.specs.declared.cmp.Ordering.{Ordering}
 use Rattle.std.specs.declared.cmp.Ordering.TheVariants.{Less, Equal, Greater}
 use Rattle.object_table.specs.Content.{Content}
-use Rattle.object_table.specs.Objects.{contains_id, object_at}
-use Rattle.structural_changes.specs.Writes.{ids_where}
-use Rattle.structural_changes.proofs.Filled.{contains-ids_where}
+use Rattle.object_table.specs.Objects.{contains_id, object_at, is_card, background_of}
+use Rattle.object_table.specs.WellFormed.{IsWellFormed}
+use Rattle.object_table.specs.declared.object.Object.{Object}
+use Rattle.object_table.specs.declared.object.Kind.{Kind}
+use Rattle.object_table.specs.declared.object.Kind.TheVariants.{Card}
+use Rattle.structural_changes.specs.Writes.{ids_where, is_card_of}
+use Rattle.structural_changes.proofs.Filled.{any-filter, any-keys, contains-ids_where}
 use Rattle.structural_changes.proofs.Grown.{same_id}
 
 -- ---- one list for its members
@@ -113,3 +117,21 @@ contains-dedup z (x ∷ xs) = contains-dedup_from z x xs
 -- ids that were sorted, each once, are those that pass, where before they were just those
 pub sorted_ids : (s : Content) (p : ℕ → Bool) (found sorted : List ℕ) → ((z : ℕ) → contains_id z found ≡ p z && is_some (object_at s z)) → IsPermutation found sorted → IsSorted nat_cmp sorted → dedup eqb sorted ≡ ids_where s p
 sorted_ids s p found sorted is moved ascend = ascending_once (dedup eqb sorted) (ids_where s p) (IsStrictlySortedBy-dedup nat_cmp_total (λ x y. sym (unsigned_tied x y)) sorted ascend) (ids_where_ascend s p) (λ z. contains-dedup z sorted ∙ sym (list_any-IsPermutation (λ x. nat_eq x z) found sorted moved) ∙ is z ∙ sym (contains-ids_where s p z))
+
+contains-filter : (id : ℕ) (p : ℕ → Bool) (xs : List ℕ) → contains_id id (filter p xs) ≡ p id && contains_id id xs
+contains-filter id p xs = sym (any-keys id (filter p xs)) ∙ any-filter nat_cmp_total nat_cmp-IsAntisymmetric id p xs ∙ ap (λ b. p id && b) (any-keys id xs)
+
+-- the cards of a background, as they stand in the order of cards
+pub cards_found : (s : Content) → IsWellFormed s → (background id : ℕ) → contains_id id (filter (is_card_of s background) s.cards) ≡ is_card_of s background id && is_some (object_at s id)
+cards_found s w background id = contains-filter id (is_card_of s background) s.cards ∙ ap (λ b. is_card_of s background id && b) (w.cards.each id) ∙ by (object_at s id)
+  where
+    home : Kind → Bool
+    home k = unwrap_or (option_map (λ b. nat_eq b background) (background_of k)) false
+
+    of_kind : (k : Kind) → home k && is_card k ≡ home k && true
+    of_kind (Card b c) = refl
+    of_kind _ = refl
+
+    by : (found : Option Object) → let is : Bool = unwrap_or (option_map (λ b. nat_eq b background) (option_and_then (λ o. background_of o.kind) found)) false in is && unwrap_or (option_map (λ o. is_card o.kind) found) false ≡ is && is_some found
+    by None = refl
+    by (Some o) = of_kind o.kind

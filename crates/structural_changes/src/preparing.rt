@@ -3,10 +3,11 @@
 ghost use Rattle.std.specs.Prelude.{◌≡◌, OnOk, IfOk, [], ◌∷◌, Some, false};
 ghost use Rattle.stack_places.specs.Places.{field_text, button_hilite, whole, layer_parts as parts_of, next_id, text, logical, object as object_value, ids, number};
 ghost use Rattle.structural_changes.specs.Prepared.{Adds};
-ghost use Rattle.structural_changes.specs.Writes.{write, empty_texts, false_hilites};
+ghost use Rattle.structural_changes.specs.Writes.{write, empty_texts, false_hilites, is_card_of, ids_where};
+ghost use Rattle.object_table.specs.WellFormed.{IsWellFormed};
 
 use ht_values::Text;
-use object_table::{Id, IdList, Object, Stack};
+use object_table::{Id, IdList, Kind, Object, Stack};
 use stack_places::StackEntry;
 use std::alloc::{AllocError, Global};
 
@@ -65,4 +66,62 @@ fn add_parts(
     stack.open_slot(layer)?;
     entries.push(StackEntry::Parts(layer, Some(parts)))?;
     Ok(())
+}
+
+/// Adds an empty text of a field for each of these cards.
+fn add_texts(
+    alloc: Global,
+    stack: &mut Stack,
+    entries: &mut Vec<StackEntry>,
+    field: Id,
+    cards: &[Id],
+) -> Result<(), AllocError>
+    ensures { OnOk result (Adds stack.old stack.new entries.old.items entries.new.items (empty_texts field cards.now)) }
+{
+    for card in cards {
+        add_text(alloc, stack, entries, field, *card)?;
+    }
+    Ok(())
+}
+
+/// Adds a false hilite of a button for each of these cards.
+fn add_hilites(
+    stack: &mut Stack,
+    entries: &mut Vec<StackEntry>,
+    button: Id,
+    cards: &[Id],
+) -> Result<(), AllocError>
+    ensures { OnOk result (Adds stack.old stack.new entries.old.items entries.new.items (false_hilites button cards.now)) }
+{
+    for card in cards {
+        add_hilite(stack, entries, button, *card)?;
+    }
+    Ok(())
+}
+
+/// Whether an id is that of a card of a background.
+fn is_on(stack: &Stack, background: Id, id: Id) -> bool
+    ensures { result ≡ is_card_of stack.now.content background id }
+{
+    match stack.object(id) {
+        Some(object) =>
+            matches!(object.kind, Kind::Card { background: home, .. } if home == background),
+        None => false,
+    }
+}
+
+/// The cards of a background, by their ids.
+fn cards_of(alloc: Global, stack: &Stack, background: Id) -> Result<Vec<Id>, AllocError>
+    requires { IsWellFormed stack.now.content }
+    ensures { IfOk result (λ cards. cards.items ≡ ids_where stack.now.content (is_card_of stack.now.content background)) }
+{
+    let mut cards = Vec::new(alloc);
+    for card in stack.cards().as_slice() {
+        if is_on(stack, background, *card) {
+            cards.push(*card)?;
+        }
+    }
+    cards.sort_unstable();
+    cards.dedup();
+    Ok(cards)
 }
