@@ -2,6 +2,7 @@
 #![tactic(auto)]
 
 mod laws;
+mod making;
 mod preparing;
 
 pub use laws::{laws_of_changes, laws_of_current_cards};

@@ -12,7 +12,7 @@ use stack_places::StackEntry;
 use std::alloc::{AllocError, Global};
 
 /// Adds an empty text of a field for a card, or for 0.
-fn add_text(
+pub(crate) fn add_text(
     alloc: Global,
     stack: &mut Stack,
     entries: &mut Vec<StackEntry>,
@@ -27,7 +27,7 @@ fn add_text(
 }
 
 /// Adds a false hilite of a button for a card, or for 0.
-fn add_hilite(
+pub(crate) fn add_hilite(
     stack: &mut Stack,
     entries: &mut Vec<StackEntry>,
     button: Id,
@@ -40,8 +40,21 @@ fn add_hilite(
     Ok(())
 }
 
+/// Adds the next id.
+pub(crate) fn add_next(
+    stack: &Stack,
+    entries: &mut Vec<StackEntry>,
+    next: Id,
+) -> Result<(), AllocError>
+    ensures { OnOk result (Adds stack.now stack.now entries.old.items entries.new.items (write next_id (number next) ∷ [])) }
+{
+    let _ = stack;
+    entries.push(StackEntry::NextId(next))?;
+    Ok(())
+}
+
 /// Adds an object at an id.
-fn add_object(
+pub(crate) fn add_object(
     stack: &mut Stack,
     entries: &mut Vec<StackEntry>,
     id: Id,
@@ -55,7 +68,7 @@ fn add_object(
 }
 
 /// Adds a list of parts of a layer.
-fn add_parts(
+pub(crate) fn add_parts(
     stack: &mut Stack,
     entries: &mut Vec<StackEntry>,
     layer: Id,
@@ -69,7 +82,7 @@ fn add_parts(
 }
 
 /// Adds an empty text of a field for each of these cards.
-fn add_texts(
+pub(crate) fn add_texts(
     alloc: Global,
     stack: &mut Stack,
     entries: &mut Vec<StackEntry>,
@@ -85,7 +98,7 @@ fn add_texts(
 }
 
 /// Adds a false hilite of a button for each of these cards.
-fn add_hilites(
+pub(crate) fn add_hilites(
     stack: &mut Stack,
     entries: &mut Vec<StackEntry>,
     button: Id,
@@ -111,7 +124,7 @@ fn is_on(stack: &Stack, background: Id, id: Id) -> bool
 }
 
 /// The cards of a background, by their ids.
-fn cards_of(alloc: Global, stack: &Stack, background: Id) -> Result<Vec<Id>, AllocError>
+pub(crate) fn cards_of(alloc: Global, stack: &Stack, background: Id) -> Result<Vec<Id>, AllocError>
     requires { IsWellFormed stack.now.content }
     ensures { IfOk result (λ cards. cards.items ≡ ids_where stack.now.content (is_card_of stack.now.content background)) }
 {
