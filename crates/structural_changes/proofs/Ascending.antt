@@ -14,12 +14,12 @@ use Rattle.std.specs.Ordering.{nat_cmp, is_lt}
 use Rattle.std.specs.declared.cmp.Ordering.{Ordering}
 use Rattle.std.specs.declared.cmp.Ordering.TheVariants.{Less, Equal, Greater}
 use Rattle.object_table.specs.Content.{Content}
-use Rattle.object_table.specs.Objects.{contains_id, object_at, is_card, background_of}
+use Rattle.object_table.specs.Objects.{contains_id, object_at, has_kind, parts_at, is_card, background_of}
 use Rattle.object_table.specs.WellFormed.{IsWellFormed}
 use Rattle.object_table.specs.declared.object.Object.{Object}
 use Rattle.object_table.specs.declared.object.Kind.{Kind}
 use Rattle.object_table.specs.declared.object.Kind.TheVariants.{Card}
-use Rattle.structural_changes.specs.Writes.{ids_where, is_card_of}
+use Rattle.structural_changes.specs.Writes.{ids_where, is_card_of, is_part_of}
 use Rattle.structural_changes.proofs.Filled.{any-filter, any-keys, contains-ids_where}
 use Rattle.structural_changes.proofs.Grown.{same_id}
 
@@ -135,3 +135,15 @@ cards_found s w background id = contains-filter id (is_card_of s background) s.c
     by : (found : Option Object) → let is : Bool = unwrap_or (option_map (λ b. nat_eq b background) (option_and_then (λ o. background_of o.kind) found)) false in is && unwrap_or (option_map (λ o. is_card o.kind) found) false ≡ is && is_some found
     by None = refl
     by (Some o) = of_kind o.kind
+
+-- the parts of a background that pass, as they stand in its list
+pub parts_found : (s : Content) (p : Kind → Bool) (background id : ℕ) → contains_id id (filter (has_kind p s) (parts_at s background)) ≡ is_part_of p s background id && is_some (object_at s id)
+parts_found s p background id = contains-filter id (has_kind p s) (parts_at s background) ∙ by (object_at s id) (contains_id id (parts_at s background))
+  where
+    and_true : (b : Bool) → b ≡ b && true
+    and_true true = refl
+    and_true false = refl
+
+    by : (found : Option Object) (b : Bool) → unwrap_or (option_map (λ o. p o.kind) found) false && b ≡ (unwrap_or (option_map (λ o. p o.kind) found) false && b) && is_some found
+    by None b = refl
+    by (Some o) b = and_true (p o.kind && b)

@@ -9,3 +9,4 @@ pub mod Deletion
 pub mod Examples
 pub mod Ascending
 pub mod Prepared
+pub mod Orders

@@ -1,13 +1,16 @@
 //! The changes that make objects, prepared.
 
 ghost use Rattle.std.specs.Prelude.{◌≡◌, IfOk, [], ◌∷◌, ◌++◌, Some, true};
-ghost use Rattle.object_table.specs.Objects.{has_kind, is_background, parts_at};
+ghost use Rattle.object_table.specs.Objects.{has_kind, is_background, is_card, parts_at};
 ghost use Rattle.object_table.specs.Layers.{layer_id};
 ghost use Rattle.object_table.specs.WellFormed.{IsWellFormed};
 ghost use Rattle.structural_changes.specs.Prepared.{Adds};
-ghost use Rattle.structural_changes.specs.Writes.{new_part, kept_for, insert_after, is_part_of, ids_where, writes_of_new_part, fits_new_part};
+ghost use Rattle.structural_changes.specs.Writes.{new_part, kept_for, insert_after, is_part_of, ids_where, writes_of_new_part, fits_new_part, has_room_for, home, writes_of_new_card, writes_of_new_background};
 
-use crate::preparing::{add_hilites, add_next, add_object, add_parts, add_texts, cards_of};
+use crate::preparing::{
+    add_backgrounds, add_cards, add_hilites, add_hilites_of, add_next, add_object, add_parts,
+    add_texts, add_texts_of, cards_of, parts_of,
+};
 use ht_values::{PartKind, Text};
 use object_table::{Id, IdList, Kind, LayerId, Object, Stack};
 use stack_places::StackEntry;
@@ -102,6 +105,7 @@ pub fn prepare_new_part(
 ) -> Result<Vec<StackEntry>, AllocError>
     requires well_formed { IsWellFormed stack.old.content }
     requires fits { fits_new_part stack.old.content layer ≡ true }
+    ensures same { stack.new.content ≡ stack.old.content }
     ensures entries { IfOk result (λ entries. Adds stack.old stack.new [] entries.items (writes_of_new_part stack.old.content layer kind)) }
 {
     let part = stack.next_id();
@@ -119,5 +123,100 @@ pub fn prepare_new_part(
         }
         (LayerId::OfCard(_), PartKind::Button) => {}
     }
+    Ok(entries)
+}
+
+/// An order with an id right after another, or last where that isn't there.
+#[tactic(auto, using(crate::proofs::Orders::inserted))]
+fn order_with(alloc: Global, order: &IdList, place: Id, id: Id) -> Result<IdList, AllocError>
+    ensures { IfOk result (λ l. l ≡ insert_after place id order.now) }
+{
+    let ids = order.as_slice();
+    let at = order.number_of(place).unwrap_or(ids.len()).min(ids.len());
+    let mut longer = Vec::from_slice(alloc, &ids[..at])?;
+    longer.push(id)?;
+    longer.extend_from_slice(&ids[at..])?;
+    Ok(IdList::from_vec(longer))
+}
+
+/// The entries of a new card on the background of another card, behind which it stands, with all the room that they need.
+/// The stack holds what it held; where a growth is refused its room may be wider.
+pub fn prepare_new_card(
+    alloc: Global,
+    stack: &mut Stack,
+    card: Id,
+) -> Result<Vec<StackEntry>, AllocError>
+    requires well_formed { IsWellFormed stack.old.content }
+    requires fits { has_room_for 1 stack.old.content ≡ true }
+    requires card { has_kind is_card stack.old.content card ≡ true }
+    ensures same { stack.new.content ≡ stack.old.content }
+    ensures entries { IfOk result (λ entries. Adds stack.old stack.new [] entries.items (writes_of_new_card stack.old.content card)) }
+{
+    let new = stack.next_id();
+    let background = home_of(stack, card);
+    let order = order_with(alloc, stack.cards(), card, new)?;
+    let fields = parts_of(alloc, stack, background, PartKind::Field)?;
+    let buttons = parts_of(alloc, stack, background, PartKind::Button)?;
+    let object = Object::empty(
+        alloc,
+        Kind::Card {
+            background,
+            cant_delete: false,
+        },
+    );
+    let mut entries = Vec::new(alloc);
+    add_next(stack, &mut entries, new + 1)?;
+    add_object(stack, &mut entries, new, object)?;
+    add_cards(stack, &mut entries, order)?;
+    add_parts(stack, &mut entries, new, IdList::new(alloc))?;
+    add_texts_of(alloc, stack, &mut entries, &fields, new)?;
+    add_hilites_of(stack, &mut entries, &buttons, new)?;
+    Ok(entries)
+}
+
+/// The background of a card.
+fn home_of(stack: &Stack, card: Id) -> Id
+    ensures { result ≡ home stack.now.content card }
+{
+    match stack.object(card) {
+        Some(object) => match object.kind {
+            Kind::Card { background, .. } => background,
+            _ => 0,
+        },
+        None => 0,
+    }
+}
+
+/// The entries of a new background, which is the last one, and of its card, which stands behind another card, with all the
+/// room that they need. The stack holds what it held; where a growth is refused its room may be wider.
+pub fn prepare_new_background(
+    alloc: Global,
+    stack: &mut Stack,
+    card: Id,
+) -> Result<Vec<StackEntry>, AllocError>
+    requires well_formed { IsWellFormed stack.old.content }
+    requires fits { has_room_for 2 stack.old.content ≡ true }
+    ensures same { stack.new.content ≡ stack.old.content }
+    ensures entries { IfOk result (λ entries. Adds stack.old stack.new [] entries.items (writes_of_new_background stack.old.content card)) }
+{
+    let new = stack.next_id();
+    let order = order_with(alloc, stack.cards(), card, new + 1)?;
+    let backgrounds = with_last(alloc, stack.backgrounds().as_slice(), new)?;
+    let background = Object::empty(alloc, Kind::Background { cant_delete: false });
+    let object = Object::empty(
+        alloc,
+        Kind::Card {
+            background: new,
+            cant_delete: false,
+        },
+    );
+    let mut entries = Vec::new(alloc);
+    add_next(stack, &mut entries, new + 2)?;
+    add_object(stack, &mut entries, new, background)?;
+    add_object(stack, &mut entries, new + 1, object)?;
+    add_cards(stack, &mut entries, order)?;
+    add_backgrounds(stack, &mut entries, backgrounds)?;
+    add_parts(stack, &mut entries, new, IdList::new(alloc))?;
+    add_parts(stack, &mut entries, new + 1, IdList::new(alloc))?;
     Ok(entries)
 }
