@@ -63,9 +63,10 @@ rest_of (x ∷ xs) = xs
 -- what follows is the same, so the next is, and what follows that
 pub same_next : {X : Type 0} (xs ys : List X) (i : ℕ) (d : X) → i < length xs → i < length ys → drop i xs ≡ drop i ys → (get_or xs i d ≡ get_or ys i d) × (drop (i + 1) xs ≡ drop (i + 1) ys)
 unfolding first rest_of
-same_next xs ys i d more less e =
-    (sym (at_drop_more (first d) xs i d more) ∙ ap (first d) e ∙ at_drop_more (first d) ys i d less,
-    sym (at_drop_more rest_of xs i d more) ∙ ap rest_of e ∙ at_drop_more rest_of ys i d less)
+same_next xs ys i d more less e = (
+  sym (at_drop_more (first d) xs i d more) ∙ ap (first d) e ∙ at_drop_more (first d) ys i d less,
+  sym (at_drop_more rest_of xs i d more) ∙ ap rest_of e ∙ at_drop_more rest_of ys i d less,
+)
 
 pub one_put : (s : Content) (es : List StackEntry) (i : ℕ) (d : StackEntry) → i < length es → exchanged (put_each s (map write_of (take i es))) (get_or es i d) ≡ put_each s (map write_of (take (i + 1) es))
 one_put s es i d less = puts (put_each s (map write_of (take i es))) (get_or es i d) ∙ sym (ap (put_each s) (map_more write_of es i d less) ∙ put_each-append s (map write_of (take i es)) (write_of (get_or es i d) ∷ []))
