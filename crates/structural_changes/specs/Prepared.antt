@@ -1,5 +1,5 @@
 -- Entries that are prepared for a change, with the room that they need.
-use Rattle.std.specs.Prelude.{◌≡◌, List, [], ◌++◌, map}
+use Rattle.std.specs.Prelude.{◌≡◌, List, ◌++◌, map}
 use Rattle.std.specs.List.{AllByRecursion}
 use Rattle.object_table.specs.Table.{Table}
 use Rattle.stack_places.specs.Exchange.{place_of, value_of, IsReady, IsWider}

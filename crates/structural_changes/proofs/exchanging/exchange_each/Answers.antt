@@ -1,4 +1,4 @@
-use Rattle.std.proofs.Common.{rules, ◌≡◌, ◌<◌, ◌+◌, ℕ, length, get_or, ap, ◌∙◌, arith}
+use Rattle.std.proofs.Common.{rules, ◌≡◌, ◌<◌, ◌+◌, ℕ, length, ap, ◌∙◌, arith}
 use Rattle.std.proofs.lemmas.List.{drop-set-lt}
 use Rattle.stack_places.specs.Exchange.{exchanged}
 use Rattle.structural_changes.proofs.Prepared.{same_next, one_put}

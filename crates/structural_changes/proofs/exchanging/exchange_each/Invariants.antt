@@ -1,4 +1,4 @@
-use Rattle.std.proofs.Common.{◌≡◌, ◌≤◌, length, take, drop, map}
+use Rattle.std.proofs.Common.{◌≡◌, length, take, drop, map}
 use Rattle.structural_changes.specs.Prepared.{write_of}
 use Rattle.structural_changes.specs.Writes.{put_each}
 use Rattle.structural_changes.proofs.exchanging.exchange_each.Given as goal

@@ -1,4 +1,4 @@
-use Rattle.std.proofs.Common.{◌≡◌, ℕ, ◌-◌, List, ◌∷◌, [], ◌++◌, length, min, unwrap_or, ap, sym, ◌∙◌, append_assoc, take, drop, arith, length-drop}
+use Rattle.std.proofs.Common.{◌≡◌, ℕ, ◌-◌, List, ◌∷◌, [], ◌++◌, length, min, unwrap_or, ap, ◌∙◌, append_assoc, take, drop, arith, length-drop}
 use Rattle.std.proofs.lemmas.List.{take_all}
 use Rattle.object_table.specs.Numbers.{number_in}
 use Rattle.structural_changes.proofs.Orders.{inserted}

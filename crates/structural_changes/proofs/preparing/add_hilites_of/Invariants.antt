@@ -1,4 +1,4 @@
-use Rattle.std.proofs.Common.{◌≡◌, take}
+use Rattle.std.proofs.Common.{take}
 use Rattle.structural_changes.specs.Prepared.{Adds}
 use Rattle.structural_changes.specs.Writes.{hilites_of}
 use Rattle.structural_changes.proofs.preparing.add_hilites_of.Given as goal

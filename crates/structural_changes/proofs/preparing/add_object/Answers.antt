@@ -1,4 +1,4 @@
-use Rattle.std.proofs.Common.{◌≡◌, [], ◌∷◌, ◌++◌, refl, sym, subst, ap, ◌∙◌, Some, arith}
+use Rattle.std.proofs.Common.{sym, subst, ap}
 use Rattle.stack_places.specs.Exchange.{IsReady, IsWider}
 use Rattle.structural_changes.proofs.Prepared.{adds_one, IsWider-slots}
 use Rattle.structural_changes.proofs.preparing.add_object.Goals as goal

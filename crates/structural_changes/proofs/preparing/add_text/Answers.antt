@@ -1,4 +1,4 @@
-use Rattle.std.proofs.Common.{◌≡◌, [], ◌∷◌, ◌++◌, refl, sym, subst, ap, ◌∙◌, Some, arith}
+use Rattle.std.proofs.Common.{[], ◌∷◌, sym, subst, ap}
 use Rattle.stack_places.specs.Exchange.{IsReady, IsWider}
 use Rattle.stack_places.specs.Places.{field_text, text}
 use Rattle.stack_places.proofs.Wider.{IsWider-text}

@@ -1,6 +1,6 @@
-use Rattle.std.proofs.Common.{◌≡◌, take}
+use Rattle.std.proofs.Common.{take}
 use Rattle.structural_changes.specs.Prepared.{Adds}
-use Rattle.structural_changes.specs.Writes.{empty_texts, false_hilites}
+use Rattle.structural_changes.specs.Writes.{empty_texts}
 use Rattle.structural_changes.proofs.preparing.add_texts.Given as goal
 
 abbrev pub invariant-loop-card : goal.invariant-loop-card

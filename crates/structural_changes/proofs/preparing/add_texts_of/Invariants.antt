@@ -1,4 +1,4 @@
-use Rattle.std.proofs.Common.{◌≡◌, take}
+use Rattle.std.proofs.Common.{take}
 use Rattle.structural_changes.specs.Prepared.{Adds}
 use Rattle.structural_changes.specs.Writes.{texts_of}
 use Rattle.structural_changes.proofs.preparing.add_texts_of.Given as goal

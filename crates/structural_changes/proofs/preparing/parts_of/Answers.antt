@@ -1,4 +1,4 @@
-use Rattle.std.proofs.Common.{◌≡◌, eqb, filter, ap, ◌∙◌, arith}
+use Rattle.std.proofs.Common.{eqb, filter, ap, ◌∙◌, arith}
 use Rattle.std.proofs.lemmas.List.{take_all}
 use Rattle.std.proofs.lemmas.List.Filters.{dedup_is}
 use Rattle.object_table.specs.Objects.{contains_id, has_kind}
