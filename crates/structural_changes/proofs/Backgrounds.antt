@@ -1,26 +1,25 @@
 -- A stack stays well formed when a background is made, with its card.
-use Rattle.std.proofs.Common.{◌≡◌, ℕ, ◌+◌, ◌<◌, ◌≤◌, Bool, true, false, cond, ◌&&◌, ◌||◌, ◌==◌, List, [], ◌∷◌, ◌++◌, filter, flat_map, length, nat_eq, leb, refl, sym, subst, ap, ◌∙◌, arith, rules, Option, Some, None, IsSome, IsTrue, IfSome, is_some, option_map, option_and_then, unwrap_or, ◌↔◌, T}
-use Rattle.std.proofs.lemmas.Bool.{false≢true, le-leb}
+use Rattle.std.proofs.Common.{◌≡◌, ℕ, ◌+◌, ◌≤◌, Bool, true, false, cond, ◌&&◌, ◌||◌, ◌==◌, List, [], ◌∷◌, ◌++◌, filter, flat_map, length, nat_eq, leb, refl, sym, subst, ap, ◌∙◌, arith, rules, Option, Some, None, IsTrue, IfSome, is_some, option_map, option_and_then, unwrap_or, ◌↔◌, T}
+use Rattle.std.proofs.lemmas.Bool.{le-leb}
 use Rattle.std.proofs.lemmas.Bool.Decides.{nat_tests}
 use Rattle.std.proofs.Math.Facts.{leb_yes}
-use Rattle.std.specs.FinMap.{FinMap, get}
-use Rattle.ht_values.specs.Text.{IsText}
+use Rattle.std.specs.FinMap.{get}
 use Rattle.object_table.specs.Content.{Content}
 use Rattle.object_table.specs.Empty.{empty_object}
-use Rattle.object_table.specs.PartContents.{text_at, hilite_at, keeps_text, keeps_hilite}
-use Rattle.object_table.specs.Objects.{is_stack, is_background, is_card, is_card_part, is_background_part, is_card_field, is_background_field, is_background_button, is_layer, background_of, has_kind, object_at, parts_at, contains_id, background_at, object_count}
+use Rattle.object_table.specs.PartContents.{keeps_text, keeps_hilite}
+use Rattle.object_table.specs.Objects.{is_stack, is_background, is_card, is_card_part, is_background_part, is_card_field, is_background_field, is_background_button, is_layer, background_of, has_kind, parts_at, contains_id, background_at, object_count}
 use Rattle.object_table.specs.WellFormed.{NamesEach, IsWellFormed}
 use Rattle.object_table.specs.declared.object.Kind.{Kind}
-use Rattle.object_table.specs.declared.object.Kind.TheVariants.{Stack, Background, Card}
+use Rattle.object_table.specs.declared.object.Kind.TheVariants.{Background, Card}
 use Rattle.object_table.specs.declared.object.Object.{Object}
 use Rattle.stack_places.specs.Places.{put}
 use Rattle.structural_changes.specs.Writes.{put_each, writes_of_new_background, has_room_for, is_part_of, ids_where, insert_after}
 use Rattle.structural_changes.proofs.Cards.{parts_with, get-parts, same_parts, nothing_listed, with_card, card_formed, card_kept, homes, kinds as card_kinds}
 use Rattle.structural_changes.proofs.Filled.{filled_for}
 use Rattle.structural_changes.proofs.Formed.{IsFormed, HasCards, formed, whole}
-use Rattle.structural_changes.proofs.Grown.{objects_and, same_id, none_new, none_at_new, found-with, found-as_before, ids-with, count-with, names-with}
+use Rattle.structural_changes.proofs.Grown.{objects_and, same_id, none_at_new, found-with, found-as_before, ids-with, count-with, names-with}
 use Rattle.structural_changes.proofs.Parts.{passes, bool_iff, iff_bool, and_false, both}
-use Rattle.structural_changes.proofs.Tallies.{one_if, total, tally, total-append, total-flat_map, none_more, named-tally, tally-named}
+use Rattle.structural_changes.proofs.Tallies.{one_if, tally, total-append, total-flat_map, named-tally, tally-named}
 
 -- the stack with a background, which has no card yet
 abbrev pub with_background : Content → Content

@@ -1,30 +1,29 @@
 -- A stack stays well formed when a card is made.
-use Rattle.std.proofs.Common.{◌≡◌, ℕ, zero, suc, ◌+◌, ◌<◌, ◌≤◌, Bool, true, false, cond, not, ◌&&◌, ◌||◌, ◌==◌, List, [], ◌∷◌, ◌++◌, flat_map, length, nat_eq, leb, refl, sym, subst, ap, ◌∙◌, arith, rules, Option, Some, None, IsSome, IsTrue, IfSome, is_some, option_map, option_and_then, unwrap_or, ◌↔◌, T}
+use Rattle.std.proofs.Common.{◌≡◌, ℕ, ◌+◌, ◌≤◌, Bool, true, false, cond, ◌&&◌, ◌||◌, ◌==◌, List, [], flat_map, nat_eq, leb, refl, sym, subst, ap, ◌∙◌, arith, rules, Option, Some, None, IsTrue, IfSome, is_some, option_map, option_and_then, unwrap_or, ◌↔◌, T}
 use Rattle.std.proofs.lemmas.Bool.{false≢true}
 use Rattle.std.proofs.lemmas.Bool.Decides.{nat_tests}
 use Rattle.std.proofs.Math.Facts.{leb_yes}
-use Rattle.std.specs.Ordering.{nat_cmp, eq_by_cmp}
+use Rattle.std.specs.Ordering.{nat_cmp}
 use Rattle.std.specs.Cmp.{nat_cmp_total, unsigned_tied}
 use Rattle.std.specs.FinMap.{FinMap, get, nat_cmp-IsAntisymmetric}
 use Rattle.ht_values.specs.Text.{IsText}
 use Rattle.object_table.specs.Content.{Content}
 use Rattle.object_table.specs.Empty.{empty_object}
-use Rattle.object_table.specs.PartContents.{text_at, hilite_at, keeps_text, keeps_hilite, is_on_background_of}
+use Rattle.object_table.specs.PartContents.{text_at, hilite_at, keeps_text, keeps_hilite}
 use Rattle.object_table.specs.Maps.{put_option}
 use Rattle.object_table.specs.Objects.{is_stack, is_background, is_card, is_card_part, is_background_part, is_card_field, is_background_field, is_background_button, is_layer, background_of, has_kind, object_at, parts_at, contains_id, background_at, object_count}
-use Rattle.object_table.specs.Pairs.{PairMap}
 use Rattle.object_table.specs.WellFormed.{NamesEach, IsWellFormed}
 use Rattle.object_table.specs.declared.object.Object.{Object}
 use Rattle.object_table.specs.declared.object.Kind.{Kind}
-use Rattle.object_table.specs.declared.object.Kind.TheVariants.{Stack, Background, Card, CardButton, BackgroundButton, CardField, BackgroundField}
+use Rattle.object_table.specs.declared.object.Kind.TheVariants.{Stack, Card}
 use Rattle.object_table.proofs.Maps.{get-put_option}
 use Rattle.stack_places.specs.Places.{put}
-use Rattle.structural_changes.specs.Writes.{put_each, writes_of_new_card, has_room_for, home, insert_after, is_part_of, ids_where, contents_of_new_card}
+use Rattle.structural_changes.specs.Writes.{put_each, writes_of_new_card, has_room_for, home, insert_after, is_part_of, ids_where}
 use Rattle.structural_changes.proofs.Filled.{filled_for, contents_filled, get-filled_for, contains-ids_where}
 use Rattle.structural_changes.proofs.Formed.{IsFormed, HasCards, formed, whole}
-use Rattle.structural_changes.proofs.Grown.{objects_and, same_id, none_new, none_at_new, object-with, found-with, found-as_before, ids-with, count-with, names-with}
-use Rattle.structural_changes.proofs.Parts.{passes, bool_iff, iff_bool, in_map, or_false, and_false, both}
-use Rattle.structural_changes.proofs.Tallies.{one_if, total, tally, total-flat_map, total-insert_after, none_more, named-tally, tally-named}
+use Rattle.structural_changes.proofs.Grown.{objects_and, same_id, none_new, none_at_new, found-with, found-as_before, ids-with, count-with, names-with}
+use Rattle.structural_changes.proofs.Parts.{passes, bool_iff, iff_bool, in_map, and_false, both}
+use Rattle.structural_changes.proofs.Tallies.{one_if, tally, total-flat_map, total-insert_after, none_more, named-tally, tally-named}
 
 -- a card's background, which is there
 pub card_home : (s : Content) (card : ℕ) → has_kind is_card s card ≡ true → background_at s card ≡ Some (home s card)

@@ -1,30 +1,28 @@
 -- A stack stays well formed when a card goes, and with the last one its background.
-use Rattle.std.proofs.Common.{◌≡◌, ℕ, zero, suc, ◌+◌, ◌<◌, ◌≤◌, Bool, true, false, cond, not, ◌&&◌, ◌||◌, ◌==◌, List, [], ◌∷◌, ◌++◌, filter, map, flat_map, length, nat_eq, leb, refl, sym, subst, ap, ◌∙◌, arith, rules, Option, Some, None, IsSome, IsTrue, IfSome, is_some, option_map, option_and_then, unwrap_or, ◌↔◌, if◌then◌else◌, T}
+use Rattle.std.proofs.Common.{◌≡◌, ℕ, zero, suc, ◌+◌, ◌≤◌, Bool, true, false, cond, not, ◌&&◌, ◌||◌, ◌==◌, List, [], ◌∷◌, ◌++◌, filter, flat_map, length, nat_eq, refl, sym, subst, ap, ◌∙◌, arith, Option, Some, None, IsTrue, IfSome, is_some, option_map, option_and_then, unwrap_or, ◌↔◌, if◌then◌else◌, T}
 use Rattle.std.proofs.lemmas.Bool.{false≢true}
 use Rattle.std.proofs.lemmas.Bool.Decides.{nat_tests}
 use Rattle.std.proofs.Math.Facts.{leb_yes}
-use Rattle.std.specs.List.{list_all, list_any}
-use Rattle.std.specs.Ordering.{nat_cmp}
+use Rattle.std.specs.List.{list_all}
 use Rattle.std.specs.Cmp.{nat_cmp_total}
-use Rattle.std.specs.FinMap.{FinMap, get, keys, nat_cmp-IsAntisymmetric}
+use Rattle.std.specs.FinMap.{get, keys, nat_cmp-IsAntisymmetric}
 use Rattle.ht_values.specs.Text.{IsText}
 use Rattle.object_table.specs.Content.{Content}
 use Rattle.object_table.specs.PartContents.{text_at, hilite_at, keeps_text, keeps_hilite, is_on_background_of}
 use Rattle.object_table.specs.Objects.{is_stack, is_background, is_card, is_card_part, is_background_part, is_card_field, is_background_field, is_background_button, is_layer, background_of, has_kind, object_at, parts_at, contains_id, background_at, object_count}
-use Rattle.object_table.specs.Pairs.{Pair, pair_cmp, PairMap}
 use Rattle.object_table.specs.WellFormed.{NamesEach, IsWellFormed}
 use Rattle.object_table.specs.declared.object.Object.{Object}
 use Rattle.object_table.specs.declared.object.Kind.{Kind}
 use Rattle.object_table.specs.declared.object.Kind.TheVariants.{Stack, Background, Card, CardButton, BackgroundButton, CardField, BackgroundField}
 use Rattle.object_table.proofs.Pairs.{pair_cmp_total, pair_cmp-IsAntisymmetric}
 use Rattle.stack_places.specs.Places.{put, card_order, background_order, ids}
-use Rattle.structural_changes.specs.Writes.{put_each, StackWrite, write, writes_of_deletion, clears_of_deletion, fits_deletion, first_or, behind, following, home, without, is_card_of, is_last_card, goes_as_layer, goes_as_part, goes_as_content, ids_where}
+use Rattle.structural_changes.specs.Writes.{put_each, write, writes_of_deletion, clears_of_deletion, fits_deletion, first_or, behind, following, home, without, is_card_of, is_last_card, goes_as_layer, goes_as_part, goes_as_content, ids_where}
 use Rattle.structural_changes.proofs.Cards.{card_home, live_home}
 use Rattle.structural_changes.proofs.Filled.{cleared, all_cleared, get-cleared_where, len-cleared}
 use Rattle.structural_changes.proofs.Formed.{formed}
 use Rattle.structural_changes.proofs.Grown.{same_id}
-use Rattle.structural_changes.proofs.Parts.{passes, bool_iff, iff_bool, and_false, or_false, both}
-use Rattle.structural_changes.proofs.Tallies.{one_if, total, tally, total-flat_map, contains-tally, named-tally, tally-named, none_more, one_member}
+use Rattle.structural_changes.proofs.Parts.{passes, bool_iff, iff_bool, and_false, both}
+use Rattle.structural_changes.proofs.Tallies.{one_if, total, tally, total-flat_map, contains-tally, named-tally, tally-named, one_member}
 
 -- ---- lists without an id
 

@@ -1,11 +1,10 @@
 -- What the changes write in a stack of a background 1 with a field 3 and a button 5, and two cards 2 and 4 on it.
-use Rattle.std.proofs.Common.{◌≡◌, ℕ, Bool, true, false, List, [], ◌∷◌, map, Option, Some, None, refl, ap, codes, ◌∙◌}
+use Rattle.std.proofs.Common.{◌≡◌, ℕ, Bool, true, false, List, [], ◌∷◌, refl, codes}
 use Rattle.std.specs.Ordering.{nat_cmp}
-use Rattle.std.specs.FinMap.{FinMap, from_sorted, get, keys, entries, find, entries-from_sorted, get-from_sorted}
+use Rattle.std.specs.FinMap.{from_sorted, get, entries, find, entries-from_sorted, get-from_sorted}
 use Rattle.ht_values.specs.declared.word.PartKind.TheVariants.{Button, Field}
 use Rattle.object_table.specs.Content.{Content}
 use Rattle.object_table.specs.Empty.{empty_object}
-use Rattle.object_table.specs.Objects.{object_at, parts_at}
 use Rattle.object_table.specs.Pairs.{pair_cmp, Pair}
 use Rattle.object_table.specs.declared.object.Kind.TheVariants.{Stack, Background, Card, BackgroundButton, BackgroundField}
 use Rattle.object_table.specs.declared.object.LayerId.TheVariants.{OfCard, OfBackground}

@@ -10,9 +10,9 @@ use Rattle.std.specs.List.{list_any}
 use Rattle.object_table.specs.Content.{Content}
 use Rattle.object_table.specs.Maps.{put_option}
 use Rattle.object_table.specs.Objects.{object_at, contains_id}
-use Rattle.object_table.specs.Pairs.{Pair, pair_cmp, PairMap}
+use Rattle.object_table.specs.Pairs.{Pair, PairMap}
 use Rattle.object_table.proofs.Maps.{get-put_option, put_option_again, put_option_apart}
-use Rattle.object_table.proofs.Pairs.{pair_cmp_total, pair_cmp-IsAntisymmetric, pair_tied, same_pair}
+use Rattle.object_table.proofs.Pairs.{pair_cmp_total, pair_cmp-IsAntisymmetric, pair_tied}
 use Rattle.stack_places.specs.Places.{put, field_text, button_hilite, whole, layer_parts, text, logical}
 use Rattle.structural_changes.specs.Writes.{StackWrite, write, clear, put_each, empty_texts, false_hilites, ids_where}
 

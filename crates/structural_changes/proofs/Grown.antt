@@ -1,26 +1,16 @@
 -- A stack with one object more.
-use Rattle.std.proofs.Common.{◌≡◌, ℕ, ◌+◌, ◌<◌, ◌≤◌, Bool, true, false, cond, not, ◌&&◌, ◌||◌, ◌==◌, List, [], ◌∷◌, ◌++◌, flat_map, length, nat_eq, leb, refl, sym, subst, ap, ◌∙◌, arith, Option, Some, None, IsSome, IsTrue, IfSome, is_some, option_map, option_and_then, unwrap_or, ◌↔◌}
-use Rattle.std.proofs.lemmas.Bool.{false≢true}
+use Rattle.std.proofs.Common.{◌≡◌, ℕ, ◌+◌, ◌<◌, ◌≤◌, Bool, true, false, cond, nat_eq, refl, sym, subst, ap, ◌∙◌, arith, Option, Some, None, IsSome, IfSome, is_some}
 use Rattle.std.proofs.lemmas.Bool.Decides.{nat_tests}
-use Rattle.std.specs.Ordering.{nat_cmp, eq_by_cmp}
+use Rattle.std.specs.Ordering.{nat_cmp}
 use Rattle.std.specs.Cmp.{nat_cmp_total, unsigned_tied}
 use Rattle.std.specs.FinMap.{FinMap, get, remove, len, len-insert, contains_key, nat_cmp-IsAntisymmetric}
 use Rattle.ht_values.specs.Text.{IsText}
-use Rattle.ht_values.specs.declared.word.PartKind.{PartKind}
-use Rattle.ht_values.specs.declared.word.PartKind.TheVariants.{Button, Field}
 use Rattle.object_table.specs.Content.{Content}
-use Rattle.object_table.specs.PartContents.{text_at, hilite_at, keeps_text, keeps_hilite, is_on_background_of}
-use Rattle.object_table.specs.Layers.{layer_id, layer_parts}
 use Rattle.object_table.specs.Maps.{put_option}
-use Rattle.object_table.specs.Objects.{is_stack, is_background, is_card, is_card_part, is_background_part, is_card_field, is_background_field, is_background_button, is_layer, background_of, has_kind, object_at, parts_at, contains_id, background_at, object_count}
-use Rattle.object_table.specs.Pairs.{PairMap}
+use Rattle.object_table.specs.Objects.{object_at, object_count}
 use Rattle.structural_changes.proofs.Formed.{IsFormed}
 use Rattle.object_table.specs.declared.object.Object.{Object}
-use Rattle.object_table.specs.declared.object.Kind.{Kind}
-use Rattle.object_table.specs.declared.object.Kind.TheVariants.{Stack, Background, Card, CardButton, BackgroundButton, CardField, BackgroundField}
 use Rattle.object_table.proofs.Maps.{get-put_option, put_option_apart}
-use Rattle.structural_changes.specs.Writes.{has_room_for}
-use Rattle.structural_changes.proofs.Tallies.{one_if, total, tally, total-append, total-flat_map, total-plus, none_more, contains-tally, named-tally, tally-named}
 
 abbrev pub objects_and : Content → Object → FinMap nat_cmp Object
 objects_and s new = put_option s.objects s.next (Some new)

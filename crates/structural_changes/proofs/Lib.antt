@@ -7,3 +7,6 @@ pub mod Cards
 pub mod Backgrounds
 pub mod Deletion
 pub mod Examples
+pub mod Ascending
+pub mod Prepared
+pub mod Orders

@@ -1,11 +1,11 @@
 -- Lists of ids by how often each id stands there.
-use Rattle.std.proofs.Common.{◌≡◌, ℕ, zero, suc, ◌+◌, ◌*◌, ◌≤◌, ◌<◌, Bool, true, false, cond, not, ◌||◌, List, [], ◌∷◌, ◌++◌, flat_map, filter, nat_eq, refl, sym, ap, subst, ◌∙◌, arith, if◌then◌else◌}
+use Rattle.std.proofs.Common.{◌≡◌, ℕ, zero, suc, ◌+◌, ◌≤◌, Bool, true, false, not, ◌||◌, List, [], ◌∷◌, ◌++◌, flat_map, nat_eq, refl, sym, ap, subst, ◌∙◌, arith, if◌then◌else◌}
 use Rattle.std.specs.List.{IsDistinct, AllByRecursion}
 use Rattle.std.proofs.lemmas.Bool.{false≢true}
 use Rattle.std.proofs.lemmas.Bool.Decides.{nat_tests}
 use Rattle.object_table.specs.Objects.{contains_id}
 use Rattle.object_table.specs.WellFormed.{NamesEach}
-use Rattle.structural_changes.specs.Writes.{insert_after, without}
+use Rattle.structural_changes.specs.Writes.{insert_after}
 
 abbrev pub one_if : Bool → ℕ
 one_if true = 1

@@ -80,6 +80,18 @@ empty_texts field = map (λ card. write (field_text field card) (text []))
 abbrev pub false_hilites : ℕ → List ℕ → List StackWrite
 false_hilites button = map (λ card. write (button_hilite button card) (logical false))
 
+-- an empty text of each of these fields for a card, and a false hilite of each of these buttons
+abbrev pub texts_of : List ℕ → ℕ → List StackWrite
+texts_of fields card = map (λ field. write (field_text field card) (text [])) fields
+
+abbrev pub hilites_of : List ℕ → ℕ → List StackWrite
+hilites_of buttons card = map (λ button. write (button_hilite button card) (logical false)) buttons
+
+-- which parts of a background keep texts, and which hilites
+abbrev pub keeps : PartKind → Kind → Bool
+keeps Field = is_background_field
+keeps Button = is_background_button
+
 -- ---- a new part
 
 -- It is visible, and nothing else, but that a background's button has one hilite for all cards.
@@ -119,8 +131,8 @@ writes_of_new_part s layer kind =
 -- what a new card keeps of its background's parts
 abbrev pub contents_of_new_card : Content → ℕ → ℕ → List StackWrite
 contents_of_new_card s background card =
-    map (λ field. write (field_text field card) (text [])) (ids_where s (is_part_of is_background_field s background))
-    ++ map (λ button. write (button_hilite button card) (logical false)) (ids_where s (is_part_of is_background_button s background))
+    texts_of (ids_where s (is_part_of (keeps Field) s background)) card
+    ++ hilites_of (ids_where s (is_part_of (keeps Button) s background)) card
 
 -- a new card is on the background of another card, and stands after it
 abbrev pub writes_of_new_card : Content → ℕ → List StackWrite

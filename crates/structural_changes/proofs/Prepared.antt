@@ -1,0 +1,72 @@
+-- Entries that are added.
+use Rattle.std.proofs.Common.{◌≡◌, ℕ, ◌+◌, ◌<◌, ◌≤◌, ◌++◌, length, take, drop, get_or, List, [], ◌∷◌, map, refl, sym, ap, ◌∙◌, subst, append_assoc, append-nil, arith}
+use Rattle.std.proofs.lemmas.List.{map-append, map_more, at_drop_more}
+use Rattle.std.specs.List.{AllByRecursion}
+use Rattle.object_table.specs.Table.{Table}
+use Rattle.stack_places.specs.Exchange.{IsReady, IsWider, exchanged}
+use Rattle.stack_places.specs.declared.entry.StackEntry.{StackEntry}
+use Rattle.stack_places.proofs.Exchanging.{IsReady-wider, puts}
+use Rattle.stack_places.proofs.Wider.{IsWider-same}
+use Rattle.object_table.specs.Table.{Room}
+use Rattle.structural_changes.specs.Prepared.{Adds, write_of}
+use Rattle.structural_changes.specs.Writes.{StackWrite, put_each}
+use Rattle.structural_changes.proofs.Filled.{put_each-append}
+use Rattle.object_table.specs.Content.{Content}
+
+all-append : {X : Type 0} (P : X → Type 0) (xs ys : List X) → AllByRecursion P xs → AllByRecursion P ys → AllByRecursion P (xs ++ ys)
+all-append P [] ys h k = k
+all-append P (x ∷ xs) ys h k = (h.0, all-append P xs ys h.1 k)
+
+all-map : {X : Type 0} (P Q : X → Type 0) → ((x : X) → P x → Q x) → (xs : List X) → AllByRecursion P xs → AllByRecursion Q xs
+all-map P Q f [] h = tt
+all-map P Q f (x ∷ xs) h = (f x h.0, all-map P Q f xs h.1)
+
+pub adds_one : (old new : Table) (before after : List StackEntry) (e : StackEntry) → after ≡ before ++ e ∷ [] → new.content ≡ old.content → IsWider old.room new.room → IsReady new.room e → Adds old new before after (write_of e ∷ [])
+adds_one old new before after e is same wider ready = record {
+  content = same;
+  wider = wider;
+  written = ap (map write_of) is ∙ map-append write_of before (e ∷ []);
+  ready = λ all. subst (AllByRecursion (IsReady new.room)) (sym is) (all-append (IsReady new.room) before (e ∷ []) (all-map (IsReady old.room) (IsReady new.room) (λ x h. IsReady-wider old.room new.room x wider h) before all) (ready, tt));
+}
+
+IsWider-then : (a b c : Room) → IsWider a b → IsWider b c → IsWider a c
+IsWider-then a b c v w = record {
+  slots = let first = v.slots in let second = w.slots in omega arith;
+  texts = λ p h. w.texts p (v.texts p h);
+  hilites = λ p h. w.hilites p (v.hilites p h);
+}
+
+pub adds_nothing : (t : Table) (es : List StackEntry) → Adds t t es es []
+adds_nothing t es = record { content = refl; wider = IsWider-same t.room; written = sym (append-nil (map write_of es)); ready = λ h. h }
+
+pub adds_then : (a b c : Table) (es fs gs : List StackEntry) (ws vs : List StackWrite) → Adds a b es fs ws → Adds b c fs gs vs → Adds a c es gs (ws ++ vs)
+adds_then a b c es fs gs ws vs one two = record {
+  content = two.content ∙ one.content;
+  wider = IsWider-then a.room b.room c.room one.wider two.wider;
+  written = two.written ∙ ap (λ l. l ++ vs) one.written ∙ append_assoc (map write_of es) ws vs;
+  ready = λ h. two.ready (one.ready h);
+}
+
+pub IsWider-slots : (r : Room) (slots : ℕ) → r.slots ≤ slots → IsWider r (record r { slots = slots })
+IsWider-slots r slots h = record { slots = h; texts = λ p q. q; hilites = λ p q. q }
+
+-- ---- entries that are exchanged
+
+first : {X : Type 0} → X → List X → X
+first d [] = d
+first d (x ∷ xs) = x
+
+rest_of : {X : Type 0} → List X → List X
+rest_of [] = []
+rest_of (x ∷ xs) = xs
+
+-- what follows is the same, so the next is, and what follows that
+pub same_next : {X : Type 0} (xs ys : List X) (i : ℕ) (d : X) → i < length xs → i < length ys → drop i xs ≡ drop i ys → (get_or xs i d ≡ get_or ys i d) × (drop (i + 1) xs ≡ drop (i + 1) ys)
+unfolding first rest_of
+same_next xs ys i d more less e = (
+  sym (at_drop_more (first d) xs i d more) ∙ ap (first d) e ∙ at_drop_more (first d) ys i d less,
+  sym (at_drop_more rest_of xs i d more) ∙ ap rest_of e ∙ at_drop_more rest_of ys i d less,
+)
+
+pub one_put : (s : Content) (es : List StackEntry) (i : ℕ) (d : StackEntry) → i < length es → exchanged (put_each s (map write_of (take i es))) (get_or es i d) ≡ put_each s (map write_of (take (i + 1) es))
+one_put s es i d less = puts (put_each s (map write_of (take i es))) (get_or es i d) ∙ sym (ap (put_each s) (map_more write_of es i d less) ∙ put_each-append s (map write_of (take i es)) (write_of (get_or es i d) ∷ []))

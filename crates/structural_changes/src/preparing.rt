@@ -1,0 +1,251 @@
+//! Entries for the changes: all that grows is taken here, so that the exchanges can't fail.
+
+ghost use Rattle.std.specs.Prelude.{◌≡◌, OnOk, IfOk, [], ◌∷◌, Some, true, false};
+ghost use Rattle.stack_places.specs.Places.{field_text, button_hilite, whole, layer_parts as parts_of, next_id, card_order, background_order, text, logical, object as object_value, ids, number};
+ghost use Rattle.structural_changes.specs.Prepared.{Adds};
+ghost use Rattle.structural_changes.specs.Writes.{write, empty_texts, false_hilites, texts_of, hilites_of, is_card_of, is_part_of, keeps, ids_where};
+ghost use Rattle.object_table.specs.Objects.{has_kind, is_background, parts_at};
+ghost use Rattle.object_table.specs.WellFormed.{IsWellFormed};
+
+use ht_values::{PartKind, Text};
+use object_table::{Id, IdList, Kind, LayerId, Object, Stack};
+use stack_places::StackEntry;
+use std::alloc::{AllocError, Global};
+
+/// Adds an empty text of a field for a card, or for 0.
+pub(crate) fn add_text(
+    alloc: Global,
+    stack: &mut Stack,
+    entries: &mut Vec<StackEntry>,
+    field: Id,
+    card: Id,
+) -> Result<(), AllocError>
+    ensures adds { OnOk result (Adds stack.old stack.new entries.old.items entries.new.items (write (field_text field card) (text []) ∷ [])) }
+    ensures same { stack.new.content ≡ stack.old.content }
+{
+    stack.open_text(field, card)?;
+    entries.push(StackEntry::FieldText(field, card, Some(Text::new(alloc))))?;
+    Ok(())
+}
+
+/// Adds a false hilite of a button for a card, or for 0.
+pub(crate) fn add_hilite(
+    stack: &mut Stack,
+    entries: &mut Vec<StackEntry>,
+    button: Id,
+    card: Id,
+) -> Result<(), AllocError>
+    ensures adds { OnOk result (Adds stack.old stack.new entries.old.items entries.new.items (write (button_hilite button card) (logical false) ∷ [])) }
+    ensures same { stack.new.content ≡ stack.old.content }
+{
+    stack.open_hilite(button, card)?;
+    entries.push(StackEntry::Hilite(button, card, Some(false)))?;
+    Ok(())
+}
+
+/// Adds the next id.
+pub(crate) fn add_next(
+    stack: &Stack,
+    entries: &mut Vec<StackEntry>,
+    next: Id,
+) -> Result<(), AllocError>
+    ensures { OnOk result (Adds stack.now stack.now entries.old.items entries.new.items (write next_id (number next) ∷ [])) }
+{
+    let _ = stack;
+    entries.push(StackEntry::NextId(next))?;
+    Ok(())
+}
+
+/// Adds an order of cards.
+pub(crate) fn add_cards(
+    stack: &Stack,
+    entries: &mut Vec<StackEntry>,
+    cards: IdList,
+) -> Result<(), AllocError>
+    ensures { OnOk result (Adds stack.now stack.now entries.old.items entries.new.items (write card_order (ids cards) ∷ [])) }
+{
+    let _ = stack;
+    entries.push(StackEntry::CardOrder(cards))?;
+    Ok(())
+}
+
+/// Adds an order of backgrounds.
+pub(crate) fn add_backgrounds(
+    stack: &Stack,
+    entries: &mut Vec<StackEntry>,
+    backgrounds: IdList,
+) -> Result<(), AllocError>
+    ensures { OnOk result (Adds stack.now stack.now entries.old.items entries.new.items (write background_order (ids backgrounds) ∷ [])) }
+{
+    let _ = stack;
+    entries.push(StackEntry::BackgroundOrder(backgrounds))?;
+    Ok(())
+}
+
+/// Adds an object at an id.
+pub(crate) fn add_object(
+    stack: &mut Stack,
+    entries: &mut Vec<StackEntry>,
+    id: Id,
+    object: Object,
+) -> Result<(), AllocError>
+    ensures adds { OnOk result (Adds stack.old stack.new entries.old.items entries.new.items (write (whole id) (object_value object) ∷ [])) }
+    ensures same { stack.new.content ≡ stack.old.content }
+{
+    stack.open_slot(id)?;
+    entries.push(StackEntry::Object(id, Some(object)))?;
+    Ok(())
+}
+
+/// Adds a list of parts of a layer.
+pub(crate) fn add_parts(
+    stack: &mut Stack,
+    entries: &mut Vec<StackEntry>,
+    layer: Id,
+    parts: IdList,
+) -> Result<(), AllocError>
+    ensures adds { OnOk result (Adds stack.old stack.new entries.old.items entries.new.items (write (parts_of layer) (ids parts) ∷ [])) }
+    ensures same { stack.new.content ≡ stack.old.content }
+{
+    stack.open_slot(layer)?;
+    entries.push(StackEntry::Parts(layer, Some(parts)))?;
+    Ok(())
+}
+
+/// Adds an empty text of a field for each of these cards.
+pub(crate) fn add_texts(
+    alloc: Global,
+    stack: &mut Stack,
+    entries: &mut Vec<StackEntry>,
+    field: Id,
+    cards: &[Id],
+) -> Result<(), AllocError>
+    ensures adds { OnOk result (Adds stack.old stack.new entries.old.items entries.new.items (empty_texts field cards.now)) }
+    ensures same { stack.new.content ≡ stack.old.content }
+{
+    for card in cards {
+        add_text(alloc, stack, entries, field, *card)?;
+    }
+    Ok(())
+}
+
+/// Adds a false hilite of a button for each of these cards.
+pub(crate) fn add_hilites(
+    stack: &mut Stack,
+    entries: &mut Vec<StackEntry>,
+    button: Id,
+    cards: &[Id],
+) -> Result<(), AllocError>
+    ensures adds { OnOk result (Adds stack.old stack.new entries.old.items entries.new.items (false_hilites button cards.now)) }
+    ensures same { stack.new.content ≡ stack.old.content }
+{
+    for card in cards {
+        add_hilite(stack, entries, button, *card)?;
+    }
+    Ok(())
+}
+
+/// Whether an id is that of a card of a background.
+fn is_on(stack: &Stack, background: Id, id: Id) -> bool
+    ensures { result ≡ is_card_of stack.now.content background id }
+{
+    match stack.object(id) {
+        Some(object) =>
+            matches!(object.kind, Kind::Card { background: home, .. } if home == background),
+        None => false,
+    }
+}
+
+/// The cards of a background, by their ids.
+pub(crate) fn cards_of(alloc: Global, stack: &Stack, background: Id) -> Result<Vec<Id>, AllocError>
+    requires { IsWellFormed stack.now.content }
+    ensures { IfOk result (λ cards. cards.items ≡ ids_where stack.now.content (is_card_of stack.now.content background)) }
+{
+    let mut cards = Vec::new(alloc);
+    for card in stack.cards().as_slice() {
+        if is_on(stack, background, *card) {
+            cards.push(*card)?;
+        }
+    }
+    cards.sort_unstable();
+    cards.dedup();
+    Ok(cards)
+}
+
+/// Whether an object is a part of a background that keeps something for each card: a field its texts, a button its hilites.
+fn is_kept(stack: &Stack, kind: PartKind, id: Id) -> bool
+    ensures { result ≡ has_kind (keeps kind) stack.now.content id }
+{
+    match stack.object(id) {
+        Some(object) => match kind {
+            PartKind::Button => matches!(object.kind, Kind::BackgroundButton { .. }),
+            PartKind::Field => matches!(object.kind, Kind::BackgroundField { .. }),
+        },
+        None => false,
+    }
+}
+
+/// The parts of a background, in their order.
+fn parts_on(stack: &Stack, background: Id) -> &[Id]
+    requires { has_kind is_background stack.now.content background ≡ true }
+    ensures { result.now ≡ parts_at stack.now.content background }
+{
+    match stack.parts(LayerId::OfBackground(background)) {
+        Some(parts) => parts.as_slice(),
+        None => &[],
+    }
+}
+
+/// The fields or the buttons of a background, by their ids.
+pub(crate) fn parts_of(
+    alloc: Global,
+    stack: &Stack,
+    background: Id,
+    kind: PartKind,
+) -> Result<Vec<Id>, AllocError>
+    requires { has_kind is_background stack.now.content background ≡ true }
+    ensures { IfOk result (λ parts. parts.items ≡ ids_where stack.now.content (is_part_of (keeps kind) stack.now.content background)) }
+{
+    let mut found = Vec::new(alloc);
+    for part in parts_on(stack, background) {
+        if is_kept(stack, kind, *part) {
+            found.push(*part)?;
+        }
+    }
+    found.sort_unstable();
+    found.dedup();
+    Ok(found)
+}
+
+/// Adds an empty text for a card of each of these fields.
+pub(crate) fn add_texts_of(
+    alloc: Global,
+    stack: &mut Stack,
+    entries: &mut Vec<StackEntry>,
+    fields: &[Id],
+    card: Id,
+) -> Result<(), AllocError>
+    ensures adds { OnOk result (Adds stack.old stack.new entries.old.items entries.new.items (texts_of fields.now card)) }
+    ensures same { stack.new.content ≡ stack.old.content }
+{
+    for field in fields {
+        add_text(alloc, stack, entries, *field, card)?;
+    }
+    Ok(())
+}
+
+/// Adds a false hilite for a card of each of these buttons.
+pub(crate) fn add_hilites_of(
+    stack: &mut Stack,
+    entries: &mut Vec<StackEntry>,
+    buttons: &[Id],
+    card: Id,
+) -> Result<(), AllocError>
+    ensures adds { OnOk result (Adds stack.old stack.new entries.old.items entries.new.items (hilites_of buttons.now card)) }
+    ensures same { stack.new.content ≡ stack.old.content }
+{
+    for button in buttons {
+        add_hilite(stack, entries, *button, card)?;
+    }
+    Ok(())
+}
