@@ -1,10 +1,11 @@
 -- Entries that are prepared for a change, with the room that they need.
-use Rattle.std.specs.Prelude.{◌≡◌, List, ◌++◌, map}
+use Rattle.std.specs.Prelude.{◌≡◌, ℕ, ◌<◌, List, ◌++◌, length, take, map, slice_index_or}
 use Rattle.std.specs.List.{AllByRecursion}
+use Rattle.object_table.specs.Content.{Content}
 use Rattle.object_table.specs.Table.{Table}
-use Rattle.stack_places.specs.Exchange.{place_of, value_of, IsReady, IsWider}
+use Rattle.stack_places.specs.Exchange.{place_of, value_of, taken, IsReady, IsWider}
 use Rattle.stack_places.specs.declared.entry.StackEntry.{StackEntry}
-use Rattle.structural_changes.specs.Writes.{StackWrite}
+use Rattle.structural_changes.specs.Writes.{StackWrite, put_each}
 
 -- what an exchange with an entry writes
 abbrev pub write_of : StackEntry → StackWrite
@@ -16,3 +17,8 @@ pub record Adds (old new : Table) (before after : List StackEntry) (writes : Lis
   pub wider : IsWider old.room new.room
   pub written : map write_of after ≡ map write_of before ++ writes
   pub ready : AllByRecursion (IsReady old.room) before → AllByRecursion (IsReady new.room) after
+
+-- After an exchange of each, an entry has what stood at its place when its turn came.
+pub record AreTaken (s : Content) (before after : List StackEntry) : Type 0 where
+  pub count : length after ≡ length before
+  pub each : (i : ℕ) (d : StackEntry) → i < length before → slice_index_or after i d ≡ taken (put_each s (map write_of (take i before))) (slice_index_or before i d)
