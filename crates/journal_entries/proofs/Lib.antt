@@ -10,3 +10,5 @@ pub mod Preparing
 pub mod Replacing
 pub mod Trails
 pub mod Numbering
+pub mod Marks
+pub mod Several

@@ -17,12 +17,13 @@ use Rattle.stack_places.proofs.Exchanging as stack
 use Rattle.stack_places.proofs.Exchanging.{false_true}
 use Rattle.journal_entries.specs.State.{State}
 use Rattle.journal_entries.specs.Places.{Place, same_place, global, in_stack, current_card}
-use Rattle.journal_entries.specs.Trails.{Mark, at, structural, holds}
-use Rattle.journal_entries.specs.Exchange.{Shape, back, back_taken, exchanged, taken, entry_weight, weight, mark_of, stack_mark, trail_of, of_one_place, is_structural, IsReady, AreReady}
+use Rattle.journal_entries.specs.Trails.{Mark, at, structural, turned, holds, mark_at}
+use Rattle.journal_entries.specs.Exchange.{Shape, back, back_taken, exchanged, taken, entry_weight, weight, mark_of, trail_of, of_one_place, is_structural, IsReady, AreReady}
 use Rattle.journal_entries.specs.Turning.{IsNumbered}
 use Rattle.journal_entries.specs.Changing.{holds_one}
 use Rattle.journal_entries.specs.declared.entry.Entry.{Entry}
 use Rattle.journal_entries.specs.declared.entry.Entry.TheVariants.{Global, Current, Stack, External}
+use Rattle.journal_entries.proofs.Marks.{stack_mark, stack_marked}
 use Rattle.journal_entries.proofs.Naming.{antisymmetric}
 use Rattle.journal_entries.proofs.Replacing.{bytes_differ}
 
@@ -31,7 +32,15 @@ named_apart : (names : List (List ℕ)) (h : Shape) (i j : ℕ) (v w : Option (L
 unfolding IsNumbered IsReady of_one_place
 named_apart names h i j v w only n r apart e = false_true (sym apart ∙ eq-eqb i j (sym (only j (omega arith) (sym e))))
 
-commute : (names : List (List ℕ)) (s : State) (h : Shape) (e f : Entry) → IsNumbered names e → h.names ≡ length names → IsReady h f → of_one_place e f ≡ false → is_structural e ≡ false → is_structural f ≡ false → exchanged names (exchanged names s e) f ≡ exchanged names (exchanged names s f) e
+abbrev pub is_turn : Entry → Bool
+is_turn (External i p) = true
+is_turn _ = false
+
+-- the entry replaces one place
+abbrev pub IsPlain : Entry → Type 0
+IsPlain e = (is_structural e ≡ false) × (is_turn e ≡ false)
+
+commute : (names : List (List ℕ)) (s : State) (h : Shape) (e f : Entry) → IsNumbered names e → h.names ≡ length names → IsReady h f → of_one_place e f ≡ false → IsPlain e → is_structural f ≡ false → exchanged names (exchanged names s e) f ≡ exchanged names (exchanged names s f) e
 unfolding exchanged of_one_place is_structural
 commute names s h (Global i v) (Global j w) only n r apart a b = ap (λ m. record s { globals = m }) (put_option_apart nat_list_cmp_total antisymmetric s.globals (get_or names i []) (get_or names j []) v w (named_apart names h i j v w only n r apart))
 commute names s h (Global i v) (Current d) only n r apart a b = refl
@@ -41,11 +50,13 @@ commute names s h (Current c) (Current d) only n r apart a b = false_true (sym a
 commute names s h (Current c) (Stack f) only n r apart a b = refl
 commute names s h (Stack e) (Global j w) only n r apart a b = refl
 commute names s h (Stack e) (Current d) only n r apart a b = refl
-commute names s h (Stack e) (Stack f) only n r apart a b = ap (λ x. record s { stack = x }) (stack.commute s.stack e f apart a b)
-commute names s h (External i p) f only n r apart a b = false_true (sym a)
-commute names s h e (External i p) only n r apart a b = false_true (sym b)
+commute names s h (Stack e) (Stack f) only n r apart a b = ap (λ x. record s { stack = x }) (stack.commute s.stack e f apart a.0 b)
+commute names s h (Global i v) (External j q) only n r apart a b = refl
+commute names s h (Current c) (External j q) only n r apart a b = refl
+commute names s h (Stack e) (External j q) only n r apart a b = refl
+commute names s h (External i p) f only n r apart a b = false_true (sym a.1)
 
-taken_apart : (names : List (List ℕ)) (s : State) (h : Shape) (e f : Entry) → IsNumbered names e → h.names ≡ length names → IsReady h f → of_one_place e f ≡ false → is_structural e ≡ false → is_structural f ≡ false → taken names (exchanged names s e) f ≡ taken names s f
+taken_apart : (names : List (List ℕ)) (s : State) (h : Shape) (e f : Entry) → IsNumbered names e → h.names ≡ length names → IsReady h f → of_one_place e f ≡ false → IsPlain e → is_structural f ≡ false → taken names (exchanged names s e) f ≡ taken names s f
 unfolding exchanged taken of_one_place is_structural
 taken_apart names s h (Global i v) (Global j w) only n r apart a b = ap (λ x. Global j x) (get-put_option_apart nat_list_cmp_total antisymmetric s.globals (get_or names i []) (get_or names j []) v (named_apart names h i j v w only n r apart))
 taken_apart names s h (Global i v) (Current d) only n r apart a b = refl
@@ -55,9 +66,11 @@ taken_apart names s h (Current c) (Current d) only n r apart a b = false_true (s
 taken_apart names s h (Current c) (Stack f) only n r apart a b = refl
 taken_apart names s h (Stack e) (Global j w) only n r apart a b = refl
 taken_apart names s h (Stack e) (Current d) only n r apart a b = refl
-taken_apart names s h (Stack e) (Stack f) only n r apart a b = ap (λ x. Stack x) (stack.taken_apart s.stack e f apart a b)
-taken_apart names s h (External i p) f only n r apart a b = false_true (sym a)
-taken_apart names s h e (External i p) only n r apart a b = false_true (sym b)
+taken_apart names s h (Stack e) (Stack f) only n r apart a b = ap (λ x. Stack x) (stack.taken_apart s.stack e f apart a.0 b)
+taken_apart names s h (Global i v) (External j q) only n r apart a b = refl
+taken_apart names s h (Current c) (External j q) only n r apart a b = refl
+taken_apart names s h (Stack e) (External j q) only n r apart a b = refl
+taken_apart names s h (External i p) f only n r apart a b = false_true (sym a.1)
 
 overwritten : (names : List (List ℕ)) (s : State) (e f : Entry) → of_one_place e f ≡ true → exchanged names (exchanged names s e) f ≡ exchanged names s f
 unfolding exchanged of_one_place
@@ -122,13 +135,13 @@ first_free e f es h = and_right (list_any is_structural es) (of_one_place e f) (
 first_plain : (e f : Entry) (es : List Entry) → AreFree e (f ∷ es) → is_structural f ≡ false
 first_plain e f es h = (or_parts (is_structural f) (list_any is_structural es) h.none).0
 
-back-free : (names : List (List ℕ)) (s : State) (h : Shape) (e : Entry) (es : List Entry) → IsNumbered names e → h.names ≡ length names → AreReady h es → is_structural e ≡ false → AreFree e es → back names (exchanged names s e) es ≡ exchanged names (back names s es) e
+back-free : (names : List (List ℕ)) (s : State) (h : Shape) (e : Entry) (es : List Entry) → IsNumbered names e → h.names ≡ length names → AreReady h es → IsPlain e → AreFree e es → back names (exchanged names s e) es ≡ exchanged names (back names s es) e
 back-free names s h e [] only n r a free = refl
 back-free names s h e (f ∷ es) only n r a free =
     ap (λ x. exchanged names x f) (back-free names s h e es only n r.1 a (rest_free e f es free))
     ∙ commute names (back names s es) h e f only n r.0 (first_free e f es free) a (first_plain e f es free)
 
-back_taken-free : (names : List (List ℕ)) (s : State) (h : Shape) (e : Entry) (es : List Entry) → IsNumbered names e → h.names ≡ length names → AreReady h es → is_structural e ≡ false → AreFree e es → back_taken names (exchanged names s e) es ≡ back_taken names s es
+back_taken-free : (names : List (List ℕ)) (s : State) (h : Shape) (e : Entry) (es : List Entry) → IsNumbered names e → h.names ≡ length names → AreReady h es → IsPlain e → AreFree e es → back_taken names (exchanged names s e) es ≡ back_taken names s es
 back_taken-free names s h e [] only n r a free = refl
 back_taken-free names s h e (f ∷ es) only n r a free =
     let first = ap (λ x. taken names x f) (back-free names s h e es only n r.1 a (rest_free e f es free))
@@ -137,7 +150,7 @@ back_taken-free names s h e (f ∷ es) only n r a free =
     λ i. first i ∷ rest i
 
 -- the batch leads back to the same state, though the new write has no entry
-pub back-once : (names : List (List ℕ)) (s : State) (h : Shape) (e : Entry) (es : List Entry) → IsNumbered names e → h.names ≡ length names → AreReady h es → is_structural e ≡ false → holds_one e es ≡ true → back names (exchanged names s e) es ≡ back names s es
+pub back-once : (names : List (List ℕ)) (s : State) (h : Shape) (e : Entry) (es : List Entry) → IsNumbered names e → h.names ≡ length names → AreReady h es → IsPlain e → holds_one e es ≡ true → back names (exchanged names s e) es ≡ back names s es
 back-once names s h e [] only n r a held = false_true held
 back-once names s h e (f ∷ es) only n r a held =
     elim (holds_one e es) as (λ b. holds_one e es ≡ b → (b || (not (list_any is_structural es) && of_one_place e f)) ≡ true → exchanged names (back names (exchanged names s e) es) f ≡ exchanged names (back names s es) f) [
@@ -149,7 +162,7 @@ back-once names s h e (f ∷ es) only n r a held =
     ] refl held
 
 -- and the value that is there now weighs no more than what was there and what is written
-pub redo-once : (names : List (List ℕ)) (s : State) (h : Shape) (e : Entry) (es : List Entry) → IsNumbered names e → h.names ≡ length names → AreReady h es → is_structural e ≡ false → holds_one e es ≡ true → weight (back_taken names (exchanged names s e) es) ≤ weight (back_taken names s es) + entry_weight e
+pub redo-once : (names : List (List ℕ)) (s : State) (h : Shape) (e : Entry) (es : List Entry) → IsNumbered names e → h.names ≡ length names → AreReady h es → IsPlain e → holds_one e es ≡ true → weight (back_taken names (exchanged names s e) es) ≤ weight (back_taken names s es) + entry_weight e
 redo-once names s h e [] only n r a held = false_true held
 redo-once names s h e (f ∷ es) only n r a held =
     let new = taken names (back names (exchanged names s e) es) f in
@@ -172,10 +185,12 @@ redo-once names s h e (f ∷ es) only n r a held =
 
 abbrev is_mark : Mark → Bool
 is_mark structural = true
+is_mark turned = false
 is_mark (at p) = false
 
 abbrev is_at : Place → Mark → Bool
 is_at p structural = false
+is_at p turned = false
 is_at p (at q) = same_place p q
 
 with_last : (a b c d : Bool) → (a || (b || (c && d))) ≡ ((a || b) || (c && d))
@@ -184,8 +199,10 @@ with_last false b c d = refl
 
 holds-append : (p : Place) (trail : List Mark) (m : Mark) → holds p (trail ++ m ∷ []) ≡ (holds p trail || (not (list_any is_mark trail) && is_at p m))
 holds-append p [] structural = refl
+holds-append p [] turned = refl
 holds-append p [] (at q) = elim (same_place p q) as (λ b. (b || false) ≡ b) [ true ↦ refl | false ↦ refl ]
 holds-append p (structural ∷ trail) m = refl
+holds-append p (turned ∷ trail) m = holds-append p trail m
 holds-append p (at q ∷ trail) m = ap (λ b. same_place p q || b) (holds-append p trail m) ∙ with_last (same_place p q) (holds p trail) (not (list_any is_mark trail)) (is_at p m)
 
 swap_or : (a b : Bool) → (a || (b || false)) ≡ (b || a)
@@ -198,7 +215,7 @@ is_mark_of : (names : List (List ℕ)) (e : Entry) → is_mark (mark_of names e)
 unfolding mark_of is_structural
 is_mark_of names (Global i v) = refl
 is_mark_of names (Current c) = refl
-is_mark_of names (Stack e) = elim (stack_is_structural e) as (λ b. is_mark (stack_mark b (stack_place_of e)) ≡ b) [ true ↦ refl | false ↦ refl ]
+is_mark_of names (Stack e) = ap is_mark (stack_marked e) ∙ elim (stack_is_structural e) as (λ b. is_mark (stack_mark b (stack_place_of e)) ≡ b) [ true ↦ refl | false ↦ refl ]
 is_mark_of names (External i p) = refl
 
 any_mark : (names : List (List ℕ)) (es : List Entry) → list_any is_mark (trail_of names es) ≡ list_any is_structural es
@@ -224,34 +241,37 @@ at_global : (names : List (List ℕ)) (h : Shape) (i : ℕ) (v : Option (List �
 unfolding mark_of of_one_place
 at_global names h i v (Global j w) only n r = same_name names h i j v w only n r
 at_global names h i v (Current d) only n r = refl
-at_global names h i v (Stack f) only n r = elim (stack_is_structural f) as (λ b. is_at (global (get_or names i [])) (stack_mark b (stack_place_of f)) ≡ false) [ true ↦ refl | false ↦ refl ]
+at_global names h i v (Stack f) only n r = ap (is_at (global (get_or names i []))) (stack_marked f) ∙ elim (stack_is_structural f) as (λ b. is_at (global (get_or names i [])) (stack_mark b (stack_place_of f)) ≡ false) [ true ↦ refl | false ↦ refl ]
 at_global names h i v (External j q) only n r = refl
 
 at_current : (names : List (List ℕ)) (c : ℕ) (f : Entry) → is_at current_card (mark_of names f) ≡ of_one_place (Current c) f
 unfolding mark_of of_one_place
 at_current names c (Global j w) = refl
 at_current names c (Current d) = refl
-at_current names c (Stack f) = elim (stack_is_structural f) as (λ b. is_at current_card (stack_mark b (stack_place_of f)) ≡ false) [ true ↦ refl | false ↦ refl ]
+at_current names c (Stack f) = ap (is_at current_card) (stack_marked f) ∙ elim (stack_is_structural f) as (λ b. is_at current_card (stack_mark b (stack_place_of f)) ≡ false) [ true ↦ refl | false ↦ refl ]
 at_current names c (External j q) = refl
 
--- an entry whose mark is a place isn't structural
-pub plain : (names : List (List ℕ)) (e : Entry) (p : Place) → mark_of names e ≡ at p → is_structural e ≡ false
+-- an entry whose mark is a place replaces one place
+pub plain : (names : List (List ℕ)) (e : Entry) (p : Place) → mark_of names e ≡ at p → IsPlain e
 unfolding mark_of is_structural
-plain names (Global i v) p m = refl
-plain names (Current c) p m = refl
-plain names (Stack e) p m =
-    elim (stack_is_structural e) as (λ b. stack_mark b (stack_place_of e) ≡ at p → b ≡ false) [
+plain names (Global i v) p m = (refl, refl)
+plain names (Current c) p m = (refl, refl)
+plain names (Stack e) p m = (
+  elim (stack_is_structural e) as (λ b. stack_mark b (stack_place_of e) ≡ at p → b ≡ false) [
       | true ↦ λ q. let none : structural ≡ at p → ⊥ = λ x. cc in absurd (none q)
       | false ↦ λ q. refl
-    ] m
-plain names (External i q) p m = let none : structural ≡ at p → ⊥ = λ x. cc in absurd (none m)
+    ] (sym (stack_marked e) ∙ m),
+  refl,
+)
+plain names (External i q) p m = let none : turned ≡ at p → ⊥ = λ x. cc in absurd (none m)
 
 at_stack : (names : List (List ℕ)) (e : StackEntry) (f : Entry) → stack_is_structural e ≡ false → is_at (in_stack (stack_place_of e)) (mark_of names f) ≡ of_one_place (Stack e) f
 unfolding mark_of of_one_place
 at_stack names e (Global j w) a = refl
 at_stack names e (Current d) a = refl
 at_stack names e (Stack f) a =
-    elim (stack_is_structural f) as (λ b. stack_is_structural f ≡ b → is_at (in_stack (stack_place_of e)) (stack_mark b (stack_place_of f)) ≡ stack_of_one_place e f) [
+    ap (is_at (in_stack (stack_place_of e))) (stack_marked f)
+    ∙ elim (stack_is_structural f) as (λ b. stack_is_structural f ≡ b → is_at (in_stack (stack_place_of e)) (stack_mark b (stack_place_of f)) ≡ stack_of_one_place e f) [
       | true ↦ λ q. sym (stack.structural_apart e f q)
       | false ↦ λ q. stack.same_place-is e f a
     ] refl
@@ -259,14 +279,14 @@ at_stack names e (External j q) a = refl
 
 place_in : (names : List (List ℕ)) (e : StackEntry) (p : Place) → mark_of names (Stack e) ≡ at p → p ≡ in_stack (stack_place_of e)
 unfolding mark_of is_structural
-place_in names e p m = place_of p _ (ap (λ b. stack_mark b (stack_place_of e)) (sym (plain names (Stack e) p m)) ∙ m)
+place_in names e p m = place_of p _ (ap (λ b. stack_mark b (stack_place_of e)) (sym (plain names (Stack e) p m).0) ∙ sym (stack_marked e) ∙ m)
 
 at_is : (names : List (List ℕ)) (h : Shape) (p : Place) (e f : Entry) → mark_of names e ≡ at p → IsNumbered names e → h.names ≡ length names → IsReady h f → is_at p (mark_of names f) ≡ of_one_place e f
 unfolding mark_of of_one_place is_structural
 at_is names h p (Global i v) f m only n r = rw (place_of p _ m) (at_global names h i v f only n r)
 at_is names h p (Current c) f m only n r = rw (place_of p _ m) (at_current names c f)
-at_is names h p (Stack e) f m only n r = rw (place_in names e p m) (at_stack names e f (plain names (Stack e) p m))
-at_is names h p (External i q) f m only n r = let none : structural ≡ at p → ⊥ = λ x. cc in absurd (none m)
+at_is names h p (Stack e) f m only n r = rw (place_in names e p m) (at_stack names e f (plain names (Stack e) p m).0)
+at_is names h p (External i q) f m only n r = let none : turned ≡ at p → ⊥ = λ x. cc in absurd (none m)
 
 -- the segment holds the place where it has an entry of it
 pub holds-trail : (names : List (List ℕ)) (h : Shape) (p : Place) (e : Entry) (es : List Entry) → mark_of names e ≡ at p → IsNumbered names e → h.names ≡ length names → AreReady h es → holds p (trail_of names es) ≡ holds_one e es

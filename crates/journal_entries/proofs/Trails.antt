@@ -7,7 +7,7 @@ use Rattle.std.proofs.lemmas.Slice.Eq.{bytes_eq-Decides}
 use Rattle.stack_places.proofs.Exchanging.{false_true}
 use Rattle.stack_places.proofs.Places as stack
 use Rattle.journal_entries.specs.Places.{Place, same_place, global, in_stack, current_card, cell}
-use Rattle.journal_entries.specs.Trails.{Mark, at, structural, holds, IsOnce, structural_count, AreAmong, places_in, different, IsShort}
+use Rattle.journal_entries.specs.Trails.{Mark, at, structural, turned, holds, IsOnce, structural_count, turn_count, AreAmong, places_in, different, IsShort}
 
 pub same_place-same : (p : Place) → same_place p p ≡ true
 same_place-same (global n) = (bytes_eq-Decides n n).1 refl
@@ -57,6 +57,11 @@ held_more : (a b : Bool) → free_one (a || b) ≤ free_one b
 held_more true b = omega arith
 held_more false b = omega arith
 
+free-turned : (trail : List Mark) (ps : List Place) → free (turned ∷ trail) ps ≡ free trail ps
+unfolding free
+free-turned trail [] = refl
+free-turned trail (p ∷ ps) = omega (arith, free-turned trail ps)
+
 free-more : (trail : List Mark) (p : Place) (ps : List Place) → free (at p ∷ trail) ps ≤ free trail ps
 unfolding free
 free-more trail p [] = omega arith
@@ -81,12 +86,13 @@ free-less trail p (q ∷ ps) among new =
       | false ↦ λ e. omega (arith, held_more (same_place q p) (holds q trail), free-less trail p ps (or_false_left (same_place p q) (list_any (same_place p) ps) e among) new)
     ] refl
 
-counted : (trail : List Mark) (ps : List Place) → IsOnce trail → AreAmong ps trail → length trail + free trail ps ≤ structural_count trail + (structural_count trail + 1) * length ps
+counted : (trail : List Mark) (ps : List Place) → IsOnce trail → AreAmong ps trail → length trail + free trail ps ≤ turn_count trail + structural_count trail + (structural_count trail + 1) * length ps
 counted [] ps once among = omega (arith, free-all ps)
 counted (structural ∷ trail) ps once among =
     let rest = counted trail ps once among in
     let more : (structural_count trail + 1 + 1) * length ps ≡ (structural_count trail + 1) * length ps + length ps = omega (arith, add-mul (structural_count trail + 1) 1 (length ps)) in
     omega (arith, rest, more, free-past trail ps)
+counted (turned ∷ trail) ps once among = omega (arith, counted trail ps once among, free-turned trail ps)
 counted (at p ∷ trail) ps once among =
     omega (arith, counted trail ps once.1 among.1, free-less trail p ps among.0 once.0)
 
@@ -125,10 +131,11 @@ any-last_ones p (q ∷ ps) h =
 among-last_ones : (ps : List Place) (trail : List Mark) → AreAmong ps trail → AreAmong (last_ones ps) trail
 among-last_ones ps [] h = tt
 among-last_ones ps (structural ∷ trail) h = among-last_ones ps trail h
+among-last_ones ps (turned ∷ trail) h = among-last_ones ps trail h
 among-last_ones ps (at p ∷ trail) h = (any-last_ones p ps h.0, among-last_ones ps trail h.1)
 
--- a batch with s structural entries, in which each place stands once in each segment and is one of p different
--- places, has at most s + (s + 1) * p entries
+-- a batch with t turns and s structural entries, in which each place stands once in each segment and is one of p
+-- different places, has at most t + s + (s + 1) * p entries
 pub short : (trail : List Mark) (ps : List Place) → IsOnce trail → AreAmong ps trail → IsShort trail (different ps)
 short trail ps once among = rw (← length-last_ones ps) (omega (arith, counted trail (last_ones ps) once (among-last_ones ps trail among)))
 
@@ -136,11 +143,13 @@ short trail ps once among = rw (← length-last_ones ps) (omega (arith, counted 
 among-more : (p : Place) (ps : List Place) (trail : List Mark) → AreAmong ps trail → AreAmong (p ∷ ps) trail
 among-more p ps [] h = tt
 among-more p ps (structural ∷ trail) h = among-more p ps trail h
+among-more p ps (turned ∷ trail) h = among-more p ps trail h
 among-more p ps (at q ∷ trail) h = (or_right (same_place q p) (list_any (same_place q) ps) h.0, among-more p ps trail h.1)
 
 among-own : (trail : List Mark) → AreAmong (places_in trail) trail
 among-own [] = tt
 among-own (structural ∷ trail) = among-own trail
+among-own (turned ∷ trail) = among-own trail
 among-own (at p ∷ trail) = (or_left (same_place p p) (list_any (same_place p) (places_in trail)) (same_place-same p), among-more p (places_in trail) trail (among-own trail))
 
 pub short-own : (trail : List Mark) → IsOnce trail → IsShort trail (different (places_in trail))

@@ -4,7 +4,9 @@ use Rattle.std.proofs.lemmas.List.{reverse-append, map-append}
 use Rattle.std.proofs.lemmas.List.Sums.{sum_by_push}
 use Rattle.stack_places.proofs.Exchanging as stack
 use Rattle.journal_entries.specs.State.{State}
-use Rattle.journal_entries.specs.Exchange.{exchanged, taken, back, back_taken, forth_taken, entry_weight, weight, mark_of, stack_mark, trail_of}
+use Rattle.journal_entries.specs.Places.{in_stack}
+use Rattle.journal_entries.specs.Trails.{mark_at}
+use Rattle.journal_entries.specs.Exchange.{exchanged, taken, back, back_taken, forth_taken, entry_weight, weight, mark_of, trail_of}
 use Rattle.journal_entries.specs.declared.entry.Entry.{Entry}
 use Rattle.journal_entries.specs.declared.entry.Entry.TheVariants.{Global, Current, Stack, External}
 use Rattle.journal_entries.proofs.Going.{back_taken-push}
@@ -24,7 +26,7 @@ pub mark_of-taken : (names : List (List ℕ)) (s : State) (e : Entry) → mark_o
 unfolding mark_of taken
 mark_of-taken names s (Global i v) = refl
 mark_of-taken names s (Current c) = refl
-mark_of-taken names s (Stack e) = λ i. stack_mark (stack.is_structural-taken s.stack e i) (stack.place_of-taken s.stack e i)
+mark_of-taken names s (Stack e) = ap (λ p. mark_at (in_stack p)) (stack.place_of-taken s.stack e)
 mark_of-taken names s (External i p) = refl
 
 marks-back : (names : List (List ℕ)) (s : State) (es : List Entry) → map (mark_of names) (back_taken names s es) ≡ map (mark_of names) es

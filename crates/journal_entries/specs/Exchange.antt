@@ -5,11 +5,11 @@ use Rattle.std.specs.Coded.{Coded, code_by, coded×, coded_ℕ, coded_list}
 use Rattle.externals.specs.Cells.{Seen, none_seen, flipped, taken_out, IsProper}
 use Rattle.object_table.specs.Maps.{put_option}
 use Rattle.object_table.specs.Table.{Room, coded_room}
-use Rattle.stack_places.specs.Places.{StackPlace, size, size_of, text, number}
+use Rattle.stack_places.specs.Places.{size, size_of, text, number}
 use Rattle.stack_places.specs.Exchange as stack
 use Rattle.journal_entries.specs.State.{State, coded_state}
 use Rattle.journal_entries.specs.Places.{global, in_stack, current_card}
-use Rattle.journal_entries.specs.Trails.{Mark, at, structural}
+use Rattle.journal_entries.specs.Trails.{Mark, at, turned, mark_at}
 use Rattle.journal_entries.specs.declared.entry.Entry.{Entry}
 use Rattle.journal_entries.specs.declared.entry.Entry.TheVariants.{Global, Current, Stack, External}
 
@@ -78,30 +78,25 @@ entry_weight (External i p) = sum_by (λ e. 32 + length e.1) p
 abbrev pub weight : List Entry → ℕ
 weight = sum_by entry_weight
 
--- what an entry of the stack replaces
-abbrev pub stack_mark : Bool → StackPlace → Mark
-stack_mark true p = structural
-stack_mark false p = at (in_stack p)
-
 -- what an entry replaces
 unfoldable pub mark_of : List (List ℕ) → Entry → Mark
 mark_of names (Global i v) = at (global (name_at names i))
 mark_of names (Current c) = at current_card
-mark_of names (Stack e) = stack_mark (stack.is_structural e) (stack.place_of e)
-mark_of names (External i p) = structural
+mark_of names (Stack e) = mark_at (in_stack (stack.place_of e))
+mark_of names (External i p) = turned
 
 abbrev pub trail_of : List (List ℕ) → List Entry → List Mark
 trail_of names es = reverse (map (mark_of names) es)
 
--- whether two entries are of one place, which no structural entry has
+-- whether two entries are of one place, which neither a structural entry nor one of an external has
 unfoldable pub of_one_place : Entry → Entry → Bool
 of_one_place (Global i v) (Global j w) = nat_eq i j
 of_one_place (Current c) (Current d) = true
 of_one_place (Stack e) (Stack f) = stack.of_one_place e f
 of_one_place _ _ = false
 
+-- whether an entry makes or removes an object
 unfoldable pub is_structural : Entry → Bool
-is_structural (External i p) = true
 is_structural (Stack e) = stack.is_structural e
 is_structural _ = false
 

@@ -5,6 +5,7 @@ use Rattle.stack_places.specs.Places as stack
 use Rattle.std.specs.FinMap.{get}
 use Rattle.externals.specs.Cells.{Seen, none_seen}
 use Rattle.object_table.specs.Maps.{put_option}
+use Rattle.structural_changes.specs.Writes.{StackWrite}
 use Rattle.journal_entries.specs.State.{State}
 
 -- A global goes by its folded name, a cell by its external's number and its own.
@@ -46,6 +47,10 @@ put s (cell i c) v = record s { externals = with_cell s.externals i c (as_text v
 pub record Write : Type 0 where
   pub place : Place
   pub value : Option Value
+
+-- a write of the stack
+abbrev pub in_the_stack : StackWrite → Write
+in_the_stack w = record { place = in_stack w.place; value = w.value }
 
 -- the state after writes, from the first to the last
 abbrev pub put_all : State → List Write → State

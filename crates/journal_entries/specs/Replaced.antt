@@ -2,7 +2,7 @@
 use Rattle.std.specs.Prelude.{ℕ, ◌+◌, List, [], ◌∷◌, ◌++◌, map, sum_by, bytes_eq, if◌then◌else◌, Option, Some}
 use Rattle.stack_places.specs.Places.{Value, size_of, text}
 use Rattle.journal_entries.specs.State.{State}
-use Rattle.journal_entries.specs.Places.{Place, value_at, cell}
+use Rattle.journal_entries.specs.Places.{Place, Write, value_at, put, cell}
 use Rattle.journal_entries.specs.Changes.{writes_of}
 use Rattle.journal_entries.specs.declared.change.Change.{Change}
 
@@ -12,9 +12,14 @@ pub record Replacement : Type 0 where
   pub old : Option Value
   pub new : Option Value
 
--- what a change replaces, one member for each place, in order; an equal value counts
+-- what writes replace, one after the other; an equal value counts
+abbrev pub replaced_in_turn : State → List Write → List Replacement
+replaced_in_turn s [] = []
+replaced_in_turn s (w ∷ ws) = record { place = w.place; old = value_at s w.place; new = w.value } ∷ replaced_in_turn (put s w.place w.value) ws
+
+-- what a change replaces, one member for each place, in order
 abbrev pub replaced_by : State → Change → List Replacement
-replaced_by s change = map (λ w. record { place = w.place; old = value_at s w.place; new = w.value }) (writes_of s change)
+replaced_by s change = replaced_in_turn s (writes_of s change)
 
 -- the places that are replaced
 abbrev pub places_of : List Replacement → List Place

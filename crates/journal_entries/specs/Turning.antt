@@ -10,10 +10,12 @@ use Rattle.journal_entries.specs.Named.{Extends}
 use Rattle.journal_entries.specs.State.{State, seen_at}
 use Rattle.journal_entries.specs.Changes.{writes_of}
 use Rattle.journal_entries.specs.Places.{Write, put, value_at}
-use Rattle.journal_entries.specs.Trails.{at}
-use Rattle.journal_entries.specs.Exchange.{PresentView, name_at, with_cells, IsReady, shape_of, exchanged, taken, entry_weight, mark_of}
+use Rattle.journal_entries.specs.Trails.{mark_at}
+use Rattle.journal_entries.specs.Exchange.{PresentView, name_at, with_cells, AreReady, shape_of, exchanged, taken, entry_weight, mark_of}
 use Rattle.journal_entries.specs.declared.entry.Entry.{Entry}
 use Rattle.journal_entries.specs.declared.entry.Entry.TheVariants.{Global, Current, Stack, External}
+use Rattle.journal_entries.specs.declared.entry.Prepared.{Prepared}
+use Rattle.journal_entries.specs.declared.entry.Prepared.TheVariants.{One, Several}
 use Rattle.journal_entries.specs.declared.change.Change.{Change}
 
 -- the state in which the i-th external has these cells
@@ -49,15 +51,22 @@ IsNumbered names (External i p) = Unit {0}
 
 -- the exchange of an entry is this write of one place, and it weighs as much
 pub record Carries (names : List (List ℕ)) (s : State) (w : Write) (e : Entry) : Type 0 where
-  pub mark : mark_of names e ≡ at w.place
+  pub mark : mark_of names e ≡ mark_at w.place
   pub state : exchanged names s e ≡ put s w.place w.value
   pub forth : entry_weight e ≡ 32 + size_of w.value
   pub back : entry_weight (taken names s e) ≡ 32 + size_of (value_at s w.place)
 
--- the entry is ready to make the change, which is one write
-pub record Prepares (h : PresentView) (change : Change) (e : Entry) : Type 0 where
-  pub ready : IsReady (shape_of h) e
-  pub numbered : IsNumbered h.names e
-  pub write : Write
-  pub writes : writes_of h.state change ≡ write ∷ []
-  pub carries : Carries h.names h.state write e
+-- an entry for each write, in order
+abbrev pub AreCarried : List (List ℕ) → State → List Write → List Entry → Type 0
+AreCarried names s [] [] = Unit {0}
+AreCarried names s (w ∷ ws) (e ∷ es) = IsNumbered names e × Carries names s w e × AreCarried names (put s w.place w.value) ws es
+AreCarried names s _ _ = ⊥
+
+abbrev pub entries_of : Prepared → List Entry
+entries_of (One e) = e ∷ []
+entries_of (Several es) = es.items
+
+-- the entries are ready to make the change
+pub record Prepares (h : PresentView) (change : Change) (es : List Entry) : Type 0 where
+  pub ready : AreReady (shape_of h) es
+  pub carried : AreCarried h.names h.state (writes_of h.state change) es

@@ -1,15 +1,15 @@
 //! A batch: what goes back over the changes and turns of one command.
 
-ghost use Rattle.std.specs.Prelude.{◌≡◌, ℕ, ◌<◌, true, List, [], ◌∷◌, ◌++◌, length, IfOk, OnErr, OnOk};
+ghost use Rattle.std.specs.Prelude.{◌≡◌, ℕ, ◌<◌, ◌≤◌, ◌+◌, vec_len, vec_capacity, true, List, [], ◌∷◌, ◌++◌, length, IfOk, OnErr, OnOk};
 ghost use Rattle.externals.specs.Cells.{IsPatch, Changes};
-ghost use Rattle.journal_entries.specs.State.{seen_at};
+ghost use Rattle.journal_entries.specs.State.{IsState, seen_at};
 ghost use Rattle.journal_entries.specs.Changes.{fits};
-ghost use Rattle.journal_entries.specs.Changing.{Makes, holds_one};
+ghost use Rattle.journal_entries.specs.Changing.{Makes, holds_one, kept, kept_in_turn, kept_turn};
 ghost use Rattle.journal_entries.specs.Turning.{Grows, Turns, TurnsAtMostOnce, one_more_at};
 ghost use Rattle.journal_entries.specs.Exchange.{back, back_taken, forth, forth_taken, exchanged, taken, shape_of, AreReady, IsReady};
 
 use crate::change::Change;
-use crate::entry::{Entry, are_of_one_place, is_structural_entry};
+use crate::entry::{Entry, Prepared, are_of_one_place, is_structural_entry};
 use crate::present::Present;
 use externals::{Ask, External, Input};
 use std::alloc::{AllocError, Global};
@@ -70,35 +70,47 @@ impl Batch {
     pub fn holds(&self, entry: &Entry) -> bool
         ensures { result ≡ holds_one entry.now self.now.entries }
     {
-        let mut i = self.entries.len();
-        while i > 0 {
-            i -= 1;
-            let other = &self.entries[i];
-            if is_structural_entry(other) {
-                return false;
-            }
-            if are_of_one_place(entry, other) {
-                return true;
-            }
-        }
-        false
+        holds_place(&self.entries, entry)
     }
 
-    /// Makes an exchange and keeps what comes out.
-    pub fn record<E: External>(
+    /// Makes an exchange and keeps what comes out, unless the place has its entry already.
+    fn write<E: External>(
         &mut self,
         present: &mut Present<E>,
         mut entry: Entry,
     ) -> Result<(), AllocError>
         requires { IsReady (shape_of present.old) entry }
         ensures state { OnOk result (present.new ≡ record present.old { state = exchanged present.old.names present.old.state entry }) }
-        ensures entries { OnOk result (self.new ≡ record self.old { entries = self.old.entries ++ taken present.old.names present.old.state entry ∷ [] }) }
+        ensures entries { OnOk result (self.new ≡ record self.old { entries = kept self.old.entries entry (taken present.old.names present.old.state entry) }) }
         ensures state_err { OnErr result (present.new ≡ present.old) }
         ensures entries_err { OnErr result (self.new ≡ self.old) }
     {
+        if self.holds(&entry) {
+            present.exchange(&mut entry);
+            return Ok(());
+        }
         self.entries.reserve(1)?;
         present.exchange(&mut entry);
         self.entries.push_reserved(entry);
+        Ok(())
+    }
+
+    /// Makes exchanges, from the first to the last, and keeps of what comes out what the places have no entry for.
+    fn write_each<E: External>(
+        &mut self,
+        present: &mut Present<E>,
+        entries: Vec<Entry>,
+    ) -> Result<(), AllocError>
+        requires { AreReady (shape_of present.old) entries.items }
+        ensures state { OnOk result (present.new ≡ record present.old { state = forth present.old.names present.old.state entries.items }) }
+        ensures entries { OnOk result (self.new ≡ record self.old { entries = kept_in_turn present.old.names present.old.state self.old.entries entries.items }) }
+        ensures state_err { OnErr result (present.new ≡ present.old) }
+        ensures entries_err { OnErr result (self.new ≡ self.old) }
+    {
+        self.entries.reserve(entries.len())?;
+        for entry in entries {
+            write_reserved(&mut self.entries, present, entry);
+        }
         Ok(())
     }
 
@@ -106,21 +118,21 @@ impl Batch {
     pub fn make<E: External>(
         &mut self,
         present: &mut Present<E>,
+        alloc: Global,
         change: Change,
     ) -> Result<(), AllocError>
-        requires { fits present.old.state change ≡ true }
+        requires state { IsState present.old.state }
+        requires fits { fits present.old.state change ≡ true }
         ensures ok { OnOk result (Makes present.old present.new self.old self.new change) }
         ensures err { OnErr result (Grows present.old present.new × (self.new ≡ self.old)) }
     {
-        let mut entry = present.prepare(change)?;
-        if self.holds(&entry) {
-            present.exchange(&mut entry);
-            return Ok(());
+        match present.prepare(alloc, change)? {
+            Prepared::One(entry) => self.write(present, entry),
+            Prepared::Several(entries) => self.write_each(present, entries),
         }
-        self.record(present, entry)
     }
 
-    /// Gives an external one turn and keeps its patch.
+    /// Gives an external one turn and keeps its patch, if that names a cell.
     pub fn turn<E: External>(
         &mut self,
         present: &mut Present<E>,
@@ -131,14 +143,55 @@ impl Batch {
         requires { i < length present.old.state.externals }
         ensures turn { IfOk result (λ ask. Turns present.old.state present.new.state i input.now ask) }
         ensures entry { OnOk result ((p : Changes) × IsPatch (seen_at present.old.state i).cells (seen_at present.new.state i).cells p
-            × (self.new ≡ record self.old { entries = self.old.entries ++ Entry.External i p ∷ [] })) }
+            × (self.new ≡ record self.old { entries = kept_turn self.old.entries i p })) }
         ensures present { OnOk result (present.new ≡ record present.old { state = present.new.state; turns = one_more_at present.old.turns i }) }
         ensures err { OnErr result (self.new ≡ self.old) }
         ensures present_err { OnErr result (TurnsAtMostOnce present.old present.new i) }
     {
         self.entries.reserve(1)?;
         let (ask, patch) = present.turn(i, alloc, input)?;
-        self.entries.push_reserved(Entry::External(i, patch));
+        if patch.len() > 0 {
+            self.entries.push_reserved(Entry::External(i, patch));
+        }
         Ok(ask)
     }
+}
+
+/// Whether the segment since the last structural entry has an entry of this one's place.
+fn holds_place(entries: &[Entry], entry: &Entry) -> bool
+    ensures { result ≡ holds_one entry.now entries.now }
+{
+    let mut i = entries.len();
+    while i > 0 {
+        i -= 1;
+        let other = &entries[i];
+        if is_structural_entry(other) {
+            return false;
+        }
+        if are_of_one_place(entry, other) {
+            return true;
+        }
+    }
+    false
+}
+
+/// Makes an exchange and keeps what comes out, unless the place has its entry already. There is room for one.
+fn write_reserved<E: External>(
+    entries: &mut Vec<Entry>,
+    present: &mut Present<E>,
+    mut entry: Entry,
+)
+    requires ready { IsReady (shape_of present.old) entry }
+    requires room { vec_len entries.old < vec_capacity entries.old }
+    ensures state { present.new ≡ record present.old { state = exchanged present.old.names present.old.state entry } }
+    ensures items { entries.new.items ≡ kept entries.old.items entry (taken present.old.names present.old.state entry) }
+    ensures len { vec_len entries.new ≤ vec_len entries.old + 1 }
+    ensures capacity { vec_capacity entries.new ≡ vec_capacity entries.old }
+{
+    let held = holds_place(entries, &entry);
+    present.exchange(&mut entry);
+    if held {
+        return;
+    }
+    entries.push_reserved(entry);
 }

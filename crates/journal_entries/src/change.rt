@@ -2,8 +2,8 @@
 
 ghost use Rattle.journal_entries.specs.Changes.{HasTexts};
 
-use ht_values::{Text, law_of_text};
-use object_table::{Id, PropValue};
+use ht_values::{PartKind, Text, law_of_text};
+use object_table::{Id, LayerId, PropValue};
 
 /// A change of the present state.
 #[derive(Drop)]
@@ -18,6 +18,15 @@ pub enum Change {
     Prop(Id, PropValue),
     /// The card of this id becomes the current one.
     Current(Id),
+    /// A card on the background of the current one, behind which it stands. It becomes the current one.
+    NewCard,
+    /// A background, the last one, and its card, which stands behind the current one and becomes the current one.
+    NewBackground,
+    /// A button or a field, the last part of a card or of a background.
+    NewPart(LayerId, PartKind),
+    /// The current card goes, and its background with it if it is the last card there. The card that follows becomes
+    /// the current one.
+    DeleteCard,
 }
 
 /// What the texts of a change are by their type.
@@ -34,6 +43,12 @@ pub fn law_of_texts(change: &Change)
         Change::FieldText(_, _, text)
         | Change::Prop(_, PropValue::NameIs(text))
         | Change::Prop(_, PropValue::ScriptIs(text)) => law_of_text(text),
-        Change::Hilite(_, _, _) | Change::Prop(_, _) | Change::Current(_) => {}
+        Change::Hilite(_, _, _)
+        | Change::Prop(_, _)
+        | Change::Current(_)
+        | Change::NewCard
+        | Change::NewBackground
+        | Change::NewPart(_, _)
+        | Change::DeleteCard => {}
     }
 }

@@ -17,15 +17,22 @@ pub enum Entry {
     External(usize, Patch),
 }
 
-/// Whether the entry makes or removes an object or belongs to an external.
+/// The entries that make a change, ready to be exchanged.
+#[derive(Drop)]
+pub enum Prepared {
+    /// Those of a change of one place, without a list of their own.
+    One(Entry),
+    Several(Vec<Entry>),
+}
+
+/// Whether the entry makes or removes an object.
 #[tactic(auto, unfolding(crate::specs::Exchange::is_structural))]
 pub fn is_structural_entry(entry: &Entry) -> bool
     ensures { result ≡ is_structural entry.now }
 {
     match entry {
         Entry::Stack(entry) => entry.is_structural(),
-        Entry::External(_, _) => true,
-        Entry::Global(_, _) | Entry::Current(_) => false,
+        Entry::Global(_, _) | Entry::Current(_) | Entry::External(_, _) => false,
     }
 }
 

@@ -11,7 +11,7 @@ mod present;
 
 pub use batch::Batch;
 pub use change::{Change, law_of_texts};
-pub use entry::Entry;
+pub use entry::{Entry, Prepared};
 pub use globals::Globals;
 pub use laws::{law_of_externals, law_of_trails};
 pub use names::{are_apart, index_of};

@@ -3,21 +3,24 @@
 ghost use Rattle.std.specs.Prelude.{◌≡◌, ℕ, ◌<◌, List, [], ◌∷◌, ◌++◌, length, ◌+◌, true, take, drop, IfOk, IfErr, OnErr, OnOk, slice_index_or, slice_get, Some, option_copied, map};
 ghost use Rattle.std.specs.FinMap as finite;
 ghost use Rattle.externals.specs.Cells.{IsPatch};
-ghost use Rattle.journal_entries.specs.State.{seen_by, seen_at, first_state, titles_of, has_name as has_title, index_of as index_of_title, is_folded as is_folded_name};
-ghost use Rattle.object_table.specs.Objects.{has_kind, is_card as is_card_kind};
+ghost use Rattle.journal_entries.specs.State.{IsState, seen_by, seen_at, first_state, titles_of, has_name as has_title, index_of as index_of_title, is_folded as is_folded_name};
 ghost use Rattle.journal_entries.specs.Named.{listed, Lists};
 ghost use Rattle.journal_entries.specs.Changes.{fits};
 ghost use Rattle.journal_entries.specs.Exchange.{exchanged, taken, back, back_taken, forth, forth_taken, shape_of, IsReady, AreReady};
-ghost use Rattle.journal_entries.specs.Turning.{Grows, Prepares, Turns, one_more_at};
+ghost use Rattle.journal_entries.specs.Turning.{Grows, Prepares, Turns, entries_of, one_more_at};
 
 use crate::change::Change;
-use crate::entry::Entry;
+use crate::entry::{Entry, Prepared};
 use crate::globals::Globals;
 use crate::names::{has_name, index_of};
 use externals::{Ask, External, Input, Patch};
-use ht_values::Text;
-use object_table::{Kind, Stack};
+use ht_values::{PartKind, Text};
+use object_table::{LayerId, Stack};
 use stack_places::StackEntry;
+use structural_changes::{
+    fits_deletion, fits_new_part, following_card, has_room, is_card, prepare_deletion,
+    prepare_new_background, prepare_new_card, prepare_new_part,
+};
 use std::alloc::{AllocError, Global};
 use std::marker::Model;
 use std::mem;
@@ -111,26 +114,101 @@ impl<E: External> Present<E> {
         }
     }
 
-    /// Grows what a change needs, and hands out the entry that makes it.
+    /// Grows what a change needs, and hands out the entries that make it.
     #[tactic(auto, unfolding(crate::specs::Exchange::exchanged, crate::specs::Exchange::taken, crate::specs::Exchange::mark_of, crate::specs::Exchange::entry_weight, crate::specs::Exchange::IsReady, crate::specs::Places::put, crate::specs::Turning::IsNumbered))]
-    pub fn prepare(&mut self, change: Change) -> Result<Entry, AllocError>
-        requires { fits self.old.state change ≡ true }
-        ensures entry { IfOk result (Prepares self.new change) }
+    pub fn prepare(&mut self, alloc: Global, change: Change) -> Result<Prepared, AllocError>
+        requires state { IsState self.old.state }
+        requires fits { fits self.old.state change ≡ true }
+        ensures entries { IfOk result (λ p. Prepares self.new change (entries_of p)) }
         ensures grows { Grows self.old self.new }
     {
         match change {
-            Change::Global(name, value) => Ok(Entry::Global(self.globals.number(name)?, value)),
+            Change::Global(name, value) => {
+                let number = self.globals.number(name)?;
+                Ok(Prepared::One(Entry::Global(number, value)))
+            }
             Change::FieldText(field, card, text) => {
                 self.stack.open_text(field, card)?;
-                Ok(Entry::Stack(StackEntry::FieldText(field, card, Some(text))))
+                let entry = StackEntry::FieldText(field, card, Some(text));
+                Ok(Prepared::One(Entry::Stack(entry)))
             }
             Change::Hilite(button, card, hilite) => {
                 self.stack.open_hilite(button, card)?;
-                Ok(Entry::Stack(StackEntry::Hilite(button, card, Some(hilite))))
+                let entry = StackEntry::Hilite(button, card, Some(hilite));
+                Ok(Prepared::One(Entry::Stack(entry)))
             }
-            Change::Prop(id, value) => Ok(Entry::Stack(StackEntry::Prop(id, value))),
-            Change::Current(card) => Ok(Entry::Current(card)),
+            Change::Prop(id, value) => Ok(Prepared::One(Entry::Stack(StackEntry::Prop(id, value)))),
+            Change::Current(card) => Ok(Prepared::One(Entry::Current(card))),
+            Change::NewCard => Ok(Prepared::Several(self.prepare_new_card(alloc)?)),
+            Change::NewBackground => Ok(Prepared::Several(self.prepare_new_background(alloc)?)),
+            Change::NewPart(layer, kind) => {
+                Ok(Prepared::Several(self.prepare_new_part(alloc, layer, kind)?))
+            }
+            Change::DeleteCard => Ok(Prepared::Several(self.prepare_deletion(alloc)?)),
         }
+    }
+
+    /// The entries of a new card.
+    fn prepare_new_card(&mut self, alloc: Global) -> Result<Vec<Entry>, AllocError>
+        requires state { IsState self.old.state }
+        requires fits { fits self.old.state Change.NewCard ≡ true }
+        ensures entries { IfOk result (λ entries. Prepares self.new Change.NewCard entries.items) }
+        ensures grows { Grows self.old self.new }
+    {
+        let next = self.stack.next_id();
+        let made = prepare_new_card(alloc, &mut self.stack, self.current)?;
+        let mut entries = Vec::new(alloc);
+        add_each(&mut entries, made)?;
+        entries.push(Entry::Current(next))?;
+        Ok(entries)
+    }
+
+    /// The entries of a new background and its card.
+    fn prepare_new_background(&mut self, alloc: Global) -> Result<Vec<Entry>, AllocError>
+        requires state { IsState self.old.state }
+        requires fits { fits self.old.state Change.NewBackground ≡ true }
+        ensures entries { IfOk result (λ entries. Prepares self.new Change.NewBackground entries.items) }
+        ensures grows { Grows self.old self.new }
+    {
+        let next = self.stack.next_id();
+        let made = prepare_new_background(alloc, &mut self.stack, self.current)?;
+        let mut entries = Vec::new(alloc);
+        add_each(&mut entries, made)?;
+        entries.push(Entry::Current(next + 1))?;
+        Ok(entries)
+    }
+
+    /// The entries of a new part.
+    fn prepare_new_part(
+        &mut self,
+        alloc: Global,
+        layer: LayerId,
+        kind: PartKind,
+    ) -> Result<Vec<Entry>, AllocError>
+        requires state { IsState self.old.state }
+        requires fits { fits self.old.state (Change.NewPart layer kind) ≡ true }
+        ensures entries { IfOk result (λ entries. Prepares self.new (Change.NewPart layer kind) entries.items) }
+        ensures grows { Grows self.old self.new }
+    {
+        let made = prepare_new_part(alloc, &mut self.stack, layer, kind)?;
+        let mut entries = Vec::new(alloc);
+        add_each(&mut entries, made)?;
+        Ok(entries)
+    }
+
+    /// The entries of the current card's deletion.
+    fn prepare_deletion(&mut self, alloc: Global) -> Result<Vec<Entry>, AllocError>
+        requires state { IsState self.old.state }
+        requires fits { fits self.old.state Change.DeleteCard ≡ true }
+        ensures entries { IfOk result (λ entries. Prepares self.new Change.DeleteCard entries.items) }
+        ensures grows { Grows self.old self.new }
+    {
+        let next = following_card(&self.stack, self.current);
+        let gone = prepare_deletion(alloc, &mut self.stack, self.current)?;
+        let mut entries = Vec::new(alloc);
+        entries.push(Entry::Current(next))?;
+        add_each(&mut entries, gone)?;
+        Ok(entries)
     }
 
     /// Gives an external one turn.
@@ -212,6 +290,10 @@ impl<E: External> Present<E> {
             Change::Hilite(button, card, _) => self.stack.hilite(*button, *card).is_some(),
             Change::Prop(id, value) => self.stack.may_set(*id, value),
             Change::Current(card) => is_card(&self.stack, *card),
+            Change::NewCard => has_room(&self.stack, 1),
+            Change::NewBackground => has_room(&self.stack, 2),
+            Change::NewPart(layer, _) => fits_new_part(&self.stack, *layer),
+            Change::DeleteCard => fits_deletion(&self.stack),
         }
     }
 
@@ -271,14 +353,15 @@ impl<E: External> Present<E> {
     }
 }
 
-/// Whether the id is a card's.
-fn is_card(stack: &Stack, id: u32) -> bool
-    ensures { result ≡ has_kind is_card_kind stack.now.content id }
+/// Adds entries of the stack.
+fn add_each(entries: &mut Vec<Entry>, more: Vec<StackEntry>) -> Result<(), AllocError>
+    ensures { OnOk result (entries.new.items ≡ entries.old.items ++ map (λ e. Entry.Stack e) more.items) }
 {
-    match stack.object(id) {
-        Some(object) => matches!(object.kind, Kind::Card { .. }),
-        None => false,
+    entries.reserve(more.len())?;
+    for entry in more {
+        entries.push_reserved(Entry::Stack(entry));
     }
+    Ok(())
 }
 
 /// Whether no byte of the name is one of A-Z.

@@ -9,9 +9,11 @@ use Rattle.object_table.specs.Table.{Table}
 use Rattle.stack_places.specs.Exchange.{IsReady, IsWider, exchanged, taken}
 use Rattle.stack_places.specs.declared.entry.StackEntry.{StackEntry}
 use Rattle.stack_places.proofs.Exchanging.{IsReady-wider, puts}
-use Rattle.stack_places.proofs.Wider.{IsWider-same}
+use Rattle.std.specs.FinSet.{insert}
+use Rattle.object_table.specs.Pairs.{Pair}
+use Rattle.stack_places.proofs.Wider.{IsWider-same, IsWider-text, IsWider-hilite}
 use Rattle.object_table.specs.Table.{Room}
-use Rattle.structural_changes.specs.Prepared.{Adds, write_of}
+use Rattle.structural_changes.specs.Prepared.{Adds, Opens, write_of}
 use Rattle.structural_changes.specs.Writes.{StackWrite, put_each}
 use Rattle.structural_changes.proofs.Filled.{put_each-append}
 use Rattle.object_table.specs.Content.{Content}
@@ -52,6 +54,26 @@ adds_then a b c es fs gs ws vs one two = record {
 
 pub IsWider-slots : (r : Room) (slots : ℕ) → r.slots ≤ slots → IsWider r (record r { slots = slots })
 IsWider-slots r slots h = record { slots = h; texts = λ p q. q; hilites = λ p q. q }
+
+-- ---- room that grows
+
+pub opens_nothing : (t : Table) → Opens t t
+opens_nothing t = record { content = refl; wider = IsWider-same t.room }
+
+pub opens_then : (a b c : Table) → Opens a b → Opens b c → Opens a c
+opens_then a b c one two = record { content = two.content ∙ one.content; wider = IsWider-then a.room b.room c.room one.wider two.wider }
+
+pub opens_added : (a b : Table) (es fs : List StackEntry) (ws : List StackWrite) → Adds a b es fs ws → Opens a b
+opens_added a b es fs ws adds = record { content = adds.content; wider = adds.wider }
+
+pub opens_slots : (old new : Table) → new ≡ record old { room = record old.room { slots = new.room.slots } } → old.room.slots ≤ new.room.slots → Opens old new
+opens_slots old new e h = record { content = ap (λ t. t.content) e; wider = subst (λ t. IsWider old.room t.room) (sym e) (IsWider-slots old.room new.room.slots h) }
+
+pub opens_text : (old new : Table) (p : Pair) → new ≡ record old { room = record old.room { texts = insert old.room.texts p } } → Opens old new
+opens_text old new p e = record { content = ap (λ t. t.content) e; wider = subst (λ t. IsWider old.room t.room) (sym e) (IsWider-text old.room p) }
+
+pub opens_hilite : (old new : Table) (p : Pair) → new ≡ record old { room = record old.room { hilites = insert old.room.hilites p } } → Opens old new
+opens_hilite old new p e = record { content = ap (λ t. t.content) e; wider = subst (λ t. IsWider old.room t.room) (sym e) (IsWider-hilite old.room p) }
 
 -- ---- entries that are exchanged
 

@@ -11,6 +11,11 @@ use Rattle.structural_changes.specs.Writes.{StackWrite, put_each}
 abbrev pub write_of : StackEntry → StackWrite
 write_of e = record { place = place_of e; value = value_of e }
 
+-- Only the room grows.
+pub record Opens (old new : Table) : Type 0 where
+  pub content : new.content ≡ old.content
+  pub wider : IsWider old.room new.room
+
 -- Entries that write this were added. The stack has more room, and else is as it was; each entry finds its room.
 pub record Adds (old new : Table) (before after : List StackEntry) (writes : List StackWrite) : Type 0 where
   pub content : new.content ≡ old.content

@@ -4,7 +4,7 @@ ghost use Rattle.std.specs.Prelude.{◌≡◌, IfOk, [], ◌∷◌, ◌++◌, So
 ghost use Rattle.object_table.specs.Objects.{has_kind, is_background, is_card, parts_at};
 ghost use Rattle.object_table.specs.Layers.{layer_id};
 ghost use Rattle.object_table.specs.WellFormed.{IsWellFormed};
-ghost use Rattle.structural_changes.specs.Prepared.{Adds};
+ghost use Rattle.structural_changes.specs.Prepared.{Adds, Opens};
 ghost use Rattle.structural_changes.specs.Writes.{new_part, kept_for, insert_after, is_part_of, ids_where, writes_of_new_part, fits_new_part, has_room_for, home, writes_of_new_card, writes_of_new_background};
 
 use crate::preparing::{
@@ -95,8 +95,8 @@ fn cards_kept_for(alloc: Global, stack: &Stack, layer: LayerId) -> Result<Vec<Id
     Ok(cards)
 }
 
-/// The entries of a new part, with all the room that they need. The stack holds what it held; where a growth is refused its
-/// room may be wider.
+/// The entries of a new part, with all the room that they need. The stack holds what it held, and has more room, also
+/// where a growth is refused.
 pub fn prepare_new_part(
     alloc: Global,
     stack: &mut Stack,
@@ -105,7 +105,7 @@ pub fn prepare_new_part(
 ) -> Result<Vec<StackEntry>, AllocError>
     requires well_formed { IsWellFormed stack.old.content }
     requires fits { fits_new_part stack.old.content layer ≡ true }
-    ensures same { stack.new.content ≡ stack.old.content }
+    ensures opens { Opens stack.old stack.new }
     ensures entries { IfOk result (λ entries. Adds stack.old stack.new [] entries.items (writes_of_new_part stack.old.content layer kind)) }
 {
     let part = stack.next_id();
@@ -149,7 +149,7 @@ pub fn prepare_new_card(
     requires well_formed { IsWellFormed stack.old.content }
     requires fits { has_room_for 1 stack.old.content ≡ true }
     requires card { has_kind is_card stack.old.content card ≡ true }
-    ensures same { stack.new.content ≡ stack.old.content }
+    ensures opens { Opens stack.old stack.new }
     ensures entries { IfOk result (λ entries. Adds stack.old stack.new [] entries.items (writes_of_new_card stack.old.content card)) }
 {
     let new = stack.next_id();
@@ -196,7 +196,7 @@ pub fn prepare_new_background(
 ) -> Result<Vec<StackEntry>, AllocError>
     requires well_formed { IsWellFormed stack.old.content }
     requires fits { has_room_for 2 stack.old.content ≡ true }
-    ensures same { stack.new.content ≡ stack.old.content }
+    ensures opens { Opens stack.old stack.new }
     ensures entries { IfOk result (λ entries. Adds stack.old stack.new [] entries.items (writes_of_new_background stack.old.content card)) }
 {
     let new = stack.next_id();

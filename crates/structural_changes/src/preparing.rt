@@ -2,7 +2,7 @@
 
 ghost use Rattle.std.specs.Prelude.{◌≡◌, OnOk, IfOk, [], ◌∷◌, Some, true, false};
 ghost use Rattle.stack_places.specs.Places.{field_text, button_hilite, whole, layer_parts as parts_of, next_id, card_order, background_order, text, logical, object as object_value, ids, number};
-ghost use Rattle.structural_changes.specs.Prepared.{Adds};
+ghost use Rattle.structural_changes.specs.Prepared.{Adds, Opens};
 ghost use Rattle.structural_changes.specs.Writes.{write, empty_texts, false_hilites, texts_of, hilites_of, is_card_of, is_part_of, keeps, ids_where};
 ghost use Rattle.object_table.specs.Objects.{has_kind, is_background, parts_at};
 ghost use Rattle.object_table.specs.WellFormed.{IsWellFormed};
@@ -21,7 +21,7 @@ pub(crate) fn add_text(
     card: Id,
 ) -> Result<(), AllocError>
     ensures adds { OnOk result (Adds stack.old stack.new entries.old.items entries.new.items (write (field_text field card) (text []) ∷ [])) }
-    ensures same { stack.new.content ≡ stack.old.content }
+    ensures opens { Opens stack.old stack.new }
 {
     stack.open_text(field, card)?;
     entries.push(StackEntry::FieldText(field, card, Some(Text::new(alloc))))?;
@@ -36,7 +36,7 @@ pub(crate) fn add_hilite(
     card: Id,
 ) -> Result<(), AllocError>
     ensures adds { OnOk result (Adds stack.old stack.new entries.old.items entries.new.items (write (button_hilite button card) (logical false) ∷ [])) }
-    ensures same { stack.new.content ≡ stack.old.content }
+    ensures opens { Opens stack.old stack.new }
 {
     stack.open_hilite(button, card)?;
     entries.push(StackEntry::Hilite(button, card, Some(false)))?;
@@ -90,7 +90,7 @@ pub(crate) fn add_object(
     object: Object,
 ) -> Result<(), AllocError>
     ensures adds { OnOk result (Adds stack.old stack.new entries.old.items entries.new.items (write (whole id) (object_value object) ∷ [])) }
-    ensures same { stack.new.content ≡ stack.old.content }
+    ensures opens { Opens stack.old stack.new }
 {
     stack.open_slot(id)?;
     entries.push(StackEntry::Object(id, Some(object)))?;
@@ -105,7 +105,7 @@ pub(crate) fn add_parts(
     parts: IdList,
 ) -> Result<(), AllocError>
     ensures adds { OnOk result (Adds stack.old stack.new entries.old.items entries.new.items (write (parts_of layer) (ids parts) ∷ [])) }
-    ensures same { stack.new.content ≡ stack.old.content }
+    ensures opens { Opens stack.old stack.new }
 {
     stack.open_slot(layer)?;
     entries.push(StackEntry::Parts(layer, Some(parts)))?;
@@ -121,7 +121,7 @@ pub(crate) fn add_texts(
     cards: &[Id],
 ) -> Result<(), AllocError>
     ensures adds { OnOk result (Adds stack.old stack.new entries.old.items entries.new.items (empty_texts field cards.now)) }
-    ensures same { stack.new.content ≡ stack.old.content }
+    ensures opens { Opens stack.old stack.new }
 {
     for card in cards {
         add_text(alloc, stack, entries, field, *card)?;
@@ -137,7 +137,7 @@ pub(crate) fn add_hilites(
     cards: &[Id],
 ) -> Result<(), AllocError>
     ensures adds { OnOk result (Adds stack.old stack.new entries.old.items entries.new.items (false_hilites button cards.now)) }
-    ensures same { stack.new.content ≡ stack.old.content }
+    ensures opens { Opens stack.old stack.new }
 {
     for card in cards {
         add_hilite(stack, entries, button, *card)?;
@@ -226,7 +226,7 @@ pub(crate) fn add_texts_of(
     card: Id,
 ) -> Result<(), AllocError>
     ensures adds { OnOk result (Adds stack.old stack.new entries.old.items entries.new.items (texts_of fields.now card)) }
-    ensures same { stack.new.content ≡ stack.old.content }
+    ensures opens { Opens stack.old stack.new }
 {
     for field in fields {
         add_text(alloc, stack, entries, *field, card)?;
@@ -242,7 +242,7 @@ pub(crate) fn add_hilites_of(
     card: Id,
 ) -> Result<(), AllocError>
     ensures adds { OnOk result (Adds stack.old stack.new entries.old.items entries.new.items (hilites_of buttons.now card)) }
-    ensures same { stack.new.content ≡ stack.old.content }
+    ensures opens { Opens stack.old stack.new }
 {
     for button in buttons {
         add_hilite(stack, entries, *button, card)?;
