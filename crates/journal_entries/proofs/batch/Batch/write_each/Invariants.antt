@@ -8,12 +8,12 @@ use Rattle.journal_entries.proofs.batch.Batch.write_each.Given as goal
 abbrev pub invariant-loop-entry : goal.invariant-loop-entry
 invariant-loop-entry g l = record {
   count : into_iter_len l.entry-iterator ≡ length (into_iter_items l.entry-iterator);
-  number : l.self.number ≡ l.initial.self.number;
+  number : l.self-inside.number ≡ l.initial.self-inside.number;
   names : l.present.names ≡ l.initial.present.names;
   turns : l.present.turns ≡ l.initial.present.turns;
   room : l.present.room ≡ l.initial.present.room;
   ready : AreReady (shape_of l.present) (into_iter_items l.entry-iterator);
   state : forth l.present.names l.present.state (into_iter_items l.entry-iterator) ≡ forth l.initial.present.names l.initial.present.state (into_iter_items l.initial.entry-iterator);
-  entries : kept_in_turn l.present.names l.present.state l.self.entries.items (into_iter_items l.entry-iterator) ≡ kept_in_turn l.initial.present.names l.initial.present.state l.initial.self.entries.items (into_iter_items l.initial.entry-iterator);
-  place : vec_len l.self.entries + length (into_iter_items l.entry-iterator) ≤ vec_capacity l.self.entries;
+  entries : kept_in_turn l.present.names l.present.state l.self-inside.entries.items (into_iter_items l.entry-iterator) ≡ kept_in_turn l.initial.present.names l.initial.present.state l.initial.self-inside.entries.items (into_iter_items l.initial.entry-iterator);
+  place : vec_len l.self-inside.entries + length (into_iter_items l.entry-iterator) ≤ vec_capacity l.self-inside.entries;
 }
