@@ -1,16 +1,16 @@
--- Lists of ids that ascend.
-use Rattle.std.proofs.Common.{◌≡◌, ℕ, ◌<◌, Bool, true, false, cond, ◌&&◌, ◌||◌, List, [], ◌∷◌, filter, map, nat_eq, eqb, refl, sym, subst, ap, ◌∙◌, arith, T, Option, Some, None, is_some, option_map, option_and_then, unwrap_or}
+-- Lists of ids, and of pairs of them, that ascend.
+use Rattle.std.proofs.Common.{◌≡◌, ℕ, Bool, true, false, cond, ◌&&◌, ◌||◌, List, [], ◌∷◌, filter, map, nat_eq, eqb, refl, sym, subst, ap, ◌∙◌, T, Option, Some, None, is_some, option_map, option_and_then, unwrap_or}
 use Rattle.std.proofs.lemmas.Bool.{false≢true}
-use Rattle.std.proofs.lemmas.Bool.Decides.{nat_tests}
+use Rattle.std.proofs.lemmas.Cmp.{tied_itself}
 use Rattle.std.proofs.lemmas.List.Kept.{IsStrictlySortedBy-filter, IsStrictlySortedBy-dedup}
 use Rattle.std.proofs.lemmas.List.Sorted.{list_any-IsPermutation}
 use Rattle.std.proofs.lemmas.Map.Keys.{sorted_head, sorted_tail}
-use Rattle.std.specs.Cmp.{nat_cmp_total, unsigned_tied}
-use Rattle.std.specs.FinMap.{entries, entries_sorted, keys, is_sorted, nat_cmp-IsAntisymmetric}
+use Rattle.std.specs.Cmp.{IsTotalOrder, Equal-is, nat_cmp_total, unsigned_tied}
+use Rattle.std.specs.FinMap.{FinMap, IsAntisymmetric, contains_key-keys, entries, entries_sorted, get, keys, is_sorted, nat_cmp-IsAntisymmetric}
 use Rattle.std.specs.FinMap.Entries.{below_all}
-use Rattle.std.specs.List.{AllByRecursion, dedup, dedup_from}
+use Rattle.std.specs.List.{AllByRecursion, dedup, dedup_from, list_any}
 use Rattle.std.specs.List.Sorted.{IsStrictlySortedBy, IsSorted, IsPermutation}
-use Rattle.std.specs.Ordering.{nat_cmp, is_lt}
+use Rattle.std.specs.Ordering.{eq_by_cmp, is_lt, nat_cmp}
 use Rattle.std.specs.declared.cmp.Ordering.{Ordering}
 use Rattle.std.specs.declared.cmp.Ordering.TheVariants.{Less, Equal, Greater}
 use Rattle.object_table.specs.Content.{Content}
@@ -19,104 +19,128 @@ use Rattle.object_table.specs.WellFormed.{IsWellFormed}
 use Rattle.object_table.specs.declared.object.Object.{Object}
 use Rattle.object_table.specs.declared.object.Kind.{Kind}
 use Rattle.object_table.specs.declared.object.Kind.TheVariants.{Card}
-use Rattle.structural_changes.specs.Writes.{ids_where, is_card_of, is_part_of}
-use Rattle.structural_changes.proofs.Filled.{any-filter, any-keys, contains-ids_where}
-use Rattle.structural_changes.proofs.Grown.{same_id}
+use Rattle.structural_changes.specs.Writes.{is_card_of, is_part_of}
+use Rattle.structural_changes.proofs.Filled.{any-filter, any-keys}
 
--- ---- one list for its members
+-- whether a list has what an order doesn't tell apart
+abbrev pub has : {K : Type 0} → (K → K → Ordering) → K → List K → Bool
+has R z = list_any (eq_by_cmp R z)
 
-below : (k : ℕ) (ks : List ℕ) → AllByRecursion (λ y. nat_cmp k y ≡ Less) ks → (z : ℕ) → contains_id z ks ≡ true → k < z
-below k [] all z e = absurd (false≢true e)
-below k (y ∷ ys) all z e = by (λ h. below k ys all.1 z h) (nat_eq y z) refl e
-  where
-    by : (contains_id z ys ≡ true → k < z) → (b : Bool) → nat_eq y z ≡ b → b || contains_id z ys ≡ true → k < z
-    by rest true q h = let same : y ≡ z = same_id y z q in let less : nat_cmp k y ≡ Less = all.0 in grind (arith, nat_tests)
-    by rest false q h = rest h
+module _ {K : Type 0} {R : K → K → Ordering} (total : IsTotalOrder R) (same : IsAntisymmetric R) where
+  -- ---- one list for its members
 
-itself : (n : ℕ) → nat_eq n n ≡ true
-itself n = grind (arith, nat_tests)
+  one : (x y : K) → eq_by_cmp R x y ≡ true → x ≡ y
+  one x y e = same x y ((Equal-is (R x y)).0 e)
 
-here : (x : ℕ) (xs : List ℕ) → contains_id x (x ∷ xs) ≡ true
-here x xs = ap (λ b. b || contains_id x xs) (itself x)
+  below : (k : K) (ks : List K) → AllByRecursion (λ y. R k y ≡ Less) ks → (z : K) → has R z ks ≡ true → R k z ≡ Less
+  below k [] all z e = absurd (false≢true e)
+  below k (y ∷ ys) all z e = by (λ h. below k ys all.1 z h) (eq_by_cmp R z y) refl e
+    where
+      by : (has R z ys ≡ true → R k z ≡ Less) → (b : Bool) → eq_by_cmp R z y ≡ b → b || has R z ys ≡ true → R k z ≡ Less
+      by rest true q h = ap (R k) (one z y q) ∙ all.0
+      by rest false q h = rest h
 
--- what is said of the members says so of the others
-others : (x : ℕ) (xs ys : List ℕ) → AllByRecursion (λ y. nat_cmp x y ≡ Less) xs → AllByRecursion (λ y. nat_cmp x y ≡ Less) ys → ((z : ℕ) → contains_id z (x ∷ xs) ≡ contains_id z (x ∷ ys)) → (z : ℕ) → contains_id z xs ≡ contains_id z ys
-others x xs ys all alls same z = by (nat_eq x z) refl (same z)
-  where
-    not_in : (zs : List ℕ) → AllByRecursion (λ y. nat_cmp x y ≡ Less) zs → nat_eq x z ≡ true → contains_id z zs ≡ false
-    not_in zs h q = is (contains_id z zs) refl
-      where
-        is : (b : Bool) → contains_id z zs ≡ b → b ≡ false
-        is true e = absurd (let less : x < z = below x zs h z e in let e2 : x ≡ z = same_id x z q in omega arith)
-        is false e = refl
+  itself : (x : K) → eq_by_cmp R x x ≡ true
+  itself x = (Equal-is (R x x)).1 (tied_itself total x)
 
-    by : (b : Bool) → nat_eq x z ≡ b → b || contains_id z xs ≡ b || contains_id z ys → contains_id z xs ≡ contains_id z ys
-    by true q h = not_in xs all q ∙ sym (not_in ys alls q)
-    by false q h = h
+  not_below : (x : K) → R x x ≡ Less → ⊥
+  not_below x e = false≢true (ap is_eq_to (sym e) ∙ ap is_eq_to (tied_itself total x))
+    where
+      is_eq_to : Ordering → Bool
+      is_eq_to Equal = true
+      is_eq_to _ = false
 
-nothing_in : (x : ℕ) (xs : List ℕ) → ((z : ℕ) → false ≡ contains_id z (x ∷ xs)) → ⊥
-nothing_in x xs h = false≢true (h x ∙ here x xs)
+  here : (x : K) (xs : List K) → has R x (x ∷ xs) ≡ true
+  here x xs = ap (λ b. b || has R x xs) (itself x)
 
--- two lists that ascend and have the same members are one
-pub ascending_once : (xs ys : List ℕ) → IsStrictlySortedBy nat_cmp xs → IsStrictlySortedBy nat_cmp ys → ((z : ℕ) → contains_id z xs ≡ contains_id z ys) → xs ≡ ys
-ascending_once [] [] s t same = refl
-ascending_once [] (y ∷ ys) s t same = absurd (nothing_in y ys same)
-ascending_once (x ∷ xs) [] s t same = absurd (nothing_in x xs (λ z. sym (same z)))
-ascending_once (x ∷ xs) (y ∷ ys) s t same =
-    let all = sorted_head nat_cmp x xs s in
-    let alls = sorted_head nat_cmp y ys t in
-    let e : x ≡ y = first (nat_eq y x) refl (nat_eq x y) refl (sym (same x) ∙ here x xs) (same y ∙ here y ys) all alls in
-    let all_y : AllByRecursion (λ z. nat_cmp y z ≡ Less) xs = subst (λ k. AllByRecursion (λ z. nat_cmp k z ≡ Less) xs) e all in
-    let same_y : (z : ℕ) → contains_id z (y ∷ xs) ≡ contains_id z (y ∷ ys) = λ z. ap (λ k. contains_id z (k ∷ xs)) (sym e) ∙ same z in
-    λ i. e i ∷ ascending_once xs ys (sorted_tail nat_cmp x xs s) (sorted_tail nat_cmp y ys t) (others y xs ys all_y alls same_y) i
-  where
-    first : (a : Bool) → nat_eq y x ≡ a → (b : Bool) → nat_eq x y ≡ b → a || contains_id x ys ≡ true → b || contains_id y xs ≡ true → AllByRecursion (λ z. nat_cmp x z ≡ Less) xs → AllByRecursion (λ z. nat_cmp y z ≡ Less) ys → x ≡ y
-    first true p b q h k all alls = sym (same_id y x p)
-    first false p true q h k all alls = same_id x y q
-    first false p false q h k all alls = absurd (let less : y < x = below y ys alls x h in let more : x < y = below x xs all y k in omega arith)
+  -- what is said of the members says so of the others
+  others : (x : K) (xs ys : List K) → AllByRecursion (λ y. R x y ≡ Less) xs → AllByRecursion (λ y. R x y ≡ Less) ys → ((z : K) → has R z (x ∷ xs) ≡ has R z (x ∷ ys)) → (z : K) → has R z xs ≡ has R z ys
+  others x xs ys all alls alike z = by (eq_by_cmp R z x) refl (alike z)
+    where
+      not_in : (zs : List K) → AllByRecursion (λ y. R x y ≡ Less) zs → eq_by_cmp R z x ≡ true → has R z zs ≡ false
+      not_in zs h q = is (has R z zs) refl
+        where
+          is : (b : Bool) → has R z zs ≡ b → b ≡ false
+          is true e = absurd (not_below x (ap (R x) (sym (one z x q)) ∙ below x zs h z e))
+          is false e = refl
 
--- ---- where such lists come from
+      by : (b : Bool) → eq_by_cmp R z x ≡ b → b || has R z xs ≡ b || has R z ys → has R z xs ≡ has R z ys
+      by true q h = not_in xs all q ∙ sym (not_in ys alls q)
+      by false q h = h
 
-all_below : {X : Type 0} (x : ℕ) (es : List (ℕ × X)) → T (below_all nat_cmp x es) → AllByRecursion (λ y. nat_cmp x y ≡ Less) (map (λ e. e.0) es)
-all_below x [] h = tt
-all_below x (e ∷ es) h = by (λ k. all_below x es k) (nat_cmp x e.0) refl h
-  where
-    by : (T (below_all nat_cmp x es) → AllByRecursion (λ y. nat_cmp x y ≡ Less) (map (λ d. d.0) es)) → (o : Ordering) → nat_cmp x e.0 ≡ o → T (is_lt o && below_all nat_cmp x es) → AllByRecursion (λ y. nat_cmp x y ≡ Less) (map (λ e. e.0) (e ∷ es))
-    by rest Less q h = (q, rest h)
-    by rest Equal q h = absurd h
-    by rest Greater q h = absurd h
+  nothing_in : (x : K) (xs : List K) → ((z : K) → false ≡ has R z (x ∷ xs)) → ⊥
+  nothing_in x xs h = false≢true (h x ∙ here x xs)
 
-keys_ascend : {X : Type 0} (es : List (ℕ × X)) → T (is_sorted nat_cmp es) → IsStrictlySortedBy nat_cmp (map (λ e. e.0) es)
-unfolding IsStrictlySortedBy
-keys_ascend [] h = tt
-keys_ascend (e ∷ es) h = by (λ k. keys_ascend es k) (below_all nat_cmp e.0 es) refl h
-  where
-    by : (T (is_sorted nat_cmp es) → IsStrictlySortedBy nat_cmp (map (λ d. d.0) es)) → (b : Bool) → below_all nat_cmp e.0 es ≡ b → T (b && is_sorted nat_cmp es) → IsStrictlySortedBy nat_cmp (map (λ e. e.0) (e ∷ es))
-    by rest true q h = (all_below e.0 es (subst T (sym q) tt), rest h)
-    by rest false q h = absurd h
+  -- two lists that ascend and have the same members are one
+  pub ascending_once : (xs ys : List K) → IsStrictlySortedBy R xs → IsStrictlySortedBy R ys → ((z : K) → has R z xs ≡ has R z ys) → xs ≡ ys
+  ascending_once [] [] s t alike = refl
+  ascending_once [] (y ∷ ys) s t alike = absurd (nothing_in y ys alike)
+  ascending_once (x ∷ xs) [] s t alike = absurd (nothing_in x xs (λ z. sym (alike z)))
+  ascending_once (x ∷ xs) (y ∷ ys) s t alike =
+      let all = sorted_head R x xs s in
+      let alls = sorted_head R y ys t in
+      let e : x ≡ y = first (eq_by_cmp R x y) refl (eq_by_cmp R y x) refl (sym (alike x) ∙ here x xs) (alike y ∙ here y ys) all alls in
+      let all_y : AllByRecursion (λ z. R y z ≡ Less) xs = subst (λ k. AllByRecursion (λ z. R k z ≡ Less) xs) e all in
+      let alike_y : (z : K) → has R z (y ∷ xs) ≡ has R z (y ∷ ys) = λ z. ap (λ k. has R z (k ∷ xs)) (sym e) ∙ alike z in
+      λ i. e i ∷ ascending_once xs ys (sorted_tail R x xs s) (sorted_tail R y ys t) (others y xs ys all_y alls alike_y) i
+    where
+      first : (a : Bool) → eq_by_cmp R x y ≡ a → (b : Bool) → eq_by_cmp R y x ≡ b → a || has R x ys ≡ true → b || has R y xs ≡ true → AllByRecursion (λ z. R x z ≡ Less) xs → AllByRecursion (λ z. R y z ≡ Less) ys → x ≡ y
+      first true p b q h k all alls = one x y p
+      first false p true q h k all alls = sym (one y x q)
+      first false p false q h k all alls = absurd (not_below x (total.trans x y x (below x xs all y k) (below y ys alls x h)))
 
-pub ids_where_ascend : (s : Content) (p : ℕ → Bool) → IsStrictlySortedBy nat_cmp (ids_where s p)
-ids_where_ascend s p = IsStrictlySortedBy-filter nat_cmp p (keys s.objects) (keys_ascend (entries s.objects) (entries_sorted s.objects))
+  -- ---- where such lists come from
 
-contains-dedup_from : (z k : ℕ) (xs : List ℕ) → contains_id z (dedup_from eqb k xs) ≡ contains_id z (k ∷ xs)
-contains-dedup_from z k [] = refl
-contains-dedup_from z k (x ∷ xs) = by (contains-dedup_from z k xs) (contains-dedup_from z x xs) (eqb x k) refl
-  where
-    both : (b c : Bool) → b || c ≡ b || (b || c)
-    both true c = refl
-    both false c = refl
+  all_below : {X : Type 0} (x : K) (es : List (K × X)) → T (below_all R x es) → AllByRecursion (λ y. R x y ≡ Less) (map (λ e. e.0) es)
+  all_below x [] h = tt
+  all_below x (e ∷ es) h = by (λ k. all_below x es k) (R x e.0) refl h
+    where
+      by : (T (below_all R x es) → AllByRecursion (λ y. R x y ≡ Less) (map (λ d. d.0) es)) → (o : Ordering) → R x e.0 ≡ o → T (is_lt o && below_all R x es) → AllByRecursion (λ y. R x y ≡ Less) (map (λ e. e.0) (e ∷ es))
+      by rest Less q h = (q, rest h)
+      by rest Equal q h = absurd h
+      by rest Greater q h = absurd h
 
-    by : contains_id z (dedup_from eqb k xs) ≡ contains_id z (k ∷ xs) → contains_id z (dedup_from eqb x xs) ≡ contains_id z (x ∷ xs) → (b : Bool) → eqb x k ≡ b → contains_id z (cond b (dedup_from eqb k xs) (k ∷ dedup_from eqb x xs)) ≡ contains_id z (k ∷ x ∷ xs)
-    by a c true q = a ∙ both (nat_eq k z) (contains_id z xs) ∙ ap (λ y. nat_eq k z || (nat_eq y z || contains_id z xs)) (let e : k ≡ x = grind (arith, nat_tests, q) in e)
-    by a c false q = ap (λ b. nat_eq k z || b) c
+  keys_ascend : {X : Type 0} (es : List (K × X)) → T (is_sorted R es) → IsStrictlySortedBy R (map (λ e. e.0) es)
+  unfolding IsStrictlySortedBy
+  keys_ascend [] h = tt
+  keys_ascend (e ∷ es) h = by (λ k. keys_ascend es k) (below_all R e.0 es) refl h
+    where
+      by : (T (is_sorted R es) → IsStrictlySortedBy R (map (λ d. d.0) es)) → (b : Bool) → below_all R e.0 es ≡ b → T (b && is_sorted R es) → IsStrictlySortedBy R (map (λ e. e.0) (e ∷ es))
+      by rest true q h = (all_below e.0 es (subst T (sym q) tt), rest h)
+      by rest false q h = absurd h
 
-contains-dedup : (z : ℕ) (xs : List ℕ) → contains_id z (dedup eqb xs) ≡ contains_id z xs
-contains-dedup z [] = refl
-contains-dedup z (x ∷ xs) = contains-dedup_from z x xs
+  has-dedup_from : (E : K → K → Bool) → ((x y : K) → E x y ≡ eq_by_cmp R x y) → (z k : K) (xs : List K) → has R z (dedup_from E k xs) ≡ has R z (k ∷ xs)
+  has-dedup_from E ties z k [] = refl
+  has-dedup_from E ties z k (x ∷ xs) = by (has-dedup_from E ties z k xs) (has-dedup_from E ties z x xs) (E x k) refl
+    where
+      both : (b c : Bool) → b || c ≡ b || (b || c)
+      both true c = refl
+      both false c = refl
 
--- ids that were sorted, each once, are those that pass, where before they were just those
-pub sorted_ids : (s : Content) (p : ℕ → Bool) (found sorted : List ℕ) → ((z : ℕ) → contains_id z found ≡ p z && is_some (object_at s z)) → IsPermutation found sorted → IsSorted nat_cmp sorted → dedup eqb sorted ≡ ids_where s p
-sorted_ids s p found sorted is moved ascend = ascending_once (dedup eqb sorted) (ids_where s p) (IsStrictlySortedBy-dedup nat_cmp_total (λ x y. sym (unsigned_tied x y)) sorted ascend) (ids_where_ascend s p) (λ z. contains-dedup z sorted ∙ sym (list_any-IsPermutation (λ x. nat_eq x z) found sorted moved) ∙ is z ∙ sym (contains-ids_where s p z))
+      by : has R z (dedup_from E k xs) ≡ has R z (k ∷ xs) → has R z (dedup_from E x xs) ≡ has R z (x ∷ xs) → (b : Bool) → E x k ≡ b → has R z (cond b (dedup_from E k xs) (k ∷ dedup_from E x xs)) ≡ has R z (k ∷ x ∷ xs)
+      by a c true q = a ∙ both (eq_by_cmp R z k) (has R z xs) ∙ ap (λ y. eq_by_cmp R z k || (eq_by_cmp R z y || has R z xs)) (sym (one x k (sym (ties x k) ∙ q)))
+      by a c false q = ap (λ b. eq_by_cmp R z k || b) c
+
+  has-dedup : (E : K → K → Bool) → ((x y : K) → E x y ≡ eq_by_cmp R x y) → (z : K) (xs : List K) → has R z (dedup E xs) ≡ has R z xs
+  has-dedup E ties z [] = refl
+  has-dedup E ties z (x ∷ xs) = has-dedup_from E ties z x xs
+
+  has-keys_where : {X : Type 0} (m : FinMap R X) (p : K → Bool) (z : K) → has R z (filter p (keys m)) ≡ p z && is_some (get m z)
+  has-keys_where m p z = any-filter total same z p (keys m) ∙ ap (λ b. p z && b) (sym (contains_key-keys m z))
+
+  -- keys that were sorted, each once
+  pub sorted_once : (E : K → K → Bool) → ((x y : K) → E x y ≡ eq_by_cmp R x y) → (found sorted : List K) → IsPermutation found sorted → IsSorted R sorted → IsStrictlySortedBy R (dedup E sorted) × ((z : K) → has R z (dedup E sorted) ≡ has R z found)
+  sorted_once E ties found sorted moved ascend = (IsStrictlySortedBy-dedup total ties sorted ascend, λ z. has-dedup E ties z sorted ∙ sym (list_any-IsPermutation (eq_by_cmp R z) found sorted moved))
+
+  -- keys that ascend are those that pass, where they are just those
+  pub ascending_keys : {X : Type 0} (m : FinMap R X) (p : K → Bool) (ks : List K) → IsStrictlySortedBy R ks → ((z : K) → has R z ks ≡ p z && is_some (get m z)) → ks ≡ filter p (keys m)
+  ascending_keys m p ks ascend is = ascending_once ks (filter p (keys m)) ascend (IsStrictlySortedBy-filter R p (keys m) (keys_ascend (entries m) (entries_sorted m))) (λ z. is z ∙ sym (has-keys_where m p z))
+
+-- ids that were sorted, each once, are the keys that pass, where before they were just those
+pub sorted_ids : {X : Type 0} (m : FinMap nat_cmp X) (p : ℕ → Bool) (found sorted : List ℕ) → ((z : ℕ) → contains_id z found ≡ p z && is_some (get m z)) → IsPermutation found sorted → IsSorted nat_cmp sorted → dedup eqb sorted ≡ filter p (keys m)
+sorted_ids m p found sorted is moved ascend =
+    let once = sorted_once nat_cmp_total nat_cmp-IsAntisymmetric eqb (λ x y. sym (unsigned_tied x y)) found sorted moved ascend in
+    ascending_keys nat_cmp_total nat_cmp-IsAntisymmetric m p (dedup eqb sorted) once.0 (λ z. once.1 z ∙ any-keys z found ∙ is z)
 
 contains-filter : (id : ℕ) (p : ℕ → Bool) (xs : List ℕ) → contains_id id (filter p xs) ≡ p id && contains_id id xs
 contains-filter id p xs = sym (any-keys id (filter p xs)) ∙ any-filter nat_cmp_total nat_cmp-IsAntisymmetric id p xs ∙ ap (λ b. p id && b) (any-keys id xs)

@@ -35,7 +35,7 @@ total-without g id (x ∷ xs) = by (total-without g id xs) (nat_eq x id)
     by rest false = omega arith
 
 -- what an id gives, as often as it stands there, is what the sum loses without it
-total-lost : (g : ℕ → ℕ) (id : ℕ) (xs : List ℕ) → tally id xs ≤ 1 → total g xs ≡ total (λ x. cond (nat_eq x id) 0 (g x)) xs + cond (contains_id id xs) (g id) 0
+pub total-lost : (g : ℕ → ℕ) (id : ℕ) (xs : List ℕ) → tally id xs ≤ 1 → total g xs ≡ total (λ x. cond (nat_eq x id) 0 (g x)) xs + cond (contains_id id xs) (g id) 0
 total-lost g id [] h = refl
 total-lost g id (x ∷ xs) h = by (λ k. total-lost g id xs k) (nat_eq x id) refl h
   where
@@ -67,11 +67,11 @@ total-among g h (x ∷ xs) e =
 
 -- ---- what goes is a layer or a part
 
-and_passes : (p q : Kind → Bool) → ((k : Kind) → p k ≡ true → q k ≡ false) → (found : Option Object) → passes p found ≡ true → passes q found ≡ true → ⊥
+pub and_passes : (p q : Kind → Bool) → ((k : Kind) → p k ≡ true → q k ≡ false) → (found : Option Object) → passes p found ≡ true → passes q found ≡ true → ⊥
 and_passes p q h None e f = false≢true e
 and_passes p q h (Some o) e f = false≢true (sym (h o.kind e) ∙ f)
 
-abbrev Apart : (Kind → Bool) → (Kind → Bool) → Type 0
+abbrev pub Apart : (Kind → Bool) → (Kind → Bool) → Type 0
 Apart p q = (k : Kind) → p k ≡ true → q k ≡ false
 
 card-not : (p : Kind → Bool) → ((b : ℕ) (c : Bool) → p (Card b c) ≡ false) → Apart is_card p
@@ -82,18 +82,18 @@ background-not : (p : Kind → Bool) → ((c : Bool) → p (Background c) ≡ fa
 background-not p h (Background c) e = h c
 background-not p h _ e = absurd (false≢true e)
 
-card_part-not : (p : Kind → Bool) → ((v h : Bool) → p (CardButton v h) ≡ false) → ((v l : Bool) → p (CardField v l) ≡ false) → Apart is_card_part p
+pub card_part-not : (p : Kind → Bool) → ((v h : Bool) → p (CardButton v h) ≡ false) → ((v l : Bool) → p (CardField v l) ≡ false) → Apart is_card_part p
 card_part-not p b f (CardButton v h) e = b v h
 card_part-not p b f (CardField v l) e = f v l
 card_part-not p b f _ e = absurd (false≢true e)
 
-background_part-not : (p : Kind → Bool) → ((v h : Bool) → p (BackgroundButton v h) ≡ false) → ((v l t : Bool) → p (BackgroundField v l t) ≡ false) → Apart is_background_part p
+pub background_part-not : (p : Kind → Bool) → ((v h : Bool) → p (BackgroundButton v h) ≡ false) → ((v l t : Bool) → p (BackgroundField v l t) ≡ false) → Apart is_background_part p
 background_part-not p b f (BackgroundButton v h) e = b v h
 background_part-not p b f (BackgroundField v l t) e = f v l t
 background_part-not p b f _ e = absurd (false≢true e)
 
 -- a part of a layer of an order is one of the order's parts
-listed_part : (s : Content) (of_layer of_part : Kind → Bool) (order : List ℕ) (y id : ℕ) → NamesEach (has_kind of_layer s) order → NamesEach (has_kind of_part s) (flat_map (parts_at s) order) → has_kind of_layer s y ≡ true → contains_id id (parts_at s y) ≡ true → has_kind of_part s id ≡ true
+pub listed_part : (s : Content) (of_layer of_part : Kind → Bool) (order : List ℕ) (y id : ℕ) → NamesEach (has_kind of_layer s) order → NamesEach (has_kind of_part s) (flat_map (parts_at s) order) → has_kind of_layer s y ≡ true → contains_id id (parts_at s y) ≡ true → has_kind of_part s id ≡ true
 listed_part s of_layer of_part order y id layers parts e member = by (has_kind of_part s id) refl
   where
     less : tally id (parts_at s y) ≤ one_if (has_kind of_part s id)
@@ -185,7 +185,7 @@ module _ (s : Content) (w : IsWellFormed s) (c : ℕ) (e : has_kind is_card s c 
   abbrev now : Content
   now = without_card s c
 
-  live : has_kind is_background s (home s c) ≡ true
+  pub live : has_kind is_background s (home s c) ≡ true
   live = live_home s (formed s w) c e
 
   found : (id : ℕ) → object_at now id ≡ cond (gone s c id) None (object_at s id)
@@ -216,10 +216,10 @@ module _ (s : Content) (w : IsWellFormed s) (c : ℕ) (e : has_kind is_card s c 
     not_b : Apart is_background q → nat_eq id (home s c) ≡ false
     not_b h = not_true (nat_eq id (home s c)) (λ same. and_passes is_background q h (object_at s id) (ap (has_kind is_background s) (same_id id (home s c) same) ∙ live) is)
 
-    not_of_c : Apart is_card_part q → contains_id id (parts_at s c) ≡ false
+    pub not_of_c : Apart is_card_part q → contains_id id (parts_at s c) ≡ false
     not_of_c h = not_true (contains_id id (parts_at s c)) (λ member. and_passes is_card_part q h (object_at s id) (listed_part s is_card is_card_part s.cards c id w.cards w.card_parts e member) is)
 
-    not_of_b : Apart is_background_part q → contains_id id (parts_at s (home s c)) ≡ false
+    pub not_of_b : Apart is_background_part q → contains_id id (parts_at s (home s c)) ≡ false
     not_of_b h = not_true (contains_id id (parts_at s (home s c))) (λ member. and_passes is_background_part q h (object_at s id) (listed_part s is_background is_background_part s.backgrounds (home s c) id w.backgrounds w.background_parts live member) is)
 
   gone-card : (id : ℕ) → has_kind is_card s id ≡ true → gone s c id ≡ nat_eq id c
@@ -391,7 +391,7 @@ module _ (s : Content) (w : IsWellFormed s) (c : ℕ) (e : has_kind is_card s c 
   on_it : (card : ℕ) → background_at s card ≡ Some (home s c) → is_card_of s (home s c) card ≡ true
   on_it card q = ap (λ x. unwrap_or (option_map (λ b. nat_eq b (home s c)) x) false) q ∙ itself (home s c)
 
-  it_alone : is_last_card s c ≡ true → (card : ℕ) → background_at s card ≡ Some (home s c) → nat_eq card c ≡ true
+  pub it_alone : is_last_card s c ≡ true → (card : ℕ) → background_at s card ≡ Some (home s c) → nat_eq card c ≡ true
   it_alone last card q =
       by (nat_eq card c) (all-member (λ other. nat_eq other c || not (is_card_of s (home s c) other)) s.cards card last (w.cards.each card ∙ is_a_card card (home s c) q) ∙ refl)
     where
@@ -492,7 +492,7 @@ module _ (s : Content) (w : IsWellFormed s) (c : ℕ) (e : has_kind is_card s c 
 
   -- ---- texts and hilites
 
-  not_zero : (c == 0) ≡ false
+  pub not_zero : (c == 0) ≡ false
   not_zero = not_true (c == 0) (λ z. and_passes is_stack is_card stack_is_no_card (object_at s 0) ((w.stack 0).1 refl) (ap (has_kind is_card s) (sym (same_id c 0 z)) ∙ e))
     where
       stack_is_no_card : Apart is_stack is_card
@@ -600,15 +600,15 @@ module _ (s : Content) (w : IsWellFormed s) (c : ℕ) (e : has_kind is_card s c 
   shared true a b = refl
   shared false a b = refl
 
-  field_of_card : (k : Kind) → is_card_field k ≡ true → is_card_part k ≡ true
+  pub field_of_card : (k : Kind) → is_card_field k ≡ true → is_card_part k ≡ true
   field_of_card (CardField v l) h = refl
   field_of_card _ h = absurd (false≢true h)
 
-  field_of_background : (k : Kind) → is_background_field k ≡ true → is_background_part k ≡ true
+  pub field_of_background : (k : Kind) → is_background_field k ≡ true → is_background_part k ≡ true
   field_of_background (BackgroundField v l t) h = refl
   field_of_background _ h = absurd (false≢true h)
 
-  button_of_background : (k : Kind) → is_background_button k ≡ true → is_background_part k ≡ true
+  pub button_of_background : (k : Kind) → is_background_button k ≡ true → is_background_part k ≡ true
   button_of_background (BackgroundButton v h) i = refl
   button_of_background _ h = absurd (false≢true h)
 

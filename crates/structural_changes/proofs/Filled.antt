@@ -36,7 +36,7 @@ first_or true true false v f = refl
 first_or true false c v f = refl
 first_or false b c v f = refl
 
-nat_eq_sym : (a b : ℕ) → nat_eq a b ≡ nat_eq b a
+pub nat_eq_sym : (a b : ℕ) → nat_eq a b ≡ nat_eq b a
 nat_eq_sym a b = grind (arith, nat_tests)
 
 pub get-filled : {X : Type 0} (m : PairMap X) (part : ℕ) (cards : List ℕ) (v : X) (q : Pair) → get (filled m part cards v) q ≡ cond (nat_eq q.0 part && contains_id q.1 cards) (Some v) (get m q)

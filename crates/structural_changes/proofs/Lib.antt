@@ -10,3 +10,4 @@ pub mod Examples
 pub mod Ascending
 pub mod Prepared
 pub mod Orders
+pub mod Going

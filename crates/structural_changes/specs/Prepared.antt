@@ -1,8 +1,13 @@
 -- Entries that are prepared for a change, with the room that they need.
-use Rattle.std.specs.Prelude.{◌≡◌, ℕ, ◌<◌, List, ◌++◌, length, take, map, slice_index_or}
+use Rattle.std.specs.Prelude.{◌≡◌, ℕ, ◌<◌, Bool, List, ◌++◌, length, take, map, slice_index_or, is_some}
+use Rattle.std.specs.FinMap.{keys}
 use Rattle.std.specs.List.{AllByRecursion}
 use Rattle.object_table.specs.Content.{Content}
+use Rattle.object_table.specs.Pairs.{Pair}
+use Rattle.object_table.specs.PartContents.{text_at, hilite_at}
 use Rattle.object_table.specs.Table.{Table}
+use Rattle.ht_values.specs.declared.word.PartKind.{PartKind}
+use Rattle.ht_values.specs.declared.word.PartKind.TheVariants.{Button, Field}
 use Rattle.stack_places.specs.Exchange.{place_of, value_of, taken, IsReady, IsWider}
 use Rattle.stack_places.specs.declared.entry.StackEntry.{StackEntry}
 use Rattle.structural_changes.specs.Writes.{StackWrite, put_each}
@@ -27,3 +32,15 @@ pub record Adds (old new : Table) (before after : List StackEntry) (writes : Lis
 pub record AreTaken (s : Content) (before after : List StackEntry) : Type 0 where
   pub count : length after ≡ length before
   pub each : (i : ℕ) (d : StackEntry) → i < length before → slice_index_or after i d ≡ taken (put_each s (map write_of (take i before))) (slice_index_or before i d)
+
+-- ---- what parts keep
+
+-- whether a field keeps a text, or a button a hilite, for a card or for 0
+abbrev pub has_content : PartKind → Content → Pair → Bool
+has_content Field s pair = is_some (text_at s pair.0 pair.1)
+has_content Button s pair = is_some (hilite_at s pair.0 pair.1)
+
+-- the parts and cards, or 0, for which there is one, ascending
+abbrev pub pairs_kept : PartKind → Content → List Pair
+pairs_kept Field s = keys s.texts
+pairs_kept Button s = keys s.hilites

@@ -2,15 +2,16 @@
 //! make objects are prepared here: all that grows is taken first, so that the exchanges can't fail.
 #![tactic(auto)]
 
+mod clearing;
 mod exchanging;
 mod fitting;
 mod laws;
 mod making;
 mod preparing;
-mod stub;
+mod removing;
 
 pub use exchanging::exchange_each;
 pub use fitting::{fits_deletion, fits_new_part, has_room, is_card};
 pub use laws::{laws_of_changes, laws_of_current_cards};
-pub use stub::{following_card, prepare_deletion};
 pub use making::{prepare_new_background, prepare_new_card, prepare_new_part};
+pub use removing::{following_card, prepare_deletion};

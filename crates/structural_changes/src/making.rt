@@ -175,7 +175,7 @@ pub fn prepare_new_card(
 }
 
 /// The background of a card.
-fn home_of(stack: &Stack, card: Id) -> Id
+pub(crate) fn home_of(stack: &Stack, card: Id) -> Id
     ensures { result ≡ home stack.now.content card }
 {
     match stack.object(card) {

@@ -4,6 +4,7 @@ ghost use Rattle.std.specs.Prelude.{◌≡◌, OnOk, IfOk, [], ◌∷◌, Some, 
 ghost use Rattle.stack_places.specs.Places.{field_text, button_hilite, whole, layer_parts as parts_of, next_id, card_order, background_order, text, logical, object as object_value, ids, number};
 ghost use Rattle.structural_changes.specs.Prepared.{Adds, Opens};
 ghost use Rattle.structural_changes.specs.Writes.{write, empty_texts, false_hilites, texts_of, hilites_of, is_card_of, is_part_of, keeps, ids_where};
+ghost use Rattle.object_table.specs.Layers.{is_of_layer, layer_id};
 ghost use Rattle.object_table.specs.Objects.{has_kind, is_background, parts_at};
 ghost use Rattle.object_table.specs.WellFormed.{IsWellFormed};
 
@@ -146,7 +147,7 @@ pub(crate) fn add_hilites(
 }
 
 /// Whether an id is that of a card of a background.
-fn is_on(stack: &Stack, background: Id, id: Id) -> bool
+pub(crate) fn is_on(stack: &Stack, background: Id, id: Id) -> bool
     ensures { result ≡ is_card_of stack.now.content background id }
 {
     match stack.object(id) {
@@ -185,12 +186,12 @@ fn is_kept(stack: &Stack, kind: PartKind, id: Id) -> bool
     }
 }
 
-/// The parts of a background, in their order.
-fn parts_on(stack: &Stack, background: Id) -> &[Id]
-    requires { has_kind is_background stack.now.content background ≡ true }
-    ensures { result.now ≡ parts_at stack.now.content background }
+/// The parts of a layer, in their order.
+pub(crate) fn parts_on(stack: &Stack, layer: LayerId) -> &[Id]
+    requires { has_kind (is_of_layer layer) stack.now.content (layer_id layer) ≡ true }
+    ensures { result.now ≡ parts_at stack.now.content (layer_id layer) }
 {
-    match stack.parts(LayerId::OfBackground(background)) {
+    match stack.parts(layer) {
         Some(parts) => parts.as_slice(),
         None => &[],
     }
@@ -207,7 +208,7 @@ pub(crate) fn parts_of(
     ensures { IfOk result (λ parts. parts.items ≡ ids_where stack.now.content (is_part_of (keeps kind) stack.now.content background)) }
 {
     let mut found = Vec::new(alloc);
-    for part in parts_on(stack, background) {
+    for part in parts_on(stack, LayerId::OfBackground(background)) {
         if is_kept(stack, kind, *part) {
             found.push(*part)?;
         }

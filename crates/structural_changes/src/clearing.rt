@@ -1,0 +1,100 @@
+//! Entries that clear places.
+
+ghost use Rattle.std.specs.Prelude.{◌≡◌, OnOk, [], ◌∷◌, map};
+ghost use Rattle.stack_places.specs.Exchange.{IsReady};
+ghost use Rattle.stack_places.specs.Places.{whole, layer_parts as parts_of, field_text, button_hilite};
+ghost use Rattle.structural_changes.specs.Prepared.{Adds, Opens, write_of};
+ghost use Rattle.structural_changes.specs.Writes.{clear};
+
+use object_table::{Id, Stack};
+use stack_places::StackEntry;
+use std::alloc::AllocError;
+
+/// Makes room for the value at an entry's place.
+#[tactic(auto, unfolding(stack_places::specs::Exchange::IsReady))]
+fn open_place(stack: &mut Stack, entry: &StackEntry) -> Result<(), AllocError>
+    ensures ready { OnOk result (IsReady stack.new.room entry.now) }
+    ensures opens { Opens stack.old stack.new }
+{
+    match entry {
+        StackEntry::FieldText(field, card, _) => stack.open_text(*field, *card),
+        StackEntry::Hilite(button, card, _) => stack.open_hilite(*button, *card),
+        StackEntry::Object(id, _) => stack.open_slot(*id),
+        StackEntry::Parts(layer, _) => stack.open_slot(*layer),
+        _ => Ok(()),
+    }
+}
+
+/// Adds an entry, with its room.
+fn add_entry(
+    stack: &mut Stack,
+    entries: &mut Vec<StackEntry>,
+    entry: StackEntry,
+) -> Result<(), AllocError>
+    ensures adds { OnOk result (Adds stack.old stack.new entries.old.items entries.new.items (write_of entry ∷ [])) }
+    ensures opens { Opens stack.old stack.new }
+{
+    open_place(stack, &entry)?;
+    entries.push(entry)?;
+    Ok(())
+}
+
+/// Adds that these objects go.
+pub(crate) fn clear_objects(
+    stack: &mut Stack,
+    entries: &mut Vec<StackEntry>,
+    ids: &[Id],
+) -> Result<(), AllocError>
+    ensures adds { OnOk result (Adds stack.old stack.new entries.old.items entries.new.items (map (λ id. clear (whole id)) ids.now)) }
+    ensures opens { Opens stack.old stack.new }
+{
+    for id in ids {
+        add_entry(stack, entries, StackEntry::Object(*id, None))?;
+    }
+    Ok(())
+}
+
+/// Adds that the lists of parts of these layers go.
+pub(crate) fn clear_parts(
+    stack: &mut Stack,
+    entries: &mut Vec<StackEntry>,
+    layers: &[Id],
+) -> Result<(), AllocError>
+    ensures adds { OnOk result (Adds stack.old stack.new entries.old.items entries.new.items (map (λ id. clear (parts_of id)) layers.now)) }
+    ensures opens { Opens stack.old stack.new }
+{
+    for layer in layers {
+        add_entry(stack, entries, StackEntry::Parts(*layer, None))?;
+    }
+    Ok(())
+}
+
+/// Adds that these texts go, each of a field for a card, or for 0.
+pub(crate) fn clear_texts(
+    stack: &mut Stack,
+    entries: &mut Vec<StackEntry>,
+    texts: &[(Id, Id)],
+) -> Result<(), AllocError>
+    ensures adds { OnOk result (Adds stack.old stack.new entries.old.items entries.new.items (map (λ p. clear (field_text p.0 p.1)) texts.now)) }
+    ensures opens { Opens stack.old stack.new }
+{
+    for text in texts {
+        add_entry(stack, entries, StackEntry::FieldText(text.0, text.1, None))?;
+    }
+    Ok(())
+}
+
+/// Adds that these hilites go, each of a button for a card, or for 0.
+pub(crate) fn clear_hilites(
+    stack: &mut Stack,
+    entries: &mut Vec<StackEntry>,
+    hilites: &[(Id, Id)],
+) -> Result<(), AllocError>
+    ensures adds { OnOk result (Adds stack.old stack.new entries.old.items entries.new.items (map (λ p. clear (button_hilite p.0 p.1)) hilites.now)) }
+    ensures opens { Opens stack.old stack.new }
+{
+    for hilite in hilites {
+        add_entry(stack, entries, StackEntry::Hilite(hilite.0, hilite.1, None))?;
+    }
+    Ok(())
+}
