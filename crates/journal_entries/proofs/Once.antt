@@ -1,5 +1,5 @@
 -- A write of a place that the segment holds already needs no further entry.
-use Rattle.std.proofs.Common.{◌≡◌, ◌≢◌, ◌++◌, ℕ, ◌+◌, ◌≤◌, Bool, true, false, not, ◌&&◌, ◌||◌, List, [], ◌∷◌, length, map, get_or, refl, sym, ap, ◌∙◌, arith, Option, option_map, nat_eq, bytes_eq}
+use Rattle.std.proofs.Common.{◌≡◌, ◌≢◌, ◌++◌, ℕ, ◌+◌, ◌≤◌, Bool, true, false, not, ◌&&◌, ◌||◌, if◌then◌else◌, List, [], ◌∷◌, length, map, get_or, refl, sym, ap, ◌∙◌, arith, Option, option_map, nat_eq, bytes_eq}
 use Rattle.std.specs.List.{list_any}
 use Rattle.std.specs.FinMap.{get}
 use Rattle.std.proofs.lemmas.Cmp.{nat_list_cmp_total}
@@ -10,22 +10,25 @@ use Rattle.std.proofs.lemmas.List.Sums.{sum_by-cons}
 use Rattle.std.proofs.lemmas.Slice.Eq.{bytes_eq-Decides}
 use Rattle.object_table.specs.Maps.{put_option}
 use Rattle.object_table.proofs.Maps.{put_option_again, put_option_apart, put_option-get, get-put_option_apart}
+use Rattle.externals.specs.Cells.{Changes}
 use Rattle.stack_places.specs.Places.{size_of, text}
 use Rattle.stack_places.specs.Exchange.{is_structural as stack_is_structural, place_of as stack_place_of, of_one_place as stack_of_one_place}
 use Rattle.stack_places.specs.declared.entry.StackEntry.{StackEntry}
+use Rattle.stack_places.specs.declared.entry.StackEntry.TheVariants as stack_entries
 use Rattle.stack_places.proofs.Exchanging as stack
 use Rattle.stack_places.proofs.Exchanging.{false_true}
 use Rattle.journal_entries.specs.State.{State}
 use Rattle.journal_entries.specs.Places.{Place, same_place, global, in_stack, current_card}
-use Rattle.journal_entries.specs.Trails.{Mark, at, structural, turned, holds, mark_at}
+use Rattle.journal_entries.specs.Trails.{Mark, at, structural, turned, holds, marked}
 use Rattle.journal_entries.specs.Exchange.{Shape, back, back_taken, exchanged, taken, entry_weight, weight, mark_of, trail_of, of_one_place, is_structural, IsReady, AreReady}
 use Rattle.journal_entries.specs.Turning.{IsNumbered}
-use Rattle.journal_entries.specs.Changing.{holds_one}
+use Rattle.journal_entries.specs.Changing.{holds_one, kept}
 use Rattle.journal_entries.specs.declared.entry.Entry.{Entry}
 use Rattle.journal_entries.specs.declared.entry.Entry.TheVariants.{Global, Current, Stack, External}
 use Rattle.journal_entries.proofs.Marks.{stack_mark, stack_marked}
 use Rattle.journal_entries.proofs.Naming.{antisymmetric}
 use Rattle.journal_entries.proofs.Replacing.{bytes_differ}
+use Rattle.journal_entries.proofs.Weighing.{trail_of-recorded}
 
 -- another number has another name
 named_apart : (names : List (List ℕ)) (h : Shape) (i j : ℕ) (v w : Option (List ℕ)) → IsNumbered names (Global i v) → h.names ≡ length names → IsReady h (Global j w) → of_one_place (Global i v) (Global j w) ≡ false → get_or names i [] ≢ get_or names j []
@@ -288,6 +291,68 @@ at_is names h p (Current c) f m only n r = rw (place_of p _ m) (at_current names
 at_is names h p (Stack e) f m only n r = rw (place_in names e p m) (at_stack names e f (plain names (Stack e) p m).0)
 at_is names h p (External i q) f m only n r = let none : turned ≡ at p → ⊥ = λ x. cc in absurd (none m)
 
+-- ---- what is kept
+
+-- an entry of no place is held by none
+apart_from : (e : Entry) → ((f : Entry) → of_one_place e f ≡ false) → (es : List Entry) → holds_one e es ≡ false
+apart_from e h [] = refl
+apart_from e h (f ∷ es) = neither (holds_one e es) (not (list_any is_structural es)) (of_one_place e f) (apart_from e h es) (h f)
+  where
+    neither : (a b c : Bool) → a ≡ false → c ≡ false → (a || (b && c)) ≡ false
+    neither a true c p q = rw (p, q) refl
+    neither a false c p q = rw p refl
+
+stack_from : (e f : StackEntry) → stack_is_structural e ≡ true → stack_of_one_place e f ≡ false
+unfolding stack_of_one_place stack_is_structural
+stack_from (stack_entries.Object i v) (stack_entries.Object j w) h = refl
+stack_from (stack_entries.Object i v) f h = refl
+stack_from e f h = false_true h
+
+structural_from : (e : StackEntry) → stack_is_structural e ≡ true → (f : Entry) → of_one_place (Stack e) f ≡ false
+unfolding of_one_place
+structural_from e h (Global i v) = refl
+structural_from e h (Current c) = refl
+structural_from e h (Stack f) = stack_from e f h
+structural_from e h (External i p) = refl
+
+external_from : (i : ℕ) (p : Changes) (f : Entry) → of_one_place (External i p) f ≡ false
+unfolding of_one_place
+external_from i p f = refl
+
+-- an entry that is held replaces one place
+pub plain-held : (e : Entry) (es : List Entry) → holds_one e es ≡ true → IsPlain e
+unfolding is_structural
+plain-held (Global i v) es h = (refl, refl)
+plain-held (Current c) es h = (refl, refl)
+plain-held (Stack e) es h = (by (stack_is_structural e) refl, refl)
+  where
+    by : (b : Bool) → stack_is_structural e ≡ b → stack_is_structural e ≡ false
+    by true q = false_true (sym (apart_from (Stack e) (structural_from e q) es) ∙ h)
+    by false q = q
+plain-held (External i p) es h = false_true (sym (apart_from (External i p) (external_from i p) es) ∙ h)
+
+marked-structural : (names : List (List ℕ)) (e : Entry) (es : List Entry) → mark_of names e ≡ structural → holds_one e es ≡ false
+unfolding mark_of
+marked-structural names (Global i v) es m = let none : at (global (get_or names i [])) ≡ structural → ⊥ = λ x. cc in absurd (none m)
+marked-structural names (Current c) es m = let none : at current_card ≡ structural → ⊥ = λ x. cc in absurd (none m)
+marked-structural names (Stack e) es m = by (stack_is_structural e) refl (sym (stack_marked e) ∙ m)
+  where
+    by : (b : Bool) → stack_is_structural e ≡ b → stack_mark b (stack_place_of e) ≡ structural → holds_one (Stack e) es ≡ false
+    by true q k = apart_from (Stack e) (structural_from e q) es
+    by false q k = let none : at (in_stack (stack_place_of e)) ≡ structural → ⊥ = λ x. cc in absurd (none k)
+marked-structural names (External i p) es m = apart_from (External i p) (external_from i p) es
+
+marked-turned : (names : List (List ℕ)) (e : Entry) (es : List Entry) → mark_of names e ≡ turned → holds_one e es ≡ false
+unfolding mark_of
+marked-turned names (Global i v) es m = let none : at (global (get_or names i [])) ≡ turned → ⊥ = λ x. cc in absurd (none m)
+marked-turned names (Current c) es m = let none : at current_card ≡ turned → ⊥ = λ x. cc in absurd (none m)
+marked-turned names (Stack e) es m = by (stack_is_structural e) refl (sym (stack_marked e) ∙ m)
+  where
+    by : (b : Bool) → stack_is_structural e ≡ b → stack_mark b (stack_place_of e) ≡ turned → holds_one (Stack e) es ≡ false
+    by true q k = let none : structural ≡ turned → ⊥ = λ x. cc in absurd (none k)
+    by false q k = let none : at (in_stack (stack_place_of e)) ≡ turned → ⊥ = λ x. cc in absurd (none k)
+marked-turned names (External i p) es m = apart_from (External i p) (external_from i p) es
+
 -- the segment holds the place where it has an entry of it
 pub holds-trail : (names : List (List ℕ)) (h : Shape) (p : Place) (e : Entry) (es : List Entry) → mark_of names e ≡ at p → IsNumbered names e → h.names ≡ length names → AreReady h es → holds p (trail_of names es) ≡ holds_one e es
 holds-trail names h p e [] m only n r = refl
@@ -295,3 +360,20 @@ holds-trail names h p e (f ∷ es) m only n r =
     ap (holds p) (reverse-append (mark_of names f ∷ []) (map (mark_of names) es))
     ∙ holds-append p (trail_of names es) (mark_of names f)
     ∙ (λ i. holds-trail names h p e es m only n r.1 i || (not (any_mark names es i) && at_is names h p e f m only n r.0 i))
+
+-- what is kept of an exchange is what its mark adds to the trail
+pub trail-kept : (names : List (List ℕ)) (h : Shape) (e t : Entry) (es : List Entry) → IsNumbered names e → h.names ≡ length names → AreReady h es → mark_of names t ≡ mark_of names e → marked (mark_of names e) (trail_of names es) ≡ trail_of names (kept es e t)
+trail-kept names h e t es only n r same = by (mark_of names e) refl
+  where
+    added : (b : Bool) → b ≡ false → trail_of names (if b then es else es ++ t ∷ []) ≡ mark_of names t ∷ trail_of names es
+    added true p = false_true (sym p)
+    added false p = trail_of-recorded names es t
+
+    placed : (p : Place) → mark_of names e ≡ at p → (b : Bool) → (if b then trail_of names es else at p ∷ trail_of names es) ≡ trail_of names (if b then es else es ++ t ∷ [])
+    placed p m true = refl
+    placed p m false = ap (λ k. k ∷ trail_of names es) (sym (same ∙ m)) ∙ sym (trail_of-recorded names es t)
+
+    by : (m : Mark) → mark_of names e ≡ m → marked m (trail_of names es) ≡ trail_of names (kept es e t)
+    by (at p) m = ap (λ b. if b then trail_of names es else at p ∷ trail_of names es) (holds-trail names h p e es m only n r) ∙ placed p m (holds_one e es)
+    by structural m = ap (λ k. k ∷ trail_of names es) (sym (same ∙ m)) ∙ sym (added (holds_one e es) (marked-structural names e es m))
+    by turned m = ap (λ k. k ∷ trail_of names es) (sym (same ∙ m)) ∙ sym (added (holds_one e es) (marked-turned names e es m))

@@ -85,3 +85,16 @@ patch_back i old new p q = weighs-back i old new p q.count q.proper q.old_texts 
 
 pub patch_forth : (i : ℕ) (old new : List (List ℕ)) (p : Changes) → IsPatch old new p → patch_weight (taken_out new p) ≤ forth_weight (replaced_by_turn i old new)
 patch_forth i old new p q = weighs-forth i old new p q.count q.proper q.old_texts q.changed
+
+-- cells that are as they were are no replacement
+pub replaced-same : (i c : ℕ) (cells : List (List ℕ)) → replaced_from i c cells cells ≡ []
+replaced-same i c [] = refl
+replaced-same i c (t ∷ ts) = ap (λ d. d ++ replaced_from i (c + 1) ts ts) (differing-same i c t) ∙ replaced-same i (c + 1) ts
+
+-- a patch that names a cell replaces one
+pub replaced-some : (i : ℕ) (old new : List (List ℕ)) (e : ℕ × List ℕ) (p : Changes) → IsPatch old new (e ∷ p) → 0 < length (replaced_by_turn i old new)
+replaced-some i old new e p q = by (replaced_by_turn i old new) (patch_back i old new (e ∷ p) q) (sum_by-cons (λ x. 32 + length x.1) e p)
+  where
+    by : (rs : List Replacement) → patch_weight (e ∷ p) ≤ back_weight rs → patch_weight (e ∷ p) ≡ 32 + length e.1 + patch_weight p → 0 < length rs
+    by [] h k = absurd (omega arith)
+    by (r ∷ rs) h k = omega arith

@@ -55,6 +55,11 @@ turned_back names old new i input ask p h t q =
     ∙ ap (λ cs. set old.externals i (with_cells e cs)) undone
     ∙ set-get_or old.externals i none_seen))
 
+-- a patch of no cell: nothing changed
+pub unmoved : (names : List (List ℕ)) (old new : State) (i : ℕ) (input : Input) (ask : Ask) → i < length old.externals → Turns old new i input ask → IsPatch (seen_at old i).cells (seen_at new i).cells [] → new ≡ old
+unfolding exchanged
+unmoved names old new i input ask h t q = sym (ap (λ es. record new { externals = es }) (set-get_or new.externals i none_seen)) ∙ turned_back names old new i input ask [] h t q
+
 -- a turn keeps the counts of cells
 pub counts-turned : (old new : State) (i : ℕ) (input : Input) (ask : Ask) → Turns old new i input ask → counts_of new.externals ≡ counts_of old.externals
 counts-turned old new i input ask t = ap (λ s. counts_of s.externals) t.state ∙ counts_of-set old.externals i (seen_at new i).cells t.answers.count
