@@ -11,3 +11,4 @@ pub mod Journal
 pub mod Making
 pub mod Globals
 pub mod Short
+mod Objects

@@ -1,6 +1,7 @@
 -- A change, and a turn of an external, in an open batch.
-use Rattle.std.proofs.Common.{Bool, ◌≡◌, ◌++◌, ℕ, ◌+◌, ◌<◌, true, false, if◌then◌else◌, List, [], ◌∷◌, length, get_or, set, map, take, drop, reverse, refl, sym, subst, ap, ◌∙◌, arith, Option, Some, None}
+use Rattle.std.proofs.Common.{Bool, ◌≡◌, ◌++◌, ℕ, ◌+◌, ◌<◌, ◌≤◌, true, false, if◌then◌else◌, List, [], ◌∷◌, length, get_or, set, map, take, drop, reverse, refl, sym, subst, ap, ◌∙◌, arith, Option, Some, None}
 use Rattle.std.proofs.lemmas.List.{get_or-set_same}
+use Rattle.std.proofs.lemmas.List.Sums.{sum_by-cons}
 use Rattle.std.proofs.lemmas.List.Elements.{All-set}
 use Rattle.externals.specs.Cells.{Changes, IsPatch, IsExternal, none_seen}
 use Rattle.externals.specs.declared.external.Input.{Input}
@@ -17,25 +18,26 @@ use Rattle.stack_places.proofs.Exchanging.{puts}
 use Rattle.journal_entries.specs.State.{State, IsState, seen_at, titles_of, are_apart}
 use Rattle.journal_entries.specs.Places.{Place, Write, put, put_all, value_at}
 use Rattle.journal_entries.specs.Changes.{changed, writes_of, fits, HasTexts}
-use Rattle.journal_entries.specs.Replaced.{Replacement, replaced_by, replaced_by_turn, back_weight, forth_weight}
-use Rattle.journal_entries.specs.Trails.{Mark, at, structural, holds, marked, IsOnce}
-use Rattle.journal_entries.specs.Exchange.{PresentView, BatchView, Shape, with_cells, shape_of, exchanged, taken, back, entry_weight, mark_of, trail_of, is_structural, IsReady, AreReady}
-use Rattle.journal_entries.specs.Turning.{Carries, Turns, IsNumbered, one_more_at, with_cells_at}
-use Rattle.journal_entries.specs.Changing.{Makes, kept, holds_one}
+use Rattle.journal_entries.specs.Replaced.{Replacement, replaced_by, replaced_in_turn, replaced_by_turn, back_weight, forth_weight}
+use Rattle.journal_entries.specs.Trails.{Mark, at, structural, turned, holds, mark_at, marked, IsOnce}
+use Rattle.journal_entries.specs.Exchange.{PresentView, BatchView, Shape, with_cells, shape_of, exchanged, taken, back, back_taken, forth, weight, entry_weight, mark_of, trail_of, IsReady, AreReady}
+use Rattle.journal_entries.specs.Turning.{Carries, AreCarried, Prepares, Turns, IsNumbered, one_more_at, with_cells_at}
+use Rattle.journal_entries.specs.Changing.{Makes, kept, kept_in_turn, kept_turn, holds_one}
 use Rattle.journal_entries.specs.declared.entry.Entry.{Entry}
 use Rattle.journal_entries.specs.declared.entry.Entry.TheVariants.{External}
 use Rattle.journal_entries.specs.declared.change.Change.TheVariants as changes
 use Rattle.journal_entries.specs.declared.change.Change.{Change}
-use Rattle.journal_entries.proofs.Going.{back-push, exchanged_back, taken_back, same_shape, AreReady-push, IsReady-taken}
+use Rattle.journal_entries.proofs.Going.{back-push, exchanged_back, taken_back, same_shape, shape-forth, AreReady-push, IsReady-taken}
 use Rattle.journal_entries.proofs.Weighing.{weight-recorded, redo-recorded, trail_of-recorded, mark_of-taken}
-use Rattle.journal_entries.proofs.Once.{back-once, redo-once, holds-trail, plain}
+use Rattle.journal_entries.proofs.Once.{back-once, redo-once, plain-held, trail-kept}
 use Rattle.change_journal.specs.History.{Open, History, IsStart, IsHistory}
-use Rattle.change_journal.specs.Rising.{Rises, Made, TookTurn, BothOpen, trail_after}
+use Rattle.change_journal.specs.Rising.{Rises, Made, TookTurn, BothOpen, trail_after, trail_after_turn}
 use Rattle.change_journal.specs.Batches.{Journal, stamp_of, past_steps, future_steps, open_of, history_of, AllReady, IsSound}
-use Rattle.journal_entries.proofs.Turned.{turned_back, counts-turned, IsReady-turned, titles-turned}
-use Rattle.journal_entries.proofs.Replacing.{patch_back, patch_forth}
+use Rattle.journal_entries.proofs.Turned.{turned_back, unmoved, counts-turned, IsReady-turned, titles-turned}
+use Rattle.journal_entries.proofs.Replacing.{patch_back, patch_forth, replaced-same, replaced-some}
 use Rattle.change_journal.proofs.Growth.{with_present, history-grown, AllReady-grown, AreReady-grown}
 use Rattle.change_journal.proofs.Globals.{globals-put}
+use Rattle.change_journal.proofs.Objects.{state-new_card, state-new_background, state-new_part, state-deletion, externals-new_card, externals-new_background, externals-new_part, externals-deletion}
 
 -- the history where the batch goes back to the same state
 history-round : (b : Journal) (k : PresentView) (batch more : BatchView) → k.names ≡ b.present.names → back b.present.names k.state more.entries ≡ back b.present.names b.present.state batch.entries → history_of (with_present b k) (Some more) ≡ record (history_of b (Some batch)) { now = k.state; start = Some (open_of k.names k.state more); turns = k.turns }
@@ -57,74 +59,112 @@ history-round b k batch more names same =
 abbrev one : State → Write → List Replacement
 one s w = record { place = w.place; old = value_at s w.place; new = w.value } ∷ []
 
--- the entry of a write that is recorded
-rises-recorded : (h : PresentView) (batch : BatchView) (e : Entry) (w : Write) → IsReady (shape_of h) e → Carries h.names h.state w e → holds w.place (trail_of h.names batch.entries) ≡ false → (let t = taken h.names h.state e in let o = open_of h.names h.state batch in Rises (one h.state w) (trail_after (one h.state w) o.trail) o (open_of h.names (exchanged h.names h.state e) (record batch { entries = batch.entries ++ t ∷ [] })))
-rises-recorded h batch e w ready carries new =
-    let names = h.names in
-    let s = h.state in
-    let t = taken names s e in
-    let next = exchanged names s e in
-    let undone = exchanged_back h.room names s e ready in
-    record {
-      state = back-push names next batch.entries t ∙ ap (λ x. back names x batch.entries) undone;
-      number = refl;
-      undo = omega (arith, weight-recorded batch.entries t, carries.back, sum_one-back s w);
-      redo = omega (arith, redo-recorded names s next batch.entries t undone, ap entry_weight (taken_back h.room names s e ready), carries.forth, sum_one-forth s w);
-      trail = trail_of-recorded names batch.entries t ∙ ap (λ m. m ∷ trail_of names batch.entries) (mark_of-taken names s e ∙ carries.mark) ∙ ap (λ b. if b then trail_of names batch.entries else at w.place ∷ trail_of names batch.entries) (sym new);
-    }
-  where
-    sum_one-back : (s : State) (w : Write) → back_weight (one s w) ≡ 32 + size_of (value_at s w.place)
-    sum_one-back s w = omega arith
+sum_one-back : (s : State) (w : Write) → back_weight (one s w) ≡ 32 + size_of (value_at s w.place)
+sum_one-back s w = omega arith
 
-    sum_one-forth : (s : State) (w : Write) → forth_weight (one s w) ≡ 32 + size_of w.value
-    sum_one-forth s w = omega arith
-
--- a write of a place that has its entry
-rises-held : (h : PresentView) (batch : BatchView) (e : Entry) (w : Write) → IsNumbered h.names e → AreReady (shape_of h) batch.entries → is_structural e ≡ false → Carries h.names h.state w e → holds_one e batch.entries ≡ true → holds w.place (trail_of h.names batch.entries) ≡ true → (let o = open_of h.names h.state batch in Rises (one h.state w) (trail_after (one h.state w) o.trail) o (open_of h.names (exchanged h.names h.state e) batch))
-rises-held h batch e w only opened plain carries held there =
-    let names = h.names in
-    let s = h.state in
-    record {
-      state = back-once names s (shape_of h) e batch.entries only refl opened plain held;
-      number = refl;
-      undo = omega arith;
-      redo = omega (arith, redo-once names s (shape_of h) e batch.entries only refl opened plain held, carries.forth, sum_one s w);
-      trail = ap (λ b. if b then trail_of names batch.entries else at w.place ∷ trail_of names batch.entries) (sym there);
-    }
-  where
-    sum_one : (s : State) (w : Write) → forth_weight (one s w) ≡ 32 + size_of w.value
-    sum_one s w = omega arith
-
--- the open batch after a write
-rises : (h : PresentView) (batch : BatchView) (e : Entry) (w : Write) → IsReady (shape_of h) e → IsNumbered h.names e → AreReady (shape_of h) batch.entries → Carries h.names h.state w e → (let o = open_of h.names h.state batch in Rises (one h.state w) (trail_after (one h.state w) o.trail) o (open_of h.names (exchanged h.names h.state e) (record batch { entries = kept batch.entries e (taken h.names h.state e) })))
-rises h batch e w ready only opened carries =
-    let t = taken h.names h.state e in
-    let same = holds-trail h.names (shape_of h) w.place e batch.entries carries.mark only refl opened in
-    elim (holds_one e batch.entries) as (λ b. holds_one e batch.entries ≡ b → (let o = open_of h.names h.state batch in Rises (one h.state w) (trail_after (one h.state w) o.trail) o (open_of h.names (exchanged h.names h.state e) (record batch { entries = if b then batch.entries else batch.entries ++ t ∷ [] })))) [
-      | true ↦ λ held. rises-held h batch e w only opened (plain h.names e w.place carries.mark) carries held (same ∙ held)
-      | false ↦ λ new. rises-recorded h batch e w ready carries (same ∙ new)
-    ] refl
+sum_one-forth : (s : State) (w : Write) → forth_weight (one s w) ≡ 32 + size_of w.value
+sum_one-forth s w = omega arith
 
 ready-kept : (h : Shape) (es : List Entry) (e t : Entry) → AreReady h es → IsReady h t → AreReady h (kept es e t)
 ready-kept h es e t r q = elim (holds_one e es) as (λ b. AreReady h (if b then es else es ++ t ∷ [])) [ true ↦ r | false ↦ AreReady-push h es t r q ]
 
--- the state that a kept batch leads back to
-abbrev made_batch : PresentView → BatchView → Entry → BatchView
-made_batch h batch e = record batch { entries = kept batch.entries e (taken h.names h.state e) }
+ready-each : (h : Shape) (names : List (List ℕ)) (s : State) (es more : List Entry) → AreReady h es → AreReady h more → AreReady h (kept_in_turn names s es more)
+ready-each h names s es [] r q = r
+ready-each h names s es (e ∷ more) r q = ready-each h names (exchanged names s e) (kept es e (taken names s e)) more (ready-kept h es e (taken names s e) r (IsReady-taken h names s e q.0)) q.1
 
-abbrev made_present : PresentView → Entry → PresentView
-made_present h e = record h { state = exchanged h.names h.state e }
+-- the batch with what an exchange keeps
+abbrev with_entry : BatchView → Entry → Entry → BatchView
+with_entry batch e t = record batch { entries = kept batch.entries e t }
 
-history-made : (b : Journal) (batch : BatchView) (e : Entry) (w : Write) (change : Change) → IsReady (shape_of b.present) e → IsNumbered b.present.names e → AreReady (shape_of b.present) batch.entries → Carries b.present.names b.present.state w e → writes_of b.present.state change ≡ w ∷ [] → Made (history_of b (Some batch)) (history_of (with_present b (made_present b.present e)) (Some (made_batch b.present batch e))) change
-history-made b batch e w change ready only opened carries writes =
+-- the open batch after a write
+rises : (h : PresentView) (batch : BatchView) (e : Entry) (w : Write) → IsReady (shape_of h) e → IsNumbered h.names e → AreReady (shape_of h) batch.entries → Carries h.names h.state w e → (let o = open_of h.names h.state batch in Rises (one h.state w) (trail_after (one h.state w) o.trail) o (open_of h.names (exchanged h.names h.state e) (with_entry batch e (taken h.names h.state e))))
+rises h batch e w ready only opened carries = record {
+  state = state (holds_one e batch.entries) refl;
+  number = refl;
+  undo = undo (holds_one e batch.entries);
+  redo = redo (holds_one e batch.entries) refl;
+  trail = sym (ap (λ m. marked m (trail_of names batch.entries)) (sym carries.mark) ∙ trail-kept names (shape_of h) e t batch.entries only refl opened (mark_of-taken names s e));
+}
+  where
+    names : List (List ℕ)
+    names = h.names
+
+    s : State
+    s = h.state
+
+    t : Entry
+    t = taken h.names h.state e
+
+    next : State
+    next = exchanged h.names h.state e
+
+    undone : exchanged names next t ≡ s
+    undone = exchanged_back h.room names s e ready
+
+    state : (b : Bool) → holds_one e batch.entries ≡ b → back names next (if b then batch.entries else batch.entries ++ t ∷ []) ≡ back names s batch.entries
+    state true held = back-once names s (shape_of h) e batch.entries only refl opened (plain-held e batch.entries held) held
+    state false new = back-push names next batch.entries t ∙ ap (λ x. back names x batch.entries) undone
+
+    undo : (b : Bool) → weight (if b then batch.entries else batch.entries ++ t ∷ []) ≤ weight batch.entries + back_weight (one s w)
+    undo true = omega arith
+    undo false = omega (arith, weight-recorded batch.entries t, carries.back, sum_one-back s w)
+
+    redo : (b : Bool) → holds_one e batch.entries ≡ b → weight (back_taken names next (if b then batch.entries else batch.entries ++ t ∷ [])) ≤ weight (back_taken names s batch.entries) + forth_weight (one s w)
+    redo true held = omega (arith, redo-once names s (shape_of h) e batch.entries only refl opened (plain-held e batch.entries held) held, carries.forth, sum_one-forth s w)
+    redo false new = omega (arith, redo-recorded names s next batch.entries t undone, ap entry_weight (taken_back h.room names s e ready), carries.forth, sum_one-forth s w)
+
+-- one after the other
+rises-then : (r : Replacement) (rs : List Replacement) (a b c : Open) → Rises (r ∷ []) (trail_after (r ∷ []) a.trail) a b → Rises rs (trail_after rs b.trail) b c → Rises (r ∷ rs) (trail_after (r ∷ rs) a.trail) a c
+rises-then r rs a b c one two = record {
+  state = two.state ∙ one.state;
+  number = two.number ∙ one.number;
+  undo = omega (arith, one.undo, two.undo, sum_by-cons (λ x. 32 + size_of x.old) r rs);
+  redo = omega (arith, one.redo, two.redo, sum_by-cons (λ x. 32 + size_of x.new) r rs);
+  trail = two.trail ∙ ap (trail_after rs) one.trail;
+}
+
+-- the open batch after all writes of a change
+rises-each : (h : PresentView) (batch : BatchView) (es : List Entry) (ws : List Write) → AreReady (shape_of h) es → AreReady (shape_of h) batch.entries → AreCarried h.names h.state ws es → (let o = open_of h.names h.state batch in let rs = replaced_in_turn h.state ws in Rises rs (trail_after rs o.trail) o (open_of h.names (forth h.names h.state es) (record batch { entries = kept_in_turn h.names h.state batch.entries es })))
+rises-each h batch [] [] ready opened carried = record { state = refl; number = refl; undo = omega arith; redo = omega arith; trail = refl }
+rises-each h batch [] (w ∷ ws) ready opened carried = absurd carried
+rises-each h batch (e ∷ es) [] ready opened carried = absurd carried
+rises-each h batch (e ∷ es) (w ∷ ws) ready opened carried =
+    let names = h.names in
+    let t = taken names h.state e in
+    let next : PresentView = record h { state = exchanged names h.state e } in
+    let more = with_entry batch e t in
+    let same = same_shape h.room names h.state e in
+    let now : exchanged names h.state e ≡ put h.state w.place w.value = carried.1.state in
+    let ready_next : AreReady (shape_of next) es = rw same ready.1 in
+    let opened_next : AreReady (shape_of next) more.entries = rw same (ready-kept (shape_of h) batch.entries e t opened (IsReady-taken (shape_of h) names h.state e ready.0)) in
+    let first = rises h batch e w ready.0 carried.0 opened carried.1 in
+    let rest = rises-each next more es ws ready_next opened_next (rw now carried.2) in
+    let r : Replacement = record { place = w.place; old = value_at h.state w.place; new = w.value } in
+    rises-then r (replaced_in_turn (put h.state w.place w.value) ws) (open_of names h.state batch) (open_of names next.state more) _ first
+    (subst (λ s. Rises (replaced_in_turn s ws) (trail_after (replaced_in_turn s ws) (trail_of names more.entries)) (open_of names next.state more) (open_of names (forth names next.state es) (record batch { entries = kept_in_turn names next.state more.entries es }))) now rest)
+
+-- the entries put what the change writes
+puts-each : (names : List (List ℕ)) (s : State) (ws : List Write) (es : List Entry) → AreCarried names s ws es → forth names s es ≡ put_all s ws
+puts-each names s [] [] h = refl
+puts-each names s [] (e ∷ es) h = absurd h
+puts-each names s (w ∷ ws) [] h = absurd h
+puts-each names s (w ∷ ws) (e ∷ es) h = ap (λ x. forth names x es) h.1.state ∙ puts-each names (put s w.place w.value) ws es h.2
+
+abbrev made_batch : PresentView → BatchView → List Entry → BatchView
+made_batch h batch es = record batch { entries = kept_in_turn h.names h.state batch.entries es }
+
+abbrev made_present : PresentView → List Entry → PresentView
+made_present h es = record h { state = forth h.names h.state es }
+
+history-made : (b : Journal) (batch : BatchView) (es : List Entry) (change : Change) → Prepares b.present change es → AreReady (shape_of b.present) batch.entries → Made (history_of b (Some batch)) (history_of (with_present b (made_present b.present es)) (Some (made_batch b.present batch es))) change
+history-made b batch es change prepared opened =
     let h = b.present in
-    let up = rises h batch e w ready only opened carries in
-    let round = history-round b (made_present h e) batch (made_batch h batch e) refl up.state in
-    let now : exchanged h.names h.state e ≡ changed h.state change = carries.state ∙ ap (λ ws. put_all h.state ws) (sym writes) in
-    let replaced : replaced_by h.state change ≡ one h.state w = ap (λ ws. map (λ x. record { place = x.place; old = value_at h.state x.place; new = x.value }) ws) writes in
+    let up = rises-each h batch es (writes_of h.state change) prepared.ready opened prepared.carried in
+    let round = history-round b (made_present h es) batch (made_batch h batch es) refl up.state in
+    let now : forth h.names h.state es ≡ changed h.state change = puts-each h.names h.state (writes_of h.state change) es prepared.carried in
     record {
-      history = round ∙ ap (λ s. record (history_of b (Some batch)) { now = s; start = Some (open_of h.names (exchanged h.names h.state e) (made_batch h batch e)) }) now;
-      start = rw replaced up;
+      history = round ∙ ap (λ s. record (history_of b (Some batch)) { now = s; start = Some (open_of h.names (forth h.names h.state es) (made_batch h batch es)) }) now;
+      start = up;
     }
 
 -- ---- what stays true
@@ -157,6 +197,10 @@ state-changed s (changes.Prop id v) f h q =
       apart = q.apart;
     })
 state-changed s (changes.Current card) f h q = record { stack = q.stack; globals = q.globals; current = f; externals = q.externals; apart = q.apart }
+state-changed s changes.NewCard f h q = state-new_card s f q
+state-changed s changes.NewBackground f h q = state-new_background s f q
+state-changed s (changes.NewPart layer kind) f h q = state-new_part s layer kind f q
+state-changed s changes.DeleteCard f h q = state-deletion s f q
 
 titles-changed : (s : State) (change : Change) → titles_of (changed s change).externals ≡ titles_of s.externals
 unfolding put
@@ -165,13 +209,23 @@ titles-changed s (changes.FieldText field card t) = refl
 titles-changed s (changes.Hilite button card b) = refl
 titles-changed s (changes.Prop id v) = refl
 titles-changed s (changes.Current card) = refl
+titles-changed s changes.NewCard = ap titles_of (externals-new_card s)
+titles-changed s changes.NewBackground = ap titles_of (externals-new_background s)
+titles-changed s (changes.NewPart layer kind) = ap titles_of (externals-new_part s layer kind)
+titles-changed s changes.DeleteCard = ap titles_of (externals-deletion s)
 
-once-marked : (p : Place) (trail : List Mark) → IsOnce trail → IsOnce (marked p trail)
-once-marked p trail h = elim (holds p trail) as (λ b. holds p trail ≡ b → IsOnce (if b then trail else at p ∷ trail)) [ true ↦ λ e. h | false ↦ λ e. (e, h) ] refl
+once-marked : (m : Mark) (trail : List Mark) → IsOnce trail → IsOnce (marked m trail)
+once-marked structural trail h = h
+once-marked turned trail h = h
+once-marked (at p) trail h = elim (holds p trail) as (λ b. holds p trail ≡ b → IsOnce (if b then trail else at p ∷ trail)) [ true ↦ λ e. h | false ↦ λ e. (e, h) ] refl
 
 once-after : (rs : List Replacement) (trail : List Mark) → IsOnce trail → IsOnce (trail_after rs trail)
 once-after [] trail h = h
-once-after (r ∷ rs) trail h = once-after rs (marked r.place trail) (once-marked r.place trail h)
+once-after (r ∷ rs) trail h = once-after rs (marked (mark_at r.place) trail) (once-marked (mark_at r.place) trail h)
+
+once-turned : (rs : List Replacement) (trail : List Mark) → IsOnce trail → IsOnce (trail_after_turn rs trail)
+once-turned [] trail h = h
+once-turned (r ∷ rs) trail h = h
 
 start-risen : (ts : List (List ℕ)) (old new : Option Open) (rs : List Replacement) (marks : Open → List Mark) → ((o : Open) → IsOnce o.trail → IsOnce (marks o)) → BothOpen old new (λ o p. Rises rs (marks o) o p) → IsStart ts old → IsStart ts new
 start-risen ts None None rs marks once up h = absurd up
@@ -193,18 +247,18 @@ pub made-all : (b : Journal) (k : PresentView) (batch more : BatchView) (change 
 made-all b k batch more change m ready opened =
     let mid = with_present b m.mid in
     let grown = history-grown b m.mid batch m.grows ready opened in
-    let made = history-made mid batch m.entry m.prepared.write change m.prepared.ready m.prepared.numbered (AreReady-grown b.present m.mid batch m.grows opened) m.prepared.carries m.prepared.writes in
-    rw (m.present, m.batch) (subst (λ h. Made h (history_of (with_present b (made_present m.mid m.entry)) (Some (made_batch m.mid batch m.entry))) change) grown made)
+    let made = history-made mid batch m.entries change m.prepared (AreReady-grown b.present m.mid batch m.grows opened) in
+    rw (m.present, m.batch) (subst (λ h. Made h (history_of (with_present b (made_present m.mid m.entries)) (Some (made_batch m.mid batch m.entries))) change) grown made)
 
 pub IsSound-made : (b : Journal) (k : PresentView) (room : ℕ) (batch more : BatchView) (change : Change) → fits b.present.state change ≡ true → HasTexts change → Makes b.present k batch more change → IsSound b room (Some batch) → IsSound (with_present b k) room (Some more)
 IsSound-made b k room batch more change f texts m sound =
     let mid = m.mid in
     let h = shape_of mid in
-    let same = same_shape mid.room mid.names mid.state m.entry in
+    let same = shape-forth mid.room mid.names mid.state m.entries in
     let made = made-all b k batch more change m sound.ready sound.opened.0 in
     let shape : shape_of k ≡ h = ap shape_of m.present ∙ same in
-    let entries : more.entries ≡ kept batch.entries m.entry (taken mid.names mid.state m.entry) = ap (λ l. l.entries) m.batch in
-    let opened : AreReady h (kept batch.entries m.entry (taken mid.names mid.state m.entry)) = ready-kept h batch.entries m.entry (taken mid.names mid.state m.entry) (AreReady-grown b.present mid batch m.grows sound.opened.0) (IsReady-taken h mid.names mid.state m.entry m.prepared.ready) in
+    let entries : more.entries ≡ kept_in_turn mid.names mid.state batch.entries m.entries = ap (λ l. l.entries) m.batch in
+    let opened : AreReady h (kept_in_turn mid.names mid.state batch.entries m.entries) = ready-each h mid.names mid.state batch.entries m.entries (AreReady-grown b.present mid batch m.grows sound.opened.0) m.prepared.ready in
     record {
       within = sound.within;
       few = sound.few;
@@ -216,24 +270,34 @@ IsSound-made b k room batch more change f texts m sound =
 
 -- ---- a turn
 
-rises-turned : (h : PresentView) (batch : BatchView) (k : PresentView) (i : ℕ) (input : Input) (ask : Ask) (p : Changes) → k.names ≡ h.names → i < length h.state.externals → Turns h.state k.state i input ask → IsPatch (seen_at h.state i).cells (seen_at k.state i).cells p → (let o = open_of h.names h.state batch in Rises (replaced_by_turn i (seen_at h.state i).cells (seen_at k.state i).cells) (structural ∷ o.trail) o (open_of h.names k.state (record batch { entries = batch.entries ++ External i p ∷ [] })))
+turned_trail : (rs : List Replacement) (trail : List Mark) → 0 < length rs → trail_after_turn rs trail ≡ turned ∷ trail
+turned_trail [] trail h = absurd (omega arith)
+turned_trail (r ∷ rs) trail h = refl
+
+rises-turned : (h : PresentView) (batch : BatchView) (k : PresentView) (i : ℕ) (input : Input) (ask : Ask) (p : Changes) → k.names ≡ h.names → i < length h.state.externals → Turns h.state k.state i input ask → IsPatch (seen_at h.state i).cells (seen_at k.state i).cells p → (let o = open_of h.names h.state batch in let rs = replaced_by_turn i (seen_at h.state i).cells (seen_at k.state i).cells in Rises rs (trail_after_turn rs o.trail) o (open_of h.names k.state (record batch { entries = kept_turn batch.entries i p })))
 unfolding entry_weight taken mark_of
-rises-turned h batch k i input ask p names there turn patch =
-    let undone = turned_back h.names h.state k.state i input ask p there turn patch in
+rises-turned h batch k i input ask [] names there turn patch =
+    let same : k.state ≡ h.state = unmoved h.names h.state k.state i input ask there turn patch in
+    let none = ap (λ s. replaced_by_turn i (seen_at h.state i).cells (seen_at s i).cells) same ∙ replaced-same i 0 (seen_at h.state i).cells in
+    rw (none, same) (record { state = refl; number = refl; undo = omega arith; redo = omega arith; trail = refl })
+rises-turned h batch k i input ask (e ∷ p) names there turn patch =
+    let whole : Changes = e ∷ p in
+    let rs = replaced_by_turn i (seen_at h.state i).cells (seen_at k.state i).cells in
+    let undone = turned_back h.names h.state k.state i input ask whole there turn patch in
     record {
-      state = back-push h.names k.state batch.entries (External i p) ∙ ap (λ x. back h.names x batch.entries) undone;
+      state = back-push h.names k.state batch.entries (External i whole) ∙ ap (λ x. back h.names x batch.entries) undone;
       number = refl;
-      undo = omega (arith, weight-recorded batch.entries (External i p), patch_back i (seen_at h.state i).cells (seen_at k.state i).cells p patch);
-      redo = omega (arith, redo-recorded h.names h.state k.state batch.entries (External i p) undone, patch_forth i (seen_at h.state i).cells (seen_at k.state i).cells p patch);
-      trail = trail_of-recorded h.names batch.entries (External i p);
+      undo = omega (arith, weight-recorded batch.entries (External i whole), patch_back i (seen_at h.state i).cells (seen_at k.state i).cells whole patch);
+      redo = omega (arith, redo-recorded h.names h.state k.state batch.entries (External i whole) undone, patch_forth i (seen_at h.state i).cells (seen_at k.state i).cells whole patch);
+      trail = trail_of-recorded h.names batch.entries (External i whole) ∙ sym (turned_trail rs (trail_of h.names batch.entries) (replaced-some i (seen_at h.state i).cells (seen_at k.state i).cells e p patch));
     }
 
-pub turned-all : (b : Journal) (k : PresentView) (batch more : BatchView) (i : ℕ) (input : Input) (ask : Ask) (p : Changes) → i < length b.present.state.externals → Turns b.present.state k.state i input ask → IsPatch (seen_at b.present.state i).cells (seen_at k.state i).cells p → more ≡ record batch { entries = batch.entries ++ External i p ∷ [] } → k ≡ record b.present { state = k.state; turns = one_more_at b.present.turns i } → TookTurn (history_of b (Some batch)) (history_of (with_present b k) (Some more)) i input ask
+pub turned-all : (b : Journal) (k : PresentView) (batch more : BatchView) (i : ℕ) (input : Input) (ask : Ask) (p : Changes) → i < length b.present.state.externals → Turns b.present.state k.state i input ask → IsPatch (seen_at b.present.state i).cells (seen_at k.state i).cells p → more ≡ record batch { entries = kept_turn batch.entries i p } → k ≡ record b.present { state = k.state; turns = one_more_at b.present.turns i } → TookTurn (history_of b (Some batch)) (history_of (with_present b k) (Some more)) i input ask
 turned-all b k batch more i input ask p there turn patch batch_is present_is =
     let h = b.present in
     let names : k.names ≡ h.names = ap (λ x. x.names) present_is in
     let turns : k.turns ≡ one_more_at h.turns i = ap (λ x. x.turns) present_is in
-    let new : BatchView = record batch { entries = batch.entries ++ External i p ∷ [] } in
+    let new : BatchView = record batch { entries = kept_turn batch.entries i p } in
     let up = rises-turned h batch k i input ask p names there turn patch in
     let round = history-round b k batch new names up.state in
     rw batch_is (record {
@@ -241,6 +305,10 @@ turned-all b k batch more i input ask p there turn patch batch_is present_is =
       history = round ∙ ap (λ ts. record (history_of b (Some batch)) { now = k.state; start = Some (open_of k.names k.state new); turns = ts }) turns;
       start = rw names up;
     })
+
+ready-turned : (h : Shape) (es : List Entry) (i : ℕ) (p : Changes) → AreReady h es → IsReady h (External i p) → AreReady h (kept_turn es i p)
+ready-turned h es i [] r q = r
+ready-turned h es i (e ∷ p) r q = AreReady-push h es (External i (e ∷ p)) r q
 
 -- a turn puts what is seen of the i-th external in the place of what was seen
 set-seen : (old new : State) (i : ℕ) → i < length old.externals → new ≡ with_cells_at old i (seen_at new i).cells → new.externals ≡ set old.externals i (seen_at new i)
@@ -253,6 +321,7 @@ set-seen old new i there is =
 pub IsHistory-turned : (old new : History) (i : ℕ) (input : Input) (ask : Ask) → i < length old.now.externals → IsExternal (seen_at new.now i) → TookTurn old new i input ask → IsHistory old → IsHistory new
 IsHistory-turned old new i input ask there known took q =
     let cells = (seen_at new.now i).cells in
+    let replaced = replaced_by_turn i (seen_at old.now i).cells cells in
     let same : titles_of new.now.externals ≡ titles_of old.now.externals = ap (λ s. titles_of s.externals) took.turn.state ∙ titles-turned old.now.externals i cells in
     let stack : new.now.stack ≡ old.now.stack = ap (λ s. s.stack) took.turn.state in
     let globals : new.now.globals ≡ old.now.globals = ap (λ s. s.globals) took.turn.state in
@@ -272,19 +341,19 @@ IsHistory-turned old new i input ask there known took q =
         titles = same ∙ q.now.titles;
       };
       future = q.future;
-      start = start-risen q.titles old.start new.start _ (λ o. structural ∷ o.trail) (λ o h. h) took.start q.start;
+      start = start-risen q.titles old.start new.start replaced (λ o. trail_after_turn replaced o.trail) (λ o h. once-turned replaced o.trail h) took.start q.start;
     })
 
-pub IsSound-turned : (b : Journal) (k : PresentView) (room : ℕ) (batch more : BatchView) (i : ℕ) (input : Input) (ask : Ask) (p : Changes) → i < length b.present.state.externals → IsExternal (seen_at k.state i) → Turns b.present.state k.state i input ask → IsPatch (seen_at b.present.state i).cells (seen_at k.state i).cells p → more ≡ record batch { entries = batch.entries ++ External i p ∷ [] } → k ≡ record b.present { state = k.state; turns = one_more_at b.present.turns i } → IsSound b room (Some batch) → IsSound (with_present b k) room (Some more)
+pub IsSound-turned : (b : Journal) (k : PresentView) (room : ℕ) (batch more : BatchView) (i : ℕ) (input : Input) (ask : Ask) (p : Changes) → i < length b.present.state.externals → IsExternal (seen_at k.state i) → Turns b.present.state k.state i input ask → IsPatch (seen_at b.present.state i).cells (seen_at k.state i).cells p → more ≡ record batch { entries = kept_turn batch.entries i p } → k ≡ record b.present { state = k.state; turns = one_more_at b.present.turns i } → IsSound b room (Some batch) → IsSound (with_present b k) room (Some more)
 IsSound-turned b k room batch more i input ask p there known turn patch batch_is present_is sound =
     let h = shape_of b.present in
     let shape : shape_of k ≡ h = λ x. record { names = length (present_is x).names; counts = counts-turned b.present.state k.state i input ask turn x; room = (present_is x).room } in
-    let entries : more.entries ≡ batch.entries ++ External i p ∷ [] = ap (λ l. l.entries) batch_is in
+    let entries : more.entries ≡ kept_turn batch.entries i p = ap (λ l. l.entries) batch_is in
     record {
       within = sound.within;
       few = sound.few;
       some = sound.some;
       ready = rw shape sound.ready;
-      opened = (rw (shape, entries) (AreReady-push h batch.entries (External i p) sound.opened.0 (IsReady-turned h b.present.state k.state i p refl there patch)), sound.opened.1);
+      opened = (rw (shape, entries) (ready-turned h batch.entries i p sound.opened.0 (IsReady-turned h b.present.state k.state i p refl there patch)), sound.opened.1);
       history = IsHistory-turned (history_of b (Some batch)) (history_of (with_present b k) (Some more)) i input ask there known (turned-all b k batch more i input ask p there turn patch batch_is present_is) sound.history;
     }

@@ -5,7 +5,7 @@ use Rattle.externals.specs.declared.external.Ask.{Ask}
 use Rattle.journal_entries.specs.State.{seen_at}
 use Rattle.journal_entries.specs.Changes.{changed}
 use Rattle.journal_entries.specs.Replaced.{Replacement, replaced_by, replaced_by_turn, back_weight, forth_weight}
-use Rattle.journal_entries.specs.Trails.{Mark, marked, structural}
+use Rattle.journal_entries.specs.Trails.{Mark, mark_at, marked, turned}
 use Rattle.journal_entries.specs.Turning.{Turns, one_more_at}
 use Rattle.journal_entries.specs.declared.change.Change.{Change}
 use Rattle.change_journal.specs.History.{Open, History}
@@ -13,7 +13,12 @@ use Rattle.change_journal.specs.History.{Open, History}
 -- the trail after these were replaced: a place that its last segment holds already adds nothing
 abbrev pub trail_after : List Replacement → List Mark → List Mark
 trail_after [] trail = trail
-trail_after (r ∷ rs) trail = trail_after rs (marked r.place trail)
+trail_after (r ∷ rs) trail = trail_after rs (marked (mark_at r.place) trail)
+
+-- the trail after a turn that replaced these: one that changes no cell adds nothing
+abbrev pub trail_after_turn : List Replacement → List Mark → List Mark
+trail_after_turn [] trail = trail
+trail_after_turn (r ∷ rs) trail = turned ∷ trail
 
 -- The open batch after these were replaced: it goes back to the same state and belongs to the same line, each
 -- weight rises by at most theirs, and its trail has these marks.
@@ -38,4 +43,4 @@ pub record Made (old new : History) (change : Change) : Type 0 where
 pub record TookTurn (old new : History) (i : ℕ) (input : Input) (ask : Ask) : Type 0 where
   pub turn : Turns old.now new.now i input ask
   pub history : new ≡ record old { now = new.now; start = new.start; turns = one_more_at old.turns i }
-  pub start : BothOpen old.start new.start (λ o p. Rises (replaced_by_turn i (seen_at old.now i).cells (seen_at new.now i).cells) (structural ∷ o.trail) o p)
+  pub start : BothOpen old.start new.start (λ o p. let replaced = replaced_by_turn i (seen_at old.now i).cells (seen_at new.now i).cells in Rises replaced (trail_after_turn replaced o.trail) o p)

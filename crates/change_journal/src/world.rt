@@ -177,7 +177,8 @@ impl<E: External> World<E> {
     }
 
     /// Whether a change fits: a global goes by its folded name, a text, a hilite and a property are there already,
-    /// and what becomes current is a card.
+    /// what becomes current is a card, ids go up to 1,000,000 and objects to 10,000, a new part's layer is there, and
+    /// a card goes where there is a second one.
     pub fn fits(&self, change: &Change) -> bool
         ensures { result ≡ fits self.now.history.now change.now }
     {
@@ -205,7 +206,7 @@ impl<E: External> World<E> {
     {
         law_of_texts(&change);
         match &mut self.open {
-            Some(batch) => batch.make(&mut self.present, change),
+            Some(batch) => batch.make(&mut self.present, self.alloc, change),
             None => unreachable!(),
         }
     }
@@ -228,8 +229,8 @@ impl<E: External> World<E> {
 
     /// The open batch leads back from a new state of the history, what stood after the cursor goes, and so does
     /// the oldest state where more than `depth` would stand before it. The batch has each place once between two
-    /// structural entries, before the first and after the last. So with s structural entries it holds at most
-    /// s + (s + 1) * p entries, where p is how many different places they have.
+    /// entries that make or remove an object, before the first and after the last. So with s of these and t of turns it
+    /// holds at most t + s + (s + 1) * p entries, where p is how many different places they have.
     pub fn commit(&mut self)
         requires { IsSome self.old.history.start }
         ensures history { self.new.history ≡ committed self.old.history }
