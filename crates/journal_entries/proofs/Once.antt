@@ -261,9 +261,9 @@ plain names (Global i v) p m = (refl, refl)
 plain names (Current c) p m = (refl, refl)
 plain names (Stack e) p m = (
   elim (stack_is_structural e) as (λ b. stack_mark b (stack_place_of e) ≡ at p → b ≡ false) [
-      | true ↦ λ q. let none : structural ≡ at p → ⊥ = λ x. cc in absurd (none q)
-      | false ↦ λ q. refl
-    ] (sym (stack_marked e) ∙ m),
+    | true ↦ λ q. let none : structural ≡ at p → ⊥ = λ x. cc in absurd (none q)
+    | false ↦ λ q. refl
+  ] (sym (stack_marked e) ∙ m),
   refl,
 )
 plain names (External i q) p m = let none : turned ≡ at p → ⊥ = λ x. cc in absurd (none m)

@@ -176,11 +176,7 @@ fn holds_place(entries: &[Entry], entry: &Entry) -> bool
 }
 
 /// Makes an exchange and keeps what comes out, unless the place has its entry already. There is room for one.
-fn write_reserved<E: External>(
-    entries: &mut Vec<Entry>,
-    present: &mut Present<E>,
-    mut entry: Entry,
-)
+fn write_reserved<E: External>(entries: &mut Vec<Entry>, present: &mut Present<E>, mut entry: Entry)
     requires ready { IsReady (shape_of present.old) entry }
     requires room { vec_len entries.old < vec_capacity entries.old }
     ensures state { present.new ≡ record present.old { state = exchanged present.old.names present.old.state entry } }

@@ -17,13 +17,13 @@ use externals::{Ask, External, Input, Patch};
 use ht_values::{PartKind, Text};
 use object_table::{LayerId, Stack};
 use stack_places::StackEntry;
+use std::alloc::{AllocError, Global};
+use std::marker::Model;
+use std::mem;
 use structural_changes::{
     fits_deletion, fits_new_part, following_card, has_room, is_card, prepare_deletion,
     prepare_new_background, prepare_new_card, prepare_new_part,
 };
-use std::alloc::{AllocError, Global};
-use std::marker::Model;
-use std::mem;
 
 /// The present state, which contracts see beside the names of globals that have numbers and the externals'
 /// turns.
