@@ -8,6 +8,7 @@ use Rattle.std.specs.FinMap.{FinMap, keys, nat_cmp-IsAntisymmetric}
 use Rattle.std.specs.List.{AllByRecursion, IsDistinct}
 use Rattle.std.specs.Ordering.{eq_by_cmp, nat_cmp}
 use Rattle.object_table.specs.Content.{Content}
+use Rattle.object_table.specs.Layers.{layer_id}
 use Rattle.object_table.specs.Objects.{background_of, contains_id, has_kind, is_card, is_stack, object_at, parts_at}
 use Rattle.object_table.specs.Pairs.{Pair, PairMap, pair_cmp}
 use Rattle.object_table.specs.WellFormed.{IsWellFormed}
@@ -19,7 +20,7 @@ use Rattle.object_table.specs.declared.object.LayerId.TheVariants.{OfBackground,
 use Rattle.object_table.proofs.Pairs.{pair_cmp_total, pair_cmp-IsAntisymmetric, pair_tied}
 use Rattle.ht_values.specs.declared.word.PartKind.{PartKind}
 use Rattle.ht_values.specs.declared.word.PartKind.TheVariants.{Button, Field}
-use Rattle.stack_places.specs.Places.{button_hilite, card_order, background_order, field_text, ids, layer_parts, logical, text, whole}
+use Rattle.stack_places.specs.Places.{button_hilite, card_order, background_order, field_text, ids, layer_parts, logical, next_id, text, whole}
 use Rattle.structural_changes.specs.Writes.{StackWrite, at_one_place, clear, clears_of_deletion, empty_texts, false_hilites, goes_as_content, goes_as_layer, goes_as_part, has_room_for, hilites_of, home, ids_where, is_card_of, is_last_card, is_part_of, keeps, kept_for, texts_of, without, write, writes_of_deletion, writes_of_new_background, writes_of_new_card, writes_of_new_part}
 use Rattle.structural_changes.proofs.Ascending.{keys_where_ascend}
 use Rattle.structural_changes.proofs.Filled.{contains-ids_where}
@@ -113,11 +114,11 @@ unfolding IsDistinct
 new_part_once s layer Field w =
     let cards = kept_for s layer in
     let f : ℕ → StackWrite = λ card. write (field_text s.next card) (text []) in
-    ((refl, (refl, beside-each _ f (λ x. refl) cards)), ((refl, beside-each _ f (λ x. refl) cards), (beside-each _ f (λ x. refl) cards, texts_once s.next cards (kept_once s w layer))))
+    ((refl, (refl, beside-each (clear next_id) f (λ x. refl) cards)), ((refl, beside-each (clear (whole s.next)) f (λ x. refl) cards), (beside-each (clear (layer_parts (layer_id layer))) f (λ x. refl) cards, texts_once s.next cards (kept_once s w layer))))
 new_part_once s (OfBackground background) Button w =
     let cards = kept_for s (OfBackground background) in
     let f : ℕ → StackWrite = λ card. write (button_hilite s.next card) (logical false) in
-    ((refl, (refl, beside-each _ f (λ x. refl) cards)), ((refl, beside-each _ f (λ x. refl) cards), (beside-each _ f (λ x. refl) cards, hilites_once s.next cards (kept_once s w (OfBackground background)))))
+    ((refl, (refl, beside-each (clear next_id) f (λ x. refl) cards)), ((refl, beside-each (clear (whole s.next)) f (λ x. refl) cards), (beside-each (clear (layer_parts background)) f (λ x. refl) cards, hilites_once s.next cards (kept_once s w (OfBackground background)))))
 new_part_once s (OfCard card) Button w = ((refl, (refl, tt)), ((refl, tt), (tt, tt)))
 
 -- ---- a new card and a new background
@@ -133,7 +134,7 @@ new_card_once s card =
     let hilites : Once (map g buttons) = once-map same_id g (λ x y h. ap (λ b. b && nat_eq s.next s.next) (other_id x y h)) buttons (ids_once s.objects (is_part_of (keeps Button) s (home s card))) in
     let contents : Once (map f fields ++ map g buttons) = once-append (map f fields) (map g buttons) texts hilites (each-beside f g (λ x y. refl) fields buttons) in
     let beside : (w : StackWrite) → ((x : ℕ) → at_one_place w (f x) ≡ false) → ((x : ℕ) → at_one_place w (g x) ≡ false) → Beside w (map f fields ++ map g buttons) = λ w h k. all-append (λ v. at_one_place w v ≡ false) (map f fields) (map g buttons) (beside-each w f h fields) (beside-each w g k buttons) in
-    ((refl, (refl, (refl, beside _ (λ x. refl) (λ x. refl)))), ((refl, (refl, beside _ (λ x. refl) (λ x. refl))), ((refl, beside _ (λ x. refl) (λ x. refl)), (beside _ (λ x. refl) (λ x. refl), contents))))
+    ((refl, (refl, (refl, beside (clear next_id) (λ x. refl) (λ x. refl)))), ((refl, (refl, beside (clear (whole s.next)) (λ x. refl) (λ x. refl))), ((refl, beside (clear card_order) (λ x. refl) (λ x. refl)), (beside (clear (layer_parts s.next)) (λ x. refl) (λ x. refl), contents))))
 
 pub new_background_once : (s : Content) (card : ℕ) → Once (writes_of_new_background s card)
 unfolding IsDistinct
@@ -143,9 +144,74 @@ new_background_once s card =
 
 -- ---- a card that goes
 
-module _ (s : Content) (card : ℕ) where
-  gone : ℕ → Bool
-  gone id = goes_as_layer s card id || goes_as_part s card id
+pub deletion_once : (s : Content) (card : ℕ) → Once (writes_of_deletion s card)
+deletion_once s card = by (is_last_card s card)
+  where
+    whole_of : ℕ → StackWrite
+    whole_of id = clear (whole id)
 
-  abbrev objects layers : List StackWrite
-  objects = map (λ id. clear (whole id)) (ids_where s (λ id. goes_as_layer s card id || goes_as_part s card id))
+    layer_of : ℕ → StackWrite
+    layer_of id = clear (layer_parts id)
+
+    text_of : Pair → StackWrite
+    text_of p = clear (field_text p.0 p.1)
+
+    hilite_of : Pair → StackWrite
+    hilite_of p = clear (button_hilite p.0 p.1)
+
+    gone : List ℕ
+    gone = ids_where s (λ id. goes_as_layer s card id || goes_as_part s card id)
+
+    layers : List ℕ
+    layers = filter (goes_as_layer s card) (keys s.parts)
+
+    texts : List Pair
+    texts = filter (goes_as_content s card) (keys s.texts)
+
+    hilites : List Pair
+    hilites = filter (goes_as_content s card) (keys s.hilites)
+
+    other_pair : (p q : Pair) → eq_by_cmp pair_cmp p q ≡ false → nat_eq p.0 q.0 && nat_eq p.1 q.1 ≡ false
+    other_pair p q h = sym (pair_tied p q) ∙ h
+
+    layers_too : Once (map whole_of gone ++ map layer_of layers)
+    layers_too = once-append (map whole_of gone) (map layer_of layers)
+        (once-map same_id whole_of other_id gone (ids_once s.objects (λ id. goes_as_layer s card id || goes_as_part s card id)))
+        (once-map same_id layer_of other_id layers (ids_once s.parts (goes_as_layer s card)))
+        (each-beside whole_of layer_of (λ x y. refl) gone layers)
+
+    texts_too : Once (map whole_of gone ++ map layer_of layers ++ map text_of texts)
+    texts_too = once-append (map whole_of gone ++ map layer_of layers) (map text_of texts) layers_too
+        (once-map (eq_by_cmp pair_cmp) text_of other_pair texts (pairs_once s.texts (goes_as_content s card)))
+        (all-append (λ w. Beside w (map text_of texts)) (map whole_of gone) (map layer_of layers) (each-beside whole_of text_of (λ x y. refl) gone texts) (each-beside layer_of text_of (λ x y. refl) layers texts))
+
+    all_cleared : Once (clears_of_deletion s card)
+    all_cleared = once-append (map whole_of gone ++ map layer_of layers ++ map text_of texts) (map hilite_of hilites) texts_too
+        (once-map (eq_by_cmp pair_cmp) hilite_of other_pair hilites (pairs_once s.hilites (goes_as_content s card)))
+        (all-append (λ w. Beside w (map hilite_of hilites)) (map whole_of gone ++ map layer_of layers) (map text_of texts)
+        (all-append (λ w. Beside w (map hilite_of hilites)) (map whole_of gone) (map layer_of layers) (each-beside whole_of hilite_of (λ x y. refl) gone hilites) (each-beside layer_of hilite_of (λ x y. refl) layers hilites))
+        (each-beside text_of hilite_of (λ x y. refl) texts hilites))
+
+    beside : (w : StackWrite) → ((x : ℕ) → at_one_place w (whole_of x) ≡ false) → ((x : ℕ) → at_one_place w (layer_of x) ≡ false) → ((x : Pair) → at_one_place w (text_of x) ≡ false) → ((x : Pair) → at_one_place w (hilite_of x) ≡ false) → Beside w (clears_of_deletion s card)
+    beside w a b c d =
+        all-append (λ v. at_one_place w v ≡ false) (map whole_of gone ++ map layer_of layers ++ map text_of texts) (map hilite_of hilites)
+        (all-append (λ v. at_one_place w v ≡ false) (map whole_of gone ++ map layer_of layers) (map text_of texts)
+        (all-append (λ v. at_one_place w v ≡ false) (map whole_of gone) (map layer_of layers) (beside-each w whole_of a gone) (beside-each w layer_of b layers))
+        (beside-each w text_of c texts))
+        (beside-each w hilite_of d hilites)
+
+    after_cards : Beside (clear card_order) (clears_of_deletion s card)
+    after_cards = beside (clear card_order) (λ x. refl) (λ x. refl) (λ x. refl) (λ x. refl)
+
+    after_backgrounds : Beside (clear background_order) (clears_of_deletion s card)
+    after_backgrounds = beside (clear background_order) (λ x. refl) (λ x. refl) (λ x. refl) (λ x. refl)
+
+    cards : StackWrite
+    cards = write card_order (ids (without card s.cards))
+
+    backgrounds : StackWrite
+    backgrounds = write background_order (ids (without (home s card) s.backgrounds))
+
+    by : (l : Bool) → Once (write card_order (ids (without card s.cards)) ∷ (if l then write background_order (ids (without (home s card) s.backgrounds)) ∷ [] else []) ++ clears_of_deletion s card)
+    by true = once-cons cards (backgrounds ∷ clears_of_deletion s card) (refl, after_cards) (once-cons backgrounds (clears_of_deletion s card) after_backgrounds all_cleared)
+    by false = once-cons cards (clears_of_deletion s card) after_cards all_cleared
