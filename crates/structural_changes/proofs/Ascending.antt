@@ -125,6 +125,9 @@ module _ {K : Type 0} {R : K → K → Ordering} (total : IsTotalOrder R) (same 
   has-dedup E ties z [] = refl
   has-dedup E ties z (x ∷ xs) = has-dedup_from E ties z x xs
 
+  pub keys_where_ascend : {X : Type 0} (m : FinMap R X) (p : K → Bool) → IsStrictlySortedBy R (filter p (keys m))
+  keys_where_ascend m p = IsStrictlySortedBy-filter R p (keys m) (keys_ascend (entries m) (entries_sorted m))
+
   has-keys_where : {X : Type 0} (m : FinMap R X) (p : K → Bool) (z : K) → has R z (filter p (keys m)) ≡ p z && is_some (get m z)
   has-keys_where m p z = any-filter total same z p (keys m) ∙ ap (λ b. p z && b) (sym (contains_key-keys m z))
 
@@ -134,7 +137,7 @@ module _ {K : Type 0} {R : K → K → Ordering} (total : IsTotalOrder R) (same 
 
   -- keys that ascend are those that pass, where they are just those
   pub ascending_keys : {X : Type 0} (m : FinMap R X) (p : K → Bool) (ks : List K) → IsStrictlySortedBy R ks → ((z : K) → has R z ks ≡ p z && is_some (get m z)) → ks ≡ filter p (keys m)
-  ascending_keys m p ks ascend is = ascending_once ks (filter p (keys m)) ascend (IsStrictlySortedBy-filter R p (keys m) (keys_ascend (entries m) (entries_sorted m))) (λ z. is z ∙ sym (has-keys_where m p z))
+  ascending_keys m p ks ascend is = ascending_once ks (filter p (keys m)) ascend (keys_where_ascend m p) (λ z. is z ∙ sym (has-keys_where m p z))
 
 -- ids that were sorted, each once, are the keys that pass, where before they were just those
 pub sorted_ids : {X : Type 0} (m : FinMap nat_cmp X) (p : ℕ → Bool) (found sorted : List ℕ) → ((z : ℕ) → contains_id z found ≡ p z && is_some (get m z)) → IsPermutation found sorted → IsSorted nat_cmp sorted → dedup eqb sorted ≡ filter p (keys m)

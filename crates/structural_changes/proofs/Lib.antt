@@ -11,3 +11,4 @@ pub mod Ascending
 pub mod Prepared
 pub mod Orders
 pub mod Going
+pub mod Once

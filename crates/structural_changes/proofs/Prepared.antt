@@ -18,7 +18,7 @@ use Rattle.structural_changes.specs.Writes.{StackWrite, put_each}
 use Rattle.structural_changes.proofs.Filled.{put_each-append}
 use Rattle.object_table.specs.Content.{Content}
 
-all-append : {X : Type 0} (P : X → Type 0) (xs ys : List X) → AllByRecursion P xs → AllByRecursion P ys → AllByRecursion P (xs ++ ys)
+pub all-append : {X : Type 0} (P : X → Type 0) (xs ys : List X) → AllByRecursion P xs → AllByRecursion P ys → AllByRecursion P (xs ++ ys)
 all-append P [] ys h k = k
 all-append P (x ∷ xs) ys h k = (h.0, all-append P xs ys h.1 k)
 

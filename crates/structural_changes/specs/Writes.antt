@@ -14,12 +14,16 @@ use Rattle.object_table.specs.declared.object.LayerId.{LayerId}
 use Rattle.object_table.specs.declared.object.LayerId.TheVariants.{OfCard, OfBackground}
 use Rattle.ht_values.specs.declared.word.PartKind.{PartKind}
 use Rattle.ht_values.specs.declared.word.PartKind.TheVariants.{Button, Field}
-use Rattle.stack_places.specs.Places.{StackPlace, Value, put, field_text, button_hilite, whole, card_order, background_order, layer_parts as parts_of, next_id, text, logical, object, ids, number}
+use Rattle.stack_places.specs.Places.{StackPlace, Value, same_place, put, field_text, button_hilite, whole, card_order, background_order, layer_parts as parts_of, next_id, text, logical, object, ids, number}
 
 -- a place, and the value that it gets, or none
 pub record StackWrite : Type 0 where
   pub place : StackPlace
   pub value : Option Value
+
+-- whether two writes are at one place
+abbrev pub at_one_place : StackWrite → StackWrite → Bool
+at_one_place w v = same_place w.place v.place
 
 -- the stack after writes, from the first to the last
 abbrev pub put_each : Content → List StackWrite → Content

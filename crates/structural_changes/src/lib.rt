@@ -12,6 +12,6 @@ mod removing;
 
 pub use exchanging::exchange_each;
 pub use fitting::{fits_deletion, fits_new_part, has_room, is_card};
-pub use laws::{laws_of_changes, laws_of_current_cards};
+pub use laws::{laws_of_changes, laws_of_current_cards, laws_of_places};
 pub use making::{prepare_new_background, prepare_new_card, prepare_new_part};
 pub use removing::{following_card, prepare_deletion};
