@@ -67,7 +67,7 @@ impl Batch {
     }
 
     /// Whether the segment since the last structural entry has an entry of this one's place.
-    pub fn holds(&self, entry: &Entry) -> bool
+    fn holds(&self, entry: &Entry) -> bool
         ensures { result ≡ holds_one entry.now self.now.entries }
     {
         holds_place(&self.entries, entry)

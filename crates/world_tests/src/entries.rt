@@ -3,11 +3,9 @@
 use crate::quiet::{Quiet, make_quiet};
 use ht_values::Text;
 use journal_entries::{
-    Batch, Change, Entry, Globals, Present, are_apart, index_of, law_of_externals, law_of_texts,
-    law_of_trails,
+    Change, Globals, Present, are_apart, index_of, law_of_externals, law_of_texts, law_of_trails,
 };
-use object_table::{Id, Kind, Object, PropValue, Stack};
-use stack_places::StackEntry;
+use object_table::Stack;
 use std::alloc::Global;
 use std::test::Fail;
 
@@ -64,77 +62,5 @@ fn fits_and_current(rt: HostRuntime) -> Result<(), Fail> {
     assert!(rt; present.fits(&Change::Current(2)));
     assert!(rt; !present.fits(&Change::Current(1)));
     assert!(rt; !present.fits(&Change::Global(text(alloc, b"G")?, None)));
-    Ok(())
-}
-
-fn put(stack: &mut Stack, id: Id, object: Object) -> Result<(), Fail> {
-    stack.open_slot(id)?;
-    let mut object = Some(object);
-    stack.swap_object(id, &mut object);
-    Ok(())
-}
-
-/// The empty stack with a field 3 and a button 4 of its background, which keep something for the card.
-fn with_parts(alloc: Global) -> Result<Stack, Fail> {
-    let field = Kind::BackgroundField {
-        visible: true,
-        lock_text: false,
-        shared_text: false,
-    };
-    let button = Kind::BackgroundButton {
-        visible: true,
-        shared_hilite: false,
-    };
-    let mut old = Some(text(alloc, b"old")?);
-    let mut stack = Stack::new(alloc)?;
-    put(&mut stack, 3, Object::empty(alloc, field))?;
-    put(&mut stack, 4, Object::empty(alloc, button))?;
-    stack.open_text(3, 2)?;
-    stack.swap_text(3, 2, &mut old);
-    stack.open_hilite(4, 2)?;
-    stack.swap_hilite(4, 2, &mut Some(false));
-    Ok(stack)
-}
-
-fn make(present: &mut Present<Quiet>, batch: &mut Batch, change: Change) -> Result<(), Fail> {
-    law_of_texts(&change);
-    if !present.fits(&change) {
-        return Err("fits".into());
-    }
-    Ok(batch.make(present, change)?)
-}
-
-fn has_text(present: &Present<Quiet>, bytes: &[u8]) -> bool {
-    match present.stack().text(3, 2) {
-        Some(text) => text.as_slice() == bytes,
-        None => false,
-    }
-}
-
-#[test]
-fn changes_of_a_stack(rt: HostRuntime) -> Result<(), Fail> {
-    let alloc = rt.alloc();
-    let none: Vec<Quiet> = Vec::new(alloc);
-    let mut present = Present::new(alloc, with_parts(alloc)?, 2, none);
-    let mut batch = Batch::new(alloc, 1);
-    make(
-        &mut present,
-        &mut batch,
-        Change::FieldText(3, 2, text(alloc, b"new")?),
-    )?;
-    make(&mut present, &mut batch, Change::Hilite(4, 2, true))?;
-    make(
-        &mut present,
-        &mut batch,
-        Change::Prop(3, PropValue::LockTextIs(true)),
-    )?;
-    assert!(rt; has_text(&present, b"new"));
-    assert_eq!(rt; present.stack().hilite(4, 2), Some(true));
-    assert!(rt; batch.holds(&Entry::Stack(StackEntry::FieldText(3, 2, None))));
-    assert!(rt; !batch.holds(&Entry::Stack(StackEntry::FieldText(3, 0, None))));
-    assert!(rt; !batch.holds(&Entry::Stack(StackEntry::Object(3, None))));
-    assert!(rt; !present.fits(&Change::FieldText(3, 0, text(alloc, b"")?)));
-    assert!(rt; !present.fits(&Change::Hilite(3, 2, true)));
-    assert!(rt; !present.fits(&Change::Prop(4, PropValue::LockTextIs(true))));
     Ok(())
 }

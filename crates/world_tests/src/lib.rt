@@ -13,4 +13,6 @@ mod quiet;
 #[cfg(test)]
 mod sessions;
 #[cfg(test)]
+mod stack_changes;
+#[cfg(test)]
 mod structure;

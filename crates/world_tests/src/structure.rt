@@ -91,7 +91,7 @@ fn a_new_button_has_a_hilite_for_each_card(rt: HostRuntime) -> Result<(), Fail> 
 
 /// Two backgrounds, each with a button and a field. Two cards are on the first, of which the last has a button and a field of
 /// its own, and one card is on the second.
-const TWO_BACKGROUNDS: &[u8] = b"htstack 2\nnext 20\nname |Demo\nscript 0\n\
+pub(crate) const TWO_BACKGROUNDS: &[u8] = b"htstack 2\nnext 20\nname |Demo\nscript 0\n\
 backgrounds 2\n\
 background 1\nname |First\ncantDelete false\nscript 0\nparts 2\n\
 button 5\nname |Own\nvisible true\nsharedHilite false\nhilite true\nscript 0\n\

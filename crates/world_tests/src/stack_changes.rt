@@ -1,0 +1,315 @@
+//! The changes of a stack, made in a world, undone and redone.
+
+ghost use Rattle.std.specs.Prelude.{◌≡◌, None, OnOk, IfOk, IsSome};
+
+use crate::quiet::Quiet;
+use crate::structure::TWO_BACKGROUNDS;
+use change_journal::{Change, World};
+use ht_values::{PartKind, Text};
+use object_table::{LayerId, PropValue};
+use stack_file::{read, write};
+use std::alloc::Global;
+use std::test::Fail;
+
+/// A change that makes or removes objects.
+#[derive(Clone, Copy)]
+enum Step {
+    Card,
+    Background,
+    Part(LayerId, PartKind),
+    Delete,
+}
+
+impl Step {
+    fn change(self) -> Change {
+        match self {
+            Step::Card => Change::NewCard,
+            Step::Background => Change::NewBackground,
+            Step::Part(layer, kind) => Change::NewPart(layer, kind),
+            Step::Delete => Change::DeleteCard,
+        }
+    }
+}
+
+/// One after the other: parts of each kind on each layer, a card with what its background keeps for it, a background
+/// whose only card goes again, and the cards of a background until it goes with the last.
+const STEPS: &[Step] = &[
+    Step::Part(LayerId::OfCard(2), PartKind::Button),
+    Step::Part(LayerId::OfCard(2), PartKind::Field),
+    Step::Part(LayerId::OfBackground(1), PartKind::Button),
+    Step::Part(LayerId::OfBackground(1), PartKind::Field),
+    Step::Card,
+    Step::Background,
+    Step::Delete,
+    Step::Delete,
+    Step::Delete,
+    Step::Card,
+];
+
+/// The world of a stack's text, without externals.
+fn open_world(alloc: Global, text: &[u8]) -> Result<World<Quiet>, Fail>
+    ensures { IfOk result (λ w. w.history.start ≡ None) }
+{
+    match World::open(alloc, read(alloc, text)?, Vec::new(alloc), 100) {
+        Ok(world) => Ok(world),
+        Err(_) => Err("names".into()),
+    }
+}
+
+/// One line with one change.
+fn take(world: &mut World<Quiet>, number: u32, step: Step) -> Result<(), Fail>
+    requires { world.old.history.start ≡ None }
+    ensures { OnOk result (world.new.history.start ≡ None) }
+{
+    world.begin(number)?;
+    let change = step.change();
+    if !world.fits(&change) {
+        return Err("it doesn't fit".into());
+    }
+    world.make(change)?;
+    world.commit();
+    Ok(())
+}
+
+fn go_back(world: &mut World<Quiet>) -> Result<(), Fail>
+    requires { world.old.history.start ≡ None }
+    ensures { OnOk result (world.new.history.start ≡ None) }
+{
+    if world.undoable() == 0 {
+        return Err("no place".into());
+    }
+    world.flip_back();
+    Ok(())
+}
+
+fn go_forth(world: &mut World<Quiet>) -> Result<(), Fail>
+    requires { world.old.history.start ≡ None }
+    ensures { OnOk result (world.new.history.start ≡ None) }
+{
+    if world.redoable() == 0 {
+        return Err("no place".into());
+    }
+    world.flip_forth();
+    Ok(())
+}
+
+/// What is seen of a world: the text of its stack, and the current card.
+#[derive(Drop)]
+struct Sight {
+    text: Vec<u8>,
+    current: u32,
+}
+
+fn see(alloc: Global, world: &World<Quiet>) -> Result<Sight, Fail> {
+    Ok(Sight {
+        text: write(alloc, world.stack())?,
+        current: world.current(),
+    })
+}
+
+fn is_seen(alloc: Global, world: &World<Quiet>, sight: &Sight) -> Result<bool, Fail> {
+    let now = see(alloc, world)?;
+    Ok(now.text.as_slice() == sight.text.as_slice() && now.current == sight.current)
+}
+
+/// What is seen before the first step and after each.
+fn take_all(alloc: Global, world: &mut World<Quiet>, steps: &[Step]) -> Result<Vec<Sight>, Fail>
+    requires { world.old.history.start ≡ None }
+    ensures { OnOk result (world.new.history.start ≡ None) }
+{
+    let mut sights = Vec::new(alloc);
+    sights.push(see(alloc, world)?)?;
+    for step in steps {
+        take(world, 1, *step)?;
+        sights.push(see(alloc, world)?)?;
+    }
+    Ok(sights)
+}
+
+/// Whether each state is seen again, from the last to the first.
+fn are_seen_back(alloc: Global, world: &mut World<Quiet>, sights: &[Sight]) -> Result<bool, Fail>
+    requires { world.old.history.start ≡ None }
+    ensures { OnOk result (world.new.history.start ≡ None) }
+{
+    let mut all = true;
+    let mut left = sights.len();
+    while left > 1 {
+        left -= 1;
+        go_back(world)?;
+        all = is_seen(alloc, world, &sights[left - 1])? && all;
+    }
+    Ok(all)
+}
+
+/// Whether each state is seen again, from the second to the last.
+fn are_seen_forth(alloc: Global, world: &mut World<Quiet>, sights: &[Sight]) -> Result<bool, Fail>
+    requires { world.old.history.start ≡ None }
+    ensures { OnOk result (world.new.history.start ≡ None) }
+{
+    let mut all = true;
+    for at in 1..sights.len() {
+        go_forth(world)?;
+        all = is_seen(alloc, world, &sights[at])? && all;
+    }
+    Ok(all)
+}
+
+fn back_and_forth(alloc: Global) -> Result<bool, Fail> {
+    let mut world = open_world(alloc, TWO_BACKGROUNDS)?;
+    let sights = take_all(alloc, &mut world, STEPS)?;
+    let back = are_seen_back(alloc, &mut world, &sights)?;
+    Ok(are_seen_forth(alloc, &mut world, &sights)? && back)
+}
+
+#[test]
+fn each_change_is_undone_and_redone(rt: HostRuntime) -> Result<(), Fail> {
+    assert!(rt; back_and_forth(rt.alloc())?);
+    Ok(())
+}
+
+/// The current card after each of these.
+fn cards(alloc: Global, steps: &[Step]) -> Result<Vec<u32>, Fail> {
+    let mut world = open_world(alloc, TWO_BACKGROUNDS)?;
+    let mut cards = Vec::new(alloc);
+    for step in steps {
+        take(&mut world, 1, *step)?;
+        cards.push(world.current())?;
+    }
+    Ok(cards)
+}
+
+#[test]
+fn new_cards_become_current_and_the_next_follows_a_deleted_one(
+    rt: HostRuntime,
+) -> Result<(), Fail> {
+    let steps = [Step::Card, Step::Delete, Step::Background, Step::Delete];
+    assert!(rt; cards(rt.alloc(), &steps)?.as_slice() == [20, 4, 22, 9].as_slice());
+    Ok(())
+}
+
+/// What is seen after a step, and after an undo and the same step again.
+fn taken_again(alloc: Global, step: Step) -> Result<bool, Fail> {
+    let mut world = open_world(alloc, TWO_BACKGROUNDS)?;
+    take(&mut world, 1, step)?;
+    let first = see(alloc, &world)?;
+    go_back(&mut world)?;
+    take(&mut world, 2, step)?;
+    is_seen(alloc, &world, &first)
+}
+
+#[test]
+fn ids_are_given_again_after_an_undo(rt: HostRuntime) -> Result<(), Fail> {
+    for step in STEPS {
+        if !matches!(step, Step::Delete) {
+            assert!(rt; taken_again(rt.alloc(), *step)?);
+        }
+    }
+    Ok(())
+}
+
+/// Makes a change in the open batch.
+fn make(world: &mut World<Quiet>, change: Change) -> Result<(), Fail>
+    requires { IsSome world.old.history.start }
+    ensures { OnOk result (IsSome world.new.history.start) }
+{
+    if !world.fits(&change) {
+        return Err("it doesn't fit".into());
+    }
+    world.make(change)?;
+    Ok(())
+}
+
+/// One line that changes a field of the first background and its button, for card 2.
+fn change_parts(alloc: Global, world: &mut World<Quiet>) -> Result<(), Fail>
+    requires { world.old.history.start ≡ None }
+    ensures { OnOk result (world.new.history.start ≡ None) }
+{
+    world.begin(1)?;
+    make(
+        world,
+        Change::FieldText(6, 2, Text::from_slice(alloc, b"new")?),
+    )?;
+    make(world, Change::Hilite(5, 2, false))?;
+    make(world, Change::Prop(6, PropValue::LockTextIs(true)))?;
+    world.commit();
+    Ok(())
+}
+
+fn has_text(world: &World<Quiet>, bytes: &[u8]) -> bool {
+    match world.stack().text(6, 2) {
+        Some(text) => text.as_slice() == bytes,
+        None => false,
+    }
+}
+
+fn parts_changed(alloc: Global) -> Result<bool, Fail> {
+    let mut world = open_world(alloc, TWO_BACKGROUNDS)?;
+    change_parts(alloc, &mut world)?;
+    let changed = has_text(&world, b"new") && world.stack().hilite(5, 2) == Some(false);
+    go_back(&mut world)?;
+    Ok(changed && has_text(&world, b"own") && world.stack().hilite(5, 2) == Some(true))
+}
+
+#[test]
+fn a_line_changes_parts(rt: HostRuntime) -> Result<(), Fail> {
+    assert!(rt; parts_changed(rt.alloc())?);
+    Ok(())
+}
+
+/// What doesn't fit: a text that isn't there, a hilite of a field, a lock on a button's text, a part of a card that isn't
+/// there.
+fn misfits(alloc: Global, at: u32) -> Result<Change, Fail> {
+    Ok(match at {
+        0 => Change::FieldText(6, 1, Text::new(alloc)),
+        1 => Change::Hilite(6, 2, true),
+        2 => Change::Prop(5, PropValue::LockTextIs(true)),
+        3 => Change::NewPart(LayerId::OfCard(1), PartKind::Field),
+        _ => Change::NewPart(LayerId::OfBackground(2), PartKind::Field),
+    })
+}
+
+fn none_fits(alloc: Global) -> Result<bool, Fail> {
+    let world = open_world(alloc, TWO_BACKGROUNDS)?;
+    for at in 0..5 {
+        if world.fits(&misfits(alloc, at)?) {
+            return Ok(false);
+        }
+    }
+    Ok(true)
+}
+
+#[test]
+fn what_is_not_there_does_not_fit(rt: HostRuntime) -> Result<(), Fail> {
+    assert!(rt; none_fits(rt.alloc())?);
+    Ok(())
+}
+
+/// An empty stack whose next id is this.
+const LAST_ID_GIVEN: &[u8] = b"htstack 2\nnext 1000001\nname |\nscript 0\nbackgrounds 1\n\
+background 1\nname |\ncantDelete false\nscript 0\nparts 0\n\
+cards 1\ncard 1000000 1\nname |\ncantDelete false\nscript 0\nparts 0\nend\n";
+
+const ONE_ID_LEFT: &[u8] = b"htstack 2\nnext 1000000\nname |\nscript 0\nbackgrounds 1\n\
+background 1\nname |\ncantDelete false\nscript 0\nparts 0\n\
+cards 1\ncard 2 1\nname |\ncantDelete false\nscript 0\nparts 0\nend\n";
+
+/// Whether a new card fits, a new background, a new part, and a deletion.
+fn fitting(alloc: Global, text: &[u8]) -> Result<[bool; 4], Fail> {
+    let world = open_world(alloc, text)?;
+    let layer = LayerId::OfBackground(1);
+    Ok([
+        world.fits(&Change::NewCard),
+        world.fits(&Change::NewBackground),
+        world.fits(&Change::NewPart(layer, PartKind::Button)),
+        world.fits(&Change::DeleteCard),
+    ])
+}
+
+#[test]
+fn ids_end_at_a_million(rt: HostRuntime) -> Result<(), Fail> {
+    let alloc = rt.alloc();
+    assert!(rt; fitting(alloc, LAST_ID_GIVEN)? == [false, false, false, false]);
+    assert!(rt; fitting(alloc, ONE_ID_LEFT)? == [true, false, true, false]);
+    assert!(rt; fitting(alloc, TWO_BACKGROUNDS)? == [true, true, true, true]);
+    Ok(())
+}
