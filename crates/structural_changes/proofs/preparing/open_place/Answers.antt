@@ -2,7 +2,7 @@ use Rattle.std.proofs.Common.{sym, subst}
 use Rattle.std.proofs.lemmas.Result.{on_ok_weaker}
 use Rattle.stack_places.specs.Exchange.{IsWider}
 use Rattle.stack_places.proofs.Wider.{IsWider-text, IsWider-hilite}
-use Rattle.structural_changes.proofs.clearing.open_place.Goals as goal
+use Rattle.structural_changes.proofs.preparing.open_place.Goals as goal
 
 pub returns-in-FieldText-clause-wider : goal.returns-in-FieldText-clause-wider
 returns-in-FieldText-clause-wider c =
