@@ -9,19 +9,19 @@ use Rattle.std.specs.List.{AllByRecursion, IsDistinct}
 use Rattle.std.specs.Ordering.{eq_by_cmp, nat_cmp}
 use Rattle.object_table.specs.Content.{Content}
 use Rattle.object_table.specs.Layers.{layer_id}
-use Rattle.object_table.specs.Objects.{background_of, contains_id, has_kind, is_card, is_stack, object_at, parts_at}
+use Rattle.object_table.specs.Objects.{background_of, contains_id, is_stack, object_at}
 use Rattle.object_table.specs.Pairs.{Pair, PairMap, pair_cmp}
 use Rattle.object_table.specs.WellFormed.{IsWellFormed}
 use Rattle.object_table.specs.declared.object.Object.{Object}
 use Rattle.object_table.specs.declared.object.Kind.{Kind}
-use Rattle.object_table.specs.declared.object.Kind.TheVariants.{Card, Stack}
+use Rattle.object_table.specs.declared.object.Kind.TheVariants.{Card}
 use Rattle.object_table.specs.declared.object.LayerId.{LayerId}
 use Rattle.object_table.specs.declared.object.LayerId.TheVariants.{OfBackground, OfCard}
 use Rattle.object_table.proofs.Pairs.{pair_cmp_total, pair_cmp-IsAntisymmetric, pair_tied}
 use Rattle.ht_values.specs.declared.word.PartKind.{PartKind}
 use Rattle.ht_values.specs.declared.word.PartKind.TheVariants.{Button, Field}
 use Rattle.stack_places.specs.Places.{button_hilite, card_order, background_order, field_text, ids, layer_parts, logical, next_id, text, whole}
-use Rattle.structural_changes.specs.Writes.{StackWrite, at_one_place, clear, clears_of_deletion, empty_texts, false_hilites, goes_as_content, goes_as_layer, goes_as_part, has_room_for, hilites_of, home, ids_where, is_card_of, is_last_card, is_part_of, keeps, kept_for, texts_of, without, write, writes_of_deletion, writes_of_new_background, writes_of_new_card, writes_of_new_part}
+use Rattle.structural_changes.specs.Writes.{StackWrite, at_one_place, clear, clears_of_deletion, empty_texts, false_hilites, goes_as_content, goes_as_layer, goes_as_part, home, ids_where, is_card_of, is_last_card, is_part_of, keeps, kept_for, without, write, writes_of_deletion, writes_of_new_background, writes_of_new_card, writes_of_new_part}
 use Rattle.structural_changes.proofs.Ascending.{keys_where_ascend}
 use Rattle.structural_changes.proofs.Filled.{contains-ids_where}
 use Rattle.structural_changes.proofs.Parts.{and_false, passes}

@@ -1,43 +1,14 @@
 //! Entries that clear places.
 
-ghost use Rattle.std.specs.Prelude.{◌≡◌, OnOk, [], ◌∷◌, map};
-ghost use Rattle.stack_places.specs.Exchange.{IsReady};
+ghost use Rattle.std.specs.Prelude.{◌≡◌, OnOk, map};
 ghost use Rattle.stack_places.specs.Places.{whole, layer_parts as parts_of, field_text, button_hilite};
-ghost use Rattle.structural_changes.specs.Prepared.{Adds, Opens, write_of};
+ghost use Rattle.structural_changes.specs.Prepared.{Adds, Opens};
 ghost use Rattle.structural_changes.specs.Writes.{clear};
 
+use crate::preparing::add_entry;
 use object_table::{Id, Stack};
 use stack_places::StackEntry;
 use std::alloc::AllocError;
-
-/// Makes room for the value at an entry's place.
-#[tactic(auto, unfolding(stack_places::specs::Exchange::IsReady))]
-fn open_place(stack: &mut Stack, entry: &StackEntry) -> Result<(), AllocError>
-    ensures ready { OnOk result (IsReady stack.new.room entry.now) }
-    ensures opens { Opens stack.old stack.new }
-{
-    match entry {
-        StackEntry::FieldText(field, card, _) => stack.open_text(*field, *card),
-        StackEntry::Hilite(button, card, _) => stack.open_hilite(*button, *card),
-        StackEntry::Object(id, _) => stack.open_slot(*id),
-        StackEntry::Parts(layer, _) => stack.open_slot(*layer),
-        _ => Ok(()),
-    }
-}
-
-/// Adds an entry, with its room.
-fn add_entry(
-    stack: &mut Stack,
-    entries: &mut Vec<StackEntry>,
-    entry: StackEntry,
-) -> Result<(), AllocError>
-    ensures adds { OnOk result (Adds stack.old stack.new entries.old.items entries.new.items (write_of entry ∷ [])) }
-    ensures opens { Opens stack.old stack.new }
-{
-    open_place(stack, &entry)?;
-    entries.push(entry)?;
-    Ok(())
-}
 
 /// Adds that these objects go.
 pub(crate) fn clear_objects(

@@ -8,8 +8,7 @@ ghost use Rattle.structural_changes.specs.Prepared.{Adds, Opens};
 ghost use Rattle.structural_changes.specs.Writes.{new_part, kept_for, insert_after, is_part_of, ids_where, writes_of_new_part, fits_new_part, has_room_for, home, writes_of_new_card, writes_of_new_background};
 
 use crate::preparing::{
-    add_backgrounds, add_cards, add_hilites, add_hilites_of, add_next, add_object, add_parts,
-    add_texts, add_texts_of, cards_of, parts_of,
+    add_entry, add_hilites, add_hilites_of, add_texts, add_texts_of, cards_of, parts_of,
 };
 use ht_values::{PartKind, Text};
 use object_table::{Id, IdList, Kind, LayerId, Object, Stack};
@@ -113,9 +112,13 @@ pub fn prepare_new_part(
     let object = part_of(alloc, layer, kind)?;
     let cards = cards_kept_for(alloc, stack, layer)?;
     let mut entries = Vec::new(alloc);
-    add_next(stack, &mut entries, part + 1)?;
-    add_object(stack, &mut entries, part, object)?;
-    add_parts(stack, &mut entries, id_of(layer), parts)?;
+    add_entry(stack, &mut entries, StackEntry::NextId(part + 1))?;
+    add_entry(stack, &mut entries, StackEntry::Object(part, Some(object)))?;
+    add_entry(
+        stack,
+        &mut entries,
+        StackEntry::Parts(id_of(layer), Some(parts)),
+    )?;
     match (layer, kind) {
         (_, PartKind::Field) => add_texts(alloc, stack, &mut entries, part, &cards)?,
         (LayerId::OfBackground(_), PartKind::Button) => {
@@ -165,10 +168,14 @@ pub fn prepare_new_card(
         },
     );
     let mut entries = Vec::new(alloc);
-    add_next(stack, &mut entries, new + 1)?;
-    add_object(stack, &mut entries, new, object)?;
-    add_cards(stack, &mut entries, order)?;
-    add_parts(stack, &mut entries, new, IdList::new(alloc))?;
+    add_entry(stack, &mut entries, StackEntry::NextId(new + 1))?;
+    add_entry(stack, &mut entries, StackEntry::Object(new, Some(object)))?;
+    add_entry(stack, &mut entries, StackEntry::CardOrder(order))?;
+    add_entry(
+        stack,
+        &mut entries,
+        StackEntry::Parts(new, Some(IdList::new(alloc))),
+    )?;
     add_texts_of(alloc, stack, &mut entries, &fields, new)?;
     add_hilites_of(stack, &mut entries, &buttons, new)?;
     Ok(entries)
@@ -211,12 +218,32 @@ pub fn prepare_new_background(
         },
     );
     let mut entries = Vec::new(alloc);
-    add_next(stack, &mut entries, new + 2)?;
-    add_object(stack, &mut entries, new, background)?;
-    add_object(stack, &mut entries, new + 1, object)?;
-    add_cards(stack, &mut entries, order)?;
-    add_backgrounds(stack, &mut entries, backgrounds)?;
-    add_parts(stack, &mut entries, new, IdList::new(alloc))?;
-    add_parts(stack, &mut entries, new + 1, IdList::new(alloc))?;
+    add_entry(stack, &mut entries, StackEntry::NextId(new + 2))?;
+    add_entry(
+        stack,
+        &mut entries,
+        StackEntry::Object(new, Some(background)),
+    )?;
+    add_entry(
+        stack,
+        &mut entries,
+        StackEntry::Object(new + 1, Some(object)),
+    )?;
+    add_entry(stack, &mut entries, StackEntry::CardOrder(order))?;
+    add_entry(
+        stack,
+        &mut entries,
+        StackEntry::BackgroundOrder(backgrounds),
+    )?;
+    add_entry(
+        stack,
+        &mut entries,
+        StackEntry::Parts(new, Some(IdList::new(alloc))),
+    )?;
+    add_entry(
+        stack,
+        &mut entries,
+        StackEntry::Parts(new + 1, Some(IdList::new(alloc))),
+    )?;
     Ok(entries)
 }

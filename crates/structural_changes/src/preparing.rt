@@ -1,20 +1,50 @@
 //! Entries for the changes: all that grows is taken here, so that the exchanges can't fail.
 
 ghost use Rattle.std.specs.Prelude.{◌≡◌, OnOk, IfOk, [], ◌∷◌, Some, true, false};
-ghost use Rattle.stack_places.specs.Places.{field_text, button_hilite, whole, layer_parts as parts_of, next_id, card_order, background_order, text, logical, object as object_value, ids, number};
-ghost use Rattle.structural_changes.specs.Prepared.{Adds, Opens};
+ghost use Rattle.stack_places.specs.Exchange.{IsReady};
+ghost use Rattle.stack_places.specs.Places.{field_text, text};
+ghost use Rattle.structural_changes.specs.Prepared.{Adds, Opens, write_of};
 ghost use Rattle.structural_changes.specs.Writes.{write, empty_texts, false_hilites, texts_of, hilites_of, is_card_of, is_part_of, keeps, ids_where};
 ghost use Rattle.object_table.specs.Layers.{is_of_layer, layer_id};
 ghost use Rattle.object_table.specs.Objects.{has_kind, is_background, parts_at};
 ghost use Rattle.object_table.specs.WellFormed.{IsWellFormed};
 
 use ht_values::{PartKind, Text};
-use object_table::{Id, IdList, Kind, LayerId, Object, Stack};
+use object_table::{Id, Kind, LayerId, Stack};
 use stack_places::StackEntry;
 use std::alloc::{AllocError, Global};
 
+/// Makes room for the value at an entry's place.
+#[tactic(auto, unfolding(stack_places::specs::Exchange::IsReady))]
+fn open_place(stack: &mut Stack, entry: &StackEntry) -> Result<(), AllocError>
+    ensures ready { OnOk result (IsReady stack.new.room entry.now) }
+    ensures opens { Opens stack.old stack.new }
+{
+    match entry {
+        StackEntry::FieldText(field, card, _) => stack.open_text(*field, *card),
+        StackEntry::Hilite(button, card, _) => stack.open_hilite(*button, *card),
+        StackEntry::Object(id, _) => stack.open_slot(*id),
+        StackEntry::Parts(layer, _) => stack.open_slot(*layer),
+        _ => Ok(()),
+    }
+}
+
+/// Adds an entry, with its room.
+pub(crate) fn add_entry(
+    stack: &mut Stack,
+    entries: &mut Vec<StackEntry>,
+    entry: StackEntry,
+) -> Result<(), AllocError>
+    ensures adds { OnOk result (Adds stack.old stack.new entries.old.items entries.new.items (write_of entry ∷ [])) }
+    ensures opens { Opens stack.old stack.new }
+{
+    open_place(stack, &entry)?;
+    entries.push(entry)?;
+    Ok(())
+}
+
 /// Adds an empty text of a field for a card, or for 0.
-pub(crate) fn add_text(
+fn add_text(
     alloc: Global,
     stack: &mut Stack,
     entries: &mut Vec<StackEntry>,
@@ -24,93 +54,8 @@ pub(crate) fn add_text(
     ensures adds { OnOk result (Adds stack.old stack.new entries.old.items entries.new.items (write (field_text field card) (text []) ∷ [])) }
     ensures opens { Opens stack.old stack.new }
 {
-    stack.open_text(field, card)?;
-    entries.push(StackEntry::FieldText(field, card, Some(Text::new(alloc))))?;
-    Ok(())
-}
-
-/// Adds a false hilite of a button for a card, or for 0.
-pub(crate) fn add_hilite(
-    stack: &mut Stack,
-    entries: &mut Vec<StackEntry>,
-    button: Id,
-    card: Id,
-) -> Result<(), AllocError>
-    ensures adds { OnOk result (Adds stack.old stack.new entries.old.items entries.new.items (write (button_hilite button card) (logical false) ∷ [])) }
-    ensures opens { Opens stack.old stack.new }
-{
-    stack.open_hilite(button, card)?;
-    entries.push(StackEntry::Hilite(button, card, Some(false)))?;
-    Ok(())
-}
-
-/// Adds the next id.
-pub(crate) fn add_next(
-    stack: &Stack,
-    entries: &mut Vec<StackEntry>,
-    next: Id,
-) -> Result<(), AllocError>
-    ensures { OnOk result (Adds stack.now stack.now entries.old.items entries.new.items (write next_id (number next) ∷ [])) }
-{
-    let _ = stack;
-    entries.push(StackEntry::NextId(next))?;
-    Ok(())
-}
-
-/// Adds an order of cards.
-pub(crate) fn add_cards(
-    stack: &Stack,
-    entries: &mut Vec<StackEntry>,
-    cards: IdList,
-) -> Result<(), AllocError>
-    ensures { OnOk result (Adds stack.now stack.now entries.old.items entries.new.items (write card_order (ids cards) ∷ [])) }
-{
-    let _ = stack;
-    entries.push(StackEntry::CardOrder(cards))?;
-    Ok(())
-}
-
-/// Adds an order of backgrounds.
-pub(crate) fn add_backgrounds(
-    stack: &Stack,
-    entries: &mut Vec<StackEntry>,
-    backgrounds: IdList,
-) -> Result<(), AllocError>
-    ensures { OnOk result (Adds stack.now stack.now entries.old.items entries.new.items (write background_order (ids backgrounds) ∷ [])) }
-{
-    let _ = stack;
-    entries.push(StackEntry::BackgroundOrder(backgrounds))?;
-    Ok(())
-}
-
-/// Adds an object at an id.
-pub(crate) fn add_object(
-    stack: &mut Stack,
-    entries: &mut Vec<StackEntry>,
-    id: Id,
-    object: Object,
-) -> Result<(), AllocError>
-    ensures adds { OnOk result (Adds stack.old stack.new entries.old.items entries.new.items (write (whole id) (object_value object) ∷ [])) }
-    ensures opens { Opens stack.old stack.new }
-{
-    stack.open_slot(id)?;
-    entries.push(StackEntry::Object(id, Some(object)))?;
-    Ok(())
-}
-
-/// Adds a list of parts of a layer.
-pub(crate) fn add_parts(
-    stack: &mut Stack,
-    entries: &mut Vec<StackEntry>,
-    layer: Id,
-    parts: IdList,
-) -> Result<(), AllocError>
-    ensures adds { OnOk result (Adds stack.old stack.new entries.old.items entries.new.items (write (parts_of layer) (ids parts) ∷ [])) }
-    ensures opens { Opens stack.old stack.new }
-{
-    stack.open_slot(layer)?;
-    entries.push(StackEntry::Parts(layer, Some(parts)))?;
-    Ok(())
+    let entry = StackEntry::FieldText(field, card, Some(Text::new(alloc)));
+    add_entry(stack, entries, entry)
 }
 
 /// Adds an empty text of a field for each of these cards.
@@ -141,7 +86,11 @@ pub(crate) fn add_hilites(
     ensures opens { Opens stack.old stack.new }
 {
     for card in cards {
-        add_hilite(stack, entries, button, *card)?;
+        add_entry(
+            stack,
+            entries,
+            StackEntry::Hilite(button, *card, Some(false)),
+        )?;
     }
     Ok(())
 }
@@ -246,7 +195,11 @@ pub(crate) fn add_hilites_of(
     ensures opens { Opens stack.old stack.new }
 {
     for button in buttons {
-        add_hilite(stack, entries, *button, card)?;
+        add_entry(
+            stack,
+            entries,
+            StackEntry::Hilite(*button, card, Some(false)),
+        )?;
     }
     Ok(())
 }

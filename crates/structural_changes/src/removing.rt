@@ -10,7 +10,7 @@ ghost use Rattle.structural_changes.specs.Writes.{write, without as order_withou
 
 use crate::clearing::{clear_hilites, clear_objects, clear_parts, clear_texts};
 use crate::making::home_of;
-use crate::preparing::{add_backgrounds, add_cards, is_on, parts_on};
+use crate::preparing::{add_entry, is_on, parts_on};
 use ht_values::PartKind;
 use object_table::{Id, IdList, LayerId, Stack};
 use stack_places::StackEntry;
@@ -181,19 +181,20 @@ fn contents_that_go(
 /// Adds an order of backgrounds without a card's, where that goes.
 fn leave_background(
     alloc: Global,
-    stack: &Stack,
+    stack: &mut Stack,
     entries: &mut Vec<StackEntry>,
     card: Id,
     last: bool,
 ) -> Result<(), AllocError>
-    requires { last ≡ is_last_card stack.now.content card }
-    ensures { OnOk result (Adds stack.now stack.now entries.old.items entries.new.items (if is_last_card stack.now.content card then write background_order (ids (order_without (home stack.now.content card) stack.now.content.backgrounds)) ∷ [] else [])) }
+    requires { last ≡ is_last_card stack.old.content card }
+    ensures adds { OnOk result (Adds stack.old stack.new entries.old.items entries.new.items (if is_last_card stack.old.content card then write background_order (ids (order_without (home stack.old.content card) stack.old.content.backgrounds)) ∷ [] else [])) }
+    ensures opens { Opens stack.old stack.new }
 {
     if !last {
         return Ok(());
     }
     let backgrounds = without(alloc, stack.backgrounds(), home_of(stack, card))?;
-    add_backgrounds(stack, entries, backgrounds)
+    add_entry(stack, entries, StackEntry::BackgroundOrder(backgrounds))
 }
 
 /// The entries of a card that goes, and of its background where no other card is on it, with all the room that they need.
@@ -216,7 +217,7 @@ pub fn prepare_deletion(
     let texts = contents_that_go(alloc, stack, PartKind::Field, card, last)?;
     let hilites = contents_that_go(alloc, stack, PartKind::Button, card, last)?;
     let mut entries = Vec::new(alloc);
-    add_cards(stack, &mut entries, cards)?;
+    add_entry(stack, &mut entries, StackEntry::CardOrder(cards))?;
     leave_background(alloc, stack, &mut entries, card, last)?;
     clear_objects(stack, &mut entries, &objects)?;
     clear_parts(stack, &mut entries, &layers)?;

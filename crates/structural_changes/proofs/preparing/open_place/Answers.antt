@@ -2,7 +2,7 @@ use Rattle.std.proofs.Common.{◌≡◌, sym, subst, Result, Ok, Err, OnOk, OnEr
 use Rattle.object_table.specs.Table.{Table}
 use Rattle.structural_changes.specs.Prepared.{Opens}
 use Rattle.structural_changes.proofs.Prepared.{opens_nothing, opens_text, opens_hilite}
-use Rattle.structural_changes.proofs.clearing.open_place.Goals as goal
+use Rattle.structural_changes.proofs.preparing.open_place.Goals as goal
 
 -- where it was refused nothing changed
 either : {X E : Type 0} {P : Type 0} (old new : Table) (r : Result X E) → (P → Opens old new) → OnOk r P → OnErr r (new ≡ old) → Opens old new
