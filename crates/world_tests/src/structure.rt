@@ -14,6 +14,7 @@ use structural_changes::*;
 fn a_stack_stays_well_formed(_rt: HostRuntime) {
     laws_of_changes();
     laws_of_current_cards();
+    laws_of_places();
 }
 
 /// The text of a stack with a new card after its card 2.
