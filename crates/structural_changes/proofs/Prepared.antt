@@ -1,22 +1,17 @@
 -- Entries that are added.
-use Rattle.std.proofs.Common.{◌≡◌, ℕ, ◌+◌, ◌<◌, ◌≤◌, ◌++◌, length, take, drop, get_or, set, nat_eq, Bool, true, false, List, [], ◌∷◌, map, refl, sym, ap, ◌∙◌, subst, append_assoc, append-nil, arith}
-use Rattle.std.proofs.lemmas.List.{map-append, map_more, at_drop_more, get_or-set_other}
-use Rattle.std.proofs.lemmas.Grind.{get_or-set_at}
-use Rattle.std.proofs.lemmas.Bool.{false≢true}
-use Rattle.std.proofs.lemmas.Bool.Decides.{nat_tests}
+use Rattle.std.proofs.Common.{◌≡◌, ℕ, ◌≤◌, ◌++◌, List, [], ◌∷◌, map, refl, sym, ap, ◌∙◌, subst, append_assoc, append-nil, arith}
+use Rattle.std.proofs.lemmas.List.{map-append}
 use Rattle.std.specs.List.{AllByRecursion}
 use Rattle.object_table.specs.Table.{Table}
-use Rattle.stack_places.specs.Exchange.{IsReady, IsWider, exchanged, taken}
+use Rattle.stack_places.specs.Exchange.{IsReady, IsWider}
 use Rattle.stack_places.specs.declared.entry.StackEntry.{StackEntry}
-use Rattle.stack_places.proofs.Exchanging.{IsReady-wider, puts}
+use Rattle.stack_places.proofs.Exchanging.{IsReady-wider}
 use Rattle.std.specs.FinSet.{insert}
 use Rattle.object_table.specs.Pairs.{Pair}
 use Rattle.stack_places.proofs.Wider.{IsWider-same, IsWider-text, IsWider-hilite}
 use Rattle.object_table.specs.Table.{Room}
 use Rattle.structural_changes.specs.Prepared.{Adds, Opens, write_of}
-use Rattle.structural_changes.specs.Writes.{StackWrite, put_each}
-use Rattle.structural_changes.proofs.Filled.{put_each-append}
-use Rattle.object_table.specs.Content.{Content}
+use Rattle.structural_changes.specs.Writes.{StackWrite}
 
 pub all-append : {X : Type 0} (P : X → Type 0) (xs ys : List X) → AllByRecursion P xs → AllByRecursion P ys → AllByRecursion P (xs ++ ys)
 all-append P [] ys h k = k
@@ -74,46 +69,3 @@ opens_text old new p e = record { content = ap (λ t. t.content) e; wider = subs
 
 pub opens_hilite : (old new : Table) (p : Pair) → new ≡ record old { room = record old.room { hilites = insert old.room.hilites p } } → Opens old new
 opens_hilite old new p e = record { content = ap (λ t. t.content) e; wider = subst (λ t. IsWider old.room t.room) (sym e) (IsWider-hilite old.room p) }
-
--- ---- entries that are exchanged
-
-first : {X : Type 0} → X → List X → X
-first d [] = d
-first d (x ∷ xs) = x
-
-rest_of : {X : Type 0} → List X → List X
-rest_of [] = []
-rest_of (x ∷ xs) = xs
-
--- what follows is the same, so the next is, and what follows that
-pub same_next : {X : Type 0} (xs ys : List X) (i : ℕ) (d : X) → i < length xs → i < length ys → drop i xs ≡ drop i ys → (get_or xs i d ≡ get_or ys i d) × (drop (i + 1) xs ≡ drop (i + 1) ys)
-unfolding first rest_of
-same_next xs ys i d more less e = (
-  sym (at_drop_more (first d) xs i d more) ∙ ap (first d) e ∙ at_drop_more (first d) ys i d less,
-  sym (at_drop_more rest_of xs i d more) ∙ ap rest_of e ∙ at_drop_more rest_of ys i d less,
-)
-
-pub one_put : (s : Content) (es : List StackEntry) (i : ℕ) (d : StackEntry) → i < length es → exchanged (put_each s (map write_of (take i es))) (get_or es i d) ≡ put_each s (map write_of (take (i + 1) es))
-one_put s es i d less = puts (put_each s (map write_of (take i es))) (get_or es i d) ∙ sym (ap (put_each s) (map_more write_of es i d less) ∙ put_each-append s (map write_of (take i es)) (write_of (get_or es i d) ∷ []))
-
-any_default : {X : Type 0} (xs : List X) (i : ℕ) (d e : X) → i < length xs → get_or xs i d ≡ get_or xs i e
-unfolding first
-any_default xs i d e less = sym (at_drop_more (first d) xs i d less) ∙ at_drop_more (first d) xs i e less
-
--- one entry more has what stood at its place
-pub one_taken : (s : Content) (items all : List StackEntry) (at : ℕ) (x e : StackEntry) → at < length items → at < length all → x ≡ taken (put_each s (map write_of (take at all))) (get_or all at e)
-    → ((k : ℕ) (d : StackEntry) → k < at → get_or items k d ≡ taken (put_each s (map write_of (take k all))) (get_or all k d))
-    → (k : ℕ) (d : StackEntry) → k < at + 1 → get_or (set items at x) k d ≡ taken (put_each s (map write_of (take k all))) (get_or all k d)
-one_taken s items all at x e less lesser is before k d few = by (nat_eq k at) refl
-  where
-    by : (b : Bool) → nat_eq k at ≡ b → get_or (set items at x) k d ≡ taken (put_each s (map write_of (take k all))) (get_or all k d)
-    by true q =
-        let same : k ≡ at = grind (arith, nat_tests, q) in
-        get_or-set_at items at k x d same less
-        ∙ is
-        ∙ ap (taken (put_each s (map write_of (take at all)))) (any_default all at e d lesser)
-        ∙ (λ i. taken (put_each s (map write_of (take (sym same i) all))) (get_or all (sym same i) d))
-    by false q =
-        let apart : k ≡ at → ⊥ = λ p. absurd (false≢true (sym q ∙ (let t : nat_eq k at ≡ true = grind (arith, nat_tests, p) in t))) in
-        let sooner : k < at = grind (arith, nat_tests, q) in
-        get_or-set_other items at k x d apart ∙ before k d sooner

@@ -1,5 +1,5 @@
 -- Entries that are prepared for a change, with the room that they need.
-use Rattle.std.specs.Prelude.{◌≡◌, ℕ, ◌<◌, Bool, List, ◌++◌, length, take, map, slice_index_or, is_some}
+use Rattle.std.specs.Prelude.{◌≡◌, Bool, List, ◌++◌, map, is_some}
 use Rattle.std.specs.FinMap.{keys}
 use Rattle.std.specs.List.{AllByRecursion}
 use Rattle.object_table.specs.Content.{Content}
@@ -8,9 +8,9 @@ use Rattle.object_table.specs.PartContents.{text_at, hilite_at}
 use Rattle.object_table.specs.Table.{Table}
 use Rattle.ht_values.specs.declared.word.PartKind.{PartKind}
 use Rattle.ht_values.specs.declared.word.PartKind.TheVariants.{Button, Field}
-use Rattle.stack_places.specs.Exchange.{place_of, value_of, taken, IsReady, IsWider}
+use Rattle.stack_places.specs.Exchange.{place_of, value_of, IsReady, IsWider}
 use Rattle.stack_places.specs.declared.entry.StackEntry.{StackEntry}
-use Rattle.structural_changes.specs.Writes.{StackWrite, put_each}
+use Rattle.structural_changes.specs.Writes.{StackWrite}
 
 -- what an exchange with an entry writes
 abbrev pub write_of : StackEntry → StackWrite
@@ -27,11 +27,6 @@ pub record Adds (old new : Table) (before after : List StackEntry) (writes : Lis
   pub wider : IsWider old.room new.room
   pub written : map write_of after ≡ map write_of before ++ writes
   pub ready : AllByRecursion (IsReady old.room) before → AllByRecursion (IsReady new.room) after
-
--- After an exchange of each, an entry has what stood at its place when its turn came.
-pub record AreTaken (s : Content) (before after : List StackEntry) : Type 0 where
-  pub count : length after ≡ length before
-  pub each : (i : ℕ) (d : StackEntry) → i < length before → slice_index_or after i d ≡ taken (put_each s (map write_of (take i before))) (slice_index_or before i d)
 
 -- ---- what parts keep
 

@@ -3,14 +3,12 @@
 #![tactic(auto)]
 
 mod clearing;
-mod exchanging;
 mod fitting;
 mod laws;
 mod making;
 mod preparing;
 mod removing;
 
-pub use exchanging::exchange_each;
 pub use fitting::{fits_deletion, fits_new_part, has_room, is_card};
 pub use laws::{laws_of_changes, laws_of_current_cards, laws_of_places};
 pub use making::{prepare_new_background, prepare_new_card, prepare_new_part};

@@ -14,5 +14,3 @@ mod quiet;
 mod sessions;
 #[cfg(test)]
 mod stack_changes;
-#[cfg(test)]
-mod structure;

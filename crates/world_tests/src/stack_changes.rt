@@ -3,21 +3,85 @@
 ghost use Rattle.std.specs.Prelude.{◌≡◌, None, OnOk, IfOk, IsSome};
 
 use crate::quiet::Quiet;
-use crate::structure::TWO_BACKGROUNDS;
+use crate::sessions::TWO_CARDS;
 use change_journal::{Change, World};
 use ht_values::{PartKind, Text};
 use object_table::{LayerId, PropValue};
 use stack_file::{read, write};
 use std::alloc::Global;
 use std::test::Fail;
+use structural_changes::{laws_of_changes, laws_of_current_cards, laws_of_places};
 
-/// A change that makes or removes objects.
+/// Two backgrounds, each with a button and a field. Two cards are on the first, of which the last has a button and a field of
+/// its own, and one card is on the second.
+const TWO_BACKGROUNDS: &[u8] = b"htstack 2\nnext 20\nname |Demo\nscript 0\n\
+backgrounds 2\n\
+background 1\nname |First\ncantDelete false\nscript 0\nparts 2\n\
+button 5\nname |Own\nvisible true\nsharedHilite false\nhilite true\nscript 0\n\
+field 6\nname |Note\nvisible true\nlockText false\nsharedText true\nscript 0\nshared 1\n|all\n\
+background 8\nname |Second\ncantDelete false\nscript 0\nparts 2\n\
+field 11\nname |Line\nvisible true\nlockText false\nsharedText false\nscript 0\nshared 1\n|both\n\
+button 12\nname |Push\nvisible true\nsharedHilite true\nhilite true\nscript 0\n\
+cards 3\n\
+card 2 1\nname |A\ncantDelete false\nscript 0\nparts 0\nhilite 5 true\ntext 6 1\n|own\n\
+card 4 8\nname |B\ncantDelete false\nscript 0\nparts 0\ntext 11 1\n|last\nhilite 12 false\n\
+card 9 1\nname |C\ncantDelete false\nscript 0\nparts 2\n\
+button 10\nname |Mine\nvisible true\nhilite true\nscript 0\n\
+field 19\nname |Mine\nvisible true\nlockText false\nscript 0\ntext 1\n|typed\n\
+hilite 5 false\ntext 6 1\n|kept\nend\n";
+
+/// Its card 9 went, with its parts and with what the background's parts kept for it.
+const WITHOUT_CARD: &[u8] = b"htstack 2\nnext 20\nname |Demo\nscript 0\n\
+backgrounds 2\n\
+background 1\nname |First\ncantDelete false\nscript 0\nparts 2\n\
+button 5\nname |Own\nvisible true\nsharedHilite false\nhilite true\nscript 0\n\
+field 6\nname |Note\nvisible true\nlockText false\nsharedText true\nscript 0\nshared 1\n|all\n\
+background 8\nname |Second\ncantDelete false\nscript 0\nparts 2\n\
+field 11\nname |Line\nvisible true\nlockText false\nsharedText false\nscript 0\nshared 1\n|both\n\
+button 12\nname |Push\nvisible true\nsharedHilite true\nhilite true\nscript 0\n\
+cards 2\n\
+card 2 1\nname |A\ncantDelete false\nscript 0\nparts 0\nhilite 5 true\ntext 6 1\n|own\n\
+card 4 8\nname |B\ncantDelete false\nscript 0\nparts 0\ntext 11 1\n|last\nhilite 12 false\n\
+end\n";
+
+/// Its card 4 went, and its background with it.
+const WITHOUT_BACKGROUND: &[u8] = b"htstack 2\nnext 20\nname |Demo\nscript 0\n\
+backgrounds 1\n\
+background 1\nname |First\ncantDelete false\nscript 0\nparts 2\n\
+button 5\nname |Own\nvisible true\nsharedHilite false\nhilite true\nscript 0\n\
+field 6\nname |Note\nvisible true\nlockText false\nsharedText true\nscript 0\nshared 1\n|all\n\
+cards 2\n\
+card 2 1\nname |A\ncantDelete false\nscript 0\nparts 0\nhilite 5 true\ntext 6 1\n|own\n\
+card 9 1\nname |C\ncantDelete false\nscript 0\nparts 2\n\
+button 10\nname |Mine\nvisible true\nhilite true\nscript 0\n\
+field 19\nname |Mine\nvisible true\nlockText false\nscript 0\ntext 1\n|typed\n\
+hilite 5 false\ntext 6 1\n|kept\nend\n";
+
+const ONE_CARD: &[u8] = b"htstack 2\nnext 5\nname |Demo\nscript 0\nbackgrounds 1\n\
+background 1\nname |\ncantDelete false\nscript 0\nparts 1\n\
+field 3\nname |Note\nvisible true\nlockText false\nsharedText false\nscript 0\nshared 0\n\
+cards 1\ncard 4 1\nname |B\ncantDelete false\nscript 0\nparts 0\ntext 3 0\nend\n";
+
+/// A card on the background of card 2, behind it.
+const WITH_CARD: &[u8] =
+    b"htstack 2\nnext 6\nname |Demo\nscript 0\nbackgrounds 1\nbackground 1\nname |\ncantDelete false\nscript 0\nparts 1\nfield 3\nname |Note\nvisible true\nlockText false\nsharedText false\nscript 0\nshared 0\ncards 3\ncard 2 1\nname |A\ncantDelete false\nscript 0\nparts 0\ntext 3 0\ncard 5 1\nname |\ncantDelete false\nscript 0\nparts 0\ntext 3 0\ncard 4 1\nname |B\ncantDelete false\nscript 0\nparts 0\ntext 3 0\nend\n";
+
+/// A background, the last one, with a card behind card 4.
+const WITH_BACKGROUND: &[u8] =
+    b"htstack 2\nnext 7\nname |Demo\nscript 0\nbackgrounds 2\nbackground 1\nname |\ncantDelete false\nscript 0\nparts 1\nfield 3\nname |Note\nvisible true\nlockText false\nsharedText false\nscript 0\nshared 0\nbackground 5\nname |\ncantDelete false\nscript 0\nparts 0\ncards 3\ncard 2 1\nname |A\ncantDelete false\nscript 0\nparts 0\ntext 3 0\ncard 4 1\nname |B\ncantDelete false\nscript 0\nparts 0\ntext 3 0\ncard 6 5\nname |\ncantDelete false\nscript 0\nparts 0\nend\n";
+
+/// A button of the background, with a hilite for each card.
+const WITH_BUTTON: &[u8] =
+    b"htstack 2\nnext 6\nname |Demo\nscript 0\nbackgrounds 1\nbackground 1\nname |\ncantDelete false\nscript 0\nparts 2\nfield 3\nname |Note\nvisible true\nlockText false\nsharedText false\nscript 0\nshared 0\nbutton 5\nname |New Button\nvisible true\nsharedHilite true\nhilite false\nscript 0\ncards 2\ncard 2 1\nname |A\ncantDelete false\nscript 0\nparts 0\ntext 3 0\nhilite 5 false\ncard 4 1\nname |B\ncantDelete false\nscript 0\nparts 0\ntext 3 0\nhilite 5 false\nend\n";
+
+/// A change that makes or removes objects, or the card before it.
 #[derive(Clone, Copy)]
 enum Step {
     Card,
     Background,
     Part(LayerId, PartKind),
     Delete,
+    Current(u32),
 }
 
 impl Step {
@@ -27,6 +91,7 @@ impl Step {
             Step::Background => Change::NewBackground,
             Step::Part(layer, kind) => Change::NewPart(layer, kind),
             Step::Delete => Change::DeleteCard,
+            Step::Current(card) => Change::Current(card),
         }
     }
 }
@@ -165,6 +230,77 @@ fn back_and_forth(alloc: Global) -> Result<bool, Fail> {
 fn each_change_is_undone_and_redone(rt: HostRuntime) -> Result<(), Fail> {
     assert!(rt; back_and_forth(rt.alloc())?);
     Ok(())
+}
+
+/// A stack, what is done to it, its text after it, and its current card.
+struct Row {
+    text: &'static [u8],
+    steps: &'static [Step],
+    after: &'static [u8],
+    current: u32,
+}
+
+const ROWS: &[Row] = &[
+    Row {
+        text: TWO_CARDS,
+        steps: &[Step::Card],
+        after: WITH_CARD,
+        current: 5,
+    },
+    Row {
+        text: TWO_CARDS,
+        steps: &[Step::Current(4), Step::Background],
+        after: WITH_BACKGROUND,
+        current: 6,
+    },
+    Row {
+        text: TWO_CARDS,
+        steps: &[Step::Part(LayerId::OfBackground(1), PartKind::Button)],
+        after: WITH_BUTTON,
+        current: 2,
+    },
+    Row {
+        text: TWO_CARDS,
+        steps: &[Step::Delete],
+        after: ONE_CARD,
+        current: 4,
+    },
+    Row {
+        text: TWO_BACKGROUNDS,
+        steps: &[Step::Current(9), Step::Delete],
+        after: WITHOUT_CARD,
+        current: 2,
+    },
+    Row {
+        text: TWO_BACKGROUNDS,
+        steps: &[Step::Current(4), Step::Delete],
+        after: WITHOUT_BACKGROUND,
+        current: 9,
+    },
+];
+
+fn meets(alloc: Global, row: &Row) -> Result<bool, Fail> {
+    let mut world = open_world(alloc, row.text)?;
+    for step in row.steps {
+        take(&mut world, 1, *step)?;
+    }
+    let now = see(alloc, &world)?;
+    Ok(now.text.as_slice() == row.after && now.current == row.current)
+}
+
+#[test]
+fn each_change_gives_its_text(rt: HostRuntime) -> Result<(), Fail> {
+    for row in ROWS {
+        assert!(rt; meets(rt.alloc(), row)?);
+    }
+    Ok(())
+}
+
+#[test]
+fn laws_of_the_changes_are_called(_rt: HostRuntime) {
+    laws_of_changes();
+    laws_of_current_cards();
+    laws_of_places();
 }
 
 /// The current card after each of these.
@@ -309,6 +445,7 @@ fn fitting(alloc: Global, text: &[u8]) -> Result<[bool; 4], Fail> {
 fn ids_end_at_a_million(rt: HostRuntime) -> Result<(), Fail> {
     let alloc = rt.alloc();
     assert!(rt; fitting(alloc, LAST_ID_GIVEN)? == [false, false, false, false]);
+    assert!(rt; fitting(alloc, ONE_CARD)? == [true, true, true, false]);
     assert!(rt; fitting(alloc, ONE_ID_LEFT)? == [true, false, true, false]);
     assert!(rt; fitting(alloc, TWO_BACKGROUNDS)? == [true, true, true, true]);
     Ok(())
