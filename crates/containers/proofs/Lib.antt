@@ -1,0 +1,4 @@
+pub mod Bases
+pub mod Folding
+pub mod Locals
+pub mod Rules

@@ -1,0 +1,4 @@
+-- The rules of writes, for `search`.
+use Rattle.containers.specs.Writes.{Writes}
+
+pub ruleset writes_rules = (Writes.nothing_due, Writes.to_global, Writes.to_own, Writes.to_field)

@@ -1,0 +1,5 @@
+pub mod Variables
+pub mod Places
+pub mod Edits
+pub mod Base
+pub mod Writes
