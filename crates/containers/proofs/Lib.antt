@@ -1,4 +1,5 @@
 pub mod Bases
+mod Examples
 pub mod Folding
 pub mod Locals
 pub mod Rules
