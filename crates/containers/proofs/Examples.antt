@@ -24,7 +24,7 @@ use Rattle.object_table.specs.declared.object.Object.{Object}
 use Rattle.containers.specs.declared.edit.Edit.TheVariants.{Put, Alter, Delete}
 use Rattle.containers.specs.Edits.{edited}
 use Rattle.containers.specs.Places.{global, own, field_text, named, text_met}
-use Rattle.containers.specs.Variables.{VariablesView, is_global, own_value, with_local}
+use Rattle.containers.specs.Variables.{VariablesView, own_value, with_local}
 
 -- `unfolding computing` opens the definitions that a literal computes through
 unfoldable pub computing : Unit {0}

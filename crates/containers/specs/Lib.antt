@@ -3,3 +3,4 @@ pub mod Places
 pub mod Edits
 pub mod Base
 pub mod Writes
+pub mod Laws

@@ -1,5 +1,5 @@
 -- What names mean where a handler runs, or a typed line.
-use Rattle.std.specs.Prelude.{ℕ, Bool, false, ◌||◌, List, [], ◌∷◌, find, Option, option_map, option_and_then, unwrap_or, is_none, if◌then◌else◌}
+use Rattle.std.specs.Prelude.{ℕ, Bool, false, ◌||◌, List, [], ◌∷◌, find, Option, None, option_map, option_and_then, unwrap_or, is_none, if◌then◌else◌}
 use Rattle.ht_values.specs.Text.{folded, same}
 use Rattle.containers.specs.declared.variables.Local.{Local}
 
@@ -28,3 +28,7 @@ with_value name value (l ∷ ls) = if same l.name name then record l { value = v
 
 abbrev pub with_local : VariablesView → List ℕ → Option (List ℕ) → VariablesView
 with_local v name value = record v { locals = with_value name value v.locals }
+
+-- the names where this one means a global, as each does in a typed line
+abbrev pub declared : VariablesView → List ℕ → VariablesView
+declared v name = if v.all_global then v else with_local v name None

@@ -2,6 +2,7 @@
 #![tactic(auto)]
 
 mod edit;
+mod law;
 mod nested;
 mod place;
 mod reading;
@@ -10,8 +11,9 @@ mod variables;
 mod writing;
 
 pub use edit::Edit;
+pub use law::{writes_are_due, written_is_read};
 pub use place::{Container, Place, resolve};
 pub use reading::{read, read_name, text_in};
 pub use store::Store;
 pub use variables::Variables;
-pub use writing::write;
+pub use writing::{declare, write};

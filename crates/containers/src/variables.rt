@@ -2,7 +2,7 @@
 
 ghost use Rattle.std.specs.Prelude.{◌≡◌, ◌<◌, [], true, false, length, OnOk, OnErr, IfSome, option_copied, find, position, slice_index_or, slice_set, Some, None};
 ghost use Rattle.ht_values.specs.Text.{same};
-ghost use Rattle.containers.specs.Variables.{local_of, is_global, own_value, with_local};
+ghost use Rattle.containers.specs.Variables.{declared, local_of, is_global, own_value, with_local};
 
 use ht_values::Text;
 use std::alloc::{AllocError, Global};
@@ -99,6 +99,17 @@ impl Variables {
             }
         }
         Ok(())
+    }
+
+    /// A name means a global from here on. Where memory was refused nothing changes.
+    pub(crate) fn declare(&mut self, alloc: Global, name: &Text) -> Result<(), AllocError>
+        ensures ok { OnOk result (self.new ≡ declared self.old name.now) }
+        ensures err { OnErr result (self.new ≡ self.old) }
+    {
+        if self.all_global {
+            return Ok(());
+        }
+        self.set(alloc, name, None)
     }
 }
 

@@ -5,7 +5,7 @@ ghost use Rattle.ht_values.specs.Outcome.{Gives};
 ghost use Rattle.containers.specs.Base.{base};
 ghost use Rattle.containers.specs.Edits.{due};
 ghost use Rattle.containers.specs.Places.{whole as whole_of};
-ghost use Rattle.containers.specs.Writes.{Writes};
+ghost use Rattle.containers.specs.Writes.{Declares, Writes};
 
 use crate::edit::Edit;
 use crate::place::{Holder, Place};
@@ -77,5 +77,27 @@ pub fn write<W: Store>(
     match edited(alloc, world, variables, &place, edit, delimiter)? {
         Some(text) => Ok(put(alloc, world, variables, place, text)?),
         None => Ok(()),
+    }
+}
+
+/// `global`: a name means a global from here on, which gets the empty text where it had no value. Where memory was refused
+/// the history is as before, though the name may mean a global.
+#[tactic(auto, using(crate::proofs::Rules::declares_rules, crate::proofs::Bases::global_keeps, crate::proofs::Bases::is_open, crate::proofs::Folding::folded_is_folded))]
+pub fn declare<W: Store>(
+    alloc: Global,
+    world: &mut W,
+    variables: &mut Variables,
+    name: &Text,
+) -> Result<(), AllocError>
+    requires { IsSome (base (W.history world.old)).start }
+    ensures ok { OnOk result (Declares (W.history world.old) variables.old name.now (W.history world.new) variables.new) }
+    ensures err { OnErr result (W.history world.new ≡ W.history world.old) }
+    ensures base { base (W.history world.new) ≡ base (W.history world.old) }
+{
+    let global = name.folded(alloc)?;
+    variables.declare(alloc, name)?;
+    match world.global(&global) {
+        Some(_) => Ok(()),
+        None => world.make(Change::Global(global, Some(Text::new(alloc)))),
     }
 }
