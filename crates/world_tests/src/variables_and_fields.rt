@@ -7,7 +7,10 @@ use crate::quiet::Quiet;
 use crate::sessions::two_cards;
 use change_journal::{Change, World};
 use chunks::{Chunk, Index};
-use containers::{Container, Edit, Variables, read, read_name, resolve, write};
+use containers::{
+    Container, Edit, Variables, declare, read, read_name, resolve, text_in, write, writes_are_due,
+    written_is_read,
+};
 use ht_values::{ChunkKind, Failure, Fault, Op, Text, Where};
 use object_table::PropValue;
 use std::alloc::Global;
@@ -292,5 +295,55 @@ fn names_read_as_values_or_spellings(rt: HostRuntime) -> Result<(), Fail> {
     let alloc = rt.alloc();
     assert_eq!(rt; sum_reads(alloc, Some(b"7"))?.as_slice(), b"7".as_slice());
     assert_eq!(rt; sum_reads(alloc, None)?.as_slice(), b"Sum".as_slice());
+    Ok(())
+}
+
+/// What the global `sum` holds after a handler declares it and adds 2 to it, where it was 5 or had no value.
+fn declared(alloc: Global, before: Option<&[u8]>) -> Result<Text, Fail> {
+    let mut world = begun(alloc)?;
+    let name = text(alloc, b"Sum")?;
+    let sum = Container::Variable(&name);
+    let mut variables = Variables::of_typed_line(alloc);
+    if let Some(before) = before {
+        let put = Edit::Put(Where::Into, text(alloc, before)?);
+        edit(alloc, &mut world, &mut variables, sum, None, put)?;
+    }
+    let mut variables = Variables::of_handler(alloc);
+    declare(alloc, &mut world, &mut variables, &name)?;
+    let add = Edit::Alter(Op::Add, text(alloc, b"2")?);
+    edit(alloc, &mut world, &mut variables, sum, None, add)?;
+    match world.global(&text(alloc, b"sum")?) {
+        Some(value) => Ok(value.try_clone(alloc)?),
+        None => Err("no global".into()),
+    }
+}
+
+#[test]
+fn a_declared_name_is_the_global(rt: HostRuntime) -> Result<(), Fail> {
+    let alloc = rt.alloc();
+    assert_eq!(rt; declared(alloc, Some(b"5"))?.as_slice(), b"7".as_slice());
+    assert_eq!(rt; declared(alloc, None)?.as_slice(), b"2".as_slice());
+    writes_are_due();
+    written_is_read();
+    Ok(())
+}
+
+/// The length of field 3 as it is met with card 2, read where it stands.
+fn length_of_field(alloc: Global) -> Result<usize, Fail> {
+    let mut world = begun(alloc)?;
+    let mut variables = Variables::of_typed_line(alloc);
+    let field = Container::Field(3, 2);
+    let put = Edit::Put(Where::Into, text(alloc, b"note")?);
+    edit(alloc, &mut world, &mut variables, field, None, put)?;
+    let place = resolve(alloc, &world, &variables, field)?;
+    match text_in(&world, &variables, &place) {
+        Some(text) => Ok(text.len()),
+        None => Err("no text".into()),
+    }
+}
+
+#[test]
+fn a_field_is_read_in_place(rt: HostRuntime) -> Result<(), Fail> {
+    assert_eq!(rt; length_of_field(rt.alloc())?, 4);
     Ok(())
 }
