@@ -14,3 +14,5 @@ mod quiet;
 mod sessions;
 #[cfg(test)]
 mod stack_changes;
+#[cfg(test)]
+mod variables_and_fields;

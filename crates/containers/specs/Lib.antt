@@ -1,0 +1,6 @@
+pub mod Variables
+pub mod Places
+pub mod Edits
+pub mod Base
+pub mod Writes
+pub mod Laws

@@ -1,0 +1,52 @@
+//! Edits of the text of a container.
+
+ghost use Rattle.ht_values.specs.Outcome.{Gives};
+ghost use Rattle.containers.specs.Edits.{edited};
+
+use crate::nested::{delete_within, put_within, take_within};
+use chunks::Chunk;
+use ht_values::{Failure, Op, Text, Where, binary};
+use std::alloc::Global;
+
+/// What is done to the text of a container, or to the part that its chunks read.
+#[derive(Drop)]
+pub enum Edit {
+    /// A text is put in its place, before it or after it.
+    Put(Where, Text),
+    /// It becomes what an operator gives of it and of an operand.
+    Alter(Op, Text),
+    /// The part is deleted, with its delimiter. Where it isn't found, or there are no chunks, nothing changes.
+    Delete,
+}
+
+impl Edit {
+    /// The text after the edit; nothing where the edit changes nothing.
+    pub(crate) fn edited(
+        self,
+        alloc: Global,
+        text: &Text,
+        chunks: &[Chunk],
+        delimiter: u8,
+    ) -> Result<Option<Text>, Failure>
+        ensures { Gives result (edited delimiter chunks.now self text.now) }
+    {
+        match self {
+            Edit::Put(place, new) => Ok(Some(put_within(
+                alloc, text, chunks, place, new, delimiter,
+            )?)),
+            Edit::Alter(op, operand) => {
+                let value = binary(
+                    alloc,
+                    op,
+                    &take_within(alloc, text, chunks, delimiter)?,
+                    &operand,
+                )?;
+                Ok(Some(put_within(alloc, text, chunks, Where::Into, value, delimiter)?))
+            }
+            Edit::Delete => match chunks {
+                [] => Ok(None),
+                [chunk, inner @ ..] => delete_within(alloc, text, chunk, inner, delimiter),
+            },
+        }
+    }
+}

@@ -1,0 +1,19 @@
+//! The places of HyperTalk that hold a text, variables and fields with chunks of them: reading and writing.
+#![tactic(auto)]
+
+mod edit;
+mod law;
+mod nested;
+mod place;
+mod reading;
+mod store;
+mod variables;
+mod writing;
+
+pub use edit::Edit;
+pub use law::{writes_are_due, written_is_read};
+pub use place::{Container, Place, resolve};
+pub use reading::{read, read_name, text_in};
+pub use store::Store;
+pub use variables::Variables;
+pub use writing::{declare, write};

@@ -1,0 +1,50 @@
+//! What containers use of a world.
+
+ghost use Rattle.std.specs.Prelude.{◌≡◌, true, IsSome, OnOk, OnErr, option_copied};
+ghost use Rattle.std.specs.FinMap as finite;
+ghost use Rattle.journal_entries.specs.Changes.{fits};
+ghost use Rattle.change_journal.specs.Rising.{Made};
+
+use change_journal::{Change, World};
+use externals::External;
+use ht_values::Text;
+use object_table::Stack;
+use std::alloc::AllocError;
+
+/// What has a history whose present state is read and changed, as a world has, whatever its externals are.
+pub trait Store {
+    ghost use Rattle.change_journal.specs.History.{History};
+
+    ghost history: { Self → History };
+
+    /// The stack.
+    fn stack(&self) -> &Stack
+        ensures { result.now.content ≡ (history self.now).now.stack };
+
+    /// The value of a global, by its folded name, if it has one.
+    fn global(&self, name: &Text) -> Option<&Text>
+        ensures { option_copied result ≡ finite.get (history self.now).now.globals name.now };
+
+    /// Makes a change in the open batch. Where memory was refused nothing changes.
+    fn make(&mut self, change: Change) -> Result<(), AllocError>
+        requires open { IsSome (history self.old).start }
+        requires fits { fits (history self.old).now change ≡ true }
+        ensures ok { OnOk result (Made (history self.old) (history self.new) change) }
+        ensures err { OnErr result (history self.new ≡ history self.old) };
+}
+
+impl<E: External> Store for World<E> {
+    ghost history = { λ w. w.history };
+
+    fn stack(&self) -> &Stack {
+        World::stack(self)
+    }
+
+    fn global(&self, name: &Text) -> Option<&Text> {
+        World::global(self, name)
+    }
+
+    fn make(&mut self, change: Change) -> Result<(), AllocError> {
+        World::make(self, change)
+    }
+}
