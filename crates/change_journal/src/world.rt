@@ -237,7 +237,8 @@ impl<E: External> World<E> {
         ensures once { IfSome self.old.history.start (λ o. IsOnce o.trail) }
         ensures short { IfSome self.old.history.start (λ o. IsShort o.trail (different (places_in o.trail))) }
     {
-        if let Some(batch) = self.open.take() {
+        if let Some(mut batch) = self.open.take() {
+            batch.shrink();
             self.batches.truncate(self.cursor);
             self.oldest = keep(&mut self.batches, self.oldest, self.depth, batch);
             self.cursor = self.batches.len();

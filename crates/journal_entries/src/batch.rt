@@ -48,6 +48,13 @@ impl Batch {
         self.number
     }
 
+    /// Gives back the room that its entries don't fill.
+    pub fn shrink(&mut self)
+        ensures { self.new ≡ self.old }
+    {
+        self.entries.shrink_to_fit();
+    }
+
     /// Goes back over all entries, from the last to the first.
     pub fn go_back<E: External>(&mut self, present: &mut Present<E>)
         requires { AreReady (shape_of present.old) self.old.entries }
