@@ -1,11 +1,11 @@
 //! The world: one present state, and the batches that lead back and forth from it.
 
-ghost use Rattle.std.specs.Prelude.{◌≡◌, ◌⊎◌, ℕ, ◌<◌, ◌≤◌, List, [], ◌∷◌, ◌++◌, length, true, IsErr, Some, None, IsSome, IfSome, IsTrue, IfOk, IfErr, OnErr, OnOk, is_ok, map, option_map, option_copied, slice_index_or, slice_get};
+ghost use Rattle.std.specs.Prelude.{◌≡◌, ◌⊎◌, ℕ, ◌<◌, ◌≤◌, List, [], ◌∷◌, ◌++◌, length, true, IsErr, Some, None, IsSome, IfSome, IsTrue, IfOk, IfErr, OnErr, OnOk, is_ok, map, option_map, option_copied, slice_index_or};
 ghost use Rattle.std.specs.FinMap as finite;
 ghost use Rattle.object_table.specs.WellFormed.{IsWellFormed};
 ghost use Rattle.object_table.specs.Objects.{has_kind, is_card};
 ghost use Rattle.journal_entries.specs.State.{seen_by, seen_at, first_state, titles_of, has_name, index_of, are_apart as apart_titles};
-ghost use Rattle.journal_entries.specs.Named.{listed, Lists};
+ghost use Rattle.journal_entries.specs.Named.{listed, numbered, Lists};
 ghost use Rattle.journal_entries.specs.Changes.{fits};
 ghost use Rattle.journal_entries.specs.Trails.{IsOnce, IsShort, different, places_in};
 ghost use Rattle.journal_entries.specs.Turning.{one_more_at};
@@ -108,7 +108,7 @@ impl<E: External> World<E> {
         self.present.global(name)
     }
 
-    /// How many globals have a value. `global_at` gives each of them once, in an order that isn't fixed.
+    /// How many globals have a value.
     pub fn global_count(&self) -> usize
         ensures count { result ≡ length (listed self.now.names self.now.history.now.globals) }
         ensures each { Lists (listed self.now.names self.now.history.now.globals) self.now.history.now.globals }
@@ -116,10 +116,19 @@ impl<E: External> World<E> {
         self.present.global_count()
     }
 
-    /// A global that has a value: its name and its value. They are counted from 0.
-    pub fn global_at(&self, i: usize) -> (&Text, &Text)
-        requires { i < length (listed self.now.names self.now.history.now.globals) }
-        ensures { slice_get (listed self.now.names self.now.history.now.globals) i ≡ Some (result.0.now, result.1.now) }
+    /// How many names of globals have numbers, with a value or without.
+    /// `global_at` gives each global that has a value once, at the number of its name.
+    pub fn name_count(&self) -> usize
+        ensures count { result ≡ length self.now.names }
+        ensures each { Lists (listed self.now.names self.now.history.now.globals) self.now.history.now.globals }
+    {
+        self.present.name_count()
+    }
+
+    /// The global with a number, from 0: its name and its value, if it has one.
+    pub fn global_at(&self, i: usize) -> Option<(&[u8], &Text)>
+        requires { i < length self.now.names }
+        ensures { option_map (λ p. (p.0.now, p.1.now)) result ≡ numbered self.now.names self.now.history.now.globals i }
     {
         self.present.global_at(i)
     }

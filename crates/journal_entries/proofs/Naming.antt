@@ -1,7 +1,6 @@
 -- Globals as finite maps.
-use Rattle.std.proofs.lemmas.List.{drop_more, drop_all}
 use Rattle.std.proofs.lemmas.List.Sums.{length-filter}
-use Rattle.std.proofs.Common.{map, filter, drop, slice_get, count_by, is_some, ◌≡◌, ◌≢◌, ◌++◌, ℕ, zero, suc, ◌+◌, ◌<◌, ◌≤◌, Bool, true, false, cond, List, [], ◌∷◌, length, get_or, set, refl, sym, ap, ◌∙◌, arith, Option, Some, None}
+use Rattle.std.proofs.Common.{map, filter, count_by, is_some, ◌≡◌, ◌≢◌, ◌++◌, ℕ, zero, suc, ◌<◌, Bool, true, false, cond, List, [], ◌∷◌, length, get_or, set, refl, sym, ap, ◌∙◌, arith, Option, Some, None}
 use Rattle.std.specs.Ordering.{nat_cmp, eq_by_cmp}
 use Rattle.std.specs.Cmp.{Equal-is, tied_itself}
 use Rattle.std.specs.Cmp.Lexicographic.{slice_cmp}
@@ -150,37 +149,18 @@ filter-entries (n ∷ ns) (Some v ∷ vs) e = ap suc (filter-entries ns vs (omeg
 pub count_by-entries : (ns : List (List ℕ)) (vs : List (Option (List ℕ))) → length ns ≡ length vs → count_by is_some vs ≡ length (entries_of ns vs)
 count_by-entries ns vs e = sym (length-filter is_some vs) ∙ filter-entries ns vs e
 
--- one name more on the way through the lists
-drop_entries : (ns : List (List ℕ)) (vs : List (Option (List ℕ))) (k : ℕ) → k < length ns → length ns ≡ length vs → entries_of (drop k ns) (drop k vs) ≡ with_value (get_or ns k []) (get_or vs k None) (entries_of (drop (k + 1) ns) (drop (k + 1) vs))
-drop_entries ns vs k l e = rw (drop_more ns k [] l, drop_more vs k None (omega (arith, e))) refl
+-- ---- how many have a value
 
-pub at_here : (ns : List (List ℕ)) (vs : List (Option (List ℕ))) (k left i : ℕ) (n v : List ℕ) → AreDistinct ns → length ns ≡ length vs → k < length ns → slice_get (entries_of (drop k ns) (drop k vs)) left ≡ slice_get (entries_of ns vs) i → left ≡ 0 → get_or vs k None ≡ Some v → get_or ns k [] ≡ n → slice_get (listed ns (from_entries {R = slice_cmp nat_cmp} (entries_of ns vs))) i ≡ Some (n, v)
-at_here ns vs k left i n v a e l h z value name =
-    ap (λ es. slice_get es i) (listed-entries ns vs a e)
-    ∙ sym h
-    ∙ ap (λ es. slice_get es left) (drop_entries ns vs k l e)
-    ∙ (λ x. slice_get (with_value (name x) (value x) (entries_of (drop (k + 1) ns) (drop (k + 1) vs))) (z x))
+filter-none : {X : Type 0} (vs : List (Option X)) → length (filter is_some (vs ++ None ∷ [])) ≡ length (filter is_some vs)
+filter-none [] = refl
+filter-none (None ∷ vs) = filter-none vs
+filter-none (Some x ∷ vs) = ap suc (filter-none vs)
 
-pub at_later : (ns : List (List ℕ)) (vs : List (Option (List ℕ))) (k left less i : ℕ) (v : List ℕ) → length ns ≡ length vs → k < length ns → slice_get (entries_of (drop k ns) (drop k vs)) left ≡ slice_get (entries_of ns vs) i → left ≡ suc less → get_or vs k None ≡ Some v → slice_get (entries_of (drop (k + 1) ns) (drop (k + 1) vs)) less ≡ slice_get (entries_of ns vs) i
-at_later ns vs k left less i v e l h s value =
-    sym (ap (λ es. slice_get es left) (drop_entries ns vs k l e)
-    ∙ (λ x. slice_get (with_value (get_or ns k []) (value x) (entries_of (drop (k + 1) ns) (drop (k + 1) vs))) (s x)))
-    ∙ h
+-- a name comes, with no value
+pub count_by-none : {X : Type 0} (vs : List (Option X)) → count_by is_some (vs ++ None ∷ []) ≡ count_by is_some vs
+count_by-none vs = sym (length-filter is_some (vs ++ None ∷ [])) ∙ filter-none vs ∙ length-filter is_some vs
 
-pub at_none : (ns : List (List ℕ)) (vs : List (Option (List ℕ))) (k left i : ℕ) → length ns ≡ length vs → k < length ns → slice_get (entries_of (drop k ns) (drop k vs)) left ≡ slice_get (entries_of ns vs) i → get_or vs k None ≡ None → slice_get (entries_of (drop (k + 1) ns) (drop (k + 1) vs)) left ≡ slice_get (entries_of ns vs) i
-at_none ns vs k left i e l h value =
-    sym (ap (λ es. slice_get es left) (drop_entries ns vs k l e)
-    ∙ (λ x. slice_get (with_value (get_or ns k []) (value x) (entries_of (drop (k + 1) ns) (drop (k + 1) vs))) left))
-    ∙ h
-
-some_there : {X : Type 0} (xs : List X) (i : ℕ) → i < length xs → slice_get xs i ≡ None → ⊥
-some_there [] i h e = omega arith
-some_there (x ∷ xs) zero h e = let none : Some x ≡ None → ⊥ = λ q. cc in none e
-some_there (x ∷ xs) (suc i) h e = some_there xs i (omega arith) e
-
-pub at_end : (ns : List (List ℕ)) (vs : List (Option (List ℕ))) (k left i : ℕ) → AreDistinct ns → length ns ≡ length vs → length ns ≤ k → slice_get (entries_of (drop k ns) (drop k vs)) left ≡ slice_get (entries_of ns vs) i → i < length (listed ns (from_entries {R = slice_cmp nat_cmp} (entries_of ns vs))) → ⊥
-at_end ns vs k left i a e l h w =
-    some_there (entries_of ns vs) i (rw (listed-entries ns vs a e) at w) (sym h ∙ ap (λ xs. slice_get (entries_of xs (drop k vs)) left) (drop_all k ns l))
+-- ---- listed
 
 IsNew-keys : (n : List ℕ) (ns : List (List ℕ)) (vs : List (Option (List ℕ))) → IsNew n ns → IsNew n (map (λ e. e.0) (entries_of ns vs))
 IsNew-keys n [] vs h = tt

@@ -1,9 +1,10 @@
 -- The number of a name in a set of names.
-use Rattle.std.proofs.Common.{◌≡◌, ◌≢◌, ℕ, suc, ◌+◌, ◌<◌, ◌≤◌, Bool, true, false, cond, not, nat_lt, ◌||◌, bytes_eq, List, [], ◌∷◌, length, map, get_or, refl, sym, ap, ◌∙◌, arith, Some, None}
+use Rattle.std.proofs.Common.{◌≡◌, ◌≢◌, ℕ, suc, ◌+◌, ◌<◌, ◌≤◌, Bool, true, false, cond, not, nat_lt, ◌||◌, bytes_eq, List, [], ◌∷◌, ◌++◌, length, map, get_or, refl, sym, ap, ◌∙◌, arith, Some, None}
 use Rattle.std.specs.List.{position, position_or_len, prefix_len, list_any}
 use Rattle.std.proofs.lemmas.List.Sums.{prefix_len_passes, prefix_len_stops}
 use Rattle.std.proofs.lemmas.Bool.{ltb-true, ltb-false}
 use Rattle.std.proofs.lemmas.Slice.Eq.{bytes_eq-Decides}
+use Rattle.std.proofs.lemmas.List.{map-append}
 use Rattle.stack_places.proofs.Exchanging.{false_true}
 
 -- a test of names
@@ -74,3 +75,13 @@ none-of f name (k ∷ ks) h =
 -- the set lacks it
 pub list_any-absent : {X : Type 0} (f : X → List ℕ) (name : List ℕ) (ks : List X) (ns : List (List ℕ)) → map f ks ≡ ns → ((k : ℕ) → k < length ns → get_or ns k [] ≢ name) → list_any (λ k. bytes_eq name (f k)) ks ≡ false
 list_any-absent f name ks ns e h = none-of f name ks (rw (← e) at h)
+
+-- a name that the set lacks is put at its end
+pub name-pushed : {X : Type 0} (f : X → List ℕ) (ks new : List X) (b : X) (name : List ℕ) → ((k : ℕ) → k < length (map f ks) → get_or (map f ks) k [] ≢ name) → f b ≡ name → new ≡ cond (list_any (λ k. bytes_eq (f b) (f k)) ks) ks (ks ++ b ∷ []) → map f new ≡ map f ks ++ name ∷ []
+name-pushed f ks new b name new_name is e =
+    let lacks = list_any-absent f (f b) ks (map f ks) refl (rw is new_name) in
+    ap (map f) (e ∙ ap (λ t. cond t ks (ks ++ b ∷ [])) lacks) ∙ map-append f ks (b ∷ []) ∙ (λ i. map f ks ++ is i ∷ [])
+
+pub at_end : (ns : List (List ℕ)) (name : List ℕ) → get_or (ns ++ name ∷ []) (length ns) [] ≡ name
+at_end [] name = refl
+at_end (n ∷ ns) name = at_end ns name

@@ -1,5 +1,5 @@
 -- Globals by name, and the names that have numbers.
-use Rattle.std.specs.Prelude.{◌≡◌, ◌≢◌, ℕ, List, [], ◌∷◌, ◌++◌, map, Option, Some, None, refl}
+use Rattle.std.specs.Prelude.{◌≡◌, ◌≢◌, ℕ, List, [], ◌∷◌, ◌++◌, map, Option, Some, None, option_map, slice_index_or, refl}
 use Rattle.std.specs.FinMap.{get, from_entries}
 use Rattle.std.specs.Coded.{Coded, code_by, coded×, coded_ℕ, coded_list}
 use Rattle.journal_entries.specs.State.{Globals, coded_globals}
@@ -27,6 +27,10 @@ entries_of (n ∷ ns) (v ∷ vs) = with_value n v (entries_of ns vs)
 abbrev pub listed : List (List ℕ) → Globals → List (List ℕ × List ℕ)
 listed [] m = []
 listed (n ∷ ns) m = with_value n (get m n) (listed ns m)
+
+-- the global with a number, if it has a value
+abbrev pub numbered : List (List ℕ) → Globals → ℕ → Option (List ℕ × List ℕ)
+numbered names m i = let name = slice_index_or names i [] in option_map (λ v. (name, v)) (get m name)
 
 -- this name isn't there
 abbrev pub IsNew : List ℕ → List (List ℕ) → Type 0

@@ -1,9 +1,9 @@
 //! The globals: their names, numbered in the order in which they come, and their values.
 
-ghost use Rattle.std.specs.Prelude.{◌≡◌, ◌≢◌, ℕ, ◌<◌, [], length, IfOk, IfSome, IfNone, is_some, count_by, slice_index_or, slice_get, Some, option_copied};
+ghost use Rattle.std.specs.Prelude.{◌≡◌, ℕ, ◌<◌, [], length, IfOk, slice_index_or, option_copied, option_map};
 ghost use Rattle.std.specs.FinMap as finite;
 ghost use Rattle.object_table.specs.Maps.{put_option};
-ghost use Rattle.journal_entries.specs.Named.{Named, Extends, Lists, listed};
+ghost use Rattle.journal_entries.specs.Named.{Named, Extends, Lists, listed, numbered};
 
 use ht_values::Text;
 use indexmap::IndexSet;
@@ -14,14 +14,14 @@ use std::mem;
 /// Texts by name. A name keeps its number from the time it is first met, also while it has no value.
 #[derive(Drop)]
 pub struct Globals {
-    numbers: IndexSet<Vec<u8>>,
-    names: Vec<Text>,
+    names: IndexSet<Vec<u8>>,
     values: Vec<Option<Text>>,
+    live: usize,
     alloc: Global,
 }
 
 impl Model for Globals {
-    ghost use Rattle.std.specs.Prelude.{◌≡◌, length, map};
+    ghost use Rattle.std.specs.Prelude.{◌≡◌, length, map, count_by, is_some};
     ghost use Rattle.std.specs.FinMap as finite;
     ghost use Rattle.journal_entries.specs.Named.{Named, coded_named, entries_of, AreDistinct};
 
@@ -29,9 +29,9 @@ impl Model for Globals {
 
     ghost coded = { coded_named };
 
-    ghost view = { λ g. record { texts = finite.from_entries (entries_of g.names.items g.values.items); names = g.names.items } };
+    ghost view = { λ g. let names = map (λ k. k.items) g.names.keys in record { texts = finite.from_entries (entries_of names g.values.items); names = names } };
 
-    ghost invariant = { λ g. (length g.names.items ≡ length g.values.items) × AreDistinct g.names.items × (map (λ k. k.items) g.numbers.keys ≡ g.names.items) };
+    ghost invariant = { λ g. let names = map (λ k. k.items) g.names.keys in (length names ≡ length g.values.items) × AreDistinct names × (g.live ≡ count_by is_some g.values.items) };
 }
 
 impl Globals {
@@ -39,30 +39,29 @@ impl Globals {
         ensures { result ≡ record { texts = finite.empty; names = [] } }
     {
         Globals {
-            numbers: IndexSet::new(alloc),
-            names: Vec::new(alloc),
+            names: IndexSet::new(alloc),
             values: Vec::new(alloc),
+            live: 0,
             alloc,
         }
     }
 
-    /// The number of a name, which gets one if it has none. No value changes.
+    /// The number of a name, which gets one if it has none. No value changes. It takes no memory where the name has
+    /// one.
     pub fn number(&mut self, name: Text) -> Result<usize, AllocError>
         ensures number { IfOk result (λ i. (i < length self.new.names) × (slice_index_or self.new.names i [] ≡ name)) }
         ensures same { self.new.texts ≡ self.old.texts }
         ensures wider { Extends self.old.names self.new.names }
         ensures only { IfOk result (λ i. (j : ℕ) → j < length self.new.names → slice_index_or self.new.names j [] ≡ slice_index_or self.new.names i [] → j ≡ i) }
     {
-        match self.numbers.get_index_of(name.as_slice()) {
+        match self.names.get_index_of(name.as_slice()) {
             Some(i) => return Ok(i),
             None => {}
         }
-        let i = self.names.len();
-        self.names.reserve(1)?;
+        let i = self.values.len();
         self.values.reserve(1)?;
         let bytes = Vec::from_slice(self.alloc, name.as_slice())?;
-        self.numbers.insert_full(bytes)?;
-        self.names.push_reserved(name);
+        self.names.insert_full(bytes)?;
         self.values.push_reserved(None);
         Ok(i)
     }
@@ -73,17 +72,27 @@ impl Globals {
         ensures value { value.new ≡ finite.get self.old.texts (slice_index_or self.old.names i []) }
         ensures texts { self.new ≡ record self.old { texts = put_option self.old.texts (slice_index_or self.old.names i []) value.old } }
     {
+        let added = value.is_some();
         mem::swap(&mut self.values[i], value);
+        self.live = self.live - usize::from(value.is_some()) + usize::from(added);
     }
 
     /// The value of a name, if it has one.
     pub fn get(&self, name: &Text) -> Option<&Text>
         ensures { option_copied result ≡ finite.get self.now.texts name.now }
     {
-        match self.numbers.get_index_of(name.as_slice()) {
+        match self.names.get_index_of(name.as_slice()) {
             Some(i) => self.values[i].as_ref(),
             None => None,
         }
+    }
+
+    /// How many names have numbers, with a value or without. `at` gives each name that has a value once, at its number.
+    pub fn name_count(&self) -> usize
+        ensures count { result ≡ length self.now.names }
+        ensures each { Lists (listed self.now.names self.now.texts) self.now.texts }
+    {
+        self.values.len()
     }
 
     /// How many names have a value.
@@ -91,33 +100,17 @@ impl Globals {
         ensures count { result ≡ length (listed self.now.names self.now.texts) }
         ensures each { Lists (listed self.now.names self.now.texts) self.now.texts }
     {
-        count_values(&self.values)
+        self.live
     }
 
-    /// The i-th name that has a value, from 0, with its value.
-    pub fn at(&self, i: usize) -> (&Text, &Text)
-        requires { i < length (listed self.now.names self.now.texts) }
-        ensures { slice_get (listed self.now.names self.now.texts) i ≡ Some (result.0.now, result.1.now) }
+    /// The numbered name with its value, if it has one.
+    pub fn at(&self, i: usize) -> Option<(&[u8], &Text)>
+        requires { i < length self.now.names }
+        ensures { option_map (λ p. (p.0.now, p.1.now)) result ≡ numbered self.now.names self.now.texts i }
     {
-        let mut left = i;
-        for k in 0..self.names.len() {
-            match &self.values[k] {
-                Some(value) => {
-                    if left == 0 {
-                        return (&self.names[k], value);
-                    }
-                    left -= 1;
-                }
-                None => {}
-            }
+        match &self.values[i] {
+            Some(value) => Some((self.names[i].as_slice(), value)),
+            None => None,
         }
-        unreachable!()
     }
-}
-
-/// How many values there are.
-fn count_values(values: &[Option<Text>]) -> usize
-    ensures { result ≡ count_by is_some values.now }
-{
-    values.iter().filter(|value| value.is_some()).count()
 }

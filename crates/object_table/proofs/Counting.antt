@@ -49,7 +49,7 @@ module _ {X : Type 0} where
   get-remove_same : (m : FinMap nat_cmp X) (x : ℕ) → get (remove m x) x ≡ None
   get-remove_same m x = get-remove nat_cmp_total m x x ∙ ap (λ b. cond b None (get m x)) (tied_same x x refl)
 
-  not_empty : (m : FinMap nat_cmp X) (x : ℕ) → IsSome (get m x) → 1 ≤ len m
+  pub not_empty : (m : FinMap nat_cmp X) (x : ℕ) → IsSome (get m x) → 1 ≤ len m
   not_empty m x h = by (len m) refl
     where
       by : (n : ℕ) → len m ≡ n → 1 ≤ n

@@ -1,10 +1,10 @@
 pub mod Counting
 pub mod Empty
 pub mod Listed
+pub mod Live
 pub mod Maps
 pub mod Numbered
 pub mod Opened
 pub mod Pairs
-pub mod Placed
 pub mod Rewritten
 pub mod Slots

@@ -7,6 +7,7 @@ use Rattle.std.specs.Cmp.{IsTotalOrder, nat_cmp_total, on_total, then_total, tie
 use Rattle.std.specs.FinMap.{IsAntisymmetric, nat_cmp-IsAntisymmetric}
 use Rattle.std.proofs.lemmas.Bool.Decides.{nat_tests}
 use Rattle.object_table.specs.Pairs.{Pair, pair_cmp}
+use Rattle.object_table.proofs.Opened.{AreKeys}
 
 -- the test of two pairs
 abbrev pub same_pair : Pair → Pair → Bool
@@ -32,5 +33,8 @@ pair_tied p q = sym (tied_then (nat_cmp p.0 q.0) (nat_cmp p.1 q.1)) ∙ (λ i. u
 nat_eq_sym : (a b : ℕ) → nat_eq a b ≡ nat_eq b a
 nat_eq_sym a b = grind (arith, nat_tests)
 
-pub same_pair_sym : (p q : Pair) → same_pair p q ≡ same_pair q p
+same_pair_sym : (p q : Pair) → same_pair p q ≡ same_pair q p
 same_pair_sym p q = λ i. nat_eq_sym p.0 q.0 i && nat_eq_sym p.1 q.1 i
+
+pub pairs : AreKeys pair_cmp same_pair
+pairs = record { total = pair_cmp_total; apart = pair_cmp-IsAntisymmetric; tied = pair_tied; turned = same_pair_sym }

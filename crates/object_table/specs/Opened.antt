@@ -1,15 +1,23 @@
--- Values at pairs that are open.
+-- Values at keys that are open.
 use Rattle.std.specs.Prelude.{List, [], ◌∷◌, map, Option}
-use Rattle.std.specs.FinMap.{empty}
+use Rattle.std.specs.declared.cmp.Ordering.{Ordering}
+use Rattle.std.specs.FinMap.{FinMap, empty}
 use Rattle.std.specs.FinSet.{FinSet, from_list}
 use Rattle.object_table.specs.Maps.{put_option}
 use Rattle.object_table.specs.Pairs.{Pair, pair_cmp, PairMap}
 
--- what stands at each pair, by entries that have a value or none
-abbrev pub values_in : {X : Type 0} → List (Pair × Option X) → PairMap X
-values_in [] = empty
-values_in (e ∷ es) = put_option (values_in es) e.0 e.1
+-- what stands at each key, by entries that have a value or none
+abbrev pub map_of : {K X : Type 0} {R : K → K → Ordering} → List (K × Option X) → FinMap R X
+map_of [] = empty
+map_of (e ∷ es) = put_option (map_of es) e.0 e.1
 
--- the pairs that have an entry
+-- the keys that have an entry
+abbrev pub keys_of : {K X : Type 0} {R : K → K → Ordering} → List (K × X) → FinSet R
+keys_of es = from_list (map (λ e. e.0) es)
+
+-- the same of pairs
+abbrev pub values_in : {X : Type 0} → List (Pair × Option X) → PairMap X
+values_in es = map_of es
+
 abbrev pub open_in : {X : Type 0} → List (Pair × Option X) → FinSet pair_cmp
-open_in es = from_list (map (λ e. e.0) es)
+open_in es = keys_of es

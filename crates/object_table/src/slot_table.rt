@@ -1,11 +1,17 @@
-//! Slots by id, of which only those that were ever used are in memory.
+//! Slots of the ids that are open.
 
-ghost use Rattle.std.specs.Prelude.{◌≡◌, ◌<◌, ◌+◌, ◌-◌, ◌++◌, None, Some, [], length, get_or, set, drop, replicate, count_by, is_some, unwrap_or, option_copied, vec_capacity, OnOk, OnErr};
-ghost use Rattle.object_table.specs.Slots.{empty_slot, slot_of, slots_in, objects_in, parts_in, IsTable};
+ghost use Rattle.std.specs.Prelude.{◌≡◌, [], true, OnOk, OnErr, OnSome, Some, is_some, option_copied, option_map, option_and_then};
+ghost use Rattle.std.specs.FinMap as map;
+ghost use Rattle.std.specs.FinSet as set;
+ghost use Rattle.object_table.specs.Maps.{put_option};
+ghost use Rattle.object_table.specs.Setting.{value_in, with_value};
+ghost use Rattle.object_table.specs.Slots.{slots_of};
 
 use crate::ids::{Id, IdList};
 use crate::object::Object;
+use crate::property::PropValue;
 use std::alloc::{AllocError, Global};
+use std::collections::HashMap;
 use std::marker::Model;
 use std::mem;
 
@@ -16,147 +22,117 @@ pub(crate) struct Slot {
     pub(crate) parts: Option<IdList>,
 }
 
-/// A slot for each id below a limit. An id has a place among the slots in memory from the first exchange on; till
-/// then its slot is empty, and room is reserved for it. So ids that lie far apart cost little time.
+/// A slot for each id that is open, and how many objects live besides the stack. So an id costs the same wherever it
+/// lies, and one that isn't open costs nothing.
 #[derive(Drop)]
 pub(crate) struct SlotTable {
-    places: Vec<Option<u32>>,
-    slots: Vec<Slot>,
+    slots: HashMap<Id, Slot>,
+    live: usize,
 }
 
 impl Model for SlotTable {
-    ghost use Rattle.std.specs.Prelude.{List, vec_capacity};
-    ghost use Rattle.object_table.specs.Slots.{slots_in, coded_slots, IsTable};
-    ghost use Rattle.object_table.specs.declared.slot_table.Slot.{Slot};
+    ghost use Rattle.std.specs.Prelude.{◌≡◌};
+    ghost use Rattle.std.specs.FinMap.{len, remove};
+    ghost use Rattle.object_table.specs.Slots.{Slots, coded_slots, slots_of, objects_in};
 
-    ghost Value = { List Slot };
+    ghost Value = { Slots };
 
     ghost coded = { coded_slots };
 
-    ghost view = { λ t. slots_in t.places.items t.slots.items };
+    ghost view = { λ t. slots_of t.slots.entries };
 
-    ghost invariant = { λ t. IsTable t.places.items t.slots.items (vec_capacity t.slots) };
-}
-
-/// The slot at a place. `None` stands for an empty one.
-fn slot_in(slots: &[Slot], place: Option<u32>) -> Option<&Slot>
-    ensures { unwrap_or (option_copied result) empty_slot ≡ slot_of slots.now place }
-{
-    slots.get(place? as usize)
-}
-
-fn has_object(slots: &[Slot], place: Option<u32>) -> bool
-    ensures { result ≡ is_some (slot_of slots.now place).object }
-{
-    match slot_in(slots, place) {
-        Some(slot) => slot.object.is_some(),
-        None => false,
-    }
-}
-
-/// How many objects stand at these places.
-fn count_objects(slots: &[Slot], places: &[Option<u32>]) -> usize
-    ensures { result ≡ count_by (λ place. is_some (slot_of slots.now place).object) places.now }
-{
-    places
-        .iter()
-        .filter(|place| has_object(slots, **place))
-        .count()
-}
-
-/// The place of an id, a new one where it has none.
-fn place_for(places: &mut Vec<Option<u32>>, slots: &mut Vec<Slot>, id: Id) -> u32
-    requires table { IsTable places.old.items slots.old.items (vec_capacity slots.old) }
-    requires within { id < length places.old.items }
-    ensures table { IsTable places.new.items slots.new.items (vec_capacity slots.new) }
-    ensures place { get_or places.new.items id None ≡ Some result }
-    ensures same { slots_in places.new.items slots.new.items ≡ slots_in places.old.items slots.old.items }
-{
-    match places[id as usize] {
-        Some(place) => place,
-        None => {
-            let place = slots.len() as u32;
-            slots.push_reserved(Slot {
-                object: None,
-                parts: None,
-            });
-            places[id as usize] = Some(place);
-            place
-        }
-    }
+    ghost invariant = { λ t. t.live ≡ len (remove (objects_in t.slots.entries) 0) };
 }
 
 impl SlotTable {
     /// The table of no slots. It takes no memory.
     pub(crate) fn new(alloc: Global) -> SlotTable
-        ensures { result ≡ [] }
+        ensures { result ≡ slots_of [] }
     {
         SlotTable {
-            places: Vec::new(alloc),
-            slots: Vec::new(alloc),
+            slots: HashMap::new(alloc),
+            live: 0,
         }
-    }
-
-    fn slot(&self, id: Id) -> Option<&Slot>
-        ensures { unwrap_or (option_copied result) empty_slot ≡ get_or self.now id empty_slot }
-    {
-        let place = *self.places.get(id as usize)?;
-        slot_in(&self.slots, place)
     }
 
     pub(crate) fn object(&self, id: Id) -> Option<&Object>
-        ensures { option_copied result ≡ (get_or self.now id empty_slot).object }
+        ensures value { option_copied result ≡ map.get self.now.objects id }
+        ensures room { OnSome result (set.contains self.now.ids id ≡ true) }
     {
-        self.slot(id)?.object.as_ref()
+        self.slots.get(&id)?.object.as_ref()
     }
 
     pub(crate) fn parts(&self, id: Id) -> Option<&IdList>
-        ensures { option_copied result ≡ (get_or self.now id empty_slot).parts }
+        ensures { option_copied result ≡ map.get self.now.parts id }
     {
-        self.slot(id)?.parts.as_ref()
+        self.slots.get(&id)?.parts.as_ref()
     }
 
-    /// How many ids from 1 on have an object.
+    /// How many objects live besides the stack.
     pub(crate) fn object_count(&self) -> usize
-        ensures { result ≡ count_by (λ slot. is_some slot.object) (drop 1 self.now) }
+        ensures { result ≡ map.len (map.remove self.now.objects 0) }
     {
-        match self.places.as_slice() {
-            [] => 0,
-            [_, others @ ..] => count_objects(&self.slots, others),
-        }
+        self.live
     }
 
-    /// Makes room for every id up to this one.
+    /// Makes room for an id.
     pub(crate) fn open(&mut self, id: Id) -> Result<(), AllocError>
-        ensures ok { OnOk result (self.new ≡ self.old ++ replicate ((id + 1) - length self.old) empty_slot) }
-        ensures objects { objects_in self.new ≡ objects_in self.old }
-        ensures parts { parts_in self.new ≡ parts_in self.old }
+        ensures ok { OnOk result (self.new ≡ record self.old { ids = set.insert self.old.ids id }) }
+        ensures inside { OnOk result (set.contains self.new.ids id ≡ true) }
         ensures err { OnErr result (self.new ≡ self.old) }
     {
-        let missing = (id as usize + 1).saturating_sub(self.places.len());
-        let length = self.places.len() + missing;
-        self.slots.reserve(length.saturating_sub(self.slots.len()))?;
-        self.places.resize(length, None)?;
+        if self.slots.contains_key(&id) {
+            return Ok(());
+        }
+        let slot = Slot {
+            object: None,
+            parts: None,
+        };
+        self.slots.insert(id, slot)?;
         Ok(())
     }
 
     pub(crate) fn swap_object(&mut self, id: Id, object: &mut Option<Object>)
-        requires { id < length self.old }
-        ensures value { object.new ≡ (get_or self.old id empty_slot).object }
-        ensures slots { self.new ≡ set self.old id (record { object = object.old; parts = (get_or self.old id empty_slot).parts }) }
+        requires { set.contains self.old.ids id ≡ true }
+        ensures value { object.new ≡ map.get self.old.objects id }
+        ensures slots { self.new ≡ record self.old { objects = put_option self.old.objects id object.old } }
     {
-        let place = place_for(&mut self.places, &mut self.slots, id);
-        let slot = &mut self.slots[place as usize];
-        mem::swap(&mut slot.object, object);
+        let added = object.is_some();
+        match self.slots.get_mut(&id) {
+            Some(slot) => mem::swap(&mut slot.object, object),
+            None => unreachable!(),
+        }
+        if id != 0 {
+            let others = self.live - usize::from(object.is_some());
+            // What is added fits: no more objects live than slots are open.
+            prove!(others <= self.slots.len());
+            self.live = others + usize::from(added);
+        }
+    }
+
+    /// Exchanges a value of a property with the object's own. The object is there, and has that property.
+    pub(crate) fn swap_value(&mut self, id: Id, value: &mut PropValue)
+        requires { is_some (option_and_then (value_in value.old) (map.get self.old.objects id)) ≡ true }
+        ensures value { option_and_then (value_in value.old) (map.get self.old.objects id) ≡ Some value.new }
+        ensures slots { self.new ≡ record self.old { objects = put_option self.old.objects id (option_map (with_value value.old) (map.get self.old.objects id)) } }
+    {
+        match self.slots.get_mut(&id) {
+            Some(slot) => match &mut slot.object {
+                Some(object) => object.swap_value(value),
+                None => unreachable!(),
+            },
+            None => unreachable!(),
+        }
     }
 
     pub(crate) fn swap_parts(&mut self, id: Id, parts: &mut Option<IdList>)
-        requires { id < length self.old }
-        ensures value { parts.new ≡ (get_or self.old id empty_slot).parts }
-        ensures slots { self.new ≡ set self.old id (record { object = (get_or self.old id empty_slot).object; parts = parts.old }) }
+        requires { set.contains self.old.ids id ≡ true }
+        ensures value { parts.new ≡ map.get self.old.parts id }
+        ensures slots { self.new ≡ record self.old { parts = put_option self.old.parts id parts.old } }
     {
-        let place = place_for(&mut self.places, &mut self.slots, id);
-        let slot = &mut self.slots[place as usize];
-        mem::swap(&mut slot.parts, parts);
+        match self.slots.get_mut(&id) {
+            Some(slot) => mem::swap(&mut slot.parts, parts),
+            None => unreachable!(),
+        }
     }
 }

@@ -1,6 +1,6 @@
 //! The stack: slots by id, the two orders and the next id.
 
-ghost use Rattle.std.specs.Prelude.{◌≡◌, ◌<◌, ◌≤◌, ◌+◌, true, vec_len, slice_get, count_by, is_some, option_copied, OnSome, IfOk, OnOk, OnErr};
+ghost use Rattle.std.specs.Prelude.{◌≡◌, true, option_copied, OnSome, IfOk, OnOk, OnErr, Some};
 ghost use Rattle.std.specs.FinMap as map;
 ghost use Rattle.std.specs.FinSet as set;
 ghost use Rattle.object_table.specs.PartContents.{text_at, hilite_at};
@@ -45,10 +45,8 @@ pub struct Stack {
 }
 
 impl Model for Stack {
-    ghost use Rattle.std.specs.Prelude.{length};
     ghost use Rattle.object_table.specs.Opened.{values_in, open_in};
     ghost use Rattle.object_table.specs.Table.{Table, coded_table};
-    ghost use Rattle.object_table.specs.Slots.{objects_in, parts_in};
 
     ghost Value = { Table };
 
@@ -56,16 +54,16 @@ impl Model for Stack {
 
     ghost view = { λ s. record {
       content = record {
-        objects = objects_in s.slots;
+        objects = s.slots.objects;
         backgrounds = s.backgrounds;
         cards = s.cards;
-        parts = parts_in s.slots;
+        parts = s.slots.parts;
         texts = values_in s.texts.places.entries;
         hilites = values_in s.hilites.places.entries;
         next = s.next;
       };
       room = record {
-        slots = length s.slots;
+        slots = s.slots.ids;
         texts = open_in s.texts.places.entries;
         hilites = open_in s.hilites.places.entries;
       };
@@ -86,11 +84,13 @@ impl Stack {
         let background = Kind::Background { cant_delete: false };
         let mut slots = SlotTable::new(alloc);
         slots.open(2)?;
-        slots.swap_object(0, &mut Some(Object::empty(alloc, Kind::Stack)));
-        slots.swap_object(1, &mut Some(Object::empty(alloc, background)));
-        slots.swap_parts(1, &mut Some(IdList::new(alloc)));
         slots.swap_object(2, &mut Some(Object::empty(alloc, card)));
         slots.swap_parts(2, &mut Some(IdList::new(alloc)));
+        slots.open(1)?;
+        slots.swap_object(1, &mut Some(Object::empty(alloc, background)));
+        slots.swap_parts(1, &mut Some(IdList::new(alloc)));
+        slots.open(0)?;
+        slots.swap_object(0, &mut Some(Object::empty(alloc, Kind::Stack)));
         Ok(Stack {
             slots,
             backgrounds: IdList::from_vec(vec![in alloc; 1]?),
@@ -121,7 +121,7 @@ impl Stack {
     /// where there is none.
     pub fn object(&self, id: Id) -> Option<&Object>
         ensures value { option_copied result ≡ object_at self.now.content id }
-        ensures room { OnSome result (id < self.now.room.slots) }
+        ensures room { OnSome result (set.contains self.now.room.slots id ≡ true) }
     {
         self.slots.object(id)
     }
@@ -206,14 +206,13 @@ impl Stack {
         &self.cards
     }
 
-    /// Makes room for every id up to this one, its object and its list of parts. Nothing else changes, and
-    /// nothing where a growth is refused.
+    /// Makes room for an id, its object and its list of parts. Nothing else changes, and nothing where a growth is
+    /// refused.
     pub fn open_slot(&mut self, id: Id) -> Result<(), AllocError>
-        ensures room { OnOk result (id < self.new.room.slots) }
-        ensures wider { self.old.room.slots ≤ self.new.room.slots }
-        ensures same { self.new ≡ record self.old {
-          room = record self.old.room { slots = self.new.room.slots };
-        } }
+        ensures ok { OnOk result (self.new ≡ record self.old {
+          room = record self.old.room { slots = set.insert self.old.room.slots id };
+        }) }
+        ensures inside { OnOk result (set.contains self.new.room.slots id ≡ true) }
         ensures err { OnErr result (self.new ≡ self.old) }
     {
         self.slots.open(id)
@@ -245,7 +244,7 @@ impl Stack {
 
     /// Exchanges the object of an id, `None` where there is none, with a value.
     pub fn swap_object(&mut self, id: Id, object: &mut Option<Object>)
-        requires { id < self.old.room.slots }
+        requires { set.contains self.old.room.slots id ≡ true }
         ensures value { object.new ≡ map.get self.old.content.objects id }
         ensures stack { self.new ≡ record self.old {
           content = record self.old.content {
@@ -258,7 +257,7 @@ impl Stack {
 
     /// Exchanges the list of an id's parts, `None` where it has none, with a value.
     pub fn swap_parts(&mut self, id: Id, parts: &mut Option<IdList>)
-        requires { id < self.old.room.slots }
+        requires { set.contains self.old.room.slots id ≡ true }
         ensures value { parts.new ≡ map.get self.old.content.parts id }
         ensures stack { self.new ≡ record self.old {
           content = record self.old.content {
@@ -303,13 +302,7 @@ impl Stack {
         ensures value { value_at self.old.content id value.old ≡ Some value.new }
         ensures stack { self.new ≡ record self.old { content = with_value_at self.old.content id value.old } }
     {
-        let mut object = None;
-        self.slots.swap_object(id, &mut object);
-        match &mut object {
-            Some(object) => object.swap_value(value),
-            None => unreachable!(),
-        }
-        self.slots.swap_object(id, &mut object);
+        self.slots.swap_value(id, value);
     }
 
     /// Whether this is a value of a property that may be set: the object is there, and has that property.

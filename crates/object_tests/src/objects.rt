@@ -266,6 +266,28 @@ fn an_exchange_gives_the_object_that_was_there(rt: HostRuntime) -> Result<(), Fa
 }
 
 #[test]
+fn the_greatest_id_stands_alone(rt: HostRuntime) -> Result<(), Fail> {
+    let alloc = rt.alloc();
+    let mut stack = Stack::blank(alloc);
+    put(alloc, &mut stack, 1_000_000, b"Far", Kind::Stack)?;
+    assert!(rt; has_name(&stack, 1_000_000, b"Far"));
+    assert!(rt; is_vacant(&stack, 999_999) && is_vacant(&stack, 0));
+    assert!(rt; counts(&stack) == (1, 1));
+    Ok(())
+}
+
+#[test]
+fn objects_that_go_are_not_counted(rt: HostRuntime) -> Result<(), Fail> {
+    let mut stack = demo(rt.alloc())?;
+    let rows: &[(Id, usize)] = &[(3, 3), (3, 3), (9, 3), (0, 3), (4, 2)];
+    for (id, due) in rows {
+        swap_object(&mut stack, *id, &mut None)?;
+        assert_eq!(rt; stack.object_count(), *due);
+    }
+    Ok(())
+}
+
+#[test]
 fn an_exchange_gives_the_backgrounds_that_were_there(rt: HostRuntime) -> Result<(), Fail> {
     let mut stack = demo(rt.alloc())?;
     let backgrounds = taken_backgrounds(rt.alloc(), &mut stack);

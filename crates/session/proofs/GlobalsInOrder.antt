@@ -1,18 +1,19 @@
 -- Globals in the order of their names.
-use Rattle.std.proofs.Common.{◌≡◌, ◌≢◌, ℕ, zero, suc, ◌+◌, ◌<◌, false, List, [], ◌∷◌, ◌++◌, length, map, take, get_or, refl, sym, ◌∙◌, ap, arith, add-one}
+use Rattle.std.proofs.Common.{◌≡◌, ◌≢◌, ℕ, zero, suc, ◌+◌, ◌<◌, ◌≤◌, false, Option, option_map, take_all, List, [], ◌∷◌, ◌++◌, length, map, take, get_or, refl, sym, ◌∙◌, ap, arith, add-one}
 use Rattle.std.specs.Prelude.{Some, None, slice_get}
 use Rattle.std.specs.Borrow.{Bor}
 use Rattle.std.specs.BTreeMap.{insert_entry}
 use Rattle.std.specs.Cmp.Lexicographic.{slice_cmp, nat_list_cmp_total}
 use Rattle.std.specs.declared.cmp.Ordering.{Ordering}
 use Rattle.std.specs.declared.cmp.Ordering.TheVariants.{Less, Equal, Greater}
-use Rattle.std.specs.FinMap.{find, put, entries, from_entries, empty, len-entries, len-empty, entries-insert, from_entries_push, slice_cmp-IsAntisymmetric, nat_cmp-IsAntisymmetric}
+use Rattle.std.specs.FinMap.{get, find, put, entries, from_entries, empty, len-entries, len-empty, entries-insert, from_entries_push, slice_cmp-IsAntisymmetric, nat_cmp-IsAntisymmetric}
 use Rattle.std.specs.FinMap.Entries.{by_order}
 use Rattle.std.specs.Map.Iter.{deref_pair}
 use Rattle.std.specs.Ordering.{nat_cmp, is_eq, match_ordering}
 use Rattle.std.proofs.Math.Seq.{take-suc}
 use Rattle.std.proofs.lemmas.Option.{slice_get_within, get_or_from_slice_get}
-use Rattle.journal_entries.specs.Named.{AreDistinct, IsNew}
+use Rattle.journal_entries.specs.State.{Globals}
+use Rattle.journal_entries.specs.Named.{AreDistinct, IsNew, listed, numbered, with_value}
 
 Global : Type 0
 Global = List ℕ × List ℕ
@@ -69,3 +70,51 @@ none_listed (x ∷ xs) e = absurd (omega arith)
 -- the map of no entries has none
 pub entries-empty : entries (empty {X = List ℕ} {R = slice_cmp nat_cmp}) ≡ []
 entries-empty = none_listed (entries empty) (sym (len-entries empty) ∙ len-empty (slice_cmp nat_cmp) (List ℕ))
+
+-- ---- the globals by the numbers of their names
+
+-- how many globals have a value among the names with the first numbers
+abbrev pub place : List (List ℕ) → Globals → ℕ → ℕ
+place ns m i = length (listed (take i ns) m)
+
+abbrev one : {X : Type 0} → Option X → ℕ
+one None = 0
+one (Some x) = 1
+
+length-with_value : (n : List ℕ) (o : Option (List ℕ)) (es : List (List ℕ × List ℕ)) → length (with_value n o es) ≡ length es + one o
+length-with_value n None es = omega arith
+length-with_value n (Some v) es = omega arith
+
+place_more : (ns : List (List ℕ)) (m : Globals) (i : ℕ) → i < length ns → place ns m (suc i) ≡ place ns m i + one (get m (get_or ns i []))
+place_more [] m i lt = absurd (omega arith)
+place_more (n ∷ ns) m zero lt = length-with_value n (get m n) []
+place_more (n ∷ ns) m (suc i) lt = omega (arith, length-with_value n (get m n) (listed (take (suc i) ns) m), length-with_value n (get m n) (listed (take i ns) m), place_more ns m i (omega arith))
+
+past_first : (n : List ℕ) (o : Option (List ℕ)) (a b : List (List ℕ × List ℕ)) → slice_get (with_value n o b) (length (with_value n o a)) ≡ slice_get b (length a)
+past_first n None a b = refl
+past_first n (Some v) a b = refl
+
+at_place : (ns : List (List ℕ)) (m : Globals) (i : ℕ) (v : List ℕ) → i < length ns → get m (get_or ns i []) ≡ Some v → slice_get (listed ns m) (place ns m i) ≡ Some (get_or ns i [], v)
+at_place [] m i v lt e = absurd (omega arith)
+at_place (n ∷ ns) m zero v lt e = rw e refl
+at_place (n ∷ ns) m (suc i) v lt e = past_first n (get m n) (listed (take i ns) m) (listed ns m) ∙ at_place ns m i v (omega arith) e
+
+-- a number's name has a value, and is where it is listed
+pub place_some : (ns : List (List ℕ)) (m : Globals) (i : ℕ) (k v : List ℕ) → i < length ns → Some (k, v) ≡ numbered ns m i → (slice_get (listed ns m) (place ns m i) ≡ Some (k, v)) × (place ns m (i + 1) ≡ place ns m i + 1)
+place_some ns m i k v lt e = by (get m (get_or ns i [])) refl
+  where
+    by : (o : Option (List ℕ)) → get m (get_or ns i []) ≡ o → (slice_get (listed ns m) (place ns m i) ≡ Some (k, v)) × (place ns m (i + 1) ≡ place ns m i + 1)
+    by None q = let none : Some (k, v) ≡ None → ⊥ = λ x. cc in absurd (none (e ∙ ap (option_map (λ w. (get_or ns i [], w))) q))
+    by (Some w) q = (at_place ns m i w lt q ∙ sym (e ∙ ap (option_map (λ x. (get_or ns i [], x))) q), rw add-one (place_more ns m i lt ∙ ap (λ o. place ns m i + one o) q))
+
+-- or it has none
+pub place_none : (ns : List (List ℕ)) (m : Globals) (i : ℕ) → i < length ns → None ≡ numbered ns m i → place ns m (i + 1) ≡ place ns m i
+place_none ns m i lt e = by (get m (get_or ns i [])) refl
+  where
+    by : (o : Option (List ℕ)) → get m (get_or ns i []) ≡ o → place ns m (i + 1) ≡ place ns m i
+    by None q = rw add-one (place_more ns m i lt ∙ ap (λ o. place ns m i + one o) q ∙ omega arith)
+    by (Some w) q = let none : None ≡ Some (get_or ns i [], w) → ⊥ = λ x. cc in absurd (none (e ∙ ap (option_map (λ x. (get_or ns i [], x))) q))
+
+-- all of them
+pub place_all : (ns : List (List ℕ)) (m : Globals) (i : ℕ) → length ns ≤ i → take (place ns m i) (listed ns m) ≡ listed ns m
+place_all ns m i le = ap (λ xs. take (length (listed xs m)) (listed ns m)) (take_all i ns le) ∙ take_all (length (listed ns m)) (listed ns m) (omega arith)

@@ -90,9 +90,10 @@ fn globals_in_order<'a, E: External>(
         map deref_pair ordered.entries ≡ entries world.entry.now.history.now.globals) }
 {
     let mut ordered = BTreeMap::new(alloc);
-    for i in 0..world.global_count() {
-        let (name, value) = world.global_at(i);
-        ordered.insert(name.as_slice(), value.as_slice())?;
+    for i in 0..world.name_count() {
+        if let Some((name, value)) = world.global_at(i) {
+            ordered.insert(name, value.as_slice())?;
+        }
     }
     Ok(ordered)
 }

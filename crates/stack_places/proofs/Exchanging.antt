@@ -136,10 +136,10 @@ unfolding IsReady
 IsReady-wider old new (Prop id v) w r = tt
 IsReady-wider old new (FieldText f c v) w r = w.texts (f, c) r
 IsReady-wider old new (Hilite b c v) w r = w.hilites (b, c) r
-IsReady-wider old new (Object id v) w r = omega (arith, r, w.slots)
+IsReady-wider old new (Object id v) w r = w.slots id r
 IsReady-wider old new (CardOrder l) w r = tt
 IsReady-wider old new (BackgroundOrder l) w r = tt
-IsReady-wider old new (Parts layer v) w r = omega (arith, r, w.slots)
+IsReady-wider old new (Parts layer v) w r = w.slots layer r
 IsReady-wider old new (NextId n) w r = tt
 
 pub place_of-taken : (s : Content) (e : StackEntry) → place_of (taken s e) ≡ place_of e

@@ -1,5 +1,5 @@
 -- Entries: exchanges of values in a stack.
-use Rattle.std.specs.Prelude.{◌≡◌, ℕ, ◌<◌, ◌≤◌, ◌+◌, Bool, true, false, ◌&&◌, nat_eq, Option, Some, option_map, unwrap_or}
+use Rattle.std.specs.Prelude.{◌≡◌, ℕ, ◌+◌, Bool, true, false, ◌&&◌, nat_eq, Option, Some, option_map, unwrap_or}
 use Rattle.std.specs.FinMap.{get}
 use Rattle.std.specs.FinSet.{contains}
 use Rattle.object_table.specs.Content.{Content}
@@ -62,13 +62,13 @@ taken s (NextId n) = NextId s.next
 unfoldable pub IsReady : Room → StackEntry → Type 0
 IsReady room (FieldText field card v) = contains room.texts (field, card) ≡ true
 IsReady room (Hilite button card v) = contains room.hilites (button, card) ≡ true
-IsReady room (Object id v) = id < room.slots
-IsReady room (Parts layer v) = layer < room.slots
+IsReady room (Object id v) = contains room.slots id ≡ true
+IsReady room (Parts layer v) = contains room.slots layer ≡ true
 IsReady room _ = Unit {0}
 
 -- room that has all of another
 pub record IsWider (old new : Room) : Type 0 where
-  pub slots : old.slots ≤ new.slots
+  pub slots : (id : ℕ) → contains old.slots id ≡ true → contains new.slots id ≡ true
   pub texts : (p : Pair) → contains old.texts p ≡ true → contains new.texts p ≡ true
   pub hilites : (p : Pair) → contains old.hilites p ≡ true → contains new.hilites p ≡ true
 

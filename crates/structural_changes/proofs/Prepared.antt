@@ -8,7 +8,7 @@ use Rattle.stack_places.specs.declared.entry.StackEntry.{StackEntry}
 use Rattle.stack_places.proofs.Exchanging.{IsReady-wider}
 use Rattle.std.specs.FinSet.{insert}
 use Rattle.object_table.specs.Pairs.{Pair}
-use Rattle.stack_places.proofs.Wider.{IsWider-same, IsWider-text, IsWider-hilite}
+use Rattle.stack_places.proofs.Wider.{IsWider-same, IsWider-slot, IsWider-text, IsWider-hilite}
 use Rattle.object_table.specs.Table.{Room}
 use Rattle.structural_changes.specs.Prepared.{Adds, Opens, write_of}
 use Rattle.structural_changes.specs.Writes.{StackWrite}
@@ -31,7 +31,7 @@ adds_one old new before after e is same wider ready = record {
 
 IsWider-then : (a b c : Room) → IsWider a b → IsWider b c → IsWider a c
 IsWider-then a b c v w = record {
-  slots = let first = v.slots in let second = w.slots in omega arith;
+  slots = λ id h. w.slots id (v.slots id h);
   texts = λ p h. w.texts p (v.texts p h);
   hilites = λ p h. w.hilites p (v.hilites p h);
 }
@@ -47,9 +47,6 @@ adds_then a b c es fs gs ws vs one two = record {
   ready = λ h. two.ready (one.ready h);
 }
 
-pub IsWider-slots : (r : Room) (slots : ℕ) → r.slots ≤ slots → IsWider r (record r { slots = slots })
-IsWider-slots r slots h = record { slots = h; texts = λ p q. q; hilites = λ p q. q }
-
 -- ---- room that grows
 
 pub opens_nothing : (t : Table) → Opens t t
@@ -61,8 +58,8 @@ opens_then a b c one two = record { content = two.content ∙ one.content; wider
 pub opens_added : (a b : Table) (es fs : List StackEntry) (ws : List StackWrite) → Adds a b es fs ws → Opens a b
 opens_added a b es fs ws adds = record { content = adds.content; wider = adds.wider }
 
-pub opens_slots : (old new : Table) → new ≡ record old { room = record old.room { slots = new.room.slots } } → old.room.slots ≤ new.room.slots → Opens old new
-opens_slots old new e h = record { content = ap (λ t. t.content) e; wider = subst (λ t. IsWider old.room t.room) (sym e) (IsWider-slots old.room new.room.slots h) }
+pub opens_slot : (old new : Table) (id : ℕ) → new ≡ record old { room = record old.room { slots = insert old.room.slots id } } → Opens old new
+opens_slot old new id e = record { content = ap (λ t. t.content) e; wider = subst (λ t. IsWider old.room t.room) (sym e) (IsWider-slot old.room id) }
 
 pub opens_text : (old new : Table) (p : Pair) → new ≡ record old { room = record old.room { texts = insert old.room.texts p } } → Opens old new
 opens_text old new p e = record { content = ap (λ t. t.content) e; wider = subst (λ t. IsWider old.room t.room) (sym e) (IsWider-text old.room p) }

@@ -242,12 +242,12 @@ fn three_lines<E: External>(alloc: Global, externals: Vec<E>) -> Result<[Seen; 3
     let first = see(&world);
     put_one(alloc, &mut world, 8)?;
     put_one(alloc, &mut world, 9)?;
-    if world.global_count() == 0 || !is_one(world.global(&text(alloc, b"g")?)) {
+    if world.name_count() == 0 || !is_one(world.global(&text(alloc, b"g")?)) {
         return Err("no global".into());
     }
-    let (name, value) = world.global_at(0);
-    if name.as_slice() != b"g".as_slice() || !is_one(Some(value)) {
-        return Err("another global".into());
+    match world.global_at(0) {
+        Some((name, value)) if name == b"g".as_slice() && is_one(Some(value)) => {}
+        _ => return Err("another global".into()),
     }
     let second = see(&world);
     put_one(alloc, &mut world, 10)?;

@@ -1,19 +1,29 @@
-use Rattle.std.proofs.Common.{get_or, set, ap, ◌∙◌}
-use Rattle.object_table.specs.Slots.{empty_slot}
+use Rattle.std.proofs.Common.{is_some, sym, ap, ◌∙◌, option_and_then}
+use Rattle.std.specs.FinMap.{len, remove}
+use Rattle.std.specs.FinSet.{contains}
+use Rattle.object_table.specs.Slots.{Slots}
 use Rattle.object_table.specs.declared.slot_table.Slot.{Slot}
-use Rattle.object_table.proofs.Placed.{slot_found, written}
+use Rattle.object_table.proofs.Slots.{get-read, parts_put, not_open}
 use Rattle.object_table.proofs.slot_table.SlotTable.swap_parts.Goals as goal
+
+pub unreachable-requires : goal.unreachable-requires
+unreachable-requires c =
+    not_open c.self.inside.slots.entries c.args.id (ap (λ (s : Slots). contains s.ids c.args.id) c.self.view_is ∙ c.requires) c.in-None.ensures.value
+
+pub returns-clause-value : goal.returns-clause-value
+returns-clause-value c =
+    rw (← c.self.view_is)
+    (c.swap.ensures.y_after
+    ∙ sym (get-read (λ s. s.parts) c.self.inside.slots.entries c.args.id ∙ ap (option_and_then (λ s. s.parts)) (sym c.in-Some.ensures.value)))
 
 pub returns-clause-slots : goal.returns-clause-slots
 returns-clause-slots c =
-    let places = c.place_for-place.new.places.items in
-    let slots = c.place_for-place.new.slots.items in
-    let t = c.place_for-place.ensures.table in
-    let at = c.place_for-place.ensures.place in
-    let same = c.place_for-place.ensures.same ∙ c.self.view_is in
-    let slot : Slot = record { object = c.index_mut-slot.result.now.object; parts = c.args.parts.now } in
-    let with : _ → Slot = λ x. record { object = x; parts = c.args.parts.now } in
-    let found = slot_found places slots _ c.args.id c.place_for-place.result c.index_mut-slot.result.now t at c.index_mut-slot.ensures.value in
-    rw (c.swap.ensures.x_after) (written places slots _ c.args.id c.place_for-place.result slot t at
-    ∙ ap (λ l. set l c.args.id slot) same
-    ∙ ap (λ (s : Slot). set c.args.self.now c.args.id (with s.object)) (found ∙ ap (λ l. get_or l c.args.id empty_slot) same))
+    let now = c.in-Some.slot.now in
+    let s : Slot = record { object = now.object; parts = c.swap.new.x } in
+    let holds = c.get_mut.follows.holds s in
+    let written = holds.3 (sym (ap is_some c.in-Some.ensures.value)) in
+    let put = parts_put c.self.inside.slots.entries _ c.args.id now c.swap.new.x c.in-Some.ensures.value (written.0, holds.1) in
+    rw (← c.self.view_is, ← c.swap.ensures.x_after) put
+
+pub invariant_of-self : goal.invariant_of-self
+invariant_of-self c = c.self.invariant ∙ sym (ap (λ (s : Slots). len (remove s.objects 0)) (rw (← c.self.view_is) at (returns-clause-slots c)))
