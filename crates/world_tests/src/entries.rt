@@ -23,47 +23,102 @@ fn quiets(alloc: Global, names: &[&[u8]]) -> Result<Vec<Quiet>, Fail> {
     Ok(quiets)
 }
 
-#[test]
-fn numbers_names(rt: HostRuntime) -> Result<(), Fail> {
-    let alloc = rt.alloc();
-    let mut globals = Globals::new(alloc);
-    assert_eq!(rt; globals.count(), 0);
-    let i = globals.number(text(alloc, b"g")?)?;
-    assert_eq!(rt; globals.count(), 0);
-    let mut value = Some(text(alloc, b"1")?);
-    globals.swap(i, &mut value);
-    assert!(rt; value.is_none());
-    assert_eq!(rt; globals.count(), 1);
-    let (name, value) = globals.at(0);
-    assert_eq!(rt; name.as_slice(), b"g".as_slice());
-    assert_eq!(rt; value.as_slice(), b"1".as_slice());
-    assert!(rt; globals.get(&text(alloc, b"g")?).is_some());
-    assert!(rt; globals.get(&text(alloc, b"h")?).is_none());
-    law_of_trails();
+fn number(globals: &mut Globals, name: Text) -> Result<(), Fail> {
+    let _ = globals.number(name)?;
     Ok(())
+}
+
+/// Gives a global its first value; whether it had none.
+fn put_global(globals: &mut Globals, name: Text, value: Text) -> Result<bool, Fail> {
+    let i = globals.number(name)?;
+    let mut value = Some(value);
+    globals.swap(i, &mut value);
+    Ok(value.is_none())
+}
+
+/// Whether one global alone has a value, and is named so.
+fn lists(globals: &Globals, name: &[u8], value: &[u8]) -> bool {
+    if globals.count() != 1 {
+        return false;
+    }
+    let (first, its_value) = globals.at(0);
+    first.as_slice() == name && its_value.as_slice() == value
+}
+
+fn has_global(alloc: Global, globals: &Globals, name: &[u8]) -> Result<bool, Fail> {
+    let name = text(alloc, name)?;
+    Ok(globals.get(&name).is_some())
+}
+
+#[test]
+fn a_number_is_no_value(rt: HostRuntime) -> Result<(), Fail> {
+    let mut globals = Box::new(rt.alloc(), Globals::new(rt.alloc()))?;
+    assert!(rt; globals.count() == 0);
+    number(&mut globals, text(rt.alloc(), b"g")?)?;
+    assert!(rt; globals.count() == 0);
+    Ok(())
+}
+
+#[test]
+fn a_global_has_a_value(rt: HostRuntime) -> Result<(), Fail> {
+    let value = text(rt.alloc(), b"1")?;
+    let mut globals = Box::new(rt.alloc(), Globals::new(rt.alloc()))?;
+    assert!(rt; put_global(&mut globals, text(rt.alloc(), b"g")?, value)?);
+    assert!(rt; lists(&globals, b"g", b"1"));
+    assert!(rt; has_global(rt.alloc(), &globals, b"g")?);
+    assert!(rt; !has_global(rt.alloc(), &globals, b"h")?);
+    Ok(())
+}
+
+#[test]
+fn trails_have_laws(_rt: HostRuntime) {
+    law_of_trails();
+}
+
+/// Whether externals of these names are apart.
+fn are_names_apart(alloc: Global, names: &[&[u8]]) -> Result<bool, Fail> {
+    let quiets = quiets(alloc, names)?;
+    law_of_externals(&quiets);
+    Ok(are_apart(&quiets))
+}
+
+fn place_of(alloc: Global, quiets: &[Quiet], name: &[u8]) -> Result<Option<usize>, Fail> {
+    let name = text(alloc, name)?;
+    Ok(index_of(quiets, &name))
 }
 
 #[test]
 fn names_of_externals(rt: HostRuntime) -> Result<(), Fail> {
-    let alloc = rt.alloc();
-    let two = quiets(alloc, &[b"a".as_slice(), b"b".as_slice()])?;
-    law_of_externals(&two);
-    assert!(rt; are_apart(&two));
-    assert_eq!(rt; index_of(&two, &text(alloc, b"B")?), Some(1));
-    assert_eq!(rt; index_of(&two, &text(alloc, b"c")?), None);
-    assert!(rt; !are_apart(&quiets(alloc, &[b"a".as_slice(), b"A".as_slice()])?));
+    assert!(rt; are_names_apart(rt.alloc(), &[b"a".as_slice(), b"b".as_slice()])?);
+    assert!(rt; !are_names_apart(rt.alloc(), &[b"a".as_slice(), b"A".as_slice()])?);
     Ok(())
 }
 
 #[test]
+fn an_external_is_found_by_its_name(rt: HostRuntime) -> Result<(), Fail> {
+    let two = quiets(rt.alloc(), &[b"a".as_slice(), b"b".as_slice()])?;
+    assert!(rt; place_of(rt.alloc(), &two, b"B")? == Some(1));
+    assert!(rt; place_of(rt.alloc(), &two, b"c")?.is_none());
+    Ok(())
+}
+
+/// A state in which card 2 is current. It stands in a box, so that each exit of a test drops it by one call.
+fn present_of(alloc: Global, stack: Stack) -> Result<Box<Present<Quiet>>, Fail> {
+    let none = Vec::new(alloc);
+    Ok(Box::new(alloc, Present::new(alloc, stack, 2, none))?)
+}
+
+fn fits(present: &Present<Quiet>, change: Change) -> bool {
+    present.fits(&change)
+}
+
+#[test]
 fn fits_and_current(rt: HostRuntime) -> Result<(), Fail> {
-    let alloc = rt.alloc();
-    let none: Vec<Quiet> = Vec::new(alloc);
-    let present = Present::new(alloc, Stack::new(alloc)?, 2, none);
-    assert_eq!(rt; present.current(), 2);
-    assert!(rt; present.fits(&Change::Current(2)));
-    assert!(rt; !present.fits(&Change::Current(1)));
-    assert!(rt; !present.fits(&Change::Global(text(alloc, b"G")?, None)));
+    let present = present_of(rt.alloc(), Stack::new(rt.alloc())?)?;
+    assert!(rt; present.current() == 2);
+    assert!(rt; fits(&present, Change::Current(2)));
+    assert!(rt; !fits(&present, Change::Current(1)));
+    assert!(rt; !fits(&present, Change::Global(text(rt.alloc(), b"G")?, None)));
     Ok(())
 }
 
@@ -74,26 +129,36 @@ fn put(stack: &mut Stack, id: Id, object: Object) -> Result<(), Fail> {
     Ok(())
 }
 
-/// The empty stack with a field 3 and a button 4 of its background, which keep something for the card.
-fn with_parts(alloc: Global) -> Result<Stack, Fail> {
+fn put_field(alloc: Global, stack: &mut Stack) -> Result<(), Fail> {
     let field = Kind::BackgroundField {
         visible: true,
         lock_text: false,
         shared_text: false,
     };
+    let mut old = Some(text(alloc, b"old")?);
+    put(stack, 3, Object::empty(alloc, field))?;
+    stack.open_text(3, 2)?;
+    stack.swap_text(3, 2, &mut old);
+    Ok(())
+}
+
+fn put_button(alloc: Global, stack: &mut Stack) -> Result<(), Fail> {
     let button = Kind::BackgroundButton {
         visible: true,
         shared_hilite: false,
     };
-    let mut old = Some(text(alloc, b"old")?);
-    let mut stack = Stack::new(alloc)?;
-    put(&mut stack, 3, Object::empty(alloc, field))?;
-    put(&mut stack, 4, Object::empty(alloc, button))?;
-    stack.open_text(3, 2)?;
-    stack.swap_text(3, 2, &mut old);
+    put(stack, 4, Object::empty(alloc, button))?;
     stack.open_hilite(4, 2)?;
     stack.swap_hilite(4, 2, &mut Some(false));
-    Ok(stack)
+    Ok(())
+}
+
+/// The empty stack with a field 3 and a button 4 of its background, which keep something for the card.
+fn with_parts(alloc: Global) -> Result<Box<Present<Quiet>>, Fail> {
+    let mut stack = Box::new(alloc, Stack::new(alloc)?)?;
+    put_field(alloc, &mut stack)?;
+    put_button(alloc, &mut stack)?;
+    present_of(alloc, Box::into_inner(stack))
 }
 
 fn make(present: &mut Present<Quiet>, batch: &mut Batch, change: Change) -> Result<(), Fail> {
@@ -111,30 +176,43 @@ fn has_text(present: &Present<Quiet>, bytes: &[u8]) -> bool {
     }
 }
 
-#[test]
-fn changes_of_a_stack(rt: HostRuntime) -> Result<(), Fail> {
-    let alloc = rt.alloc();
-    let none: Vec<Quiet> = Vec::new(alloc);
-    let mut present = Present::new(alloc, with_parts(alloc)?, 2, none);
-    let mut batch = Batch::new(alloc, 1);
+/// A text, a hilite and a flag are changed.
+fn change_parts(
+    alloc: Global,
+    present: &mut Present<Quiet>,
+    batch: &mut Batch,
+) -> Result<(), Fail> {
     make(
-        &mut present,
-        &mut batch,
+        present,
+        batch,
         Change::FieldText(3, 2, text(alloc, b"new")?),
     )?;
-    make(&mut present, &mut batch, Change::Hilite(4, 2, true))?;
-    make(
-        &mut present,
-        &mut batch,
-        Change::Prop(3, PropValue::LockTextIs(true)),
-    )?;
+    make(present, batch, Change::Hilite(4, 2, true))?;
+    make(present, batch, Change::Prop(3, PropValue::LockTextIs(true)))
+}
+
+#[test]
+fn changes_of_a_stack(rt: HostRuntime) -> Result<(), Fail> {
+    let mut present = with_parts(rt.alloc())?;
+    let mut batch = Box::new(rt.alloc(), Batch::new(rt.alloc(), 1))?;
+    change_parts(rt.alloc(), &mut present, &mut batch)?;
     assert!(rt; has_text(&present, b"new"));
-    assert_eq!(rt; present.stack().hilite(4, 2), Some(true));
-    assert!(rt; batch.holds(&Entry::Stack(StackEntry::FieldText(3, 2, None))));
-    assert!(rt; !batch.holds(&Entry::Stack(StackEntry::FieldText(3, 0, None))));
-    assert!(rt; !batch.holds(&Entry::Stack(StackEntry::Object(3, None))));
-    assert!(rt; !present.fits(&Change::FieldText(3, 0, text(alloc, b"")?)));
-    assert!(rt; !present.fits(&Change::Hilite(3, 2, true)));
-    assert!(rt; !present.fits(&Change::Prop(4, PropValue::LockTextIs(true))));
+    assert!(rt; present.stack().hilite(4, 2) == Some(true));
+    assert!(rt; holds(&batch, StackEntry::FieldText(3, 2, None)));
+    assert!(rt; !holds(&batch, StackEntry::FieldText(3, 0, None)));
+    assert!(rt; !holds(&batch, StackEntry::Object(3, None)));
+    Ok(())
+}
+
+fn holds(batch: &Batch, entry: StackEntry) -> bool {
+    batch.holds(&Entry::Stack(entry))
+}
+
+#[test]
+fn changes_that_fit_nowhere(rt: HostRuntime) -> Result<(), Fail> {
+    let present = with_parts(rt.alloc())?;
+    assert!(rt; !fits(&present, Change::FieldText(3, 0, text(rt.alloc(), b"")?)));
+    assert!(rt; !fits(&present, Change::Hilite(3, 2, true)));
+    assert!(rt; !fits(&present, Change::Prop(4, PropValue::LockTextIs(true))));
     Ok(())
 }
