@@ -12,8 +12,3 @@ pub use options::Options;
 pub use runs::play;
 pub use stack_bytes::{BytesFault, MOST_OF_STACK, bytes_of};
 pub use words::options_of;
-
-#[cfg(test)]
-mod stack_bytes_tests;
-#[cfg(test)]
-mod tests;

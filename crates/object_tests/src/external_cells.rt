@@ -4,7 +4,8 @@ use std::alloc::{AllocError, Global};
 use std::mem;
 use std::test::Fail;
 
-/// Of no known kind, a command: at each start its cell becomes the first argument, and it asks for its value.
+/// Of no known kind, a command: at each start its cell becomes the first argument, and it asks for its value. It fails at
+/// an answer.
 #[derive(Drop)]
 struct Echo {
     name: Text,
@@ -49,10 +50,7 @@ impl External for Echo {
     fn turn(&mut self, alloc: Global, input: &Input) -> Result<(Ask, Patch), AllocError> {
         self.turns = self.turns.saturating_add(1);
         match input {
-            Input::Answer(_, value) => Ok((
-                Ask::Done(value.try_clone(alloc)?, false),
-                Patch::new(alloc),
-            )),
+            Input::Answer(_, _) => Ok((Ask::Fail, Patch::new(alloc))),
             Input::Start(args) => {
                 if args.len() == 0 || args.at(0).as_slice() == self.cell.as_slice() {
                     return Ok((Ask::Fail, Patch::new(alloc)));
@@ -101,86 +99,109 @@ fn make_echo(alloc: Global) -> Result<Echo, Fail> {
     })
 }
 
-/// What is seen of an external after a start with `new`, and a flip of that turn's patch or none.
-#[derive(Drop)]
-struct Met {
-    asked: Text,
-    cell: Text,
-    name: Text,
-    kind: u32,
-    cells: usize,
-    turns: u64,
-    is_function: bool,
+fn asks_for(ask: &Ask, text: &[u8]) -> bool {
+    match ask {
+        Ask::EvalExpr(_, asked) => asked.as_slice() == text,
+        _ => false,
+    }
 }
 
-fn meet<E: External>(alloc: Global, mut external: E, flipped: bool) -> Result<Met, Fail> {
-    let start = Input::Start(arguments(alloc, b"new")?);
-    let (ask, mut patch) = external.turn(alloc, &start)?;
-    let asked = match ask {
-        Ask::EvalExpr(_, asked) => Some(asked),
-        _ => None,
-    };
+/// A turn, and a flip of its patch or none. Whether the external asked for the value of `new`.
+fn asks_in_turn<E: External>(
+    alloc: Global,
+    external: &mut E,
+    input: &Input,
+    flipped: bool,
+) -> Result<bool, Fail> {
+    let (ask, mut patch) = external.turn(alloc, input)?;
     if flipped {
         external.flip(&mut patch);
     }
-    law_of_external(&external);
-    let cells = external.cell_count();
-    if cells == 0 {
-        return Err("no cell".into());
-    }
-    Ok(Met {
-        asked: asked.ok_or("another ask")?,
-        cell: external.cell(0).try_clone(alloc)?,
-        name: external.name().try_clone(alloc)?,
-        kind: external.kind(),
-        cells,
-        turns: external.turns(),
-        is_function: external.is_function(),
-    })
+    Ok(asks_for(&ask, b"new"))
+}
+
+fn has_cell<E: External>(external: &E, bytes: &[u8]) -> bool {
+    external.cell_count() == 1 && external.cell(0).as_slice() == bytes
+}
+
+/// Whether an external is the command Echo, after one turn.
+fn is_echo<E: External>(external: &E) -> bool {
+    external.name().as_slice() == b"Echo".as_slice()
+        && external.kind() == 0
+        && external.turns() == 1
+        && !external.is_function()
+}
+
+fn keeps_laws<E: External>(external: &E) {
+    law_of_external(external);
+    laws_of_flips();
+}
+
+/// Whether an external asks for the value of `new` when it starts with it, and then has this cell, after a flip of that
+/// turn's patch or none.
+fn meets<E: External>(
+    alloc: Global,
+    mut external: E,
+    flipped: bool,
+    cell: &[u8],
+) -> Result<bool, Fail> {
+    let input = Input::Start(arguments(alloc, b"new")?);
+    let asks = asks_in_turn(alloc, &mut external, &input, flipped)?;
+    keeps_laws(&external);
+    Ok(asks && has_cell(&external, cell) && is_echo(&external))
+}
+
+fn boxed_echo(alloc: Global) -> Result<Box<dyn External>, Fail> {
+    let boxed: Box<dyn External> = Box::new(alloc, make_echo(alloc)?)?;
+    Ok(boxed)
 }
 
 #[test]
-fn turns_and_flips(rt: HostRuntime) -> Result<(), Fail> {
-    let alloc = rt.alloc();
-    laws_of_flips();
-    for (flipped, cell) in [(false, "new"), (true, "old")] {
-        let boxed: Box<dyn External> = Box::new(alloc, make_echo(alloc)?)?;
-        let met = meet(alloc, boxed, flipped)?;
-        assert_eq!(rt; met.cell.as_slice(), cell.as_bytes());
-        assert_eq!(rt; met.asked.as_slice(), b"new".as_slice());
-        assert_eq!(rt; met.name.as_slice(), b"Echo".as_slice());
-        assert_eq!(rt; (met.kind, met.cells, met.turns), (0, 1, 1));
-        assert!(rt; !met.is_function);
-    }
-    let plain = meet(alloc, make_echo(alloc)?, true)?;
-    assert_eq!(rt; plain.cell.as_slice(), b"old".as_slice());
+fn a_boxed_external_turns_and_flips(rt: HostRuntime) -> Result<(), Fail> {
+    assert!(rt; meets(rt.alloc(), boxed_echo(rt.alloc())?, false, b"new")?);
+    assert!(rt; meets(rt.alloc(), boxed_echo(rt.alloc())?, true, b"old")?);
     Ok(())
+}
+
+#[test]
+fn an_external_turns_and_flips(rt: HostRuntime) -> Result<(), Fail> {
+    assert!(rt; meets(rt.alloc(), make_echo(rt.alloc())?, true, b"old")?);
+    Ok(())
+}
+
+fn has_texts(texts: &Texts, first: &[u8], second: &[u8]) -> bool {
+    texts.len() == 2 && texts.at(0).as_slice() == first && texts.at(1).as_slice() == second
 }
 
 #[test]
 fn lists_of_texts(rt: HostRuntime) -> Result<(), Fail> {
-    let alloc = rt.alloc();
-    let mut texts = Texts::new(alloc);
-    let mut note = Texts::new(alloc);
-    for word in ["a", "b"] {
-        assert!(rt; texts.push(text(alloc, word.as_bytes())?).is_ok());
-        assert!(rt; note.push(text(alloc, word.as_bytes())?).is_ok());
-    }
-    assert_eq!(rt; (texts.len(), note.len()), (2, 2));
-    assert_eq!(rt; texts.at(1).as_slice(), b"b".as_slice());
-    assert_eq!(rt; note.at(0).as_slice(), b"a".as_slice());
+    let mut texts = arguments(rt.alloc(), b"a")?;
+    let second = text(rt.alloc(), b"b")?;
+    assert!(rt; texts.push(second).is_ok());
+    assert!(rt; has_texts(&texts, b"a", b"b"));
     Ok(())
+}
+
+fn patch_of(alloc: Global, cell: usize, bytes: &[u8]) -> Result<Patch, Fail> {
+    let mut patch = Patch::new(alloc);
+    patch.push(cell, text(alloc, bytes)?).map_err(|_| "patch")?;
+    Ok(patch)
+}
+
+/// Exchanges the text of a patch that names the cell alone.
+fn is_swapped(patch: &mut Patch, cell: usize, text: &mut Text) -> bool {
+    if patch.len() != 1 || patch.cell_at(0) != cell {
+        return false;
+    }
+    patch.swap(0, text);
+    true
 }
 
 #[test]
 fn patches(rt: HostRuntime) -> Result<(), Fail> {
-    let alloc = rt.alloc();
-    let mut patch = Patch::new(alloc);
-    assert!(rt; patch.push(3, text(alloc, b"old")?).is_ok());
-    assert_eq!(rt; patch.len(), 1);
-    assert_eq!(rt; patch.cell_at(0), 3);
-    let mut other = text(alloc, b"new")?;
-    patch.swap(0, &mut other);
-    assert_eq!(rt; other.as_slice(), b"old".as_slice());
+    let mut other = text(rt.alloc(), b"new")?;
+    let mut patch = patch_of(rt.alloc(), 3, b"old")?;
+    assert!(rt; is_swapped(&mut patch, 3, &mut other));
+    assert!(rt; other.as_slice() == b"old".as_slice());
     Ok(())
 }

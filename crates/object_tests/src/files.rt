@@ -11,9 +11,10 @@ use stack_file::*;
 use std::alloc::Global;
 use std::test::*;
 
-/// The stack of a text that has one.
-fn stack_of(alloc: Global, text: &[u8]) -> Result<Stack, Fail> {
-    Ok(read(alloc, text).ok().ok_or("a stack")?)
+/// The stack of a text that has one, in a box, so that each exit of a test drops it by one call.
+fn stack_of(alloc: Global, text: &[u8]) -> Result<Box<Stack>, Fail> {
+    let stack = read(alloc, text).ok().ok_or("a stack")?;
+    Ok(Box::new(alloc, stack)?)
 }
 
 fn fault_of(alloc: Global, bytes: &[u8]) -> Option<FileError> {

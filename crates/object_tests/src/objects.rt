@@ -24,8 +24,12 @@ fn put_parts(stack: &mut Stack, id: Id, parts: IdList) -> Result<(), Fail> {
     Ok(())
 }
 
-fn demo(alloc: Global) -> Result<Stack, Fail> {
-    let mut stack = Stack::new(alloc)?;
+/// The empty stack. It stands in a box, so that each exit of a test drops it by one call.
+fn empty_stack(alloc: Global) -> Result<Box<Stack>, Fail> {
+    Ok(Box::new(alloc, Stack::new(alloc)?)?)
+}
+
+fn put_objects(alloc: Global, stack: &mut Stack) -> Result<(), Fail> {
     let card = Kind::Card {
         background: 1,
         cant_delete: false,
@@ -35,10 +39,15 @@ fn demo(alloc: Global) -> Result<Stack, Fail> {
         lock_text: false,
         shared_text: false,
     };
-    put(alloc, &mut stack, 0, b"Demo", Kind::Stack)?;
-    put(alloc, &mut stack, 2, b"A", card)?;
-    put(alloc, &mut stack, 3, b"Note", field)?;
-    put(alloc, &mut stack, 4, b"B", card)?;
+    put(alloc, stack, 0, b"Demo", Kind::Stack)?;
+    put(alloc, stack, 2, b"A", card)?;
+    put(alloc, stack, 3, b"Note", field)?;
+    put(alloc, stack, 4, b"B", card)
+}
+
+fn demo(alloc: Global) -> Result<Box<Stack>, Fail> {
+    let mut stack = empty_stack(alloc)?;
+    put_objects(alloc, &mut stack)?;
     put_parts(&mut stack, 1, IdList::from_vec(vec![in alloc; 3]?))?;
     put_parts(&mut stack, 4, IdList::new(alloc))?;
     stack.swap_order(&mut IdList::from_vec(vec![in alloc; 2, 4]?));
@@ -97,10 +106,6 @@ fn counts(stack: &Stack) -> (usize, Id) {
 
 fn is_vacant(stack: &Stack, id: Id) -> bool {
     stack.object(id).is_none()
-}
-
-fn empty_stack(alloc: Global) -> Result<Stack, Fail> {
-    Ok(Stack::new(alloc)?)
 }
 
 #[test]

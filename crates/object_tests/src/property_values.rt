@@ -63,23 +63,24 @@ fn put_parts_of_card(alloc: Global, stack: &mut Stack) -> Result<(), Fail> {
     put_parts(stack, 2, IdList::from_vec(vec![in alloc; 5, 7]?))
 }
 
-fn sample(alloc: Global, shared: bool) -> Result<Stack, Fail> {
-    let mut stack = Stack::new(alloc)?;
+fn put_layers(alloc: Global, stack: &mut Stack) -> Result<(), Fail> {
+    let background = Kind::Background { cant_delete: true };
     let card = Kind::Card {
         background: 1,
         cant_delete: false,
     };
-    put(alloc, &mut stack, 0, b"Demo", Kind::Stack)?;
-    put(
-        alloc,
-        &mut stack,
-        1,
-        b"X",
-        Kind::Background { cant_delete: true },
-    )?;
-    put(alloc, &mut stack, 2, b"A", card)?;
-    put(alloc, &mut stack, 4, b"", card)?;
+    put(alloc, stack, 0, b"Demo", Kind::Stack)?;
+    put(alloc, stack, 1, b"X", background)?;
+    put(alloc, stack, 2, b"A", card)?;
+    put(alloc, stack, 4, b"", card)?;
     stack.swap_order(&mut IdList::from_vec(vec![in alloc; 2, 4]?));
+    Ok(())
+}
+
+/// The stack in a box, so that each exit of a test drops it by one call.
+fn sample(alloc: Global, shared: bool) -> Result<Box<Stack>, Fail> {
+    let mut stack = Box::new(alloc, Stack::new(alloc)?)?;
+    put_layers(alloc, &mut stack)?;
     put_parts_of_background(alloc, &mut stack, shared)?;
     put_parts_of_card(alloc, &mut stack)?;
     Ok(stack)
@@ -233,85 +234,65 @@ fn refuses(
     }
 }
 
-fn checked(stack: &Stack, id: Id, prop: Prop, text: Text) -> Option<PropValue> {
-    match check(stack, id, prop, text) {
-        Ok(value) => Some(value),
-        Err(_refused) => None,
+fn checked(
+    alloc: Global,
+    stack: &Stack,
+    id: Id,
+    prop: Prop,
+    bytes: &[u8],
+) -> Result<Option<PropValue>, Fail> {
+    match check(stack, id, prop, Text::from_slice(alloc, bytes)?) {
+        Ok(value) => Ok(Some(value)),
+        Err(_refused) => Ok(None),
     }
 }
 
 #[test]
-fn a_text_is_a_value_of_its_property(rt: HostRuntime) -> Result<(), Fail> {
+fn a_text_is_a_hilite(rt: HostRuntime) -> Result<(), Fail> {
     let stack = sample(rt.alloc(), true)?;
-    let hilite = checked(
-        &stack,
-        6,
-        Prop::Hilite,
-        Text::from_slice(rt.alloc(), b"TRUE")?,
-    );
-    assert!(rt; matches!(&hilite, Some(PropValue::HiliteIs(true))));
-    let cant_delete = checked(
-        &stack,
-        2,
-        Prop::CantDelete,
-        Text::from_slice(rt.alloc(), b"false")?,
-    );
-    assert!(rt; matches!(&cant_delete, Some(PropValue::CantDeleteIs(false))));
-    let script = checked(
-        &stack,
-        0,
-        Prop::Script,
-        Text::from_slice(rt.alloc(), b"any text")?,
-    );
-    assert!(rt;
-        matches!(&script, Some(PropValue::ScriptIs(text)) if text.as_slice() == b"any text".as_slice())
-    );
+    let value = checked(rt.alloc(), &stack, 6, Prop::Hilite, b"TRUE")?;
+    assert!(rt; matches!(&value, Some(PropValue::HiliteIs(true))));
+    Ok(())
+}
+
+#[test]
+fn a_text_is_whether_it_cant_be_deleted(rt: HostRuntime) -> Result<(), Fail> {
+    let stack = sample(rt.alloc(), true)?;
+    let value = checked(rt.alloc(), &stack, 2, Prop::CantDelete, b"false")?;
+    assert!(rt; matches!(&value, Some(PropValue::CantDeleteIs(false))));
+    Ok(())
+}
+
+fn is_script(value: &Option<PropValue>, bytes: &[u8]) -> bool {
+    match value {
+        Some(PropValue::ScriptIs(text)) => text.as_slice() == bytes,
+        _ => false,
+    }
+}
+
+#[test]
+fn any_text_is_a_script(rt: HostRuntime) -> Result<(), Fail> {
+    let stack = sample(rt.alloc(), true)?;
+    let value = checked(rt.alloc(), &stack, 0, Prop::Script, b"any text")?;
+    assert!(rt; is_script(&value, b"any text"));
     Ok(())
 }
 
 #[test]
 fn another_text_is_refused(rt: HostRuntime) -> Result<(), Fail> {
     let stack = sample(rt.alloc(), true)?;
-    assert!(rt;
-        refuses(
-            rt.alloc(),
-            &stack,
-            6,
-            Prop::Visible,
-            b" true",
-            Fault::NotLogical
-        )?
-    );
-    assert!(rt;
-        refuses(
-            rt.alloc(),
-            &stack,
-            2,
-            Prop::Visible,
-            b"yes",
-            Fault::NoSuchProperty
-        )?
-    );
-    assert!(rt;
-        refuses(
-            rt.alloc(),
-            &stack,
-            5,
-            Prop::SharedHilite,
-            b"true",
-            Fault::NoSuchProperty
-        )?
-    );
-    assert!(rt;
-        refuses(
-            rt.alloc(),
-            &stack,
-            3,
-            Prop::ShortName,
-            b"N",
-            Fault::NoSuchProperty
-        )?
-    );
-    assert!(rt; refuses(rt.alloc(), &stack, 3, Prop::Id, b"7", Fault::NoSuchProperty)?);
+    let rows: &[(Id, Prop, &[u8], Fault)] = &[
+        (6, Prop::Visible, b" true", Fault::NotLogical),
+        (2, Prop::Visible, b"yes", Fault::NoSuchProperty),
+        (5, Prop::SharedHilite, b"true", Fault::NoSuchProperty),
+        (3, Prop::ShortName, b"N", Fault::NoSuchProperty),
+        (3, Prop::Id, b"7", Fault::NoSuchProperty),
+    ];
+    for (id, prop, bytes, fault) in rows {
+        assert!(rt;
+            refuses(rt.alloc(), &stack, *id, *prop, bytes, *fault)?,
+            "object {id}"
+        );
+    }
     Ok(())
 }

@@ -1,46 +1,66 @@
 //! Examples, with ample memory.
 
 use stack_text::*;
+use std::alloc::Global;
 use std::test::*;
+
+fn is_spelled(alloc: Global, bytes: &[u8], due: &[u8]) -> Result<bool, Fail> {
+    let mut out = Vec::new(alloc);
+    spell_into(&mut out, bytes)?;
+    Ok(out.as_slice() == due)
+}
+
+/// Whether the bytes spell this text, or with `None` no text.
+fn is_read(alloc: Global, bytes: &[u8], due: Option<&[u8]>) -> Result<bool, Fail> {
+    match (unspell(alloc, bytes)?, due) {
+        (Some(text), Some(due)) => Ok(text.as_slice() == due),
+        (None, None) => Ok(true),
+        _ => Ok(false),
+    }
+}
 
 #[test]
 fn texts_are_spelled_and_read_again(rt: HostRuntime) -> Result<(), Fail> {
-    let mut out = Vec::new(rt.alloc());
-    spell_into(&mut out, b"a\\b\r\xff")?;
-    assert_eq!(rt; out.as_slice(), b"a\\5cb\\0d\\ff".as_slice());
-    let text = unspell(rt.alloc(), &out)?.ok_or("a text")?;
-    assert_eq!(rt; text.as_slice(), b"a\\b\r\xff".as_slice());
-    for wrong in [
-        b"\\4A".as_slice(),
-        b"\\4a".as_slice(),
-        b"J\\".as_slice(),
-        b"\r".as_slice(),
-    ] {
-        assert!(rt; unspell(rt.alloc(), wrong)?.is_none());
+    assert!(rt; is_spelled(rt.alloc(), b"a\\b\r\xff", b"a\\5cb\\0d\\ff")?);
+    let rows: &[(&[u8], Option<&[u8]>)] = &[
+        (b"a\\5cb\\0d\\ff", Some(b"a\\b\r\xff")),
+        (b"\\4A", None),
+        (b"\\4a", None),
+        (b"J\\", None),
+        (b"\r", None),
+    ];
+    for (bytes, due) in rows {
+        assert!(rt; is_read(rt.alloc(), bytes, *due)?, "{bytes:?}");
     }
     Ok(())
 }
 
 #[test]
 fn numbers_have_one_form(rt: HostRuntime) {
-    assert_eq!(rt; number_at(b"0"), Some(0));
-    assert_eq!(rt; number_at(b"1000001"), Some(1_000_001));
-    for wrong in [
-        b"".as_slice(),
-        b"07".as_slice(),
-        b"12345678".as_slice(),
-        b"+1".as_slice(),
-    ] {
-        assert_eq!(rt; number_at(wrong), None);
+    let rows: &[(&[u8], Option<u32>)] = &[
+        (b"0", Some(0)),
+        (b"1000001", Some(1_000_001)),
+        (b"", None),
+        (b"07", None),
+        (b"12345678", None),
+        (b"+1", None),
+    ];
+    for (bytes, number) in rows {
+        assert!(rt; number_at(bytes) == *number, "{bytes:?}");
     }
 }
 
 #[test]
 fn faults_are_numbered_from_one_to_four(rt: HostRuntime) {
-    assert_eq!(rt; FileError::BadLine(7).number(), 1);
-    assert_eq!(rt; FileError::BadId(7).number(), 2);
-    assert_eq!(rt; FileError::Truncated.number(), 3);
-    assert_eq!(rt; FileError::TooMany.number(), 4);
+    let rows = &[
+        (FileError::BadLine(7), 1),
+        (FileError::BadId(7), 2),
+        (FileError::Truncated, 3),
+        (FileError::TooMany, 4),
+    ];
+    for (error, number) in rows {
+        assert!(rt; error.number() == *number, "{number}");
+    }
 }
 
 #[test]

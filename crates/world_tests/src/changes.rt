@@ -113,11 +113,90 @@ fn see<E: External>(world: &World<E>) -> Seen {
     }
 }
 
-fn is_one(global: Option<&Text>) -> bool {
-    match global {
-        Some(value) => value.as_slice() == b"1".as_slice(),
-        None => false,
+// Each call of a world by a function that promises only whether a batch is open, so that no test carries the clauses of many. A
+// world stands in a box, so that each exit drops it by one call.
+
+fn open_world<E: External>(
+    alloc: Global,
+    externals: Vec<E>,
+    depth: u32,
+) -> Result<Box<World<E>>, Fail>
+    requires low { 1 ≤ depth }
+    requires high { depth ≤ 1000000 }
+    ensures { IfOk result (λ w. w.value.history.start ≡ None) }
+{
+    match World::open(alloc, Stack::new(alloc)?, externals, depth) {
+        Ok(world) => Ok(Box::new(alloc, world)?),
+        Err(_) => Err("names".into()),
     }
+}
+
+fn begin<E: External>(world: &mut World<E>, number: u32) -> Result<(), Fail>
+    requires { world.old.history.start ≡ None }
+    ensures { OnOk result (IsSome world.new.history.start) }
+{
+    Ok(world.begin(number)?)
+}
+
+fn make<E: External>(world: &mut World<E>, change: Change) -> Result<(), Fail>
+    requires { IsSome world.old.history.start }
+    ensures { OnOk result (IsSome world.new.history.start) }
+{
+    if !world.fits(&change) {
+        return Err("fits".into());
+    }
+    Ok(world.make(change)?)
+}
+
+fn turn_first<E: External>(alloc: Global, world: &mut World<E>) -> Result<(), Fail>
+    requires { IsSome world.old.history.start }
+    ensures { OnOk result (IsSome world.new.history.start) }
+{
+    if world.external_count() == 0 {
+        return Err("no external".into());
+    }
+    let _ = world.turn_external(0, &Input::Start(Texts::new(alloc)))?;
+    Ok(())
+}
+
+fn commit<E: External>(world: &mut World<E>)
+    requires { IsSome world.old.history.start }
+    ensures { world.new.history.start ≡ None }
+{
+    world.commit();
+}
+
+fn roll_back<E: External>(world: &mut World<E>)
+    requires { IsSome world.old.history.start }
+    ensures { world.new.history.start ≡ None }
+{
+    world.roll_back();
+}
+
+fn flip_back<E: External>(world: &mut World<E>) -> Result<(), Fail>
+    requires { world.old.history.start ≡ None }
+    ensures { OnOk result (world.new.history.start ≡ None) }
+{
+    if world.undoable() == 0 {
+        return Err("no place".into());
+    }
+    world.flip_back();
+    Ok(())
+}
+
+fn flip_forth<E: External>(world: &mut World<E>) -> Result<(), Fail>
+    requires { world.old.history.start ≡ None }
+    ensures { OnOk result (world.new.history.start ≡ None) }
+{
+    if world.redoable() == 0 {
+        return Err("no place".into());
+    }
+    world.flip_forth();
+    Ok(())
+}
+
+fn put_global(alloc: Global) -> Result<Change, Fail> {
+    Ok(Change::Global(text(alloc, b"g")?, Some(text(alloc, b"1")?)))
 }
 
 /// One line: `g` becomes `1`.
@@ -125,133 +204,141 @@ fn put_one<E: External>(alloc: Global, world: &mut World<E>, number: u32) -> Res
     requires { world.old.history.start ≡ None }
     ensures { OnOk result (world.new.history.start ≡ None) }
 {
-    world.begin(number)?;
-    let change = Change::Global(text(alloc, b"g")?, Some(text(alloc, b"1")?));
-    if !world.fits(&change) {
-        return Err("fits".into());
-    }
-    world.make(change)?;
-    world.commit();
+    begin(world, number)?;
+    make(world, put_global(alloc)?)?;
+    commit(world);
     Ok(())
 }
 
-/// One line: the first external takes a turn. Its cell after it, after a flip back and after one forth.
-fn turn<E: External>(
-    alloc: Global,
-    world: &mut World<E>,
-    number: u32,
-) -> Result<(Text, Text, Text), Fail>
+/// One line that is given up: the current card becomes current.
+fn give_up<E: External>(world: &mut World<E>, number: u32) -> Result<(), Fail>
     requires { world.old.history.start ≡ None }
     ensures { OnOk result (world.new.history.start ≡ None) }
 {
-    if world.external_count() == 0 {
-        return Err("no external".into());
-    }
-    world.begin(number)?;
-    let _ = world.turn_external(0, &Input::Start(Texts::new(alloc)))?;
-    world.commit();
-    let turned = first_cell(alloc, world)?;
-    if world.undoable() == 0 {
-        return Err("no place".into());
-    }
-    world.flip_back();
-    let back = first_cell(alloc, world)?;
-    if world.redoable() == 0 {
-        return Err("no place".into());
-    }
-    world.flip_forth();
-    let forth = first_cell(alloc, world)?;
-    Ok((turned, back, forth))
-}
-
-/// The name of the empty stack's card.
-fn card_name<E: External>(alloc: Global, world: &World<E>) -> Result<Text, Fail> {
-    match world.stack().object(2) {
-        Some(card) => Ok(card.name.try_clone(alloc)?),
-        None => Err("no card".into()),
-    }
-}
-
-/// Sets a property of the empty stack's card in the open batch.
-fn set_of_card<E: External>(world: &mut World<E>, value: PropValue) -> Result<(), Fail>
-    requires { IsSome world.old.history.start }
-    ensures { OnOk result (IsSome world.new.history.start) }
-{
-    let change = Change::Prop(2, value);
-    if !world.fits(&change) {
-        return Err("fits".into());
-    }
-    world.make(change)?;
+    begin(world, number)?;
+    let current = world.current();
+    make(world, Change::Current(current))?;
+    roll_back(world);
     Ok(())
 }
 
-/// One line that names the card twice and keeps it from deletion: the name after it, after a flip back and after
-/// one forth.
-fn named<E: External>(alloc: Global, externals: Vec<E>) -> Result<(Text, Text, Text), Fail> {
-    let mut world = open_world(alloc, externals, 3)?;
-    world.begin(1)?;
-    set_of_card(&mut world, PropValue::NameIs(text(alloc, b"First")?))?;
-    set_of_card(&mut world, PropValue::CantDeleteIs(true))?;
-    set_of_card(&mut world, PropValue::NameIs(text(alloc, b"Home")?))?;
-    world.commit();
-    let named = card_name(alloc, &world)?;
-    if world.undoable() == 0 {
-        return Err("no place".into());
-    }
-    world.flip_back();
-    let back = card_name(alloc, &world)?;
-    if world.redoable() == 0 {
-        return Err("no place".into());
-    }
-    world.flip_forth();
-    Ok((named, back, card_name(alloc, &world)?))
-}
-
-fn turned_cells<E: External>(alloc: Global, externals: Vec<E>) -> Result<(Text, Text, Text), Fail> {
-    let mut world = open_world(alloc, externals, 3)?;
-    turn(alloc, &mut world, 1)
-}
-
-fn first_cell<E: External>(alloc: Global, world: &World<E>) -> Result<Text, Fail> {
-    if world.external_count() == 0 || world.external(0).cell_count() == 0 {
-        return Err("no cell".into());
-    }
-    Ok(world.external(0).cell(0).try_clone(alloc)?)
-}
-
-fn open_world<E: External>(alloc: Global, externals: Vec<E>, depth: u32) -> Result<World<E>, Fail>
-    requires low { 1 ≤ depth }
-    requires high { depth ≤ 1000000 }
-    ensures { IfOk result (λ w. w.history.start ≡ None) }
+/// One line: the first external takes a turn.
+fn turn<E: External>(alloc: Global, world: &mut World<E>, number: u32) -> Result<(), Fail>
+    requires { world.old.history.start ≡ None }
+    ensures { OnOk result (world.new.history.start ≡ None) }
 {
-    match World::open(alloc, Stack::new(alloc)?, externals, depth) {
-        Ok(world) => Ok(world),
-        Err(_) => Err("names".into()),
+    begin(world, number)?;
+    turn_first(alloc, world)?;
+    commit(world);
+    Ok(())
+}
+
+fn name_card<E: External>(alloc: Global, world: &mut World<E>, name: &[u8]) -> Result<(), Fail>
+    requires { IsSome world.old.history.start }
+    ensures { OnOk result (IsSome world.new.history.start) }
+{
+    make(
+        world,
+        Change::Prop(2, PropValue::NameIs(text(alloc, name)?)),
+    )
+}
+
+/// One line that names the card twice and keeps it from deletion.
+fn name_twice<E: External>(alloc: Global, world: &mut World<E>, number: u32) -> Result<(), Fail>
+    requires { world.old.history.start ≡ None }
+    ensures { OnOk result (world.new.history.start ≡ None) }
+{
+    begin(world, number)?;
+    name_card(alloc, world, b"First")?;
+    make(world, Change::Prop(2, PropValue::CantDeleteIs(true)))?;
+    name_card(alloc, world, b"Home")?;
+    commit(world);
+    Ok(())
+}
+
+/// Whether the empty stack's card has this name.
+fn has_card<E: External>(world: &World<E>, name: &[u8]) -> bool {
+    match world.stack().object(2) {
+        Some(card) => card.name.as_slice() == name,
+        None => false,
     }
 }
 
-/// A batch that is given up, and three lines where two places may stand.
-fn three_lines<E: External>(alloc: Global, externals: Vec<E>) -> Result<[Seen; 3], Fail> {
-    let mut world = open_world(alloc, externals, 2)?;
-    world.begin(7)?;
-    let change = Change::Current(world.current());
-    if world.fits(&change) {
-        world.make(change)?;
+/// Whether the first cell of the first external has this text.
+fn has_cell<E: External>(world: &World<E>, bytes: &[u8]) -> bool {
+    if world.external_count() == 0 || world.external(0).cell_count() == 0 {
+        return false;
     }
-    world.roll_back();
-    let first = see(&world);
-    put_one(alloc, &mut world, 8)?;
-    put_one(alloc, &mut world, 9)?;
-    if world.name_count() == 0 || !is_one(world.global(&text(alloc, b"g")?)) {
-        return Err("no global".into());
+    world.external(0).cell(0).as_slice() == bytes
+}
+
+/// Whether `g` is `1`.
+fn has_one<E: External>(alloc: Global, world: &World<E>) -> Result<bool, Fail> {
+    let name = text(alloc, b"g")?;
+    match world.global(&name) {
+        Some(value) => Ok(value.as_slice() == b"1".as_slice()),
+        None => Ok(false),
+    }
+}
+
+/// Whether `g` stands first among the globals, with the value `1`.
+fn lists_one<E: External>(world: &World<E>) -> bool {
+    if world.global_count() == 0 || world.name_count() == 0 {
+        return false;
     }
     match world.global_at(0) {
-        Some((name, value)) if name == b"g".as_slice() && is_one(Some(value)) => {}
-        _ => return Err("another global".into()),
+        Some((name, value)) => {
+            name == b"g".as_slice() && value.as_slice() == b"1".as_slice()
+        }
+        None => false,
     }
-    let second = see(&world);
+}
+
+/// A card that is named, and then is named after a flip back and after one forth.
+fn names_go_back<E: External>(alloc: Global, externals: Vec<E>) -> Result<[bool; 3], Fail> {
+    let mut world = open_world(alloc, externals, 3)?;
+    name_twice(alloc, &mut world, 1)?;
+    let named = has_card(&world, b"Home");
+    flip_back(&mut world)?;
+    let back = has_card(&world, b"");
+    flip_forth(&mut world)?;
+    Ok([named, back, has_card(&world, b"Home")])
+}
+
+/// A cell that is turned, and then is as it was after a flip back and turned after one forth.
+fn cells_turn_back<E: External>(alloc: Global, externals: Vec<E>) -> Result<[bool; 3], Fail> {
+    let mut world = open_world(alloc, externals, 3)?;
+    turn(alloc, &mut world, 1)?;
+    let turned = has_cell(&world, b"turned");
+    flip_back(&mut world)?;
+    let back = has_cell(&world, b"first");
+    flip_forth(&mut world)?;
+    Ok([turned, back, has_cell(&world, b"turned")])
+}
+
+/// What is seen after a line that is given up, where two places may stand.
+fn given_up<E: External>(alloc: Global, externals: Vec<E>) -> Result<Seen, Fail> {
+    let mut world = open_world(alloc, externals, 2)?;
+    give_up(&mut world, 7)?;
+    Ok(see(&world))
+}
+
+/// What is seen after two lines, and whether they put a global.
+fn two_lines<E: External>(alloc: Global, externals: Vec<E>) -> Result<(Seen, bool), Fail> {
+    let mut world = open_world(alloc, externals, 2)?;
+    put_one(alloc, &mut world, 8)?;
+    put_one(alloc, &mut world, 9)?;
+    let has_global = has_one(alloc, &world)? && lists_one(&world);
+    Ok((see(&world), has_global))
+}
+
+/// What is seen after three lines.
+fn three_lines<E: External>(alloc: Global, externals: Vec<E>) -> Result<Seen, Fail> {
+    let mut world = open_world(alloc, externals, 2)?;
+    put_one(alloc, &mut world, 8)?;
+    put_one(alloc, &mut world, 9)?;
     put_one(alloc, &mut world, 10)?;
-    Ok([first, second, see(&world)])
+    Ok(see(&world))
 }
 
 fn stamps<E: External>(alloc: Global, externals: Vec<E>) -> Result<(u32, u32, u32), Fail> {
@@ -264,56 +351,112 @@ fn stamps<E: External>(alloc: Global, externals: Vec<E>) -> Result<(u32, u32, u3
     Ok((world.stamp(0), world.stamp(1), world.stamp(2)))
 }
 
-/// How many externals there are after a plug of one that is there, of a new one, and after its unplug.
-fn plugging<E: External>(
+/// Why an external isn't plugged, or none.
+fn plug<E: External>(world: &mut World<E>, external: E) -> Option<PlugError>
+    requires { world.old.history.start ≡ None }
+    ensures { world.new.history.start ≡ None }
+{
+    match world.plug(external) {
+        Ok(()) => None,
+        Err((error, _)) => Some(error),
+    }
+}
+
+/// Whether an external of this name was unplugged.
+fn unplug<E: External>(world: &mut World<E>, name: &Text) -> bool
+    requires { world.old.history.start ≡ None }
+    ensures { world.new.history.start ≡ None }
+{
+    world.unplug(name).is_some()
+}
+
+fn count_at_close<E: External>(world: Box<World<E>>) -> usize {
+    world.law_of_states();
+    Box::into_inner(world).close().len()
+}
+
+/// Why an external that is there isn't plugged.
+fn plug_again<E: External>(
     alloc: Global,
     externals: Vec<E>,
     again: E,
-    new: E,
-) -> Result<(PlugError, usize, usize, usize), Fail> {
+) -> Result<(Option<PlugError>, usize), Fail> {
     let mut world = open_world(alloc, externals, 1)?;
     put_one(alloc, &mut world, 1)?;
-    let error = match world.plug(again) {
-        Ok(()) => None,
-        Err((error, _)) => Some(error),
-    };
-    if world.plug(new).is_err() {
-        return Err("not plugged".into());
-    }
+    let error = plug(&mut world, again);
+    Ok((error, world.undoable()))
+}
+
+/// Whether an external is plugged and unplugged; how many there are after either, and at the close.
+fn plug_and_unplug<E: External>(
+    alloc: Global,
+    externals: Vec<E>,
+    new: E,
+    name: &Text,
+) -> Result<(bool, usize, usize, usize), Fail> {
+    let mut world = open_world(alloc, externals, 1)?;
+    let is_plugged = plug(&mut world, new).is_none();
     let more = world.external_count();
-    let out = world.unplug(&text(alloc, b"NEW")?);
-    world.law_of_states();
-    if out.is_none() || world.undoable() != 0 {
-        return Err("not unplugged".into());
-    }
+    let is_unplugged = unplug(&mut world, name);
+    let count = world.external_count();
     Ok((
-        error.ok_or("plugged")?,
+        is_plugged && is_unplugged,
         more,
-        world.external_count(),
-        world.close().len(),
+        count,
+        count_at_close(world),
     ))
 }
 
-fn names_refused<E: External>(
+/// How many states can be gone back to after a line and an unplug.
+fn places_after_unplug<E: External>(
     alloc: Global,
     externals: Vec<E>,
-) -> Result<(WorldError, usize), Fail> {
-    match World::open(alloc, Stack::new(alloc)?, externals, 1) {
-        Ok(_) => Err("opened".into()),
-        Err((error, stack, externals)) => {
-            let _ = stack.next_id();
-            Ok((error, externals.len()))
-        }
+    name: &Text,
+) -> Result<usize, Fail> {
+    let mut world = open_world(alloc, externals, 1)?;
+    put_one(alloc, &mut world, 1)?;
+    let _ = unplug(&mut world, name);
+    Ok(world.undoable())
+}
+
+/// Why no world is opened, and how many externals come back.
+fn refusal_to_open<E: External>(
+    alloc: Global,
+    externals: Vec<E>,
+) -> Result<Option<(WorldError, usize)>, Fail> {
+    let opened = World::open(alloc, Stack::new(alloc)?, externals, 1);
+    match opened.err() {
+        None => Ok(None),
+        Some((error, _, externals)) => Ok(Some((error, externals.len()))),
     }
 }
 
+type Boxed = Box<dyn External>;
+
+fn boxed(alloc: Global, name: &[u8]) -> Result<Boxed, Fail> {
+    let boxed: Boxed = Box::new(alloc, make_turner(alloc, name)?)?;
+    Ok(boxed)
+}
+
+fn none(alloc: Global) -> Vec<Boxed> {
+    Vec::new(alloc)
+}
+
+fn one(alloc: Global) -> Result<Vec<Boxed>, Fail> {
+    let mut one = none(alloc);
+    one.push(boxed(alloc, b"a")?)?;
+    Ok(one)
+}
+
+fn two_of_a_name(alloc: Global) -> Result<Vec<Turner>, Fail> {
+    let mut two = Vec::new(alloc);
+    two.push(make_turner(alloc, b"a")?)?;
+    two.push(make_turner(alloc, b"A")?)?;
+    Ok(two)
+}
+
 #[test]
-fn lines_and_depth(rt: HostRuntime) -> Result<(), Fail> {
-    let alloc = rt.alloc();
-    let mut boxes: Vec<Box<dyn External>> = Vec::new(alloc);
-    let boxed: Box<dyn External> = Box::new(alloc, make_turner(alloc, b"a")?)?;
-    boxes.push(boxed)?;
-    let [first, second, third] = three_lines(alloc, boxes)?;
+fn a_line_given_up_leaves_all_as_it_was(rt: HostRuntime) -> Result<(), Fail> {
     let at_first = Seen {
         undoable: 0,
         redoable: 0,
@@ -322,51 +465,70 @@ fn lines_and_depth(rt: HostRuntime) -> Result<(), Fail> {
         globals: 0,
         externals: 1,
     };
-    assert_eq!(rt; first, at_first);
-    assert_eq!(rt; (second.undoable, second.stamp, second.globals), (2, 9, 1));
-    assert_eq!(rt; (third.undoable, third.stamp, third.redoable), (2, 10, 0));
-    let none: Vec<Box<dyn External>> = Vec::new(alloc);
-    assert_eq!(rt; stamps(alloc, none)?, (6, 4, 0));
+    assert!(rt; given_up(rt.alloc(), one(rt.alloc())?)? == at_first);
+    Ok(())
+}
+
+#[test]
+fn each_line_adds_a_place(rt: HostRuntime) -> Result<(), Fail> {
+    let (seen, has_global) = two_lines(rt.alloc(), one(rt.alloc())?)?;
+    assert!(rt; has_global);
+    assert_eq!(rt; (seen.undoable, seen.stamp, seen.globals), (2, 9, 1));
+    Ok(())
+}
+
+#[test]
+fn the_oldest_place_falls_away(rt: HostRuntime) -> Result<(), Fail> {
+    let seen = three_lines(rt.alloc(), one(rt.alloc())?)?;
+    assert_eq!(rt; (seen.undoable, seen.stamp, seen.redoable), (2, 10, 0));
+    Ok(())
+}
+
+#[test]
+fn states_have_the_numbers_of_their_lines(rt: HostRuntime) -> Result<(), Fail> {
+    assert!(rt; stamps(rt.alloc(), none(rt.alloc()))? == (6, 4, 0));
     Ok(())
 }
 
 #[test]
 fn properties_go_back(rt: HostRuntime) -> Result<(), Fail> {
-    let alloc = rt.alloc();
-    let none: Vec<Box<dyn External>> = Vec::new(alloc);
-    let (named, back, forth) = named(alloc, none)?;
-    assert_eq!(rt; named.as_slice(), b"Home".as_slice());
-    assert_eq!(rt; back.len(), 0);
-    assert_eq!(rt; forth.as_slice(), b"Home".as_slice());
+    assert!(rt; names_go_back(rt.alloc(), none(rt.alloc()))? == [true, true, true]);
     Ok(())
 }
 
 #[test]
 fn cells_go_back(rt: HostRuntime) -> Result<(), Fail> {
-    let alloc = rt.alloc();
-    let mut boxes: Vec<Box<dyn External>> = Vec::new(alloc);
-    let boxed: Box<dyn External> = Box::new(alloc, make_turner(alloc, b"a")?)?;
-    boxes.push(boxed)?;
-    let (turned, back, forth) = turned_cells(alloc, boxes)?;
-    assert_eq!(rt; turned.as_slice(), b"turned".as_slice());
-    assert_eq!(rt; back.as_slice(), b"first".as_slice());
-    assert_eq!(rt; forth.as_slice(), b"turned".as_slice());
+    assert!(rt; cells_turn_back(rt.alloc(), one(rt.alloc())?)? == [true, true, true]);
     Ok(())
 }
 
 #[test]
-fn plugs_and_names(rt: HostRuntime) -> Result<(), Fail> {
-    let alloc = rt.alloc();
-    let mut one: Vec<Box<dyn External>> = Vec::new(alloc);
-    let first: Box<dyn External> = Box::new(alloc, make_turner(alloc, b"a")?)?;
-    one.push(first)?;
-    let again: Box<dyn External> = Box::new(alloc, make_turner(alloc, b"A")?)?;
-    let new: Box<dyn External> = Box::new(alloc, make_turner(alloc, b"new")?)?;
-    let plugged = plugging(alloc, one, again, new)?;
-    assert_eq!(rt; plugged, (PlugError::DuplicateName, 2, 1, 1));
-    let mut two: Vec<Turner> = Vec::new(alloc);
-    two.push(make_turner(alloc, b"a")?)?;
-    two.push(make_turner(alloc, b"A")?)?;
-    assert_eq!(rt; names_refused(alloc, two)?, (WorldError::DuplicateName, 2));
+fn an_external_is_plugged_once(rt: HostRuntime) -> Result<(), Fail> {
+    let again = boxed(rt.alloc(), b"A")?;
+    let (error, places) = plug_again(rt.alloc(), one(rt.alloc())?, again)?;
+    assert!(rt; error == Some(PlugError::DuplicateName) && places == 1);
+    Ok(())
+}
+
+#[test]
+fn an_external_is_plugged_and_unplugged(rt: HostRuntime) -> Result<(), Fail> {
+    let name = text(rt.alloc(), b"NEW")?;
+    let new = boxed(rt.alloc(), b"new")?;
+    let came = plug_and_unplug(rt.alloc(), one(rt.alloc())?, new, &name)?;
+    assert!(rt; came == (true, 2, 1, 1));
+    Ok(())
+}
+
+#[test]
+fn an_unplug_leaves_no_place(rt: HostRuntime) -> Result<(), Fail> {
+    let name = text(rt.alloc(), b"A")?;
+    assert!(rt; places_after_unplug(rt.alloc(), one(rt.alloc())?, &name)? == 0);
+    Ok(())
+}
+
+#[test]
+fn names_are_apart(rt: HostRuntime) -> Result<(), Fail> {
+    let refusal = refusal_to_open(rt.alloc(), two_of_a_name(rt.alloc())?)?;
+    assert!(rt; refusal == Some((WorldError::DuplicateName, 2)));
     Ok(())
 }

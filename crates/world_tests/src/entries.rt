@@ -21,46 +21,103 @@ fn quiets(alloc: Global, names: &[&[u8]]) -> Result<Vec<Quiet>, Fail> {
     Ok(quiets)
 }
 
-#[test]
-fn numbers_names(rt: HostRuntime) -> Result<(), Fail> {
-    let alloc = rt.alloc();
-    let mut globals = Globals::new(alloc);
-    assert_eq!(rt; globals.count(), 0);
-    let i = globals.number(text(alloc, b"g")?)?;
-    assert_eq!(rt; globals.count(), 0);
-    let mut value = Some(text(alloc, b"1")?);
-    globals.swap(i, &mut value);
-    assert!(rt; value.is_none());
-    assert_eq!(rt; globals.count(), 1);
-    let (name, value) = globals.at(0);
-    assert_eq!(rt; name.as_slice(), b"g".as_slice());
-    assert_eq!(rt; value.as_slice(), b"1".as_slice());
-    assert!(rt; globals.get(&text(alloc, b"g")?).is_some());
-    assert!(rt; globals.get(&text(alloc, b"h")?).is_none());
-    law_of_trails();
+fn number(globals: &mut Globals, name: Text) -> Result<(), Fail> {
+    let _ = globals.number(name)?;
     Ok(())
+}
+
+/// Gives a global its first value; whether it had none.
+fn put_global(globals: &mut Globals, name: Text, value: Text) -> Result<bool, Fail> {
+    let i = globals.number(name)?;
+    let mut value = Some(value);
+    globals.swap(i, &mut value);
+    Ok(value.is_none())
+}
+
+/// Whether one global alone has a value, and is named so.
+fn lists(globals: &Globals, name: &[u8], value: &[u8]) -> bool {
+    if globals.count() != 1 || globals.name_count() != 1 {
+        return false;
+    }
+    match globals.at(0) {
+        Some((first, its_value)) => first == name && its_value.as_slice() == value,
+        None => false,
+    }
+}
+
+fn has_global(alloc: Global, globals: &Globals, name: &[u8]) -> Result<bool, Fail> {
+    let name = text(alloc, name)?;
+    Ok(globals.get(&name).is_some())
+}
+
+#[test]
+fn a_number_is_no_value(rt: HostRuntime) -> Result<(), Fail> {
+    let mut globals = Box::new(rt.alloc(), Globals::new(rt.alloc()))?;
+    assert!(rt; globals.count() == 0);
+    number(&mut globals, text(rt.alloc(), b"g")?)?;
+    assert!(rt; globals.count() == 0);
+    Ok(())
+}
+
+#[test]
+fn a_global_has_a_value(rt: HostRuntime) -> Result<(), Fail> {
+    let value = text(rt.alloc(), b"1")?;
+    let mut globals = Box::new(rt.alloc(), Globals::new(rt.alloc()))?;
+    assert!(rt; put_global(&mut globals, text(rt.alloc(), b"g")?, value)?);
+    assert!(rt; lists(&globals, b"g", b"1"));
+    assert!(rt; has_global(rt.alloc(), &globals, b"g")?);
+    assert!(rt; !has_global(rt.alloc(), &globals, b"h")?);
+    Ok(())
+}
+
+#[test]
+fn trails_have_laws(_rt: HostRuntime) {
+    law_of_trails();
+}
+
+/// Whether externals of these names are apart.
+fn are_names_apart(alloc: Global, names: &[&[u8]]) -> Result<bool, Fail> {
+    let quiets = quiets(alloc, names)?;
+    law_of_externals(&quiets);
+    Ok(are_apart(&quiets))
+}
+
+fn place_of(alloc: Global, quiets: &[Quiet], name: &[u8]) -> Result<Option<usize>, Fail> {
+    let name = text(alloc, name)?;
+    Ok(index_of(quiets, &name))
 }
 
 #[test]
 fn names_of_externals(rt: HostRuntime) -> Result<(), Fail> {
-    let alloc = rt.alloc();
-    let two = quiets(alloc, &[b"a".as_slice(), b"b".as_slice()])?;
-    law_of_externals(&two);
-    assert!(rt; are_apart(&two));
-    assert_eq!(rt; index_of(&two, &text(alloc, b"B")?), Some(1));
-    assert_eq!(rt; index_of(&two, &text(alloc, b"c")?), None);
-    assert!(rt; !are_apart(&quiets(alloc, &[b"a".as_slice(), b"A".as_slice()])?));
+    assert!(rt; are_names_apart(rt.alloc(), &[b"a".as_slice(), b"b".as_slice()])?);
+    assert!(rt; !are_names_apart(rt.alloc(), &[b"a".as_slice(), b"A".as_slice()])?);
     Ok(())
 }
 
 #[test]
+fn an_external_is_found_by_its_name(rt: HostRuntime) -> Result<(), Fail> {
+    let two = quiets(rt.alloc(), &[b"a".as_slice(), b"b".as_slice()])?;
+    assert!(rt; place_of(rt.alloc(), &two, b"B")? == Some(1));
+    assert!(rt; place_of(rt.alloc(), &two, b"c")?.is_none());
+    Ok(())
+}
+
+/// A state in which card 2 is current. It stands in a box, so that each exit of a test drops it by one call.
+fn present_of(alloc: Global, stack: Stack) -> Result<Box<Present<Quiet>>, Fail> {
+    let none = Vec::new(alloc);
+    Ok(Box::new(alloc, Present::new(alloc, stack, 2, none))?)
+}
+
+fn fits(present: &Present<Quiet>, change: Change) -> bool {
+    present.fits(&change)
+}
+
+#[test]
 fn fits_and_current(rt: HostRuntime) -> Result<(), Fail> {
-    let alloc = rt.alloc();
-    let none: Vec<Quiet> = Vec::new(alloc);
-    let present = Present::new(alloc, Stack::new(alloc)?, 2, none);
-    assert_eq!(rt; present.current(), 2);
-    assert!(rt; present.fits(&Change::Current(2)));
-    assert!(rt; !present.fits(&Change::Current(1)));
-    assert!(rt; !present.fits(&Change::Global(text(alloc, b"G")?, None)));
+    let present = present_of(rt.alloc(), Stack::new(rt.alloc())?)?;
+    assert!(rt; present.current() == 2);
+    assert!(rt; fits(&present, Change::Current(2)));
+    assert!(rt; !fits(&present, Change::Current(1)));
+    assert!(rt; !fits(&present, Change::Global(text(rt.alloc(), b"G")?, None)));
     Ok(())
 }

@@ -23,6 +23,11 @@ fn put(stack: &mut Stack, id: Id, object: Object) -> Result<(), Fail> {
     Ok(())
 }
 
+/// The empty stack. It stands in a box, so that each exit of a test drops it by one call.
+fn empty_stack(alloc: Global) -> Result<Box<Stack>, Fail> {
+    Ok(Box::new(alloc, Stack::new(alloc)?)?)
+}
+
 fn has_text(stack: &Stack, bytes: &[u8]) -> bool {
     match stack.text(3, 2) {
         Some(text) => text.as_slice() == bytes,
@@ -34,7 +39,7 @@ fn has_text(stack: &Stack, bytes: &[u8]) -> bool {
 #[tactic(auto, unfolding(stack_places::specs::Exchange::IsReady, stack_places::specs::Exchange::taken))]
 fn a_text_goes_back(rt: HostRuntime) -> Result<(), Fail> {
     let new = text(rt.alloc(), b"new")?;
-    let mut stack = Stack::new(rt.alloc())?;
+    let mut stack = empty_stack(rt.alloc())?;
     stack.open_text(3, 2)?;
     let mut entry = StackEntry::FieldText(3, 2, Some(new));
     entry.exchange(&mut stack);
@@ -47,7 +52,7 @@ fn a_text_goes_back(rt: HostRuntime) -> Result<(), Fail> {
 #[test]
 #[tactic(auto, unfolding(stack_places::specs::Exchange::IsReady, stack_places::specs::Exchange::taken))]
 fn a_hilite_goes_back(rt: HostRuntime) -> Result<(), Fail> {
-    let mut stack = Stack::new(rt.alloc())?;
+    let mut stack = empty_stack(rt.alloc())?;
     stack.open_hilite(4, 2)?;
     let mut entry = StackEntry::Hilite(4, 2, Some(true));
     entry.exchange(&mut stack);
@@ -60,7 +65,7 @@ fn a_hilite_goes_back(rt: HostRuntime) -> Result<(), Fail> {
 #[test]
 #[tactic(auto, unfolding(stack_places::specs::Exchange::IsReady))]
 fn a_property_goes_back(rt: HostRuntime) -> Result<(), Fail> {
-    let mut stack = Stack::new(rt.alloc())?;
+    let mut stack = empty_stack(rt.alloc())?;
     put(&mut stack, 3, Object::empty(rt.alloc(), FIELD))?;
     let mut entry = StackEntry::Prop(3, PropValue::LockTextIs(true));
     entry.exchange(&mut stack);
@@ -75,7 +80,7 @@ fn a_property_goes_back(rt: HostRuntime) -> Result<(), Fail> {
 #[tactic(auto, unfolding(stack_places::specs::Exchange::IsReady, stack_places::specs::Exchange::taken))]
 fn an_object_goes_back(rt: HostRuntime) -> Result<(), Fail> {
     let field = Object::empty(rt.alloc(), FIELD);
-    let mut stack = Stack::new(rt.alloc())?;
+    let mut stack = empty_stack(rt.alloc())?;
     stack.open_slot(4)?;
     let mut object = StackEntry::Object(4, Some(field));
     object.exchange(&mut stack);
@@ -88,7 +93,7 @@ fn an_object_goes_back(rt: HostRuntime) -> Result<(), Fail> {
 #[test]
 #[tactic(auto, unfolding(stack_places::specs::Exchange::IsReady))]
 fn orders_are_exchanged(rt: HostRuntime) -> Result<(), Fail> {
-    let mut stack = Stack::new(rt.alloc())?;
+    let mut stack = empty_stack(rt.alloc())?;
     let mut cards = StackEntry::CardOrder(IdList::from_vec(vec![in rt.alloc(); 2, 5]?));
     cards.exchange(&mut stack);
     assert_eq!(rt; stack.cards().as_slice(), [2, 5].as_slice());
@@ -101,7 +106,7 @@ fn orders_are_exchanged(rt: HostRuntime) -> Result<(), Fail> {
 #[test]
 #[tactic(auto, unfolding(stack_places::specs::Exchange::IsReady, stack_places::specs::Exchange::taken))]
 fn parts_and_the_next_id_go_back(rt: HostRuntime) -> Result<(), Fail> {
-    let mut stack = Stack::new(rt.alloc())?;
+    let mut stack = empty_stack(rt.alloc())?;
     stack.open_slot(2)?;
     let mut parts = StackEntry::Parts(2, None);
     parts.exchange(&mut stack);
@@ -116,19 +121,26 @@ fn parts_and_the_next_id_go_back(rt: HostRuntime) -> Result<(), Fail> {
 }
 
 #[test]
-fn places(rt: HostRuntime) -> Result<(), Fail> {
-    let alloc = rt.alloc();
+fn places_of_texts(rt: HostRuntime) -> Result<(), Fail> {
     let own = StackEntry::FieldText(3, 2, None);
-    let shared = StackEntry::FieldText(3, 0, None);
-    assert!(rt; own.is_of_place_of(&StackEntry::FieldText(3, 2, Some(text(alloc, b"x")?))));
-    assert!(rt; !own.is_of_place_of(&shared));
+    let filled = StackEntry::FieldText(3, 2, Some(text(rt.alloc(), b"x")?));
+    assert!(rt; own.is_of_place_of(&filled));
+    assert!(rt; !own.is_of_place_of(&StackEntry::FieldText(3, 0, None)));
     assert!(rt; !own.is_of_place_of(&StackEntry::Hilite(3, 2, None)));
-    let name = StackEntry::Prop(3, PropValue::NameIs(text(alloc, b"a")?));
-    assert!(rt;
-        !name.is_of_place_of(&StackEntry::Prop(3, PropValue::ScriptIs(text(alloc, b"a")?)))
-    );
-    let gone = StackEntry::Object(3, None);
-    assert!(rt; gone.is_structural() && !gone.is_of_place_of(&gone));
     assert!(rt; !own.is_structural());
     Ok(())
+}
+
+#[test]
+fn places_of_properties(rt: HostRuntime) -> Result<(), Fail> {
+    let name = StackEntry::Prop(3, PropValue::NameIs(text(rt.alloc(), b"a")?));
+    let script = StackEntry::Prop(3, PropValue::ScriptIs(text(rt.alloc(), b"a")?));
+    assert!(rt; !name.is_of_place_of(&script));
+    Ok(())
+}
+
+#[test]
+fn an_object_has_no_place(rt: HostRuntime) {
+    let gone = StackEntry::Object(3, None);
+    assert!(rt; gone.is_structural() && !gone.is_of_place_of(&gone));
 }

@@ -103,37 +103,86 @@ fn ran_by<E: External, R: Read, W: Write>(
     run(session, alloc, reader, writer)
 }
 
-/// Runs a session on the stack of two cards, over a reader that fails at a call and a writer that takes as many
-/// bytes at a time and fails at a call.
-fn hear<E: External>(
-    alloc: Global,
-    externals: Vec<E>,
-    input: &[u8],
+/// The devices of a run: the reader fails at a call, and the writer takes as many bytes at a time and fails at a call.
+#[derive(Clone, Copy)]
+struct Devices {
     read_fails_at: usize,
     most: usize,
     write_fails_at: usize,
-) -> Result<Heard, Fail> {
-    let mut session = session_of(alloc, externals, 100_000)?;
+}
+
+/// Never fail.
+const SOUND: Devices = Devices {
+    read_fails_at: NEVER,
+    most: 4096,
+    write_fails_at: NEVER,
+};
+
+/// A session on the stack of two cards. It stands in a box, so that each exit drops it by one call.
+fn session_of<E: External>(
+    alloc: Global,
+    externals: Vec<E>,
+    steps: u32,
+) -> Result<Box<Session<E>>, Fail> {
+    let opened = Session::open(alloc, two_cards(alloc)?, externals, steps, 1_000_000);
+    Ok(Box::new(alloc, opened.ok().ok_or("open")?)?)
+}
+
+fn heard_by<E: External>(
+    session: &mut Session<E>,
+    alloc: Global,
+    input: &[u8],
+    devices: Devices,
+) -> Heard {
     let mut reader = Watched::new(Drip {
         bytes: input,
         calls: 0,
-        fails_at: read_fails_at,
+        fails_at: devices.read_fails_at,
     });
     let mut taken = Sip {
         taken: Vec::new(alloc),
-        most,
+        most: devices.most,
         calls: 0,
-        fails_at: write_fails_at,
+        fails_at: devices.write_fails_at,
     };
     let mut writer = Watched::new(&mut taken);
-    let ran = ran_by(&mut session, alloc, &mut reader, &mut writer);
+    let ran = ran_by(session, alloc, &mut reader, &mut writer);
     let write_failures = writer.failures();
-    Ok(Heard {
+    Heard {
         written: taken.taken,
         ran,
         read_failures: reader.failures(),
         write_failures,
-    })
+    }
+}
+
+/// Runs a session on the stack of two cards.
+fn hear<E: External>(
+    alloc: Global,
+    externals: Vec<E>,
+    input: &[u8],
+    devices: Devices,
+) -> Result<Heard, Fail> {
+    let mut session = session_of(alloc, externals, 100_000)?;
+    Ok(heard_by(&mut session, alloc, input, devices))
+}
+
+/// Whether a run wrote this and ended so, and how many calls of its reader and of its writer failed.
+fn is_heard(
+    alloc: Global,
+    input: &[u8],
+    devices: Devices,
+    written: &[u8],
+    ended: (Result<Ran, RunFault>, u64, u64),
+) -> Result<bool, Fail> {
+    let heard = hear(alloc, none(alloc), input, devices)?;
+    let (ran, read_failures, write_failures) = ended;
+    Ok(
+        heard.written.as_slice() == written
+            && heard.ran == ran
+            && heard.read_failures == read_failures
+            && heard.write_failures == write_failures,
+    )
 }
 
 /// Lines, and the answers to them.
@@ -145,7 +194,7 @@ struct Talk {
     ran: Ran,
 }
 
-const TALKS: [Talk; 8] = [
+const TALKS: &[Talk] = &[
     Talk {
         name: "the first run",
         input: b"put \"hello\" into g\ngo card 2\n.undo 2\n.redo\n.globals\n.where\n",
@@ -198,22 +247,30 @@ const TALKS: [Talk; 8] = [
 
 #[test]
 fn lines_are_answered(rt: HostRuntime) -> Result<(), Fail> {
-    let alloc = rt.alloc();
+    let devices = Devices { most: 1, ..SOUND };
     for talk in TALKS {
-        let heard = hear(alloc, none(alloc), talk.input, NEVER, 1, NEVER)?;
-        assert_eq!(rt; heard.ran, Ok(talk.ran), "at {}", talk.name);
-        assert!(rt; heard.written.as_slice() == talk.wanted, "at {}", talk.name);
+        let ended = (Ok(talk.ran), 0, 0);
+        assert!(rt;
+            is_heard(rt.alloc(), talk.input, devices, talk.wanted, ended)?,
+            "at {}",
+            talk.name
+        );
     }
     Ok(())
 }
 
-#[test]
-fn a_line_that_is_too_long_is_skipped(rt: HostRuntime) -> Result<(), Fail> {
-    let alloc = rt.alloc();
+fn long_line(alloc: Global) -> Result<Vec<u8>, Fail> {
     let mut input = vec![in alloc; b'x'; LONGEST_LINE + 1]?;
     input.extend_from_slice(b"\r\n.where\r\n.where")?;
-    let heard = hear(alloc, none(alloc), &input, NEVER, 4096, NEVER)?;
-    assert!(rt; heard.written.as_slice() == b"refused 5\n> 2\nok\n> 2\nok\n".as_slice());
+    Ok(input)
+}
+
+#[test]
+fn a_line_that_is_too_long_is_skipped(rt: HostRuntime) -> Result<(), Fail> {
+    let input = long_line(rt.alloc())?;
+    let wanted = b"refused 5\n> 2\nok\n> 2\nok\n";
+    let ended = (Ok(Ran::EndOfInput), 0, 0);
+    assert!(rt; is_heard(rt.alloc(), &input, SOUND, wanted, ended)?);
     Ok(())
 }
 
@@ -231,63 +288,62 @@ fn shown_lines(alloc: Global, text: &[u8]) -> Result<Vec<u8>, AllocError> {
 
 #[test]
 fn the_stack_is_shown_as_it_is_saved(rt: HostRuntime) -> Result<(), Fail> {
-    let alloc = rt.alloc();
-    let heard = hear(alloc, none(alloc), b".show\n", NEVER, 4096, NEVER)?;
-    let wanted = shown_lines(alloc, &TWO_CARDS[..TWO_CARDS.len() - 1])?;
-    assert!(rt; heard.written.as_slice() == wanted.as_slice());
+    let wanted = shown_lines(rt.alloc(), &TWO_CARDS[..TWO_CARDS.len() - 1])?;
+    let ended = (Ok(Ran::EndOfInput), 0, 0);
+    assert!(rt; is_heard(rt.alloc(), b".show\n", SOUND, &wanted, ended)?);
     Ok(())
 }
 
-/// The first bytes of what would be written, with a call of each device that fails.
-fn cut<E: External>(
+/// What is written where no call fails.
+const WHOLE: &[u8] = b"> 2\nok\nok\n> 4\nok\n";
+
+/// Whether the first bytes alone are written, and the run ends so.
+fn is_cut(
     alloc: Global,
-    externals: Vec<E>,
-    read_fails_at: usize,
-    most: usize,
-    write_fails_at: usize,
-) -> Result<Heard, Fail> {
-    hear(
-        alloc,
-        externals,
-        b".where\ngo card 2\n.where\n",
-        read_fails_at,
-        most,
-        write_fails_at,
-    )
+    devices: Devices,
+    written: usize,
+    ended: (Result<Ran, RunFault>, u64, u64),
+) -> Result<bool, Fail> {
+    let input = b".where\ngo card 2\n.where\n";
+    let written = &WHOLE[..written.min(WHOLE.len())];
+    is_heard(alloc, input, devices, written, ended)
 }
 
 #[test]
 fn a_reader_that_fails_cuts_a_line_off(rt: HostRuntime) -> Result<(), Fail> {
-    let alloc = rt.alloc();
-    for calls in [0, 6, 7, 16, 17] {
-        let heard = cut(alloc, none(alloc), calls, 4096, NEVER)?;
-        let wanted = if calls < 7 {
-            b"".as_slice()
-        } else if calls < 17 {
-            b"> 2\nok\n".as_slice()
-        } else {
-            b"> 2\nok\nok\n".as_slice()
+    let rows: &[(usize, usize)] = &[(0, 0), (6, 0), (7, 7), (16, 7), (17, 10)];
+    for (calls, written) in rows {
+        let devices = Devices {
+            read_fails_at: *calls,
+            ..SOUND
         };
-        assert_eq!(rt; heard.ran, Err(RunFault::Read));
-        assert_eq!(rt; heard.read_failures, 1);
-        assert!(rt; heard.written.as_slice() == wanted);
+        let ended = (Err(RunFault::Read), 1, 0);
+        assert!(rt;
+            is_cut(rt.alloc(), devices, *written, ended)?,
+            "call {calls}"
+        );
     }
     Ok(())
 }
 
 #[test]
 fn a_writer_that_fails_cuts_an_answer_off(rt: HostRuntime) -> Result<(), Fail> {
-    let alloc = rt.alloc();
-    let all = b"> 2\nok\nok\n> 4\nok\n";
-    for calls in 0..all.len() {
-        let heard = cut(alloc, none(alloc), NEVER, 1, calls)?;
-        assert_eq!(rt; heard.ran, Err(RunFault::Write));
-        assert_eq!(rt; heard.write_failures, 1);
-        assert!(rt; heard.written.as_slice() == &all[..calls]);
+    for calls in 0..WHOLE.len() {
+        let devices = Devices {
+            most: 1,
+            write_fails_at: calls,
+            ..SOUND
+        };
+        let ended = (Err(RunFault::Write), 0, 1);
+        assert!(rt; is_cut(rt.alloc(), devices, calls, ended)?, "call {calls}");
     }
-    let none_taken = cut(alloc, none(alloc), NEVER, 0, NEVER)?;
-    assert_eq!(rt; none_taken.ran, Err(RunFault::Write));
-    assert_eq!(rt; none_taken.write_failures, 1);
+    Ok(())
+}
+
+#[test]
+fn a_writer_that_takes_nothing_has_failed(rt: HostRuntime) -> Result<(), Fail> {
+    let devices = Devices { most: 0, ..SOUND };
+    assert!(rt; is_cut(rt.alloc(), devices, 0, (Err(RunFault::Write), 0, 1))?);
     Ok(())
 }
 
@@ -298,49 +354,49 @@ fn refusal_to_open<E: External>(
     steps: u32,
     depth: u32,
 ) -> Result<Option<(OpenError, usize)>, Fail> {
-    match Session::open(alloc, Stack::new(alloc)?, externals, steps, depth) {
-        Ok(_) => Ok(None),
-        Err((error, _, externals)) => Ok(Some((error, externals.len()))),
+    let opened = Session::open(alloc, Stack::new(alloc)?, externals, steps, depth);
+    match opened.err() {
+        None => Ok(None),
+        Some((error, _, externals)) => Ok(Some((error, externals.len()))),
     }
 }
 
 #[test]
-fn steps_come_before_depth_and_depth_before_names(rt: HostRuntime) -> Result<(), Fail> {
-    let alloc = rt.alloc();
-    let mut twice = none(alloc);
-    let small: Boxed = Box::new(alloc, make_quiet(alloc, b"Echo")?)?;
-    let large: Boxed = Box::new(alloc, make_quiet(alloc, b"ECHO")?)?;
-    twice.push(small).ok().ok_or("memory")?;
-    twice.push(large).ok().ok_or("memory")?;
-    for (steps, depth, wanted) in [
+fn steps_come_before_depth(rt: HostRuntime) -> Result<(), Fail> {
+    let rows: &[(u32, u32, Option<(OpenError, usize)>)] = &[
         (0, 1, Some((OpenError::BadSteps, 0))),
         (100, 0, Some((OpenError::BadDepth, 0))),
         (0, 0, Some((OpenError::BadSteps, 0))),
         (10_000_001, 1, Some((OpenError::BadSteps, 0))),
         (1, 1_000_001, Some((OpenError::BadDepth, 0))),
         (10_000_000, 1_000_000, None),
-    ] {
-        assert_eq!(rt; refusal_to_open(alloc, none(alloc), steps, depth)?, wanted);
+    ];
+    for (steps, depth, wanted) in rows {
+        let refusal = refusal_to_open(rt.alloc(), none(rt.alloc()), *steps, *depth)?;
+        assert!(rt; refusal == *wanted, "{steps} {depth}");
     }
-    assert_eq!(rt;
-        refusal_to_open(alloc, twice, 1, 1)?,
-        Some((OpenError::DuplicateName, 2))
-    );
     Ok(())
 }
 
-/// What the calls of a session beside `line` answer.
-#[derive(Drop)]
-struct Called {
-    undone: Result<(), Refusal>,
-    undone_none: Result<(), Refusal>,
-    redone: Result<(), Refusal>,
-    undone_to: Result<(), Refusal>,
-    saved: Bytes,
-    plugged: bool,
-    plugged_again: bool,
-    unplugged: bool,
-    closed: usize,
+fn boxed(alloc: Global, name: &[u8]) -> Result<Boxed, Fail> {
+    let boxed: Boxed = Box::new(alloc, make_quiet(alloc, name)?)?;
+    Ok(boxed)
+}
+
+fn quiets(alloc: Global, names: &[&[u8]]) -> Result<Vec<Boxed>, Fail> {
+    let mut quiets = none(alloc);
+    for name in names {
+        quiets.push(boxed(alloc, name)?).ok().ok_or("memory")?;
+    }
+    Ok(quiets)
+}
+
+#[test]
+fn names_are_apart(rt: HostRuntime) -> Result<(), Fail> {
+    let twice = quiets(rt.alloc(), &[b"Echo".as_slice(), b"ECHO".as_slice()])?;
+    let refusal = refusal_to_open(rt.alloc(), twice, 1, 1)?;
+    assert!(rt; refusal == Some((OpenError::DuplicateName, 2)));
+    Ok(())
 }
 
 // Each call by a function that promises nothing, so that no test carries the clauses of many.
@@ -377,111 +433,109 @@ fn count_at_close<E: External>(session: Session<E>) -> usize {
     session.close().len()
 }
 
-fn session_of<E: External>(
-    alloc: Global,
-    externals: Vec<E>,
-    steps: u32,
-) -> Result<Session<E>, Fail> {
-    let opened = Session::open(alloc, two_cards(alloc)?, externals, steps, 1_000_000);
-    Ok(opened.ok().ok_or("open")?)
-}
-
-fn call<E: External>(alloc: Global, first: Vec<E>, second: E, third: E) -> Result<Called, Fail> {
-    let mut session = session_of(alloc, first, 100)?;
+/// What an undo of no place, an undo, a redo and an undo to the start answer.
+fn moves<E: External>(alloc: Global, externals: Vec<E>) -> Result<[Result<(), Refusal>; 4], Fail> {
+    let mut session = session_of(alloc, externals, 100)?;
     let _ = ending_of(&mut session, b"put \"1\" into g");
     let undone_none = undone(&mut session, 0);
-    let undone = undone(&mut session, 1);
+    let undone_one = undone(&mut session, 1);
     let redone = redone(&mut session, 1);
-    let undone_to = undone_to(&mut session, 0);
-    let saved = saved_by(&session)?;
-    let plugged = is_plugged(&mut session, second);
-    let plugged_again = is_plugged(&mut session, third);
-    let name = Text::from_slice(alloc, b"quiet")?;
-    let unplugged = is_unplugged(&mut session, &name);
-    Ok(Called {
-        undone,
-        undone_none,
-        redone,
-        undone_to,
-        saved,
-        plugged,
-        plugged_again,
-        unplugged,
-        closed: count_at_close(session),
-    })
+    Ok([undone_none, undone_one, redone, undone_to(&mut session, 0)])
 }
 
 #[test]
-fn calls_of_a_session(rt: HostRuntime) -> Result<(), Fail> {
-    let alloc = rt.alloc();
-    let mut first = none(alloc);
-    let one: Boxed = Box::new(alloc, make_quiet(alloc, b"one")?)?;
-    let quiet: Boxed = Box::new(alloc, make_quiet(alloc, b"Quiet")?)?;
-    let same: Boxed = Box::new(alloc, make_quiet(alloc, b"QUIET")?)?;
-    first.push(one).ok().ok_or("memory")?;
-    let called = call(alloc, first, quiet, same)?;
-    assert_eq!(rt; called.undone_none, Err(Refusal::BadCommand));
-    assert_eq!(rt; called.undone, Ok(()));
-    assert_eq!(rt; called.redone, Ok(()));
-    assert_eq!(rt; called.undone_to, Ok(()));
-    assert!(rt; called.saved.as_slice() == TWO_CARDS);
-    assert!(rt; called.plugged);
-    assert!(rt; !called.plugged_again);
-    assert!(rt; called.unplugged);
-    assert_eq!(rt; called.closed, 1);
+fn places_are_undone_and_redone(rt: HostRuntime) -> Result<(), Fail> {
+    let [undone_none, undone, redone, undone_to] = moves(rt.alloc(), none(rt.alloc()))?;
+    assert!(rt; undone_none == Err(Refusal::BadCommand));
+    assert!(rt; undone == Ok(()) && redone == Ok(()) && undone_to == Ok(()));
     Ok(())
 }
 
-/// What is seen of one line's reply.
-#[derive(Drop)]
-struct Seen {
-    ending: Ending,
-    sent: usize,
-    shown: Vec<u8>,
+/// Whether the stack of a session is saved so after a line.
+fn saves<E: External>(alloc: Global, externals: Vec<E>, text: &[u8]) -> Result<bool, Fail> {
+    let mut session = session_of(alloc, externals, 100)?;
+    let _ = ending_of(&mut session, b"put \"1\" into g");
+    let saved = saved_by(&session)?;
+    Ok(saved.as_slice() == text)
+}
+
+#[test]
+fn a_stack_is_saved_as_it_was_read(rt: HostRuntime) -> Result<(), Fail> {
+    assert!(rt; saves(rt.alloc(), none(rt.alloc()), TWO_CARDS)?);
+    Ok(())
+}
+
+/// Whether an external is plugged, whether another of its name is, whether it is unplugged, and how many there are at
+/// the close.
+fn plugs<E: External>(
+    alloc: Global,
+    first: Vec<E>,
+    second: E,
+    third: E,
+    name: &Text,
+) -> Result<(bool, bool, bool, usize), Fail> {
+    let mut session = session_of(alloc, first, 100)?;
+    let plugged = is_plugged(&mut session, second);
+    let plugged_again = is_plugged(&mut session, third);
+    let unplugged = is_unplugged(&mut session, name);
+    let closed = count_at_close(Box::into_inner(session));
+    Ok((plugged, plugged_again, unplugged, closed))
+}
+
+#[test]
+fn an_external_is_plugged_once_and_unplugged(rt: HostRuntime) -> Result<(), Fail> {
+    let name = Text::from_slice(rt.alloc(), b"quiet")?;
+    let quiet = boxed(rt.alloc(), b"Quiet")?;
+    let same = boxed(rt.alloc(), b"QUIET")?;
+    let first = quiets(rt.alloc(), &[b"one".as_slice()])?;
+    assert!(rt; plugs(rt.alloc(), first, quiet, same, &name)? == (true, false, true, 1));
+    Ok(())
 }
 
 fn reply_to<E: External>(session: &mut Session<E>, line: &[u8]) -> Reply {
     session.line(line)
 }
 
-fn empty_session<E: External>(alloc: Global, externals: Vec<E>) -> Result<Session<E>, Fail> {
+fn empty_session<E: External>(alloc: Global, externals: Vec<E>) -> Result<Box<Session<E>>, Fail> {
     let opened = Session::open(alloc, Stack::new(alloc)?, externals, 100, 10);
-    Ok(opened.ok().ok_or("open")?)
+    Ok(Box::new(alloc, opened.ok().ok_or("open")?)?)
 }
 
-fn reply_of<E: External>(alloc: Global, externals: Vec<E>, line: &[u8]) -> Result<Seen, Fail> {
+/// Whether a reply ends so, with this line shown or none, and sends nothing.
+fn is_reply(reply: &Reply, ending: Ending, shown: Option<&[u8]>) -> bool {
+    let is_shown = match shown {
+        Some(line) => reply.shown.len() == 1 && reply.shown.at(0).as_slice() == line,
+        None => reply.shown.len() == 0,
+    };
+    is_shown && reply.ending == ending && reply.sent.len() == 0
+}
+
+fn replies<E: External>(
+    alloc: Global,
+    externals: Vec<E>,
+    line: &[u8],
+    ending: Ending,
+    shown: Option<&[u8]>,
+) -> Result<bool, Fail> {
     let mut session = empty_session(alloc, externals)?;
     let reply = reply_to(&mut session, line);
-    let mut shown = Vec::new(alloc);
-    for i in 0..reply.shown.len() {
-        shown.extend_from_slice(reply.shown.at(i).as_slice())?;
-        shown.push(b';')?;
-    }
-    for i in 0..reply.sent.len() {
-        shown.extend_from_slice(reply.sent.at(i).name.as_slice())?;
-    }
-    Ok(Seen {
-        ending: reply.ending,
-        sent: reply.sent.len(),
-        shown,
-    })
+    Ok(is_reply(&reply, ending, shown))
 }
 
 #[test]
 fn replies_show_lines_and_end(rt: HostRuntime) -> Result<(), Fail> {
-    let alloc = rt.alloc();
-    let looked = reply_of(alloc, none(alloc), b".where")?;
-    assert_eq!(rt; looked.ending, Ending::Ok);
-    assert!(rt; looked.shown.as_slice() == b"2;".as_slice());
-    assert_eq!(rt; looked.sent, 0);
-    let failed = reply_of(alloc, none(alloc), b"go card 2")?;
-    assert_eq!(rt; failed.ending, Ending::Fault(Fault::NoSuchObject));
-    let refused = reply_of(alloc, none(alloc), b"")?;
-    assert_eq!(rt; refused.ending, Ending::Refused(Refusal::BadCommand));
-    assert_eq!(rt;
-        reply_of(alloc, none(alloc), b".quit")?.ending,
-        Ending::Quit
-    );
+    let rows: &[(&[u8], Ending, Option<&[u8]>)] = &[
+        (b".where", Ending::Ok, Some(b"2")),
+        (b"go card 2", Ending::Fault(Fault::NoSuchObject), None),
+        (b"", Ending::Refused(Refusal::BadCommand), None),
+        (b".quit", Ending::Quit, None),
+    ];
+    for (line, ending, shown) in rows {
+        assert!(rt;
+            replies(rt.alloc(), none(rt.alloc()), line, *ending, *shown)?,
+            "{line:?}"
+        );
+    }
     Ok(())
 }
 

@@ -129,13 +129,24 @@ fn script_length(stack: &Stack) -> Option<usize> {
     }
 }
 
+/// The empty stack with a script of 30,000 returns, and then this.
+fn text_of_long_script(alloc: Global, last: &[u8]) -> Result<Vec<u8>, AllocError> {
+    let script = long_script(alloc, last)?;
+    text_of_script(alloc, &script)
+}
+
 #[test]
-fn a_script_has_thirty_thousand_bytes_and_no_more(rt: HostRuntime) -> Result<(), Fail> {
-    let text = text_of_script(rt.alloc(), &long_script(rt.alloc(), b"|\n")?)?;
+fn a_script_has_thirty_thousand_bytes(rt: HostRuntime) -> Result<(), Fail> {
+    let text = text_of_long_script(rt.alloc(), b"|\n")?;
     let stack = stack_of(rt.alloc(), &text)?;
     assert!(rt; script_length(&stack) == Some(30_000));
     assert!(rt; is_written(rt.alloc(), &text, &text));
-    let text = text_of_script(rt.alloc(), &long_script(rt.alloc(), b"|a\n")?)?;
+    Ok(())
+}
+
+#[test]
+fn a_script_has_no_more_bytes(rt: HostRuntime) -> Result<(), Fail> {
+    let text = text_of_long_script(rt.alloc(), b"|a\n")?;
     assert!(rt; fault_of(rt.alloc(), &text) == Some(FileError::BadLine(30_005)));
     Ok(())
 }
@@ -174,11 +185,21 @@ fn script_of_every_byte(alloc: Global) -> Result<Vec<u8>, AllocError> {
     Ok(script)
 }
 
+fn text_of_every_byte(alloc: Global) -> Result<Vec<u8>, AllocError> {
+    let script = script_of_every_byte(alloc)?;
+    text_of_script(alloc, &script)
+}
+
+fn reads_every_byte(alloc: Global, text: &[u8]) -> Result<bool, Fail> {
+    let stack = stack_of(alloc, text)?;
+    let bytes = every_byte(alloc)?;
+    Ok(has_script(&stack, 0, &bytes))
+}
+
 #[test]
 fn a_script_has_every_byte(rt: HostRuntime) -> Result<(), Fail> {
-    let text = text_of_script(rt.alloc(), &script_of_every_byte(rt.alloc())?)?;
-    let stack = stack_of(rt.alloc(), &text)?;
-    assert!(rt; has_script(&stack, 0, &every_byte(rt.alloc())?));
+    let text = text_of_every_byte(rt.alloc())?;
+    assert!(rt; reads_every_byte(rt.alloc(), &text)?);
     assert!(rt; is_written(rt.alloc(), &text, &text));
     Ok(())
 }

@@ -19,4 +19,4 @@ pub returns-in-Object-clause-opens : goal.returns-in-Object-clause-opens
 returns-in-Object-clause-opens c = either c.args.stack.now c.open_slot.new.self c.open_slot.result (opens_slot c.args.stack.now c.open_slot.new.self c.in-Object.id) c.open_slot.ensures.ok c.open_slot.ensures.err
 
 pub returns-in-Parts-clause-opens : goal.returns-in-Parts-clause-opens
-returns-in-Parts-clause-opens c = either c.args.stack.now c.open_slot-2.new.self c.open_slot-2.result (opens_slot c.args.stack.now c.open_slot-2.new.self c.in-Parts.layer) c.open_slot-2.ensures.ok c.open_slot-2.ensures.err
+returns-in-Parts-clause-opens c = either c.args.stack.now c.open_slot-in-Parts.new.self c.open_slot-in-Parts.result (opens_slot c.args.stack.now c.open_slot-in-Parts.new.self c.in-Parts.layer) c.open_slot-in-Parts.ensures.ok c.open_slot-in-Parts.ensures.err
