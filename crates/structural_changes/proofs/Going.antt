@@ -121,6 +121,10 @@ if_kept true k p h l z e = e refl ∙ sym (and_true (k || (p || (l && h))))
     and_true false = refl
 if_kept false k p h l z e = sym (and_false (k || (p || (l && h))))
 
+-- what these parts keep for a card, or for 0
+abbrev pub kept : Content → PartKind → List ℕ → ℕ → List Pair
+kept s kind parts k = filter (has_content kind s) (map (λ part. (part, k)) parts)
+
 module _ (s : Content) (w : IsWellFormed s) (c : ℕ) (e : has_kind is_card s c ≡ true) where
   -- ---- layers and objects
 
@@ -236,18 +240,14 @@ module _ (s : Content) (w : IsWellFormed s) (c : ℕ) (e : has_kind is_card s c 
       (λ k. background_facts is_background_field (field_of_background s w c e) q.0 q.1 k)
   facts Button q h = background_facts is_background_button (button_of_background s w c e) q.0 q.1 (sym (bool_iff _ _ (w.hilites q.0 q.1)) ∙ h)
 
-  -- what the parts keep for the card, and for 0 where they go
-  abbrev pub kept : PartKind → List ℕ → ℕ → List Pair
-  kept kind parts k = filter (has_content kind s) (map (λ part. (part, k)) parts)
-
-  pub found_contents : (kind : PartKind) (q : Pair) → has pair_cmp q ((kept kind (parts_at s c) c ++ kept kind (parts_at s (home s c)) c) ++ kept kind (if is_last_card s c then parts_at s (home s c) else []) 0) ≡ goes_as_content s c q && has_content kind s q
+  pub found_contents : (kind : PartKind) (q : Pair) → has pair_cmp q ((kept s kind (parts_at s c) c ++ kept s kind (parts_at s (home s c)) c) ++ kept s kind (if is_last_card s c then parts_at s (home s c) else []) 0) ≡ goes_as_content s c q && has_content kind s q
   found_contents kind q =
       let t : Pair → Bool = has_content kind s in
       let on_card : List ℕ = parts_at s c in
       let on_background : List ℕ = parts_at s (home s c) in
       let going : List ℕ = if is_last_card s c then on_background else [] in
-      list_any-append (eq_by_cmp pair_cmp q) (kept kind on_card c ++ kept kind on_background c) (kept kind going 0)
-      ∙ (λ i. (list_any-append (eq_by_cmp pair_cmp q) (kept kind on_card c) (kept kind on_background c) ∙ (λ j. has-kept t c on_card q j || has-kept t c on_background q j)) i || (has-kept t 0 going q ∙ ap (λ b. t q && (nat_eq q.1 0 && b)) (contains-if q.0 (is_last_card s c) on_background)) i)
+      list_any-append (eq_by_cmp pair_cmp q) (kept s kind on_card c ++ kept s kind on_background c) (kept s kind going 0)
+      ∙ (λ i. (list_any-append (eq_by_cmp pair_cmp q) (kept s kind on_card c) (kept s kind on_background c) ∙ (λ j. has-kept t c on_card q j || has-kept t c on_background q j)) i || (has-kept t 0 going q ∙ ap (λ b. t q && (nat_eq q.1 0 && b)) (contains-if q.0 (is_last_card s c) on_background)) i)
       ∙ if_kept (t q) (nat_eq q.1 c) (contains_id q.0 on_card) (contains_id q.0 on_background) (is_last_card s c) (nat_eq q.1 0) (λ h. let f = facts kind q h in found_goes (nat_eq q.1 c) (contains_id q.0 on_card) (contains_id q.0 on_background) (is_last_card s c) (nat_eq q.1 0) f.0 f.1 f.2)
 
   -- pairs that were sorted, each once, are those that go

@@ -1,6 +1,8 @@
 //! The changes that make objects, prepared.
 
-ghost use Rattle.std.specs.Prelude.{◌≡◌, IfOk, [], ◌∷◌, ◌++◌, Some, true};
+ghost use Rattle.std.specs.Prelude.{◌≡◌, IfOk, [], ◌∷◌, ◌++◌, Some, true, false};
+ghost use Rattle.object_table.specs.Empty.{empty_object};
+ghost use Rattle.object_table.specs.declared.object.Kind.TheVariants.{Card};
 ghost use Rattle.object_table.specs.Objects.{has_kind, is_background, is_card, parts_at};
 ghost use Rattle.object_table.specs.Layers.{layer_id};
 ghost use Rattle.object_table.specs.WellFormed.{IsWellFormed};
@@ -142,6 +144,17 @@ fn order_with(alloc: Global, order: &IdList, place: Id, id: Id) -> Result<IdList
     Ok(IdList::from_vec(longer))
 }
 
+/// A new card of a background.
+fn card_on(alloc: Global, background: Id) -> Object
+    ensures { result ≡ empty_object (Card background false) }
+{
+    let kind = Kind::Card {
+        background,
+        cant_delete: false,
+    };
+    Object::empty(alloc, kind)
+}
+
 /// The entries of a new card on the background of another card, behind which it stands, with all the room that they need.
 /// The stack holds what it held; where a growth is refused its room may be wider.
 pub fn prepare_new_card(
@@ -160,13 +173,7 @@ pub fn prepare_new_card(
     let order = order_with(alloc, stack.cards(), card, new)?;
     let fields = parts_of(alloc, stack, background, PartKind::Field)?;
     let buttons = parts_of(alloc, stack, background, PartKind::Button)?;
-    let object = Object::empty(
-        alloc,
-        Kind::Card {
-            background,
-            cant_delete: false,
-        },
-    );
+    let object = card_on(alloc, background);
     let mut entries = Vec::new(alloc);
     add_entry(stack, &mut entries, StackEntry::NextId(new + 1))?;
     add_entry(stack, &mut entries, StackEntry::Object(new, Some(object)))?;
@@ -210,13 +217,7 @@ pub fn prepare_new_background(
     let order = order_with(alloc, stack.cards(), card, new + 1)?;
     let backgrounds = with_last(alloc, stack.backgrounds().as_slice(), new)?;
     let background = Object::empty(alloc, Kind::Background { cant_delete: false });
-    let object = Object::empty(
-        alloc,
-        Kind::Card {
-            background: new,
-            cant_delete: false,
-        },
-    );
+    let object = card_on(alloc, new);
     let mut entries = Vec::new(alloc);
     add_entry(stack, &mut entries, StackEntry::NextId(new + 2))?;
     add_entry(
