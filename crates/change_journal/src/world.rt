@@ -1,6 +1,6 @@
 //! The world: one present state, and the batches that lead back and forth from it.
 
-ghost use Rattle.std.specs.Prelude.{◌≡◌, ◌⊎◌, ℕ, ◌<◌, ◌≤◌, List, [], ◌∷◌, ◌++◌, length, true, IsErr, Some, None, IsSome, IfSome, IsTrue, IfOk, IfErr, OnErr, OnOk, is_ok, map, option_map, option_copied, slice_index_or};
+ghost use Rattle.std.specs.Prelude.{◌≡◌, ◌⊎◌, ℕ, ◌<◌, ◌≤◌, List, [], ◌∷◌, ◌++◌, length, true, IsErr, Some, None, IsSome, IfSome, IsTrue, IfOk, IfErr, OnErr, OnOk, is_ok, map, option_map, option_copied, slice_index_or, slice_get};
 ghost use Rattle.std.specs.FinMap as finite;
 ghost use Rattle.object_table.specs.WellFormed.{IsWellFormed};
 ghost use Rattle.object_table.specs.Objects.{has_kind, is_card};
@@ -108,7 +108,7 @@ impl<E: External> World<E> {
         self.present.global(name)
     }
 
-    /// How many globals have a value.
+    /// How many globals have a value. `global_at` gives each of them once, in an order that isn't fixed.
     pub fn global_count(&self) -> usize
         ensures count { result ≡ length (listed self.now.names self.now.history.now.globals) }
         ensures each { Lists (listed self.now.names self.now.history.now.globals) self.now.history.now.globals }
@@ -117,7 +117,7 @@ impl<E: External> World<E> {
     }
 
     /// How many names of globals have numbers, with a value or without.
-    /// `global_at` gives each global that has a value once, at the number of its name.
+    /// `global_numbered` gives each global that has a value once, at the number of its name, in constant time.
     pub fn name_count(&self) -> usize
         ensures count { result ≡ length self.now.names }
         ensures each { Lists (listed self.now.names self.now.history.now.globals) self.now.history.now.globals }
@@ -126,9 +126,18 @@ impl<E: External> World<E> {
     }
 
     /// The global with a number, from 0: its name and its value, if it has one.
-    pub fn global_at(&self, i: usize) -> Option<(&[u8], &Text)>
+    pub fn global_numbered(&self, i: usize) -> Option<(&[u8], &Text)>
         requires { i < length self.now.names }
         ensures { option_map (λ p. (p.0.now, p.1.now)) result ≡ numbered self.now.names self.now.history.now.globals i }
+    {
+        self.present.global_numbered(i)
+    }
+
+    /// A global that has a value: its name and its value. They are counted from 0. It goes over the numbers of the names
+    /// from the first one.
+    pub fn global_at(&self, i: usize) -> (&[u8], &Text)
+        requires { i < length (listed self.now.names self.now.history.now.globals) }
+        ensures { slice_get (listed self.now.names self.now.history.now.globals) i ≡ Some (result.0.now, result.1.now) }
     {
         self.present.global_at(i)
     }

@@ -12,3 +12,4 @@ pub mod Trails
 pub mod Numbering
 pub mod Marks
 pub mod Several
+mod Listing

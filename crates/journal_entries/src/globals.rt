@@ -1,6 +1,6 @@
 //! The globals: their names, numbered in the order in which they come, and their values.
 
-ghost use Rattle.std.specs.Prelude.{◌≡◌, ℕ, ◌<◌, [], length, IfOk, slice_index_or, option_copied, option_map};
+ghost use Rattle.std.specs.Prelude.{◌≡◌, ℕ, ◌<◌, [], length, IfOk, slice_index_or, slice_get, Some, option_copied, option_map};
 ghost use Rattle.std.specs.FinMap as finite;
 ghost use Rattle.object_table.specs.Maps.{put_option};
 ghost use Rattle.journal_entries.specs.Named.{Named, Extends, Lists, listed, numbered};
@@ -87,7 +87,7 @@ impl Globals {
         }
     }
 
-    /// How many names have numbers, with a value or without. `at` gives each name that has a value once, at its number.
+    /// How many names have numbers, with a value or without. `numbered` gives each name that has a value once, at its number.
     pub fn name_count(&self) -> usize
         ensures count { result ≡ length self.now.names }
         ensures each { Lists (listed self.now.names self.now.texts) self.now.texts }
@@ -104,7 +104,7 @@ impl Globals {
     }
 
     /// The numbered name with its value, if it has one.
-    pub fn at(&self, i: usize) -> Option<(&[u8], &Text)>
+    pub fn numbered(&self, i: usize) -> Option<(&[u8], &Text)>
         requires { i < length self.now.names }
         ensures { option_map (λ p. (p.0.now, p.1.now)) result ≡ numbered self.now.names self.now.texts i }
     {
@@ -112,5 +112,26 @@ impl Globals {
             Some(value) => Some((self.names[i].as_slice(), value)),
             None => None,
         }
+    }
+
+    /// The i-th name that has a value, from 0, in the order of their numbers, with its value. It goes over the numbers
+    /// from the first one.
+    pub fn at(&self, i: usize) -> (&[u8], &Text)
+        requires { i < length (listed self.now.names self.now.texts) }
+        ensures { slice_get (listed self.now.names self.now.texts) i ≡ Some (result.0.now, result.1.now) }
+    {
+        let mut left = i;
+        for number in 0..self.values.len() {
+            match self.numbered(number) {
+                Some(found) => {
+                    if left == 0 {
+                        return found;
+                    }
+                    left -= 1;
+                }
+                None => {}
+            }
+        }
+        unreachable!()
     }
 }

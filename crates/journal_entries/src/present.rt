@@ -1,6 +1,6 @@
 //! The present state: the stack, the globals, the current card and the externals.
 
-ghost use Rattle.std.specs.Prelude.{◌≡◌, ℕ, ◌<◌, List, [], ◌∷◌, ◌++◌, length, ◌+◌, true, take, drop, IfOk, IfErr, OnErr, OnOk, slice_index_or, option_copied, option_map, map};
+ghost use Rattle.std.specs.Prelude.{◌≡◌, ℕ, ◌<◌, List, [], ◌∷◌, ◌++◌, length, ◌+◌, true, take, drop, IfOk, IfErr, OnErr, OnOk, slice_index_or, option_copied, option_map, map, slice_get, Some};
 ghost use Rattle.std.specs.FinMap as finite;
 ghost use Rattle.externals.specs.Cells.{IsPatch};
 ghost use Rattle.journal_entries.specs.State.{IsState, seen_by, seen_at, first_state, titles_of, has_name as has_title, index_of as index_of_title, is_folded as is_folded_name};
@@ -257,7 +257,7 @@ impl<E: External> Present<E> {
     }
 
     /// How many names of globals have numbers, with a value or without.
-    /// `global_at` gives each global that has a value once, at the number of its name.
+    /// `global_numbered` gives each global that has a value once, at the number of its name.
     pub fn name_count(&self) -> usize
         ensures count { result ≡ length self.now.names }
         ensures each { Lists (listed self.now.names self.now.state.globals) self.now.state.globals }
@@ -266,9 +266,17 @@ impl<E: External> Present<E> {
     }
 
     /// The global with a number, from 0: its name and its value, if it has one.
-    pub fn global_at(&self, i: usize) -> Option<(&[u8], &Text)>
+    pub fn global_numbered(&self, i: usize) -> Option<(&[u8], &Text)>
         requires { i < length self.now.names }
         ensures { option_map (λ p. (p.0.now, p.1.now)) result ≡ numbered self.now.names self.now.state.globals i }
+    {
+        self.globals.numbered(i)
+    }
+
+    /// The i-th global that has a value, from 0: its name and its value.
+    pub fn global_at(&self, i: usize) -> (&[u8], &Text)
+        requires { i < length (listed self.now.names self.now.state.globals) }
+        ensures { slice_get (listed self.now.names self.now.state.globals) i ≡ Some (result.0.now, result.1.now) }
     {
         self.globals.at(i)
     }

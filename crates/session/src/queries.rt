@@ -91,7 +91,7 @@ fn globals_in_order<'a, E: External>(
 {
     let mut ordered = BTreeMap::new(alloc);
     for i in 0..world.name_count() {
-        if let Some((name, value)) = world.global_at(i) {
+        if let Some((name, value)) = world.global_numbered(i) {
             ordered.insert(name, value.as_slice())?;
         }
     }

@@ -283,15 +283,11 @@ fn has_one<E: External>(alloc: Global, world: &World<E>) -> Result<bool, Fail> {
 
 /// Whether `g` stands first among the globals, with the value `1`.
 fn lists_one<E: External>(world: &World<E>) -> bool {
-    if world.global_count() == 0 || world.name_count() == 0 {
+    if world.global_count() == 0 || world.name_count() == 0 || world.global_numbered(0).is_none() {
         return false;
     }
-    match world.global_at(0) {
-        Some((name, value)) => {
-            name == b"g".as_slice() && value.as_slice() == b"1".as_slice()
-        }
-        None => false,
-    }
+    let (name, value) = world.global_at(0);
+    name == b"g".as_slice() && value.as_slice() == b"1".as_slice()
 }
 
 /// A card that is named, and then is named after a flip back and after one forth.

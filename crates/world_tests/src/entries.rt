@@ -36,13 +36,11 @@ fn put_global(globals: &mut Globals, name: Text, value: Text) -> Result<bool, Fa
 
 /// Whether one global alone has a value, and is named so.
 fn lists(globals: &Globals, name: &[u8], value: &[u8]) -> bool {
-    if globals.count() != 1 || globals.name_count() != 1 {
+    if globals.count() != 1 || globals.name_count() != 1 || globals.numbered(0).is_none() {
         return false;
     }
-    match globals.at(0) {
-        Some((first, its_value)) => first == name && its_value.as_slice() == value,
-        None => false,
-    }
+    let (first, its_value) = globals.at(0);
+    first == name && its_value.as_slice() == value
 }
 
 fn has_global(alloc: Global, globals: &Globals, name: &[u8]) -> Result<bool, Fail> {
