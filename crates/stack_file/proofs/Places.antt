@@ -1,7 +1,6 @@
 -- Where an id stands first.
-use Rattle.std.proofs.Common.{◌≡◌, ℕ, ◌+◌, ◌<◌, Bool, true, false, cond, List, [], ◌∷◌, ◌++◌, length, refl, sym, ◌∙◌, ap, arith, get_or, set, ltb, add-zero, get_or-set_same, get_or-set_other, ◌≢◌, eq-eqb, ⊎_elim, inl, inr}
-use Rattle.std.proofs.lemmas.Bool.{cases_eq}
-use Rattle.std.specs.Prelude.{Option, Some, None, position, is_some, is_none, not, ◌==◌, ◌||◌}
+use Rattle.std.proofs.Common.{◌≡◌, ℕ, ◌+◌, ◌<◌, Bool, true, false, cond, List, [], ◌∷◌, ◌++◌, length, refl, sym, ◌∙◌, ap, arith, ltb, add-zero, inl, inr}
+use Rattle.std.specs.Prelude.{Option, Some, None, position, is_some, not, ◌==◌, ◌||◌}
 use Rattle.std.specs.Prelude.{find, slice_get, option_and_then, map}
 use Rattle.std.specs.List.{position_from, position_or_len, list_any}
 use Rattle.std.proofs.lemmas.List.{length-map}
@@ -43,22 +42,22 @@ other_place : (o : Option ℕ) (n : ℕ) → placed false o n ≡ o
 other_place None n = refl
 other_place (Some i) n = refl
 
-free_place : (o : Option ℕ) (n : ℕ) → is_none o ≡ true → placed true o n ≡ Some n
+free_place : (o : Option ℕ) (n : ℕ) → is_some o ≡ false → placed true o n ≡ Some n
 free_place None n e = refl
 free_place (Some i) n e = cc
 
+one_id : (a b : ℕ) → (a == b) ≡ true → a ≡ b
+one_id a b e = grind (arith, nat_tests)
+
 -- the first time that an id comes
-pub placed-first : (places : List (Option ℕ)) (ids : List ℕ) (id : ℕ) → ((q : ℕ) → get_or places q None ≡ position (λ x. x == q) ids) → id < length places → is_none (get_or places id None) ≡ true
-    → (q : ℕ) → get_or (set places id (Some (length ids))) q None ≡ position (λ x. x == q) (ids ++ id ∷ [])
-placed-first places ids id is room free q =
-    let pushed = position-push (λ x. x == q) ids id in
-    let same : q ≡ id → get_or (set places id (Some (length ids))) q None ≡ placed (id == q) (get_or places q None) (length ids) =
-    λ e. let here : (id == id) ≡ true = eq-eqb id id refl in rw (e, here, get_or-set_same) (sym (free_place (get_or places id None) (length ids) free))
-    in
-    let other : q ≢ id → get_or (set places id (Some (length ids))) q None ≡ placed (id == q) (get_or places q None) (length ids) =
-    λ ne. let no : (id == q) ≡ false = grind (arith, nat_tests) in rw (no, get_or-set_other) (sym (other_place (get_or places q None) (length ids)))
-    in
-    ⊎_elim same other (cases_eq q id) ∙ ap (λ o. placed (id == q) o (length ids)) (is q) ∙ sym pushed
+pub placed-first : (old new : ℕ → Option ℕ) (ids : List ℕ) (id : ℕ) → ((q : ℕ) → old q ≡ position (λ x. x == q) ids) → is_some (old id) ≡ false → ((q : ℕ) → new q ≡ cond (id == q) (Some (length ids)) (old q))
+    → (q : ℕ) → new q ≡ position (λ x. x == q) (ids ++ id ∷ [])
+placed-first old new ids id is free updates q =
+    updates q ∙ by (id == q) refl ∙ ap (λ o. placed (id == q) o (length ids)) (is q) ∙ sym (position-push (λ x. x == q) ids id)
+  where
+    by : (b : Bool) → (id == q) ≡ b → cond b (Some (length ids)) (old q) ≡ placed b (old q) (length ids)
+    by true e = sym (free_place (old q) (length ids) (ap (λ k. is_some (old k)) (sym (one_id id q e)) ∙ free))
+    by false e = sym (other_place (old q) (length ids))
 
 -- the place of an id among the backgrounds is that of its background
 place_seen : (bs : List SheetLines) (id : ℕ) → position_or_len (λ x. x == id) (sheet_ids (map sheet_seen bs)) ≡ position_or_len (λ b. b.id == id) (map sheet_seen bs)

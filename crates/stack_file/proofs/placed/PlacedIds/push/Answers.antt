@@ -1,13 +1,13 @@
-use Rattle.std.proofs.Common.{◌≡◌, ℕ, ◌<◌, ◌∙◌, sym, ap, ◌==◌, length, get_or, true, arith}
-use Rattle.std.specs.Prelude.{None, position, is_none}
+use Rattle.std.proofs.Common.{◌≡◌, ℕ, sym, ap, length, cond, arith, nat_eq, Option, Some, ◌∙◌}
+use Rattle.std.specs.Map.{lookup}
 use Rattle.stack_file.proofs.Places.{placed-first}
 use Rattle.stack_file.proofs.placed.PlacedIds.push.Goals as goal
 
-pub invariant_of-self-then-is_open : goal.invariant_of-self-then-is_open
-invariant_of-self-then-is_open c = λ q.
-    let places = c.open_place.new.places.items in
-    let is : (k : ℕ) → get_or places k None ≡ position (λ x. x == k) c.self.inside.ids.items = λ k. c.in_ok-open_place.ensures.same k ∙ c.self.invariant k in
-    let room : c.args.id < length places = c.in_ok-open_place.ensures.room in
-    let free : is_none (get_or places c.args.id None) ≡ true = ap (λ t. is_none (get_or t c.args.id None)) (sym c.deref.ensures.value) ∙ sym c.is_open.ensures ∙ c.if-is_open.true in
-    let size : c.len-place.result ≡ length c.self.inside.ids.items = omega (arith, c.self.inside.ids.ok.0, c.len-place.ensures) in
-    rw (size, c.in_ok-push.ensures.items) (placed-first places c.self.inside.ids.items c.args.id is room free q)
+pub invariant_of-self-2 : goal.invariant_of-self-2
+invariant_of-self-2 c =
+    let ids = c.self.inside.ids.items in
+    let old : ℕ → Option ℕ = λ q. lookup (nat_eq q) c.self.inside.places.entries in
+    let new : ℕ → Option ℕ = λ q. lookup (nat_eq q) c.insert.new.self.entries in
+    let size : c.len.result ≡ length ids = omega (arith, c.reserve.ensures.items, c.reserve.new.self.ok.0, c.len.ensures, ap length c.reserve.ensures.items) in
+    let updates : (q : ℕ) → new q ≡ cond (nat_eq c.args.id q) (Some (length ids)) (old q) = λ q. c.in_ok-insert.ensures.updates.0 q ∙ ap (λ n. cond (nat_eq c.args.id q) (Some n) (old q)) size in
+    rw (c.push_reserved.ensures.items, c.reserve.ensures.items) (placed-first old new ids c.args.id c.self.invariant (sym c.if-contains_key.ensures) updates)
