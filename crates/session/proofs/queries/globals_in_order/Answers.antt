@@ -13,7 +13,7 @@ loop-i-preserved g c =
     let m = c.args.world.now.history.now.globals in
     let i = c.loop-i.i in
     let lt : i < length ns = omega (arith, c.loop-i-test.true, c.name_count-i-end.ensures.count) in
-    elim c.match-global_at.branch [
+    elim c.match-global_numbered.branch [
       | in-Some+in_ok-insert w ↦
           let v = w.as_slice.result in
           let at = place_some ns m i w.in-Some.name.now v.now lt (rw w.as_slice.ensures.value w.in-Some.ensures) in
