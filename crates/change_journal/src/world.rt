@@ -18,7 +18,9 @@ ghost use Rattle.change_journal.specs.declared.world.TheConstants.{MOST_DEPTH};
 use crate::fault::{PlugError, WorldError};
 use externals::{Ask, External, Input, law_of_external};
 use ht_values::Text;
-use journal_entries::{Batch, Change, Present, are_apart, law_of_externals, law_of_texts};
+use journal_entries::{
+    Batch, Change, OpenBatch, Present, are_apart, law_of_externals, law_of_texts,
+};
 use object_table::Stack;
 use std::alloc::{AllocError, Global};
 use std::collections::VecDeque;
@@ -37,7 +39,7 @@ pub struct World<E: External> {
     present: Present<E>,
     batches: VecDeque<Batch>,
     cursor: usize,
-    open: Option<Batch>,
+    open: Option<OpenBatch>,
     oldest: u32,
     depth: u32,
     alloc: Global,
@@ -211,7 +213,7 @@ impl<E: External> World<E> {
         ensures err { OnErr result (self.new.history ≡ self.old.history) }
     {
         self.batches.reserve(1)?;
-        self.open = Some(Batch::new(self.alloc, number));
+        self.open = Some(OpenBatch::new(self.alloc, number));
         Ok(())
     }
 
@@ -255,8 +257,8 @@ impl<E: External> World<E> {
         ensures once { IfSome self.old.history.start (λ o. IsOnce o.trail) }
         ensures short { IfSome self.old.history.start (λ o. IsShort o.trail (different (places_in o.trail))) }
     {
-        if let Some(mut batch) = self.open.take() {
-            batch.shrink();
+        if let Some(batch) = self.open.take() {
+            let batch = batch.close();
             self.batches.truncate(self.cursor);
             self.oldest = keep(&mut self.batches, self.oldest, self.depth, batch);
             self.cursor = self.batches.len();
@@ -268,8 +270,8 @@ impl<E: External> World<E> {
         requires { IsSome self.old.history.start }
         ensures { self.new.history ≡ rolled_back self.old.history }
     {
-        if let Some(mut batch) = self.open.take() {
-            batch.go_back(&mut self.present);
+        if let Some(batch) = self.open.take() {
+            batch.give_up(&mut self.present);
         }
     }
 

@@ -9,7 +9,7 @@ use Rattle.journal_entries.specs.Changing.{holds_one, kept}
 use Rattle.journal_entries.specs.declared.entry.Entry.{Entry}
 use Rattle.journal_entries.specs.declared.entry.Entry.TheVariants.{Global, Current, Stack, External}
 
-structural_apart : (e f : Entry) → is_structural f ≡ true → of_one_place e f ≡ false
+pub structural_apart : (e f : Entry) → is_structural f ≡ true → of_one_place e f ≡ false
 unfolding of_one_place is_structural
 structural_apart (Global i v) (Global j w) h = stack.false_true h
 structural_apart (Global i v) (Current d) h = refl

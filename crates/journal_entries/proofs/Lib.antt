@@ -13,3 +13,5 @@ pub mod Numbering
 pub mod Marks
 pub mod Several
 mod Listing
+pub mod Keys
+pub mod Indexing

@@ -1,12 +1,12 @@
 -- An entry for each change.
-use Rattle.std.proofs.Common.{◌≡◌, ◌∷◌, true, false, Bool, ℕ, ◌+◌, ◌<◌, List, [], length, get_or, refl, sym, subst, ap, ◌∙◌, Option, Some, option_map}
+use Rattle.std.proofs.Common.{◌≡◌, ◌∷◌, true, Bool, ℕ, ◌+◌, ◌<◌, List, [], length, get_or, refl, sym, subst, ap, ◌∙◌, Option, Some, option_map}
 use Rattle.std.specs.FinMap.{get}
 use Rattle.std.specs.FinSet.{contains}
 use Rattle.object_table.specs.Maps.{put_option}
 use Rattle.object_table.specs.Setting.{may_set}
 use Rattle.object_table.specs.declared.property.PropValue.{PropValue}
-use Rattle.stack_places.specs.Places.{text, number, size_of}
-use Rattle.stack_places.specs.Exchange.{value_of, place_of, is_structural, entry_weight as stack_weight, IsReady as IsStackReady}
+use Rattle.stack_places.specs.Places.{text, size_of}
+use Rattle.stack_places.specs.Exchange.{entry_weight as stack_weight, IsReady as IsStackReady}
 use Rattle.stack_places.specs.declared.entry.StackEntry.{StackEntry}
 use Rattle.stack_places.specs.declared.entry.StackEntry.TheVariants as stack_entries
 use Rattle.stack_places.proofs.Exchanging.{IsThere, puts, taken_weight, texts_back}
@@ -15,7 +15,7 @@ use Rattle.journal_entries.specs.State.{State}
 use Rattle.journal_entries.specs.Changes.{writes_of, makes_current}
 use Rattle.journal_entries.specs.declared.change.Change.{Change}
 use Rattle.journal_entries.specs.declared.entry.Entry.{Entry}
-use Rattle.journal_entries.specs.Places.{Write, global, in_stack, current_card, in_the_stack, put}
+use Rattle.journal_entries.specs.Places.{Write, global, in_the_stack, put}
 use Rattle.journal_entries.specs.Trails.{at}
 use Rattle.journal_entries.specs.Exchange.{PresentView, shape_of, exchanged, taken, mark_of, entry_weight, IsReady}
 use Rattle.journal_entries.specs.Turning.{Prepares, IsNumbered, Carries, AreCarried}

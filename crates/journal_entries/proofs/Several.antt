@@ -1,7 +1,6 @@
 -- The entries of the changes that make and remove objects.
-use Rattle.std.proofs.Common.{◌≡◌, ◌∷◌, ◌++◌, ◌+◌, true, Bool, false, ◌&&◌, ◌||◌, if◌then◌else◌, ℕ, List, [], map, filter, refl, sym, ap, ◌∙◌, subst, Some}
+use Rattle.std.proofs.Common.{◌≡◌, ◌∷◌, ◌++◌, ◌+◌, true, Bool, false, ◌&&◌, ◌||◌, if◌then◌else◌, ℕ, List, [], map, filter, refl, ap, ◌∙◌, subst}
 use Rattle.std.proofs.lemmas.Bool.{and_parts}
-use Rattle.std.proofs.lemmas.List.{map-append}
 use Rattle.std.proofs.lemmas.List.Folds.{list_all-append}
 use Rattle.std.specs.FinMap.{keys}
 use Rattle.std.specs.List.{AllByRecursion, list_all}
@@ -18,10 +17,10 @@ use Rattle.stack_places.specs.declared.entry.StackEntry.{StackEntry}
 use Rattle.stack_places.specs.declared.entry.StackEntry.TheVariants as stack_entries
 use Rattle.stack_places.proofs.Exchanging.{IsThere, false_true}
 use Rattle.structural_changes.specs.Prepared.{Adds, write_of}
-use Rattle.structural_changes.specs.Writes.{StackWrite, following, without, ids_where, is_card_of, is_part_of, keeps, home, is_last_card, goes_as_layer, goes_as_part, goes_as_content, clear, write, texts_of, hilites_of, kept_for, first_contents, clears_of_deletion, contents_of_new_card, writes_of_new_part, writes_of_new_card, writes_of_new_background, writes_of_deletion}
+use Rattle.structural_changes.specs.Writes.{StackWrite, following, without, ids_where, is_part_of, keeps, home, is_last_card, goes_as_layer, goes_as_part, goes_as_content, clear, write, texts_of, hilites_of, kept_for, first_contents, clears_of_deletion, writes_of_new_part, writes_of_new_card, writes_of_new_background, writes_of_deletion}
 use Rattle.journal_entries.specs.State.{State}
-use Rattle.journal_entries.specs.Changes.{writes_of, makes_current}
-use Rattle.journal_entries.specs.Places.{Write, in_the_stack, put, put_all}
+use Rattle.journal_entries.specs.Changes.{makes_current}
+use Rattle.journal_entries.specs.Places.{Write, in_the_stack, put}
 use Rattle.journal_entries.specs.Exchange.{PresentView, Shape, shape_of, IsReady, AreReady}
 use Rattle.journal_entries.specs.Turning.{Prepares, IsNumbered, AreCarried}
 use Rattle.journal_entries.specs.declared.change.Change.TheVariants.{NewCard, NewBackground, NewPart, DeleteCard}

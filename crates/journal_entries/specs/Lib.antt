@@ -5,5 +5,8 @@ pub mod Replaced
 pub mod Named
 pub mod Trails
 pub mod Exchange
+pub mod Keys
 pub mod Turning
 pub mod Changing
+pub mod SameKey
+pub mod Indexed

@@ -7,6 +7,8 @@ mod entry;
 mod globals;
 mod laws;
 mod names;
+mod open_batch;
+mod place_key;
 mod present;
 
 pub use batch::Batch;
@@ -15,4 +17,5 @@ pub use entry::{Entry, Prepared};
 pub use globals::Globals;
 pub use laws::{law_of_externals, law_of_trails};
 pub use names::{are_apart, index_of};
+pub use open_batch::OpenBatch;
 pub use present::Present;

@@ -14,8 +14,8 @@ invariant_of-self g c =
     let b = journal w.present w.oldest w.depth w.batches.items w.cursor in
     let batch = c.in-Some.batch in
     let e = c.keep-self-inside.ensures in
-    let items : c.keep-self-inside.new.batches.items ≡ newest w.depth (take w.cursor w.batches.items ++ batch ∷ []) = e.batches ∙ (λ i. newest w.depth (c.truncate.ensures.items i ++ c.shrink.ensures i ∷ [])) in
-    let oldest : c.keep-self-inside.result ≡ oldest_of w.depth w.oldest (take w.cursor w.batches.items ++ batch ∷ []) = e.oldest ∙ (λ i. oldest_of w.depth w.oldest (c.truncate.ensures.items i ++ c.shrink.ensures i ∷ [])) in
+    let items : c.keep-self-inside.new.batches.items ≡ newest w.depth (take w.cursor w.batches.items ++ batch ∷ []) = e.batches ∙ (λ i. newest w.depth (c.truncate.ensures.items i ++ c.close-batch.ensures i ∷ [])) in
+    let oldest : c.keep-self-inside.result ≡ oldest_of w.depth w.oldest (take w.cursor w.batches.items ++ batch ∷ []) = e.oldest ∙ (λ i. oldest_of w.depth w.oldest (c.truncate.ensures.items i ++ c.close-batch.ensures i ∷ [])) in
     let count : c.len-self-inside.result ≡ length (newest w.depth (take w.cursor w.batches.items ++ batch ∷ [])) = omega (arith, c.len-self-inside.ensures, ap length items) in
     rw (c.in-Some.ensures.after, items, oldest, count) (IsSound-committed b _ _ batch (rw (← c.in-Some.ensures.value) at c.self.invariant))
 
@@ -25,8 +25,8 @@ returns-in-Some-clause-history g c =
     let b = journal w.present w.oldest w.depth w.batches.items w.cursor in
     let batch = c.in-Some.batch in
     let e = c.keep-self-inside.ensures in
-    let items : c.keep-self-inside.new.batches.items ≡ newest w.depth (take w.cursor w.batches.items ++ batch ∷ []) = e.batches ∙ (λ i. newest w.depth (c.truncate.ensures.items i ++ c.shrink.ensures i ∷ [])) in
-    let oldest : c.keep-self-inside.result ≡ oldest_of w.depth w.oldest (take w.cursor w.batches.items ++ batch ∷ []) = e.oldest ∙ (λ i. oldest_of w.depth w.oldest (c.truncate.ensures.items i ++ c.shrink.ensures i ∷ [])) in
+    let items : c.keep-self-inside.new.batches.items ≡ newest w.depth (take w.cursor w.batches.items ++ batch ∷ []) = e.batches ∙ (λ i. newest w.depth (c.truncate.ensures.items i ++ c.close-batch.ensures i ∷ [])) in
+    let oldest : c.keep-self-inside.result ≡ oldest_of w.depth w.oldest (take w.cursor w.batches.items ++ batch ∷ []) = e.oldest ∙ (λ i. oldest_of w.depth w.oldest (c.truncate.ensures.items i ++ c.close-batch.ensures i ∷ [])) in
     let count : c.len-self-inside.result ≡ length (newest w.depth (take w.cursor w.batches.items ++ batch ∷ [])) = omega (arith, c.len-self-inside.ensures, ap length items) in
     let before : history_of b (Some batch) ≡ c.args.self.now.history = ap (history_of b) c.in-Some.ensures.value ∙ ap (λ j. j.history) c.self.view_is in
     rw (c.in-Some.ensures.after, items, oldest, count) (history-committed b batch c.self.invariant.within c.self.invariant.few ∙ ap committed before)

@@ -1,4 +1,4 @@
-use Rattle.std.proofs.Common.{length, map, ap, arith}
+use Rattle.std.proofs.Common.{length, ap, arith}
 use Rattle.journal_entries.proofs.Listing.{at_end}
 use Rattle.journal_entries.proofs.globals.Globals.at.Goals as goal
 

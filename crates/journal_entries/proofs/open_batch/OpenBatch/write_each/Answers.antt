@@ -1,9 +1,12 @@
-use Rattle.std.proofs.Common.{◌≡◌, ◌∷◌, length, sym, subst, ap, ◌∙◌, arith}
+use Rattle.std.proofs.Common.{rules, ◌≡◌, ◌∷◌, length, sym, subst, ap, ◌∙◌, arith}
+use Rattle.std.specs.HashMap.{get_by}
 use Rattle.std.specs.Vec.Iter.{into_iter_items}
+use Rattle.journal_entries.specs.SameKey.{same_key}
+use Rattle.journal_entries.proofs.Indexing.{indexed-same}
 use Rattle.journal_entries.specs.Changing.{kept_in_turn}
-use Rattle.journal_entries.specs.Exchange.{exchanged, forth, shape_of, AreReady}
+use Rattle.journal_entries.specs.Exchange.{forth, shape_of, AreReady}
 use Rattle.journal_entries.proofs.Going.{same_shape}
-use Rattle.journal_entries.proofs.batch.Batch.write_each.Goals as goal
+use Rattle.journal_entries.proofs.open_batch.OpenBatch.write_each.Goals as goal
 
 pub loop-entry-preserved : goal.loop-entry-preserved
 loop-entry-preserved g c =
@@ -26,5 +29,24 @@ loop-entry-preserved g c =
       ready = rw (same_shape s.room s.names s.state e) ready.1;
       state = ap (forth s.names s.state) (sym steps) ∙ v.state;
       entries = ap (kept_in_turn s.names s.state es) (sym steps) ∙ v.entries;
+      indexed = rw h.items at h.indexed;
+      free = omega (arith, h.spare, v.free, short);
       place = omega (arith, h.len, h.capacity, v.place, short);
     })
+
+pub loop-entry-init : goal.loop-entry-init
+loop-entry-init g c =
+    let w = c.self.inside in
+    record {
+      count = search rules;
+      number = search rules;
+      names = search rules;
+      turns = search rules;
+      room = search rules;
+      ready = search rules;
+      state = search rules;
+      entries = search rules;
+      indexed = rw c.reserve.ensures.items (indexed-same w.entries.items w.index.closed (λ q. get_by (same_key q) w.index.latest) (λ q. get_by (same_key q) c.reserve-2.new.self) c.reserve-2.ensures.entries.2 c.self.invariant);
+      free = search rules;
+      place = search rules;
+    }

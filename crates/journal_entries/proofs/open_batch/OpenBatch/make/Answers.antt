@@ -1,6 +1,6 @@
 use Rattle.std.proofs.Common.{[], ◌∷◌}
 use Rattle.journal_entries.proofs.Turned.{on_ok_both}
-use Rattle.journal_entries.proofs.batch.Batch.make.Goals as goal
+use Rattle.journal_entries.proofs.open_batch.OpenBatch.make.Goals as goal
 
 pub returns-in-One-clause-ok : goal.returns-in-One-clause-ok
 returns-in-One-clause-ok g c = on_ok_both c.write.result (λ p q. record {
