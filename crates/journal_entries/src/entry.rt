@@ -1,7 +1,7 @@
 //! An entry of a batch: what one exchange needs.
 
 ghost use Rattle.std.specs.Prelude.{◌≡◌};
-ghost use Rattle.journal_entries.specs.Exchange.{is_structural, of_one_place};
+ghost use Rattle.journal_entries.specs.Exchange.{is_structural};
 
 use externals::Patch;
 use ht_values::Text;
@@ -33,18 +33,5 @@ pub fn is_structural_entry(entry: &Entry) -> bool
     match entry {
         Entry::Stack(entry) => entry.is_structural(),
         Entry::Global(_, _) | Entry::Current(_) | Entry::External(_, _) => false,
-    }
-}
-
-/// Whether both entries are of one place.
-#[tactic(auto, unfolding(crate::specs::Exchange::of_one_place))]
-pub fn are_of_one_place(entry: &Entry, other: &Entry) -> bool
-    ensures { result ≡ of_one_place entry.now other.now }
-{
-    match (entry, other) {
-        (Entry::Global(i, _), Entry::Global(j, _)) => *i == *j,
-        (Entry::Current(_), Entry::Current(_)) => true,
-        (Entry::Stack(entry), Entry::Stack(other)) => entry.is_of_place_of(other),
-        _ => false,
     }
 }
