@@ -197,11 +197,9 @@ fn are_seen_back(alloc: Global, world: &mut World<Quiet>, sights: &[Sight]) -> R
     ensures { OnOk result (world.new.history.start ≡ None) }
 {
     let mut all = true;
-    let mut left = sights.len();
-    while left > 1 {
-        left -= 1;
+    for back in 1..sights.len() {
         go_back(world)?;
-        all = is_seen(alloc, world, &sights[left - 1])? && all;
+        all = is_seen(alloc, world, &sights[sights.len() - 1 - back])? && all;
     }
     Ok(all)
 }
