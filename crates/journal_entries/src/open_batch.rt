@@ -73,7 +73,8 @@ impl OpenBatch {
         self.number
     }
 
-    /// The batch, which grows no more, without the room that its entries don't fill.
+    /// The batch, which grows no more, without the room that its entries don't fill. Where a smaller block is refused they
+    /// stay in theirs.
     pub fn close(self) -> Batch
         ensures { result ≡ self }
     {
