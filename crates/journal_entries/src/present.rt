@@ -16,7 +16,7 @@ use crate::names::{has_name, index_of};
 use externals::{Ask, External, Input, Patch};
 use ht_values::{PartKind, Text};
 use object_table::{LayerId, Stack};
-use stack_places::StackEntry;
+use stack_places::{BoxedText, StackEntry};
 use std::alloc::{AllocError, Global};
 use std::marker::Model;
 use std::mem;
@@ -128,8 +128,9 @@ impl<E: External> Present<E> {
                 Ok(Prepared::One(Entry::Global(number, value)))
             }
             Change::FieldText(field, card, text) => {
+                let text = BoxedText::new(alloc, Some(text))?;
                 self.stack.open_text(field, card)?;
-                let entry = StackEntry::FieldText(field, card, Some(text));
+                let entry = StackEntry::FieldText(field, card, text);
                 Ok(Prepared::One(Entry::Stack(entry)))
             }
             Change::Hilite(button, card, hilite) => {

@@ -219,9 +219,9 @@ pub fn prepare_deletion(
     let mut entries = Vec::new(alloc);
     add_entry(stack, &mut entries, StackEntry::CardOrder(cards))?;
     leave_background(alloc, stack, &mut entries, card, last)?;
-    clear_objects(stack, &mut entries, &objects)?;
+    clear_objects(alloc, stack, &mut entries, &objects)?;
     clear_parts(stack, &mut entries, &layers)?;
-    clear_texts(stack, &mut entries, &texts)?;
+    clear_texts(alloc, stack, &mut entries, &texts)?;
     clear_hilites(stack, &mut entries, &hilites)?;
     Ok(entries)
 }
