@@ -51,7 +51,7 @@ impl<'a> Model for Place<'a> {
 /// The place of a container, without chunks yet. A name means a global or a variable of the handler's own; a field's text
 /// is the one that its cards share, where they share it, else that of the card. `NoSuchObject` where the field keeps no
 /// text for the card: a background's field is read and written only with a card of that background.
-#[tactic(auto, using(crate::proofs::Folding::folded_is_folded))]
+#[tactic(auto, using(journal_entries::proofs::Folding::folded_is_folded))]
 pub fn resolve<'a, W: Store>(
     alloc: Global,
     world: &W,

@@ -82,7 +82,7 @@ pub fn write<W: Store>(
 
 /// `global`: a name means a global from here on, which gets the empty text where it had no value. Where memory was refused
 /// the history is as before, though the name may mean a global.
-#[tactic(auto, using(crate::proofs::Rules::declares_rules, crate::proofs::Bases::global_keeps, crate::proofs::Bases::is_open, crate::proofs::Folding::folded_is_folded))]
+#[tactic(auto, using(crate::proofs::Rules::declares_rules, crate::proofs::Bases::global_keeps, crate::proofs::Bases::is_open, journal_entries::proofs::Folding::folded_is_folded))]
 pub fn declare<W: Store>(
     alloc: Global,
     world: &mut W,
