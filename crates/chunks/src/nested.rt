@@ -3,7 +3,8 @@
 ghost use Rattle.std.specs.Prelude.{◌≡◌, ◌≤◌, length, IfOk};
 ghost use Rattle.ht_values.specs.Outcome.{Gives, within_limit};
 ghost use Rattle.ht_values.specs.declared.text.TheConstants.{LIMIT};
-ghost use Rattle.chunks.specs.Change.{placed as placed_of};
+ghost use Rattle.ht_values.specs.declared.word.Where.TheVariants.{Into};
+ghost use Rattle.chunks.specs.Change.{placed as placed_of, put as put_of};
 ghost use Rattle.chunks.specs.Nested.{deleted_within, put_within as put_within_of, read_within, removed_within};
 
 use crate::change::{closed, delete_in, put_in};
@@ -50,6 +51,20 @@ fn placed(alloc: Global, text: &[u8], place: Where, new: Text) -> Result<Text, F
     }
 }
 
+/// The bytes after what a chunk reads has become another text, as a text.
+fn put_back(
+    alloc: Global,
+    text: &[u8],
+    chunk: &Chunk,
+    new: &Text,
+    delimiter: u8,
+) -> Result<Text, Failure>
+    requires { length text.now ≤ LIMIT }
+    ensures { Gives result (put_of delimiter chunk.now Into new.now text.now) }
+{
+    put_in(alloc, text, chunk, Where::Into, new.as_slice(), delimiter)
+}
+
 /// The text after another is put at the innermost chunk, whose outcome is put into the chunk around it, and so on; without a
 /// chunk at the whole text. The faults are those of `put`, the innermost first.
 pub fn put_within(
@@ -83,14 +98,7 @@ fn put_inside(
         [chunk, inner @ ..] => {
             let inside = part(text, chunk, delimiter);
             let inside = put_inside(alloc, inside, inner, place, new, delimiter)?;
-            put_in(
-                alloc,
-                text,
-                chunk,
-                Where::Into,
-                inside.as_slice(),
-                delimiter,
-            )
+            put_back(alloc, text, chunk, &inside, delimiter)
         }
     }
 }
@@ -127,14 +135,7 @@ fn delete_inside(
         [next, rest @ ..] => {
             let inside = part(text, chunk, delimiter);
             match delete_inside(alloc, inside, next, rest, delimiter)? {
-                Some(inside) => Ok(Some(put_in(
-                    alloc,
-                    text,
-                    chunk,
-                    Where::Into,
-                    inside.as_slice(),
-                    delimiter,
-                )?)),
+                Some(inside) => Ok(Some(put_back(alloc, text, chunk, &inside, delimiter)?)),
                 None => Ok(None),
             }
         }

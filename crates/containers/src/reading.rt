@@ -13,11 +13,7 @@ use ht_values::{Failure, Fault, Name, Text};
 use std::alloc::Global;
 
 /// What a name reads as an expression: the value of its variable, or its spelling where that has none. It takes no memory.
-pub fn read_name<'a, W: Store>(
-    world: &'a W,
-    variables: &'a Variables,
-    name: &'a Name,
-) -> &'a Text
+pub fn read_name<'a, W: Store>(world: &'a W, variables: &'a Variables, name: &'a Name) -> &'a Text
     ensures { result.now ≡ read_name_of (W.history world.now).now variables.now name.now }
 {
     let value = if variables.is_global(name.text()) {
