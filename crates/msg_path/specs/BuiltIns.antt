@@ -1,0 +1,53 @@
+-- What a message meets after the stack: an external, what is built in, or nothing.
+use Rattle.std.specs.Prelude.{ℕ, Bool, true, false, not, ◌&&◌, List, [], ◌∷◌, position, Option, Some, None, option_map, if◌then◌else◌, codes}
+use Rattle.std.specs.List.{list_any}
+use Rattle.ht_values.specs.Text.{same}
+use Rattle.ht_values.specs.declared.operator.Func.{Func}
+use Rattle.ht_values.specs.declared.operator.Func.TheVariants as func
+use Rattle.ht_grammar.specs.declared.vocabulary.HandlerKind.{HandlerKind}
+use Rattle.ht_grammar.specs.declared.vocabulary.HandlerKind.TheVariants.{Command, Function}
+use Rattle.externals.specs.Cells.{Seen}
+use Rattle.msg_path.specs.declared.built_in.BuiltIn.{BuiltIn}
+use Rattle.msg_path.specs.declared.built_in.BuiltIn.TheVariants as built_in
+
+-- whether messages of this kind are function calls
+abbrev pub calls_function : HandlerKind → Bool
+calls_function Command = false
+calls_function Function = true
+
+-- whether an external has this name and answers function calls, or commands
+abbrev pub answers : Bool → List ℕ → Seen → Bool
+answers true name e = e.answers_calls && same e.title name
+answers false name e = not e.answers_calls && same e.title name
+
+-- the number of the external that has this name and answers function calls, or commands
+abbrev pub external_named : List Seen → Bool → List ℕ → Option ℕ
+external_named externals is_function name = position (answers is_function name) externals
+
+-- the function of texts alone that has this name
+abbrev pub function_named : List ℕ → Option Func
+function_named name =
+    if same name (codes "abs") then Some func.Abs
+    else if same name (codes "max") then Some func.Max
+    else if same name (codes "min") then Some func.Min
+    else if same name (codes "length") then Some func.Length
+    else if same name (codes "charToNum") then Some func.CharToNum
+    else if same name (codes "numToChar") then Some func.NumToChar
+    else if same name (codes "offset") then Some func.Offset
+    else None
+
+-- what is built in for messages of a kind and a name
+abbrev pub built_in_named : HandlerKind → List ℕ → Option BuiltIn
+built_in_named Command name = if same name (codes "doMenu") then Some built_in.DoMenu else None
+built_in_named Function name = if same name (codes "value") then Some built_in.Value else option_map built_in.Function (function_named name)
+
+-- the messages that the system sends, and then those that it doesn't send here
+abbrev pub system_messages : List (List ℕ)
+system_messages =
+    codes "mouseDown" ∷ codes "mouseUp" ∷ codes "openStack" ∷ codes "openBackground" ∷ codes "openCard" ∷ codes "closeCard"
+    ∷ codes "closeBackground" ∷ codes "newCard" ∷ codes "openField" ∷ codes "closeField" ∷ codes "exitField"
+    ∷ codes "closeStack" ∷ codes "newBackground" ∷ codes "newButton" ∷ codes "newField" ∷ codes "deleteCard" ∷ []
+
+-- whether a command with this name is ignored where nothing handles it
+abbrev pub is_system_message : List ℕ → Bool
+is_system_message name = list_any (λ message. same name message) system_messages
