@@ -1,5 +1,5 @@
 -- What a message meets after the stack: an external, what is built in, or nothing.
-use Rattle.std.specs.Prelude.{ℕ, Bool, true, false, not, ◌&&◌, List, [], ◌∷◌, position, Option, Some, None, option_map, if◌then◌else◌, codes}
+use Rattle.std.specs.Prelude.{ℕ, suc, Bool, true, false, not, ◌&&◌, List, [], ◌∷◌, Option, Some, None, option_map, if◌then◌else◌, codes}
 use Rattle.std.specs.List.{list_any}
 use Rattle.ht_values.specs.Text.{same}
 use Rattle.ht_values.specs.declared.operator.Func.{Func}
@@ -20,9 +20,10 @@ abbrev pub answers : Bool → List ℕ → Seen → Bool
 answers true name e = e.answers_calls && same e.title name
 answers false name e = not e.answers_calls && same e.title name
 
--- the number of the external that has this name and answers function calls, or commands
+-- the number, from 0, of the external that has this name and answers function calls, or commands
 abbrev pub external_named : List Seen → Bool → List ℕ → Option ℕ
-external_named externals is_function name = position (answers is_function name) externals
+external_named [] is_function name = None
+external_named (e ∷ es) is_function name = if answers is_function name e then Some 0 else option_map suc (external_named es is_function name)
 
 -- the function of texts alone that has this name
 abbrev pub function_named : List ℕ → Option Func
