@@ -1,5 +1,5 @@
 -- The first handler is one.
-use Rattle.std.proofs.Common.{◌≡◌, sym, ◌∙◌, ap, subst, ℕ, List, [], ◌∷◌, Option, Some, None, Result, Ok, Err}
+use Rattle.std.proofs.Common.{◌≡◌, sym, ◌∙◌, ap, subst, ℕ, List, [], ◌∷◌, Option, Some, None, Result, Ok}
 use Rattle.ht_values.specs.declared.fault.Fault.{Fault}
 use Rattle.ht_grammar.specs.declared.vocabulary.HandlerKind.{HandlerKind}
 use Rattle.ht_grammar.specs.Statements.{Handler, Handlers}

@@ -1,6 +1,6 @@
 //! What a message meets next.
 
-ghost use Rattle.std.specs.Prelude.{◌≡◌, []};
+ghost use Rattle.std.specs.Prelude.{◌≡◌, ◌<◌, [], length, IfSome};
 ghost use Rattle.journal_entries.specs.State.{seen_by};
 ghost use Rattle.msg_path.specs.Handlers.{First, script_at};
 ghost use Rattle.msg_path.specs.BuiltIns.{answers as is_answering, calls_function as is_function_call, external_named as external_by_name};
@@ -50,10 +50,10 @@ fn handler_here(
 {
     let empty = Text::new(scripts.alloc());
     let script = scripts.tree(id, script_of(stack, id, &empty))?;
-    Ok(match script.first(kind, name) {
-        Some(place) => Some(FoundHandler::new(id, script, place)),
-        None => None,
-    })
+    let Some(place) = script.first(kind, name) else {
+        return Ok(None);
+    };
+    Ok(Some(FoundHandler::new(id, script, place)))
 }
 
 /// The first handler of a kind and a name on a path; `None` where no script on it has one. Scripts are parsed one after
@@ -99,7 +99,8 @@ pub fn external_named<E: External>(
     is_function: bool,
     name: &Text,
 ) -> Option<usize>
-    ensures { result ≡ external_by_name world.now.history.now.externals is_function name.now }
+    ensures value { result ≡ external_by_name world.now.history.now.externals is_function name.now }
+    ensures there { IfSome result (λ i. i < length world.now.history.now.externals) }
 {
     for i in 0..world.external_count() {
         if answers(world.external(i), is_function, name) {
