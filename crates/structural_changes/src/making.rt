@@ -188,8 +188,8 @@ pub fn prepare_new_card(
     Ok(entries)
 }
 
-/// The background of a card.
-pub(crate) fn home_of(stack: &Stack, card: Id) -> Id
+/// The background of a card, or 0 where there is no such card.
+pub fn home_of(stack: &Stack, card: Id) -> Id
     ensures { result ≡ home stack.now.content card }
 {
     match stack.object(card) {

@@ -96,7 +96,7 @@ pub(crate) fn add_hilites(
 }
 
 /// Whether an id is that of a card of a background.
-pub(crate) fn is_on(stack: &Stack, background: Id, id: Id) -> bool
+pub fn is_on(stack: &Stack, background: Id, id: Id) -> bool
     ensures { result ≡ is_card_of stack.now.content background id }
 {
     match stack.object(id) {
