@@ -1,0 +1,3 @@
+pub mod Fitting
+pub mod Handed
+pub mod Preceding
