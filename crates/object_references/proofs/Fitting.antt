@@ -17,9 +17,8 @@ use Rattle.object_table.specs.declared.object.Kind.TheVariants.{Stack, Backgroun
 use Rattle.object_table.specs.declared.property.PropValue.{PropValue}
 use Rattle.object_table.specs.declared.property.PropValue.TheVariants.{NameIs, ScriptIs, VisibleIs, HiliteIs, SharedHiliteIs, LockTextIs, SharedTextIs, CantDeleteIs}
 use Rattle.properties.specs.PropertyText.{own_hilite}
-use Rattle.properties.specs.Setting.{may_be_set, value_by, value_for}
+use Rattle.properties.specs.Setting.{may_be_set, value_by}
 use Rattle.stack_places.specs.Places.{prop_of}
-use Rattle.journal_entries.specs.declared.change.Change.{Change}
 use Rattle.journal_entries.specs.declared.change.Change.TheVariants as change
 use Rattle.object_references.specs.Settings.{hilite_change, shares_hilite, background_hilite, change_of, setting, FitsIn}
 use Rattle.object_references.specs.declared.referent.Referent.{Referent}

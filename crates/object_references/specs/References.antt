@@ -1,5 +1,5 @@
 -- Which object a reference means.
-use Rattle.std.specs.Prelude.{ℕ, ℤ, pos, negsuc, List, [], ◌∷◌, reverse, length, find, is_some, Bool, true, false, if◌then◌else◌, ◌==◌, Option, Some, None, unwrap_or, Result, Ok, Err}
+use Rattle.std.specs.Prelude.{ℕ, ℤ, pos, negsuc, List, [], ◌∷◌, reverse, length, find, is_some, if◌then◌else◌, ◌==◌, Option, Some, None, unwrap_or, Result, Ok, Err}
 use Rattle.std.specs.Option.{ok_or}
 use Rattle.ht_values.specs.declared.fault.Fault.{Fault}
 use Rattle.ht_values.specs.declared.fault.Fault.TheVariants.{NoSuchObject}

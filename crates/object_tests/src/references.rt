@@ -4,10 +4,9 @@
 
 use ht_grammar::Layer;
 use ht_lex::Ordinal;
-use ht_values::{Fault, PartKind, Prop, Text};
-use journal_entries::Change;
+use ht_values::{Fault, PartKind, Text};
 use object_references::*;
-use object_table::{Id, LayerId, PropValue, Stack};
+use object_table::{Id, LayerId, Stack};
 use stack_file::read;
 use std::alloc::Global;
 use std::test::Fail;
@@ -23,7 +22,7 @@ cards 3\n\
 card 2 1\nname |A\ncantDelete false\nscript 0\nparts 0\n\
 hilite 5 true\nhilite 6 false\ntext 7 0\ntext 11 0\n\
 card 4 8\nname |B\ncantDelete false\nscript 0\nparts 0\n\
-card 9 1\nname |\ncantDelete false\nscript 0\nparts 2\n\
+card 9 1\nname |\ncantDelete true\nscript 0\nparts 2\n\
 button 10\nname |Push\nvisible true\nhilite true\nscript 0\n\
 field 12\nname |2\nvisible true\nlockText false\nscript 0\ntext 0\n\
 hilite 5 false\nhilite 6 false\ntext 7 0\ntext 11 0\nend\n";
@@ -41,12 +40,12 @@ enum Row {
 
 use Row::{ById, ByText, Next, Nth, Previous, This};
 
-fn stack(alloc: Global) -> Result<Box<Stack>, Fail> {
+pub(crate) fn stack(alloc: Global) -> Result<Box<Stack>, Fail> {
     let stack = read(alloc, STACK).ok().ok_or("a stack")?;
     Ok(Box::new(alloc, stack)?)
 }
 
-fn text(alloc: Global, bytes: &[u8]) -> Result<Text, Fail> {
+pub(crate) fn text(alloc: Global, bytes: &[u8]) -> Result<Text, Fail> {
     Ok(Text::from_slice(alloc, bytes)?)
 }
 
@@ -149,7 +148,11 @@ fn backgrounds_are_found(rt: HostRuntime) -> Result<(), Fail> {
 }
 
 fn meets_part(stack: &Stack, kind: PartKind, layer: LayerId, pick: &Pick, due: Id) -> bool {
-    is_met(part_met(stack, kind, PartScope { layer, card: 4 }, pick), due, 4)
+    is_met(
+        part_met(stack, kind, PartScope { layer, card: 4 }, pick),
+        due,
+        4,
+    )
 }
 
 #[test]
@@ -210,7 +213,25 @@ fn owners_are_found(rt: HostRuntime) -> Result<(), Fail> {
     for (layer, row, of_card, of_background) in rows {
         let sought = sought(rt.alloc(), *row)?;
         assert!(rt; is_scope(scope_of_card(&stack, 4, *layer, &sought), *of_card));
-        assert!(rt; is_scope(scope_of_background(&stack, 4, *layer, &sought), *of_background));
+        assert!(rt;
+            is_scope(
+                scope_of_background(&stack, 4, *layer, &sought),
+                *of_background
+            )
+        );
+    }
+    Ok(())
+}
+
+#[test]
+fn a_layer_without_a_word_goes_by_the_kind(rt: HostRuntime) -> Result<(), Fail> {
+    let rows: &[(Option<Layer>, PartKind, Layer)] = &[
+        (None, PartKind::Button, Layer::Card),
+        (None, PartKind::Field, Layer::Background),
+        (Some(Layer::Card), PartKind::Field, Layer::Card),
+    ];
+    for (word, kind, due) in rows {
+        assert!(rt; layer_meant(*word, *kind) == *due);
     }
     Ok(())
 }

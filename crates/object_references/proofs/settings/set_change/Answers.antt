@@ -1,4 +1,4 @@
-use Rattle.std.proofs.Common.{◌≡◌, IfOk, sym, ap, subst, ◌∙◌}
+use Rattle.std.proofs.Common.{IfOk, sym, ap, subst, ◌∙◌}
 use Rattle.ht_values.specs.Outcome.{and_then}
 use Rattle.object_references.specs.Settings.{change_of, FitsIn}
 use Rattle.object_references.proofs.Fitting.{setting_fits}
