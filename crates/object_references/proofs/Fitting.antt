@@ -46,50 +46,22 @@ some-map : {A B : Type 0} (f : A → B) (o : Option A) → is_some (option_map f
 some-map f None = refl
 some-map f (Some x) = refl
 
-visible : (k : Kind) → is_some (visible_of k) ≡ (is_button k || is_field k)
-visible Stack = refl
-visible (Background c) = refl
-visible (Card b c) = refl
-visible (CardButton v h) = refl
-visible (BackgroundButton v h) = refl
-visible (CardField v l) = refl
-visible (BackgroundField v l t) = refl
+-- an object has a flag where its kind passes
+record Flags (k : Kind) : Type 0 where
+  visible : is_some (visible_of k) ≡ (is_button k || is_field k)
+  shared_hilite : is_some (shared_hilite_of k) ≡ is_background_button k
+  lock_text : is_some (lock_text_of k) ≡ is_field k
+  shared_text : is_some (shared_text_of k) ≡ is_background_field k
+  cant_delete : is_some (cant_delete_of k) ≡ (is_background k || is_card k)
 
-shared_hilite : (k : Kind) → is_some (shared_hilite_of k) ≡ is_background_button k
-shared_hilite Stack = refl
-shared_hilite (Background c) = refl
-shared_hilite (Card b c) = refl
-shared_hilite (CardButton v h) = refl
-shared_hilite (BackgroundButton v h) = refl
-shared_hilite (CardField v l) = refl
-shared_hilite (BackgroundField v l t) = refl
-
-lock_text : (k : Kind) → is_some (lock_text_of k) ≡ is_field k
-lock_text Stack = refl
-lock_text (Background c) = refl
-lock_text (Card b c) = refl
-lock_text (CardButton v h) = refl
-lock_text (BackgroundButton v h) = refl
-lock_text (CardField v l) = refl
-lock_text (BackgroundField v l t) = refl
-
-shared_text : (k : Kind) → is_some (shared_text_of k) ≡ is_background_field k
-shared_text Stack = refl
-shared_text (Background c) = refl
-shared_text (Card b c) = refl
-shared_text (CardButton v h) = refl
-shared_text (BackgroundButton v h) = refl
-shared_text (CardField v l) = refl
-shared_text (BackgroundField v l t) = refl
-
-cant_delete : (k : Kind) → is_some (cant_delete_of k) ≡ (is_background k || is_card k)
-cant_delete Stack = refl
-cant_delete (Background c) = refl
-cant_delete (Card b c) = refl
-cant_delete (CardButton v h) = refl
-cant_delete (BackgroundButton v h) = refl
-cant_delete (CardField v l) = refl
-cant_delete (BackgroundField v l t) = refl
+flags : (k : Kind) → Flags k
+flags Stack = record { visible = refl; shared_hilite = refl; lock_text = refl; shared_text = refl; cant_delete = refl }
+flags (Background c) = record { visible = refl; shared_hilite = refl; lock_text = refl; shared_text = refl; cant_delete = refl }
+flags (Card b c) = record { visible = refl; shared_hilite = refl; lock_text = refl; shared_text = refl; cant_delete = refl }
+flags (CardButton v h) = record { visible = refl; shared_hilite = refl; lock_text = refl; shared_text = refl; cant_delete = refl }
+flags (BackgroundButton v h) = record { visible = refl; shared_hilite = refl; lock_text = refl; shared_text = refl; cant_delete = refl }
+flags (CardField v l) = record { visible = refl; shared_hilite = refl; lock_text = refl; shared_text = refl; cant_delete = refl }
+flags (BackgroundField v l t) = record { visible = refl; shared_hilite = refl; lock_text = refl; shared_text = refl; cant_delete = refl }
 
 prop_fits : (s : Content) (id : ℕ) (v : PropValue) (o : Object) → object_at s id ≡ Some o → is_some (value_in v o) ≡ true → FitsIn s (change.Prop id v)
 prop_fits s id v o there has state e = ap (λ c. may_set c id v) e ∙ ap (λ x. is_some (option_and_then (value_in v) x)) there ∙ has
@@ -98,7 +70,7 @@ prop_fits s id v o there has state e = ap (λ c. may_set c id v) e ∙ ap (λ x.
 value_fits : (s : Content) (m : Referent) (v : PropValue) (o : Object) → object_at s m.object ≡ Some o → may_be_set (prop_of v) o.kind ≡ true → IfOk (change_of s m v) (FitsIn s)
 value_fits s m (NameIs t) o there may = prop_fits s m.object (NameIs t) o there refl
 value_fits s m (ScriptIs t) o there may = prop_fits s m.object (ScriptIs t) o there refl
-value_fits s m (VisibleIs b) o there may = prop_fits s m.object (VisibleIs b) o there (some-map (λ x. VisibleIs x) (visible_of o.kind) ∙ visible o.kind ∙ may)
+value_fits s m (VisibleIs b) o there may = prop_fits s m.object (VisibleIs b) o there (some-map (λ x. VisibleIs x) (visible_of o.kind) ∙ (flags o.kind).visible ∙ may)
 value_fits s m (HiliteIs lit) o there may = by (has_kind is_background_button s m.object) refl
   where
     lone : (k : Kind) → is_background_button k ≡ false → is_button k ≡ true → is_some (hilite_of k) ≡ true
@@ -115,10 +87,10 @@ value_fits s m (HiliteIs lit) o there may = by (has_kind is_background_button s 
     by false q =
         let other : is_background_button o.kind ≡ false = sym (ap (λ x. unwrap_or (option_map (λ y. is_background_button y.kind) x) false) there) ∙ q in
         prop_fits s m.object (HiliteIs lit) o there (some-map (λ x. HiliteIs x) (hilite_of o.kind) ∙ lone o.kind other may)
-value_fits s m (SharedHiliteIs b) o there may = prop_fits s m.object (SharedHiliteIs b) o there (some-map (λ x. SharedHiliteIs x) (shared_hilite_of o.kind) ∙ shared_hilite o.kind ∙ may)
-value_fits s m (LockTextIs b) o there may = prop_fits s m.object (LockTextIs b) o there (some-map (λ x. LockTextIs x) (lock_text_of o.kind) ∙ lock_text o.kind ∙ may)
-value_fits s m (SharedTextIs b) o there may = prop_fits s m.object (SharedTextIs b) o there (some-map (λ x. SharedTextIs x) (shared_text_of o.kind) ∙ shared_text o.kind ∙ may)
-value_fits s m (CantDeleteIs b) o there may = prop_fits s m.object (CantDeleteIs b) o there (some-map (λ x. CantDeleteIs x) (cant_delete_of o.kind) ∙ cant_delete o.kind ∙ may)
+value_fits s m (SharedHiliteIs b) o there may = prop_fits s m.object (SharedHiliteIs b) o there (some-map (λ x. SharedHiliteIs x) (shared_hilite_of o.kind) ∙ (flags o.kind).shared_hilite ∙ may)
+value_fits s m (LockTextIs b) o there may = prop_fits s m.object (LockTextIs b) o there (some-map (λ x. LockTextIs x) (lock_text_of o.kind) ∙ (flags o.kind).lock_text ∙ may)
+value_fits s m (SharedTextIs b) o there may = prop_fits s m.object (SharedTextIs b) o there (some-map (λ x. SharedTextIs x) (shared_text_of o.kind) ∙ (flags o.kind).shared_text ∙ may)
+value_fits s m (CantDeleteIs b) o there may = prop_fits s m.object (CantDeleteIs b) o there (some-map (λ x. CantDeleteIs x) (cant_delete_of o.kind) ∙ (flags o.kind).cant_delete ∙ may)
 
 -- ---- texts
 

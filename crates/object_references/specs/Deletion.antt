@@ -5,6 +5,7 @@ use Rattle.object_table.specs.Flags.{cant_delete_of}
 use Rattle.object_table.specs.Objects.{has_kind}
 use Rattle.structural_changes.specs.Writes.{home, is_last_card, fits_deletion}
 
+-- whether a card or a background is kept from deletion
 abbrev pub is_kept : Content → ℕ → Bool
 is_kept s id = has_kind (λ kind. unwrap_or (cant_delete_of kind) false) s id
 

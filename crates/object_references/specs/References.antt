@@ -47,6 +47,7 @@ abbrev pub numbered : List ℕ → ℤ → Option ℕ
 numbered ids (pos n) = at_number ids n
 numbered ids (negsuc n) = None
 
+-- the one with an id
 abbrev pub with_id : List ℕ → ℤ → Option ℕ
 with_id ids (pos n) = find (λ id. id == n) ids
 with_id ids (negsuc n) = None
@@ -71,10 +72,11 @@ sought_in s ids here (sought.Picked p) = picked s ids p
 
 -- ---- cards and backgrounds
 
+-- the card that is looked for
 abbrev pub card_found : Content → ℕ → Sought → Result ℕ Fault
 card_found s current k = ok_or (sought_in s s.cards current k) NoSuchObject
 
--- this background is that of the current card
+-- the background that is looked for; this one is that of the current card
 abbrev pub background_found : Content → ℕ → Sought → Result ℕ Fault
 background_found s current k = ok_or (sought_in s s.backgrounds (home s current) k) NoSuchObject
 
@@ -95,6 +97,7 @@ met_here current id = record { object = id; card = current }
 abbrev pub met_if_there : Content → ℕ → ℕ → Result Referent Fault
 met_if_there s current id = if is_some (object_at s id) then Ok (met_here current id) else Err NoSuchObject
 
+-- a card or a background that is looked for
 abbrev pub card_met : Content → ℕ → Sought → Result Referent Fault
 card_met s current k = and_then (card_found s current k) (λ id. Ok (met_here current id))
 
@@ -127,6 +130,7 @@ scope_of_background s current layer.Background k = and_then (background_found s 
 abbrev pub parts_on : Content → LayerId → PartKind → List ℕ
 parts_on s l kind = of_kind s kind (unwrap_or (layer_parts s l) [])
 
+-- the part that is picked where it is looked for
 abbrev pub part_met : Content → PartKind → PartScope → Pick → Result Referent Fault
 part_met s kind scope p = and_then (ok_or (picked s (parts_on s scope.layer kind) p) NoSuchObject) (λ id. Ok (record { object = id; card = scope.card }))
 

@@ -36,6 +36,7 @@ parts_here s current l kind = parts_on s (scope_by s (layer_meant l kind) curren
 abbrev pub hilite_change : Bool → ℕ → ℕ → Bool → Result Change Fault
 hilite_change kept button card lit = if kept then Ok (change.Hilite button card lit) else Err NoSuchObject
 
+-- whether the cards share a button's hilite
 abbrev pub shares_hilite : Content → ℕ → Bool
 shares_hilite s button = has_kind (λ kind. unwrap_or (shared_hilite_of kind) false) s button
 
