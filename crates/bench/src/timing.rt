@@ -2,8 +2,8 @@
 
 ghost use Rattle.std.specs.Prelude.{◌≡◌, ◌*◌, ◌/◌, max};
 
-use std::fmt;
 use std::time::{Clock, Instant};
+use std::{fmt, io};
 
 /// The nanoseconds of so many rounds of a call, which tells how much came out of it. An error is the call's or the
 /// clock's, or says that nothing came out of any round.
@@ -22,6 +22,11 @@ pub(crate) fn time_of<C: Fn() -> anyhow::Result<usize>>(
     if amount == 0 {
         anyhow::bail!("a call gave nothing");
     }
+    Ok(nanoseconds_since(rt, &start)?)
+}
+
+/// The nanoseconds since a moment.
+pub(crate) fn nanoseconds_since(rt: &impl Clock, start: &Instant) -> io::Result<u64> {
     let elapsed = start.elapsed(rt)?.as_nanos();
     Ok(u64::try_from(elapsed).unwrap_or(u64::MAX))
 }

@@ -75,7 +75,9 @@ fn made(alloc: Global, call: Call, given: &Given) -> anyhow::Result<usize> {
         Call::CopyText => given.items.try_clone(alloc)?,
         Call::TakeItem => take(alloc, &given.items, &item, b',')?,
         Call::PutItem => put(alloc, &given.items, &item, Where::Into, &given.new, b',')?,
-        Call::DeleteItem => delete(alloc, &given.items, &item, b',')?,
+        Call::DeleteItem => {
+            delete(alloc, &given.items, &item, b',')?.unwrap_or(Text::new(alloc))
+        }
         Call::Offset => built_in(alloc, Func::Offset, &given.search)?,
         Call::CopyNumeral => given.left.try_clone(alloc)?,
         Call::Sum => binary(alloc, Op::Add, &given.left, &given.right)?,

@@ -5,10 +5,10 @@ use Rattle.std.specs.Ordering.{nat_cmp, eq_by_cmp}
 use Rattle.std.specs.Cmp.{Equal-is}
 use Rattle.std.specs.Cmp.Lexicographic.{slice_cmp}
 use Rattle.std.specs.FinMap.{get}
-use Rattle.ht_values.specs.Text.{IsText}
+use Rattle.ht_values.specs.Text.{IsText, is_folded}
 use Rattle.object_table.specs.Maps.{put_option}
 use Rattle.object_table.proofs.Maps.{get-put_option}
-use Rattle.journal_entries.specs.State.{Globals, AreGlobals, IsGlobal, is_folded}
+use Rattle.journal_entries.specs.State.{Globals, AreGlobals, IsGlobal}
 use Rattle.journal_entries.proofs.Naming.{antisymmetric}
 
 new_one : (k : List ℕ) (v : Option (List ℕ)) → is_folded k ≡ true → IsText k × IfSome v IsText → IfSome v (λ value. IsGlobal k value)

@@ -202,7 +202,7 @@ state-changed s changes.NewBackground f h q = state-new_background s f q
 state-changed s (changes.NewPart layer kind) f h q = state-new_part s layer kind f q
 state-changed s changes.DeleteCard f h q = state-deletion s f q
 
-titles-changed : (s : State) (change : Change) → titles_of (changed s change).externals ≡ titles_of s.externals
+pub titles-changed : (s : State) (change : Change) → titles_of (changed s change).externals ≡ titles_of s.externals
 unfolding put
 titles-changed s (changes.Global name v) = refl
 titles-changed s (changes.FieldText field card t) = refl

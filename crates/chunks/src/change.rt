@@ -8,12 +8,12 @@ ghost use Rattle.chunks.specs.Laws.{IsCutBy};
 ghost use Rattle.chunks.specs.Pieces as pieces;
 
 use crate::chunk::{Chunk, Span};
-use crate::location::{count, find, number_at, stretch};
+use crate::location::{count, find, number_at, part, stretch};
 use ht_values::{ChunkKind, Failure, Fault, LIMIT, Text, Where, joined, without_front_spaces};
 use std::alloc::{AllocError, Global};
 
 /// A text of two parts that fit.
-fn closed(alloc: Global, before: &[u8], after: &[u8]) -> Result<Text, AllocError>
+pub(crate) fn closed(alloc: Global, before: &[u8], after: &[u8]) -> Result<Text, AllocError>
     requires { length before.now + length after.now ≤ LIMIT }
     ensures { IfOk result (λ t. t ≡ before.now ++ after.now) }
 {
@@ -28,10 +28,7 @@ fn closed(alloc: Global, before: &[u8], after: &[u8]) -> Result<Text, AllocError
 pub fn take(alloc: Global, text: &Text, chunk: &Chunk, delimiter: u8) -> Result<Text, AllocError>
     ensures { IfOk result (λ t. t ≡ pieces.read delimiter chunk.now text.now) }
 {
-    match find(text, chunk, delimiter) {
-        Some(span) => closed(alloc, &text.as_slice()[span.start..span.after], b""),
-        None => Ok(Text::new(alloc)),
-    }
+    closed(alloc, part(text.as_slice(), chunk, delimiter), b"")
 }
 
 /// Two parts without the delimiter between them: the one after what goes, or else the one before it.
@@ -59,19 +56,36 @@ fn rest_of<'a>(kind: ChunkKind, before: &'a [u8], after: &'a [u8]) -> (&'a [u8],
     }
 }
 
-/// The text after a chunk is deleted. Lines and items go with the delimiter after them or, at the end, with the one before
-/// them; words go with the spaces after them. Where the chunk reads no piece, it is the same text.
+/// The text after a chunk is deleted; nothing where the chunk reads no piece, so that nothing changes. Lines and items go
+/// with the delimiter after them or, at the end, with the one before them; words go with the spaces after them.
+pub fn delete(
+    alloc: Global,
+    text: &Text,
+    chunk: &Chunk,
+    delimiter: u8,
+) -> Result<Option<Text>, AllocError>
+    ensures { IfOk result (λ t. t ≡ change.removed delimiter chunk.now text.now) }
+{
+    delete_in(alloc, text.as_slice(), chunk, delimiter)
+}
+
+/// The bytes after a chunk of them is deleted, as a text; nothing where the chunk reads no piece.
 #[tactic(auto, unfolding(crate::specs::Change::removed))]
-pub fn delete(alloc: Global, text: &Text, chunk: &Chunk, delimiter: u8) -> Result<Text, AllocError>
-    ensures { IfOk result (λ t. t ≡ change.deleted delimiter chunk.now text.now) }
+pub(crate) fn delete_in(
+    alloc: Global,
+    text: &[u8],
+    chunk: &Chunk,
+    delimiter: u8,
+) -> Result<Option<Text>, AllocError>
+    requires { length text.now ≤ LIMIT }
+    ensures { IfOk result (λ t. t ≡ change.removed delimiter chunk.now text.now) }
 {
     match find(text, chunk, delimiter) {
         Some(span) => {
-            let bytes = text.as_slice();
-            let (before, after) = rest_of(chunk.kind, &bytes[..span.start], &bytes[span.after..]);
-            closed(alloc, before, after)
+            let (before, after) = rest_of(chunk.kind, &text[..span.start], &text[span.after..]);
+            Ok(Some(closed(alloc, before, after)?))
         }
-        None => text.try_clone(alloc),
+        None => Ok(None),
     }
 }
 
@@ -132,7 +146,6 @@ fn appended(
 /// The text after another text is put into a chunk, before it or after it. A first index below 1, or a last one below the
 /// first, is `BadArgument`; an outcome over 30,000 bytes is `TooLong`. `last` is at least 1. Past the end of the text, items
 /// and lines are filled up with delimiters, and a word is put after a space: this is the project's profile, as are the faults.
-#[tactic(auto, unfolding(crate::specs::Change::put))]
 pub fn put(
     alloc: Global,
     text: &Text,
@@ -143,19 +156,41 @@ pub fn put(
 ) -> Result<Text, Failure>
     ensures { Gives result (change.put delimiter chunk.now place new.now text.now) }
 {
+    put_in(
+        alloc,
+        text.as_slice(),
+        chunk,
+        place,
+        new.as_slice(),
+        delimiter,
+    )
+}
+
+/// The bytes after others are put into a chunk of them, before it or after it, as a text.
+#[tactic(auto, unfolding(crate::specs::Change::put))]
+pub(crate) fn put_in(
+    alloc: Global,
+    text: &[u8],
+    chunk: &Chunk,
+    place: Where,
+    new: &[u8],
+    delimiter: u8,
+) -> Result<Text, Failure>
+    requires { length text.now ≤ LIMIT }
+    ensures { Gives result (change.put delimiter chunk.now place new.now text.now) }
+{
     let many = count(text, chunk.kind, delimiter);
     let from = number_at(chunk.from, many.max(1));
     let to = number_at(chunk.to, many.max(1));
     if from < 1 || to < from {
         return Err(Failure::Fault(Fault::BadArgument));
     }
-    let bytes = text.as_slice();
     let first = from as usize;
-    match stretch(bytes, chunk.kind, delimiter, first, many.min(to as usize)) {
-        Some(span) => changed(alloc, bytes, span, place, new.as_slice()),
+    match stretch(text, chunk.kind, delimiter, first, many.min(to as usize)) {
+        Some(span) => changed(alloc, text, span, place, new),
         None => {
-            let (byte, copies) = padding(chunk.kind, delimiter, many, first, bytes);
-            appended(alloc, bytes, byte, copies, new.as_slice())
+            let (byte, copies) = padding(chunk.kind, delimiter, many, first, text);
+            appended(alloc, text, byte, copies, new)
         }
     }
 }

@@ -1,14 +1,13 @@
 //! Where the part of a text stands that a chunk reads.
 
-ghost use Rattle.std.specs.Prelude.{◌≡◌, ◌≤◌, ◌<◌, ◌+◌, ◌^◌, IfSome};
-ghost use Rattle.ht_values.specs.declared.text.TheConstants.{LIMIT};
+ghost use Rattle.std.specs.Prelude.{◌≡◌, ◌≤◌, ◌<◌, ◌+◌, ◌^◌, length, IfSome};
 ghost use Rattle.chunks.specs.declared.chunk.Index.TheVariants as index;
 ghost use Rattle.chunks.specs.Laws.{IsCutBy};
-ghost use Rattle.chunks.specs.Pieces.{count as count_of, first_from, found, last_to, number_at as number_at_of, spans, stretch as stretch_of};
+ghost use Rattle.chunks.specs.Pieces.{count as count_of, first_from, found, last_to, number_at as number_at_of, read, spans, stretch as stretch_of};
 
 use crate::chunk::{Chunk, Index, Span};
 use crate::piece;
-use ht_values::{ChunkKind, Text};
+use ht_values::ChunkKind;
 
 /// The least number of a piece from an index on.
 fn first_number(index: Index, many: usize) -> usize
@@ -97,34 +96,46 @@ fn single(text: &[u8], kind: ChunkKind, delimiter: u8, number: i64) -> Option<Sp
 
 /// The pieces from one index to another.
 #[tactic(auto, unfolding(crate::specs::Pieces::found))]
-fn several(text: &Text, chunk: &Chunk, delimiter: u8) -> Option<Span>
+fn several(text: &[u8], chunk: &Chunk, delimiter: u8) -> Option<Span>
     ensures { result ≡ found delimiter chunk.now text.now }
 {
     let many = count(text, chunk.kind, delimiter);
     let first = first_number(chunk.from, many);
     let last = last_number(chunk.to, many);
-    stretch(text.as_slice(), chunk.kind, delimiter, first, last)
+    stretch(text, chunk.kind, delimiter, first, last)
 }
 
 /// The part of a text that a chunk reads, from the start of its first piece to the end of its last; `None` where no piece is
 /// read. The delimiter is that of items. It takes no memory.
 #[tactic(auto, using(crate::proofs::Order::found_within))]
-pub fn find(text: &Text, chunk: &Chunk, delimiter: u8) -> Option<Span>
+pub fn find(text: &[u8], chunk: &Chunk, delimiter: u8) -> Option<Span>
     ensures value { result ≡ found delimiter chunk.now text.now }
     ensures cut { IfSome result (IsCutBy text.now) }
 {
     match (chunk.from, chunk.to) {
         (Index::At(from), Index::At(to)) if from == to => {
-            single(text.as_slice(), chunk.kind, delimiter, from)
+            single(text, chunk.kind, delimiter, from)
         }
         _ => several(text, chunk, delimiter),
     }
 }
 
 /// How many pieces of a kind a text has. The delimiter is that of items. It takes no memory.
-pub fn count(text: &Text, kind: ChunkKind, delimiter: u8) -> usize
+pub fn count(text: &[u8], kind: ChunkKind, delimiter: u8) -> usize
     ensures value { result ≡ count_of delimiter kind text.now }
-    ensures few { result ≤ LIMIT + 1 }
+    ensures few { result ≤ length text.now + 1 }
 {
-    piece::count(text.as_slice(), kind, delimiter)
+    piece::count(text, kind, delimiter)
+}
+
+/// The part of a text that a chunk reads, lent; of no bytes where no piece is read. The delimiter is that of items. It takes
+/// no memory.
+pub fn part<'a>(text: &'a [u8], chunk: &Chunk, delimiter: u8) -> &'a [u8]
+    ensures value { result.now ≡ read delimiter chunk.now text.now }
+    ensures within { length result.now ≤ length text.now }
+{
+    match find(text, chunk, delimiter) {
+        Some(span) => &text[span.start..span.after],
+        None => &[],
+    }
 }

@@ -1,21 +1,16 @@
 -- What becomes of the text of a container.
-use Rattle.std.specs.Prelude.{ℕ, List, [], ◌∷◌, Option, Some, None, Result, Ok}
+use Rattle.std.specs.Prelude.{ℕ, List, Option, Some, Result, Ok}
 use Rattle.ht_values.specs.declared.fault.Fault.{Fault}
 use Rattle.ht_values.specs.declared.word.Where.TheVariants.{Into}
 use Rattle.ht_values.specs.Operators.{binary}
 use Rattle.ht_values.specs.Outcome.{and_then}
 use Rattle.chunks.specs.declared.chunk.Chunk.{Chunk}
-use Rattle.chunks.specs.Nested.{read_within, put_within, removed_within}
+use Rattle.chunks.specs.Nested.{read_within, put_within, deleted_within}
 use Rattle.journal_entries.specs.State.{State}
 use Rattle.containers.specs.declared.edit.Edit.{Edit}
 use Rattle.containers.specs.declared.edit.Edit.TheVariants.{Put, Alter, Delete}
 use Rattle.containers.specs.Places.{PlaceView, whole}
 use Rattle.containers.specs.Variables.{VariablesView}
-
--- the text after chunks of chunks are deleted, nothing where they aren't found; no chunk finds nothing
-abbrev pub deleted_within : ℕ → List Chunk → List ℕ → Result (Option (List ℕ)) Fault
-deleted_within delimiter [] t = Ok None
-deleted_within delimiter (c ∷ cs) t = removed_within delimiter c cs t
 
 -- The text that an edit makes of a whole text, or nothing where it changes nothing. Arithmetic computes with what the
 -- chunks read, and puts the outcome into them.

@@ -1,5 +1,5 @@
 -- Places that hold a text, and the text that stands there.
-use Rattle.std.specs.Prelude.{◌≡◌, ℕ, zero, suc, Bool, false, true, not, ◌&&◌, ◌==◌, List, [], is_some, Option, unwrap_or, Result, Ok, Err, refl, if◌then◌else◌}
+use Rattle.std.specs.Prelude.{◌≡◌, ℕ, zero, suc, Bool, false, not, ◌&&◌, ◌==◌, List, [], is_some, Option, unwrap_or, Result, Ok, Err, refl, if◌then◌else◌}
 use Rattle.std.specs.Option.{ok_or}
 use Rattle.std.specs.FinMap.{get}
 use Rattle.ht_values.specs.declared.fault.Fault.{Fault}
@@ -11,7 +11,7 @@ use Rattle.object_table.specs.Content.{Content}
 use Rattle.object_table.specs.Flags.{shared_text_of}
 use Rattle.object_table.specs.Objects.{has_kind}
 use Rattle.object_table.specs.PartContents.{text_at}
-use Rattle.journal_entries.specs.State.{State, is_folded}
+use Rattle.journal_entries.specs.State.{State}
 use Rattle.containers.specs.declared.place.Container.{Container}
 use Rattle.containers.specs.declared.place.Container.TheVariants as container
 use Rattle.containers.specs.declared.place.Holder.{Holder}
@@ -31,14 +31,9 @@ pub record PlaceView : Type 0 where
   pub chunks : List Chunk
 
 abbrev pub holder_view : Holder → HolderView
-holder_view (holder.Global name) = global name
+holder_view (holder.Global name) = global (folded name.now)
 holder_view (holder.Own name) = own name.now
 holder_view (holder.Field field card) = field_text field card
-
--- a global goes by a folded name
-abbrev pub IsFit : Holder → Type 0
-IsFit (holder.Global name) = is_folded name ≡ true
-IsFit _ = Unit {0}
 
 abbrev pub holder_code : HolderView → List ℕ × (ℕ × (ℕ × ℕ))
 holder_code (global name) = (name, (0, (0, 0)))

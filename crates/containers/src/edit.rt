@@ -3,8 +3,7 @@
 ghost use Rattle.ht_values.specs.Outcome.{Gives};
 ghost use Rattle.containers.specs.Edits.{edited};
 
-use crate::nested::{delete_within, put_within, take_within};
-use chunks::Chunk;
+use chunks::{Chunk, delete_within, put_within, take_within};
 use ht_values::{Failure, Op, Text, Where, binary};
 use std::alloc::Global;
 
@@ -43,10 +42,7 @@ impl Edit {
                 )?;
                 Ok(Some(put_within(alloc, text, chunks, Where::Into, value, delimiter)?))
             }
-            Edit::Delete => match chunks {
-                [] => Ok(None),
-                [chunk, inner @ ..] => delete_within(alloc, text, chunk, inner, delimiter),
-            },
+            Edit::Delete => delete_within(alloc, text, chunks, delimiter),
         }
     }
 }

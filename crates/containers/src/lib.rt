@@ -3,7 +3,6 @@
 
 mod edit;
 mod law;
-mod nested;
 mod place;
 mod reading;
 mod store;

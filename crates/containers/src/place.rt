@@ -1,13 +1,13 @@
 //! Containers, and the places where their texts stand.
 
 ghost use Rattle.std.specs.Prelude.{◌≡◌, [], ◌∷◌, ◌++◌, IfOk, OnErr, Ok, false};
-ghost use Rattle.ht_values.specs.Outcome.{Gives, and_then};
+ghost use Rattle.ht_values.specs.Outcome.{and_then};
 ghost use Rattle.containers.specs.Places.{place_of, field_text, text_met, is_shared as is_shared_in};
 
 use crate::store::Store;
 use crate::variables::Variables;
 use chunks::Chunk;
-use ht_values::{Failure, Fault, Text};
+use ht_values::{Fault, Name};
 use object_table::{Id, Kind, Stack};
 use std::alloc::{AllocError, Global};
 use std::marker::Model;
@@ -16,17 +16,17 @@ use std::marker::Model;
 #[derive(Clone, Copy)]
 pub enum Container<'a> {
     /// A variable, by its name.
-    Variable(&'a Text),
+    Variable(&'a Name),
     /// A field, by its id, and the card that it was met with: its owner, or else the current one.
     Field(Id, Id),
 }
 
-/// What holds a text: a global by its folded name, a variable of the handler's own, or a field for a card, 0 standing for
-/// the shared text.
-#[derive(Drop)]
+/// What holds a text: a global or a variable of the handler's own, by its name, or a field for a card, 0 standing for the
+/// shared text.
+#[derive(Clone, Copy)]
 pub(crate) enum Holder<'a> {
-    Global(Text),
-    Own(&'a Text),
+    Global(&'a Name),
+    Own(&'a Name),
     Field(Id, Id),
 }
 
@@ -39,31 +39,26 @@ pub struct Place<'a> {
 
 impl<'a> Model for Place<'a> {
     ghost use Rattle.std.specs.Coded.{Coded};
-    ghost use Rattle.containers.specs.Places.{PlaceView, IsFit, holder_view};
+    ghost use Rattle.containers.specs.Places.{PlaceView, holder_view};
 
     ghost Value = { PlaceView };
 
     ghost view = { λ p. record { holder = holder_view p.holder; chunks = p.chunks.items } };
-
-    ghost invariant = { λ p. IsFit p.holder };
 }
 
 /// The place of a container, without chunks yet. A name means a global or a variable of the handler's own; a field's text
 /// is the one that its cards share, where they share it, else that of the card. `NoSuchObject` where the field keeps no
-/// text for the card: a background's field is read and written only with a card of that background.
-#[tactic(auto, using(crate::proofs::Folding::folded_is_folded))]
+/// text for the card: a background's field is read and written only with a card of that background. It takes no memory.
 pub fn resolve<'a, W: Store>(
     alloc: Global,
     world: &W,
     variables: &Variables,
     container: Container<'a>,
-) -> Result<Place<'a>, Failure>
-    ensures { Gives result (place_of (W.history world.now).now.stack variables.now container.entry) }
+) -> Result<Place<'a>, Fault>
+    ensures { result ≡ place_of (W.history world.now).now.stack variables.now container.entry }
 {
     let holder = match container {
-        Container::Variable(name) if variables.is_global(name) => {
-            Holder::Global(name.folded(alloc)?)
-        }
+        Container::Variable(name) if variables.is_global(name.text()) => Holder::Global(name),
         Container::Variable(name) => Holder::Own(name),
         Container::Field(field, card) => {
             Holder::Field(field, card_of_text(world.stack(), field, card)?)

@@ -1,35 +1,29 @@
 //! Reading variables and containers.
 
-ghost use Rattle.std.specs.Prelude.{◌≡◌, [], Ok, Err, IfOk, MatchResult, option_copied};
+ghost use Rattle.std.specs.Prelude.{◌≡◌, [], Ok, Err, MatchResult, option_copied};
 ghost use Rattle.ht_values.specs.Outcome.{Gives};
 ghost use Rattle.containers.specs.Places.{read_name as read_name_of, text_in as text_in_of, whole as whole_of};
 ghost use Rattle.containers.specs.Edits.{read_at};
 
-use crate::nested::take_within;
 use crate::place::{Holder, Place};
 use crate::store::Store;
 use crate::variables::Variables;
-use ht_values::{Failure, Fault, Text};
-use std::alloc::{AllocError, Global};
+use chunks::take_within;
+use ht_values::{Failure, Fault, Name, Text};
+use std::alloc::Global;
 
-/// What a name reads as an expression: the value of its variable, or its spelling where that has none. Nothing is copied;
-/// `AllocError` where there is no memory to fold the name of a global.
-pub fn read_name<'a, W: Store>(
-    alloc: Global,
-    world: &'a W,
-    variables: &'a Variables,
-    name: &'a Text,
-) -> Result<&'a Text, AllocError>
-    ensures { IfOk result (λ t. t.now ≡ read_name_of (W.history world.now).now variables.now name.now) }
+/// What a name reads as an expression: the value of its variable, or its spelling where that has none. It takes no memory.
+pub fn read_name<'a, W: Store>(world: &'a W, variables: &'a Variables, name: &'a Name) -> &'a Text
+    ensures { result.now ≡ read_name_of (W.history world.now).now variables.now name.now }
 {
-    let value = if variables.is_global(name) {
-        world.global(&name.folded(alloc)?)
+    let value = if variables.is_global(name.text()) {
+        world.global(name.folded())
     } else {
-        variables.own_value(name)
+        variables.own_value(name.text())
     };
     match value {
-        Some(value) => Ok(value),
-        None => Ok(name),
+        Some(value) => value,
+        None => name.text(),
     }
 }
 
@@ -42,8 +36,8 @@ pub fn text_in<'a, W: Store>(
     ensures { option_copied result ≡ text_in_of (W.history world.now).now variables.now place.now.holder }
 {
     match &place.holder {
-        Holder::Global(name) => world.global(name),
-        Holder::Own(name) => variables.own_value(name),
+        Holder::Global(name) => world.global(name.folded()),
+        Holder::Own(name) => variables.own_value(name.text()),
         Holder::Field(field, card) => world.stack().text(*field, *card),
     }
 }

@@ -13,7 +13,7 @@ use crate::reading::whole;
 use crate::store::Store;
 use crate::variables::Variables;
 use change_journal::Change;
-use ht_values::{Failure, Text};
+use ht_values::{Failure, Name, Text};
 use std::alloc::{AllocError, Global};
 
 /// What an edit makes of the text of a container; nothing where it changes nothing.
@@ -34,7 +34,7 @@ fn edited<W: Store>(
 }
 
 /// Puts a text at a place, whole.
-#[tactic(auto, using(crate::proofs::Rules::writes_rules, crate::proofs::Bases::global_keeps, crate::proofs::Bases::text_keeps, crate::proofs::Bases::is_open))]
+#[tactic(auto, using(crate::proofs::Rules::writes_rules, crate::proofs::Bases::made_keeps, crate::proofs::Bases::is_open, ht_values::proofs::Folding::folded_is_folded))]
 fn put<W: Store>(
     alloc: Global,
     world: &mut W,
@@ -50,8 +50,11 @@ fn put<W: Store>(
 {
     let Place { holder, chunks: _ } = place;
     match holder {
-        Holder::Global(name) => world.make(Change::Global(name, Some(text))),
-        Holder::Own(name) => variables.set(alloc, name, Some(text)),
+        Holder::Global(name) => {
+            let name = name.folded().try_clone(alloc)?;
+            world.make(Change::Global(name, Some(text)))
+        }
+        Holder::Own(name) => variables.set(alloc, name.text(), Some(text)),
         Holder::Field(field, card) => world.make(Change::FieldText(field, card, text)),
     }
 }
@@ -82,22 +85,24 @@ pub fn write<W: Store>(
 
 /// `global`: a name means a global from here on, which gets the empty text where it had no value. Where memory was refused
 /// the history is as before, though the name may mean a global.
-#[tactic(auto, using(crate::proofs::Rules::declares_rules, crate::proofs::Bases::global_keeps, crate::proofs::Bases::is_open, crate::proofs::Folding::folded_is_folded))]
+#[tactic(auto, using(crate::proofs::Rules::declares_rules, crate::proofs::Bases::made_keeps, crate::proofs::Bases::is_open, ht_values::proofs::Folding::folded_is_folded))]
 pub fn declare<W: Store>(
     alloc: Global,
     world: &mut W,
     variables: &mut Variables,
-    name: &Text,
+    name: &Name,
 ) -> Result<(), AllocError>
     requires { IsSome (base (W.history world.old)).start }
     ensures ok { OnOk result (Declares (W.history world.old) variables.old name.now (W.history world.new) variables.new) }
     ensures err { OnErr result (W.history world.new ≡ W.history world.old) }
     ensures base { base (W.history world.new) ≡ base (W.history world.old) }
 {
-    let global = name.folded(alloc)?;
-    variables.declare(alloc, name)?;
-    match world.global(&global) {
+    variables.declare(alloc, name.text())?;
+    match world.global(name.folded()) {
         Some(_) => Ok(()),
-        None => world.make(Change::Global(global, Some(Text::new(alloc)))),
+        None => {
+            let name = name.folded().try_clone(alloc)?;
+            world.make(Change::Global(name, Some(Text::new(alloc))))
+        }
     }
 }

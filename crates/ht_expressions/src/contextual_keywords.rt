@@ -1,6 +1,7 @@
 //! Names with a meaning that aren't reserved.
 
 ghost use Rattle.std.specs.Prelude.{◌≡◌, Some};
+ghost use Rattle.ht_values.specs.Text.{entry};
 ghost use Rattle.ht_lex.specs.declared.key.TokenKind.TheVariants as kind;
 ghost use Rattle.ht_grammar.specs.Fronts as f;
 
@@ -16,7 +17,7 @@ pub(crate) fn is_article(word: &[u8]) -> bool
 }
 
 fn prop_named(name: &[u8]) -> Option<Prop>
-    ensures { result ≡ f.entry f.prop_names name.now }
+    ensures { result ≡ entry f.prop_names name.now }
 {
     if is_same(b"name", name) {
         Some(Prop::Name)

@@ -14,7 +14,7 @@ ghost use Rattle.ht_expressions.specs.Nests.{Nests};
 
 use crate::grammar::{Grammar, Level, WHOLE};
 use crate::operator::{EQUALITY, LeadingOperator, take_operator};
-use ht_lex::{Cursor, Key, Stop, TokenKind, to_text};
+use ht_lex::{Cursor, Key, Stop, TokenKind, to_name, to_text};
 use ht_tree::{Expr, ExprKind, Exprs};
 use ht_values::{Op, Text, UnOp};
 use std::alloc::Global;
@@ -78,13 +78,16 @@ impl<F: Fn(Global, &mut Cursor<'_>, Level, usize) -> Result<Expr, Stop>> Grammar
         requires short { length name.now ≤ LIMIT }
         ensures { ReadsExpr (self.now.depth + 1) (spec.named_by (spec.read self.now.depth) self.now.depth (first_kind tokens.old) name.now tokens.old) result tokens.new }
     {
-        let name = to_text(self.alloc, name)?;
         match tokens.peek() {
             Some(TokenKind::Key(Key::LeftParen)) => {
                 tokens.skip();
+                let name = to_text(self.alloc, name)?;
                 self.call(tokens, name)
             }
-            _ => Ok(Expr::new(self.alloc, ExprKind::Name(name))?),
+            _ => {
+                let name = to_name(self.alloc, name)?;
+                Ok(Expr::new(self.alloc, ExprKind::Name(name))?)
+            }
         }
     }
 

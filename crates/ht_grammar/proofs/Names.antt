@@ -7,7 +7,8 @@ use Rattle.ht_lex.specs.Token as token
 use Rattle.ht_values.specs.declared.word.Prop.{Prop}
 use Rattle.ht_grammar.specs.declared.vocabulary.RunProp.{RunProp}
 use Rattle.ht_grammar.specs.declared.vocabulary.FunctionWord.{FunctionWord}
-use Rattle.ht_grammar.specs.Fronts.{same_name, entry, prop_names, run_prop_names, function_names, prop_front, run_prop, function_of}
+use Rattle.ht_values.specs.Text.{entry}
+use Rattle.ht_grammar.specs.Fronts.{same_name, prop_names, run_prop_names, function_names, prop_front, run_prop, function_of}
 
 folds_alike : (u w : List ℕ) → same_name u w ≡ true → str_to_ascii_lowercase u ≡ str_to_ascii_lowercase w
 folds_alike u w e = (bytes_eq-Decides (str_to_ascii_lowercase u) (str_to_ascii_lowercase w)).0 e

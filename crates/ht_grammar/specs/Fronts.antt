@@ -1,6 +1,6 @@
 -- What tokens begin with: operators, names with a meaning, and small words.
 use Rattle.std.specs.Prelude.{ℕ, List, [], ◌∷◌, Bool, ◌||◌, Option, Some, None, if◌then◌else◌, codes}
-use Rattle.ht_values.specs.Text.{same}
+use Rattle.ht_values.specs.Text.{entry, same}
 use Rattle.ht_lex.specs.declared.key.Key.TheVariants as k
 use Rattle.ht_lex.specs.declared.key.TokenKind.{TokenKind}
 use Rattle.ht_lex.specs.declared.key.TokenKind.TheVariants as kind
@@ -21,11 +21,6 @@ use Rattle.ht_grammar.specs.declared.vocabulary.FunctionWord.TheVariants as func
 -- Two names are the same where they differ at most in case.
 abbrev pub same_name : List ℕ → List ℕ → Bool
 same_name = same
-
--- The entry of a name in a table.
-abbrev pub entry : {A : Type 0} → List (List ℕ × A) → List ℕ → Option A
-entry [] w = None
-entry (row ∷ rows) w = if same_name row.0 w then Some row.1 else entry rows w
 
 -- the properties of objects whose names aren't reserved
 abbrev pub prop_names : List (List ℕ × Prop)

@@ -9,10 +9,10 @@ use Rattle.std.proofs.Math.ListN.{get_or}
 use Rattle.std.proofs.lemmas.List.{get_or-map}
 use Rattle.std.proofs.lemmas.List.FromFn.{get_or-map-range_with_len}
 use Rattle.std.specs.List.{range_with_len}
-use Rattle.ht_values.specs.Text.{same}
+use Rattle.ht_values.specs.Text.{entry, same}
 use Rattle.ht_lex.specs.declared.key.Key.{Key}
 use Rattle.ht_lex.specs.declared.names.TheConstants.{RESERVED}
-use Rattle.ht_lex.specs.Words.{Rows, reserved_words, key_among, key_of}
+use Rattle.ht_lex.specs.Words.{Rows, reserved_words, key_of}
 
 -- the first byte, in lower case
 abbrev pub initial : List ℕ → ℕ
@@ -29,16 +29,16 @@ same_initial [] (y ∷ ys) f = absurd (true≢false (sym f))
 same_initial (x ∷ xs) [] f = absurd (true≢false (sym f))
 same_initial (x ∷ xs) (y ∷ ys) f = first_so (to_ascii_lowercase x == to_ascii_lowercase y) (same xs ys) f
 
-pub among_under : (rows : Rows) (w : List ℕ) → key_among (under (initial w) rows) w ≡ key_among rows w
+pub among_under : (rows : Rows) (w : List ℕ) → entry (under (initial w) rows) w ≡ entry rows w
 among_under [] w = refl
 among_under (row ∷ rows) w = go (initial row.0 == initial w) refl (among_under rows w)
   where
-    other : (s : Bool) → same row.0 w ≡ s → (initial row.0 == initial w) ≡ false → key_among rows w ≡ cond s (Some row.1) (key_among rows w)
+    other : (s : Bool) → same row.0 w ≡ s → (initial row.0 == initial w) ≡ false → entry rows w ≡ cond s (Some row.1) (entry rows w)
     other false f e = refl
     other true f e = absurd (true≢false (sym (same_initial row.0 w f) ∙ e))
 
-    go : (b : Bool) → (initial row.0 == initial w) ≡ b → key_among (under (initial w) rows) w ≡ key_among rows w
-        → key_among (cond b (row ∷ under (initial w) rows) (under (initial w) rows)) w ≡ key_among (row ∷ rows) w
+    go : (b : Bool) → (initial row.0 == initial w) ≡ b → entry (under (initial w) rows) w ≡ entry rows w
+        → entry (cond b (row ∷ under (initial w) rows) (under (initial w) rows)) w ≡ entry (row ∷ rows) w
     go true e later = ap (λ k. cond (same row.0 w) (Some row.1) k) later
     go false e later = later ∙ other (same row.0 w) refl e
 
@@ -70,12 +70,12 @@ unfolding reserved_words
 rows_by_letter = refl
 
 pub found_under : (w : List ℕ) (first : ℕ) → first ≡ initial w → 97 ≤ first → first ≤ 122
-    → key_among (get_or (map (λ n. under n reserved_words) (range_with_len 97 26)) (first - 97) []) w ≡ key_of w
+    → entry (get_or (map (λ n. under n reserved_words) (range_with_len 97 26)) (first - 97) []) w ≡ key_of w
 unfolding key_of
 found_under w first e low high =
-    ap (λ rows. key_among rows w) (get_or-map-range_with_len (λ n. under n reserved_words) 97 26 (first - 97) (initial w) [] (omega arith) (omega (arith, e))) ∙ among_under reserved_words w
+    ap (λ rows. entry rows w) (get_or-map-range_with_len (λ n. under n reserved_words) 97 26 (first - 97) (initial w) [] (omega arith) (omega (arith, e))) ∙ among_under reserved_words w
 
 pub none_found : (w : List ℕ) (first : ℕ) → first ≡ initial w → is_ascii_lowercase first ≡ false → key_of w ≡ None
 unfolding key_of
 none_found w first e none =
-    sym (among_under reserved_words w) ∙ ap (λ rows. key_among rows w) (none_under reserved_words (initial w) letters (ap is_ascii_lowercase (sym e) ∙ none))
+    sym (among_under reserved_words w) ∙ ap (λ rows. entry rows w) (none_under reserved_words (initial w) letters (ap is_ascii_lowercase (sym e) ∙ none))

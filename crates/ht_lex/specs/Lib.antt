@@ -1,4 +1,5 @@
 pub mod Words
+pub mod Constants
 pub mod Pieces
 pub mod Lexemes
 pub mod Token

@@ -1,8 +1,8 @@
 -- Names, reserved words and symbols, with the key of each.
-use Rattle.std.specs.Prelude.{ℕ, Bool, ◌&&◌, ◌||◌, ◌==◌, List, [], ◌∷◌, Option, Some, None, is_none, slice_index, if◌then◌else◌, codes}
+use Rattle.std.specs.Prelude.{ℕ, Bool, ◌&&◌, ◌||◌, ◌==◌, List, [], ◌∷◌, Option, Some, None, is_none, slice_index, codes}
 use Rattle.std.specs.Char.{is_ascii_alphabetic, is_ascii_alphanumeric}
 use Rattle.std.specs.List.{list_all}
-use Rattle.ht_values.specs.Text.{same}
+use Rattle.ht_values.specs.Text.{entry}
 use Rattle.ht_lex.specs.declared.key.Key.{Key}
 use Rattle.ht_lex.specs.declared.key.Key.TheVariants as k
 use Rattle.ht_lex.specs.declared.key.TokenKind.{TokenKind}
@@ -168,14 +168,9 @@ goes_on_word b = is_ascii_alphanumeric b || b == 95
 abbrev pub is_word : List ℕ → Bool
 is_word w = begins_word (slice_index w 0) && list_all goes_on_word w
 
--- the key of the row with the same word; case is ignored
-abbrev pub key_among : List (List ℕ × Key) → List ℕ → Option Key
-key_among [] w = None
-key_among (row ∷ rows) w = if same row.0 w then Some row.1 else key_among rows w
-
 -- the key of a reserved word
 unfoldable pub key_of : List ℕ → Option Key
-key_of w = key_among reserved_words w
+key_of w = entry reserved_words w
 
 abbrev pub kind_by : Option Key → TokenKind
 kind_by None = kind.Name

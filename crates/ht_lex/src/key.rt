@@ -1,5 +1,8 @@
 //! The reserved words and symbols, as the grammar tells them apart.
 
+ghost use Rattle.std.specs.Prelude.{◌≡◌};
+ghost use Rattle.ht_lex.specs.Constants.{constant_text};
+
 use ht_values::{ChunkKind, PartKind};
 
 /// A word of the language with a meaning of its own, or a symbol. Its other spellings are the same key.
@@ -123,6 +126,37 @@ pub enum Constant {
     Eight,
     Nine,
     Ten,
+}
+
+impl Constant {
+    /// The text that the constant stands for.
+    pub fn bytes(self) -> &'static [u8]
+        ensures { result.now ≡ constant_text self }
+    {
+        match self {
+            Constant::Empty => b"",
+            Constant::Quote => b"\"",
+            Constant::Space => b" ",
+            Constant::Comma => b",",
+            Constant::Colon => b":",
+            Constant::Tab => b"\t",
+            Constant::LineFeed => b"\n",
+            Constant::FormFeed => b"\x0C",
+            Constant::True => b"true",
+            Constant::False => b"false",
+            Constant::Zero => b"0",
+            Constant::One => b"1",
+            Constant::Two => b"2",
+            Constant::Three => b"3",
+            Constant::Four => b"4",
+            Constant::Five => b"5",
+            Constant::Six => b"6",
+            Constant::Seven => b"7",
+            Constant::Eight => b"8",
+            Constant::Nine => b"9",
+            Constant::Ten => b"10",
+        }
+    }
 }
 
 /// What a token is.

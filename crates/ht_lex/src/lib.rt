@@ -13,5 +13,5 @@ pub use cursor::Cursor;
 pub use cut::lex;
 pub use key::{Constant, Key, Ordinal, TokenKind};
 pub use names::{is_name, is_same};
-pub use stop::{Stop, to_text};
+pub use stop::{Stop, to_name, to_text};
 pub use tokens::{LexError, Span, Token, Tokens};

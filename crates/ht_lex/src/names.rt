@@ -2,7 +2,7 @@
 
 ghost use Rattle.std.specs.Prelude.{◌≡◌, ◌<◌, [], length, map, slice_index, slice_index_or};
 ghost use Rattle.std.specs.List.{list_all};
-ghost use Rattle.ht_values.specs.Text.{same};
+ghost use Rattle.ht_values.specs.Text.{entry, same};
 ghost use Rattle.ht_lex.specs.Words as words;
 
 use crate::key::{Constant, Key, Ordinal};
@@ -170,7 +170,7 @@ pub fn is_same(a: &[u8], b: &[u8]) -> bool
 
 /// The key of a row whose word is the same, the first from the front.
 fn key_among(mut rows: &[(&[u8], Key)], word: &[u8]) -> Option<Key>
-    ensures { result ≡ words.key_among (map (λ row. (row.0.now, row.1)) rows.entry.now) word.now }
+    ensures { result ≡ entry (map (λ row. (row.0.now, row.1)) rows.entry.now) word.now }
 {
     while let [row, later @ ..] = rows {
         if is_same(row.0, word) {

@@ -4,7 +4,7 @@ ghost use Rattle.std.specs.Prelude.{◌≡◌, ◌≤◌, length};
 ghost use Rattle.ht_values.specs.declared.text.TheConstants.{LIMIT};
 ghost use Rattle.ht_lex.specs.Stops.{Gives};
 
-use ht_values::{Text, TextError};
+use ht_values::{Name, Text, TextError};
 use std::alloc::{AllocError, Global};
 
 /// Why no tree is read: the tokens are none, or a growth of memory was refused.
@@ -35,4 +35,13 @@ pub fn to_text(alloc: Global, bytes: &[u8]) -> Result<Text, Stop>
         Err(TextError::Memory) => Err(Stop::Memory),
         Err(TextError::TooLong) => Err(Stop::Syntax),
     }
+}
+
+/// A name of these bytes, unless memory is refused.
+pub fn to_name(alloc: Global, bytes: &[u8]) -> Result<Name, Stop>
+    requires { length bytes.now ≤ LIMIT }
+    ensures { Gives bytes.now result }
+{
+    let spelling = to_text(alloc, bytes)?;
+    Ok(Name::new(alloc, spelling)?)
 }

@@ -3,3 +3,4 @@ pub mod Lists
 pub mod Answer
 pub mod Blocks
 pub mod Stops
+pub mod Failures

@@ -9,7 +9,7 @@ ghost use Rattle.ht_grammar.specs.Lines as spec;
 ghost use Rattle.ht_expressions.specs.Answer.{Reads};
 
 use ht_expressions::{chunk_head, eat_of, field};
-use ht_lex::{Cursor, Key, Stop, TokenKind, to_text};
+use ht_lex::{Cursor, Key, Stop, TokenKind, to_name};
 use ht_tree::{Container, ContainerKind, Names};
 use std::alloc::Global;
 
@@ -30,7 +30,7 @@ pub(crate) fn container(
     let depth = depth - 1;
     match tokens.peek() {
         Some(TokenKind::Name) => {
-            let name = to_text(alloc, tokens.take())?;
+            let name = to_name(alloc, tokens.take())?;
             Ok(Container::new(alloc, ContainerKind::Variable(name))?)
         }
         Some(TokenKind::Key(Key::Part(_))) => in_field(alloc, tokens, depth),
@@ -84,7 +84,7 @@ pub(crate) fn names(alloc: Global, tokens: &mut Cursor<'_>, turns: usize) -> Res
     for _turn in 0..turns {
         match tokens.peek() {
             Some(TokenKind::Name) => {
-                let name = to_text(alloc, tokens.take())?;
+                let name = to_name(alloc, tokens.take())?;
                 found = found.with(name)?;
             }
             _ => return Err(Stop::Syntax),

@@ -11,4 +11,8 @@ mod simple;
 mod whole;
 
 pub use error::ParseError;
+pub use ht_tree::{
+    Chunk, Container, ContainerKind, Count, Destination, Expr, ExprKind, Exprs, Handler, Head,
+    Message, Names, Owner, Part, Ref, Script, Selector, Stmt, StmtKind, Stmts, Typing, Which,
+};
 pub use parse::{parse_expr, parse_lines, parse_message, parse_part, parse_script, parse_type};

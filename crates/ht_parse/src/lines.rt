@@ -21,14 +21,14 @@ use crate::line_words::{
     begins_simple, begins_statement, eat_ends, skip_ends, skip_for, skip_times,
 };
 use crate::simple::Simple;
-use ht_lex::{Cursor, Key, Stop, TokenKind, is_same, to_text};
+use ht_lex::{Cursor, Key, Stop, TokenKind, is_same, to_name};
 use ht_tree::{Expr, Head, Stmt, StmtKind, Stmts};
-use ht_values::Text;
+use ht_values::Name;
 use std::alloc::Global;
 
 impl Simple {
     /// The bound of a counted repeat, after `to`.
-    fn counted_up(&self, tokens: &mut Cursor<'_>, name: Text, from: Expr) -> Result<Head, Stop>
+    fn counted_up(&self, tokens: &mut Cursor<'_>, name: Name, from: Expr) -> Result<Head, Stop>
         requires shallow { self.now.depth < max_depth }
         requires fits { depth from ≤ self.now.depth }
         ensures { Reads head_of head_depth self.now.depth (r.made (s.counted_up name from) (r.read self.now.depth e.whole tokens.old)) result tokens.new }
@@ -38,7 +38,7 @@ impl Simple {
     }
 
     /// The bound of a counted repeat, after `down`.
-    fn counted_down(&self, tokens: &mut Cursor<'_>, name: Text, from: Expr) -> Result<Head, Stop>
+    fn counted_down(&self, tokens: &mut Cursor<'_>, name: Name, from: Expr) -> Result<Head, Stop>
         requires shallow { self.now.depth < max_depth }
         requires fits { depth from ≤ self.now.depth }
         ensures { Reads head_of head_depth self.now.depth (spec.after_key k.To (λ m. r.made (s.counted_down name from) (r.read self.now.depth e.whole m)) tokens.old) result tokens.new }
@@ -51,7 +51,7 @@ impl Simple {
     }
 
     /// The bound of a counted repeat, after its first number.
-    fn bound(&self, tokens: &mut Cursor<'_>, name: Text, from: Expr) -> Result<Head, Stop>
+    fn bound(&self, tokens: &mut Cursor<'_>, name: Name, from: Expr) -> Result<Head, Stop>
         requires shallow { self.now.depth < max_depth }
         requires fits { depth from ≤ self.now.depth }
         ensures { Reads head_of head_depth self.now.depth (spec.bound_by self.now.depth at_large name from (first_kind tokens.old) tokens.old) result tokens.new }
@@ -79,7 +79,7 @@ impl Simple {
     {
         match tokens.peek() {
             Some(TokenKind::Name) => {
-                let name = to_text(self.alloc, tokens.take())?;
+                let name = to_name(self.alloc, tokens.take())?;
                 if !tokens.eat(Key::Equal) {
                     return Err(Stop::Syntax);
                 }

@@ -1,5 +1,5 @@
 -- The scripts in memory, as plain trees.
-use Rattle.std.specs.Prelude.{List, [], ◌∷◌}
+use Rattle.std.specs.Prelude.{ℕ, List, [], ◌∷◌, Option, option_map, slice_get}
 use Rattle.ht_tree.specs.declared.script.Handler.{Handler}
 use Rattle.ht_tree.specs.declared.script.Script.{Script}
 use Rattle.ht_tree.specs.declared.script.Message.{Message}
@@ -28,3 +28,7 @@ message_of m = s.message m.name (exprs_of m.arguments.items.items)
 
 abbrev pub typing_of : Typing → s.Typed
 typing_of x = s.typed x.text (part_of x.field)
+
+-- the handler at a place, counted from 0, if there is one
+abbrev pub handler_at : Script → ℕ → Option s.Handler
+handler_at x place = option_map handler_of (slice_get x.handlers.items place)

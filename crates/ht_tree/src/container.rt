@@ -5,7 +5,7 @@ ghost use Rattle.ht_grammar.specs.Depth.{container_depth, max_depth};
 ghost use Rattle.ht_tree.specs.ContainerView.{container_of};
 
 use crate::expr::{Chunk, Part};
-use ht_values::Text;
+use ht_values::Name;
 use std::alloc::{AllocError, Global};
 use std::marker::Model;
 
@@ -21,7 +21,7 @@ pub struct Container {
 #[cycle(container)]
 #[derive(Drop)]
 pub enum ContainerKind {
-    Variable(Text),
+    Variable(Name),
     Field(Part),
     /// Pieces of a container's text.
     Chunk(Chunk, Container),

@@ -8,7 +8,7 @@ ghost use Rattle.ht_tree.specs.View.{expr_of, exprs_of, chunk_of, which_of, sele
 
 use ht_grammar::{FunctionWord, Layer, RunProp};
 use ht_lex::{Constant, Ordinal};
-use ht_values::{ChunkKind, Op, PartKind, Prop, Text, UnOp};
+use ht_values::{ChunkKind, Name, Op, PartKind, Prop, Text, UnOp};
 use std::alloc::{AllocError, Global};
 use std::marker::Model;
 
@@ -29,7 +29,7 @@ pub enum ExprKind {
     Constant(Constant),
     /// The constant `return`.
     Return,
-    Name(Text),
+    Name(Name),
     Paren(Expr),
     Call(Text, Exprs),
     Binary(Op, Expr, Expr),

@@ -1,9 +1,10 @@
 //! Scripts, messages and texts that are typed.
 
-ghost use Rattle.std.specs.Prelude.{◌≡◌, ◌≤◌, IfOk};
+ghost use Rattle.std.specs.Prelude.{◌≡◌, ◌≤◌, ◌<◌, length, IfOk, IfSome, option_and_then};
 ghost use Rattle.ht_grammar.specs.Statements as s;
 ghost use Rattle.ht_grammar.specs.Depth.{stmts_depth, handlers_depth, message_depth, max_depth};
-ghost use Rattle.ht_tree.specs.ScriptView.{handler_of, script_of, message_of, with_handler};
+ghost use Rattle.ht_grammar.specs.Handlers.{takes, handler_in};
+ghost use Rattle.ht_tree.specs.ScriptView.{handler_of, handler_at, script_of, message_of, with_handler};
 
 use crate::expr::{Exprs, Part};
 use crate::statement::{Names, Stmts};
@@ -40,6 +41,15 @@ pub struct Typing {
     pub field: Part,
 }
 
+impl Handler {
+    /// Whether it takes messages of a kind and a name. Case is ignored.
+    pub fn takes(&self, kind: HandlerKind, name: &Text) -> bool
+        ensures { result ≡ takes kind name.now (handler_of self.now) }
+    {
+        self.kind == kind && self.name.same(name)
+    }
+}
+
 impl Script {
     /// No handlers.
     pub fn new(alloc: Global) -> Script
@@ -57,6 +67,19 @@ impl Script {
     {
         self.handlers.push(handler)?;
         Ok(self)
+    }
+
+    /// The place of the first handler of a kind and a name, counted from 0. Case in the name is ignored. It takes no memory.
+    pub fn first(&self, kind: HandlerKind, name: &Text) -> Option<usize>
+        ensures value { option_and_then (handler_at self.now) result ≡ handler_in (script_of self.now) kind name.now }
+        ensures there { IfSome result (λ place. place < length self.now.handlers.items) }
+    {
+        for (place, handler) in self.handlers.iter().enumerate() {
+            if handler.takes(kind, name) {
+                return Some(place);
+            }
+        }
+        None
     }
 
     /// The depth of the deepest statement, 0 where there is none.

@@ -8,14 +8,14 @@ ghost use Rattle.ht_tree.specs.StatementView.{destination_of, head_of, stmt_of, 
 use crate::container::Container;
 use crate::expr::{Chunk, Expr, Exprs, Ref, Selector};
 use ht_grammar::RunProp;
-use ht_values::{Prop, Text, Where};
+use ht_values::{Name, Prop, Text, Where};
 use std::alloc::{AllocError, Global};
 use std::marker::Model;
 
-/// Names, one after another.
+/// Names of variables, one after another.
 #[derive(Drop)]
 pub struct Names {
-    pub items: Vec<Text>,
+    pub items: Vec<Name>,
 }
 
 /// Where `go` goes.
@@ -33,9 +33,9 @@ pub enum Head {
     While(Expr),
     Until(Expr),
     /// With a variable, from the first number up to the second.
-    CountedUp(Text, Expr, Expr),
+    CountedUp(Name, Expr, Expr),
     /// With a variable, from the first number down to the second.
-    CountedDown(Text, Expr, Expr),
+    CountedDown(Name, Expr, Expr),
 }
 
 /// A statement, at most 100 levels deep.
@@ -128,7 +128,7 @@ impl Names {
     }
 
     /// The list with another name at its end. An error where a growth of memory was refused.
-    pub fn with(mut self, name: Text) -> Result<Names, AllocError>
+    pub fn with(mut self, name: Name) -> Result<Names, AllocError>
         ensures { IfOk result (λ names. names.items.items ≡ self.items.items ++ name ∷ []) }
     {
         self.items.push(name)?;

@@ -1,5 +1,6 @@
 mod Digits
 mod Divisions
+pub mod Folding
 mod Numerals
 mod Orders
 mod Powers

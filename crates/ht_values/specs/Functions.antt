@@ -1,5 +1,5 @@
 -- What the functions of texts alone give.
-use Rattle.std.specs.Prelude.{ℕ, ◌+◌, List, [], ◌∷◌, length, nat_lt, ℤ, pos, negsuc, unsigned_abs, if◌then◌else◌, Option, Some, None, Ok, Err, Result}
+use Rattle.std.specs.Prelude.{ℕ, ◌+◌, List, [], ◌∷◌, codes, length, nat_lt, ℤ, pos, negsuc, unsigned_abs, if◌then◌else◌, Option, Some, None, Ok, Err, Result}
 use Rattle.std.specs.Int.{int_max, int_min}
 use Rattle.ht_values.specs.declared.fault.Fault.{Fault}
 use Rattle.ht_values.specs.declared.fault.Fault.TheVariants.{BadArgument}
@@ -9,6 +9,7 @@ use Rattle.ht_values.specs.Number.{number_of, ranged}
 use Rattle.ht_values.specs.Operators.{in_numerals}
 use Rattle.ht_values.specs.Outcome.{and_then}
 use Rattle.ht_values.specs.Search.{place_of}
+use Rattle.ht_values.specs.Text.{entry}
 
 -- the best of a number and those of the texts after it, each converted in turn
 abbrev pub best_of : (ℤ → ℤ → ℤ) → ℤ → List (List ℕ) → Result ℤ Fault
@@ -38,6 +39,16 @@ place_number (Some k) = k + 1
 abbrev pub offset : List ℕ → List ℕ → ℕ
 offset [] t = 0
 offset (b ∷ bs) t = place_number (place_of (b ∷ bs) t)
+
+-- the functions by their names
+abbrev pub function_names : List (List ℕ × Func)
+function_names =
+    (codes "abs", func.Abs) ∷ (codes "max", func.Max) ∷ (codes "min", func.Min) ∷ (codes "length", func.Length) ∷ (codes "charToNum", func.CharToNum) ∷ (codes "numToChar", func.NumToChar)
+    ∷ (codes "offset", func.Offset) ∷ []
+
+-- the function that a name calls; case is ignored
+unfoldable pub function_named : List ℕ → Option Func
+function_named name = entry function_names name
 
 -- what a function gives of its arguments; another number of them is a bad argument
 unfoldable pub built_in : Func → List (List ℕ) → Result (List ℕ) Fault

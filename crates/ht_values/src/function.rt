@@ -1,6 +1,6 @@
 //! The functions of texts alone.
 
-ghost use Rattle.std.specs.Prelude.{◌≡◌, pos, unsigned_abs, Ok, IfOk};
+ghost use Rattle.std.specs.Prelude.{◌≡◌, pos, unsigned_abs, Ok};
 ghost use Rattle.std.specs.Int.{int_max, int_min};
 ghost use Rattle.ht_values.specs.Functions.{best, built_in as built_in_of, character as character_of, first_byte as first_byte_of, offset as offset_of};
 ghost use Rattle.ht_values.specs.Number.{number_of as number_of_text, ranged};
@@ -13,7 +13,7 @@ use crate::operator::Func;
 use crate::search::place_of;
 use crate::text::{Text, text_of};
 use crate::value::in_numerals;
-use std::alloc::{AllocError, Global};
+use std::alloc::Global;
 
 /// A number without its sign.
 fn size_of(text: &Text) -> Result<i64, Fault>
@@ -66,15 +66,15 @@ fn character(alloc: Global, number: i64) -> Result<Text, Failure>
 }
 
 /// The first place, counted from 1, at which a run of the text is the same as the other; 0 for none, and for an empty run.
-fn offset(alloc: Global, run: &Text, text: &Text) -> Result<i64, AllocError>
-    ensures { IfOk result (λ number. number ≡ pos (offset_of run.now text.now)) }
+fn offset(run: &Text, text: &Text) -> i64
+    ensures { result ≡ pos (offset_of run.now text.now) }
 {
     if run.len() == 0 {
-        return Ok(0);
+        return 0;
     }
-    match place_of(alloc, run, text)? {
-        Some(place) => Ok(place as i64 + 1),
-        None => Ok(0),
+    match place_of(run, text) {
+        Some(place) => place as i64 + 1,
+        None => 0,
     }
 }
 
@@ -92,7 +92,7 @@ pub fn built_in(alloc: Global, func: Func, arguments: &[Text]) -> Result<Text, F
         (Func::Length, [text]) => in_numerals(alloc, Ok(text.len() as i64)),
         (Func::CharToNum, [text]) => in_numerals(alloc, first_byte(text)),
         (Func::NumToChar, [number]) => character(alloc, number_of(number)?),
-        (Func::Offset, [run, text]) => in_numerals(alloc, Ok(offset(alloc, run, text)?)),
+        (Func::Offset, [run, text]) => in_numerals(alloc, Ok(offset(run, text))),
         _ => Err(Failure::Fault(Fault::BadArgument)),
     }
 }

@@ -9,6 +9,7 @@ mod function;
 mod join;
 mod law;
 mod logic;
+mod name;
 mod number;
 mod operator;
 mod search;
@@ -24,6 +25,7 @@ pub use law::{
     div_and_mod_divide, numerals_read_back, places_are_first, texts_are_ordered, values_are_ordered,
 };
 pub use logic::truth_of;
+pub use name::Name;
 pub use number::{number_of, numeral, without_front_spaces};
 pub use operator::{Func, Op, UnOp, ValueType};
 pub use text::{LIMIT, Text, law_of_text, text_of};

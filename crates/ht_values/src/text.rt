@@ -1,10 +1,11 @@
 //! Texts: at most 30,000 bytes, any bytes, one byte a character.
 
-ghost use Rattle.std.specs.Prelude.{◌≡◌, ◌≤◌, ◌<◌, ◌↔◌, ℕ, List, [], length, All, IfOk, Err, IsErrOf, IsTrue};
-ghost use Rattle.ht_values.specs.Outcome.{within_limit};
-ghost use Rattle.ht_values.specs.Text.{Same, IsText, folded as folded_of, numeral};
+ghost use Rattle.std.specs.Prelude.{◌≡◌, ◌≤◌, ◌<◌, ◌↔◌, ◌++◌, ℕ, List, [], length, All, IfOk, IfErr, OnOk, OnErr, Ok, Err, IsErrOf, IsTrue};
+ghost use Rattle.ht_values.specs.Outcome.{Gives, within_limit};
+ghost use Rattle.ht_values.specs.Text.{Same, IsText, folded as folded_of, is_folded as is_folded_text, numeral, same};
 ghost use Rattle.ht_values.specs.declared.text.TheConstants.{LIMIT};
 
+use crate::failure::Failure;
 use crate::fault::{Fault, TextError};
 use itoa::Buffer;
 use std::alloc::{AllocError, Global};
@@ -81,6 +82,27 @@ impl Text {
         Ok(Text { bytes })
     }
 
+    /// Whether the text is folded: no byte is one of A-Z.
+    pub fn is_folded(&self) -> bool
+        ensures { result ≡ is_folded_text self.now }
+    {
+        self.bytes.iter().all(|byte| !byte.is_ascii_uppercase())
+    }
+
+    /// Adds bytes at the end. `TooLong` where the text would be over 30,000 bytes, else `Memory` where a growth was refused;
+    /// the text is then as it was.
+    pub fn append(&mut self, bytes: &[u8]) -> Result<(), Failure>
+        ensures ok { OnOk result (within_limit (self.old ++ bytes.now) ≡ Ok self.new) }
+        ensures fault { IfErr result (λ e. Gives {A = List ℕ} (Err e) (within_limit (self.old ++ bytes.now))) }
+        ensures err { OnErr result (self.new ≡ self.old) }
+    {
+        if LIMIT - self.bytes.len() < bytes.len() {
+            return Err(Failure::Fault(Fault::TooLong));
+        }
+        self.bytes.extend_from_slice(bytes)?;
+        Ok(())
+    }
+
     /// The bytes of the text.
     pub fn as_slice(&self) -> &[u8]
         ensures value { result.now ≡ self.now }
@@ -95,6 +117,13 @@ impl Text {
         ensures fits { length self.now ≤ LIMIT }
     {
         self.bytes.len()
+    }
+
+    /// Whether the text is equal to this word after A-Z is folded to a-z.
+    pub(crate) fn is(&self, word: &[u8]) -> bool
+        ensures { result ≡ same word.now self.now }
+    {
+        word.eq_ignore_ascii_case(&self.bytes)
     }
 
     /// Whether two texts are equal after A-Z is folded to a-z.

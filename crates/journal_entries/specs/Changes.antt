@@ -1,11 +1,11 @@
 -- The changes: where each fits, what it writes, and the state after it.
 use Rattle.std.specs.Prelude.{ℕ, ◌+◌, Bool, List, [], ◌∷◌, ◌++◌, map, Some, IfSome, option_map, is_some}
-use Rattle.ht_values.specs.Text.{IsText}
+use Rattle.ht_values.specs.Text.{IsText, is_folded}
 use Rattle.object_table.specs.PartContents.{text_at, hilite_at}
 use Rattle.object_table.specs.Objects.{has_kind, is_card}
 use Rattle.object_table.specs.Setting as settings
 use Rattle.stack_places.specs.Places.{prop_of, property, field_text, button_hilite, text, logical, setting, number}
-use Rattle.journal_entries.specs.State.{State, is_folded}
+use Rattle.journal_entries.specs.State.{State}
 use Rattle.structural_changes.specs.Writes.{following, writes_of_new_part, writes_of_new_card, writes_of_new_background, writes_of_deletion, has_room_for, fits_new_part, fits_deletion}
 use Rattle.journal_entries.specs.Places.{Write, put_all, global, in_stack, current_card, in_the_stack}
 use Rattle.journal_entries.specs.declared.change.Change.{Change}

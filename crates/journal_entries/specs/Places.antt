@@ -5,7 +5,7 @@ use Rattle.stack_places.specs.Places as stack
 use Rattle.std.specs.FinMap.{get}
 use Rattle.externals.specs.Cells.{Seen, none_seen}
 use Rattle.object_table.specs.Maps.{put_option}
-use Rattle.structural_changes.specs.Writes.{StackWrite}
+use Rattle.structural_changes.specs.Writes.{WriteAt, StackWrite, put_in_turn}
 use Rattle.journal_entries.specs.State.{State}
 
 -- A global goes by its folded name, a cell by its external's number and its own.
@@ -43,16 +43,14 @@ put s (in_stack p) v = record s { stack = stack.put s.stack p v }
 put s current_card v = record s { current = unwrap_or (as_number v) s.current }
 put s (cell i c) v = record s { externals = with_cell s.externals i c (as_text v) }
 
--- a value with its place
-pub record Write : Type 0 where
-  pub place : Place
-  pub value : Option Value
+-- a write of a state
+abbrev pub Write : Type 0
+Write = WriteAt Place
 
--- a write of the stack
+-- a write of the stack as one of the state
 abbrev pub in_the_stack : StackWrite → Write
 in_the_stack w = record { place = in_stack w.place; value = w.value }
 
 -- the state after writes, from the first to the last
 abbrev pub put_all : State → List Write → State
-put_all s [] = s
-put_all s (w ∷ ws) = put_all (put s w.place w.value) ws
+put_all s ws = put_in_turn put s ws

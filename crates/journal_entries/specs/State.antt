@@ -1,12 +1,10 @@
 -- A state: the stack, the globals, the current card, and the externals with their cells.
 use Rattle.std.specs.Prelude.{◌≡◌, ℕ, suc, Option, Some, None, IfSome, option_map, if◌then◌else◌, Bool, true, false, not, ◌&&◌, ◌||◌, List, [], ◌∷◌, map, All, refl, slice_index_or}
-use Rattle.std.specs.List.{list_all}
-use Rattle.std.specs.Char.{is_ascii_uppercase}
 use Rattle.std.specs.Ordering.{nat_cmp}
 use Rattle.std.specs.Cmp.Lexicographic.{slice_cmp}
 use Rattle.std.specs.FinMap.{FinMap, get, empty, code as map_code}
 use Rattle.std.specs.Coded.{Coded, code_by, coded×, coded_ℕ, coded_list}
-use Rattle.ht_values.specs.Text.{IsText, same}
+use Rattle.ht_values.specs.Text.{IsText, is_folded, same}
 use Rattle.externals.specs.Cells.{Seen, coded_seen, none_seen, IsExternal}
 use Rattle.object_table.specs.Content.{Content, coded_content}
 use Rattle.object_table.specs.WellFormed.{IsWellFormed}
@@ -57,10 +55,6 @@ are_apart (n ∷ ns) = not (has_name n ns) && are_apart ns
 -- the first state of a stack: no global, the first card
 abbrev pub first_state : Content → List Seen → State
 first_state stack externals = record { stack = stack; globals = empty; current = slice_index_or stack.cards 0 0; externals = externals }
-
--- whether no byte of the name is one of A-Z
-abbrev pub is_folded : List ℕ → Bool
-is_folded name = list_all (λ b. not (is_ascii_uppercase b)) name
 
 -- what holds of a global: its name is a folded text, and its value is a text
 pub record IsGlobal (n v : List ℕ) : Type 0 where

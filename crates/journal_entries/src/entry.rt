@@ -7,7 +7,8 @@ use externals::Patch;
 use ht_values::Text;
 use stack_places::StackEntry;
 
-/// A place with the value that isn't there now, or an external's number with a patch.
+/// A place with the value that isn't there now, or an external's number with a patch: at most 48 bytes, beside the texts
+/// and lists and what stands in boxes.
 #[derive(Drop)]
 pub enum Entry {
     /// The number of a global's name.
@@ -16,6 +17,9 @@ pub enum Entry {
     Stack(StackEntry),
     External(usize, Patch),
 }
+
+/// Batches are lists of entries, so the largest one counts for all.
+const _: () = prove!(size_of::<Entry>() <= 48);
 
 /// The entries that make a change, ready to be exchanged.
 #[derive(Drop)]

@@ -1,6 +1,6 @@
 //! The batch of the line that runs.
 
-ghost use Rattle.std.specs.Prelude.{◌≡◌, ℕ, ◌<◌, ◌≤◌, ◌+◌, vec_len, vec_capacity, true, List, [], ◌∷◌, ◌++◌, length, IfOk, OnErr, OnOk};
+ghost use Rattle.std.specs.Prelude.{◌≡◌, ℕ, ◌<◌, ◌≤◌, ◌+◌, max, vec_len, vec_capacity, true, List, [], ◌∷◌, ◌++◌, length, IfOk, OnErr, OnOk};
 ghost use Rattle.std.specs.HashMap.{get_by, spare};
 ghost use Rattle.externals.specs.Cells.{IsPatch, Changes};
 ghost use Rattle.journal_entries.specs.State.{IsState, seen_at};
@@ -73,21 +73,19 @@ impl OpenBatch {
         self.number
     }
 
-    /// The batch, which grows no more, without the room that its entries don't fill. Where a smaller block is refused they
-    /// stay in theirs.
+    /// The batch, which grows no more. It takes no memory: its entries stay where they are.
     pub fn close(self) -> Batch
         ensures { result ≡ self }
     {
         let OpenBatch {
             number,
-            mut entries,
+            entries,
             index: _,
         } = self;
-        entries.shrink_to_fit();
         Batch::of(number, entries)
     }
 
-    /// Goes back over all entries, from the last to the first.
+    /// Goes back over all entries, from the last to the first. It takes no memory.
     pub fn give_up<E: External>(self, present: &mut Present<E>)
         requires { AreReady (shape_of present.old) self.entries }
         ensures { present.new ≡ record present.old { state = back present.old.names present.old.state self.entries } }
@@ -111,7 +109,7 @@ impl OpenBatch {
             present.exchange(&mut entry);
             return Ok(());
         }
-        self.entries.reserve(1)?;
+        reserve(&mut self.entries, 1)?;
         self.index.latest.reserve(1)?;
         write_reserved(&mut self.entries, &mut self.index, present, entry);
         Ok(())
@@ -129,7 +127,7 @@ impl OpenBatch {
         ensures state_err { OnErr result (present.new ≡ present.old) }
         ensures entries_err { OnErr result (self.new ≡ self.old) }
     {
-        self.entries.reserve(entries.len())?;
+        reserve(&mut self.entries, entries.len())?;
         self.index.latest.reserve(entries.len())?;
         for entry in entries {
             write_reserved(&mut self.entries, &mut self.index, present, entry);
@@ -171,12 +169,26 @@ impl OpenBatch {
         ensures err { OnErr result (self.new ≡ self.old) }
         ensures present_err { OnErr result (TurnsAtMostOnce present.old present.new i) }
     {
-        self.entries.reserve(1)?;
+        reserve(&mut self.entries, 1)?;
         let (ask, patch) = present.turn(i, alloc, input)?;
         if patch.len() > 0 {
             keep_turn(&mut self.entries, &self.index, i, patch);
         }
         Ok(ask)
+    }
+}
+
+/// Makes room for more entries. The first ones get theirs exactly, since most batches get no others.
+fn reserve(entries: &mut Vec<Entry>, more: usize) -> Result<(), AllocError>
+    ensures items { entries.new.items ≡ entries.old.items }
+    ensures len { vec_len entries.new ≡ vec_len entries.old }
+    ensures room { OnOk result (vec_len entries.old + more ≤ vec_capacity entries.new) }
+    ensures exact { vec_len entries.old ≡ 0 → OnOk result (vec_capacity entries.new ≡ max (vec_capacity entries.old) more) }
+{
+    if entries.is_empty() {
+        entries.reserve_exact(more)
+    } else {
+        entries.reserve(more)
     }
 }
 

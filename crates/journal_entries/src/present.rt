@@ -3,7 +3,7 @@
 ghost use Rattle.std.specs.Prelude.{◌≡◌, ℕ, ◌<◌, List, [], ◌∷◌, ◌++◌, length, ◌+◌, true, take, drop, IfOk, IfErr, OnErr, OnOk, slice_index_or, option_copied, option_map, map, slice_get, Some};
 ghost use Rattle.std.specs.FinMap as finite;
 ghost use Rattle.externals.specs.Cells.{IsPatch};
-ghost use Rattle.journal_entries.specs.State.{IsState, seen_by, seen_at, first_state, titles_of, has_name as has_title, index_of as index_of_title, is_folded as is_folded_name};
+ghost use Rattle.journal_entries.specs.State.{IsState, seen_by, seen_at, first_state, titles_of, has_name as has_title, index_of as index_of_title};
 ghost use Rattle.journal_entries.specs.Named.{listed, numbered, Lists};
 ghost use Rattle.journal_entries.specs.Changes.{fits};
 ghost use Rattle.journal_entries.specs.Exchange.{exchanged, taken, back, back_taken, forth, forth_taken, shape_of, IsReady, AreReady};
@@ -16,7 +16,7 @@ use crate::names::{has_name, index_of};
 use externals::{Ask, External, Input, Patch};
 use ht_values::{PartKind, Text};
 use object_table::{LayerId, Stack};
-use stack_places::StackEntry;
+use stack_places::{BoxedText, StackEntry};
 use std::alloc::{AllocError, Global};
 use std::marker::Model;
 use std::mem;
@@ -128,8 +128,9 @@ impl<E: External> Present<E> {
                 Ok(Prepared::One(Entry::Global(number, value)))
             }
             Change::FieldText(field, card, text) => {
+                let text = BoxedText::new(alloc, Some(text))?;
                 self.stack.open_text(field, card)?;
-                let entry = StackEntry::FieldText(field, card, Some(text));
+                let entry = StackEntry::FieldText(field, card, text);
                 Ok(Prepared::One(Entry::Stack(entry)))
             }
             Change::Hilite(button, card, hilite) => {
@@ -302,7 +303,7 @@ impl<E: External> Present<E> {
         ensures { result ≡ fits self.now.state change.now }
     {
         match change {
-            Change::Global(name, _) => is_folded(name),
+            Change::Global(name, _) => name.is_folded(),
             Change::FieldText(field, card, _) => self.stack.text(*field, *card).is_some(),
             Change::Hilite(button, card, _) => self.stack.hilite(*button, *card).is_some(),
             Change::Prop(id, value) => self.stack.may_set(*id, value),
@@ -379,16 +380,4 @@ fn add_each(entries: &mut Vec<Entry>, more: Vec<StackEntry>) -> Result<(), Alloc
         entries.push_reserved(Entry::Stack(entry));
     }
     Ok(())
-}
-
-/// Whether no byte of the name is one of A-Z.
-fn is_folded(name: &Text) -> bool
-    ensures { result ≡ is_folded_name name.now }
-{
-    for byte in name.as_slice() {
-        if byte.is_ascii_uppercase() {
-            return false;
-        }
-    }
-    true
 }

@@ -1,6 +1,9 @@
 //! The edges of chunks.
 
-use chunks::{Chunk, Index, Span, count, delete, find, put, take};
+use chunks::{
+    Chunk, Index, Span, count, delete, delete_within, find, part, part_within, put, put_within,
+    take, take_within,
+};
 use ht_values::{ChunkKind, Failure, Fault, LIMIT, Text, Where};
 use std::alloc::Global;
 use std::test::*;
@@ -35,10 +38,19 @@ fn takes(
     Ok(take(alloc, &text, chunk, delimiter)?.as_slice() == part)
 }
 
-/// Whether this is left when the chunk is deleted.
-fn leaves(alloc: Global, text: &[u8], chunk: &Chunk, left: &[u8]) -> Result<bool, Fail> {
+/// Whether the text is these bytes, or there is none.
+fn is_text(text: &Option<Text>, bytes: Option<&[u8]>) -> bool {
+    match (text, bytes) {
+        (Some(text), Some(bytes)) => text.as_slice() == bytes,
+        (None, None) => true,
+        _ => false,
+    }
+}
+
+/// Whether this is left when the chunk is deleted; nothing where it isn't found.
+fn leaves(alloc: Global, text: &[u8], chunk: &Chunk, left: Option<&[u8]>) -> Result<bool, Fail> {
     let text = Text::from_slice(alloc, text)?;
-    Ok(delete(alloc, &text, chunk, b',')?.as_slice() == left)
+    Ok(is_text(&delete(alloc, &text, chunk, b',')?, left))
 }
 
 /// Whether a put at the chunk makes this text.
@@ -63,14 +75,8 @@ fn faults(alloc: Global, chunk: &Chunk, fault: Fault) -> Result<bool, Fail> {
     Ok(matches!(given, Err(Failure::Fault(given)) if given == fault))
 }
 
-/// Whether the text has so many pieces of the kind.
-fn has(alloc: Global, text: &[u8], kind: ChunkKind, many: usize) -> Result<bool, Fail> {
-    let text = Text::from_slice(alloc, text)?;
-    Ok(count(&text, kind, b',') == many)
-}
-
 /// Whether the chunk is found from this byte up to that one, or nowhere.
-fn is_found(text: &Text, chunk: &Chunk, part: Option<(usize, usize)>) -> bool {
+fn is_found(text: &[u8], chunk: &Chunk, part: Option<(usize, usize)>) -> bool {
     let part = part.map(|(start, after)| Span { start, after });
     find(text, chunk, b',') == part
 }
@@ -138,7 +144,7 @@ fn reads_of_the_last_piece(rt: HostRuntime) -> Result<(), Fail> {
 }
 
 #[test]
-fn places_of_parts(rt: HostRuntime) -> Result<(), Fail> {
+fn places_of_parts(rt: HostRuntime) {
     let rows: &[(&[u8], ChunkKind, i64, i64, Option<(usize, usize)>)] = &[
         (b"a,b,c", ChunkKind::Item, 2, 7, Some((2, 5))),
         (b"a,b,c", ChunkKind::Item, 4, 7, None),
@@ -147,14 +153,12 @@ fn places_of_parts(rt: HostRuntime) -> Result<(), Fail> {
     ];
     for (bytes, kind, from, to, span) in rows {
         let chunk = pieces(*kind, *from, *to);
-        let text = Text::from_slice(rt.alloc(), bytes)?;
-        assert!(rt; is_found(&text, &chunk, *span), "{bytes:?} {chunk:?}");
+        assert!(rt; is_found(bytes, &chunk, *span), "{bytes:?} {chunk:?}");
     }
-    Ok(())
 }
 
 #[test]
-fn counts_of_pieces(rt: HostRuntime) -> Result<(), Fail> {
+fn counts_of_pieces(rt: HostRuntime) {
     let rows: &[(&[u8], ChunkKind, usize)] = &[
         (b",", ChunkKind::Item, 2),
         (b"", ChunkKind::Item, 0),
@@ -168,9 +172,8 @@ fn counts_of_pieces(rt: HostRuntime) -> Result<(), Fail> {
         (b"abc", ChunkKind::Char, 3),
     ];
     for (text, kind, many) in rows {
-        assert!(rt; has(rt.alloc(), text, *kind, *many)?, "{text:?} {kind:?}");
+        assert!(rt; count(text, *kind, b',') == *many, "{text:?} {kind:?}");
     }
-    Ok(())
 }
 
 #[test]
@@ -273,31 +276,36 @@ fn a_put_fills_up_to_the_limit(rt: HostRuntime) -> Result<(), Fail> {
 
 #[test]
 fn deletes_of_pieces(rt: HostRuntime) -> Result<(), Fail> {
-    let rows: &[(&[u8], ChunkKind, i64, i64, &[u8])] = &[
-        (b"a,b,c", ChunkKind::Item, 3, 3, b"a,b"),
-        (b"a,b,c", ChunkKind::Item, 1, 1, b"b,c"),
-        (b"a,b,c", ChunkKind::Item, 2, 2, b"a,c"),
-        (b"a", ChunkKind::Item, 1, 1, b""),
-        (b",", ChunkKind::Item, 2, 2, b""),
-        (b",", ChunkKind::Item, 1, 2, b""),
-        (b"a,b,", ChunkKind::Item, 3, 3, b"a,b"),
-        (b"a b  c", ChunkKind::Word, 2, 2, b"a c"),
-        (b"a b", ChunkKind::Word, 2, 2, b"a "),
-        (b"a b\rc", ChunkKind::Word, 2, 2, b"a \rc"),
-        (b"a\rb", ChunkKind::Line, 1, 2, b""),
-        (b"ab", ChunkKind::Char, 3, 3, b"ab"),
-        (b"abc", ChunkKind::Char, 2, 2, b"ac"),
-        (b"a,b", ChunkKind::Item, 0, 0, b"a,b"),
-        (b"", ChunkKind::Word, 1, 1, b""),
+    let rows: &[(&[u8], ChunkKind, i64, i64, Option<&[u8]>)] = &[
+        (b"a,b,c", ChunkKind::Item, 3, 3, Some(b"a,b")),
+        (b"a,b,c", ChunkKind::Item, 1, 1, Some(b"b,c")),
+        (b"a,b,c", ChunkKind::Item, 2, 2, Some(b"a,c")),
+        (b"a", ChunkKind::Item, 1, 1, Some(b"")),
+        (b",", ChunkKind::Item, 2, 2, Some(b"")),
+        (b",", ChunkKind::Item, 1, 2, Some(b"")),
+        (b"a,b,", ChunkKind::Item, 3, 3, Some(b"a,b")),
+        (b"a b  c", ChunkKind::Word, 2, 2, Some(b"a c")),
+        (b"a b", ChunkKind::Word, 2, 2, Some(b"a ")),
+        (b"a b\rc", ChunkKind::Word, 2, 2, Some(b"a \rc")),
+        (b"a\rb", ChunkKind::Line, 1, 2, Some(b"")),
+        (b"ab", ChunkKind::Char, 3, 3, None),
+        (b"abc", ChunkKind::Char, 2, 2, Some(b"ac")),
+        (b"a,b", ChunkKind::Item, 0, 0, None),
+        (b"", ChunkKind::Word, 1, 1, None),
     ];
     for (text, kind, from, to, left) in rows {
         let chunk = pieces(*kind, *from, *to);
         assert!(rt;
-            leaves(rt.alloc(), text, &chunk, left)?,
+            leaves(rt.alloc(), text, &chunk, *left)?,
             "{text:?} {chunk:?}"
         );
     }
     Ok(())
+}
+
+/// The length of a text, if there is one.
+fn length_of(text: &Option<Text>) -> Option<usize> {
+    text.as_ref().map(|text| text.len())
 }
 
 /// The longest text: 1,000 items of 29 bytes, with commas between.
@@ -327,7 +335,7 @@ fn pieces_of_the_longest_text(rt: HostRuntime) -> Result<(), Fail> {
     ];
     for (kind, from, to, span) in rows {
         let chunk = pieces(*kind, *from, *to);
-        assert!(rt; is_found(&text, &chunk, *span), "{chunk:?}");
+        assert!(rt; is_found(text.as_slice(), &chunk, *span), "{chunk:?}");
     }
     Ok(())
 }
@@ -335,9 +343,81 @@ fn pieces_of_the_longest_text(rt: HostRuntime) -> Result<(), Fail> {
 #[test]
 fn counts_in_the_longest_text(rt: HostRuntime) -> Result<(), Fail> {
     let text = longest(rt.alloc())?;
-    assert_eq!(rt; count(&text, ChunkKind::Item, b','), 1_000);
-    assert_eq!(rt; count(&text, ChunkKind::Line, b','), 1);
+    assert_eq!(rt; count(text.as_slice(), ChunkKind::Item, b','), 1_000);
+    assert_eq!(rt; count(text.as_slice(), ChunkKind::Line, b','), 1);
     let last = pieces(ChunkKind::Item, 1_000, 1_000);
-    assert_eq!(rt; delete(rt.alloc(), &text, &last, b',')?.len(), 29_969);
+    let left = delete(rt.alloc(), &text, &last, b',')?;
+    assert_eq!(rt; length_of(&left), Some(29_969));
+    Ok(())
+}
+
+/// Chunks of a text, what is put into the innermost, the text after it, and the text after the innermost is deleted.
+struct NestedRow {
+    text: &'static [u8],
+    chunks: &'static [Chunk],
+    part: &'static [u8],
+    put: &'static [u8],
+    deleted: Option<&'static [u8]>,
+}
+
+const NESTED: &[NestedRow] = &[
+    NestedRow {
+        text: b"a b,c d",
+        chunks: &[SECOND_ITEM, FIRST_WORD],
+        part: b"c",
+        put: b"a b,x d",
+        deleted: Some(b"a b,d"),
+    },
+    NestedRow {
+        text: b"a b",
+        chunks: &[SECOND_ITEM, FIRST_WORD],
+        part: b"",
+        put: b"a b,x",
+        deleted: None,
+    },
+    NestedRow {
+        text: b"a b",
+        chunks: &[],
+        part: b"a b",
+        put: b"x",
+        deleted: None,
+    },
+];
+
+const SECOND_ITEM: Chunk = Chunk {
+    kind: ChunkKind::Item,
+    from: Index::At(2),
+    to: Index::At(2),
+};
+
+const FIRST_WORD: Chunk = Chunk {
+    kind: ChunkKind::Word,
+    from: Index::At(1),
+    to: Index::At(1),
+};
+
+/// Whether a put into the innermost chunk makes the text of the row, and a delete its other one.
+fn changes_inside(alloc: Global, row: &NestedRow) -> Result<bool, Fail> {
+    let text = Text::from_slice(alloc, row.text)?;
+    let new = Text::from_slice(alloc, b"x")?;
+    let put = put_within(alloc, &text, row.chunks, Where::Into, new, b',')?;
+    let left = delete_within(alloc, &text, row.chunks, b',')?;
+    Ok(put.as_slice() == row.put && is_text(&left, row.deleted))
+}
+
+/// Whether the chunks read the part of the row, lent and copied.
+fn reads_inside(alloc: Global, row: &NestedRow) -> Result<bool, Fail> {
+    let text = Text::from_slice(alloc, row.text)?;
+    let copy = take_within(alloc, &text, row.chunks, b',')?;
+    Ok(part_within(row.text, row.chunks, b',') == row.part && copy.as_slice() == row.part)
+}
+
+#[test]
+fn chunks_of_chunks(rt: HostRuntime) -> Result<(), Fail> {
+    for row in NESTED {
+        assert!(rt; changes_inside(rt.alloc(), row)?, "{:?}", row.text);
+        assert!(rt; reads_inside(rt.alloc(), row)?, "{:?}", row.text);
+    }
+    assert!(rt; part(b"a,b", &SECOND_ITEM, b',') == b"b".as_slice());
     Ok(())
 }

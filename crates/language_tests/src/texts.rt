@@ -2,10 +2,10 @@
 
 use ht_grammar::HandlerKind;
 use ht_parse::{
-    ParseError, parse_expr, parse_lines, parse_message, parse_part, parse_script, parse_type,
+    ExprKind, Handler, ParseError, StmtKind, parse_expr, parse_lines, parse_message, parse_part,
+    parse_script, parse_type,
 };
-use ht_tree::{ExprKind, Handler, StmtKind};
-use ht_values::{Op, PartKind, Text};
+use ht_values::{Failure, Fault, Op, PartKind, Text};
 use std::alloc::Global;
 use std::test::*;
 
@@ -57,6 +57,13 @@ fn texts_that_are_no_trees(rt: HostRuntime) -> Result<(), Fail> {
         assert!(rt; stops(rt.alloc(), *whole, &text, *from, *to), "{bytes:?}");
     }
     Ok(())
+}
+
+#[test]
+fn no_tree_is_a_fault_of_syntax(rt: HostRuntime) {
+    let fault = Failure::Fault(Fault::Syntax);
+    assert!(rt; Failure::from(ParseError::Syntax(3)) == fault);
+    assert!(rt; Failure::from(ParseError::Memory) == Failure::Memory);
 }
 
 /// A number in parentheses, opened and closed so many times.

@@ -1,6 +1,6 @@
 //! The tokens of texts.
 
-use ht_lex::{Key, LexError, TokenKind, is_name, lex};
+use ht_lex::{Constant, Key, LexError, TokenKind, is_name, lex, to_name};
 use ht_values::{ChunkKind, PartKind, Text};
 use std::alloc::Global;
 use std::test::*;
@@ -175,4 +175,30 @@ fn a_name_is_a_word_that_is_not_reserved(rt: HostRuntime) {
     for (word, is_one) in rows {
         assert!(rt; is_name(word) == *is_one, "{word:?}");
     }
+}
+
+#[test]
+fn texts_of_constants(rt: HostRuntime) {
+    let rows: &[(Constant, &[u8])] = &[
+        (Constant::Empty, b""),
+        (Constant::Quote, b"\""),
+        (Constant::Space, b" "),
+        (Constant::Tab, b"\t"),
+        (Constant::LineFeed, b"\n"),
+        (Constant::FormFeed, b"\x0C"),
+        (Constant::False, b"false"),
+        (Constant::Ten, b"10"),
+    ];
+    for (constant, bytes) in rows {
+        assert!(rt; constant.bytes() == *bytes, "{constant:?}");
+    }
+}
+
+#[test]
+fn a_name_keeps_its_spelling(rt: HostRuntime) -> Result<(), Fail> {
+    match to_name(rt.alloc(), b"Sum") {
+        Ok(name) => assert!(rt; name.text().as_slice() == b"Sum".as_slice()),
+        Err(_) => return Err("out of memory".into()),
+    }
+    Ok(())
 }

@@ -6,7 +6,7 @@ use ht_tree::{
     Chunk, Container, ContainerKind, Count, Destination, Expr, ExprKind, Exprs, Handler, Head,
     Message, Names, Owner, Part, Ref, Script, Selector, Stmt, StmtKind, Stmts, Typing, Which,
 };
-use ht_values::{ChunkKind, Op, PartKind, Text, Where};
+use ht_values::{ChunkKind, Name, Op, PartKind, Text, Where};
 use std::alloc::Global;
 use std::test::*;
 
@@ -48,7 +48,7 @@ fn number_of(alloc: Global, reference: Ref) -> Result<Expr, Fail> {
 
 /// The variable `it`.
 fn it(alloc: Global) -> Result<Container, Fail> {
-    let name = Text::from_slice(alloc, b"it")?;
+    let name = Name::new(alloc, Text::from_slice(alloc, b"it")?)?;
     Ok(Container::new(alloc, ContainerKind::Variable(name))?)
 }
 
@@ -222,8 +222,11 @@ fn a_statement_is_one_deeper_than_its_deepest_part(rt: HostRuntime) -> Result<()
 
 #[test]
 fn names_are_no_nodes(rt: HostRuntime) -> Result<(), Fail> {
-    let names = Names::new(rt.alloc()).with(Text::from_slice(rt.alloc(), b"total")?)?;
-    assert!(rt; matches!(names.items.as_slice(), [name] if name.as_slice() == b"total".as_slice()));
+    let total = Name::new(rt.alloc(), Text::from_slice(rt.alloc(), b"total")?)?;
+    let names = Names::new(rt.alloc()).with(total)?;
+    assert!(rt;
+        matches!(names.items.as_slice(), [name] if name.text().as_slice() == b"total".as_slice())
+    );
     assert_eq!(rt; Stmt::new(rt.alloc(), StmtKind::Global(names))?.depth(), 1);
     Ok(())
 }

@@ -3,7 +3,7 @@
 mod functions;
 mod operators;
 
-use ht_values::{Failure, Fault, LIMIT, Text, TextError, law_of_text, text_of};
+use ht_values::{Failure, Fault, LIMIT, Name, Text, TextError, law_of_text, text_of};
 use std::alloc::Global;
 use std::test::*;
 
@@ -33,10 +33,25 @@ fn is_cloned(alloc: Global, bytes: &[u8]) -> Result<bool, Fail> {
     Ok(text.as_slice() == bytes && text.try_clone(alloc)?.as_slice() == bytes)
 }
 
-/// Whether the text is folded to these bytes.
+/// Whether the text, and the name that it spells, is folded to these bytes.
 fn is_folded(alloc: Global, bytes: &[u8], want: &[u8]) -> Result<bool, Fail> {
     let text = Text::from_slice(alloc, bytes)?;
-    Ok(text.folded(alloc)?.as_slice() == want)
+    let folded = text.folded(alloc)?;
+    let was_folded = text.is_folded();
+    let name = Name::new(alloc, text)?;
+    Ok(
+        folded.as_slice() == want
+            && was_folded == (bytes == want)
+            && name.text().as_slice() == bytes
+            && name.folded().as_slice() == want,
+    )
+}
+
+/// What a text is after bytes are added to it.
+fn longer(alloc: Global, bytes: &[u8], more: &[u8]) -> Result<Text, Failure> {
+    let mut text = Text::from_vec(Vec::from_slice(alloc, bytes)?)?;
+    text.append(more)?;
+    Ok(text)
 }
 
 /// Whether the two texts are the same.
@@ -67,9 +82,19 @@ fn a_text_is_its_clone(rt: HostRuntime) -> Result<(), Fail> {
 }
 
 #[test]
+fn bytes_are_added_up_to_the_limit(rt: HostRuntime) -> Result<(), Fail> {
+    assert!(rt; is_given(longer(rt.alloc(), b"ab", b"c"), &Ok(b"abc")));
+    let most = vec![in rt.alloc(); b'x'; LIMIT]?;
+    assert!(rt; is_given(longer(rt.alloc(), b"", &most), &Ok(&most)));
+    assert!(rt; is_given(longer(rt.alloc(), b"a", &most), &Err(Fault::TooLong)));
+    Ok(())
+}
+
+#[test]
 fn only_a_to_z_are_folded(rt: HostRuntime) -> Result<(), Fail> {
     assert!(rt; is_folded(rt.alloc(), b"aB", b"ab")?);
     assert!(rt; is_folded(rt.alloc(), b"@Z[\xC4", b"@z[\xC4")?);
+    assert!(rt; is_folded(rt.alloc(), b"ab", b"ab")?);
     assert!(rt; are_same(rt.alloc(), b"ab", b"aB")?);
     assert!(rt; !are_same(rt.alloc(), b"@Z[\xC4", b"@z[\xE4")?);
     Ok(())

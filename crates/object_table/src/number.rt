@@ -78,7 +78,7 @@ impl Stack {
     }
 
     /// Whether an object is there and is a button, or a field.
-    pub(crate) fn is_part(&self, id: Id, kind: PartKind) -> bool
+    pub fn is_part(&self, id: Id, kind: PartKind) -> bool
         ensures { result ≡ has_kind (is_of kind) self.now.content id }
     {
         match self.object(id) {

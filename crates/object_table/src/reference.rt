@@ -3,25 +3,42 @@
 ghost use Rattle.std.specs.Prelude.{◌≡◌, ◌==◌, find};
 ghost use Rattle.object_table.specs.Numbers.{at_number, of_kind};
 ghost use Rattle.object_table.specs.Objects.{has_kind, is_of};
-ghost use Rattle.object_table.specs.References.{is_named, part_found};
+ghost use Rattle.object_table.specs.References.{is_named, part_found, pick as picked};
 
-use crate::ids::Id;
+use crate::ids::{Id, IdList};
 use crate::object::LayerId;
 use crate::stack::Stack;
 use ht_values::{PartKind, Text};
 
-/// Which part of a layer is meant.
+/// Which one is meant of an order, or of the parts of a kind on a layer.
 #[derive(Clone, Copy)]
 pub enum Which<'a> {
-    /// By its number among the parts of its kind, counted from 1.
-    Number(u32),
-    /// By its id.
-    Id(Id),
-    /// By its name: the first in the layer's order whose name is the same.
+    /// By its number in their order, counted from 1.
+    Number(usize),
+    /// By its id. It may be more than any id is.
+    Id(usize),
+    /// By its name: the first in their order whose name is the same.
     Name(&'a Text),
 }
 
 impl Stack {
+    /// The one that is meant in a list of objects.
+    pub fn pick(&self, ids: &IdList, which: Which<'_>) -> Option<Id>
+        ensures { result ≡ picked self.now.content which.entry ids.now }
+    {
+        match which {
+            Which::Number(number) => ids.at_number(number),
+            Which::Id(id) => id_in(ids.as_slice(), id),
+            Which::Name(name) => self.named_in(ids.as_slice(), name),
+        }
+    }
+
+    fn named_in(&self, ids: &[Id], name: &Text) -> Option<Id>
+        ensures { result ≡ find (is_named self.now.content name.now) ids.now }
+    {
+        ids.iter().copied().find(|id| self.is_named(*id, name))
+    }
+
     /// The part of this kind on a layer that is meant. `None` where there is no such layer or no such part
     /// on it.
     pub fn find_part(&self, layer: LayerId, kind: PartKind, which: Which<'_>) -> Option<Id>
@@ -35,7 +52,7 @@ impl Stack {
         }
     }
 
-    fn numbered_among(&self, parts: &[Id], kind: PartKind, number: u32) -> Option<Id>
+    fn numbered_among(&self, parts: &[Id], kind: PartKind, number: usize) -> Option<Id>
         ensures { result ≡ at_number (of_kind self.now.content kind parts.now) number }
     {
         let mut before = number.checked_sub(1)?;
@@ -50,14 +67,14 @@ impl Stack {
         None
     }
 
-    fn id_among(&self, parts: &[Id], kind: PartKind, id: Id) -> Option<Id>
+    fn id_among(&self, parts: &[Id], kind: PartKind, id: usize) -> Option<Id>
         ensures { result ≡ find (λ x. x == id) (of_kind self.now.content kind parts.now) }
     {
         parts
             .iter()
             .copied()
             .filter(|part| self.is_part(*part, kind))
-            .find(|part| *part == id)
+            .find(|part| *part as usize == id)
     }
 
     fn named_among(&self, parts: &[Id], kind: PartKind, name: &Text) -> Option<Id>
@@ -70,7 +87,8 @@ impl Stack {
             .find(|part| self.is_named(*part, name))
     }
 
-    fn is_named(&self, id: Id, name: &Text) -> bool
+    /// Whether an object is there and its name is the same.
+    pub fn is_named(&self, id: Id, name: &Text) -> bool
         ensures { result ≡ is_named self.now.content name.now id }
     {
         match self.object(id) {
@@ -78,4 +96,10 @@ impl Stack {
             None => false,
         }
     }
+}
+
+fn id_in(ids: &[Id], id: usize) -> Option<Id>
+    ensures { result ≡ find (λ x. x == id) ids.now }
+{
+    ids.iter().copied().find(|x| *x as usize == id)
 }

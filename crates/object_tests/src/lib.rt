@@ -11,6 +11,10 @@ mod objects;
 #[cfg(test)]
 mod property_values;
 #[cfg(test)]
+mod references;
+#[cfg(test)]
+mod settings;
+#[cfg(test)]
 mod spelling;
 #[cfg(test)]
 mod watched_devices;

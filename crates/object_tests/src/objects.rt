@@ -206,7 +206,7 @@ fn objects_are_numbered_from_one(rt: HostRuntime) -> Result<(), Fail> {
 fn a_part_is_found_by_its_number(rt: HostRuntime) -> Result<(), Fail> {
     let stack = demo(rt.alloc())?;
     let layer = LayerId::OfBackground(1);
-    let rows: &[(PartKind, u32, Option<Id>)] = &[
+    let rows: &[(PartKind, usize, Option<Id>)] = &[
         (PartKind::Field, 1, Some(3)),
         (PartKind::Field, 0, None),
         (PartKind::Field, 2, None),
@@ -224,7 +224,7 @@ fn a_part_is_found_by_its_number(rt: HostRuntime) -> Result<(), Fail> {
 #[test]
 fn a_part_is_found_by_its_id(rt: HostRuntime) -> Result<(), Fail> {
     let stack = demo(rt.alloc())?;
-    let rows: &[(LayerId, Id, Option<Id>)] = &[
+    let rows: &[(LayerId, usize, Option<Id>)] = &[
         (LayerId::OfBackground(1), 3, Some(3)),
         (LayerId::OfBackground(1), 2, None),
         (LayerId::OfCard(2), 3, None),

@@ -18,7 +18,7 @@ pub fn print_expr(out: &mut Vec<u8>, expr: &Expr) -> io::Result<()> {
         ExprKind::Quoted(text) => print_quoted(out, text),
         ExprKind::Constant(constant) => write!(out, "{constant:?}"),
         ExprKind::Return => write!(out, "Return"),
-        ExprKind::Name(name) => print_text(out, name),
+        ExprKind::Name(name) => print_text(out, name.text()),
         ExprKind::Result => write!(out, "(the-result)"),
         ExprKind::Target => write!(out, "(the-target)"),
         ExprKind::RunProperty(property) => write!(out, "(the {property:?})"),

@@ -11,7 +11,7 @@ use std::io::{self, Write};
 /// Prints a container: a variable as its name, all else in parentheses.
 fn print_container(out: &mut Vec<u8>, container: &Container) -> io::Result<()> {
     match container.kind() {
-        ContainerKind::Variable(name) => print_text(out, name),
+        ContainerKind::Variable(name) => print_text(out, name.text()),
         ContainerKind::Field(part) => {
             write!(out, "(text-of ")?;
             print_part(out, part)?;
@@ -32,7 +32,7 @@ pub fn print_names(out: &mut Vec<u8>, names: &Names) -> io::Result<()> {
     let mut between = "";
     for name in names.items.iter() {
         write!(out, "{between}")?;
-        print_text(out, name)?;
+        print_text(out, name.text())?;
         between = " ";
     }
     Ok(())
@@ -115,7 +115,7 @@ fn print_head(out: &mut Vec<u8>, head: &Head) -> io::Result<()> {
         Head::Until(condition) => print_one(out, "until", condition),
         Head::CountedUp(name, from, to) => {
             write!(out, "(up ")?;
-            print_text(out, name)?;
+            print_text(out, name.text())?;
             write!(out, " ")?;
             print_expr(out, from)?;
             write!(out, " ")?;
@@ -124,7 +124,7 @@ fn print_head(out: &mut Vec<u8>, head: &Head) -> io::Result<()> {
         }
         Head::CountedDown(name, from, to) => {
             write!(out, "(down ")?;
-            print_text(out, name)?;
+            print_text(out, name.text())?;
             write!(out, " ")?;
             print_expr(out, from)?;
             write!(out, " ")?;

@@ -6,5 +6,5 @@ mod name;
 mod property_text;
 mod setting;
 
-pub use property_text::get;
+pub use property_text::{get, own_hilite};
 pub use setting::check;

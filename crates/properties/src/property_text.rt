@@ -94,8 +94,8 @@ fn hilite(stack: &Stack, card: Id, id: Id, kind: Kind) -> Result<bool, Fault>
     }
 }
 
-/// A card's own hilite of a button. Id 0 is no card: under it stands the hilite that is shared.
-fn own_hilite(stack: &Stack, card: Id, id: Id) -> Option<bool>
+/// A card's own hilite of a button of its background. Id 0 is no card: under it stands the hilite that is shared.
+pub fn own_hilite(stack: &Stack, card: Id, id: Id) -> Option<bool>
     ensures { result ≡ properties.own_hilite stack.now.content card id }
 {
     if card == 0 {

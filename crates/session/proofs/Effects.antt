@@ -1,8 +1,6 @@
 -- Statements that are run.
-use Rattle.std.proofs.Common.{◌≡◌, ℕ, true, not, List, [], ◌∷◌, refl, sym, ap, ◌∙◌, arith}
+use Rattle.std.proofs.Common.{◌≡◌, ℕ, true, List, [], refl, sym, ap, ◌∙◌, arith}
 use Rattle.std.specs.Prelude.{Option, Some, None, IfSome}
-use Rattle.std.specs.Char.{is_ascii_uppercase, to_ascii_lowercase}
-use Rattle.std.proofs.lemmas.Bool.Decides.{nat_tests}
 use Rattle.ht_values.specs.Text.{folded}
 use Rattle.object_table.specs.Content.{Content}
 use Rattle.object_table.specs.Numbers.{at_number}
@@ -10,7 +8,6 @@ use Rattle.object_table.specs.Objects.{has_kind, is_card}
 use Rattle.object_table.specs.WellFormed.{IsWellFormed}
 use Rattle.object_table.proofs.Listed.{contains_id-at_number}
 use Rattle.journal_entries.specs.Changes.{changed}
-use Rattle.journal_entries.specs.State.{is_folded}
 use Rattle.journal_entries.specs.Replaced.{replaced_by}
 use Rattle.journal_entries.specs.declared.change.Change.{Change}
 use Rattle.change_journal.specs.History.{History, Open, begun, committed, rolled_back}
@@ -22,14 +19,6 @@ use Rattle.session.specs.Meaning.{effect, replaced_of, after_change}
 use Rattle.session.specs.Replies.{ended}
 use Rattle.session.specs.TakesLine.{Adds}
 use Rattle.session.specs.declared.reply.Ending.{Ending}
-
-not_upper : (b : ℕ) → not (is_ascii_uppercase (to_ascii_lowercase b)) ≡ true
-not_upper b = grind (arith, nat_tests)
-
--- a folded name is folded
-pub is_folded-folded : (name : List ℕ) → is_folded (folded name) ≡ true
-is_folded-folded [] = refl
-is_folded-folded (b ∷ bs) = rw (not_upper b) (is_folded-folded bs)
 
 -- a card that has a number is a card
 pub is_card-at_number : (s stack : Content) (n card : ℕ) → s ≡ stack → IsWellFormed s → Some card ≡ at_number s.cards n → has_kind is_card stack card ≡ true

@@ -8,4 +8,5 @@ pub mod Opened
 pub mod Refusing
 pub mod Sessions
 pub mod Spaces
+pub mod Stamping
 pub mod Within

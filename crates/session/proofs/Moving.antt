@@ -1,10 +1,10 @@
 -- Flips, one after the other.
-use Rattle.std.proofs.Common.{◌≡◌, ℕ, suc, ◌+◌, ◌-◌, ◌<◌, ◌≤◌, Bool, true, false, List, [], ◌∷◌, length, refl, subst, inl, inr, arith}
+use Rattle.std.proofs.Common.{◌≡◌, ℕ, suc, ◌+◌, ◌-◌, ◌<◌, ◌≤◌, Bool, true, false, List, [], ◌∷◌, length, refl, arith}
 use Rattle.std.specs.Prelude.{Some, None, nat_le, slice_index_or}
 use Rattle.std.specs.List.{position, position_or_len}
 use Rattle.std.proofs.lemmas.List.{length-map}
 use Rattle.std.proofs.lemmas.List.Sums.{position_or_len_is}
-use Rattle.std.proofs.lemmas.Bool.{lt-ltb, le-ltb, le-leb, lt-leb, cases_lt}
+use Rattle.std.proofs.lemmas.Bool.{lt-ltb, le-ltb, le-leb}
 use Rattle.change_journal.specs.History.{History, Step, stamp_at, flipped_back, flipped_back_from, flipped_forth, flipped_forth_from}
 use Rattle.session.specs.Moves.{back_by, forth_by, stamps, places_to}
 
@@ -59,14 +59,6 @@ found_none p xs before =
 -- the first state, from the present one back, whose number is low enough
 pub places_to-found : (n i : ℕ) (h : History) → i ≤ length h.past → ((k : ℕ) → k < i → nat_le (stamp_at h k) n ≡ false) → stamp_at h i ≤ n → Some i ≡ places_to n h
 places_to-found n i h within before low = found_at (λ stamp. nat_le stamp n) (stamps h) i (omega (arith, length-map h.past (λ step. step.stamp))) before (le-leb (stamp_at h i) n low)
-
--- each state but this one was too high, and so is this one
-pub all_high : (n i : ℕ) (h : History) → ((k : ℕ) → k < i → nat_le (stamp_at h k) n ≡ false) → n < stamp_at h i → (k : ℕ) → k < i + 1 → nat_le (stamp_at h k) n ≡ false
-all_high n i h before here k lt =
-    elim (cases_lt k i) [
-      | inl less ↦ before k less
-      | inr more ↦ subst (λ j. nat_le (stamp_at h j) n ≡ false) (let e : i ≡ k = omega arith in e) (lt-leb (stamp_at h i) n here)
-    ]
 
 pub places_to-none : (n : ℕ) (h : History) → ((k : ℕ) → k < length h.past + 1 → nat_le (stamp_at h k) n ≡ false) → None ≡ places_to n h
 places_to-none n h before = found_none (λ stamp. nat_le stamp n) (stamps h) (λ k lt. before k (omega (arith, length-map h.past (λ step. step.stamp))))

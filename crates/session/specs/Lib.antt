@@ -8,6 +8,7 @@ pub mod Moves
 pub mod Opening
 pub mod Replies
 pub mod Splits
+pub mod Stamped
 pub mod Standing
 pub mod Stops
 pub mod TakesLine

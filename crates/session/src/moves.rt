@@ -2,6 +2,7 @@
 
 ghost use Rattle.std.specs.Prelude.{◌≡◌, ◌<◌, ◌≤◌, ℕ, None, IfSome, length};
 ghost use Rattle.session.specs.Moves.{back_by, forth_by, undone, redone, undone_to, places_to as places_back_to, MovesTo};
+ghost use Rattle.session.specs.Stamped.{numbers_of, DescendFrom};
 
 use crate::reply::Refusal;
 use change_journal::World;
@@ -57,21 +58,31 @@ pub fn go_forth<E: External>(world: &mut World<E>, places: u32) -> Result<(), Re
     Ok(())
 }
 
-/// How far back the last state stands whose number is at most this.
+/// How far back the last state stands whose number is at most this, by bisection.
 fn places_to<E: External>(world: &World<E>, number: u32) -> Option<usize>
+    requires { DescendFrom world.now.history.stamp (numbers_of world.now.history.past) }
     ensures places { result ≡ places_back_to number world.now.history }
     ensures there { IfSome result (λ i. i ≤ length world.now.history.past) }
 {
-    for i in 0..=world.undoable() {
-        if world.stamp(i) <= number {
-            return Some(i);
+    let mut far = world.undoable();
+    if number < world.stamp(far) {
+        return None;
+    }
+    let mut near = 0;
+    while near < far {
+        let middle = near + (far - near) / 2;
+        if number < world.stamp(middle) {
+            near = middle + 1;
+        } else {
+            far = middle;
         }
     }
-    None
+    Some(far)
 }
 
 pub fn go_back_to<E: External>(world: &mut World<E>, number: u32) -> Result<(), Refusal>
-    requires { world.old.history.start ≡ None }
+    requires closed { world.old.history.start ≡ None }
+    requires stamped { DescendFrom world.old.history.stamp (numbers_of world.old.history.past) }
     ensures moved { MovesTo (undone_to number world.old.history) Refusal.NothingToUndo
         world.old.history result world.new.history }
     ensures closed { world.new.history.start ≡ None }

@@ -8,6 +8,7 @@ ghost use Rattle.session.specs.Commands as commands;
 ghost use Rattle.session.specs.Commands.{command_of, IsWithin};
 ghost use Rattle.session.specs.Moves.{MovesTo, undone, redone, undone_to};
 ghost use Rattle.session.specs.Opening.{open_fault, opened};
+ghost use Rattle.session.specs.Stamped.{AreStamped};
 ghost use Rattle.stack_text.specs.declared.sheets.Version.TheVariants.{Second as second};
 ghost use Rattle.stack_text.specs.Listing.{spelling};
 ghost use Rattle.session.specs.TakesLine.{TakesLine, Performs, MayRunOut};
@@ -41,6 +42,7 @@ pub struct Session<E: External> {
 impl<E: External> Model for Session<E> {
     ghost use Rattle.std.specs.Prelude.{◌≡◌, ◌≤◌, None};
     ghost use Rattle.session.specs.declared.limits.TheConstants.{LAST_NUMBER};
+    ghost use Rattle.session.specs.Stamped.{AreStamped};
     ghost use Rattle.session.specs.Standing.{Standing, coded_standing};
 
     ghost Value = { Standing };
@@ -49,7 +51,7 @@ impl<E: External> Model for Session<E> {
 
     ghost view = { λ s. record { history = s.world.history; lines = s.lines; steps = s.steps } };
 
-    ghost invariant = { λ s. (s.world.history.start ≡ None) × (s.lines ≤ LAST_NUMBER) };
+    ghost invariant = { λ s. (s.world.history.start ≡ None) × (s.lines ≤ LAST_NUMBER) × AreStamped s.lines s.world.history };
 }
 
 fn ended(alloc: Global, ending: Ending) -> Reply
@@ -107,6 +109,7 @@ fn perform<E: External>(
     command: Command<'_>,
 ) -> Reply
     requires closed { world.old.history.start ≡ None }
+    requires stamped { AreStamped number world.old.history }
     requires within { IsWithin LONGEST_LINE (command_of command) }
     ensures performed { Performs (Some (command_of command.entry)) number
         world.old.history result world.new.history }
@@ -228,9 +231,7 @@ impl<E: External> Session<E> {
         ensures memory { result.ending ≡ Ending.Refused Refusal.NoMemory
             → MayRunOut (commands.command_in line.now) }
     {
-        if self.lines < LAST_NUMBER {
-            self.lines += 1;
-        }
+        self.lines = (self.lines + 1).min(LAST_NUMBER);
         if LONGEST_LINE < line.len() {
             return refused(self.alloc, Refusal::LineTooLong);
         }

@@ -2,22 +2,23 @@
 
 ghost use Rattle.std.specs.Prelude.{◌≡◌, unwrap_or};
 ghost use Rattle.object_table.specs.Setting.{value_at, with_value_at};
-ghost use Rattle.stack_places.specs.Exchange.{exchanged, taken, IsReady, is_structural as makes_or_removes, of_one_place, of_one_property};
+ghost use Rattle.stack_places.specs.Exchange.{exchanged, taken, IsReady, is_structural as makes_or_removes};
 
-use ht_values::Text;
-use object_table::{Id, IdList, Object, PropValue, Stack};
+use crate::boxed::{BoxedObject, BoxedText};
+use object_table::{Id, IdList, PropValue, Stack};
 
-/// A place of a stack, with the value that isn't there now.
+/// A place of a stack, with the value that isn't there now. A value that would make every entry larger stands in a box,
+/// which is made before the exchange.
 #[derive(Drop)]
 pub enum StackEntry {
     /// An object and a value of one of its properties. Where there is no such object, or it has no such property,
     /// the exchange changes nothing.
     Prop(Id, PropValue),
     /// A field and a card, or 0 for the text that the cards share.
-    FieldText(Id, Id, Option<Text>),
+    FieldText(Id, Id, BoxedText),
     /// A button of a background and a card, or 0 for the hilite that the cards share.
     Hilite(Id, Id, Option<bool>),
-    Object(Id, Option<Object>),
+    Object(Id, BoxedObject),
     CardOrder(IdList),
     BackgroundOrder(IdList),
     /// A card or a background, and the list of its parts.
@@ -35,9 +36,9 @@ impl StackEntry {
     {
         match self {
             StackEntry::Prop(id, value) => exchange_property(stack, *id, value),
-            StackEntry::FieldText(field, card, text) => stack.swap_text(*field, *card, text),
+            StackEntry::FieldText(field, card, text) => text.exchange(stack, *field, *card),
             StackEntry::Hilite(button, card, hilite) => stack.swap_hilite(*button, *card, hilite),
-            StackEntry::Object(id, object) => stack.swap_object(*id, object),
+            StackEntry::Object(id, object) => object.exchange(stack, *id),
             StackEntry::CardOrder(cards) => stack.swap_order(cards),
             StackEntry::BackgroundOrder(backgrounds) => stack.swap_backgrounds(backgrounds),
             StackEntry::Parts(layer, parts) => stack.swap_parts(*layer, parts),
@@ -51,44 +52,6 @@ impl StackEntry {
         ensures { result ≡ makes_or_removes self.now }
     {
         matches!(self, StackEntry::Object(_, _))
-    }
-
-    /// Whether both entries are of one place, which no structural entry has.
-    #[tactic(auto, unfolding(crate::specs::Exchange::of_one_place))]
-    pub fn is_of_place_of(&self, other: &StackEntry) -> bool
-        ensures { result ≡ of_one_place self.now other.now }
-    {
-        match (self, other) {
-            (StackEntry::Prop(id, value), StackEntry::Prop(other_id, other_value)) => {
-                *id == *other_id && are_of_one_property(value, other_value)
-            }
-            (StackEntry::FieldText(field, card, _), StackEntry::FieldText(other, other_card, _)) =>
-                { *field == *other && *card == *other_card }
-            (StackEntry::Hilite(button, card, _), StackEntry::Hilite(other, other_card, _)) => {
-                *button == *other && *card == *other_card
-            }
-            (StackEntry::CardOrder(_), StackEntry::CardOrder(_)) => true,
-            (StackEntry::BackgroundOrder(_), StackEntry::BackgroundOrder(_)) => true,
-            (StackEntry::Parts(layer, _), StackEntry::Parts(other, _)) => *layer == *other,
-            (StackEntry::NextId(_), StackEntry::NextId(_)) => true,
-            _ => false,
-        }
-    }
-}
-
-fn are_of_one_property(value: &PropValue, other: &PropValue) -> bool
-    ensures { result ≡ of_one_property value.now other.now }
-{
-    match (value, other) {
-        (PropValue::NameIs(_), PropValue::NameIs(_)) => true,
-        (PropValue::ScriptIs(_), PropValue::ScriptIs(_)) => true,
-        (PropValue::VisibleIs(_), PropValue::VisibleIs(_)) => true,
-        (PropValue::HiliteIs(_), PropValue::HiliteIs(_)) => true,
-        (PropValue::SharedHiliteIs(_), PropValue::SharedHiliteIs(_)) => true,
-        (PropValue::LockTextIs(_), PropValue::LockTextIs(_)) => true,
-        (PropValue::SharedTextIs(_), PropValue::SharedTextIs(_)) => true,
-        (PropValue::CantDeleteIs(_), PropValue::CantDeleteIs(_)) => true,
-        _ => false,
     }
 }
 

@@ -17,9 +17,18 @@ use Rattle.ht_values.specs.declared.word.PartKind.TheVariants.{Button, Field}
 use Rattle.stack_places.specs.Places.{StackPlace, Value, same_place, put, field_text, button_hilite, whole, card_order, background_order, layer_parts as parts_of, next_id, text, logical, object, ids, number}
 
 -- a place, and the value that it gets, or none
-pub record StackWrite : Type 0 where
-  pub place : StackPlace
+pub record WriteAt (P : Type 0) : Type 0 where
+  pub place : P
   pub value : Option Value
+
+-- what a state is after writes, from the first to the last, where one puts a value at a place so
+abbrev pub put_in_turn : {S P : Type 0} → (S → P → Option Value → S) → S → List (WriteAt P) → S
+put_in_turn puts s [] = s
+put_in_turn puts s (w ∷ ws) = put_in_turn puts (puts s w.place w.value) ws
+
+-- a write of the stack
+abbrev pub StackWrite : Type 0
+StackWrite = WriteAt StackPlace
 
 -- whether two writes are at one place
 abbrev pub at_one_place : StackWrite → StackWrite → Bool
@@ -27,8 +36,7 @@ at_one_place w v = same_place w.place v.place
 
 -- the stack after writes, from the first to the last
 abbrev pub put_each : Content → List StackWrite → Content
-put_each s [] = s
-put_each s (w ∷ ws) = put_each (put s w.place w.value) ws
+put_each s ws = put_in_turn put s ws
 
 -- ---- lists of ids
 

@@ -7,11 +7,12 @@ ghost use Rattle.structural_changes.specs.Writes.{clear};
 
 use crate::preparing::add_entry;
 use object_table::{Id, Stack};
-use stack_places::StackEntry;
-use std::alloc::AllocError;
+use stack_places::{BoxedObject, BoxedText, StackEntry};
+use std::alloc::{AllocError, Global};
 
 /// Adds that these objects go.
 pub(crate) fn clear_objects(
+    alloc: Global,
     stack: &mut Stack,
     entries: &mut Vec<StackEntry>,
     ids: &[Id],
@@ -20,7 +21,8 @@ pub(crate) fn clear_objects(
     ensures opens { Opens stack.old stack.new }
 {
     for id in ids {
-        add_entry(stack, entries, StackEntry::Object(*id, None))?;
+        let gone = BoxedObject::new(alloc, None)?;
+        add_entry(stack, entries, StackEntry::Object(*id, gone))?;
     }
     Ok(())
 }
@@ -42,6 +44,7 @@ pub(crate) fn clear_parts(
 
 /// Adds that these texts go, each of a field for a card, or for 0.
 pub(crate) fn clear_texts(
+    alloc: Global,
     stack: &mut Stack,
     entries: &mut Vec<StackEntry>,
     texts: &[(Id, Id)],
@@ -50,7 +53,8 @@ pub(crate) fn clear_texts(
     ensures opens { Opens stack.old stack.new }
 {
     for text in texts {
-        add_entry(stack, entries, StackEntry::FieldText(text.0, text.1, None))?;
+        let gone = BoxedText::new(alloc, None)?;
+        add_entry(stack, entries, StackEntry::FieldText(text.0, text.1, gone))?;
     }
     Ok(())
 }

@@ -14,7 +14,7 @@ use crate::preparing::{
 };
 use ht_values::{PartKind, Text};
 use object_table::{Id, IdList, Kind, LayerId, Object, Stack};
-use stack_places::StackEntry;
+use stack_places::{BoxedObject, StackEntry};
 use std::alloc::{AllocError, Global};
 
 /// The id of a card or a background.
@@ -111,11 +111,11 @@ pub fn prepare_new_part(
 {
     let part = stack.next_id();
     let parts = parts_with(alloc, stack, layer, part)?;
-    let object = part_of(alloc, layer, kind)?;
+    let object = BoxedObject::new(alloc, Some(part_of(alloc, layer, kind)?))?;
     let cards = cards_kept_for(alloc, stack, layer)?;
     let mut entries = Vec::new(alloc);
     add_entry(stack, &mut entries, StackEntry::NextId(part + 1))?;
-    add_entry(stack, &mut entries, StackEntry::Object(part, Some(object)))?;
+    add_entry(stack, &mut entries, StackEntry::Object(part, object))?;
     add_entry(
         stack,
         &mut entries,
@@ -173,10 +173,10 @@ pub fn prepare_new_card(
     let order = order_with(alloc, stack.cards(), card, new)?;
     let fields = parts_of(alloc, stack, background, PartKind::Field)?;
     let buttons = parts_of(alloc, stack, background, PartKind::Button)?;
-    let object = card_on(alloc, background);
+    let object = BoxedObject::new(alloc, Some(card_on(alloc, background)))?;
     let mut entries = Vec::new(alloc);
     add_entry(stack, &mut entries, StackEntry::NextId(new + 1))?;
-    add_entry(stack, &mut entries, StackEntry::Object(new, Some(object)))?;
+    add_entry(stack, &mut entries, StackEntry::Object(new, object))?;
     add_entry(stack, &mut entries, StackEntry::CardOrder(order))?;
     add_entry(
         stack,
@@ -188,8 +188,8 @@ pub fn prepare_new_card(
     Ok(entries)
 }
 
-/// The background of a card.
-pub(crate) fn home_of(stack: &Stack, card: Id) -> Id
+/// The background of a card, or 0 where there is no such card.
+pub fn home_of(stack: &Stack, card: Id) -> Id
     ensures { result ≡ home stack.now.content card }
 {
     match stack.object(card) {
@@ -217,19 +217,12 @@ pub fn prepare_new_background(
     let order = order_with(alloc, stack.cards(), card, new + 1)?;
     let backgrounds = with_last(alloc, stack.backgrounds().as_slice(), new)?;
     let background = Object::empty(alloc, Kind::Background { cant_delete: false });
-    let object = card_on(alloc, new);
+    let background = BoxedObject::new(alloc, Some(background))?;
+    let object = BoxedObject::new(alloc, Some(card_on(alloc, new)))?;
     let mut entries = Vec::new(alloc);
     add_entry(stack, &mut entries, StackEntry::NextId(new + 2))?;
-    add_entry(
-        stack,
-        &mut entries,
-        StackEntry::Object(new, Some(background)),
-    )?;
-    add_entry(
-        stack,
-        &mut entries,
-        StackEntry::Object(new + 1, Some(object)),
-    )?;
+    add_entry(stack, &mut entries, StackEntry::Object(new, background))?;
+    add_entry(stack, &mut entries, StackEntry::Object(new + 1, object))?;
     add_entry(stack, &mut entries, StackEntry::CardOrder(order))?;
     add_entry(
         stack,

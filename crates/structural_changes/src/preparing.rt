@@ -11,7 +11,7 @@ ghost use Rattle.object_table.specs.WellFormed.{IsWellFormed};
 
 use ht_values::{PartKind, Text};
 use object_table::{Id, Kind, LayerId, Stack};
-use stack_places::StackEntry;
+use stack_places::{BoxedText, StackEntry};
 use std::alloc::{AllocError, Global};
 
 /// Makes room for the value at an entry's place.
@@ -54,7 +54,8 @@ fn add_text(
     ensures adds { OnOk result (Adds stack.old stack.new entries.old.items entries.new.items (write (field_text field card) (text []) ∷ [])) }
     ensures opens { Opens stack.old stack.new }
 {
-    let entry = StackEntry::FieldText(field, card, Some(Text::new(alloc)));
+    let text = BoxedText::new(alloc, Some(Text::new(alloc)))?;
+    let entry = StackEntry::FieldText(field, card, text);
     add_entry(stack, entries, entry)
 }
 
@@ -96,7 +97,7 @@ pub(crate) fn add_hilites(
 }
 
 /// Whether an id is that of a card of a background.
-pub(crate) fn is_on(stack: &Stack, background: Id, id: Id) -> bool
+pub fn is_on(stack: &Stack, background: Id, id: Id) -> bool
     ensures { result ≡ is_card_of stack.now.content background id }
 {
     match stack.object(id) {

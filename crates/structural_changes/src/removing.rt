@@ -6,7 +6,7 @@ ghost use Rattle.object_table.specs.Objects.{has_kind, is_background, is_card, p
 ghost use Rattle.object_table.specs.WellFormed.{IsWellFormed};
 ghost use Rattle.stack_places.specs.Places.{background_order, ids};
 ghost use Rattle.structural_changes.specs.Prepared.{Adds, Opens, has_content, pairs_kept};
-ghost use Rattle.structural_changes.specs.Writes.{write, without as order_without, following, home, ids_where, is_last_card, goes_as_layer, goes_as_part, goes_as_content, fits_deletion, writes_of_deletion};
+ghost use Rattle.structural_changes.specs.Writes.{write, without as order_without, following as next_in, home, ids_where, is_last_card, goes_as_layer, goes_as_part, goes_as_content, fits_deletion, writes_of_deletion};
 
 use crate::clearing::{clear_hilites, clear_objects, clear_parts, clear_texts};
 use crate::making::home_of;
@@ -16,23 +16,30 @@ use object_table::{Id, IdList, LayerId, Stack};
 use stack_places::StackEntry;
 use std::alloc::{AllocError, Global};
 
-/// The card right behind another in the stack's order, or the first card where that is the last one. It is what becomes
-/// current when that card goes.
-pub fn following_card(stack: &Stack, card: Id) -> Id
-    ensures { result ≡ following card stack.now.content.cards }
+/// The id right behind another in an order, or the first where that is the last one or isn't there; of no ids the other
+/// itself.
+pub fn following(order: &IdList, place: Id) -> Id
+    ensures { result ≡ next_in place order.now }
 {
-    let cards = stack.cards();
-    let ids = cards.as_slice();
-    let behind = cards.number_of(card).unwrap_or(0);
+    let ids = order.as_slice();
+    let behind = order.number_of(place).unwrap_or(0);
     if behind < ids.len() {
         ids[behind]
     } else {
-        ids.first().copied().unwrap_or(card)
+        ids.first().copied().unwrap_or(place)
     }
 }
 
-/// Whether no other card is on a card's background.
-fn is_last_of_background(stack: &Stack, card: Id) -> bool
+/// The card right behind another in the stack's order, or the first card where that is the last one. It is what becomes
+/// current when that card goes.
+pub fn following_card(stack: &Stack, card: Id) -> Id
+    ensures { result ≡ next_in card stack.now.content.cards }
+{
+    following(stack.cards(), card)
+}
+
+/// Whether no other card is on a card's background, which goes with it then.
+pub fn is_last_of_background(stack: &Stack, card: Id) -> bool
     ensures { result ≡ is_last_card stack.now.content card }
 {
     let background = home_of(stack, card);
@@ -219,9 +226,9 @@ pub fn prepare_deletion(
     let mut entries = Vec::new(alloc);
     add_entry(stack, &mut entries, StackEntry::CardOrder(cards))?;
     leave_background(alloc, stack, &mut entries, card, last)?;
-    clear_objects(stack, &mut entries, &objects)?;
+    clear_objects(alloc, stack, &mut entries, &objects)?;
     clear_parts(stack, &mut entries, &layers)?;
-    clear_texts(stack, &mut entries, &texts)?;
+    clear_texts(alloc, stack, &mut entries, &texts)?;
     clear_hilites(stack, &mut entries, &hilites)?;
     Ok(entries)
 }

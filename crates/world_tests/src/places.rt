@@ -2,7 +2,7 @@
 
 use ht_values::Text;
 use object_table::{Id, IdList, Kind, LayerId, Object, PropValue, Stack};
-use stack_places::{StackEntry, laws_of_exchanges};
+use stack_places::{BoxedObject, BoxedText, StackEntry, laws_of_exchanges};
 use std::alloc::Global;
 use std::test::Fail;
 
@@ -38,10 +38,10 @@ fn has_text(stack: &Stack, bytes: &[u8]) -> bool {
 #[test]
 #[tactic(auto, unfolding(stack_places::specs::Exchange::IsReady, stack_places::specs::Exchange::taken))]
 fn a_text_goes_back(rt: HostRuntime) -> Result<(), Fail> {
-    let new = text(rt.alloc(), b"new")?;
+    let new = BoxedText::new(rt.alloc(), Some(text(rt.alloc(), b"new")?))?;
     let mut stack = empty_stack(rt.alloc())?;
     stack.open_text(3, 2)?;
-    let mut entry = StackEntry::FieldText(3, 2, Some(new));
+    let mut entry = StackEntry::FieldText(3, 2, new);
     entry.exchange(&mut stack);
     assert!(rt; has_text(&stack, b"new"));
     entry.exchange(&mut stack);
@@ -79,10 +79,10 @@ fn a_property_goes_back(rt: HostRuntime) -> Result<(), Fail> {
 #[test]
 #[tactic(auto, unfolding(stack_places::specs::Exchange::IsReady, stack_places::specs::Exchange::taken))]
 fn an_object_goes_back(rt: HostRuntime) -> Result<(), Fail> {
-    let field = Object::empty(rt.alloc(), FIELD);
+    let field = BoxedObject::new(rt.alloc(), Some(Object::empty(rt.alloc(), FIELD)))?;
     let mut stack = empty_stack(rt.alloc())?;
     stack.open_slot(4)?;
-    let mut object = StackEntry::Object(4, Some(field));
+    let mut object = StackEntry::Object(4, field);
     object.exchange(&mut stack);
     assert!(rt; stack.object(4).is_some());
     object.exchange(&mut stack);
@@ -121,26 +121,9 @@ fn parts_and_the_next_id_go_back(rt: HostRuntime) -> Result<(), Fail> {
 }
 
 #[test]
-fn places_of_texts(rt: HostRuntime) -> Result<(), Fail> {
-    let own = StackEntry::FieldText(3, 2, None);
-    let filled = StackEntry::FieldText(3, 2, Some(text(rt.alloc(), b"x")?));
-    assert!(rt; own.is_of_place_of(&filled));
-    assert!(rt; !own.is_of_place_of(&StackEntry::FieldText(3, 0, None)));
-    assert!(rt; !own.is_of_place_of(&StackEntry::Hilite(3, 2, None)));
-    assert!(rt; !own.is_structural());
+fn objects_alone_are_structural(rt: HostRuntime) -> Result<(), Fail> {
+    let gone = StackEntry::Object(3, BoxedObject::new(rt.alloc(), None)?);
+    assert!(rt; gone.is_structural());
+    assert!(rt; !StackEntry::NextId(7).is_structural());
     Ok(())
-}
-
-#[test]
-fn places_of_properties(rt: HostRuntime) -> Result<(), Fail> {
-    let name = StackEntry::Prop(3, PropValue::NameIs(text(rt.alloc(), b"a")?));
-    let script = StackEntry::Prop(3, PropValue::ScriptIs(text(rt.alloc(), b"a")?));
-    assert!(rt; !name.is_of_place_of(&script));
-    Ok(())
-}
-
-#[test]
-fn an_object_has_no_place(rt: HostRuntime) {
-    let gone = StackEntry::Object(3, None);
-    assert!(rt; gone.is_structural() && !gone.is_of_place_of(&gone));
 }

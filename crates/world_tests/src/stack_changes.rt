@@ -448,3 +448,106 @@ fn ids_end_at_a_million(rt: HostRuntime) -> Result<(), Fail> {
     assert!(rt; fitting(alloc, TWO_BACKGROUNDS)? == [true, true, true, true]);
     Ok(())
 }
+
+/// A stack of so many objects, with this next id: which of a new card, a new background and a new part fit.
+struct Limit {
+    objects: u32,
+    next: u32,
+    fits: [bool; 3],
+}
+
+const LIMITS: &[Limit] = &[
+    Limit {
+        objects: 9_998,
+        next: 9_999,
+        fits: [true, true, true],
+    },
+    Limit {
+        objects: 9_999,
+        next: 10_000,
+        fits: [true, false, true],
+    },
+    Limit {
+        objects: 10_000,
+        next: 10_001,
+        fits: [false, false, false],
+    },
+    Limit {
+        objects: 2,
+        next: 1_000_000,
+        fits: [true, false, true],
+    },
+    Limit {
+        objects: 2,
+        next: 1_000_001,
+        fits: [false, false, false],
+    },
+];
+
+/// The text of a background, a card and the card's buttons, so many objects.
+fn text_of(alloc: Global, objects: u32, next: u32) -> Result<Vec<u8>, Fail> {
+    let buttons = objects.saturating_sub(2);
+    let mut text = String::new(alloc);
+    write!(
+        text,
+        "htstack 2\nnext {next}\nname |\nscript 0\nbackgrounds 1\nbackground 1\nname |\ncantDelete false\nscript 0\nparts 0\n"
+    )?;
+    write!(
+        text,
+        "cards 1\ncard 2 1\nname |\ncantDelete false\nscript 0\nparts {buttons}\n"
+    )?;
+    for id in 3..=objects {
+        write!(
+            text,
+            "button {id}\nname |\nvisible true\nhilite false\nscript 0\n"
+        )?;
+    }
+    write!(text, "end\n")?;
+    Ok(text.into_bytes())
+}
+
+/// Makes a change in a line of its own where it fits, and gives the line up where it doesn't; whether it fits.
+fn try_to(world: &mut World<Quiet>, step: Step) -> Result<bool, Fail>
+    requires { world.old.history.start ≡ None }
+    ensures { OnOk result (world.new.history.start ≡ None) }
+{
+    world.begin(1)?;
+    let change = step.change();
+    if !world.fits(&change) {
+        world.roll_back();
+        return Ok(false);
+    }
+    world.make(change)?;
+    world.commit();
+    Ok(true)
+}
+
+/// Whether a step fits or not, as it should, and is seen to be gone back over or not to have been made.
+fn is_limited(alloc: Global, text: &[u8], step: Step, fits: bool) -> Result<bool, Fail> {
+    let mut world = open_world(alloc, text)?;
+    let before = see(alloc, &world)?;
+    let made = try_to(&mut world, step)?;
+    if made {
+        go_back(&mut world)?;
+    }
+    Ok(made == fits && world.undoable() == 0 && is_seen(alloc, &world, &before)?)
+}
+
+fn meets_limit(alloc: Global, limit: &Limit) -> Result<bool, Fail> {
+    let text = text_of(alloc, limit.objects, limit.next)?;
+    let part = Step::Part(LayerId::OfCard(2), PartKind::Button);
+    let [card, background, button] = limit.fits;
+    Ok(
+        is_limited(alloc, &text, Step::Card, card)?
+            && is_limited(alloc, &text, Step::Background, background)?
+            && is_limited(alloc, &text, part, button)?,
+    )
+}
+
+#[test]
+fn objects_and_ids_have_limits(rt: HostRuntime) -> Result<(), Fail> {
+    for limit in LIMITS {
+        assert!(rt; meets_limit(rt.alloc(), limit)?);
+    }
+    Ok(())
+}

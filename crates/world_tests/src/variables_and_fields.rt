@@ -11,13 +11,17 @@ use containers::{
     Container, Edit, Variables, declare, read, read_name, resolve, text_in, write, writes_are_due,
     written_is_read,
 };
-use ht_values::{ChunkKind, Failure, Fault, Op, Text, Where};
+use ht_values::{ChunkKind, Failure, Fault, Name, Op, Text, Where};
 use object_table::PropValue;
 use std::alloc::Global;
 use std::test::Fail;
 
 fn text(alloc: Global, bytes: &[u8]) -> Result<Text, Fail> {
     Ok(Text::from_slice(alloc, bytes)?)
+}
+
+fn name(alloc: Global, bytes: &[u8]) -> Result<Name, Fail> {
+    Ok(Name::new(alloc, text(alloc, bytes)?)?)
 }
 
 fn one(kind: ChunkKind, number: i64) -> Chunk {
@@ -114,7 +118,7 @@ const PUTS: &[Row] = &[
 
 /// The text of a variable `x` after two puts, the first of the whole text.
 fn after_puts(alloc: Global, mut variables: Variables, row: &Row) -> Result<Text, Fail> {
-    let x = text(alloc, b"x")?;
+    let x = name(alloc, b"x")?;
     let x = Container::Variable(&x);
     let mut world = begun(alloc)?;
     let first = Edit::Put(Where::Into, text(alloc, row.old)?);
@@ -174,7 +178,7 @@ const ITEMS: &[ItemRow] = &[
 
 /// The text of a variable of a handler after an operand was added to an item of `4,5`, or the item was deleted.
 fn after_edit(alloc: Global, row: &ItemRow) -> Result<Result<Text, Failure>, Fail> {
-    let x = text(alloc, b"x")?;
+    let x = name(alloc, b"x")?;
     let x = Container::Variable(&x);
     let mut variables = Variables::of_handler(alloc);
     let mut world = begun(alloc)?;
@@ -286,8 +290,8 @@ fn sum_reads(alloc: Global, value: Option<&[u8]>) -> Result<Text, Fail> {
         None => None,
     };
     variables.set(alloc, &text(alloc, b"SUM")?, value)?;
-    let name = text(alloc, b"Sum")?;
-    Ok(read_name(alloc, &world, &variables, &name)?.try_clone(alloc)?)
+    let sum = name(alloc, b"Sum")?;
+    Ok(read_name(&world, &variables, &sum).try_clone(alloc)?)
 }
 
 #[test]
@@ -301,7 +305,7 @@ fn names_read_as_values_or_spellings(rt: HostRuntime) -> Result<(), Fail> {
 /// What the global `sum` holds after a handler declares it and adds 2 to it, where it was 5 or had no value.
 fn declared(alloc: Global, before: Option<&[u8]>) -> Result<Text, Fail> {
     let mut world = begun(alloc)?;
-    let name = text(alloc, b"Sum")?;
+    let name = name(alloc, b"Sum")?;
     let sum = Container::Variable(&name);
     let mut variables = Variables::of_typed_line(alloc);
     if let Some(before) = before {

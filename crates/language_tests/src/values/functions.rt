@@ -1,6 +1,7 @@
 //! What the functions of texts give.
 
 use super::is_given;
+use ht_grammar::FunctionWord;
 use ht_values::{Fault, Func, LIMIT, Text, built_in, joined};
 use std::alloc::Global;
 use std::test::*;
@@ -59,6 +60,37 @@ fn functions_of_texts(rt: HostRuntime) -> Result<(), Fail> {
         );
     }
     Ok(())
+}
+
+/// Whether a name calls this function, or none.
+fn is_named(alloc: Global, name: &[u8], func: Option<Func>) -> Result<bool, Fail> {
+    let name = Text::from_slice(alloc, name)?;
+    Ok(Func::named(&name) == func)
+}
+
+#[test]
+fn names_of_functions(rt: HostRuntime) -> Result<(), Fail> {
+    let rows: &[(&[u8], Option<Func>)] = &[
+        (b"abs", Some(Func::Abs)),
+        (b"MAX", Some(Func::Max)),
+        (b"min", Some(Func::Min)),
+        (b"Length", Some(Func::Length)),
+        (b"charToNum", Some(Func::CharToNum)),
+        (b"NUMTOCHAR", Some(Func::NumToChar)),
+        (b"offset", Some(Func::Offset)),
+        (b"value", None),
+        (b"", None),
+    ];
+    for (name, func) in rows {
+        assert!(rt; is_named(rt.alloc(), name, *func)?, "{name:?}");
+    }
+    Ok(())
+}
+
+#[test]
+fn words_that_call_functions(rt: HostRuntime) {
+    assert!(rt; FunctionWord::NumToChar.func() == Some(Func::NumToChar));
+    assert!(rt; FunctionWord::Value.func().is_none());
 }
 
 #[test]

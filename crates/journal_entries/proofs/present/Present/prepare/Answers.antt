@@ -5,7 +5,7 @@ use Rattle.journal_entries.proofs.present.Present.prepare.Goals as goal
 
 pub returns-in_ok-open_text-in-FieldText-clause-entries : goal.returns-in_ok-open_text-in-FieldText-clause-entries
 returns-in_ok-open_text-in-FieldText-clause-entries g c =
-    rw c.in-FieldText.is (prepares_text _ c.in-FieldText.field c.in-FieldText.card c.in-FieldText.text c.in_ok-open_text-in-FieldText.ensures.inside)
+    rw (c.in-FieldText.is, c.in_ok-text-in-FieldText.ensures) (prepares_text _ c.in-FieldText.field c.in-FieldText.card c.in-FieldText.text c.in_ok-open_text-in-FieldText.ensures.inside)
 
 pub returns-in_ok-open_text-in-FieldText-clause-grows : goal.returns-in_ok-open_text-in-FieldText-clause-grows
 returns-in_ok-open_text-in-FieldText-clause-grows g c =

@@ -1,0 +1,60 @@
+//! Names, with their folded form.
+
+ghost use Rattle.std.specs.Prelude.{◌≡◌, IfOk};
+ghost use Rattle.ht_values.specs.Text.{folded as folded_of};
+
+use crate::text::Text;
+use std::alloc::{AllocError, Global};
+use std::marker::Model;
+
+/// A name as it is spelled, which contracts see as its bytes. It keeps its folded form, so that what goes by folded names
+/// is found without memory.
+#[derive(Drop)]
+pub struct Name {
+    spelling: Text,
+    /// The folded form, where it isn't the spelling.
+    folded: Option<Text>,
+}
+
+impl Model for Name {
+    ghost use Rattle.std.specs.Prelude.{◌≡◌, ℕ, List, unwrap_or};
+    ghost use Rattle.ht_values.specs.Text.{folded as folded_of};
+
+    ghost Value = { List ℕ };
+
+    ghost view = { λ n. n.spelling };
+
+    ghost invariant = { λ n. unwrap_or n.folded n.spelling ≡ folded_of n.spelling };
+}
+
+impl Name {
+    /// The name of this spelling. It takes memory only where the spelling isn't folded.
+    #[tactic(auto, using(crate::proofs::Folding::folded_stays))]
+    pub fn new(alloc: Global, spelling: Text) -> Result<Name, AllocError>
+        ensures { IfOk result (λ n. n ≡ spelling) }
+    {
+        let folded = if spelling.is_folded() {
+            None
+        } else {
+            Some(spelling.folded(alloc)?)
+        };
+        Ok(Name { spelling, folded })
+    }
+
+    /// The name as it is spelled.
+    pub fn text(&self) -> &Text
+        ensures { result.now ≡ self.now }
+    {
+        &self.spelling
+    }
+
+    /// The name with A-Z folded to a-z.
+    pub fn folded(&self) -> &Text
+        ensures { result.now ≡ folded_of self.now }
+    {
+        match &self.folded {
+            Some(folded) => folded,
+            None => &self.spelling,
+        }
+    }
+}

@@ -1,0 +1,63 @@
+//! A handler that was found.
+
+ghost use Rattle.std.specs.Prelude.{◌≡◌, ◌<◌, Some, length};
+ghost use Rattle.ht_tree.specs.ScriptView.{handler_of, handler_at};
+
+use ht_tree::{Handler, Script};
+use object_table::Id;
+use std::marker::Model;
+use std::rc::Rc;
+
+/// A handler that was found, and the object whose script has it. It shares that script, so it stays as it was found where the
+/// object's script is replaced, or the object goes.
+#[derive(Drop)]
+pub struct FoundHandler {
+    holder: Id,
+    script: Rc<Script>,
+    place: usize,
+}
+
+impl Model for FoundHandler {
+    ghost use Rattle.std.specs.Prelude.{◌≡◌, ◌<◌, length, unwrap_or};
+    ghost use Rattle.ht_tree.specs.contracts.statement.Stmt as stmt;
+    ghost use Rattle.ht_tree.specs.ScriptView.{handler_at};
+    ghost use Rattle.msg_path.specs.Handlers.{Found, no_handler};
+    ghost use Rattle.msg_path.specs.Codes.{coded_found};
+
+    ghost Value = { Found };
+
+    ghost coded = { coded_found stmt.the_row.coded };
+
+    ghost view = { λ f. record { holder = f.holder; handler = unwrap_or (handler_at f.script.value f.place) no_handler } };
+
+    ghost invariant = { λ f. f.place < length f.script.value.handlers.items };
+}
+
+impl FoundHandler {
+    /// The handler at a place of a script, which is that of this object.
+    pub(crate) fn new(holder: Id, script: Rc<Script>, place: usize) -> FoundHandler
+        requires { place < length script.value.handlers.items }
+        ensures holder { result.holder ≡ holder }
+        ensures handler { handler_at script.value place ≡ Some result.handler }
+    {
+        FoundHandler {
+            holder,
+            script,
+            place,
+        }
+    }
+
+    /// The object whose script has it: `me` while it runs.
+    pub fn holder(&self) -> Id
+        ensures { result ≡ self.now.holder }
+    {
+        self.holder
+    }
+
+    /// The handler.
+    pub fn handler(&self) -> &Handler
+        ensures { handler_of result.now ≡ self.now.handler }
+    {
+        &self.script.handlers[self.place]
+    }
+}

@@ -1,0 +1,135 @@
+//! What a message meets next.
+
+ghost use Rattle.std.specs.Prelude.{◌≡◌, ◌<◌, [], length, IfSome};
+ghost use Rattle.journal_entries.specs.State.{seen_by};
+ghost use Rattle.msg_path.specs.Handlers.{First, script_at};
+ghost use Rattle.msg_path.specs.BuiltIns.{answers as is_answering, calls_function as is_function_call, external_named as external_by_name};
+ghost use Rattle.msg_path.specs.Meets.{GivesDue, LeadsOn, Meets};
+
+use crate::built_in::BuiltIn;
+use crate::found::FoundHandler;
+use crate::scripts::Scripts;
+use change_journal::World;
+use externals::External;
+use ht_grammar::HandlerKind;
+use ht_values::{Failure, Text};
+use object_table::{Id, Stack};
+
+/// What a message meets.
+#[derive(Drop)]
+pub enum Found {
+    /// A handler on the path.
+    Handler(FoundHandler),
+    /// The external with this number, from 0.
+    External(usize),
+    BuiltIn(BuiltIn),
+    Nobody,
+}
+
+/// The script of an object, which is empty where there is no such object.
+fn script_of<'a>(stack: &'a Stack, id: Id, empty: &'a Text) -> &'a Text
+    requires { empty.now ≡ [] }
+    ensures { result.now ≡ script_at stack.now.content id }
+{
+    match stack.object(id) {
+        Some(object) => &object.script,
+        None => empty,
+    }
+}
+
+/// The first handler of a kind and a name in the script of an object. `Syntax` where the script isn't in the grammar.
+#[tactic(auto, using(crate::proofs::Rules::leading))]
+fn handler_here(
+    stack: &Stack,
+    scripts: &mut Scripts,
+    id: Id,
+    kind: HandlerKind,
+    name: &Text,
+) -> Result<Option<FoundHandler>, Failure>
+    ensures { GivesDue (LeadsOn stack.now.content id kind name.now) result }
+{
+    let empty = Text::new(scripts.alloc());
+    let script = scripts.tree(id, script_of(stack, id, &empty))?;
+    let Some(place) = script.first(kind, name) else {
+        return Ok(None);
+    };
+    Ok(Some(FoundHandler::new(id, script, place)))
+}
+
+/// The first handler of a kind and a name on a path; `None` where no script on it has one. Scripts are parsed one after
+/// another, up to the one that has it: one on the way that isn't in the grammar is the fault `Syntax`.
+pub fn first_handler(
+    stack: &Stack,
+    scripts: &mut Scripts,
+    path: &[Id],
+    kind: HandlerKind,
+    name: &Text,
+) -> Result<Option<FoundHandler>, Failure>
+    ensures { GivesDue (First stack.now.content path.now kind name.now) result }
+{
+    for id in path {
+        if let Some(found) = handler_here(stack, scripts, *id, kind, name)? {
+            return Ok(Some(found));
+        }
+    }
+    Ok(None)
+}
+
+/// Whether messages of this kind are function calls.
+fn calls_function(kind: HandlerKind) -> bool
+    ensures { result ≡ is_function_call kind }
+{
+    match kind {
+        HandlerKind::Command => false,
+        HandlerKind::Function => true,
+    }
+}
+
+/// Whether an external has this name and answers function calls, or commands.
+fn answers<E: External>(external: &E, is_function: bool, name: &Text) -> bool
+    ensures { result ≡ is_answering is_function name.now (seen_by E.title E.sort E.answers_calls E.cells external.now) }
+{
+    external.is_function() == is_function && external.name().same(name)
+}
+
+/// The number of the external that answers commands of a name, or with `is_function` calls of it. Case is ignored. It takes no
+/// memory.
+pub fn external_named<E: External>(
+    world: &World<E>,
+    is_function: bool,
+    name: &Text,
+) -> Option<usize>
+    ensures value { result ≡ external_by_name world.now.history.now.externals is_function name.now }
+    ensures there { IfSome result (λ i. i < length world.now.history.now.externals) }
+{
+    for i in 0..world.external_count() {
+        if answers(world.external(i), is_function, name) {
+            return Some(i);
+        }
+    }
+    None
+}
+
+/// What a message of a kind and a name meets: the first handler on the path; without one, after the stack, the external
+/// of that name; else what is built in. A script on the way that isn't in the grammar is the fault `Syntax`.
+#[tactic(auto, using(crate::proofs::Rules::meeting))]
+pub fn next_handler<E: External>(
+    world: &World<E>,
+    scripts: &mut Scripts,
+    path: &[Id],
+    kind: HandlerKind,
+    name: &Text,
+) -> Result<Found, Failure>
+    ensures { GivesDue (Meets world.now.history.now path.now kind name.now) result }
+{
+    if let Some(found) = first_handler(world.stack(), scripts, path, kind, name)? {
+        return Ok(Found::Handler(found));
+    }
+    if let Some(i) = external_named(world, calls_function(kind), name) {
+        return Ok(Found::External(i));
+    }
+    Ok(match BuiltIn::named(kind, name) {
+        Some(built_in) => Found::BuiltIn(built_in),
+        None => Found::Nobody,
+    })
+}

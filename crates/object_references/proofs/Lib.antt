@@ -1,0 +1,4 @@
+pub mod Examples
+pub mod Fitting
+pub mod Handed
+pub mod Preceding
