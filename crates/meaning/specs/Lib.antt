@@ -1,0 +1,7 @@
+pub mod Values
+pub mod State
+pub mod Places
+pub mod Repeats
+pub mod Menu
+pub mod Messages
+pub mod Meaning

@@ -1,0 +1,121 @@
+-- Chunks, containers and fields as the rules use them.
+use Rattle.std.specs.Prelude.{◌≡◌, ℕ, ℤ, pos, Bool, true, false, List, [], ◌∷◌, ◌++◌, codes, Option, Some, None, Result, Ok, Err}
+use Rattle.ht_values.specs.declared.fault.Fault.{Fault}
+use Rattle.ht_values.specs.declared.fault.Fault.TheVariants.{TooMany}
+use Rattle.ht_values.specs.declared.word.ChunkKind.{ChunkKind}
+use Rattle.ht_values.specs.declared.word.Prop.{Prop}
+use Rattle.ht_values.specs.declared.word.Where.TheVariants.{Into}
+use Rattle.ht_values.specs.Outcome.{and_then}
+use Rattle.ht_lex.specs.declared.key.Ordinal.{Ordinal}
+use Rattle.ht_lex.specs.declared.key.Ordinal.TheVariants as ordinal
+use Rattle.chunks.specs.declared.chunk.Chunk.{Chunk}
+use Rattle.chunks.specs.declared.chunk.Index.{Index}
+use Rattle.chunks.specs.declared.chunk.Index.TheVariants.{At, Last}
+use Rattle.journal_entries.specs.Changes.{fits}
+use Rattle.journal_entries.specs.declared.change.Change.{Change}
+use Rattle.change_journal.specs.History.{History}
+use Rattle.change_journal.specs.Rising.{Made}
+use Rattle.journal_entries.specs.State.{State}
+use Rattle.ht_grammar.specs.declared.vocabulary.Layer.{Layer}
+use Rattle.ht_grammar.specs.declared.vocabulary.Layer.TheVariants as layer
+use Rattle.object_references.specs.declared.referent.Referent.{Referent}
+use Rattle.object_references.specs.References.{field_named}
+use Rattle.object_references.specs.Settings.{setting}
+use Rattle.containers.specs.Places.{PlaceView, text_met, named}
+use Rattle.containers.specs.Edits.{due, read_at}
+use Rattle.containers.specs.Variables.{VariablesView}
+use Rattle.containers.specs.Writes.{Writes, Declares}
+use Rattle.containers.specs.declared.edit.Edit.{Edit}
+use Rattle.containers.specs.declared.edit.Edit.TheVariants.{Put}
+use Rattle.meaning.specs.declared.end.Stop.{Stop}
+use Rattle.meaning.specs.declared.end.Stop.TheVariants as stop
+use Rattle.meaning.specs.State.{FrameState}
+
+-- the pieces from one number to another
+abbrev pub pieces_at : ChunkKind → ℤ → ℤ → Chunk
+pieces_at kind a b = record { kind = kind; from = At a; to = At b }
+
+abbrev pub index_of : Ordinal → Index
+index_of ordinal.First = At (pos 1)
+index_of ordinal.Second = At (pos 2)
+index_of ordinal.Third = At (pos 3)
+index_of ordinal.Fourth = At (pos 4)
+index_of ordinal.Fifth = At (pos 5)
+index_of ordinal.Sixth = At (pos 6)
+index_of ordinal.Seventh = At (pos 7)
+index_of ordinal.Eighth = At (pos 8)
+index_of ordinal.Ninth = At (pos 9)
+index_of ordinal.Tenth = At (pos 10)
+index_of ordinal.Last = Last
+
+-- the one piece of an ordinal
+abbrev pub nth_piece : Ordinal → ChunkKind → Chunk
+nth_piece o kind = record { kind = kind; from = index_of o; to = index_of o }
+
+-- the place of a variable, whole
+abbrev pub variable_place : VariablesView → List ℕ → PlaceView
+variable_place v name = record { holder = named v name; chunks = [] }
+
+-- the place of a field's text; a field that keeps no text for the card isn't found
+abbrev pub field_place : State → Referent → Result PlaceView Fault
+field_place s m = and_then (text_met s.stack m.object m.card) (λ h. Ok (record { holder = h; chunks = [] }))
+
+-- what a field reads
+abbrev pub field_text : State → VariablesView → ℕ → Referent → Result (List ℕ) Fault
+field_text s v delimiter m = and_then (field_place s m) (λ p. read_at s v delimiter p)
+
+-- the variable of `get`
+abbrev pub it_name : List ℕ
+it_name = codes "it"
+
+abbrev pub layer_of_field : Bool → Layer
+layer_of_field true = layer.Card
+layer_of_field false = layer.Background
+
+-- the place of the first field of a name, on the current card or on its background
+abbrev pub field_named_place : State → Bool → List ℕ → Result PlaceView Fault
+field_named_place s on_card name = and_then (field_named s.stack s.current (layer_of_field on_card) name) (field_place s)
+
+-- a chunk of a place
+abbrev pub chunk_of_place : PlaceView → Chunk → PlaceView
+chunk_of_place p c = record p { chunks = p.chunks ++ c ∷ [] }
+
+-- An edit of a container, whose outcome is a fault or is written. After a fault nothing has changed.
+pub data Edits : History → FrameState → ℕ → PlaceView → Edit → Result (Unit {0}) Stop → History → FrameState → Type 0 where
+  edit_memory : {w w1 : History} {f f1 : FrameState} {delimiter : ℕ} {p : PlaceView} {e : Edit} →
+      Edits w f delimiter p e (Err stop.Memory) w1 f1
+  edit_faults : {w : History} {f : FrameState} {delimiter : ℕ} {p : PlaceView} {e : Edit} {n : Fault} →
+      due w.now f.variables delimiter p e ≡ Err n → Edits w f delimiter p e (Err (stop.Fault n)) w f
+  edited : {w w1 : History} {f f1 : FrameState} {delimiter : ℕ} {p : PlaceView} {e : Edit} {v : VariablesView} →
+      Writes w f.variables p.holder (due w.now f.variables delimiter p e) w1 v → f1 ≡ record f { variables = v } →
+      Edits w f delimiter p e (Ok tt) w1 f1
+
+-- the number of a turn is put into the variable of a repeat, where it has one
+pub data Assigns : History → FrameState → ℕ → Option (List ℕ) → List ℕ → Result (Unit {0}) Stop → History → FrameState → Type 0 where
+  no_variable : {w : History} {f : FrameState} {delimiter : ℕ} {variable : Option (List ℕ)} {v : List ℕ} →
+      variable ≡ None → Assigns w f delimiter variable v (Ok tt) w f
+  assigns : {w w1 : History} {f f1 : FrameState} {delimiter : ℕ} {variable : Option (List ℕ)} {name v : List ℕ} {o : Result (Unit {0}) Stop} →
+      variable ≡ Some name → Edits w f delimiter (variable_place f.variables name) (Put Into v) o w1 f1 →
+      Assigns w f delimiter variable v o w1 f1
+
+-- names mean globals from here on, from left to right
+pub data DeclaresAll : History → FrameState → List (List ℕ) → Result (Unit {0}) Stop → History → FrameState → Type 0 where
+  declare_memory : {w w1 : History} {f f1 : FrameState} {names : List (List ℕ)} → DeclaresAll w f names (Err stop.Memory) w1 f1
+  none_declared : {w : History} {f : FrameState} {names : List (List ℕ)} → names ≡ [] → DeclaresAll w f names (Ok tt) w f
+  declared : {w w1 w2 : History} {f f1 f2 : FrameState} {names names1 : List (List ℕ)} {name : List ℕ} {v : VariablesView} {o : Result (Unit {0}) Stop} →
+      names ≡ name ∷ names1 → Declares w f.variables name w1 v → f1 ≡ record f { variables = v } →
+      DeclaresAll w1 f1 names1 o w2 f2 → DeclaresAll w f names o w2 f2
+
+-- a property of an object is set; after a fault nothing has changed
+pub data Sets : History → Referent → Prop → List ℕ → Result (Unit {0}) Stop → History → Type 0 where
+  set_memory : {w w1 : History} {m : Referent} {prop : Prop} {t : List ℕ} → Sets w m prop t (Err stop.Memory) w1
+  set_faults : {w : History} {m : Referent} {prop : Prop} {t : List ℕ} {n : Fault} →
+      setting w.now.stack m prop t ≡ Err n → Sets w m prop t (Err (stop.Fault n)) w
+  set_made : {w w1 : History} {m : Referent} {prop : Prop} {t : List ℕ} {c : Change} →
+      setting w.now.stack m prop t ≡ Ok c → Made w w1 c → Sets w m prop t (Ok tt) w1
+
+-- objects are made, unless their ids would pass the greatest one or too many would live; after a fault nothing has changed
+pub data Adds : History → Change → Result (Unit {0}) Stop → History → Type 0 where
+  add_memory : {w w1 : History} {c : Change} → Adds w c (Err stop.Memory) w1
+  too_many : {w : History} {c : Change} → fits w.now c ≡ false → Adds w c (Err (stop.Fault TooMany)) w
+  adds : {w w1 : History} {c : Change} → fits w.now c ≡ true → Made w w1 c → Adds w c (Ok tt) w1

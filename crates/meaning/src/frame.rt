@@ -1,0 +1,52 @@
+//! The frame of what runs: whose handler it is, to whom the message was sent, and its variables.
+
+ghost use Rattle.std.specs.Prelude.{◌≡◌};
+ghost use Rattle.meaning.specs.State.{frame_of, typed_frame_at};
+
+use containers::Variables;
+use object_table::Id;
+use std::alloc::Global;
+use std::marker::Model;
+
+/// The frame of a handler, or of a typed line.
+#[derive(Drop)]
+pub struct Frame {
+    /// The object whose handler runs.
+    pub me: Id,
+    /// The object to which the message was sent.
+    pub target: Id,
+    pub variables: Variables,
+}
+
+impl Model for Frame {
+    ghost use Rattle.meaning.specs.State.{FrameState};
+
+    ghost Value = { FrameState };
+
+    ghost view = { λ f. record { me = f.me; target = f.target; variables = f.variables } };
+}
+
+impl Frame {
+    /// The frame of a typed line, of a reference in a dot line or of a call-back, with the card that is current: each
+    /// variable is global. It takes no memory.
+    pub fn typed(alloc: Global, card: Id) -> Frame
+        ensures { result ≡ typed_frame_at card }
+    {
+        Frame {
+            me: card,
+            target: card,
+            variables: Variables::of_typed_line(alloc),
+        }
+    }
+
+    /// The frame of a handler of an object, without a variable yet. It takes no memory.
+    pub fn of_handler(alloc: Global, me: Id, target: Id) -> Frame
+        ensures { result ≡ frame_of me target }
+    {
+        Frame {
+            me,
+            target,
+            variables: Variables::of_handler(alloc),
+        }
+    }
+}

@@ -1,0 +1,158 @@
+//! What a run shows, and the messages that it sends.
+
+ghost use Rattle.std.specs.Prelude.{◌≡◌, ◌<◌, ◌==◌, [], ◌∷◌, ◌++◌, length, OnOk, OnErr, Some, slice_get};
+
+use ht_values::Text;
+use object_table::Id;
+use std::alloc::{AllocError, Global};
+use std::marker::Model;
+
+/// A line that is shown: the bytes after `> `, as they are answered. A text stands there as it is spelled in a stack text.
+#[derive(Drop)]
+pub struct Line {
+    bytes: Vec<u8>,
+}
+
+impl Model for Line {
+    ghost use Rattle.std.specs.Prelude.{List, ℕ};
+
+    ghost Value = { List ℕ };
+
+    ghost view = { λ l. l.bytes.items };
+}
+
+impl Line {
+    /// The line of these bytes. It takes no memory.
+    pub fn new(bytes: Vec<u8>) -> Line
+        ensures { result ≡ bytes.items }
+    {
+        Line { bytes }
+    }
+
+    /// The bytes of the line.
+    pub fn as_slice(&self) -> &[u8]
+        ensures { result.now ≡ self.now }
+    {
+        &self.bytes
+    }
+}
+
+/// Lines that are shown, in their order.
+#[derive(Drop)]
+pub struct Shown {
+    lines: Vec<Line>,
+}
+
+impl Model for Shown {
+    ghost use Rattle.std.specs.Prelude.{List, ℕ};
+
+    ghost Value = { List (List ℕ) };
+
+    ghost view = { λ s. s.lines.items };
+}
+
+impl Shown {
+    /// No lines. It takes no memory.
+    pub fn new(alloc: Global) -> Shown
+        ensures { result ≡ [] }
+    {
+        Shown {
+            lines: Vec::new(alloc),
+        }
+    }
+
+    /// How many lines there are.
+    pub fn len(&self) -> usize
+        ensures { result ≡ length self.now }
+    {
+        self.lines.len()
+    }
+
+    /// Whether there is no line.
+    pub fn is_empty(&self) -> bool
+        ensures { result ≡ (length self.now == 0) }
+    {
+        self.lines.is_empty()
+    }
+
+    /// The line at a place, from 0.
+    pub fn at(&self, i: usize) -> &Line
+        requires { i < length self.now }
+        ensures { slice_get self.now i ≡ Some result.now }
+    {
+        &self.lines[i]
+    }
+
+    /// Adds a line. Where memory was refused nothing changes.
+    pub fn push(&mut self, line: Line) -> Result<(), AllocError>
+        ensures ok { OnOk result (self.new ≡ self.old ++ line ∷ []) }
+        ensures err { OnErr result (self.new ≡ self.old) }
+    {
+        self.lines.push(line)?;
+        Ok(())
+    }
+}
+
+/// A message that was sent, and the id of the object that it was sent to.
+#[derive(Drop)]
+pub struct SentMessage {
+    pub name: Text,
+    pub object: Id,
+}
+
+/// Messages that were sent, in their order.
+#[derive(Drop)]
+pub struct Sent {
+    messages: Vec<SentMessage>,
+}
+
+impl Model for Sent {
+    ghost use Rattle.std.specs.Prelude.{List};
+    ghost use Rattle.meaning.specs.declared.sent.SentMessage.{SentMessage};
+
+    ghost Value = { List SentMessage };
+
+    ghost view = { λ s. s.messages.items };
+}
+
+impl Sent {
+    /// No messages. It takes no memory.
+    pub fn new(alloc: Global) -> Sent
+        ensures { result ≡ [] }
+    {
+        Sent {
+            messages: Vec::new(alloc),
+        }
+    }
+
+    /// How many messages there are.
+    pub fn len(&self) -> usize
+        ensures { result ≡ length self.now }
+    {
+        self.messages.len()
+    }
+
+    /// Whether there is no message.
+    pub fn is_empty(&self) -> bool
+        ensures { result ≡ (length self.now == 0) }
+    {
+        self.messages.is_empty()
+    }
+
+    /// The message at a place, from 0.
+    pub fn at(&self, i: usize) -> &SentMessage
+        requires { i < length self.now }
+        ensures { slice_get self.now i ≡ Some result.now }
+    {
+        &self.messages[i]
+    }
+
+    /// Adds a message. Where memory was refused nothing changes.
+    pub fn push(&mut self, message: SentMessage) -> Result<(), AllocError>
+        ensures ok { OnOk result (self.new ≡ self.old ++ message ∷ []) }
+        ensures err { OnErr result (self.new ≡ self.old) }
+    {
+        self.messages.push(message)?;
+        Ok(())
+    }
+}
