@@ -15,7 +15,7 @@ HERE = os.path.dirname(os.path.abspath(__file__))
 CRATE = os.path.join(HERE, "..", "..", "crates", "meaning")
 
 TYPES = {
-    "w": "History", "r": "RunState", "f": "FrameState",
+    "w": "History", "r": "RunState", "f": "Frame",
     "d": "ℕ", "i": "ℕ", "k": "ℕ", "is": "List ℕ",
     "e": "tree.Expr", "x": "tree.Expr", "y": "tree.Expr", "es": "tree.Exprs", "hd": "tree.Chunk", "ct": "tree.Container",
     "wh": "tree.Which", "sl": "tree.Selector", "ow": "tree.Owner", "pa": "tree.Part", "rf": "tree.Ref",
@@ -33,7 +33,7 @@ TYPES = {
     "it": "Item", "la": "LayerId", "dn": "Conversed", "inp": "Input", "ask": "Ask", "mg": "SystemMessage", "ms": "List SystemMessage",
 }
 VARIABLE = re.compile(r"(?<![.\w])([a-z]+)(\d*)(?![\w(])")
-FORM = re.compile(r"\w+ ≡ (?:tree|stm)\.(\w+)(?: \((?:tree|stm)\.(\w+)| (?:tree|stm)\.(\w+))?")
+FORM = re.compile(r"\w+ ≡ (?:(?:tree|stm)\.)?([A-Za-z_]+)(?: \((?:tree|stm)\.(\w+)| (?:tree|stm)\.(\w+))?")
 
 
 def read(name):
@@ -122,7 +122,7 @@ def rulesets(table):
         found, rest = forms(family)
         if len(found) > 3:
             for form, rules in found.items():
-                text += "\npub ruleset %s_%s_rules = (%s)\n" % (name.lower(), form, named(rest + rules))
+                text += "\npub ruleset %s_%s_rules = (%s)\n" % (name.lower(), form.lower(), named(rest + rules))
     return text
 
 

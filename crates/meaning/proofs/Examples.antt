@@ -14,7 +14,8 @@ use Rattle.meaning.specs.declared.end.Ended.TheVariants.{Exited as ExitedEnd}
 use Rattle.meaning.specs.declared.end.How.TheVariants.{Next}
 use Rattle.meaning.specs.declared.end.Stop.TheVariants.{Fault as Faults, Exited}
 use Rattle.meaning.specs.Meaning.{Val, NumberVal, TruthVal, Form, Block, Endless, Counts, Line}
-use Rattle.meaning.specs.State.{RunState, FrameState, Step, shows, typed_frame}
+use Rattle.meaning.specs.declared.frame.Frame.{Frame}
+use Rattle.meaning.specs.State.{RunState, Step, shows, typed_frame}
 use Rattle.meaning.specs.Values.{Yields}
 
 -- `unfolding computing` opens the definitions that a literal computes through
@@ -29,23 +30,23 @@ number t = tree.number t
 abbrev less : RunState → RunState
 less r = record r { left = r.left - 1 }
 
-put_shows_a_line : (w : History) (r : RunState) (f : FrameState) → 0 < r.left →
+put_shows_a_line : (w : History) (r : RunState) (f : Frame) → 0 < r.left →
     Block w r f 0 (stm.also (stm.put (number (codes "1"))) stm.stop) (Ok Next) w (shows (less r) (codes "1")) f
 put_shows_a_line w r f h = Block.block_goes_on refl (Step.taken h refl) (Form.show refl (Val.number refl) refl) (Block.block_end refl)
 
 -- `false and (1 div 0)` computes its second operand
-and_computes_both : (w : History) (r : RunState) (f : FrameState) →
+and_computes_both : (w : History) (r : RunState) (f : Frame) →
     Val w r f 0 (tree.binary And (tree.constant constant.False) (tree.binary Div (number (codes "1")) (number (codes "0")))) (Err (Faults DivideByZero)) w r
 unfolding computing
 and_computes_both w r f = Val.right_stops refl (Val.constant refl refl) (Val.two_operands refl (Val.number refl) (Val.number refl) (Yields.faults refl))
 
 -- `if 1 then` has no logical condition
-condition_has_to_be_logical : (w : History) (r : RunState) (f : FrameState) (ss os : stm.Stmts) →
+condition_has_to_be_logical : (w : History) (r : RunState) (f : Frame) (ss os : stm.Stmts) →
     Form w r f 0 (stm.when (number (codes "1")) ss os) (Err (Faults NotLogical)) w r f
 condition_has_to_be_logical w r f ss os = Form.if_stops refl (TruthVal.a_truth (Val.number refl) (Yields.faults refl))
 
 -- `repeat 0` takes a step for its one test, after that of the statement
-no_turns_take_a_test : (w : History) (r : RunState) (f : FrameState) (ss : stm.Stmts) → 0 < r.left →
+no_turns_take_a_test : (w : History) (r : RunState) (f : Frame) (ss : stm.Stmts) → 0 < r.left →
     Form w r f 0 (stm.repeat (stm.times (number (codes "0"))) ss) (Ok Next) w (less r) f
 unfolding computing
 no_turns_take_a_test w r f ss h = Form.times refl (NumberVal.a_number (Val.number refl) (Yields.yields refl)) refl (Counts.counts_end (Step.taken h refl) refl)

@@ -11,7 +11,7 @@ pub ruleset yields_rules = (Yields.yields_memory, Yields.yields, Yields.faults)
 
 pub ruleset edits_rules = (Edits.edit_memory, Edits.edit_faults, Edits.edited)
 
-pub ruleset assigns_rules = (Assigns.no_variable, Assigns.assigns)
+pub ruleset assigns_rules = (Assigns.assign_memory, Assigns.no_variable, Assigns.assigns)
 
 pub ruleset declares_rules = (DeclaresAll.declare_memory, DeclaresAll.none_declared, DeclaresAll.declared)
 
@@ -209,11 +209,27 @@ pub ruleset goes_rules = (Goes.go_memory, Goes.go_stays, Goes.go_close_stops, Go
 
 pub ruleset menu_rules = (Menu.menu_memory, Menu.card_close_stops, Menu.card_full, Menu.new_card, Menu.background_close_stops, Menu.background_full, Menu.new_background, Menu.part_full, Menu.new_part, Menu.delete_refused, Menu.delete_card)
 
+pub ruleset menu_newcarditem_rules = (Menu.menu_memory, Menu.card_close_stops, Menu.card_full, Menu.new_card)
+
+pub ruleset menu_newbackgrounditem_rules = (Menu.menu_memory, Menu.background_close_stops, Menu.background_full, Menu.new_background)
+
+pub ruleset menu_newpartitem_rules = (Menu.menu_memory, Menu.part_full, Menu.new_part)
+
+pub ruleset menu_deletecarditem_rules = (Menu.menu_memory, Menu.delete_refused, Menu.delete_card)
+
 pub ruleset converses_rules = (Converses.converse_memory, Converses.too_many_arguments, Converses.conversation_too_deep, Converses.converses)
 
 pub ruleset talks_rules = (Talks.talk_memory, Talks.talk_no_step, Talks.talk_done, Talks.talk_fails, Talks.talk_stops, Talks.talk_goes_on)
 
 pub ruleset callsback_rules = (CallsBack.call_back_memory, CallsBack.message_syntax, CallsBack.message_stops, CallsBack.message_runs, CallsBack.eval_syntax, CallsBack.eval_stops, CallsBack.evaluates, CallsBack.bad_global, CallsBack.global_fails, CallsBack.global_set, CallsBack.no_such_field, CallsBack.field_fails, CallsBack.field_set)
+
+pub ruleset callsback_sendcardmessage_rules = (CallsBack.call_back_memory, CallsBack.message_syntax, CallsBack.message_stops, CallsBack.message_runs)
+
+pub ruleset callsback_evalexpr_rules = (CallsBack.call_back_memory, CallsBack.eval_syntax, CallsBack.eval_stops, CallsBack.evaluates)
+
+pub ruleset callsback_setglobal_rules = (CallsBack.call_back_memory, CallsBack.bad_global, CallsBack.global_fails, CallsBack.global_set)
+
+pub ruleset callsback_setfieldbyname_rules = (CallsBack.call_back_memory, CallsBack.no_such_field, CallsBack.field_fails, CallsBack.field_set)
 
 pub ruleset line_rules = (Line.line_memory, Line.line_faults, Line.line_exits, Line.line_ends)
 

@@ -1,6 +1,6 @@
 -- The items of the menu, and the messages of the system.
-use Rattle.std.specs.Prelude.{ℕ, List, [], ◌∷◌, codes, Bool, true, false, not, nat_eq, if◌then◌else◌, Option, Some, None}
-use Rattle.ht_values.specs.Text.{same}
+use Rattle.std.specs.Prelude.{ℕ, List, [], ◌∷◌, codes, Bool, true, false, not, nat_eq, if◌then◌else◌, Option, None}
+use Rattle.ht_values.specs.Text.{entry}
 use Rattle.ht_values.specs.declared.word.PartKind.{PartKind}
 use Rattle.ht_values.specs.declared.word.PartKind.TheVariants.{Button, Field}
 use Rattle.object_table.specs.Content.{Content}
@@ -16,10 +16,6 @@ use Rattle.meaning.specs.State.{RunState}
 
 -- ---- items
 
-abbrev pub first_same : {A : Type 0} → List ℕ → List (List ℕ × A) → Option A
-first_same name [] = None
-first_same name (row ∷ rows) = if same row.0 name then Some row.1 else first_same name rows
-
 abbrev pub items : List (List ℕ × Item)
 items =
     (codes "New Card", NewCard) ∷
@@ -31,7 +27,7 @@ items =
 
 -- the item that the arguments of doMenu name: there is one argument, and it is the same as an item
 abbrev pub item_named : List (List ℕ) → Option Item
-item_named (name ∷ []) = first_same name items
+item_named (name ∷ []) = entry items name
 item_named _ = None
 
 -- where new parts stand

@@ -29,7 +29,7 @@ use Rattle.containers.specs.declared.edit.Edit.{Edit}
 use Rattle.containers.specs.declared.edit.Edit.TheVariants.{Put}
 use Rattle.meaning.specs.declared.end.Stop.{Stop}
 use Rattle.meaning.specs.declared.end.Stop.TheVariants as stop
-use Rattle.meaning.specs.State.{FrameState}
+use Rattle.meaning.specs.declared.frame.Frame.{Frame}
 
 -- the pieces from one number to another
 abbrev pub pieces_at : ChunkKind → ℤ → ℤ → Chunk
@@ -81,36 +81,38 @@ abbrev pub chunk_of_place : PlaceView → Chunk → PlaceView
 chunk_of_place p c = record p { chunks = p.chunks ++ c ∷ [] }
 
 -- An edit of a container, whose outcome is a fault or is written. After a fault nothing has changed.
-pub data Edits : History → FrameState → ℕ → PlaceView → Edit → Result (Unit {0}) Stop → History → FrameState → Type 0 where
-  edit_memory : {w w1 : History} {f f1 : FrameState} {delimiter : ℕ} {p : PlaceView} {e : Edit} →
+pub data Edits : History → Frame → ℕ → PlaceView → Edit → Result (Unit {0}) Stop → History → Frame → Type 0 where
+  edit_memory : {w w1 : History} {f f1 : Frame} {delimiter : ℕ} {p : PlaceView} {e : Edit} →
       Edits w f delimiter p e (Err stop.Memory) w1 f1
-  edit_faults : {w : History} {f : FrameState} {delimiter : ℕ} {p : PlaceView} {e : Edit} {n : Fault} →
-      due w.now f.variables delimiter p e ≡ Err n → Edits w f delimiter p e (Err (stop.Fault n)) w f
-  edited : {w w1 : History} {f f1 : FrameState} {delimiter : ℕ} {p : PlaceView} {e : Edit} {v : VariablesView} →
+  edit_faults : {w w1 : History} {f f1 : Frame} {delimiter : ℕ} {p : PlaceView} {e : Edit} {n : Fault} →
+      due w.now f.variables delimiter p e ≡ Err n → w1 ≡ w → f1 ≡ f → Edits w f delimiter p e (Err (stop.Fault n)) w1 f1
+  edited : {w w1 : History} {f f1 : Frame} {delimiter : ℕ} {p : PlaceView} {e : Edit} {v : VariablesView} →
       Writes w f.variables p.holder (due w.now f.variables delimiter p e) w1 v → f1 ≡ record f { variables = v } →
       Edits w f delimiter p e (Ok tt) w1 f1
 
 -- the number of a turn is put into the variable of a repeat, where it has one
-pub data Assigns : History → FrameState → ℕ → Option (List ℕ) → List ℕ → Result (Unit {0}) Stop → History → FrameState → Type 0 where
-  no_variable : {w : History} {f : FrameState} {delimiter : ℕ} {variable : Option (List ℕ)} {v : List ℕ} →
+pub data Assigns : History → Frame → ℕ → Option (List ℕ) → List ℕ → Result (Unit {0}) Stop → History → Frame → Type 0 where
+  assign_memory : {w w1 : History} {f f1 : Frame} {delimiter : ℕ} {variable : Option (List ℕ)} {v : List ℕ} →
+      Assigns w f delimiter variable v (Err stop.Memory) w1 f1
+  no_variable : {w : History} {f : Frame} {delimiter : ℕ} {variable : Option (List ℕ)} {v : List ℕ} →
       variable ≡ None → Assigns w f delimiter variable v (Ok tt) w f
-  assigns : {w w1 : History} {f f1 : FrameState} {delimiter : ℕ} {variable : Option (List ℕ)} {name v : List ℕ} {o : Result (Unit {0}) Stop} →
+  assigns : {w w1 : History} {f f1 : Frame} {delimiter : ℕ} {variable : Option (List ℕ)} {name v : List ℕ} {o : Result (Unit {0}) Stop} →
       variable ≡ Some name → Edits w f delimiter (variable_place f.variables name) (Put Into v) o w1 f1 →
       Assigns w f delimiter variable v o w1 f1
 
 -- names mean globals from here on, from left to right
-pub data DeclaresAll : History → FrameState → List (List ℕ) → Result (Unit {0}) Stop → History → FrameState → Type 0 where
-  declare_memory : {w w1 : History} {f f1 : FrameState} {names : List (List ℕ)} → DeclaresAll w f names (Err stop.Memory) w1 f1
-  none_declared : {w : History} {f : FrameState} {names : List (List ℕ)} → names ≡ [] → DeclaresAll w f names (Ok tt) w f
-  declared : {w w1 w2 : History} {f f1 f2 : FrameState} {names names1 : List (List ℕ)} {name : List ℕ} {v : VariablesView} {o : Result (Unit {0}) Stop} →
+pub data DeclaresAll : History → Frame → List (List ℕ) → Result (Unit {0}) Stop → History → Frame → Type 0 where
+  declare_memory : {w w1 : History} {f f1 : Frame} {names : List (List ℕ)} → DeclaresAll w f names (Err stop.Memory) w1 f1
+  none_declared : {w : History} {f : Frame} {names : List (List ℕ)} → names ≡ [] → DeclaresAll w f names (Ok tt) w f
+  declared : {w w1 w2 : History} {f f1 f2 : Frame} {names names1 : List (List ℕ)} {name : List ℕ} {v : VariablesView} {o : Result (Unit {0}) Stop} →
       names ≡ name ∷ names1 → Declares w f.variables name w1 v → f1 ≡ record f { variables = v } →
       DeclaresAll w1 f1 names1 o w2 f2 → DeclaresAll w f names o w2 f2
 
 -- a property of an object is set; after a fault nothing has changed
 pub data Sets : History → Referent → Prop → List ℕ → Result (Unit {0}) Stop → History → Type 0 where
   set_memory : {w w1 : History} {m : Referent} {prop : Prop} {t : List ℕ} → Sets w m prop t (Err stop.Memory) w1
-  set_faults : {w : History} {m : Referent} {prop : Prop} {t : List ℕ} {n : Fault} →
-      setting w.now.stack m prop t ≡ Err n → Sets w m prop t (Err (stop.Fault n)) w
+  set_faults : {w w1 : History} {m : Referent} {prop : Prop} {t : List ℕ} {n : Fault} →
+      setting w.now.stack m prop t ≡ Err n → w1 ≡ w → Sets w m prop t (Err (stop.Fault n)) w1
   set_made : {w w1 : History} {m : Referent} {prop : Prop} {t : List ℕ} {c : Change} →
       setting w.now.stack m prop t ≡ Ok c → Made w w1 c → Sets w m prop t (Ok tt) w1
 

@@ -9,6 +9,7 @@ use Rattle.ht_grammar.specs.declared.vocabulary.RunProp.TheVariants.{ItemDelimit
 use Rattle.stack_text.specs.Words.{spelled}
 use Rattle.change_journal.specs.History.{History}
 use Rattle.containers.specs.Variables.{VariablesView, with_local}
+use Rattle.meaning.specs.declared.frame.Frame.{Frame}
 use Rattle.meaning.specs.declared.end.Stop.{Stop}
 use Rattle.meaning.specs.declared.end.Stop.TheVariants as stop
 use Rattle.meaning.specs.declared.sent.SentMessage.{SentMessage}
@@ -60,21 +61,15 @@ run_property_set r EditBkgnd t = and_then (truth_of t) (λ b. Ok (record r { edi
 
 -- ---- frames
 
--- the object whose handler runs, the one to which the message was sent, and the variables
-pub record FrameState : Type 0 where
-  pub me : ℕ
-  pub target : ℕ
-  pub variables : VariablesView
-
 -- the frame of a typed line, of a reference in a dot line, or of a call-back: each variable is global
-abbrev pub typed_frame_at : ℕ → FrameState
+abbrev pub typed_frame_at : ℕ → Frame
 typed_frame_at card = record { me = card; target = card; variables = record { all_global = true; locals = [] } }
 
-abbrev pub typed_frame : History → FrameState
+abbrev pub typed_frame : History → Frame
 typed_frame w = typed_frame_at w.now.current
 
 -- the frame of a handler that has no variable yet
-abbrev pub frame_of : ℕ → ℕ → FrameState
+abbrev pub frame_of : ℕ → ℕ → Frame
 frame_of me target = record { me = me; target = target; variables = record { all_global = false; locals = [] } }
 
 -- parameters get the arguments: a missing one is empty, a surplus one is dropped, and of one name the last counts
@@ -84,5 +79,5 @@ bound (name ∷ names) [] v = bound names [] (with_local v name (Some []))
 bound (name ∷ names) (a ∷ arguments) v = bound names arguments (with_local v name (Some a))
 
 -- the frame of a handler of an object, with its parameters
-abbrev pub handler_frame : ℕ → ℕ → List (List ℕ) → List (List ℕ) → FrameState
+abbrev pub handler_frame : ℕ → ℕ → List (List ℕ) → List (List ℕ) → Frame
 handler_frame me target parameters arguments = record { me = me; target = target; variables = bound parameters arguments (frame_of me target).variables }

@@ -6,7 +6,6 @@ ghost use Rattle.meaning.specs.State.{frame_of, typed_frame_at};
 use containers::Variables;
 use object_table::Id;
 use std::alloc::Global;
-use std::marker::Model;
 
 /// The frame of a handler, or of a typed line.
 #[derive(Drop)]
@@ -16,14 +15,6 @@ pub struct Frame {
     /// The object to which the message was sent.
     pub target: Id,
     pub variables: Variables,
-}
-
-impl Model for Frame {
-    ghost use Rattle.meaning.specs.State.{FrameState};
-
-    ghost Value = { FrameState };
-
-    ghost view = { λ f. record { me = f.me; target = f.target; variables = f.variables } };
 }
 
 impl Frame {
