@@ -9,7 +9,7 @@ use crate::timing::{Tenths, nanoseconds_since, ratio};
 use change_journal::{Change, World};
 use containers::{Container, Edit, Variables, resolve, write};
 use externals::External;
-use ht_values::{PartKind, Text, Where};
+use ht_values::{Name, PartKind, Text, Where};
 use object_table::{LayerId, Stack};
 use plain::Plain;
 use std::alloc::Global;
@@ -140,14 +140,15 @@ fn commit<E: External>(world: &mut World<E>)
 fn append<E: External>(
     alloc: Global,
     world: &mut World<E>,
-    name: &Text,
+    name: Text,
     value: Text,
 ) -> anyhow::Result<()>
     requires { IsSome world.old.history.start }
     ensures { OnOk result (IsSome world.new.history.start) }
 {
     let mut variables = Variables::of_typed_line(alloc);
-    let place = resolve(alloc, world, &variables, Container::Variable(name));
+    let name = Name::new(alloc, name)?;
+    let place = resolve(alloc, world, &variables, Container::Variable(&name));
     let Ok(place) = place else {
         anyhow::bail!("no place");
     };
@@ -173,7 +174,7 @@ fn write_one<E: External>(
     match call {
         Call::OneGlobal | Call::EachGlobal => make(world, Change::Global(name, Some(value))),
         Call::FieldText => make(world, Change::FieldText(FIELD.0, FIELD.1, value)),
-        Call::After => append(alloc, world, &name, value),
+        Call::After => append(alloc, world, name, value),
         Call::NewCard => make(world, Change::NewCard),
     }
 }

@@ -56,5 +56,5 @@ exit_ends_the_line : (w : History) (r : RunState) → 0 < r.left → 0 < (less r
     Line w r (stm.also (stm.repeat stm.forever (stm.also stm.exit_to_hypercard stm.stop)) stm.stop) (Ok ExitedEnd) w (less (less (less r)))
 exit_ends_the_line w r a b c =
     Line.line_exits refl (Block.block_stops refl (Step.taken a refl)
-      (Form.forever refl (Endless.endless_stops (Step.taken b refl)
-        (Block.block_stops refl (Step.taken c refl) (Form.exit_to_hypercard refl)))))
+    (Form.forever refl (Endless.endless_stops (Step.taken b refl)
+    (Block.block_stops refl (Step.taken c refl) (Form.exit_to_hypercard refl)))))

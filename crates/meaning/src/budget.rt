@@ -33,13 +33,13 @@ impl Model for Budget {
     ghost Value = { RunState };
 
     ghost view = { λ b. record {
-        delimiter = b.delimiter;
-        lock_messages = b.lock_messages;
-        edit_background = b.edit_background;
-        result = b.result;
-        left = b.left;
-        shown = b.shown;
-        sent = b.sent;
+      delimiter = b.delimiter;
+      lock_messages = b.lock_messages;
+      edit_background = b.edit_background;
+      result = b.result;
+      left = b.left;
+      shown = b.shown;
+      sent = b.sent;
     } };
 }
 

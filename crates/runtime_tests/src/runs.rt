@@ -54,7 +54,10 @@ fn properties_of_a_run(rt: HostRuntime) -> Result<(), Fail> {
         (RunProp::EditBkgnd, b"", Some(Fault::NotLogical)),
     ];
     for (property, bytes, due) in rows {
-        assert!(rt; sets(rt.alloc(), *property, bytes)? == due.is_none(), "{bytes:?}");
+        assert!(rt;
+            sets(rt.alloc(), *property, bytes)? == due.is_none(),
+            "{bytes:?}"
+        );
         assert!(rt; fault(rt.alloc(), *property, bytes)? == *due, "{bytes:?}");
     }
     Ok(())
@@ -150,7 +153,9 @@ fn frames_of_lines_and_handlers(rt: HostRuntime) -> Result<(), Fail> {
     let typed = Frame::typed(rt.alloc(), 2);
     assert!(rt; typed.me == 2 && typed.target == 2 && typed.variables.is_global(name.text()));
     let handler = Frame::of_handler(rt.alloc(), 5, 2);
-    assert!(rt; handler.me == 5 && handler.target == 2 && !handler.variables.is_global(name.text()));
+    assert!(rt;
+        handler.me == 5 && handler.target == 2 && !handler.variables.is_global(name.text())
+    );
     Ok(())
 }
 
