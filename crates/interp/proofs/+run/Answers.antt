@@ -1,0 +1,138 @@
+use Rattle.std.proofs.Common.{rules, arith, refl, sym, ap, ◌∙◌, drop_of_length-le}
+use Rattle.std.proofs.lemmas.Grind.{common_steps}
+use Rattle.std.proofs.lemmas.Result.{err_from_is_err_and}
+use Rattle.ht_tree.specs.ContainerView.{container_of}
+use Rattle.ht_tree.specs.StatementView.{stmts_of}
+use Rattle.ht_tree.specs.View.{part_of}
+use Rattle.meaning.specs.Messages.{lines_of}
+use Rattle.meaning.specs.Meaning.{Val, Vals, Form, Block, Resolves, PartMet, Along, Talks, Systems}
+use Rattle.interp.proofs.Loops.{cut_at, cut_exprs, no_exprs, deep_expr, cut_stmts, no_stmts, deep_stmt}
+use Rattle.interp.proofs.+run.Goals as goal
+
+pub conversation::talk-returns-in-Fail-clause-meaning : goal.conversation::talk-returns-in-Fail-clause-meaning
+conversation::talk-returns-in-Fail-clause-meaning g t c = c.loop-next.invariant.rest _ _ _ (Talks.talk_fails c.in_ok-step.ensures.meaning c.in_ok-ask.ensures.ok c.in-Fail.is)
+
+pub conversation::talk-returns-in_err-next-in_default : goal.conversation::talk-returns-in_err-next-in_default
+conversation::talk-returns-in_err-next-in_default g t c =
+    let p = err_from_is_err_and c.from_residual-in_err-next-in_default.result c.from_residual-in_err-next-in_default.ensures.1 in
+    record {
+      meaning = rw (p.1, p.2) (c.loop-next.invariant.rest _ _ _ (Talks.talk_stops c.in_ok-step.ensures.meaning c.in_ok-ask.ensures.ok c.in_err-next-in_default.ensures.meaning));
+      fewer = omega (arith, c.call_back.ensures.fewer, c.step.ensures.fewer, c.loop-next.invariant.fewer);
+      base = c.call_back.ensures.base ∙ (c.take_turn.ensures.base ∙ c.loop-next.invariant.base);
+    }
+
+pub conversation::talk-loop-next-preserved : goal.conversation::talk-loop-next-preserved
+conversation::talk-loop-next-preserved g t c = record {
+  fewer = omega (arith, c.call_back.ensures.fewer, c.step.ensures.fewer, c.loop-next.invariant.fewer);
+  base = c.call_back.ensures.base ∙ (c.take_turn.ensures.base ∙ c.loop-next.invariant.base);
+  rest = λ o w r h. c.loop-next.invariant.rest _ _ _ (Talks.talk_goes_on c.in_ok-step.ensures.meaning c.in_ok-ask.ensures.ok c.in_ok-next-in_default.ensures.meaning h);
+}
+
+pub expr::arguments-eval-requires : goal.expr::arguments-eval-requires
+expr::arguments-eval-requires g t c κs within =
+    let h = deep_expr c.args.list.now c.loop-e.e-index c.e-item.result c.loop-e-test.true c.e-item.is in
+    first_of (search rules, grind (arith, common_steps))
+
+pub expr::arguments-returns-in_err-value-clause-meaning : goal.expr::arguments-returns-in_err-value-clause-meaning
+expr::arguments-returns-in_err-value-clause-meaning g t c =
+    let p = err_from_is_err_and c.from_residual.result c.from_residual.ensures.1 in
+    rw (p.1, p.2) (c.loop-e.invariant.rest _ _ _ (Vals.vals_stop (cut_exprs c.args.list.now c.loop-e.e-index c.e-item.result c.loop-e-test.true c.e-item.is) c.in_err-value.ensures.meaning))
+
+pub expr::arguments-loop-e-preserved : goal.expr::arguments-loop-e-preserved
+expr::arguments-loop-e-preserved g t c = record {
+  fewer = search rules;
+  base = search rules;
+  rest = λ o w r h. c.loop-e.invariant.rest _ _ _ (Vals.vals_more (cut_exprs c.args.list.now c.loop-e.e-index c.e-item.result c.loop-e-test.true c.e-item.is) c.in_ok-value.ensures.meaning (rw c.in_ok-values.ensures at h));
+}
+
+pub expr::arguments-returns-clause-meaning : goal.expr::arguments-returns-clause-meaning
+expr::arguments-returns-clause-meaning g t c = c.loop-e.invariant.rest _ _ _ (Vals.vals_done (no_exprs c.args.list.now c.loop-e.e-index c.loop-e-test.false))
+
+pub expr::chunk_of-returns-in_err-pieces-clause-meaning : goal.expr::chunk_of-returns-in_err-pieces-clause-meaning
+expr::chunk_of-returns-in_err-pieces-clause-meaning g t c =
+    let p = err_from_is_err_and c.from_residual.result c.from_residual.ensures.1 in
+    rw (p.1, p.2) (Val.chunk_stops refl c.in_err-pieces.ensures.meaning)
+
+pub message::along-returns-in_err-how-in-Some-clause-meaning : goal.message::along-returns-in_err-how-in-Some-clause-meaning
+message::along-returns-in_err-how-in-Some-clause-meaning g t c =
+    let p = err_from_is_err_and c.from_residual-in_err-how-in-Some.result c.from_residual-in_err-how-in-Some.ensures.1 in
+    let q = ap stmts_of c.deref.ensures.value ∙ ap lines_of c.handler-in-Some.ensures in
+    rw (p.1, p.2) (c.loop-world.invariant.rest _ _ _ (Along.along_stops {fd = c.in-Some.found} (search rules) (first_of (search rules, grind (arith, common_steps))) c.in_ok-inner-in-Some.ensures (rw q at c.in_err-how-in-Some.ensures.meaning)))
+
+pub message::along-returns-in-Some-outcome-clause-meaning : goal.message::along-returns-in-Some-outcome-clause-meaning
+message::along-returns-in-Some-outcome-clause-meaning g t c =
+    let q = ap stmts_of c.deref.ensures.value ∙ ap lines_of c.handler-in-Some.ensures in
+    c.loop-world.invariant.rest _ _ _ (Along.along_ends {fd = c.in-Some.found} (search rules) (first_of (search rules, grind (arith, common_steps))) c.in_ok-inner-in-Some.ensures (rw q at c.in_ok-how-in-Some.ensures.meaning) c.in-Some-outcome.ensures.ended)
+
+pub message::along-loop-world-preserved : goal.message::along-loop-world-preserved
+message::along-loop-world-preserved g t c =
+    let q = ap stmts_of c.deref.ensures.value ∙ ap lines_of c.handler-in-Some.ensures in
+    let passes = c.outcome.ensures.passed c.in-None-outcome.is in
+    let same = c.outcome.ensures.same c.in-None-outcome.is in
+    record {
+      fewer = omega (arith, c.outcome.ensures.left, c.run_block.ensures.fewer, c.loop-world.invariant.fewer);
+      base = c.run_block.ensures.base ∙ c.loop-world.invariant.base;
+      rest = λ o w r h. c.loop-world.invariant.rest _ _ _ (Along.along_passes {fd = c.in-Some.found} (search rules) (first_of (search rules, grind (arith, common_steps))) c.in_ok-inner-in-Some.ensures (rw (q, passes) at c.in_ok-how-in-Some.ensures.meaning) (rw (c.stack-in-None-outcome.ensures.content, c.current.ensures.value, c.holder.ensures) at c.path_after-rest.ensures) (rw same at h));
+    }
+
+pub pieces::resolve-returns-in_err-pieces-in-Chunk-clause-meaning : goal.pieces::resolve-returns-in_err-pieces-in-Chunk-clause-meaning
+pieces::resolve-returns-in_err-pieces-in-Chunk-clause-meaning g t c =
+    let p = err_from_is_err_and c.from_residual-in_err-pieces-in-Chunk.result c.from_residual-in_err-pieces-in-Chunk.ensures.1 in
+    rw (p.1, p.2) (Resolves.place_chunk_stops (sym c.kind.ensures ∙ ap container_of c.in-Chunk.is) c.in_err-pieces-in-Chunk.ensures.meaning)
+
+pub reference::meet_part-returns-in_ok-scope-in-Plain-clause-meaning : goal.reference::meet_part-returns-in_ok-scope-in-Plain-clause-meaning
+reference::meet_part-returns-in_ok-scope-in-Plain-clause-meaning g t c = PartMet.part_of_owner (ap part_of c.in-Plain.is) c.in_ok-pick-in-Plain.ensures.meaning c.layer_meant.ensures c.in_ok-scope-in-Plain.ensures.meaning c.part_in.ensures
+
+pub stmt::run_block-run_stmt-requires : goal.stmt::run_block-run_stmt-requires
+stmt::run_block-run_stmt-requires g t c κs within =
+    let h = deep_stmt c.args.lines.now c.loop-stmt.stmt-index c.stmt-item.result c.loop-stmt-test.true c.stmt-item.is in
+    first_of (search rules, grind (arith, common_steps))
+
+pub stmt::run_block-returns-in_err-step-clause-meaning : goal.stmt::run_block-returns-in_err-step-clause-meaning
+stmt::run_block-returns-in_err-step-clause-meaning g t c =
+    let p = err_from_is_err_and c.from_residual.result c.from_residual.ensures.1 in
+    rw (p.1, p.2) (c.loop-stmt.invariant.rest _ _ _ _ (Block.block_no_step (cut_stmts c.args.lines.now c.loop-stmt.stmt-index c.stmt-item.result c.loop-stmt-test.true c.stmt-item.is) c.in_err-step.ensures.meaning))
+
+pub stmt::run_block-returns-in_err-how-clause-meaning : goal.stmt::run_block-returns-in_err-how-clause-meaning
+stmt::run_block-returns-in_err-how-clause-meaning g t c =
+    let p = err_from_is_err_and c.from_residual-in_err-how.result c.from_residual-in_err-how.ensures.1 in
+    rw (p.1, p.2) (c.loop-stmt.invariant.rest _ _ _ _ (Block.block_stops (cut_stmts c.args.lines.now c.loop-stmt.stmt-index c.stmt-item.result c.loop-stmt-test.true c.stmt-item.is) c.in_ok-step.ensures.meaning c.in_err-how.ensures.meaning))
+
+pub stmt::run_block-returns-in_default : goal.stmt::run_block-returns-in_default
+stmt::run_block-returns-in_default g t c = record {
+  meaning = c.loop-stmt.invariant.rest _ _ _ _ (Block.block_leaves (cut_stmts c.args.lines.now c.loop-stmt.stmt-index c.stmt-item.result c.loop-stmt-test.true c.stmt-item.is) c.in_ok-step.ensures.meaning c.in_ok-how.ensures.meaning c.in_default.not-Next);
+  passes = search rules;
+  fewer = search rules;
+  base = search rules;
+}
+
+pub stmt::run_block-loop-stmt-preserved : goal.stmt::run_block-loop-stmt-preserved
+stmt::run_block-loop-stmt-preserved g t c = record {
+  fewer = search rules;
+  base = search rules;
+  rest = λ o w r f h. c.loop-stmt.invariant.rest _ _ _ _ (Block.block_goes_on (cut_stmts c.args.lines.now c.loop-stmt.stmt-index c.stmt-item.result c.loop-stmt-test.true c.stmt-item.is) c.in_ok-step.ensures.meaning (rw c.in-Next.is at c.in_ok-how.ensures.meaning) h);
+}
+
+pub stmt::run_block-returns-clause-meaning : goal.stmt::run_block-returns-clause-meaning
+stmt::run_block-returns-clause-meaning g t c = c.loop-stmt.invariant.rest _ _ _ _ (Block.block_end (no_stmts c.args.lines.now c.loop-stmt.stmt-index c.loop-stmt-test.false))
+
+pub stmt::when-returns-then-branch-clause-meaning : goal.stmt::when-returns-then-branch-clause-meaning
+stmt::when-returns-then-branch-clause-meaning g t c = Form.if_true refl c.in_ok-truth_value.ensures.meaning c.if-branch.true c.run_block.ensures.meaning
+
+pub stmt::when-returns-else-branch-clause-meaning : goal.stmt::when-returns-else-branch-clause-meaning
+stmt::when-returns-else-branch-clause-meaning g t c = Form.if_false refl c.in_ok-truth_value.ensures.meaning c.if-branch.false c.run_block-else-branch.ensures.meaning
+
+pub system::systems-returns-in_err-system-clause-meaning : goal.system::systems-returns-in_err-system-clause-meaning
+system::systems-returns-in_err-system-clause-meaning g t c =
+    let p = err_from_is_err_and c.from_residual.result c.from_residual.ensures.1 in
+    rw (p.1, p.2) (c.loop-message.invariant.rest _ _ _ (Systems.systems_stop (cut_at c.args.messages.now c.loop-message.message-index _ c.loop-message-test.true) c.current.ensures.value c.in_err-system.ensures.meaning))
+
+pub system::systems-loop-message-preserved : goal.system::systems-loop-message-preserved
+system::systems-loop-message-preserved g t c = record {
+  fewer = omega (arith, c.system.ensures.fewer, c.loop-message.invariant.fewer);
+  base = c.system.ensures.base ∙ c.loop-message.invariant.base;
+  rest = λ o w r h. c.loop-message.invariant.rest _ _ _ (Systems.systems_more (cut_at c.args.messages.now c.loop-message.message-index _ c.loop-message-test.true) c.current.ensures.value c.in_ok-system.ensures.meaning h);
+}
+
+pub system::systems-returns-clause-meaning : goal.system::systems-returns-clause-meaning
+system::systems-returns-clause-meaning g t c = rw c.new.ensures (c.loop-message.invariant.rest _ _ _ (Systems.systems_done (drop_of_length-le c.args.messages.now c.loop-message-test.false)))

@@ -1,0 +1,276 @@
+-- What falls in each call of the cycle, and what its loops keep. A message, a turn of an external and `value` take a step;
+-- `do` and what they run goes one level deeper; all else goes into a part of a tree.
+use Rattle.std.proofs.Common.{◌≡◌, ◌≤◌, ◌<◌, ℕ, List, [], length, drop, ◌+◌, ◌-◌, ◌*◌, max, Result, option_copied}
+use Rattle.ht_grammar.specs.Depth.{depth, depths, chunk_depth, container_depth, count_depth, destination_depth, head_depth, owner_depth, part_depth, ref_depth, selector_depth, stmt_depth, stmts_depth, which_depth}
+use Rattle.ht_tree.specs.View.{chunk_of, count_of, exprs_of, owner_of, part_of, ref_of, selector_of, which_of}
+use Rattle.ht_tree.specs.StatementView.{destination_of, head_of, stmts_of}
+use Rattle.change_journal.specs.History.{History}
+use Rattle.containers.specs.Base.{base}
+use Rattle.meaning.specs.declared.end.Conversed.{Conversed}
+use Rattle.meaning.specs.declared.end.How.{How}
+use Rattle.meaning.specs.declared.end.Stop.{Stop}
+use Rattle.meaning.specs.declared.frame.Frame.{Frame}
+use Rattle.meaning.specs.State.{RunState}
+use Rattle.meaning.specs.Meaning.{Vals, Block, Endless, While, Counts, Along, Systems, Talks}
+use Rattle.interp.proofs.+run.Given as goal
+
+abbrev pub decreases-expr::eval : goal.decreases-expr::eval
+decreases-expr::eval g l = 1000000 * l.run.now.left + 4000 * (100 - l.nested) + 8 * depth l.e.now + 102
+
+abbrev pub decreases-expr::binary : goal.decreases-expr::binary
+decreases-expr::binary g l = 1000000 * l.run.now.left + 4000 * (100 - l.nested) + 8 * max (depth l.left.now) (depth l.right.now) + 103
+
+abbrev pub decreases-expr::unary : goal.decreases-expr::unary
+decreases-expr::unary g l = 1000000 * l.run.now.left + 4000 * (100 - l.nested) + 8 * depth l.operand.now + 103
+
+abbrev pub decreases-expr::there_is : goal.decreases-expr::there_is
+decreases-expr::there_is g l = 1000000 * l.run.now.left + 4000 * (100 - l.nested) + 8 * ref_depth (ref_of l.reference.now) + 103
+
+abbrev pub decreases-expr::chunk_of : goal.decreases-expr::chunk_of
+decreases-expr::chunk_of g l = 1000000 * l.run.now.left + 4000 * (100 - l.nested) + 8 * max (chunk_depth (chunk_of l.chunk.now)) (depth l.text.now) + 107
+
+abbrev pub decreases-pieces::pieces : goal.decreases-pieces::pieces
+decreases-pieces::pieces g l = 1000000 * l.run.now.left + 4000 * (100 - l.nested) + 8 * chunk_depth (chunk_of l.chunk.now) + 105
+
+abbrev pub decreases-expr::number_value : goal.decreases-expr::number_value
+decreases-expr::number_value g l = 1000000 * l.run.now.left + 4000 * (100 - l.nested) + 8 * depth l.e.now + 103
+
+abbrev pub decreases-expr::truth_value : goal.decreases-expr::truth_value
+decreases-expr::truth_value g l = 1000000 * l.run.now.left + 4000 * (100 - l.nested) + 8 * depth l.e.now + 103
+
+abbrev pub decreases-expr::field : goal.decreases-expr::field
+decreases-expr::field g l = 1000000 * l.run.now.left + 4000 * (100 - l.nested) + 8 * part_depth (part_of l.part.now) + 101
+
+abbrev pub decreases-reference::meet_part : goal.decreases-reference::meet_part
+decreases-reference::meet_part g l = 1000000 * l.run.now.left + 4000 * (100 - l.nested) + 8 * part_depth (part_of l.part.now) + 100
+
+abbrev pub decreases-reference::meet : goal.decreases-reference::meet
+decreases-reference::meet g l = 1000000 * l.run.now.left + 4000 * (100 - l.nested) + 8 * ref_depth (ref_of l.reference.now) + 102
+
+abbrev pub decreases-reference::scope : goal.decreases-reference::scope
+decreases-reference::scope g l = 1000000 * l.run.now.left + 4000 * (100 - l.nested) + 8 * owner_depth (owner_of l.owner.now) + 100
+
+abbrev pub decreases-reference::seek : goal.decreases-reference::seek
+decreases-reference::seek g l = 1000000 * l.run.now.left + 4000 * (100 - l.nested) + 8 * selector_depth (selector_of l.selector.now) + 104
+
+abbrev pub decreases-reference::pick : goal.decreases-reference::pick
+decreases-reference::pick g l = 1000000 * l.run.now.left + 4000 * (100 - l.nested) + 8 * which_depth (which_of l.which.now) + 103
+
+abbrev pub decreases-reference::lead : goal.decreases-reference::lead
+decreases-reference::lead g l = 1000000 * l.run.now.left + 4000 * (100 - l.nested) + 8 * destination_depth (destination_of l.destination.now) + 100
+
+abbrev pub decreases-expr::number_of : goal.decreases-expr::number_of
+decreases-expr::number_of g l = 1000000 * l.run.now.left + 4000 * (100 - l.nested) + 8 * count_depth (count_of l.count.now) + 104
+
+abbrev pub decreases-expr::property_of : goal.decreases-expr::property_of
+decreases-expr::property_of g l = 1000000 * l.run.now.left + 4000 * (100 - l.nested) + 8 * ref_depth (ref_of l.reference.now) + 103
+
+abbrev pub decreases-expr::function_of : goal.decreases-expr::function_of
+decreases-expr::function_of g l = 1000000 * l.run.now.left + 4000 * (100 - l.nested) + 8 * depth l.operand.now + 103
+
+abbrev pub decreases-expr::text_value : goal.decreases-expr::text_value
+decreases-expr::text_value g l = 1000000 * l.run.now.left + 4000 * (100 - l.nested) + 1
+
+abbrev pub decreases-expr::call : goal.decreases-expr::call
+decreases-expr::call g l = 1000000 * l.run.now.left + 4000 * (100 - l.nested) + 8 * depths (exprs_of l.list.now.items.items) + 106
+
+abbrev pub decreases-message::calls : goal.decreases-message::calls
+decreases-message::calls g l = 1000000 * l.run.now.left + 4000 * (100 - l.nested) + 8 * depths (exprs_of l.list.now) + 105
+
+abbrev pub decreases-expr::arguments : goal.decreases-expr::arguments
+decreases-expr::arguments g l = 1000000 * l.run.now.left + 4000 * (100 - l.nested) + 8 * depths (exprs_of l.list.now) + 103
+
+abbrev pub decreases-message::send_text : goal.decreases-message::send_text
+decreases-message::send_text g l = 1000000 * l.run.now.left + 4000 * (100 - l.nested) + 1500
+
+abbrev pub decreases-message::send : goal.decreases-message::send
+decreases-message::send g l = 1000000 * l.run.now.left + 4000 * (100 - l.nested) + 10
+
+abbrev pub decreases-system::system : goal.decreases-system::system
+decreases-system::system g l = 1000000 * l.run.now.left + 4000 * (100 - l.nested) + 11
+
+abbrev pub decreases-system::systems : goal.decreases-system::systems
+decreases-system::systems g l = 1000000 * l.run.now.left + 4000 * (100 - l.nested) + 12
+
+abbrev pub decreases-system::go : goal.decreases-system::go
+decreases-system::go g l = 1000000 * l.run.now.left + 4000 * (100 - l.nested) + 13
+
+abbrev pub decreases-system::menu : goal.decreases-system::menu
+decreases-system::menu g l = 1000000 * l.run.now.left + 4000 * (100 - l.nested) + 13
+
+abbrev pub decreases-message::answer : goal.decreases-message::answer
+decreases-message::answer g l = 1000000 * l.run.now.left + 4000 * (100 - l.nested) + 14
+
+abbrev pub decreases-message::outside : goal.decreases-message::outside
+decreases-message::outside g l = 1000000 * l.run.now.left + 4000 * (100 - l.nested) + 15
+
+abbrev pub decreases-message::along : goal.decreases-message::along
+decreases-message::along g l = 1000000 * l.run.now.left + 4000 * (100 - l.nested) + 16
+
+abbrev pub decreases-conversation::converse : goal.decreases-conversation::converse
+decreases-conversation::converse g l = 1000000 * l.run.now.left + 4000 * (100 - l.nested) + 9
+
+abbrev pub decreases-conversation::talk : goal.decreases-conversation::talk
+decreases-conversation::talk g l = 1000000 * l.run.now.left + 4000 * (100 - l.nested) + 8
+
+abbrev pub decreases-conversation::call_back : goal.decreases-conversation::call_back
+decreases-conversation::call_back g l = 1000000 * l.run.now.left + 4000 * (100 - l.nested) + 3000
+
+abbrev pub decreases-conversation::run_text : goal.decreases-conversation::run_text
+decreases-conversation::run_text g l = 1000000 * l.run.now.left + 4000 * (100 - l.nested) + 2999
+
+abbrev pub decreases-conversation::eval_text : goal.decreases-conversation::eval_text
+decreases-conversation::eval_text g l = 1000000 * l.run.now.left + 4000 * (100 - l.nested) + 2999
+
+abbrev pub decreases-pieces::resolve : goal.decreases-pieces::resolve
+decreases-pieces::resolve g l = 1000000 * l.run.now.left + 4000 * (100 - l.nested) + 8 * container_depth l.container.now + 106
+
+abbrev pub decreases-stmt::run_block : goal.decreases-stmt::run_block
+decreases-stmt::run_block g l = 1000000 * l.run.now.left + 4000 * (100 - l.nested) + 8 * stmts_depth (stmts_of l.lines.now) + 2003
+
+abbrev pub decreases-stmt::run_stmt : goal.decreases-stmt::run_stmt
+decreases-stmt::run_stmt g l = 1000000 * l.run.now.left + 4000 * (100 - l.nested) + 8 * stmt_depth l.stmt.now + 2002
+
+abbrev pub decreases-stmt::show : goal.decreases-stmt::show
+decreases-stmt::show g l = 1000000 * l.run.now.left + 4000 * (100 - l.nested) + 8 * depth l.value.now + 2003
+
+abbrev pub decreases-stmt::get : goal.decreases-stmt::get
+decreases-stmt::get g l = 1000000 * l.run.now.left + 4000 * (100 - l.nested) + 8 * depth l.value.now + 2003
+
+abbrev pub decreases-stmt::set_run : goal.decreases-stmt::set_run
+decreases-stmt::set_run g l = 1000000 * l.run.now.left + 4000 * (100 - l.nested) + 8 * depth l.value.now + 2003
+
+abbrev pub decreases-stmt::returns : goal.decreases-stmt::returns
+decreases-stmt::returns g l = 1000000 * l.run.now.left + 4000 * (100 - l.nested) + 8 * depth l.value.now + 2003
+
+abbrev pub decreases-stmt::put : goal.decreases-stmt::put
+decreases-stmt::put g l = 1000000 * l.run.now.left + 4000 * (100 - l.nested) + 8 * max (depth l.value.now) (container_depth l.container.now) + 2003
+
+abbrev pub decreases-stmt::alter : goal.decreases-stmt::alter
+decreases-stmt::alter g l = 1000000 * l.run.now.left + 4000 * (100 - l.nested) + 8 * max (depth l.value.now) (container_depth l.container.now) + 2003
+
+abbrev pub decreases-stmt::set : goal.decreases-stmt::set
+decreases-stmt::set g l = 1000000 * l.run.now.left + 4000 * (100 - l.nested) + 8 * max (ref_depth (ref_of l.reference.now)) (depth l.value.now) + 2003
+
+abbrev pub decreases-stmt::delete : goal.decreases-stmt::delete
+decreases-stmt::delete g l = 1000000 * l.run.now.left + 4000 * (100 - l.nested) + 8 * max (chunk_depth (chunk_of l.chunk.now)) (container_depth l.container.now) + 2003
+
+abbrev pub decreases-stmt::run_do : goal.decreases-stmt::run_do
+decreases-stmt::run_do g l = 1000000 * l.run.now.left + 4000 * (100 - l.nested) + 8 * depth l.text.now + 2003
+
+abbrev pub decreases-stmt::do_text : goal.decreases-stmt::do_text
+decreases-stmt::do_text g l = 1000000 * l.run.now.left + 4000 * (100 - l.nested) + 1
+
+abbrev pub decreases-stmt::run_send : goal.decreases-stmt::run_send
+decreases-stmt::run_send g l = 1000000 * l.run.now.left + 4000 * (100 - l.nested) + 8 * max (depth l.text.now) (ref_depth (ref_of l.reference.now)) + 2003
+
+abbrev pub decreases-stmt::run_go : goal.decreases-stmt::run_go
+decreases-stmt::run_go g l = 1000000 * l.run.now.left + 4000 * (100 - l.nested) + 8 * destination_depth (destination_of l.destination.now) + 2003
+
+abbrev pub decreases-stmt::command : goal.decreases-stmt::command
+decreases-stmt::command g l = 1000000 * l.run.now.left + 4000 * (100 - l.nested) + 8 * depths (exprs_of l.list.now.items.items) + 2003
+
+abbrev pub decreases-stmt::when : goal.decreases-stmt::when
+decreases-stmt::when g l = 1000000 * l.run.now.left + 4000 * (100 - l.nested) + 8 * max (depth l.condition.now) (max (stmts_depth (stmts_of l.lines.now)) (stmts_depth (stmts_of l.otherwise.now))) + 2005
+
+abbrev pub decreases-repeat::repeat : goal.decreases-repeat::repeat
+decreases-repeat::repeat g l = 1000000 * l.run.now.left + 4000 * (100 - l.nested) + 8 * max (head_depth (head_of l.head.now)) (stmts_depth (stmts_of l.lines.now)) + 2006
+
+abbrev pub decreases-repeat::bounds : goal.decreases-repeat::bounds
+decreases-repeat::bounds g l = 1000000 * l.run.now.left + 4000 * (100 - l.nested) + 8 * max (depth l.from.now) (depth l.to.now) + 103
+
+abbrev pub decreases-repeat::repeat_forever : goal.decreases-repeat::repeat_forever
+decreases-repeat::repeat_forever g l = 1000000 * l.run.now.left + 4000 * (100 - l.nested) + 8 * stmts_depth (stmts_of l.lines.now) + 2005
+
+abbrev pub decreases-repeat::repeat_while : goal.decreases-repeat::repeat_while
+decreases-repeat::repeat_while g l = 1000000 * l.run.now.left + 4000 * (100 - l.nested) + 8 * max (depth l.condition.now) (stmts_depth (stmts_of l.lines.now)) + 2005
+
+abbrev pub decreases-repeat::turns : goal.decreases-repeat::turns
+decreases-repeat::turns g l = 1000000 * l.run.now.left + 4000 * (100 - l.nested) + 8 * stmts_depth (stmts_of l.lines.now) + 2005
+
+abbrev pub invariant-expr::arguments-loop-e : goal.invariant-expr::arguments-loop-e
+invariant-expr::arguments-loop-e g l = record {
+  fewer : l.run.left ≤ l.fn.run.left;
+  base : base l.world.history ≡ base l.fn.world.history;
+  rest : (o : Result (List (List ℕ)) Stop) (w : History) (r : RunState) →
+      Vals l.world.history l.run l.frame l.nested (exprs_of (drop l.e-index l.list)) l.values o w r →
+      Vals l.fn.world.history l.fn.run l.frame l.nested (exprs_of l.list) [] o w r;
+}
+
+abbrev pub invariant-stmt::run_block-loop-stmt : goal.invariant-stmt::run_block-loop-stmt
+invariant-stmt::run_block-loop-stmt g l = record {
+  fewer : l.run.left ≤ l.fn.run.left;
+  base : base l.world.history ≡ base l.fn.world.history;
+  rest : (o : Result How Stop) (w : History) (r : RunState) (f : Frame) →
+      Block l.world.history l.run l.frame l.nested (stmts_of (drop l.stmt-index l.lines)) o w r f →
+      Block l.fn.world.history l.fn.run l.fn.frame l.nested (stmts_of l.lines) o w r f;
+}
+
+abbrev pub invariant-repeat::repeat_forever-loop-world : goal.invariant-repeat::repeat_forever-loop-world
+invariant-repeat::repeat_forever-loop-world g l = record {
+  fewer : l.run.left ≤ l.fn.run.left;
+  base : base l.world.history ≡ base l.fn.world.history;
+  rest : (o : Result How Stop) (w : History) (r : RunState) (f : Frame) →
+      Endless l.world.history l.run l.frame l.nested (stmts_of l.lines) o w r f →
+      Endless l.fn.world.history l.fn.run l.fn.frame l.nested (stmts_of l.lines) o w r f;
+}
+
+abbrev pub decreases-repeat::repeat_forever-loop-world : goal.decreases-repeat::repeat_forever-loop-world
+decreases-repeat::repeat_forever-loop-world g l = l.run.left
+
+abbrev pub invariant-repeat::repeat_while-loop-world : goal.invariant-repeat::repeat_while-loop-world
+invariant-repeat::repeat_while-loop-world g l = record {
+  fewer : l.run.left ≤ l.fn.run.left;
+  base : base l.world.history ≡ base l.fn.world.history;
+  rest : (o : Result How Stop) (w : History) (r : RunState) (f : Frame) →
+      While l.world.history l.run l.frame l.nested l.wanted l.condition (stmts_of l.lines) o w r f →
+      While l.fn.world.history l.fn.run l.fn.frame l.nested l.wanted l.condition (stmts_of l.lines) o w r f;
+}
+
+abbrev pub decreases-repeat::repeat_while-loop-world : goal.decreases-repeat::repeat_while-loop-world
+decreases-repeat::repeat_while-loop-world g l = l.run.left
+
+abbrev pub invariant-repeat::turns-loop-turn : goal.invariant-repeat::turns-loop-turn
+invariant-repeat::turns-loop-turn g l = record {
+  fewer : l.run.left ≤ l.fn.run.left;
+  base : base l.world.history ≡ base l.fn.world.history;
+  rest : (o : Result How Stop) (w : History) (r : RunState) (f : Frame) →
+      Counts l.world.history l.run l.frame l.nested (option_copied l.variable) l.turn (stmts_of l.lines) o w r f →
+      Counts l.fn.world.history l.fn.run l.fn.frame l.nested (option_copied l.variable) l.fn.counter (stmts_of l.lines) o w r f;
+}
+
+abbrev pub decreases-repeat::turns-loop-turn : goal.decreases-repeat::turns-loop-turn
+decreases-repeat::turns-loop-turn g l = l.run.left
+
+abbrev pub invariant-message::along-loop-world : goal.invariant-message::along-loop-world
+invariant-message::along-loop-world g l = record {
+  fewer : l.run.left ≤ l.fn.run.left;
+  base : base l.world.history ≡ base l.fn.world.history;
+  rest : (o : Result (List ℕ) Stop) (w : History) (r : RunState) →
+      Along l.world.history l.run l.frame l.nested l.object l.rest l.name l.values l.kind o w r →
+      Along l.fn.world.history l.fn.run l.frame l.nested l.object l.fn.path l.name l.values l.kind o w r;
+}
+
+abbrev pub decreases-message::along-loop-world : goal.decreases-message::along-loop-world
+decreases-message::along-loop-world g l = l.run.left
+
+abbrev pub invariant-system::systems-loop-message : goal.invariant-system::systems-loop-message
+invariant-system::systems-loop-message g l = record {
+  fewer : l.run.left ≤ l.fn.run.left;
+  base : base l.world.history ≡ base l.fn.world.history;
+  rest : (o : Result (List ℕ) Stop) (w : History) (r : RunState) →
+      Systems l.world.history l.run l.frame l.nested (drop l.message-index l.messages) o w r →
+      Systems l.fn.world.history l.fn.run l.frame l.nested l.messages o w r;
+}
+
+abbrev pub invariant-conversation::talk-loop-next : goal.invariant-conversation::talk-loop-next
+invariant-conversation::talk-loop-next g l = record {
+  fewer : l.run.left ≤ l.fn.run.left;
+  base : base l.world.history ≡ base l.fn.world.history;
+  rest : (o : Result Conversed Stop) (w : History) (r : RunState) →
+      Talks l.world.history l.run l.nested l.number l.next o w r →
+      Talks l.fn.world.history l.fn.run l.nested l.number l.fn.input o w r;
+}
+
+abbrev pub decreases-conversation::talk-loop-next : goal.decreases-conversation::talk-loop-next
+decreases-conversation::talk-loop-next g l = l.run.left

@@ -1,0 +1,30 @@
+-- Externals by their numbers, and turns that were refused.
+use Rattle.std.proofs.Common.{◌≡◌, ◌<◌, ◌⊎◌, ℕ, List, length, map, refl, ap, subst, sym, inl, inr}
+use Rattle.std.specs.Prelude.{Option, Some, None, IfSome}
+use Rattle.std.proofs.lemmas.List.{length-map}
+use Rattle.journal_entries.specs.State.{titles_of}
+use Rattle.journal_entries.specs.Turning.{one_more_at}
+use Rattle.change_journal.specs.History.{History}
+use Rattle.containers.specs.Base.{base}
+
+titles_count : (w : History) → length (base w).titles ≡ length w.now.externals
+unfolding base
+titles_count w = length-map w.now.externals _
+
+pub is_there : (w : History) (i : ℕ) → i < length (base w).titles → i < length w.now.externals
+is_there w i h = subst (λ n. i < n) (titles_count w) h
+
+pub is_titled : (w : History) (i : ℕ) → i < length w.now.externals → i < length (base w).titles
+is_titled w i h = subst (λ n. i < n) (sym (titles_count w)) h
+
+pub is_titled_if_some : (w : History) (o : Option ℕ) → IfSome o (λ i. i < length w.now.externals) → IfSome o (λ i. i < length (base w).titles)
+is_titled_if_some w None h = h
+is_titled_if_some w (Some i) h = is_titled w i h
+
+turns_are_beside : (w w2 : History) (i : ℕ) → w2 ≡ record w { turns = one_more_at w.turns i } → base w2 ≡ base w
+unfolding base
+turns_are_beside w w2 i e = ap base e
+
+pub refused_keeps : (w w2 : History) (i : ℕ) → (w2 ≡ w) ⊎ (w2 ≡ record w { turns = one_more_at w.turns i }) → base w2 ≡ base w
+refused_keeps w w2 i (inl e) = ap base e
+refused_keeps w w2 i (inr e) = turns_are_beside w w2 i e

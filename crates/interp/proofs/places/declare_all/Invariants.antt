@@ -1,0 +1,15 @@
+use Rattle.std.proofs.Common.{◌≡◌, ℕ, List, drop, Result}
+use Rattle.change_journal.specs.History.{History}
+use Rattle.containers.specs.Base.{base}
+use Rattle.meaning.specs.declared.end.Stop.{Stop}
+use Rattle.meaning.specs.declared.frame.Frame.{Frame}
+use Rattle.meaning.specs.Places.{DeclaresAll}
+use Rattle.interp.proofs.places.declare_all.Given as goal
+
+abbrev pub invariant-loop-name : goal.invariant-loop-name
+invariant-loop-name g l = record {
+  base : base l.world.history ≡ base l.fn.world.history;
+  rest : (o : Result (Unit {0}) Stop) (w : History) (f : Frame) →
+      DeclaresAll l.world.history l.frame (drop l.name-index l.names) o w f →
+      DeclaresAll l.fn.world.history l.fn.frame l.names o w f;
+}

@@ -1,0 +1,65 @@
+//! The values of arguments.
+
+ghost use Rattle.std.specs.Prelude.{◌≡◌, [], ◌∷◌, ◌++◌, IfOk, length, option_copied};
+ghost use Rattle.meaning.specs.Messages.{only as only_of};
+
+use ht_values::Text;
+use std::alloc::{AllocError, Global};
+use std::marker::Model;
+
+/// Texts that are handed over with a message, in their order.
+#[derive(Drop)]
+pub(crate) struct Arguments {
+    items: Vec<Text>,
+}
+
+impl Model for Arguments {
+    ghost use Rattle.std.specs.Prelude.{List, ℕ};
+
+    ghost Value = { List (List ℕ) };
+
+    ghost view = { λ a. a.items.items };
+}
+
+impl Arguments {
+    /// No arguments. It takes no memory.
+    pub(crate) fn new(alloc: Global) -> Arguments
+        ensures { result ≡ [] }
+    {
+        Arguments {
+            items: Vec::new(alloc),
+        }
+    }
+
+    /// The arguments with another at their end.
+    pub(crate) fn with(mut self, text: Text) -> Result<Arguments, AllocError>
+        ensures { IfOk result (λ a. a ≡ self ++ text ∷ []) }
+    {
+        self.items.push(text)?;
+        Ok(self)
+    }
+
+    /// How many there are.
+    pub(crate) fn len(&self) -> usize
+        ensures { result ≡ length self.now }
+    {
+        self.items.len()
+    }
+
+    /// The arguments as a slice.
+    pub(crate) fn as_slice(&self) -> &[Text]
+        ensures { result.now ≡ self.now }
+    {
+        &self.items
+    }
+
+    /// The one argument, where there is just one.
+    pub(crate) fn only(&self) -> Option<&Text>
+        ensures { option_copied result ≡ only_of self.now }
+    {
+        match self.as_slice() {
+            [text] => Some(text),
+            _ => None,
+        }
+    }
+}

@@ -1,0 +1,409 @@
+//! The values of expressions.
+
+ghost use Rattle.std.specs.Prelude.{◌≡◌, ◌≤◌, ◌<◌, [], IsSome};
+ghost use Rattle.ht_grammar.specs.Trees as tree;
+ghost use Rattle.ht_grammar.specs.Depth.{depth, depths, chunk_depth, count_depth, part_depth, ref_depth, max_depth};
+ghost use Rattle.ht_tree.specs.View.{chunk_of as chunk_of_tree, count_of, exprs_of, part_of, ref_of};
+ghost use Rattle.containers.specs.Base.{base};
+ghost use Rattle.meaning.specs.Meaning.{NumberVal, TextVal, TruthVal, Val, Vals};
+
+use crate::arguments::Arguments;
+use crate::leaves::{
+    apply, apply_one, call_of_one, constant_text, expression, function_named, number, numeral,
+    return_sign, run_property, truth, word,
+};
+use crate::message::calls;
+use crate::objects::{parts_here, property, target_name};
+use crate::pieces::pieces;
+use crate::places::{field_text, variable};
+use crate::reference::{meet, meet_part};
+use change_journal::World;
+use chunks::take;
+use externals::External;
+use ht_grammar::{FunctionWord, HandlerKind};
+use ht_tree::{Chunk, Count, Expr, ExprKind, Exprs, Part, Ref};
+use ht_values::{Fault, Op, Prop, Text, UnOp};
+use meaning::{Budget, Frame, Stop};
+use msg_path::Scripts;
+
+/// The value of an expression.
+#[cycle(run)]
+#[tactic(auto, using(meaning::proofs::Rules::val_rules))]
+pub(crate) fn eval<E: External>(
+    world: &mut World<E>,
+    scripts: &mut Scripts,
+    run: &mut Budget,
+    frame: &Frame,
+    nested: u32,
+    e: &Expr,
+) -> Result<Text, Stop>
+    requires nested { nested ≤ 100 }
+    requires deep { depth e.now ≤ max_depth }
+    requires open { IsSome (base world.old.history).start }
+    ensures meaning { Val world.old.history run.old frame.now nested e.now result world.new.history run.new }
+    ensures fewer { run.new.left ≤ run.old.left }
+    ensures base { base world.new.history ≡ base world.old.history }
+{
+    match e.kind() {
+        ExprKind::Number(text) | ExprKind::Quoted(text) => Ok(text.try_clone(run.alloc())?),
+        ExprKind::Constant(constant) => Ok(constant_text(run.alloc(), *constant)?),
+        ExprKind::Return => Ok(return_sign(run.alloc())?),
+        ExprKind::Name(name) => Ok(variable(run.alloc(), world, frame, name)?),
+        ExprKind::Paren(inner) => eval(world, scripts, run, frame, nested, inner),
+        ExprKind::Call(name, list) => call(world, scripts, run, frame, nested, name, list),
+        ExprKind::Binary(op, left, right) => binary(
+            world, scripts, run, frame, nested, *op, left, right,
+        ),
+        ExprKind::Unary(op, operand) => unary(world, scripts, run, frame, nested, *op, operand),
+        ExprKind::ThereIs(is_no, reference) => there_is(
+            world, scripts, run, frame, nested, *is_no, reference,
+        ),
+        ExprKind::Chunk(chunk, text) => chunk_of(world, scripts, run, frame, nested, chunk, text),
+        ExprKind::Field(part) => field(world, scripts, run, frame, nested, part),
+        ExprKind::Result => Ok(run.result().try_clone(run.alloc())?),
+        ExprKind::Target => target_name(run.alloc(), world, frame),
+        ExprKind::NumberOf(count) => number_of(world, scripts, run, frame, nested, count),
+        ExprKind::Property(property, reference) => property_of(
+            world, scripts, run, frame, nested, *property, reference,
+        ),
+        ExprKind::RunProperty(property) => Ok(run_property(run, *property)?),
+        ExprKind::Function(word, operand) => function_of(
+            world, scripts, run, frame, nested, *word, operand,
+        ),
+    }
+}
+
+/// Two operands from left to right, and what the operator gives.
+#[cycle(run)]
+#[tactic(auto, using(meaning::proofs::Rules::val_binary_rules))]
+pub(crate) fn binary<E: External>(
+    world: &mut World<E>,
+    scripts: &mut Scripts,
+    run: &mut Budget,
+    frame: &Frame,
+    nested: u32,
+    op: Op,
+    left: &Expr,
+    right: &Expr,
+) -> Result<Text, Stop>
+    requires nested { nested ≤ 100 }
+    requires left { depth left.now < max_depth }
+    requires right { depth right.now < max_depth }
+    requires open { IsSome (base world.old.history).start }
+    ensures meaning { Val world.old.history run.old frame.now nested (tree.binary op left.now right.now) result world.new.history run.new }
+    ensures fewer { run.new.left ≤ run.old.left }
+    ensures base { base world.new.history ≡ base world.old.history }
+{
+    let x = eval(world, scripts, run, frame, nested, left)?;
+    let y = eval(world, scripts, run, frame, nested, right)?;
+    apply(run.alloc(), op, &x, &y)
+}
+
+/// An operand, and what the operator gives.
+#[cycle(run)]
+#[tactic(auto, using(meaning::proofs::Rules::val_unary_rules))]
+pub(crate) fn unary<E: External>(
+    world: &mut World<E>,
+    scripts: &mut Scripts,
+    run: &mut Budget,
+    frame: &Frame,
+    nested: u32,
+    op: UnOp,
+    operand: &Expr,
+) -> Result<Text, Stop>
+    requires nested { nested ≤ 100 }
+    requires deep { depth operand.now < max_depth }
+    requires open { IsSome (base world.old.history).start }
+    ensures meaning { Val world.old.history run.old frame.now nested (tree.unary op operand.now) result world.new.history run.new }
+    ensures fewer { run.new.left ≤ run.old.left }
+    ensures base { base world.new.history ≡ base world.old.history }
+{
+    let x = eval(world, scripts, run, frame, nested, operand)?;
+    apply_one(run.alloc(), op, &x)
+}
+
+/// Whether an object is found: whatever the reason is that it isn't, the answer is `false`.
+#[cycle(run)]
+#[tactic(auto, using(meaning::proofs::Rules::val_there_is_rules))]
+pub(crate) fn there_is<E: External>(
+    world: &mut World<E>,
+    scripts: &mut Scripts,
+    run: &mut Budget,
+    frame: &Frame,
+    nested: u32,
+    is_no: bool,
+    reference: &Ref,
+) -> Result<Text, Stop>
+    requires nested { nested ≤ 100 }
+    requires deep { ref_depth (ref_of reference.now) < max_depth }
+    requires open { IsSome (base world.old.history).start }
+    ensures meaning { Val world.old.history run.old frame.now nested (tree.there_is is_no (ref_of reference.now)) result world.new.history run.new }
+    ensures fewer { run.new.left ≤ run.old.left }
+    ensures base { base world.new.history ≡ base world.old.history }
+{
+    match meet(world, scripts, run, frame, nested, reference) {
+        Ok(_) => Ok(word(run.alloc(), !is_no)?),
+        Err(Stop::Fault(Fault::NoSuchObject)) => Ok(word(run.alloc(), is_no)?),
+        Err(stop) => Err(stop),
+    }
+}
+
+/// Pieces of a text: the pieces are computed before the text.
+#[cycle(run)]
+#[tactic(auto, using(meaning::proofs::Rules::val_chunk_rules))]
+pub(crate) fn chunk_of<E: External>(
+    world: &mut World<E>,
+    scripts: &mut Scripts,
+    run: &mut Budget,
+    frame: &Frame,
+    nested: u32,
+    chunk: &Chunk,
+    text: &Expr,
+) -> Result<Text, Stop>
+    requires nested { nested ≤ 100 }
+    requires chunk { chunk_depth (chunk_of_tree chunk.now) < max_depth }
+    requires text { depth text.now < max_depth }
+    requires open { IsSome (base world.old.history).start }
+    ensures meaning { Val world.old.history run.old frame.now nested (tree.chunk (chunk_of_tree chunk.now) text.now) result world.new.history run.new }
+    ensures fewer { run.new.left ≤ run.old.left }
+    ensures base { base world.new.history ≡ base world.old.history }
+{
+    let pieces = pieces(world, scripts, run, frame, nested, chunk)?;
+    let whole = eval(world, scripts, run, frame, nested, text)?;
+    Ok(take(run.alloc(), &whole, &pieces, run.delimiter())?)
+}
+
+/// The text of a field.
+#[cycle(run)]
+#[tactic(auto, using(meaning::proofs::Rules::val_field_rules))]
+pub(crate) fn field<E: External>(
+    world: &mut World<E>,
+    scripts: &mut Scripts,
+    run: &mut Budget,
+    frame: &Frame,
+    nested: u32,
+    part: &Part,
+) -> Result<Text, Stop>
+    requires nested { nested ≤ 100 }
+    requires deep { part_depth (part_of part.now) ≤ max_depth }
+    requires open { IsSome (base world.old.history).start }
+    ensures meaning { Val world.old.history run.old frame.now nested (tree.field (part_of part.now)) result world.new.history run.new }
+    ensures fewer { run.new.left ≤ run.old.left }
+    ensures base { base world.new.history ≡ base world.old.history }
+{
+    let referent = meet_part(world, scripts, run, frame, nested, part)?;
+    field_text(run.alloc(), world, frame, run.delimiter(), referent)
+}
+
+/// `the number of` pieces, of cards, backgrounds or parts, or of an object.
+#[cycle(run)]
+#[tactic(auto, using(meaning::proofs::Rules::val_number_of_pieces_of_rules, meaning::proofs::Rules::val_number_of_cards_rules, meaning::proofs::Rules::val_number_of_backgrounds_rules, meaning::proofs::Rules::val_number_of_parts_rules, meaning::proofs::Rules::val_number_of_of_object_rules))]
+pub(crate) fn number_of<E: External>(
+    world: &mut World<E>,
+    scripts: &mut Scripts,
+    run: &mut Budget,
+    frame: &Frame,
+    nested: u32,
+    count: &Count,
+) -> Result<Text, Stop>
+    requires nested { nested ≤ 100 }
+    requires deep { count_depth (count_of count.now) < max_depth }
+    requires open { IsSome (base world.old.history).start }
+    ensures meaning { Val world.old.history run.old frame.now nested (tree.number_of (count_of count.now)) result world.new.history run.new }
+    ensures fewer { run.new.left ≤ run.old.left }
+    ensures base { base world.new.history ≡ base world.old.history }
+{
+    match count {
+        Count::PiecesOf(kind, text) => {
+            let text = eval(world, scripts, run, frame, nested, text)?;
+            Ok(numeral(
+                run.alloc(),
+                chunks::count(text.as_slice(), *kind, run.delimiter()),
+            )?)
+        }
+        Count::Cards => Ok(numeral(run.alloc(), world.stack().cards().len())?),
+        Count::Backgrounds => Ok(numeral(run.alloc(), world.stack().backgrounds().len())?),
+        Count::Parts(layer, kind) => Ok(numeral(run.alloc(), parts_here(world, *layer, *kind))?),
+        Count::OfObject(reference) => {
+            let referent = meet(world, scripts, run, frame, nested, reference)?;
+            property(run.alloc(), world, referent, Prop::Number)
+        }
+    }
+}
+
+/// A property of an object.
+#[cycle(run)]
+#[tactic(auto, using(meaning::proofs::Rules::val_property_rules))]
+pub(crate) fn property_of<E: External>(
+    world: &mut World<E>,
+    scripts: &mut Scripts,
+    run: &mut Budget,
+    frame: &Frame,
+    nested: u32,
+    name: Prop,
+    reference: &Ref,
+) -> Result<Text, Stop>
+    requires nested { nested ≤ 100 }
+    requires deep { ref_depth (ref_of reference.now) < max_depth }
+    requires open { IsSome (base world.old.history).start }
+    ensures meaning { Val world.old.history run.old frame.now nested (tree.property name (ref_of reference.now)) result world.new.history run.new }
+    ensures fewer { run.new.left ≤ run.old.left }
+    ensures base { base world.new.history ≡ base world.old.history }
+{
+    let referent = meet(world, scripts, run, frame, nested, reference)?;
+    property(run.alloc(), world, referent, name)
+}
+
+/// `the length of` and the like, and `the value of`.
+#[cycle(run)]
+#[tactic(auto, using(meaning::proofs::Rules::val_function_rules))]
+pub(crate) fn function_of<E: External>(
+    world: &mut World<E>,
+    scripts: &mut Scripts,
+    run: &mut Budget,
+    frame: &Frame,
+    nested: u32,
+    word: FunctionWord,
+    operand: &Expr,
+) -> Result<Text, Stop>
+    requires nested { nested ≤ 100 }
+    requires deep { depth operand.now < max_depth }
+    requires open { IsSome (base world.old.history).start }
+    ensures meaning { Val world.old.history run.old frame.now nested (tree.function word operand.now) result world.new.history run.new }
+    ensures fewer { run.new.left ≤ run.old.left }
+    ensures base { base world.new.history ≡ base world.old.history }
+{
+    let x = eval(world, scripts, run, frame, nested, operand)?;
+    match function_named(word) {
+        Some(function) => call_of_one(run.alloc(), function, x),
+        None => text_value(world, scripts, run, frame, nested, &x),
+    }
+}
+
+/// A call of a function.
+#[cycle(run)]
+#[tactic(auto, using(meaning::proofs::Rules::val_call_rules))]
+pub(crate) fn call<E: External>(
+    world: &mut World<E>,
+    scripts: &mut Scripts,
+    run: &mut Budget,
+    frame: &Frame,
+    nested: u32,
+    name: &Text,
+    list: &Exprs,
+) -> Result<Text, Stop>
+    requires nested { nested ≤ 100 }
+    requires deep { depths (exprs_of list.now.items.items) < max_depth }
+    requires open { IsSome (base world.old.history).start }
+    ensures meaning { Val world.old.history run.old frame.now nested (tree.call name.now (exprs_of list.now.items.items)) result world.new.history run.new }
+    ensures fewer { run.new.left ≤ run.old.left }
+    ensures base { base world.new.history ≡ base world.old.history }
+{
+    calls(
+        world,
+        scripts,
+        run,
+        frame,
+        nested,
+        frame.me,
+        name,
+        &list.items,
+        HandlerKind::Function,
+    )
+}
+
+/// The values of expressions from left to right.
+#[cycle(run)]
+#[tactic(auto, using(meaning::proofs::Rules::vals_rules))]
+pub(crate) fn arguments<E: External>(
+    world: &mut World<E>,
+    scripts: &mut Scripts,
+    run: &mut Budget,
+    frame: &Frame,
+    nested: u32,
+    list: &[Expr],
+) -> Result<Arguments, Stop>
+    requires nested { nested ≤ 100 }
+    requires deep { depths (exprs_of list.now) ≤ max_depth }
+    requires open { IsSome (base world.old.history).start }
+    ensures meaning { Vals world.old.history run.old frame.now nested (exprs_of list.now) [] result world.new.history run.new }
+    ensures fewer { run.new.left ≤ run.old.left }
+    ensures base { base world.new.history ≡ base world.old.history }
+{
+    let mut values = Arguments::new(run.alloc());
+    for e in list {
+        let value = eval(world, scripts, run, frame, nested, e)?;
+        values = values.with(value)?;
+    }
+    Ok(values)
+}
+
+/// An expression that is converted to a number.
+#[cycle(run)]
+#[tactic(auto, using(meaning::proofs::Rules::numberval_rules))]
+pub(crate) fn number_value<E: External>(
+    world: &mut World<E>,
+    scripts: &mut Scripts,
+    run: &mut Budget,
+    frame: &Frame,
+    nested: u32,
+    e: &Expr,
+) -> Result<i64, Stop>
+    requires nested { nested ≤ 100 }
+    requires deep { depth e.now < max_depth }
+    requires open { IsSome (base world.old.history).start }
+    ensures meaning { NumberVal world.old.history run.old frame.now nested e.now result world.new.history run.new }
+    ensures fewer { run.new.left ≤ run.old.left }
+    ensures base { base world.new.history ≡ base world.old.history }
+{
+    let value = eval(world, scripts, run, frame, nested, e)?;
+    number(&value)
+}
+
+/// A condition.
+#[cycle(run)]
+#[tactic(auto, using(meaning::proofs::Rules::truthval_rules))]
+pub(crate) fn truth_value<E: External>(
+    world: &mut World<E>,
+    scripts: &mut Scripts,
+    run: &mut Budget,
+    frame: &Frame,
+    nested: u32,
+    e: &Expr,
+) -> Result<bool, Stop>
+    requires nested { nested ≤ 100 }
+    requires deep { depth e.now < max_depth }
+    requires open { IsSome (base world.old.history).start }
+    ensures meaning { TruthVal world.old.history run.old frame.now nested e.now result world.new.history run.new }
+    ensures fewer { run.new.left ≤ run.old.left }
+    ensures base { base world.new.history ≡ base world.old.history }
+{
+    let value = eval(world, scripts, run, frame, nested, e)?;
+    truth(&value)
+}
+
+/// The value of a text that is an expression: a step, and one level deeper.
+#[cycle(run)]
+#[tactic(auto, using(meaning::proofs::Rules::textval_rules))]
+pub(crate) fn text_value<E: External>(
+    world: &mut World<E>,
+    scripts: &mut Scripts,
+    run: &mut Budget,
+    frame: &Frame,
+    nested: u32,
+    text: &Text,
+) -> Result<Text, Stop>
+    requires nested { nested ≤ 100 }
+    requires open { IsSome (base world.old.history).start }
+    ensures meaning { TextVal world.old.history run.old frame.now nested text.now result world.new.history run.new }
+    ensures fewer { run.new.left ≤ run.old.left }
+    ensures base { base world.new.history ≡ base world.old.history }
+{
+    run.step()?;
+    if nested == 100 {
+        return Err(Stop::Fault(Fault::TooDeep));
+    }
+    let e = expression(run.alloc(), text)?;
+    let _depth = e.depth();
+    eval(world, scripts, run, frame, nested + 1, &e)
+}

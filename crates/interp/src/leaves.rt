@@ -1,0 +1,213 @@
+//! What the rules compute beside the recursion, each call by itself: values, and parsing.
+
+ghost use Rattle.std.specs.Prelude.{◌≡◌, ℕ, ℤ, pos, [], ◌∷◌, List, IfOk, length, ◌≤◌};
+ghost use Rattle.ht_values.specs.Functions.{built_in as built_in_of};
+ghost use Rattle.ht_values.specs.Number.{number_of as number_of_text};
+ghost use Rattle.ht_values.specs.Operators.{binary as binary_of, unary as unary_of, truth_of as truth_of_text, word_of};
+ghost use Rattle.ht_values.specs.Outcome.{Gives};
+ghost use Rattle.ht_values.specs.Text.{numeral as numeral_of};
+ghost use Rattle.ht_lex.specs.Constants.{constant_text as text_of_constant};
+ghost use Rattle.ht_grammar.specs.Functions.{func_of};
+ghost use Rattle.ht_grammar.specs.Reads.{ReadsExpr, ReadsLines, ReadsMessage};
+ghost use Rattle.ht_tree.specs.ScriptView.{message_of};
+ghost use Rattle.ht_tree.specs.StatementView.{stmts_of};
+ghost use Rattle.meaning.specs.State.{run_property as run_property_of};
+ghost use Rattle.meaning.specs.Repeats.{counter_of, goes_on as goes_on_of};
+ghost use Rattle.meaning.specs.Values.{Parses, Yields};
+ghost use Rattle.interp.specs.Views.{read_as};
+
+use crate::arguments::Arguments;
+use ht_grammar::{FunctionWord, RunProp};
+use ht_lex::Constant;
+use ht_parse::{ParseError, parse_expr, parse_lines, parse_message};
+use ht_tree::{Expr, Message, Stmts};
+use ht_values::{
+    Failure, Fault, Func, Op, Text, UnOp, binary, built_in, number_of, truth_of, unary,
+};
+use itoa::Buffer;
+use meaning::{Budget, Counter, Stop};
+use std::alloc::{AllocError, Global};
+
+/// What an operator gives of two operands.
+#[tactic(auto, using(meaning::proofs::Rules::yields_rules))]
+pub(crate) fn apply(alloc: Global, op: Op, left: &Text, right: &Text) -> Result<Text, Stop>
+    ensures { Yields (binary_of op left.now right.now) result }
+{
+    match binary(alloc, op, left, right) {
+        Ok(value) => Ok(value),
+        Err(Failure::Fault(fault)) => Err(Stop::Fault(fault)),
+        Err(Failure::Memory) => Err(Stop::Memory),
+    }
+}
+
+/// What an operator gives of one operand.
+#[tactic(auto, using(meaning::proofs::Rules::yields_rules))]
+pub(crate) fn apply_one(alloc: Global, op: UnOp, operand: &Text) -> Result<Text, Stop>
+    ensures { Yields (unary_of op operand.now) result }
+{
+    match unary(alloc, op, operand) {
+        Ok(value) => Ok(value),
+        Err(Failure::Fault(fault)) => Err(Stop::Fault(fault)),
+        Err(Failure::Memory) => Err(Stop::Memory),
+    }
+}
+
+/// What a function gives of its arguments.
+#[tactic(auto, using(meaning::proofs::Rules::yields_rules))]
+pub(crate) fn call_function(alloc: Global, function: Func, values: &Arguments) -> Result<Text, Stop>
+    ensures { Yields (built_in_of function values.now) result }
+{
+    match built_in(alloc, function, values.as_slice()) {
+        Ok(value) => Ok(value),
+        Err(Failure::Fault(fault)) => Err(Stop::Fault(fault)),
+        Err(Failure::Memory) => Err(Stop::Memory),
+    }
+}
+
+/// What a function gives of one argument.
+#[tactic(auto, using(meaning::proofs::Rules::yields_rules))]
+pub(crate) fn call_of_one(alloc: Global, function: Func, value: Text) -> Result<Text, Stop>
+    ensures { Yields (built_in_of function (value ∷ [])) result }
+{
+    let values = Arguments::new(alloc).with(value)?;
+    call_function(alloc, function, &values)
+}
+
+/// The function that a word calls; none for `value`.
+pub(crate) fn function_named(word: FunctionWord) -> Option<Func>
+    ensures { result ≡ func_of word }
+{
+    word.func()
+}
+
+/// The number of a text.
+#[tactic(auto, using(meaning::proofs::Rules::yields_rules))]
+pub(crate) fn number(text: &Text) -> Result<i64, Stop>
+    ensures { Yields (number_of_text text.now) result }
+{
+    match number_of(text) {
+        Ok(number) => Ok(number),
+        Err(fault) => Err(Stop::Fault(fault)),
+    }
+}
+
+/// The truth value of a text.
+#[tactic(auto, using(meaning::proofs::Rules::yields_rules))]
+pub(crate) fn truth(text: &Text) -> Result<bool, Stop>
+    ensures { Yields (truth_of_text text.now) result }
+{
+    match truth_of(text) {
+        Ok(truth) => Ok(truth),
+        Err(fault) => Err(Stop::Fault(fault)),
+    }
+}
+
+/// A count as a text.
+pub(crate) fn numeral(alloc: Global, count: usize) -> Result<Text, AllocError>
+    ensures { IfOk result (λ t. t ≡ numeral_of (pos count)) }
+{
+    let mut buffer = Buffer::new();
+    let digits = Vec::from_slice(alloc, buffer.format(count).as_bytes())?;
+    match Text::from_vec(digits) {
+        Ok(text) => Ok(text),
+        Err(_) => unreachable!(),
+    }
+}
+
+/// A property of the run as a text.
+pub(crate) fn run_property(run: &Budget, property: RunProp) -> Result<Text, AllocError>
+    ensures { IfOk result (λ t. t ≡ run_property_of run.now property) }
+{
+    match run.property(property) {
+        Ok(text) => Ok(text),
+        Err(Failure::Memory) => Err(AllocError),
+        Err(Failure::Fault(_)) => unreachable!(),
+    }
+}
+
+/// A short text of these bytes.
+pub(crate) fn short_text(alloc: Global, bytes: &[u8]) -> Result<Text, AllocError>
+    requires { length bytes.now ≤ 100 }
+    ensures { IfOk result (λ t. t ≡ bytes.now) }
+{
+    match Text::from_vec(Vec::from_slice(alloc, bytes)?) {
+        Ok(text) => Ok(text),
+        Err(_) => unreachable!(),
+    }
+}
+
+/// A truth value as a text.
+pub(crate) fn word(alloc: Global, truth: bool) -> Result<Text, AllocError>
+    ensures { IfOk result (λ t. t ≡ word_of truth) }
+{
+    short_text(alloc, if truth { b"true" } else { b"false" })
+}
+
+/// The text of a constant.
+pub(crate) fn constant_text(alloc: Global, constant: Constant) -> Result<Text, AllocError>
+    ensures { IfOk result (λ t. t ≡ text_of_constant constant) }
+{
+    short_text(alloc, constant.bytes())
+}
+
+/// The text of the constant `return`.
+pub(crate) fn return_sign(alloc: Global) -> Result<Text, AllocError>
+    ensures { IfOk result (λ t. t ≡ 13 ∷ []) }
+{
+    short_text(alloc, b"\r")
+}
+
+/// Whether a repeat goes on that wants its condition to be so.
+pub(crate) fn goes_on(wanted: bool, truth: bool) -> bool
+    ensures { result ≡ goes_on_of wanted truth }
+{
+    if wanted { truth } else { !truth }
+}
+
+/// The numbers from one text to another.
+#[tactic(auto, using(meaning::proofs::Rules::yields_rules))]
+pub(crate) fn counter(from: &Text, to: &Text, is_down: bool) -> Result<Counter, Stop>
+    ensures { Yields (counter_of from.now to.now is_down) result }
+{
+    match (number_of(from), number_of(to)) {
+        (Ok(at), Ok(bound)) => Ok(Counter::new(at, bound, is_down)),
+        (Err(fault), _) => Err(Stop::Fault(fault)),
+        (Ok(_), Err(fault)) => Err(Stop::Fault(fault)),
+    }
+}
+
+/// The expression that a text is.
+#[tactic(auto, using(meaning::proofs::Rules::parses_rules))]
+pub(crate) fn expression(alloc: Global, text: &Text) -> Result<Expr, Stop>
+    ensures { Parses ReadsExpr text.now result }
+{
+    match parse_expr(alloc, text) {
+        Ok(e) => Ok(e),
+        Err(ParseError::Syntax(_)) => Err(Stop::Fault(Fault::Syntax)),
+        Err(ParseError::Memory) => Err(Stop::Memory),
+    }
+}
+
+/// The lines that a text is.
+#[tactic(auto, using(meaning::proofs::Rules::parses_rules))]
+pub(crate) fn lines(alloc: Global, text: &Text) -> Result<Stmts, Stop>
+    ensures { Parses ReadsLines text.now (read_as (λ x. stmts_of x.items.items) result) }
+{
+    match parse_lines(alloc, text) {
+        Ok(lines) => Ok(lines),
+        Err(ParseError::Syntax(_)) => Err(Stop::Fault(Fault::Syntax)),
+        Err(ParseError::Memory) => Err(Stop::Memory),
+    }
+}
+
+/// The message that a text is.
+#[tactic(auto, using(meaning::proofs::Rules::parses_rules))]
+pub(crate) fn message(alloc: Global, text: &Text) -> Result<Message, Stop>
+    ensures { Parses ReadsMessage text.now (read_as message_of result) }
+{
+    match parse_message(alloc, text) {
+        Ok(message) => Ok(message),
+        Err(ParseError::Syntax(_)) => Err(Stop::Fault(Fault::Syntax)),
+        Err(ParseError::Memory) => Err(Stop::Memory),
+    }
+}

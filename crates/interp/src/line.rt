@@ -1,0 +1,78 @@
+//! Commands: typed lines, and messages that are sent to an object by themselves.
+
+ghost use Rattle.std.specs.Prelude.{◌≡◌, ◌≤◌, [], IsSome};
+ghost use Rattle.ht_tree.specs.StatementView.{stmts_of};
+ghost use Rattle.containers.specs.Base.{base};
+ghost use Rattle.meaning.specs.Meaning.{Line, Message};
+
+use crate::arguments::Arguments;
+use crate::message::send;
+use crate::stmt::run_block;
+use change_journal::World;
+use externals::External;
+use ht_grammar::HandlerKind;
+use ht_tree::Stmts;
+use ht_values::Text;
+use meaning::{Budget, Ended, Frame, Stop};
+use msg_path::Scripts;
+use object_table::Id;
+
+/// Runs the lines of a typed command in the open batch: `me` and `the target` are the card that is current as it begins, and
+/// every variable is a global. What it shows and sends, and the steps that are left, stand in the budget, also where it ends
+/// by a fault; a fault keeps what was changed before it. Where it is out of memory nothing is said of the present state: the
+/// batch is to be rolled back. Whatever it answers, the history round the batch and the state at its start are kept.
+#[tactic(auto, using(meaning::proofs::Rules::line_rules))]
+pub fn run_line<E: External>(
+    world: &mut World<E>,
+    scripts: &mut Scripts,
+    run: &mut Budget,
+    lines: &Stmts,
+) -> Result<Ended, Stop>
+    requires open { IsSome (base world.old.history).start }
+    ensures meaning { Line world.old.history run.old (stmts_of lines.now.items.items) result world.new.history run.new }
+    ensures fewer { run.new.left ≤ run.old.left }
+    ensures base { base world.new.history ≡ base world.old.history }
+{
+    let mut frame = Frame::typed(run.alloc(), world.current());
+    let _depth = lines.depth();
+    match run_block(world, scripts, run, &mut frame, 0, &lines.items) {
+        Ok(_) => Ok(Ended::Done),
+        Err(Stop::Exited) => Ok(Ended::Exited),
+        Err(Stop::Fault(fault)) => Err(Stop::Fault(fault)),
+        Err(Stop::Memory) => Err(Stop::Memory),
+    }
+}
+
+/// Sends a message without arguments to an object in the open batch, with a step of its own. All else is as for a typed line.
+#[tactic(auto, using(meaning::proofs::Rules::message_rules))]
+pub fn send_message<E: External>(
+    world: &mut World<E>,
+    scripts: &mut Scripts,
+    run: &mut Budget,
+    object: Id,
+    name: &Text,
+) -> Result<Ended, Stop>
+    requires open { IsSome (base world.old.history).start }
+    ensures meaning { Message world.old.history run.old object name.now [] result world.new.history run.new }
+    ensures fewer { run.new.left ≤ run.old.left }
+    ensures base { base world.new.history ≡ base world.old.history }
+{
+    let frame = Frame::typed(run.alloc(), world.current());
+    let values = Arguments::new(run.alloc());
+    match send(
+        world,
+        scripts,
+        run,
+        &frame,
+        0,
+        object,
+        name,
+        &values,
+        HandlerKind::Command,
+    ) {
+        Ok(_) => Ok(Ended::Done),
+        Err(Stop::Exited) => Ok(Ended::Exited),
+        Err(Stop::Fault(fault)) => Err(Stop::Fault(fault)),
+        Err(Stop::Memory) => Err(Stop::Memory),
+    }
+}

@@ -1,0 +1,225 @@
+//! Messages.
+
+ghost use Rattle.std.specs.Prelude.{◌≡◌, ◌≤◌, IsSome};
+ghost use Rattle.ht_grammar.specs.Depth.{depths, max_depth};
+ghost use Rattle.ht_tree.specs.View.{exprs_of};
+ghost use Rattle.containers.specs.Base.{base};
+ghost use Rattle.meaning.specs.Meaning.{Along, BuiltInGives, Calls, Outside, Sends, SendsText};
+
+use crate::arguments::Arguments;
+use crate::conversation::converse;
+use crate::expr::{arguments, text_value};
+use crate::leaves::{call_function, message};
+use crate::messages::{external, find, handler_frame, is_ignored, item_named, outcome, returned};
+use crate::stmt::run_block;
+use crate::system::menu;
+use change_journal::World;
+use externals::External;
+use ht_grammar::HandlerKind;
+use ht_tree::Expr;
+use ht_values::{Fault, Text};
+use meaning::{Budget, Frame, Stop};
+use msg_path::{BuiltIn, MessagePath, Scripts, path, path_after};
+use object_table::Id;
+
+/// The arguments are computed, then the message is sent to an object.
+#[cycle(run)]
+#[tactic(auto, using(meaning::proofs::Rules::calls_rules))]
+pub(crate) fn calls<E: External>(
+    world: &mut World<E>,
+    scripts: &mut Scripts,
+    run: &mut Budget,
+    frame: &Frame,
+    nested: u32,
+    object: Id,
+    name: &Text,
+    list: &[Expr],
+    kind: HandlerKind,
+) -> Result<Text, Stop>
+    requires nested { nested ≤ 100 }
+    requires deep { depths (exprs_of list.now) ≤ max_depth }
+    requires open { IsSome (base world.old.history).start }
+    ensures meaning { Calls world.old.history run.old frame.now nested object name.now (exprs_of list.now) kind result world.new.history run.new }
+    ensures fewer { run.new.left ≤ run.old.left }
+    ensures base { base world.new.history ≡ base world.old.history }
+{
+    let values = arguments(world, scripts, run, frame, nested, list)?;
+    send(
+        world, scripts, run, frame, nested, object, name, &values, kind,
+    )
+}
+
+/// A text is sent as a message.
+#[cycle(run)]
+#[tactic(auto, using(meaning::proofs::Rules::sendstext_rules))]
+pub(crate) fn send_text<E: External>(
+    world: &mut World<E>,
+    scripts: &mut Scripts,
+    run: &mut Budget,
+    frame: &Frame,
+    nested: u32,
+    object: Id,
+    text: &Text,
+) -> Result<Text, Stop>
+    requires nested { nested ≤ 100 }
+    requires open { IsSome (base world.old.history).start }
+    ensures meaning { SendsText world.old.history run.old frame.now nested object text.now result world.new.history run.new }
+    ensures fewer { run.new.left ≤ run.old.left }
+    ensures base { base world.new.history ≡ base world.old.history }
+{
+    let message = message(run.alloc(), text)?;
+    let _depth = message.depth();
+    calls(
+        world,
+        scripts,
+        run,
+        frame,
+        nested,
+        object,
+        &message.name,
+        &message.arguments.items,
+        HandlerKind::Command,
+    )
+}
+
+/// Sends a message to an object: a step, then along its path.
+#[cycle(run)]
+#[tactic(auto, using(meaning::proofs::Rules::sends_rules))]
+pub(crate) fn send<E: External>(
+    world: &mut World<E>,
+    scripts: &mut Scripts,
+    run: &mut Budget,
+    frame: &Frame,
+    nested: u32,
+    object: Id,
+    name: &Text,
+    values: &Arguments,
+    kind: HandlerKind,
+) -> Result<Text, Stop>
+    requires nested { nested ≤ 100 }
+    requires open { IsSome (base world.old.history).start }
+    ensures meaning { Sends world.old.history run.old frame.now nested object name.now values.now kind result world.new.history run.new }
+    ensures fewer { run.new.left ≤ run.old.left }
+    ensures base { base world.new.history ≡ base world.old.history }
+{
+    run.step()?;
+    run.note(name, object)?;
+    let path = path(world.stack(), world.current(), object);
+    along(
+        world, scripts, run, frame, nested, object, path, name, values, kind,
+    )
+}
+
+/// Sends a message along a path. A handler that passes it lets it go on behind its object.
+#[cycle(run)]
+#[tactic(auto, using(meaning::proofs::Rules::along_rules))]
+pub(crate) fn along<E: External>(
+    world: &mut World<E>,
+    scripts: &mut Scripts,
+    run: &mut Budget,
+    frame: &Frame,
+    nested: u32,
+    object: Id,
+    path: MessagePath,
+    name: &Text,
+    values: &Arguments,
+    kind: HandlerKind,
+) -> Result<Text, Stop>
+    requires nested { nested ≤ 100 }
+    requires open { IsSome (base world.old.history).start }
+    ensures meaning { Along world.old.history run.old frame.now nested object path name.now values.now kind result world.new.history run.new }
+    ensures fewer { run.new.left ≤ run.old.left }
+    ensures base { base world.new.history ≡ base world.old.history }
+{
+    let mut rest = path;
+    loop {
+        match find(world.stack(), scripts, rest.as_slice(), kind, name)? {
+            None => return outside(world, scripts, run, frame, nested, name, values, kind),
+            Some(found) => {
+                if nested == 100 {
+                    return Err(Stop::Fault(Fault::TooDeep));
+                }
+                let mut inner = handler_frame(run.alloc(), &found, object, values)?;
+                let _depth = found.handler().lines.depth();
+                let how = run_block(
+                    world,
+                    scripts,
+                    run,
+                    &mut inner,
+                    nested + 1,
+                    &found.handler().lines.items,
+                )?;
+                match outcome(run, kind, how) {
+                    Some(value) => return Ok(value),
+                    None => rest = path_after(world.stack(), world.current(), found.holder()),
+                }
+            }
+        }
+    }
+}
+
+/// A message that no script handles: an external of that name, then what is built in.
+#[cycle(run)]
+#[tactic(auto, using(meaning::proofs::Rules::outside_rules))]
+pub(crate) fn outside<E: External>(
+    world: &mut World<E>,
+    scripts: &mut Scripts,
+    run: &mut Budget,
+    frame: &Frame,
+    nested: u32,
+    name: &Text,
+    values: &Arguments,
+    kind: HandlerKind,
+) -> Result<Text, Stop>
+    requires nested { nested ≤ 100 }
+    requires open { IsSome (base world.old.history).start }
+    ensures meaning { Outside world.old.history run.old frame.now nested name.now values.now kind result world.new.history run.new }
+    ensures fewer { run.new.left ≤ run.old.left }
+    ensures base { base world.new.history ≡ base world.old.history }
+{
+    match external(world, kind, name) {
+        None => answer(world, scripts, run, frame, nested, name, values, kind),
+        Some(i) => {
+            let done = converse(world, scripts, run, nested, i, values)?;
+            if done.passes {
+                answer(world, scripts, run, frame, nested, name, values, kind)
+            } else {
+                Ok(returned(run, kind, done.value))
+            }
+        }
+    }
+}
+
+/// What is built in, what is ignored, and what nobody understands.
+#[cycle(run)]
+#[tactic(auto, using(meaning::proofs::Rules::builtingives_rules))]
+pub(crate) fn answer<E: External>(
+    world: &mut World<E>,
+    scripts: &mut Scripts,
+    run: &mut Budget,
+    frame: &Frame,
+    nested: u32,
+    name: &Text,
+    values: &Arguments,
+    kind: HandlerKind,
+) -> Result<Text, Stop>
+    requires nested { nested ≤ 100 }
+    requires open { IsSome (base world.old.history).start }
+    ensures meaning { BuiltInGives world.old.history run.old frame.now nested name.now values.now kind result world.new.history run.new }
+    ensures fewer { run.new.left ≤ run.old.left }
+    ensures base { base world.new.history ≡ base world.old.history }
+{
+    match BuiltIn::named(kind, name) {
+        Some(BuiltIn::Value) => match values.only() {
+            Some(text) => text_value(world, scripts, run, frame, nested, text),
+            None => Err(Stop::Fault(Fault::BadArgument)),
+        },
+        Some(BuiltIn::Function(function)) => call_function(run.alloc(), function, values),
+        Some(BuiltIn::DoMenu) => match item_named(values) {
+            Some(item) => menu(world, scripts, run, frame, nested, item),
+            None => Err(Stop::Fault(Fault::BadArgument)),
+        },
+        None if is_ignored(kind, name) => Ok(Text::new(run.alloc())),
+        None => Err(Stop::Fault(Fault::CantUnderstand)),
+    }
+}

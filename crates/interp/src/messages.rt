@@ -1,0 +1,192 @@
+//! Messages, handlers and externals, as the rules find and end them.
+
+ghost use Rattle.std.specs.Prelude.{◌≡◌, ◌<◌, [], ◌∷◌, ◌++◌, length, true, IsSome, IfOk, IfSome, IfErr, OnOk, None, Some};
+ghost use Rattle.externals.specs.declared.external.Ask.TheVariants as ask;
+ghost use Rattle.externals.specs.declared.external.Input.TheVariants as input;
+ghost use Rattle.journal_entries.specs.State.{titles_of};
+ghost use Rattle.change_journal.specs.Rising.{TookTurn};
+ghost use Rattle.containers.specs.Base.{base};
+ghost use Rattle.msg_path.specs.BuiltIns.{calls_function, external_named as external_by_name};
+ghost use Rattle.meaning.specs.Meaning.{CallsBack};
+ghost use Rattle.meaning.specs.Menu.{item_named as item_by_name};
+ghost use Rattle.meaning.specs.Messages.{Finds, is_ignored as ignores, parameters_of};
+ghost use Rattle.meaning.specs.Repeats.{ends, returned as returned_by};
+ghost use Rattle.meaning.specs.State.{handler_frame as frame_of_handler, bound as bound_to};
+
+use crate::arguments::Arguments;
+use change_journal::World;
+use externals::{Ask, External, Input, Texts};
+use ht_grammar::HandlerKind;
+use ht_lex::is_same;
+use ht_values::{Failure, Fault, Name, PartKind, Text};
+use meaning::{Budget, Frame, How, Item, Stop};
+use msg_path::{FoundHandler, Scripts, external_named, first_handler, is_system_message};
+use object_table::{Id, Stack};
+use std::alloc::{AllocError, Global};
+
+/// The first handler on a path.
+#[tactic(auto, using(meaning::proofs::Rules::finds_rules))]
+pub(crate) fn find(
+    stack: &Stack,
+    scripts: &mut Scripts,
+    path: &[Id],
+    kind: HandlerKind,
+    name: &Text,
+) -> Result<Option<FoundHandler>, Stop>
+    ensures { Finds stack.now.content path.now kind name.now result }
+{
+    match first_handler(stack, scripts, path, kind, name) {
+        Ok(found) => Ok(found),
+        Err(Failure::Fault(fault)) => Err(Stop::Fault(fault)),
+        Err(Failure::Memory) => Err(Stop::Memory),
+    }
+}
+
+/// The frame of a handler, in which its parameters have the arguments.
+pub(crate) fn handler_frame(
+    alloc: Global,
+    found: &FoundHandler,
+    target: Id,
+    values: &Arguments,
+) -> Result<Frame, AllocError>
+    ensures { IfOk result (λ f. f ≡ frame_of_handler found.now.holder target (parameters_of found.now.handler) values.now) }
+{
+    let mut frame = Frame::of_handler(alloc, found.holder(), target);
+    bind(
+        alloc,
+        &mut frame,
+        &found.handler().parameters.items,
+        values.as_slice(),
+    )?;
+    Ok(frame)
+}
+
+/// Gives parameters their arguments.
+fn bind(alloc: Global, frame: &mut Frame, names: &[Name], values: &[Text]) -> Result<(), AllocError>
+    ensures { OnOk result (frame.new ≡ record frame.old { variables = bound_to names.now values.now frame.old.variables }) }
+{
+    match (names, values) {
+        ([], _) => Ok(()),
+        ([name, names @ ..], []) => {
+            frame
+                .variables
+                .set(alloc, name.text(), Some(Text::new(alloc)))?;
+            bind(alloc, frame, names, &[])
+        }
+        ([name, names @ ..], [value, values @ ..]) => {
+            let value = value.try_clone(alloc)?;
+            frame.variables.set(alloc, name.text(), Some(value))?;
+            bind(alloc, frame, names, values)
+        }
+    }
+}
+
+/// What a value is that a handler or an external returns: that of a function, or `the result` of a command.
+pub(crate) fn returned(run: &mut Budget, kind: HandlerKind, value: Text) -> Text
+    ensures meaning { returned_by kind value run.old ≡ record { value = result; run = run.new } }
+    ensures left { run.new.left ≡ run.old.left }
+{
+    match kind {
+        HandlerKind::Command => {
+            run.set_result(value);
+            Text::new(run.alloc())
+        }
+        HandlerKind::Function => value,
+    }
+}
+
+/// What a handler gives by the end of its lines; `None` where it passes the message.
+pub(crate) fn outcome(run: &mut Budget, kind: HandlerKind, how: How) -> Option<Text>
+    ensures passed { result ≡ None → how ≡ How.Pass }
+    ensures ended { IfSome result (λ v. ends kind how run.old ≡ Some (record { value = v; run = run.new })) }
+    ensures same { result ≡ None → run.new ≡ run.old }
+    ensures left { run.new.left ≡ run.old.left }
+{
+    match how {
+        How::Pass => None,
+        How::Returns(value) => Some(returned(run, kind, value)),
+        How::Next | How::Exit | How::ExitRepeat | How::NextRepeat => Some(Text::new(run.alloc())),
+    }
+}
+
+/// The number of the external that a message means.
+#[tactic(auto, using(crate::proofs::Turns::is_titled))]
+pub(crate) fn external<E: External>(
+    world: &World<E>,
+    kind: HandlerKind,
+    name: &Text,
+) -> Option<usize>
+    ensures value { result ≡ external_by_name world.now.history.now.externals (calls_function kind) name.now }
+    ensures there { IfSome result (λ i. i < length (base world.now.history).titles) }
+{
+    let is_function = match kind {
+        HandlerKind::Command => false,
+        HandlerKind::Function => true,
+    };
+    external_named(world, is_function, name)
+}
+
+/// Whether a message is ignored where nothing handles it.
+pub(crate) fn is_ignored(kind: HandlerKind, name: &Text) -> bool
+    ensures { result ≡ ignores kind name.now }
+{
+    match kind {
+        HandlerKind::Command => is_system_message(name),
+        HandlerKind::Function => false,
+    }
+}
+
+/// The item of the menu that the arguments of `doMenu` name.
+pub(crate) fn item_named(values: &Arguments) -> Option<Item>
+    ensures { result ≡ item_by_name values.now }
+{
+    let name = values.only()?.as_slice();
+    if is_same(b"New Card", name) {
+        Some(Item::NewCard)
+    } else if is_same(b"New Background", name) {
+        Some(Item::NewBackground)
+    } else if is_same(b"New Button", name) {
+        Some(Item::NewPart(PartKind::Button))
+    } else if is_same(b"New Field", name) {
+        Some(Item::NewPart(PartKind::Field))
+    } else if is_same(b"Delete Card", name) {
+        Some(Item::DeleteCard)
+    } else {
+        None
+    }
+}
+
+/// What an external is told as a conversation begins.
+pub(crate) fn start(alloc: Global, values: &Arguments) -> Result<Input, AllocError>
+    ensures { IfOk result (λ i. i ≡ input.Start values.now) }
+{
+    let mut texts = Texts::new(alloc);
+    for value in values.as_slice() {
+        push(&mut texts, value.try_clone(alloc)?)?;
+    }
+    Ok(Input::Start(texts))
+}
+
+fn push(texts: &mut Texts, text: Text) -> Result<(), AllocError>
+    ensures { OnOk result (texts.new ≡ texts.old ++ text ∷ []) }
+{
+    match texts.push(text) {
+        Ok(()) => Ok(()),
+        Err(_) => Err(AllocError),
+    }
+}
+
+/// A turn of an external.
+#[tactic(auto, using(containers::proofs::Bases::took_keeps, containers::proofs::Bases::is_open, crate::proofs::Turns::is_there, crate::proofs::Turns::refused_keeps))]
+pub(crate) fn take_turn<E: External>(
+    world: &mut World<E>,
+    number: usize,
+    input: &Input,
+) -> Result<Ask, AllocError>
+    requires open { IsSome (base world.old.history).start }
+    requires there { number < length (base world.old.history).titles }
+    ensures ok { IfOk result (λ a. TookTurn world.old.history world.new.history number input.now a) }
+    ensures base { base world.new.history ≡ base world.old.history }
+{
+    world.turn_external(number, input)
+}

@@ -1,0 +1,299 @@
+//! Objects, as the rules find and change them.
+
+ghost use Rattle.std.specs.Prelude.{◌≡◌, ◌<◌, nat_eq, not, true, false, length, IsSome, IfOk, IfErr, OnOk, OnErr};
+ghost use Rattle.object_table.specs.Objects.{has_kind, is_card};
+ghost use Rattle.properties.specs.PropertyText.{property_of as property_text};
+ghost use Rattle.journal_entries.specs.Changes.{fits as fits_state};
+ghost use Rattle.change_journal.specs.Rising.{Made};
+ghost use Rattle.structural_changes.specs.Writes.{home};
+ghost use Rattle.object_references.specs.References as references;
+ghost use Rattle.object_references.specs.Settings as settings;
+ghost use Rattle.containers.specs.Base.{base};
+ghost use Rattle.meaning.specs.Menu.{closing as closing_of, differ, new_background_messages as messages_of_new_background, new_card_messages as messages_of_new_card, new_layer as layer_of_new, opening as opening_of, message_name as name_of_message};
+ghost use Rattle.meaning.specs.Places.{Adds};
+ghost use Rattle.meaning.specs.Values.{Yields};
+
+use crate::leaves::short_text;
+use change_journal::{Change, World};
+use externals::External;
+use ht_grammar::Layer;
+use ht_values::{Failure, Fault, PartKind, Prop, Text};
+use meaning::{Budget, Frame, Stop, SystemMessage};
+use object_references::{
+    PartScope, Pick, Referent, Sought, background_met, card_found, card_met, first_card_found,
+    layer_meant, met_if_there, name_of, part_count, part_met, scope_by, scope_of_background,
+    scope_of_card,
+};
+use object_table::{Id, LayerId};
+use properties::get;
+use std::alloc::{AllocError, Global};
+use structural_changes::home_of;
+
+/// The name of the object to which the message was sent.
+#[tactic(auto, using(meaning::proofs::Rules::yields_rules))]
+pub(crate) fn target_name<E: External>(
+    alloc: Global,
+    world: &World<E>,
+    frame: &Frame,
+) -> Result<Text, Stop>
+    ensures { Yields (settings.name_of world.now.history.now.stack world.now.history.now.current frame.now.target) result }
+{
+    match name_of(alloc, world.stack(), world.current(), frame.target) {
+        Ok(name) => Ok(name),
+        Err(Failure::Fault(fault)) => Err(Stop::Fault(fault)),
+        Err(Failure::Memory) => Err(Stop::Memory),
+    }
+}
+
+/// A property of an object.
+#[tactic(auto, using(meaning::proofs::Rules::yields_rules))]
+pub(crate) fn property<E: External>(
+    alloc: Global,
+    world: &World<E>,
+    object: Referent,
+    name: Prop,
+) -> Result<Text, Stop>
+    ensures { Yields (property_text world.now.history.now.stack object.card object.object name) result }
+{
+    match get(alloc, world.stack(), object.card, object.object, name) {
+        Ok(text) => Ok(text),
+        Err(Failure::Fault(fault)) => Err(Stop::Fault(fault)),
+        Err(Failure::Memory) => Err(Stop::Memory),
+    }
+}
+
+/// How many parts of a kind there are on the current card or on its background.
+pub(crate) fn parts_here<E: External>(
+    world: &World<E>,
+    layer: Option<Layer>,
+    kind: PartKind,
+) -> usize
+    ensures { result ≡ length (settings.parts_here world.now.history.now.stack world.now.history.now.current layer kind) }
+{
+    let scope = scope_by(world.stack(), layer_meant(layer, kind), world.current());
+    part_count(world.stack(), scope.layer, kind)
+}
+
+/// Where a part without an owner is looked for.
+pub(crate) fn scope_here<E: External>(world: &World<E>, layer: Layer) -> PartScope
+    ensures { result ≡ references.scope_by world.now.history.now.stack layer world.now.history.now.current }
+{
+    scope_by(world.stack(), layer, world.current())
+}
+
+/// Where a part of a card is looked for.
+#[tactic(auto, using(meaning::proofs::Rules::yields_rules))]
+pub(crate) fn card_scope<E: External>(
+    world: &World<E>,
+    layer: Layer,
+    card: &Sought,
+) -> Result<PartScope, Stop>
+    ensures { Yields (references.scope_of_card world.now.history.now.stack world.now.history.now.current layer card.now) result }
+{
+    match scope_of_card(world.stack(), world.current(), layer, card) {
+        Ok(scope) => Ok(scope),
+        Err(fault) => Err(Stop::Fault(fault)),
+    }
+}
+
+/// Where a part of a background is looked for.
+#[tactic(auto, using(meaning::proofs::Rules::yields_rules))]
+pub(crate) fn background_scope<E: External>(
+    world: &World<E>,
+    layer: Layer,
+    background: &Sought,
+) -> Result<PartScope, Stop>
+    ensures { Yields (references.scope_of_background world.now.history.now.stack world.now.history.now.current layer background.now) result }
+{
+    match scope_of_background(world.stack(), world.current(), layer, background) {
+        Ok(scope) => Ok(scope),
+        Err(fault) => Err(Stop::Fault(fault)),
+    }
+}
+
+/// The part that is looked for.
+#[tactic(auto, using(meaning::proofs::Rules::yields_rules))]
+pub(crate) fn part_in<E: External>(
+    world: &World<E>,
+    kind: PartKind,
+    scope: PartScope,
+    pick: &Pick,
+) -> Result<Referent, Stop>
+    ensures { Yields (references.part_met world.now.history.now.stack kind scope pick.now) result }
+{
+    match part_met(world.stack(), kind, scope, pick) {
+        Ok(part) => Ok(part),
+        Err(fault) => Err(Stop::Fault(fault)),
+    }
+}
+
+/// An object that may have been deleted.
+#[tactic(auto, using(meaning::proofs::Rules::yields_rules))]
+pub(crate) fn object_there<E: External>(world: &World<E>, object: Id) -> Result<Referent, Stop>
+    ensures { Yields (references.met_if_there world.now.history.now.stack world.now.history.now.current object) result }
+{
+    match met_if_there(world.stack(), world.current(), object) {
+        Ok(object) => Ok(object),
+        Err(fault) => Err(Stop::Fault(fault)),
+    }
+}
+
+/// The card that is looked for.
+#[tactic(auto, using(meaning::proofs::Rules::yields_rules))]
+pub(crate) fn card_there<E: External>(world: &World<E>, card: &Sought) -> Result<Referent, Stop>
+    ensures { Yields (references.card_met world.now.history.now.stack world.now.history.now.current card.now) result }
+{
+    match card_met(world.stack(), world.current(), card) {
+        Ok(card) => Ok(card),
+        Err(fault) => Err(Stop::Fault(fault)),
+    }
+}
+
+/// The background that is looked for.
+#[tactic(auto, using(meaning::proofs::Rules::yields_rules))]
+pub(crate) fn background_there<E: External>(
+    world: &World<E>,
+    background: &Sought,
+) -> Result<Referent, Stop>
+    ensures { Yields (references.background_met world.now.history.now.stack world.now.history.now.current background.now) result }
+{
+    match background_met(world.stack(), world.current(), background) {
+        Ok(background) => Ok(background),
+        Err(fault) => Err(Stop::Fault(fault)),
+    }
+}
+
+/// The card to go to.
+#[tactic(auto, using(meaning::proofs::Rules::yields_rules))]
+pub(crate) fn card_to<E: External>(world: &World<E>, card: &Sought) -> Result<Id, Stop>
+    ensures { Yields (references.card_found world.now.history.now.stack world.now.history.now.current card.now) result }
+{
+    match card_found(world.stack(), world.current(), card) {
+        Ok(card) => Ok(card),
+        Err(fault) => Err(Stop::Fault(fault)),
+    }
+}
+
+/// The first card of the background to go to.
+#[tactic(auto, using(meaning::proofs::Rules::yields_rules))]
+pub(crate) fn background_to<E: External>(world: &World<E>, background: &Sought) -> Result<Id, Stop>
+    ensures { Yields (references.first_card_found world.now.history.now.stack world.now.history.now.current background.now) result }
+{
+    match first_card_found(world.stack(), world.current(), background) {
+        Ok(card) => Ok(card),
+        Err(fault) => Err(Stop::Fault(fault)),
+    }
+}
+
+/// Whether a card is current.
+pub(crate) fn is_current<E: External>(world: &World<E>, card: Id) -> bool
+    ensures { result ≡ nat_eq card world.now.history.now.current }
+{
+    card == world.current()
+}
+
+/// Whether two backgrounds are different ones.
+pub(crate) fn is_other(background: Id, other: Id) -> bool
+    ensures { result ≡ not (nat_eq background other) }
+{
+    background != other
+}
+
+/// Whether a card is of another background than the current one.
+pub(crate) fn has_other_background<E: External>(world: &World<E>, card: Id) -> bool
+    ensures { result ≡ differ world.now.history.now.stack world.now.history.now.current world.now.history.now.stack card }
+{
+    is_other(
+        home_of(world.stack(), world.current()),
+        home_of(world.stack(), card),
+    )
+}
+
+/// Whether an object is there and is a card.
+pub(crate) fn is_card_there<E: External>(world: &World<E>, card: Id) -> bool
+    ensures { result ≡ has_kind is_card world.now.history.now.stack card }
+{
+    world.fits(&Change::Current(card))
+}
+
+/// Where a new part stands.
+pub(crate) fn new_layer<E: External>(world: &World<E>, run: &Budget) -> LayerId
+    ensures { result ≡ layer_of_new world.now.history.now run.now }
+{
+    if run.edit_background() {
+        LayerId::OfBackground(home_of(world.stack(), world.current()))
+    } else {
+        LayerId::OfCard(world.current())
+    }
+}
+
+/// Makes a change that fits.
+#[tactic(auto, using(containers::proofs::Bases::made_keeps, containers::proofs::Bases::is_open))]
+pub(crate) fn make<E: External>(world: &mut World<E>, change: Change) -> Result<(), AllocError>
+    requires open { IsSome (base world.old.history).start }
+    requires fits { fits_state world.old.history.now change ≡ true }
+    ensures ok { OnOk result (Made world.old.history world.new.history change) }
+    ensures base { base world.new.history ≡ base world.old.history }
+{
+    world.make(change)
+}
+
+/// Makes objects, unless there would be too many.
+#[tactic(auto, using(meaning::proofs::Rules::adds_rules))]
+pub(crate) fn add<E: External>(world: &mut World<E>, change: Change) -> Result<(), Stop>
+    requires open { IsSome (base world.old.history).start }
+    ensures meaning { Adds world.old.history change result world.new.history }
+    ensures base { base world.new.history ≡ base world.old.history }
+{
+    if !world.fits(&change) {
+        return Err(Stop::Fault(Fault::TooMany));
+    }
+    Ok(make(world, change)?)
+}
+
+/// The messages before another card becomes current.
+pub(crate) fn closing(differs: bool) -> &'static [SystemMessage]
+    ensures { result.now ≡ closing_of differs }
+{
+    if differs {
+        &[SystemMessage::CloseCard, SystemMessage::CloseBackground]
+    } else {
+        &[SystemMessage::CloseCard]
+    }
+}
+
+/// The messages after another card became current.
+pub(crate) fn opening(differs: bool) -> &'static [SystemMessage]
+    ensures { result.now ≡ opening_of differs }
+{
+    if differs {
+        &[SystemMessage::OpenBackground, SystemMessage::OpenCard]
+    } else {
+        &[SystemMessage::OpenCard]
+    }
+}
+
+/// The messages after a card was made.
+pub(crate) fn new_card_messages() -> &'static [SystemMessage]
+    ensures { result.now ≡ messages_of_new_card }
+{
+    &[SystemMessage::NewCard, SystemMessage::OpenCard]
+}
+
+/// The messages after a card was made with its background.
+pub(crate) fn new_background_messages() -> &'static [SystemMessage]
+    ensures { result.now ≡ messages_of_new_background }
+{
+    &[
+        SystemMessage::NewCard,
+        SystemMessage::OpenBackground,
+        SystemMessage::OpenCard,
+    ]
+}
+
+/// The name of a message of the system.
+pub(crate) fn message_name(alloc: Global, message: SystemMessage) -> Result<Text, AllocError>
+    ensures { IfOk result (λ t. t ≡ name_of_message message) }
+{
+    short_text(alloc, message.name())
+}

@@ -1,0 +1,81 @@
+//! Chunks of expressions and of containers.
+
+ghost use Rattle.std.specs.Prelude.{◌≡◌, ◌≤◌, ◌<◌, IsSome};
+ghost use Rattle.ht_grammar.specs.Depth.{chunk_depth, container_depth, max_depth};
+ghost use Rattle.ht_tree.specs.View.{chunk_of};
+ghost use Rattle.containers.specs.Base.{base};
+ghost use Rattle.meaning.specs.Meaning.{ChunkOf, Resolves};
+
+use crate::expr::number_value;
+use crate::places::{field_place, nth_piece, pieces_at, variable_place};
+use crate::reference::meet_part;
+use change_journal::World;
+use containers::Place;
+use externals::External;
+use ht_tree::{Chunk, Container, ContainerKind};
+use meaning::{Budget, Frame, Stop};
+use msg_path::Scripts;
+
+/// Which pieces are meant: each index is converted as soon as it is computed.
+#[cycle(run)]
+#[tactic(auto, using(meaning::proofs::Rules::chunkof_rules))]
+pub(crate) fn pieces<E: External>(
+    world: &mut World<E>,
+    scripts: &mut Scripts,
+    run: &mut Budget,
+    frame: &Frame,
+    nested: u32,
+    chunk: &Chunk,
+) -> Result<chunks::Chunk, Stop>
+    requires nested { nested ≤ 100 }
+    requires deep { chunk_depth (chunk_of chunk.now) < max_depth }
+    requires open { IsSome (base world.old.history).start }
+    ensures meaning { ChunkOf world.old.history run.old frame.now nested (chunk_of chunk.now) result world.new.history run.new }
+    ensures fewer { run.new.left ≤ run.old.left }
+    ensures base { base world.new.history ≡ base world.old.history }
+{
+    match chunk {
+        Chunk::Piece(kind, index) => {
+            let at = number_value(world, scripts, run, frame, nested, index)?;
+            Ok(pieces_at(*kind, at, at))
+        }
+        Chunk::Pieces(kind, first, last) => {
+            let from = number_value(world, scripts, run, frame, nested, first)?;
+            let to = number_value(world, scripts, run, frame, nested, last)?;
+            Ok(pieces_at(*kind, from, to))
+        }
+        Chunk::NthPiece(ordinal, kind) => Ok(nth_piece(*ordinal, *kind)),
+    }
+}
+
+/// The place of a container.
+#[cycle(run)]
+#[tactic(auto, using(meaning::proofs::Rules::resolves_rules))]
+pub(crate) fn resolve<'a, E: External>(
+    world: &mut World<E>,
+    scripts: &mut Scripts,
+    run: &mut Budget,
+    frame: &Frame,
+    nested: u32,
+    container: &'a Container,
+) -> Result<Place<'a>, Stop>
+    requires nested { nested ≤ 100 }
+    requires deep { container_depth container.now < max_depth }
+    requires open { IsSome (base world.old.history).start }
+    ensures meaning { Resolves world.old.history run.old frame.now nested container.now result world.new.history run.new }
+    ensures fewer { run.new.left ≤ run.old.left }
+    ensures base { base world.new.history ≡ base world.old.history }
+{
+    match container.kind() {
+        ContainerKind::Variable(name) => Ok(variable_place(run.alloc(), world, frame, name)),
+        ContainerKind::Field(part) => {
+            let referent = meet_part(world, scripts, run, frame, nested, part)?;
+            field_place(run.alloc(), world, frame, referent)
+        }
+        ContainerKind::Chunk(chunk, inner) => {
+            let pieces = pieces(world, scripts, run, frame, nested, chunk)?;
+            let place = resolve(world, scripts, run, frame, nested, inner)?;
+            Ok(place.with(pieces)?)
+        }
+    }
+}

@@ -1,0 +1,381 @@
+//! Variables, fields and containers, as the rules read and write them.
+
+ghost use Rattle.std.specs.Prelude.{◌≡◌, ◌++◌, ◌∷◌, [], IsSome, IfOk, OnOk, option_copied, false, true};
+ghost use Rattle.ht_values.specs.Text.{numeral as numeral_of};
+ghost use Rattle.ht_values.specs.declared.word.Where.TheVariants.{Into};
+ghost use Rattle.journal_entries.specs.Changes.{fits as fits_state};
+ghost use Rattle.object_references.specs.Settings.{setting as change_that_sets};
+ghost use Rattle.containers.specs.Base.{base};
+ghost use Rattle.containers.specs.declared.edit.Edit.TheVariants.{Put};
+ghost use Rattle.containers.specs.Places.{read_name as read_name_of};
+ghost use Rattle.meaning.specs.Places.{Assigns, DeclaresAll, Edits, Sets, field_named_place as place_of_field_named, field_place as place_of_field, field_text as text_of_field, it_name, nth_piece as nth_piece_of, pieces_at as pieces_at_numbers, variable_place as place_of_variable};
+ghost use Rattle.containers.specs.Writes.{Declares};
+ghost use Rattle.externals.specs.declared.external.Ask.TheVariants as ask;
+ghost use Rattle.meaning.specs.Meaning.{CallsBack};
+ghost use Rattle.meaning.specs.Repeats.{is_over};
+ghost use Rattle.meaning.specs.Values.{Yields};
+
+use crate::leaves::short_text;
+use crate::objects::make;
+use change_journal::{Change, World};
+use chunks::{Chunk, Index};
+use containers::{Container, Edit, Place, declare, read, read_name, resolve, write};
+use externals::{External, Input, Texts};
+use ht_grammar::Layer;
+use ht_lex::{Ordinal, is_name};
+use ht_values::{ChunkKind, Failure, Fault, Name, Prop, Text, Where};
+use meaning::{Budget, Counter, Frame, Stop};
+use object_references::{Referent, field_named, set_change};
+use std::alloc::{AllocError, Global};
+
+/// The pieces from one number to another.
+pub(crate) fn pieces_at(kind: ChunkKind, from: i64, to: i64) -> Chunk
+    ensures { result ≡ pieces_at_numbers kind from to }
+{
+    Chunk {
+        kind,
+        from: Index::At(from),
+        to: Index::At(to),
+    }
+}
+
+/// The one piece of an ordinal.
+pub(crate) fn nth_piece(ordinal: Ordinal, kind: ChunkKind) -> Chunk
+    ensures { result ≡ nth_piece_of ordinal kind }
+{
+    let index = match ordinal {
+        Ordinal::First => Index::At(1),
+        Ordinal::Second => Index::At(2),
+        Ordinal::Third => Index::At(3),
+        Ordinal::Fourth => Index::At(4),
+        Ordinal::Fifth => Index::At(5),
+        Ordinal::Sixth => Index::At(6),
+        Ordinal::Seventh => Index::At(7),
+        Ordinal::Eighth => Index::At(8),
+        Ordinal::Ninth => Index::At(9),
+        Ordinal::Tenth => Index::At(10),
+        Ordinal::Last => Index::Last,
+    };
+    Chunk {
+        kind,
+        from: index,
+        to: index,
+    }
+}
+
+/// What a name reads.
+pub(crate) fn variable<E: External>(
+    alloc: Global,
+    world: &World<E>,
+    frame: &Frame,
+    name: &Name,
+) -> Result<Text, AllocError>
+    ensures { IfOk result (λ t. t ≡ read_name_of world.now.history.now frame.now.variables name.now) }
+{
+    read_name(world, &frame.variables, name).try_clone(alloc)
+}
+
+/// The place of a variable.
+pub(crate) fn variable_place<'a, E: External>(
+    alloc: Global,
+    world: &World<E>,
+    frame: &Frame,
+    name: &'a Name,
+) -> Place<'a>
+    ensures { result ≡ place_of_variable frame.now.variables name.now }
+{
+    match resolve(alloc, world, &frame.variables, Container::Variable(name)) {
+        Ok(place) => place,
+        Err(_) => unreachable!(),
+    }
+}
+
+/// The place of a field's text.
+#[tactic(auto, using(meaning::proofs::Rules::yields_rules))]
+pub(crate) fn field_place<'a, E: External>(
+    alloc: Global,
+    world: &World<E>,
+    frame: &Frame,
+    field: Referent,
+) -> Result<Place<'a>, Stop>
+    ensures { Yields (place_of_field world.now.history.now field) result }
+{
+    match resolve(
+        alloc,
+        world,
+        &frame.variables,
+        Container::Field(field.object, field.card),
+    ) {
+        Ok(place) => Ok(place),
+        Err(fault) => Err(Stop::Fault(fault)),
+    }
+}
+
+/// The text of a field.
+#[tactic(auto, using(meaning::proofs::Rules::yields_rules))]
+pub(crate) fn field_text<E: External>(
+    alloc: Global,
+    world: &World<E>,
+    frame: &Frame,
+    delimiter: u8,
+    field: Referent,
+) -> Result<Text, Stop>
+    ensures { Yields (text_of_field world.now.history.now frame.now.variables delimiter field) result }
+{
+    match resolve(
+        alloc,
+        world,
+        &frame.variables,
+        Container::Field(field.object, field.card),
+    ) {
+        Ok(place) => match read(alloc, world, &frame.variables, &place, delimiter) {
+            Ok(text) => Ok(text),
+            Err(Failure::Fault(fault)) => Err(Stop::Fault(fault)),
+            Err(Failure::Memory) => Err(Stop::Memory),
+        },
+        Err(fault) => Err(Stop::Fault(fault)),
+    }
+}
+
+/// Edits a container.
+#[tactic(auto, using(meaning::proofs::Rules::edits_rules))]
+pub(crate) fn edit<E: External>(
+    alloc: Global,
+    delimiter: u8,
+    world: &mut World<E>,
+    frame: &mut Frame,
+    place: Place<'_>,
+    edit: Edit,
+) -> Result<(), Stop>
+    requires open { IsSome (base world.old.history).start }
+    ensures meaning { Edits world.old.history frame.old delimiter place.entry edit result world.new.history frame.new }
+    ensures base { base world.new.history ≡ base world.old.history }
+{
+    match write(alloc, world, &mut frame.variables, place, edit, delimiter) {
+        Ok(()) => Ok(()),
+        Err(Failure::Fault(fault)) => Err(Stop::Fault(fault)),
+        Err(Failure::Memory) => Err(Stop::Memory),
+    }
+}
+
+/// Puts a text into a variable.
+#[tactic(auto, using(meaning::proofs::Rules::edits_rules))]
+fn put_into<E: External>(
+    alloc: Global,
+    delimiter: u8,
+    world: &mut World<E>,
+    frame: &mut Frame,
+    name: &Name,
+    new: Text,
+) -> Result<(), Stop>
+    requires open { IsSome (base world.old.history).start }
+    ensures meaning { Edits world.old.history frame.old delimiter (place_of_variable frame.old.variables name.now) (Put Into new) result world.new.history frame.new }
+    ensures base { base world.new.history ≡ base world.old.history }
+{
+    let place = variable_place(alloc, world, frame, name);
+    edit(
+        alloc,
+        delimiter,
+        world,
+        frame,
+        place,
+        Edit::Put(Where::Into, new),
+    )
+}
+
+/// `it`.
+fn it(alloc: Global) -> Result<Name, AllocError>
+    ensures { IfOk result (λ n. n ≡ it_name) }
+{
+    Name::new(alloc, short_text(alloc, b"it")?)
+}
+
+/// Puts a text into `it`.
+#[tactic(auto, using(meaning::proofs::Rules::edits_rules))]
+pub(crate) fn put_into_it<E: External>(
+    alloc: Global,
+    delimiter: u8,
+    world: &mut World<E>,
+    frame: &mut Frame,
+    new: Text,
+) -> Result<(), Stop>
+    requires open { IsSome (base world.old.history).start }
+    ensures meaning { Edits world.old.history frame.old delimiter (place_of_variable frame.old.variables it_name) (Put Into new) result world.new.history frame.new }
+    ensures base { base world.new.history ≡ base world.old.history }
+{
+    let it = it(alloc)?;
+    put_into(alloc, delimiter, world, frame, &it, new)
+}
+
+/// Puts the number of a turn into the variable of a repeat, where it has one.
+#[tactic(auto, using(meaning::proofs::Rules::assigns_rules))]
+pub(crate) fn assign<E: External>(
+    alloc: Global,
+    delimiter: u8,
+    world: &mut World<E>,
+    frame: &mut Frame,
+    variable: Option<&Name>,
+    turn: &Counter,
+) -> Result<(), Stop>
+    requires open { IsSome (base world.old.history).start }
+    requires turns { is_over turn.now ≡ false }
+    ensures meaning { Assigns world.old.history frame.old delimiter (option_copied variable.entry) (numeral_of turn.now.at) result world.new.history frame.new }
+    ensures base { base world.new.history ≡ base world.old.history }
+{
+    match variable {
+        Some(name) => {
+            let value = turn.value(alloc)?;
+            put_into(alloc, delimiter, world, frame, name, value)
+        }
+        None => Ok(()),
+    }
+}
+
+/// A name means a global from here on.
+fn declare_one<E: External>(
+    alloc: Global,
+    world: &mut World<E>,
+    frame: &mut Frame,
+    name: &Name,
+) -> Result<(), AllocError>
+    requires open { IsSome (base world.old.history).start }
+    ensures ok { OnOk result (Declares world.old.history frame.old.variables name.now world.new.history frame.new.variables) }
+    ensures frame { OnOk result (frame.new ≡ record frame.old { variables = frame.new.variables }) }
+    ensures base { base world.new.history ≡ base world.old.history }
+{
+    declare(alloc, world, &mut frame.variables, name)
+}
+
+/// Names mean globals from here on.
+#[tactic(auto, using(meaning::proofs::Rules::declares_rules))]
+pub(crate) fn declare_all<E: External>(
+    alloc: Global,
+    world: &mut World<E>,
+    frame: &mut Frame,
+    names: &[Name],
+) -> Result<(), Stop>
+    requires open { IsSome (base world.old.history).start }
+    ensures meaning { DeclaresAll world.old.history frame.old names.now result world.new.history frame.new }
+    ensures base { base world.new.history ≡ base world.old.history }
+{
+    for name in names {
+        declare_one(alloc, world, frame, name)?;
+    }
+    Ok(())
+}
+
+/// The change that sets a property of an object, which fits.
+fn setting<E: External>(
+    world: &World<E>,
+    object: Referent,
+    property: Prop,
+    text: Text,
+) -> Result<Change, Fault>
+    ensures change { result ≡ change_that_sets world.now.history.now.stack object property text }
+    ensures fits { IfOk result (λ c. fits_state world.now.history.now c ≡ true) }
+{
+    set_change(world.stack(), object, property, text)
+}
+
+/// Sets a property of an object.
+#[tactic(auto, using(meaning::proofs::Rules::sets_rules))]
+pub(crate) fn set_property<E: External>(
+    world: &mut World<E>,
+    object: Referent,
+    property: Prop,
+    text: Text,
+) -> Result<(), Stop>
+    requires open { IsSome (base world.old.history).start }
+    ensures meaning { Sets world.old.history object property text result world.new.history }
+    ensures base { base world.new.history ≡ base world.old.history }
+{
+    match setting(world, object, property, text) {
+        Ok(change) => {
+            make(world, change)?;
+            Ok(())
+        }
+        Err(fault) => Err(Stop::Fault(fault)),
+    }
+}
+
+/// Sets a global for an external, whose name has to be one of a variable.
+#[tactic(auto, using(meaning::proofs::Rules::callsback_setglobal_rules))]
+pub(crate) fn set_global<E: External>(
+    world: &mut World<E>,
+    run: &mut Budget,
+    nested: u32,
+    note: Texts,
+    name: Text,
+    value: Text,
+) -> Result<Input, Stop>
+    requires open { IsSome (base world.old.history).start }
+    ensures meaning { CallsBack world.old.history run.old nested (ask.SetGlobal note name value) result world.new.history run.new }
+    ensures same { run.new ≡ run.old }
+    ensures base { base world.new.history ≡ base world.old.history }
+{
+    if !is_name(name.as_slice()) {
+        return Err(Stop::Fault(Fault::BadArgument));
+    }
+    let name = Name::new(run.alloc(), name)?;
+    let mut frame = Frame::typed(run.alloc(), world.current());
+    put_into(
+        run.alloc(),
+        run.delimiter(),
+        world,
+        &mut frame,
+        &name,
+        value,
+    )?;
+    Ok(Input::Answer(note, Text::new(run.alloc())))
+}
+
+/// The place of the first field of a name, on the current card or on its background.
+#[tactic(auto, using(meaning::proofs::Rules::yields_rules))]
+fn field_named_place<'a, E: External>(
+    alloc: Global,
+    world: &World<E>,
+    frame: &Frame,
+    on_card: bool,
+    name: &Text,
+) -> Result<Place<'a>, Stop>
+    ensures { Yields (place_of_field_named world.now.history.now on_card name.now) result }
+{
+    let layer = if on_card {
+        Layer::Card
+    } else {
+        Layer::Background
+    };
+    match field_named(world.stack(), world.current(), layer, name) {
+        Ok(field) => field_place(alloc, world, frame, field),
+        Err(fault) => Err(Stop::Fault(fault)),
+    }
+}
+
+/// Sets a field for an external, by its name.
+#[tactic(auto, using(meaning::proofs::Rules::callsback_setfieldbyname_rules))]
+pub(crate) fn set_field<E: External>(
+    world: &mut World<E>,
+    run: &mut Budget,
+    nested: u32,
+    note: Texts,
+    on_card: bool,
+    name: &Text,
+    value: Text,
+) -> Result<Input, Stop>
+    requires open { IsSome (base world.old.history).start }
+    ensures meaning { CallsBack world.old.history run.old nested (ask.SetFieldByName note on_card name.now value) result world.new.history run.new }
+    ensures same { run.new ≡ run.old }
+    ensures base { base world.new.history ≡ base world.old.history }
+{
+    let mut frame = Frame::typed(run.alloc(), world.current());
+    let place = field_named_place(run.alloc(), world, &frame, on_card, name)?;
+    edit(
+        run.alloc(),
+        run.delimiter(),
+        world,
+        &mut frame,
+        place,
+        Edit::Put(Where::Into, value),
+    )?;
+    Ok(Input::Answer(note, Text::new(run.alloc())))
+}

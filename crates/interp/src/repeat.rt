@@ -1,0 +1,220 @@
+//! Repeats.
+
+ghost use Rattle.std.specs.Prelude.{◌≡◌, ◌≤◌, ◌<◌, IsSome, option_copied};
+ghost use Rattle.ht_grammar.specs.Statements as stm;
+ghost use Rattle.ht_grammar.specs.Depth.{depth, head_depth, stmts_depth, max_depth};
+ghost use Rattle.ht_tree.specs.StatementView.{head_of, stmts_of};
+ghost use Rattle.containers.specs.Base.{base};
+ghost use Rattle.meaning.specs.Meaning.{Bounds, Counts, Endless, Form, While};
+
+use crate::expr::{eval, number_value, truth_value};
+use crate::leaves::{counter, goes_on};
+use crate::places::assign;
+use crate::stmt::run_block;
+use change_journal::World;
+use externals::External;
+use ht_tree::{Expr, Head, Stmt};
+use ht_values::Name;
+use meaning::{Budget, Counter, Frame, How, Stop};
+use msg_path::Scripts;
+
+/// `repeat`, by its head.
+#[cycle(run)]
+#[tactic(auto, using(meaning::proofs::Rules::form_repeat_forever_rules, meaning::proofs::Rules::form_repeat_times_rules, meaning::proofs::Rules::form_repeat_while_rules, meaning::proofs::Rules::form_repeat_until_rules, meaning::proofs::Rules::form_repeat_counted_up_rules, meaning::proofs::Rules::form_repeat_counted_down_rules))]
+pub(crate) fn repeat<E: External>(
+    world: &mut World<E>,
+    scripts: &mut Scripts,
+    run: &mut Budget,
+    frame: &mut Frame,
+    nested: u32,
+    head: &Head,
+    lines: &[Stmt],
+) -> Result<How, Stop>
+    requires nested { nested ≤ 100 }
+    requires head { head_depth (head_of head.now) < max_depth }
+    requires lines { stmts_depth (stmts_of lines.now) < max_depth }
+    requires open { IsSome (base world.old.history).start }
+    ensures meaning { Form world.old.history run.old frame.old nested (stm.repeat (head_of head.now) (stmts_of lines.now)) result world.new.history run.new frame.new }
+    ensures fewer { run.new.left ≤ run.old.left }
+    ensures base { base world.new.history ≡ base world.old.history }
+{
+    match head {
+        Head::Forever => repeat_forever(world, scripts, run, frame, nested, lines),
+        Head::Times(times) => {
+            let times = number_value(world, scripts, run, frame, nested, times)?;
+            turns(
+                world,
+                scripts,
+                run,
+                frame,
+                nested,
+                None,
+                Counter::new(1, times, false),
+                lines,
+            )
+        }
+        Head::While(condition) => repeat_while(
+            world, scripts, run, frame, nested, true, condition, lines,
+        ),
+        Head::Until(condition) => repeat_while(
+            world, scripts, run, frame, nested, false, condition, lines,
+        ),
+        Head::CountedUp(name, from, to) => {
+            let counter = bounds(world, scripts, run, frame, nested, from, to, false)?;
+            turns(
+                world,
+                scripts,
+                run,
+                frame,
+                nested,
+                Some(name),
+                counter,
+                lines,
+            )
+        }
+        Head::CountedDown(name, from, to) => {
+            let counter = bounds(world, scripts, run, frame, nested, from, to, true)?;
+            turns(
+                world,
+                scripts,
+                run,
+                frame,
+                nested,
+                Some(name),
+                counter,
+                lines,
+            )
+        }
+    }
+}
+
+/// The bounds of a repeat with a variable: both are computed, then both are converted.
+#[cycle(run)]
+#[tactic(auto, using(meaning::proofs::Rules::bounds_rules))]
+pub(crate) fn bounds<E: External>(
+    world: &mut World<E>,
+    scripts: &mut Scripts,
+    run: &mut Budget,
+    frame: &Frame,
+    nested: u32,
+    from: &Expr,
+    to: &Expr,
+    is_down: bool,
+) -> Result<Counter, Stop>
+    requires nested { nested ≤ 100 }
+    requires from { depth from.now < max_depth }
+    requires to { depth to.now < max_depth }
+    requires open { IsSome (base world.old.history).start }
+    ensures meaning { Bounds world.old.history run.old frame.now nested from.now to.now is_down result world.new.history run.new }
+    ensures fewer { run.new.left ≤ run.old.left }
+    ensures base { base world.new.history ≡ base world.old.history }
+{
+    let first = eval(world, scripts, run, frame, nested, from)?;
+    let last = eval(world, scripts, run, frame, nested, to)?;
+    counter(&first, &last, is_down)
+}
+
+/// A repeat without a condition.
+#[cycle(run)]
+#[tactic(auto, using(meaning::proofs::Rules::endless_rules))]
+pub(crate) fn repeat_forever<E: External>(
+    world: &mut World<E>,
+    scripts: &mut Scripts,
+    run: &mut Budget,
+    frame: &mut Frame,
+    nested: u32,
+    lines: &[Stmt],
+) -> Result<How, Stop>
+    requires nested { nested ≤ 100 }
+    requires lines { stmts_depth (stmts_of lines.now) < max_depth }
+    requires open { IsSome (base world.old.history).start }
+    ensures meaning { Endless world.old.history run.old frame.old nested (stmts_of lines.now) result world.new.history run.new frame.new }
+    ensures fewer { run.new.left ≤ run.old.left }
+    ensures base { base world.new.history ≡ base world.old.history }
+{
+    loop {
+        run.step()?;
+        match run_block(world, scripts, run, frame, nested, lines)? {
+            How::Next | How::NextRepeat => {}
+            How::ExitRepeat => return Ok(How::Next),
+            How::Exit => return Ok(How::Exit),
+            How::Pass => return Ok(How::Pass),
+            How::Returns(value) => return Ok(How::Returns(value)),
+        }
+    }
+}
+
+/// A repeat as long as a condition is so.
+#[cycle(run)]
+#[tactic(auto, using(meaning::proofs::Rules::while_rules))]
+pub(crate) fn repeat_while<E: External>(
+    world: &mut World<E>,
+    scripts: &mut Scripts,
+    run: &mut Budget,
+    frame: &mut Frame,
+    nested: u32,
+    wanted: bool,
+    condition: &Expr,
+    lines: &[Stmt],
+) -> Result<How, Stop>
+    requires nested { nested ≤ 100 }
+    requires condition { depth condition.now < max_depth }
+    requires lines { stmts_depth (stmts_of lines.now) < max_depth }
+    requires open { IsSome (base world.old.history).start }
+    ensures meaning { While world.old.history run.old frame.old nested wanted condition.now (stmts_of lines.now) result world.new.history run.new frame.new }
+    ensures fewer { run.new.left ≤ run.old.left }
+    ensures base { base world.new.history ≡ base world.old.history }
+{
+    loop {
+        run.step()?;
+        let truth = truth_value(world, scripts, run, frame, nested, condition)?;
+        if !goes_on(wanted, truth) {
+            return Ok(How::Next);
+        }
+        match run_block(world, scripts, run, frame, nested, lines)? {
+            How::Next | How::NextRepeat => {}
+            How::ExitRepeat => return Ok(How::Next),
+            How::Exit => return Ok(How::Exit),
+            How::Pass => return Ok(How::Pass),
+            How::Returns(value) => return Ok(How::Returns(value)),
+        }
+    }
+}
+
+/// A repeat over numbers, with a variable or without one.
+#[cycle(run)]
+#[tactic(auto, using(meaning::proofs::Rules::counts_rules))]
+pub(crate) fn turns<E: External>(
+    world: &mut World<E>,
+    scripts: &mut Scripts,
+    run: &mut Budget,
+    frame: &mut Frame,
+    nested: u32,
+    variable: Option<&Name>,
+    counter: Counter,
+    lines: &[Stmt],
+) -> Result<How, Stop>
+    requires nested { nested ≤ 100 }
+    requires lines { stmts_depth (stmts_of lines.now) < max_depth }
+    requires open { IsSome (base world.old.history).start }
+    ensures meaning { Counts world.old.history run.old frame.old nested (option_copied variable.entry) counter (stmts_of lines.now) result world.new.history run.new frame.new }
+    ensures fewer { run.new.left ≤ run.old.left }
+    ensures base { base world.new.history ≡ base world.old.history }
+{
+    let mut turn = counter;
+    loop {
+        run.step()?;
+        if turn.is_over() {
+            return Ok(How::Next);
+        }
+        assign(run.alloc(), run.delimiter(), world, frame, variable, &turn)?;
+        match run_block(world, scripts, run, frame, nested, lines)? {
+            How::Next | How::NextRepeat => {}
+            How::ExitRepeat => return Ok(How::Next),
+            How::Exit => return Ok(How::Exit),
+            How::Pass => return Ok(How::Pass),
+            How::Returns(value) => return Ok(How::Returns(value)),
+        }
+        turn.step();
+    }
+}

@@ -1,0 +1,557 @@
+//! Statements.
+
+ghost use Rattle.std.specs.Prelude.{◌≡◌, ◌≤◌, ◌<◌, IsSome, IfOk};
+ghost use Rattle.ht_grammar.specs.Statements as stm;
+ghost use Rattle.ht_grammar.specs.Depth.{chunk_depth, container_depth, depth, depths, destination_depth, ref_depth, stmt_depth, stmts_depth, max_depth};
+ghost use Rattle.ht_tree.specs.StatementView.{destination_of, stmts_of};
+ghost use Rattle.ht_tree.specs.View.{chunk_of, exprs_of, ref_of};
+ghost use Rattle.containers.specs.Base.{base};
+ghost use Rattle.meaning.specs.Meaning.{Alters, Block, DoText, Form};
+
+use crate::expr::{eval, truth_value};
+use crate::leaves::lines;
+use crate::message::{calls, send_text};
+use crate::pieces::{pieces, resolve};
+use crate::places::{declare_all, edit, put_into_it, set_property};
+use crate::reference::{lead, meet};
+use crate::repeat::repeat;
+use crate::system::go;
+use change_journal::World;
+use containers::Edit;
+use externals::External;
+use ht_grammar::{HandlerKind, RunProp};
+use ht_tree::{Chunk, Container, Destination, Expr, Exprs, Names, Ref, Stmt, StmtKind};
+use ht_values::{Fault, Op, Prop, Text, Where};
+use meaning::{Budget, Frame, How, Stop};
+use msg_path::Scripts;
+
+/// How statements end, a step before each.
+#[cycle(run)]
+#[tactic(auto, using(meaning::proofs::Rules::block_rules))]
+pub(crate) fn run_block<E: External>(
+    world: &mut World<E>,
+    scripts: &mut Scripts,
+    run: &mut Budget,
+    frame: &mut Frame,
+    nested: u32,
+    lines: &[Stmt],
+) -> Result<How, Stop>
+    requires nested { nested ≤ 100 }
+    requires deep { stmts_depth (stmts_of lines.now) ≤ max_depth }
+    requires open { IsSome (base world.old.history).start }
+    ensures meaning { Block world.old.history run.old frame.old nested (stmts_of lines.now) result world.new.history run.new frame.new }
+    ensures passes { IfOk result (λ how. how ≡ How.Pass → run.new.left < run.old.left) }
+    ensures fewer { run.new.left ≤ run.old.left }
+    ensures base { base world.new.history ≡ base world.old.history }
+{
+    for stmt in lines {
+        run.step()?;
+        match run_stmt(world, scripts, run, frame, nested, stmt)? {
+            How::Next => {}
+            how => return Ok(how),
+        }
+    }
+    Ok(How::Next)
+}
+
+/// How a statement ends, whose step was taken.
+#[cycle(run)]
+#[tactic(auto, using(meaning::proofs::Rules::form_rules))]
+pub(crate) fn run_stmt<E: External>(
+    world: &mut World<E>,
+    scripts: &mut Scripts,
+    run: &mut Budget,
+    frame: &mut Frame,
+    nested: u32,
+    stmt: &Stmt,
+) -> Result<How, Stop>
+    requires nested { nested ≤ 100 }
+    requires deep { stmt_depth stmt.now ≤ max_depth }
+    requires open { IsSome (base world.old.history).start }
+    ensures meaning { Form world.old.history run.old frame.old nested stmt.now result world.new.history run.new frame.new }
+    ensures fewer { run.new.left ≤ run.old.left }
+    ensures base { base world.new.history ≡ base world.old.history }
+{
+    match stmt.kind() {
+        StmtKind::Put(value) => show(world, scripts, run, frame, nested, value),
+        StmtKind::PutIn(place, value, container) => put(
+            world, scripts, run, frame, nested, *place, value, container,
+        ),
+        StmtKind::Get(value) => get(world, scripts, run, frame, nested, value),
+        StmtKind::Set(property, reference, value) => set(
+            world, scripts, run, frame, nested, *property, reference, value,
+        ),
+        StmtKind::SetRun(property, value) => set_run(
+            world, scripts, run, frame, nested, *property, value,
+        ),
+        StmtKind::Add(value, container) => alter(
+            world,
+            scripts,
+            run,
+            frame,
+            nested,
+            Op::Add,
+            value,
+            container,
+        ),
+        StmtKind::Subtract(value, container) => alter(
+            world,
+            scripts,
+            run,
+            frame,
+            nested,
+            Op::Subtract,
+            value,
+            container,
+        ),
+        StmtKind::Multiply(container, value) => alter(
+            world,
+            scripts,
+            run,
+            frame,
+            nested,
+            Op::Multiply,
+            value,
+            container,
+        ),
+        StmtKind::Divide(container, value) => alter(
+            world,
+            scripts,
+            run,
+            frame,
+            nested,
+            Op::Divide,
+            value,
+            container,
+        ),
+        StmtKind::Delete(chunk, container) => delete(
+            world, scripts, run, frame, nested, chunk, container,
+        ),
+        StmtKind::Do(text) => run_do(world, scripts, run, frame, nested, text),
+        StmtKind::Send(text, reference) => run_send(
+            world, scripts, run, frame, nested, text, reference,
+        ),
+        StmtKind::Go(destination) => run_go(world, scripts, run, frame, nested, destination),
+        StmtKind::Global(names) => globals(world, run, frame, nested, names),
+        StmtKind::ExitRepeat => Ok(How::ExitRepeat),
+        StmtKind::NextRepeat => Ok(How::NextRepeat),
+        StmtKind::ExitToHyperCard => Err(Stop::Exited),
+        StmtKind::Exit(_) => Ok(How::Exit),
+        StmtKind::Pass(_) => Ok(How::Pass),
+        StmtKind::ReturnNothing => Ok(How::Returns(Text::new(run.alloc()))),
+        StmtKind::ReturnValue(value) => returns(world, scripts, run, frame, nested, value),
+        StmtKind::Command(name, list) => command(world, scripts, run, frame, nested, name, list),
+        StmtKind::When(condition, lines, otherwise) => {
+            when(
+                world,
+                scripts,
+                run,
+                frame,
+                nested,
+                condition,
+                &lines.items,
+                &otherwise.items,
+            )
+        }
+        StmtKind::Repeat(head, lines) => repeat(
+            world,
+            scripts,
+            run,
+            frame,
+            nested,
+            head,
+            &lines.items,
+        ),
+    }
+}
+
+/// `put` alone: a line is shown.
+#[cycle(run)]
+#[tactic(auto, using(meaning::proofs::Rules::form_put_rules))]
+pub(crate) fn show<E: External>(
+    world: &mut World<E>,
+    scripts: &mut Scripts,
+    run: &mut Budget,
+    frame: &mut Frame,
+    nested: u32,
+    value: &Expr,
+) -> Result<How, Stop>
+    requires nested { nested ≤ 100 }
+    requires deep { depth value.now < max_depth }
+    requires open { IsSome (base world.old.history).start }
+    ensures meaning { Form world.old.history run.old frame.old nested (stm.put value.now) result world.new.history run.new frame.new }
+    ensures fewer { run.new.left ≤ run.old.left }
+    ensures base { base world.new.history ≡ base world.old.history }
+{
+    let value = eval(world, scripts, run, frame, nested, value)?;
+    run.show(&value)?;
+    Ok(How::Next)
+}
+
+/// `put` into a container, before it or after it.
+#[cycle(run)]
+#[tactic(auto, using(meaning::proofs::Rules::form_put_in_rules))]
+pub(crate) fn put<E: External>(
+    world: &mut World<E>,
+    scripts: &mut Scripts,
+    run: &mut Budget,
+    frame: &mut Frame,
+    nested: u32,
+    place: Where,
+    value: &Expr,
+    container: &Container,
+) -> Result<How, Stop>
+    requires nested { nested ≤ 100 }
+    requires value { depth value.now < max_depth }
+    requires container { container_depth container.now < max_depth }
+    requires open { IsSome (base world.old.history).start }
+    ensures meaning { Form world.old.history run.old frame.old nested (stm.put_in place value.now container.now) result world.new.history run.new frame.new }
+    ensures fewer { run.new.left ≤ run.old.left }
+    ensures base { base world.new.history ≡ base world.old.history }
+{
+    let new = eval(world, scripts, run, frame, nested, value)?;
+    let to = resolve(world, scripts, run, frame, nested, container)?;
+    edit(
+        run.alloc(),
+        run.delimiter(),
+        world,
+        frame,
+        to,
+        Edit::Put(place, new),
+    )?;
+    Ok(How::Next)
+}
+
+/// `get`: the value becomes that of `it`.
+#[cycle(run)]
+#[tactic(auto, using(meaning::proofs::Rules::form_get_rules))]
+pub(crate) fn get<E: External>(
+    world: &mut World<E>,
+    scripts: &mut Scripts,
+    run: &mut Budget,
+    frame: &mut Frame,
+    nested: u32,
+    value: &Expr,
+) -> Result<How, Stop>
+    requires nested { nested ≤ 100 }
+    requires deep { depth value.now < max_depth }
+    requires open { IsSome (base world.old.history).start }
+    ensures meaning { Form world.old.history run.old frame.old nested (stm.get value.now) result world.new.history run.new frame.new }
+    ensures fewer { run.new.left ≤ run.old.left }
+    ensures base { base world.new.history ≡ base world.old.history }
+{
+    let new = eval(world, scripts, run, frame, nested, value)?;
+    put_into_it(run.alloc(), run.delimiter(), world, frame, new)?;
+    Ok(How::Next)
+}
+
+/// `set` of a property of an object.
+#[cycle(run)]
+#[tactic(auto, using(meaning::proofs::Rules::form_set_rules))]
+pub(crate) fn set<E: External>(
+    world: &mut World<E>,
+    scripts: &mut Scripts,
+    run: &mut Budget,
+    frame: &mut Frame,
+    nested: u32,
+    property: Prop,
+    reference: &Ref,
+    value: &Expr,
+) -> Result<How, Stop>
+    requires nested { nested ≤ 100 }
+    requires reference { ref_depth (ref_of reference.now) < max_depth }
+    requires value { depth value.now < max_depth }
+    requires open { IsSome (base world.old.history).start }
+    ensures meaning { Form world.old.history run.old frame.old nested (stm.set property (ref_of reference.now) value.now) result world.new.history run.new frame.new }
+    ensures fewer { run.new.left ≤ run.old.left }
+    ensures base { base world.new.history ≡ base world.old.history }
+{
+    let value = eval(world, scripts, run, frame, nested, value)?;
+    let referent = meet(world, scripts, run, frame, nested, reference)?;
+    set_property(world, referent, property, value)?;
+    Ok(How::Next)
+}
+
+/// `set` of a property of the run.
+#[cycle(run)]
+#[tactic(auto, using(meaning::proofs::Rules::form_set_run_rules))]
+pub(crate) fn set_run<E: External>(
+    world: &mut World<E>,
+    scripts: &mut Scripts,
+    run: &mut Budget,
+    frame: &mut Frame,
+    nested: u32,
+    property: RunProp,
+    value: &Expr,
+) -> Result<How, Stop>
+    requires nested { nested ≤ 100 }
+    requires deep { depth value.now < max_depth }
+    requires open { IsSome (base world.old.history).start }
+    ensures meaning { Form world.old.history run.old frame.old nested (stm.set_run property value.now) result world.new.history run.new frame.new }
+    ensures fewer { run.new.left ≤ run.old.left }
+    ensures base { base world.new.history ≡ base world.old.history }
+{
+    let value = eval(world, scripts, run, frame, nested, value)?;
+    match run.set_property(property, &value) {
+        Ok(()) => Ok(How::Next),
+        Err(fault) => Err(Stop::Fault(fault)),
+    }
+}
+
+/// Arithmetic on a container.
+#[cycle(run)]
+#[tactic(auto, using(meaning::proofs::Rules::alters_rules))]
+pub(crate) fn alter<E: External>(
+    world: &mut World<E>,
+    scripts: &mut Scripts,
+    run: &mut Budget,
+    frame: &mut Frame,
+    nested: u32,
+    op: Op,
+    value: &Expr,
+    container: &Container,
+) -> Result<How, Stop>
+    requires nested { nested ≤ 100 }
+    requires value { depth value.now < max_depth }
+    requires container { container_depth container.now < max_depth }
+    requires open { IsSome (base world.old.history).start }
+    ensures meaning { Alters world.old.history run.old frame.old nested op value.now container.now result world.new.history run.new frame.new }
+    ensures fewer { run.new.left ≤ run.old.left }
+    ensures base { base world.new.history ≡ base world.old.history }
+{
+    let operand = eval(world, scripts, run, frame, nested, value)?;
+    let to = resolve(world, scripts, run, frame, nested, container)?;
+    edit(
+        run.alloc(),
+        run.delimiter(),
+        world,
+        frame,
+        to,
+        Edit::Alter(op, operand),
+    )?;
+    Ok(How::Next)
+}
+
+/// `delete` of pieces of a container.
+#[cycle(run)]
+#[tactic(auto, using(meaning::proofs::Rules::form_delete_rules))]
+pub(crate) fn delete<E: External>(
+    world: &mut World<E>,
+    scripts: &mut Scripts,
+    run: &mut Budget,
+    frame: &mut Frame,
+    nested: u32,
+    chunk: &Chunk,
+    container: &Container,
+) -> Result<How, Stop>
+    requires nested { nested ≤ 100 }
+    requires chunk { chunk_depth (chunk_of chunk.now) < max_depth }
+    requires container { container_depth container.now < max_depth }
+    requires open { IsSome (base world.old.history).start }
+    ensures meaning { Form world.old.history run.old frame.old nested (stm.delete (chunk_of chunk.now) container.now) result world.new.history run.new frame.new }
+    ensures fewer { run.new.left ≤ run.old.left }
+    ensures base { base world.new.history ≡ base world.old.history }
+{
+    let pieces = pieces(world, scripts, run, frame, nested, chunk)?;
+    let to = resolve(world, scripts, run, frame, nested, container)?.with(pieces)?;
+    edit(run.alloc(), run.delimiter(), world, frame, to, Edit::Delete)?;
+    Ok(How::Next)
+}
+
+/// `do`: a text is run as lines, one level deeper.
+#[cycle(run)]
+#[tactic(auto, using(meaning::proofs::Rules::form_do_rules))]
+pub(crate) fn run_do<E: External>(
+    world: &mut World<E>,
+    scripts: &mut Scripts,
+    run: &mut Budget,
+    frame: &mut Frame,
+    nested: u32,
+    text: &Expr,
+) -> Result<How, Stop>
+    requires nested { nested ≤ 100 }
+    requires deep { depth text.now < max_depth }
+    requires open { IsSome (base world.old.history).start }
+    ensures meaning { Form world.old.history run.old frame.old nested (stm.do_ text.now) result world.new.history run.new frame.new }
+    ensures fewer { run.new.left ≤ run.old.left }
+    ensures base { base world.new.history ≡ base world.old.history }
+{
+    let text = eval(world, scripts, run, frame, nested, text)?;
+    do_text(world, scripts, run, frame, nested, &text)
+}
+
+/// A text that is run as lines.
+#[cycle(run)]
+#[tactic(auto, using(meaning::proofs::Rules::dotext_rules))]
+pub(crate) fn do_text<E: External>(
+    world: &mut World<E>,
+    scripts: &mut Scripts,
+    run: &mut Budget,
+    frame: &mut Frame,
+    nested: u32,
+    text: &Text,
+) -> Result<How, Stop>
+    requires nested { nested ≤ 100 }
+    requires open { IsSome (base world.old.history).start }
+    ensures meaning { DoText world.old.history run.old frame.old nested text.now result world.new.history run.new frame.new }
+    ensures fewer { run.new.left ≤ run.old.left }
+    ensures base { base world.new.history ≡ base world.old.history }
+{
+    if nested == 100 {
+        return Err(Stop::Fault(Fault::TooDeep));
+    }
+    let lines = lines(run.alloc(), text)?;
+    let _depth = lines.depth();
+    run_block(world, scripts, run, frame, nested + 1, &lines.items)
+}
+
+/// `send`: the text, then the object, then the message.
+#[cycle(run)]
+#[tactic(auto, using(meaning::proofs::Rules::form_send_rules))]
+pub(crate) fn run_send<E: External>(
+    world: &mut World<E>,
+    scripts: &mut Scripts,
+    run: &mut Budget,
+    frame: &mut Frame,
+    nested: u32,
+    text: &Expr,
+    reference: &Ref,
+) -> Result<How, Stop>
+    requires nested { nested ≤ 100 }
+    requires text { depth text.now < max_depth }
+    requires reference { ref_depth (ref_of reference.now) < max_depth }
+    requires open { IsSome (base world.old.history).start }
+    ensures meaning { Form world.old.history run.old frame.old nested (stm.send text.now (ref_of reference.now)) result world.new.history run.new frame.new }
+    ensures fewer { run.new.left ≤ run.old.left }
+    ensures base { base world.new.history ≡ base world.old.history }
+{
+    let text = eval(world, scripts, run, frame, nested, text)?;
+    let referent = meet(world, scripts, run, frame, nested, reference)?;
+    let _ = send_text(world, scripts, run, frame, nested, referent.object, &text)?;
+    Ok(How::Next)
+}
+
+/// `go` to a card or a background.
+#[cycle(run)]
+#[tactic(auto, using(meaning::proofs::Rules::form_go_rules))]
+pub(crate) fn run_go<E: External>(
+    world: &mut World<E>,
+    scripts: &mut Scripts,
+    run: &mut Budget,
+    frame: &mut Frame,
+    nested: u32,
+    destination: &Destination,
+) -> Result<How, Stop>
+    requires nested { nested ≤ 100 }
+    requires deep { destination_depth (destination_of destination.now) ≤ max_depth }
+    requires open { IsSome (base world.old.history).start }
+    ensures meaning { Form world.old.history run.old frame.old nested (stm.go (destination_of destination.now)) result world.new.history run.new frame.new }
+    ensures fewer { run.new.left ≤ run.old.left }
+    ensures base { base world.new.history ≡ base world.old.history }
+{
+    let card = lead(world, scripts, run, frame, nested, destination)?;
+    let _ = go(world, scripts, run, frame, nested, card)?;
+    Ok(How::Next)
+}
+
+/// `global`: names mean globals from here on.
+#[tactic(auto, using(meaning::proofs::Rules::form_global_rules))]
+pub(crate) fn globals<E: External>(
+    world: &mut World<E>,
+    run: &mut Budget,
+    frame: &mut Frame,
+    nested: u32,
+    names: &Names,
+) -> Result<How, Stop>
+    requires open { IsSome (base world.old.history).start }
+    ensures meaning { Form world.old.history run.old frame.old nested (stm.global names.now.items.items) result world.new.history run.new frame.new }
+    ensures fewer { run.new.left ≤ run.old.left }
+    ensures base { base world.new.history ≡ base world.old.history }
+{
+    declare_all(run.alloc(), world, frame, &names.items)?;
+    Ok(How::Next)
+}
+
+/// `return` with a value.
+#[cycle(run)]
+#[tactic(auto, using(meaning::proofs::Rules::form_return_value_rules))]
+pub(crate) fn returns<E: External>(
+    world: &mut World<E>,
+    scripts: &mut Scripts,
+    run: &mut Budget,
+    frame: &mut Frame,
+    nested: u32,
+    value: &Expr,
+) -> Result<How, Stop>
+    requires nested { nested ≤ 100 }
+    requires deep { depth value.now < max_depth }
+    requires open { IsSome (base world.old.history).start }
+    ensures meaning { Form world.old.history run.old frame.old nested (stm.return_value value.now) result world.new.history run.new frame.new }
+    ensures fewer { run.new.left ≤ run.old.left }
+    ensures base { base world.new.history ≡ base world.old.history }
+{
+    let value = eval(world, scripts, run, frame, nested, value)?;
+    Ok(How::Returns(value))
+}
+
+/// A message as a statement.
+#[cycle(run)]
+#[tactic(auto, using(meaning::proofs::Rules::form_command_rules))]
+pub(crate) fn command<E: External>(
+    world: &mut World<E>,
+    scripts: &mut Scripts,
+    run: &mut Budget,
+    frame: &mut Frame,
+    nested: u32,
+    name: &Text,
+    list: &Exprs,
+) -> Result<How, Stop>
+    requires nested { nested ≤ 100 }
+    requires deep { depths (exprs_of list.now.items.items) < max_depth }
+    requires open { IsSome (base world.old.history).start }
+    ensures meaning { Form world.old.history run.old frame.old nested (stm.command name.now (exprs_of list.now.items.items)) result world.new.history run.new frame.new }
+    ensures fewer { run.new.left ≤ run.old.left }
+    ensures base { base world.new.history ≡ base world.old.history }
+{
+    let _ = calls(
+        world,
+        scripts,
+        run,
+        frame,
+        nested,
+        frame.me,
+        name,
+        &list.items,
+        HandlerKind::Command,
+    )?;
+    Ok(How::Next)
+}
+
+/// `if`.
+#[cycle(run)]
+#[tactic(auto, using(meaning::proofs::Rules::form_when_rules))]
+pub(crate) fn when<E: External>(
+    world: &mut World<E>,
+    scripts: &mut Scripts,
+    run: &mut Budget,
+    frame: &mut Frame,
+    nested: u32,
+    condition: &Expr,
+    lines: &[Stmt],
+    otherwise: &[Stmt],
+) -> Result<How, Stop>
+    requires nested { nested ≤ 100 }
+    requires condition { depth condition.now < max_depth }
+    requires lines { stmts_depth (stmts_of lines.now) < max_depth }
+    requires otherwise { stmts_depth (stmts_of otherwise.now) < max_depth }
+    requires open { IsSome (base world.old.history).start }
+    ensures meaning { Form world.old.history run.old frame.old nested (stm.when condition.now (stmts_of lines.now) (stmts_of otherwise.now)) result world.new.history run.new frame.new }
+    ensures fewer { run.new.left ≤ run.old.left }
+    ensures base { base world.new.history ≡ base world.old.history }
+{
+    if truth_value(world, scripts, run, frame, nested, condition)? {
+        run_block(world, scripts, run, frame, nested, lines)
+    } else {
+        run_block(world, scripts, run, frame, nested, otherwise)
+    }
+}

@@ -1,0 +1,168 @@
+//! Messages of the system, `go` and the menu.
+
+ghost use Rattle.std.specs.Prelude.{◌≡◌, ◌≤◌, IsSome};
+ghost use Rattle.containers.specs.Base.{base};
+ghost use Rattle.meaning.specs.Meaning.{Goes, Menu, System, Systems};
+
+use crate::arguments::Arguments;
+use crate::message::send;
+use crate::objects::{
+    add, closing, has_other_background, is_card_there, is_current, is_other, make, message_name,
+    new_background_messages, new_card_messages, new_layer, opening,
+};
+use change_journal::{Change, World};
+use externals::External;
+use ht_grammar::HandlerKind;
+use ht_values::{Fault, Text};
+use meaning::{Budget, Frame, Item, Stop, SystemMessage};
+use msg_path::Scripts;
+use object_references::may_delete;
+use object_table::Id;
+use structural_changes::home_of;
+
+/// A message of the system to an object; none while lockMessages is true.
+#[cycle(run)]
+#[tactic(auto, using(meaning::proofs::Rules::system_rules))]
+pub(crate) fn system<E: External>(
+    world: &mut World<E>,
+    scripts: &mut Scripts,
+    run: &mut Budget,
+    frame: &Frame,
+    nested: u32,
+    object: Id,
+    message: SystemMessage,
+) -> Result<Text, Stop>
+    requires nested { nested ≤ 100 }
+    requires open { IsSome (base world.old.history).start }
+    ensures meaning { System world.old.history run.old frame.now nested object message result world.new.history run.new }
+    ensures fewer { run.new.left ≤ run.old.left }
+    ensures base { base world.new.history ≡ base world.old.history }
+{
+    if run.lock_messages() {
+        return Ok(Text::new(run.alloc()));
+    }
+    let name = message_name(run.alloc(), message)?;
+    let values = Arguments::new(run.alloc());
+    send(
+        world,
+        scripts,
+        run,
+        frame,
+        nested,
+        object,
+        &name,
+        &values,
+        HandlerKind::Command,
+    )
+}
+
+/// Messages of the system, each to the card that is current at that moment.
+#[cycle(run)]
+#[tactic(auto, using(meaning::proofs::Rules::systems_rules))]
+pub(crate) fn systems<E: External>(
+    world: &mut World<E>,
+    scripts: &mut Scripts,
+    run: &mut Budget,
+    frame: &Frame,
+    nested: u32,
+    messages: &[SystemMessage],
+) -> Result<Text, Stop>
+    requires nested { nested ≤ 100 }
+    requires open { IsSome (base world.old.history).start }
+    ensures meaning { Systems world.old.history run.old frame.now nested messages.now result world.new.history run.new }
+    ensures fewer { run.new.left ≤ run.old.left }
+    ensures base { base world.new.history ≡ base world.old.history }
+{
+    for message in messages {
+        let _ = system(
+            world,
+            scripts,
+            run,
+            frame,
+            nested,
+            world.current(),
+            *message,
+        )?;
+    }
+    Ok(Text::new(run.alloc()))
+}
+
+/// `go` to a card.
+#[cycle(run)]
+#[tactic(auto, using(meaning::proofs::Rules::goes_rules))]
+pub(crate) fn go<E: External>(
+    world: &mut World<E>,
+    scripts: &mut Scripts,
+    run: &mut Budget,
+    frame: &Frame,
+    nested: u32,
+    card: Id,
+) -> Result<Text, Stop>
+    requires nested { nested ≤ 100 }
+    requires open { IsSome (base world.old.history).start }
+    ensures meaning { Goes world.old.history run.old frame.now nested card result world.new.history run.new }
+    ensures fewer { run.new.left ≤ run.old.left }
+    ensures base { base world.new.history ≡ base world.old.history }
+{
+    if is_current(world, card) {
+        return Ok(Text::new(run.alloc()));
+    }
+    let differs = has_other_background(world, card);
+    let _ = systems(world, scripts, run, frame, nested, closing(differs))?;
+    if !is_card_there(world, card) {
+        return Err(Stop::Fault(Fault::NoSuchObject));
+    }
+    make(world, Change::Current(card))?;
+    systems(world, scripts, run, frame, nested, opening(differs))
+}
+
+/// The items of `doMenu`.
+#[cycle(run)]
+#[tactic(auto, using(meaning::proofs::Rules::menu_rules))]
+pub(crate) fn menu<E: External>(
+    world: &mut World<E>,
+    scripts: &mut Scripts,
+    run: &mut Budget,
+    frame: &Frame,
+    nested: u32,
+    item: Item,
+) -> Result<Text, Stop>
+    requires nested { nested ≤ 100 }
+    requires open { IsSome (base world.old.history).start }
+    ensures meaning { Menu world.old.history run.old frame.now nested item result world.new.history run.new }
+    ensures fewer { run.new.left ≤ run.old.left }
+    ensures base { base world.new.history ≡ base world.old.history }
+{
+    match item {
+        Item::NewCard => {
+            let _ = systems(world, scripts, run, frame, nested, closing(false))?;
+            add(world, Change::NewCard)?;
+            systems(world, scripts, run, frame, nested, new_card_messages())
+        }
+        Item::NewBackground => {
+            let _ = systems(world, scripts, run, frame, nested, closing(true))?;
+            add(world, Change::NewBackground)?;
+            systems(
+                world,
+                scripts,
+                run,
+                frame,
+                nested,
+                new_background_messages(),
+            )
+        }
+        Item::NewPart(kind) => {
+            add(world, Change::NewPart(new_layer(world, run), kind))?;
+            Ok(Text::new(run.alloc()))
+        }
+        Item::DeleteCard => {
+            let background = home_of(world.stack(), world.current());
+            if !may_delete(world.stack(), world.current()) {
+                return Err(Stop::Fault(Fault::CantDelete));
+            }
+            make(world, Change::DeleteCard)?;
+            let differs = is_other(background, home_of(world.stack(), world.current()));
+            systems(world, scripts, run, frame, nested, opening(differs))
+        }
+    }
+}
