@@ -84,6 +84,10 @@ class Law:
         ends = " " + memory_of(premise, whole) if self.is_proof and end_of(premise) else ""
         return "%s %s%s" % (self.function(head), place, ends)
 
+    def named(self, premises):
+        """The variables of a rule that its clause names."""
+        return []
+
     def clause(self, family, rule):
         name, premises, conclusion = rule
         places, parts = [], []
@@ -91,7 +95,7 @@ class Law:
             call = self.call(premise, "p%d" % at, conclusion)
             places.append("p%d" % at if call else "_")
             parts += [call] if call else []
-        pattern = " ".join(["%s.%s" % (family["name"], name), *places])
+        pattern = " ".join(["%s.%s" % (family["name"], name), *("{%s = %s}" % (each, each) for each in self.named(premises)), *places])
         if self.is_proof and end_of(conclusion)[0] == MEMORY:
             return pattern, "absurd (has refl)"
         return pattern, self.whole(parts)
@@ -211,15 +215,24 @@ class Runs(Law):
 use Rattle.run_laws.specs.Laws.{HasMemory, GoesOn}
 use Rattle.run_laws.proofs.Ends.{given, stopped, faulted, exited}
 use Rattle.run_laws.proofs.Going.{goes_nowhere, goes_trans, goes_by_step, goes_by_shows, goes_by_noted, goes_by_property, goes_by_ends, goes_by_returned}"""
-    # What makes another run of one, beside derivations.
+    # What makes another run of one, beside derivations, and what it is made by.
     LEAVES = (
-        (r"Step ", "goes_by_step"), (r"r\d* ≡ shows ", "goes_by_shows"), (r"r\d* ≡ noted ", "goes_by_noted"),
-        (r"run_property_set .* ≡ Ok r", "goes_by_property"), (r"ends ", "goes_by_ends"), (r"returned ", "goes_by_returned"))
+        (r"Step ", "goes_by_step"),
+        (r"r\d* ≡ shows r\d* (\w+)$", "goes_by_shows"),
+        (r"r\d* ≡ noted r\d* (\w+) (\w+)$", "goes_by_noted"),
+        (r"run_property_set r\d* (\w+) (\w+) ≡ Ok r\d*$", "goes_by_property"),
+        (r"ends (\w+) (\w+) r\d* ≡ Some ", "goes_by_ends"),
+        (r"returned (\w+) ([\w.]+) r\d* ≡ ", "goes_by_returned"))
 
     def call(self, premise, place, whole):
         if words(premise)[0] in FAMILIES:
             return super().call(premise, place, whole)
-        return next(("%s %s" % (lemma, place) for form, lemma in self.LEAVES if re.match(form, premise)), None)
+        found = ((lemma, re.match(form, premise)) for form, lemma in self.LEAVES)
+        return next((" ".join([lemma, *match.groups(), place]) for lemma, match in found if match), None)
+
+    def named(self, premises):
+        found = [match.groups() for premise in premises for form, _ in self.LEAVES for match in [re.match(form, premise)] if match]
+        return [name.split(".")[0] for names in found for name in names]
 
     def says(self, family, indices):
         runs = [index for index in indices if letters(index) == "r"]

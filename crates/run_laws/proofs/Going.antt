@@ -19,17 +19,21 @@ use Rattle.run_laws.specs.Laws.{IsPrefix, GoesOn}
 whole : {A : Type 0} (xs : List A) → IsPrefix xs xs
 whole xs = ([], sym (append-nil xs))
 
-prefix_trans : {A : Type 0} {xs ys zs : List A} → IsPrefix xs ys → IsPrefix ys zs → IsPrefix xs zs
-prefix_trans {A} {xs} h k = (h.0 ++ k.0, k.1 ∙ ap (λ l. l ++ k.0) h.1 ∙ append_assoc xs h.0 k.0)
+prefix_trans : {A : Type 0} (xs ys zs : List A) → IsPrefix xs ys → IsPrefix ys zs → IsPrefix xs zs
+prefix_trans xs ys zs h k = (h.0 ++ k.0, k.1 ∙ ap (λ l. l ++ k.0) h.1 ∙ append_assoc xs h.0 k.0)
 
 pub goes_nowhere : {r : RunState} → GoesOn r r
 goes_nowhere {r} = record { left = omega arith; shown = whole r.shown; sent = whole r.sent }
 
 pub goes_trans : {r r2 r3 : RunState} → GoesOn r r2 → GoesOn r2 r3 → GoesOn r r3
-goes_trans h k =
+goes_trans {r} {r2} {r3} h k =
     let first = h.left in
     let second = k.left in
-    record { left = omega (arith, first, second); shown = prefix_trans h.shown k.shown; sent = prefix_trans h.sent k.sent }
+    record {
+      left = omega (arith, first, second);
+      shown = prefix_trans r.shown r2.shown r3.shown h.shown k.shown;
+      sent = prefix_trans r.sent r2.sent r3.sent h.sent k.sent;
+    }
 
 goes_to : {r r2 r3 : RunState} → GoesOn r r3 → r2 ≡ r3 → GoesOn r r2
 goes_to {r} goes is = subst (GoesOn r) (sym is) goes
@@ -38,11 +42,11 @@ pub goes_by_step : {r r2 : RunState} {o : Result (Unit {0}) Stop} → Step r o r
 goes_by_step {r} (Step.taken _ is) = goes_to (record { left = omega arith; shown = whole r.shown; sent = whole r.sent }) is
 goes_by_step (Step.none_left _) = goes_nowhere
 
-pub goes_by_shows : {r r2 : RunState} {t : List ℕ} → r2 ≡ shows r t → GoesOn r r2
-goes_by_shows {r} {r2} {t} is = goes_to (record { left = omega arith; shown = (spelled t ∷ [], refl); sent = whole r.sent }) is
+pub goes_by_shows : {r r2 : RunState} (t : List ℕ) → r2 ≡ shows r t → GoesOn r r2
+goes_by_shows {r} t is = goes_to (record { left = omega arith; shown = (spelled t ∷ [], refl); sent = whole r.sent }) is
 
-pub goes_by_noted : {r r2 : RunState} {name : List ℕ} {id : ℕ} → r2 ≡ noted r name id → GoesOn r r2
-goes_by_noted {r} {r2} {name} {id} is = goes_to (record { left = omega arith; shown = whole r.shown; sent = (record { name = name; object = id } ∷ [], refl) }) is
+pub goes_by_noted : {r r2 : RunState} (name : List ℕ) (id : ℕ) → r2 ≡ noted r name id → GoesOn r r2
+goes_by_noted {r} name id is = goes_to (record { left = omega arith; shown = whole r.shown; sent = (record { name = name; object = id } ∷ [], refl) }) is
 
 -- ---- properties of the run
 
@@ -72,9 +76,9 @@ property_goes r ItemDelimiter t = delimiter_goes r t
 property_goes r LockMessages t = lock_goes r (truth_of t)
 property_goes r EditBkgnd t = edit_goes r (truth_of t)
 
-pub goes_by_property : {r r2 : RunState} {property : RunProp} {t : List ℕ} → run_property_set r property t ≡ Ok r2 → GoesOn r r2
+pub goes_by_property : {r r2 : RunState} (property : RunProp) (t : List ℕ) → run_property_set r property t ≡ Ok r2 → GoesOn r r2
 unfolding held
-goes_by_property {r} {r2} {property} {t} is = subst (λ o. GoesOn r (held r o)) is (property_goes r property t)
+goes_by_property {r} property t is = subst (λ o. GoesOn r (held r o)) is (property_goes r property t)
 
 -- ---- ends of handlers
 
@@ -82,8 +86,8 @@ returned_goes : (kind : HandlerKind) (v : List ℕ) (r : RunState) → GoesOn r 
 returned_goes Command v r = record { left = omega arith; shown = whole r.shown; sent = whole r.sent }
 returned_goes Function v r = goes_nowhere
 
-pub goes_by_returned : {kind : HandlerKind} {v v2 : List ℕ} {r r2 : RunState} → returned kind v r ≡ record { value = v2; run = r2 } → GoesOn r r2
-goes_by_returned {kind} {v} {v2} {r} is = subst (λ x. GoesOn r x.run) is (returned_goes kind v r)
+pub goes_by_returned : {v2 : List ℕ} {r r2 : RunState} (kind : HandlerKind) (v : List ℕ) → returned kind v r ≡ record { value = v2; run = r2 } → GoesOn r r2
+goes_by_returned {v2} {r} kind v is = subst (λ x. GoesOn r x.run) is (returned_goes kind v r)
 
 -- the run of an outcome, if there is one
 run_of : RunState → Option Outcome → RunState
@@ -99,6 +103,6 @@ ends_go kind Exit r = goes_nowhere
 ends_go kind Pass r = goes_nowhere
 ends_go kind (Returns v) r = returned_goes kind v r
 
-pub goes_by_ends : {kind : HandlerKind} {h : How} {v : List ℕ} {r r2 : RunState} → ends kind h r ≡ Some (record { value = v; run = r2 }) → GoesOn r r2
+pub goes_by_ends : {v : List ℕ} {r r2 : RunState} (kind : HandlerKind) (h : How) → ends kind h r ≡ Some (record { value = v; run = r2 }) → GoesOn r r2
 unfolding run_of
-goes_by_ends {kind} {h} {v} {r} is = subst (λ x. GoesOn r (run_of r x)) is (ends_go kind h r)
+goes_by_ends {v} {r} kind h is = subst (λ x. GoesOn r (run_of r x)) is (ends_go kind h r)

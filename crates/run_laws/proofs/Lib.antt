@@ -6,3 +6,4 @@ mod Risen
 pub mod Rises
 mod Going
 pub mod Runs
+pub mod Commands

@@ -162,7 +162,7 @@ mutual
   pub goes_form : {w w2 : History} {r r2 : RunState} {f f2 : Frame} {d : ℕ} {s : stm.Stmt} {oh : Result How Stop} → Form w r f d s oh w2 r2 f2 → HasMemory oh → GoesOn r r2
   goes_form Form.form_memory has = absurd (has refl)
   goes_form (Form.show_stops _ p2) has = goes_val p2 (stopped has)
-  goes_form (Form.show _ p2 p3) has = goes_trans (goes_val p2 given) (goes_by_shows p3)
+  goes_form (Form.show {v = v} _ p2 p3) has = goes_trans (goes_val p2 given) (goes_by_shows v p3)
   goes_form (Form.put_stops _ p2) has = goes_val p2 (stopped has)
   goes_form (Form.put_nowhere _ p2 p3) has = goes_trans (goes_val p2 given) (goes_resolves p3 (stopped has))
   goes_form (Form.put_fails _ p2 p3 _) has = goes_trans (goes_val p2 given) (goes_resolves p3 given)
@@ -176,7 +176,7 @@ mutual
   goes_form (Form.set _ p2 p3 _) has = goes_trans (goes_val p2 given) (goes_meets p3 given)
   goes_form (Form.set_run_stops _ p2) has = goes_val p2 (stopped has)
   goes_form (Form.set_run_fails _ p2 _) has = goes_val p2 given
-  goes_form (Form.set_run _ p2 p3) has = goes_trans (goes_val p2 given) (goes_by_property p3)
+  goes_form (Form.set_run {rp = rp} {v = v} _ p2 p3) has = goes_trans (goes_val p2 given) (goes_by_property rp v p3)
   goes_form (Form.add _ p2) has = goes_alters p2 has
   goes_form (Form.subtract _ p2) has = goes_alters p2 has
   goes_form (Form.multiply _ p2) has = goes_alters p2 has
@@ -284,14 +284,14 @@ mutual
   pub goes_sends : {w w2 : History} {r r2 : RunState} {f : Frame} {d i : ℕ} {n : List ℕ} {vs : List (List ℕ)} {cl : HandlerKind} {o : Result (List ℕ) Stop} → Sends w r f d i n vs cl o w2 r2 → HasMemory o → GoesOn r r2
   goes_sends Sends.sends_memory has = absurd (has refl)
   goes_sends (Sends.sends_no_step p1) has = goes_by_step p1
-  goes_sends (Sends.sends p1 p2 _ p4) has = goes_trans (goes_by_step p1) (goes_trans (goes_by_noted p2) (goes_along p4 has))
+  goes_sends (Sends.sends {n = n} {i = i} p1 p2 _ p4) has = goes_trans (goes_by_step p1) (goes_trans (goes_by_noted n i p2) (goes_along p4 has))
 
   pub goes_along : {w w2 : History} {r r2 : RunState} {f : Frame} {d i : ℕ} {is n : List ℕ} {vs : List (List ℕ)} {cl : HandlerKind} {o : Result (List ℕ) Stop} → Along w r f d i is n vs cl o w2 r2 → HasMemory o → GoesOn r r2
   goes_along Along.along_memory has = absurd (has refl)
   goes_along (Along.along_broken _) has = goes_nowhere
   goes_along (Along.along_too_deep _ _) has = goes_nowhere
   goes_along (Along.along_stops _ _ _ p4) has = goes_block p4 (stopped has)
-  goes_along (Along.along_ends _ _ _ p4 p5) has = goes_trans (goes_block p4 given) (goes_by_ends p5)
+  goes_along (Along.along_ends {cl = cl} {h = h} _ _ _ p4 p5) has = goes_trans (goes_block p4 given) (goes_by_ends cl h p5)
   goes_along (Along.along_passes _ _ _ p4 _ p6) has = goes_trans (goes_block p4 given) (goes_along p6 has)
   goes_along (Along.along_unhandled _ p2) has = goes_outside p2 has
 
@@ -299,7 +299,7 @@ mutual
   goes_outside Outside.outside_memory has = absurd (has refl)
   goes_outside (Outside.no_external _ p2) has = goes_built_in_gives p2 has
   goes_outside (Outside.external_stops _ p2) has = goes_converses p2 (stopped has)
-  goes_outside (Outside.external_ends _ p2 _ p4) has = goes_trans (goes_converses p2 given) (goes_by_returned p4)
+  goes_outside (Outside.external_ends {cl = cl} {dn = dn} _ p2 _ p4) has = goes_trans (goes_converses p2 given) (goes_by_returned cl dn.value p4)
   goes_outside (Outside.external_passes _ p2 _ p4) has = goes_trans (goes_converses p2 given) (goes_built_in_gives p4 has)
 
   pub goes_built_in_gives : {w w2 : History} {r r2 : RunState} {f : Frame} {d : ℕ} {n : List ℕ} {vs : List (List ℕ)} {cl : HandlerKind} {o : Result (List ℕ) Stop} → BuiltInGives w r f d n vs cl o w2 r2 → HasMemory o → GoesOn r r2
