@@ -4,7 +4,7 @@ the rules of the table meaning.rules: proofs/Bases.antt, proofs/Rises.antt and p
 nothing, and ends with 1 where a file isn't what it would write.
 
 A law gives each family of rules a function over derivations, and each rule a clause, which puts together what the law
-says of the rule's parts: of its derivations, and of the changes that it names (LEAVES).
+says of the rule's parts: of its derivations, and of what else it makes (LEAVES, and Runs.LEAVES).
 """
 
 import re
@@ -14,10 +14,12 @@ sys.dont_write_bytecode = True
 
 from table import TYPES, binders, families, letters, read, write
 
-# What a rule makes beside its derivations, and which word of it says how it ends.
-LEAVES = {"Made": None, "TookTurn": None, "Edits": 6, "Assigns": 6, "DeclaresAll": 4, "Sets": 5, "Adds": 3}
-MEMORY = "(Err Memory)"
-USE = re.compile(r"use (\S+?)(?:\.\{(.*)\}| as \w+)?$")
+# The changes and turns of a rule: their name in functions, and which word says how they end, where they may fail.
+LEAVES = {
+    "Made": ("made", None), "TookTurn": ("turn", None), "Edits": ("edits", 6), "Assigns": ("assigns", 6),
+    "DeclaresAll": ("declares_all", 4), "Sets": ("sets", 5), "Adds": ("adds", 3),
+}
+USE = re.compile(r"use (\S+?)(?:\.\{(.*)\}| as \w+)$")
 
 TABLE = families()
 FAMILIES = {family["name"]: family for family in TABLE}
@@ -36,17 +38,21 @@ def words(text):
 
 
 def snake(name):
-    return re.sub(r"(?<!^)([A-Z])", r"_\1", name).lower()
+    return LEAVES[name][0] if name in LEAVES else re.sub(r"(?<!^)([A-Z])", r"_\1", name).lower()
+
+
+def end_at(family):
+    """Which of a family's indices says how a derivation ends."""
+    return next(at for at, index in enumerate(family["indices"]) if TYPES[letters(index)].startswith("Result"))
 
 
 def end_of(part):
     """How a part ends, with its type; None where it always goes well."""
     head, *rest = words(part)
     if head in FAMILIES:
-        indices = FAMILIES[head]["indices"]
-        at = next(at for at, index in enumerate(indices) if TYPES[letters(index)].startswith("Result"))
-        return rest[at], TYPES[letters(indices[at])]
-    at = LEAVES.get(head)
+        at = end_at(FAMILIES[head])
+        return rest[at], TYPES[letters(FAMILIES[head]["indices"][at])]
+    at = LEAVES[head][1]
     return at and (rest[at - 1], TYPES["ot"])
 
 
@@ -61,58 +67,11 @@ def memory_of(part, whole):
 
 
 def indices_of(family):
-    """The variables of a family: the second of a letter has a 2."""
+    """The variables of a family; the second of a letter has a 2."""
     found = []
     for index in family["indices"]:
         found.append(index + "2" if index in found else index)
     return found
-
-
-class Law:
-    """What is said of each derivation, and how that of a rule follows from that of its parts."""
-
-    is_proof = True
-
-    def function(self, head):
-        return "%s_%s" % (self.prefix, snake(head))
-
-    def call(self, premise, place, whole):
-        """What the law says of a premise, the variable of which is given, or None."""
-        head = words(premise)[0]
-        if head not in FAMILIES and head not in LEAVES:
-            return None
-        ends = " " + memory_of(premise, whole) if self.is_proof and end_of(premise) else ""
-        return "%s %s%s" % (self.function(head), place, ends)
-
-    def named(self, premises):
-        """The variables of a rule that its clause names."""
-        return []
-
-    def clause(self, family, rule):
-        name, premises, conclusion = rule
-        places, parts = [], []
-        for at, premise in enumerate(premises, 1):
-            call = self.call(premise, "p%d" % at, conclusion)
-            places.append("p%d" % at if call else "_")
-            parts += [call] if call else []
-        pattern = " ".join(["%s.%s" % (family["name"], name), *("{%s = %s}" % (each, each) for each in self.named(premises)), *places])
-        if self.is_proof and end_of(conclusion)[0] == MEMORY:
-            return pattern, "absurd (has refl)"
-        return pattern, self.whole(parts)
-
-    def file(self):
-        text = ""
-        for family in TABLE:
-            indices = indices_of(family)
-            function = self.function(family["name"])
-            has = " has" if self.is_proof else ""
-            text += "  pub %s : %s\n" % (function, self.says(family, indices))
-            for rule in family["rules"]:
-                pattern, body = self.clause(family, rule)
-                text += "  %s %s%s = %s\n" % (function, "(%s)" % pattern if " " in pattern else pattern, has, body)
-            text += "\n"
-        block = "mutual" if self.is_proof else "abbrev mutual"
-        return self.title + imports(self.uses, text) + "\n%s\n%s" % (block, text.rstrip() + "\n")
 
 
 def imports(uses, text):
@@ -123,29 +82,66 @@ def imports(uses, text):
     modules, taken = {}, set()
     for line in lines:
         module, names = USE.match(line).groups()
-        short = [name for name in (names or "").split(", ") if name.strip("◌") in used - taken]
-        taken.update(name.strip("◌") for name in short)
-        if short:
-            modules.setdefault(module, []).extend(short)
-        elif names is None and line.split()[-1] + "." in text:
+        named = {name.split()[-1].strip("◌"): name for name in names.split(", ")} if names else {}
+        found = [name for short, name in named.items() if short in used - taken]
+        taken.update(named)
+        if found:
+            modules.setdefault(module, []).extend(found)
+        elif not named and line.split()[-1] + "." in text:
             modules[line[4:]] = None
     return "".join("use %s\n" % (module if names is None else "%s.{%s}" % (module, ", ".join(names))) for module, names in modules.items())
 
 
-def derivation(family, indices):
-    return "%s %s" % (family["name"], " ".join(indices))
+class Law:
+    """What is said of each derivation, and how that of a rule follows from that of its parts."""
 
+    is_proof = True
 
-def chain(joined, parts):
-    """Parts joined two by two, from the last one on."""
-    whole = parts[-1]
-    for part in reversed(parts[:-1]):
-        whole = joined(part, whole)
-    return whole
+    def call(self, premise, place, whole):
+        """What the law says of a premise, the variable of which is given, or None."""
+        head = words(premise)[0]
+        if head not in FAMILIES and head not in LEAVES:
+            return None
+        memory = [memory_of(premise, whole)] if self.is_proof and end_of(premise) else []
+        return " ".join(["%s_%s" % (self.prefix, snake(head)), place, *memory])
 
+    def named(self, premises):
+        """The variables of a rule that its clause names."""
+        return []
 
-def in_brackets(text):
-    return "(%s)" % text if " " in text else text
+    def joined(self, part, rest):
+        return self.join.format(part=part, rest=rest)
+
+    def whole(self, parts):
+        """What is said of a rule, by what is said of its parts."""
+        if not parts:
+            return self.nothing
+        found = parts[-1]
+        for part in reversed(parts[:-1]):
+            found = self.joined(part, found)
+        return found
+
+    def clause(self, family, rule):
+        name, premises, conclusion = rule
+        calls = [self.call(premise, "p%d" % at, conclusion) for at, premise in enumerate(premises, 1)]
+        places = ["p%d" % at if call else "_" for at, call in enumerate(calls, 1)]
+        named = ["{%s = %s}" % (variable, variable) for variable in self.named(premises)]
+        pattern = " ".join(["%s.%s" % (family["name"], name), *named, *places])
+        is_memory = self.is_proof and end_of(conclusion)[0] == "(Err Memory)"
+        body = "absurd (has refl)" if is_memory else self.whole([call for call in calls if call])
+        return "%s%s = %s" % ("(%s)" % pattern if " " in pattern else pattern, " has" if self.is_proof else "", body)
+
+    def function(self, family):
+        indices, name = indices_of(family), snake(family["name"])
+        says = self.says.format(
+            binders=binders([" ".join(indices)]), derivation=" ".join([family["name"], *indices]),
+            end=indices[end_at(family)], name=name)
+        lines = [": " + says] + [self.clause(family, rule) for rule in family["rules"]]
+        return "".join("  %s%s_%s %s\n" % ("pub " if at == 0 else "", self.prefix, name, line) for at, line in enumerate(lines))
+
+    def file(self):
+        text = "\n".join(map(self.function, TABLE))
+        return self.title + imports(self.uses, text) + "\n%s\n" % ("mutual" if self.is_proof else "abbrev mutual") + text
 
 
 class Replaced(Law):
@@ -154,15 +150,11 @@ class Replaced(Law):
     uses = """use Rattle.std.specs.Prelude.{List, [], ◌++◌}
 use Rattle.journal_entries.specs.Replaced.{Replacement}
 use Rattle.run_laws.specs.Changes.{replaced_made, replaced_turn, replaced_edits, replaced_assigns, replaced_declares_all, replaced_sets, replaced_adds}"""
+    says = "{binders} → {derivation} → List Replacement"
+    nothing = "[]"
 
-    def function(self, head):
-        return "replaced_turn" if head == "TookTurn" else super().function(head)
-
-    def says(self, family, indices):
-        return "%s → %s → List Replacement" % (binders([" ".join(indices)]), derivation(family, indices))
-
-    def whole(self, parts):
-        return chain(lambda part, rest: "%s ++ %s" % (part, "(%s)" % rest if "++" in rest else rest), parts) if parts else "[]"
+    def joined(self, part, rest):
+        return "%s ++ %s" % (part, "(%s)" % rest if "++" in rest else rest)
 
 
 class Bases(Law):
@@ -170,20 +162,12 @@ class Bases(Law):
     title = "-- The history round the open batch is kept.\n"
     uses = """use Rattle.std.proofs.Common.{◌≡◌, refl, ◌∙◌}
 use Rattle.containers.specs.Base.{base}
-use Rattle.containers.proofs.Bases.{made_keeps, took_keeps}
+use Rattle.containers.proofs.Bases.{made_keeps as base_made, took_keeps as base_turn}
 use Rattle.run_laws.specs.Laws.{HasMemory}
 use Rattle.run_laws.proofs.Ends.{given, stopped, faulted, exited}
 use Rattle.run_laws.proofs.Kept.{base_edits, base_assigns, base_declares_all, base_sets, base_adds}"""
-
-    def function(self, head):
-        return {"Made": "made_keeps", "TookTurn": "took_keeps"}.get(head) or super().function(head)
-
-    def says(self, family, indices):
-        end, worlds = end_index(indices), [index for index in indices if letters(index) == "w"]
-        return "%s → %s → HasMemory %s → base %s ≡ base %s" % (binders([" ".join(indices)]), derivation(family, indices), end, worlds[1], worlds[0])
-
-    def whole(self, parts):
-        return " ∙ ".join(reversed(parts)) or "refl"
+    says = "{binders} → {derivation} → HasMemory {end} → base w2 ≡ base w"
+    nothing, join = "refl", "{rest} ∙ {part}"
 
 
 class Rises(Law):
@@ -195,17 +179,8 @@ use Rattle.run_laws.specs.Rising.{RisesBy}
 use Rattle.run_laws.specs.Replaced.{%s}
 use Rattle.run_laws.proofs.Ends.{given, stopped, faulted, exited}
 use Rattle.run_laws.proofs.Risen.{rises_nothing, rises_trans, rises_made, rises_turn, rises_edits, rises_assigns, rises_declares_all, rises_sets, rises_adds}""" % ", ".join("replaced_" + snake(name) for name in FAMILIES)
-
-    def function(self, head):
-        return "rises_turn" if head == "TookTurn" else super().function(head)
-
-    def says(self, family, indices):
-        end, worlds = end_index(indices), [index for index in indices if letters(index) == "w"]
-        return "%s (v : %s) → HasMemory %s → RisesBy (replaced_%s v) %s.start %s.start" % (
-            binders([" ".join(indices)]), derivation(family, indices), end, snake(family["name"]), worlds[0], worlds[1])
-
-    def whole(self, parts):
-        return chain(lambda part, rest: "rises_trans (%s) (%s)" % (part, rest), parts) if parts else "rises_nothing"
+    says = "{binders} (v : {derivation}) → HasMemory {end} → RisesBy (replaced_{name} v) w.start w2.start"
+    nothing, join = "rises_nothing", "rises_trans ({part}) ({rest})"
 
 
 class Runs(Law):
@@ -215,35 +190,31 @@ class Runs(Law):
 use Rattle.run_laws.specs.Laws.{HasMemory, GoesOn}
 use Rattle.run_laws.proofs.Ends.{given, stopped, faulted, exited}
 use Rattle.run_laws.proofs.Going.{goes_nowhere, goes_trans, goes_by_step, goes_by_shows, goes_by_noted, goes_by_property, goes_by_ends, goes_by_returned}"""
+    says = "{binders} → {derivation} → HasMemory {end} → GoesOn r r2"
+    nothing, join = "goes_nowhere", "goes_trans ({part}) ({rest})"
     # What makes another run of one, beside derivations, and what it is made by.
-    LEAVES = (
-        (r"Step ", "goes_by_step"),
-        (r"r\d* ≡ shows r\d* (\w+)$", "goes_by_shows"),
-        (r"r\d* ≡ noted r\d* (\w+) (\w+)$", "goes_by_noted"),
-        (r"run_property_set r\d* (\w+) (\w+) ≡ Ok r\d*$", "goes_by_property"),
-        (r"ends (\w+) (\w+) r\d* ≡ Some ", "goes_by_ends"),
-        (r"returned (\w+) ([\w.]+) r\d* ≡ ", "goes_by_returned"))
+    LEAVES = {
+        "goes_by_step": r"Step ",
+        "goes_by_shows": r"r\d* ≡ shows r\d* (\w+)$",
+        "goes_by_noted": r"r\d* ≡ noted r\d* (\w+) (\w+)$",
+        "goes_by_property": r"run_property_set r\d* (\w+) (\w+) ≡ Ok r\d*$",
+        "goes_by_ends": r"ends (\w+) (\w+) r\d* ≡ Some ",
+        "goes_by_returned": r"returned (\w+) ([\w.]+) r\d* ≡ ",
+    }
+
+    def leaf(self, premise):
+        """The lemma on a premise and what it is made by, where it makes another run."""
+        found = ((lemma, re.match(form, premise)) for lemma, form in self.LEAVES.items())
+        return next(((lemma, match.groups()) for lemma, match in found if match), None)
 
     def call(self, premise, place, whole):
         if words(premise)[0] in FAMILIES:
             return super().call(premise, place, whole)
-        found = ((lemma, re.match(form, premise)) for form, lemma in self.LEAVES)
-        return next((" ".join([lemma, *match.groups(), place]) for lemma, match in found if match), None)
+        leaf = self.leaf(premise)
+        return leaf and " ".join([leaf[0], *leaf[1], place])
 
     def named(self, premises):
-        found = [match.groups() for premise in premises for form, _ in self.LEAVES for match in [re.match(form, premise)] if match]
-        return [name.split(".")[0] for names in found for name in names]
-
-    def says(self, family, indices):
-        runs = [index for index in indices if letters(index) == "r"]
-        return "%s → %s → HasMemory %s → GoesOn %s %s" % (binders([" ".join(indices)]), derivation(family, indices), end_index(indices), runs[0], runs[1])
-
-    def whole(self, parts):
-        return chain(lambda part, rest: "goes_trans (%s) (%s)" % (part, rest), parts) if parts else "goes_nowhere"
-
-
-def end_index(indices):
-    return next(index for index in indices if TYPES[letters(index)].startswith("Result"))
+        return [each.split(".")[0] for leaf in map(self.leaf, premises) if leaf for each in leaf[1]]
 
 
 def main():

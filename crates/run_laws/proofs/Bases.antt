@@ -1,7 +1,7 @@
 -- The history round the open batch is kept.
 use Rattle.std.proofs.Common.{◌≡◌, refl, ◌∙◌}
 use Rattle.containers.specs.Base.{base}
-use Rattle.containers.proofs.Bases.{made_keeps, took_keeps}
+use Rattle.containers.proofs.Bases.{made_keeps as base_made, took_keeps as base_turn}
 use Rattle.run_laws.specs.Laws.{HasMemory}
 use Rattle.run_laws.proofs.Ends.{given, stopped, faulted, exited}
 use Rattle.run_laws.proofs.Kept.{base_edits, base_assigns, base_declares_all, base_sets, base_adds}
@@ -330,7 +330,7 @@ mutual
   base_goes (Goes.go_stays _) has = refl
   base_goes (Goes.go_close_stops _ _ p3) has = base_systems p3 has
   base_goes (Goes.go_gone _ _ p3 _) has = base_systems p3 given
-  base_goes (Goes.go_arrives _ _ p3 _ p5 p6) has = base_systems p6 has ∙ made_keeps p5 ∙ base_systems p3 given
+  base_goes (Goes.go_arrives _ _ p3 _ p5 p6) has = base_systems p6 has ∙ base_made p5 ∙ base_systems p3 given
 
   pub base_menu : {w w2 : History} {r r2 : RunState} {f : Frame} {d : ℕ} {it : Item} {o : Result (List ℕ) Stop} → Menu w r f d it o w2 r2 → HasMemory o → base w2 ≡ base w
   base_menu Menu.menu_memory has = absurd (has refl)
@@ -343,7 +343,7 @@ mutual
   base_menu (Menu.part_full _ _ p3) has = base_adds p3 (stopped has)
   base_menu (Menu.new_part _ _ p3) has = base_adds p3 given
   base_menu (Menu.delete_refused _ _) has = refl
-  base_menu (Menu.delete_card _ _ p3 _ p5) has = base_systems p5 has ∙ made_keeps p3
+  base_menu (Menu.delete_card _ _ p3 _ p5) has = base_systems p5 has ∙ base_made p3
 
   pub base_converses : {w w2 : History} {r r2 : RunState} {d k : ℕ} {vs : List (List ℕ)} {odn : Result Conversed Stop} → Converses w r d k vs odn w2 r2 → HasMemory odn → base w2 ≡ base w
   base_converses Converses.converse_memory has = absurd (has refl)
@@ -354,10 +354,10 @@ mutual
   pub base_talks : {w w2 : History} {r r2 : RunState} {d k : ℕ} {inp : Input} {odn : Result Conversed Stop} → Talks w r d k inp odn w2 r2 → HasMemory odn → base w2 ≡ base w
   base_talks Talks.talk_memory has = absurd (has refl)
   base_talks (Talks.talk_no_step _) has = refl
-  base_talks (Talks.talk_done _ p2 _ _) has = took_keeps p2
-  base_talks (Talks.talk_fails _ p2 _) has = took_keeps p2
-  base_talks (Talks.talk_stops _ p2 p3) has = base_calls_back p3 (stopped has) ∙ took_keeps p2
-  base_talks (Talks.talk_goes_on _ p2 p3 p4) has = base_talks p4 has ∙ base_calls_back p3 given ∙ took_keeps p2
+  base_talks (Talks.talk_done _ p2 _ _) has = base_turn p2
+  base_talks (Talks.talk_fails _ p2 _) has = base_turn p2
+  base_talks (Talks.talk_stops _ p2 p3) has = base_calls_back p3 (stopped has) ∙ base_turn p2
+  base_talks (Talks.talk_goes_on _ p2 p3 p4) has = base_talks p4 has ∙ base_calls_back p3 given ∙ base_turn p2
 
   pub base_calls_back : {w w2 : History} {r r2 : RunState} {d : ℕ} {ask : Ask} {oin : Result Input Stop} → CallsBack w r d ask oin w2 r2 → HasMemory oin → base w2 ≡ base w
   base_calls_back CallsBack.call_back_memory has = absurd (has refl)

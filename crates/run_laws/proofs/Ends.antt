@@ -1,8 +1,8 @@
 -- Ends that aren't want of memory.
-use Rattle.std.proofs.Common.{refl, Result, Ok, Err}
+use Rattle.std.proofs.Common.{Ok, Err}
 use Rattle.ht_values.specs.declared.fault.Fault.{Fault}
 use Rattle.meaning.specs.declared.end.Stop.{Stop}
-use Rattle.meaning.specs.declared.end.Stop.TheVariants.{Fault as Faults, Exited, Memory}
+use Rattle.meaning.specs.declared.end.Stop.TheVariants.{Fault as Faults, Exited}
 use Rattle.run_laws.specs.Laws.{HasMemory}
 
 pub given : {A : Type 0} {a : A} → HasMemory (Ok a)

@@ -1,11 +1,10 @@
 -- The trail after all that a run replaced, and how many entries it has.
-use Rattle.std.proofs.Common.{◌≡◌, ℕ, true, List, [], ◌∷◌, ◌++◌, refl, sym, ap, subst, ◌∙◌, append_assoc}
-use Rattle.std.specs.List.{list_any}
-use Rattle.journal_entries.specs.Places.{Place, same_place}
+use Rattle.std.proofs.Common.{List, [], ◌∷◌, ◌++◌, sym, ap, subst, ◌∙◌, append_assoc}
+use Rattle.journal_entries.specs.Places.{Place}
 use Rattle.journal_entries.specs.Replaced.{Replacement, replaced_by, replaced_by_turn, places_of}
 use Rattle.journal_entries.specs.Trails.{Mark, IsOnce, IsShort, AreAmong, different}
 use Rattle.journal_entries.proofs.Trails.{short}
-use Rattle.change_journal.specs.Rising.{trail_after, trail_after_turn}
+use Rattle.change_journal.specs.Rising.{trail_after_turn}
 use Rattle.change_journal.proofs.Short.{AreOf, of-own, among-after}
 use Rattle.run_laws.specs.Rising.{TrailAfter}
 
