@@ -146,7 +146,7 @@ class Law:
 
 class Replaced(Law):
     prefix, path, is_proof = "replaced", "specs/Replaced.antt", False
-    title = "-- What a run replaces, in order: its derivation says it.\n"
+    title = "-- What a run replaces, in order: its derivation says it.\npub use Rattle.run_laws.specs.Rising.{RisesBy}\n"
     uses = """use Rattle.std.specs.Prelude.{List, [], ◌++◌}
 use Rattle.journal_entries.specs.Replaced.{Replacement}
 use Rattle.run_laws.specs.Changes.{replaced_made, replaced_turn, replaced_edits, replaced_assigns, replaced_declares_all, replaced_sets, replaced_adds}"""

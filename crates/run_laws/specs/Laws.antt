@@ -10,8 +10,8 @@ use Rattle.meaning.specs.declared.end.Stop.{Stop}
 use Rattle.meaning.specs.declared.end.Stop.TheVariants.{Memory}
 use Rattle.meaning.specs.State.{RunState}
 use Rattle.meaning.specs.Meaning.{Line, Message}
-use Rattle.run_laws.specs.Rising.{TrailAfter, RisesBy}
-use Rattle.run_laws.specs.Replaced.{replaced_line, replaced_message}
+use Rattle.run_laws.specs.Rising.{TrailAfter}
+use Rattle.run_laws.specs.Replaced.{replaced_line, replaced_message, RisesBy}
 
 -- an end that isn't want of memory
 abbrev pub HasMemory : {A : Type 0} → Result A Stop → Type 0

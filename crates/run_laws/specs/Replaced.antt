@@ -1,4 +1,5 @@
 -- What a run replaces, in order: its derivation says it.
+pub use Rattle.run_laws.specs.Rising.{RisesBy}
 use Rattle.std.specs.Prelude.{List, [], ◌++◌, ℕ, ℤ, Bool, Option, Result}
 use Rattle.journal_entries.specs.Replaced.{Replacement}
 use Rattle.run_laws.specs.Changes.{replaced_made, replaced_turn, replaced_edits, replaced_assigns, replaced_declares_all, replaced_sets, replaced_adds}
