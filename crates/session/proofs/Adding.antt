@@ -1,5 +1,5 @@
 -- Commands that are run, and commands that are given up.
-use Rattle.std.proofs.Common.{◌≡◌, ℕ, ◌≤◌, List, [], refl, sym, ap, subst, ◌∙◌, arith}
+use Rattle.std.proofs.Common.{◌≡◌, ℕ, List, refl, sym, ap, subst, ◌∙◌, arith}
 use Rattle.std.specs.Prelude.{Option, Some, None, IfSome, IsSome, Result, unwrap_or, option_map}
 use Rattle.ht_grammar.specs.Statements.{Stmts}
 use Rattle.journal_entries.specs.State.{State}

@@ -1,5 +1,5 @@
 -- What lines, calls and runs do to the list of whole states.
-use Rattle.std.proofs.Common.{◌≡◌, ℕ, zero, suc, ◌+◌, ◌-◌, ◌<◌, ◌≤◌, ◌⊎◌, inl, inr, min, Bool, true, false, cond, List, [], ◌∷◌, ◌++◌, length, map, take, drop, refl, sym, ◌∙◌, ap, ap₂, subst, arith, append_assoc, length-append, length-take, length-drop}
+use Rattle.std.proofs.Common.{◌≡◌, ℕ, zero, suc, ◌+◌, ◌-◌, ◌<◌, ◌≤◌, inl, inr, min, Bool, true, false, cond, List, [], ◌∷◌, ◌++◌, length, map, take, drop, refl, sym, ◌∙◌, ap, ap₂, subst, arith, append_assoc, length-append, length-take, length-drop}
 use Rattle.std.specs.Prelude.{Option, Some, None, option_map, Result, IsErrOf, ◌==◌, slice_get, nat_le, nat_lt, reverse, not, MatchBool}
 use Rattle.std.proofs.lemmas.List.{reverse-append, length-reverse, length-map, map-append, drop-append-le, take-append-drop}
 use Rattle.std.specs.Io.KnownBytes.{IsAtEnd}
@@ -15,7 +15,7 @@ use Rattle.session.specs.declared.limits.TheConstants.{LONGEST_LINE}
 use Rattle.session.specs.Commands.{is_dot_line, command_in}
 use Rattle.session.specs.Headline.{Snapshot, Timeline, LineMoves, Does, DoesLine, Replaces, Moved, at_cursor, cursor_back, cursor_forth, cursor_back_to, before, later_or_here, last_numbered, with_one_more, without_one, line_counted}
 use Rattle.session.specs.Moves.{MovesTo, back_by, forth_by, stamps, undone, redone, undone_to, undone_by, places_to}
-use Rattle.session.specs.Replies.{ended, refused, Refuses, Typed, hypertalk, nothing, given_up, Moves, Looks, ShowsStack}
+use Rattle.session.specs.Replies.{Refuses, Typed, hypertalk, nothing, given_up, Moves, Looks}
 use Rattle.session.specs.Standing.{Standing, next_number}
 use Rattle.session.specs.TakesLine.{TakesLine, Adds, GivesUp, Types, Performs, Says}
 use Rattle.session.specs.Unzipped.{snapshots_of, all_snapshots, timeline_of, LinesFollow, MovesFollow, PlugsFollow, OpensFollow, RunsFollow, StopsFollow, without_if}

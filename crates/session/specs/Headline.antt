@@ -1,5 +1,5 @@
 -- The headline: a list of whole states with a cursor, and what each line and each call does to it.
-use Rattle.std.specs.Prelude.{◌≡◌, ◌⊎◌, ℕ, zero, suc, ◌+◌, ◌-◌, ◌<◌, ◌≤◌, min, Bool, List, [], ◌∷◌, ◌++◌, length, map, take, drop, decimal, Option, Some, None, option_map, Result, IsOk, IsErrOf, ◌==◌, slice_get, nat_le, nat_lt, if◌then◌else◌, MatchBool}
+use Rattle.std.specs.Prelude.{◌≡◌, ◌⊎◌, ℕ, suc, ◌+◌, ◌-◌, min, Bool, List, [], ◌∷◌, ◌++◌, length, map, take, drop, decimal, Option, Some, None, option_map, Result, IsOk, IsErrOf, ◌==◌, slice_get, nat_le, nat_lt, if◌then◌else◌, MatchBool}
 use Rattle.ht_grammar.specs.Statements.{Stmts}
 use Rattle.externals.specs.Cells.{Seen}
 use Rattle.object_table.specs.Content.{Content}
