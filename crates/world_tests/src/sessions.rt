@@ -227,8 +227,50 @@ const TALKS: &[Talk] = &[
     },
     Talk {
         name: "other lines are refused",
-        input: b"put (\n.bogus\ngo card 02\ngo  card 2\nput \"a\" into put\nGo card 2\n\n.undo\t1\n .where\n.undo to\n",
-        wanted: b"refused 3\nrefused 3\nrefused 3\nrefused 3\nrefused 3\nrefused 3\nrefused 3\nrefused 3\nrefused 3\nrefused 3\n",
+        input: b"put (\n.bogus\nput \"a\" into put\n.undo\t1\n .where\n.undo to\nexit repeat\nput 1 put 2\n",
+        wanted: b"refused 3\nrefused 3\nrefused 3\nrefused 3\nrefused 3\nrefused 3\nrefused 3\nrefused 3\n",
+        ran: Ran::EndOfInput,
+    },
+    Talk {
+        name: "words and spaces are those of the language",
+        input: b"go card 02\ngo  card 2\nGo cd 1 -- back\nput three into g\n.history\n.globals\n",
+        wanted: b"ok\nok\nok\nok\n> 4 0\nok\n> g 3\nok\n",
+        ran: Ran::EndOfInput,
+    },
+    Talk {
+        name: "a line without a statement adds a place",
+        input: b"\n \t\n-- nothing\nif false then put 1\n.history\n",
+        wanted: b"ok\nok\nok\nok\n> 4 0\nok\n",
+        ran: Ran::EndOfInput,
+    },
+    Talk {
+        name: "a line has several statements, and each shows a line",
+        input: b"put 2 + 3 * 4\rput empty\r\rput \"a\\b\"\n",
+        wanted: b"> 14\n> \n> a\\5cb\nok\n",
+        ran: Ran::EndOfInput,
+    },
+    Talk {
+        name: "a fault keeps what was done before it",
+        input: b"put 1 into g\rput g\rput 1 div 0\rput 2 into g\n.globals\n.undo\n.globals\n.redo\n.globals\n",
+        wanted: b"> 1\nfault 6\n> g 1\nok\nok\nok\nok\n> g 1\nok\n",
+        ran: Ran::EndOfInput,
+    },
+    Talk {
+        name: "exit to HyperCard ends the command alone",
+        input: b"put 1 into g\rexit to HyperCard\rput 2 into g\nput g\n",
+        wanted: b"ok\n> 1\nok\n",
+        ran: Ran::EndOfInput,
+    },
+    Talk {
+        name: "properties of the run and the result end with the command",
+        input: b"set itemDelimiter to \";\"\rput item 1 of \"a;b,c\"\nput item 1 of \"a;b,c\"\nset script of this card to \"on f\" & return & \"return 7\" & return & \"end f\"\nf\rput the result\nput the result\n",
+        wanted: b"> a\nok\n> a;b\nok\nok\n> 7\nok\n> \nok\n",
+        ran: Ran::EndOfInput,
+    },
+    Talk {
+        name: "a handler serves as its script is now",
+        input: b"set script of this card to \"on f\" & return & \"put 1\" & return & \"end f\"\nf\nset script of this card to empty\nf\n.undo 2\nf\n",
+        wanted: b"ok\n> 1\nok\nok\nfault 2\nok\n> 1\nok\n",
         ran: Ran::EndOfInput,
     },
     Talk {
@@ -241,6 +283,12 @@ const TALKS: &[Talk] = &[
         name: "a last return is no end of a line",
         input: b".where\r\n.where\r",
         wanted: b"> 2\nok\nrefused 3\n",
+        ran: Ran::EndOfInput,
+    },
+    Talk {
+        name: "a last return may end a statement",
+        input: b"put 1\r\nput 2\r",
+        wanted: b"> 1\nok\n> 2\nok\n",
         ran: Ran::EndOfInput,
     },
 ];
@@ -527,12 +575,67 @@ fn replies_show_lines_and_end(rt: HostRuntime) -> Result<(), Fail> {
     let rows: &[(&[u8], Ending, Option<&[u8]>)] = &[
         (b".where", Ending::Ok, Some(b"2")),
         (b"go card 2", Ending::Fault(Fault::NoSuchObject), None),
-        (b"", Ending::Refused(Refusal::BadCommand), None),
+        (b"put 1 div 0", Ending::Fault(Fault::DivideByZero), None),
+        (b"", Ending::Ok, None),
+        (b"put 1 + 1", Ending::Ok, Some(b"2")),
+        (b"put (", Ending::Refused(Refusal::BadCommand), None),
+        (b".undo", Ending::Refused(Refusal::NothingToUndo), None),
         (b".quit", Ending::Quit, None),
     ];
     for (line, ending, shown) in rows {
         assert!(rt;
             replies(rt.alloc(), none(rt.alloc()), line, *ending, *shown)?,
+            "{line:?}"
+        );
+    }
+    Ok(())
+}
+
+/// Whether a reply sends just these messages, each with its name and the id of its object.
+fn sends(reply: &Reply, due: &[(&[u8], u32)]) -> bool {
+    let sent = &reply.sent;
+    if sent.len() != due.len() {
+        return false;
+    }
+    for i in 0..due.len() {
+        let (name, object) = due[i];
+        if i < sent.len() && (sent.at(i).name.as_slice() != name || sent.at(i).object != object) {
+            return false;
+        }
+    }
+    true
+}
+
+fn sends_for<E: External>(
+    alloc: Global,
+    externals: Vec<E>,
+    line: &[u8],
+    due: &[(&[u8], u32)],
+) -> Result<bool, Fail> {
+    let mut session = session_of(alloc, externals, 100)?;
+    let reply = reply_to(&mut session, line);
+    Ok(sends(&reply, due))
+}
+
+#[test]
+fn replies_tell_the_messages_that_were_sent(rt: HostRuntime) -> Result<(), Fail> {
+    let rows: &[(&[u8], &[(&[u8], u32)])] = &[
+        (b"put 1", &[]),
+        (b"go card 2", &[(b"closeCard", 2), (b"openCard", 4)]),
+        (b"set lockMessages to true\rgo card 2", &[]),
+        (b"Foo", &[(b"Foo", 2)]),
+        (b"put Abs(1)", &[(b"Abs", 2)]),
+        (b"send \"mouseUp\" to card 2", &[(b"mouseUp", 4)]),
+        (
+            b"go next\rfoo",
+            &[(b"closeCard", 2), (b"openCard", 4), (b"foo", 2)],
+        ),
+        (b".where", &[]),
+        (b"put (", &[]),
+    ];
+    for (line, due) in rows {
+        assert!(rt;
+            sends_for(rt.alloc(), none(rt.alloc()), line, due)?,
             "{line:?}"
         );
     }
