@@ -11,10 +11,14 @@ mod message_path;
 #[cfg(test)]
 mod places;
 #[cfg(test)]
-mod quiet;
-#[cfg(test)]
 mod sessions;
 #[cfg(test)]
 mod stack_changes;
 #[cfg(test)]
+mod stacks;
+#[cfg(test)]
+mod turner;
+#[cfg(test)]
 mod variables_and_fields;
+#[cfg(test)]
+mod worlds;

@@ -1,30 +1,16 @@
 //! Examples, with ample memory.
 
-ghost use Rattle.std.specs.Prelude.{IfOk};
-ghost use Rattle.object_table.specs.WellFormed.{IsWellFormed};
-
-use crate::quiet::make_quiet;
+use crate::stacks::{TWO_CARDS, two_cards};
+use crate::turner::{Boxed, all_boxed, boxed};
 use devices::Watched;
 use externals::External;
 use ht_values::{Fault, Text};
 use object_table::Stack;
 use session::*;
-use stack_file::read;
 use std::alloc::{AllocError, Global};
 use std::io;
 use std::io::{Read, Write};
 use std::test::*;
-
-pub(crate) const TWO_CARDS: &[u8] =
-    b"htstack 2\nnext 5\nname |Demo\nscript 0\nbackgrounds 1\nbackground 1\nname |\ncantDelete false\nscript 0\nparts 1\nfield 3\nname |Note\nvisible true\nlockText false\nsharedText false\nscript 0\nshared 0\ncards 2\ncard 2 1\nname |A\ncantDelete false\nscript 0\nparts 0\ntext 3 0\ncard 4 1\nname |B\ncantDelete false\nscript 0\nparts 0\ntext 3 0\nend\n";
-
-pub(crate) fn two_cards(alloc: Global) -> Result<Stack, Fail>
-    ensures { IfOk result (λ s. IsWellFormed s.content) }
-{
-    Ok(read(alloc, TWO_CARDS)?)
-}
-
-type Boxed = Box<dyn External>;
 
 fn none(alloc: Global) -> Vec<Boxed> {
     Vec::new(alloc)
@@ -378,22 +364,9 @@ fn steps_come_before_depth(rt: HostRuntime) -> Result<(), Fail> {
     Ok(())
 }
 
-fn boxed(alloc: Global, name: &[u8]) -> Result<Boxed, Fail> {
-    let boxed: Boxed = Box::new(alloc, make_quiet(alloc, name)?)?;
-    Ok(boxed)
-}
-
-fn quiets(alloc: Global, names: &[&[u8]]) -> Result<Vec<Boxed>, Fail> {
-    let mut quiets = none(alloc);
-    for name in names {
-        quiets.push(boxed(alloc, name)?).ok().ok_or("memory")?;
-    }
-    Ok(quiets)
-}
-
 #[test]
 fn names_are_apart(rt: HostRuntime) -> Result<(), Fail> {
-    let twice = quiets(rt.alloc(), &[b"Echo".as_slice(), b"ECHO".as_slice()])?;
+    let twice = all_boxed(rt.alloc(), &[b"Echo".as_slice(), b"ECHO".as_slice()])?;
     let refusal = refusal_to_open(rt.alloc(), twice, 1, 1)?;
     assert!(rt; refusal == Some((OpenError::DuplicateName, 2)));
     Ok(())
@@ -487,7 +460,7 @@ fn an_external_is_plugged_once_and_unplugged(rt: HostRuntime) -> Result<(), Fail
     let name = Text::from_slice(rt.alloc(), b"quiet")?;
     let quiet = boxed(rt.alloc(), b"Quiet")?;
     let same = boxed(rt.alloc(), b"QUIET")?;
-    let first = quiets(rt.alloc(), &[b"one".as_slice()])?;
+    let first = all_boxed(rt.alloc(), &[b"one".as_slice()])?;
     assert!(rt; plugs(rt.alloc(), first, quiet, same, &name)? == (true, false, true, 1));
     Ok(())
 }
