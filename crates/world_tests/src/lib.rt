@@ -1,5 +1,5 @@
-//! Examples of the crates of the world, of the message path and of the session, with ample memory. A crate that has tests is
-//! proved a second time for them, so they stand here, above the crates that they try, where nothing else is to be proved.
+//! Examples of the crates of the world and of the message path, with ample memory. A crate that has tests is proved a second
+//! time for them, so they stand here, above the crates that they try, where nothing else is to be proved.
 #![tactic(auto)]
 
 #[cfg(test)]
@@ -10,8 +10,6 @@ mod entries;
 mod message_path;
 #[cfg(test)]
 mod places;
-#[cfg(test)]
-mod sessions;
 #[cfg(test)]
 mod stack_changes;
 #[cfg(test)]

@@ -81,15 +81,6 @@ fn begun(alloc: Global) -> Result<Box<World<Turner>>, Fail>
     }
 }
 
-/// The edit of a work.
-fn edit_of(alloc: Global, work: Work) -> Result<Edit, Failure> {
-    Ok(match work {
-        Work::Put(place, bytes) => Edit::Put(place, text(alloc, bytes)?),
-        Work::Add(operand) => Edit::Alter(Op::Add, text(alloc, operand)?),
-        Work::Delete => Edit::Delete,
-    })
-}
-
 /// The place of a container, or of a chunk of it.
 fn place_of<'a>(
     alloc: Global,
@@ -120,7 +111,11 @@ fn edit(
     requires { IsSome (base world.old.history).start }
     ensures { IsSome (base world.new.history).start }
 {
-    let edit = edit_of(alloc, work)?;
+    let edit = match work {
+        Work::Put(at, bytes) => Edit::Put(at, text(alloc, bytes)?),
+        Work::Add(operand) => Edit::Alter(Op::Add, text(alloc, operand)?),
+        Work::Delete => Edit::Delete,
+    };
     write(alloc, world, variables, place, edit, b',')
 }
 
@@ -173,22 +168,6 @@ fn act_once(
     }
 }
 
-fn act_all(
-    alloc: Global,
-    world: &mut World<Turner>,
-    variables: &mut Variables,
-    container: Container<'_>,
-    acts: &[Act],
-) -> Result<(), Failure>
-    requires { IsSome (base world.old.history).start }
-    ensures { IsSome (base world.new.history).start }
-{
-    for each in acts {
-        act_once(alloc, world, variables, container, *each)?;
-    }
-    Ok(())
-}
-
 /// What a container holds.
 fn held(
     alloc: Global,
@@ -214,41 +193,24 @@ fn held_after(
         Part::Typed(acts) => (Variables::of_typed_line(alloc), acts),
         Part::Handler(acts) => (Variables::of_handler(alloc), acts),
     };
-    act_all(alloc, world, &mut variables, container, acts)?;
-    held(alloc, world, &variables, container)
-}
-
-/// Does a part with a container.
-fn read_after(
-    alloc: Global,
-    world: &mut World<Turner>,
-    spot: Spot,
-    part: Part,
-) -> Result<Text, Failure>
-    requires { IsSome (base world.old.history).start }
-    ensures { IsSome (base world.new.history).start }
-{
-    match spot {
-        Spot::Variable(bytes) => {
-            let name = name(alloc, bytes)?;
-            held_after(alloc, world, Container::Variable(&name), part)
-        }
-        Spot::Field(field, card) => held_after(alloc, world, Container::Field(field, card), part),
+    for act in acts {
+        act_once(alloc, world, &mut variables, container, *act)?;
     }
+    held(alloc, world, &variables, container)
 }
 
 /// What the last part reads.
 fn last_read(
     alloc: Global,
     world: &mut World<Turner>,
-    spot: Spot,
+    container: Container<'_>,
     parts: &[Part],
 ) -> Result<Text, Failure>
     requires { IsSome (base world.old.history).start }
 {
     let mut last = Text::new(alloc);
     for part in parts {
-        last = read_after(alloc, world, spot, *part)?;
+        last = held_after(alloc, world, container, *part)?;
     }
     Ok(last)
 }
@@ -260,8 +222,16 @@ fn is_due(
     parts: &[Part],
     due: Result<&[u8], Fault>,
 ) -> Result<bool, Fail> {
+    let variable = match spot {
+        Spot::Variable(bytes) => name(alloc, bytes)?,
+        Spot::Field(_, _) => name(alloc, b"none")?,
+    };
+    let container = match spot {
+        Spot::Variable(_) => Container::Variable(&variable),
+        Spot::Field(field, card) => Container::Field(field, card),
+    };
     let mut world = begun(alloc)?;
-    Ok(match last_read(alloc, &mut world, spot, parts) {
+    Ok(match last_read(alloc, &mut world, container, parts) {
         Ok(text) => due == Ok(text.as_slice()),
         Err(Failure::Fault(fault)) => due == Err(fault),
         Err(Failure::Memory) => false,
@@ -464,7 +434,8 @@ const NOTE: &[Act] = &[Act::Edit(None, Work::Put(Where::Into, b"note"))];
 #[test]
 fn a_field_is_read_in_place(rt: HostRuntime) -> Result<(), Fail> {
     let mut world = begun(rt.alloc())?;
-    let _ = read_after(rt.alloc(), &mut world, FIELD, Part::Typed(NOTE))?;
+    let field = Container::Field(3, 2);
+    let _ = held_after(rt.alloc(), &mut world, field, Part::Typed(NOTE))?;
     assert_eq!(rt; length_in(rt.alloc(), &world)?, 4);
     Ok(())
 }

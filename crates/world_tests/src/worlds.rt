@@ -21,7 +21,6 @@ pub(crate) enum Deed {
     Script(Id, &'static [u8]),
     CantDelete(Id, bool),
     LockText(Id, bool),
-    SharedText(Id, bool),
     Current(Id),
     Card,
     Background,
@@ -42,20 +41,22 @@ pub(crate) enum Step {
     Forth,
 }
 
-fn text(alloc: Global, bytes: &[u8]) -> Result<Text, Fail> {
-    Ok(Text::from_slice(alloc, bytes)?)
-}
-
 pub(crate) fn change(alloc: Global, deed: Deed) -> Result<Change, Fail> {
     Ok(match deed {
-        Deed::Global(name, value) => Change::Global(text(alloc, name)?, Some(text(alloc, value)?)),
-        Deed::FieldText(field, card, bytes) => Change::FieldText(field, card, text(alloc, bytes)?),
+        Deed::Global(name, value) => {
+            let name = Text::from_slice(alloc, name)?;
+            Change::Global(name, Some(Text::from_slice(alloc, value)?))
+        }
+        Deed::FieldText(field, card, text) => {
+            Change::FieldText(field, card, Text::from_slice(alloc, text)?)
+        }
         Deed::Hilite(button, card, lit) => Change::Hilite(button, card, lit),
-        Deed::Name(id, name) => Change::Prop(id, PropValue::NameIs(text(alloc, name)?)),
-        Deed::Script(id, script) => Change::Prop(id, PropValue::ScriptIs(text(alloc, script)?)),
+        Deed::Name(id, name) => Change::Prop(id, PropValue::NameIs(Text::from_slice(alloc, name)?)),
+        Deed::Script(id, script) => {
+            Change::Prop(id, PropValue::ScriptIs(Text::from_slice(alloc, script)?))
+        }
         Deed::CantDelete(id, on) => Change::Prop(id, PropValue::CantDeleteIs(on)),
         Deed::LockText(id, on) => Change::Prop(id, PropValue::LockTextIs(on)),
-        Deed::SharedText(id, on) => Change::Prop(id, PropValue::SharedTextIs(on)),
         Deed::Current(card) => Change::Current(card),
         Deed::Card => Change::NewCard,
         Deed::Background => Change::NewBackground,
@@ -88,7 +89,7 @@ fn begin<E: External>(world: &mut World<E>, number: u32) -> Result<(), Fail>
     Ok(world.begin(number)?)
 }
 
-fn make<E: External>(world: &mut World<E>, change: Change) -> Result<(), Fail>
+pub(crate) fn make<E: External>(world: &mut World<E>, change: Change) -> Result<(), Fail>
     requires { IsSome world.old.history.start }
     ensures { OnOk result (IsSome world.new.history.start) }
 {
@@ -145,17 +146,6 @@ fn flip_forth<E: External>(world: &mut World<E>) -> Result<(), Fail>
     Ok(())
 }
 
-pub(crate) fn do_one<E: External>(
-    alloc: Global,
-    world: &mut World<E>,
-    deed: Deed,
-) -> Result<(), Fail>
-    requires { IsSome world.old.history.start }
-    ensures { OnOk result (IsSome world.new.history.start) }
-{
-    make(world, change(alloc, deed)?)
-}
-
 /// Opens a batch, and does this in it.
 pub(crate) fn do_all<E: External>(
     alloc: Global,
@@ -168,7 +158,7 @@ pub(crate) fn do_all<E: External>(
 {
     begin(world, number)?;
     for deed in deeds {
-        do_one(alloc, world, *deed)?;
+        make(world, change(alloc, *deed)?)?;
     }
     Ok(())
 }

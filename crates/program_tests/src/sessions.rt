@@ -1,44 +1,34 @@
-//! Examples, with ample memory.
+//! Sessions, with ample memory, on the stack of two cards.
 
-use crate::stacks::{TWO_CARDS, two_cards};
-use crate::turner::{Boxed, all_boxed, boxed};
+ghost use Rattle.std.specs.Prelude.{IfOk};
+ghost use Rattle.object_table.specs.WellFormed.{IsWellFormed};
+
+use crate::drip::Drip;
+use crate::quiet::make_quiet;
 use devices::Watched;
 use externals::External;
 use ht_values::{Fault, Text};
 use object_table::Stack;
 use session::*;
+use stack_file::read;
 use std::alloc::{AllocError, Global};
 use std::io;
 use std::io::{Read, Write};
 use std::test::*;
 
+const TWO_CARDS: &[u8] =
+    b"htstack 2\nnext 5\nname |Demo\nscript 0\nbackgrounds 1\nbackground 1\nname |\ncantDelete false\nscript 0\nparts 1\nfield 3\nname |Note\nvisible true\nlockText false\nsharedText false\nscript 0\nshared 0\ncards 2\ncard 2 1\nname |A\ncantDelete false\nscript 0\nparts 0\ntext 3 0\ncard 4 1\nname |B\ncantDelete false\nscript 0\nparts 0\ntext 3 0\nend\n";
+
+fn two_cards(alloc: Global) -> Result<Stack, Fail>
+    ensures { IfOk result (λ s. IsWellFormed s.content) }
+{
+    Ok(read(alloc, TWO_CARDS)?)
+}
+
+type Boxed = Box<dyn External>;
+
 fn none(alloc: Global) -> Vec<Boxed> {
     Vec::new(alloc)
-}
-
-/// Gives one byte at a time, and fails at a call.
-#[derive(Drop)]
-struct Drip<'a> {
-    bytes: &'a [u8],
-    calls: usize,
-    fails_at: usize,
-}
-
-impl Read for Drip<'_> {
-    fn read(&mut self, buf: &mut [u8]) -> io::Result<usize> {
-        if self.calls == self.fails_at {
-            return Err(io::Error::from(io::ErrorKind::Other));
-        }
-        self.calls = self.calls.saturating_add(1);
-        match self.bytes {
-            [first, rest @ ..] if !buf.is_empty() => {
-                buf[0] = *first;
-                self.bytes = rest;
-                Ok(1)
-            }
-            _ => Ok(0),
-        }
-    }
 }
 
 /// Takes as many bytes at a time, and fails at a call.
@@ -104,13 +94,16 @@ const SOUND: Devices = Devices {
     write_fails_at: NEVER,
 };
 
-/// A session on the stack of two cards. It stands in a box, so that each exit drops it by one call.
+/// It stands in a box, so that each exit drops it by one call.
 fn session_of<E: External>(
     alloc: Global,
+    stack: Stack,
     externals: Vec<E>,
     steps: u32,
-) -> Result<Box<Session<E>>, Fail> {
-    let opened = Session::open(alloc, two_cards(alloc)?, externals, steps, 1_000_000);
+) -> Result<Box<Session<E>>, Fail>
+    requires { IsWellFormed stack.content }
+{
+    let opened = Session::open(alloc, stack, externals, steps, 1_000_000);
     Ok(Box::new(alloc, opened.ok().ok_or("open")?)?)
 }
 
@@ -149,7 +142,7 @@ fn hear<E: External>(
     input: &[u8],
     devices: Devices,
 ) -> Result<Heard, Fail> {
-    let mut session = session_of(alloc, externals, 100_000)?;
+    let mut session = session_of(alloc, two_cards(alloc)?, externals, 100_000)?;
     Ok(heard_by(&mut session, alloc, input, devices))
 }
 
@@ -364,9 +357,22 @@ fn steps_come_before_depth(rt: HostRuntime) -> Result<(), Fail> {
     Ok(())
 }
 
+fn boxed(alloc: Global, name: &[u8]) -> Result<Boxed, Fail> {
+    let boxed: Boxed = Box::new(alloc, make_quiet(alloc, name)?)?;
+    Ok(boxed)
+}
+
+fn quiets(alloc: Global, names: &[&[u8]]) -> Result<Vec<Boxed>, Fail> {
+    let mut quiets = none(alloc);
+    for name in names {
+        quiets.push(boxed(alloc, name)?).ok().ok_or("memory")?;
+    }
+    Ok(quiets)
+}
+
 #[test]
 fn names_are_apart(rt: HostRuntime) -> Result<(), Fail> {
-    let twice = all_boxed(rt.alloc(), &[b"Echo".as_slice(), b"ECHO".as_slice()])?;
+    let twice = quiets(rt.alloc(), &[b"Echo".as_slice(), b"ECHO".as_slice()])?;
     let refusal = refusal_to_open(rt.alloc(), twice, 1, 1)?;
     assert!(rt; refusal == Some((OpenError::DuplicateName, 2)));
     Ok(())
@@ -374,8 +380,8 @@ fn names_are_apart(rt: HostRuntime) -> Result<(), Fail> {
 
 // Each call by a function that promises nothing, so that no test carries the clauses of many.
 
-fn ending_of<E: External>(session: &mut Session<E>, line: &[u8]) -> Ending {
-    session.line(line).ending
+fn reply_to<E: External>(session: &mut Session<E>, line: &[u8]) -> Reply {
+    session.line(line)
 }
 
 fn undone<E: External>(session: &mut Session<E>, places: u32) -> Result<(), Refusal> {
@@ -408,8 +414,8 @@ fn count_at_close<E: External>(session: Session<E>) -> usize {
 
 /// What an undo of no place, an undo, a redo and an undo to the start answer.
 fn moves<E: External>(alloc: Global, externals: Vec<E>) -> Result<[Result<(), Refusal>; 4], Fail> {
-    let mut session = session_of(alloc, externals, 100)?;
-    let _ = ending_of(&mut session, b"put \"1\" into g");
+    let mut session = session_of(alloc, two_cards(alloc)?, externals, 100)?;
+    let _ = reply_to(&mut session, b"put \"1\" into g");
     let undone_none = undone(&mut session, 0);
     let undone_one = undone(&mut session, 1);
     let redone = redone(&mut session, 1);
@@ -426,8 +432,8 @@ fn places_are_undone_and_redone(rt: HostRuntime) -> Result<(), Fail> {
 
 /// Whether the stack of a session is saved so after a line.
 fn saves<E: External>(alloc: Global, externals: Vec<E>, text: &[u8]) -> Result<bool, Fail> {
-    let mut session = session_of(alloc, externals, 100)?;
-    let _ = ending_of(&mut session, b"put \"1\" into g");
+    let mut session = session_of(alloc, two_cards(alloc)?, externals, 100)?;
+    let _ = reply_to(&mut session, b"put \"1\" into g");
     let saved = saved_by(&session)?;
     Ok(saved.as_slice() == text)
 }
@@ -447,7 +453,7 @@ fn plugs<E: External>(
     third: E,
     name: &Text,
 ) -> Result<(bool, bool, bool, usize), Fail> {
-    let mut session = session_of(alloc, first, 100)?;
+    let mut session = session_of(alloc, two_cards(alloc)?, first, 100)?;
     let plugged = is_plugged(&mut session, second);
     let plugged_again = is_plugged(&mut session, third);
     let unplugged = is_unplugged(&mut session, name);
@@ -460,18 +466,9 @@ fn an_external_is_plugged_once_and_unplugged(rt: HostRuntime) -> Result<(), Fail
     let name = Text::from_slice(rt.alloc(), b"quiet")?;
     let quiet = boxed(rt.alloc(), b"Quiet")?;
     let same = boxed(rt.alloc(), b"QUIET")?;
-    let first = all_boxed(rt.alloc(), &[b"one".as_slice()])?;
+    let first = quiets(rt.alloc(), &[b"one".as_slice()])?;
     assert!(rt; plugs(rt.alloc(), first, quiet, same, &name)? == (true, false, true, 1));
     Ok(())
-}
-
-fn reply_to<E: External>(session: &mut Session<E>, line: &[u8]) -> Reply {
-    session.line(line)
-}
-
-fn empty_session<E: External>(alloc: Global, externals: Vec<E>) -> Result<Box<Session<E>>, Fail> {
-    let opened = Session::open(alloc, Stack::new(alloc)?, externals, 100, 10);
-    Ok(Box::new(alloc, opened.ok().ok_or("open")?)?)
 }
 
 /// Whether a reply ends so, with this line shown or none, and sends nothing.
@@ -490,7 +487,7 @@ fn replies<E: External>(
     ending: Ending,
     shown: Option<&[u8]>,
 ) -> Result<bool, Fail> {
-    let mut session = empty_session(alloc, externals)?;
+    let mut session = session_of(alloc, Stack::new(alloc)?, externals, 100)?;
     let reply = reply_to(&mut session, line);
     Ok(is_reply(&reply, ending, shown))
 }
