@@ -115,6 +115,14 @@ impl Budget {
         &self.sent
     }
 
+    /// The lines shown and the messages sent, where the command has ended.
+    pub fn into_shown_and_sent(self) -> (Shown, Sent)
+        ensures { result ≡ (self.shown, self.sent) }
+    {
+        let Budget { shown, sent, .. } = self;
+        (shown, sent)
+    }
+
     /// Takes a step, or stops where none is left.
     #[tactic(auto, using(crate::proofs::Rules::step_rules))]
     pub fn step(&mut self) -> Result<(), Stop>

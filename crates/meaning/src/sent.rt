@@ -75,6 +75,13 @@ impl Shown {
         self.lines.is_empty()
     }
 
+    /// The lines as a slice.
+    pub fn as_slice(&self) -> &[Line]
+        ensures { result.now ≡ self.now }
+    {
+        &self.lines
+    }
+
     /// The line at a place, from 0.
     pub fn at(&self, i: usize) -> &Line
         requires { i < length self.now }

@@ -1,7 +1,13 @@
-//! Examples of the program's library, with ample memory. A crate that has tests is proved a second time for them, so they stand
-//! here, above the crate that they try, where nothing else is to be proved.
+//! Examples of the session and of the program's library, with ample memory. A crate that has tests is proved a second time for
+//! them, so they stand here, above the crates that they try, where nothing else is to be proved.
 #![tactic(auto)]
 
+#[cfg(test)]
+mod drip;
+#[cfg(test)]
+mod quiet;
+#[cfg(test)]
+mod sessions;
 #[cfg(test)]
 mod stack_bytes;
 #[cfg(test)]

@@ -1,37 +1,11 @@
 //! Bytes up to a limit, over readers that give one byte a call and fail in mid-stream.
 
+use crate::drip::Drip;
 use command_line::{BytesFault, bytes_of};
 use devices::Watched;
 use std::alloc::Global;
-use std::io;
 use std::io::Read;
 use std::test::*;
-
-/// Gives one byte a call, and fails at the call of this number, counted from 0.
-#[derive(Drop)]
-struct Drip<'a> {
-    bytes: &'a [u8],
-    calls: usize,
-    fails_at: usize,
-}
-
-impl Read for Drip<'_> {
-    fn read(&mut self, buf: &mut [u8]) -> io::Result<usize> {
-        let call = self.calls;
-        self.calls = self.calls.saturating_add(1);
-        if call == self.fails_at {
-            return Err(io::Error::from(io::ErrorKind::Other));
-        }
-        match self.bytes {
-            [first, rest @ ..] if !buf.is_empty() => {
-                buf[0] = *first;
-                self.bytes = rest;
-                Ok(1)
-            }
-            _ => Ok(0),
-        }
-    }
-}
 
 fn outcome_of<R: Read>(
     alloc: Global,

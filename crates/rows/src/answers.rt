@@ -86,10 +86,22 @@ fn passes(
 #[derive(Drop)]
 struct Comparison<'a> {
     rest: &'a str,
+    /// The answer that checks look at, up to the next input line.
+    checked: Option<&'a str>,
     kept: Vec<NamedText>,
 }
 
 impl<'a> Comparison<'a> {
+    /// The answer that a check looks at: the one of the check before it, or else the next.
+    fn checked(&mut self) -> Option<&'a str> {
+        if self.checked.is_none() {
+            let (answer, after) = until_ok(self.rest)?;
+            self.rest = after;
+            self.checked = Some(answer);
+        }
+        self.checked
+    }
+
     /// Whether the next answers are those of a line of the row; an input line has none of its own.
     fn meets(&mut self, alloc: Global, line: &str, stack: &str) -> Result<bool, AllocError> {
         if let Some(wanted) = line.strip_prefix("= ") {
@@ -98,13 +110,13 @@ impl<'a> Comparison<'a> {
             return Ok(answer == wanted);
         }
         let Some(check) = line.strip_prefix("~ ") else {
+            self.checked = None;
             return Ok(true);
         };
-        let Some((answer, after)) = until_ok(self.rest) else {
+        let Some(answer) = self.checked() else {
             return Ok(false);
         };
         let shown = shown_in(alloc, answer)?;
-        self.rest = after;
         passes(alloc, check, shown, stack, &mut self.kept)
     }
 }
@@ -118,6 +130,7 @@ pub fn first_unmet<'a>(
 ) -> Result<Option<&'a str>, AllocError> {
     let mut comparison = Comparison {
         rest: answers,
+        checked: None,
         kept: Vec::new(alloc),
     };
     for line in body.lines() {

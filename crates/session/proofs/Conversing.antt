@@ -1,5 +1,5 @@
 -- A run, byte by byte: what is read and not yet answered.
-use Rattle.std.proofs.Common.{◌≡◌, ◌≢◌, ℕ, ◌+◌, ◌-◌, ◌<◌, ◌≤◌, ◌⊎◌, inl, inr, Bool, true, false, cond, List, [], ◌∷◌, ◌++◌, length, map, take, drop, refl, sym, ◌∙◌, ap, subst, arith, append_assoc, length-append, length-take, get_or, add-one, drop-cons}
+use Rattle.std.proofs.Common.{◌≡◌, ◌≢◌, ℕ, ◌+◌, ◌-◌, ◌<◌, ◌≤◌, ◌⊎◌, inl, inr, true, false, cond, List, [], ◌∷◌, ◌++◌, length, map, take, drop, refl, sym, ◌∙◌, ap, subst, arith, append_assoc, length-append, length-take, get_or, add-one, drop-cons}
 use Rattle.std.specs.Prelude.{Option, Some, None, ◌==◌, slice_index}
 use Rattle.std.proofs.Math.Seq.{take-suc}
 use Rattle.std.proofs.lemmas.List.{take-append-drop, append-nil, length-map, take_all, length-take-le, take-append-le}
@@ -9,10 +9,10 @@ use Rattle.session.specs.declared.conversation.TheConstants.{BLOCK, KEPT}
 use Rattle.session.specs.declared.limits.TheConstants.{LONGEST_LINE, MOST_BYTES, MOST_LINES}
 use Rattle.session.specs.Answers.{answer}
 use Rattle.session.specs.TakesLine.{TakesLine}
-use Rattle.session.specs.Splits.{IsLine, ended_lines, Splits, without_return, last_line, all_lines}
+use Rattle.session.specs.Splits.{IsLine, ended_lines, Splits, without_return, last_line}
 use Rattle.session.specs.Standing.{Standing}
-use Rattle.session.specs.Conversation.{is_quit, Answered, OneMore, IsCut, Stands, Finishes, Quits, Breaks, NeverBegan, Exceeds}
-use Rattle.session.specs.Intake.{Reached, Onward, Broken}
+use Rattle.session.specs.Conversation.{is_quit, Answered, OneMore, IsCut, Stands, Finishes, Quits, Breaks, Exceeds}
+use Rattle.session.specs.Intake.{Reached, Broken}
 use Rattle.session.proofs.Sessions.{all-append, ended_lines-snoc, mapped-snoc, last_line-some, Answered-snoc}
 use Rattle.session.specs.declared.conversation.RunFault.{RunFault}
 use Rattle.session.specs.declared.reply.Reply.{Reply}

@@ -1,5 +1,5 @@
 -- What lines, calls and runs do to the list of whole states.
-use Rattle.std.proofs.Common.{◌≡◌, ℕ, zero, suc, ◌+◌, ◌-◌, ◌<◌, ◌≤◌, ◌⊎◌, inl, inr, min, Bool, true, false, cond, List, [], ◌∷◌, ◌++◌, length, map, take, drop, refl, sym, ◌∙◌, ap, ap₂, subst, arith, append_assoc, length-append, length-take, length-drop}
+use Rattle.std.proofs.Common.{◌≡◌, ℕ, zero, suc, ◌+◌, ◌-◌, ◌<◌, ◌≤◌, inl, inr, min, Bool, true, false, cond, List, [], ◌∷◌, ◌++◌, length, map, take, drop, refl, sym, ◌∙◌, ap, ap₂, subst, arith, append_assoc, length-append, length-take, length-drop}
 use Rattle.std.specs.Prelude.{Option, Some, None, option_map, Result, IsErrOf, ◌==◌, slice_get, nat_le, nat_lt, reverse, not, MatchBool}
 use Rattle.std.proofs.lemmas.List.{reverse-append, length-reverse, length-map, map-append, drop-append-le, take-append-drop}
 use Rattle.std.specs.Io.KnownBytes.{IsAtEnd}
@@ -7,17 +7,20 @@ use Rattle.std.specs.List.{position, position_or_len, take-map}
 use Rattle.std.proofs.lemmas.List.Quantifiers.{position-Some}
 use Rattle.std.proofs.lemmas.Bool.{leb-true, leb-false, lt-ltb, le-ltb, cases_lt}
 use Rattle.std.proofs.Math.Seq.{take-append-add, drop-append_seam}
+use Rattle.ht_grammar.specs.Statements.{Stmts}
 use Rattle.externals.specs.Cells.{Seen}
 use Rattle.journal_entries.specs.State.{State, titles_of, index_of}
-use Rattle.change_journal.specs.History.{History, Step, step_with_external, plugged, unplugged_at, flipped_back, flipped_back_from, flipped_forth, flipped_forth_from}
+use Rattle.change_journal.specs.History.{History, Step, begun, step_with_external, plugged, unplugged_at, flipped_back, flipped_back_from, flipped_forth, flipped_forth_from}
 use Rattle.session.specs.declared.limits.TheConstants.{LONGEST_LINE}
-use Rattle.session.specs.Commands.{Statement, Command, run, undo, redo, undo_to, show, globals, current_card, history, quit, command_in}
-use Rattle.session.specs.Headline.{Snapshot, Timeline, LineMoves, Does, Replaces, Moved, at_cursor, cursor_back, cursor_forth, cursor_back_to, before, later_or_here, last_numbered, with_one_more, without_one, line_counted}
+use Rattle.session.specs.Commands.{is_dot_line, command_in}
+use Rattle.session.specs.Headline.{Snapshot, Timeline, LineMoves, Does, DoesLine, Replaces, Moved, at_cursor, cursor_back, cursor_forth, cursor_back_to, before, later_or_here, last_numbered, with_one_more, without_one, line_counted}
 use Rattle.session.specs.Moves.{MovesTo, back_by, forth_by, stamps, undone, redone, undone_to, undone_by, places_to}
-use Rattle.session.specs.Replies.{ended, refused, Refuses, Moves, Looks, ShowsStack}
+use Rattle.session.specs.Replies.{Refuses, Typed, hypertalk, nothing, given_up, Moves, Looks}
 use Rattle.session.specs.Standing.{Standing, next_number}
-use Rattle.session.specs.TakesLine.{TakesLine, Adds, Performs}
+use Rattle.session.specs.TakesLine.{TakesLine, Adds, GivesUp, Types, Performs, Says}
 use Rattle.session.specs.Unzipped.{snapshots_of, all_snapshots, timeline_of, LinesFollow, MovesFollow, PlugsFollow, OpensFollow, RunsFollow, StopsFollow, without_if}
+use Rattle.session.specs.declared.command.Command.{Command}
+use Rattle.session.specs.declared.command.Command.TheVariants as commands
 use Rattle.session.specs.declared.reply.Refusal.{Refusal}
 use Rattle.session.specs.declared.reply.Refusal.TheVariants as refusals
 use Rattle.session.specs.declared.reply.Reply.{Reply}
@@ -251,21 +254,19 @@ joined_list depth old step added is =
 -- ---- lines
 
 module _ (lines steps : ℕ) where
-  adds_follow : (statement : Statement) (old : History) (reply : Reply) (new : History) → Adds statement lines old reply new → Replaces statement old.now (at lines steps old) reply (at lines steps new)
-  adds_follow statement old reply new a =
+  adds_follow : (command : Stmts) (old : History) (reply : Reply) (new : History) → Adds steps command lines old reply new → Replaces command old.now (at lines steps old) reply (at lines steps new)
+  adds_follow command old reply new a =
       let step : Step = record { state = a.batch.state; stamp = old.stamp; undo = a.batch.undo; redo = a.batch.redo; trail = a.batch.trail } in
       let is : snapshot_of step ≡ present_of old = ap (λ (s : State). let x : Snapshot = record { state = s; number = old.stamp } in x) a.began in
-      let numbered : Snapshot = record { state = a.state; number = a.batch.number } in
-      let added : Snapshot = record { state = a.state; number = lines } in
-      let same : numbered ≡ added = ap (λ (n : ℕ). let x : Snapshot = record { state = a.state; number = n } in x) a.numbered in
+      let numbered : Snapshot = record { state = a.end.now; number = a.batch.number } in
+      let added : Snapshot = record { state = a.end.now; number = lines } in
+      let same : numbered ≡ added = ap (λ (n : ℕ). let x : Snapshot = record { state = a.end.now; number = n } in x) a.numbered in
       let size : length (take old.depth (step ∷ old.past)) ≡ min old.depth (length old.past + 1) = length-take old.depth (step ∷ old.past) ∙ ap (min old.depth) (let one : length (step ∷ old.past) ≡ length old.past + 1 = omega arith in one) in
       let all : reverse (snapshots_of (take old.depth (step ∷ old.past))) ++ numbered ∷ [] ≡ drop (length old.past + 1 - old.depth) (take (length old.past + 1) (all_snapshots old) ++ added ∷ []) =
       ap (λ (s : Snapshot). reverse (snapshots_of (take old.depth (step ∷ old.past))) ++ s ∷ []) same ∙ joined_list old.depth old step added is in
       record {
-        replaced = a.replaced;
-        after = a.state;
-        allowed = a.fresh;
-        answer = a.answer;
+        after = a.end.now;
+        allowed = record { old = begun old lines; end = a.end; runs = a.runs; here = refl; leaves = refl };
         list = ap (at lines steps) a.joined ∙ (λ i. record { snapshots = all i; cursor = size i; depth = old.depth; lines = lines; steps = steps });
       }
 
@@ -287,22 +288,38 @@ module _ (lines steps : ℕ) where
   after_cursor : (h : History) → length (all_snapshots h) - (length h.past + 1) ≡ length h.future
   after_cursor h = omega (arith, length-all h)
 
-  performs_follow : (command : Option Command) (old : History) (reply : Reply) (new : History) → Performs command lines old reply new → Does command old.now (at lines steps old) reply (at lines steps new)
+  gives_up_follows : (old : History) (reply : Reply) (new : History) → GivesUp old reply new → Refuses refusals.NoMemory (at lines steps old) reply (at lines steps new)
+  gives_up_follows old reply new g = record { answer = g.answer; same = ap (at lines steps) g.same }
+
+  types_follow : (line : List ℕ) (old : History) (reply : Reply) (new : History) → Types steps line lines old reply new
+      → Typed (λ command. Replaces command old.now (at lines steps old) reply (at lines steps new)) (Refuses refusals.NoMemory (at lines steps old) reply (at lines steps new)) line (at lines steps old) reply (at lines steps new)
+  types_follow line old reply new (hypertalk {lines = command} reads a) = hypertalk reads (adds_follow command old reply new a)
+  types_follow line old reply new (nothing none r) = nothing none (refuses_follow refusals.BadCommand old reply new r)
+  types_follow line old reply new (given_up g) = given_up (gives_up_follows old reply new g)
+
+  performs_follow : (command : Option Command) (old : History) (reply : Reply) (new : History) → Performs command old reply new → Does command old.now (at lines steps old) reply (at lines steps new)
   performs_follow None old reply new p = refuses_follow refusals.BadCommand old reply new p
-  performs_follow (Some (run statement)) old reply new (inl a) = inl (adds_follow statement old reply new a)
-  performs_follow (Some (run statement)) old reply new (inr r) = inr (refuses_follow refusals.NoMemory old reply new r)
-  performs_follow (Some (undo k)) old reply new p = moves_by (undone k old) (cursor_back k (at lines steps old)) refusals.NothingToUndo old reply new (undone_is lines steps k old) p
-  performs_follow (Some (redo k)) old reply new p = moves_by (redone k old) (cursor_forth k (at lines steps old)) refusals.NothingToRedo old reply new (redone_is lines steps k old) p
-  performs_follow (Some (undo_to n)) old reply new p = moves_by (undone_to n old) (cursor_back_to n (at lines steps old)) refusals.NothingToUndo old reply new (undone_to_is lines steps n old) p
-  performs_follow (Some show) old reply new (inl s) = inl (record { lines = s.lines; look = looks_follow reply.shown old reply new s.look })
-  performs_follow (Some show) old reply new (inr r) = inr (refuses_follow refusals.NoMemory old reply new r)
-  performs_follow (Some globals) old reply new (inl l) = inl (looks_follow _ old reply new l)
-  performs_follow (Some globals) old reply new (inr r) = inr (refuses_follow refusals.NoMemory old reply new r)
-  performs_follow (Some current_card) old reply new (inl l) = inl (looks_follow _ old reply new l)
-  performs_follow (Some current_card) old reply new (inr r) = inr (refuses_follow refusals.NoMemory old reply new r)
-  performs_follow (Some history) old reply new (inl l) = inl (rw (after_cursor old) (looks_follow _ old reply new l))
-  performs_follow (Some history) old reply new (inr r) = inr (refuses_follow refusals.NoMemory old reply new r)
-  performs_follow (Some quit) old reply new p = (p.0, ap (at lines steps) p.1)
+  performs_follow (Some (commands.Undo k)) old reply new p = moves_by (undone k old) (cursor_back k (at lines steps old)) refusals.NothingToUndo old reply new (undone_is lines steps k old) p
+  performs_follow (Some (commands.Redo k)) old reply new p = moves_by (redone k old) (cursor_forth k (at lines steps old)) refusals.NothingToRedo old reply new (redone_is lines steps k old) p
+  performs_follow (Some (commands.UndoTo n)) old reply new p = moves_by (undone_to n old) (cursor_back_to n (at lines steps old)) refusals.NothingToUndo old reply new (undone_to_is lines steps n old) p
+  performs_follow (Some commands.Show) old reply new (inl s) = inl (record { lines = s.lines; look = looks_follow reply.shown old reply new s.look })
+  performs_follow (Some commands.Show) old reply new (inr r) = inr (refuses_follow refusals.NoMemory old reply new r)
+  performs_follow (Some commands.Globals) old reply new (inl l) = inl (looks_follow _ old reply new l)
+  performs_follow (Some commands.Globals) old reply new (inr r) = inr (refuses_follow refusals.NoMemory old reply new r)
+  performs_follow (Some commands.Where) old reply new (inl l) = inl (looks_follow _ old reply new l)
+  performs_follow (Some commands.Where) old reply new (inr r) = inr (refuses_follow refusals.NoMemory old reply new r)
+  performs_follow (Some commands.History) old reply new (inl l) = inl (rw (after_cursor old) (looks_follow _ old reply new l))
+  performs_follow (Some commands.History) old reply new (inr r) = inr (refuses_follow refusals.NoMemory old reply new r)
+  performs_follow (Some commands.Quit) old reply new p = (p.0, ap (at lines steps) p.1)
+
+  says_follows : (line : List ℕ) (old : History) (reply : Reply) (new : History) → Says steps line lines old reply new → DoesLine line old.now (at lines steps old) reply (at lines steps new)
+  says_follows line old reply new says =
+      elim (is_dot_line line) as (λ b. MatchBool b (Performs (command_in line) old reply new) (Types steps line lines old reply new)
+      → MatchBool b (Does (command_in line) old.now (at lines steps old) reply (at lines steps new))
+      (Typed (λ command. Replaces command old.now (at lines steps old) reply (at lines steps new)) (Refuses refusals.NoMemory (at lines steps old) reply (at lines steps new)) line (at lines steps old) reply (at lines steps new))) [
+        | true ↦ λ p. performs_follow (command_in line) old reply new p
+        | false ↦ λ p. types_follow line old reply new p
+      ] says
 
 pub lines_follow : LinesFollow
 lines_follow line old reply new t =
@@ -313,11 +330,11 @@ lines_follow line old reply new t =
       state = old.history.now;
       present = (old.history.stamp, present_is old.history);
       does =
-          subst (λ (n : Timeline). MatchBool (nat_lt LONGEST_LINE (length line)) (Refuses refusals.LineTooLong (line_counted (timeline_of old)) reply n) (Does (command_in line) old.history.now (line_counted (timeline_of old)) reply n)) (sym here)
-          (elim (nat_lt LONGEST_LINE (length line)) as (λ b. MatchBool b (Refuses refusals.LineTooLong old.history reply new.history) (Performs (command_in line) lines old.history reply new.history)
-          → MatchBool b (Refuses refusals.LineTooLong (at lines old.steps old.history) reply (at lines old.steps new.history)) (Does (command_in line) old.history.now (at lines old.steps old.history) reply (at lines old.steps new.history))) [
+          subst (λ (n : Timeline). MatchBool (nat_lt LONGEST_LINE (length line)) (Refuses refusals.LineTooLong (line_counted (timeline_of old)) reply n) (DoesLine line old.history.now (line_counted (timeline_of old)) reply n)) (sym here)
+          (elim (nat_lt LONGEST_LINE (length line)) as (λ b. MatchBool b (Refuses refusals.LineTooLong old.history reply new.history) (Says old.steps line lines old.history reply new.history)
+          → MatchBool b (Refuses refusals.LineTooLong (at lines old.steps old.history) reply (at lines old.steps new.history)) (DoesLine line old.history.now (at lines old.steps old.history) reply (at lines old.steps new.history))) [
             | true ↦ λ p. refuses_follow lines old.steps refusals.LineTooLong old.history reply new.history p
-            | false ↦ λ p. performs_follow lines old.steps (command_in line) old.history reply new.history p
+            | false ↦ λ p. says_follows lines old.steps line old.history reply new.history p
           ] performed);
     }
 

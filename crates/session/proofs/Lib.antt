@@ -1,5 +1,5 @@
+pub mod Adding
 pub mod Conversing
-pub mod Effects
 pub mod Following
 pub mod GlobalsInOrder
 pub mod LineFeeds
@@ -9,4 +9,3 @@ pub mod Refusing
 pub mod Sessions
 pub mod Spaces
 pub mod Stamping
-pub mod Within

@@ -1,5 +1,5 @@
 -- Why a session isn't opened, told by what was tested.
-use Rattle.std.proofs.Common.{◌≡◌, ℕ, inl, inr, ◌<◌, ◌≤◌, ◌⊎◌, ◌&&◌, nat_le, Bool, true, false, List, refl, sym, ◌∙◌, arith}
+use Rattle.std.proofs.Common.{◌≡◌, ℕ, inl, inr, ◌<◌, ◌≤◌, ◌⊎◌, ◌&&◌, nat_le, true, false, List, refl, sym, ◌∙◌, arith}
 use Rattle.std.specs.Prelude.{Some, None}
 use Rattle.std.specs.Ordering.{nat_cmp, is_le}
 use Rattle.std.proofs.lemmas.Bool.{cases_lt, le-leb}

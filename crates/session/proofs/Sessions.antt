@@ -1,5 +1,5 @@
 -- Laws of lines and of the answers to them, whatever takes a line.
-use Rattle.std.proofs.Common.{◌≡◌, ◌≢◌, ℕ, ◌⊎◌, inl, inr, Bool, true, false, List, [], ◌∷◌, ◌++◌, length, map, refl, sym, ◌∙◌, ap, subst, append_assoc}
+use Rattle.std.proofs.Common.{◌≡◌, ◌≢◌, ℕ, inl, inr, Bool, true, false, List, [], ◌∷◌, ◌++◌, map, refl, sym, ◌∙◌, ap, subst, append_assoc}
 use Rattle.std.specs.Prelude.{MatchBool}
 use Rattle.std.proofs.lemmas.List.{append-nil, map-append}
 use Rattle.std.proofs.lemmas.Grind.{flat_map-append}
@@ -7,7 +7,7 @@ use Rattle.std.proofs.lemmas.Bool.{cases_eq}
 use Rattle.std.specs.List.{AllByRecursion}
 use Rattle.session.specs.Answers.{answer}
 use Rattle.session.specs.Splits.{IsLine, ended_lines, Splits, AreLines, without_return, last_line, all_lines}
-use Rattle.session.specs.Conversation.{is_quit, Answered, Session, OneMore, IsEndedLine, IsLastLine, Stands, Finishes, Quits, Breaks, NeverBegan, Exceeds}
+use Rattle.session.specs.Conversation.{is_quit, Answered, Session, OneMore, IsEndedLine, IsLastLine, Stands, Quits, Breaks}
 use Rattle.session.specs.Stops.{Ended, Stopped}
 use Rattle.session.specs.declared.conversation.Ran.{Ran}
 use Rattle.session.specs.declared.conversation.Ran.TheVariants as runs

@@ -1,15 +1,17 @@
 -- The headline: a list of whole states with a cursor, and what each line and each call does to it.
-use Rattle.std.specs.Prelude.{◌≡◌, ◌⊎◌, ℕ, zero, suc, ◌+◌, ◌-◌, ◌<◌, ◌≤◌, min, Bool, List, [], ◌∷◌, ◌++◌, length, map, take, drop, decimal, Option, Some, None, option_map, Result, IsOk, IsErrOf, ◌==◌, slice_get, nat_le, nat_lt, if◌then◌else◌, MatchBool}
+use Rattle.std.specs.Prelude.{◌≡◌, ◌⊎◌, ℕ, suc, ◌+◌, ◌-◌, min, Bool, List, [], ◌∷◌, ◌++◌, length, map, take, drop, decimal, Option, Some, None, option_map, Result, IsOk, IsErrOf, ◌==◌, slice_get, nat_le, nat_lt, if◌then◌else◌, MatchBool}
+use Rattle.ht_grammar.specs.Statements.{Stmts}
 use Rattle.externals.specs.Cells.{Seen}
 use Rattle.object_table.specs.Content.{Content}
 use Rattle.journal_entries.specs.State.{State, first_state}
-use Rattle.journal_entries.specs.Replaced.{Replacement}
 use Rattle.change_journal.specs.History.{with_external, without_at}
-use Rattle.session.specs.Commands.{Statement, Command, run, undo, redo, undo_to, show, globals, current_card, history, quit, command_in}
+use Rattle.session.specs.Commands.{is_dot_line, command_in}
 use Rattle.session.specs.Conversation.{Session}
 use Rattle.session.specs.Meaning.{Fresh}
-use Rattle.session.specs.Replies.{ended, Refuses, Moves, Looks, ShowsStack, global_lines, history_line}
+use Rattle.session.specs.Replies.{ended, Refuses, Typed, Moves, Looks, ShowsStack, global_lines, history_line}
 use Rattle.session.specs.Standing.{next_number}
+use Rattle.session.specs.declared.command.Command.{Command}
+use Rattle.session.specs.declared.command.Command.TheVariants.{Undo, Redo, UndoTo, Show, Globals, Where, History, Quit}
 use Rattle.session.specs.declared.limits.TheConstants.{LONGEST_LINE}
 use Rattle.session.specs.declared.reply.Refusal.{Refusal}
 use Rattle.session.specs.declared.reply.Refusal.TheVariants.{NothingToUndo, NothingToRedo, BadCommand, NoMemory, LineTooLong}
@@ -43,11 +45,9 @@ abbrev pub followed_by : Timeline → Snapshot → Timeline
 followed_by t after = record t { snapshots = drop (t.cursor + 1 - t.depth) (take (t.cursor + 1) t.snapshots ++ after ∷ []); cursor = min t.depth (t.cursor + 1) }
 
 -- A fresh command, however it ended, replaces all after the cursor by a state that its meaning allows.
-pub record Replaces (statement : Statement) (state : State) (old : Timeline) (reply : Reply) (new : Timeline) : Type 0 where
-  pub replaced : List Replacement
+pub record Replaces (lines : Stmts) (state : State) (old : Timeline) (reply : Reply) (new : Timeline) : Type 0 where
   pub after : State
-  pub allowed : Fresh state statement replaced reply.ending after
-  pub answer : reply ≡ ended reply.ending
+  pub allowed : Fresh state old.steps lines reply after
   pub list : new ≡ followed_by old (record { state = after; number = old.lines })
 
 -- ---- undo and redo
@@ -83,18 +83,21 @@ cursor_back_to n t = before t.cursor (last_numbered n (take (t.cursor + 1) t.sna
 
 -- ---- lines
 
--- what a line does by what it says, and by the state at the cursor
+-- what a dot line does by what it says, and by the state at the cursor
 abbrev pub Does : Option Command → State → Timeline → Reply → Timeline → Type 0
 Does None state old reply new = Refuses BadCommand old reply new
-Does (Some (run statement)) state old reply new = Replaces statement state old reply new ⊎ Refuses NoMemory old reply new
-Does (Some (undo k)) state old reply new = Moves (option_map (at_cursor old) (cursor_back k old)) NothingToUndo old reply new
-Does (Some (redo k)) state old reply new = Moves (option_map (at_cursor old) (cursor_forth k old)) NothingToRedo old reply new
-Does (Some (undo_to n)) state old reply new = Moves (option_map (at_cursor old) (cursor_back_to n old)) NothingToUndo old reply new
-Does (Some show) state old reply new = ShowsStack state old reply new ⊎ Refuses NoMemory old reply new
-Does (Some globals) state old reply new = Looks (global_lines state) old reply new ⊎ Refuses NoMemory old reply new
-Does (Some current_card) state old reply new = Looks (decimal state.current ∷ []) old reply new ⊎ Refuses NoMemory old reply new
-Does (Some history) state old reply new = Looks (history_line old.cursor (length old.snapshots - (old.cursor + 1)) ∷ []) old reply new ⊎ Refuses NoMemory old reply new
-Does (Some quit) state old reply new = (reply ≡ ended endings.Quit) × (new ≡ old)
+Does (Some (Undo k)) state old reply new = Moves (option_map (at_cursor old) (cursor_back k old)) NothingToUndo old reply new
+Does (Some (Redo k)) state old reply new = Moves (option_map (at_cursor old) (cursor_forth k old)) NothingToRedo old reply new
+Does (Some (UndoTo n)) state old reply new = Moves (option_map (at_cursor old) (cursor_back_to n old)) NothingToUndo old reply new
+Does (Some Show) state old reply new = ShowsStack state old reply new ⊎ Refuses NoMemory old reply new
+Does (Some Globals) state old reply new = Looks (global_lines state) old reply new ⊎ Refuses NoMemory old reply new
+Does (Some Where) state old reply new = Looks (decimal state.current ∷ []) old reply new ⊎ Refuses NoMemory old reply new
+Does (Some History) state old reply new = Looks (history_line old.cursor (length old.snapshots - (old.cursor + 1)) ∷ []) old reply new ⊎ Refuses NoMemory old reply new
+Does (Some Quit) state old reply new = (reply ≡ ended endings.Quit) × (new ≡ old)
+
+-- each other line is a fresh command where it is HyperTalk
+abbrev pub DoesLine : List ℕ → State → Timeline → Reply → Timeline → Type 0
+DoesLine line state old reply new = MatchBool (is_dot_line line) (Does (command_in line) state old reply new) (Typed (λ lines. Replaces lines state old reply new) (Refuses NoMemory old reply new) line old reply new)
 
 -- the line is counted
 abbrev pub line_counted : Timeline → Timeline
@@ -104,7 +107,7 @@ line_counted t = record t { lines = next_number t.lines }
 pub record LineMoves (line : List ℕ) (old : Timeline) (reply : Reply) (new : Timeline) : Type 0 where
   pub state : State
   pub present : IsPresent state old
-  pub does : MatchBool (nat_lt LONGEST_LINE (length line)) (Refuses LineTooLong (line_counted old) reply new) (Does (command_in line) state (line_counted old) reply new)
+  pub does : MatchBool (nat_lt LONGEST_LINE (length line)) (Refuses LineTooLong (line_counted old) reply new) (DoesLine line state (line_counted old) reply new)
 
 -- ---- calls beside lines
 

@@ -1,37 +1,42 @@
--- What a statement of HyperTalk means.
-use Rattle.std.specs.Prelude.{◌≡◌, ℕ, ◌==◌, List, [], Option, Some, None, if◌then◌else◌}
-use Rattle.ht_values.specs.Text.{folded}
-use Rattle.ht_values.specs.declared.fault.Fault.TheVariants as faults
-use Rattle.object_table.specs.Numbers.{at_number}
+-- What a fresh command means.
+use Rattle.std.specs.Prelude.{◌≡◌, ℕ, Option, Some, None, Result, Ok, Err}
+use Rattle.ht_grammar.specs.Statements.{Stmts}
 use Rattle.journal_entries.specs.State.{State}
-use Rattle.journal_entries.specs.Changes.{changed}
-use Rattle.journal_entries.specs.Replaced.{Replacement, replaced_by}
-use Rattle.journal_entries.specs.declared.change.Change.{Change}
-use Rattle.journal_entries.specs.declared.change.Change.TheVariants.{Global, Current}
-use Rattle.session.specs.Commands.{Statement, put, go_card}
+use Rattle.change_journal.specs.History.{History}
+use Rattle.meaning.specs.State.{RunState, fresh_run}
+use Rattle.meaning.specs.Meaning.{Line}
+use Rattle.meaning.specs.declared.end.Ended.{Ended}
+use Rattle.meaning.specs.declared.end.Stop.{Stop}
+use Rattle.meaning.specs.declared.end.Stop.TheVariants as stop
 use Rattle.session.specs.declared.reply.Ending.{Ending}
-use Rattle.session.specs.declared.reply.Ending.TheVariants.{Ok, Fault}
+use Rattle.session.specs.declared.reply.Ending.TheVariants as endings
+use Rattle.session.specs.declared.reply.Reply.{Reply}
 
--- to go to a card, unless it is current or there is none
-abbrev pub going : State → Option ℕ → Option Change × Ending
-going s (Some card) = if card == s.current then (None, Ok) else (Some (Current card), Ok)
-going s None = (None, Fault faults.NoSuchObject)
+-- How a line is answered that ended so: `exit to HyperCard` is no fault. One that is out of memory isn't a fresh command.
+abbrev pub ending_of : Result Ended Stop → Option Ending
+ending_of (Ok ended) = Some endings.Ok
+ending_of (Err stop.Exited) = Some endings.Ok
+ending_of (Err (stop.Fault fault)) = Some (endings.Fault fault)
+ending_of (Err stop.Memory) = None
 
--- the change that a statement makes, if it makes one, and how it ends
-abbrev pub effect : State → Statement → Option Change × Ending
-effect s (put text name) = (Some (Global (folded name) (Some text)), Ok)
-effect s (go_card n) = going s (at_number s.stack.cards n)
+abbrev pub reply_of : RunState → Ending → Reply
+reply_of run ending = record { shown = run.shown; sent = run.sent; ending = ending }
 
-abbrev pub replaced_of : State → Option Change → List Replacement
-replaced_of s (Some change) = replaced_by s change
-replaced_of s None = []
+-- Lines run as a command with so many steps, by the written meaning of HyperTalk, lead from one history to the other. The
+-- run begins with its properties as they are at first and with an empty result. The reply has what it showed and sent, and
+-- how it ended.
+pub record Runs (old : History) (steps : ℕ) (lines : Stmts) (reply : Reply) (new : History) : Type 0 where
+  pub run : RunState
+  pub end : Result Ended Stop
+  pub means : Line old (fresh_run steps) lines end new run
+  pub ending : Ending
+  pub ends : ending_of end ≡ Some ending
+  pub answer : reply ≡ reply_of run ending
 
-abbrev pub after_change : State → Option Change → State
-after_change s (Some change) = changed s change
-after_change s None = s
-
--- A fresh command, run in a state, replaces these places, ends so, and leaves this state.
-pub record Fresh (s : State) (statement : Statement) (replaced : List Replacement) (ending : Ending) (new : State) : Type 0 where
-  pub places : replaced ≡ replaced_of s (effect s statement).0
-  pub ends : ending ≡ (effect s statement).1
-  pub leaves : new ≡ after_change s (effect s statement).0
+-- A fresh command of these lines, in a state and with so many steps, is answered so and leaves this state.
+pub record Fresh (s : State) (steps : ℕ) (lines : Stmts) (reply : Reply) (new : State) : Type 0 where
+  pub old : History
+  pub end : History
+  pub runs : Runs old steps lines reply end
+  pub here : old.now ≡ s
+  pub leaves : new ≡ end.now

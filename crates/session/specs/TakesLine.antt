@@ -1,66 +1,83 @@
 -- How a session takes a line.
 use Rattle.std.specs.Prelude.{◌≡◌, ◌⊎◌, ℕ, ◌≤◌, List, [], ◌∷◌, length, decimal, Option, Some, None, nat_lt, MatchBool}
-use Rattle.journal_entries.specs.State.{State}
-use Rattle.journal_entries.specs.Replaced.{Replacement, places_of, back_weight, forth_weight}
+use Rattle.ht_grammar.specs.Statements.{Stmts}
+use Rattle.journal_entries.specs.Replaced.{places_of, back_weight, forth_weight}
 use Rattle.journal_entries.specs.Trails.{IsOnce, IsShort, different}
-use Rattle.change_journal.specs.History.{History, Open, committed}
-use Rattle.change_journal.specs.Rising.{trail_after}
-use Rattle.session.specs.Commands.{Statement, Command, run, undo, redo, undo_to, show, globals, current_card, history, quit, command_in}
-use Rattle.session.specs.Meaning.{Fresh}
+use Rattle.change_journal.specs.History.{History, Open, begun, committed}
+use Rattle.run_laws.specs.Replaced.{replaced_line}
+use Rattle.run_laws.specs.Rising.{TrailAfter}
+use Rattle.session.specs.Commands.{is_dot_line, command_in}
+use Rattle.session.specs.Meaning.{Runs}
 use Rattle.session.specs.Moves.{undone, redone, undone_to}
-use Rattle.session.specs.Replies.{ended, Refuses, Moves, Looks, ShowsStack, global_lines, history_line}
+use Rattle.session.specs.Replies.{ended, refused, Refuses, Typed, Moves, Looks, ShowsStack, global_lines, history_line}
 use Rattle.session.specs.Standing.{Standing, next_number}
+use Rattle.session.specs.declared.command.Command.{Command}
+use Rattle.session.specs.declared.command.Command.TheVariants as commands
+use Rattle.session.specs.declared.command.Command.TheVariants.{Undo, Redo, UndoTo, Show, Globals, Where, Quit}
 use Rattle.session.specs.declared.limits.TheConstants.{LONGEST_LINE}
 use Rattle.session.specs.declared.reply.Refusal.TheVariants.{NothingToUndo, NothingToRedo, BadCommand, NoMemory, LineTooLong}
 use Rattle.session.specs.declared.reply.Ending.TheVariants as endings
 use Rattle.session.specs.declared.reply.Reply.{Reply}
 
 -- A fresh command adds the state that it leaves, in place of all after the cursor. The step to it weighs no more
--- than what the command replaced, and has each place once between what is made, removed or an external's: so with s
--- such entries it has at most s + (s + 1) * p entries, where p is how many different places were replaced.
-pub record Adds (statement : Statement) (number : ℕ) (old : History) (reply : Reply) (new : History) : Type 0 where
-  pub replaced : List Replacement
-  pub state : State
-  pub fresh : Fresh old.now statement replaced reply.ending state
-  pub answer : reply ≡ ended reply.ending
+-- than what the command replaced, and has each place once between what is made, removed or an external's: so with t turns
+-- and s entries that make or remove an object it has at most t + s + (s + 1) * p entries, where p is how many different
+-- places were replaced.
+pub record Adds (steps : ℕ) (lines : Stmts) (number : ℕ) (old : History) (reply : Reply) (new : History) : Type 0 where
+  pub end : History
+  pub runs : Runs (begun old number) steps lines reply end
   pub batch : Open
   pub began : batch.state ≡ old.now
   pub numbered : batch.number ≡ number
-  pub back : batch.undo ≤ back_weight replaced
-  pub forth : batch.redo ≤ forth_weight replaced
-  pub trail : batch.trail ≡ trail_after replaced []
+  pub back : batch.undo ≤ back_weight (replaced_line runs.means)
+  pub forth : batch.redo ≤ forth_weight (replaced_line runs.means)
+  pub trail : TrailAfter (replaced_line runs.means) [] batch.trail
   pub once : IsOnce batch.trail
-  pub few : IsShort batch.trail (different (places_of replaced))
-  pub joined : new ≡ committed (record old { now = state; start = Some batch })
+  pub few : IsShort batch.trail (different (places_of (replaced_line runs.means)))
+  pub joined : new ≡ committed (record old { now = end.now; start = Some batch; turns = end.turns })
 
--- what a line does by what it says, given its number
-abbrev pub Performs : Option Command → ℕ → History → Reply → History → Type 0
-Performs None number old reply new = Refuses BadCommand old reply new
-Performs (Some (run statement)) number old reply new = Adds statement number old reply new ⊎ Refuses NoMemory old reply new
-Performs (Some (undo k)) number old reply new = Moves (undone k old) NothingToUndo old reply new
-Performs (Some (redo k)) number old reply new = Moves (redone k old) NothingToRedo old reply new
-Performs (Some (undo_to n)) number old reply new = Moves (undone_to n old) NothingToUndo old reply new
-Performs (Some show) number old reply new = ShowsStack old.now old reply new ⊎ Refuses NoMemory old reply new
-Performs (Some globals) number old reply new = Looks (global_lines old.now) old reply new ⊎ Refuses NoMemory old reply new
-Performs (Some current_card) number old reply new = Looks (decimal old.now.current ∷ []) old reply new ⊎ Refuses NoMemory old reply new
-Performs (Some history) number old reply new = Looks (history_line (length old.past) (length old.future) ∷ []) old reply new ⊎ Refuses NoMemory old reply new
-Performs (Some quit) number old reply new = (reply ≡ ended endings.Quit) × (new ≡ old)
+-- A command that is given up leaves all as it was, but for the turns that externals took.
+pub record GivesUp (old : History) (reply : Reply) (new : History) : Type 0 where
+  pub answer : reply ≡ refused NoMemory
+  pub same : new ≡ record old { turns = new.turns }
 
--- What may be refused for memory: no move of the cursor, and neither `.quit` nor a line that says nothing.
+-- a line that begins with no dot is a fresh command
+abbrev pub Types : ℕ → List ℕ → ℕ → History → Reply → History → Type 0
+Types steps line number old reply new = Typed (λ lines. Adds steps lines number old reply new) (GivesUp old reply new) line old reply new
+
+-- what a dot line does by what it says
+abbrev pub Performs : Option Command → History → Reply → History → Type 0
+Performs None old reply new = Refuses BadCommand old reply new
+Performs (Some (Undo k)) old reply new = Moves (undone k old) NothingToUndo old reply new
+Performs (Some (Redo k)) old reply new = Moves (redone k old) NothingToRedo old reply new
+Performs (Some (UndoTo n)) old reply new = Moves (undone_to n old) NothingToUndo old reply new
+Performs (Some Show) old reply new = ShowsStack old.now old reply new ⊎ Refuses NoMemory old reply new
+Performs (Some Globals) old reply new = Looks (global_lines old.now) old reply new ⊎ Refuses NoMemory old reply new
+Performs (Some Where) old reply new = Looks (decimal old.now.current ∷ []) old reply new ⊎ Refuses NoMemory old reply new
+Performs (Some commands.History) old reply new = Looks (history_line (length old.past) (length old.future) ∷ []) old reply new ⊎ Refuses NoMemory old reply new
+Performs (Some Quit) old reply new = (reply ≡ ended endings.Quit) × (new ≡ old)
+
+-- What a dot line may be refused for memory: no move of the cursor, and neither `.quit` nor one that says nothing.
 abbrev pub MayRunOut : Option Command → Type 0
-MayRunOut (Some (run statement)) = Unit {0}
-MayRunOut (Some show) = Unit {0}
-MayRunOut (Some globals) = Unit {0}
-MayRunOut (Some current_card) = Unit {0}
-MayRunOut (Some history) = Unit {0}
+MayRunOut (Some Show) = Unit {0}
+MayRunOut (Some Globals) = Unit {0}
+MayRunOut (Some Where) = Unit {0}
+MayRunOut (Some commands.History) = Unit {0}
 MayRunOut _ = ⊥
 
+-- each other line may be
+abbrev pub LineMayRunOut : List ℕ → Type 0
+LineMayRunOut line = MatchBool (is_dot_line line) (MayRunOut (command_in line)) (Unit {0})
+
+abbrev pub Says : ℕ → List ℕ → ℕ → History → Reply → History → Type 0
+Says steps line number old reply new = MatchBool (is_dot_line line) (Performs (command_in line) old reply new) (Types steps line number old reply new)
+
 -- a line over 30,000 bytes is refused unread
-abbrev pub PerformsLine : List ℕ → ℕ → History → Reply → History → Type 0
-PerformsLine line number old reply new = MatchBool (nat_lt LONGEST_LINE (length line)) (Refuses LineTooLong old reply new) (Performs (command_in line) number old reply new)
+abbrev pub PerformsLine : ℕ → List ℕ → ℕ → History → Reply → History → Type 0
+PerformsLine steps line number old reply new = MatchBool (nat_lt LONGEST_LINE (length line)) (Refuses LineTooLong old reply new) (Says steps line number old reply new)
 
 -- A session takes a line: it is counted, answered, and the history goes on.
 pub record TakesLine (line : List ℕ) (old : Standing) (reply : Reply) (new : Standing) : Type 0 where
   pub number : new.lines ≡ next_number old.lines
   pub steps : new.steps ≡ old.steps
-  pub performed : PerformsLine line new.lines old.history reply new.history
+  pub performed : PerformsLine old.steps line new.lines old.history reply new.history

@@ -1,6 +1,6 @@
 -- Where a session stands, as a list of whole states with a cursor; and the laws that each line, each call and each run
 -- does to it what the headline says.
-use Rattle.std.specs.Prelude.{◌≡◌, ℕ, List, [], ◌∷◌, ◌++◌, length, map, reverse, Option, Some, None, Result, IsErrOf, ◌==◌, MatchBool}
+use Rattle.std.specs.Prelude.{◌≡◌, ℕ, List, ◌∷◌, ◌++◌, length, map, reverse, Option, Some, None, Result, IsErrOf, ◌==◌, MatchBool}
 use Rattle.std.specs.Io.KnownBytes.{IsAtEnd}
 use Rattle.externals.specs.Cells.{Seen}
 use Rattle.object_table.specs.Content.{Content}

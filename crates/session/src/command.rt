@@ -1,25 +1,15 @@
-//! What a line says: two statements of HyperTalk, and the dot lines.
+//! What a dot line says.
 
-ghost use Rattle.std.specs.Prelude.{◌≡◌, ◌<◌, ◌≤◌, ◌==◌, ◌↔◌, ℕ, List, [], ◌∷◌, IsTrue, IfSome, length, nat_eq, codes};
-ghost use Rattle.std.specs.Option.{option_map, option_copied};
-ghost use Rattle.std.specs.List.{list_any, position, position_or_len};
+ghost use Rattle.std.specs.Prelude.{◌≡◌, ◌<◌, ◌≤◌, ◌==◌, ℕ, List, [], ◌∷◌, length};
+ghost use Rattle.std.specs.List.{position, position_or_len};
 ghost use Rattle.session.specs.Commands as commands;
-ghost use Rattle.session.specs.Commands.{after as what_follows, after_spaces as from_first_word, is as is_word, dot_command, statement_of, put_statement, command_of, words, word_and_rest, places, named, counted, to_line};
+ghost use Rattle.session.specs.Commands.{after_spaces as from_first_word, is as is_word, is_dot_line as begins_with_dot, command_by, words, word_and_rest, places, named, counted, to_line};
 
-use ht_lex::is_name;
 use stack_file::number_at;
 
-/// A statement of HyperTalk, within the bytes of its line.
+/// What a dot line says.
 #[derive(Clone, Copy)]
-pub enum Statement<'a> {
-    Put { text: &'a [u8], name: &'a [u8] },
-    GoCard(u32),
-}
-
-/// What a line says.
-#[derive(Clone, Copy)]
-pub enum Command<'a> {
-    Run(Statement<'a>),
+pub enum Command {
     Undo(u32),
     Redo(u32),
     UndoTo(u32),
@@ -30,56 +20,28 @@ pub enum Command<'a> {
     Quit,
 }
 
-fn after<'a>(line: &'a [u8], prefix: &[u8]) -> Option<&'a [u8]>
-    ensures { option_copied result ≡ what_follows prefix.now line.now }
+/// Whether a line begins with a dot.
+pub fn is_dot_line(line: &[u8]) -> bool
+    ensures { result ≡ begins_with_dot line.now }
 {
-    line.strip_prefix(prefix)
+    line.first() == Some(&b'.')
 }
 
-fn quote_in(bytes: &[u8]) -> Option<usize>
-    ensures value { result ≡ position (λ b. b == 34) bytes.now }
-    ensures within { IfSome result (λ i. i < length bytes.now) }
+/// What a dot line says, or `None` where it says nothing.
+pub fn command_in(line: &[u8]) -> Option<Command>
+    ensures { result ≡ commands.command_in line.now }
 {
-    bytes.iter().position(|b| *b == b'"')
-}
-
-fn has_return(bytes: &[u8]) -> bool
-    ensures { result ≡ list_any (λ b. b == 13) bytes.now }
-{
-    bytes.iter().any(|b| *b == b'\r')
-}
-
-/// `put "TEXT" into NAME`
-fn put_in(line: &[u8]) -> Option<Statement<'_>>
-    ensures { option_map statement_of result ≡ put_statement line.now }
-{
-    let bytes = after(line, b"put \"")?;
-    let end = quote_in(bytes)?;
-    let text = &bytes[..end];
-    let name = after(&bytes[end..], b"\" into ")?;
-    if has_return(text) || !is_name(name) {
-        return None;
+    let (name, rest) = next_word(line)?;
+    let Some((second, rest)) = next_word(rest) else {
+        return named_in(name);
+    };
+    let Some((third, rest)) = next_word(rest) else {
+        return counted_in(name, second);
+    };
+    match next_word(rest) {
+        None => to_line_in(name, second, third),
+        Some(_) => None,
     }
-    Some(Statement::Put { text, name })
-}
-
-fn statement_in(line: &[u8]) -> Option<Statement<'_>>
-    ensures { option_map statement_of result ≡ commands.statement_in line.now }
-{
-    if let Some(digits) = after(line, b"go card ") {
-        return Some(Statement::GoCard(number_at(digits)?));
-    }
-    put_in(line)
-}
-
-/// What a line says, or `None` where it says nothing.
-pub fn command_in(line: &[u8]) -> Option<Command<'_>>
-    ensures { option_map command_of result ≡ commands.command_in line.now }
-{
-    if line.first() == Some(&b'.') {
-        return dot_line_in(line);
-    }
-    Some(Command::Run(statement_in(line)?))
 }
 
 fn after_spaces(line: &[u8]) -> &[u8]
@@ -133,24 +95,8 @@ fn is(word: &[u8], name: &[u8]) -> bool
     word == name
 }
 
-fn dot_line_in(line: &[u8]) -> Option<Command<'_>>
-    ensures { option_map command_of result ≡ dot_command (words line.now) }
-{
-    let (name, rest) = next_word(line)?;
-    let Some((second, rest)) = next_word(rest) else {
-        return named_in(name);
-    };
-    let Some((third, rest)) = next_word(rest) else {
-        return counted_in(name, second);
-    };
-    match next_word(rest) {
-        None => to_line_in(name, second, third),
-        Some(_) => None,
-    }
-}
-
-fn named_in(name: &[u8]) -> Option<Command<'static>>
-    ensures { option_map command_of result ≡ named name.now }
+fn named_in(name: &[u8]) -> Option<Command>
+    ensures { result ≡ named name.now }
 {
     if is(name, b".undo") {
         Some(Command::Undo(1))
@@ -172,8 +118,8 @@ fn named_in(name: &[u8]) -> Option<Command<'static>>
 }
 
 /// `.undo K` and `.redo K`
-fn counted_in(name: &[u8], word: &[u8]) -> Option<Command<'static>>
-    ensures { option_map command_of result ≡ counted name.now word.now }
+fn counted_in(name: &[u8], word: &[u8]) -> Option<Command>
+    ensures { result ≡ counted name.now word.now }
 {
     if is(name, b".undo") {
         return Some(Command::Undo(places_in(word)?));
@@ -185,8 +131,8 @@ fn counted_in(name: &[u8], word: &[u8]) -> Option<Command<'static>>
 }
 
 /// `.undo to N`
-fn to_line_in(name: &[u8], to: &[u8], word: &[u8]) -> Option<Command<'static>>
-    ensures { option_map command_of result ≡ to_line name.now to.now word.now }
+fn to_line_in(name: &[u8], to: &[u8], word: &[u8]) -> Option<Command>
+    ensures { result ≡ to_line name.now to.now word.now }
 {
     if is(name, b".undo") && is(to, b"to") {
         return Some(Command::UndoTo(number_at(word)?));

@@ -17,5 +17,6 @@ pub use conversation::{Ran, RunFault, run};
 pub use fault::OpenError;
 pub use law::{lines_follow, moves_follow, opens_follow, plugs_follow, runs_follow, stops_follow};
 pub use limits::{LAST_NUMBER, LONGEST_LINE, MOST_BYTES, MOST_LINES, MOST_STEPS};
-pub use reply::{Bytes, Ending, Line, Refusal, Reply, Sent, SentMessage, Shown};
+pub use meaning::{Line, Sent, SentMessage, Shown};
+pub use reply::{Bytes, Ending, Refusal, Reply};
 pub use session::Session;

@@ -9,10 +9,10 @@ ghost use Rattle.stack_text.specs.Listing.{spelling};
 ghost use Rattle.session.specs.Splits.{Splits};
 ghost use Rattle.session.specs.Replies.{history_line as line_of_history, global_line, global_lines};
 
-use crate::reply::Shown;
 use change_journal::World;
 use externals::External;
 use itoa::Buffer;
+use meaning::{Line, Shown};
 use stack_file::{spell_into, write};
 use std::alloc::{AllocError, Global};
 use std::collections::BTreeMap;
@@ -31,7 +31,7 @@ pub fn lines_of(alloc: Global, text: &[u8]) -> Result<Shown, AllocError>
     let mut shown = Shown::new(alloc);
     let mut rest = text;
     while let Some(end) = line_feed_in(rest) {
-        shown.push(Vec::from_slice(alloc, &rest[..end])?)?;
+        shown.push(Line::new(Vec::from_slice(alloc, &rest[..end])?))?;
         rest = &rest[end + 1..];
     }
     Ok(shown)
@@ -48,7 +48,7 @@ fn shown_line(alloc: Global, line: Vec<u8>) -> Result<Shown, AllocError>
     ensures { IfOk result (λ shown. shown ≡ line.items ∷ []) }
 {
     let mut shown = Shown::new(alloc);
-    shown.push(line)?;
+    shown.push(Line::new(line))?;
     Ok(shown)
 }
 
@@ -116,7 +116,7 @@ pub fn globals_shown<E: External>(alloc: Global, world: &World<E>) -> Result<Sho
     let ordered = globals_in_order(alloc, world)?;
     let mut shown = Shown::new(alloc);
     for (name, value) in &ordered {
-        shown.push(spelled_global(alloc, name, value)?)?;
+        shown.push(Line::new(spelled_global(alloc, name, value)?))?;
     }
     Ok(shown)
 }

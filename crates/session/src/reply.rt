@@ -1,90 +1,14 @@
 //! What a line is answered.
 
-ghost use Rattle.std.specs.Prelude.{◌≡◌, ◌<◌, ◌==◌, [], ◌∷◌, ◌++◌, length, OnOk, OnErr, IfOk, Some, slice_get};
+ghost use Rattle.std.specs.Prelude.{◌≡◌, ◌++◌, OnOk, IfOk};
 ghost use Rattle.session.specs.Answers.{answer, ending_line, numbered_line, number_of_refusal};
 
-use ht_values::{Fault, Text};
+use ht_values::Fault;
 use itoa::Buffer;
+use meaning::{Sent, Shown};
 use std::alloc::{AllocError, Global};
 use std::marker::Model;
 use thiserror::Error;
-
-/// A line of an answer: the bytes after `> `, as they are answered. A shown text stands there as it is
-/// spelled in a stack text.
-#[derive(Drop)]
-pub struct Line {
-    bytes: Vec<u8>,
-}
-
-impl Model for Line {
-    ghost use Rattle.std.specs.Prelude.{List, ℕ};
-
-    ghost Value = { List ℕ };
-
-    ghost view = { λ l. l.bytes.items };
-}
-
-impl Line {
-    /// The bytes of the line.
-    pub fn as_slice(&self) -> &[u8]
-        ensures { result.now ≡ self.now }
-    {
-        &self.bytes
-    }
-}
-
-/// The lines that an answer shows.
-#[derive(Drop)]
-pub struct Shown {
-    lines: Vec<Line>,
-}
-
-impl Model for Shown {
-    ghost use Rattle.std.specs.Prelude.{List, ℕ};
-
-    ghost Value = { List (List ℕ) };
-
-    ghost view = { λ s. s.lines.items };
-}
-
-impl Shown {
-    pub(crate) fn new(alloc: Global) -> Shown
-        ensures { result ≡ [] }
-    {
-        Shown {
-            lines: Vec::new(alloc),
-        }
-    }
-
-    /// How many lines there are.
-    pub fn len(&self) -> usize
-        ensures { result ≡ length self.now }
-    {
-        self.lines.len()
-    }
-
-    /// Whether there is no line.
-    pub fn is_empty(&self) -> bool
-        ensures { result ≡ (length self.now == 0) }
-    {
-        self.lines.is_empty()
-    }
-
-    /// The line at a place, from 0.
-    pub fn at(&self, i: usize) -> &Line
-        requires { i < length self.now }
-        ensures { slice_get self.now i ≡ Some result.now }
-    {
-        &self.lines[i]
-    }
-
-    pub(crate) fn push(&mut self, bytes: Vec<u8>) -> Result<(), AllocError>
-        ensures { OnOk result (self.new ≡ self.old ++ bytes.items ∷ []) }
-    {
-        self.lines.push(Line { bytes })?;
-        Ok(())
-    }
-}
 
 /// The bytes of a stack text.
 #[derive(Drop)]
@@ -112,60 +36,6 @@ impl Bytes {
         ensures { result.now ≡ self.now }
     {
         self.bytes.as_slice()
-    }
-}
-
-/// A message that was sent, and the id of the object that it was sent to.
-#[derive(Drop)]
-pub struct SentMessage {
-    pub name: Text,
-    pub object: u32,
-}
-
-/// The messages that a line sent, in their order.
-#[derive(Drop)]
-pub struct Sent {
-    messages: Vec<SentMessage>,
-}
-
-impl Model for Sent {
-    ghost use Rattle.std.specs.Prelude.{List};
-    ghost use Rattle.session.specs.declared.reply.SentMessage.{SentMessage};
-
-    ghost Value = { List SentMessage };
-
-    ghost view = { λ s. s.messages.items };
-}
-
-impl Sent {
-    pub(crate) fn new(alloc: Global) -> Sent
-        ensures { result ≡ [] }
-    {
-        Sent {
-            messages: Vec::new(alloc),
-        }
-    }
-
-    /// How many messages there are.
-    pub fn len(&self) -> usize
-        ensures { result ≡ length self.now }
-    {
-        self.messages.len()
-    }
-
-    /// Whether there is no message.
-    pub fn is_empty(&self) -> bool
-        ensures { result ≡ (length self.now == 0) }
-    {
-        self.messages.is_empty()
-    }
-
-    /// The message at a place, from 0.
-    pub fn at(&self, i: usize) -> &SentMessage
-        requires { i < length self.now }
-        ensures { slice_get self.now i ≡ Some result.now }
-    {
-        &self.messages[i]
     }
 }
 
@@ -258,7 +128,7 @@ pub(crate) fn answer_of(alloc: Global, reply: &Reply) -> Result<Vec<u8>, AllocEr
     ensures { IfOk result (λ bytes. bytes.items ≡ answer reply.now) }
 {
     let mut out = Vec::new(alloc);
-    for line in &reply.shown.lines {
+    for line in reply.shown.as_slice() {
         out.extend_from_slice(b"> ")?;
         out.extend_from_slice(line.as_slice())?;
         out.push(b'\n')?;

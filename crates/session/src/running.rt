@@ -1,123 +1,113 @@
-//! Statements of HyperTalk, run in a world.
+//! Typed lines of HyperTalk, run in a world.
 
-ghost use Rattle.std.specs.Prelude.{◌≡◌, ◌≤◌, length, true, None, Some, IfSome, IfOk, OnErr};
-ghost use Rattle.ht_values.specs.Text.{folded};
-ghost use Rattle.object_table.specs.Numbers.{at_number};
-ghost use Rattle.journal_entries.specs.Changes.{fits};
-ghost use Rattle.ht_values.specs.declared.text.TheConstants.{LIMIT};
-ghost use Rattle.session.specs.Commands.{statement_of, IsWithin, run};
-ghost use Rattle.session.specs.Meaning.{effect, going};
-ghost use Rattle.session.specs.TakesLine.{Adds};
-ghost use Rattle.session.specs.Replies.{ended};
+ghost use Rattle.std.specs.Prelude.{◌≡◌, ◌≤◌, length, None, IfOk, IfErr, OnErr};
+ghost use Rattle.ht_grammar.specs.Reads.{Reads, ReadsLines};
+ghost use Rattle.ht_tree.specs.StatementView.{stmts_of};
+ghost use Rattle.session.specs.declared.limits.TheConstants.{LONGEST_LINE};
+ghost use Rattle.session.specs.Meaning.{ending_of as ending_by, reply_of as reply_by};
+ghost use Rattle.session.specs.Replies.{IsUnread, typed_reply};
+ghost use Rattle.session.specs.TakesLine.{Adds, Types};
 
-use crate::command::Statement;
-use crate::reply::Ending;
-use change_journal::{Change, World};
+use crate::reply::{Ending, Refusal, Reply};
+use change_journal::World;
 use externals::External;
-use ht_values::{Fault, Text, TextError};
+use ht_parse::{ParseError, parse_lines};
+use ht_tree::Stmts;
+use ht_values::{Text, TextError};
+use interp::run_line;
+use meaning::{Budget, Ended, Stop};
+use msg_path::Scripts;
 use std::alloc::{AllocError, Global};
 
-/// What a statement does: the change that it makes, if it makes one, and how it ends.
-#[derive(Drop)]
-struct Effect {
-    change: Option<Change>,
-    ending: Ending,
-}
-
-fn text_of_bytes(alloc: Global, bytes: &[u8]) -> Result<Text, AllocError>
-    requires { length bytes.now ≤ LIMIT }
-    ensures { IfOk result (λ t. t ≡ bytes.now) }
+/// The lines that a typed line is. `BadCommand` where it isn't in the grammar, `NoMemory` where a growth was refused.
+fn lines_in(alloc: Global, line: &[u8]) -> Result<Stmts, Refusal>
+    requires { length line.now ≤ LONGEST_LINE }
+    ensures ok { IfOk result (λ lines. Reads ReadsLines line.now (stmts_of lines.items.items)) }
+    ensures err { IfErr result (λ refusal. IsUnread line.now refusal) }
 {
-    match Text::from_slice(alloc, bytes) {
-        Ok(text) => Ok(text),
-        Err(TextError::Memory) => Err(AllocError),
+    let text = match Text::from_slice(alloc, line) {
+        Ok(text) => text,
+        Err(TextError::Memory) => return Err(Refusal::NoMemory),
         Err(TextError::TooLong) => unreachable!(),
-    }
-}
-
-fn global_change(alloc: Global, text: &[u8], name: &[u8]) -> Result<Change, AllocError>
-    requires text { length text.now ≤ LIMIT }
-    requires name { length name.now ≤ LIMIT }
-    ensures { IfOk result (λ c. c ≡ Change.Global (folded name.now) (Some text.now)) }
-{
-    let value = text_of_bytes(alloc, text)?;
-    let name = text_of_bytes(alloc, name)?.folded(alloc)?;
-    Ok(Change::Global(name, Some(value)))
-}
-
-fn effect_of_going<E: External>(world: &World<E>, number: u32) -> Effect
-    ensures effect { (result.change, result.ending)
-        ≡ going world.now.history.now (at_number world.now.history.now.stack.cards number) }
-    ensures fits { IfSome result.change (λ change. fits world.now.history.now change ≡ true) }
-{
-    let Some(card) = world.stack().card_at(number as usize) else {
-        return Effect {
-            change: None,
-            ending: Ending::Fault(Fault::NoSuchObject),
-        };
     };
-    if card == world.current() {
-        return Effect {
-            change: None,
-            ending: Ending::Ok,
-        };
-    }
-    Effect {
-        change: Some(Change::Current(card)),
-        ending: Ending::Ok,
+    match parse_lines(alloc, &text) {
+        Ok(lines) => Ok(lines),
+        Err(ParseError::Syntax(_)) => Err(Refusal::BadCommand),
+        Err(ParseError::Memory) => Err(Refusal::NoMemory),
     }
 }
 
-fn effect_of<E: External>(
-    alloc: Global,
-    world: &World<E>,
-    statement: Statement<'_>,
-) -> Result<Effect, AllocError>
-    requires { IsWithin LIMIT (run (statement_of statement)) }
-    ensures effect { IfOk result (λ e.
-        (e.change, e.ending) ≡ effect world.now.history.now (statement_of statement.entry)) }
-    ensures fits { IfOk result (λ e.
-        IfSome e.change (λ change. fits world.now.history.now change ≡ true)) }
+/// How a line is answered that ended so, or `None` where it was out of memory.
+fn ending_of(end: Result<Ended, Stop>) -> Option<Ending>
+    ensures { result ≡ ending_by end }
 {
-    match statement {
-        Statement::Put { text, name } => Ok(Effect {
-            change: Some(global_change(alloc, text, name)?),
-            ending: Ending::Ok,
-        }),
-        Statement::GoCard(number) => Ok(effect_of_going(world, number)),
+    match end {
+        Ok(_) | Err(Stop::Exited) => Some(Ending::Ok),
+        Err(Stop::Fault(fault)) => Some(Ending::Fault(fault)),
+        Err(Stop::Memory) => None,
     }
 }
 
-/// Runs a statement, whose text and name are texts, as the line of this number.
-pub fn run_statement<E: External>(
+fn reply_of(run: Budget, ending: Ending) -> Reply
+    ensures { result ≡ reply_by run ending }
+{
+    let (shown, sent) = run.into_shown_and_sent();
+    Reply {
+        shown,
+        sent,
+        ending,
+    }
+}
+
+/// Runs lines with so many steps, as the command of the line of this number. Where it is out of memory nothing is left
+/// of what it did, but for the turns of externals.
+fn run_lines<E: External>(
     alloc: Global,
     world: &mut World<E>,
+    scripts: &mut Scripts,
+    steps: u32,
     number: u32,
-    statement: Statement<'_>,
-) -> Result<Ending, AllocError>
+    lines: &Stmts,
+) -> Result<Reply, AllocError>
     requires closed { world.old.history.start ≡ None }
-    requires within { IsWithin LIMIT (run (statement_of statement)) }
-    ensures ok { IfOk result (λ ending.
-        Adds (statement_of statement.entry) number world.old.history (ended ending) world.new.history) }
-    ensures err { OnErr result (world.new.history ≡ world.old.history) }
+    ensures ok { IfOk result (λ reply.
+        Adds steps (stmts_of lines.now.items.items) number world.old.history reply world.new.history) }
+    ensures err { OnErr result (world.new.history
+        ≡ record world.old.history { turns = world.new.history.turns }) }
     ensures closed { world.new.history.start ≡ None }
 {
-    let Effect { change, ending } = effect_of(alloc, world, statement)?;
     world.begin(number)?;
-    match change {
-        None => {
+    let mut run = Budget::new(alloc, steps);
+    match ending_of(run_line(world, scripts, &mut run, lines)) {
+        Some(ending) => {
             world.commit();
-            Ok(ending)
+            Ok(reply_of(run, ending))
         }
-        Some(change) => match world.make(change) {
-            Ok(()) => {
-                world.commit();
-                Ok(ending)
-            }
-            Err(error) => {
-                world.roll_back();
-                Err(error)
-            }
-        },
+        None => {
+            world.roll_back();
+            Err(AllocError)
+        }
+    }
+}
+
+/// Runs a typed line with so many steps, as the line of this number. `BadCommand` where it isn't in the grammar.
+/// `NoMemory` where a growth was refused; then nothing is left of what it did, but for the turns of externals.
+pub fn type_line<E: External>(
+    alloc: Global,
+    world: &mut World<E>,
+    scripts: &mut Scripts,
+    steps: u32,
+    number: u32,
+    line: &[u8],
+) -> Result<Reply, Refusal>
+    requires closed { world.old.history.start ≡ None }
+    requires short { length line.now ≤ LONGEST_LINE }
+    ensures typed { Types steps line.now number world.old.history (typed_reply result) world.new.history }
+    ensures closed { world.new.history.start ≡ None }
+{
+    let lines = lines_in(alloc, line)?;
+    match run_lines(alloc, world, scripts, steps, number, &lines) {
+        Ok(reply) => Ok(reply),
+        Err(_) => Err(Refusal::NoMemory),
     }
 }

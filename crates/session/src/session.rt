@@ -4,37 +4,37 @@ ghost use Rattle.std.specs.Prelude.{◌≡◌, ◌≤◌, ◌==◌, ◌⊎◌, [
 ghost use Rattle.object_table.specs.WellFormed.{IsWellFormed};
 ghost use Rattle.journal_entries.specs.State.{seen_by, seen_at, titles_of, has_name, index_of};
 ghost use Rattle.change_journal.specs.History.{plugged, unplugged};
-ghost use Rattle.session.specs.Commands as commands;
-ghost use Rattle.session.specs.Commands.{command_of, IsWithin};
 ghost use Rattle.session.specs.Moves.{MovesTo, undone, redone, undone_to};
 ghost use Rattle.session.specs.Opening.{open_fault, opened};
-ghost use Rattle.session.specs.Stamped.{AreStamped};
+ghost use Rattle.session.specs.Stamped.{numbers_of, DescendFrom};
 ghost use Rattle.stack_text.specs.declared.sheets.Version.TheVariants.{Second as second};
 ghost use Rattle.stack_text.specs.Listing.{spelling};
-ghost use Rattle.session.specs.TakesLine.{TakesLine, Performs, MayRunOut};
-ghost use Rattle.session.specs.declared.limits.TheConstants.{LONGEST_LINE};
-ghost use Rattle.session.specs.Replies.{ended as ended_by, refused as refused_by, shown_reply, moved_reply, ran_reply};
+ghost use Rattle.session.specs.TakesLine.{TakesLine, Performs, LineMayRunOut};
+ghost use Rattle.session.specs.Replies.{ended as ended_by, refused as refused_by, shown_reply, moved_reply, typed_reply};
 
-use crate::command::{Command, command_in};
+use crate::command::{Command, command_in, is_dot_line};
 use crate::fault::OpenError;
 use crate::limits::{LAST_NUMBER, LONGEST_LINE, MOST_STEPS};
 use crate::moves::{go_back, go_back_to, go_forth};
 use crate::queries::{card_shown, globals_shown, history_shown, stack_shown};
-use crate::reply::{Bytes, Ending, Refusal, Reply, Sent, Shown};
-use crate::running::run_statement;
+use crate::reply::{Bytes, Ending, Refusal, Reply};
+use crate::running::type_line;
 use change_journal::{MOST_DEPTH, PlugError, World};
 use externals::External;
 use ht_values::Text;
+use meaning::{Sent, Shown};
+use msg_path::Scripts;
 use object_table::Stack;
 use stack_file::write;
 use std::alloc::{AllocError, Global};
 use std::marker::Model;
 
-/// A world and the number of lines that it took.
+/// A world with the scripts that were parsed, the number of lines that it took, and how many steps a command may take.
 #[derive(Drop)]
 pub struct Session<E: External> {
     alloc: Global,
     world: World<E>,
+    scripts: Scripts,
     lines: u32,
     steps: u32,
 }
@@ -92,31 +92,26 @@ fn looked(alloc: Global, outcome: Result<Shown, AllocError>) -> Reply
     }
 }
 
-fn ran(alloc: Global, outcome: Result<Ending, AllocError>) -> Reply
-    ensures { result ≡ ran_reply outcome }
+fn typed(alloc: Global, outcome: Result<Reply, Refusal>) -> Reply
+    ensures { result ≡ typed_reply outcome }
 {
     match outcome {
-        Ok(ending) => ended(alloc, ending),
-        Err(_) => refused(alloc, Refusal::NoMemory),
+        Ok(reply) => reply,
+        Err(refusal) => refused(alloc, refusal),
     }
 }
 
-/// Does what a line of this number says; its parts are texts.
-fn perform<E: External>(
-    alloc: Global,
-    world: &mut World<E>,
-    number: u32,
-    command: Command<'_>,
-) -> Reply
+/// Does what a dot line says.
+fn perform<E: External>(alloc: Global, world: &mut World<E>, command: Option<Command>) -> Reply
     requires closed { world.old.history.start ≡ None }
-    requires stamped { AreStamped number world.old.history }
-    requires within { IsWithin LONGEST_LINE (command_of command) }
-    ensures performed { Performs (Some (command_of command.entry)) number
-        world.old.history result world.new.history }
+    requires stamped { DescendFrom world.old.history.stamp (numbers_of world.old.history.past) }
+    ensures performed { Performs command world.old.history result world.new.history }
     ensures closed { world.new.history.start ≡ None }
 {
+    let Some(command) = command else {
+        return refused(alloc, Refusal::BadCommand);
+    };
     match command {
-        Command::Run(statement) => ran(alloc, run_statement(alloc, world, number, statement)),
         Command::Undo(places) => moved(alloc, go_back(world, places)),
         Command::Redo(places) => moved(alloc, go_forth(world, places)),
         Command::UndoTo(line) => moved(alloc, go_back_to(world, line)),
@@ -160,6 +155,7 @@ impl<E: External> Session<E> {
             Ok(world) => Ok(Session {
                 alloc,
                 world,
+                scripts: Scripts::new(alloc),
                 lines: 0,
                 steps,
             }),
@@ -215,30 +211,38 @@ impl<E: External> Session<E> {
         let Session {
             alloc: _,
             world,
+            scripts: _,
             lines: _,
             steps: _,
         } = self;
         world.close()
     }
 
-    /// Answers a line: `put "TEXT" into NAME`, `go card N` or a dot line. Each line is counted, up to
-    /// 9,999,999. A command that is run adds a place, also where it changes nothing or ends by a fault.
-    /// The refusals: 5 for a line over 30,000 bytes, then 3 for a line that says nothing, 1 and 2 where
-    /// there is no such place, and 4 where a growth of memory was refused; then nothing is left of what
-    /// the line did. The forms of lines are this project's profile.
+    /// Answers a line: a dot line, or each other one as HyperTalk, with the steps of a command. Each line is counted, up
+    /// to 9,999,999. A command that is run adds a place, also where it changes nothing or ends by a fault, which keeps
+    /// what was done before it. The refusals: 5 for a line over 30,000 bytes, then 3 for a dot line that says nothing and
+    /// for another that isn't in the grammar, 1 and 2 where there is no such place, and 4 where a growth of memory was
+    /// refused; then nothing is left of what the line did, but for turns that externals took.
     pub fn line(&mut self, line: &[u8]) -> Reply
         ensures step { TakesLine line.now self.old result self.new }
-        ensures memory { result.ending ≡ Ending.Refused Refusal.NoMemory
-            → MayRunOut (commands.command_in line.now) }
+        ensures memory { result.ending ≡ Ending.Refused Refusal.NoMemory → LineMayRunOut line.now }
     {
         self.lines = (self.lines + 1).min(LAST_NUMBER);
         if LONGEST_LINE < line.len() {
             return refused(self.alloc, Refusal::LineTooLong);
         }
-        match command_in(line) {
-            None => refused(self.alloc, Refusal::BadCommand),
-            Some(command) => perform(self.alloc, &mut self.world, self.lines, command),
+        if is_dot_line(line) {
+            return perform(self.alloc, &mut self.world, command_in(line));
         }
+        let outcome = type_line(
+            self.alloc,
+            &mut self.world,
+            &mut self.scripts,
+            self.steps,
+            self.lines,
+            line,
+        );
+        typed(self.alloc, outcome)
     }
 
     /// Goes back by as many places. `BadCommand` for none, `NothingToUndo` where there are fewer.

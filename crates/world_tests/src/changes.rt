@@ -1,262 +1,178 @@
-ghost use Rattle.std.specs.Prelude.{◌≡◌, ◌≤◌, None, OnOk, IfOk, IsSome};
+//! Lines of a world on the empty stack, its externals, and its history.
 
-use change_journal::{Change, PlugError, World, WorldError};
-use externals::{Ask, External, Input, Patch, Texts};
+ghost use Rattle.std.specs.Prelude.{◌≡◌, ◌≤◌, None, IfOk};
+
+use crate::turner::{all_boxed, boxed};
+use crate::worlds::{Deed, Step, open_world, take_all};
+use change_journal::{PlugError, World, WorldError};
+use externals::External;
 use ht_values::Text;
-use object_table::{PropValue, Stack};
-use std::alloc::{AllocError, Global};
-use std::mem;
+use object_table::{Id, Stack};
+use std::alloc::Global;
 use std::test::Fail;
 
-/// Of no known kind, a command: its cell is `turned` after a turn.
-#[derive(Drop)]
-struct Turner {
-    name: Text,
-    cell: Text,
-    turns: u64,
+/// How many states a world keeps, what is done in it, with an external `a`, and what is then seen of it.
+struct Row {
+    name: &'static str,
+    depth: u32,
+    steps: &'static [Step],
+    seen: Seen,
 }
 
-impl External for Turner {
-    ghost use Rattle.std.specs.Prelude.{[], ◌∷◌, false};
-
-    ghost title = { λ e. e.name };
-
-    ghost sort = { λ _. 0 };
-
-    ghost answers_calls = { λ _. false };
-
-    ghost cells = { λ e. e.cell ∷ [] };
-
-    ghost turn_count = { λ e. e.turns };
-
-    fn name(&self) -> &Text {
-        &self.name
-    }
-
-    fn kind(&self) -> u32 {
-        0
-    }
-
-    fn is_function(&self) -> bool {
-        false
-    }
-
-    fn cell_count(&self) -> usize {
-        1
-    }
-
-    fn cell(&self, i: usize) -> &Text {
-        let _ = i;
-        &self.cell
-    }
-
-    fn turn(&mut self, alloc: Global, input: &Input) -> Result<(Ask, Patch), AllocError> {
-        let _ = input;
-        self.turns = self.turns.saturating_add(1);
-        let mut next = Text::from_slice(alloc, b"turned").map_err(|_| AllocError)?;
-        let mut patch = Patch::new(alloc);
-        if next.as_slice() == self.cell.as_slice() {
-            return Ok((Ask::Fail, patch));
-        }
-        mem::swap(&mut self.cell, &mut next);
-        match patch.push(0, next) {
-            Ok(()) => Ok((Ask::Fail, patch)),
-            Err(old) => {
-                self.cell = old;
-                Err(AllocError)
-            }
-        }
-    }
-
-    fn flip(&mut self, patch: &mut Patch) {
-        if patch.len() > 0 {
-            patch.swap(0, &mut self.cell);
-        }
-    }
-
-    fn turns(&self) -> u64 {
-        self.turns
-    }
+/// What is seen of a world.
+struct Seen {
+    /// The numbers of the lines of the states that can be gone back to, from the present state on.
+    stamps: &'static [u32],
+    redoable: usize,
+    current: Id,
+    /// Whether `g` is `1`, the only global; else there is none.
+    has_global: bool,
+    /// The name of the empty stack's card.
+    card: &'static [u8],
+    /// The cell of the external.
+    cell: &'static [u8],
 }
+
+/// What is seen at first.
+const FIRST: Seen = Seen {
+    stamps: &[0],
+    redoable: 0,
+    current: 2,
+    has_global: false,
+    card: b"",
+    cell: b"first",
+};
+
+const PUT: &[Deed] = &[Deed::Global(b"g", b"1")];
+
+const NAME: Step = Step::Line(
+    1,
+    &[
+        Deed::Name(2, b"First"),
+        Deed::CantDelete(2, true),
+        Deed::Name(2, b"Home"),
+    ],
+);
+
+const ROWS: &[Row] = &[
+    Row {
+        name: "a line that is given up leaves all as it was",
+        depth: 2,
+        steps: &[Step::GivenUp(7, &[Deed::Current(2)])],
+        seen: FIRST,
+    },
+    Row {
+        name: "each line adds a place",
+        depth: 2,
+        steps: &[Step::Line(8, PUT), Step::Line(9, PUT)],
+        seen: Seen {
+            stamps: &[9, 8, 0],
+            has_global: true,
+            ..FIRST
+        },
+    },
+    Row {
+        name: "the oldest place falls away",
+        depth: 2,
+        steps: &[Step::Line(8, PUT), Step::Line(9, PUT), Step::Line(10, PUT)],
+        seen: Seen {
+            stamps: &[10, 9, 8],
+            has_global: true,
+            ..FIRST
+        },
+    },
+    Row {
+        name: "states have the numbers of their lines",
+        depth: 5,
+        steps: &[Step::Line(4, PUT), Step::Line(6, PUT)],
+        seen: Seen {
+            stamps: &[6, 4, 0],
+            has_global: true,
+            ..FIRST
+        },
+    },
+    Row {
+        name: "a property is changed",
+        depth: 3,
+        steps: &[NAME],
+        seen: Seen {
+            stamps: &[1, 0],
+            card: b"Home",
+            ..FIRST
+        },
+    },
+    Row {
+        name: "a property goes back",
+        depth: 3,
+        steps: &[NAME, Step::Back],
+        seen: Seen {
+            redoable: 1,
+            ..FIRST
+        },
+    },
+    Row {
+        name: "a property comes again",
+        depth: 3,
+        steps: &[NAME, Step::Back, Step::Forth],
+        seen: Seen {
+            stamps: &[1, 0],
+            card: b"Home",
+            ..FIRST
+        },
+    },
+    Row {
+        name: "a cell is turned",
+        depth: 3,
+        steps: &[Step::Turn(1)],
+        seen: Seen {
+            stamps: &[1, 0],
+            cell: b"turned",
+            ..FIRST
+        },
+    },
+    Row {
+        name: "a cell goes back",
+        depth: 3,
+        steps: &[Step::Turn(1), Step::Back],
+        seen: Seen {
+            redoable: 1,
+            ..FIRST
+        },
+    },
+    Row {
+        name: "a cell is turned again",
+        depth: 3,
+        steps: &[Step::Turn(1), Step::Back, Step::Forth],
+        seen: Seen {
+            stamps: &[1, 0],
+            cell: b"turned",
+            ..FIRST
+        },
+    },
+];
 
 fn text(alloc: Global, bytes: &[u8]) -> Result<Text, Fail> {
     Ok(Text::from_slice(alloc, bytes)?)
 }
 
-fn make_turner(alloc: Global, name: &[u8]) -> Result<Turner, Fail> {
-    Ok(Turner {
-        name: text(alloc, name)?,
-        cell: text(alloc, b"first")?,
-        turns: 0,
-    })
-}
-
-/// What is seen of a world.
-#[derive(Debug, Drop, PartialEq)]
-struct Seen {
-    undoable: usize,
-    redoable: usize,
-    stamp: u32,
-    current: u32,
-    globals: usize,
-    externals: usize,
-}
-
-fn see<E: External>(world: &World<E>) -> Seen {
-    Seen {
-        undoable: world.undoable(),
-        redoable: world.redoable(),
-        stamp: world.stamp(0),
-        current: world.current(),
-        globals: world.global_count(),
-        externals: world.external_count(),
-    }
-}
-
-// Each call of a world by a function that promises only whether a batch is open, so that no test carries the clauses of many. A
-// world stands in a box, so that each exit drops it by one call.
-
-fn open_world<E: External>(
-    alloc: Global,
-    externals: Vec<E>,
-    depth: u32,
-) -> Result<Box<World<E>>, Fail>
+/// A world of the empty stack.
+fn opened<E: External>(alloc: Global, externals: Vec<E>, depth: u32) -> Result<Box<World<E>>, Fail>
     requires low { 1 ≤ depth }
     requires high { depth ≤ 1000000 }
     ensures { IfOk result (λ w. w.value.history.start ≡ None) }
 {
-    match World::open(alloc, Stack::new(alloc)?, externals, depth) {
-        Ok(world) => Ok(Box::new(alloc, world)?),
-        Err(_) => Err("names".into()),
+    open_world(alloc, Stack::new(alloc)?, externals, depth)
+}
+
+fn has_stamps<E: External>(world: &World<E>, stamps: &[u32]) -> bool {
+    for i in 0..stamps.len() {
+        if i > world.undoable() || world.stamp(i) != stamps[i] {
+            return false;
+        }
     }
+    world.undoable().saturating_add(1) == stamps.len()
 }
 
-fn begin<E: External>(world: &mut World<E>, number: u32) -> Result<(), Fail>
-    requires { world.old.history.start ≡ None }
-    ensures { OnOk result (IsSome world.new.history.start) }
-{
-    Ok(world.begin(number)?)
-}
-
-fn make<E: External>(world: &mut World<E>, change: Change) -> Result<(), Fail>
-    requires { IsSome world.old.history.start }
-    ensures { OnOk result (IsSome world.new.history.start) }
-{
-    if !world.fits(&change) {
-        return Err("fits".into());
-    }
-    Ok(world.make(change)?)
-}
-
-fn turn_first<E: External>(alloc: Global, world: &mut World<E>) -> Result<(), Fail>
-    requires { IsSome world.old.history.start }
-    ensures { OnOk result (IsSome world.new.history.start) }
-{
-    if world.external_count() == 0 {
-        return Err("no external".into());
-    }
-    let _ = world.turn_external(0, &Input::Start(Texts::new(alloc)))?;
-    Ok(())
-}
-
-fn commit<E: External>(world: &mut World<E>)
-    requires { IsSome world.old.history.start }
-    ensures { world.new.history.start ≡ None }
-{
-    world.commit();
-}
-
-fn roll_back<E: External>(world: &mut World<E>)
-    requires { IsSome world.old.history.start }
-    ensures { world.new.history.start ≡ None }
-{
-    world.roll_back();
-}
-
-fn flip_back<E: External>(world: &mut World<E>) -> Result<(), Fail>
-    requires { world.old.history.start ≡ None }
-    ensures { OnOk result (world.new.history.start ≡ None) }
-{
-    if world.undoable() == 0 {
-        return Err("no place".into());
-    }
-    world.flip_back();
-    Ok(())
-}
-
-fn flip_forth<E: External>(world: &mut World<E>) -> Result<(), Fail>
-    requires { world.old.history.start ≡ None }
-    ensures { OnOk result (world.new.history.start ≡ None) }
-{
-    if world.redoable() == 0 {
-        return Err("no place".into());
-    }
-    world.flip_forth();
-    Ok(())
-}
-
-fn put_global(alloc: Global) -> Result<Change, Fail> {
-    Ok(Change::Global(text(alloc, b"g")?, Some(text(alloc, b"1")?)))
-}
-
-/// One line: `g` becomes `1`.
-fn put_one<E: External>(alloc: Global, world: &mut World<E>, number: u32) -> Result<(), Fail>
-    requires { world.old.history.start ≡ None }
-    ensures { OnOk result (world.new.history.start ≡ None) }
-{
-    begin(world, number)?;
-    make(world, put_global(alloc)?)?;
-    commit(world);
-    Ok(())
-}
-
-/// One line that is given up: the current card becomes current.
-fn give_up<E: External>(world: &mut World<E>, number: u32) -> Result<(), Fail>
-    requires { world.old.history.start ≡ None }
-    ensures { OnOk result (world.new.history.start ≡ None) }
-{
-    begin(world, number)?;
-    let current = world.current();
-    make(world, Change::Current(current))?;
-    roll_back(world);
-    Ok(())
-}
-
-/// One line: the first external takes a turn.
-fn turn<E: External>(alloc: Global, world: &mut World<E>, number: u32) -> Result<(), Fail>
-    requires { world.old.history.start ≡ None }
-    ensures { OnOk result (world.new.history.start ≡ None) }
-{
-    begin(world, number)?;
-    turn_first(alloc, world)?;
-    commit(world);
-    Ok(())
-}
-
-fn name_card<E: External>(alloc: Global, world: &mut World<E>, name: &[u8]) -> Result<(), Fail>
-    requires { IsSome world.old.history.start }
-    ensures { OnOk result (IsSome world.new.history.start) }
-{
-    make(
-        world,
-        Change::Prop(2, PropValue::NameIs(text(alloc, name)?)),
-    )
-}
-
-/// One line that names the card twice and keeps it from deletion.
-fn name_twice<E: External>(alloc: Global, world: &mut World<E>, number: u32) -> Result<(), Fail>
-    requires { world.old.history.start ≡ None }
-    ensures { OnOk result (world.new.history.start ≡ None) }
-{
-    begin(world, number)?;
-    name_card(alloc, world, b"First")?;
-    make(world, Change::Prop(2, PropValue::CantDeleteIs(true)))?;
-    name_card(alloc, world, b"Home")?;
-    commit(world);
-    Ok(())
-}
-
-/// Whether the empty stack's card has this name.
 fn has_card<E: External>(world: &World<E>, name: &[u8]) -> bool {
     match world.stack().object(2) {
         Some(card) => card.name.as_slice() == name,
@@ -264,9 +180,9 @@ fn has_card<E: External>(world: &World<E>, name: &[u8]) -> bool {
     }
 }
 
-/// Whether the first cell of the first external has this text.
+/// Whether the one cell of the only external has this text.
 fn has_cell<E: External>(world: &World<E>, bytes: &[u8]) -> bool {
-    if world.external_count() == 0 || world.external(0).cell_count() == 0 {
+    if world.external_count() != 1 || world.external(0).cell_count() != 1 {
         return false;
     }
     world.external(0).cell(0).as_slice() == bytes
@@ -290,61 +206,36 @@ fn lists_one<E: External>(world: &World<E>) -> bool {
     name == b"g".as_slice() && value.as_slice() == b"1".as_slice()
 }
 
-/// A card that is named, and then is named after a flip back and after one forth.
-fn names_go_back<E: External>(alloc: Global, externals: Vec<E>) -> Result<[bool; 3], Fail> {
-    let mut world = open_world(alloc, externals, 3)?;
-    name_twice(alloc, &mut world, 1)?;
-    let named = has_card(&world, b"Home");
-    flip_back(&mut world)?;
-    let back = has_card(&world, b"");
-    flip_forth(&mut world)?;
-    Ok([named, back, has_card(&world, b"Home")])
+fn is_seen<E: External>(alloc: Global, world: &World<E>, seen: &Seen) -> Result<bool, Fail> {
+    let has_global = has_one(alloc, world)?;
+    Ok(
+        has_global == seen.has_global
+            && world.global_count() == usize::from(seen.has_global)
+            && lists_one(world) == seen.has_global
+            && has_stamps(world, seen.stamps)
+            && world.redoable() == seen.redoable
+            && world.current() == seen.current
+            && has_card(world, seen.card)
+            && has_cell(world, seen.cell),
+    )
 }
 
-/// A cell that is turned, and then is as it was after a flip back and turned after one forth.
-fn cells_turn_back<E: External>(alloc: Global, externals: Vec<E>) -> Result<[bool; 3], Fail> {
-    let mut world = open_world(alloc, externals, 3)?;
-    turn(alloc, &mut world, 1)?;
-    let turned = has_cell(&world, b"turned");
-    flip_back(&mut world)?;
-    let back = has_cell(&world, b"first");
-    flip_forth(&mut world)?;
-    Ok([turned, back, has_cell(&world, b"turned")])
-}
-
-/// What is seen after a line that is given up, where two places may stand.
-fn given_up<E: External>(alloc: Global, externals: Vec<E>) -> Result<Seen, Fail> {
-    let mut world = open_world(alloc, externals, 2)?;
-    give_up(&mut world, 7)?;
-    Ok(see(&world))
-}
-
-/// What is seen after two lines, and whether they put a global.
-fn two_lines<E: External>(alloc: Global, externals: Vec<E>) -> Result<(Seen, bool), Fail> {
-    let mut world = open_world(alloc, externals, 2)?;
-    put_one(alloc, &mut world, 8)?;
-    put_one(alloc, &mut world, 9)?;
-    let has_global = has_one(alloc, &world)? && lists_one(&world);
-    Ok((see(&world), has_global))
-}
-
-/// What is seen after three lines.
-fn three_lines<E: External>(alloc: Global, externals: Vec<E>) -> Result<Seen, Fail> {
-    let mut world = open_world(alloc, externals, 2)?;
-    put_one(alloc, &mut world, 8)?;
-    put_one(alloc, &mut world, 9)?;
-    put_one(alloc, &mut world, 10)?;
-    Ok(see(&world))
-}
-
-fn stamps<E: External>(alloc: Global, externals: Vec<E>) -> Result<(u32, u32, u32), Fail> {
-    let mut world = open_world(alloc, externals, 5)?;
-    put_one(alloc, &mut world, 4)?;
-    put_one(alloc, &mut world, 6)?;
-    if world.undoable() < 2 {
-        return Err("no place".into());
+fn meets<E: External>(alloc: Global, externals: Vec<E>, row: &Row) -> Result<bool, Fail> {
+    if !(1..=10).contains(&row.depth) {
+        return Err("depth".into());
     }
-    Ok((world.stamp(0), world.stamp(1), world.stamp(2)))
+    let mut world = opened(alloc, externals, row.depth)?;
+    take_all(alloc, &mut world, row.steps)?;
+    is_seen(alloc, &world, &row.seen)
+}
+
+#[test]
+fn lines_and_moves_are_seen(rt: HostRuntime) -> Result<(), Fail> {
+    for row in ROWS {
+        let externals = all_boxed(rt.alloc(), &[b"a".as_slice()])?;
+        assert!(rt; meets(rt.alloc(), externals, row)?, "{}", row.name);
+    }
+    Ok(())
 }
 
 /// Why an external isn't plugged, or none.
@@ -371,48 +262,59 @@ fn count_at_close<E: External>(world: Box<World<E>>) -> usize {
     Box::into_inner(world).close().len()
 }
 
-/// Why an external that is there isn't plugged.
-fn plug_again<E: External>(
-    alloc: Global,
-    externals: Vec<E>,
-    again: E,
-) -> Result<(Option<PlugError>, usize), Fail> {
-    let mut world = open_world(alloc, externals, 1)?;
-    put_one(alloc, &mut world, 1)?;
-    let error = plug(&mut world, again);
-    Ok((error, world.undoable()))
+/// What is plugged into a world of the external `a` after a line, or why it isn't, and what is then unplugged, with how many
+/// externals there are after each.
+struct PlugRow {
+    plugged: &'static [u8],
+    error: Option<PlugError>,
+    then: usize,
+    unplugged: &'static [u8],
+    last: usize,
 }
 
-/// Whether an external is plugged and unplugged; how many there are after either, and at the close.
-fn plug_and_unplug<E: External>(
+const PLUGS: &[PlugRow] = &[
+    PlugRow {
+        plugged: b"A",
+        error: Some(PlugError::DuplicateName),
+        then: 1,
+        unplugged: b"A",
+        last: 0,
+    },
+    PlugRow {
+        plugged: b"new",
+        error: None,
+        then: 2,
+        unplugged: b"NEW",
+        last: 1,
+    },
+];
+
+/// The line's place stays where an external is plugged or not, and goes where one is unplugged.
+fn plugs<E: External>(
     alloc: Global,
     externals: Vec<E>,
     new: E,
     name: &Text,
-) -> Result<(bool, usize, usize, usize), Fail> {
-    let mut world = open_world(alloc, externals, 1)?;
-    let is_plugged = plug(&mut world, new).is_none();
-    let more = world.external_count();
-    let is_unplugged = unplug(&mut world, name);
-    let count = world.external_count();
-    Ok((
-        is_plugged && is_unplugged,
-        more,
-        count,
-        count_at_close(world),
-    ))
+    row: &PlugRow,
+) -> Result<bool, Fail> {
+    let mut world = opened(alloc, externals, 1)?;
+    take_all(alloc, &mut world, &[Step::Line(1, PUT)])?;
+    let is_plugged = plug(&mut world, new) == row.error
+        && world.external_count() == row.then
+        && world.undoable() == 1;
+    let is_unplugged = unplug(&mut world, name) && world.undoable() == 0;
+    Ok(is_plugged && is_unplugged && count_at_close(world) == row.last)
 }
 
-/// How many states can be gone back to after a line and an unplug.
-fn places_after_unplug<E: External>(
-    alloc: Global,
-    externals: Vec<E>,
-    name: &Text,
-) -> Result<usize, Fail> {
-    let mut world = open_world(alloc, externals, 1)?;
-    put_one(alloc, &mut world, 1)?;
-    let _ = unplug(&mut world, name);
-    Ok(world.undoable())
+#[test]
+fn externals_are_plugged_and_unplugged(rt: HostRuntime) -> Result<(), Fail> {
+    for row in PLUGS {
+        let name = text(rt.alloc(), row.unplugged)?;
+        let new = boxed(rt.alloc(), row.plugged)?;
+        let externals = all_boxed(rt.alloc(), &[b"a".as_slice()])?;
+        assert!(rt; plugs(rt.alloc(), externals, new, &name, row)?);
+    }
+    Ok(())
 }
 
 /// Why no world is opened, and how many externals come back.
@@ -427,104 +329,10 @@ fn refusal_to_open<E: External>(
     }
 }
 
-type Boxed = Box<dyn External>;
-
-fn boxed(alloc: Global, name: &[u8]) -> Result<Boxed, Fail> {
-    let boxed: Boxed = Box::new(alloc, make_turner(alloc, name)?)?;
-    Ok(boxed)
-}
-
-fn none(alloc: Global) -> Vec<Boxed> {
-    Vec::new(alloc)
-}
-
-fn one(alloc: Global) -> Result<Vec<Boxed>, Fail> {
-    let mut one = none(alloc);
-    one.push(boxed(alloc, b"a")?)?;
-    Ok(one)
-}
-
-fn two_of_a_name(alloc: Global) -> Result<Vec<Turner>, Fail> {
-    let mut two = Vec::new(alloc);
-    two.push(make_turner(alloc, b"a")?)?;
-    two.push(make_turner(alloc, b"A")?)?;
-    Ok(two)
-}
-
-#[test]
-fn a_line_given_up_leaves_all_as_it_was(rt: HostRuntime) -> Result<(), Fail> {
-    let at_first = Seen {
-        undoable: 0,
-        redoable: 0,
-        stamp: 0,
-        current: 2,
-        globals: 0,
-        externals: 1,
-    };
-    assert!(rt; given_up(rt.alloc(), one(rt.alloc())?)? == at_first);
-    Ok(())
-}
-
-#[test]
-fn each_line_adds_a_place(rt: HostRuntime) -> Result<(), Fail> {
-    let (seen, has_global) = two_lines(rt.alloc(), one(rt.alloc())?)?;
-    assert!(rt; has_global);
-    assert_eq!(rt; (seen.undoable, seen.stamp, seen.globals), (2, 9, 1));
-    Ok(())
-}
-
-#[test]
-fn the_oldest_place_falls_away(rt: HostRuntime) -> Result<(), Fail> {
-    let seen = three_lines(rt.alloc(), one(rt.alloc())?)?;
-    assert_eq!(rt; (seen.undoable, seen.stamp, seen.redoable), (2, 10, 0));
-    Ok(())
-}
-
-#[test]
-fn states_have_the_numbers_of_their_lines(rt: HostRuntime) -> Result<(), Fail> {
-    assert!(rt; stamps(rt.alloc(), none(rt.alloc()))? == (6, 4, 0));
-    Ok(())
-}
-
-#[test]
-fn properties_go_back(rt: HostRuntime) -> Result<(), Fail> {
-    assert!(rt; names_go_back(rt.alloc(), none(rt.alloc()))? == [true, true, true]);
-    Ok(())
-}
-
-#[test]
-fn cells_go_back(rt: HostRuntime) -> Result<(), Fail> {
-    assert!(rt; cells_turn_back(rt.alloc(), one(rt.alloc())?)? == [true, true, true]);
-    Ok(())
-}
-
-#[test]
-fn an_external_is_plugged_once(rt: HostRuntime) -> Result<(), Fail> {
-    let again = boxed(rt.alloc(), b"A")?;
-    let (error, places) = plug_again(rt.alloc(), one(rt.alloc())?, again)?;
-    assert!(rt; error == Some(PlugError::DuplicateName) && places == 1);
-    Ok(())
-}
-
-#[test]
-fn an_external_is_plugged_and_unplugged(rt: HostRuntime) -> Result<(), Fail> {
-    let name = text(rt.alloc(), b"NEW")?;
-    let new = boxed(rt.alloc(), b"new")?;
-    let came = plug_and_unplug(rt.alloc(), one(rt.alloc())?, new, &name)?;
-    assert!(rt; came == (true, 2, 1, 1));
-    Ok(())
-}
-
-#[test]
-fn an_unplug_leaves_no_place(rt: HostRuntime) -> Result<(), Fail> {
-    let name = text(rt.alloc(), b"A")?;
-    assert!(rt; places_after_unplug(rt.alloc(), one(rt.alloc())?, &name)? == 0);
-    Ok(())
-}
-
 #[test]
 fn names_are_apart(rt: HostRuntime) -> Result<(), Fail> {
-    let refusal = refusal_to_open(rt.alloc(), two_of_a_name(rt.alloc())?)?;
+    let two = all_boxed(rt.alloc(), &[b"a".as_slice(), b"A".as_slice()])?;
+    let refusal = refusal_to_open(rt.alloc(), two)?;
     assert!(rt; refusal == Some((WorldError::DuplicateName, 2)));
     Ok(())
 }

@@ -1,9 +1,9 @@
 //! Entries, globals and changes, with ample memory.
 
-use crate::quiet::{Quiet, make_quiet};
+use crate::turner::{Turner, all_turners};
 use ht_values::Text;
 use journal_entries::{
-    Change, Globals, Present, are_apart, index_of, law_of_externals, law_of_texts, law_of_trails,
+    Change, Globals, Present, are_apart, index_of, law_of_externals, law_of_trails,
 };
 use object_table::Stack;
 use std::alloc::Global;
@@ -11,14 +11,6 @@ use std::test::Fail;
 
 fn text(alloc: Global, bytes: &[u8]) -> Result<Text, Fail> {
     Ok(Text::from_slice(alloc, bytes)?)
-}
-
-fn quiets(alloc: Global, names: &[&[u8]]) -> Result<Vec<Quiet>, Fail> {
-    let mut quiets = Vec::new(alloc);
-    for name in names {
-        quiets.push(make_quiet(alloc, name)?)?;
-    }
-    Ok(quiets)
 }
 
 fn number(globals: &mut Globals, name: Text) -> Result<(), Fail> {
@@ -75,14 +67,14 @@ fn trails_have_laws(_rt: HostRuntime) {
 
 /// Whether externals of these names are apart.
 fn are_names_apart(alloc: Global, names: &[&[u8]]) -> Result<bool, Fail> {
-    let quiets = quiets(alloc, names)?;
-    law_of_externals(&quiets);
-    Ok(are_apart(&quiets))
+    let turners = all_turners(alloc, names)?;
+    law_of_externals(&turners);
+    Ok(are_apart(&turners))
 }
 
-fn place_of(alloc: Global, quiets: &[Quiet], name: &[u8]) -> Result<Option<usize>, Fail> {
+fn place_of(alloc: Global, turners: &[Turner], name: &[u8]) -> Result<Option<usize>, Fail> {
     let name = text(alloc, name)?;
-    Ok(index_of(quiets, &name))
+    Ok(index_of(turners, &name))
 }
 
 #[test]
@@ -94,19 +86,19 @@ fn names_of_externals(rt: HostRuntime) -> Result<(), Fail> {
 
 #[test]
 fn an_external_is_found_by_its_name(rt: HostRuntime) -> Result<(), Fail> {
-    let two = quiets(rt.alloc(), &[b"a".as_slice(), b"b".as_slice()])?;
+    let two = all_turners(rt.alloc(), &[b"a".as_slice(), b"b".as_slice()])?;
     assert!(rt; place_of(rt.alloc(), &two, b"B")? == Some(1));
     assert!(rt; place_of(rt.alloc(), &two, b"c")?.is_none());
     Ok(())
 }
 
 /// A state in which card 2 is current. It stands in a box, so that each exit of a test drops it by one call.
-fn present_of(alloc: Global, stack: Stack) -> Result<Box<Present<Quiet>>, Fail> {
+fn present_of(alloc: Global, stack: Stack) -> Result<Box<Present<Turner>>, Fail> {
     let none = Vec::new(alloc);
     Ok(Box::new(alloc, Present::new(alloc, stack, 2, none))?)
 }
 
-fn fits(present: &Present<Quiet>, change: Change) -> bool {
+fn fits(present: &Present<Turner>, change: Change) -> bool {
     present.fits(&change)
 }
 

@@ -1,5 +1,5 @@
-//! Examples of the crates of the world, of the message path and of the session, with ample memory. A crate that has tests is
-//! proved a second time for them, so they stand here, above the crates that they try, where nothing else is to be proved.
+//! Examples of the crates of the world and of the message path, with ample memory. A crate that has tests is proved a second
+//! time for them, so they stand here, above the crates that they try, where nothing else is to be proved.
 #![tactic(auto)]
 
 #[cfg(test)]
@@ -11,10 +11,12 @@ mod message_path;
 #[cfg(test)]
 mod places;
 #[cfg(test)]
-mod quiet;
-#[cfg(test)]
-mod sessions;
-#[cfg(test)]
 mod stack_changes;
 #[cfg(test)]
+mod stacks;
+#[cfg(test)]
+mod turner;
+#[cfg(test)]
 mod variables_and_fields;
+#[cfg(test)]
+mod worlds;

@@ -1,17 +1,18 @@
 //! Paths of messages, and what is found on them, on the stack of two cards: the stack is 0, its background 1 with field 3, and
 //! its cards are 2 and 4.
 
-ghost use Rattle.std.specs.Prelude.{◌≡◌, IfOk, IsSome, OnOk, None};
+ghost use Rattle.std.specs.Prelude.{◌≡◌, IfOk, IsSome, None};
 
-use crate::quiet::{Quiet, make_quiet};
-use crate::sessions::two_cards;
-use change_journal::{Change, World};
+use crate::stacks::two_cards;
+use crate::turner::{Turner, all_turners};
+use crate::worlds::{Deed, change, do_all, make, open_world};
+use change_journal::World;
 use ht_grammar::HandlerKind;
 use ht_values::{Failure, Fault, Func, Text};
 use msg_path::{
     BuiltIn, Found, Scripts, first_is_one, is_system_message, next_handler, path, path_after,
 };
-use object_table::{Id, PropValue};
+use object_table::Id;
 use std::alloc::Global;
 use std::test::Fail;
 
@@ -20,26 +21,11 @@ fn text(alloc: Global, bytes: &[u8]) -> Result<Text, Fail> {
 }
 
 /// A world of the two cards and the command `quiet`.
-fn opened(alloc: Global) -> Result<Box<World<Quiet>>, Fail>
+fn opened(alloc: Global) -> Result<Box<World<Turner>>, Fail>
     ensures { IfOk result (λ w. w.value.history.start ≡ None) }
 {
-    let externals = vec![in alloc; make_quiet(alloc, b"quiet")?]?;
-    match World::open(alloc, two_cards(alloc)?, externals, 9) {
-        Ok(world) => Ok(Box::new(alloc, world)?),
-        Err(_) => Err("names".into()),
-    }
-}
-
-/// Gives an object a script.
-fn set_script(alloc: Global, world: &mut World<Quiet>, id: Id, script: &[u8]) -> Result<(), Fail>
-    requires { IsSome world.old.history.start }
-    ensures { OnOk result (IsSome world.new.history.start) }
-{
-    let change = Change::Prop(id, PropValue::ScriptIs(text(alloc, script)?));
-    if world.fits(&change) {
-        world.make(change)?;
-    }
-    Ok(())
+    let externals = all_turners(alloc, &[b"quiet".as_slice()])?;
+    open_world(alloc, two_cards(alloc)?, externals, 9)
 }
 
 /// An object, its path, and the path after it, with card 2 current.
@@ -89,7 +75,7 @@ fn paths_lead_to_the_stack(rt: HostRuntime) -> Result<(), Fail> {
 }
 
 /// What is met: a handler of so many lines and its holder, or what comes after the stack.
-#[derive(Clone, Copy, PartialEq, Eq, Debug)]
+#[derive(Clone, Copy, PartialEq, Eq)]
 enum Met {
     Handler(Id, usize),
     External(usize),
@@ -114,7 +100,7 @@ fn outcome(found: Result<Found, Failure>) -> Met {
 
 /// Scripts of objects, and what a message to field 3 meets.
 struct Row {
-    scripts: &'static [(Id, &'static [u8])],
+    scripts: &'static [Deed],
     kind: HandlerKind,
     name: &'static [u8],
     met: Met,
@@ -130,37 +116,47 @@ const MESSAGES: &[Row] = &[
         met: Met::Nobody,
     },
     Row {
-        scripts: &[(2, FOO)],
+        scripts: &[Deed::Script(2, FOO)],
         kind: HandlerKind::Command,
         name: b"foo",
         met: Met::Handler(2, 1),
     },
     Row {
-        scripts: &[(1, FOO), (0, FOO), (4, FOO)],
+        scripts: &[
+            Deed::Script(1, FOO),
+            Deed::Script(0, FOO),
+            Deed::Script(4, FOO),
+        ],
         kind: HandlerKind::Command,
         name: b"FOO",
         met: Met::Handler(1, 1),
     },
     Row {
-        scripts: &[(0, FOO)],
+        scripts: &[Deed::Script(0, FOO)],
         kind: HandlerKind::Command,
         name: b"foo",
         met: Met::Handler(0, 1),
     },
     Row {
-        scripts: &[(2, b"function foo\rend foo\r"), (0, FOO)],
+        scripts: &[
+            Deed::Script(2, b"function foo\rend foo\r"),
+            Deed::Script(0, FOO),
+        ],
         kind: HandlerKind::Command,
         name: b"foo",
         met: Met::Handler(0, 1),
     },
     Row {
-        scripts: &[(2, FOO), (1, b"function foo\rend foo\r")],
+        scripts: &[
+            Deed::Script(2, FOO),
+            Deed::Script(1, b"function foo\rend foo\r"),
+        ],
         kind: HandlerKind::Function,
         name: b"foo",
         met: Met::Handler(1, 0),
     },
     Row {
-        scripts: &[(
+        scripts: &[Deed::Script(
             2,
             b"on bar\rend bar\ron Foo\rend foo\ron foo\rput 1\rend foo",
         )],
@@ -169,13 +165,13 @@ const MESSAGES: &[Row] = &[
         met: Met::Handler(2, 0),
     },
     Row {
-        scripts: &[(2, b"on bar"), (1, FOO)],
+        scripts: &[Deed::Script(2, b"on bar"), Deed::Script(1, FOO)],
         kind: HandlerKind::Command,
         name: b"foo",
         met: Met::Fault(Fault::Syntax),
     },
     Row {
-        scripts: &[(2, FOO), (1, b"on bar")],
+        scripts: &[Deed::Script(2, FOO), Deed::Script(1, b"on bar")],
         kind: HandlerKind::Command,
         name: b"foo",
         met: Met::Handler(2, 1),
@@ -193,7 +189,7 @@ const MESSAGES: &[Row] = &[
         met: Met::Nobody,
     },
     Row {
-        scripts: &[(2, b"on quiet\rend quiet\r")],
+        scripts: &[Deed::Script(2, b"on quiet\rend quiet\r")],
         kind: HandlerKind::Command,
         name: b"quiet",
         met: Met::Handler(2, 0),
@@ -221,7 +217,7 @@ const MESSAGES: &[Row] = &[
 /// What a message to field 3 meets.
 fn met_by(
     alloc: Global,
-    world: &World<Quiet>,
+    world: &World<Turner>,
     scripts: &mut Scripts,
     kind: HandlerKind,
     name: &[u8],
@@ -231,29 +227,17 @@ fn met_by(
     Ok(outcome(next_handler(world, scripts, path.as_slice(), kind, &name)))
 }
 
-/// Begins a batch, and gives objects their scripts.
-fn set_scripts(alloc: Global, world: &mut World<Quiet>, scripts: &[(Id, &[u8])]) -> Result<(), Fail>
-    requires { world.old.history.start ≡ None }
-    ensures { OnOk result (IsSome world.new.history.start) }
-{
-    world.begin(1)?;
-    for (id, script) in scripts {
-        set_script(alloc, world, *id, script)?;
-    }
-    Ok(())
-}
-
 /// What the message of a row meets.
 fn met_in(alloc: Global, row: &Row) -> Result<Met, Fail> {
     let mut world = opened(alloc)?;
-    set_scripts(alloc, &mut world, row.scripts)?;
+    do_all(alloc, &mut world, 1, row.scripts)?;
     met_by(alloc, &world, &mut Scripts::new(alloc), row.kind, row.name)
 }
 
 #[test]
 fn messages_meet_the_first_handler(rt: HostRuntime) -> Result<(), Fail> {
     for row in MESSAGES {
-        assert_eq!(rt; met_in(rt.alloc(), row)?, row.met);
+        assert!(rt; met_in(rt.alloc(), row)? == row.met);
     }
     first_is_one();
     Ok(())
@@ -262,21 +246,21 @@ fn messages_meet_the_first_handler(rt: HostRuntime) -> Result<(), Fail> {
 /// What `foo` meets after card 2 gets another script.
 fn met_after(
     alloc: Global,
-    world: &mut World<Quiet>,
+    world: &mut World<Turner>,
     scripts: &mut Scripts,
-    script: &[u8],
+    script: &'static [u8],
 ) -> Result<Met, Fail>
     requires { IsSome world.old.history.start }
 {
-    set_script(alloc, world, 2, script)?;
+    make(world, change(alloc, Deed::Script(2, script))?)?;
     met_by(alloc, world, scripts, HandlerKind::Command, b"foo")
 }
 
 /// What `foo` meets, and then again after card 2 gets another script.
-fn met_twice(alloc: Global, first: &'static [u8], second: &[u8]) -> Result<[Met; 2], Fail> {
+fn met_twice(alloc: Global, first: &'static [u8], second: &'static [u8]) -> Result<[Met; 2], Fail> {
     let mut world = opened(alloc)?;
     let mut scripts = Scripts::new(alloc);
-    set_scripts(alloc, &mut world, &[(2, first)])?;
+    do_all(alloc, &mut world, 1, &[Deed::Script(2, first)])?;
     let one = met_by(alloc, &world, &mut scripts, HandlerKind::Command, b"foo")?;
     let other = met_after(alloc, &mut world, &mut scripts, second)?;
     Ok([one, other])
@@ -286,14 +270,14 @@ fn met_twice(alloc: Global, first: &'static [u8], second: &[u8]) -> Result<[Met;
 fn a_script_that_was_replaced_is_parsed_anew(rt: HostRuntime) -> Result<(), Fail> {
     let alloc = rt.alloc();
     let met = met_twice(alloc, FOO, b"on foo\rend foo\r")?;
-    assert_eq!(rt; met, [Met::Handler(2, 1), Met::Handler(2, 0)]);
+    assert!(rt; met == [Met::Handler(2, 1), Met::Handler(2, 0)]);
     let met = met_twice(alloc, FOO, b"on foo")?;
-    assert_eq!(rt; met, [Met::Handler(2, 1), Met::Fault(Fault::Syntax)]);
+    assert!(rt; met == [Met::Handler(2, 1), Met::Fault(Fault::Syntax)]);
     Ok(())
 }
 
 /// What `foo` met, as it stands after card 2 lost its script.
-fn kept(alloc: Global, world: &mut World<Quiet>, scripts: &mut Scripts) -> Result<Met, Fail>
+fn kept(alloc: Global, world: &mut World<Turner>, scripts: &mut Scripts) -> Result<Met, Fail>
     requires { IsSome world.old.history.start }
 {
     let name = text(alloc, b"foo")?;
@@ -306,9 +290,9 @@ fn kept(alloc: Global, world: &mut World<Quiet>, scripts: &mut Scripts) -> Resul
 fn a_found_handler_keeps_its_script(rt: HostRuntime) -> Result<(), Fail> {
     let alloc = rt.alloc();
     let mut world = opened(alloc)?;
-    set_scripts(alloc, &mut world, &[(2, FOO)])?;
+    do_all(alloc, &mut world, 1, &[Deed::Script(2, FOO)])?;
     let met = kept(alloc, &mut world, &mut Scripts::new(alloc))?;
-    assert_eq!(rt; met, Met::Handler(2, 1));
+    assert!(rt; met == Met::Handler(2, 1));
     Ok(())
 }
 

@@ -12,8 +12,100 @@ const FIELD: Kind = Kind::BackgroundField {
     shared_text: false,
 };
 
-fn text(alloc: Global, bytes: &[u8]) -> Result<Text, Fail> {
-    Ok(Text::from_slice(alloc, bytes)?)
+/// The empty stack. It stands in a box, so that each exit of a test drops it by one call.
+fn empty_stack(alloc: Global) -> Result<Box<Stack>, Fail> {
+    Ok(Box::new(alloc, Stack::new(alloc)?)?)
+}
+
+// Each exchange by a function that promises nothing: what is seen after it, and after the same entry is exchanged again.
+
+#[tactic(auto, unfolding(stack_places::specs::Exchange::IsReady, stack_places::specs::Exchange::taken))]
+fn exchange_text(alloc: Global, stack: &mut Stack, bytes: &[u8]) -> Result<[bool; 2], Fail> {
+    let text = BoxedText::new(alloc, Some(Text::from_slice(alloc, bytes)?))?;
+    stack.open_text(3, 2)?;
+    let mut entry = StackEntry::FieldText(3, 2, text);
+    entry.exchange(stack);
+    let has_text = match stack.text(3, 2) {
+        Some(text) => text.as_slice() == bytes,
+        None => false,
+    };
+    entry.exchange(stack);
+    Ok([has_text, stack.text(3, 2).is_some()])
+}
+
+#[tactic(auto, unfolding(stack_places::specs::Exchange::IsReady, stack_places::specs::Exchange::taken))]
+fn exchange_hilite(stack: &mut Stack) -> Result<[Option<bool>; 2], Fail> {
+    stack.open_hilite(4, 2)?;
+    let mut entry = StackEntry::Hilite(4, 2, Some(true));
+    entry.exchange(stack);
+    let hilite = stack.hilite(4, 2);
+    entry.exchange(stack);
+    Ok([hilite, stack.hilite(4, 2)])
+}
+
+#[tactic(auto, unfolding(stack_places::specs::Exchange::IsReady, stack_places::specs::Exchange::taken))]
+fn exchange_object(alloc: Global, stack: &mut Stack) -> Result<[bool; 2], Fail> {
+    let field = BoxedObject::new(alloc, Some(Object::empty(alloc, FIELD)))?;
+    stack.open_slot(4)?;
+    let mut entry = StackEntry::Object(4, field);
+    entry.exchange(stack);
+    let is_there = stack.object(4).is_some();
+    entry.exchange(stack);
+    Ok([is_there, stack.object(4).is_some()])
+}
+
+#[tactic(auto, unfolding(stack_places::specs::Exchange::IsReady, stack_places::specs::Exchange::taken))]
+fn exchange_parts(stack: &mut Stack) -> Result<bool, Fail> {
+    stack.open_slot(2)?;
+    StackEntry::Parts(2, None).exchange(stack);
+    Ok(stack.parts(LayerId::OfCard(2)).is_some())
+}
+
+#[tactic(auto, unfolding(stack_places::specs::Exchange::IsReady, stack_places::specs::Exchange::taken))]
+fn exchange_next(stack: &mut Stack) -> [Id; 2] {
+    let mut entry = StackEntry::NextId(7);
+    entry.exchange(stack);
+    let next = stack.next_id();
+    entry.exchange(stack);
+    [next, stack.next_id()]
+}
+
+#[tactic(auto, unfolding(stack_places::specs::Exchange::IsReady))]
+fn exchange_cards(stack: &mut Stack, cards: IdList) {
+    StackEntry::CardOrder(cards).exchange(stack);
+}
+
+#[tactic(auto, unfolding(stack_places::specs::Exchange::IsReady))]
+fn exchange_backgrounds(stack: &mut Stack, backgrounds: IdList) {
+    StackEntry::BackgroundOrder(backgrounds).exchange(stack);
+}
+
+#[test]
+fn values_go_back(rt: HostRuntime) -> Result<(), Fail> {
+    let mut stack = empty_stack(rt.alloc())?;
+    assert!(rt; exchange_text(rt.alloc(), &mut stack, b"new")? == [true, false]);
+    assert!(rt; exchange_hilite(&mut stack)? == [Some(true), None]);
+    assert!(rt; exchange_object(rt.alloc(), &mut stack)? == [true, false]);
+    assert!(rt; exchange_next(&mut stack) == [7, 3]);
+    laws_of_exchanges();
+    Ok(())
+}
+
+fn ids(alloc: Global, ids: &[Id]) -> Result<IdList, Fail> {
+    Ok(IdList::from_vec(ids.to_vec(alloc)?))
+}
+
+#[test]
+fn lists_are_exchanged(rt: HostRuntime) -> Result<(), Fail> {
+    let cards = ids(rt.alloc(), &[2, 5])?;
+    let backgrounds = ids(rt.alloc(), &[1, 6])?;
+    let mut stack = empty_stack(rt.alloc())?;
+    exchange_cards(&mut stack, cards);
+    exchange_backgrounds(&mut stack, backgrounds);
+    assert_eq!(rt; stack.cards().as_slice(), [2, 5].as_slice());
+    assert_eq!(rt; stack.backgrounds().as_slice(), [1, 6].as_slice());
+    assert!(rt; !exchange_parts(&mut stack)?);
+    Ok(())
 }
 
 fn put(stack: &mut Stack, id: Id, object: Object) -> Result<(), Fail> {
@@ -23,107 +115,29 @@ fn put(stack: &mut Stack, id: Id, object: Object) -> Result<(), Fail> {
     Ok(())
 }
 
-/// The empty stack. It stands in a box, so that each exit of a test drops it by one call.
-fn empty_stack(alloc: Global) -> Result<Box<Stack>, Fail> {
-    Ok(Box::new(alloc, Stack::new(alloc)?)?)
-}
-
-fn has_text(stack: &Stack, bytes: &[u8]) -> bool {
-    match stack.text(3, 2) {
-        Some(text) => text.as_slice() == bytes,
-        None => false,
-    }
-}
-
-#[test]
-#[tactic(auto, unfolding(stack_places::specs::Exchange::IsReady, stack_places::specs::Exchange::taken))]
-fn a_text_goes_back(rt: HostRuntime) -> Result<(), Fail> {
-    let new = BoxedText::new(rt.alloc(), Some(text(rt.alloc(), b"new")?))?;
-    let mut stack = empty_stack(rt.alloc())?;
-    stack.open_text(3, 2)?;
-    let mut entry = StackEntry::FieldText(3, 2, new);
-    entry.exchange(&mut stack);
-    assert!(rt; has_text(&stack, b"new"));
-    entry.exchange(&mut stack);
-    assert!(rt; stack.text(3, 2).is_none());
-    Ok(())
-}
-
-#[test]
-#[tactic(auto, unfolding(stack_places::specs::Exchange::IsReady, stack_places::specs::Exchange::taken))]
-fn a_hilite_goes_back(rt: HostRuntime) -> Result<(), Fail> {
-    let mut stack = empty_stack(rt.alloc())?;
-    stack.open_hilite(4, 2)?;
-    let mut entry = StackEntry::Hilite(4, 2, Some(true));
-    entry.exchange(&mut stack);
-    assert_eq!(rt; stack.hilite(4, 2), Some(true));
-    entry.exchange(&mut stack);
-    assert_eq!(rt; stack.hilite(4, 2), None);
-    Ok(())
-}
-
-#[test]
+/// Exchanges a property of object 3, and hands its entry out.
 #[tactic(auto, unfolding(stack_places::specs::Exchange::IsReady))]
-fn a_property_goes_back(rt: HostRuntime) -> Result<(), Fail> {
+fn exchange_property(stack: &mut Stack, value: PropValue) -> StackEntry {
+    let mut entry = StackEntry::Prop(3, value);
+    entry.exchange(stack);
+    entry
+}
+
+#[test]
+fn a_property_goes_back_where_it_is_there(rt: HostRuntime) -> Result<(), Fail> {
     let mut stack = empty_stack(rt.alloc())?;
     put(&mut stack, 3, Object::empty(rt.alloc(), FIELD))?;
-    let mut entry = StackEntry::Prop(3, PropValue::LockTextIs(true));
-    entry.exchange(&mut stack);
+    let entry = exchange_property(&mut stack, PropValue::LockTextIs(true));
     assert!(rt; matches!(entry, StackEntry::Prop(3, PropValue::LockTextIs(false))));
-    let mut nowhere = StackEntry::Prop(3, PropValue::HiliteIs(true));
-    nowhere.exchange(&mut stack);
+    let nowhere = exchange_property(&mut stack, PropValue::HiliteIs(true));
     assert!(rt; matches!(nowhere, StackEntry::Prop(3, PropValue::HiliteIs(true))));
     Ok(())
 }
 
 #[test]
-#[tactic(auto, unfolding(stack_places::specs::Exchange::IsReady, stack_places::specs::Exchange::taken))]
-fn an_object_goes_back(rt: HostRuntime) -> Result<(), Fail> {
-    let field = BoxedObject::new(rt.alloc(), Some(Object::empty(rt.alloc(), FIELD)))?;
-    let mut stack = empty_stack(rt.alloc())?;
-    stack.open_slot(4)?;
-    let mut object = StackEntry::Object(4, field);
-    object.exchange(&mut stack);
-    assert!(rt; stack.object(4).is_some());
-    object.exchange(&mut stack);
-    assert!(rt; stack.object(4).is_none());
-    Ok(())
-}
-
-#[test]
-#[tactic(auto, unfolding(stack_places::specs::Exchange::IsReady))]
-fn orders_are_exchanged(rt: HostRuntime) -> Result<(), Fail> {
-    let mut stack = empty_stack(rt.alloc())?;
-    let mut cards = StackEntry::CardOrder(IdList::from_vec(vec![in rt.alloc(); 2, 5]?));
-    cards.exchange(&mut stack);
-    assert_eq!(rt; stack.cards().as_slice(), [2, 5].as_slice());
-    let mut backgrounds = StackEntry::BackgroundOrder(IdList::from_vec(vec![in rt.alloc(); 1, 6]?));
-    backgrounds.exchange(&mut stack);
-    assert_eq!(rt; stack.backgrounds().as_slice(), [1, 6].as_slice());
-    Ok(())
-}
-
-#[test]
-#[tactic(auto, unfolding(stack_places::specs::Exchange::IsReady, stack_places::specs::Exchange::taken))]
-fn parts_and_the_next_id_go_back(rt: HostRuntime) -> Result<(), Fail> {
-    let mut stack = empty_stack(rt.alloc())?;
-    stack.open_slot(2)?;
-    let mut parts = StackEntry::Parts(2, None);
-    parts.exchange(&mut stack);
-    assert!(rt; stack.parts(LayerId::OfCard(2)).is_none());
-    let mut next = StackEntry::NextId(7);
-    next.exchange(&mut stack);
-    assert_eq!(rt; stack.next_id(), 7);
-    next.exchange(&mut stack);
-    assert_eq!(rt; stack.next_id(), 3);
-    laws_of_exchanges();
-    Ok(())
-}
-
-#[test]
 fn objects_alone_are_structural(rt: HostRuntime) -> Result<(), Fail> {
-    let gone = StackEntry::Object(3, BoxedObject::new(rt.alloc(), None)?);
-    assert!(rt; gone.is_structural());
+    let gone = BoxedObject::new(rt.alloc(), None)?;
+    assert!(rt; StackEntry::Object(3, gone).is_structural());
     assert!(rt; !StackEntry::NextId(7).is_structural());
     Ok(())
 }

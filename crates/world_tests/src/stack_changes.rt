@@ -1,12 +1,13 @@
 //! The changes of a stack, made in a world, undone and redone.
 
-ghost use Rattle.std.specs.Prelude.{◌≡◌, None, OnOk, IfOk, IsSome};
+ghost use Rattle.std.specs.Prelude.{◌≡◌, None, IfOk};
 
-use crate::quiet::Quiet;
-use crate::sessions::TWO_CARDS;
-use change_journal::{Change, World};
-use ht_values::{PartKind, Text};
-use object_table::{LayerId, PropValue};
+use crate::stacks::TWO_CARDS;
+use crate::turner::Turner;
+use crate::worlds::{Deed, Step, change, open_world, take_all};
+use change_journal::World;
+use ht_values::PartKind;
+use object_table::{Id, LayerId};
 use stack_file::{read, write};
 use std::alloc::Global;
 use std::test::Fail;
@@ -74,159 +75,124 @@ const WITH_BACKGROUND: &[u8] =
 const WITH_BUTTON: &[u8] =
     b"htstack 2\nnext 6\nname |Demo\nscript 0\nbackgrounds 1\nbackground 1\nname |\ncantDelete false\nscript 0\nparts 2\nfield 3\nname |Note\nvisible true\nlockText false\nsharedText false\nscript 0\nshared 0\nbutton 5\nname |New Button\nvisible true\nsharedHilite true\nhilite false\nscript 0\ncards 2\ncard 2 1\nname |A\ncantDelete false\nscript 0\nparts 0\ntext 3 0\nhilite 5 false\ncard 4 1\nname |B\ncantDelete false\nscript 0\nparts 0\ntext 3 0\nhilite 5 false\nend\n";
 
-/// A change that makes or removes objects, or the card before it.
-#[derive(Clone, Copy)]
-enum Step {
-    Card,
-    Background,
-    Part(LayerId, PartKind),
-    Delete,
-    Current(u32),
-}
+const CARD: Step = Step::Line(1, &[Deed::Card]);
 
-impl Step {
-    fn change(self) -> Change {
-        match self {
-            Step::Card => Change::NewCard,
-            Step::Background => Change::NewBackground,
-            Step::Part(layer, kind) => Change::NewPart(layer, kind),
-            Step::Delete => Change::DeleteCard,
-            Step::Current(card) => Change::Current(card),
-        }
-    }
-}
+const BACKGROUND: Step = Step::Line(1, &[Deed::Background]);
+
+const DELETE: Step = Step::Line(1, &[Deed::Delete]);
+
+const TO_CARD_4: Step = Step::Line(1, &[Deed::Current(4)]);
+
+const TO_CARD_9: Step = Step::Line(1, &[Deed::Current(9)]);
+
+const CARD_BUTTON: Step = Step::Line(1, &[Deed::Part(LayerId::OfCard(2), PartKind::Button)]);
+
+const CARD_FIELD: Step = Step::Line(1, &[Deed::Part(LayerId::OfCard(2), PartKind::Field)]);
+
+const SHARED_BUTTON: Step = Step::Line(
+    1,
+    &[Deed::Part(LayerId::OfBackground(1), PartKind::Button)],
+);
+
+const SHARED_FIELD: Step = Step::Line(1, &[Deed::Part(LayerId::OfBackground(1), PartKind::Field)]);
 
 /// One after the other: parts of each kind on each layer, a card with what its background keeps for it, a background
 /// whose only card goes again, and the cards of a background until it goes with the last.
-const STEPS: &[Step] = &[
-    Step::Part(LayerId::OfCard(2), PartKind::Button),
-    Step::Part(LayerId::OfCard(2), PartKind::Field),
-    Step::Part(LayerId::OfBackground(1), PartKind::Button),
-    Step::Part(LayerId::OfBackground(1), PartKind::Field),
-    Step::Card,
-    Step::Background,
-    Step::Delete,
-    Step::Delete,
-    Step::Delete,
-    Step::Card,
+const STEPS: [Step; 10] = [
+    CARD_BUTTON,
+    CARD_FIELD,
+    SHARED_BUTTON,
+    SHARED_FIELD,
+    CARD,
+    BACKGROUND,
+    DELETE,
+    DELETE,
+    DELETE,
+    CARD,
 ];
 
 /// The world of a stack's text, without externals.
-fn open_world(alloc: Global, text: &[u8]) -> Result<World<Quiet>, Fail>
-    ensures { IfOk result (λ w. w.history.start ≡ None) }
+fn world_of(alloc: Global, text: &[u8]) -> Result<Box<World<Turner>>, Fail>
+    ensures { IfOk result (λ w. w.value.history.start ≡ None) }
 {
-    match World::open(alloc, read(alloc, text)?, Vec::new(alloc), 100) {
-        Ok(world) => Ok(world),
-        Err(_) => Err("names".into()),
-    }
+    open_world(alloc, read(alloc, text)?, Vec::new(alloc), 100)
 }
 
-/// One line with one change.
-fn take(world: &mut World<Quiet>, number: u32, step: Step) -> Result<(), Fail>
-    requires { world.old.history.start ≡ None }
-    ensures { OnOk result (world.new.history.start ≡ None) }
-{
-    world.begin(number)?;
-    let change = step.change();
-    if !world.fits(&change) {
-        return Err("it doesn't fit".into());
-    }
-    world.make(change)?;
-    world.commit();
-    Ok(())
-}
-
-fn go_back(world: &mut World<Quiet>) -> Result<(), Fail>
-    requires { world.old.history.start ≡ None }
-    ensures { OnOk result (world.new.history.start ≡ None) }
-{
-    if world.undoable() == 0 {
-        return Err("no place".into());
-    }
-    world.flip_back();
-    Ok(())
-}
-
-fn go_forth(world: &mut World<Quiet>) -> Result<(), Fail>
-    requires { world.old.history.start ≡ None }
-    ensures { OnOk result (world.new.history.start ≡ None) }
-{
-    if world.redoable() == 0 {
-        return Err("no place".into());
-    }
-    world.flip_forth();
-    Ok(())
-}
-
-/// What is seen of a world: the text of its stack, and the current card.
+/// What is seen of a world: the text of its stack, the current card, and how many states can be gone back to.
 #[derive(Drop)]
 struct Sight {
     text: Vec<u8>,
-    current: u32,
+    current: Id,
+    places: usize,
 }
 
-fn see(alloc: Global, world: &World<Quiet>) -> Result<Sight, Fail> {
+fn see(alloc: Global, world: &World<Turner>) -> Result<Sight, Fail> {
     Ok(Sight {
         text: write(alloc, world.stack())?,
         current: world.current(),
+        places: world.undoable(),
     })
 }
 
-fn is_seen(alloc: Global, world: &World<Quiet>, sight: &Sight) -> Result<bool, Fail> {
-    let now = see(alloc, world)?;
-    Ok(now.text.as_slice() == sight.text.as_slice() && now.current == sight.current)
+/// What is seen of a stack's world after some steps, and then some moves.
+fn seen_after(alloc: Global, text: &[u8], steps: &[Step], moves: &[Step]) -> Result<Sight, Fail> {
+    let mut world = world_of(alloc, text)?;
+    take_all(alloc, &mut world, steps)?;
+    take_all(alloc, &mut world, moves)?;
+    see(alloc, &world)
 }
 
-/// What is seen before the first step and after each.
-fn take_all(alloc: Global, world: &mut World<Quiet>, steps: &[Step]) -> Result<Vec<Sight>, Fail>
-    requires { world.old.history.start ≡ None }
-    ensures { OnOk result (world.new.history.start ≡ None) }
-{
-    let mut sights = Vec::new(alloc);
-    sights.push(see(alloc, world)?)?;
-    for step in steps {
-        take(world, 1, *step)?;
-        sights.push(see(alloc, world)?)?;
-    }
-    Ok(sights)
+fn are_alike(first: &Sight, second: &Sight) -> bool {
+    first.text.as_slice() == second.text.as_slice()
+        && first.current == second.current
+        && first.places == second.places
 }
 
-/// Whether each state is seen again, from the last to the first.
-fn are_seen_back(alloc: Global, world: &mut World<Quiet>, sights: &[Sight]) -> Result<bool, Fail>
-    requires { world.old.history.start ≡ None }
-    ensures { OnOk result (world.new.history.start ≡ None) }
-{
-    let mut all = true;
-    for back in 1..sights.len() {
-        go_back(world)?;
-        all = is_seen(alloc, world, &sights[sights.len() - 1 - back])? && all;
-    }
-    Ok(all)
-}
+/// Moves from the last state back to the first, and forth to the last again.
+const MOVES: [Step; 20] = [
+    Step::Back,
+    Step::Back,
+    Step::Back,
+    Step::Back,
+    Step::Back,
+    Step::Back,
+    Step::Back,
+    Step::Back,
+    Step::Back,
+    Step::Back,
+    Step::Forth,
+    Step::Forth,
+    Step::Forth,
+    Step::Forth,
+    Step::Forth,
+    Step::Forth,
+    Step::Forth,
+    Step::Forth,
+    Step::Forth,
+    Step::Forth,
+];
 
-/// Whether each state is seen again, from the second to the last.
-fn are_seen_forth(alloc: Global, world: &mut World<Quiet>, sights: &[Sight]) -> Result<bool, Fail>
-    requires { world.old.history.start ≡ None }
-    ensures { OnOk result (world.new.history.start ≡ None) }
-{
-    let mut all = true;
-    for at in 1..sights.len() {
-        go_forth(world)?;
-        all = is_seen(alloc, world, &sights[at])? && all;
-    }
-    Ok(all)
-}
-
-fn back_and_forth(alloc: Global) -> Result<bool, Fail> {
-    let mut world = open_world(alloc, TWO_BACKGROUNDS)?;
-    let sights = take_all(alloc, &mut world, STEPS)?;
-    let back = are_seen_back(alloc, &mut world, &sights)?;
-    Ok(are_seen_forth(alloc, &mut world, &sights)? && back)
+/// Whether the state after so many steps is seen again after as many moves.
+fn is_seen_again(alloc: Global, steps: usize, moves: usize) -> Result<bool, Fail> {
+    let steps = &STEPS[..steps.min(STEPS.len())];
+    let moves = &MOVES[..moves.min(MOVES.len())];
+    let before = seen_after(alloc, TWO_BACKGROUNDS, steps, &[])?;
+    let again = seen_after(alloc, TWO_BACKGROUNDS, &STEPS, moves)?;
+    Ok(are_alike(&before, &again))
 }
 
 #[test]
 fn each_change_is_undone_and_redone(rt: HostRuntime) -> Result<(), Fail> {
-    assert!(rt; back_and_forth(rt.alloc())?);
+    for moves in 1..=10 {
+        assert!(rt;
+            is_seen_again(rt.alloc(), 10 - moves, moves)?,
+            "{moves} back"
+        );
+        assert!(rt;
+            is_seen_again(rt.alloc(), moves, 10 + moves)?,
+            "{moves} forth"
+        );
+    }
     Ok(())
 }
 
@@ -235,61 +201,53 @@ struct Row {
     text: &'static [u8],
     steps: &'static [Step],
     after: &'static [u8],
-    current: u32,
+    current: Id,
 }
 
 const ROWS: &[Row] = &[
     Row {
         text: TWO_CARDS,
-        steps: &[Step::Card],
+        steps: &[CARD],
         after: WITH_CARD,
         current: 5,
     },
     Row {
         text: TWO_CARDS,
-        steps: &[Step::Current(4), Step::Background],
+        steps: &[TO_CARD_4, BACKGROUND],
         after: WITH_BACKGROUND,
         current: 6,
     },
     Row {
         text: TWO_CARDS,
-        steps: &[Step::Part(LayerId::OfBackground(1), PartKind::Button)],
+        steps: &[SHARED_BUTTON],
         after: WITH_BUTTON,
         current: 2,
     },
     Row {
         text: TWO_CARDS,
-        steps: &[Step::Delete],
+        steps: &[DELETE],
         after: ONE_CARD,
         current: 4,
     },
     Row {
         text: TWO_BACKGROUNDS,
-        steps: &[Step::Current(9), Step::Delete],
+        steps: &[TO_CARD_9, DELETE],
         after: WITHOUT_CARD,
         current: 2,
     },
     Row {
         text: TWO_BACKGROUNDS,
-        steps: &[Step::Current(4), Step::Delete],
+        steps: &[TO_CARD_4, DELETE],
         after: WITHOUT_BACKGROUND,
         current: 9,
     },
 ];
 
-fn meets(alloc: Global, row: &Row) -> Result<bool, Fail> {
-    let mut world = open_world(alloc, row.text)?;
-    for step in row.steps {
-        take(&mut world, 1, *step)?;
-    }
-    let now = see(alloc, &world)?;
-    Ok(now.text.as_slice() == row.after && now.current == row.current)
-}
-
 #[test]
 fn each_change_gives_its_text(rt: HostRuntime) -> Result<(), Fail> {
     for row in ROWS {
-        assert!(rt; meets(rt.alloc(), row)?);
+        let sight = seen_after(rt.alloc(), row.text, row.steps, &[])?;
+        assert!(rt; sight.text.as_slice() == row.after && sight.current == row.current);
     }
     Ok(())
 }
@@ -301,124 +259,85 @@ fn laws_of_the_changes_are_called(_rt: HostRuntime) {
     laws_of_places();
 }
 
-/// The current card after each of these.
-fn cards(alloc: Global, steps: &[Step]) -> Result<Vec<u32>, Fail> {
-    let mut world = open_world(alloc, TWO_BACKGROUNDS)?;
-    let mut cards = Vec::new(alloc);
-    for step in steps {
-        take(&mut world, 1, *step)?;
-        cards.push(world.current())?;
-    }
-    Ok(cards)
-}
+/// Steps, and the card that is current after them.
+const CURRENT_CARDS: &[(&[Step], Id)] = &[
+    (&[CARD], 20),
+    (&[CARD, DELETE], 4),
+    (&[CARD, DELETE, BACKGROUND], 22),
+    (&[CARD, DELETE, BACKGROUND, DELETE], 9),
+];
 
 #[test]
 fn new_cards_become_current_and_the_next_follows_a_deleted_one(
     rt: HostRuntime,
 ) -> Result<(), Fail> {
-    let steps = [Step::Card, Step::Delete, Step::Background, Step::Delete];
-    assert!(rt; cards(rt.alloc(), &steps)?.as_slice() == [20, 4, 22, 9].as_slice());
+    for (steps, card) in CURRENT_CARDS {
+        let sight = seen_after(rt.alloc(), TWO_BACKGROUNDS, steps, &[])?;
+        assert_eq!(rt; sight.current, *card);
+    }
     Ok(())
 }
 
-/// What is seen after a step, and after an undo and the same step again.
-fn taken_again(alloc: Global, step: Step) -> Result<bool, Fail> {
-    let mut world = open_world(alloc, TWO_BACKGROUNDS)?;
-    take(&mut world, 1, step)?;
-    let first = see(alloc, &world)?;
-    go_back(&mut world)?;
-    take(&mut world, 2, step)?;
-    is_seen(alloc, &world, &first)
+/// The steps that make objects.
+const MAKINGS: &[Step] = &[
+    CARD_BUTTON,
+    CARD_FIELD,
+    SHARED_BUTTON,
+    SHARED_FIELD,
+    CARD,
+    BACKGROUND,
+];
+
+/// Whether a step gives the same after an undo of it.
+fn is_taken_again(alloc: Global, step: Step) -> Result<bool, Fail> {
+    let first = seen_after(alloc, TWO_BACKGROUNDS, &[step], &[])?;
+    let again = seen_after(alloc, TWO_BACKGROUNDS, &[step], &[Step::Back, step])?;
+    Ok(are_alike(&first, &again))
 }
 
 #[test]
 fn ids_are_given_again_after_an_undo(rt: HostRuntime) -> Result<(), Fail> {
-    for step in STEPS {
-        if !matches!(step, Step::Delete) {
-            assert!(rt; taken_again(rt.alloc(), *step)?);
-        }
+    for step in MAKINGS {
+        assert!(rt; is_taken_again(rt.alloc(), *step)?);
     }
     Ok(())
 }
 
-/// Makes a change in the open batch.
-fn make(world: &mut World<Quiet>, change: Change) -> Result<(), Fail>
-    requires { IsSome world.old.history.start }
-    ensures { OnOk result (IsSome world.new.history.start) }
-{
-    if !world.fits(&change) {
-        return Err("it doesn't fit".into());
-    }
-    world.make(change)?;
-    Ok(())
-}
+/// A line that changes a field of the first background and its button, for card 2.
+const CHANGE_PARTS: Step = Step::Line(
+    1,
+    &[
+        Deed::FieldText(6, 2, b"new"),
+        Deed::Hilite(5, 2, false),
+        Deed::LockText(6, true),
+    ],
+);
 
-/// One line that changes a field of the first background and its button, for card 2.
-fn change_parts(alloc: Global, world: &mut World<Quiet>) -> Result<(), Fail>
-    requires { world.old.history.start ≡ None }
-    ensures { OnOk result (world.new.history.start ≡ None) }
-{
-    world.begin(1)?;
-    make(
-        world,
-        Change::FieldText(6, 2, Text::from_slice(alloc, b"new")?),
-    )?;
-    make(world, Change::Hilite(5, 2, false))?;
-    make(world, Change::Prop(6, PropValue::LockTextIs(true)))?;
-    world.commit();
-    Ok(())
-}
+/// Steps, and the text of the field and the hilite of the button after them, for card 2.
+const PARTS: &[(&[Step], &[u8], bool)] = &[
+    (&[CHANGE_PARTS], b"new", false),
+    (&[CHANGE_PARTS, Step::Back], b"own", true),
+];
 
-fn has_text(world: &World<Quiet>, bytes: &[u8]) -> bool {
-    match world.stack().text(6, 2) {
-        Some(text) => text.as_slice() == bytes,
+fn has_parts(alloc: Global, steps: &[Step], text: &[u8], hilite: bool) -> Result<bool, Fail> {
+    let mut world = world_of(alloc, TWO_BACKGROUNDS)?;
+    take_all(alloc, &mut world, steps)?;
+    let has_text = match world.stack().text(6, 2) {
+        Some(found) => found.as_slice() == text,
         None => false,
-    }
-}
-
-fn parts_changed(alloc: Global) -> Result<bool, Fail> {
-    let mut world = open_world(alloc, TWO_BACKGROUNDS)?;
-    change_parts(alloc, &mut world)?;
-    let changed = has_text(&world, b"new") && world.stack().hilite(5, 2) == Some(false);
-    go_back(&mut world)?;
-    Ok(changed && has_text(&world, b"own") && world.stack().hilite(5, 2) == Some(true))
+    };
+    Ok(has_text && world.stack().hilite(5, 2) == Some(hilite))
 }
 
 #[test]
 fn a_line_changes_parts(rt: HostRuntime) -> Result<(), Fail> {
-    assert!(rt; parts_changed(rt.alloc())?);
-    Ok(())
-}
-
-/// What doesn't fit: a text that isn't there, a hilite of a field, a lock on a button's text, a part of a card that isn't
-/// there.
-fn misfits(alloc: Global, at: u32) -> Result<Change, Fail> {
-    Ok(match at {
-        0 => Change::FieldText(6, 1, Text::new(alloc)),
-        1 => Change::Hilite(6, 2, true),
-        2 => Change::Prop(5, PropValue::LockTextIs(true)),
-        3 => Change::NewPart(LayerId::OfCard(1), PartKind::Field),
-        _ => Change::NewPart(LayerId::OfBackground(2), PartKind::Field),
-    })
-}
-
-fn none_fits(alloc: Global) -> Result<bool, Fail> {
-    let world = open_world(alloc, TWO_BACKGROUNDS)?;
-    for at in 0..5 {
-        if world.fits(&misfits(alloc, at)?) {
-            return Ok(false);
-        }
+    for (steps, text, hilite) in PARTS {
+        assert!(rt; has_parts(rt.alloc(), steps, text, *hilite)?);
     }
-    Ok(true)
-}
-
-#[test]
-fn what_is_not_there_does_not_fit(rt: HostRuntime) -> Result<(), Fail> {
-    assert!(rt; none_fits(rt.alloc())?);
     Ok(())
 }
 
-/// An empty stack whose next id is this.
+/// A stack of id 1,000,000 given, so that there is no next one.
 const LAST_ID_GIVEN: &[u8] = b"htstack 2\nnext 1000001\nname |\nscript 0\nbackgrounds 1\n\
 background 1\nname |\ncantDelete false\nscript 0\nparts 0\n\
 cards 1\ncard 1000000 1\nname |\ncantDelete false\nscript 0\nparts 0\nend\n";
@@ -427,25 +346,75 @@ const ONE_ID_LEFT: &[u8] = b"htstack 2\nnext 1000000\nname |\nscript 0\nbackgrou
 background 1\nname |\ncantDelete false\nscript 0\nparts 0\n\
 cards 1\ncard 2 1\nname |\ncantDelete false\nscript 0\nparts 0\nend\n";
 
-/// Whether a new card fits, a new background, a new part, and a deletion.
-fn fitting(alloc: Global, text: &[u8]) -> Result<[bool; 4], Fail> {
-    let world = open_world(alloc, text)?;
-    let layer = LayerId::OfBackground(1);
-    Ok([
-        world.fits(&Change::NewCard),
-        world.fits(&Change::NewBackground),
-        world.fits(&Change::NewPart(layer, PartKind::Button)),
-        world.fits(&Change::DeleteCard),
-    ])
+const SHARED_BUTTON_PART: Deed = Deed::Part(LayerId::OfBackground(1), PartKind::Button);
+
+/// A stack, changes, and whether each fits.
+const FITTING: &[(&[u8], &[(Deed, bool)])] = &[
+    (
+        LAST_ID_GIVEN,
+        &[
+            (Deed::Card, false),
+            (Deed::Background, false),
+            (SHARED_BUTTON_PART, false),
+            (Deed::Delete, false),
+        ],
+    ),
+    (
+        ONE_CARD,
+        &[
+            (Deed::Card, true),
+            (Deed::Background, true),
+            (SHARED_BUTTON_PART, true),
+            (Deed::Delete, false),
+        ],
+    ),
+    (
+        ONE_ID_LEFT,
+        &[
+            (Deed::Card, true),
+            (Deed::Background, false),
+            (SHARED_BUTTON_PART, true),
+            (Deed::Delete, false),
+        ],
+    ),
+    // Last, a text that isn't there, a hilite of a field, a lock on a button's text, and parts of layers that aren't there.
+    (
+        TWO_BACKGROUNDS,
+        &[
+            (Deed::Card, true),
+            (Deed::Background, true),
+            (SHARED_BUTTON_PART, true),
+            (Deed::Delete, true),
+            (Deed::FieldText(6, 1, b""), false),
+            (Deed::Hilite(6, 2, true), false),
+            (Deed::LockText(5, true), false),
+            (Deed::Part(LayerId::OfCard(1), PartKind::Field), false),
+            (Deed::Part(LayerId::OfBackground(2), PartKind::Field), false),
+        ],
+    ),
+];
+
+fn fits(alloc: Global, world: &World<Turner>, deed: Deed) -> Result<bool, Fail> {
+    let change = change(alloc, deed)?;
+    Ok(world.fits(&change))
+}
+
+/// Whether each of these fits or not, as it should.
+fn all_fit(alloc: Global, text: &[u8], deeds: &[(Deed, bool)]) -> Result<bool, Fail> {
+    let world = world_of(alloc, text)?;
+    for (deed, wanted) in deeds {
+        if fits(alloc, &world, *deed)? != *wanted {
+            return Ok(false);
+        }
+    }
+    Ok(true)
 }
 
 #[test]
-fn ids_end_at_a_million(rt: HostRuntime) -> Result<(), Fail> {
-    let alloc = rt.alloc();
-    assert!(rt; fitting(alloc, LAST_ID_GIVEN)? == [false, false, false, false]);
-    assert!(rt; fitting(alloc, ONE_CARD)? == [true, true, true, false]);
-    assert!(rt; fitting(alloc, ONE_ID_LEFT)? == [true, false, true, false]);
-    assert!(rt; fitting(alloc, TWO_BACKGROUNDS)? == [true, true, true, true]);
+fn ids_end_at_a_million_and_what_is_not_there_does_not_fit(rt: HostRuntime) -> Result<(), Fail> {
+    for (text, deeds) in FITTING {
+        assert!(rt; all_fit(rt.alloc(), text, deeds)?);
+    }
     Ok(())
 }
 
@@ -506,42 +475,46 @@ fn text_of(alloc: Global, objects: u32, next: u32) -> Result<Vec<u8>, Fail> {
     Ok(text.into_bytes())
 }
 
-/// Makes a change in a line of its own where it fits, and gives the line up where it doesn't; whether it fits.
-fn try_to(world: &mut World<Quiet>, step: Step) -> Result<bool, Fail>
-    requires { world.old.history.start ≡ None }
-    ensures { OnOk result (world.new.history.start ≡ None) }
-{
-    world.begin(1)?;
-    let change = step.change();
-    if !world.fits(&change) {
-        world.roll_back();
-        return Ok(false);
-    }
-    world.make(change)?;
-    world.commit();
-    Ok(true)
-}
+/// What makes objects, and a line that does it.
+const NEW: [(Deed, Step); 3] = [
+    (Deed::Card, CARD),
+    (Deed::Background, BACKGROUND),
+    (
+        Deed::Part(LayerId::OfCard(2), PartKind::Button),
+        CARD_BUTTON,
+    ),
+];
 
-/// Whether a step fits or not, as it should, and is seen to be gone back over or not to have been made.
-fn is_limited(alloc: Global, text: &[u8], step: Step, fits: bool) -> Result<bool, Fail> {
-    let mut world = open_world(alloc, text)?;
+/// Whether a change fits a stack or not, as it should, and some steps leave the stack as it was.
+fn is_limited(
+    alloc: Global,
+    text: &[u8],
+    (deed, wanted): (Deed, bool),
+    steps: &[Step],
+) -> Result<bool, Fail> {
+    let mut world = world_of(alloc, text)?;
     let before = see(alloc, &world)?;
-    let made = try_to(&mut world, step)?;
-    if made {
-        go_back(&mut world)?;
-    }
-    Ok(made == fits && world.undoable() == 0 && is_seen(alloc, &world, &before)?)
+    let is_due = fits(alloc, &world, deed)? == wanted;
+    take_all(alloc, &mut world, steps)?;
+    let after = see(alloc, &world)?;
+    Ok(is_due && are_alike(&before, &after))
 }
 
+/// A change that fits is made and undone; where none fits an empty line is given up.
 fn meets_limit(alloc: Global, limit: &Limit) -> Result<bool, Fail> {
     let text = text_of(alloc, limit.objects, limit.next)?;
-    let part = Step::Part(LayerId::OfCard(2), PartKind::Button);
-    let [card, background, button] = limit.fits;
-    Ok(
-        is_limited(alloc, &text, Step::Card, card)?
-            && is_limited(alloc, &text, Step::Background, background)?
-            && is_limited(alloc, &text, part, button)?,
-    )
+    for i in 0..3 {
+        let (deed, step) = NEW[i];
+        let met = if limit.fits[i] {
+            is_limited(alloc, &text, (deed, true), &[step, Step::Back])?
+        } else {
+            is_limited(alloc, &text, (deed, false), &[Step::GivenUp(1, &[])])?
+        };
+        if !met {
+            return Ok(false);
+        }
+    }
+    Ok(true)
 }
 
 #[test]

@@ -1,224 +1,129 @@
 //! Containers, with ample memory, on the stack of two cards.
 
-ghost use Rattle.std.specs.Prelude.{◌≡◌, IfOk, IsSome, OnOk};
+ghost use Rattle.std.specs.Prelude.{◌≡◌, IfOk, IsSome};
 ghost use Rattle.containers.specs.Base.{base};
 
-use crate::quiet::Quiet;
-use crate::sessions::two_cards;
+use crate::stacks::two_cards;
+use crate::turner::Turner;
 use change_journal::{Change, World};
 use chunks::{Chunk, Index};
 use containers::{
-    Container, Edit, Variables, declare, read, read_name, resolve, text_in, write, writes_are_due,
-    written_is_read,
+    Container, Edit, Place, Variables, declare, read, read_name, resolve, text_in, write,
+    writes_are_due, written_is_read,
 };
 use ht_values::{ChunkKind, Failure, Fault, Name, Op, Text, Where};
-use object_table::PropValue;
+use object_table::{Id, PropValue};
 use std::alloc::Global;
 use std::test::Fail;
 
-fn text(alloc: Global, bytes: &[u8]) -> Result<Text, Fail> {
-    Ok(Text::from_slice(alloc, bytes)?)
+/// A container, by plain values.
+#[derive(Clone, Copy)]
+enum Spot {
+    Variable(&'static [u8]),
+    /// A field, and the card that it is met with.
+    Field(Id, Id),
 }
 
-fn name(alloc: Global, bytes: &[u8]) -> Result<Name, Fail> {
-    Ok(Name::new(alloc, text(alloc, bytes)?)?)
+/// An edit, by plain values.
+#[derive(Clone, Copy)]
+enum Work {
+    Put(Where, &'static [u8]),
+    Add(&'static [u8]),
+    Delete,
 }
 
-fn one(kind: ChunkKind, number: i64) -> Chunk {
-    Chunk {
-        kind,
-        from: Index::At(number),
-        to: Index::At(number),
+/// What is done with a container.
+#[derive(Clone, Copy)]
+enum Act {
+    /// It is edited, or a chunk of it.
+    Edit(Option<(ChunkKind, i64)>, Work),
+    Declare,
+    /// The cards share the text of field 3 from here on, or they don't.
+    Share(bool),
+}
+
+/// What a typed line or a handler does, each with variables of its own.
+#[derive(Clone, Copy)]
+enum Part {
+    Typed(&'static [Act]),
+    Handler(&'static [Act]),
+}
+
+/// What is done with a container, and what is then read of it, or why that fails.
+struct Row {
+    spot: Spot,
+    parts: &'static [Part],
+    after: Result<&'static [u8], Fault>,
+}
+
+fn text(alloc: Global, bytes: &[u8]) -> Result<Text, Failure> {
+    match Text::from_slice(alloc, bytes) {
+        Ok(text) => Ok(text),
+        Err(_) => Err(Failure::Memory),
     }
+}
+
+fn name(alloc: Global, bytes: &[u8]) -> Result<Name, Failure> {
+    Ok(Name::new(alloc, text(alloc, bytes)?)?)
 }
 
 /// A world of the two cards, with an open batch.
 #[tactic(auto, unfolding(containers::specs::Base::base))]
-fn begun(alloc: Global) -> Result<World<Quiet>, Fail>
-    ensures { IfOk result (λ w. IsSome (base w.history).start) }
+fn begun(alloc: Global) -> Result<Box<World<Turner>>, Fail>
+    ensures { IfOk result (λ w. IsSome (base w.value.history).start) }
 {
     match World::open(alloc, two_cards(alloc)?, Vec::new(alloc), 9) {
         Ok(mut world) => {
             world.begin(1)?;
-            Ok(world)
+            Ok(Box::new(alloc, world)?)
         }
         Err(_) => Err("names".into()),
     }
 }
 
-/// Edits a container, or a chunk of it.
+/// The place of a container, or of a chunk of it.
+fn place_of<'a>(
+    alloc: Global,
+    world: &World<Turner>,
+    variables: &Variables,
+    container: Container<'a>,
+    chunk: Option<(ChunkKind, i64)>,
+) -> Result<Place<'a>, Failure> {
+    let place = resolve(alloc, world, variables, container)?;
+    let Some((kind, number)) = chunk else {
+        return Ok(place);
+    };
+    let number = Index::At(number);
+    Ok(place.with(Chunk {
+        kind,
+        from: number,
+        to: number,
+    })?)
+}
+
 fn edit(
     alloc: Global,
-    world: &mut World<Quiet>,
+    world: &mut World<Turner>,
     variables: &mut Variables,
-    container: Container<'_>,
-    chunk: Option<Chunk>,
-    edit: Edit,
+    place: Place<'_>,
+    work: Work,
 ) -> Result<(), Failure>
     requires { IsSome (base world.old.history).start }
-    ensures { base world.new.history ≡ base world.old.history }
+    ensures { IsSome (base world.new.history).start }
 {
-    let mut place = resolve(alloc, world, variables, container)?;
-    if let Some(chunk) = chunk {
-        place = place.with(chunk)?;
-    }
-    write(alloc, world, variables, place, edit, b',')
-}
-
-/// What a container holds.
-fn held(
-    alloc: Global,
-    world: &World<Quiet>,
-    variables: &Variables,
-    container: Container<'_>,
-) -> Result<Text, Failure> {
-    let place = resolve(alloc, world, variables, container)?;
-    read(alloc, world, variables, &place, b',')
-}
-
-/// A text of a variable, what is put into a chunk of it, and the text after it.
-struct Row {
-    old: &'static [u8],
-    chunk: Option<(ChunkKind, i64)>,
-    place: Where,
-    new: &'static [u8],
-    after: &'static [u8],
-}
-
-const PUTS: &[Row] = &[
-    Row {
-        old: b"",
-        chunk: Some((ChunkKind::Item, 3)),
-        place: Where::Into,
-        new: b"x",
-        after: b",,x",
-    },
-    Row {
-        old: b"a",
-        chunk: None,
-        place: Where::After,
-        new: b"b",
-        after: b"ab",
-    },
-    Row {
-        old: b"a",
-        chunk: None,
-        place: Where::Before,
-        new: b"b",
-        after: b"ba",
-    },
-    Row {
-        old: b"a b",
-        chunk: Some((ChunkKind::Word, 2)),
-        place: Where::Into,
-        new: b"c",
-        after: b"a c",
-    },
-];
-
-/// The text of a variable `x` after two puts, the first of the whole text.
-fn after_puts(alloc: Global, mut variables: Variables, row: &Row) -> Result<Text, Fail> {
-    let x = name(alloc, b"x")?;
-    let x = Container::Variable(&x);
-    let mut world = begun(alloc)?;
-    let first = Edit::Put(Where::Into, text(alloc, row.old)?);
-    let second = Edit::Put(row.place, text(alloc, row.new)?);
-    let chunk = row.chunk.map(|(kind, number)| one(kind, number));
-    edit(alloc, &mut world, &mut variables, x, None, first)?;
-    edit(alloc, &mut world, &mut variables, x, chunk, second)?;
-    Ok(held(alloc, &world, &variables, x)?)
-}
-
-#[test]
-fn puts_into_globals_and_locals(rt: HostRuntime) -> Result<(), Fail> {
-    let alloc = rt.alloc();
-    for row in PUTS {
-        let global = after_puts(alloc, Variables::of_typed_line(alloc), row)?;
-        assert_eq!(rt; global.as_slice(), row.after);
-        let own = after_puts(alloc, Variables::of_handler(alloc), row)?;
-        assert_eq!(rt; own.as_slice(), row.after);
-    }
-    Ok(())
-}
-
-/// What is done to an item of `4,5`, and the text or the fault after it.
-struct ItemRow {
-    number: i64,
-    operand: Option<&'static [u8]>,
-    after: Result<&'static [u8], Fault>,
-}
-
-const ITEMS: &[ItemRow] = &[
-    ItemRow {
-        number: 2,
-        operand: Some(b"3"),
-        after: Ok(b"4,8"),
-    },
-    ItemRow {
-        number: 0,
-        operand: Some(b"z"),
-        after: Err(Fault::NotANumber),
-    },
-    ItemRow {
-        number: 0,
-        operand: Some(b"3"),
-        after: Err(Fault::BadArgument),
-    },
-    ItemRow {
-        number: 1,
-        operand: None,
-        after: Ok(b"5"),
-    },
-    ItemRow {
-        number: 3,
-        operand: None,
-        after: Ok(b"4,5"),
-    },
-];
-
-/// The text of a variable of a handler after an operand was added to an item of `4,5`, or the item was deleted.
-fn after_edit(alloc: Global, row: &ItemRow) -> Result<Result<Text, Failure>, Fail> {
-    let x = name(alloc, b"x")?;
-    let x = Container::Variable(&x);
-    let mut variables = Variables::of_handler(alloc);
-    let mut world = begun(alloc)?;
-    let first = Edit::Put(Where::Into, text(alloc, b"4,5")?);
-    edit(alloc, &mut world, &mut variables, x, None, first)?;
-    let second = match row.operand {
-        Some(operand) => Edit::Alter(Op::Add, text(alloc, operand)?),
-        None => Edit::Delete,
+    let edit = match work {
+        Work::Put(at, bytes) => Edit::Put(at, text(alloc, bytes)?),
+        Work::Add(operand) => Edit::Alter(Op::Add, text(alloc, operand)?),
+        Work::Delete => Edit::Delete,
     };
-    let item = Some(one(ChunkKind::Item, row.number));
-    if let Err(failure) = edit(alloc, &mut world, &mut variables, x, item, second) {
-        return Ok(Err(failure));
-    }
-    Ok(held(alloc, &world, &variables, x))
-}
-
-/// Whether a call gave this text or this fault.
-fn is_due(given: &Result<Text, Failure>, due: Result<&[u8], Fault>) -> bool {
-    match (given, due) {
-        (Ok(text), Ok(bytes)) => text.as_slice() == bytes,
-        (Err(Failure::Fault(fault)), Err(due)) => *fault == due,
-        _ => false,
-    }
-}
-
-#[test]
-fn computes_and_deletes(rt: HostRuntime) -> Result<(), Fail> {
-    let alloc = rt.alloc();
-    for row in ITEMS {
-        let after = after_edit(alloc, row)?;
-        assert!(rt; is_due(&after, row.after));
-    }
-    Ok(())
+    write(alloc, world, variables, place, edit, b',')
 }
 
 /// Whether the cards share the text of field 3 from here on.
 #[tactic(auto, unfolding(containers::specs::Base::base), using(containers::proofs::Bases::is_open))]
-fn share(world: &mut World<Quiet>, is_shared: bool) -> Result<(), Fail>
+fn share(world: &mut World<Turner>, is_shared: bool) -> Result<(), Failure>
     requires { IsSome (base world.old.history).start }
-    ensures { OnOk result (IsSome (base world.new.history).start) }
+    ensures { IsSome (base world.new.history).start }
 {
     let change = Change::Prop(3, PropValue::SharedTextIs(is_shared));
     if world.fits(&change) {
@@ -227,63 +132,275 @@ fn share(world: &mut World<Quiet>, is_shared: bool) -> Result<(), Fail>
     Ok(())
 }
 
-/// Puts a text into field 3, met with card 2, and then reads it there, shared or not.
-fn put_and_read(
+/// Declares a variable global.
+fn declare_it(
     alloc: Global,
-    world: &mut World<Quiet>,
-    bytes: &[u8],
-    is_shared: bool,
-) -> Result<Text, Fail>
+    world: &mut World<Turner>,
+    variables: &mut Variables,
+    container: Container<'_>,
+) -> Result<(), Failure>
     requires { IsSome (base world.old.history).start }
-    ensures { OnOk result (IsSome (base world.new.history).start) }
+    ensures { IsSome (base world.new.history).start }
 {
-    let mut variables = Variables::of_typed_line(alloc);
-    let field = Container::Field(3, 2);
-    let put = Edit::Put(Where::Into, text(alloc, bytes)?);
-    edit(alloc, world, &mut variables, field, None, put)?;
-    share(world, is_shared)?;
-    Ok(held(alloc, world, &variables, field)?)
+    match container {
+        Container::Variable(name) => Ok(declare(alloc, world, variables, name)?),
+        Container::Field(_, _) => Ok(()),
+    }
 }
 
-#[test]
-fn shared_and_own_text(rt: HostRuntime) -> Result<(), Fail> {
-    let alloc = rt.alloc();
+fn act_once(
+    alloc: Global,
+    world: &mut World<Turner>,
+    variables: &mut Variables,
+    container: Container<'_>,
+    act: Act,
+) -> Result<(), Failure>
+    requires { IsSome (base world.old.history).start }
+    ensures { IsSome (base world.new.history).start }
+{
+    match act {
+        Act::Edit(chunk, work) => {
+            let place = place_of(alloc, world, variables, container, chunk)?;
+            edit(alloc, world, variables, place, work)
+        }
+        Act::Declare => declare_it(alloc, world, variables, container),
+        Act::Share(is_shared) => share(world, is_shared),
+    }
+}
+
+/// What a container holds.
+fn held(
+    alloc: Global,
+    world: &World<Turner>,
+    variables: &Variables,
+    container: Container<'_>,
+) -> Result<Text, Failure> {
+    let place = resolve(alloc, world, variables, container)?;
+    read(alloc, world, variables, &place, b',')
+}
+
+/// Does a part, and reads what the container then holds.
+fn held_after(
+    alloc: Global,
+    world: &mut World<Turner>,
+    container: Container<'_>,
+    part: Part,
+) -> Result<Text, Failure>
+    requires { IsSome (base world.old.history).start }
+    ensures { IsSome (base world.new.history).start }
+{
+    let (mut variables, acts) = match part {
+        Part::Typed(acts) => (Variables::of_typed_line(alloc), acts),
+        Part::Handler(acts) => (Variables::of_handler(alloc), acts),
+    };
+    for act in acts {
+        act_once(alloc, world, &mut variables, container, *act)?;
+    }
+    held(alloc, world, &variables, container)
+}
+
+/// What the last part reads.
+fn last_read(
+    alloc: Global,
+    world: &mut World<Turner>,
+    container: Container<'_>,
+    parts: &[Part],
+) -> Result<Text, Failure>
+    requires { IsSome (base world.old.history).start }
+{
+    let mut last = Text::new(alloc);
+    for part in parts {
+        last = held_after(alloc, world, container, *part)?;
+    }
+    Ok(last)
+}
+
+/// Whether what is done with a container gives this text or this fault.
+fn is_due(
+    alloc: Global,
+    spot: Spot,
+    parts: &[Part],
+    due: Result<&[u8], Fault>,
+) -> Result<bool, Fail> {
+    let variable = match spot {
+        Spot::Variable(bytes) => name(alloc, bytes)?,
+        Spot::Field(_, _) => name(alloc, b"none")?,
+    };
+    let container = match spot {
+        Spot::Variable(_) => Container::Variable(&variable),
+        Spot::Field(field, card) => Container::Field(field, card),
+    };
     let mut world = begun(alloc)?;
-    let shared = put_and_read(alloc, &mut world, b"own", true)?;
-    assert_eq!(rt; shared.as_slice(), b"".as_slice());
-    let own = put_and_read(alloc, &mut world, b"all", false)?;
-    assert_eq!(rt; own.as_slice(), b"own".as_slice());
+    Ok(match last_read(alloc, &mut world, container, parts) {
+        Ok(text) => due == Ok(text.as_slice()),
+        Err(Failure::Fault(fault)) => due == Err(fault),
+        Err(Failure::Memory) => false,
+    })
+}
+
+const X: Spot = Spot::Variable(b"x");
+
+const SUM: Spot = Spot::Variable(b"Sum");
+
+const FIELD: Spot = Spot::Field(3, 2);
+
+/// Puts into a variable, and its text after them.
+const PUTS: &[(&[Act], &[u8])] = &[
+    (
+        &[
+            Act::Edit(None, Work::Put(Where::Into, b"")),
+            Act::Edit(Some((ChunkKind::Item, 3)), Work::Put(Where::Into, b"x")),
+        ],
+        b",,x",
+    ),
+    (
+        &[
+            Act::Edit(None, Work::Put(Where::Into, b"a")),
+            Act::Edit(None, Work::Put(Where::After, b"b")),
+        ],
+        b"ab",
+    ),
+    (
+        &[
+            Act::Edit(None, Work::Put(Where::Into, b"a")),
+            Act::Edit(None, Work::Put(Where::Before, b"b")),
+        ],
+        b"ba",
+    ),
+    (
+        &[
+            Act::Edit(None, Work::Put(Where::Into, b"a b")),
+            Act::Edit(Some((ChunkKind::Word, 2)), Work::Put(Where::Into, b"c")),
+        ],
+        b"a c",
+    ),
+];
+
+#[test]
+fn puts_into_globals_and_locals(rt: HostRuntime) -> Result<(), Fail> {
+    for (acts, after) in PUTS {
+        assert!(rt; is_due(rt.alloc(), X, &[Part::Typed(acts)], Ok(after))?);
+        assert!(rt; is_due(rt.alloc(), X, &[Part::Handler(acts)], Ok(after))?);
+    }
     Ok(())
 }
 
-/// Why item 0 of field 3 can't be written where it is met with this card.
-fn refused(alloc: Global, card: u32) -> Result<Result<(), Failure>, Fail> {
-    let mut world = begun(alloc)?;
-    let mut variables = Variables::of_typed_line(alloc);
-    let put = Edit::Put(Where::Into, text(alloc, b"x")?);
-    let item = Some(one(ChunkKind::Item, 0));
-    let field = Container::Field(3, card);
-    Ok(edit(alloc, &mut world, &mut variables, field, item, put))
-}
+const FOUR_AND_FIVE: Act = Act::Edit(None, Work::Put(Where::Into, b"4,5"));
+
+const PUT_INTO_NO_ITEM: Act = Act::Edit(Some((ChunkKind::Item, 0)), Work::Put(Where::Into, b"x"));
+
+const ADD_TO_GLOBAL: &[Act] = &[Act::Declare, Act::Edit(None, Work::Add(b"2"))];
+
+const ROWS: &[Row] = &[
+    // An operand is added to an item, or the item is deleted.
+    Row {
+        spot: X,
+        parts: &[Part::Handler(&[
+            FOUR_AND_FIVE,
+            Act::Edit(Some((ChunkKind::Item, 2)), Work::Add(b"3")),
+        ])],
+        after: Ok(b"4,8"),
+    },
+    Row {
+        spot: X,
+        parts: &[Part::Handler(&[
+            FOUR_AND_FIVE,
+            Act::Edit(Some((ChunkKind::Item, 0)), Work::Add(b"z")),
+        ])],
+        after: Err(Fault::NotANumber),
+    },
+    Row {
+        spot: X,
+        parts: &[Part::Handler(&[
+            FOUR_AND_FIVE,
+            Act::Edit(Some((ChunkKind::Item, 0)), Work::Add(b"3")),
+        ])],
+        after: Err(Fault::BadArgument),
+    },
+    Row {
+        spot: X,
+        parts: &[Part::Handler(&[
+            FOUR_AND_FIVE,
+            Act::Edit(Some((ChunkKind::Item, 1)), Work::Delete),
+        ])],
+        after: Ok(b"5"),
+    },
+    Row {
+        spot: X,
+        parts: &[Part::Handler(&[
+            FOUR_AND_FIVE,
+            Act::Edit(Some((ChunkKind::Item, 3)), Work::Delete),
+        ])],
+        after: Ok(b"4,5"),
+    },
+    // A field's own text stays where its cards share another.
+    Row {
+        spot: FIELD,
+        parts: &[Part::Typed(&[
+            Act::Edit(None, Work::Put(Where::Into, b"own")),
+            Act::Share(true),
+        ])],
+        after: Ok(b""),
+    },
+    Row {
+        spot: FIELD,
+        parts: &[Part::Typed(&[
+            Act::Edit(None, Work::Put(Where::Into, b"own")),
+            Act::Share(true),
+            Act::Edit(None, Work::Put(Where::Into, b"all")),
+            Act::Share(false),
+        ])],
+        after: Ok(b"own"),
+    },
+    // A field that isn't there for the card is found missing before a bad index.
+    Row {
+        spot: FIELD,
+        parts: &[Part::Typed(&[PUT_INTO_NO_ITEM])],
+        after: Err(Fault::BadArgument),
+    },
+    Row {
+        spot: Spot::Field(3, 1),
+        parts: &[Part::Typed(&[PUT_INTO_NO_ITEM])],
+        after: Err(Fault::NoSuchObject),
+    },
+    Row {
+        spot: Spot::Field(3, 0),
+        parts: &[Part::Typed(&[PUT_INTO_NO_ITEM])],
+        after: Err(Fault::NoSuchObject),
+    },
+    // A name that a handler declares is the global, which had a value or none.
+    Row {
+        spot: SUM,
+        parts: &[
+            Part::Typed(&[Act::Edit(None, Work::Put(Where::Into, b"5"))]),
+            Part::Handler(ADD_TO_GLOBAL),
+            Part::Typed(&[]),
+        ],
+        after: Ok(b"7"),
+    },
+    Row {
+        spot: SUM,
+        parts: &[Part::Handler(ADD_TO_GLOBAL), Part::Typed(&[])],
+        after: Ok(b"2"),
+    },
+];
 
 #[test]
-fn a_field_elsewhere_is_found_missing_first(rt: HostRuntime) -> Result<(), Fail> {
-    let alloc = rt.alloc();
-    assert_eq!(rt; refused(alloc, 2)?, Err(Failure::Fault(Fault::BadArgument)));
-    assert_eq!(rt;
-        refused(alloc, 1)?,
-        Err(Failure::Fault(Fault::NoSuchObject))
-    );
-    assert_eq!(rt;
-        refused(alloc, 0)?,
-        Err(Failure::Fault(Fault::NoSuchObject))
-    );
+fn containers_are_edited(rt: HostRuntime) -> Result<(), Fail> {
+    for at in 0..ROWS.len() {
+        let row = &ROWS[at];
+        assert!(rt;
+            is_due(rt.alloc(), row.spot, row.parts, row.after)?,
+            "row {at}"
+        );
+    }
+    writes_are_due();
+    written_is_read();
     Ok(())
 }
 
-/// What `Sum` reads as an expression, where `SUM` was given a value or declared.
-fn sum_reads(alloc: Global, value: Option<&[u8]>) -> Result<Text, Fail> {
-    let world = begun(alloc)?;
+/// Whether `Sum` reads so as an expression, where `SUM` was given a value or declared.
+fn sum_reads(alloc: Global, value: Option<&[u8]>, wanted: &[u8]) -> Result<bool, Fail> {
     let mut variables = Variables::of_handler(alloc);
     let value = match value {
         Some(value) => Some(text(alloc, value)?),
@@ -291,63 +408,34 @@ fn sum_reads(alloc: Global, value: Option<&[u8]>) -> Result<Text, Fail> {
     };
     variables.set(alloc, &text(alloc, b"SUM")?, value)?;
     let sum = name(alloc, b"Sum")?;
-    Ok(read_name(&world, &variables, &sum).try_clone(alloc)?)
+    let world = begun(alloc)?;
+    Ok(read_name(&*world, &variables, &sum).as_slice() == wanted)
 }
 
 #[test]
 fn names_read_as_values_or_spellings(rt: HostRuntime) -> Result<(), Fail> {
-    let alloc = rt.alloc();
-    assert_eq!(rt; sum_reads(alloc, Some(b"7"))?.as_slice(), b"7".as_slice());
-    assert_eq!(rt; sum_reads(alloc, None)?.as_slice(), b"Sum".as_slice());
-    Ok(())
-}
-
-/// What the global `sum` holds after a handler declares it and adds 2 to it, where it was 5 or had no value.
-fn declared(alloc: Global, before: Option<&[u8]>) -> Result<Text, Fail> {
-    let mut world = begun(alloc)?;
-    let name = name(alloc, b"Sum")?;
-    let sum = Container::Variable(&name);
-    let mut variables = Variables::of_typed_line(alloc);
-    if let Some(before) = before {
-        let put = Edit::Put(Where::Into, text(alloc, before)?);
-        edit(alloc, &mut world, &mut variables, sum, None, put)?;
-    }
-    let mut variables = Variables::of_handler(alloc);
-    declare(alloc, &mut world, &mut variables, &name)?;
-    let add = Edit::Alter(Op::Add, text(alloc, b"2")?);
-    edit(alloc, &mut world, &mut variables, sum, None, add)?;
-    match world.global(&text(alloc, b"sum")?) {
-        Some(value) => Ok(value.try_clone(alloc)?),
-        None => Err("no global".into()),
-    }
-}
-
-#[test]
-fn a_declared_name_is_the_global(rt: HostRuntime) -> Result<(), Fail> {
-    let alloc = rt.alloc();
-    assert_eq!(rt; declared(alloc, Some(b"5"))?.as_slice(), b"7".as_slice());
-    assert_eq!(rt; declared(alloc, None)?.as_slice(), b"2".as_slice());
-    writes_are_due();
-    written_is_read();
+    assert!(rt; sum_reads(rt.alloc(), Some(b"7"), b"7")?);
+    assert!(rt; sum_reads(rt.alloc(), None, b"Sum")?);
     Ok(())
 }
 
 /// The length of field 3 as it is met with card 2, read where it stands.
-fn length_of_field(alloc: Global) -> Result<usize, Fail> {
-    let mut world = begun(alloc)?;
-    let mut variables = Variables::of_typed_line(alloc);
-    let field = Container::Field(3, 2);
-    let put = Edit::Put(Where::Into, text(alloc, b"note")?);
-    edit(alloc, &mut world, &mut variables, field, None, put)?;
-    let place = resolve(alloc, &world, &variables, field)?;
-    match text_in(&world, &variables, &place) {
+fn length_in(alloc: Global, world: &World<Turner>) -> Result<usize, Failure> {
+    let variables = Variables::of_typed_line(alloc);
+    let place = resolve(alloc, world, &variables, Container::Field(3, 2))?;
+    match text_in(world, &variables, &place) {
         Some(text) => Ok(text.len()),
-        None => Err("no text".into()),
+        None => Err(Failure::Fault(Fault::NoSuchObject)),
     }
 }
 
+const NOTE: &[Act] = &[Act::Edit(None, Work::Put(Where::Into, b"note"))];
+
 #[test]
 fn a_field_is_read_in_place(rt: HostRuntime) -> Result<(), Fail> {
-    assert_eq!(rt; length_of_field(rt.alloc())?, 4);
+    let mut world = begun(rt.alloc())?;
+    let field = Container::Field(3, 2);
+    let _ = held_after(rt.alloc(), &mut world, field, Part::Typed(NOTE))?;
+    assert_eq!(rt; length_in(rt.alloc(), &world)?, 4);
     Ok(())
 }

@@ -1,8 +1,7 @@
-use Rattle.std.proofs.Common.{◌≡◌, ◌≢◌, ◌+◌, ◌≤◌, List, ℕ, [], ◌++◌, length, take, ◌∙◌, arith, refl, length-append, length-take, inl}
+use Rattle.std.proofs.Common.{◌≢◌, ◌+◌, ◌≤◌, [], ◌++◌, length, take, ◌∙◌, arith, refl, length-append, length-take, inl}
 use Rattle.std.proofs.lemmas.List.{append-nil}
 use Rattle.std.proofs.lemmas.Result.{err_from_is_err_and}
 use Rattle.devices.proofs.Known.{Appends-Appends, Consumes-Consumes}
-use Rattle.session.specs.Conversation.{NeverBegan}
 use Rattle.session.specs.TakesLine.{TakesLine}
 use Rattle.session.proofs.Sessions.{Breaks-by, Quits-by, Ended-by, Stopped-Breaks, Stopped-by}
 use Rattle.session.specs.declared.conversation.Ran.TheVariants.{Quit}

@@ -1,4 +1,4 @@
-use Rattle.std.proofs.Common.{◌+◌, refl, ◌≡◌, ◌≢◌, ◌<◌, ℕ, inl, inr, List, [], ◌∷◌, ◌++◌, ◌∙◌, ap, subst, arith, true, false}
+use Rattle.std.proofs.Common.{◌+◌, refl, ◌≡◌, ◌≢◌, ℕ, inl, inr, List, [], ◌∷◌, ◌++◌, ◌∙◌, ap, subst, arith, true, false}
 use Rattle.std.proofs.lemmas.Result.{err_from_is_err_and}
 use Rattle.session.specs.Answers.{answer}
 use Rattle.session.specs.Standing.{Standing}

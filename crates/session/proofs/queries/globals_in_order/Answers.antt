@@ -1,4 +1,4 @@
-use Rattle.std.proofs.Common.{◌≡◌, ◌<◌, length, sym, ◌∙◌, arith}
+use Rattle.std.proofs.Common.{◌<◌, length, sym, arith}
 use Rattle.journal_entries.specs.Named.{listed}
 use Rattle.session.proofs.GlobalsInOrder.{in_order_more, entries-empty, place, place_some, place_none}
 use Rattle.session.proofs.queries.globals_in_order.Goals as goal

@@ -1,0 +1,9 @@
+mod Ends
+mod Kept
+pub mod Bases
+pub mod Trails
+mod Risen
+pub mod Rises
+mod Going
+pub mod Runs
+pub mod Commands

@@ -1,0 +1,70 @@
+-- Laws over the rules: what each run keeps that isn't cut short by want of memory.
+use Rattle.std.specs.Prelude.{◌≡◌, ◌≤◌, ℕ, List, [], ◌++◌, Result, Err}
+use Rattle.ht_grammar.specs.Statements as stm
+use Rattle.journal_entries.specs.Replaced.{Replacement, places_of}
+use Rattle.journal_entries.specs.Trails.{Mark, IsOnce, IsShort, different}
+use Rattle.change_journal.specs.History.{History}
+use Rattle.containers.specs.Base.{base}
+use Rattle.meaning.specs.declared.end.Ended.{Ended}
+use Rattle.meaning.specs.declared.end.Stop.{Stop}
+use Rattle.meaning.specs.declared.end.Stop.TheVariants.{Memory}
+use Rattle.meaning.specs.State.{RunState}
+use Rattle.meaning.specs.Meaning.{Line, Message}
+use Rattle.run_laws.specs.Rising.{TrailAfter}
+use Rattle.run_laws.specs.Replaced.{replaced_line, replaced_message, RisesBy}
+
+-- an end that isn't want of memory
+abbrev pub HasMemory : {A : Type 0} → Result A Stop → Type 0
+HasMemory o = o ≡ Err Memory → ⊥
+
+-- a list stands at the head of another
+abbrev pub IsPrefix : {A : Type 0} → List A → List A → Type 0
+IsPrefix {A} xs ys = (more : List A) × (ys ≡ xs ++ more)
+
+-- A run goes on: no step comes back, and what was shown and sent stays, with more behind it.
+pub record GoesOn (old new : RunState) : Type 0 where
+  pub left : new.left ≤ old.left
+  pub shown : IsPrefix old.shown new.shown
+  pub sent : IsPrefix old.sent new.sent
+
+-- ---- the lines of a command
+
+abbrev pub LinesKeepBases : Type 0
+LinesKeepBases =
+    (w w2 : History) (r r2 : RunState) (ss : stm.Stmts) (o : Result Ended Stop) →
+    Line w r ss o w2 r2 → HasMemory o → base w2 ≡ base w
+
+abbrev pub LinesRise : Type 0
+LinesRise =
+    (w w2 : History) (r r2 : RunState) (ss : stm.Stmts) (o : Result Ended Stop) (line : Line w r ss o w2 r2) →
+    HasMemory o → RisesBy (replaced_line line) w.start w2.start
+
+abbrev pub LinesGoOn : Type 0
+LinesGoOn =
+    (w w2 : History) (r r2 : RunState) (ss : stm.Stmts) (o : Result Ended Stop) →
+    Line w r ss o w2 r2 → HasMemory o → GoesOn r r2
+
+-- ---- a message that is sent by itself
+
+abbrev pub MessagesKeepBases : Type 0
+MessagesKeepBases =
+    (w w2 : History) (r r2 : RunState) (i : ℕ) (n : List ℕ) (vs : List (List ℕ)) (o : Result Ended Stop) →
+    Message w r i n vs o w2 r2 → HasMemory o → base w2 ≡ base w
+
+abbrev pub MessagesRise : Type 0
+MessagesRise =
+    (w w2 : History) (r r2 : RunState) (i : ℕ) (n : List ℕ) (vs : List (List ℕ)) (o : Result Ended Stop) (message : Message w r i n vs o w2 r2) →
+    HasMemory o → RisesBy (replaced_message message) w.start w2.start
+
+abbrev pub MessagesGoOn : Type 0
+MessagesGoOn =
+    (w w2 : History) (r r2 : RunState) (i : ℕ) (n : List ℕ) (vs : List (List ℕ)) (o : Result Ended Stop) →
+    Message w r i n vs o w2 r2 → HasMemory o → GoesOn r r2
+
+-- ---- entries
+
+-- a batch whose trail is the one after these, each place once in a segment, is short for the different places of these
+abbrev pub BatchesAreShort : Type 0
+BatchesAreShort =
+    (replaced : List Replacement) (trail : List Mark) →
+    TrailAfter replaced [] trail → IsOnce trail → IsShort trail (different (places_of replaced))

@@ -1,0 +1,4 @@
+pub mod Rising
+pub mod Changes
+pub mod Replaced
+pub mod Laws

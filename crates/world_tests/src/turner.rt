@@ -1,0 +1,110 @@
+//! An external for the examples.
+
+use externals::{Ask, External, Input, Patch};
+use ht_values::Text;
+use std::alloc::{AllocError, Global};
+use std::mem;
+use std::test::Fail;
+
+/// Of no known kind, a command that fails at each turn: its cell is `first`, and `turned` after a turn.
+#[derive(Drop)]
+pub(crate) struct Turner {
+    name: Text,
+    cell: Text,
+    turns: u64,
+}
+
+impl External for Turner {
+    ghost use Rattle.std.specs.Prelude.{[], ◌∷◌, false};
+
+    ghost title = { λ e. e.name };
+
+    ghost sort = { λ _. 0 };
+
+    ghost answers_calls = { λ _. false };
+
+    ghost cells = { λ e. e.cell ∷ [] };
+
+    ghost turn_count = { λ e. e.turns };
+
+    fn name(&self) -> &Text {
+        &self.name
+    }
+
+    fn kind(&self) -> u32 {
+        0
+    }
+
+    fn is_function(&self) -> bool {
+        false
+    }
+
+    fn cell_count(&self) -> usize {
+        1
+    }
+
+    fn cell(&self, i: usize) -> &Text {
+        let _ = i;
+        &self.cell
+    }
+
+    fn turn(&mut self, alloc: Global, input: &Input) -> Result<(Ask, Patch), AllocError> {
+        let _ = input;
+        self.turns = self.turns.saturating_add(1);
+        let mut next = Text::from_slice(alloc, b"turned").map_err(|_| AllocError)?;
+        let mut patch = Patch::new(alloc);
+        if next.as_slice() == self.cell.as_slice() {
+            return Ok((Ask::Fail, patch));
+        }
+        mem::swap(&mut self.cell, &mut next);
+        match patch.push(0, next) {
+            Ok(()) => Ok((Ask::Fail, patch)),
+            Err(old) => {
+                self.cell = old;
+                Err(AllocError)
+            }
+        }
+    }
+
+    fn flip(&mut self, patch: &mut Patch) {
+        if patch.len() > 0 {
+            patch.swap(0, &mut self.cell);
+        }
+    }
+
+    fn turns(&self) -> u64 {
+        self.turns
+    }
+}
+
+fn make_turner(alloc: Global, name: &[u8]) -> Result<Turner, Fail> {
+    Ok(Turner {
+        name: Text::from_slice(alloc, name)?,
+        cell: Text::from_slice(alloc, b"first")?,
+        turns: 0,
+    })
+}
+
+pub(crate) fn all_turners(alloc: Global, names: &[&[u8]]) -> Result<Vec<Turner>, Fail> {
+    let mut turners = Vec::new(alloc);
+    for name in names {
+        turners.push(make_turner(alloc, name)?)?;
+    }
+    Ok(turners)
+}
+
+pub(crate) type Boxed = Box<dyn External>;
+
+pub(crate) fn boxed(alloc: Global, name: &[u8]) -> Result<Boxed, Fail> {
+    let external: Boxed = Box::new(alloc, make_turner(alloc, name)?)?;
+    Ok(external)
+}
+
+/// Externals of these names, each in a box.
+pub(crate) fn all_boxed(alloc: Global, names: &[&[u8]]) -> Result<Vec<Boxed>, Fail> {
+    let mut externals = Vec::new(alloc);
+    for name in names {
+        externals.push(boxed(alloc, name)?).ok().ok_or("memory")?;
+    }
+    Ok(externals)
+}

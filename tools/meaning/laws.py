@@ -1,0 +1,226 @@
+#!/usr/bin/env python3
+"""Writes what runs replace, specs/Replaced.antt of the crate run_laws, and the proofs of its laws, each an induction over
+the rules of the table meaning.rules: proofs/Bases.antt, proofs/Rises.antt and proofs/Runs.antt. With --check it writes
+nothing, and ends with 1 where a file isn't what it would write.
+
+A law gives each family of rules a function over derivations, and each rule a clause, which puts together what the law
+says of the rule's parts: of its derivations, and of what else it makes (LEAVES, and Runs.LEAVES).
+"""
+
+import re
+import sys
+
+sys.dont_write_bytecode = True
+
+from table import TYPES, binders, families, letters, read, write
+
+# The changes and turns of a rule: their name in functions, and which word says how they end, where they may fail.
+LEAVES = {
+    "Made": ("made", None), "TookTurn": ("turn", None), "Edits": ("edits", 6), "Assigns": ("assigns", 6),
+    "DeclaresAll": ("declares_all", 4), "Sets": ("sets", 5), "Adds": ("adds", 3),
+}
+USE = re.compile(r"use (\S+?)(?:\.\{(.*)\}| as \w+)$")
+
+TABLE = families()
+FAMILIES = {family["name"]: family for family in TABLE}
+
+
+def words(text):
+    """The words of a premise or a conclusion; what stands in brackets is one."""
+    found, depth = [""], 0
+    for letter in text:
+        depth += (letter in "([{") - (letter in ")]}")
+        if letter == " " and depth == 0:
+            found.append("")
+        else:
+            found[-1] += letter
+    return found
+
+
+def snake(name):
+    return LEAVES[name][0] if name in LEAVES else re.sub(r"(?<!^)([A-Z])", r"_\1", name).lower()
+
+
+def end_at(family):
+    """Which of a family's indices says how a derivation ends."""
+    return next(at for at, index in enumerate(family["indices"]) if TYPES[letters(index)].startswith("Result"))
+
+
+def end_of(part):
+    """How a part ends, with its type; None where it always goes well."""
+    head, *rest = words(part)
+    if head in FAMILIES:
+        at = end_at(FAMILIES[head])
+        return rest[at], TYPES[letters(FAMILIES[head]["indices"][at])]
+    at = LEAVES[head][1]
+    return at and (rest[at - 1], TYPES["ot"])
+
+
+def memory_of(part, whole):
+    """Why a part had memory, where the whole has it."""
+    (end, of_type), (whole_end, whole_type) = end_of(part), end_of(whole)
+    if end.startswith("(Ok"):
+        return "given"
+    if end == whole_end:
+        return "has" if of_type == whole_type else "(stopped has)"
+    return "faulted" if end.startswith("(Err (Faults") else "exited"
+
+
+def indices_of(family):
+    """The variables of a family; the second of a letter has a 2."""
+    found = []
+    for index in family["indices"]:
+        found.append(index + "2" if index in found else index)
+    return found
+
+
+def imports(uses, text):
+    """The lines that import what a text names, of these and of those that the rules use."""
+    lines = uses.splitlines() + [line for line in read("meaning.head").splitlines() if line.startswith("use ")]
+    lines.append("use Rattle.meaning.specs.Meaning.{%s}" % ", ".join(FAMILIES))
+    used = set(re.findall(r"\w+|[^\s\w(){}]+", text))
+    modules, taken = {}, set()
+    for line in lines:
+        module, names = USE.match(line).groups()
+        named = {name.split()[-1].strip("◌"): name for name in names.split(", ")} if names else {}
+        found = [name for short, name in named.items() if short in used - taken]
+        taken.update(named)
+        if found:
+            modules.setdefault(module, []).extend(found)
+        elif not named and line.split()[-1] + "." in text:
+            modules[line[4:]] = None
+    return "".join("use %s\n" % (module if names is None else "%s.{%s}" % (module, ", ".join(names))) for module, names in modules.items())
+
+
+class Law:
+    """What is said of each derivation, and how that of a rule follows from that of its parts."""
+
+    is_proof = True
+
+    def call(self, premise, place, whole):
+        """What the law says of a premise, the variable of which is given, or None."""
+        head = words(premise)[0]
+        if head not in FAMILIES and head not in LEAVES:
+            return None
+        memory = [memory_of(premise, whole)] if self.is_proof and end_of(premise) else []
+        return " ".join(["%s_%s" % (self.prefix, snake(head)), place, *memory])
+
+    def named(self, premises):
+        """The variables of a rule that its clause names."""
+        return []
+
+    def joined(self, part, rest):
+        return self.join.format(part=part, rest=rest)
+
+    def whole(self, parts):
+        """What is said of a rule, by what is said of its parts."""
+        if not parts:
+            return self.nothing
+        found = parts[-1]
+        for part in reversed(parts[:-1]):
+            found = self.joined(part, found)
+        return found
+
+    def clause(self, family, rule):
+        name, premises, conclusion = rule
+        calls = [self.call(premise, "p%d" % at, conclusion) for at, premise in enumerate(premises, 1)]
+        places = ["p%d" % at if call else "_" for at, call in enumerate(calls, 1)]
+        named = ["{%s = %s}" % (variable, variable) for variable in self.named(premises)]
+        pattern = " ".join(["%s.%s" % (family["name"], name), *named, *places])
+        is_memory = self.is_proof and end_of(conclusion)[0] == "(Err Memory)"
+        body = "absurd (has refl)" if is_memory else self.whole([call for call in calls if call])
+        return "%s%s = %s" % ("(%s)" % pattern if " " in pattern else pattern, " has" if self.is_proof else "", body)
+
+    def function(self, family):
+        indices, name = indices_of(family), snake(family["name"])
+        says = self.says.format(
+            binders=binders([" ".join(indices)]), derivation=" ".join([family["name"], *indices]),
+            end=indices[end_at(family)], name=name)
+        lines = [": " + says] + [self.clause(family, rule) for rule in family["rules"]]
+        return "".join("  %s%s_%s %s\n" % ("pub " if at == 0 else "", self.prefix, name, line) for at, line in enumerate(lines))
+
+    def file(self):
+        text = "\n".join(map(self.function, TABLE))
+        return self.title + imports(self.uses, text) + "\n%s\n" % ("mutual" if self.is_proof else "abbrev mutual") + text
+
+
+class Replaced(Law):
+    prefix, path, is_proof = "replaced", "specs/Replaced.antt", False
+    title = "-- What a run replaces, in order: its derivation says it.\npub use Rattle.run_laws.specs.Rising.{RisesBy}\n"
+    uses = """use Rattle.std.specs.Prelude.{List, [], ◌++◌}
+use Rattle.journal_entries.specs.Replaced.{Replacement}
+use Rattle.run_laws.specs.Changes.{replaced_made, replaced_turn, replaced_edits, replaced_assigns, replaced_declares_all, replaced_sets, replaced_adds}"""
+    says = "{binders} → {derivation} → List Replacement"
+    nothing = "[]"
+
+    def joined(self, part, rest):
+        return "%s ++ %s" % (part, "(%s)" % rest if "++" in rest else rest)
+
+
+class Bases(Law):
+    prefix, path = "base", "proofs/Bases.antt"
+    title = "-- The history round the open batch is kept.\n"
+    uses = """use Rattle.std.proofs.Common.{◌≡◌, refl, ◌∙◌}
+use Rattle.containers.specs.Base.{base}
+use Rattle.containers.proofs.Bases.{made_keeps as base_made, took_keeps as base_turn}
+use Rattle.run_laws.specs.Laws.{HasMemory}
+use Rattle.run_laws.proofs.Ends.{given, stopped, faulted, exited}
+use Rattle.run_laws.proofs.Kept.{base_edits, base_assigns, base_declares_all, base_sets, base_adds}"""
+    says = "{binders} → {derivation} → HasMemory {end} → base w2 ≡ base w"
+    nothing, join = "refl", "{rest} ∙ {part}"
+
+
+class Rises(Law):
+    prefix, path = "rises", "proofs/Rises.antt"
+    title = "-- What is open rises by what is replaced.\n"
+    uses = """use Rattle.std.proofs.Common.{refl}
+use Rattle.run_laws.specs.Laws.{HasMemory}
+use Rattle.run_laws.specs.Rising.{RisesBy}
+use Rattle.run_laws.specs.Replaced.{%s}
+use Rattle.run_laws.proofs.Ends.{given, stopped, faulted, exited}
+use Rattle.run_laws.proofs.Risen.{rises_nothing, rises_trans, rises_made, rises_turn, rises_edits, rises_assigns, rises_declares_all, rises_sets, rises_adds}""" % ", ".join("replaced_" + snake(name) for name in FAMILIES)
+    says = "{binders} (v : {derivation}) → HasMemory {end} → RisesBy (replaced_{name} v) w.start w2.start"
+    nothing, join = "rises_nothing", "rises_trans ({part}) ({rest})"
+
+
+class Runs(Law):
+    prefix, path = "goes", "proofs/Runs.antt"
+    title = "-- A run goes on: no step comes back, and what is shown and sent only grows.\n"
+    uses = """use Rattle.std.proofs.Common.{refl}
+use Rattle.run_laws.specs.Laws.{HasMemory, GoesOn}
+use Rattle.run_laws.proofs.Ends.{given, stopped, faulted, exited}
+use Rattle.run_laws.proofs.Going.{goes_nowhere, goes_trans, goes_by_step, goes_by_shows, goes_by_noted, goes_by_property, goes_by_ends, goes_by_returned}"""
+    says = "{binders} → {derivation} → HasMemory {end} → GoesOn r r2"
+    nothing, join = "goes_nowhere", "goes_trans ({part}) ({rest})"
+    # What makes another run of one, beside derivations, and what it is made by.
+    LEAVES = {
+        "goes_by_step": r"Step ",
+        "goes_by_shows": r"r\d* ≡ shows r\d* (\w+)$",
+        "goes_by_noted": r"r\d* ≡ noted r\d* (\w+) (\w+)$",
+        "goes_by_property": r"run_property_set r\d* (\w+) (\w+) ≡ Ok r\d*$",
+        "goes_by_ends": r"ends (\w+) (\w+) r\d* ≡ Some ",
+        "goes_by_returned": r"returned (\w+) ([\w.]+) r\d* ≡ ",
+    }
+
+    def leaf(self, premise):
+        """The lemma on a premise and what it is made by, where it makes another run."""
+        found = ((lemma, re.match(form, premise)) for lemma, form in self.LEAVES.items())
+        return next(((lemma, match.groups()) for lemma, match in found if match), None)
+
+    def call(self, premise, place, whole):
+        if words(premise)[0] in FAMILIES:
+            return super().call(premise, place, whole)
+        leaf = self.leaf(premise)
+        return leaf and " ".join([leaf[0], *leaf[1], place])
+
+    def named(self, premises):
+        return [each.split(".")[0] for leaf in map(self.leaf, premises) if leaf for each in leaf[1]]
+
+
+def main():
+    laws = [Replaced(), Bases(), Rises(), Runs()]
+    write("run_laws", {law.path: law.file() for law in laws}, "laws.py")
+    print("%d laws over %d families" % (len(laws), len(TABLE)))
+
+
+main()

@@ -1,0 +1,97 @@
+"""Reads the table of the rules of the language, meaning.rules.
+
+In the table a line `= TITLE` begins a section, `# Family indices | words` a family, and `name: premise ; .. => conclusion`
+is a rule. The letters of a variable tell its type (TYPES); digits may follow.
+"""
+
+import os
+import re
+import sys
+
+HERE = os.path.dirname(os.path.abspath(__file__))
+CRATES = os.path.join(HERE, "..", "..", "crates")
+
+TYPES = {
+    "w": "History", "r": "RunState", "f": "Frame",
+    "d": "ℕ", "i": "ℕ", "k": "ℕ", "is": "List ℕ",
+    "e": "tree.Expr", "x": "tree.Expr", "y": "tree.Expr", "es": "tree.Exprs", "hd": "tree.Chunk", "ct": "tree.Container",
+    "wh": "tree.Which", "sl": "tree.Selector", "ow": "tree.Owner", "pa": "tree.Part", "rf": "tree.Ref",
+    "s": "stm.Stmt", "ss": "stm.Stmts", "de": "stm.Destination",
+    "n": "List ℕ", "v": "List ℕ", "p": "List ℕ", "q": "List ℕ", "t": "List ℕ", "vs": "List (List ℕ)",
+    "o": "Result (List ℕ) Stop", "os": "Result (List (List ℕ)) Stop", "ob": "Result Bool Stop", "ou": "Result ℤ Stop",
+    "oc": "Result Chunk Stop", "opl": "Result PlaceView Stop", "opi": "Result Pick Stop", "osk": "Result Sought Stop",
+    "osc": "Result PartScope Stop", "om": "Result Referent Stop", "oi": "Result ℕ Stop", "oh": "Result How Stop",
+    "oco": "Result CounterState Stop", "odn": "Result Conversed Stop", "oin": "Result Input Stop",
+    "ot": "Result (Unit {0}) Stop", "oe": "Result Ended Stop",
+    "z": "Stop", "fa": "Fault", "b": "Bool", "u": "ℤ", "op": "Op", "un": "UnOp", "cn": "Constant", "fw": "FunctionWord",
+    "fu": "Func", "pr": "Prop", "rp": "RunProp", "od": "Ordinal", "kd": "ChunkKind", "wr": "Where", "pk": "PartKind",
+    "ly": "Layer", "oly": "Option Layer", "c": "Chunk", "pl": "PlaceView", "pi": "Pick", "sk": "Sought", "sc": "PartScope",
+    "m": "Referent", "h": "How", "co": "CounterState", "on": "Option (List ℕ)", "cl": "HandlerKind", "fd": "Found",
+    "it": "Item", "la": "LayerId", "dn": "Conversed", "inp": "Input", "ask": "Ask", "mg": "SystemMessage", "ms": "List SystemMessage",
+}
+VARIABLE = re.compile(r"(?<![.\w])([a-z]+)(\d*)(?![\w(])")
+
+
+def read(name):
+    with open(os.path.join(HERE, name), encoding="utf-8") as file:
+        return file.read()
+
+
+def letters(variable):
+    return re.match(r"[a-z]+", variable).group(0)
+
+
+def variables(text):
+    """The variables of a premise or a conclusion; the fields of a record are none."""
+    found = VARIABLE.finditer(text)
+    return [m.group(0) for m in found if m.group(1) in TYPES and not text[m.end():].startswith(" = ")]
+
+
+def families():
+    """The families of the table, each with its rules."""
+    table, section = [], None
+    for line in read("meaning.rules").splitlines():
+        if line.startswith("= "):
+            section = line[2:]
+        elif line.startswith("# "):
+            head, words = line[2:].split(" | ")
+            name, *indices = head.split()
+            table.append({"name": name, "indices": indices, "words": words, "section": section, "rules": []})
+            section = None
+        elif line.strip():
+            name, rule = line.split(": ", 1)
+            premises, conclusion = rule.split("=> ")
+            premises = [premise.strip() for premise in premises.split(" ; ") if premise.strip()]
+            if conclusion.split()[0] != table[-1]["name"]:
+                sys.exit("another family: " + line)
+            table[-1]["rules"].append((name, premises, conclusion))
+    names = [rule[0] for family in table for rule in family["rules"]]
+    if len(set(names)) < len(names):
+        sys.exit("two rules of one name: " + ", ".join(sorted(n for n in set(names) if names.count(n) > 1)))
+    return table
+
+
+def binders(parts):
+    """The variables of a rule with their types, those of one type together."""
+    groups = {}
+    for part in parts:
+        for variable in variables(part):
+            group = groups.setdefault(TYPES[letters(variable)], [])
+            if variable not in group:
+                group.append(variable)
+    return " ".join("{%s : %s}" % (" ".join(names), of_type) for of_type, names in groups.items())
+
+
+def write(crate, texts, writer):
+    """Writes the files of a crate, or with --check sees that they are so, and ends with 1 where one isn't."""
+    is_check, is_stale = "--check" in sys.argv[1:], False
+    for path, text in texts.items():
+        path = os.path.join(CRATES, crate, path)
+        if is_check:
+            with open(path, encoding="utf-8") as file:
+                is_stale |= file.read() != text
+        else:
+            with open(path, "w", encoding="utf-8") as file:
+                file.write(text)
+    if is_stale:
+        sys.exit("%s isn't what tools/meaning/%s writes" % (crate, writer))
