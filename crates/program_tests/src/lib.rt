@@ -1,9 +1,11 @@
-//! Examples of the session and of the program's library, with ample memory. A crate that has tests is proved a second time for
-//! them, so they stand here, above the crates that they try, where nothing else is to be proved.
+//! Examples of the message path, of the session and of the program's library, with ample memory. A crate that has tests is proved
+//! a second time for them, so they stand here, above the crates that they try, where nothing else is to be proved.
 #![tactic(auto)]
 
 #[cfg(test)]
 mod drip;
+#[cfg(test)]
+mod message_path;
 #[cfg(test)]
 mod quiet;
 #[cfg(test)]

@@ -1,13 +1,11 @@
-//! Examples of the crates of the world and of the message path, with ample memory. A crate that has tests is proved a second
-//! time for them, so they stand here, above the crates that they try, where nothing else is to be proved.
+//! Examples of the crates of the world, with ample memory. A crate that has tests is proved a second time for them, so they stand
+//! here, above the crates that they try, where nothing else is to be proved.
 #![tactic(auto)]
 
 #[cfg(test)]
 mod changes;
 #[cfg(test)]
 mod entries;
-#[cfg(test)]
-mod message_path;
 #[cfg(test)]
 mod places;
 #[cfg(test)]

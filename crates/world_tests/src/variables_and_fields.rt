@@ -5,6 +5,7 @@ ghost use Rattle.containers.specs.Base.{base};
 
 use crate::stacks::two_cards;
 use crate::turner::Turner;
+use crate::worlds::open_world;
 use change_journal::{Change, World};
 use chunks::{Chunk, Index};
 use containers::{
@@ -72,13 +73,9 @@ fn name(alloc: Global, bytes: &[u8]) -> Result<Name, Failure> {
 fn begun(alloc: Global) -> Result<Box<World<Turner>>, Fail>
     ensures { IfOk result (λ w. IsSome (base w.value.history).start) }
 {
-    match World::open(alloc, two_cards(alloc)?, Vec::new(alloc), 9) {
-        Ok(mut world) => {
-            world.begin(1)?;
-            Ok(Box::new(alloc, world)?)
-        }
-        Err(_) => Err("names".into()),
-    }
+    let mut world = open_world(alloc, two_cards(alloc)?, Vec::new(alloc), 9)?;
+    world.begin(1)?;
+    Ok(world)
 }
 
 /// The place of a container, or of a chunk of it.
@@ -399,23 +396,36 @@ fn containers_are_edited(rt: HostRuntime) -> Result<(), Fail> {
     Ok(())
 }
 
-/// Whether `Sum` reads so as an expression, where `SUM` was given a value or declared.
-fn sum_reads(alloc: Global, value: Option<&[u8]>, wanted: &[u8]) -> Result<bool, Fail> {
-    let mut variables = Variables::of_handler(alloc);
+/// Variables of a handler, of which `SUM` was given a value or declared.
+fn with_sum(alloc: Global, value: Option<&[u8]>) -> Result<Variables, Failure> {
     let value = match value {
         Some(value) => Some(text(alloc, value)?),
         None => None,
     };
-    variables.set(alloc, &text(alloc, b"SUM")?, value)?;
+    let sum = text(alloc, b"SUM")?;
+    let mut variables = Variables::of_handler(alloc);
+    variables.set(alloc, &sum, value)?;
+    Ok(variables)
+}
+
+/// Whether `Sum` reads so as an expression.
+fn sum_reads(
+    alloc: Global,
+    world: &World<Turner>,
+    variables: &Variables,
+    wanted: &[u8],
+) -> Result<bool, Failure> {
     let sum = name(alloc, b"Sum")?;
-    let world = begun(alloc)?;
-    Ok(read_name(&*world, &variables, &sum).as_slice() == wanted)
+    Ok(read_name(world, variables, &sum).as_slice() == wanted)
 }
 
 #[test]
 fn names_read_as_values_or_spellings(rt: HostRuntime) -> Result<(), Fail> {
-    assert!(rt; sum_reads(rt.alloc(), Some(b"7"), b"7")?);
-    assert!(rt; sum_reads(rt.alloc(), None, b"Sum")?);
+    let world = begun(rt.alloc())?;
+    let seven = with_sum(rt.alloc(), Some(b"7"))?;
+    assert!(rt; sum_reads(rt.alloc(), &world, &seven, b"7")?);
+    let declared = with_sum(rt.alloc(), None)?;
+    assert!(rt; sum_reads(rt.alloc(), &world, &declared, b"Sum")?);
     Ok(())
 }
 

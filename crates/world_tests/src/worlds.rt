@@ -18,7 +18,6 @@ pub(crate) enum Deed {
     FieldText(Id, Id, &'static [u8]),
     Hilite(Id, Id, bool),
     Name(Id, &'static [u8]),
-    Script(Id, &'static [u8]),
     CantDelete(Id, bool),
     LockText(Id, bool),
     Current(Id),
@@ -52,9 +51,6 @@ pub(crate) fn change(alloc: Global, deed: Deed) -> Result<Change, Fail> {
         }
         Deed::Hilite(button, card, lit) => Change::Hilite(button, card, lit),
         Deed::Name(id, name) => Change::Prop(id, PropValue::NameIs(Text::from_slice(alloc, name)?)),
-        Deed::Script(id, script) => {
-            Change::Prop(id, PropValue::ScriptIs(Text::from_slice(alloc, script)?))
-        }
         Deed::CantDelete(id, on) => Change::Prop(id, PropValue::CantDeleteIs(on)),
         Deed::LockText(id, on) => Change::Prop(id, PropValue::LockTextIs(on)),
         Deed::Current(card) => Change::Current(card),
@@ -89,7 +85,7 @@ fn begin<E: External>(world: &mut World<E>, number: u32) -> Result<(), Fail>
     Ok(world.begin(number)?)
 }
 
-pub(crate) fn make<E: External>(world: &mut World<E>, change: Change) -> Result<(), Fail>
+fn make<E: External>(world: &mut World<E>, change: Change) -> Result<(), Fail>
     requires { IsSome world.old.history.start }
     ensures { OnOk result (IsSome world.new.history.start) }
 {
@@ -147,7 +143,7 @@ fn flip_forth<E: External>(world: &mut World<E>) -> Result<(), Fail>
 }
 
 /// Opens a batch, and does this in it.
-pub(crate) fn do_all<E: External>(
+fn do_all<E: External>(
     alloc: Global,
     world: &mut World<E>,
     number: u32,

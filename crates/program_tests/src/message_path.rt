@@ -1,18 +1,17 @@
 //! Paths of messages, and what is found on them, on the stack of two cards: the stack is 0, its background 1 with field 3, and
 //! its cards are 2 and 4.
 
-ghost use Rattle.std.specs.Prelude.{◌≡◌, IfOk, IsSome, None};
+ghost use Rattle.std.specs.Prelude.{◌≡◌, IfOk, IsSome, None, OnOk};
 
-use crate::stacks::two_cards;
-use crate::turner::{Turner, all_turners};
-use crate::worlds::{Deed, change, do_all, make, open_world};
-use change_journal::World;
+use crate::quiet::{Quiet, make_quiet};
+use crate::sessions::two_cards;
+use change_journal::{Change, World};
 use ht_grammar::HandlerKind;
 use ht_values::{Failure, Fault, Func, Text};
 use msg_path::{
     BuiltIn, Found, Scripts, first_is_one, is_system_message, next_handler, path, path_after,
 };
-use object_table::Id;
+use object_table::{Id, PropValue};
 use std::alloc::Global;
 use std::test::Fail;
 
@@ -21,11 +20,38 @@ fn text(alloc: Global, bytes: &[u8]) -> Result<Text, Fail> {
 }
 
 /// A world of the two cards and the command `quiet`.
-fn opened(alloc: Global) -> Result<Box<World<Turner>>, Fail>
+fn opened(alloc: Global) -> Result<Box<World<Quiet>>, Fail>
     ensures { IfOk result (λ w. w.value.history.start ≡ None) }
 {
-    let externals = all_turners(alloc, &[b"quiet".as_slice()])?;
-    open_world(alloc, two_cards(alloc)?, externals, 9)
+    let externals = vec![in alloc; make_quiet(alloc, b"quiet")?]?;
+    match World::open(alloc, two_cards(alloc)?, externals, 9) {
+        Ok(world) => Ok(Box::new(alloc, world)?),
+        Err(_) => Err("names".into()),
+    }
+}
+
+/// Gives an object a script.
+fn set_script(alloc: Global, world: &mut World<Quiet>, id: Id, script: &[u8]) -> Result<(), Fail>
+    requires { IsSome world.old.history.start }
+    ensures { OnOk result (IsSome world.new.history.start) }
+{
+    let change = Change::Prop(id, PropValue::ScriptIs(text(alloc, script)?));
+    if world.fits(&change) {
+        world.make(change)?;
+    }
+    Ok(())
+}
+
+/// Begins a batch, and gives objects their scripts.
+fn set_scripts(alloc: Global, world: &mut World<Quiet>, scripts: &[(Id, &[u8])]) -> Result<(), Fail>
+    requires { world.old.history.start ≡ None }
+    ensures { OnOk result (IsSome world.new.history.start) }
+{
+    world.begin(1)?;
+    for (id, script) in scripts {
+        set_script(alloc, world, *id, script)?;
+    }
+    Ok(())
 }
 
 /// An object, its path, and the path after it, with card 2 current.
@@ -100,7 +126,7 @@ fn outcome(found: Result<Found, Failure>) -> Met {
 
 /// Scripts of objects, and what a message to field 3 meets.
 struct Row {
-    scripts: &'static [Deed],
+    scripts: &'static [(Id, &'static [u8])],
     kind: HandlerKind,
     name: &'static [u8],
     met: Met,
@@ -116,47 +142,37 @@ const MESSAGES: &[Row] = &[
         met: Met::Nobody,
     },
     Row {
-        scripts: &[Deed::Script(2, FOO)],
+        scripts: &[(2, FOO)],
         kind: HandlerKind::Command,
         name: b"foo",
         met: Met::Handler(2, 1),
     },
     Row {
-        scripts: &[
-            Deed::Script(1, FOO),
-            Deed::Script(0, FOO),
-            Deed::Script(4, FOO),
-        ],
+        scripts: &[(1, FOO), (0, FOO), (4, FOO)],
         kind: HandlerKind::Command,
         name: b"FOO",
         met: Met::Handler(1, 1),
     },
     Row {
-        scripts: &[Deed::Script(0, FOO)],
+        scripts: &[(0, FOO)],
         kind: HandlerKind::Command,
         name: b"foo",
         met: Met::Handler(0, 1),
     },
     Row {
-        scripts: &[
-            Deed::Script(2, b"function foo\rend foo\r"),
-            Deed::Script(0, FOO),
-        ],
+        scripts: &[(2, b"function foo\rend foo\r"), (0, FOO)],
         kind: HandlerKind::Command,
         name: b"foo",
         met: Met::Handler(0, 1),
     },
     Row {
-        scripts: &[
-            Deed::Script(2, FOO),
-            Deed::Script(1, b"function foo\rend foo\r"),
-        ],
+        scripts: &[(2, FOO), (1, b"function foo\rend foo\r")],
         kind: HandlerKind::Function,
         name: b"foo",
         met: Met::Handler(1, 0),
     },
     Row {
-        scripts: &[Deed::Script(
+        scripts: &[(
             2,
             b"on bar\rend bar\ron Foo\rend foo\ron foo\rput 1\rend foo",
         )],
@@ -165,13 +181,13 @@ const MESSAGES: &[Row] = &[
         met: Met::Handler(2, 0),
     },
     Row {
-        scripts: &[Deed::Script(2, b"on bar"), Deed::Script(1, FOO)],
+        scripts: &[(2, b"on bar"), (1, FOO)],
         kind: HandlerKind::Command,
         name: b"foo",
         met: Met::Fault(Fault::Syntax),
     },
     Row {
-        scripts: &[Deed::Script(2, FOO), Deed::Script(1, b"on bar")],
+        scripts: &[(2, FOO), (1, b"on bar")],
         kind: HandlerKind::Command,
         name: b"foo",
         met: Met::Handler(2, 1),
@@ -189,7 +205,7 @@ const MESSAGES: &[Row] = &[
         met: Met::Nobody,
     },
     Row {
-        scripts: &[Deed::Script(2, b"on quiet\rend quiet\r")],
+        scripts: &[(2, b"on quiet\rend quiet\r")],
         kind: HandlerKind::Command,
         name: b"quiet",
         met: Met::Handler(2, 0),
@@ -217,7 +233,7 @@ const MESSAGES: &[Row] = &[
 /// What a message to field 3 meets.
 fn met_by(
     alloc: Global,
-    world: &World<Turner>,
+    world: &World<Quiet>,
     scripts: &mut Scripts,
     kind: HandlerKind,
     name: &[u8],
@@ -227,62 +243,47 @@ fn met_by(
     Ok(outcome(next_handler(world, scripts, path.as_slice(), kind, &name)))
 }
 
-/// What the message of a row meets.
-fn met_in(alloc: Global, row: &Row) -> Result<Met, Fail> {
-    let mut world = opened(alloc)?;
-    do_all(alloc, &mut world, 1, row.scripts)?;
-    met_by(alloc, &world, &mut Scripts::new(alloc), row.kind, row.name)
-}
-
 #[test]
 fn messages_meet_the_first_handler(rt: HostRuntime) -> Result<(), Fail> {
+    let alloc = rt.alloc();
     for row in MESSAGES {
-        assert!(rt; met_in(rt.alloc(), row)? == row.met);
+        let mut world = opened(alloc)?;
+        set_scripts(alloc, &mut world, row.scripts)?;
+        let met = met_by(alloc, &world, &mut Scripts::new(alloc), row.kind, row.name)?;
+        assert!(rt; met == row.met);
     }
     first_is_one();
     Ok(())
 }
 
-/// What `foo` meets after card 2 gets another script.
-fn met_after(
-    alloc: Global,
-    world: &mut World<Turner>,
-    scripts: &mut Scripts,
-    script: &'static [u8],
-) -> Result<Met, Fail>
-    requires { IsSome world.old.history.start }
-{
-    make(world, change(alloc, Deed::Script(2, script))?)?;
-    met_by(alloc, world, scripts, HandlerKind::Command, b"foo")
-}
-
-/// What `foo` meets, and then again after card 2 gets another script.
-fn met_twice(alloc: Global, first: &'static [u8], second: &'static [u8]) -> Result<[Met; 2], Fail> {
-    let mut world = opened(alloc)?;
-    let mut scripts = Scripts::new(alloc);
-    do_all(alloc, &mut world, 1, &[Deed::Script(2, first)])?;
-    let one = met_by(alloc, &world, &mut scripts, HandlerKind::Command, b"foo")?;
-    let other = met_after(alloc, &mut world, &mut scripts, second)?;
-    Ok([one, other])
-}
+/// Another script of card 2, and what `foo` then meets.
+const REPLACED: &[(&[u8], Met)] = &[
+    (b"on foo\rend foo\r", Met::Handler(2, 0)),
+    (b"on foo", Met::Fault(Fault::Syntax)),
+];
 
 #[test]
 fn a_script_that_was_replaced_is_parsed_anew(rt: HostRuntime) -> Result<(), Fail> {
     let alloc = rt.alloc();
-    let met = met_twice(alloc, FOO, b"on foo\rend foo\r")?;
-    assert!(rt; met == [Met::Handler(2, 1), Met::Handler(2, 0)]);
-    let met = met_twice(alloc, FOO, b"on foo")?;
-    assert!(rt; met == [Met::Handler(2, 1), Met::Fault(Fault::Syntax)]);
+    for (script, met) in REPLACED {
+        let mut world = opened(alloc)?;
+        let mut scripts = Scripts::new(alloc);
+        set_scripts(alloc, &mut world, &[(2, FOO)])?;
+        let first = met_by(alloc, &world, &mut scripts, HandlerKind::Command, b"foo")?;
+        set_script(alloc, &mut world, 2, script)?;
+        let last = met_by(alloc, &world, &mut scripts, HandlerKind::Command, b"foo")?;
+        assert!(rt; first == Met::Handler(2, 1) && last == *met);
+    }
     Ok(())
 }
 
 /// What `foo` met, as it stands after card 2 lost its script.
-fn kept(alloc: Global, world: &mut World<Turner>, scripts: &mut Scripts) -> Result<Met, Fail>
+fn kept(alloc: Global, world: &mut World<Quiet>, scripts: &mut Scripts) -> Result<Met, Fail>
     requires { IsSome world.old.history.start }
 {
     let name = text(alloc, b"foo")?;
     let found = next_handler(world, scripts, &[2], HandlerKind::Command, &name);
-    met_after(alloc, world, scripts, b"")?;
+    set_script(alloc, world, 2, b"")?;
     Ok(outcome(found))
 }
 
@@ -290,7 +291,7 @@ fn kept(alloc: Global, world: &mut World<Turner>, scripts: &mut Scripts) -> Resu
 fn a_found_handler_keeps_its_script(rt: HostRuntime) -> Result<(), Fail> {
     let alloc = rt.alloc();
     let mut world = opened(alloc)?;
-    do_all(alloc, &mut world, 1, &[Deed::Script(2, FOO)])?;
+    set_scripts(alloc, &mut world, &[(2, FOO)])?;
     let met = kept(alloc, &mut world, &mut Scripts::new(alloc))?;
     assert!(rt; met == Met::Handler(2, 1));
     Ok(())
