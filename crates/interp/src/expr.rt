@@ -76,6 +76,7 @@ pub(crate) fn eval<E: External>(
 /// Two operands from left to right, and what the operator gives.
 #[cycle(run)]
 #[tactic(auto, using(meaning::proofs::Rules::val_binary_rules))]
+#[inline(never)]
 pub(crate) fn binary<E: External>(
     world: &mut World<E>,
     scripts: &mut Scripts,
@@ -102,6 +103,7 @@ pub(crate) fn binary<E: External>(
 /// An operand, and what the operator gives.
 #[cycle(run)]
 #[tactic(auto, using(meaning::proofs::Rules::val_unary_rules))]
+#[inline(never)]
 pub(crate) fn unary<E: External>(
     world: &mut World<E>,
     scripts: &mut Scripts,
@@ -125,6 +127,7 @@ pub(crate) fn unary<E: External>(
 /// Whether an object is found: whatever the reason is that it isn't, the answer is `false`.
 #[cycle(run)]
 #[tactic(auto, using(meaning::proofs::Rules::val_there_is_rules))]
+#[inline(never)]
 pub(crate) fn there_is<E: External>(
     world: &mut World<E>,
     scripts: &mut Scripts,
@@ -151,6 +154,7 @@ pub(crate) fn there_is<E: External>(
 /// Pieces of a text: the pieces are computed before the text.
 #[cycle(run)]
 #[tactic(auto, using(meaning::proofs::Rules::val_chunk_rules))]
+#[inline(never)]
 pub(crate) fn chunk_of<E: External>(
     world: &mut World<E>,
     scripts: &mut Scripts,
@@ -176,6 +180,7 @@ pub(crate) fn chunk_of<E: External>(
 /// The text of a field.
 #[cycle(run)]
 #[tactic(auto, using(meaning::proofs::Rules::val_field_rules))]
+#[inline(never)]
 pub(crate) fn field<E: External>(
     world: &mut World<E>,
     scripts: &mut Scripts,
@@ -198,6 +203,7 @@ pub(crate) fn field<E: External>(
 /// `the number of` pieces, of cards, backgrounds or parts, or of an object.
 #[cycle(run)]
 #[tactic(auto, using(meaning::proofs::Rules::val_number_of_pieces_of_rules, meaning::proofs::Rules::val_number_of_cards_rules, meaning::proofs::Rules::val_number_of_backgrounds_rules, meaning::proofs::Rules::val_number_of_parts_rules, meaning::proofs::Rules::val_number_of_of_object_rules))]
+#[inline(never)]
 pub(crate) fn number_of<E: External>(
     world: &mut World<E>,
     scripts: &mut Scripts,
@@ -234,6 +240,7 @@ pub(crate) fn number_of<E: External>(
 /// A property of an object.
 #[cycle(run)]
 #[tactic(auto, using(meaning::proofs::Rules::val_property_rules))]
+#[inline(never)]
 pub(crate) fn property_of<E: External>(
     world: &mut World<E>,
     scripts: &mut Scripts,
@@ -257,6 +264,7 @@ pub(crate) fn property_of<E: External>(
 /// `the length of` and the like, and `the value of`.
 #[cycle(run)]
 #[tactic(auto, using(meaning::proofs::Rules::val_function_rules))]
+#[inline(never)]
 pub(crate) fn function_of<E: External>(
     world: &mut World<E>,
     scripts: &mut Scripts,
@@ -283,6 +291,7 @@ pub(crate) fn function_of<E: External>(
 /// A call of a function.
 #[cycle(run)]
 #[tactic(auto, using(meaning::proofs::Rules::val_call_rules))]
+#[inline(never)]
 pub(crate) fn call<E: External>(
     world: &mut World<E>,
     scripts: &mut Scripts,
@@ -315,6 +324,7 @@ pub(crate) fn call<E: External>(
 /// The values of expressions from left to right.
 #[cycle(run)]
 #[tactic(auto, using(meaning::proofs::Rules::vals_rules))]
+#[inline(never)]
 pub(crate) fn arguments<E: External>(
     world: &mut World<E>,
     scripts: &mut Scripts,

@@ -21,6 +21,7 @@ use msg_path::Scripts;
 /// `repeat`, by its head.
 #[cycle(run)]
 #[tactic(auto, using(meaning::proofs::Rules::form_repeat_forever_rules, meaning::proofs::Rules::form_repeat_times_rules, meaning::proofs::Rules::form_repeat_while_rules, meaning::proofs::Rules::form_repeat_until_rules, meaning::proofs::Rules::form_repeat_counted_up_rules, meaning::proofs::Rules::form_repeat_counted_down_rules))]
+#[inline(never)]
 pub(crate) fn repeat<E: External>(
     world: &mut World<E>,
     scripts: &mut Scripts,
@@ -117,6 +118,7 @@ pub(crate) fn bounds<E: External>(
 /// A repeat without a condition.
 #[cycle(run)]
 #[tactic(auto, using(meaning::proofs::Rules::endless_rules))]
+#[inline(never)]
 pub(crate) fn repeat_forever<E: External>(
     world: &mut World<E>,
     scripts: &mut Scripts,
@@ -147,6 +149,7 @@ pub(crate) fn repeat_forever<E: External>(
 /// A repeat as long as a condition is so.
 #[cycle(run)]
 #[tactic(auto, using(meaning::proofs::Rules::while_rules))]
+#[inline(never)]
 pub(crate) fn repeat_while<E: External>(
     world: &mut World<E>,
     scripts: &mut Scripts,
@@ -184,6 +187,7 @@ pub(crate) fn repeat_while<E: External>(
 /// A repeat over numbers, with a variable or without one.
 #[cycle(run)]
 #[tactic(auto, using(meaning::proofs::Rules::counts_rules))]
+#[inline(never)]
 pub(crate) fn turns<E: External>(
     world: &mut World<E>,
     scripts: &mut Scripts,

@@ -57,6 +57,7 @@ pub(crate) fn run_block<E: External>(
 /// How a statement ends, whose step was taken.
 #[cycle(run)]
 #[tactic(auto, using(meaning::proofs::Rules::form_rules))]
+#[inline(never)]
 pub(crate) fn run_stmt<E: External>(
     world: &mut World<E>,
     scripts: &mut Scripts,
@@ -168,6 +169,7 @@ pub(crate) fn run_stmt<E: External>(
 /// `put` alone: a line is shown.
 #[cycle(run)]
 #[tactic(auto, using(meaning::proofs::Rules::form_put_rules))]
+#[inline(never)]
 pub(crate) fn show<E: External>(
     world: &mut World<E>,
     scripts: &mut Scripts,
@@ -191,6 +193,7 @@ pub(crate) fn show<E: External>(
 /// `put` into a container, before it or after it.
 #[cycle(run)]
 #[tactic(auto, using(meaning::proofs::Rules::form_put_in_rules))]
+#[inline(never)]
 pub(crate) fn put<E: External>(
     world: &mut World<E>,
     scripts: &mut Scripts,
@@ -225,6 +228,7 @@ pub(crate) fn put<E: External>(
 /// `get`: the value becomes that of `it`.
 #[cycle(run)]
 #[tactic(auto, using(meaning::proofs::Rules::form_get_rules))]
+#[inline(never)]
 pub(crate) fn get<E: External>(
     world: &mut World<E>,
     scripts: &mut Scripts,
@@ -248,6 +252,7 @@ pub(crate) fn get<E: External>(
 /// `set` of a property of an object.
 #[cycle(run)]
 #[tactic(auto, using(meaning::proofs::Rules::form_set_rules))]
+#[inline(never)]
 pub(crate) fn set<E: External>(
     world: &mut World<E>,
     scripts: &mut Scripts,
@@ -275,6 +280,7 @@ pub(crate) fn set<E: External>(
 /// `set` of a property of the run.
 #[cycle(run)]
 #[tactic(auto, using(meaning::proofs::Rules::form_set_run_rules))]
+#[inline(never)]
 pub(crate) fn set_run<E: External>(
     world: &mut World<E>,
     scripts: &mut Scripts,
@@ -301,6 +307,7 @@ pub(crate) fn set_run<E: External>(
 /// Arithmetic on a container.
 #[cycle(run)]
 #[tactic(auto, using(meaning::proofs::Rules::alters_rules))]
+#[inline(never)]
 pub(crate) fn alter<E: External>(
     world: &mut World<E>,
     scripts: &mut Scripts,
@@ -335,6 +342,7 @@ pub(crate) fn alter<E: External>(
 /// `delete` of pieces of a container.
 #[cycle(run)]
 #[tactic(auto, using(meaning::proofs::Rules::form_delete_rules))]
+#[inline(never)]
 pub(crate) fn delete<E: External>(
     world: &mut World<E>,
     scripts: &mut Scripts,
@@ -361,6 +369,7 @@ pub(crate) fn delete<E: External>(
 /// `do`: a text is run as lines, one level deeper.
 #[cycle(run)]
 #[tactic(auto, using(meaning::proofs::Rules::form_do_rules))]
+#[inline(never)]
 pub(crate) fn run_do<E: External>(
     world: &mut World<E>,
     scripts: &mut Scripts,
@@ -383,6 +392,7 @@ pub(crate) fn run_do<E: External>(
 /// A text that is run as lines.
 #[cycle(run)]
 #[tactic(auto, using(meaning::proofs::Rules::dotext_rules))]
+#[inline(never)]
 pub(crate) fn do_text<E: External>(
     world: &mut World<E>,
     scripts: &mut Scripts,
@@ -408,6 +418,7 @@ pub(crate) fn do_text<E: External>(
 /// `send`: the text, then the object, then the message.
 #[cycle(run)]
 #[tactic(auto, using(meaning::proofs::Rules::form_send_rules))]
+#[inline(never)]
 pub(crate) fn run_send<E: External>(
     world: &mut World<E>,
     scripts: &mut Scripts,
@@ -434,6 +445,7 @@ pub(crate) fn run_send<E: External>(
 /// `go` to a card or a background.
 #[cycle(run)]
 #[tactic(auto, using(meaning::proofs::Rules::form_go_rules))]
+#[inline(never)]
 pub(crate) fn run_go<E: External>(
     world: &mut World<E>,
     scripts: &mut Scripts,
@@ -456,6 +468,7 @@ pub(crate) fn run_go<E: External>(
 
 /// `global`: names mean globals from here on.
 #[tactic(auto, using(meaning::proofs::Rules::form_global_rules))]
+#[inline(never)]
 pub(crate) fn globals<E: External>(
     world: &mut World<E>,
     run: &mut Budget,
@@ -475,6 +488,7 @@ pub(crate) fn globals<E: External>(
 /// `return` with a value.
 #[cycle(run)]
 #[tactic(auto, using(meaning::proofs::Rules::form_return_value_rules))]
+#[inline(never)]
 pub(crate) fn returns<E: External>(
     world: &mut World<E>,
     scripts: &mut Scripts,
@@ -497,6 +511,7 @@ pub(crate) fn returns<E: External>(
 /// A message as a statement.
 #[cycle(run)]
 #[tactic(auto, using(meaning::proofs::Rules::form_command_rules))]
+#[inline(never)]
 pub(crate) fn command<E: External>(
     world: &mut World<E>,
     scripts: &mut Scripts,

@@ -31,12 +31,12 @@ enum End {
 /// A line, what it shows, and how it ends.
 type Row = (&'static [u8], &'static [&'static [u8]], End);
 
-/// The two cards, with no external.
-fn opened(alloc: Global) -> Result<Box<World<Box<dyn External>>>, Fail>
+/// The two cards, with these externals.
+fn opened<E: External>(alloc: Global, externals: Vec<E>) -> Result<Box<World<E>>, Fail>
     ensures { IfOk result (λ w. w.value.history.start ≡ None) }
 {
     let stack = read(alloc, TWO_CARDS).ok().ok_or("a stack")?;
-    match World::open(alloc, stack, Vec::new(alloc), 1000) {
+    match World::open(alloc, stack, externals, 1000) {
         Ok(world) => Ok(Box::new(alloc, world)?),
         Err(_) => Err("a name twice".into()),
     }
@@ -44,9 +44,9 @@ fn opened(alloc: Global) -> Result<Box<World<Box<dyn External>>>, Fail>
 
 /// Runs a line as a command of its own.
 #[tactic(auto, using(containers::proofs::Bases::is_open), unfolding(containers::specs::Base::base))]
-fn run(
+fn run<E: External>(
     alloc: Global,
-    world: &mut World<Box<dyn External>>,
+    world: &mut World<E>,
     scripts: &mut Scripts,
     budget: &mut Budget,
     line: &[u8],
@@ -84,8 +84,13 @@ fn shows(budget: &Budget, due: &[&[u8]]) -> bool {
 }
 
 /// The first line that isn't answered so, with its number, where lines are run one after the other.
-fn first_wrong(alloc: Global, steps: u32, rows: &[Row]) -> Result<Option<usize>, Fail> {
-    let mut world = opened(alloc)?;
+fn first_wrong<E: External>(
+    alloc: Global,
+    externals: Vec<E>,
+    steps: u32,
+    rows: &[Row],
+) -> Result<Option<usize>, Fail> {
+    let mut world = opened(alloc, externals)?;
     let mut scripts = Scripts::new(alloc);
     for i in 0..rows.len() {
         let (line, due, end) = rows[i];
@@ -214,7 +219,8 @@ fn lines_and_their_answers(rt: HostRuntime) -> Result<(), Fail> {
         ),
     ];
     for (steps, rows) in tables {
-        let wrong = first_wrong(rt.alloc(), *steps, rows)?;
+        let none: Vec<Box<dyn External>> = Vec::new(rt.alloc());
+        let wrong = first_wrong(rt.alloc(), none, *steps, rows)?;
         assert!(rt; wrong.is_none(), "{wrong:?} {rows:?}");
     }
     Ok(())
@@ -222,8 +228,13 @@ fn lines_and_their_answers(rt: HostRuntime) -> Result<(), Fail> {
 
 /// Sends a message to an object as a command of its own.
 #[tactic(auto, using(containers::proofs::Bases::is_open), unfolding(containers::specs::Base::base))]
-fn sends(alloc: Global, object: u32, name: &[u8]) -> Result<bool, Fail> {
-    let mut world = opened(alloc)?;
+fn sends<E: External>(
+    alloc: Global,
+    externals: Vec<E>,
+    object: u32,
+    name: &[u8],
+) -> Result<bool, Fail> {
+    let mut world = opened(alloc, externals)?;
     let mut scripts = Scripts::new(alloc);
     let mut budget = Budget::new(alloc, 10);
     world.begin(1)?;
@@ -234,7 +245,10 @@ fn sends(alloc: Global, object: u32, name: &[u8]) -> Result<bool, Fail> {
 
 #[test]
 fn a_message_is_sent_by_itself(rt: HostRuntime) -> Result<(), Fail> {
-    assert!(rt; sends(rt.alloc(), 2, b"mouseUp")?);
-    assert!(rt; !sends(rt.alloc(), 2, b"foo")?);
+    let names: &[(&[u8], bool)] = &[(b"mouseUp", true), (b"foo", false)];
+    for (name, is_ignored) in names {
+        let none: Vec<Box<dyn External>> = Vec::new(rt.alloc());
+        assert!(rt; sends(rt.alloc(), none, 2, name)? == *is_ignored);
+    }
     Ok(())
 }
