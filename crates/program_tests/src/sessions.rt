@@ -582,7 +582,7 @@ fn sends_for<E: External>(
     line: &[u8],
     due: &[(&[u8], u32)],
 ) -> Result<bool, Fail> {
-    let mut session = session_of(alloc, externals, 100)?;
+    let mut session = session_of(alloc, two_cards(alloc)?, externals, 100)?;
     let reply = reply_to(&mut session, line);
     Ok(sends(&reply, due))
 }

@@ -1,6 +1,7 @@
 //! Typed lines of HyperTalk, run on a stack of two cards as a session runs them: what they show, and how they end.
 
 ghost use Rattle.std.specs.Prelude.{◌≡◌, IfOk, None, OnOk};
+ghost use Rattle.object_table.specs.WellFormed.{IsWellFormed};
 
 use change_journal::World;
 use externals::External;
@@ -9,6 +10,7 @@ use ht_values::Text;
 use interp::{run_line, send_message};
 use meaning::{Budget, Stop};
 use msg_path::Scripts;
+use object_table::Stack;
 use stack_file::read;
 use std::alloc::Global;
 use std::test::*;
@@ -31,12 +33,17 @@ enum End {
 /// A line, what it shows, and how it ends.
 type Row = (&'static [u8], &'static [&'static [u8]], End);
 
+fn two_cards(alloc: Global) -> Result<Stack, Fail>
+    ensures { IfOk result (λ s. IsWellFormed s.content) }
+{
+    Ok(read(alloc, TWO_CARDS)?)
+}
+
 /// The two cards, with these externals.
 fn opened<E: External>(alloc: Global, externals: Vec<E>) -> Result<Box<World<E>>, Fail>
     ensures { IfOk result (λ w. w.value.history.start ≡ None) }
 {
-    let stack = read(alloc, TWO_CARDS).ok().ok_or("a stack")?;
-    match World::open(alloc, stack, externals, 1000) {
+    match World::open(alloc, two_cards(alloc)?, externals, 1000) {
         Ok(world) => Ok(Box::new(alloc, world)?),
         Err(_) => Err("a name twice".into()),
     }
@@ -84,6 +91,27 @@ fn shows(budget: &Budget, due: &[&[u8]]) -> bool {
 }
 
 /// The first line that isn't answered so, with its number, where lines are run one after the other.
+fn first_wrong_in<E: External>(
+    alloc: Global,
+    world: &mut World<E>,
+    steps: u32,
+    rows: &[Row],
+) -> Result<Option<usize>, Fail>
+    requires { world.old.history.start ≡ None }
+{
+    let mut scripts = Scripts::new(alloc);
+    for i in 0..rows.len() {
+        let (line, due, end) = rows[i];
+        let mut budget = Budget::new(alloc, steps);
+        let ended = run(alloc, world, &mut scripts, &mut budget, line)?;
+        if ended != end || !shows(&budget, due) {
+            return Ok(Some(i));
+        }
+    }
+    Ok(None)
+}
+
+/// The first wrong line in a world of its own.
 fn first_wrong<E: External>(
     alloc: Global,
     externals: Vec<E>,
@@ -91,16 +119,7 @@ fn first_wrong<E: External>(
     rows: &[Row],
 ) -> Result<Option<usize>, Fail> {
     let mut world = opened(alloc, externals)?;
-    let mut scripts = Scripts::new(alloc);
-    for i in 0..rows.len() {
-        let (line, due, end) = rows[i];
-        let mut budget = Budget::new(alloc, steps);
-        let ended = run(alloc, &mut world, &mut scripts, &mut budget, line)?;
-        if ended != end || !shows(&budget, due) {
-            return Ok(Some(i));
-        }
-    }
-    Ok(None)
+    first_wrong_in(alloc, &mut *world, steps, rows)
 }
 
 const VALUES: &[Row] = &[
