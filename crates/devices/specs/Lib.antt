@@ -1,1 +1,3 @@
+pub mod Desks
+pub mod Shelves
 pub mod Watching

@@ -1,0 +1,30 @@
+//! Where a stack's text is kept, and who hears of the messages that are sent.
+
+ghost use Rattle.std.specs.Prelude.{◌≡◌, not};
+ghost use Rattle.devices.specs.Desks.{SeenDesk, kept_after};
+ghost use Rattle.devices.specs.Watching.{counted};
+
+use ht_values::Text;
+use object_table::Id;
+
+/// Keeps the last text that was saved, and hears of each message that was sent.
+///
+/// A desk may tell what it keeps, as one in memory does; one that keeps it in a file doesn't.
+pub trait Desk {
+    ghost seen: { Self → SeenDesk };
+
+    /// Keeps a text in place of the one before it, and says whether it did. Where it didn't, a failure is counted and
+    /// what was kept before stands.
+    fn keep(&mut self, text: &[u8]) -> bool
+        ensures kept { (seen self.new).kept ≡ kept_after result text.now (seen self.old).kept }
+        ensures failures { (seen self.new).failures ≡ counted (not result) (seen self.old).failures };
+
+    /// Hears of a message, by its name and the id of the object that it was sent to. It can't fail: a desk that can't
+    /// make use of a message lets it go.
+    fn sent(&mut self, name: &Text, object: Id)
+        ensures { seen self.new ≡ seen self.old };
+
+    /// How many calls of `keep` failed. At its greatest value the count stays.
+    fn failures(&self) -> u64
+        ensures { result ≡ (seen self.now).failures };
+}

@@ -1,0 +1,132 @@
+//! A desk in memory.
+
+ghost use Rattle.std.specs.Prelude.{◌≡◌, ◌⊎◌, [], ◌∷◌, ◌++◌, Some, None, IfSome, IsNone, IsTrue, true, not};
+ghost use Rattle.devices.specs.Shelves.{text_on, messages_on, calls_on, fails_at as call_of_failure, failures_on};
+ghost use Rattle.devices.specs.Desks.{kept_after};
+ghost use Rattle.devices.specs.Watching.{counted};
+
+use crate::desk::Desk;
+use ht_values::Text;
+use object_table::Id;
+use std::alloc::Global;
+
+/// A message that was sent, and the id of the object that it was sent to.
+#[derive(Drop)]
+pub struct Message {
+    pub name: Text,
+    pub object: Id,
+}
+
+/// A desk in memory: it keeps the last text, remembers the messages, and may be told to fail at one call.
+#[derive(Drop)]
+pub struct Shelf {
+    alloc: Global,
+    text: Vec<u8>,
+    messages: Vec<Message>,
+    calls: u64,
+    fails_at: Option<u64>,
+    failures: u64,
+}
+
+impl Shelf {
+    /// A shelf that keeps the empty text and remembers no message. It takes no memory.
+    pub fn new(alloc: Global) -> Shelf
+        ensures text { text_on result ≡ [] }
+        ensures messages { messages_on result ≡ [] }
+        ensures calls { calls_on result ≡ 0 }
+        ensures never { call_of_failure result ≡ None }
+        ensures failures { failures_on result ≡ 0 }
+    {
+        Shelf {
+            alloc,
+            text: Vec::new(alloc),
+            messages: Vec::new(alloc),
+            calls: 0,
+            fails_at: None,
+            failures: 0,
+        }
+    }
+
+    /// The same shelf, whose call of `keep` of this number, from 1, is to fail.
+    pub fn failing_at(self, call: u64) -> Shelf
+        ensures { result ≡ record self { fails_at = Some call } }
+    {
+        Shelf {
+            fails_at: Some(call),
+            ..self
+        }
+    }
+
+    /// The text that it keeps.
+    pub fn text(&self) -> &[u8]
+        ensures { result.now ≡ text_on self.now }
+    {
+        &self.text
+    }
+
+    /// The messages that it heard of, in their order, but for those for which it was out of memory.
+    pub fn messages(&self) -> &[Message]
+        ensures { result.now ≡ messages_on self.now }
+    {
+        &self.messages
+    }
+
+    /// A copy of a text, or none where this call is to fail, or is out of memory.
+    fn copied(&self, text: &[u8]) -> Option<Vec<u8>>
+        ensures copy { IfSome result (λ copy. copy.items ≡ text.now) }
+        ensures due { call_of_failure self.now ≡ Some (calls_on self.now) → IsNone result }
+    {
+        if self.fails_at == Some(self.calls) {
+            return None;
+        }
+        let mut copy = Vec::new(self.alloc);
+        copy.extend_from_slice(text).ok()?;
+        Some(copy)
+    }
+}
+
+impl Desk for Shelf {
+    ghost seen = { λ s. record { kept = Some (text_on s); failures = failures_on s } };
+
+    /// It fails at the call that it was told, and where it is out of memory.
+    fn keep(&mut self, text: &[u8]) -> bool
+        ensures kept { Some (text_on self.new)
+            ≡ kept_after result text.now (Some (text_on self.old)) }
+        ensures failures { failures_on self.new ≡ counted (not result) (failures_on self.old) }
+        ensures due { call_of_failure self.old ≡ Some (calls_on self.new) → ¬ IsTrue result }
+        ensures calls { calls_on self.new ≡ counted true (calls_on self.old) }
+        ensures at { call_of_failure self.new ≡ call_of_failure self.old }
+        ensures messages { messages_on self.new ≡ messages_on self.old }
+    {
+        self.calls = self.calls.saturating_add(1);
+        match self.copied(text) {
+            Some(copy) => {
+                self.text = copy;
+                true
+            }
+            None => {
+                self.failures = self.failures.saturating_add(1);
+                false
+            }
+        }
+    }
+
+    /// It remembers the message, but where it is out of memory.
+    fn sent(&mut self, name: &Text, object: Id)
+        ensures remembered { (messages_on self.new ≡ messages_on self.old)
+            ⊎ (messages_on self.new
+            ≡ messages_on self.old ++ record { name = name.now; object = object } ∷ []) }
+        ensures text { text_on self.new ≡ text_on self.old }
+        ensures failures { failures_on self.new ≡ failures_on self.old }
+        ensures calls { calls_on self.new ≡ calls_on self.old }
+        ensures due { call_of_failure self.new ≡ call_of_failure self.old }
+    {
+        if let Ok(name) = name.try_clone(self.alloc) {
+            let _ = self.messages.push(Message { name, object });
+        }
+    }
+
+    fn failures(&self) -> u64 {
+        self.failures
+    }
+}

@@ -1,0 +1,12 @@
+-- A desk over a file.
+use Rattle.std.specs.Prelude.{ℕ, None}
+use Rattle.devices.specs.Desks.{SeenDesk}
+use Rattle.file_desk.specs.declared.desk.FileDesk.{FileDesk}
+
+-- how many times the file could not be replaced
+abbrev pub failures_of : {R : Type 0} → FileDesk R → ℕ
+failures_of d = d.failures
+
+-- what it keeps isn't told, since anyone may write the file
+abbrev pub seen_file : {R : Type 0} → FileDesk R → SeenDesk
+seen_file d = record { kept = None; failures = failures_of d }
