@@ -1,0 +1,8 @@
+//! Two externals of the kind that people wrote: text tools. They stand beside the kit as an example.
+#![tactic(auto)]
+
+mod replace;
+mod table;
+
+pub use replace::Replace;
+pub use table::Table;

@@ -1,0 +1,16 @@
+//! The four externals of the kit, and the cells that any external can keep.
+#![tactic(auto)]
+
+mod bins;
+mod cells;
+mod count;
+mod gate;
+mod relay;
+mod step;
+
+pub use bins::Bins;
+pub use cells::Cells;
+pub use count::Count;
+pub use gate::Gate;
+pub use relay::Relay;
+pub use step::{Step, changed, unchanged};

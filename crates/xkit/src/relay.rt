@@ -1,0 +1,184 @@
+//! Relay: a command that uses each of the four call-backs once.
+
+ghost use Rattle.std.specs.Prelude.{◌≡◌, ℕ, ◌<◌, ◌≤◌, [], ◌∷◌, codes, drop, length, false, replicate, IfOk, OnErr};
+ghost use Rattle.ht_values.specs.declared.text.TheConstants.{LIMIT};
+ghost use Rattle.externals.specs.Table.{relay_start, relay_answer, relay_turn};
+ghost use Rattle.xkit.specs.Steps.{Takes, is_note};
+
+use crate::cells::Cells;
+use crate::step::{Step, add, changed, text, unchanged};
+use externals::{Ask, External, Input, Patch, Texts};
+use ht_values::Text;
+use std::alloc::{AllocError, Global};
+
+/// The command that uses each of the four call-backs once, of kind 3. Started with the names of a global and of a field,
+/// an expression and a message, it puts `relay` into the global, the global's name into the background field, computes
+/// the expression and sends the message; its value is that of the expression. Its cells are the name of the global and
+/// the value.
+#[derive(Drop)]
+pub struct Relay {
+    name: Text,
+    cells: Cells,
+    turns: u64,
+    ghost two_cells: { length cells ≡ 2 },
+}
+
+impl Relay {
+    /// A relay of this name that was never started.
+    pub fn new(alloc: Global, name: Text) -> Result<Relay, AllocError>
+        ensures title { IfOk result (λ e. ⟦<Relay as External>⟧.title e ≡ name) }
+        ensures kind { IfOk result (λ e. ⟦<Relay as External>⟧.sort e ≡ 3) }
+        ensures flag { IfOk result (λ e. ⟦<Relay as External>⟧.answers_calls e ≡ false) }
+        ensures cells { IfOk result (λ e. ⟦<Relay as External>⟧.cells e ≡ replicate 2 []) }
+        ensures turns { IfOk result (λ e. ⟦<Relay as External>⟧.turn_count e ≡ 0) }
+    {
+        Ok(Relay {
+            name,
+            cells: Cells::empty(alloc, 2)?,
+            turns: 0,
+        })
+    }
+}
+
+impl External for Relay {
+    ghost use Rattle.std.specs.Prelude.{false};
+
+    ghost title = { λ e. e.name };
+
+    ghost sort = { λ _. 3 };
+
+    ghost answers_calls = { λ _. false };
+
+    ghost cells = { λ e. e.cells };
+
+    ghost turn_count = { λ e. e.turns };
+
+    fn name(&self) -> &Text {
+        &self.name
+    }
+
+    fn kind(&self) -> u32 {
+        3
+    }
+
+    fn is_function(&self) -> bool {
+        false
+    }
+
+    fn cell_count(&self) -> usize {
+        self.cells.len()
+    }
+
+    fn cell(&self, i: usize) -> &Text {
+        self.cells.at(i)
+    }
+
+    fn turn(&mut self, alloc: Global, input: &Input) -> Result<(Ask, Patch), AllocError> {
+        self.turns = self.turns.saturating_add(1);
+        turned(&mut self.cells, alloc, input)
+    }
+
+    fn flip(&mut self, patch: &mut Patch) {
+        self.cells.flip(patch);
+    }
+
+    fn turns(&self) -> u64 {
+        self.turns
+    }
+}
+
+/// Whether a note has so many texts, and this one first.
+fn is_note_of(note: &Texts, count: usize, stage: &[u8]) -> bool
+    requires { 0 < count }
+    ensures { result ≡ is_note count stage.now note.now }
+{
+    note.len() == count && note.at(0).as_slice() == stage
+}
+
+/// A note of this text and of those of a list from one on.
+fn note_of(alloc: Global, stage: &[u8], texts: &Texts, from: usize) -> Result<Texts, AllocError>
+    requires { length stage.now ≤ LIMIT }
+    ensures { IfOk result (λ n. n ≡ stage.now ∷ drop from texts.now) }
+{
+    let mut note = Texts::new(alloc);
+    let first = text(alloc, stage)?;
+    add(&mut note, first)?;
+    for i in from..texts.len() {
+        let copy = texts.at(i).try_clone(alloc)?;
+        add(&mut note, copy)?;
+    }
+    Ok(note)
+}
+
+/// One turn.
+fn turned(cells: &mut Cells, alloc: Global, input: &Input) -> Step
+    requires { length cells.old ≡ 2 }
+    ensures ok { IfOk result (λ r. Takes (relay_turn cells.old input.now) cells.old cells.new r.0 r.1) }
+    ensures err { OnErr result (cells.new ≡ cells.old) }
+    ensures count { length cells.new ≡ length cells.old }
+{
+    match input {
+        Input::Start(args) => started(cells, alloc, args),
+        Input::Answer(note, value) => answered(cells, alloc, note, value),
+    }
+}
+
+/// A start with four texts keeps the name of the global, and sets it.
+fn started(cells: &mut Cells, alloc: Global, args: &Texts) -> Step
+    requires { length cells.old ≡ 2 }
+    ensures ok { IfOk result (λ r. Takes (relay_start cells.old args.now) cells.old cells.new r.0 r.1) }
+    ensures err { OnErr result (cells.new ≡ cells.old) }
+    ensures count { length cells.new ≡ length cells.old }
+{
+    if args.len() != 4 {
+        return Ok(unchanged(alloc, Ask::Fail));
+    }
+    let note = note_of(alloc, b"1", args, 1)?;
+    let global = args.at(0).try_clone(alloc)?;
+    let kept = args.at(0).try_clone(alloc)?;
+    let value = text(alloc, b"relay")?;
+    changed(cells, alloc, 0, kept, Ask::SetGlobal(note, global, value))
+}
+
+/// An answer leads to the next call-back, or ends the conversation after the last one.
+fn answered(cells: &mut Cells, alloc: Global, note: &Texts, value: &Text) -> Step
+    requires { length cells.old ≡ 2 }
+    ensures ok { IfOk result (λ r. Takes (relay_answer cells.old note.now value.now) cells.old cells.new r.0 r.1) }
+    ensures err { OnErr result (cells.new ≡ cells.old) }
+    ensures count { length cells.new ≡ length cells.old }
+{
+    if is_note_of(note, 4, b"1") {
+        let next = note_of(alloc, b"2", note, 2)?;
+        let field = note.at(1).try_clone(alloc)?;
+        let global = cells.at(0).try_clone(alloc)?;
+        Ok(unchanged(alloc, Ask::SetFieldByName(next, false, field, global)))
+    } else if is_note_of(note, 3, b"2") {
+        let next = note_of(alloc, b"3", note, 2)?;
+        let expression = note.at(1).try_clone(alloc)?;
+        Ok(unchanged(alloc, Ask::EvalExpr(next, expression)))
+    } else if is_note_of(note, 2, b"3") {
+        computed(cells, alloc, note.at(1), value)
+    } else if is_note_of(note, 2, b"4") {
+        let told = note.at(1).try_clone(alloc)?;
+        Ok(unchanged(alloc, Ask::Done(told, false)))
+    } else {
+        Ok(unchanged(alloc, Ask::Fail))
+    }
+}
+
+/// The value of the expression is kept, and the message is sent.
+fn computed(cells: &mut Cells, alloc: Global, message: &Text, value: &Text) -> Step
+    requires { length cells.old ≡ 2 }
+    ensures ok { IfOk result (λ r. Takes (relay_answer cells.old (codes "3" ∷ message.now ∷ []) value.now) cells.old cells.new r.0 r.1) }
+    ensures err { OnErr result (cells.new ≡ cells.old) }
+    ensures count { length cells.new ≡ length cells.old }
+{
+    let mut note = Texts::new(alloc);
+    let stage = text(alloc, b"4")?;
+    add(&mut note, stage)?;
+    let told = value.try_clone(alloc)?;
+    add(&mut note, told)?;
+    let kept = value.try_clone(alloc)?;
+    let sent = message.try_clone(alloc)?;
+    changed(cells, alloc, 1, kept, Ask::SendCardMessage(note, sent))
+}
