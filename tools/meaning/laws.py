@@ -9,6 +9,7 @@ says of the rule's parts: of its derivations, and of what else it makes (LEAVES,
 
 import re
 import sys
+from itertools import groupby
 
 sys.dont_write_bytecode = True
 
@@ -23,6 +24,7 @@ USE = re.compile(r"use (\S+?)(?:\.\{(.*)\}| as \w+)$")
 
 TABLE = families()
 FAMILIES = {family["name"]: family for family in TABLE}
+BLOCKS = [list(block) for _, block in groupby(TABLE, lambda family: family["block"])]
 
 
 def words(text):
@@ -140,8 +142,9 @@ class Law:
         return "".join("  %s%s_%s %s\n" % ("pub " if at == 0 else "", self.prefix, name, line) for at, line in enumerate(lines))
 
     def file(self):
-        text = "\n".join(map(self.function, TABLE))
-        return self.title + imports(self.uses, text) + "\n%s\n" % ("mutual" if self.is_proof else "abbrev mutual") + text
+        head = "mutual" if self.is_proof else "abbrev mutual"
+        blocks = ["\n".join(map(self.function, block)) for block in BLOCKS]
+        return self.title + imports(self.uses, "\n".join(blocks)) + "".join("\n%s\n%s" % (head, block) for block in blocks)
 
 
 class Replaced(Law):

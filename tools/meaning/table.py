@@ -1,7 +1,8 @@
 """Reads the table of the rules of the language, meaning.rules.
 
-In the table a line `= TITLE` begins a section, `# Family indices | words` a family, and `name: premise ; .. => conclusion`
-is a rule. The letters of a variable tell its type (TYPES); digits may follow.
+In the table a line `= TITLE` begins a section, `== TITLE` one on which no family before it stands, `# Family indices | words`
+a family, and `name: premise ; .. => conclusion` is a rule. The letters of a variable tell its type (TYPES); digits may
+follow.
 """
 
 import os
@@ -22,12 +23,13 @@ TYPES = {
     "oc": "Result Chunk Stop", "opl": "Result PlaceView Stop", "opi": "Result Pick Stop", "osk": "Result Sought Stop",
     "osc": "Result PartScope Stop", "om": "Result Referent Stop", "oi": "Result ℕ Stop", "oh": "Result How Stop",
     "oco": "Result CounterState Stop", "odn": "Result Conversed Stop", "oin": "Result Input Stop",
-    "ot": "Result (Unit {0}) Stop", "oe": "Result Ended Stop",
+    "ot": "Result (Unit {0}) Stop", "oe": "Result Ended Stop", "oio": "Result (Option ℕ) Stop",
     "z": "Stop", "fa": "Fault", "b": "Bool", "u": "ℤ", "op": "Op", "un": "UnOp", "cn": "Constant", "fw": "FunctionWord",
     "fu": "Func", "pr": "Prop", "rp": "RunProp", "od": "Ordinal", "kd": "ChunkKind", "wr": "Where", "pk": "PartKind",
     "ly": "Layer", "oly": "Option Layer", "c": "Chunk", "pl": "PlaceView", "pi": "Pick", "sk": "Sought", "sc": "PartScope",
     "m": "Referent", "h": "How", "co": "CounterState", "on": "Option (List ℕ)", "cl": "HandlerKind", "fd": "Found",
     "it": "Item", "la": "LayerId", "dn": "Conversed", "inp": "Input", "ask": "Ask", "mg": "SystemMessage", "ms": "List SystemMessage",
+    "ac": "Action",
 }
 VARIABLE = re.compile(r"(?<![.\w])([a-z]+)(\d*)(?![\w(])")
 
@@ -49,14 +51,15 @@ def variables(text):
 
 def families():
     """The families of the table, each with its rules."""
-    table, section = [], None
+    table, section, block = [], None, 0
     for line in read("meaning.rules").splitlines():
-        if line.startswith("= "):
-            section = line[2:]
+        if line.startswith(("= ", "== ")):
+            block += line.startswith("==")
+            section = line.split(" ", 1)[1]
         elif line.startswith("# "):
             head, words = line[2:].split(" | ")
             name, *indices = head.split()
-            table.append({"name": name, "indices": indices, "words": words, "section": section, "rules": []})
+            table.append({"name": name, "indices": indices, "words": words, "section": section, "block": block, "rules": []})
             section = None
         elif line.strip():
             name, rule = line.split(": ", 1)

@@ -16,4 +16,5 @@ mod repeat;
 mod stmt;
 mod system;
 
-pub use line::{run_line, send_message};
+pub use line::{find_ref, run_line, send_message};
+pub use places::{edit, field_place, field_text};

@@ -1,17 +1,20 @@
-//! Commands: typed lines, and messages that are sent to an object by themselves.
+//! Commands: typed lines, messages that are sent to an object by themselves, and references of dot lines.
 
 ghost use Rattle.std.specs.Prelude.{◌≡◌, ◌≤◌, [], IsSome};
+ghost use Rattle.ht_grammar.specs.Depth.{max_depth, part_depth};
 ghost use Rattle.ht_tree.specs.StatementView.{stmts_of};
+ghost use Rattle.ht_tree.specs.View.{part_of};
 ghost use Rattle.containers.specs.Base.{base};
-ghost use Rattle.meaning.specs.Meaning.{Line, Message};
+ghost use Rattle.meaning.specs.Meaning.{Line, Message, Refers};
 
 use crate::arguments::Arguments;
 use crate::message::send;
+use crate::reference::meet_part;
 use crate::stmt::run_block;
 use change_journal::World;
 use externals::External;
 use ht_grammar::HandlerKind;
-use ht_tree::Stmts;
+use ht_tree::{Part, Stmts};
 use ht_values::Text;
 use meaning::{Budget, Ended, Frame, Stop};
 use msg_path::Scripts;
@@ -72,6 +75,31 @@ pub fn send_message<E: External>(
     ) {
         Ok(_) => Ok(Ended::Done),
         Err(Stop::Exited) => Ok(Ended::Exited),
+        Err(Stop::Fault(fault)) => Err(Stop::Fault(fault)),
+        Err(Stop::Memory) => Err(Stop::Memory),
+    }
+}
+
+/// Finds the part that the reference of a dot line means, in the open batch: `me` and `the target` are the card that is current
+/// as it begins, and every variable is a global. `None` where a call in it ends by `exit to HyperCard`; where there is no such
+/// part it is fault 3. All else is as for a typed line.
+#[tactic(auto, using(meaning::proofs::Rules::refers_rules))]
+pub fn find_ref<E: External>(
+    world: &mut World<E>,
+    scripts: &mut Scripts,
+    run: &mut Budget,
+    part: &Part,
+) -> Result<Option<Id>, Stop>
+    requires deep { part_depth (part_of part.now) ≤ max_depth }
+    requires open { IsSome (base world.old.history).start }
+    ensures meaning { Refers world.old.history run.old (part_of part.now) result world.new.history run.new }
+    ensures fewer { run.new.left ≤ run.old.left }
+    ensures base { base world.new.history ≡ base world.old.history }
+{
+    let frame = Frame::typed(run.alloc(), world.current());
+    match meet_part(world, scripts, run, &frame, 0, part) {
+        Ok(met) => Ok(Some(met.object)),
+        Err(Stop::Exited) => Ok(None),
         Err(Stop::Fault(fault)) => Err(Stop::Fault(fault)),
         Err(Stop::Memory) => Err(Stop::Memory),
     }

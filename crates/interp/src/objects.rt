@@ -9,11 +9,10 @@ ghost use Rattle.structural_changes.specs.Writes.{home};
 ghost use Rattle.object_references.specs.References as references;
 ghost use Rattle.object_references.specs.Settings as settings;
 ghost use Rattle.containers.specs.Base.{base};
-ghost use Rattle.meaning.specs.Menu.{closing as closing_of, differ, new_background_messages as messages_of_new_background, new_card_messages as messages_of_new_card, new_layer as layer_of_new, opening as opening_of, message_name as name_of_message};
+ghost use Rattle.meaning.specs.Menu.{closing as closing_of, differ, new_background_messages as messages_of_new_background, new_card_messages as messages_of_new_card, new_layer as layer_of_new, opening as opening_of};
 ghost use Rattle.meaning.specs.Places.{Adds};
 ghost use Rattle.meaning.specs.Values.{Yields};
 
-use crate::leaves::short_text;
 use change_journal::{Change, World};
 use externals::External;
 use ht_grammar::Layer;
@@ -289,11 +288,4 @@ pub(crate) fn new_background_messages() -> &'static [SystemMessage]
         SystemMessage::OpenBackground,
         SystemMessage::OpenCard,
     ]
-}
-
-/// The name of a message of the system.
-pub(crate) fn message_name(alloc: Global, message: SystemMessage) -> Result<Text, AllocError>
-    ensures { IfOk result (λ t. t ≡ name_of_message message) }
-{
-    short_text(alloc, message.name())
 }

@@ -90,9 +90,10 @@ pub(crate) fn variable_place<'a, E: External>(
     }
 }
 
-/// The place of a field's text.
+/// The place of a field's text, for the card with which it was met; fault 3 where it keeps no text for that card. It takes no
+/// memory.
 #[tactic(auto, using(meaning::proofs::Rules::yields_rules))]
-pub(crate) fn field_place<'a, E: External>(
+pub fn field_place<'a, E: External>(
     alloc: Global,
     world: &World<E>,
     frame: &Frame,
@@ -111,9 +112,9 @@ pub(crate) fn field_place<'a, E: External>(
     }
 }
 
-/// The text of a field.
+/// The text of a field for the card with which it was met; fault 3 where it keeps none.
 #[tactic(auto, using(meaning::proofs::Rules::yields_rules))]
-pub(crate) fn field_text<E: External>(
+pub fn field_text<E: External>(
     alloc: Global,
     world: &World<E>,
     frame: &Frame,
@@ -137,9 +138,9 @@ pub(crate) fn field_text<E: External>(
     }
 }
 
-/// Edits a container.
+/// Edits a container in the open batch. After a fault nothing has changed.
 #[tactic(auto, using(meaning::proofs::Rules::edits_rules))]
-pub(crate) fn edit<E: External>(
+pub fn edit<E: External>(
     alloc: Global,
     delimiter: u8,
     world: &mut World<E>,

@@ -7,7 +7,7 @@ ghost use Rattle.meaning.specs.Meaning.{Goes, Menu, System, Systems};
 use crate::arguments::Arguments;
 use crate::message::send;
 use crate::objects::{
-    add, closing, has_other_background, is_card_there, is_current, is_other, make, message_name,
+    add, closing, has_other_background, is_card_there, is_current, is_other, make,
     new_background_messages, new_card_messages, new_layer, opening,
 };
 use change_journal::{Change, World};
@@ -41,7 +41,7 @@ pub(crate) fn system<E: External>(
     if run.lock_messages() {
         return Ok(Text::new(run.alloc()));
     }
-    let name = message_name(run.alloc(), message)?;
+    let name = message.text(run.alloc())?;
     let values = Arguments::new(run.alloc());
     send(
         world,

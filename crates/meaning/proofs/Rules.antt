@@ -3,7 +3,7 @@ use Rattle.meaning.specs.State.{Step}
 use Rattle.meaning.specs.Values.{Yields, Parses}
 use Rattle.meaning.specs.Places.{Edits, Assigns, DeclaresAll, Sets, Adds}
 use Rattle.meaning.specs.Messages.{Finds}
-use Rattle.meaning.specs.Meaning.{Val, Vals, NumberVal, TruthVal, TextVal, ChunkOf, Resolves, Picks, Seeks, Owns, PartMet, Meets, Leads, Form, Alters, Block, DoText, Endless, While, Bounds, Counts, Calls, SendsText, Sends, Along, Outside, BuiltInGives, System, Systems, Goes, Menu, Converses, Talks, CallsBack, Line, Message}
+use Rattle.meaning.specs.Meaning.{Val, Vals, NumberVal, TruthVal, TextVal, ChunkOf, Resolves, Picks, Seeks, Owns, PartMet, Meets, Leads, Form, Alters, Block, DoText, Endless, While, Bounds, Counts, Calls, SendsText, Sends, Along, Outside, BuiltInGives, System, Systems, Goes, Menu, Converses, Talks, CallsBack, Line, Message, Refers, Tells, TellsAll, Clicks, TypesOver, TypesInto, Acts}
 
 pub ruleset step_rules = (Step.taken, Step.none_left)
 
@@ -234,3 +234,17 @@ pub ruleset callsback_setfieldbyname_rules = (CallsBack.call_back_memory, CallsB
 pub ruleset line_rules = (Line.line_memory, Line.line_faults, Line.line_exits, Line.line_ends)
 
 pub ruleset message_rules = (Message.message_memory, Message.message_faults, Message.message_exits, Message.message_ends)
+
+pub ruleset refers_rules = (Refers.refer_memory, Refers.refer_faults, Refers.refer_exits, Refers.refers)
+
+pub ruleset tells_rules = (Tells.tell_memory, Tells.tells_nothing, Tells.tells)
+
+pub ruleset tellsall_rules = (TellsAll.tell_all_memory, TellsAll.none_to_tell, TellsAll.tell_stops, TellsAll.tell_exits, TellsAll.tells_on)
+
+pub ruleset clicks_rules = (Clicks.click_memory, Clicks.click_misses, Clicks.click_exits, Clicks.press_stops, Clicks.press_exits, Clicks.part_goes, Clicks.clicks)
+
+pub ruleset typesover_rules = (TypesOver.type_over_memory, TypesOver.typed_field_goes, TypesOver.type_over_stops, TypesOver.types_over)
+
+pub ruleset typesinto_rules = (TypesInto.type_memory, TypesInto.type_misses, TypesInto.type_exits, TypesInto.field_open_stops, TypesInto.field_open_exits, TypesInto.types_into)
+
+pub ruleset acts_rules = (Acts.acts_by_lines, Acts.acts_by_opening, Acts.acts_by_click, Acts.acts_by_typing)

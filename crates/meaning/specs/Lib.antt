@@ -4,4 +4,5 @@ pub mod Places
 pub mod Repeats
 pub mod Menu
 pub mod Messages
+pub mod Actions
 pub mod Meaning

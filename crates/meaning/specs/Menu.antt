@@ -42,6 +42,12 @@ message_name system.CloseBackground = codes "closeBackground"
 message_name system.OpenBackground = codes "openBackground"
 message_name system.OpenCard = codes "openCard"
 message_name system.NewCard = codes "newCard"
+message_name system.OpenStack = codes "openStack"
+message_name system.MouseDown = codes "mouseDown"
+message_name system.MouseUp = codes "mouseUp"
+message_name system.OpenField = codes "openField"
+message_name system.CloseField = codes "closeField"
+message_name system.ExitField = codes "exitField"
 
 -- before another card becomes current, of another background or not
 abbrev pub closing : Bool → List SystemMessage

@@ -1,4 +1,4 @@
--- Ends that aren't want of memory.
+-- Ends other than out of memory.
 use Rattle.std.proofs.Common.{Ok, Err}
 use Rattle.ht_values.specs.declared.fault.Fault.{Fault}
 use Rattle.meaning.specs.declared.end.Stop.{Stop}

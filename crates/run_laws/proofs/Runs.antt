@@ -25,9 +25,10 @@ use Rattle.meaning.specs.declared.end.How.{How}
 use Rattle.meaning.specs.declared.end.Stop.{Stop}
 use Rattle.meaning.specs.declared.system.SystemMessage.{SystemMessage}
 use Rattle.meaning.specs.declared.item.Item.{Item}
+use Rattle.meaning.specs.Actions.{Action}
 use Rattle.meaning.specs.State.{RunState}
 use Rattle.meaning.specs.Repeats.{CounterState}
-use Rattle.meaning.specs.Meaning.{Val, Vals, NumberVal, TruthVal, TextVal, ChunkOf, Resolves, Picks, Seeks, Owns, PartMet, Meets, Leads, Form, Alters, Block, DoText, Endless, While, Bounds, Counts, Calls, SendsText, Sends, Along, Outside, BuiltInGives, System, Systems, Goes, Menu, Converses, Talks, CallsBack, Line, Message}
+use Rattle.meaning.specs.Meaning.{Val, Vals, NumberVal, TruthVal, TextVal, ChunkOf, Resolves, Picks, Seeks, Owns, PartMet, Meets, Leads, Form, Alters, Block, DoText, Endless, While, Bounds, Counts, Calls, SendsText, Sends, Along, Outside, BuiltInGives, System, Systems, Goes, Menu, Converses, Talks, CallsBack, Line, Message, Refers, Tells, TellsAll, Clicks, TypesOver, TypesInto, Acts}
 
 mutual
   pub goes_val : {w w2 : History} {r r2 : RunState} {f : Frame} {d : ℕ} {e : tree.Expr} {o : Result (List ℕ) Stop} → Val w r f d e o w2 r2 → HasMemory o → GoesOn r r2
@@ -383,3 +384,51 @@ mutual
   goes_message (Message.message_faults _ p2) has = goes_sends p2 (stopped has)
   goes_message (Message.message_exits _ p2) has = goes_sends p2 exited
   goes_message (Message.message_ends _ p2) has = goes_sends p2 given
+
+mutual
+  pub goes_refers : {w w2 : History} {r r2 : RunState} {pa : tree.Part} {oio : Result (Option ℕ) Stop} → Refers w r pa oio w2 r2 → HasMemory oio → GoesOn r r2
+  goes_refers Refers.refer_memory has = absurd (has refl)
+  goes_refers (Refers.refer_faults _ p2) has = goes_part_met p2 (stopped has)
+  goes_refers (Refers.refer_exits _ p2) has = goes_part_met p2 exited
+  goes_refers (Refers.refers _ p2 _) has = goes_part_met p2 given
+
+  pub goes_tells : {w w2 : History} {r r2 : RunState} {i : ℕ} {mg : SystemMessage} {oe : Result Ended Stop} → Tells w r i mg oe w2 r2 → HasMemory oe → GoesOn r r2
+  goes_tells Tells.tell_memory has = absurd (has refl)
+  goes_tells (Tells.tells_nothing _) has = goes_nowhere
+  goes_tells (Tells.tells _ _ p3) has = goes_message p3 has
+
+  pub goes_tells_all : {w w2 : History} {r r2 : RunState} {ms : List SystemMessage} {oe : Result Ended Stop} → TellsAll w r ms oe w2 r2 → HasMemory oe → GoesOn r r2
+  goes_tells_all TellsAll.tell_all_memory has = absurd (has refl)
+  goes_tells_all (TellsAll.none_to_tell _) has = goes_nowhere
+  goes_tells_all (TellsAll.tell_stops _ p2) has = goes_tells p2 has
+  goes_tells_all (TellsAll.tell_exits _ p2) has = goes_tells p2 given
+  goes_tells_all (TellsAll.tells_on _ p2 p3) has = goes_trans (goes_tells p2 given) (goes_tells_all p3 has)
+
+  pub goes_clicks : {w w2 : History} {r r2 : RunState} {pa : tree.Part} {oe : Result Ended Stop} → Clicks w r pa oe w2 r2 → HasMemory oe → GoesOn r r2
+  goes_clicks Clicks.click_memory has = absurd (has refl)
+  goes_clicks (Clicks.click_misses p1) has = goes_refers p1 (stopped has)
+  goes_clicks (Clicks.click_exits p1) has = goes_refers p1 given
+  goes_clicks (Clicks.press_stops p1 p2) has = goes_trans (goes_refers p1 given) (goes_tells p2 has)
+  goes_clicks (Clicks.press_exits p1 p2) has = goes_trans (goes_refers p1 given) (goes_tells p2 given)
+  goes_clicks (Clicks.part_goes p1 p2 _) has = goes_trans (goes_refers p1 given) (goes_tells p2 given)
+  goes_clicks (Clicks.clicks p1 p2 _ p4) has = goes_trans (goes_refers p1 given) (goes_trans (goes_tells p2 given) (goes_tells p4 has))
+
+  pub goes_types_over : {w w2 : History} {r r2 : RunState} {m : Referent} {t : List ℕ} {oe : Result Ended Stop} → TypesOver w r m t oe w2 r2 → HasMemory oe → GoesOn r r2
+  goes_types_over TypesOver.type_over_memory has = absurd (has refl)
+  goes_types_over (TypesOver.typed_field_goes _ _) has = goes_nowhere
+  goes_types_over (TypesOver.type_over_stops _ _ _ _) has = goes_nowhere
+  goes_types_over (TypesOver.types_over _ _ _ _ _ _ p7) has = goes_tells p7 has
+
+  pub goes_types_into : {w w2 : History} {r r2 : RunState} {t : List ℕ} {pa : tree.Part} {oe : Result Ended Stop} → TypesInto w r t pa oe w2 r2 → HasMemory oe → GoesOn r r2
+  goes_types_into TypesInto.type_memory has = absurd (has refl)
+  goes_types_into (TypesInto.type_misses p1) has = goes_refers p1 (stopped has)
+  goes_types_into (TypesInto.type_exits p1) has = goes_refers p1 given
+  goes_types_into (TypesInto.field_open_stops p1 _ p3) has = goes_trans (goes_refers p1 given) (goes_tells p3 has)
+  goes_types_into (TypesInto.field_open_exits p1 _ p3) has = goes_trans (goes_refers p1 given) (goes_tells p3 given)
+  goes_types_into (TypesInto.types_into p1 _ _ p4 p5) has = goes_trans (goes_refers p1 given) (goes_trans (goes_tells p4 given) (goes_types_over p5 has))
+
+  pub goes_acts : {w w2 : History} {r r2 : RunState} {ac : Action} {oe : Result Ended Stop} → Acts w r ac oe w2 r2 → HasMemory oe → GoesOn r r2
+  goes_acts (Acts.acts_by_lines _ p2) has = goes_line p2 has
+  goes_acts (Acts.acts_by_opening _ p2) has = goes_tells_all p2 has
+  goes_acts (Acts.acts_by_click _ p2) has = goes_clicks p2 has
+  goes_acts (Acts.acts_by_typing _ p2) has = goes_types_into p2 has

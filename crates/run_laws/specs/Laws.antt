@@ -1,4 +1,4 @@
--- Laws over the rules: what each run keeps that isn't cut short by want of memory.
+-- Laws over the rules: what each run keeps that doesn't run out of memory.
 use Rattle.std.specs.Prelude.{◌≡◌, ◌≤◌, ℕ, List, [], ◌++◌, Result, Err}
 use Rattle.ht_grammar.specs.Statements as stm
 use Rattle.journal_entries.specs.Replaced.{Replacement, places_of}
@@ -9,11 +9,12 @@ use Rattle.meaning.specs.declared.end.Ended.{Ended}
 use Rattle.meaning.specs.declared.end.Stop.{Stop}
 use Rattle.meaning.specs.declared.end.Stop.TheVariants.{Memory}
 use Rattle.meaning.specs.State.{RunState}
-use Rattle.meaning.specs.Meaning.{Line, Message}
+use Rattle.meaning.specs.Actions.{Action}
+use Rattle.meaning.specs.Meaning.{Line, Message, Acts}
 use Rattle.run_laws.specs.Rising.{TrailAfter}
-use Rattle.run_laws.specs.Replaced.{replaced_line, replaced_message, RisesBy}
+use Rattle.run_laws.specs.Replaced.{replaced_line, replaced_message, replaced_acts, RisesBy}
 
--- an end that isn't want of memory
+-- an end other than out of memory
 abbrev pub HasMemory : {A : Type 0} → Result A Stop → Type 0
 HasMemory o = o ≡ Err Memory → ⊥
 
@@ -60,6 +61,23 @@ abbrev pub MessagesGoOn : Type 0
 MessagesGoOn =
     (w w2 : History) (r r2 : RunState) (i : ℕ) (n : List ℕ) (vs : List (List ℕ)) (o : Result Ended Stop) →
     Message w r i n vs o w2 r2 → HasMemory o → GoesOn r r2
+
+-- ---- what a user does
+
+abbrev pub ActionsKeepBases : Type 0
+ActionsKeepBases =
+    (w w2 : History) (r r2 : RunState) (ac : Action) (o : Result Ended Stop) →
+    Acts w r ac o w2 r2 → HasMemory o → base w2 ≡ base w
+
+abbrev pub ActionsRise : Type 0
+ActionsRise =
+    (w w2 : History) (r r2 : RunState) (ac : Action) (o : Result Ended Stop) (acts : Acts w r ac o w2 r2) →
+    HasMemory o → RisesBy (replaced_acts acts) w.start w2.start
+
+abbrev pub ActionsGoOn : Type 0
+ActionsGoOn =
+    (w w2 : History) (r r2 : RunState) (ac : Action) (o : Result Ended Stop) →
+    Acts w r ac o w2 r2 → HasMemory o → GoesOn r r2
 
 -- ---- entries
 

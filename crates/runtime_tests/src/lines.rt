@@ -23,7 +23,7 @@ card 4 1\nname |B\ncantDelete false\nscript 0\nparts 0\ntext 3 0\nend\n";
 
 /// How a line ends.
 #[derive(Clone, Copy, PartialEq, Eq, Debug)]
-enum End {
+pub(crate) enum End {
     Ok,
     Fault(u8),
     /// It isn't in the grammar.
@@ -40,7 +40,7 @@ fn two_cards(alloc: Global) -> Result<Stack, Fail>
 }
 
 /// The two cards, with these externals.
-fn opened<E: External>(alloc: Global, externals: Vec<E>) -> Result<Box<World<E>>, Fail>
+pub(crate) fn opened<E: External>(alloc: Global, externals: Vec<E>) -> Result<Box<World<E>>, Fail>
     ensures { IfOk result (λ w. w.value.history.start ≡ None) }
 {
     match World::open(alloc, two_cards(alloc)?, externals, 1000) {
@@ -51,7 +51,7 @@ fn opened<E: External>(alloc: Global, externals: Vec<E>) -> Result<Box<World<E>>
 
 /// Runs a line as a command of its own.
 #[tactic(auto, using(containers::proofs::Bases::is_open), unfolding(containers::specs::Base::base))]
-fn run<E: External>(
+pub(crate) fn run<E: External>(
     alloc: Global,
     world: &mut World<E>,
     scripts: &mut Scripts,
@@ -78,7 +78,7 @@ fn run<E: External>(
 }
 
 /// Whether just these lines were shown.
-fn shows(budget: &Budget, due: &[&[u8]]) -> bool {
+pub(crate) fn shows(budget: &Budget, due: &[&[u8]]) -> bool {
     if budget.shown().len() != due.len() {
         return false;
     }

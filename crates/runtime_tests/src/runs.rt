@@ -167,9 +167,16 @@ fn names_of_the_messages_of_the_system(rt: HostRuntime) -> Result<(), Fail> {
         (SystemMessage::OpenBackground, b"openBackground"),
         (SystemMessage::OpenCard, b"openCard"),
         (SystemMessage::NewCard, b"newCard"),
+        (SystemMessage::OpenStack, b"openStack"),
+        (SystemMessage::MouseDown, b"mouseDown"),
+        (SystemMessage::MouseUp, b"mouseUp"),
+        (SystemMessage::OpenField, b"openField"),
+        (SystemMessage::CloseField, b"closeField"),
+        (SystemMessage::ExitField, b"exitField"),
     ];
     for (message, name) in rows {
         assert!(rt; message.name() == *name, "{name:?}");
+        assert!(rt; message.text(rt.alloc())?.as_slice() == *name, "{name:?}");
     }
     Ok(())
 }

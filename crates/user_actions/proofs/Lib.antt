@@ -1,0 +1,2 @@
+pub mod Telling
+pub mod TypedOver
