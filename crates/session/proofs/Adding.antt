@@ -1,24 +1,28 @@
 -- Commands that are run, and commands that are given up.
-use Rattle.std.proofs.Common.{◌≡◌, ℕ, List, refl, sym, ap, subst, ◌∙◌, arith}
-use Rattle.std.specs.Prelude.{Option, Some, None, IfSome, IsSome, Result, unwrap_or, option_map}
-use Rattle.ht_grammar.specs.Statements.{Stmts}
+use Rattle.std.proofs.Common.{◌≡◌, ℕ, List, refl, sym, ap, subst, ◌∙◌, inl, inr, arith}
+use Rattle.std.specs.Prelude.{Option, Some, None, IfSome, IsSome, Result, Ok, Err, unwrap_or, option_map}
 use Rattle.journal_entries.specs.State.{State}
 use Rattle.journal_entries.specs.Trails.{IsOnce}
 use Rattle.change_journal.specs.History.{History, Open, begun, committed, rolled_back, rolled_back_from}
 use Rattle.containers.specs.Base.{base, began}
 use Rattle.containers.proofs.Bases.{is_open}
 use Rattle.meaning.specs.State.{RunState, fresh_run}
-use Rattle.meaning.specs.Meaning.{Line}
+use Rattle.meaning.specs.Actions.{Action}
+use Rattle.meaning.specs.Meaning.{Acts}
 use Rattle.meaning.specs.declared.end.Ended.{Ended}
 use Rattle.meaning.specs.declared.end.Stop.{Stop}
 use Rattle.run_laws.specs.Laws.{HasMemory}
-use Rattle.run_laws.specs.Replaced.{replaced_line}
+use Rattle.run_laws.specs.Replaced.{replaced_acts}
 use Rattle.run_laws.proofs.Commands.{risen}
-use Rattle.run_laws.proofs.Rises.{rises_line}
+use Rattle.run_laws.proofs.Rises.{rises_acts}
 use Rattle.run_laws.proofs.Trails.{short_after}
 use Rattle.session.specs.Meaning.{ending_of, reply_of}
-use Rattle.session.specs.TakesLine.{Adds}
+use Rattle.session.specs.Replies.{refused}
+use Rattle.session.specs.TakesLine.{Adds, Does}
 use Rattle.session.specs.declared.reply.Ending.{Ending}
+use Rattle.session.specs.declared.reply.Refusal.TheVariants.{FieldLocked}
+use Rattle.session.specs.declared.reply.Reply.{Reply}
+use Rattle.user_actions.specs.Views.{ActionEnds}
 
 -- what stands round the batch is as before
 kept : (w w2 : History) → base w2 ≡ base w → w2 ≡ record w { now = w2.now; start = w2.start; turns = w2.turns }
@@ -44,11 +48,11 @@ has_memory : (end : Result Ended Stop) (ending : Ending) → ending_of end ≡ S
 has_memory end ending is = λ out. let none : None ≡ Some ending = sym (ap ending_of out) ∙ is in cc
 
 -- what it adds
-pub adds : (steps number : ℕ) (lines : Stmts) (old w new : History) (run : RunState) (end : Result Ended Stop) (ending : Ending)
-    → Line (begun old number) (fresh_run steps) lines end w run → base w ≡ base (begun old number) → ending_of end ≡ Some ending → IfSome w.start (λ o. IsOnce o.trail) → new ≡ committed w
-    → Adds steps lines number old (reply_of run ending) new
-adds steps number lines old w new run end ending means keeps ends once joined =
-    let b = risen (rises_line means (has_memory end ending ends)) in
+pub adds : (steps number : ℕ) (does : Action) (old w new : History) (run : RunState) (end : Result Ended Stop) (ending : Ending)
+    → Acts (begun old number) (fresh_run steps) does end w run → base w ≡ base (begun old number) → ending_of end ≡ Some ending → IfSome w.start (λ o. IsOnce o.trail) → new ≡ committed w
+    → Adds steps does number old (reply_of run ending) new
+adds steps number does old w new run end ending means keeps ends once joined =
+    let b = risen (rises_acts means (has_memory end ending ends)) in
     let is_once : IsOnce b.0.trail = rw b.1 at once in
     record {
       end = w;
@@ -60,7 +64,7 @@ adds steps number lines old w new run end ending means keeps ends once joined =
       forth = omega (arith, b.3.redo);
       trail = b.2;
       once = is_once;
-      few = short_after (replaced_line means) b.0.trail b.2 is_once;
+      few = short_after (replaced_acts means) b.0.trail b.2 is_once;
       joined = joined ∙ ap committed (kept (begun old number) w keeps ∙ ap (λ (s : Option Open). record old { now = w.now; start = s; turns = w.turns }) b.1);
     }
 
@@ -79,3 +83,40 @@ pub given_back : (old w new : History) (number : ℕ) → base w ≡ base (begun
 given_back old w new number keeps closed joined =
     let is : new ≡ record old { turns = w.turns } = joined ∙ rolled old w number keeps closed w.start (begin_kept (begun old number) w keeps) in
     is ∙ ap (λ (turns : List ℕ). record old { turns = turns }) (sym (ap (λ (h : History). h.turns) is))
+
+-- ---- what a user does
+
+-- how an action ends that isn't kept out
+abbrev pub some_end : Result Ended Stop → Result (Option Ended) Stop
+some_end (Ok ended) = Ok (Some ended)
+some_end (Err stop) = Err stop
+
+acted : (w r2 : History) (r r3 : RunState) (does : Action) (end : Result Ended Stop) → ActionEnds w r does (some_end end) r2 r3 → Acts w r does end r2 r3
+acted w r2 r r3 does (Ok ended) means = means
+acted w r2 r r3 does (Err stop) means = means
+
+module _ (steps number : ℕ) (does : Action) (old w0 w : History) (run0 run : RunState) (o : Result (Option Ended) Stop)
+    (begins : w0 ≡ begun old number) (fresh : run0 ≡ fresh_run steps) (keeps : base w ≡ base w0) (means : ActionEnds w0 run0 does o w run) where
+  from_here : (p : Result (Option Ended) Stop) → o ≡ p → ActionEnds (begun old number) (fresh_run steps) does p w run
+  from_here p is =
+      subst (λ (r : RunState). ActionEnds (begun old number) r does p w run) fresh
+      (subst (λ (h : History). ActionEnds h run0 does p w run) begins
+      (subst (λ (q : Result (Option Ended) Stop). ActionEnds w0 run0 does q w run) is means))
+
+  kept_base : base w ≡ base (begun old number)
+  kept_base = keeps ∙ ap base begins
+
+  pub finishes : (end : Result Ended Stop) (ending : Ending) (reply : Reply) (new : History) → o ≡ some_end end → ending_of end ≡ Some ending → reply ≡ reply_of run ending
+      → IfSome w.start (λ o. IsOnce o.trail) → new ≡ committed w → Does steps does number old reply new
+  finishes end ending reply new is ends told once joined =
+      let added : Adds steps does number old (reply_of run ending) new = adds steps number does old w new run end ending (acted (begun old number) w (fresh_run steps) run does end (from_here (some_end end) is)) kept_base ends once joined in
+      inl (subst (λ (r : Reply). Adds steps does number old r new) (sym told) added)
+
+  pub keeps_out : (reply : Reply) (new : History) → o ≡ Ok None → old.start ≡ None → reply ≡ refused FieldLocked → new ≡ rolled_back w → Does steps does number old reply new
+  keeps_out reply new is closed told joined = inr (record {
+    answer = told;
+    end = w;
+    run = run;
+    meets = from_here (Ok None) is;
+    same = given_back old w new number kept_base closed joined;
+  })

@@ -1,26 +1,31 @@
 -- What lines, calls and runs do to the list of whole states.
 use Rattle.std.proofs.Common.{◌≡◌, ℕ, zero, suc, ◌+◌, ◌-◌, ◌<◌, ◌≤◌, inl, inr, min, Bool, true, false, cond, List, [], ◌∷◌, ◌++◌, length, map, take, drop, refl, sym, ◌∙◌, ap, ap₂, subst, arith, append_assoc, length-append, length-take, length-drop}
-use Rattle.std.specs.Prelude.{Option, Some, None, option_map, Result, IsErrOf, ◌==◌, slice_get, nat_le, nat_lt, reverse, not, MatchBool}
+use Rattle.std.specs.Prelude.{◌⊎◌, Option, Some, None, option_map, Result, IsErrOf, ◌==◌, slice_get, nat_le, nat_lt, reverse, not, MatchBool}
 use Rattle.std.proofs.lemmas.List.{reverse-append, length-reverse, length-map, map-append, drop-append-le, take-append-drop}
 use Rattle.std.specs.Io.KnownBytes.{IsAtEnd}
 use Rattle.std.specs.List.{position, position_or_len, take-map}
 use Rattle.std.proofs.lemmas.List.Quantifiers.{position-Some}
 use Rattle.std.proofs.lemmas.Bool.{leb-true, leb-false, lt-ltb, le-ltb, cases_lt}
 use Rattle.std.proofs.Math.Seq.{take-append-add, drop-append_seam}
-use Rattle.ht_grammar.specs.Statements.{Stmts}
+use Rattle.devices.specs.Desks.{SeenDesk}
+use Rattle.meaning.specs.Actions.{Action}
 use Rattle.externals.specs.Cells.{Seen}
 use Rattle.journal_entries.specs.State.{State, titles_of, index_of}
 use Rattle.change_journal.specs.History.{History, Step, begun, step_with_external, plugged, unplugged_at, flipped_back, flipped_back_from, flipped_forth, flipped_forth_from}
 use Rattle.session.specs.declared.limits.TheConstants.{LONGEST_LINE}
-use Rattle.session.specs.Commands.{is_dot_line, command_in}
-use Rattle.session.specs.Headline.{Snapshot, Timeline, LineMoves, Does, DoesLine, Replaces, Moved, at_cursor, cursor_back, cursor_forth, cursor_back_to, before, later_or_here, last_numbered, with_one_more, without_one, line_counted}
+use Rattle.session.specs.Commands.{is_dot_line, command_in, behind_name, second, words}
+use Rattle.session.specs.Headline.{Snapshot, Timeline, LineMoves, Does, DoesLine, Replaces, KeepsOut, Commands, Moved, at_cursor, cursor_back, cursor_forth, cursor_back_to, before, later_or_here, last_numbered, with_one_more, without_one, line_counted}
 use Rattle.session.specs.Moves.{MovesTo, back_by, forth_by, stamps, undone, redone, undone_to, undone_by, places_to}
-use Rattle.session.specs.Replies.{Refuses, Typed, hypertalk, nothing, given_up, Moves, Looks}
+use Rattle.session.specs.Replies.{Refuses, Obeys, obeys, nothing, given_up, Moves, Looks, ShowsCells, cells_named}
+use Rattle.session.specs.Saving.{Settles, Takes}
 use Rattle.session.specs.Standing.{Standing, next_number}
-use Rattle.session.specs.TakesLine.{TakesLine, Adds, GivesUp, Types, Performs, Says}
-use Rattle.session.specs.Unzipped.{snapshots_of, all_snapshots, timeline_of, LinesFollow, MovesFollow, PlugsFollow, OpensFollow, RunsFollow, StopsFollow, without_if}
+use Rattle.session.specs.TakesLine as taken
+use Rattle.session.specs.TakesLine.{Adds, GivesUp, Performs, Says}
+use Rattle.session.specs.Unzipped.{snapshots_of, all_snapshots, timeline_of, timeline_beside, LinesFollow, MovesFollow, PlugsFollow, OpensFollow, RunsFollow, StopsFollow, without_if}
 use Rattle.session.specs.declared.command.Command.{Command}
 use Rattle.session.specs.declared.command.Command.TheVariants as commands
+use Rattle.session.specs.declared.command.Reading.{Reading}
+use Rattle.session.specs.declared.command.Reading.TheVariants.{Lines}
 use Rattle.session.specs.declared.reply.Refusal.{Refusal}
 use Rattle.session.specs.declared.reply.Refusal.TheVariants as refusals
 use Rattle.session.specs.declared.reply.Reply.{Reply}
@@ -254,8 +259,8 @@ joined_list depth old step added is =
 -- ---- lines
 
 module _ (lines steps : ℕ) where
-  adds_follow : (command : Stmts) (old : History) (reply : Reply) (new : History) → Adds steps command lines old reply new → Replaces command old.now (at lines steps old) reply (at lines steps new)
-  adds_follow command old reply new a =
+  adds_follow : (does : Action) (old : History) (reply : Reply) (new : History) → Adds steps does lines old reply new → Replaces does old.now (at lines steps old) reply (at lines steps new)
+  adds_follow does old reply new a =
       let step : Step = record { state = a.batch.state; stamp = old.stamp; undo = a.batch.undo; redo = a.batch.redo; trail = a.batch.trail } in
       let is : snapshot_of step ≡ present_of old = ap (λ (s : State). let x : Snapshot = record { state = s; number = old.stamp } in x) a.began in
       let numbered : Snapshot = record { state = a.end.now; number = a.batch.number } in
@@ -291,34 +296,50 @@ module _ (lines steps : ℕ) where
   gives_up_follows : (old : History) (reply : Reply) (new : History) → GivesUp old reply new → Refuses refusals.NoMemory (at lines steps old) reply (at lines steps new)
   gives_up_follows old reply new g = record { answer = g.answer; same = ap (at lines steps) g.same }
 
-  types_follow : (line : List ℕ) (old : History) (reply : Reply) (new : History) → Types steps line lines old reply new
-      → Typed (λ command. Replaces command old.now (at lines steps old) reply (at lines steps new)) (Refuses refusals.NoMemory (at lines steps old) reply (at lines steps new)) line (at lines steps old) reply (at lines steps new)
-  types_follow line old reply new (hypertalk {lines = command} reads a) = hypertalk reads (adds_follow command old reply new a)
-  types_follow line old reply new (nothing none r) = nothing none (refuses_follow refusals.BadCommand old reply new r)
-  types_follow line old reply new (given_up g) = given_up (gives_up_follows old reply new g)
+  does_follow : (does : Action) (old : History) (reply : Reply) (new : History) → taken.Does steps does lines old reply new
+      → Replaces does old.now (at lines steps old) reply (at lines steps new) ⊎ KeepsOut does old.now (at lines steps old) reply (at lines steps new)
+  does_follow does old reply new (inl a) = inl (adds_follow does old reply new a)
+  does_follow does old reply new (inr k) = inr (record {
+    locked = record { old = begun old lines; end = k.end; run = k.run; meets = k.meets; here = refl };
+    refuses = record { answer = k.answer; same = ap (at lines steps) k.same };
+  })
 
-  performs_follow : (command : Option Command) (old : History) (reply : Reply) (new : History) → Performs command old reply new → Does command old.now (at lines steps old) reply (at lines steps new)
-  performs_follow None old reply new p = refuses_follow refusals.BadCommand old reply new p
-  performs_follow (Some (commands.Undo k)) old reply new p = moves_by (undone k old) (cursor_back k (at lines steps old)) refusals.NothingToUndo old reply new (undone_is lines steps k old) p
-  performs_follow (Some (commands.Redo k)) old reply new p = moves_by (redone k old) (cursor_forth k (at lines steps old)) refusals.NothingToRedo old reply new (redone_is lines steps k old) p
-  performs_follow (Some (commands.UndoTo n)) old reply new p = moves_by (undone_to n old) (cursor_back_to n (at lines steps old)) refusals.NothingToUndo old reply new (undone_to_is lines steps n old) p
-  performs_follow (Some commands.Show) old reply new (inl s) = inl (record { lines = s.lines; look = looks_follow reply.shown old reply new s.look })
-  performs_follow (Some commands.Show) old reply new (inr r) = inr (refuses_follow refusals.NoMemory old reply new r)
-  performs_follow (Some commands.Globals) old reply new (inl l) = inl (looks_follow _ old reply new l)
-  performs_follow (Some commands.Globals) old reply new (inr r) = inr (refuses_follow refusals.NoMemory old reply new r)
-  performs_follow (Some commands.Where) old reply new (inl l) = inl (looks_follow _ old reply new l)
-  performs_follow (Some commands.Where) old reply new (inr r) = inr (refuses_follow refusals.NoMemory old reply new r)
-  performs_follow (Some commands.History) old reply new (inl l) = inl (rw (after_cursor old) (looks_follow _ old reply new l))
-  performs_follow (Some commands.History) old reply new (inr r) = inr (refuses_follow refusals.NoMemory old reply new r)
-  performs_follow (Some commands.Quit) old reply new p = (p.0, ap (at lines steps) p.1)
+  commands_follow : (reading : Reading) (text : List ℕ) (old : History) (reply : Reply) (new : History) → taken.Commands steps reading text lines old reply new
+      → Commands reading text old.now (at lines steps old) reply (at lines steps new)
+  commands_follow reading text old reply new (obeys {does} reads a) = obeys reads (does_follow does old reply new a)
+  commands_follow reading text old reply new (nothing none r) = nothing none (refuses_follow refusals.BadCommand old reply new r)
+  commands_follow reading text old reply new (given_up g) = given_up (gives_up_follows old reply new g)
+
+  cells_follow : (cells : Option (List (List ℕ))) (old : History) (reply : Reply) (new : History) → ShowsCells cells old reply new → ShowsCells cells (at lines steps old) reply (at lines steps new)
+  cells_follow (Some cells) old reply new (inl l) = inl (looks_follow _ old reply new l)
+  cells_follow (Some cells) old reply new (inr r) = inr (refuses_follow refusals.NoMemory old reply new r)
+  cells_follow None old reply new r = refuses_follow refusals.BadCommand old reply new r
+
+  performs_follow : (line : List ℕ) (command : Option Command) (old : History) (reply : Reply) (new : History) → Performs steps line lines command old reply new → Does line command old.now (at lines steps old) reply (at lines steps new)
+  performs_follow line None old reply new p = refuses_follow refusals.BadCommand old reply new p
+  performs_follow line (Some (commands.Undo k)) old reply new p = moves_by (undone k old) (cursor_back k (at lines steps old)) refusals.NothingToUndo old reply new (undone_is lines steps k old) p
+  performs_follow line (Some (commands.Redo k)) old reply new p = moves_by (redone k old) (cursor_forth k (at lines steps old)) refusals.NothingToRedo old reply new (redone_is lines steps k old) p
+  performs_follow line (Some (commands.UndoTo n)) old reply new p = moves_by (undone_to n old) (cursor_back_to n (at lines steps old)) refusals.NothingToUndo old reply new (undone_to_is lines steps n old) p
+  performs_follow line (Some commands.Show) old reply new (inl s) = inl (record { lines = s.lines; look = looks_follow reply.shown old reply new s.look })
+  performs_follow line (Some commands.Show) old reply new (inr r) = inr (refuses_follow refusals.NoMemory old reply new r)
+  performs_follow line (Some commands.Globals) old reply new (inl l) = inl (looks_follow _ old reply new l)
+  performs_follow line (Some commands.Globals) old reply new (inr r) = inr (refuses_follow refusals.NoMemory old reply new r)
+  performs_follow line (Some commands.Where) old reply new (inl l) = inl (looks_follow _ old reply new l)
+  performs_follow line (Some commands.Where) old reply new (inr r) = inr (refuses_follow refusals.NoMemory old reply new r)
+  performs_follow line (Some commands.History) old reply new (inl l) = inl (rw (after_cursor old) (looks_follow _ old reply new l))
+  performs_follow line (Some commands.History) old reply new (inr r) = inr (refuses_follow refusals.NoMemory old reply new r)
+  performs_follow line (Some commands.Cells) old reply new p = cells_follow (cells_named old.now (second (words line))) old reply new p
+  performs_follow line (Some commands.Save) old reply new (inl p) = inl (p.0, ap (at lines steps) p.1)
+  performs_follow line (Some commands.Save) old reply new (inr r) = inr (refuses_follow refusals.NoMemory old reply new r)
+  performs_follow line (Some (commands.Act reading)) old reply new p = commands_follow reading (behind_name line) old reply new p
+  performs_follow line (Some commands.Quit) old reply new p = (p.0, ap (at lines steps) p.1)
 
   says_follows : (line : List ℕ) (old : History) (reply : Reply) (new : History) → Says steps line lines old reply new → DoesLine line old.now (at lines steps old) reply (at lines steps new)
   says_follows line old reply new says =
-      elim (is_dot_line line) as (λ b. MatchBool b (Performs (command_in line) old reply new) (Types steps line lines old reply new)
-      → MatchBool b (Does (command_in line) old.now (at lines steps old) reply (at lines steps new))
-      (Typed (λ command. Replaces command old.now (at lines steps old) reply (at lines steps new)) (Refuses refusals.NoMemory (at lines steps old) reply (at lines steps new)) line (at lines steps old) reply (at lines steps new))) [
-        | true ↦ λ p. performs_follow (command_in line) old reply new p
-        | false ↦ λ p. types_follow line old reply new p
+      elim (is_dot_line line) as (λ b. MatchBool b (Performs steps line lines (command_in line) old reply new) (taken.Commands steps Lines line lines old reply new)
+      → MatchBool b (Does line (command_in line) old.now (at lines steps old) reply (at lines steps new)) (Commands Lines line old.now (at lines steps old) reply (at lines steps new))) [
+        | true ↦ λ p. performs_follow line (command_in line) old reply new p
+        | false ↦ λ p. commands_follow Lines line old reply new p
       ] says
 
 pub lines_follow : LinesFollow
@@ -375,10 +396,13 @@ opens_follow stack externals turns steps depth = refl
 
 -- ---- runs
 
+settles_follow : (line : List ℕ) (old : Standing × SeenDesk) (reply : Reply) (new : Standing × SeenDesk) → Takes line old reply new → Settles LineMoves line (timeline_beside old) reply (timeline_beside new)
+settles_follow line old reply new s = record { ending = s.ending; taken = lines_follow line old.0 (record reply { ending = s.ending }) new.0 s.taken; kept = s.kept }
+
 pub runs_follow : RunsFollow
 runs_follow left ran old read written new e =
-    let followed = ended_follows TakesLine LineMoves timeline_of lines_follow (IsAtEnd left) ran old read written new e in
-    (followed, run_lines LineMoves (IsAtEnd left) ran (timeline_of old) read written (timeline_of new) followed)
+    let followed = ended_follows Takes (Settles LineMoves) timeline_beside settles_follow (IsAtEnd left) ran old read written new e in
+    (followed, run_lines (Settles LineMoves) (IsAtEnd left) ran (timeline_beside old) read written (timeline_beside new) followed)
 
 pub stops_follow : StopsFollow
-stops_follow left fault old read written new s = stopped_follows TakesLine LineMoves timeline_of lines_follow (IsAtEnd left) fault old read written new s
+stops_follow left fault old read written new s = stopped_follows Takes (Settles LineMoves) timeline_beside settles_follow (IsAtEnd left) fault old read written new s

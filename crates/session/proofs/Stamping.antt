@@ -3,16 +3,18 @@ use Rattle.std.proofs.Common.{◌≡◌, ℕ, zero, suc, ◌+◌, ◌<◌, ◌�
 use Rattle.std.specs.Prelude.{Option, Some, None, IfSome, IfErr, OnOk, Result, Ok, Err, nat_le, slice_index_or}
 use Rattle.std.proofs.lemmas.Bool.{lt-leb}
 use Rattle.std.proofs.lemmas.List.{reverse-append, length-map}
-use Rattle.ht_grammar.specs.Statements.{Stmts}
+use Rattle.meaning.specs.Actions.{Action}
 use Rattle.externals.specs.Cells.{Seen}
 use Rattle.journal_entries.specs.State.{titles_of, index_of}
 use Rattle.change_journal.specs.History.{History, Step, stamp_at, step_with_external, plugged, unplugged, unplugged_at, flipped_back, flipped_back_from, flipped_forth, flipped_forth_from}
 use Rattle.session.specs.Moves.{MovesTo, back_by, forth_by, stamps, undone, redone, undone_to, undone_by, places_to}
-use Rattle.session.specs.Replies.{Moves, hypertalk, nothing, given_up}
+use Rattle.session.specs.Commands.{behind_name, second, words}
+use Rattle.session.specs.Replies.{Moves, obeys, nothing, given_up, ShowsCells, cells_named}
 use Rattle.session.specs.Stamped.{DescendFrom, numbers_of, all_stamps, AreStamped}
-use Rattle.session.specs.TakesLine.{Adds, Types, Performs}
+use Rattle.session.specs.TakesLine.{Adds, Does, Commands, Performs}
 use Rattle.session.specs.declared.command.Command.{Command}
 use Rattle.session.specs.declared.command.Command.TheVariants as commands
+use Rattle.session.specs.declared.command.Reading.{Reading}
 use Rattle.session.specs.declared.reply.Refusal.{Refusal}
 use Rattle.session.specs.declared.reply.Reply.{Reply}
 
@@ -129,8 +131,8 @@ moves : (n : ℕ) (there : Option History) (refusal : Refusal) (old new : Histor
 moves n (Some there) refusal old new reply leads d m = subst (AreStamped n) (sym m.1) leads
 moves n None refusal old new reply leads d m = subst (AreStamped n) (sym m.same) d
 
-adds : (steps : ℕ) (lines : Stmts) (n : ℕ) (old new : History) (reply : Reply) → AreStamped n old → Adds steps lines n old reply new → AreStamped n new
-adds steps lines n old new reply d a =
+adds : (steps : ℕ) (does : Action) (n : ℕ) (old new : History) (reply : Reply) → AreStamped n old → Adds steps does n old reply new → AreStamped n new
+adds steps does n old new reply d a =
     subst (AreStamped n) (sym a.joined) (subst (λ (m : ℕ). DescendFrom n (m ∷ numbers_of (take old.depth (record { state = a.batch.state; stamp = old.stamp; undo = a.batch.undo; redo = a.batch.redo; trail = a.batch.trail } ∷ old.past)))) (sym a.numbered) (le, joined))
   where
     le : n ≤ n
@@ -139,27 +141,40 @@ adds steps lines n old new reply d a =
     joined : DescendFrom n (numbers_of (take old.depth (record { state = a.batch.state; stamp = old.stamp; undo = a.batch.undo; redo = a.batch.redo; trail = a.batch.trail } ∷ old.past)))
     joined = descend-taken n old.depth (record { state = a.batch.state; stamp = old.stamp; undo = a.batch.undo; redo = a.batch.redo; trail = a.batch.trail } ∷ old.past) (here_back n old d)
 
--- a typed line of this number
-pub stamped-typed : (steps : ℕ) (line : List ℕ) (n : ℕ) (old new : History) (reply : Reply) → AreStamped n old → Types steps line n old reply new → AreStamped n new
-stamped-typed steps line n old new reply d (hypertalk {lines} reads a) = adds steps lines n old new reply d a
-stamped-typed steps line n old new reply d (nothing none p) = subst (AreStamped n) (sym p.same) d
-stamped-typed steps line n old new reply d (given_up p) = subst (AreStamped n) (sym p.same) d
+done_stamps : (steps : ℕ) (does : Action) (n : ℕ) (old new : History) (reply : Reply) → AreStamped n old → Does steps does n old reply new → AreStamped n new
+done_stamps steps does n old new reply d (inl a) = adds steps does n old new reply d a
+done_stamps steps does n old new reply d (inr k) = subst (AreStamped n) (sym k.same) d
+
+-- what a user does, as the line of this number
+pub stamped-done : (steps : ℕ) (reading : Reading) (text : List ℕ) (n : ℕ) (old new : History) (reply : Reply) → AreStamped n old → Commands steps reading text n old reply new → AreStamped n new
+stamped-done steps reading text n old new reply d (obeys {does} reads a) = done_stamps steps does n old new reply d a
+stamped-done steps reading text n old new reply d (nothing none p) = subst (AreStamped n) (sym p.same) d
+stamped-done steps reading text n old new reply d (given_up p) = subst (AreStamped n) (sym p.same) d
+
+shows_cells : (cells : Option (List (List ℕ))) (n : ℕ) (old new : History) (reply : Reply) → AreStamped n old → ShowsCells cells old reply new → AreStamped n new
+shows_cells (Some cells) n old new reply d (inl p) = subst (AreStamped n) (sym p.same) d
+shows_cells (Some cells) n old new reply d (inr p) = subst (AreStamped n) (sym p.same) d
+shows_cells None n old new reply d p = subst (AreStamped n) (sym p.same) d
 
 -- a dot line
-pub stamped-performed : (command : Option Command) (n : ℕ) (old new : History) (reply : Reply) → AreStamped n old → Performs command old reply new → AreStamped n new
-stamped-performed None n old new reply d p = subst (AreStamped n) (sym p.same) d
-stamped-performed (Some (commands.Undo k)) n old new reply d p = moves n (undone k old) _ old new reply (leads-undone n k old d) d p
-stamped-performed (Some (commands.Redo k)) n old new reply d p = moves n (redone k old) _ old new reply (leads-redone n k old d) d p
-stamped-performed (Some (commands.UndoTo k)) n old new reply d p = moves n (undone_to k old) _ old new reply (leads-undone_to n k old d) d p
-stamped-performed (Some commands.Show) n old new reply d (inl p) = subst (AreStamped n) (sym p.look.same) d
-stamped-performed (Some commands.Show) n old new reply d (inr p) = subst (AreStamped n) (sym p.same) d
-stamped-performed (Some commands.Globals) n old new reply d (inl p) = subst (AreStamped n) (sym p.same) d
-stamped-performed (Some commands.Globals) n old new reply d (inr p) = subst (AreStamped n) (sym p.same) d
-stamped-performed (Some commands.Where) n old new reply d (inl p) = subst (AreStamped n) (sym p.same) d
-stamped-performed (Some commands.Where) n old new reply d (inr p) = subst (AreStamped n) (sym p.same) d
-stamped-performed (Some commands.History) n old new reply d (inl p) = subst (AreStamped n) (sym p.same) d
-stamped-performed (Some commands.History) n old new reply d (inr p) = subst (AreStamped n) (sym p.same) d
-stamped-performed (Some commands.Quit) n old new reply d p = subst (AreStamped n) (sym p.1) d
+pub stamped-performed : (steps : ℕ) (line : List ℕ) (command : Option Command) (n : ℕ) (old new : History) (reply : Reply) → AreStamped n old → Performs steps line n command old reply new → AreStamped n new
+stamped-performed steps line None n old new reply d p = subst (AreStamped n) (sym p.same) d
+stamped-performed steps line (Some (commands.Undo k)) n old new reply d p = moves n (undone k old) _ old new reply (leads-undone n k old d) d p
+stamped-performed steps line (Some (commands.Redo k)) n old new reply d p = moves n (redone k old) _ old new reply (leads-redone n k old d) d p
+stamped-performed steps line (Some (commands.UndoTo k)) n old new reply d p = moves n (undone_to k old) _ old new reply (leads-undone_to n k old d) d p
+stamped-performed steps line (Some commands.Show) n old new reply d (inl p) = subst (AreStamped n) (sym p.look.same) d
+stamped-performed steps line (Some commands.Show) n old new reply d (inr p) = subst (AreStamped n) (sym p.same) d
+stamped-performed steps line (Some commands.Globals) n old new reply d (inl p) = subst (AreStamped n) (sym p.same) d
+stamped-performed steps line (Some commands.Globals) n old new reply d (inr p) = subst (AreStamped n) (sym p.same) d
+stamped-performed steps line (Some commands.Where) n old new reply d (inl p) = subst (AreStamped n) (sym p.same) d
+stamped-performed steps line (Some commands.Where) n old new reply d (inr p) = subst (AreStamped n) (sym p.same) d
+stamped-performed steps line (Some commands.History) n old new reply d (inl p) = subst (AreStamped n) (sym p.same) d
+stamped-performed steps line (Some commands.History) n old new reply d (inr p) = subst (AreStamped n) (sym p.same) d
+stamped-performed steps line (Some commands.Cells) n old new reply d p = shows_cells (cells_named old.now (second (words line))) n old new reply d p
+stamped-performed steps line (Some commands.Save) n old new reply d (inl p) = subst (AreStamped n) (sym p.1) d
+stamped-performed steps line (Some commands.Save) n old new reply d (inr p) = subst (AreStamped n) (sym p.same) d
+stamped-performed steps line (Some (commands.Act reading)) n old new reply d p = stamped-done steps reading (behind_name line) n old new reply d p
+stamped-performed steps line (Some commands.Quit) n old new reply d p = subst (AreStamped n) (sym p.1) d
 
 numbers-plugged : (x : Seen) (steps : List Step) → numbers_of (map (step_with_external x) steps) ≡ numbers_of steps
 numbers-plugged x [] = refl

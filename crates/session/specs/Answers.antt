@@ -5,7 +5,7 @@ use Rattle.ht_values.specs.Faults.{number_of_fault}
 use Rattle.session.specs.declared.reply.Refusal.{Refusal}
 use Rattle.session.specs.declared.reply.Refusal.TheVariants.{NothingToUndo, NothingToRedo, BadCommand, NoMemory, LineTooLong, FieldLocked, SaveFailed}
 use Rattle.session.specs.declared.reply.Ending.{Ending}
-use Rattle.session.specs.declared.reply.Ending.TheVariants.{Ok, Fault, Refused, Quit}
+use Rattle.session.specs.declared.reply.Ending.TheVariants.{Ok, Fault, Refused, Save, Quit}
 use Rattle.session.specs.declared.reply.Reply.{Reply}
 
 abbrev pub number_of_refusal : Refusal → ℕ
@@ -27,6 +27,7 @@ abbrev pub ending_line : Ending → List ℕ
 ending_line Ok = codes "ok\n"
 ending_line (Fault fault) = numbered_line (codes "fault ") (number_of_fault fault)
 ending_line (Refused refusal) = numbered_line (codes "refused ") (number_of_refusal refusal)
+ending_line (Save text) = codes "ok\n"
 ending_line Quit = codes "ok\n"
 
 -- the shown lines, and then the ending

@@ -1,11 +1,18 @@
 -- What a dot line says.
-use Rattle.std.specs.Prelude.{ℕ, Bool, true, false, ◌==◌, nat_eq, List, [], ◌∷◌, filter, codes, Option, Some, None, option_map, option_and_then, if◌then◌else◌, slice_index}
+use Rattle.std.specs.Prelude.{◌≡◌, ℕ, Bool, true, false, ◌==◌, nat_eq, List, [], ◌∷◌, drop, filter, codes, Option, Some, None, option_map, option_and_then, if◌then◌else◌, slice_index}
 use Rattle.std.specs.Cmp.Lexicographic.{pointwise}
 use Rattle.std.specs.Borrow.{Bor}
-use Rattle.std.specs.List.{slice_split}
+use Rattle.std.specs.List.{slice_split, position_or_len}
 use Rattle.stack_text.specs.Words.{number_at}
+use Rattle.ht_grammar.specs.Reads.{Reads, ReadsLines, ReadsPart, ReadsType}
+use Rattle.ht_grammar.specs.Statements.{Typed, typed}
+use Rattle.ht_lex.specs.Token.{Token}
+use Rattle.meaning.specs.Actions as act
+use Rattle.meaning.specs.Actions.{Action}
 use Rattle.session.specs.declared.command.Command.{Command}
-use Rattle.session.specs.declared.command.Command.TheVariants.{Undo, Redo, UndoTo, Show, Globals, Where, History, Quit}
+use Rattle.session.specs.declared.command.Command.TheVariants.{Undo, Redo, UndoTo, Show, Globals, Where, Cells, History, Save, Act, Quit}
+use Rattle.session.specs.declared.command.Reading.{Reading}
+use Rattle.session.specs.declared.command.Reading.TheVariants.{Lines, Opening, Reference, Typing}
 
 -- a dot line begins with the dot, and each other line is HyperTalk
 abbrev pub is_dot_line : List ℕ → Bool
@@ -45,24 +52,59 @@ named name =
     (if is name (codes ".globals") then Some Globals else
     (if is name (codes ".where") then Some Where else
     (if is name (codes ".history") then Some History else
-    (if is name (codes ".quit") then Some Quit else None))))))
+    (if is name (codes ".save") then Some Save else
+    (if is name (codes ".open") then Some (Act Opening) else
+    (if is name (codes ".quit") then Some Quit else None))))))))
 
--- `.undo K` and `.redo K`
+-- `.undo K`, `.redo K` and `.cells NAME`
 abbrev pub counted : List ℕ → List ℕ → Option Command
 counted name word =
     if is name (codes ".undo") then option_map Undo (places word) else
-    (if is name (codes ".redo") then option_map Redo (places word) else None)
+    (if is name (codes ".redo") then option_map Redo (places word) else
+    (if is name (codes ".cells") then Some Cells else None))
 
 -- `.undo to N`
 abbrev pub to_line : List ℕ → List ℕ → List ℕ → Option Command
 to_line name to word = if is name (codes ".undo") then (if is to (codes "to") then option_map UndoTo (number_at word) else None) else None
 
+abbrev pub worded : List (List ℕ) → Option Command
+worded (name ∷ []) = named name
+worded (name ∷ word ∷ []) = counted name word
+worded (name ∷ to ∷ word ∷ []) = to_line name to word
+worded _ = None
+
+-- `.click` and `.type`, behind which the text is read by the tokens of the language
 abbrev pub command_by : List (List ℕ) → Option Command
-command_by (name ∷ []) = named name
-command_by (name ∷ word ∷ []) = counted name word
-command_by (name ∷ to ∷ word ∷ []) = to_line name to word
-command_by _ = None
+command_by [] = None
+command_by (name ∷ rest) =
+    if is name (codes ".click") then Some (Act Reference) else
+    (if is name (codes ".type") then Some (Act Typing) else worded (name ∷ rest))
 
 -- what a dot line says, if it says anything
 abbrev pub command_in : List ℕ → Option Command
 command_in line = command_by (words line)
+
+-- what stands behind the name of a dot line, from the first space on
+abbrev pub behind_name : List ℕ → List ℕ
+behind_name line = drop (position_or_len (λ b. b == 32) line) line
+
+-- the word behind the name
+abbrev pub second : List (List ℕ) → List ℕ
+second (name ∷ word ∷ rest) = word
+second _ = []
+
+-- ---- what a user does
+
+-- a text has one tree of a kind, which makes this action
+abbrev pub ReadAs : {T : Type 0} → (List Token → T → Type 0) → (T → Action) → List ℕ → Action → Type 0
+ReadAs {T} IsTree action text does = (tree : T) × Reads IsTree text tree × (does ≡ action tree)
+
+abbrev pub typing : Typed → Action
+typing (typed text field) = act.type_text text field
+
+-- a text is read as what a user does: lines of HyperTalk, the reference of `.click`, or a text in quotes and a field
+abbrev pub ReadsAction : Reading → List ℕ → Action → Type 0
+ReadsAction Lines text does = ReadAs ReadsLines act.run_lines text does
+ReadsAction Opening text does = does ≡ act.open_stack
+ReadsAction Reference text does = ReadAs ReadsPart act.click text does
+ReadsAction Typing text does = ReadAs ReadsType typing text does

@@ -1,20 +1,24 @@
 -- The headline: a list of whole states with a cursor, and what each line and each call does to it.
 use Rattle.std.specs.Prelude.{◌≡◌, ◌⊎◌, ℕ, suc, ◌+◌, ◌-◌, min, Bool, List, [], ◌∷◌, ◌++◌, length, map, take, drop, decimal, Option, Some, None, option_map, Result, IsOk, IsErrOf, ◌==◌, slice_get, nat_le, nat_lt, if◌then◌else◌, MatchBool}
-use Rattle.ht_grammar.specs.Statements.{Stmts}
+use Rattle.devices.specs.Desks.{SeenDesk}
 use Rattle.externals.specs.Cells.{Seen}
 use Rattle.object_table.specs.Content.{Content}
 use Rattle.journal_entries.specs.State.{State, first_state}
 use Rattle.change_journal.specs.History.{with_external, without_at}
-use Rattle.session.specs.Commands.{is_dot_line, command_in}
+use Rattle.meaning.specs.Actions.{Action}
+use Rattle.session.specs.Commands.{is_dot_line, command_in, behind_name, second, words, ReadsAction}
 use Rattle.session.specs.Conversation.{Session}
-use Rattle.session.specs.Meaning.{Fresh}
-use Rattle.session.specs.Replies.{ended, Refuses, Typed, Moves, Looks, ShowsStack, global_lines, history_line}
+use Rattle.session.specs.Meaning.{Fresh, Locked}
+use Rattle.session.specs.Replies.{ended, Refuses, Obeys, Moves, Looks, ShowsStack, ShowsCells, Saves, cells_named, global_lines, history_line}
+use Rattle.session.specs.Saving.{Settles}
 use Rattle.session.specs.Standing.{next_number}
 use Rattle.session.specs.declared.command.Command.{Command}
-use Rattle.session.specs.declared.command.Command.TheVariants.{Undo, Redo, UndoTo, Show, Globals, Where, History, Quit}
+use Rattle.session.specs.declared.command.Command.TheVariants.{Undo, Redo, UndoTo, Show, Globals, Where, Cells, History, Save, Act, Quit}
+use Rattle.session.specs.declared.command.Reading.{Reading}
+use Rattle.session.specs.declared.command.Reading.TheVariants.{Lines}
 use Rattle.session.specs.declared.limits.TheConstants.{LONGEST_LINE}
 use Rattle.session.specs.declared.reply.Refusal.{Refusal}
-use Rattle.session.specs.declared.reply.Refusal.TheVariants.{NothingToUndo, NothingToRedo, BadCommand, NoMemory, LineTooLong}
+use Rattle.session.specs.declared.reply.Refusal.TheVariants.{NothingToUndo, NothingToRedo, BadCommand, NoMemory, LineTooLong, FieldLocked}
 use Rattle.session.specs.declared.reply.Ending.TheVariants as endings
 use Rattle.session.specs.declared.reply.Reply.{Reply}
 
@@ -45,10 +49,19 @@ abbrev pub followed_by : Timeline → Snapshot → Timeline
 followed_by t after = record t { snapshots = drop (t.cursor + 1 - t.depth) (take (t.cursor + 1) t.snapshots ++ after ∷ []); cursor = min t.depth (t.cursor + 1) }
 
 -- A fresh command, however it ended, replaces all after the cursor by a state that its meaning allows.
-pub record Replaces (lines : Stmts) (state : State) (old : Timeline) (reply : Reply) (new : Timeline) : Type 0 where
+pub record Replaces (does : Action) (state : State) (old : Timeline) (reply : Reply) (new : Timeline) : Type 0 where
   pub after : State
-  pub allowed : Fresh state old.steps lines reply after
+  pub allowed : Fresh state old.steps does reply after
   pub list : new ≡ followed_by old (record { state = after; number = old.lines })
+
+-- Typing into a field that is locked changes nothing.
+pub record KeepsOut (does : Action) (state : State) (old : Timeline) (reply : Reply) (new : Timeline) : Type 0 where
+  pub locked : Locked state old.steps does
+  pub refuses : Refuses FieldLocked old reply new
+
+-- what a user does
+abbrev pub Commands : Reading → List ℕ → State → Timeline → Reply → Timeline → Type 0
+Commands reading text state old reply new = Obeys (ReadsAction reading) (λ does. Replaces does state old reply new ⊎ KeepsOut does state old reply new) (Refuses NoMemory old reply new) text old reply new
 
 -- ---- undo and redo
 
@@ -84,20 +97,23 @@ cursor_back_to n t = before t.cursor (last_numbered n (take (t.cursor + 1) t.sna
 -- ---- lines
 
 -- what a dot line does by what it says, and by the state at the cursor
-abbrev pub Does : Option Command → State → Timeline → Reply → Timeline → Type 0
-Does None state old reply new = Refuses BadCommand old reply new
-Does (Some (Undo k)) state old reply new = Moves (option_map (at_cursor old) (cursor_back k old)) NothingToUndo old reply new
-Does (Some (Redo k)) state old reply new = Moves (option_map (at_cursor old) (cursor_forth k old)) NothingToRedo old reply new
-Does (Some (UndoTo n)) state old reply new = Moves (option_map (at_cursor old) (cursor_back_to n old)) NothingToUndo old reply new
-Does (Some Show) state old reply new = ShowsStack state old reply new ⊎ Refuses NoMemory old reply new
-Does (Some Globals) state old reply new = Looks (global_lines state) old reply new ⊎ Refuses NoMemory old reply new
-Does (Some Where) state old reply new = Looks (decimal state.current ∷ []) old reply new ⊎ Refuses NoMemory old reply new
-Does (Some History) state old reply new = Looks (history_line old.cursor (length old.snapshots - (old.cursor + 1)) ∷ []) old reply new ⊎ Refuses NoMemory old reply new
-Does (Some Quit) state old reply new = (reply ≡ ended endings.Quit) × (new ≡ old)
+abbrev pub Does : List ℕ → Option Command → State → Timeline → Reply → Timeline → Type 0
+Does line None state old reply new = Refuses BadCommand old reply new
+Does line (Some (Undo k)) state old reply new = Moves (option_map (at_cursor old) (cursor_back k old)) NothingToUndo old reply new
+Does line (Some (Redo k)) state old reply new = Moves (option_map (at_cursor old) (cursor_forth k old)) NothingToRedo old reply new
+Does line (Some (UndoTo n)) state old reply new = Moves (option_map (at_cursor old) (cursor_back_to n old)) NothingToUndo old reply new
+Does line (Some Show) state old reply new = ShowsStack state old reply new ⊎ Refuses NoMemory old reply new
+Does line (Some Globals) state old reply new = Looks (global_lines state) old reply new ⊎ Refuses NoMemory old reply new
+Does line (Some Where) state old reply new = Looks (decimal state.current ∷ []) old reply new ⊎ Refuses NoMemory old reply new
+Does line (Some History) state old reply new = Looks (history_line old.cursor (length old.snapshots - (old.cursor + 1)) ∷ []) old reply new ⊎ Refuses NoMemory old reply new
+Does line (Some Cells) state old reply new = ShowsCells (cells_named state (second (words line))) old reply new
+Does line (Some Save) state old reply new = Saves state old reply new ⊎ Refuses NoMemory old reply new
+Does line (Some (Act reading)) state old reply new = Commands reading (behind_name line) state old reply new
+Does line (Some Quit) state old reply new = (reply ≡ ended endings.Quit) × (new ≡ old)
 
 -- each other line is a fresh command where it is HyperTalk
 abbrev pub DoesLine : List ℕ → State → Timeline → Reply → Timeline → Type 0
-DoesLine line state old reply new = MatchBool (is_dot_line line) (Does (command_in line) state old reply new) (Typed (λ lines. Replaces lines state old reply new) (Refuses NoMemory old reply new) line old reply new)
+DoesLine line state old reply new = MatchBool (is_dot_line line) (Does line (command_in line) state old reply new) (Commands Lines line state old reply new)
 
 -- the line is counted
 abbrev pub line_counted : Timeline → Timeline
@@ -150,5 +166,6 @@ without_plugged i t = record t { snapshots = map (without_one i) (take 1 (drop t
 -- are those of a list of whole states with a cursor: a fresh command, however it ended, replaces all after the cursor
 -- by a state that the written meaning of HyperTalk allows; undo and redo only move the cursor; a command refused for
 -- memory changes nothing.
-abbrev pub Headline : Timeline → List (List ℕ) → List ℕ → Timeline → Type 0
-Headline old lines text new = Session LineMoves old lines text new
+-- Beside it stands a desk: a line that saves is answered by whether the desk kept its text.
+abbrev pub Headline : Timeline × SeenDesk → List (List ℕ) → List ℕ → Timeline × SeenDesk → Type 0
+Headline old lines text new = Session (Settles LineMoves) old lines text new

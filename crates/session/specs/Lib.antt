@@ -7,6 +7,7 @@ pub mod Meaning
 pub mod Moves
 pub mod Opening
 pub mod Replies
+pub mod Saving
 pub mod Splits
 pub mod Stamped
 pub mod Standing

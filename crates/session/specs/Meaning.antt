@@ -1,18 +1,19 @@
 -- What a fresh command means.
 use Rattle.std.specs.Prelude.{◌≡◌, ℕ, Option, Some, None, Result, Ok, Err}
-use Rattle.ht_grammar.specs.Statements.{Stmts}
 use Rattle.journal_entries.specs.State.{State}
 use Rattle.change_journal.specs.History.{History}
 use Rattle.meaning.specs.State.{RunState, fresh_run}
-use Rattle.meaning.specs.Meaning.{Line}
+use Rattle.meaning.specs.Actions.{Action}
+use Rattle.meaning.specs.Meaning.{Acts}
 use Rattle.meaning.specs.declared.end.Ended.{Ended}
 use Rattle.meaning.specs.declared.end.Stop.{Stop}
 use Rattle.meaning.specs.declared.end.Stop.TheVariants as stop
 use Rattle.session.specs.declared.reply.Ending.{Ending}
 use Rattle.session.specs.declared.reply.Ending.TheVariants as endings
 use Rattle.session.specs.declared.reply.Reply.{Reply}
+use Rattle.user_actions.specs.Views.{MeetsLock}
 
--- How a line is answered that ended so: `exit to HyperCard` is no fault. One that is out of memory isn't a fresh command.
+-- How a command is answered that ended so: `exit to HyperCard` is no fault. One that is out of memory isn't a fresh command.
 abbrev pub ending_of : Result Ended Stop → Option Ending
 ending_of (Ok ended) = Some endings.Ok
 ending_of (Err stop.Exited) = Some endings.Ok
@@ -22,21 +23,29 @@ ending_of (Err stop.Memory) = None
 abbrev pub reply_of : RunState → Ending → Reply
 reply_of run ending = record { shown = run.shown; sent = run.sent; ending = ending }
 
--- Lines run as a command with so many steps, by the written meaning of HyperTalk, lead from one history to the other. The
--- run begins with its properties as they are at first and with an empty result. The reply has what it showed and sent, and
--- how it ended.
-pub record Runs (old : History) (steps : ℕ) (lines : Stmts) (reply : Reply) (new : History) : Type 0 where
+-- What a user does leads from one history to the other, by the written meaning of HyperTalk, as a command with so many steps.
+-- The run begins with its properties as they are at first and with an empty result. The reply has what it showed and sent,
+-- and how it ended.
+pub record Runs (old : History) (steps : ℕ) (does : Action) (reply : Reply) (new : History) : Type 0 where
   pub run : RunState
   pub end : Result Ended Stop
-  pub means : Line old (fresh_run steps) lines end new run
+  pub means : Acts old (fresh_run steps) does end new run
   pub ending : Ending
   pub ends : ending_of end ≡ Some ending
   pub answer : reply ≡ reply_of run ending
 
--- A fresh command of these lines, in a state and with so many steps, is answered so and leaves this state.
-pub record Fresh (s : State) (steps : ℕ) (lines : Stmts) (reply : Reply) (new : State) : Type 0 where
+-- A fresh command, in a state and with so many steps, is answered so and leaves this state.
+pub record Fresh (s : State) (steps : ℕ) (does : Action) (reply : Reply) (new : State) : Type 0 where
   pub old : History
   pub end : History
-  pub runs : Runs old steps lines reply end
+  pub runs : Runs old steps does reply end
   pub here : old.now ≡ s
   pub leaves : new ≡ end.now
+
+-- A text is typed, in a state and with so many steps, into a field that is locked.
+pub record Locked (s : State) (steps : ℕ) (does : Action) : Type 0 where
+  pub old : History
+  pub end : History
+  pub run : RunState
+  pub meets : MeetsLock old (fresh_run steps) does end run
+  pub here : old.now ≡ s

@@ -1,14 +1,18 @@
 -- Where a session stands, as a list of whole states with a cursor; and the laws that each line, each call and each run
 -- does to it what the headline says.
-use Rattle.std.specs.Prelude.{◌≡◌, ℕ, List, ◌∷◌, ◌++◌, length, map, reverse, Option, Some, None, Result, IsErrOf, ◌==◌, MatchBool}
+use Rattle.std.specs.Prelude.{◌≡◌, ◌⊎◌, ◌≤◌, ◌-◌, ◌^◌, ℕ, List, ◌∷◌, ◌++◌, length, map, reverse, Option, Some, None, Result, IsErrOf, ◌==◌, MatchBool}
 use Rattle.std.specs.Io.KnownBytes.{IsAtEnd}
+use Rattle.devices.specs.Desks.{SeenDesk}
+use Rattle.devices.specs.Watching.{Rose}
 use Rattle.externals.specs.Cells.{Seen}
 use Rattle.object_table.specs.Content.{Content}
 use Rattle.journal_entries.specs.State.{titles_of, index_of}
 use Rattle.change_journal.specs.History.{History, Step, plugged, unplugged}
+use Rattle.session.specs.Conversation.{Session}
 use Rattle.session.specs.Headline.{Snapshot, Timeline, LineMoves, Headline, Undoes, Redoes, UndoesTo, beginning, with_plugged, without_plugged}
 use Rattle.session.specs.Moves.{MovesTo, undone, redone, undone_to}
 use Rattle.session.specs.Opening.{opened}
+use Rattle.session.specs.Saving.{Kept, Beside, Settles, Takes}
 use Rattle.session.specs.Splits.{AreLines}
 use Rattle.session.specs.Standing.{Standing}
 use Rattle.session.specs.Stops.{Ended, Stopped}
@@ -59,13 +63,23 @@ PlugsFollow = (s : Standing) (x : Seen) (turns : ℕ) (name : List ℕ)
 abbrev pub OpensFollow : Type 0
 OpensFollow = (stack : Content) (externals : List Seen) (turns : List ℕ) (steps depth : ℕ) → timeline_of (opened stack externals turns steps depth) ≡ beginning stack externals steps depth
 
+-- a session beside a desk
+abbrev pub timeline_beside : Standing × SeenDesk → Timeline × SeenDesk
+timeline_beside s = (timeline_of s.0, s.1)
+
 -- A run that ended, with this left to read where that is known, did what the headline says to the list of the
--- session's states.
+-- session's states, beside the desk.
 abbrev pub RunsFollow : Type 0
-RunsFollow = (left : Option (List ℕ)) (ran : Ran) (old : Standing) (read written : List ℕ) (new : Standing) → Ended TakesLine (IsAtEnd left) ran old read written new
-    → Ended LineMoves (IsAtEnd left) ran (timeline_of old) read written (timeline_of new) × ((lines : List (List ℕ)) × AreLines read lines × Headline (timeline_of old) lines written (timeline_of new))
+RunsFollow = (left : Option (List ℕ)) (ran : Ran) (old : Standing × SeenDesk) (read written : List ℕ) (new : Standing × SeenDesk) → Ended Takes (IsAtEnd left) ran old read written new
+    → Ended (Settles LineMoves) (IsAtEnd left) ran (timeline_beside old) read written (timeline_beside new) × ((lines : List (List ℕ)) × AreLines read lines × Headline (timeline_beside old) lines written (timeline_beside new))
 
 -- and so did a run that stopped, as far as it came
 abbrev pub StopsFollow : Type 0
-StopsFollow = (left : Option (List ℕ)) (fault : RunFault) (old : Standing) (read written : List ℕ) (new : Standing) → Stopped TakesLine (IsAtEnd left) fault old read written new
-    → Stopped LineMoves (IsAtEnd left) fault (timeline_of old) read written (timeline_of new)
+StopsFollow = (left : Option (List ℕ)) (fault : RunFault) (old : Standing × SeenDesk) (read written : List ℕ) (new : Standing × SeenDesk) → Stopped Takes (IsAtEnd left) fault old read written new
+    → Stopped (Settles LineMoves) (IsAtEnd left) fault (timeline_beside old) read written (timeline_beside new)
+
+-- Beside a desk whose count of failures didn't rise all that was saved is kept: each line that saves is answered `ok`, and
+-- the desk has its text until another line saves.
+abbrev pub SavesFollow : Type 0
+SavesFollow = (old : Timeline × SeenDesk) (lines : List (List ℕ)) (text : List ℕ) (new : Timeline × SeenDesk) → old.1.failures ≤ 2 ^ 64 - 1 → Headline old lines text new
+    → Session (Beside Kept LineMoves) old lines text new ⊎ Rose old.1.failures new.1.failures

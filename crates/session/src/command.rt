@@ -3,9 +3,22 @@
 ghost use Rattle.std.specs.Prelude.{◌≡◌, ◌<◌, ◌≤◌, ◌==◌, ℕ, List, [], ◌∷◌, length};
 ghost use Rattle.std.specs.List.{position, position_or_len};
 ghost use Rattle.session.specs.Commands as commands;
-ghost use Rattle.session.specs.Commands.{after_spaces as from_first_word, is as is_word, is_dot_line as begins_with_dot, command_by, words, word_and_rest, places, named, counted, to_line};
+ghost use Rattle.session.specs.Commands.{after_spaces as from_first_word, behind_name as from_first_space, is as is_word, is_dot_line as begins_with_dot, second, words, word_and_rest, places, named, counted, to_line, worded};
 
 use stack_file::number_at;
+
+/// How a text is read that says what a user does.
+#[derive(Clone, Copy)]
+pub enum Reading {
+    /// As lines of HyperTalk.
+    Lines,
+    /// Not at all: `.open` says it.
+    Opening,
+    /// As the reference of `.click`.
+    Reference,
+    /// As what stands behind `.type`.
+    Typing,
+}
 
 /// What a dot line says.
 #[derive(Clone, Copy)]
@@ -16,7 +29,11 @@ pub enum Command {
     Show,
     Globals,
     Where,
+    Cells,
     History,
+    Save,
+    /// What stands behind the name is read so and done.
+    Act(Reading),
     Quit,
 }
 
@@ -32,6 +49,19 @@ pub fn command_in(line: &[u8]) -> Option<Command>
     ensures { result ≡ commands.command_in line.now }
 {
     let (name, rest) = next_word(line)?;
+    if is(name, b".click") {
+        return Some(Command::Act(Reading::Reference));
+    }
+    if is(name, b".type") {
+        return Some(Command::Act(Reading::Typing));
+    }
+    worded_in(name, rest)
+}
+
+/// What a dot line says whose words stand between spaces: the name, and what follows it.
+fn worded_in(name: &[u8], rest: &[u8]) -> Option<Command>
+    ensures { result ≡ worded (name.now ∷ words rest.now) }
+{
     let Some((second, rest)) = next_word(rest) else {
         return named_in(name);
     };
@@ -110,6 +140,10 @@ fn named_in(name: &[u8]) -> Option<Command>
         Some(Command::Where)
     } else if is(name, b".history") {
         Some(Command::History)
+    } else if is(name, b".save") {
+        Some(Command::Save)
+    } else if is(name, b".open") {
+        Some(Command::Act(Reading::Opening))
     } else if is(name, b".quit") {
         Some(Command::Quit)
     } else {
@@ -117,7 +151,7 @@ fn named_in(name: &[u8]) -> Option<Command>
     }
 }
 
-/// `.undo K` and `.redo K`
+/// `.undo K`, `.redo K` and `.cells NAME`
 fn counted_in(name: &[u8], word: &[u8]) -> Option<Command>
     ensures { result ≡ counted name.now word.now }
 {
@@ -126,6 +160,9 @@ fn counted_in(name: &[u8], word: &[u8]) -> Option<Command>
     }
     if is(name, b".redo") {
         return Some(Command::Redo(places_in(word)?));
+    }
+    if is(name, b".cells") {
+        return Some(Command::Cells);
     }
     None
 }
@@ -138,4 +175,25 @@ fn to_line_in(name: &[u8], to: &[u8], word: &[u8]) -> Option<Command>
         return Some(Command::UndoTo(number_at(word)?));
     }
     None
+}
+
+/// What stands behind the name of a dot line, from the first space on.
+pub fn behind_name(line: &[u8]) -> &[u8]
+    ensures text { result.now ≡ from_first_space line.now }
+    ensures short { length result.now ≤ length line.now }
+{
+    &line[word_length(line)..]
+}
+
+/// The word behind the name of a dot line; empty where there is none.
+pub fn second_word(line: &[u8]) -> &[u8]
+    ensures { result.now ≡ second (words line.now) }
+{
+    match next_word(line) {
+        Some((_, rest)) => match next_word(rest) {
+            Some((word, _)) => word,
+            None => b"",
+        },
+        None => b"",
+    }
 }

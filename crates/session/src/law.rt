@@ -1,6 +1,6 @@
 //! What lines, calls and runs do to the list of whole states: the headline as laws over the definitions.
 
-ghost use Rattle.session.specs.Unzipped.{LinesFollow, MovesFollow, PlugsFollow, OpensFollow, RunsFollow, StopsFollow};
+ghost use Rattle.session.specs.Unzipped.{LinesFollow, MovesFollow, PlugsFollow, OpensFollow, RunsFollow, StopsFollow, SavesFollow};
 
 /// A fresh command, however it ended, replaces all after the cursor by a state that its meaning allows,
 /// undo and redo only move the cursor, and a line refused for memory changes nothing but its number.
@@ -31,4 +31,9 @@ pub fn runs_follow()
 /// A run that stopped did so as far as it came.
 pub fn stops_follow()
     ensures { StopsFollow }
+{}
+
+/// Beside a desk whose count of failures didn't rise all that was saved is kept.
+pub fn saves_follow()
+    ensures { SavesFollow }
 {}

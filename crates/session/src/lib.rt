@@ -15,7 +15,9 @@ mod session;
 pub use change_journal::{MOST_DEPTH, PlugError};
 pub use conversation::{Ran, RunFault, run};
 pub use fault::OpenError;
-pub use law::{lines_follow, moves_follow, opens_follow, plugs_follow, runs_follow, stops_follow};
+pub use law::{
+    lines_follow, moves_follow, opens_follow, plugs_follow, runs_follow, saves_follow, stops_follow,
+};
 pub use limits::{LAST_NUMBER, LONGEST_LINE, MOST_BYTES, MOST_LINES, MOST_STEPS};
 pub use meaning::{Line, Sent, SentMessage, Shown};
 pub use reply::{Bytes, Ending, Refusal, Reply};

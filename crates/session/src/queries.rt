@@ -1,16 +1,20 @@
 //! What the lines that look show.
 
-ghost use Rattle.std.specs.Prelude.{◌≡◌, ◌<◌, ◌==◌, [], ◌∷◌, ◌++◌, decimal, length, map, OnOk, IfOk, IfSome, List, ℕ};
+ghost use Rattle.std.specs.Prelude.{◌≡◌, ◌<◌, ◌==◌, [], ◌∷◌, ◌++◌, decimal, length, map, OnOk, IfOk, IfSome, None, List, ℕ, if◌then◌else◌};
 ghost use Rattle.std.specs.FinMap.{entries};
 ghost use Rattle.std.specs.List.{position};
 ghost use Rattle.std.specs.Map.Iter.{deref_pair};
 ghost use Rattle.stack_text.specs.declared.sheets.Version.TheVariants.{Second as second};
 ghost use Rattle.stack_text.specs.Listing.{spelling};
 ghost use Rattle.session.specs.Splits.{Splits};
+ghost use Rattle.stack_text.specs.Words.{spelled};
+ghost use Rattle.ht_lex.specs.Words.{is_name as is_unreserved};
+ghost use Rattle.journal_entries.specs.State.{index_of, titles_of};
 ghost use Rattle.session.specs.Replies.{history_line as line_of_history, global_line, global_lines};
 
 use change_journal::World;
 use externals::External;
+use ht_lex::{is_name, is_same};
 use itoa::Buffer;
 use meaning::{Line, Shown};
 use stack_file::{spell_into, write};
@@ -117,6 +121,35 @@ pub fn globals_shown<E: External>(alloc: Global, world: &World<E>) -> Result<Sho
     let mut shown = Shown::new(alloc);
     for (name, value) in &ordered {
         shown.push(Line::new(spelled_global(alloc, name, value)?))?;
+    }
+    Ok(shown)
+}
+
+/// The number of the external of a name, which is an unreserved word; case is ignored.
+pub fn external_named<E: External>(world: &World<E>, name: &[u8]) -> Option<usize>
+    ensures value { result ≡ (if is_unreserved name.now then index_of name.now (titles_of world.now.history.now.externals) else None) }
+    ensures there { IfSome result (λ i. i < length world.now.history.now.externals) }
+{
+    if !is_name(name) {
+        return None;
+    }
+    for i in 0..world.external_count() {
+        if is_same(world.external(i).name().as_slice(), name) {
+            return Some(i);
+        }
+    }
+    None
+}
+
+/// The cells of an external, each spelled as a text.
+pub fn cells_shown<E: External>(alloc: Global, external: &E) -> Result<Shown, AllocError>
+    ensures { IfOk result (λ shown. shown ≡ map spelled (E.cells external.now)) }
+{
+    let mut shown = Shown::new(alloc);
+    for i in 0..external.cell_count() {
+        let mut line = Vec::new(alloc);
+        spell_into(&mut line, external.cell(i).as_slice())?;
+        shown.push(Line::new(line))?;
     }
     Ok(shown)
 }

@@ -2,6 +2,7 @@
 
 ghost use Rattle.std.specs.Prelude.{◌≡◌, ◌++◌, OnOk, IfOk};
 ghost use Rattle.session.specs.Answers.{answer, ending_line, numbered_line, number_of_refusal};
+ghost use Rattle.session.specs.Replies.{ended as ended_by, refused as refused_by};
 
 use ht_values::Fault;
 use itoa::Buffer;
@@ -37,6 +38,26 @@ impl Bytes {
     {
         self.bytes.as_slice()
     }
+}
+
+impl PartialEq for Bytes {
+    ghost use Rattle.std.specs.Prelude.{nat_eq};
+    ghost use Rattle.std.specs.Cmp.{partial_equiv_from_equiv};
+    ghost use Rattle.std.specs.Cmp.Lexicographic.{pointwise, nat_list_eq_equiv};
+
+    ghost eq = { pointwise nat_eq };
+
+    ghost laws = { partial_equiv_from_equiv nat_list_eq_equiv };
+
+    fn eq(&self, other: &Self) -> bool {
+        self.as_slice() == other.as_slice()
+    }
+}
+
+impl Eq for Bytes {
+    ghost use Rattle.std.specs.Cmp.Lexicographic.{nat_list_eq_equiv};
+
+    ghost laws = { nat_list_eq_equiv };
 }
 
 /// Why a line was refused. The session stays as it was, but for the number of its lines. The numbers
@@ -84,12 +105,15 @@ impl Refusal {
 }
 
 /// How a line ended.
-#[derive(Clone, Copy, PartialEq, Eq, Debug)]
+#[derive(PartialEq, Eq, Drop)]
 pub enum Ending {
     Ok,
     /// The command is done as far as it came.
     Fault(Fault),
     Refused(Refusal),
+    /// The text of the stack is to be kept. A run answers as `Ok` where its desk keeps it, and refuses by `SaveFailed`
+    /// where it doesn't.
+    Save(Bytes),
     /// As `Ok`, and no further line is wanted.
     Quit,
 }
@@ -100,6 +124,24 @@ pub struct Reply {
     pub shown: Shown,
     pub sent: Sent,
     pub ending: Ending,
+}
+
+/// An answer that shows and sends nothing.
+pub(crate) fn ended(alloc: Global, ending: Ending) -> Reply
+    ensures { result ≡ ended_by ending }
+{
+    Reply {
+        shown: Shown::new(alloc),
+        sent: Sent::new(alloc),
+        ending,
+    }
+}
+
+/// A line that is refused.
+pub(crate) fn refused(alloc: Global, refusal: Refusal) -> Reply
+    ensures { result ≡ refused_by refusal }
+{
+    ended(alloc, Ending::Refused(refusal))
 }
 
 /// Writes a word, a number and the end of the line.
@@ -113,11 +155,11 @@ fn write_numbered(out: &mut Vec<u8>, word: &[u8], number: u8) -> Result<(), Allo
     Ok(())
 }
 
-fn write_ending(out: &mut Vec<u8>, ending: Ending) -> Result<(), AllocError>
-    ensures { OnOk result (out.new.items ≡ out.old.items ++ ending_line ending) }
+fn write_ending(out: &mut Vec<u8>, ending: &Ending) -> Result<(), AllocError>
+    ensures { OnOk result (out.new.items ≡ out.old.items ++ ending_line ending.now) }
 {
     match ending {
-        Ending::Ok | Ending::Quit => out.extend_from_slice(b"ok\n"),
+        Ending::Ok | Ending::Save(_) | Ending::Quit => out.extend_from_slice(b"ok\n"),
         Ending::Fault(fault) => write_numbered(out, b"fault ", fault.number()),
         Ending::Refused(refusal) => write_numbered(out, b"refused ", refusal.number()),
     }
@@ -133,6 +175,6 @@ pub(crate) fn answer_of(alloc: Global, reply: &Reply) -> Result<Vec<u8>, AllocEr
         out.extend_from_slice(line.as_slice())?;
         out.push(b'\n')?;
     }
-    write_ending(&mut out, reply.ending)?;
+    write_ending(&mut out, &reply.ending)?;
     Ok(out)
 }

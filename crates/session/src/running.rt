@@ -1,50 +1,71 @@
-//! Typed lines of HyperTalk, run in a world.
+//! What a user does, read from a text and run in a world.
 
-ghost use Rattle.std.specs.Prelude.{◌≡◌, ◌≤◌, length, None, IfOk, IfErr, OnErr};
-ghost use Rattle.ht_grammar.specs.Reads.{Reads, ReadsLines};
-ghost use Rattle.ht_tree.specs.StatementView.{stmts_of};
+ghost use Rattle.std.specs.Prelude.{◌≡◌, ◌≤◌, length, None, IsSome, IfSome, IfOk, IfErr, OnErr};
+ghost use Rattle.change_journal.specs.History.{committed, rolled_back};
+ghost use Rattle.journal_entries.specs.Trails.{IsOnce};
 ghost use Rattle.session.specs.declared.limits.TheConstants.{LONGEST_LINE};
-ghost use Rattle.session.specs.Meaning.{ending_of as ending_by, reply_of as reply_by};
-ghost use Rattle.session.specs.Replies.{IsUnread, typed_reply};
-ghost use Rattle.session.specs.TakesLine.{Adds, Types};
+ghost use Rattle.session.specs.Commands.{ReadsAction};
+ghost use Rattle.session.specs.Meaning.{reply_of as reply_by};
+ghost use Rattle.session.specs.Replies.{IsUnread, refusal_of as refusal_by, refused as refused_by, typed_reply};
+ghost use Rattle.session.specs.TakesLine.{Commands, Does};
+ghost use Rattle.user_actions.specs.Views.{Fits, action_of};
 
-use crate::reply::{Ending, Refusal, Reply};
+use crate::command::Reading;
+use crate::reply::{Ending, Refusal, Reply, refused};
 use change_journal::World;
 use externals::External;
-use ht_parse::{ParseError, parse_lines};
-use ht_tree::Stmts;
+use ht_parse::{ParseError, parse_lines, parse_part, parse_type};
 use ht_values::{Text, TextError};
-use interp::run_line;
-use meaning::{Budget, Ended, Stop};
+use meaning::{Budget, Stop};
 use msg_path::Scripts;
 use std::alloc::{AllocError, Global};
+use user_actions::{Action, act};
 
-/// The lines that a typed line is. `BadCommand` where it isn't in the grammar, `NoMemory` where a growth was refused.
-fn lines_in(alloc: Global, line: &[u8]) -> Result<Stmts, Refusal>
-    requires { length line.now ≤ LONGEST_LINE }
-    ensures ok { IfOk result (λ lines. Reads ReadsLines line.now (stmts_of lines.items.items)) }
-    ensures err { IfErr result (λ refusal. IsUnread line.now refusal) }
+/// A text of bytes that are no more than a line's.
+fn text_of(alloc: Global, bytes: &[u8]) -> Result<Text, AllocError>
+    requires { length bytes.now ≤ LONGEST_LINE }
+    ensures { IfOk result (λ text. text ≡ bytes.now) }
 {
-    let text = match Text::from_slice(alloc, line) {
-        Ok(text) => text,
-        Err(TextError::Memory) => return Err(Refusal::NoMemory),
+    match Text::from_slice(alloc, bytes) {
+        Ok(text) => Ok(text),
+        Err(TextError::Memory) => Err(AllocError),
         Err(TextError::TooLong) => unreachable!(),
-    };
-    match parse_lines(alloc, &text) {
-        Ok(lines) => Ok(lines),
-        Err(ParseError::Syntax(_)) => Err(Refusal::BadCommand),
-        Err(ParseError::Memory) => Err(Refusal::NoMemory),
     }
 }
 
-/// How a line is answered that ended so, or `None` where it was out of memory.
-fn ending_of(end: Result<Ended, Stop>) -> Option<Ending>
-    ensures { result ≡ ending_by end }
+fn refusal_of(error: ParseError) -> Refusal
+    ensures { result ≡ refusal_by error }
 {
-    match end {
-        Ok(_) | Err(Stop::Exited) => Some(Ending::Ok),
-        Err(Stop::Fault(fault)) => Some(Ending::Fault(fault)),
-        Err(Stop::Memory) => None,
+    match error {
+        ParseError::Syntax(_) => Refusal::BadCommand,
+        ParseError::Memory => Refusal::NoMemory,
+    }
+}
+
+/// What a text says that a user does. `BadCommand` where it isn't in the grammar, `NoMemory` where a growth was refused.
+fn action_in(alloc: Global, reading: Reading, bytes: &[u8]) -> Result<Action, Refusal>
+    requires { length bytes.now ≤ LONGEST_LINE }
+    ensures ok { IfOk result (λ action. ReadsAction reading bytes.now (action_of action)) }
+    ensures fits { IfOk result (λ action. Fits (action_of action)) }
+    ensures err { IfErr result (λ refusal. IsUnread (ReadsAction reading) bytes.now refusal) }
+{
+    let Ok(text) = text_of(alloc, bytes) else {
+        return Err(Refusal::NoMemory);
+    };
+    match reading {
+        Reading::Lines => match parse_lines(alloc, &text) {
+            Ok(lines) => Ok(Action::RunLines(lines)),
+            Err(error) => Err(refusal_of(error)),
+        },
+        Reading::Opening => Ok(Action::OpenStack),
+        Reading::Reference => match parse_part(alloc, &text) {
+            Ok(part) => Ok(Action::Click(part)),
+            Err(error) => Err(refusal_of(error)),
+        },
+        Reading::Typing => match parse_type(alloc, &text) {
+            Ok(typing) => Ok(Action::TypeText(typing)),
+            Err(error) => Err(refusal_of(error)),
+        },
     }
 }
 
@@ -59,54 +80,76 @@ fn reply_of(run: Budget, ending: Ending) -> Reply
     }
 }
 
-/// Runs lines with so many steps, as the command of the line of this number. Where it is out of memory nothing is left
-/// of what it did, but for the turns of externals.
-fn run_lines<E: External>(
+/// A command has ended so, and adds a place.
+fn finished<E: External>(world: &mut World<E>, run: Budget, ending: Ending) -> Reply
+    requires { IsSome world.old.history.start }
+    ensures answer { result ≡ reply_by run ending }
+    ensures history { world.new.history ≡ committed world.old.history }
+    ensures once { IfSome world.old.history.start (λ o. IsOnce o.trail) }
+{
+    world.commit();
+    reply_of(run, ending)
+}
+
+/// Typing into a locked field is refused, and what its reference did is taken back.
+fn kept_out<E: External>(alloc: Global, world: &mut World<E>) -> Reply
+    requires { IsSome world.old.history.start }
+    ensures answer { result ≡ refused_by Refusal.FieldLocked }
+    ensures history { world.new.history ≡ rolled_back world.old.history }
+{
+    world.roll_back();
+    refused(alloc, Refusal::FieldLocked)
+}
+
+/// Does what a user does, with so many steps, as the command of the line of this number. Where it is out of memory nothing is
+/// left of what it did, but for the turns of externals, and so where a text is typed into a locked field.
+fn perform<E: External>(
     alloc: Global,
     world: &mut World<E>,
     scripts: &mut Scripts,
     steps: u32,
     number: u32,
-    lines: &Stmts,
+    action: &Action,
 ) -> Result<Reply, AllocError>
     requires closed { world.old.history.start ≡ None }
-    ensures ok { IfOk result (λ reply.
-        Adds steps (stmts_of lines.now.items.items) number world.old.history reply world.new.history) }
-    ensures err { OnErr result (world.new.history
-        ≡ record world.old.history { turns = world.new.history.turns }) }
+    requires fits { Fits (action_of action.now) }
+    ensures ok { IfOk result (λ reply. Does steps (action_of action.now) number world.old.history reply world.new.history) }
+    ensures err { OnErr result (world.new.history ≡ record world.old.history { turns = world.new.history.turns }) }
     ensures closed { world.new.history.start ≡ None }
 {
     world.begin(number)?;
     let mut run = Budget::new(alloc, steps);
-    match ending_of(run_line(world, scripts, &mut run, lines)) {
-        Some(ending) => {
-            world.commit();
-            Ok(reply_of(run, ending))
-        }
-        None => {
+    match act(world, scripts, &mut run, action) {
+        Ok(Some(_)) => Ok(finished(world, run, Ending::Ok)),
+        Err(Stop::Exited) => Ok(finished(world, run, Ending::Ok)),
+        Err(Stop::Fault(fault)) => Ok(finished(world, run, Ending::Fault(fault))),
+        Ok(None) => Ok(kept_out(alloc, world)),
+        Err(Stop::Memory) => {
             world.roll_back();
             Err(AllocError)
         }
     }
 }
 
-/// Runs a typed line with so many steps, as the line of this number. `BadCommand` where it isn't in the grammar.
-/// `NoMemory` where a growth was refused; then nothing is left of what it did, but for the turns of externals.
-pub fn type_line<E: External>(
+/// Reads a text and does what it says that a user does, with so many steps, as the line of this number. `BadCommand` where it
+/// isn't in the grammar. `NoMemory` where a growth was refused; then nothing is left of what it did, but for the turns of
+/// externals.
+pub fn obey<E: External>(
     alloc: Global,
     world: &mut World<E>,
     scripts: &mut Scripts,
     steps: u32,
     number: u32,
-    line: &[u8],
+    reading: Reading,
+    text: &[u8],
 ) -> Result<Reply, Refusal>
     requires closed { world.old.history.start ≡ None }
-    requires short { length line.now ≤ LONGEST_LINE }
-    ensures typed { Types steps line.now number world.old.history (typed_reply result) world.new.history }
+    requires short { length text.now ≤ LONGEST_LINE }
+    ensures done { Commands steps reading text.now number world.old.history (typed_reply result) world.new.history }
     ensures closed { world.new.history.start ≡ None }
 {
-    let lines = lines_in(alloc, line)?;
-    match run_lines(alloc, world, scripts, steps, number, &lines) {
+    let action = action_in(alloc, reading, text)?;
+    match perform(alloc, world, scripts, steps, number, &action) {
         Ok(reply) => Ok(reply),
         Err(_) => Err(Refusal::NoMemory),
     }

@@ -10,15 +10,19 @@ ghost use Rattle.session.specs.Stamped.{numbers_of, DescendFrom};
 ghost use Rattle.stack_text.specs.declared.sheets.Version.TheVariants.{Second as second};
 ghost use Rattle.stack_text.specs.Listing.{spelling};
 ghost use Rattle.session.specs.TakesLine.{TakesLine, Performs, LineMayRunOut};
-ghost use Rattle.session.specs.Replies.{ended as ended_by, refused as refused_by, shown_reply, moved_reply, typed_reply};
+ghost use Rattle.session.specs.Commands.{command_in as command_by};
+ghost use Rattle.session.specs.declared.limits.TheConstants.{LONGEST_LINE};
+ghost use Rattle.session.specs.Replies.{ShowsCells, cells_named, ended as ended_by, refused as refused_by, saving_reply, shown_reply, moved_reply, typed_reply};
 
-use crate::command::{Command, command_in, is_dot_line};
+use crate::command::{Command, Reading, behind_name, command_in, is_dot_line, second_word};
 use crate::fault::OpenError;
 use crate::limits::{LAST_NUMBER, LONGEST_LINE, MOST_STEPS};
 use crate::moves::{go_back, go_back_to, go_forth};
-use crate::queries::{card_shown, globals_shown, history_shown, stack_shown};
-use crate::reply::{Bytes, Ending, Refusal, Reply};
-use crate::running::type_line;
+use crate::queries::{
+    card_shown, cells_shown, external_named, globals_shown, history_shown, stack_shown,
+};
+use crate::reply::{Bytes, Ending, Refusal, Reply, ended, refused};
+use crate::running::obey;
 use change_journal::{MOST_DEPTH, PlugError, World};
 use externals::External;
 use ht_values::Text;
@@ -54,22 +58,6 @@ impl<E: External> Model for Session<E> {
     ghost invariant = { λ s. (s.world.history.start ≡ None) × (s.lines ≤ LAST_NUMBER) × AreStamped s.lines s.world.history };
 }
 
-fn ended(alloc: Global, ending: Ending) -> Reply
-    ensures { result ≡ ended_by ending }
-{
-    Reply {
-        shown: Shown::new(alloc),
-        sent: Sent::new(alloc),
-        ending,
-    }
-}
-
-fn refused(alloc: Global, refusal: Refusal) -> Reply
-    ensures { result ≡ refused_by refusal }
-{
-    ended(alloc, Ending::Refused(refusal))
-}
-
 fn moved(alloc: Global, outcome: Result<(), Refusal>) -> Reply
     ensures { result ≡ moved_reply outcome }
 {
@@ -101,14 +89,49 @@ fn typed(alloc: Global, outcome: Result<Reply, Refusal>) -> Reply
     }
 }
 
-/// Does what a dot line says.
-fn perform<E: External>(alloc: Global, world: &mut World<E>, command: Option<Command>) -> Reply
+/// The cells of the external that has this name; it is no command where none has.
+fn cells<E: External>(alloc: Global, world: &World<E>, name: &[u8]) -> Reply
+    ensures { ShowsCells (cells_named world.now.history.now name.now) world.now.history result world.now.history }
+{
+    match external_named(world, name) {
+        Some(number) => looked(alloc, cells_shown(alloc, world.external(number))),
+        None => refused(alloc, Refusal::BadCommand),
+    }
+}
+
+/// The stack's text, which is to be kept.
+fn saving(alloc: Global, outcome: Result<Bytes, AllocError>) -> Reply
+    ensures { result ≡ saving_reply outcome }
+{
+    match outcome {
+        Ok(bytes) => ended(alloc, Ending::Save(bytes)),
+        Err(_) => refused(alloc, Refusal::NoMemory),
+    }
+}
+
+/// The spelling of the stack that is present.
+fn stack_text<E: External>(alloc: Global, world: &World<E>) -> Result<Bytes, AllocError>
+    ensures { IfOk result (λ bytes. bytes ≡ spelling second world.now.history.now.stack) }
+{
+    Ok(Bytes::new(write(alloc, world.stack())?))
+}
+
+/// Does what a dot line says, as the line of this number, with so many steps where it is a command of a user.
+fn perform<E: External>(
+    alloc: Global,
+    world: &mut World<E>,
+    scripts: &mut Scripts,
+    steps: u32,
+    number: u32,
+    line: &[u8],
+) -> Reply
     requires closed { world.old.history.start ≡ None }
     requires stamped { DescendFrom world.old.history.stamp (numbers_of world.old.history.past) }
-    ensures performed { Performs command world.old.history result world.new.history }
+    requires short { length line.now ≤ LONGEST_LINE }
+    ensures performed { Performs steps line.now number (command_by line.now) world.old.history result world.new.history }
     ensures closed { world.new.history.start ≡ None }
 {
-    let Some(command) = command else {
+    let Some(command) = command_in(line) else {
         return refused(alloc, Refusal::BadCommand);
     };
     match command {
@@ -118,7 +141,16 @@ fn perform<E: External>(alloc: Global, world: &mut World<E>, command: Option<Com
         Command::Show => looked(alloc, stack_shown(alloc, world)),
         Command::Globals => looked(alloc, globals_shown(alloc, world)),
         Command::Where => looked(alloc, card_shown(alloc, world)),
+        Command::Cells => cells(alloc, world, second_word(line)),
         Command::History => looked(alloc, history_shown(alloc, world)),
+        Command::Save => saving(alloc, stack_text(alloc, world)),
+        Command::Act(reading) => {
+            let text = behind_name(line);
+            typed(
+                alloc,
+                obey(alloc, world, scripts, steps, number, reading, text),
+            )
+        }
         Command::Quit => ended(alloc, Ending::Quit),
     }
 }
@@ -167,7 +199,7 @@ impl<E: External> Session<E> {
     pub fn saved(&self) -> Result<Bytes, AllocError>
         ensures { IfOk result (λ bytes. bytes ≡ spelling second self.now.history.now.stack) }
     {
-        Ok(Bytes::new(write(self.alloc, self.world.stack())?))
+        stack_text(self.alloc, &self.world)
     }
 
     /// Adds an external, with its cells of now, to every place of the history. `DuplicateName` where
@@ -221,8 +253,9 @@ impl<E: External> Session<E> {
     /// Answers a line: a dot line, or each other one as HyperTalk, with the steps of a command. Each line is counted, up
     /// to 9,999,999. A command that is run adds a place, also where it changes nothing or ends by a fault, which keeps
     /// what was done before it. The refusals: 5 for a line over 30,000 bytes, then 3 for a dot line that says nothing and
-    /// for another that isn't in the grammar, 1 and 2 where there is no such place, and 4 where a growth of memory was
-    /// refused; then nothing is left of what the line did, but for turns that externals took.
+    /// for another that isn't in the grammar, 1 and 2 where there is no such place, 6 where a text is typed into a locked
+    /// field, and 4 where a growth of memory was refused; after 4 and 6 nothing is left of what the line did, but for turns
+    /// that externals took.
     pub fn line(&mut self, line: &[u8]) -> Reply
         ensures step { TakesLine line.now self.old result self.new }
         ensures memory { result.ending ≡ Ending.Refused Refusal.NoMemory → LineMayRunOut line.now }
@@ -232,14 +265,22 @@ impl<E: External> Session<E> {
             return refused(self.alloc, Refusal::LineTooLong);
         }
         if is_dot_line(line) {
-            return perform(self.alloc, &mut self.world, command_in(line));
+            return perform(
+                self.alloc,
+                &mut self.world,
+                &mut self.scripts,
+                self.steps,
+                self.lines,
+                line,
+            );
         }
-        let outcome = type_line(
+        let outcome = obey(
             self.alloc,
             &mut self.world,
             &mut self.scripts,
             self.steps,
             self.lines,
+            Reading::Lines,
             line,
         );
         typed(self.alloc, outcome)

@@ -13,10 +13,10 @@ pub returns-clause-err : goal.returns-clause-err
 returns-clause-err g c =
     let n = c.in-Err.field-0.written in
     let bytes = c.deref.result.now in
-    let whole : bytes ≡ answer c.line-reply.result = c.deref.ensures.value ∙ c.in-Ok.ensures in
+    let whole : bytes ≡ answer c.take_line-reply.result = c.deref.ensures.value ∙ c.in-Ok.ensures in
     let part = c.in-Err.ensures.part in
-    (c.line-reply.result, take n bytes, c.line-reply.ensures.step, (drop n bytes, left n bytes part.0, sym whole ∙ sym (take-append-drop n bytes)), part.1)
+    (c.take_line-reply.result, take n bytes, c.take_line-reply.ensures, (drop n bytes, left n bytes part.0, sym whole ∙ sym (take-append-drop n bytes)), part.1)
 
 -- nothing of the answer went out
 pub returns-in_default-answer_of-clause-err : goal.returns-in_default-answer_of-clause-err
-returns-in_default-answer_of-clause-err g c = (c.line-reply.result, [], c.line-reply.ensures.step, refl, Appends-nothing _)
+returns-in_default-answer_of-clause-err g c = (c.take_line-reply.result, [], c.take_line-reply.ensures, refl, Appends-nothing _)

@@ -1,7 +1,8 @@
 use Rattle.std.proofs.Common.{sym, ◌∙◌, arith, length, rules}
 use Rattle.std.proofs.lemmas.Bool.{le-ltb}
 use Rattle.session.specs.declared.limits.TheConstants.{LONGEST_LINE}
-use Rattle.session.proofs.Stamping.{stamped-later, stamped-past, stamped-performed, stamped-typed}
+use Rattle.session.specs.declared.command.Reading.TheVariants.{Lines}
+use Rattle.session.proofs.Stamping.{stamped-later, stamped-past, stamped-performed, stamped-done}
 use Rattle.session.proofs.session.Session.line.Goals as goal
 
 pub invariant_of-self : goal.invariant_of-self
@@ -16,15 +17,15 @@ invariant_of-self-then-is_dot_line g c =
     let counted = stamped-later c.self.inside.lines c.min-self-inside.result c.self.inside.world.history (omega (arith, c.self.invariant.1)) c.self.invariant.2 in (
       c.perform.ensures.closed,
       omega (arith, c.self.invariant.1),
-      stamped-performed c.command_in.result c.min-self-inside.result c.self.inside.world.history c.perform.new.world.history c.perform.result counted c.perform.ensures.performed,
+      stamped-performed c.self.inside.steps c.args.line.now _ c.min-self-inside.result c.self.inside.world.history c.perform.new.world.history c.perform.result counted c.perform.ensures.performed,
     )
 
 pub invariant_of-self-2 : goal.invariant_of-self-2
 invariant_of-self-2 g c =
     let counted = stamped-later c.self.inside.lines c.min-self-inside.result c.self.inside.world.history (omega (arith, c.self.invariant.1)) c.self.invariant.2 in (
-      c.type_line-outcome.ensures.closed,
+      c.obey-outcome.ensures.closed,
       omega (arith, c.self.invariant.1),
-      stamped-typed c.self.inside.steps c.args.line.now c.min-self-inside.result c.self.inside.world.history c.type_line-outcome.new.world.history _ counted c.type_line-outcome.ensures.typed,
+      stamped-done c.self.inside.steps Lines c.args.line.now c.min-self-inside.result c.self.inside.world.history c.obey-outcome.new.world.history _ counted c.obey-outcome.ensures.done,
     )
 
 pub returns-clause-step : goal.returns-clause-step
@@ -34,5 +35,5 @@ returns-clause-step g c =
     rw (← c.self.view_is) (record {
       number = search rules;
       steps = search rules;
-      performed = rw (c.typed.ensures, short, typed) c.type_line-outcome.ensures.typed;
+      performed = rw (c.typed.ensures, short, typed) c.obey-outcome.ensures.done;
     })

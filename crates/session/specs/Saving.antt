@@ -1,0 +1,36 @@
+-- A line beside a desk, which keeps what is saved.
+use Rattle.std.specs.Prelude.{◌≡◌, ◌⊎◌, ℕ, true, List, option_map}
+use Rattle.devices.specs.Desks.{SeenDesk}
+use Rattle.devices.specs.Watching.{counted}
+use Rattle.session.specs.Standing.{Standing}
+use Rattle.session.specs.TakesLine.{TakesLine}
+use Rattle.session.specs.declared.reply.Ending.{Ending}
+use Rattle.session.specs.declared.reply.Ending.TheVariants.{Ok, Refused, Save}
+use Rattle.session.specs.declared.reply.Refusal.TheVariants.{SaveFailed}
+use Rattle.session.specs.declared.reply.Reply.{Reply}
+
+-- How a line is answered that ended so, where the desk keeps what is saved. Any other line asks nothing of it.
+abbrev pub Kept : Ending → SeenDesk → Ending → SeenDesk → Type 0
+Kept (Save text) old told new = (told ≡ Ok) × (new ≡ record old { kept = option_map (λ _. text) old.kept })
+Kept ending old told new = (told ≡ ending) × (new ≡ old)
+
+-- how a line that saves is answered where the desk failed: the failure is counted, and what it kept before stands
+abbrev pub Unkept : Ending → SeenDesk → Ending → SeenDesk → Type 0
+Unkept (Save text) old told new = (told ≡ Refused SaveFailed) × (new ≡ record old { failures = counted true old.failures })
+Unkept ending old told new = ⊥
+
+abbrev pub KeptOrNot : Ending → SeenDesk → Ending → SeenDesk → Type 0
+KeptOrNot ending old told new = Kept ending old told new ⊎ Unkept ending old told new
+
+-- A line is taken, and the desk does what it asks. The answer is that of the line, but for how it ends.
+pub record Beside {S : Type 0} (keeps : Ending → SeenDesk → Ending → SeenDesk → Type 0) (takes : List ℕ → S → Reply → S → Type 0) (line : List ℕ) (old : S × SeenDesk) (reply : Reply) (new : S × SeenDesk) : Type 0 where
+  pub ending : Ending
+  pub taken : takes line old.0 (record reply { ending = ending }) new.0
+  pub kept : keeps ending old.1 reply.ending new.1
+
+abbrev pub Settles : {S : Type 0} → (List ℕ → S → Reply → S → Type 0) → List ℕ → S × SeenDesk → Reply → S × SeenDesk → Type 0
+Settles takes = Beside KeptOrNot takes
+
+-- a session beside a desk takes a line
+abbrev pub Takes : List ℕ → Standing × SeenDesk → Reply → Standing × SeenDesk → Type 0
+Takes = Settles TakesLine
