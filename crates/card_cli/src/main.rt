@@ -1,9 +1,12 @@
 //! A stack's session over standard input and output: `card_cli STACK [--steps N] [--depth D] [--watch]`.
 #![tactic(auto)]
 
-use command_line::{CliFault, MOST_OF_STACK, Options, bytes_of, cut, options_of, play, verdict};
+use command_line::{
+    CliFault, MOST_OF_STACK, Options, bytes_of, cut, options_of, play_with_kit, verdict,
+};
 use devices::Watched;
-use externals::External;
+use file_desk::{FileDesk, Plain};
+use log::{LevelFilter, Logged};
 use std::env;
 use std::fs::File;
 use std::io::{Error, ErrorKind, Lock, Write};
@@ -45,23 +48,30 @@ fn opened(rt: &HostRuntime, path: &str) -> Result<File, Error> {
     Ok(file)
 }
 
-/// Reads the stack and runs standard input to standard output.
+/// Reads the stack and runs standard input to standard output, with the externals of the kit; what is saved goes to the
+/// file of the stack, and with `--watch` the messages are shown on standard error.
 fn perform(rt: &HostRuntime, options: &Options) -> Result<(), CliFault> {
     let file = match opened(rt, options.stack.as_str()) {
         Ok(file) => file,
         Err(error) => return Err(fault_of(error, CliFault::CannotRead)),
     };
     let bytes = bytes_of(rt.alloc(), &mut Watched::new(file), MOST_OF_STACK)?;
-    let externals: Vec<Box<dyn External>> = Vec::new(rt.alloc());
     let mut reader = Watched::new(rt.stdin().lock());
     let mut writer = Watched::new(rt.stdout().lock());
-    play(
+    let level = if options.watch {
+        LevelFilter::Info
+    } else {
+        LevelFilter::Off
+    };
+    let logger = Logged::new(rt, level, Plain(rt));
+    let mut desk = FileDesk::new(&logger, options.stack.as_str());
+    play_with_kit(
         rt.alloc(),
         options,
         &bytes,
-        externals,
         &mut reader,
         &mut writer,
+        &mut desk,
     )?;
     Ok(())
 }

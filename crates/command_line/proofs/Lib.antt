@@ -1,1 +1,2 @@
+pub mod Kits
 pub mod Playing

@@ -1,15 +1,15 @@
 -- From a session that ran to the whole run.
 use Rattle.std.proofs.Common.{◌≡◌, ℕ, List, Option, Err, IsErrOf, inr, refl, subst}
 use Rattle.std.specs.Io.KnownBytes.{IsAtEnd}
+use Rattle.devices.specs.Desks.{SeenDesk}
 use Rattle.externals.specs.Cells.{Seen}
 use Rattle.object_table.specs.Content.{Content}
 use Rattle.stack_text.specs.Laws.{Spells}
-use Rattle.session.specs.Headline.{Timeline, LineMoves, Headline, beginning}
+use Rattle.session.specs.Headline.{beginning}
 use Rattle.session.specs.Opening.{opened}
-use Rattle.session.specs.Splits.{AreLines}
+use Rattle.session.specs.Saving.{Takes}
 use Rattle.session.specs.Standing.{Standing}
 use Rattle.session.specs.Stops.{Ended, Stopped}
-use Rattle.session.specs.TakesLine.{TakesLine}
 use Rattle.session.specs.Unzipped.{timeline_of, RunsFollow, StopsFollow}
 use Rattle.session.specs.declared.conversation.Ran.{Ran}
 use Rattle.session.specs.declared.conversation.RunFault.{RunFault}
@@ -17,20 +17,20 @@ use Rattle.session.specs.declared.conversation.RunFault.TheVariants as runs
 use Rattle.command_line.specs.declared.fault.CliFault.TheVariants.{Read, Write}
 use Rattle.command_line.specs.Plays.{Plays, Stops, Ends, fault_of_run}
 
-module _ (bytes : List ℕ) (stack : Content) (externals : List Seen) (turns : List ℕ) (steps depth : ℕ) (left : Option (List ℕ)) (old : Standing) (read written : List ℕ) (last : Standing)
+module _ (bytes : List ℕ) (stack : Content) (externals : List Seen) (turns : List ℕ) (steps depth : ℕ) (left : Option (List ℕ)) (old : Standing) (desk : SeenDesk) (read written : List ℕ) (last : Standing × SeenDesk)
     (spelled : Spells bytes stack) (is : old ≡ opened stack externals turns steps depth) where
-  pub plays : (ran : Ran) → RunsFollow → Ended TakesLine (IsAtEnd left) ran old read written last → Plays (IsAtEnd left) ran bytes (λ s. beginning s externals steps depth) read written
+  pub plays : (ran : Ran) → RunsFollow → Ended Takes (IsAtEnd left) ran (old, desk) read written last → Plays (IsAtEnd left) ran bytes (λ s. beginning s externals steps depth) desk read written last.1
   plays ran law e =
-      let first : Ended TakesLine (IsAtEnd left) ran (opened stack externals turns steps depth) read written last = subst (λ (s : Standing). Ended TakesLine (IsAtEnd left) ran s read written last) is e in
-      let followed = law left ran (opened stack externals turns steps depth) read written last first in
-      record { stack = stack; spelled = spelled; last = timeline_of last; finish = followed.0; lines = followed.1.0; input = followed.1.1; headline = followed.1.2 }
+      let first : Ended Takes (IsAtEnd left) ran (opened stack externals turns steps depth, desk) read written last = subst (λ (s : Standing). Ended Takes (IsAtEnd left) ran (s, desk) read written last) is e in
+      let followed = law left ran (opened stack externals turns steps depth, desk) read written last first in
+      record { stack = stack; spelled = spelled; last = timeline_of last.0; finish = followed.0; lines = followed.1.0; input = followed.1.1; headline = followed.1.2 }
 
-  stops : (fault : RunFault) → StopsFollow → Stopped TakesLine (IsAtEnd left) fault old read written last → Stops (IsAtEnd left) fault bytes (λ s. beginning s externals steps depth) read written
+  stops : (fault : RunFault) → StopsFollow → Stopped Takes (IsAtEnd left) fault (old, desk) read written last → Stops (IsAtEnd left) fault bytes (λ s. beginning s externals steps depth) desk read written last.1
   stops fault law e =
-      let first : Stopped TakesLine (IsAtEnd left) fault (opened stack externals turns steps depth) read written last = subst (λ (s : Standing). Stopped TakesLine (IsAtEnd left) fault s read written last) is e in
-      record { stack = stack; spelled = spelled; last = timeline_of last; stopped = law left fault (opened stack externals turns steps depth) read written last first }
+      let first : Stopped Takes (IsAtEnd left) fault (opened stack externals turns steps depth, desk) read written last = subst (λ (s : Standing). Stopped Takes (IsAtEnd left) fault (s, desk) read written last) is e in
+      record { stack = stack; spelled = spelled; last = timeline_of last.0; stopped = law left fault (opened stack externals turns steps depth, desk) read written last first }
 
-  pub ends : (fault : RunFault) → StopsFollow → Stopped TakesLine (IsAtEnd left) fault old read written last → Ends (IsAtEnd left) (fault_of_run fault) bytes (λ s. beginning s externals steps depth) read written
+  pub ends : (fault : RunFault) → StopsFollow → Stopped Takes (IsAtEnd left) fault (old, desk) read written last → Ends (IsAtEnd left) (fault_of_run fault) bytes (λ s. beginning s externals steps depth) desk read written last.1
   ends runs.Memory law e = inr (stops runs.Memory law e)
   ends runs.Read law e = stops runs.Read law e
   ends runs.Write law e = stops runs.Write law e

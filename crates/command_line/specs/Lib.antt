@@ -1,3 +1,4 @@
+pub mod Kit
 pub mod Verdicts
 pub mod Words
 pub mod Plays

@@ -1,9 +1,11 @@
 -- A whole run of the program, from the bytes of a stack.
 use Rattle.std.specs.Prelude.{◌≡◌, ◌⊎◌, ℕ, List, [], Err}
+use Rattle.devices.specs.Desks.{SeenDesk}
 use Rattle.object_table.specs.Content.{Content}
 use Rattle.stack_text.specs.Laws.{Spells}
 use Rattle.stack_text.specs.Reading.{document_at}
 use Rattle.session.specs.Headline.{Timeline, LineMoves, Headline}
+use Rattle.session.specs.Saving.{Settles}
 use Rattle.session.specs.Splits.{AreLines}
 use Rattle.session.specs.Stops.{Ended, Stopped}
 use Rattle.session.specs.declared.conversation.Ran.{Ran}
@@ -12,23 +14,29 @@ use Rattle.session.specs.declared.conversation.RunFault.TheVariants as runs
 use Rattle.command_line.specs.declared.fault.CliFault.{CliFault}
 use Rattle.command_line.specs.declared.fault.CliFault.TheVariants.{Usage, CannotRead, Refused, Read, Write, TooManyLines, Memory}
 
--- The bytes spell a stack, and a session that begins with it runs to this end: what is written is the answers to the
--- lines that are read, those of a list of whole states with a cursor.
-pub record Plays (ends : Type 0) (ran : Ran) (bytes : List ℕ) (beginning : Content → Timeline) (read written : List ℕ) : Type 0 where
+-- The bytes spell a stack, and a session that begins with it runs to this end beside a desk: what is written is the
+-- answers to the lines that are read, those of a list of whole states with a cursor.
+pub record Plays (ends : Type 0) (ran : Ran) (bytes : List ℕ) (beginning : Content → Timeline) (old : SeenDesk) (read written : List ℕ) (new : SeenDesk) : Type 0 where
   pub stack : Content
   pub spelled : Spells bytes stack
   pub last : Timeline
-  pub finish : Ended LineMoves ends ran (beginning stack) read written last
+  pub finish : Ended (Settles LineMoves) ends ran (beginning stack, old) read written (last, new)
   pub lines : List (List ℕ)
   pub input : AreLines read lines
-  pub headline : Headline (beginning stack) lines written last
+  pub headline : Headline (beginning stack, old) lines written (last, new)
 
 -- the bytes spell a stack, and a session that begins with it stopped by this fault
-pub record Stops (ends : Type 0) (fault : RunFault) (bytes : List ℕ) (beginning : Content → Timeline) (read written : List ℕ) : Type 0 where
+pub record Stops (ends : Type 0) (fault : RunFault) (bytes : List ℕ) (beginning : Content → Timeline) (old : SeenDesk) (read written : List ℕ) (new : SeenDesk) : Type 0 where
   pub stack : Content
   pub spelled : Spells bytes stack
   pub last : Timeline
-  pub stopped : Stopped LineMoves ends fault (beginning stack) read written last
+  pub stopped : Stopped (Settles LineMoves) ends fault (beginning stack, old) read written (last, new)
+
+-- nothing is read, written or kept
+pub record Idles (old : SeenDesk) (read written : List ℕ) (new : SeenDesk) : Type 0 where
+  pub unread : read ≡ []
+  pub unwritten : written ≡ []
+  pub same : new ≡ old
 
 -- no stack was read: the bytes are no stack text, or memory was refused
 abbrev pub IsRefusal : List ℕ → CliFault → Type 0
@@ -43,11 +51,11 @@ fault_of_run runs.Write = Write
 fault_of_run runs.TooManyLines = TooManyLines
 
 -- how a whole run ends by a fault; what it means that the input ended
-abbrev pub Ends : Type 0 → CliFault → List ℕ → (Content → Timeline) → List ℕ → List ℕ → Type 0
-Ends ends (Usage text) bytes beginning read written = ⊥
-Ends ends CannotRead bytes beginning read written = ⊥
-Ends ends (Refused error) bytes beginning read written = (document_at bytes ≡ Err error) × (read ≡ []) × (written ≡ [])
-Ends ends Read bytes beginning read written = Stops ends runs.Read bytes beginning read written
-Ends ends Write bytes beginning read written = Stops ends runs.Write bytes beginning read written
-Ends ends TooManyLines bytes beginning read written = Stops ends runs.TooManyLines bytes beginning read written
-Ends ends Memory bytes beginning read written = ((read ≡ []) × (written ≡ [])) ⊎ Stops ends runs.Memory bytes beginning read written
+abbrev pub Ends : Type 0 → CliFault → List ℕ → (Content → Timeline) → SeenDesk → List ℕ → List ℕ → SeenDesk → Type 0
+Ends ends (Usage text) bytes beginning old read written new = ⊥
+Ends ends CannotRead bytes beginning old read written new = ⊥
+Ends ends (Refused error) bytes beginning old read written new = (document_at bytes ≡ Err error) × Idles old read written new
+Ends ends Read bytes beginning old read written new = Stops ends runs.Read bytes beginning old read written new
+Ends ends Write bytes beginning old read written new = Stops ends runs.Write bytes beginning old read written new
+Ends ends TooManyLines bytes beginning old read written new = Stops ends runs.TooManyLines bytes beginning old read written new
+Ends ends Memory bytes beginning old read written new = Idles old read written new ⊎ Stops ends runs.Memory bytes beginning old read written new

@@ -1,4 +1,4 @@
-//! A whole run: from the bytes of a stack, over a reader and a writer.
+//! A whole run: from the bytes of a stack, over a reader, a writer and a desk.
 
 ghost use Rattle.std.specs.Prelude.{◌≡◌, ℕ, List, map, true, OnOk, IfOk, IfErr, IsErrOf};
 ghost use Rattle.std.specs.Io.KnownBytes.{Appends, Consumes, IsAtEnd};
@@ -10,7 +10,7 @@ ghost use Rattle.command_line.specs.Plays.{Plays, Ends, IsRefusal, fault_of_run}
 
 use crate::fault::CliFault;
 use crate::options::Options;
-use devices::Watched;
+use devices::{Desk, Watched};
 use externals::External;
 use object_table::Stack;
 use session::{Ran, RunFault, Session, run, runs_follow, stops_follow};
@@ -43,28 +43,29 @@ fn fault_of(fault: RunFault) -> CliFault
 }
 
 /// Reads the stack text, opens a session with these externals as the options say, and runs the reader to the
-/// writer, up to `.quit` or the end of the input, which it tells.
+/// writer, up to `.quit` or the end of the input, which it tells. The desk keeps what is saved, and hears of each message.
 ///
 /// What is written is the answers to the lines that are read, those of a list of whole states with a cursor.
 /// `Refused` where the bytes are no stack text, and `Read`, `Write` and `TooManyLines` as `run` has them; `Memory`
 /// where a growth was refused. A device is blamed where it failed, and nowhere else.
-pub fn play<E: External, R: Read, W: Write>(
+pub fn play<E: External, R: Read, W: Write, D: Desk>(
     alloc: Global,
     options: &Options,
     bytes: &[u8],
     externals: Vec<E>,
     reader: &mut Watched<R>,
     writer: &mut Watched<W>,
+    desk: &mut D,
 ) -> Result<Ran, CliFault>
     requires { are_apart (map E.title externals.items) ≡ true }
     ensures ok { IfOk result (λ ran. (read : List ℕ) × (written : List ℕ)
         × Consumes (R.remaining (device_of reader.old)) (R.remaining (device_of reader.new)) read
         × Appends (W.contents (device_of writer.old)) (W.contents (device_of writer.new)) written
-        × Plays (IsAtEnd (R.remaining (device_of reader.new))) ran bytes.now (λ stack. beginning stack (map (seen_by E.title E.sort E.answers_calls E.cells) externals.items) options.now.steps options.now.depth) read written) }
+        × Plays (IsAtEnd (R.remaining (device_of reader.new))) ran bytes.now (λ stack. beginning stack (map (seen_by E.title E.sort E.answers_calls E.cells) externals.items) options.now.steps options.now.depth) (D.seen desk.old) read written (D.seen desk.new)) }
     ensures err { IfErr result (λ fault. (read : List ℕ) × (written : List ℕ)
         × Consumes (R.remaining (device_of reader.old)) (R.remaining (device_of reader.new)) read
         × Appends (W.contents (device_of writer.old)) (W.contents (device_of writer.new)) written
-        × Ends (IsAtEnd (R.remaining (device_of reader.new))) fault bytes.now (λ stack. beginning stack (map (seen_by E.title E.sort E.answers_calls E.cells) externals.items) options.now.steps options.now.depth) read written) }
+        × Ends (IsAtEnd (R.remaining (device_of reader.new))) fault bytes.now (λ stack. beginning stack (map (seen_by E.title E.sort E.answers_calls E.cells) externals.items) options.now.steps options.now.depth) (D.seen desk.old) read written (D.seen desk.new)) }
     ensures read_failed { IsErrOf result CliFault.Read → Rose (failures_of reader.old) (failures_of reader.new) }
     ensures read_sound { ¬ IsErrOf result CliFault.Read → failures_of reader.new ≡ failures_of reader.old }
     ensures write_failed { IsErrOf result CliFault.Write → Rose (failures_of writer.old) (failures_of writer.new) }
@@ -77,7 +78,7 @@ pub fn play<E: External, R: Read, W: Write>(
     };
     runs_follow();
     stops_follow();
-    match run(&mut session, alloc, reader, writer) {
+    match run(&mut session, alloc, reader, writer, desk) {
         Ok(ran) => Ok(ran),
         Err(fault) => Err(fault_of(fault)),
     }

@@ -3,7 +3,15 @@
 #![tactic(auto)]
 
 #[cfg(test)]
+mod conversations;
+#[cfg(test)]
+mod desks;
+#[cfg(test)]
 mod drip;
+#[cfg(test)]
+mod drops;
+#[cfg(test)]
+mod file_desks;
 #[cfg(test)]
 mod message_path;
 #[cfg(test)]

@@ -23,7 +23,7 @@ fn text(alloc: Global, bytes: &[u8]) -> Result<Text, Fail> {
 fn opened(alloc: Global) -> Result<Box<World<Quiet>>, Fail>
     ensures { IfOk result (λ w. w.value.history.start ≡ None) }
 {
-    let externals = vec![in alloc; make_quiet(alloc, b"quiet")?]?;
+    let externals = vec![in alloc; make_quiet(alloc, b"quiet", None)?]?;
     match World::open(alloc, two_cards(alloc)?, externals, 9) {
         Ok(world) => Ok(Box::new(alloc, world)?),
         Err(_) => Err("names".into()),

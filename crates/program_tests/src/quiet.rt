@@ -3,6 +3,7 @@
 use externals::{Ask, External, Input, Patch};
 use ht_values::Text;
 use std::alloc::{AllocError, Global};
+use std::rc::Rc;
 use std::test::Fail;
 
 /// Of no known kind, a command with one empty cell that stays: it fails at each turn.
@@ -11,6 +12,7 @@ pub(crate) struct Quiet {
     name: Text,
     cell: Text,
     turns: u64,
+    mark: Option<Rc<u8>>,
 }
 
 impl External for Quiet {
@@ -64,10 +66,12 @@ impl External for Quiet {
     }
 }
 
-pub(crate) fn make_quiet(alloc: Global, name: &[u8]) -> Result<Quiet, Fail> {
+/// One that holds a mark while it is there, or none.
+pub(crate) fn make_quiet(alloc: Global, name: &[u8], mark: Option<Rc<u8>>) -> Result<Quiet, Fail> {
     Ok(Quiet {
         name: Text::from_slice(alloc, name)?,
         cell: Text::new(alloc),
         turns: 0,
+        mark,
     })
 }

@@ -5,7 +5,7 @@ ghost use Rattle.object_table.specs.WellFormed.{IsWellFormed};
 
 use crate::drip::Drip;
 use crate::quiet::make_quiet;
-use devices::Watched;
+use devices::{Desk, Shelf, Watched};
 use externals::External;
 use ht_values::{Fault, Text};
 use object_table::Stack;
@@ -16,7 +16,7 @@ use std::io;
 use std::io::{Read, Write};
 use std::test::*;
 
-const TWO_CARDS: &[u8] =
+pub(crate) const TWO_CARDS: &[u8] =
     b"htstack 2\nnext 5\nname |Demo\nscript 0\nbackgrounds 1\nbackground 1\nname |\ncantDelete false\nscript 0\nparts 1\nfield 3\nname |Note\nvisible true\nlockText false\nsharedText false\nscript 0\nshared 0\ncards 2\ncard 2 1\nname |A\ncantDelete false\nscript 0\nparts 0\ntext 3 0\ncard 4 1\nname |B\ncantDelete false\nscript 0\nparts 0\ntext 3 0\nend\n";
 
 pub(crate) fn two_cards(alloc: Global) -> Result<Stack, Fail>
@@ -25,9 +25,9 @@ pub(crate) fn two_cards(alloc: Global) -> Result<Stack, Fail>
     Ok(read(alloc, TWO_CARDS)?)
 }
 
-type Boxed = Box<dyn External>;
+pub(crate) type Boxed = Box<dyn External>;
 
-fn none(alloc: Global) -> Vec<Boxed> {
+pub(crate) fn none(alloc: Global) -> Vec<Boxed> {
     Vec::new(alloc)
 }
 
@@ -60,9 +60,9 @@ impl Write for Sip {
 
 /// What a run wrote and answered.
 #[derive(Drop)]
-struct Heard {
-    written: Vec<u8>,
-    ran: Result<Ran, RunFault>,
+pub(crate) struct Heard {
+    pub(crate) written: Vec<u8>,
+    pub(crate) ran: Result<Ran, RunFault>,
     read_failures: u64,
     write_failures: u64,
 }
@@ -70,32 +70,33 @@ struct Heard {
 /// Never reached.
 const NEVER: usize = 1_000_000;
 
-fn ran_by<E: External, R: Read, W: Write>(
+fn ran_by<E: External, R: Read, W: Write, D: Desk>(
     session: &mut Session<E>,
     alloc: Global,
     reader: &mut Watched<R>,
     writer: &mut Watched<W>,
+    desk: &mut D,
 ) -> Result<Ran, RunFault> {
-    run(session, alloc, reader, writer)
+    run(session, alloc, reader, writer, desk)
 }
 
 /// The devices of a run: the reader fails at a call, and the writer takes as many bytes at a time and fails at a call.
 #[derive(Clone, Copy)]
-struct Devices {
-    read_fails_at: usize,
-    most: usize,
-    write_fails_at: usize,
+pub(crate) struct Devices {
+    pub(crate) read_fails_at: usize,
+    pub(crate) most: usize,
+    pub(crate) write_fails_at: usize,
 }
 
 /// Never fail.
-const SOUND: Devices = Devices {
+pub(crate) const SOUND: Devices = Devices {
     read_fails_at: NEVER,
     most: 4096,
     write_fails_at: NEVER,
 };
 
 /// It stands in a box, so that each exit drops it by one call.
-fn session_of<E: External>(
+pub(crate) fn session_of<E: External>(
     alloc: Global,
     stack: Stack,
     externals: Vec<E>,
@@ -107,11 +108,12 @@ fn session_of<E: External>(
     Ok(Box::new(alloc, opened.ok().ok_or("open")?)?)
 }
 
-fn heard_by<E: External>(
+pub(crate) fn heard_beside<E: External, D: Desk>(
     session: &mut Session<E>,
     alloc: Global,
     input: &[u8],
     devices: Devices,
+    desk: &mut D,
 ) -> Heard {
     let mut reader = Watched::new(Drip {
         bytes: input,
@@ -125,7 +127,7 @@ fn heard_by<E: External>(
         fails_at: devices.write_fails_at,
     };
     let mut writer = Watched::new(&mut taken);
-    let ran = ran_by(session, alloc, &mut reader, &mut writer);
+    let ran = ran_by(session, alloc, &mut reader, &mut writer, desk);
     let write_failures = writer.failures();
     Heard {
         written: taken.taken,
@@ -143,7 +145,8 @@ fn hear<E: External>(
     devices: Devices,
 ) -> Result<Heard, Fail> {
     let mut session = session_of(alloc, two_cards(alloc)?, externals, 100_000)?;
-    Ok(heard_by(&mut session, alloc, input, devices))
+    let mut desk = Shelf::new(alloc);
+    Ok(heard_beside(&mut session, alloc, input, devices, &mut desk))
 }
 
 /// Whether a run wrote this and ended so, and how many calls of its reader and of its writer failed.
@@ -336,17 +339,22 @@ fn is_cut(
     is_heard(alloc, input, devices, written, ended)
 }
 
+/// The lines of the answers, and how much is written once so many lines are read.
+const WRITTEN: [usize; 4] = [0, 7, 10, 17];
+
 #[test]
 fn a_reader_that_fails_cuts_a_line_off(rt: HostRuntime) -> Result<(), Fail> {
-    let rows: &[(usize, usize)] = &[(0, 0), (6, 0), (7, 7), (16, 7), (17, 10)];
-    for (calls, written) in rows {
+    let input = b".where\ngo card 2\n.where\n";
+    for calls in 0..=input.len() {
+        let lines = input[..calls].iter().filter(|byte| **byte == b'\n').count();
         let devices = Devices {
-            read_fails_at: *calls,
+            read_fails_at: calls,
             ..SOUND
         };
         let ended = (Err(RunFault::Read), 1, 0);
+        let written = WRITTEN[lines.min(3)];
         assert!(rt;
-            is_cut(rt.alloc(), devices, *written, ended)?,
+            is_cut(rt.alloc(), devices, written, ended)?,
             "call {calls}"
         );
     }
@@ -406,7 +414,7 @@ fn steps_come_before_depth(rt: HostRuntime) -> Result<(), Fail> {
 }
 
 fn boxed(alloc: Global, name: &[u8]) -> Result<Boxed, Fail> {
-    let boxed: Boxed = Box::new(alloc, make_quiet(alloc, name)?)?;
+    let boxed: Boxed = Box::new(alloc, make_quiet(alloc, name, None)?)?;
     Ok(boxed)
 }
 
@@ -448,15 +456,15 @@ fn saved_by<E: External>(session: &Session<E>) -> Result<Bytes, AllocError> {
     session.saved()
 }
 
-fn is_plugged<E: External>(session: &mut Session<E>, external: E) -> bool {
+pub(crate) fn is_plugged<E: External>(session: &mut Session<E>, external: E) -> bool {
     session.plug(external).is_ok()
 }
 
-fn is_unplugged<E: External>(session: &mut Session<E>, name: &Text) -> bool {
+pub(crate) fn is_unplugged<E: External>(session: &mut Session<E>, name: &Text) -> bool {
     session.unplug(name).is_some()
 }
 
-fn count_at_close<E: External>(session: Session<E>) -> usize {
+pub(crate) fn count_at_close<E: External>(session: Session<E>) -> usize {
     session.close().len()
 }
 
@@ -520,19 +528,19 @@ fn an_external_is_plugged_once_and_unplugged(rt: HostRuntime) -> Result<(), Fail
 }
 
 /// Whether a reply ends so, with this line shown or none, and sends nothing.
-fn is_reply(reply: &Reply, ending: Ending, shown: Option<&[u8]>) -> bool {
+fn is_reply(reply: &Reply, ending: &Ending, shown: Option<&[u8]>) -> bool {
     let is_shown = match shown {
         Some(line) => reply.shown.len() == 1 && reply.shown.at(0).as_slice() == line,
         None => reply.shown.len() == 0,
     };
-    is_shown && reply.ending == ending && reply.sent.len() == 0
+    is_shown && reply.ending == *ending && reply.sent.len() == 0
 }
 
 fn replies<E: External>(
     alloc: Global,
     externals: Vec<E>,
     line: &[u8],
-    ending: Ending,
+    ending: &Ending,
     shown: Option<&[u8]>,
 ) -> Result<bool, Fail> {
     let mut session = session_of(alloc, Stack::new(alloc)?, externals, 100)?;
@@ -554,7 +562,7 @@ fn replies_show_lines_and_end(rt: HostRuntime) -> Result<(), Fail> {
     ];
     for (line, ending, shown) in rows {
         assert!(rt;
-            replies(rt.alloc(), none(rt.alloc()), line, *ending, *shown)?,
+            replies(rt.alloc(), none(rt.alloc()), line, ending, *shown)?,
             "{line:?}"
         );
     }
@@ -636,5 +644,6 @@ fn laws_are_called(_rt: HostRuntime) -> Result<(), Fail> {
     opens_follow();
     runs_follow();
     stops_follow();
+    saves_follow();
     Ok(())
 }

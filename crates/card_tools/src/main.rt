@@ -1,0 +1,71 @@
+//! A stack's session with two externals, `Replace` and `Table`: `card_tools STACK`, with the options of `card_cli`.
+#![tactic(auto)]
+
+use command_line::{CliFault, MOST_OF_STACK, Options, bytes_of, cut, options_of, play};
+use devices::Watched;
+use externals::External;
+use file_desk::{FileDesk, Plain};
+use log::{LevelFilter, Logged};
+use std::env;
+use std::fs::File;
+use std::process::ExitCode;
+use text_tools::{Replace, Table};
+
+/// What the words of the program say.
+fn options(rt: &HostRuntime) -> Result<Options, CliFault> {
+    let Ok(args) = env::args(rt) else {
+        return Err(CliFault::Usage(cut(rt.alloc(), b"words are UTF-8")?));
+    };
+    let words: Vec<String> = args.collect(rt.alloc())?;
+    options_of(rt.alloc(), words.as_slice())
+}
+
+/// Runs standard input to standard output on the stack that the words name; what is saved goes to its file.
+fn perform(rt: &HostRuntime) -> Result<(), CliFault> {
+    let options = options(rt)?;
+    let Ok(file) = File::open(rt, options.stack.as_str()) else {
+        return Err(CliFault::CannotRead);
+    };
+    let bytes = bytes_of(rt.alloc(), &mut Watched::new(file), MOST_OF_STACK)?;
+    let replace = Replace::new(rt.alloc(), cut(rt.alloc(), b"Replace")?)?;
+    let table = Table::new(rt.alloc(), cut(rt.alloc(), b"Table")?)?;
+    let mut externals: Vec<Box<dyn External>> = Vec::new(rt.alloc());
+    externals.push(Box::new(rt.alloc(), replace)?)?;
+    externals.push(Box::new(rt.alloc(), table)?)?;
+    let mut reader = Watched::new(rt.stdin().lock());
+    let mut writer = Watched::new(rt.stdout().lock());
+    let logger = Logged::new(rt, LevelFilter::Off, Plain(rt));
+    let mut desk = FileDesk::new(&logger, options.stack.as_str());
+    play(
+        rt.alloc(),
+        &options,
+        &bytes,
+        externals,
+        &mut reader,
+        &mut writer,
+        &mut desk,
+    )?;
+    Ok(())
+}
+
+/// Why the program ends before its input does.
+fn reason(fault: &CliFault) -> &'static str {
+    match fault {
+        CliFault::Usage(_) => "name a stack",
+        CliFault::CannotRead => "the stack can't be read",
+        CliFault::Refused(_) => "the file is no stack",
+        CliFault::Read | CliFault::Write => "standard input or output failed",
+        CliFault::TooManyLines => "too many lines",
+        CliFault::Memory => "out of memory",
+    }
+}
+
+fn main(rt: HostRuntime) -> ExitCode {
+    match perform(&rt) {
+        Ok(()) => ExitCode::SUCCESS,
+        Err(fault) => {
+            let _ = eprintln!(rt; "card_tools: {}", reason(&fault));
+            ExitCode::FAILURE
+        }
+    }
+}
