@@ -1,7 +1,9 @@
-//! The worked rows, each run as the program would, over memory. A line for each says whether it passed.
+//! The worked rows and those of the pages, each run as the program would, over memory. A line for each says whether it
+//! passed.
 //!
 //! `rows.txt` lists each row with `passes`, or with `waits` where it needs what isn't built yet. A row that waits
-//! and passes all the same is told, so that it can't be left in the list.
+//! and passes all the same is told, so that it can't be left in the list. The rows of the pages are their sessions;
+//! `tools/pages` writes them.
 #![tactic(auto)]
 
 mod answers;
@@ -9,9 +11,8 @@ mod row;
 
 use crate::answers::first_unmet;
 use crate::row::{Row, edited, input_of, row_of};
-use command_line::{CliFault, cut, options_of, play, verdict};
-use devices::Watched;
-use externals::External;
+use command_line::{CliFault, cut, options_of, play_with_kit, verdict};
+use devices::{Shelf, Watched};
 use ht_values::Text;
 use std::alloc::{AllocError, Global};
 use std::rt::Files;
@@ -25,34 +26,40 @@ struct Ended {
     stderr: Text,
 }
 
-/// The name under which the stack is opened.
-const STACK: &str = "two_cards.stack";
-
 /// The words of the program: its name, the stack's and those of the row.
-fn words(alloc: Global, args: &str) -> Result<Vec<String>, AllocError> {
+fn words(alloc: Global, row: &Row<'_>) -> Result<Vec<String>, AllocError> {
     let mut words = Vec::new(alloc);
     words.push(String::from_str(alloc, "card_cli")?)?;
-    words.push(String::from_str(alloc, STACK)?)?;
-    for word in args.split_whitespace() {
+    words.push(String::from_str(alloc, row.stack)?)?;
+    for word in row.args.split_whitespace() {
         words.push(String::from_str(alloc, word)?)?;
     }
     Ok(words)
 }
 
+/// The desk of a row, which fails at the save of this number; where it is no number it keeps all.
+fn desk_of(alloc: Global, fails_at: &str) -> Shelf {
+    let desk = Shelf::new(alloc);
+    match fails_at.parse() {
+        Ok(call) => desk.failing_at(call),
+        Err(_) => desk,
+    }
+}
+
 /// Runs an input on a stack, and writes the answers.
 fn run_on(
     alloc: Global,
-    args: &str,
+    row: &Row<'_>,
     stack: &[u8],
     input: &[u8],
     answers: &mut Vec<u8>,
 ) -> Result<(), CliFault> {
-    let words = words(alloc, args)?;
+    let words = words(alloc, row)?;
     let options = options_of(alloc, words.as_slice())?;
-    let externals: Vec<Box<dyn External>> = Vec::new(alloc);
     let mut reader = Watched::new(input);
     let mut writer = Watched::new(answers);
-    play(alloc, &options, stack, externals, &mut reader, &mut writer)?;
+    let mut desk = desk_of(alloc, row.desk);
+    play_with_kit(alloc, &options, stack, &mut reader, &mut writer, &mut desk)?;
     Ok(())
 }
 
@@ -60,16 +67,10 @@ fn run_on(
 fn performed(alloc: Global, row: &Row<'_>, stack: &str) -> Result<Ended, AllocError> {
     let input = input_of(alloc, row.body)?;
     let mut answers = Vec::new(alloc);
-    let outcome = run_on(
-        alloc,
-        row.args,
-        stack.as_bytes(),
-        input.as_bytes(),
-        &mut answers,
-    );
+    let outcome = run_on(alloc, row, stack.as_bytes(), input.as_bytes(), &mut answers);
     let (status, stderr) = match outcome {
         Ok(()) => (0, Text::new(alloc)),
-        Err(fault) => verdict(alloc, &fault, &cut(alloc, STACK.as_bytes())?)?,
+        Err(fault) => verdict(alloc, &fault, &cut(alloc, row.stack.as_bytes())?)?,
     };
     Ok(Ended {
         answers,
@@ -103,19 +104,15 @@ fn unmet(
 }
 
 /// Runs a row of the list, and prints how it went.
-fn report<R: Files + AllocGlobal + Print>(
-    rt: &R,
-    name: &str,
-    waits: bool,
-    base: &str,
-    shown: &str,
-) -> io::Result<()> {
+fn report<R: Files + AllocGlobal + Print>(rt: &R, name: &str, waits: bool) -> io::Result<()> {
     let alloc = rt.alloc();
     let file = format!(in alloc; "{}.row", name)?;
     let text = fs::read_to_string(rt, file.as_str())?;
     let row = row_of(text.as_str());
-    let stack = edited(alloc, base, row.edit)?;
-    match (unmet(alloc, &row, stack.as_str(), shown)?, waits) {
+    let base = fs::read_to_string(rt, row.stack)?;
+    let shown = edited(alloc, base.as_str(), "line 1 htstack 2")?;
+    let stack = edited(alloc, base.as_str(), row.edit)?;
+    match (unmet(alloc, &row, stack.as_str(), shown.as_str())?, waits) {
         (None, false) => println!(rt; "{} passed", name),
         (None, true) => println!(rt; "{} passed, and is listed as waiting", name),
         (Some(_), true) => println!(rt; "{} waits", name),
@@ -125,11 +122,9 @@ fn report<R: Files + AllocGlobal + Print>(
 
 fn main(rt: HostRuntime) -> io::Result<()> {
     let list = fs::read_to_string(&rt, "rows.txt")?;
-    let base = fs::read_to_string(&rt, STACK)?;
-    let shown = edited(rt.alloc(), base.as_str(), "line 1 htstack 2")?;
     for line in list.lines() {
         if let Some((name, how)) = line.split_once(" ") {
-            report(&rt, name, how == "waits", base.as_str(), shown.as_str())?;
+            report(&rt, name, how == "waits")?;
         }
     }
     Ok(())

@@ -5,10 +5,14 @@ use std::alloc::{AllocError, Global};
 /// A row as its file has it.
 #[derive(Drop)]
 pub struct Row<'a> {
+    /// The file of the stack that it runs on.
+    pub stack: &'a str,
     /// The words behind the name of the stack.
     pub args: &'a str,
     /// A change of the stack text before it is read.
     pub edit: &'a str,
+    /// The save at which the desk fails, from 1; a desk of another word keeps all.
+    pub desk: &'a str,
     /// The exit status that is wanted.
     pub status: &'a str,
     /// The line that is wanted on standard error; `*` is any line.
@@ -33,8 +37,10 @@ fn value_of<'a>(head: &'a str, key: &str, unless: &'a str) -> &'a str {
 pub fn row_of(text: &str) -> Row<'_> {
     let (head, body) = text.split_once("---\n").unwrap_or((text, ""));
     Row {
+        stack: value_of(head, "stack", "two_cards.stack"),
         args: value_of(head, "args", ""),
         edit: value_of(head, "edit", ""),
+        desk: value_of(head, "desk", ""),
         status: value_of(head, "status", "0"),
         stderr: value_of(head, "stderr", ""),
         body,
