@@ -11,6 +11,8 @@ mod drip;
 #[cfg(test)]
 mod drops;
 #[cfg(test)]
+mod endless;
+#[cfg(test)]
 mod file_desks;
 #[cfg(test)]
 mod message_path;

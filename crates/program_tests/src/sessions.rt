@@ -70,7 +70,7 @@ pub(crate) struct Heard {
 /// Never reached.
 const NEVER: usize = 1_000_000;
 
-fn ran_by<E: External, R: Read, W: Write, D: Desk>(
+pub(crate) fn ran_by<E: External, R: Read, W: Write, D: Desk>(
     session: &mut Session<E>,
     alloc: Global,
     reader: &mut Watched<R>,
