@@ -1,0 +1,122 @@
+-- What a part of a run comes to, computed: how it ends, with the state, the run and the frame after it.
+use Rattle.std.specs.Prelude.{◌≡◌, ℕ, Bool, true, false, List, Option, Some, None, nat_lt, Result, Ok, Err}
+use Rattle.ht_values.specs.declared.fault.Fault.{Fault}
+use Rattle.ht_values.specs.declared.fault.Fault.TheVariants.{NoSuchObject}
+use Rattle.ht_values.specs.Operators.{word_of}
+use Rattle.journal_entries.specs.State.{State}
+use Rattle.change_journal.specs.History.{History}
+use Rattle.object_references.specs.declared.referent.Referent.{Referent}
+use Rattle.meaning.specs.declared.end.Ended.{Ended}
+use Rattle.meaning.specs.declared.end.Ended.TheVariants.{Done as DoneEnd, Exited as ExitedEnd}
+use Rattle.meaning.specs.declared.end.How.{How}
+use Rattle.meaning.specs.declared.end.How.TheVariants.{Next}
+use Rattle.meaning.specs.declared.end.Stop.{Stop}
+use Rattle.meaning.specs.declared.end.Stop.TheVariants.{Fault as Faults, Exited, Memory}
+use Rattle.meaning.specs.declared.frame.Frame.{Frame}
+use Rattle.meaning.specs.Repeats.{Outcome}
+use Rattle.meaning.specs.State.{RunState}
+
+-- what a run sees of a history: the present state and the turns of the externals, and no weights
+pub record Present : Type 0 where
+  pub now : State
+  pub turns : List ℕ
+
+abbrev pub present : History → Present
+present w = record { now = w.now; turns = w.turns }
+
+-- what an expression comes to; it is unknown where the fuel is out
+pub data Told (A : Type 0) : Type 0 where
+  unknown : Told A
+  told : Result A Stop → Present → RunState → Told A
+
+-- what a statement comes to, with the frame after it
+pub data Ran (A : Type 0) : Type 0 where
+  unknown_run : Ran A
+  ran : Result A Stop → Present → RunState → Frame → Ran A
+
+-- ---- one part after another: a part that stops hands on why, with what was done up to there
+
+abbrev pub after : {A B : Type 0} → Told A → (A → Present → RunState → Told B) → Told B
+after unknown next = unknown
+after (told (Ok a) w r) next = next a w r
+after (told (Err z) w r) next = told (Err z) w r
+
+-- a part that leaves the frame
+abbrev pub after_in : {A B : Type 0} → Frame → Told A → (A → Present → RunState → Ran B) → Ran B
+after_in f unknown next = unknown_run
+after_in f (told (Ok a) w r) next = next a w r
+after_in f (told (Err z) w r) next = ran (Err z) w r f
+
+abbrev pub after_run : {A B : Type 0} → Ran A → (A → Present → RunState → Frame → Ran B) → Ran B
+after_run unknown_run next = unknown_run
+after_run (ran (Ok a) w r f) next = next a w r f
+after_run (ran (Err z) w r f) next = ran (Err z) w r f
+
+-- a part whose frame ends with it
+abbrev pub after_lines : {A B : Type 0} → Ran A → (A → Present → RunState → Told B) → Told B
+after_lines unknown_run next = unknown
+after_lines (ran (Ok a) w r f) next = next a w r
+after_lines (ran (Err z) w r f) next = told (Err z) w r
+
+-- a statement, and then the rest of its lines, unless it leaves them
+abbrev pub after_next : Ran How → (Present → RunState → Frame → Ran How) → Ran How
+after_next unknown_run next = unknown_run
+after_next (ran (Ok Next) w r f) next = next w r f
+after_next (ran (Ok h) w r f) next = ran (Ok h) w r f
+after_next (ran (Err z) w r f) next = ran (Err z) w r f
+
+-- ---- cases
+
+abbrev pub choose : {X : Type 0} → Bool → (Unit {0} → X) → (Unit {0} → X) → X
+choose true so otherwise = so tt
+choose false so otherwise = otherwise tt
+
+abbrev pub maybe : {A X : Type 0} → Option A → (A → X) → (Unit {0} → X) → X
+maybe (Some a) found missing = found a
+maybe None found missing = missing tt
+
+abbrev pub computed : {A X : Type 0} → Result A Fault → (A → X) → (Fault → X) → X
+computed (Ok a) value fault = value a
+computed (Err n) value fault = fault n
+
+-- whether a reference has an object: none is no fault
+abbrev pub there : Told Referent → (Bool → List ℕ) → Told (List ℕ)
+there unknown say = unknown
+there (told (Ok m) w r) say = told (Ok (say true)) w r
+there (told (Err (Faults NoSuchObject)) w r) say = told (Ok (say false)) w r
+there (told (Err z) w r) say = told (Err z) w r
+
+-- ---- ends of commands: `exit to HyperCard` is an end and no fault
+
+abbrev pub ended : {A : Type 0} → Result A Stop → Result Ended Stop
+ended (Ok a) = Ok DoneEnd
+ended (Err Exited) = Ok ExitedEnd
+ended (Err (Faults n)) = Err (Faults n)
+ended (Err Memory) = Err Memory
+
+abbrev pub ended_lines : {A : Type 0} → Ran A → Told Ended
+ended_lines unknown_run = unknown
+ended_lines (ran o w r f) = told (ended o) w r
+
+abbrev pub ended_message : {A : Type 0} → Told A → Told Ended
+ended_message unknown = unknown
+ended_message (told o w r) = told (ended o) w r
+
+abbrev pub referred_by : Result Referent Stop → Result (Option ℕ) Stop
+referred_by (Ok m) = Ok (Some m.object)
+referred_by (Err Exited) = Ok None
+referred_by (Err (Faults n)) = Err (Faults n)
+referred_by (Err Memory) = Err Memory
+
+abbrev pub referred : Told Referent → Told (Option ℕ)
+referred unknown = unknown
+referred (told o w r) = told (referred_by o) w r
+
+-- a dot line goes on, unless its message ended by `exit to HyperCard`
+abbrev pub goes_on_after : Ended → Present → RunState → (Unit {0} → Told Ended) → Told Ended
+goes_on_after DoneEnd w r next = next tt
+goes_on_after ExitedEnd w r next = told (Ok ExitedEnd) w r
+
+-- what a handler gives
+abbrev pub gave : Present → Outcome → Told (List ℕ)
+gave w out = told (Ok out.value) w out.run
