@@ -174,12 +174,14 @@ def clause(family, rule):
     run, w = starts[1], starts[0]
     defined = {}
     steps, first_w = [], w
-    talks = family["name"] == "Talks"
+    for at, premise in enumerate(premises, 1):
+        match = DEFINES.match(premise)
+        if match and match.group(2) not in ("true", "false") and not match.group(2).startswith("Some ("):
+            defined[match.group(1)] = (match.group(2), "p%d" % at)
     for at, premise in enumerate(premises, 1):
         p = "p%d" % at
         match = DEFINES.match(premise)
-        if match and match.group(2) not in ("true", "false") and not match.group(2).startswith("Some ("):
-            defined[match.group(1)] = (match.group(2), p)
+        if match and match.group(1) in defined:
             continue
         if match or " ≡ " in premise or " ≢ " in premise or " < " in premise or " ≤ " in premise:
             steps.append(("case", premise, p))
@@ -198,7 +200,7 @@ def clause(family, rule):
                 memory = " (stopped has)"
         extra = ""
         if premise.startswith("Converses"):
-            extra = " (named_there p1)"
+            extra = " (named_there _ _ _ p1)"
         if premise.startswith("Talks"):
             extra = " there" if family["name"] == "Converses" else " (there_after there p2 (%s).kept)" % "calls_back_comes p3 given"
         if lemma == "takes_turn":
@@ -225,6 +227,8 @@ def clause(family, rule):
         for variable in re.findall(r"(?<![.\w])[a-z]+\d*(?![\w(])", part):
             if letters(variable) in TYPES and variable not in names and re.search(r"(?<![.\w])%s(?!\w)" % variable, body):
                 names.append(variable)
+    order = re.findall(r"\w+", " ".join(re.findall(r"\{([^:}]*) :", binders(premises + [conclusion]))))
+    names.sort(key=order.index)
     pattern = " ".join(["%s.%s" % (family["name"], name), *("{%s = %s}" % (n, n) for n in names), *("p%d" % at for at in range(1, len(premises) + 1))])
     return "(%s) has%s = %s" % (pattern, " there" if family["name"] in ("Converses", "Talks") else "", body)
 
@@ -305,7 +309,7 @@ use Rattle.ht_grammar.specs.Lines.{typed_lines}
 use Rattle.ht_grammar.specs.Reading.{expression}
 use Rattle.ht_grammar.specs.Whole.{sent_message}
 use Rattle.run_laws.specs.Laws.{HasMemory}
-use Rattle.run_laws.proofs.Ends.{given, stopped, faulted, exited}
+use Rattle.one_outcome.proofs.Ends.{given, stopped, faulted, exited}
 use Rattle.one_outcome.specs.Told.{present, told, ran}
 use Rattle.one_outcome.specs.Changes.{yielded, step, make, edit, assign, declare_all, set_property, add_objects, turn}
 use Rattle.one_outcome.specs.Texts.{parsed, first_found}

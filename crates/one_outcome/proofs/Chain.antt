@@ -94,7 +94,7 @@ left_here (Returns v) w r f next isnt = refl
 
 -- what the meanings come to in one step
 is_done : {X : Type 0} {w : History} {F : Meanings → X} {x : X} → ((parts : Meanings) → F parts ≡ x) → Comes w F x w
-is_done is = record { kept = refl; gives = λ cut exact free. (0, λ fuel le. is (meanings fuel)) }
+is_done is = record { kept = refl; gives = λ cut exact free. (0, λ fuel le. is (meanings cut fuel)) }
 
 pub after_next_leaves : {w w1 : History} {F : Meanings → Ran How} (G : Meanings → Present → RunState → Frame → Ran How) {h : How} {r1 : RunState} {f1 : Frame} →
     h ≢ Next → Comes w F (ran (Ok h) (present w1) r1 f1) w1 → Comes w (λ parts. after_next (F parts) (G parts)) (ran (Ok h) (present w1) r1 f1) w1

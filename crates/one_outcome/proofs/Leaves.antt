@@ -1,6 +1,6 @@
 -- What a rule makes beside its parts has one outcome: texts, steps, edits, objects and turns.
 use Rattle.std.proofs.Common.{◌≡◌, ℕ, zero, suc, ◌+◌, ◌-◌, ◌≤◌, ◌<◌, List, [], ◌∷◌, ◌++◌, length, map, drop, Bool, true, false, Option, Some, None, Result, Ok, Err, refl, sym, ap, subst, ◌∙◌, arith}
-use Rattle.std.specs.Prelude.{slice_index_or}
+use Rattle.std.specs.Prelude.{slice_index_or, slice_set, option_map, IfSome, if◌then◌else◌, ◌↔◌}
 use Rattle.ht_values.specs.declared.fault.Fault.{Fault}
 use Rattle.ht_values.specs.declared.fault.Fault.TheVariants.{StepLimit, TooMany, Syntax}
 use Rattle.ht_values.specs.Text.{folded}
@@ -15,7 +15,9 @@ use Rattle.stack_places.specs.Places.{number}
 use Rattle.structural_changes.specs.Writes.{StackWrite, following, writes_of_new_part, writes_of_new_card, writes_of_new_background, writes_of_deletion}
 use Rattle.journal_entries.specs.Changes.{changed, fits, makes_current}
 use Rattle.journal_entries.specs.Places.{Write, put, put_all, in_stack, current_card, in_the_stack}
-use Rattle.journal_entries.specs.State.{State}
+use Rattle.journal_entries.specs.State.{State, seen_at}
+use Rattle.journal_entries.specs.Exchange.{with_cells}
+use Rattle.journal_entries.specs.Turning.{with_cells_at, one_more_at}
 use Rattle.change_journal.specs.History.{History}
 use Rattle.change_journal.specs.Rising.{Made, TookTurn}
 
@@ -33,11 +35,10 @@ use Rattle.meaning.specs.State.{RunState, Step}
 use Rattle.meaning.specs.Values.{Yields}
 use Rattle.run_laws.specs.Laws.{HasMemory}
 use Rattle.one_outcome.specs.Told.{Present, present, Told, told, Ran, ran, after, maybe, computed, choose}
-use Rattle.one_outcome.specs.Changes.{with_global, yielded, step_by, step, made, make, with_variables, written, edit_by, edit, assign, declare_all, set_property, add_objects, turn}
+use Rattle.one_outcome.specs.Changes.{with_global, yielded, step_by, step, made, make, with_variables, written, edit_by, edit, assign, declare_all, set_property, add_objects, turn_by, turn}
 use Rattle.one_outcome.specs.Families.{Meanings}
-use Rattle.one_outcome.specs.Laws.{sorts_of, sorts, NoneIsFree}
+use Rattle.one_outcome.specs.Laws.{sorts_of, sorts, IsFixed, NoneIsFree}
 use Rattle.one_outcome.specs.Comes.{AreExact, Comes}
-use Rattle.std.specs.Prelude.{◌↔◌}
 use Rattle.ht_lex.specs.declared.tokens.Span.{Span}
 use Rattle.ht_lex.specs.Token.{Token, token_in}
 use Rattle.ht_lex.specs.Tokens.{IsCut}
@@ -51,8 +52,8 @@ use Rattle.ht_grammar.specs.Statements.{Stmts, Message}
 use Rattle.ht_grammar.specs.Trees.{Expr}
 use Rattle.ht_grammar.specs.Whole.{script, sent_message}
 use Rattle.object_table.specs.Content.{Content}
-use Rattle.externals.specs.Cells.{Seen}
-use Rattle.msg_path.specs.BuiltIns.{external_named}
+use Rattle.externals.specs.Cells.{Seen, none_seen}
+use Rattle.msg_path.specs.BuiltIns.{external_named, answers}
 use Rattle.msg_path.specs.Handlers.{Found, First, script_at}
 use Rattle.meaning.specs.declared.end.Conversed.{Conversed}
 use Rattle.meaning.specs.Meaning.{CallsBack}
@@ -159,7 +160,7 @@ pub declares_all : {w w1 : History} {f f1 : Frame} {r : RunState} {names : List 
     Comes w (λ parts. declare_all (present w) r f names) (ran o (present w1) r f1) w1
 declares_all DeclaresAll.declare_memory has = absurd (has refl)
 declares_all {w} {f = f} {r = r} (DeclaresAll.none_declared is) has = leaf refl (ap (declare_all (present w) r f) is)
-declares_all {w} {w2} {f} {f2} {r} {o = o} (DeclaresAll.declared {w1 = w1} {f1 = f1} {names1 = names} {name = name} {v = v} is d frame rest) has =
+declares_all {w} {w1 = w2} {f} {f1 = f2} {r} {o = o} (DeclaresAll.declared {w1 = w1} {f1 = f1} {names1 = names} {name = name} {v = v} is d frame rest) has =
     let all = declares d in
     let f_is : f1 ≡ with_variables f (declared f.variables name) = frame ∙ ap (with_variables f) (sym all.2) in
     let h = moved all.0 (declares_all {r = r} rest has) in
@@ -179,21 +180,56 @@ adds {w} {c = c} {r = r} (Adds.adds is m) has = leaf (sorts_made m) (ap (λ b. c
 
 -- ---- externals
 
-abbrev pub HasExternal : History → ℕ → Type 0
-HasExternal w k = k < length (sorts w)
+pub record HasExternal (w : History) (k : ℕ) : Type 0 where
+  pub there : k < length (sorts w)
 
 -- an external that a message names is there
-pub named_there : {w : History} {is_function : Bool} {name : List ℕ} {k : ℕ} → external_named w.now.externals is_function name ≡ Some k → HasExternal w k
-named_there {w} {is_function} {name} {k} is = within w.now.externals k is
-  where
-    within : (es : List Seen) (k : ℕ) → external_named es is_function name ≡ Some k → k < length (sorts_of es)
-    within es k is = ?
+named_later : (rest : List ℕ) (found : Option ℕ) (k : ℕ) → ((j : ℕ) → found ≡ Some j → j < length rest) → option_map suc found ≡ Some k → k < suc (length rest)
+named_later rest None k earlier is = cc
+named_later rest (Some j) k earlier is = let before : j < length rest = earlier j refl in let same : suc j ≡ k = cc in omega (arith, before, same)
+
+named_by : (rest : List ℕ) (b : Bool) (found : Option ℕ) (k : ℕ) → ((j : ℕ) → found ≡ Some j → j < length rest) → (if b then Some 0 else option_map suc found) ≡ Some k → k < suc (length rest)
+named_by rest true found k earlier is = let same : 0 ≡ k = cc in omega (arith, same)
+named_by rest false found k earlier is = named_later rest found k earlier is
+
+within : (es : List Seen) (is_function : Bool) (name : List ℕ) (k : ℕ) → external_named es is_function name ≡ Some k → k < length (sorts_of es)
+within [] is_function name k is = cc
+within (e ∷ es) is_function name k is = named_by (sorts_of es) (answers is_function name e) (external_named es is_function name) k (λ j. within es is_function name j) is
+
+pub named_there : (w : History) (is_function : Bool) (name : List ℕ) {k : ℕ} → external_named w.now.externals is_function name ≡ Some k → HasExternal w k
+named_there w is_function name {k} is = record { there = within w.now.externals is_function name k is }
+
+sort_at : (es : List Seen) (k : ℕ) → slice_index_or (sorts_of es) k 0 ≡ (slice_index_or es k none_seen).sort
+sort_at [] k = refl
+sort_at (e ∷ es) zero = refl
+sort_at (e ∷ es) (suc k) = sort_at es k
+
+sorts-turned : (es : List Seen) (k : ℕ) (cells : List (List ℕ)) → sorts_of (slice_set es k (with_cells (slice_index_or es k none_seen) cells)) ≡ sorts_of es
+sorts-turned [] k cells = refl
+sorts-turned (e ∷ es) zero cells = refl
+sorts-turned (e ∷ es) (suc k) cells = ap (λ ks. e.sort ∷ ks) (sorts-turned es k cells)
+
+sorts_took : {w w1 : History} {k : ℕ} {input : Input} {ask : Ask} → TookTurn w w1 k input ask → sorts w1 ≡ sorts w
+sorts_took {w} {w1} {k} t = ap (λ s. sorts_of s.externals) t.turn.state ∙ sorts-turned w.now.externals k (seen_at w1.now k).cells
 
 pub there_after : {w w1 w2 : History} {k j : ℕ} {input : Input} {ask : Ask} → HasExternal w k → TookTurn w w1 j input ask → sorts w2 ≡ sorts w1 → HasExternal w2 k
-there_after there turn kept = ?
+there_after {k = k} h took kept = record { there = subst (λ ks. k < length ks) (sym (kept ∙ sorts_took took)) h.there }
 
 pub takes_turn : {w w1 : History} {k : ℕ} {input : Input} {ask : Ask} {r : RunState} → TookTurn w w1 k input ask → HasExternal w k → Comes w (λ parts. turn (present w) r k input) (told (Ok ask) (present w1) r) w1
-takes_turn t there = ?
+takes_turn {w} {w1} {k} {input} {ask} {r} t h = record { kept = sorts_took t; gives = λ cut exact free. (0, λ fuel le. is (free k h.there)) }
+  where
+    seen : Seen
+    seen = seen_at w.now k
+
+    is : IsFixed (slice_index_or (sorts w) k 0) → turn (present w) r k input ≡ told (Ok ask) (present w1) r
+    is fixed =
+        let given = subst IsFixed (sort_at w.now.externals k) fixed seen.cells input in
+        let known = subst (λ o. IfSome o (λ turn. (ask ≡ turn.0) × ((seen_at w1.now k).cells ≡ turn.1))) given.1 t.turn.answers.known in
+        let now_is : with_cells_at w.now k given.0.1 ≡ w1.now = ap (with_cells_at w.now k) (sym known.1) ∙ sym t.turn.state in
+        ap (turn_by (present w) r k) given.1
+        ∙ ap (λ a. told (Ok a) (record { now = with_cells_at w.now k given.0.1; turns = one_more_at w.turns k }) r) (sym known.0)
+        ∙ ap (λ s. told (Ok ask) (record { now = s; turns = one_more_at w.turns k }) r) now_is
+        ∙ ap (λ u. told (Ok ask) u r) (sym (ap present t.history))
 
 -- Done and Fail are no call-backs
 abbrev pub IsCall : Ask → Type 0
