@@ -110,7 +110,7 @@ def leaf(premise, run, w):
     if head == "Finds":
         return "finds", told("told (first_found parts.cut %s) (present %s) %s" % (" ".join(rest[:4]), w, run), rest[4])
     if head == "Made":
-        return "makes", told("make (present %s) %s %s" % (rest[0], run, rest[2]), "(Ok tt)", rest[1])
+        return "makes {r = %s}" % run, told("make (present %s) %s %s" % (rest[0], run, rest[2]), "(Ok tt)", rest[1])
     if head == "TookTurn":
         return "takes_turn", told("turn (present %s) %s %s %s" % (rest[0], run, rest[2], rest[3]), "(Ok %s)" % rest[4], rest[1])
     if head == "Sets":
@@ -189,7 +189,7 @@ def clause(family, rule):
         found = leaf(premise, run, w) or family_part(premise)
         lemma, part = found
         memory = ""
-        if lemma not in ("makes", "takes_turn"):
+        if not lemma.startswith(("makes", "takes_turn")):
             of = end_type(premise)
             same_type = of == whole_type if of else False
             head = words(premise)[0]

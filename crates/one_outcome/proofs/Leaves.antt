@@ -20,7 +20,6 @@ use Rattle.journal_entries.specs.Exchange.{with_cells}
 use Rattle.journal_entries.specs.Turning.{with_cells_at, one_more_at}
 use Rattle.change_journal.specs.History.{History}
 use Rattle.change_journal.specs.Rising.{Made, TookTurn}
-
 use Rattle.containers.specs.declared.edit.Edit.{Edit}
 use Rattle.containers.specs.Edits.{due}
 use Rattle.containers.specs.Places.{HolderView, PlaceView}
@@ -122,6 +121,7 @@ leaf : {X : Type 0} {w w1 : History} {x y : X} → sorts w1 ≡ sorts w → x �
 leaf kept is = record { kept = kept; gives = λ cut exact free. (0, λ fuel le. is) }
 
 pub makes : {w w1 : History} {c : Change} {r : RunState} → Made w w1 c → Comes w (λ parts. make (present w) r c) (told (Ok tt) (present w1) r) w1
+unfolding make
 makes {r = r} m = leaf (sorts_made m) (ap (λ w. told (Ok tt) w r) (present_made m))
 
 writes : {w w1 : History} {v : VariablesView} {p : HolderView} {d : Result (Option (List ℕ)) Fault} {r : RunState} {f : Frame} → Writes w f.variables p d w1 v →
@@ -165,15 +165,17 @@ declares_all {w} {w1 = w2} {f} {f1 = f2} {r} {o = o} (DeclaresAll.declared {w1 =
     let f_is : f1 ≡ with_variables f (declared f.variables name) = frame ∙ ap (with_variables f) (sym all.2) in
     let h = moved all.0 (declares_all {r = r} rest has) in
     subst (λ ns. Comes w (λ parts. declare_all (present w) r f ns) (ran o (present w2) r f2) w2) (sym is)
-      (subst (λ g. Comes w (λ parts. declare_all (with_global (present w) name (get w.now.globals (folded name))) r g names) (ran o (present w2) r f2) w2) f_is
-        (subst (λ u. Comes w (λ parts. declare_all u r f1 names) (ran o (present w2) r f2) w2) (sym all.1) h))
+    (subst (λ g. Comes w (λ parts. declare_all (with_global (present w) name (get w.now.globals (folded name))) r g names) (ran o (present w2) r f2) w2) f_is
+    (subst (λ u. Comes w (λ parts. declare_all u r f1 names) (ran o (present w2) r f2) w2) (sym all.1) h))
 
 pub sets : {w w1 : History} {m : Referent} {p : Prop} {t : List ℕ} {o : Result (Unit {0}) Stop} {r : RunState} → Sets w m p t o w1 → HasMemory o → Comes w (λ parts. set_property (present w) r m p t) (told o (present w1) r) w1
+unfolding make
 sets Sets.set_memory has = absurd (has refl)
 sets {w} {r = r} (Sets.set_faults {n = n} is same) has = leaf (ap sorts same) (ap (λ c. computed c (λ c. make (present w) r c) (λ n. told (Err (Faults n)) (present w) r)) is ∙ ap (λ (v : History). told (Err (Faults n)) (present v) r) (sym same))
 sets {w} {r = r} (Sets.set_made is m) has = leaf (sorts_made m) (ap (λ c. computed c (λ c. make (present w) r c) (λ n. told (Err (Faults n)) (present w) r)) is ∙ ap (λ w. told (Ok tt) w r) (present_made m))
 
 pub adds : {w w1 : History} {c : Change} {o : Result (Unit {0}) Stop} {r : RunState} → Adds w c o w1 → HasMemory o → Comes w (λ parts. add_objects (present w) r c) (told o (present w1) r) w1
+unfolding make
 adds Adds.add_memory has = absurd (has refl)
 adds {w} {c = c} {r = r} (Adds.too_many is) has = leaf refl (ap (λ b. choose b (λ _. make (present w) r c) (λ _. told (Err (Faults TooMany)) (present w) r)) is)
 adds {w} {c = c} {r = r} (Adds.adds is m) has = leaf (sorts_made m) (ap (λ b. choose b (λ _. make (present w) r c) (λ _. told (Err (Faults TooMany)) (present w) r)) is ∙ ap (λ w. told (Ok tt) w r) (present_made m))
@@ -289,10 +291,22 @@ is_unread {A} read IsRead cut text cuts exact none = by_spans (cut text) refl
 parses : {A : Type 0} (read : List Token → Option A) (IsRead : List Token → A → Type 0) → ((cut : Cutter) → AreExact cut → ReadsExactly read IsRead) → {t : List ℕ} {o : Result A Stop} {w : History} {r : RunState} → Parses IsRead t o → HasMemory o →
     Comes w (λ parts. told (parsed parts.cut read t) (present w) r) (told o (present w) r) w
 parses read IsRead exactly Parses.parse_memory has = absurd (has refl)
-parses read IsRead exactly {t = t} {w = w} {r = r} (Parses.parses p) has = record { kept = refl; gives = λ cut exact free. (0, λ fuel le.
-    ap (λ c. told (parsed c read t) (present w) r) (cut_kept cut fuel) ∙ ap (λ x. told (or_syntax x) (present w) r) (is_read exact.cuts (exactly cut exact) p)) }
-parses read IsRead exactly {t = t} {w = w} {r = r} (Parses.unparsed none) has = record { kept = refl; gives = λ cut exact free. (0, λ fuel le.
-    ap (λ c. told (parsed c read t) (present w) r) (cut_kept cut fuel) ∙ ap (λ x. told (or_syntax x) (present w) r) (is_unread read IsRead cut t exact.cuts (exactly cut exact) none)) }
+parses read IsRead exactly {t = t} {w = w} {r = r} (Parses.parses p) has = record {
+  kept = refl;
+  gives = λ cut exact free. (
+    0,
+    λ fuel le.
+        ap (λ c. told (parsed c read t) (present w) r) (cut_kept cut fuel) ∙ ap (λ x. told (or_syntax x) (present w) r) (is_read exact.cuts (exactly cut exact) p),
+  );
+}
+parses read IsRead exactly {t = t} {w = w} {r = r} (Parses.unparsed none) has = record {
+  kept = refl;
+  gives = λ cut exact free. (
+    0,
+    λ fuel le.
+        ap (λ c. told (parsed c read t) (present w) r) (cut_kept cut fuel) ∙ ap (λ x. told (or_syntax x) (present w) r) (is_unread read IsRead cut t exact.cuts (exactly cut exact) none),
+  );
+}
 
 pub parses_expression : {t : List ℕ} {o : Result Expr Stop} {w : History} {r : RunState} → Parses ReadsExpr t o → HasMemory o → Comes w (λ parts. told (parsed parts.cut expression t) (present w) r) (told o (present w) r) w
 parses_expression p has = parses expression ReadsExpr (λ cut e. e.expressions) p has
@@ -317,8 +331,14 @@ first_is {cut} {s} {path} {name} {kind} exact (First.no_script {rest = rest} {id
 
 found_first : {path name : List ℕ} {kind : HandlerKind} {out : Result (Option Found) Fault} {w : History} {r : RunState} → First w.now.stack path kind name out →
     Comes w (λ parts. told (first_found parts.cut w.now.stack path kind name) (present w) r) (told (yielded out) (present w) r) w
-found_first {path} {name} {kind} {w = w} {r = r} first = record { kept = refl; gives = λ cut exact free. (0, λ fuel le.
-    ap (λ c. told (first_found c w.now.stack path kind name) (present w) r) (cut_kept cut fuel) ∙ ap (λ x. told x (present w) r) (first_is exact first)) }
+found_first {path} {name} {kind} {w = w} {r = r} first = record {
+  kept = refl;
+  gives = λ cut exact free. (
+    0,
+    λ fuel le.
+        ap (λ c. told (first_found c w.now.stack path kind name) (present w) r) (cut_kept cut fuel) ∙ ap (λ x. told x (present w) r) (first_is exact first),
+  );
+}
 
 pub finds : {path name : List ℕ} {kind : HandlerKind} {o : Result (Option Found) Stop} {w : History} {r : RunState} → Finds w.now.stack path kind name o → HasMemory o →
     Comes w (λ parts. told (first_found parts.cut w.now.stack path kind name) (present w) r) (told o (present w) r) w

@@ -348,7 +348,7 @@ mutual
   goes_comes (Goes.go_stays p1) has = later (choose_true _ _ p1 (done))
   goes_comes (Goes.go_close_stops {d = d} {w = w} {w1 = w1} {b = b} {r = r} {r1 = r1} {f = f} {z = z} p1 p2 p3) has = later (choose_false _ _ p1 (after_stop _ (subst (λ (b : Bool). Comes w (λ parts. parts.systems (present w) r f d (closing b)) (told (Err z) (present w1) r1) w1) p2 (systems_comes p3 has))))
   goes_comes (Goes.go_gone {d = d} {w = w} {w1 = w1} {b = b} {r = r} {r1 = r1} {f = f} {v = v} p1 p2 p3 p4) has = later (choose_false _ _ p1 (after_ok _ (subst (λ (b : Bool). Comes w (λ parts. parts.systems (present w) r f d (closing b)) (told (Ok v) (present w1) r1) w1) p2 (systems_comes p3 given)) (choose_false _ _ p4 (done))))
-  goes_comes (Goes.go_arrives {d = d} {w = w} {w1 = w1} {w2 = w2} {w3 = w3} {b = b} {r = r} {r1 = r1} {r2 = r2} {f = f} {v = v} {o = o} p1 p2 p3 p4 p5 p6) has = later (choose_false _ _ p1 (after_ok _ (subst (λ (b : Bool). Comes w (λ parts. parts.systems (present w) r f d (closing b)) (told (Ok v) (present w1) r1) w1) p2 (systems_comes p3 given)) (choose_true _ _ p4 (after_ok _ (makes p5) (subst (λ (b : Bool). Comes w2 (λ parts. parts.systems (present w2) r1 f d (opening b)) (told o (present w3) r2) w3) p2 (systems_comes p6 has))))))
+  goes_comes (Goes.go_arrives {d = d} {w = w} {w1 = w1} {w2 = w2} {w3 = w3} {b = b} {r = r} {r1 = r1} {r2 = r2} {f = f} {v = v} {o = o} p1 p2 p3 p4 p5 p6) has = later (choose_false _ _ p1 (after_ok _ (subst (λ (b : Bool). Comes w (λ parts. parts.systems (present w) r f d (closing b)) (told (Ok v) (present w1) r1) w1) p2 (systems_comes p3 given)) (choose_true _ _ p4 (after_ok _ (makes {r = r1} p5) (subst (λ (b : Bool). Comes w2 (λ parts. parts.systems (present w2) r1 f d (opening b)) (told o (present w3) r2) w3) p2 (systems_comes p6 has))))))
 
   pub menu_comes : {w w2 : History} {r r2 : RunState} {f : Frame} {d : ℕ} {it : Item} {o : Result (List ℕ) Stop} → Menu w r f d it o w2 r2 → HasMemory o → Comes w (λ parts. parts.menu (present w) r f d it) (told o (present w2) r2) w2
   menu_comes Menu.menu_memory has = absurd (has refl)
@@ -361,7 +361,7 @@ mutual
   menu_comes (Menu.part_full {it = it} {pk = pk} {la = la} {w = w} {w1 = w1} {r = r} {z = z} {f = f} {d = d} p1 p2 p3) has = subst (λ (it : Item). Comes w (λ parts. parts.menu (present w) r f d it) (told (Err z) (present w1) r) w1) (sym p1) (later (after_stop _ (subst (λ (la : LayerId). Comes w (λ parts. add_objects (present w) r (NewPart la pk)) (told (Err z) (present w1) r) w1) p2 (adds p3 (stopped has)))))
   menu_comes (Menu.new_part {it = it} {pk = pk} {la = la} {w = w} {w1 = w1} {r = r} {f = f} {d = d} p1 p2 p3) has = subst (λ (it : Item). Comes w (λ parts. parts.menu (present w) r f d it) (told (Ok []) (present w1) r) w1) (sym p1) (later (after_ok _ (subst (λ (la : LayerId). Comes w (λ parts. add_objects (present w) r (NewPart la pk)) (told (Ok tt) (present w1) r) w1) p2 (adds p3 given)) (done)))
   menu_comes (Menu.delete_refused {it = it} {w = w} {r = r} {f = f} {d = d} p1 p2) has = subst (λ (it : Item). Comes w (λ parts. parts.menu (present w) r f d it) (told (Err (Faults CantDelete)) (present w) r) w) (sym p1) (later (choose_false _ _ p2 (done)))
-  menu_comes (Menu.delete_card {it = it} {w = w} {w1 = w1} {w2 = w2} {b = b} {r = r} {r1 = r1} {f = f} {d = d} {o = o} p1 p2 p3 p4 p5) has = subst (λ (it : Item). Comes w (λ parts. parts.menu (present w) r f d it) (told o (present w2) r1) w2) (sym p1) (later (choose_true _ _ p2 (after_ok _ (makes p3) (subst (λ (b : Bool). Comes w1 (λ parts. parts.systems (present w1) r f d (opening b)) (told o (present w2) r1) w2) p4 (systems_comes p5 has)))))
+  menu_comes (Menu.delete_card {it = it} {w = w} {w1 = w1} {w2 = w2} {b = b} {r = r} {r1 = r1} {f = f} {d = d} {o = o} p1 p2 p3 p4 p5) has = subst (λ (it : Item). Comes w (λ parts. parts.menu (present w) r f d it) (told o (present w2) r1) w2) (sym p1) (later (choose_true _ _ p2 (after_ok _ (makes {r = r} p3) (subst (λ (b : Bool). Comes w1 (λ parts. parts.systems (present w1) r f d (opening b)) (told o (present w2) r1) w2) p4 (systems_comes p5 has)))))
 
   pub converses_comes : {w w2 : History} {r r2 : RunState} {d k : ℕ} {vs : List (List ℕ)} {odn : Result Conversed Stop} → Converses w r d k vs odn w2 r2 → HasMemory odn → HasExternal w k → Comes w (λ parts. parts.converses (present w) r d k vs) (told odn (present w2) r2) w2
   converses_comes Converses.converse_memory has there = absurd (has refl)

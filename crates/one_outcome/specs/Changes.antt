@@ -45,7 +45,7 @@ step w r = step_by r.left w r
 abbrev pub made : Present → Change → Present
 made w c = record w { now = changed w.now c }
 
-abbrev pub make : Present → RunState → Change → Told (Unit {0})
+unfoldable pub make : Present → RunState → Change → Told (Unit {0})
 make w r c = told (Ok tt) (made w c) r
 
 -- ---- containers

@@ -42,25 +42,25 @@ tells_all_of m w r (message ∷ messages) = after (m.tells w r w.now.current mes
 abbrev pub clicks_of : Meanings → Present → RunState → tree.Part → Told Ended
 clicks_of m w r pa =
     after (m.refers w r pa) (λ met w r. maybe met
-        (λ i. after (m.tells w r i MouseDown) (λ end w r. goes_on_after end w r (λ _. choose (is_some (object_at w.now.stack i)) (λ _. m.tells w r i MouseUp) (λ _. told (Ok DoneEnd) w r))))
-        (λ _. told (Ok ExitedEnd) w r))
+    (λ i. after (m.tells w r i MouseDown) (λ end w r. goes_on_after end w r (λ _. choose (is_some (object_at w.now.stack i)) (λ _. m.tells w r i MouseUp) (λ _. told (Ok DoneEnd) w r))))
+    (λ _. told (Ok ExitedEnd) w r))
 
 abbrev pub types_over_of : Meanings → Present → RunState → Referent → List ℕ → Told Ended
 types_over_of m w r o t =
     computed (field_text w.now (typed_frame_at w.now.current).variables r.delimiter o)
-        (λ old. computed (field_place w.now o)
-            (λ p. after_lines (edit w r (typed_frame_at w.now.current) p (Put Into t)) (λ _ w r. m.tells w r o.object (leaving_message old t)))
-            (λ _. unknown))
-        (λ _. told (Ok DoneEnd) w r)
+    (λ old. computed (field_place w.now o)
+    (λ p. after_lines (edit w r (typed_frame_at w.now.current) p (Put Into t)) (λ _ w r. m.tells w r o.object (leaving_message old t)))
+    (λ _. unknown))
+    (λ _. told (Ok DoneEnd) w r)
 
 -- a locked field takes no text: the program refuses it before the run
 abbrev pub types_into_of : Meanings → Present → RunState → List ℕ → tree.Part → Told Ended
 types_into_of m w r t pa =
     after (m.refers w r pa) (λ met w r. maybe met
-        (λ i. choose (locks_text w.now.stack i)
-            (λ _. unknown)
-            (λ _. after (m.tells w r i OpenField) (λ end w2 r. goes_on_after end w2 r (λ _. m.types_over w2 r (met_here w.now.current i) t))))
-        (λ _. told (Ok ExitedEnd) w r))
+    (λ i. choose (locks_text w.now.stack i)
+    (λ _. unknown)
+    (λ _. after (m.tells w r i OpenField) (λ end w2 r. goes_on_after end w2 r (λ _. m.types_over w2 r (met_here w.now.current i) t))))
+    (λ _. told (Ok ExitedEnd) w r))
 
 abbrev pub acts_of : Meanings → Present → RunState → Action → Told Ended
 acts_of m w r (act.run_lines ss) = m.line w r ss

@@ -7,6 +7,5 @@ pub mod Statements
 pub mod Messages
 pub mod Commands
 pub mod Meanings
-
 pub mod Laws
 pub mod Comes

@@ -59,17 +59,17 @@ sends_of m w r f d i n vs kind = after (step w r) (λ _ w r. m.along w (noted r 
 abbrev pub along_of : Meanings → Present → RunState → Frame → ℕ → ℕ → List ℕ → List ℕ → List (List ℕ) → HandlerKind → Told (List ℕ)
 along_of m w r f d i is n vs kind =
     after (told (first_found m.cut w.now.stack is kind n) w r) (λ found w r. maybe found
-        (λ handler. choose (nat_lt d 100)
-            (λ _. after_lines (m.block w r (handler_frame handler.holder i (parameters_of handler.handler) vs) (d + 1) (lines_of handler.handler)) (λ h w r.
-                maybe (ends kind h r) (λ out. gave w out) (λ _. m.along w r f d i (path_after w.now.stack w.now.current handler.holder) n vs kind)))
-            (λ _. told (Err (Faults TooDeep)) w r))
-        (λ _. m.outside w r f d n vs kind))
+    (λ handler. choose (nat_lt d 100)
+    (λ _. after_lines (m.block w r (handler_frame handler.holder i (parameters_of handler.handler) vs) (d + 1) (lines_of handler.handler)) (λ h w r.
+    maybe (ends kind h r) (λ out. gave w out) (λ _. m.along w r f d i (path_after w.now.stack w.now.current handler.holder) n vs kind)))
+    (λ _. told (Err (Faults TooDeep)) w r))
+    (λ _. m.outside w r f d n vs kind))
 
 abbrev pub outside_of : Meanings → Present → RunState → Frame → ℕ → List ℕ → List (List ℕ) → HandlerKind → Told (List ℕ)
 outside_of m w r f d n vs kind =
     maybe (external_named w.now.externals (calls_function kind) n)
-        (λ k. after (m.converses w r d k vs) (λ c w r. choose c.passes (λ _. m.built_in_gives w r f d n vs kind) (λ _. gave w (returned kind c.value r))))
-        (λ _. m.built_in_gives w r f d n vs kind)
+    (λ k. after (m.converses w r d k vs) (λ c w r. choose c.passes (λ _. m.built_in_gives w r f d n vs kind) (λ _. gave w (returned kind c.value r))))
+    (λ _. m.built_in_gives w r f d n vs kind)
 
 abbrev pub built_in_by : Meanings → Present → RunState → Frame → ℕ → BuiltIn → List (List ℕ) → Told (List ℕ)
 built_in_by m w r f d Value vs = maybe (only vs) (λ t. m.text_val w r f d t) (λ _. told (Err (Faults BadArgument)) w r)
@@ -93,8 +93,8 @@ systems_of m w r f d (message ∷ messages) = after (m.system w r f d w.now.curr
 abbrev pub go_by : Meanings → Present → RunState → Frame → ℕ → ℕ → Bool → Told (List ℕ)
 go_by m w r f d card differs =
     after (m.systems w r f d (closing differs)) (λ _ w r. choose (has_kind is_card w.now.stack card)
-        (λ _. after (make w r (Current card)) (λ _ w r. m.systems w r f d (opening differs)))
-        (λ _. told (Err (Faults NoSuchObject)) w r))
+    (λ _. after (make w r (Current card)) (λ _ w r. m.systems w r f d (opening differs)))
+    (λ _. told (Err (Faults NoSuchObject)) w r))
 
 abbrev pub goes_of : Meanings → Present → RunState → Frame → ℕ → ℕ → Told (List ℕ)
 goes_of m w r f d card =
@@ -106,16 +106,16 @@ menu_of m w r f d NewBackgroundItem = after (m.systems w r f d (closing true)) (
 menu_of m w r f d (NewPartItem kind) = after (add_objects w r (NewPart (new_layer w.now r) kind)) (λ _ w r. told (Ok []) w r)
 menu_of m w r f d DeleteCardItem =
     choose (may_delete w.now.stack w.now.current)
-        (λ _. after (make w r DeleteCard) (λ _ w2 r. m.systems w2 r f d (opening (differ w.now.stack w.now.current w2.now.stack w2.now.current))))
-        (λ _. told (Err (Faults CantDelete)) w r)
+    (λ _. after (make w r DeleteCard) (λ _ w2 r. m.systems w2 r f d (opening (differ w.now.stack w.now.current w2.now.stack w2.now.current))))
+    (λ _. told (Err (Faults CantDelete)) w r)
 
 -- ---- externals
 
 abbrev pub converses_of : Meanings → Present → RunState → ℕ → ℕ → List (List ℕ) → Told Conversed
 converses_of m w r d k vs =
     choose (nat_lt 16 (length vs))
-        (λ _. told (Err (Faults BadArgument)) w r)
-        (λ _. choose (nat_lt d 100) (λ _. m.talks w r (d + 1) k (Start vs)) (λ _. told (Err (Faults TooDeep)) w r))
+    (λ _. told (Err (Faults BadArgument)) w r)
+    (λ _. choose (nat_lt d 100) (λ _. m.talks w r (d + 1) k (Start vs)) (λ _. told (Err (Faults TooDeep)) w r))
 
 -- what a turn asks: it is done, fails, or calls back, and the answer is handed in at the next turn
 abbrev pub talk_by : Meanings → Present → RunState → ℕ → ℕ → Ask → Told Conversed
@@ -136,10 +136,10 @@ calls_back_of m w r d (EvalExpr note t) =
     after (told (parsed m.cut expression t) w r) (λ e w r. after (m.val w r (typed_frame_at w.now.current) d e) (λ v w r. told (Ok (Answer note v)) w r))
 calls_back_of m w r d (SetGlobal note n v) =
     choose (is_name n)
-        (λ _. after_lines (edit w r (typed_frame_at w.now.current) (variable_place (typed_frame_at w.now.current).variables n) (Put Into v)) (λ _ w r. told (Ok (Answer note [])) w r))
-        (λ _. told (Err (Faults BadArgument)) w r)
+    (λ _. after_lines (edit w r (typed_frame_at w.now.current) (variable_place (typed_frame_at w.now.current).variables n) (Put Into v)) (λ _ w r. told (Ok (Answer note [])) w r))
+    (λ _. told (Err (Faults BadArgument)) w r)
 calls_back_of m w r d (SetFieldByName note on_card n v) =
     after (told (yielded (field_named_place w.now on_card n)) w r) (λ p w r.
-        after_lines (edit w r (typed_frame_at w.now.current) p (Put Into v)) (λ _ w r. told (Ok (Answer note [])) w r))
+    after_lines (edit w r (typed_frame_at w.now.current) p (Put Into v)) (λ _ w r. told (Ok (Answer note [])) w r))
 calls_back_of m w r d (Done v passes) = unknown
 calls_back_of m w r d Fail = unknown

@@ -84,8 +84,8 @@ endless_of m w r f d ss =
 abbrev pub while_of : Meanings → Present → RunState → Frame → ℕ → Bool → tree.Expr → stm.Stmts → Ran How
 while_of m w r f d wanted x ss =
     after_in f (step w r) (λ _ w r. after_in f (m.truth_val w r f d x) (λ b w r. choose (goes_on wanted b)
-        (λ _. after_run (m.block w r f d ss) (λ h w r f. maybe (leaves_repeat h) (λ h2. ran (Ok h2) w r f) (λ _. m.while w r f d wanted x ss)))
-        (λ _. ran (Ok Next) w r f)))
+    (λ _. after_run (m.block w r f d ss) (λ h w r f. maybe (leaves_repeat h) (λ h2. ran (Ok h2) w r f) (λ _. m.while w r f d wanted x ss)))
+    (λ _. ran (Ok Next) w r f)))
 
 abbrev pub bounds_of : Meanings → Present → RunState → Frame → ℕ → tree.Expr → tree.Expr → Bool → Told CounterState
 bounds_of m w r f d x y down = after (m.val w r f d x) (λ p w r. after (m.val w r f d y) (λ q w r. told (yielded (counter_of p q down)) w r))
@@ -93,6 +93,6 @@ bounds_of m w r f d x y down = after (m.val w r f d x) (λ p w r. after (m.val w
 abbrev pub counts_of : Meanings → Present → RunState → Frame → ℕ → Option (List ℕ) → CounterState → stm.Stmts → Ran How
 counts_of m w r f d name c ss =
     after_in f (step w r) (λ _ w r. choose (is_over c)
-        (λ _. ran (Ok Next) w r f)
-        (λ _. after_run (assign w r f name (numeral c.at)) (λ _ w r f. after_run (m.block w r f d ss) (λ h w r f.
-            maybe (leaves_repeat h) (λ h2. ran (Ok h2) w r f) (λ _. m.counts w r f d name (stepped c) ss)))))
+    (λ _. ran (Ok Next) w r f)
+    (λ _. after_run (assign w r f name (numeral c.at)) (λ _ w r f. after_run (m.block w r f d ss) (λ h w r f.
+    maybe (leaves_repeat h) (λ h2. ran (Ok h2) w r f) (λ _. m.counts w r f d name (stepped c) ss)))))
