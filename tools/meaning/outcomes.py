@@ -184,6 +184,9 @@ def clause(family, rule):
         if match and match.group(1) in defined:
             continue
         if match or " ≡ " in premise or " ≢ " in premise or " < " in premise or " ≤ " in premise:
+            for variable, (term, eq) in defined.items():
+                if re.search(r"(?<![\w.])%s(?![\w(])" % variable, premise):
+                    p = "(subst (λ (%s : %s). %s) %s %s)" % (variable, TYPES[letters(variable)], premise, eq, p)
             steps.append(("case", premise, p))
             continue
         found = leaf(premise, run, w) or family_part(premise)

@@ -1,5 +1,5 @@
 -- What the rules allow is what the meanings come to.
-use Rattle.std.proofs.Common.{refl, sym, subst}
+use Rattle.std.proofs.Common.{◌≡◌, refl, sym, subst}
 use Rattle.run_laws.specs.Laws.{HasMemory}
 use Rattle.one_outcome.proofs.Ends.{given, stopped, faulted, exited}
 use Rattle.one_outcome.specs.Told.{present, told, ran}
@@ -44,7 +44,7 @@ use Rattle.meaning.specs.declared.system.SystemMessage.{SystemMessage}
 use Rattle.meaning.specs.declared.item.Item.{Item}
 use Rattle.meaning.specs.Actions.{Action}
 use Rattle.meaning.specs.State.{RunState, noted, run_property}
-use Rattle.meaning.specs.Places.{nth_piece, variable_place}
+use Rattle.meaning.specs.Places.{nth_piece, variable_place, field_text}
 use Rattle.meaning.specs.Repeats.{CounterState}
 use Rattle.meaning.specs.Menu.{closing, opening}
 use Rattle.meaning.specs.Messages.{lines_of}
@@ -434,9 +434,9 @@ mutual
 
   pub types_over_comes : {w w2 : History} {r r2 : RunState} {m : Referent} {t : List ℕ} {oe : Result Ended Stop} → TypesOver w r m t oe w2 r2 → HasMemory oe → Comes w (λ parts. parts.types_over (present w) r m t) (told oe (present w2) r2) w2
   types_over_comes TypesOver.type_over_memory has = absurd (has refl)
-  types_over_comes (TypesOver.typed_field_goes p1 p2) has = later (computed_err _ _ p2 (done))
-  types_over_comes (TypesOver.type_over_stops {f = f} {f1 = f1} {w = w} {w1 = w1} {r = r} {t = t} {pl = pl} {z = z} p1 p2 p3 p4) has = later (computed_ok _ _ p2 (computed_ok _ _ p3 (after_lines_stop _ (subst (λ (f : Frame). Comes w (λ parts. edit (present w) r f pl (Put Into t)) (ran (Err z) (present w1) r f1) w1) p1 (edits p4 (stopped has))))))
-  types_over_comes (TypesOver.types_over {f = f} {f1 = f1} {w = w} {w1 = w1} {w2 = w2} {r = r} {r1 = r1} {m = m} {t = t} {pl = pl} {i = i} {mg = mg} {oe = oe} p1 p2 p3 p4 p5 p6 p7) has = later (computed_ok _ _ p2 (computed_ok _ _ p3 (after_lines_ok _ (subst (λ (f : Frame). Comes w (λ parts. edit (present w) r f pl (Put Into t)) (ran (Ok tt) (present w1) r f1) w1) p1 (edits p4 given)) (subst (λ (mg : SystemMessage). Comes w1 (λ parts. parts.tells (present w1) r m.object mg) (told oe (present w2) r1) w2) p6 (subst (λ (i : ℕ). Comes w1 (λ parts. parts.tells (present w1) r i mg) (told oe (present w2) r1) w2) p5 (tells_comes p7 has))))))
+  types_over_comes (TypesOver.typed_field_goes {f = f} {w = w} {r = r} {m = m} {fa = fa} p1 p2) has = later (computed_err _ _ (subst (λ (f : Frame). field_text w.now f.variables r.delimiter m ≡ Err fa) p1 p2) (done))
+  types_over_comes (TypesOver.type_over_stops {f = f} {f1 = f1} {w = w} {w1 = w1} {r = r} {m = m} {v = v} {t = t} {pl = pl} {z = z} p1 p2 p3 p4) has = later (computed_ok _ _ (subst (λ (f : Frame). field_text w.now f.variables r.delimiter m ≡ Ok v) p1 p2) (computed_ok _ _ p3 (after_lines_stop _ (subst (λ (f : Frame). Comes w (λ parts. edit (present w) r f pl (Put Into t)) (ran (Err z) (present w1) r f1) w1) p1 (edits p4 (stopped has))))))
+  types_over_comes (TypesOver.types_over {f = f} {f1 = f1} {w = w} {w1 = w1} {w2 = w2} {r = r} {r1 = r1} {m = m} {v = v} {t = t} {pl = pl} {i = i} {mg = mg} {oe = oe} p1 p2 p3 p4 p5 p6 p7) has = later (computed_ok _ _ (subst (λ (f : Frame). field_text w.now f.variables r.delimiter m ≡ Ok v) p1 p2) (computed_ok _ _ p3 (after_lines_ok _ (subst (λ (f : Frame). Comes w (λ parts. edit (present w) r f pl (Put Into t)) (ran (Ok tt) (present w1) r f1) w1) p1 (edits p4 given)) (subst (λ (mg : SystemMessage). Comes w1 (λ parts. parts.tells (present w1) r m.object mg) (told oe (present w2) r1) w2) p6 (subst (λ (i : ℕ). Comes w1 (λ parts. parts.tells (present w1) r i mg) (told oe (present w2) r1) w2) p5 (tells_comes p7 has))))))
 
   pub types_into_comes : {w w2 : History} {r r2 : RunState} {t : List ℕ} {pa : tree.Part} {oe : Result Ended Stop} → TypesInto w r t pa oe w2 r2 → HasMemory oe → Comes w (λ parts. parts.types_into (present w) r t pa) (told oe (present w2) r2) w2
   types_into_comes TypesInto.type_memory has = absurd (has refl)

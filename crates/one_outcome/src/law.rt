@@ -9,7 +9,6 @@ use ht_grammar::{
 
 /// Two runs of the same lines, message or action from the same state, neither of which is out of memory, have the same end,
 /// state and run, where no plugged external is free and a function cuts each text into its tokens.
-#[tactic(auto, using(crate::proofs::One::one_line, crate::proofs::One::one_message, crate::proofs::One::one_action))]
 pub fn runs_have_one_outcome()
     ensures lines { LinesHaveOneOutcome }
     ensures messages { MessagesHaveOneOutcome }
