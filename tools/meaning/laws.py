@@ -13,34 +13,22 @@ from itertools import groupby
 
 sys.dont_write_bytecode = True
 
-from table import TYPES, binders, families, letters, read, write
+from table import TYPES, binders, families, imports, letters, snake, words, write
 
 # The changes and turns of a rule: their name in functions, and which word says how they end, where they may fail.
 LEAVES = {
     "Made": ("made", None), "TookTurn": ("turn", None), "Edits": ("edits", 6), "Assigns": ("assigns", 6),
     "DeclaresAll": ("declares_all", 4), "Sets": ("sets", 5), "Adds": ("adds", 3),
 }
-USE = re.compile(r"use (\S+?)(?:\.\{(.*)\}| as \w+)$")
 
 TABLE = families()
 FAMILIES = {family["name"]: family for family in TABLE}
+MEANING = "use Rattle.meaning.specs.Meaning.{%s}" % ", ".join(FAMILIES)
 BLOCKS = [list(block) for _, block in groupby(TABLE, lambda family: family["block"])]
 
 
-def words(text):
-    """The words of a premise or a conclusion; what stands in brackets is one."""
-    found, depth = [""], 0
-    for letter in text:
-        depth += (letter in "([{") - (letter in ")]}")
-        if letter == " " and depth == 0:
-            found.append("")
-        else:
-            found[-1] += letter
-    return found
-
-
-def snake(name):
-    return LEAVES[name][0] if name in LEAVES else re.sub(r"(?<!^)([A-Z])", r"_\1", name).lower()
+def label(name):
+    return LEAVES[name][0] if name in LEAVES else snake(name)
 
 
 def end_at(family):
@@ -76,24 +64,6 @@ def indices_of(family):
     return found
 
 
-def imports(uses, text):
-    """The lines that import what a text names, of these and of those that the rules use."""
-    lines = uses.splitlines() + [line for line in read("meaning.head").splitlines() if line.startswith("use ")]
-    lines.append("use Rattle.meaning.specs.Meaning.{%s}" % ", ".join(FAMILIES))
-    used = set(re.findall(r"\w+|[^\s\w(){}]+", text))
-    modules, taken = {}, set()
-    for line in lines:
-        module, names = USE.match(line).groups()
-        named = {name.split()[-1].strip("◌"): name for name in names.split(", ")} if names else {}
-        found = [name for short, name in named.items() if short in used - taken]
-        taken.update(named)
-        if found:
-            modules.setdefault(module, []).extend(found)
-        elif not named and line.split()[-1] + "." in text:
-            modules[line[4:]] = None
-    return "".join("use %s\n" % (module if names is None else "%s.{%s}" % (module, ", ".join(names))) for module, names in modules.items())
-
-
 class Law:
     """What is said of each derivation, and how that of a rule follows from that of its parts."""
 
@@ -105,7 +75,7 @@ class Law:
         if head not in FAMILIES and head not in LEAVES:
             return None
         memory = [memory_of(premise, whole)] if self.is_proof and end_of(premise) else []
-        return " ".join(["%s_%s" % (self.prefix, snake(head)), place, *memory])
+        return " ".join(["%s_%s" % (self.prefix, label(head)), place, *memory])
 
     def named(self, premises):
         """The variables of a rule that its clause names."""
@@ -144,7 +114,7 @@ class Law:
     def file(self):
         head = "mutual" if self.is_proof else "abbrev mutual"
         blocks = ["\n".join(map(self.function, block)) for block in BLOCKS]
-        return self.title + imports(self.uses, "\n".join(blocks)) + "".join("\n%s\n%s" % (head, block) for block in blocks)
+        return self.title + imports(self.uses, "\n".join(blocks), [MEANING]) + "".join("\n%s\n%s" % (head, block) for block in blocks)
 
 
 class Replaced(Law):

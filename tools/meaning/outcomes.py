@@ -9,9 +9,8 @@ import sys
 
 sys.dont_write_bytecode = True
 
-from table import TYPES, binders, families, letters, read, write
+from table import TYPES, binders, families, imports, letters, snake, words, write
 
-USE = re.compile(r"use (\S+?)(?:\.\{(.*)\}| as \w+)$")
 TABLE = families()
 FAMILIES = {family["name"]: family for family in TABLE}
 FILES = {
@@ -20,10 +19,6 @@ FILES = {
     "Messages": "Calls SendsText Sends Along Outside BuiltInGives System Systems Goes Menu Converses Talks CallsBack",
     "Commands": "Line Message Refers Tells TellsAll Clicks TypesOver TypesInto Acts",
 }
-
-
-def snake(name):
-    return re.sub(r"(?<!^)([A-Z])", r"_\1", name).lower()
 
 
 def split(family):
@@ -42,22 +37,6 @@ def computed_type(family):
     return " → ".join(kinds + ["%s %s" % ("Ran" if len(left) == 3 else "Told", of)])
 
 
-def imports(uses, text):
-    lines = uses.splitlines() + [line for line in read("meaning.head").splitlines() if line.startswith("use ")]
-    used = set(re.findall(r"\w+|[^\s\w(){}]+", text))
-    modules, taken = {}, set()
-    for line in lines:
-        module, names = USE.match(line).groups()
-        named = {name.split()[-1].strip("◌"): name for name in names.split(", ")} if names else {}
-        found = [name for short, name in named.items() if short in used - taken]
-        taken.update(named)
-        if found:
-            modules.setdefault(module, []).extend(found)
-        elif not named and line.split()[-1] + "." in text:
-            modules[line[4:]] = None
-    return "".join("use %s\n" % (module if names is None else "%s.{%s}" % (module, ", ".join(names))) for module, names in modules.items())
-
-
 def families_file():
     text = "pub record Meanings : Type 0 where\n  pub cut : Cutter\n"
     text += "".join("  pub %s : %s\n" % (snake(family["name"]), computed_type(family)) for family in TABLE)
@@ -65,27 +44,27 @@ def families_file():
     return "-- What each family of rules comes to, computed: from a state, a run, a frame and a tree.\n" + imports(uses, text) + "\n" + text
 
 
+def made(fields):
+    """A record of the meanings, a line each."""
+    return "record {\n%s}" % "".join("  %s = %s;\n" % field for field in fields)
+
+
+def unknown(family):
+    """What a family comes to where there is no fuel."""
+    starts, _, left = split(family)
+    return "λ %s. %s" % (" ".join("_" for _ in starts), "unknown_run" if len(left) == 3 else "unknown")
+
+
 def meanings_file():
-    nothing = "; ".join("%s = λ %s. %s" % (snake(f["name"]), " ".join("_" for _ in split(f)[0]), "unknown_run" if len(split(f)[2]) == 3 else "unknown") for f in TABLE)
-    step = "; ".join("%s = %s_of m" % (snake(f["name"]), snake(f["name"])) for f in TABLE)
-    text = "-- without fuel nothing is known\nabbrev pub nothing : Cutter → Meanings\nnothing cut = record { cut = cut; %s }\n" % nothing
-    text += "\n-- each part from the meanings of its parts\nabbrev pub one_more : Meanings → Meanings\none_more m = record { cut = m.cut; %s }\n" % step
+    names = [snake(family["name"]) for family in TABLE]
+    nothing = made([("cut", "cut")] + [(name, unknown(family)) for name, family in zip(names, TABLE)])
+    step = made([("cut", "m.cut")] + [(name, name + "_of m") for name in names])
+    text = "-- without fuel nothing is known\nabbrev pub nothing : Cutter → Meanings\nnothing cut = %s\n" % nothing
+    text += "\n-- each part from the meanings of its parts\nabbrev pub one_more : Meanings → Meanings\none_more m = %s\n" % step
     text += "\n-- the meanings that so many nested parts can tell\nunfoldable pub meanings : Cutter → ℕ → Meanings\nmeanings cut zero = nothing cut\nmeanings cut (suc fuel) = one_more (meanings cut fuel)\n"
     uses = "use Rattle.std.specs.Prelude.{ℕ, zero, suc}\nuse Rattle.one_outcome.specs.Told.{unknown, unknown_run}\nuse Rattle.one_outcome.specs.Families.{Meanings}\nuse Rattle.one_outcome.specs.Texts.{Cutter}\n"
     uses += "\n".join("use Rattle.one_outcome.specs.%s.{%s}" % (name, ", ".join(snake(f) + "_of" for f in named.split())) for name, named in FILES.items())
-    return "-- The meaning of HyperTalk as a function with fuel.\n" + imports(uses, text) + "\n" + text
-
-
-def words(text):
-    """The words of a premise or a conclusion; what stands in brackets is one."""
-    found, depth = [""], 0
-    for letter in text:
-        depth += (letter in "([{") - (letter in ")]}")
-        if letter == " " and depth == 0:
-            found.append("")
-        else:
-            found[-1] += letter
-    return found
+    return "-- The meaning of HyperTalk as a function with fuel.\n" + uses + "\n\n" + text
 
 
 def bracketed(term):
@@ -142,7 +121,7 @@ def comes(w, part):
 
 
 def swap(variable, term, text):
-    return re.sub(r"(?<![\w.])%s(?![\w(])" % variable, bracketed(term) if True else term, text)
+    return re.sub(r"(?<![\w.])%s(?![\w(])" % variable, bracketed(term), text)
 
 
 DEFINES = re.compile(r"^([a-z]+\d*) ≡ (.*)$")

@@ -32,6 +32,7 @@ TYPES = {
     "ac": "Action",
 }
 VARIABLE = re.compile(r"(?<![.\w])([a-z]+)(\d*)(?![\w(])")
+USE = re.compile(r"use (\S+?)(?:\.\{(.*)\}| as \w+)$")
 
 
 def read(name):
@@ -83,6 +84,39 @@ def binders(parts):
             if variable not in group:
                 group.append(variable)
     return " ".join("{%s : %s}" % (" ".join(names), of_type) for of_type, names in groups.items())
+
+
+def snake(name):
+    return re.sub(r"(?<!^)([A-Z])", r"_\1", name).lower()
+
+
+def words(text):
+    """The words of a premise or a conclusion; what stands in brackets is one."""
+    found, depth = [""], 0
+    for letter in text:
+        depth += (letter in "([{") - (letter in ")]}")
+        if letter == " " and depth == 0:
+            found.append("")
+        else:
+            found[-1] += letter
+    return found
+
+
+def imports(uses, text, more=()):
+    """The lines that import what a text names, of these uses, of those that the rules have, and of more."""
+    lines = uses.splitlines() + [line for line in read("meaning.head").splitlines() if line.startswith("use ")] + list(more)
+    used = set(re.findall(r"\w+|[^\s\w(){}]+", text))
+    modules, taken = {}, set()
+    for line in lines:
+        module, names = USE.match(line).groups()
+        named = {name.split()[-1].strip("◌"): name for name in names.split(", ")} if names else {}
+        found = [name for short, name in named.items() if short in used - taken]
+        taken.update(named)
+        if found:
+            modules.setdefault(module, []).extend(found)
+        elif not named and line.split()[-1] + "." in text:
+            modules[line[4:]] = None
+    return "".join("use %s\n" % (module if names is None else "%s.{%s}" % (module, ", ".join(names))) for module, names in modules.items())
 
 
 def write(crate, texts, writer):
