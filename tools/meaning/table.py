@@ -105,7 +105,8 @@ def words(text):
 def imports(uses, text, more=()):
     """The lines that import what a text names, of these uses, of those that the rules have, and of more."""
     lines = uses.splitlines() + [line for line in read("meaning.head").splitlines() if line.startswith("use ")] + list(more)
-    used = set(re.findall(r"\w+|[^\s\w(){}]+", text))
+    # A field of a record is no name that is imported.
+    used = set(re.findall(r"(?<![\w.])\w+|[^\s\w(){}]+", re.sub(r"^  pub \w+ :", "", text, flags=re.M)))
     modules, taken = {}, set()
     for line in lines:
         module, names = USE.match(line).groups()

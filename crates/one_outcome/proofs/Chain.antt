@@ -1,5 +1,5 @@
 -- Parts one after another, with enough fuel for all.
-use Rattle.std.proofs.Common.{◌≡◌, ℕ, zero, suc, ◌+◌, ◌≤◌, ◌<◌, List, length, Bool, true, false, Option, Some, None, Result, Ok, Err, refl, sym, ap, subst, ◌∙◌, arith}
+use Rattle.std.proofs.Common.{◌≡◌, ℕ, zero, suc, ◌+◌, ◌≤◌, ◌<◌, List, Bool, true, false, Option, Some, None, Result, Ok, Err, refl, sym, ap, subst, ◌∙◌, arith}
 use Rattle.std.specs.Prelude.{nat_lt, ◌≢◌}
 use Rattle.ht_values.specs.declared.fault.Fault.{Fault}
 use Rattle.ht_values.specs.declared.fault.Fault.TheVariants.{NoSuchObject}
@@ -12,12 +12,12 @@ use Rattle.meaning.specs.declared.end.Stop.TheVariants.{Fault as Faults, Exited,
 use Rattle.meaning.specs.declared.frame.Frame.{Frame}
 use Rattle.meaning.specs.Repeats.{Outcome}
 use Rattle.meaning.specs.State.{RunState}
-use Rattle.one_outcome.specs.Told.{Present, present, Told, unknown, told, Ran, ran, after, after_in, after_run, after_lines, after_next, choose, maybe, computed, there, ended, ended_lines, ended_message, referred, referred_by, gave}
+use Rattle.one_outcome.specs.Told.{Present, present, Told, told, Ran, ran, after, after_in, after_run, after_lines, after_next, choose, maybe, computed, there, ended, ended_lines, ended_message, referred, referred_by, gave}
 use Rattle.one_outcome.specs.Texts.{Cutter}
 use Rattle.one_outcome.specs.Families.{Meanings}
 use Rattle.one_outcome.specs.Meanings.{meanings, one_more}
-use Rattle.one_outcome.specs.Laws.{sorts, NoneIsFree}
-use Rattle.one_outcome.specs.Comes.{AreExact, Enough, Comes}
+use Rattle.one_outcome.specs.Laws.{NoneIsFree}
+use Rattle.one_outcome.specs.Comes.{Enough, Comes}
 
 both : (cut : Cutter) (P Q R : Meanings → Type 0) → ((parts : Meanings) → P parts → Q parts → R parts) → Enough cut P → Enough cut Q → Enough cut R
 both cut P Q R f a b = (a.0 + b.0, λ fuel le. f (meanings cut fuel) (a.1 fuel (omega (arith, le))) (b.1 fuel (omega (arith, le))))

@@ -1,5 +1,5 @@
 -- What a rule makes beside its parts has one outcome: texts, steps, edits, objects and turns.
-use Rattle.std.proofs.Common.{◌≡◌, ℕ, zero, suc, ◌+◌, ◌-◌, ◌≤◌, ◌<◌, List, [], ◌∷◌, ◌++◌, length, map, drop, Bool, true, false, Option, Some, None, Result, Ok, Err, refl, sym, ap, subst, ◌∙◌, arith}
+use Rattle.std.proofs.Common.{◌≡◌, ℕ, zero, suc, ◌+◌, ◌-◌, ◌<◌, List, [], ◌∷◌, ◌++◌, length, map, Bool, true, false, Option, Some, None, Result, Ok, Err, refl, sym, ap, subst, ◌∙◌, arith}
 use Rattle.std.specs.Prelude.{slice_index_or, slice_set, option_map, IfSome, if◌then◌else◌, ◌↔◌}
 use Rattle.ht_values.specs.declared.fault.Fault.{Fault}
 use Rattle.ht_values.specs.declared.fault.Fault.TheVariants.{StepLimit, TooMany, Syntax}
@@ -13,7 +13,7 @@ use Rattle.journal_entries.specs.declared.change.Change.{Change}
 use Rattle.journal_entries.specs.declared.change.Change.TheVariants as changes
 use Rattle.stack_places.specs.Places.{number}
 use Rattle.structural_changes.specs.Writes.{StackWrite, following, writes_of_new_part, writes_of_new_card, writes_of_new_background, writes_of_deletion}
-use Rattle.journal_entries.specs.Changes.{changed, fits, makes_current}
+use Rattle.journal_entries.specs.Changes.{changed, makes_current}
 use Rattle.journal_entries.specs.Places.{Write, put, put_all, in_stack, current_card, in_the_stack}
 use Rattle.journal_entries.specs.State.{State, seen_at}
 use Rattle.journal_entries.specs.Exchange.{with_cells}
@@ -21,19 +21,18 @@ use Rattle.journal_entries.specs.Turning.{with_cells_at, one_more_at}
 use Rattle.change_journal.specs.History.{History}
 use Rattle.change_journal.specs.Rising.{Made, TookTurn}
 use Rattle.containers.specs.declared.edit.Edit.{Edit}
-use Rattle.containers.specs.Edits.{due}
 use Rattle.containers.specs.Places.{HolderView, PlaceView}
 use Rattle.containers.specs.Variables.{VariablesView, declared}
 use Rattle.containers.specs.Writes.{Writes, Declares}
 use Rattle.object_references.specs.declared.referent.Referent.{Referent}
 use Rattle.meaning.specs.declared.end.Stop.{Stop}
-use Rattle.meaning.specs.declared.end.Stop.TheVariants.{Fault as Faults, Exited, Memory}
+use Rattle.meaning.specs.declared.end.Stop.TheVariants.{Fault as Faults}
 use Rattle.meaning.specs.declared.frame.Frame.{Frame}
 use Rattle.meaning.specs.Places.{Edits, Assigns, DeclaresAll, Sets, Adds}
 use Rattle.meaning.specs.State.{RunState, Step}
 use Rattle.meaning.specs.Values.{Yields}
 use Rattle.run_laws.specs.Laws.{HasMemory}
-use Rattle.one_outcome.specs.Told.{Present, present, Told, told, Ran, ran, after, maybe, computed, choose}
+use Rattle.one_outcome.specs.Told.{Present, present, Told, told, ran, after, maybe, computed, choose}
 use Rattle.one_outcome.specs.Changes.{with_global, yielded, step_by, step, made, make, with_variables, written, edit_by, edit, assign, declare_all, set_property, add_objects, turn_by, turn}
 use Rattle.one_outcome.specs.Families.{Meanings}
 use Rattle.one_outcome.specs.Laws.{sorts_of, sorts, IsFixed, NoneIsFree}

@@ -1,5 +1,5 @@
 -- Two runs of one thing have one outcome.
-use Rattle.std.proofs.Common.{◌≡◌, ℕ, ◌+◌, List, Result, refl, sym, ap, subst, ◌∙◌, arith}
+use Rattle.std.proofs.Common.{◌≡◌, ◌+◌, Result, sym, ap, subst, ◌∙◌, arith}
 use Rattle.ht_grammar.specs.Laws.{ReadsExactly}
 use Rattle.ht_grammar.specs.Lines.{typed_lines}
 use Rattle.ht_grammar.specs.Reading.{expression}

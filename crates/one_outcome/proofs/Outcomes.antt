@@ -12,7 +12,6 @@ use Rattle.std.specs.Prelude.{ℕ, ◌+◌, ℤ, List, [], Bool, Option, Some, N
 use Rattle.ht_values.specs.declared.fault.Fault.TheVariants.{TooDeep, CantDelete, BadArgument}
 use Rattle.ht_values.specs.declared.operator.Op.{Op}
 use Rattle.ht_values.specs.declared.word.Where.TheVariants.{Into}
-use Rattle.ht_values.specs.Number.{number_of}
 use Rattle.ht_grammar.specs.declared.vocabulary.HandlerKind.{HandlerKind}
 use Rattle.ht_grammar.specs.declared.vocabulary.HandlerKind.TheVariants.{Command, Function}
 use Rattle.ht_grammar.specs.declared.vocabulary.Layer.{Layer}
@@ -29,7 +28,6 @@ use Rattle.object_references.specs.declared.referent.PartScope.{PartScope}
 use Rattle.object_references.specs.declared.referent.Pick.{Pick}
 use Rattle.object_references.specs.declared.referent.Referent.{Referent}
 use Rattle.object_references.specs.declared.referent.Sought.{Sought}
-use Rattle.object_references.specs.References.{part_met}
 use Rattle.containers.specs.declared.edit.Edit.TheVariants.{Put, Delete}
 use Rattle.containers.specs.Places.{PlaceView}
 use Rattle.meaning.specs.declared.end.Conversed.{Conversed}
@@ -43,8 +41,8 @@ use Rattle.meaning.specs.declared.end.Stop.TheVariants.{Fault as Faults, Exited}
 use Rattle.meaning.specs.declared.system.SystemMessage.{SystemMessage}
 use Rattle.meaning.specs.declared.item.Item.{Item}
 use Rattle.meaning.specs.Actions.{Action}
-use Rattle.meaning.specs.State.{RunState, noted, run_property}
-use Rattle.meaning.specs.Places.{nth_piece, variable_place, field_text}
+use Rattle.meaning.specs.State.{RunState, noted}
+use Rattle.meaning.specs.Places.{variable_place, field_text}
 use Rattle.meaning.specs.Repeats.{CounterState}
 use Rattle.meaning.specs.Menu.{closing, opening}
 use Rattle.meaning.specs.Messages.{lines_of}

@@ -26,7 +26,7 @@ use Rattle.meaning.specs.declared.end.Stop.TheVariants.{Fault as Faults}
 use Rattle.meaning.specs.declared.frame.Frame.{Frame}
 use Rattle.meaning.specs.Places.{variable_place}
 use Rattle.meaning.specs.State.{RunState}
-use Rattle.one_outcome.specs.Told.{Present, Told, unknown, told, Ran, ran, after_run, choose, maybe, computed}
+use Rattle.one_outcome.specs.Told.{Present, Told, unknown, told, Ran, ran, choose, computed}
 
 -- a computed value, or its fault
 abbrev pub yielded : {A : Type 0} → Result A Fault → Result A Stop

@@ -1,5 +1,5 @@
 -- That the meanings come to something, with enough fuel.
-use Rattle.std.specs.Prelude.{◌≡◌, ◌↔◌, ℕ, ◌≤◌, List, Option, Some}
+use Rattle.std.specs.Prelude.{◌≡◌, ◌↔◌, ℕ, ◌≤◌, List, Some}
 use Rattle.ht_lex.specs.declared.tokens.Span.{Span}
 use Rattle.ht_lex.specs.Tokens.{IsCut}
 use Rattle.ht_grammar.specs.Laws.{ReadsExactly}

@@ -1,5 +1,5 @@
 -- Commands and dot lines, computed.
-use Rattle.std.specs.Prelude.{ℕ, List, [], ◌∷◌, Option, Some, None, is_some, Result, Ok, Err}
+use Rattle.std.specs.Prelude.{ℕ, List, [], ◌∷◌, Option, is_some, Ok}
 use Rattle.ht_values.specs.declared.word.Where.TheVariants.{Into}
 use Rattle.ht_grammar.specs.declared.vocabulary.HandlerKind.TheVariants.{Command}
 use Rattle.ht_grammar.specs.Statements as stm

@@ -1,6 +1,6 @@
 -- Expressions, chunks, containers and references, computed. Each function says what one pa comes to, and asks the
 -- meanings `m` of its parts.
-use Rattle.std.specs.Prelude.{ℕ, ◌+◌, ℤ, pos, List, [], ◌∷◌, ◌++◌, length, nat_lt, Bool, not, Option, Some, None, Result, Ok, Err}
+use Rattle.std.specs.Prelude.{ℕ, ◌+◌, ℤ, pos, List, [], ◌∷◌, ◌++◌, length, nat_lt, Bool, not, Ok, Err}
 use Rattle.ht_values.specs.declared.fault.Fault.TheVariants.{TooDeep}
 use Rattle.ht_values.specs.declared.word.Prop.TheVariants.{Number}
 use Rattle.ht_values.specs.Functions.{built_in}

@@ -14,7 +14,6 @@ use Rattle.object_references.specs.declared.referent.PartScope.{PartScope}
 use Rattle.object_references.specs.declared.referent.Pick.{Pick}
 use Rattle.object_references.specs.declared.referent.Referent.{Referent}
 use Rattle.object_references.specs.declared.referent.Sought.{Sought}
-use Rattle.object_references.specs.References.{part_met}
 use Rattle.containers.specs.Places.{PlaceView}
 use Rattle.meaning.specs.declared.end.Conversed.{Conversed}
 use Rattle.meaning.specs.declared.end.Ended.{Ended}

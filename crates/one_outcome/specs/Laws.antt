@@ -1,5 +1,5 @@
 -- Laws of outcomes.
-use Rattle.std.specs.Prelude.{◌≡◌, ◌↔◌, ℕ, ◌<◌, List, length, map, slice_index_or, Option, Some, Result}
+use Rattle.std.specs.Prelude.{◌≡◌, ◌↔◌, ℕ, ◌<◌, List, length, map, slice_index_or, Some, Result}
 use Rattle.ht_grammar.specs.Statements as stm
 use Rattle.externals.specs.Cells.{Seen}
 use Rattle.externals.specs.Table.{Turn, turn_of}

@@ -1,5 +1,5 @@
 -- Messages, what is built in, the messages of the system, `go` and the menu, and conversations with externals, computed.
-use Rattle.std.specs.Prelude.{ℕ, ◌+◌, List, [], ◌∷◌, length, nat_lt, nat_eq, Bool, true, false, not, Option, Some, None, Result, Ok, Err}
+use Rattle.std.specs.Prelude.{ℕ, ◌+◌, List, [], ◌∷◌, length, nat_lt, nat_eq, Bool, true, false, Ok, Err}
 use Rattle.ht_values.specs.declared.fault.Fault.TheVariants.{CantUnderstand, NoSuchObject, TooDeep, ExternalFault, CantDelete, BadArgument}
 use Rattle.ht_values.specs.declared.word.Where.TheVariants.{Into}
 use Rattle.ht_values.specs.Functions.{built_in}
@@ -22,7 +22,6 @@ use Rattle.containers.specs.declared.edit.Edit.TheVariants.{Put}
 use Rattle.msg_path.specs.BuiltIns.{calls_function, external_named, built_in_named}
 use Rattle.msg_path.specs.declared.built_in.BuiltIn.{BuiltIn}
 use Rattle.msg_path.specs.declared.built_in.BuiltIn.TheVariants.{DoMenu, Value, Function as BuiltInFunction}
-use Rattle.msg_path.specs.Handlers.{Found}
 use Rattle.msg_path.specs.Path.{path, path_after}
 use Rattle.meaning.specs.declared.end.Conversed.{Conversed}
 use Rattle.meaning.specs.declared.frame.Frame.{Frame}

@@ -1,5 +1,5 @@
 -- Statements and repeats, computed.
-use Rattle.std.specs.Prelude.{ℕ, ◌+◌, List, [], nat_lt, Bool, true, false, Option, Some, None, Result, Ok, Err}
+use Rattle.std.specs.Prelude.{ℕ, ◌+◌, List, [], nat_lt, Bool, true, false, Option, Some, None, Ok, Err}
 use Rattle.ht_values.specs.declared.fault.Fault.TheVariants.{TooDeep}
 use Rattle.ht_values.specs.declared.operator.Op.{Op}
 use Rattle.ht_values.specs.declared.operator.Op.TheVariants.{Add, Subtract, Multiply, Divide}

@@ -5,7 +5,7 @@ use Rattle.ht_lex.specs.declared.tokens.Span.{Span}
 use Rattle.ht_lex.specs.Token.{Token, token_in}
 use Rattle.ht_grammar.specs.declared.vocabulary.HandlerKind.{HandlerKind}
 use Rattle.ht_grammar.specs.Handlers.{handler_in}
-use Rattle.ht_grammar.specs.Statements.{Handler, Handlers}
+use Rattle.ht_grammar.specs.Statements.{Handler}
 use Rattle.ht_grammar.specs.Whole.{script}
 use Rattle.object_table.specs.Content.{Content}
 use Rattle.msg_path.specs.Handlers.{Found, script_at}
