@@ -6,6 +6,7 @@ table meaning.rules. With --check it writes nothing, and ends with 1 where a fil
 
 import re
 import sys
+from itertools import groupby
 
 sys.dont_write_bytecode = True
 
@@ -120,6 +121,10 @@ def comes(w, part):
     return "Comes %s (λ parts. %s) (%s %s (present %s) %s%s) %s" % (w, code, kind, end, w1, r1, " " + f1[0] if f1 else "", w1)
 
 
+def mentions(text, variable):
+    return re.search(r"(?<![\w.])%s(?![\w(])" % variable, text)
+
+
 def swap(variable, term, text):
     return re.sub(r"(?<![\w.])%s(?![\w(])" % variable, bracketed(term), text)
 
@@ -128,142 +133,169 @@ DEFINES = re.compile(r"^([a-z]+\d*) ≡ (.*)$")
 OPS = {("told", "told"): "after", ("told", "ran"): "after_in", ("ran", "ran"): "after_run", ("ran", "told"): "after_lines"}
 
 
-def has(end, whole, of, whole_of):
-    if end.startswith("(Ok"):
-        return "given"
-    if end == whole:
-        return "has" if of == whole_of else "(stopped has)"
-    return "faulted" if end.startswith("(Err (Faults") else "exited"
+def definitions(premises):
+    """The variables that premises define: the term, and the premise that says so."""
+    found = {}
+    for at, premise in enumerate(premises, 1):
+        match = DEFINES.match(premise)
+        if match and match.group(2) not in ("true", "false") and not match.group(2).startswith("Some ("):
+            found[match.group(1)] = (match.group(2), "p%d" % at)
+    return found
+
+
+def moved(variable, stated, way, proof):
+    """The proof of what is stated, carried along an equation of a variable."""
+    return "subst (λ (%s : %s). %s) %s %s" % (variable, TYPES[letters(variable)], stated, way, proof)
+
+
+def condition(premise, place, defined):
+    """A premise that is no part, of the variables that the premises define."""
+    for variable, (_, equation) in defined.items():
+        if mentions(premise, variable):
+            place = "(%s)" % moved(variable, premise, equation, place)
+    return ("case", premise, place)
 
 
 def end_type(premise):
     head = words(premise)[0]
-    if head in FAMILIES:
-        return TYPES[letters(split(FAMILIES[head])[1])]
-    return None
+    return TYPES[letters(split(FAMILIES[head])[1])] if head in FAMILIES else None
+
+
+def memory_of(premise, lemma, end, whole_end, whole_type):
+    """Why a part had memory, where the whole has it."""
+    if lemma.startswith(("makes", "takes_turn")):
+        return ""
+    if end.startswith("(Ok"):
+        return " given"
+    if end == whole_end:
+        of_type, is_stop = end_type(premise), end.startswith("(Err")
+        is_same = of_type == whole_type if of_type and is_stop else not is_stop
+        return " has" if is_same else " (stopped has)"
+    return " faulted" if end.startswith("(Err (Faults") else " exited"
+
+
+def external_there(premise, lemma, family):
+    """Why the external of a conversation or a turn is there."""
+    if premise.startswith("Converses"):
+        return " (named_there _ _ _ p1)"
+    if premise.startswith("Talks") and family["name"] != "Converses":
+        return " (there_after there p2 (calls_back_comes p3 given).kept)"
+    return " there" if premise.startswith("Talks") or lemma == "takes_turn" else ""
+
+
+def part_of(premise, place, family, whole, whole_type, run, w, defined):
+    """A premise that is a leaf or a derivation, and what it comes to."""
+    lemma, part = leaf(premise, run, w) or family_part(premise)
+    proof = "%s %s%s%s" % (lemma, place, memory_of(premise, lemma, part[2], whole[2], whole_type), external_there(premise, lemma, family))
+    stated = comes(w, part)
+    for variable, (term, equation) in defined.items():
+        if mentions(stated, variable):
+            proof = moved(variable, stated, equation, "(%s)" % proof)
+            stated = swap(variable, term, stated)
+    return ("part", premise, place, proof, part)
+
+
+def steps_of(family, rule, whole, defined):
+    """The premises of a rule in order, each with its proof."""
+    _, premises, conclusion = rule
+    w, run = words(conclusion)[1:3]
+    for at, premise in enumerate(premises, 1):
+        match, place = DEFINES.match(premise), "p%d" % at
+        if match and match.group(1) in defined:
+            continue
+        if any(sign in premise for sign in (" ≡ ", " ≢ ", " < ", " ≤ ")):
+            yield condition(premise, place, defined)
+        else:
+            step = part_of(premise, place, family, whole, end_type(conclusion), run, w, defined)
+            yield step
+            w, run = step[4][3:5]
+
+
+def named(premises, conclusion, body):
+    """The variables of a rule that the proof names, in the order of the rule."""
+    texts = premises + [conclusion]
+    found = {variable for text in texts for variable in re.findall(r"(?<![.\w])[a-z]+\d*(?![\w(])", text)
+             if letters(variable) in TYPES and re.search(r"(?<![.\w])%s(?!\w)" % variable, body)}
+    order = re.findall(r"\w+", " ".join(re.findall(r"\{([^:}]*) :", binders(texts))))
+    return sorted(found, key=order.index)
 
 
 def clause(family, rule):
+    """The clause of a rule: what it allows is what the meanings come to."""
     name, premises, conclusion = rule
     _, whole = family_part(conclusion)
+    has = " has there" if family["name"] in ("Converses", "Talks") else " has"
     if whole[2] == "(Err Memory)":
-        return "%s.%s%s has = absurd (has refl)" % (family["name"], name, "")
-    whole_type = end_type(conclusion)
-    starts = words(conclusion)[1:]
-    run, w = starts[1], starts[0]
-    defined = {}
-    steps, first_w = [], w
-    for at, premise in enumerate(premises, 1):
-        match = DEFINES.match(premise)
-        if match and match.group(2) not in ("true", "false") and not match.group(2).startswith("Some ("):
-            defined[match.group(1)] = (match.group(2), "p%d" % at)
-    for at, premise in enumerate(premises, 1):
-        p = "p%d" % at
-        match = DEFINES.match(premise)
-        if match and match.group(1) in defined:
-            continue
-        if match or " ≡ " in premise or " ≢ " in premise or " < " in premise or " ≤ " in premise:
-            for variable, (term, eq) in defined.items():
-                if re.search(r"(?<![\w.])%s(?![\w(])" % variable, premise):
-                    p = "(subst (λ (%s : %s). %s) %s %s)" % (variable, TYPES[letters(variable)], premise, eq, p)
-            steps.append(("case", premise, p))
-            continue
-        found = leaf(premise, run, w) or family_part(premise)
-        lemma, part = found
-        memory = ""
-        if not lemma.startswith(("makes", "takes_turn")):
-            of = end_type(premise)
-            same_type = of == whole_type if of else False
-            head = words(premise)[0]
-            if head == "Yields" or part[2] == whole[2] and not part[2].startswith("(Err"):
-                same_type = True
-            memory = " " + has(part[2], whole[2], 1, 1 if same_type else 2)
-            if part[2].startswith("(Err") and part[2] == whole[2] and not of:
-                memory = " (stopped has)"
-        extra = ""
-        if premise.startswith("Converses"):
-            extra = " (named_there _ _ _ p1)"
-        if premise.startswith("Talks"):
-            extra = " there" if family["name"] == "Converses" else " (there_after there p2 (%s).kept)" % "calls_back_comes p3 given"
-        if lemma == "takes_turn":
-            extra = " there"
-        proof = "%s %s%s%s" % (lemma, p, memory, extra)
-        stated = comes(w, part)
-        for variable, (term, eq) in defined.items():
-            if re.search(r"(?<![\w.])%s(?![\w(])" % variable, stated):
-                proof = "subst (λ (%s : %s). %s) %s (%s)" % (variable, TYPES[letters(variable)], stated, eq, proof)
-                stated = swap(variable, term, stated)
-        steps.append(("part", premise, p, proof, part))
-        w, run = part[3], part[4]
-    body = chain(family, name, steps, whole)
-    stated = comes(first_w, whole)
-    body, wraps = "later (%s)" % body, []
-    for variable, (term, eq) in defined.items():
-        if re.search(r"(?<![\w.])%s(?![\w(])" % variable, stated):
-            wraps.append("subst (λ (%s : %s). %s) (sym %s)" % (variable, TYPES[letters(variable)], stated, eq))
+        return "%s.%s%s = absurd (has refl)" % (family["name"], name, has)
+    defined = definitions(premises)
+    body = "later (%s)" % chain(family, name, list(steps_of(family, rule, whole, defined)), whole)
+    stated, ways = comes(words(conclusion)[1], whole), []
+    for variable, (term, equation) in defined.items():
+        if mentions(stated, variable):
+            ways.append((variable, stated, "(sym %s)" % equation))
             stated = swap(variable, term, stated)
-    for wrap in reversed(wraps):
-        body = "%s (%s)" % (wrap, body)
-    names = []
-    for part in premises + [conclusion]:
-        for variable in re.findall(r"(?<![.\w])[a-z]+\d*(?![\w(])", part):
-            if letters(variable) in TYPES and variable not in names and re.search(r"(?<![.\w])%s(?!\w)" % variable, body):
-                names.append(variable)
-    order = re.findall(r"\w+", " ".join(re.findall(r"\{([^:}]*) :", binders(premises + [conclusion]))))
-    names.sort(key=order.index)
-    pattern = " ".join(["%s.%s" % (family["name"], name), *("{%s = %s}" % (n, n) for n in names), *("p%d" % at for at in range(1, len(premises) + 1))])
-    return "(%s) has%s = %s" % (pattern, " there" if family["name"] in ("Converses", "Talks") else "", body)
+    for way in reversed(ways):
+        body = moved(*way, "(%s)" % body)
+    places = ["p%d" % at for at in range(1, len(premises) + 1)]
+    pattern = " ".join(["%s.%s" % (family["name"], name), *("{%s = %s}" % (n, n) for n in named(premises, conclusion, body)), *places])
+    return "(%s)%s = %s" % (pattern, has, body)
+
+
+# A condition on a number: the lemma, and what it takes.
+BOUNDS = {"d ≡ 100": "choose_false _ _ (at_limit %s)", "d < 100": "choose_true _ _ (below %s)",
+          "16 < length vs": "choose_true _ _ (below %s)", "length vs ≤ 16": "choose_false _ _ (at_least %s)"}
+# A condition on a value: the lemma by what it is equal to.
+CASES = {"true": "choose_true", "false": "choose_false", "None": "maybe_none", "Some": "maybe_some", "Ok": "computed_ok", "Err": "computed_err"}
+# What these rules do with their one part.
+WHOLES = {"there_is": "there_ok _ (%s)", "there_is_none": "there_none _ (%s)", "there_stops": "there_stop _ p3 (%s)",
+          "Line": "ends_lines (%s)", "Message": "ends_message (%s)", "Refers": "refers_to (%s)"}
+
+
+def under(premise, place, rest):
+    """What follows from a condition and the rest."""
+    if premise in BOUNDS:
+        return "%s (%s)" % (BOUNDS[premise] % place, rest)
+    if premise.startswith("returned "):
+        return "gives_outcome %s" % place
+    if " ≢ " in premise:
+        return rest
+    return "%s _ _ %s (%s)" % (CASES[premise.rsplit(" ≡ ", 1)[1].split()[0]], place, rest)
+
+
+def statement(name, proof, rest):
+    """What follows from a statement of a block and the rest."""
+    if name == "block_stops":
+        return "after_next_stop _ (%s)" % proof
+    if name == "block_leaves":
+        return "after_next_leaves _ p4 (%s)" % proof
+    return "after_next_ok _ (%s) (%s)" % (proof, rest)
+
+
+def joined(proof, part, whole, rest):
+    """What follows from a part and the rest."""
+    combined = OPS[part[0], whole[0]]
+    holes = "_ _ " if combined == "after_in" else "_ "
+    if part[2].startswith("(Ok"):
+        return "%s_ok %s(%s) (%s)" % (combined, holes, proof, rest)
+    return "%s_stop %s(%s)" % (combined, holes, proof) if part[2].startswith("(Err") else proof
 
 
 def chain(family, name, steps, whole):
+    """The proof of a rule by its premises, in order."""
     if not steps:
         return "done"
-    step, rest = steps[0], steps[1:]
-    if step[0] == "case":
-        _, premise, p = step
-        if premise == "d ≡ 100":
-            return "choose_false _ _ (at_limit %s) (%s)" % (p, chain(family, name, rest, whole))
-        if premise == "d < 100":
-            return "choose_true _ _ (below %s) (%s)" % (p, chain(family, name, rest, whole))
-        if premise == "16 < length vs":
-            return "choose_true _ _ (below %s) (%s)" % (p, chain(family, name, rest, whole))
-        if premise == "length vs ≤ 16":
-            return "choose_false _ _ (at_least %s) (%s)" % (p, chain(family, name, rest, whole))
-        if premise.startswith("returned "):
-            return "gives_outcome %s" % p
-        if " ≢ " in premise:
-            return chain(family, name, rest, whole)
-        left, right = premise.rsplit(" ≡ ", 1)
-        lemma = {"true": "choose_true", "false": "choose_false", "None": "maybe_none"}.get(right) or {"Some": "maybe_some", "Ok": "computed_ok", "Err": "computed_err"}[right.split()[0]]
-        return "%s _ _ %s (%s)" % (lemma, p, chain(family, name, rest, whole))
-    _, premise, p, proof, part = step
-    if name == "there_is":
-        return "there_ok _ (%s)" % proof
-    if name == "there_is_none":
-        return "there_none _ (%s)" % proof
-    if name == "there_stops":
-        return "there_stop _ p3 (%s)" % proof
+    (kind, premise, place, *proved), rest = steps[0], chain(family, name, steps[1:], whole)
+    if kind == "case":
+        return under(premise, place, rest)
+    proof, part = proved
+    for key in (name, family["name"]):
+        if key in WHOLES:
+            return WHOLES[key] % proof
     if family["name"] == "Block" and premise.startswith("Form"):
-        if name == "block_stops":
-            return "after_next_stop _ (%s)" % proof
-        if name == "block_leaves":
-            return "after_next_leaves _ p4 (%s)" % proof
-        return "after_next_ok _ (%s) (%s)" % (proof, chain(family, name, rest, whole))
-    if family["name"] == "Line":
-        return "ends_lines (%s)" % proof
-    if family["name"] == "Message":
-        return "ends_message (%s)" % proof
-    if family["name"] == "Refers":
-        return "refers_to (%s)" % proof
-    op = OPS[part[0], whole[0]]
-    if part[2].startswith("(Ok"):
-        found = "%s_ok %s(%s) (%s)" % (op, "_ _ " if op == "after_in" else "_ ", proof, chain(family, name, rest, whole))
-    elif part[2].startswith("(Err"):
-        found = "%s_stop %s(%s)" % (op, "_ _ " if op == "after_in" else "_ ", proof)
-    else:
-        found = proof
+        return statement(name, proof, rest)
+    found = joined(proof, part, whole, rest)
     if premise.startswith("CallsBack") and family["name"] == "Talks":
-        found = "talk_back (asks_back %s %s) (%s)" % (p, "given" if part[2].startswith("(Ok") else "(stopped has)", found)
+        return "talk_back (asks_back %s %s) (%s)" % (place, "given" if part[2].startswith("(Ok") else "(stopped has)", found)
     return found
 
 
@@ -273,17 +305,10 @@ def function(family):
     extra = " → HasExternal w k" if family["name"] in ("Converses", "Talks") else ""
     says = "%s → %s → HasMemory %s%s → %s" % (binders([" ".join(starts + [end] + left)]), " ".join([family["name"], *starts, end, *left]), end, extra, comes("w", whole))
     name = snake(family["name"]) + "_comes"
-    return "".join("  %s%s\n" % (("pub " if n == 0 else "") + name + " ", line) for n, line in enumerate([": " + says] + [fix(clause(family, rule), family) for rule in family["rules"]]))
-
-
-def fix(text, family):
-    if text.endswith("absurd (has refl)") and family["name"] in ("Converses", "Talks"):
-        return text.replace(" has =", " has there =")
-    return text
+    return "".join("  %s%s\n" % (("pub " if n == 0 else "") + name + " ", line) for n, line in enumerate([": " + says] + [clause(family, rule) for rule in family["rules"]]))
 
 
 def outcomes_file():
-    from itertools import groupby
     blocks = ["\n".join(map(function, block)) for _, block in groupby(TABLE, lambda family: family["block"])]
     text = "".join("\nmutual\n%s" % block for block in blocks)
     uses = """use Rattle.std.proofs.Common.{◌≡◌, refl, sym, subst}

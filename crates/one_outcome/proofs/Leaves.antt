@@ -1,6 +1,6 @@
 -- What a rule makes beside its parts has one outcome: texts, steps, edits, objects and turns.
 use Rattle.std.proofs.Common.{◌≡◌, ℕ, zero, suc, ◌+◌, ◌-◌, ◌<◌, List, [], ◌∷◌, ◌++◌, length, map, Bool, true, false, Option, Some, None, Result, Ok, Err, refl, sym, ap, subst, ◌∙◌, arith}
-use Rattle.std.specs.Prelude.{slice_index_or, slice_set, option_map, IfSome, if◌then◌else◌, ◌↔◌}
+use Rattle.std.specs.Prelude.{slice_index_or, slice_set, option_map, IfSome, if◌then◌else◌}
 use Rattle.ht_values.specs.declared.fault.Fault.{Fault}
 use Rattle.ht_values.specs.declared.fault.Fault.TheVariants.{StepLimit, TooMany, Syntax}
 use Rattle.ht_values.specs.Text.{folded}
@@ -35,11 +35,10 @@ use Rattle.run_laws.specs.Laws.{HasMemory}
 use Rattle.one_outcome.specs.Told.{Present, present, Told, told, ran, after, maybe, computed, choose}
 use Rattle.one_outcome.specs.Changes.{with_global, yielded, step_by, step, made, make, with_variables, written, edit_by, edit, assign, declare_all, set_property, add_objects, turn_by, turn}
 use Rattle.one_outcome.specs.Families.{Meanings}
-use Rattle.one_outcome.specs.Laws.{sorts_of, sorts, IsFixed, NoneIsFree}
+use Rattle.one_outcome.specs.Laws.{sorts_of, sorts, IsFixed, NoneIsFree, CutsExactly}
 use Rattle.one_outcome.specs.Comes.{AreExact, Comes}
 use Rattle.ht_lex.specs.declared.tokens.Span.{Span}
 use Rattle.ht_lex.specs.Token.{Token, token_in}
-use Rattle.ht_lex.specs.Tokens.{IsCut}
 use Rattle.ht_grammar.specs.declared.vocabulary.HandlerKind.{HandlerKind}
 use Rattle.ht_grammar.specs.Handlers.{handler_in}
 use Rattle.ht_grammar.specs.Laws.{ReadsExactly}
@@ -268,9 +267,6 @@ cut_kept : (cut : Cutter) (fuel : ℕ) → (meanings cut fuel).cut ≡ cut
 unfolding meanings
 cut_kept cut zero = refl
 cut_kept cut (suc fuel) = cut_kept cut fuel
-
-abbrev CutsExactly : Cutter → Type 0
-CutsExactly cut = (text : List ℕ) (spans : List Span) → (cut text ≡ Some spans) ↔ IsCut text spans
 
 is_read : {A : Type 0} {read : List Token → Option A} {IsRead : List Token → A → Type 0} {cut : Cutter} {text : List ℕ} {tree : A} → CutsExactly cut → ReadsExactly read IsRead → Reads IsRead text tree → read_by cut read text ≡ Some tree
 is_read {read = read} {text = text} {tree = tree} cuts exact r =

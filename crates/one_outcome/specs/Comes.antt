@@ -1,7 +1,5 @@
 -- That the meanings come to something, with enough fuel.
-use Rattle.std.specs.Prelude.{◌≡◌, ◌↔◌, ℕ, ◌≤◌, List, Some}
-use Rattle.ht_lex.specs.declared.tokens.Span.{Span}
-use Rattle.ht_lex.specs.Tokens.{IsCut}
+use Rattle.std.specs.Prelude.{◌≡◌, ℕ, ◌≤◌}
 use Rattle.ht_grammar.specs.Laws.{ReadsExactly}
 use Rattle.ht_grammar.specs.Lines.{typed_lines}
 use Rattle.ht_grammar.specs.Reading.{expression}
@@ -11,11 +9,11 @@ use Rattle.change_journal.specs.History.{History}
 use Rattle.one_outcome.specs.Families.{Meanings}
 use Rattle.one_outcome.specs.Texts.{Cutter}
 use Rattle.one_outcome.specs.Meanings.{meanings}
-use Rattle.one_outcome.specs.Laws.{sorts, NoneIsFree}
+use Rattle.one_outcome.specs.Laws.{sorts, NoneIsFree, CutsExactly}
 
 -- texts are cut and read exactly
 pub record AreExact (cut : Cutter) : Type 0 where
-  pub cuts : (text : List ℕ) (spans : List Span) → (cut text ≡ Some spans) ↔ IsCut text spans
+  pub cuts : CutsExactly cut
   pub expressions : ReadsExactly expression ReadsExpr
   pub lines : ReadsExactly typed_lines ReadsLines
   pub messages : ReadsExactly sent_message ReadsMessage

@@ -1,4 +1,4 @@
--- Expressions, chunks, containers and references, computed. Each function says what one pa comes to, and asks the
+-- Expressions, chunks, containers and references, computed. Each function says what one part comes to, and asks the
 -- meanings `m` of its parts.
 use Rattle.std.specs.Prelude.{ℕ, ◌+◌, ℤ, pos, List, [], ◌∷◌, ◌++◌, length, nat_lt, Bool, not, Ok, Err}
 use Rattle.ht_values.specs.declared.fault.Fault.TheVariants.{TooDeep}
