@@ -4,5 +4,6 @@ pub mod Spans
 mod Runs
 pub mod Longest
 pub mod Cutting
+pub mod Computed
 pub mod Placed
 pub mod Turns

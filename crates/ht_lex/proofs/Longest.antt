@@ -482,7 +482,7 @@ hyphens_some : (w : List ℕ) → starts_with nat_eq w (codes "--") ≡ true →
 hyphens_some [] e = cc
 hyphens_some (x ∷ w) e = omega arith
 
-spelled_some : {what : Option TokenKind} {w : List ℕ} → Spells what w → 0 < length w
+pub spelled_some : {what : Option TokenKind} {w : List ℕ} → Spells what w → 0 < length w
 spelled_some (word {w} e) = word_some w e
 spelled_some (digits g e) = g
 spelled_some (quoted w e) = omega arith

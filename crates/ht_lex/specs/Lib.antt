@@ -7,3 +7,4 @@ pub mod Tokens
 pub mod Answer
 pub mod Place
 pub mod Stops
+pub mod Cutting

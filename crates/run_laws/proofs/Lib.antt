@@ -1,4 +1,4 @@
-mod Ends
+pub mod Ends
 mod Kept
 pub mod Bases
 pub mod Trails
