@@ -1,3 +1,4 @@
 pub mod Cells
 pub mod Number
 pub mod Table
+pub mod Patches

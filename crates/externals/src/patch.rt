@@ -1,22 +1,82 @@
 //! Patches: what goes back over a turn of an external.
 
-ghost use Rattle.std.specs.Prelude.{◌≡◌, ℕ, ◌<◌, List, [], ◌∷◌, ◌++◌, length, IfErr, OnOk, slice_set, slice_index_or};
+ghost use Rattle.std.specs.Prelude.{◌≡◌, ℕ, ◌<◌, List, [], ◌∷◌, ◌++◌, length, IfOk, IfErr, OnOk, slice_set, slice_index_or};
+ghost use Rattle.externals.specs.Patches.{changes_held};
 
 use ht_values::Text;
 use std::alloc::Global;
 use std::marker::Model;
 use std::mem;
 
-/// Numbers of cells with texts, in order.
+/// Most turns change one cell, so one that a `u32` numbers needs no list. `Several` may hold any number.
+#[derive(Drop)]
+enum Held {
+    Nothing,
+    One(u32, Text),
+    Several(Vec<(usize, Text)>),
+}
+
+/// Numbers of cells with texts, in order. One cell takes no memory beside its text's.
 #[derive(Drop)]
 pub struct Patch {
-    items: Vec<(usize, Text)>,
+    alloc: Global,
+    held: Held,
 }
+
+/// The history keeps one for each turn.
+const _: () = prove!(size_of::<Patch>() <= 32);
 
 impl Model for Patch {
     ghost Value = { List (ℕ × List ℕ) };
 
-    ghost view = { λ p. p.items.items };
+    ghost view = { λ p. changes_held p.held };
+}
+
+fn in_list(mut list: Vec<(usize, Text)>, cell: usize, text: Text) -> Result<Held, (Held, Text)>
+    ensures ok { IfOk result (λ more. changes_held more ≡ list.items ++ (cell, text) ∷ []) }
+    ensures err { IfErr result (λ back. (changes_held back.0 ≡ list.items) × (back.1 ≡ text)) }
+{
+    match list.push((cell, text)) {
+        Ok(()) => Ok(Held::Several(list)),
+        Err(refused) => {
+            let (_, text) = refused.value;
+            Err((Held::Several(list), text))
+        }
+    }
+}
+
+/// Both cells, in a list that has room for them and no more.
+fn in_pair(
+    alloc: Global,
+    first: u32,
+    kept: Text,
+    cell: usize,
+    text: Text,
+) -> Result<Held, (Held, Text)>
+    ensures ok { IfOk result (λ more. changes_held more ≡ (first, kept) ∷ (cell, text) ∷ []) }
+    ensures err { IfErr result (λ back. (changes_held back.0 ≡ (first, kept) ∷ []) × (back.1 ≡ text)) }
+{
+    let mut list = Vec::new(alloc);
+    if list.reserve(2).is_err() {
+        return Err((Held::One(first, kept), text));
+    }
+    list.push_reserved((first as usize, kept));
+    list.push_reserved((cell, text));
+    Ok(Held::Several(list))
+}
+
+fn with_cell(alloc: Global, held: Held, cell: usize, text: Text) -> Result<Held, (Held, Text)>
+    ensures ok { IfOk result (λ more. changes_held more ≡ changes_held held ++ (cell, text) ∷ []) }
+    ensures err { IfErr result (λ back. (changes_held back.0 ≡ changes_held held) × (back.1 ≡ text)) }
+{
+    match held {
+        Held::Nothing => match u32::try_from(cell) {
+            Ok(cell) => Ok(Held::One(cell, text)),
+            Err(_) => in_list(Vec::new(alloc), cell, text),
+        },
+        Held::One(first, kept) => in_pair(alloc, first, kept, cell, text),
+        Held::Several(list) => in_list(list, cell, text),
+    }
 }
 
 impl Patch {
@@ -25,7 +85,8 @@ impl Patch {
         ensures { result ≡ [] }
     {
         Patch {
-            items: Vec::new(alloc),
+            alloc,
+            held: Held::Nothing,
         }
     }
 
@@ -34,10 +95,14 @@ impl Patch {
         ensures ok { OnOk result (self.new ≡ self.old ++ (cell, text) ∷ []) }
         ensures err { IfErr result (λ back. (back ≡ text) × (self.new ≡ self.old)) }
     {
-        match self.items.push((cell, text)) {
-            Ok(()) => Ok(()),
-            Err(refused) => {
-                let (_, text) = refused.value;
+        let held = mem::replace(&mut self.held, Held::Nothing);
+        match with_cell(self.alloc, held, cell, text) {
+            Ok(held) => {
+                self.held = held;
+                Ok(())
+            }
+            Err((held, text)) => {
+                self.held = held;
                 Err(text)
             }
         }
@@ -47,7 +112,11 @@ impl Patch {
     pub fn len(&self) -> usize
         ensures { result ≡ length self.now }
     {
-        self.items.len()
+        match &self.held {
+            Held::Nothing => 0,
+            Held::One(_, _) => 1,
+            Held::Several(list) => list.len(),
+        }
     }
 
     /// The cell that its i-th member names, both from 0.
@@ -55,7 +124,11 @@ impl Patch {
         requires { i < length self.now }
         ensures { result ≡ (slice_index_or self.now i (0, [])).0 }
     {
-        self.items[i].0
+        match &self.held {
+            Held::Nothing => 0,
+            Held::One(cell, _) => *cell as usize,
+            Held::Several(list) => list[i].0,
+        }
     }
 
     /// Exchanges the text of its i-th member, from 0.
@@ -64,6 +137,10 @@ impl Patch {
         ensures text { text.new ≡ (slice_index_or self.old i (0, [])).1 }
         ensures patch { self.new ≡ slice_set self.old i ((slice_index_or self.old i (0, [])).0, text.old) }
     {
-        mem::swap(&mut self.items[i].1, text);
+        match &mut self.held {
+            Held::Nothing => {}
+            Held::One(_, kept) => mem::swap(kept, text),
+            Held::Several(list) => mem::swap(&mut list[i].1, text),
+        }
     }
 }

@@ -1,6 +1,6 @@
 //! Bins: a command that keeps texts under numbers.
 
-ghost use Rattle.std.specs.Prelude.{◌≡◌, [], length, false, replicate, IfOk, OnErr};
+ghost use Rattle.std.specs.Prelude.{◌≡◌, ◌<◌, [], length, false, replicate, IfOk, OnErr, slice_index_or, slice_set};
 ghost use Rattle.externals.specs.Number.{number_in};
 ghost use Rattle.externals.specs.Table.{bins_turn};
 ghost use Rattle.xkit.specs.Steps.{Takes, bin_of};
@@ -118,11 +118,19 @@ fn kept(cells: &mut Cells, alloc: Global, args: &Texts) -> Step
     ensures count { length cells.new ≡ length cells.old }
 {
     match bin(args.at(0)) {
-        Some(cell) => {
-            let old = cells.at(cell).try_clone(alloc)?;
-            let new = args.at(1).try_clone(alloc)?;
-            changed(cells, alloc, cell, new, Ask::Done(old, false))
-        }
+        Some(cell) => exchanged(cells, alloc, cell, args.at(1)),
         None => Ok(unchanged(alloc, Ask::Fail)),
     }
+}
+
+/// Keeps a text in a cell, from 0, and tells the one that was there.
+fn exchanged(cells: &mut Cells, alloc: Global, cell: usize, text: &Text) -> Step
+    requires { cell < length cells.old }
+    ensures ok { IfOk result (λ r. Takes (Ask.Done (slice_index_or cells.old cell []) false, slice_set cells.old cell text.now) cells.old cells.new r.0 r.1) }
+    ensures err { OnErr result (cells.new ≡ cells.old) }
+    ensures count { length cells.new ≡ length cells.old }
+{
+    let old = cells.at(cell).try_clone(alloc)?;
+    let new = text.try_clone(alloc)?;
+    changed(cells, alloc, cell, new, Ask::Done(old, false))
 }
