@@ -10,7 +10,7 @@ ghost use Rattle.meaning.specs.Meaning.{NumberVal, TextVal, TruthVal, Val, Vals}
 use crate::arguments::Arguments;
 use crate::leaves::{
     apply, apply_one, call_of_one, constant_text, expression, function_named, number, numeral,
-    return_sign, run_property, truth, word,
+    return_sign, run_property, there, truth,
 };
 use crate::message::calls;
 use crate::objects::{parts_here, property, target_name};
@@ -144,11 +144,8 @@ pub(crate) fn there_is<E: External>(
     ensures fewer { run.new.left ≤ run.old.left }
     ensures base { base world.new.history ≡ base world.old.history }
 {
-    match meet(world, scripts, run, frame, nested, reference) {
-        Ok(_) => Ok(word(run.alloc(), !is_no)?),
-        Err(Stop::Fault(Fault::NoSuchObject)) => Ok(word(run.alloc(), is_no)?),
-        Err(stop) => Err(stop),
-    }
+    let met = meet(world, scripts, run, frame, nested, reference);
+    there(run.alloc(), is_no, met)
 }
 
 /// Pieces of a text: the pieces are computed before the text.

@@ -8,10 +8,14 @@ ghost use Rattle.ht_values.specs.Outcome.{Gives};
 ghost use Rattle.ht_values.specs.Text.{numeral as numeral_of};
 ghost use Rattle.ht_lex.specs.Constants.{constant_text as text_of_constant};
 ghost use Rattle.ht_grammar.specs.Functions.{func_of};
+ghost use Rattle.ht_grammar.specs.Trees as tree;
 ghost use Rattle.ht_grammar.specs.Reads.{ReadsExpr, ReadsLines, ReadsMessage};
 ghost use Rattle.ht_tree.specs.ScriptView.{message_of};
 ghost use Rattle.ht_tree.specs.StatementView.{stmts_of};
-ghost use Rattle.meaning.specs.State.{run_property as run_property_of};
+ghost use Rattle.change_journal.specs.History.{History};
+ghost use Rattle.meaning.specs.declared.frame.Frame.{Frame};
+ghost use Rattle.meaning.specs.Meaning.{Meets, Val};
+ghost use Rattle.meaning.specs.State.{RunState, run_property as run_property_of};
 ghost use Rattle.meaning.specs.Repeats.{counter_of, goes_on as goes_on_of};
 ghost use Rattle.meaning.specs.Values.{Parses, Yields};
 ghost use Rattle.interp.specs.Views.{read_as};
@@ -26,6 +30,7 @@ use ht_values::{
 };
 use itoa::Buffer;
 use meaning::{Budget, Counter, Stop};
+use object_references::Referent;
 use std::alloc::{AllocError, Global};
 
 /// What an operator gives of two operands.
@@ -141,6 +146,18 @@ pub(crate) fn word(alloc: Global, truth: bool) -> Result<Text, AllocError>
     ensures { IfOk result (λ t. t ≡ word_of truth) }
 {
     short_text(alloc, if truth { b"true" } else { b"false" })
+}
+
+/// What `there is` says of an object that was looked for. That there is none is an answer, any other stop isn't.
+#[tactic(auto, using(meaning::proofs::Rules::val_there_is_rules))]
+pub(crate) fn there(alloc: Global, is_no: bool, met: Result<Referent, Stop>) -> Result<Text, Stop>
+    ensures { (w w1 : History) (r r1 : RunState) (f : Frame) (d : ℕ) (sought : tree.Ref) → Meets w r f d sought met w1 r1 → Val w r f d (tree.there_is is_no sought) result w1 r1 }
+{
+    match met {
+        Ok(_) => Ok(word(alloc, !is_no)?),
+        Err(Stop::Fault(Fault::NoSuchObject)) => Ok(word(alloc, is_no)?),
+        Err(stop) => Err(stop),
+    }
 }
 
 /// The text of a constant.
