@@ -1,4 +1,4 @@
-pub mod Ends
+pub mod Comes
 pub mod Chain
 pub mod Leaves
 pub mod Outcomes

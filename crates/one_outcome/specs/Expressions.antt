@@ -77,7 +77,7 @@ truth_val_of m w r f d x = after (m.val w r f d x) (λ p w r. told (yielded (tru
 -- `value`: a step, then the depth, then the text
 abbrev pub text_val_of : Meanings → Present → RunState → Frame → ℕ → List ℕ → Told (List ℕ)
 text_val_of m w r f d t =
-    after (step w r) (λ _ w r. choose (nat_lt d 100) (λ _. after (told (parsed m.cut expression t) w r) (λ e w r. m.val w r f (d + 1) e)) (λ _. told (Err (Faults TooDeep)) w r))
+    after (step w r) (λ _ w r. choose (nat_lt d 100) (λ _. after (told (parsed expression t) w r) (λ e w r. m.val w r f (d + 1) e)) (λ _. told (Err (Faults TooDeep)) w r))
 
 -- ---- chunks and containers
 

@@ -8,4 +8,3 @@ pub mod Messages
 pub mod Commands
 pub mod Meanings
 pub mod Laws
-pub mod Comes

@@ -1,5 +1,5 @@
 -- Messages, what is built in, the messages of the system, `go` and the menu, and conversations with externals, computed.
-use Rattle.std.specs.Prelude.{ℕ, ◌+◌, List, [], ◌∷◌, length, nat_lt, nat_eq, Bool, true, false, Ok, Err}
+use Rattle.std.specs.Prelude.{ℕ, ◌+◌, List, [], ◌∷◌, length, nat_lt, nat_eq, Bool, true, false, Option, Some, None, Ok, Err}
 use Rattle.ht_values.specs.declared.fault.Fault.TheVariants.{CantUnderstand, NoSuchObject, TooDeep, ExternalFault, CantDelete, BadArgument}
 use Rattle.ht_values.specs.declared.word.Where.TheVariants.{Into}
 use Rattle.ht_values.specs.Functions.{built_in}
@@ -22,6 +22,7 @@ use Rattle.containers.specs.declared.edit.Edit.TheVariants.{Put}
 use Rattle.msg_path.specs.BuiltIns.{calls_function, external_named, built_in_named}
 use Rattle.msg_path.specs.declared.built_in.BuiltIn.{BuiltIn}
 use Rattle.msg_path.specs.declared.built_in.BuiltIn.TheVariants.{DoMenu, Value, Function as BuiltInFunction}
+use Rattle.msg_path.specs.Handlers.{Found}
 use Rattle.msg_path.specs.Path.{path, path_after}
 use Rattle.meaning.specs.declared.end.Conversed.{Conversed}
 use Rattle.meaning.specs.declared.frame.Frame.{Frame}
@@ -48,21 +49,26 @@ abbrev pub called : Meanings → Present → RunState → Frame → ℕ → ℕ 
 called m w r f d i (stm.message n es) = m.calls w r f d i n es Command
 
 abbrev pub sends_text_of : Meanings → Present → RunState → Frame → ℕ → ℕ → List ℕ → Told (List ℕ)
-sends_text_of m w r f d i t = after (told (parsed m.cut sent_message t) w r) (λ message w r. called m w r f d i message)
+sends_text_of m w r f d i t = after (told (parsed sent_message t) w r) (λ message w r. called m w r f d i message)
 
 -- a message: a step, then along the path
 abbrev pub sends_of : Meanings → Present → RunState → Frame → ℕ → ℕ → List ℕ → List (List ℕ) → HandlerKind → Told (List ℕ)
 sends_of m w r f d i n vs kind = after (step w r) (λ _ w r. m.along w (noted r n i) f d i (path w.now.stack w.now.current i) n vs kind)
 
--- the first handler on the path, and where it passes the message the path after it
+-- the handler that a message met on its path, and where it passes the message the path after it
+abbrev pub met_by : Meanings → Present → RunState → Frame → ℕ → ℕ → List ℕ → List (List ℕ) → HandlerKind → Option Found → Told (List ℕ)
+met_by m w r f d i n vs kind (Some handler) =
+    choose (nat_lt d 100)
+    (λ _. after_lines (m.block w r (handler_frame handler.holder i (parameters_of handler.handler) vs) (d + 1) (lines_of handler.handler)) (λ h w r.
+    maybe (ends kind h r)
+    (λ out. gave w out)
+    (λ _. m.along w r f d i (path_after w.now.stack w.now.current handler.holder) n vs kind)))
+    (λ _. told (Err (Faults TooDeep)) w r)
+met_by m w r f d i n vs kind None = m.outside w r f d n vs kind
+
 abbrev pub along_of : Meanings → Present → RunState → Frame → ℕ → ℕ → List ℕ → List ℕ → List (List ℕ) → HandlerKind → Told (List ℕ)
 along_of m w r f d i is n vs kind =
-    after (told (first_found m.cut w.now.stack is kind n) w r) (λ found w r. maybe found
-    (λ handler. choose (nat_lt d 100)
-    (λ _. after_lines (m.block w r (handler_frame handler.holder i (parameters_of handler.handler) vs) (d + 1) (lines_of handler.handler)) (λ h w r.
-    maybe (ends kind h r) (λ out. gave w out) (λ _. m.along w r f d i (path_after w.now.stack w.now.current handler.holder) n vs kind)))
-    (λ _. told (Err (Faults TooDeep)) w r))
-    (λ _. m.outside w r f d n vs kind))
+    after (told (first_found w.now.stack is kind n) w r) (λ found w r. met_by m w r f d i n vs kind found)
 
 abbrev pub outside_of : Meanings → Present → RunState → Frame → ℕ → List ℕ → List (List ℕ) → HandlerKind → Told (List ℕ)
 outside_of m w r f d n vs kind =
@@ -130,9 +136,9 @@ talks_of m w r d k input = after (step w r) (λ _ w r. after (turn w r k input) 
 
 abbrev pub calls_back_of : Meanings → Present → RunState → ℕ → Ask → Told Input
 calls_back_of m w r d (SendCardMessage note t) =
-    after (told (parsed m.cut typed_lines t) w r) (λ ss w r. after_lines (m.block w r (typed_frame_at w.now.current) d ss) (λ _ w r. told (Ok (Answer note [])) w r))
+    after (told (parsed typed_lines t) w r) (λ ss w r. after_lines (m.block w r (typed_frame_at w.now.current) d ss) (λ _ w r. told (Ok (Answer note [])) w r))
 calls_back_of m w r d (EvalExpr note t) =
-    after (told (parsed m.cut expression t) w r) (λ e w r. after (m.val w r (typed_frame_at w.now.current) d e) (λ v w r. told (Ok (Answer note v)) w r))
+    after (told (parsed expression t) w r) (λ e w r. after (m.val w r (typed_frame_at w.now.current) d e) (λ v w r. told (Ok (Answer note v)) w r))
 calls_back_of m w r d (SetGlobal note n v) =
     choose (is_name n)
     (λ _. after_lines (edit w r (typed_frame_at w.now.current) (variable_place (typed_frame_at w.now.current).variables n) (Put Into v)) (λ _ w r. told (Ok (Answer note [])) w r))

@@ -73,7 +73,7 @@ block_of m w r f d (stm.also s ss) = after_in f (step w r) (λ _ w r. after_next
 -- `do`: the depth, then the text
 abbrev pub do_text_of : Meanings → Present → RunState → Frame → ℕ → List ℕ → Ran How
 do_text_of m w r f d t =
-    choose (nat_lt d 100) (λ _. after_in f (told (parsed m.cut typed_lines t) w r) (λ ss w r. m.block w r f (d + 1) ss)) (λ _. ran (Err (Faults TooDeep)) w r f)
+    choose (nat_lt d 100) (λ _. after_in f (told (parsed typed_lines t) w r) (λ ss w r. m.block w r f (d + 1) ss)) (λ _. ran (Err (Faults TooDeep)) w r f)
 
 -- ---- repeats
 

@@ -1,19 +1,35 @@
-//! Where no external is free, a run has one outcome.
+//! Where no external is free, a function computes a run, and a run has one outcome.
 
-ghost use Rattle.one_outcome.specs.Laws.{LinesHaveOneOutcome, MessagesHaveOneOutcome, ActionsHaveOneOutcome};
+ghost use Rattle.one_outcome.specs.Laws.{LinesAreComputed, MessagesAreComputed, ActionsAreComputed, LinesHaveOneOutcome, MessagesHaveOneOutcome, ActionsHaveOneOutcome};
 
 use ht_grammar::{
     expressions_are_read_exactly, lines_are_read_exactly, messages_are_read_exactly,
     scripts_are_read_exactly,
 };
+use ht_lex::texts_are_cut_exactly;
+
+/// What the rules allow of lines, a message or an action is what the function gives, with enough fuel,
+/// where no plugged external is free and the run isn't out of memory.
+pub fn runs_are_computed()
+    ensures lines { LinesAreComputed }
+    ensures messages { MessagesAreComputed }
+    ensures actions { ActionsAreComputed }
+{
+    texts_are_cut_exactly();
+    expressions_are_read_exactly();
+    lines_are_read_exactly();
+    scripts_are_read_exactly();
+    messages_are_read_exactly();
+}
 
 /// Two runs of the same lines, message or action from the same state, neither of which is out of memory, have the same end,
-/// state and run, where no plugged external is free and a function cuts each text into its tokens.
+/// state and run, where no plugged external is free.
 pub fn runs_have_one_outcome()
     ensures lines { LinesHaveOneOutcome }
     ensures messages { MessagesHaveOneOutcome }
     ensures actions { ActionsHaveOneOutcome }
 {
+    texts_are_cut_exactly();
     expressions_are_read_exactly();
     lines_are_read_exactly();
     scripts_are_read_exactly();
