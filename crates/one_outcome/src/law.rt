@@ -1,5 +1,6 @@
 //! Where no external is free, a function computes a run, and a run has one outcome.
 
+ghost use Rattle.one_outcome.specs.Alone.{ExpressionsAreAllowed};
 ghost use Rattle.one_outcome.specs.Laws.{LinesAreComputed, MessagesAreComputed, ActionsAreComputed, LinesHaveOneOutcome, MessagesHaveOneOutcome, ActionsHaveOneOutcome};
 
 use ht_grammar::{
@@ -35,3 +36,8 @@ pub fn runs_have_one_outcome()
     scripts_are_read_exactly();
     messages_are_read_exactly();
 }
+
+/// What an expression that sends no message comes to by the function, the rules allow, and nothing changes.
+pub fn expressions_are_allowed()
+    ensures { ExpressionsAreAllowed }
+{}
