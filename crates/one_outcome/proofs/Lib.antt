@@ -3,3 +3,4 @@ pub mod Chain
 pub mod Leaves
 pub mod Outcomes
 pub mod One
+pub mod Rows

@@ -8,3 +8,4 @@ pub mod Messages
 pub mod Commands
 pub mod Meanings
 pub mod Laws
+pub mod Rows

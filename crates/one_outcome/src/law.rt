@@ -1,6 +1,7 @@
 //! Where no external is free, a function computes a run, and a run has one outcome.
 
 ghost use Rattle.one_outcome.specs.Laws.{LinesAreComputed, MessagesAreComputed, ActionsAreComputed, LinesHaveOneOutcome, MessagesHaveOneOutcome, ActionsHaveOneOutcome};
+ghost use Rattle.one_outcome.specs.Rows.{Sum, Quotient, NoNumber, FaultAfterLines, Choice, Repeated, Chunks, NoExpression, ExitToHyperCard, Delimiter};
 
 use ht_grammar::{
     expressions_are_read_exactly, lines_are_read_exactly, messages_are_read_exactly,
@@ -35,3 +36,17 @@ pub fn runs_have_one_outcome()
     scripts_are_read_exactly();
     messages_are_read_exactly();
 }
+
+/// Rows of the language that were worked by hand: the function gives the answers that they say.
+pub fn worked_rows_are_computed()
+    ensures sum { Sum }
+    ensures quotient { Quotient }
+    ensures no_number { NoNumber }
+    ensures fault_after_lines { FaultAfterLines }
+    ensures choice { Choice }
+    ensures repeated { Repeated }
+    ensures chunk { Chunks }
+    ensures no_expression { NoExpression }
+    ensures exit_to_hypercard { ExitToHyperCard }
+    ensures delimiter { Delimiter }
+{}

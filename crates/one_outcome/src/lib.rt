@@ -4,4 +4,4 @@
 
 mod law;
 
-pub use law::{runs_are_computed, runs_have_one_outcome};
+pub use law::{runs_are_computed, runs_have_one_outcome, worked_rows_are_computed};
