@@ -3,4 +3,5 @@ pub mod Chain
 pub mod Leaves
 pub mod Outcomes
 pub mod One
+pub mod Steps
 pub mod Rows

@@ -1,7 +1,13 @@
 -- Worked rows of the language: what is typed, and what is answered. The function gives each answer.
-use Rattle.std.specs.Prelude.{◌≡◌, ℕ, List, [], ◌∷◌, ◌++◌, map, codes, decimal, Result, Ok, Err}
+use Rattle.std.specs.Prelude.{◌≡◌, ℕ, List, [], ◌∷◌, ◌++◌, map, codes, decimal, true, false, Result, Ok, Err}
+use Rattle.std.specs.FinMap.{empty, from_sorted}
 use Rattle.ht_values.specs.Faults.{number_of_fault}
 use Rattle.ht_grammar.specs.Lines.{typed_lines}
+use Rattle.object_table.specs.Content.{Content}
+use Rattle.object_table.specs.declared.object.Object.{Object}
+use Rattle.object_table.specs.declared.object.Kind.TheVariants.{Stack, Background, Card, BackgroundField}
+use Rattle.externals.specs.Cells.{Seen}
+use Rattle.journal_entries.specs.State.{first_state}
 use Rattle.meaning.specs.declared.end.Ended.{Ended}
 use Rattle.meaning.specs.declared.end.Stop.{Stop}
 use Rattle.meaning.specs.declared.end.Stop.TheVariants.{Fault as Faults}
@@ -35,6 +41,39 @@ answered (told o w r) rest = answer o r ++ rest w
 abbrev pub answers : ℕ → Present → List (List ℕ) → List (List ℕ)
 answers parts w [] = []
 answers parts w (line ∷ lines) = answered (typed parts w line) (λ w. answers parts w lines)
+
+-- ---- a stack of two cards with a field on their background, and externals
+
+abbrev pub objects_of : (card background stack : List ℕ) → List (ℕ × Object)
+objects_of card background stack =
+    (0, record { name = codes "Demo"; script = stack; kind = Stack })
+    ∷ (1, record { name = []; script = background; kind = Background false })
+    ∷ (2, record { name = codes "A"; script = card; kind = Card 1 false })
+    ∷ (3, record { name = codes "Note"; script = []; kind = BackgroundField true false false })
+    ∷ (4, record { name = codes "B"; script = []; kind = Card 1 false })
+    ∷ []
+
+abbrev pub two_cards : (card background stack : List ℕ) → Content
+two_cards card background stack = record {
+  objects = from_sorted (objects_of card background stack);
+  backgrounds = 1 ∷ [];
+  cards = 2 ∷ 4 ∷ [];
+  parts = from_sorted ((1, 3 ∷ []) ∷ (2, []) ∷ (4, []) ∷ []);
+  texts = from_sorted (((3, 0), []) ∷ ((3, 2), []) ∷ ((3, 4), []) ∷ []);
+  hilites = empty;
+  next = 5;
+}
+
+-- its first state, with these scripts of the first card, of the background and of the stack
+abbrev pub first_card : (card background stack : List ℕ) → List Seen → Present
+first_card card background stack externals =
+    record { now = first_state (two_cards card background stack) externals; turns = map (λ e. 0) externals }
+
+abbrev pub counter : Seen
+counter = record { title = codes "Count"; sort = 1; answers_calls = true; cells = codes "0" ∷ [] }
+
+abbrev pub gate : Seen
+gate = record { title = codes "Gate"; sort = 4; answers_calls = false; cells = codes "0" ∷ [] }
 
 -- ---- rows of any state
 
@@ -86,3 +125,47 @@ Delimiter =
     (w : Present) →
     answers 20 w (codes "set itemDelimiter to \";\"\rput item 1 of \"a;b,c\"" ∷ codes "put item 1 of \"a;b,c\"" ∷ [])
     ≡ codes "> a" ∷ codes "ok" ∷ codes "> a;b" ∷ codes "ok" ∷ []
+
+-- ---- rows of a state
+
+-- a name without a value reads as it is written, and names of globals are folded
+abbrev pub GlobalVariable : Type 0
+GlobalVariable =
+    answers 40 (first_card [] [] [] []) (codes "put Abc" ∷ codes "put 1 into ABC" ∷ codes "put abc" ∷ [])
+    ≡ codes "> Abc" ∷ codes "ok" ∷ codes "ok" ∷ codes "> 1" ∷ codes "ok" ∷ []
+
+-- a handler with each form of `repeat`
+abbrev pub repeats_script : List ℕ
+repeats_script =
+    codes "on repeats n\r  repeat with i = 1 to n\r    if i = 2 then next repeat\r    if i = 5 then exit repeat\r    put i after row\r  end repeat\r"
+    ++ codes "  repeat with i = 3 down to 1\r    put i after row\r  end repeat\r  repeat 2 times\r    put \"x\" after row\r  end repeat\r"
+    ++ codes "  repeat while the length of row < 10\r    put \"w\" after row\r  end repeat\r  repeat until row contains \"u\"\r    put \"u\" after row\r  end repeat\r"
+    ++ codes "  repeat forever\r    put \"f\" after row\r    if the length of row > 12 then exit repeat\r  end repeat\r  put row\rend repeats"
+
+abbrev pub Repeats : Type 0
+Repeats = answers 40 (first_card [] [] repeats_script []) (codes "repeats 9" ∷ []) ≡ codes "> 134321xxwwuff" ∷ codes "ok" ∷ []
+
+-- the value of a function, and that its `return` leaves no result
+abbrev pub Function : Type 0
+Function =
+    answers 40 (first_card (codes "function h\rreturn 4\rend h") [] [] []) (codes "do \"put h()\" & return & \"put the result\"" ∷ [])
+    ≡ codes "> 4" ∷ codes "> " ∷ codes "ok" ∷ []
+
+-- a handler passes a message to the next on the path
+abbrev pub Passed : Type 0
+Passed =
+    answers 40 (first_card [] (codes "on who\rput \"bg\"\rpass who\rput \"no\"\rend who") (codes "on who\rput \"stack\"\rend who") []) (codes "who" ∷ [])
+    ≡ codes "> bg" ∷ codes "> stack" ∷ codes "ok" ∷ []
+
+-- a fault in the third of three handlers: what was put before it stays
+abbrev pub FaultThreeDeep : Type 0
+FaultThreeDeep =
+    answers 40
+    (first_card (codes "on a\rput 1\rb\rput 2\rend a\ron b\rput 3\rc\rput 4\rend b\ron c\rglobal g\rput 5 into g\rput foo()\rput 6 into g\rend c") [] [] [])
+    (codes "a" ∷ codes "put g" ∷ [])
+    ≡ codes "> 1" ∷ codes "> 3" ∷ codes "fault 2" ∷ codes "> 5" ∷ codes "ok" ∷ []
+
+-- a conversation with an external, which passes every other message on
+abbrev pub Conversation : Type 0
+Conversation =
+    answers 40 (first_card [] [] [] (gate ∷ [])) (codes "Gate" ∷ codes "Gate" ∷ []) ≡ codes "ok" ∷ codes "fault 2" ∷ []

@@ -1,7 +1,7 @@
 //! Where no external is free, a function computes a run, and a run has one outcome.
 
 ghost use Rattle.one_outcome.specs.Laws.{LinesAreComputed, MessagesAreComputed, ActionsAreComputed, LinesHaveOneOutcome, MessagesHaveOneOutcome, ActionsHaveOneOutcome};
-ghost use Rattle.one_outcome.specs.Rows.{Sum, Quotient, NoNumber, FaultAfterLines, Choice, Repeated, Chunks, NoExpression, ExitToHyperCard, Delimiter};
+ghost use Rattle.one_outcome.specs.Rows.{Sum, Quotient, NoNumber, FaultAfterLines, Choice, Repeated, Chunks, NoExpression, ExitToHyperCard, Delimiter, GlobalVariable, Repeats, Function, Passed, FaultThreeDeep, Conversation};
 
 use ht_grammar::{
     expressions_are_read_exactly, lines_are_read_exactly, messages_are_read_exactly,
@@ -49,4 +49,10 @@ pub fn worked_rows_are_computed()
     ensures no_expression { NoExpression }
     ensures exit_to_hypercard { ExitToHyperCard }
     ensures delimiter { Delimiter }
+    ensures global_variable { GlobalVariable }
+    ensures repeats { Repeats }
+    ensures function { Function }
+    ensures passed { Passed }
+    ensures fault_three_deep { FaultThreeDeep }
+    ensures conversation { Conversation }
 {}

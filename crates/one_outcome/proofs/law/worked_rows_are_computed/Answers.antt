@@ -30,3 +30,21 @@ returns-clause-exit_to_hypercard c = rows.exit_to_hypercard
 
 pub returns-clause-delimiter : goal.returns-clause-delimiter
 returns-clause-delimiter c = rows.delimiter
+
+pub returns-clause-global_variable : goal.returns-clause-global_variable
+returns-clause-global_variable c = rows.global_variable
+
+pub returns-clause-repeats : goal.returns-clause-repeats
+returns-clause-repeats c = rows.repeats
+
+pub returns-clause-function : goal.returns-clause-function
+returns-clause-function c = rows.function
+
+pub returns-clause-passed : goal.returns-clause-passed
+returns-clause-passed c = rows.passed
+
+pub returns-clause-fault_three_deep : goal.returns-clause-fault_three_deep
+returns-clause-fault_three_deep c = rows.fault_three_deep
+
+pub returns-clause-conversation : goal.returns-clause-conversation
+returns-clause-conversation c = rows.conversation
