@@ -69,9 +69,6 @@ abbrev pub first_card : (card background stack : List ℕ) → List Seen → Pre
 first_card card background stack externals =
     record { now = first_state (two_cards card background stack) externals; turns = map (λ e. 0) externals }
 
-abbrev pub counter : Seen
-counter = record { title = codes "Count"; sort = 1; answers_calls = true; cells = codes "0" ∷ [] }
-
 abbrev pub gate : Seen
 gate = record { title = codes "Gate"; sort = 4; answers_calls = false; cells = codes "0" ∷ [] }
 
@@ -95,7 +92,9 @@ FaultAfterLines =
 abbrev pub Choice : Type 0
 Choice =
     (w : Present) →
-    answers 20 w (codes "do \"if false then\" & return & \"put 1\" & return & \"else if true then\" & return & \"put 2\" & return & \"else\" & return & \"put 3\" & return & \"end if\"" ∷ [])
+    answers 20 w
+    ((codes "do \"if false then\" & return & \"put 1\" & return & \"else if true then\" & return & \"put 2\""
+    ++ codes " & return & \"else\" & return & \"put 3\" & return & \"end if\"") ∷ [])
     ≡ codes "> 2" ∷ codes "ok" ∷ []
 
 abbrev pub Repeated : Type 0
@@ -134,38 +133,95 @@ GlobalVariable =
     answers 40 (first_card [] [] [] []) (codes "put Abc" ∷ codes "put 1 into ABC" ∷ codes "put abc" ∷ [])
     ≡ codes "> Abc" ∷ codes "ok" ∷ codes "ok" ∷ codes "> 1" ∷ codes "ok" ∷ []
 
+-- the lines of a script, with a return after each
+abbrev pub script_of : List (List ℕ) → List ℕ
+script_of [] = []
+script_of (line ∷ lines) = line ++ 13 ∷ script_of lines
+
 -- a handler with each form of `repeat`
 abbrev pub repeats_script : List ℕ
-repeats_script =
-    codes "on repeats n\r  repeat with i = 1 to n\r    if i = 2 then next repeat\r    if i = 5 then exit repeat\r    put i after row\r  end repeat\r"
-    ++ codes "  repeat with i = 3 down to 1\r    put i after row\r  end repeat\r  repeat 2 times\r    put \"x\" after row\r  end repeat\r"
-    ++ codes "  repeat while the length of row < 10\r    put \"w\" after row\r  end repeat\r  repeat until row contains \"u\"\r    put \"u\" after row\r  end repeat\r"
-    ++ codes "  repeat forever\r    put \"f\" after row\r    if the length of row > 12 then exit repeat\r  end repeat\r  put row\rend repeats"
+repeats_script = script_of (
+    codes "on repeats n"
+    ∷ codes "  repeat with i = 1 to n"
+    ∷ codes "    if i = 2 then next repeat"
+    ∷ codes "    if i = 5 then exit repeat"
+    ∷ codes "    put i after row"
+    ∷ codes "  end repeat"
+    ∷ codes "  repeat with i = 3 down to 1"
+    ∷ codes "    put i after row"
+    ∷ codes "  end repeat"
+    ∷ codes "  repeat 2 times"
+    ∷ codes "    put \"x\" after row"
+    ∷ codes "  end repeat"
+    ∷ codes "  repeat while the length of row < 10"
+    ∷ codes "    put \"w\" after row"
+    ∷ codes "  end repeat"
+    ∷ codes "  repeat until row contains \"u\""
+    ∷ codes "    put \"u\" after row"
+    ∷ codes "  end repeat"
+    ∷ codes "  repeat forever"
+    ∷ codes "    put \"f\" after row"
+    ∷ codes "    if the length of row > 12 then exit repeat"
+    ∷ codes "  end repeat"
+    ∷ codes "  put row"
+    ∷ codes "end repeats"
+    ∷ [])
 
 abbrev pub Repeats : Type 0
-Repeats = answers 40 (first_card [] [] repeats_script []) (codes "repeats 9" ∷ []) ≡ codes "> 134321xxwwuff" ∷ codes "ok" ∷ []
+Repeats =
+    answers 40 (first_card [] [] repeats_script []) (codes "repeats 9" ∷ [])
+    ≡ codes "> 134321xxwwuff" ∷ codes "ok" ∷ []
 
--- the value of a function, and that its `return` leaves no result
+abbrev pub function_script : List ℕ
+function_script = script_of (codes "function h" ∷ codes "return 4" ∷ codes "end h" ∷ [])
+
+-- the value of a function, which leaves no result
 abbrev pub Function : Type 0
 Function =
-    answers 40 (first_card (codes "function h\rreturn 4\rend h") [] [] []) (codes "do \"put h()\" & return & \"put the result\"" ∷ [])
+    answers 40 (first_card function_script [] [] []) (codes "do \"put h()\" & return & \"put the result\"" ∷ [])
     ≡ codes "> 4" ∷ codes "> " ∷ codes "ok" ∷ []
 
--- a handler passes a message to the next on the path
+abbrev pub passing_script : List ℕ
+passing_script =
+    script_of (codes "on who" ∷ codes "put \"bg\"" ∷ codes "pass who" ∷ codes "put \"no\"" ∷ codes "end who" ∷ [])
+
+abbrev pub last_script : List ℕ
+last_script = script_of (codes "on who" ∷ codes "put \"stack\"" ∷ codes "end who" ∷ [])
+
+-- a handler of the background passes a message on to the stack
 abbrev pub Passed : Type 0
 Passed =
-    answers 40 (first_card [] (codes "on who\rput \"bg\"\rpass who\rput \"no\"\rend who") (codes "on who\rput \"stack\"\rend who") []) (codes "who" ∷ [])
+    answers 40 (first_card [] passing_script last_script []) (codes "who" ∷ [])
     ≡ codes "> bg" ∷ codes "> stack" ∷ codes "ok" ∷ []
+
+-- three handlers, of which each calls the next, and the third calls what isn't there
+abbrev pub deep_script : List ℕ
+deep_script = script_of (
+    codes "on a"
+    ∷ codes "put 1"
+    ∷ codes "b"
+    ∷ codes "put 2"
+    ∷ codes "end a"
+    ∷ codes "on b"
+    ∷ codes "put 3"
+    ∷ codes "c"
+    ∷ codes "put 4"
+    ∷ codes "end b"
+    ∷ codes "on c"
+    ∷ codes "global g"
+    ∷ codes "put 5 into g"
+    ∷ codes "put foo()"
+    ∷ codes "put 6 into g"
+    ∷ codes "end c"
+    ∷ [])
 
 -- a fault in the third of three handlers: what was put before it stays
 abbrev pub FaultThreeDeep : Type 0
 FaultThreeDeep =
-    answers 40
-    (first_card (codes "on a\rput 1\rb\rput 2\rend a\ron b\rput 3\rc\rput 4\rend b\ron c\rglobal g\rput 5 into g\rput foo()\rput 6 into g\rend c") [] [] [])
-    (codes "a" ∷ codes "put g" ∷ [])
+    answers 40 (first_card deep_script [] [] []) (codes "a" ∷ codes "put g" ∷ [])
     ≡ codes "> 1" ∷ codes "> 3" ∷ codes "fault 2" ∷ codes "> 5" ∷ codes "ok" ∷ []
 
--- a conversation with an external, which passes every other message on
+-- conversations with an external, which passes every other message on
 abbrev pub Conversation : Type 0
 Conversation =
     answers 40 (first_card [] [] [] (gate ∷ [])) (codes "Gate" ∷ codes "Gate" ∷ []) ≡ codes "ok" ∷ codes "fault 2" ∷ []
