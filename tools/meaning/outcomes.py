@@ -56,6 +56,16 @@ def unknown(family):
     return "λ %s. %s" % (" ".join("_" for _ in starts), "unknown_run" if len(left) == 3 else "unknown")
 
 
+def use(module, names):
+    """The lines that import these names of a module, none longer than 120 columns."""
+    lines = [[]]
+    for name in names:
+        if len("use %s.{%s}" % (module, ", ".join(lines[-1] + [name]))) > 120:
+            lines.append([])
+        lines[-1].append(name)
+    return "\n".join("use %s.{%s}" % (module, ", ".join(line)) for line in lines)
+
+
 def meanings_file():
     names = [snake(family["name"]) for family in TABLE]
     nothing = made([(name, unknown(family)) for name, family in zip(names, TABLE)])
@@ -64,7 +74,7 @@ def meanings_file():
     text += "\n-- each part from the meanings of its parts\nabbrev pub one_more : Meanings → Meanings\none_more m = %s\n" % step
     text += "\n-- the meanings that so many nested parts can tell\nunfoldable pub meanings : ℕ → Meanings\nmeanings zero = nothing\nmeanings (suc parts) = one_more (meanings parts)\n"
     uses = "use Rattle.std.specs.Prelude.{ℕ, zero, suc}\nuse Rattle.one_outcome.specs.Told.{unknown, unknown_run}\nuse Rattle.one_outcome.specs.Families.{Meanings}\n"
-    uses += "\n".join("use Rattle.one_outcome.specs.%s.{%s}" % (name, ", ".join(snake(f) + "_of" for f in named.split())) for name, named in FILES.items())
+    uses += "\n".join(use("Rattle.one_outcome.specs." + name, [snake(f) + "_of" for f in named.split()]) for name, named in FILES.items())
     return "-- The meaning of HyperTalk as a function with fuel.\n" + uses + "\n\n" + text
 
 

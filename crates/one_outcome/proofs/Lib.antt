@@ -4,3 +4,5 @@ pub mod Leaves
 pub mod Outcomes
 pub mod One
 pub mod Allowed
+pub mod Steps
+pub mod Rows

@@ -58,7 +58,8 @@ ActionsAreComputed =
 
 -- ---- one outcome
 
--- Two runs end alike, with the same state and run, and with as many turns of each external where they began with as many.
+-- Two runs end alike, with the same state and run, and with as many turns of each external where they began with as
+-- many.
 abbrev pub SameOutcome : (w v w2 v2 : History) (r2 q2 : RunState) (o p : Result Ended Stop) → Type 0
 SameOutcome w v w2 v2 r2 q2 o p = (o ≡ p) × (w2.now ≡ v2.now) × (r2 ≡ q2) × (v.turns ≡ w.turns → w2.turns ≡ v2.turns)
 

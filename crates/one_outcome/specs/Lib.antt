@@ -9,3 +9,4 @@ pub mod Commands
 pub mod Meanings
 pub mod Laws
 pub mod Alone
+pub mod Rows

@@ -2,10 +2,14 @@
 use Rattle.std.specs.Prelude.{ℕ, zero, suc}
 use Rattle.one_outcome.specs.Told.{unknown, unknown_run}
 use Rattle.one_outcome.specs.Families.{Meanings}
-use Rattle.one_outcome.specs.Expressions.{val_of, vals_of, number_val_of, truth_val_of, text_val_of, chunk_of_of, resolves_of, picks_of, seeks_of, owns_of, part_met_of, meets_of, leads_of}
-use Rattle.one_outcome.specs.Statements.{form_of, alters_of, block_of, do_text_of, endless_of, while_of, bounds_of, counts_of}
-use Rattle.one_outcome.specs.Messages.{calls_of, sends_text_of, sends_of, along_of, outside_of, built_in_gives_of, system_of, systems_of, goes_of, menu_of, converses_of, talks_of, calls_back_of}
-use Rattle.one_outcome.specs.Commands.{line_of, message_of, refers_of, tells_of, tells_all_of, clicks_of, types_over_of, types_into_of, acts_of}
+use Rattle.one_outcome.specs.Expressions.{val_of, vals_of, number_val_of, truth_val_of, text_val_of, chunk_of_of}
+use Rattle.one_outcome.specs.Expressions.{resolves_of, picks_of, seeks_of, owns_of, part_met_of, meets_of, leads_of}
+use Rattle.one_outcome.specs.Statements.{form_of, alters_of, block_of, do_text_of, endless_of, while_of, bounds_of}
+use Rattle.one_outcome.specs.Statements.{counts_of}
+use Rattle.one_outcome.specs.Messages.{calls_of, sends_text_of, sends_of, along_of, outside_of, built_in_gives_of}
+use Rattle.one_outcome.specs.Messages.{system_of, systems_of, goes_of, menu_of, converses_of, talks_of, calls_back_of}
+use Rattle.one_outcome.specs.Commands.{line_of, message_of, refers_of, tells_of, tells_all_of, clicks_of, types_over_of}
+use Rattle.one_outcome.specs.Commands.{types_into_of, acts_of}
 
 -- without fuel nothing is known
 abbrev pub nothing : Meanings

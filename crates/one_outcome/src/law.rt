@@ -2,6 +2,7 @@
 
 ghost use Rattle.one_outcome.specs.Alone.{ExpressionsAreAllowed};
 ghost use Rattle.one_outcome.specs.Laws.{LinesAreComputed, MessagesAreComputed, ActionsAreComputed, LinesHaveOneOutcome, MessagesHaveOneOutcome, ActionsHaveOneOutcome};
+ghost use Rattle.one_outcome.specs.Rows.{Sum, Quotient, NoNumber, FaultAfterLines, Choice, Repeated, Chunks, NoExpression, ExitToHyperCard, Delimiter, GlobalVariable, Repeats, Function, Passed, FaultThreeDeep, Conversation};
 
 use ht_grammar::{
     expressions_are_read_exactly, lines_are_read_exactly, messages_are_read_exactly,
@@ -40,4 +41,24 @@ pub fn runs_have_one_outcome()
 /// What an expression that sends no message comes to by the function, the rules allow, and nothing changes.
 pub fn expressions_are_allowed()
     ensures { ExpressionsAreAllowed }
+{}
+
+/// Rows of the language that were worked by hand: the function gives the answers that they say.
+pub fn worked_rows_are_computed()
+    ensures sum { Sum }
+    ensures quotient { Quotient }
+    ensures no_number { NoNumber }
+    ensures fault_after_lines { FaultAfterLines }
+    ensures choice { Choice }
+    ensures repeated { Repeated }
+    ensures chunk { Chunks }
+    ensures no_expression { NoExpression }
+    ensures exit_to_hypercard { ExitToHyperCard }
+    ensures delimiter { Delimiter }
+    ensures global_variable { GlobalVariable }
+    ensures repeats { Repeats }
+    ensures function { Function }
+    ensures passed { Passed }
+    ensures fault_three_deep { FaultThreeDeep }
+    ensures conversation { Conversation }
 {}

@@ -4,17 +4,20 @@ use Rattle.one_outcome.proofs.One.{exactly, one_line, one_message, one_action}
 pub returns-clause-lines : goal.returns-clause-lines
 returns-clause-lines c =
     one_line
-    (exactly c.texts_are_cut_exactly.ensures c.expressions_are_read_exactly.ensures.exact c.lines_are_read_exactly.ensures.exact
+    (exactly c.texts_are_cut_exactly.ensures c.expressions_are_read_exactly.ensures.exact
+    c.lines_are_read_exactly.ensures.exact
     c.scripts_are_read_exactly.ensures.exact c.messages_are_read_exactly.ensures.exact)
 
 pub returns-clause-messages : goal.returns-clause-messages
 returns-clause-messages c =
     one_message
-    (exactly c.texts_are_cut_exactly.ensures c.expressions_are_read_exactly.ensures.exact c.lines_are_read_exactly.ensures.exact
+    (exactly c.texts_are_cut_exactly.ensures c.expressions_are_read_exactly.ensures.exact
+    c.lines_are_read_exactly.ensures.exact
     c.scripts_are_read_exactly.ensures.exact c.messages_are_read_exactly.ensures.exact)
 
 pub returns-clause-actions : goal.returns-clause-actions
 returns-clause-actions c =
     one_action
-    (exactly c.texts_are_cut_exactly.ensures c.expressions_are_read_exactly.ensures.exact c.lines_are_read_exactly.ensures.exact
+    (exactly c.texts_are_cut_exactly.ensures c.expressions_are_read_exactly.ensures.exact
+    c.lines_are_read_exactly.ensures.exact
     c.scripts_are_read_exactly.ensures.exact c.messages_are_read_exactly.ensures.exact)
