@@ -39,9 +39,9 @@ def computed_type(family):
 
 
 def families_file():
-    text = "pub record Meanings : Type 0 where\n  pub cut : Cutter\n"
+    text = "pub record Meanings : Type 0 where\n"
     text += "".join("  pub %s : %s\n" % (snake(family["name"]), computed_type(family)) for family in TABLE)
-    uses = "use Rattle.one_outcome.specs.Told.{Present, Told, Ran}\nuse Rattle.one_outcome.specs.Texts.{Cutter}"
+    uses = "use Rattle.one_outcome.specs.Told.{Present, Told, Ran}"
     return "-- What each family of rules comes to, computed: from a state, a run, a frame and a tree.\n" + imports(uses, text) + "\n" + text
 
 
@@ -56,15 +56,25 @@ def unknown(family):
     return "λ %s. %s" % (" ".join("_" for _ in starts), "unknown_run" if len(left) == 3 else "unknown")
 
 
+def use(module, names):
+    """The lines that import these names of a module, none longer than 120 columns."""
+    lines = [[]]
+    for name in names:
+        if len("use %s.{%s}" % (module, ", ".join(lines[-1] + [name]))) > 120:
+            lines.append([])
+        lines[-1].append(name)
+    return "\n".join("use %s.{%s}" % (module, ", ".join(line)) for line in lines)
+
+
 def meanings_file():
     names = [snake(family["name"]) for family in TABLE]
-    nothing = made([("cut", "cut")] + [(name, unknown(family)) for name, family in zip(names, TABLE)])
-    step = made([("cut", "m.cut")] + [(name, name + "_of m") for name in names])
-    text = "-- without fuel nothing is known\nabbrev pub nothing : Cutter → Meanings\nnothing cut = %s\n" % nothing
+    nothing = made([(name, unknown(family)) for name, family in zip(names, TABLE)])
+    step = made([(name, name + "_of m") for name in names])
+    text = "-- without fuel nothing is known\nabbrev pub nothing : Meanings\nnothing = %s\n" % nothing
     text += "\n-- each part from the meanings of its parts\nabbrev pub one_more : Meanings → Meanings\none_more m = %s\n" % step
-    text += "\n-- the meanings that so many nested parts can tell\nunfoldable pub meanings : Cutter → ℕ → Meanings\nmeanings cut zero = nothing cut\nmeanings cut (suc fuel) = one_more (meanings cut fuel)\n"
-    uses = "use Rattle.std.specs.Prelude.{ℕ, zero, suc}\nuse Rattle.one_outcome.specs.Told.{unknown, unknown_run}\nuse Rattle.one_outcome.specs.Families.{Meanings}\nuse Rattle.one_outcome.specs.Texts.{Cutter}\n"
-    uses += "\n".join("use Rattle.one_outcome.specs.%s.{%s}" % (name, ", ".join(snake(f) + "_of" for f in named.split())) for name, named in FILES.items())
+    text += "\n-- the meanings that so many nested parts can tell\nunfoldable pub meanings : ℕ → Meanings\nmeanings zero = nothing\nmeanings (suc parts) = one_more (meanings parts)\n"
+    uses = "use Rattle.std.specs.Prelude.{ℕ, zero, suc}\nuse Rattle.one_outcome.specs.Told.{unknown, unknown_run}\nuse Rattle.one_outcome.specs.Families.{Meanings}\n"
+    uses += "\n".join(use("Rattle.one_outcome.specs." + name, [snake(f) + "_of" for f in named.split()]) for name, named in FILES.items())
     return "-- The meaning of HyperTalk as a function with fuel.\n" + uses + "\n\n" + text
 
 
@@ -81,28 +91,28 @@ def leaf(premise, run, w):
     head, *rest = words(premise)
     told = lambda code, end, w1=w, r1=None: ("told", code, end, w1, r1 or run)
     if head == "Yields":
-        return "yields", told("told (yielded %s) (present %s) %s" % (rest[0], w, run), rest[1])
+        return "yields", told("told (yielded %s) (sight g %s) %s" % (rest[0], w, run), rest[1])
     if head == "Parses":
         read = {"ReadsExpr": "expression", "ReadsLines": "typed_lines", "ReadsMessage": "sent_message"}[rest[0]]
-        return "parses_" + read, told("told (parsed parts.cut %s %s) (present %s) %s" % (read, rest[1], w, run), rest[2])
+        return "parses_" + read, told("told (parsed %s %s) (sight g %s) %s" % (read, rest[1], w, run), rest[2])
     if head == "Step":
-        return "steps", told("step (present %s) %s" % (w, rest[0]), rest[1], w, rest[2])
+        return "steps", told("step (sight g %s) %s" % (w, rest[0]), rest[1], w, rest[2])
     if head == "Finds":
-        return "finds", told("told (first_found parts.cut %s) (present %s) %s" % (" ".join(rest[:4]), w, run), rest[4])
+        return "finds", told("told (first_found %s) (sight g %s) %s" % (" ".join(rest[:4]), w, run), rest[4])
     if head == "Made":
-        return "makes {r = %s}" % run, told("make (present %s) %s %s" % (rest[0], run, rest[2]), "(Ok tt)", rest[1])
+        return "makes {r = %s}" % run, told("make (sight g %s) %s %s" % (rest[0], run, rest[2]), "(Ok tt)", rest[1])
     if head == "TookTurn":
-        return "takes_turn", told("turn (present %s) %s %s %s" % (rest[0], run, rest[2], rest[3]), "(Ok %s)" % rest[4], rest[1])
+        return "takes_turn", told("turn (sight g %s) %s %s %s" % (rest[0], run, rest[2], rest[3]), "(Ok %s)" % rest[4], rest[1])
     if head == "Sets":
-        return "sets", told("set_property (present %s) %s %s" % (rest[0], run, " ".join(rest[1:4])), rest[4], rest[5])
+        return "sets", told("set_property (sight g %s) %s %s" % (rest[0], run, " ".join(rest[1:4])), rest[4], rest[5])
     if head == "Adds":
-        return "adds", told("add_objects (present %s) %s %s" % (rest[0], run, rest[1]), rest[2], rest[3])
+        return "adds", told("add_objects (sight g %s) %s %s" % (rest[0], run, rest[1]), rest[2], rest[3])
     if head == "Edits":
-        return "edits", ("ran", "edit (present %s) %s %s %s %s" % (rest[0], run, rest[1], rest[3], rest[4]), rest[5], rest[6], run, rest[7])
+        return "edits", ("ran", "edit (sight g %s) %s %s %s %s" % (rest[0], run, rest[1], rest[3], rest[4]), rest[5], rest[6], run, rest[7])
     if head == "Assigns":
-        return "assigns", ("ran", "assign (present %s) %s %s %s %s" % (rest[0], run, rest[1], rest[3], rest[4]), rest[5], rest[6], run, rest[7])
+        return "assigns", ("ran", "assign (sight g %s) %s %s %s %s" % (rest[0], run, rest[1], rest[3], rest[4]), rest[5], rest[6], run, rest[7])
     if head == "DeclaresAll":
-        return "declares_all", ("ran", "declare_all (present %s) %s %s %s" % (rest[0], run, rest[1], rest[2]), rest[3], rest[4], run, rest[5])
+        return "declares_all", ("ran", "declare_all (sight g %s) %s %s %s" % (rest[0], run, rest[1], rest[2]), rest[3], rest[4], run, rest[5])
     return None
 
 
@@ -112,13 +122,13 @@ def family_part(premise):
         return None
     starts, _, left = split(FAMILIES[head])
     given, end, after = rest[:len(starts)], rest[len(starts)], rest[len(starts) + 1:]
-    code = "parts.%s %s" % (snake(head), " ".join("(present %s)" % t if at == 0 else t for at, t in enumerate(given)))
+    code = "parts.%s %s" % (snake(head), " ".join("(sight g %s)" % t if at == 0 else t for at, t in enumerate(given)))
     return (snake(head) + "_comes", ("ran" if len(left) == 3 else "told", code, end, after[0], after[1], *after[2:]))
 
 
 def comes(w, part):
     kind, code, end, w1, r1, *f1 = part
-    return "Comes %s (λ parts. %s) (%s %s (present %s) %s%s) %s" % (w, code, kind, end, w1, r1, " " + f1[0] if f1 else "", w1)
+    return "Comes g %s (λ parts. %s) (%s %s (sight g %s) %s%s) %s" % (w, code, kind, end, w1, r1, " " + f1[0] if f1 else "", w1)
 
 
 def mentions(text, variable):
@@ -179,7 +189,7 @@ def external_there(premise, lemma, family):
     if premise.startswith("Converses"):
         return " (named_there _ _ _ p1)"
     if premise.startswith("Talks") and family["name"] != "Converses":
-        return " (there_after there p2 (calls_back_comes p3 given).kept)"
+        return " (there_after there p2 (calls_back_comes {g = g} p3 given).kept)"
     return " there" if premise.startswith("Talks") or lemma == "takes_turn" else ""
 
 
@@ -238,7 +248,7 @@ def clause(family, rule):
         body = moved(*way, "(%s)" % body)
     places = ["p%d" % at for at in range(1, len(premises) + 1)]
     pattern = " ".join(["%s.%s" % (family["name"], name), *("{%s = %s}" % (n, n) for n in named(premises, conclusion, body)), *places])
-    return "(%s)%s = %s" % (pattern, has, body)
+    return "%s(%s)%s = %s" % ("{g} " if re.search(r"\bg\b", body) else "", pattern, has, body)
 
 
 # A condition on a number: the lemma, and what it takes.
@@ -301,9 +311,9 @@ def chain(family, name, steps, whole):
 
 def function(family):
     starts, end, left = split(family)
-    whole = ("ran" if len(left) == 3 else "told", "parts.%s %s" % (snake(family["name"]), " ".join("(present w)" if n == 0 else t for n, t in enumerate(starts))), end, left[0], left[1], *left[2:])
+    whole = ("ran" if len(left) == 3 else "told", "parts.%s %s" % (snake(family["name"]), " ".join("(sight g w)" if n == 0 else t for n, t in enumerate(starts))), end, left[0], left[1], *left[2:])
     extra = " → HasExternal w k" if family["name"] in ("Converses", "Talks") else ""
-    says = "%s → %s → HasMemory %s%s → %s" % (binders([" ".join(starts + [end] + left)]), " ".join([family["name"], *starts, end, *left]), end, extra, comes("w", whole))
+    says = "{g : Sight} %s → %s → HasMemory %s%s → %s" % (binders([" ".join(starts + [end] + left)]), " ".join([family["name"], *starts, end, *left]), end, extra, comes("w", whole))
     name = snake(family["name"]) + "_comes"
     return "".join("  %s%s\n" % (("pub " if n == 0 else "") + name + " ", line) for n, line in enumerate([": " + says] + [clause(family, rule) for rule in family["rules"]]))
 
@@ -316,11 +326,11 @@ use Rattle.ht_grammar.specs.Lines.{typed_lines}
 use Rattle.ht_grammar.specs.Reading.{expression}
 use Rattle.ht_grammar.specs.Whole.{sent_message}
 use Rattle.run_laws.specs.Laws.{HasMemory}
-use Rattle.one_outcome.proofs.Ends.{given, stopped, faulted, exited}
-use Rattle.one_outcome.specs.Told.{present, told, ran}
+use Rattle.run_laws.proofs.Ends.{given, stopped, faulted, exited}
+use Rattle.one_outcome.specs.Told.{told, ran}
 use Rattle.one_outcome.specs.Changes.{yielded, step, make, edit, assign, declare_all, set_property, add_objects, turn}
 use Rattle.one_outcome.specs.Texts.{parsed, first_found}
-use Rattle.one_outcome.specs.Comes.{Comes}
+use Rattle.one_outcome.proofs.Comes.{Sight, sight, Comes}
 use Rattle.one_outcome.proofs.Chain.{done, later, after_ok, after_stop, after_in_ok, after_in_stop, after_run_ok, after_run_stop, after_lines_ok, after_lines_stop, after_next_ok, after_next_stop, after_next_leaves, choose_true, choose_false, maybe_some, maybe_none, computed_ok, computed_err, below, at_least, at_limit, gives_outcome, there_ok, there_none, there_stop, ends_lines, ends_message, refers_to}
 use Rattle.one_outcome.proofs.Leaves.{yields, parses_expression, parses_typed_lines, parses_sent_message, steps, finds, makes, takes_turn, sets, adds, edits, assigns, declares_all, HasExternal, named_there, there_after, asks_back, talk_back}
 use Rattle.meaning.specs.Meaning.{%s}""" % ", ".join(FAMILIES)

@@ -1,5 +1,8 @@
-pub mod Ends
+pub mod Comes
 pub mod Chain
 pub mod Leaves
 pub mod Outcomes
 pub mod One
+pub mod Allowed
+pub mod Steps
+pub mod Rows

@@ -1,5 +1,6 @@
--- Two runs of one thing have one outcome.
-use Rattle.std.proofs.Common.{◌≡◌, ◌+◌, Result, sym, ap, subst, ◌∙◌, arith}
+-- What the rules allow is what the function gives, and two runs of one thing have one outcome.
+use Rattle.std.proofs.Common.{◌≡◌, ◌+◌, [], Result, refl, sym, ap, subst, ◌∙◌, arith}
+use Rattle.ht_lex.specs.Cutting.{spans_of, CutsExactly}
 use Rattle.ht_grammar.specs.Laws.{ReadsExactly}
 use Rattle.ht_grammar.specs.Lines.{typed_lines}
 use Rattle.ht_grammar.specs.Reading.{expression}
@@ -9,34 +10,82 @@ use Rattle.change_journal.specs.History.{History}
 use Rattle.meaning.specs.declared.end.Ended.{Ended}
 use Rattle.meaning.specs.declared.end.Stop.{Stop}
 use Rattle.meaning.specs.State.{RunState}
-use Rattle.one_outcome.specs.Told.{Present, present, Told, told}
-use Rattle.one_outcome.specs.Texts.{Cutter}
+use Rattle.one_outcome.specs.Told.{Present, Told, told}
 use Rattle.one_outcome.specs.Families.{Meanings}
 use Rattle.one_outcome.specs.Meanings.{meanings}
-use Rattle.one_outcome.specs.Laws.{sorts_of, sorts, NoneIsFree, CutsExactly, LinesHaveOneOutcome, MessagesHaveOneOutcome, ActionsHaveOneOutcome}
-use Rattle.one_outcome.specs.Comes.{AreExact, Comes}
+use Rattle.one_outcome.specs.Laws.{sorts_of, sorts, NoneIsFree, LinesAreComputed, MessagesAreComputed}
+use Rattle.one_outcome.specs.Laws.{ActionsAreComputed, SameOutcome, LinesHaveOneOutcome, MessagesHaveOneOutcome}
+use Rattle.one_outcome.specs.Laws.{ActionsHaveOneOutcome}
+use Rattle.one_outcome.proofs.Comes.{AreExact, Sight, sight, Comes}
 use Rattle.one_outcome.proofs.Outcomes.{line_comes, message_comes, acts_comes}
 
-one : {w v w2 v2 : History} {r2 q2 : RunState} {o p : Result Ended Stop} (F : Present → Meanings → Told Ended) (cut : Cutter) → AreExact cut → present v ≡ present w → NoneIsFree (sorts w) →
-    Comes w (F (present w)) (told o (present w2) r2) w2 → Comes v (F (present v)) (told p (present v2) q2) v2 → (o ≡ p) × (present w2 ≡ present v2) × (r2 ≡ q2)
-one {w} {v} {w2} {v2} {r2} {q2} {o} {p} F cut exact same free first second =
-    let a = first.gives cut exact free in
-    let b = second.gives cut exact (subst (λ u. NoneIsFree (sorts_of u.now.externals)) (sym same) free) in
+pub exactly : CutsExactly spans_of → ReadsExactly expression ReadsExpr → ReadsExactly typed_lines ReadsLines →
+    ReadsExactly script ReadsScript → ReadsExactly sent_message ReadsMessage → AreExact
+exactly c e l s m = record { cuts = c; expressions = e; lines = l; messages = m; scripts = s }
+
+-- the turns as they are
+abbrev all_turns : Sight
+all_turns = record { of_turns = λ turns. turns; counts = λ turns i. refl }
+
+-- the turns not at all
+abbrev no_turns : Sight
+no_turns = record { of_turns = λ turns. []; counts = λ turns i. refl }
+
+-- ---- what the function gives
+
+pub line_is_computed : AreExact → LinesAreComputed
+line_is_computed exact w w2 r r2 ss o free line has = (line_comes {g = all_turns} line has).gives exact free
+
+pub message_is_computed : AreExact → MessagesAreComputed
+message_is_computed exact w w2 r r2 i n vs o free message has =
+    (message_comes {g = all_turns} message has).gives exact free
+
+pub action_is_computed : AreExact → ActionsAreComputed
+action_is_computed exact w w2 r r2 ac o free acts has = (acts_comes {g = all_turns} acts has).gives exact free
+
+-- ---- one outcome
+
+-- two runs of one thing, seen so, come to one thing
+one : (g : Sight) (w v w2 v2 : History) {r2 q2 : RunState} {o p : Result Ended Stop}
+    (F : Present → Meanings → Told Ended) → AreExact → sight g v ≡ sight g w → NoneIsFree (sorts w) →
+    Comes g w (F (sight g w)) (told o (sight g w2) r2) w2 → Comes g v (F (sight g v)) (told p (sight g v2) q2) v2 →
+    told o (sight g w2) r2 ≡ told p (sight g v2) q2
+one g w v w2 v2 F exact same free first second =
+    let a = first.gives exact free in
+    let b = second.gives exact (subst (λ u. NoneIsFree (sorts_of u.now.externals)) (sym same) free) in
     let fuel = a.0 + b.0 in
-    let e : told o (present w2) r2 ≡ told p (present v2) q2 = sym (a.1 fuel (omega arith)) ∙ ap (λ u. F u (meanings cut fuel)) (sym same) ∙ b.1 fuel (omega arith) in
-    (cc, cc, cc)
+    sym (a.1 fuel (omega arith)) ∙ ap (λ u. F u (meanings fuel)) (sym same) ∙ b.1 fuel (omega arith)
 
-exact_by : (cut : Cutter) → CutsExactly cut → ReadsExactly expression ReadsExpr → ReadsExactly typed_lines ReadsLines → ReadsExactly script ReadsScript → ReadsExactly sent_message ReadsMessage → AreExact cut
-exact_by cut cuts e l s m = record { cuts = cuts; expressions = e; lines = l; messages = m; scripts = s }
+alike : {w v w2 v2 : History} {r2 q2 : RunState} {o p : Result Ended Stop} (F : Present → Meanings → Told Ended) →
+    AreExact → v.now ≡ w.now → NoneIsFree (sorts w) →
+    ((g : Sight) → Comes g w (F (sight g w)) (told o (sight g w2) r2) w2) →
+    ((g : Sight) → Comes g v (F (sight g v)) (told p (sight g v2) q2) v2) → SameOutcome w v w2 v2 r2 q2 o p
+alike {w} {v} {w2} {v2} {r2} {q2} {o} {p} F exact same free first second = (ends.0, ends.1, ends.2, turns)
+  where
+    parts_of : (g : Sight) → told o (sight g w2) r2 ≡ told p (sight g v2) q2 →
+        (o ≡ p) × (w2.now ≡ v2.now) × (r2 ≡ q2) × (g.of_turns w2.turns ≡ g.of_turns v2.turns)
+    parts_of g is = let there : sight g w2 ≡ sight g v2 = cc in (cc, ap (λ u. u.now) there, cc, ap (λ u. u.turns) there)
 
-pub one_line : ReadsExactly expression ReadsExpr → ReadsExactly typed_lines ReadsLines → ReadsExactly script ReadsScript → ReadsExactly sent_message ReadsMessage → LinesHaveOneOutcome
-one_line e l s m cut cuts w v w2 v2 r r2 q2 ss o p same free first second has had =
-    one (λ u parts. parts.line u r ss) cut (exact_by cut cuts e l s m) same free (line_comes first has) (line_comes second had)
+    begins : sight no_turns v ≡ sight no_turns w
+    begins = ap (λ s. record { now = s; turns = [] }) same
 
-pub one_message : ReadsExactly expression ReadsExpr → ReadsExactly typed_lines ReadsLines → ReadsExactly script ReadsScript → ReadsExactly sent_message ReadsMessage → MessagesHaveOneOutcome
-one_message e l s m cut cuts w v w2 v2 r r2 q2 i n vs o p same free first second has had =
-    one (λ u parts. parts.message u r i n vs) cut (exact_by cut cuts e l s m) same free (message_comes first has) (message_comes second had)
+    ends : (o ≡ p) × (w2.now ≡ v2.now) × (r2 ≡ q2) × (no_turns.of_turns w2.turns ≡ no_turns.of_turns v2.turns)
+    ends = parts_of no_turns (one no_turns w v w2 v2 F exact begins free (first no_turns) (second no_turns))
 
-pub one_action : ReadsExactly expression ReadsExpr → ReadsExactly typed_lines ReadsLines → ReadsExactly script ReadsScript → ReadsExactly sent_message ReadsMessage → ActionsHaveOneOutcome
-one_action e l s m cut cuts w v w2 v2 r r2 q2 ac o p same free first second has had =
-    one (λ u parts. parts.acts u r ac) cut (exact_by cut cuts e l s m) same free (acts_comes first has) (acts_comes second had)
+    turns : v.turns ≡ w.turns → w2.turns ≡ v2.turns
+    turns is =
+        let seen : sight all_turns v ≡ sight all_turns w = cc in
+        (parts_of all_turns (one all_turns w v w2 v2 F exact seen free (first all_turns) (second all_turns))).3
+
+pub one_line : AreExact → LinesHaveOneOutcome
+one_line exact w v w2 v2 r r2 q2 ss o p same free first second has had =
+    alike (λ u parts. parts.line u r ss) exact same free (λ g. line_comes first has) (λ g. line_comes second had)
+
+pub one_message : AreExact → MessagesHaveOneOutcome
+one_message exact w v w2 v2 r r2 q2 i n vs o p same free first second has had =
+    alike (λ u parts. parts.message u r i n vs) exact same free (λ g. message_comes first has)
+    (λ g. message_comes second had)
+
+pub one_action : AreExact → ActionsHaveOneOutcome
+one_action exact w v w2 v2 r r2 q2 ac o p same free first second has had =
+    alike (λ u parts. parts.acts u r ac) exact same free (λ g. acts_comes first has) (λ g. acts_comes second had)

@@ -80,7 +80,9 @@ with_global w name None = made w (Global (folded name) (Some []))
 
 abbrev pub declare_all : Present → RunState → Frame → List (List ℕ) → Ran (Unit {0})
 declare_all w r f [] = ran (Ok tt) w r f
-declare_all w r f (name ∷ names) = declare_all (with_global w name (get w.now.globals (folded name))) r (with_variables f (declared f.variables name)) names
+declare_all w r f (name ∷ names) =
+    declare_all (with_global w name (get w.now.globals (folded name))) r
+    (with_variables f (declared f.variables name)) names
 
 -- ---- objects
 

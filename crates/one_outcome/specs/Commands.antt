@@ -17,7 +17,8 @@ use Rattle.meaning.specs.Actions.{Action, opening_stack, locks_text, leaving_mes
 use Rattle.meaning.specs.Menu.{message_name}
 use Rattle.meaning.specs.Places.{field_place, field_text}
 use Rattle.meaning.specs.State.{RunState, typed_frame_at}
-use Rattle.one_outcome.specs.Told.{Present, Told, unknown, told, after, after_lines, choose, maybe, computed, ended_lines, ended_message, referred, goes_on_after}
+use Rattle.one_outcome.specs.Told.{Present, Told, unknown, told, after, after_lines, choose, maybe, computed}
+use Rattle.one_outcome.specs.Told.{ended_lines, ended_message, referred, goes_on_after}
 use Rattle.one_outcome.specs.Changes.{edit}
 use Rattle.one_outcome.specs.Families.{Meanings}
 
@@ -33,23 +34,28 @@ abbrev pub refers_of : Meanings → Present → RunState → tree.Part → Told 
 refers_of m w r pa = referred (m.part_met w r (typed_frame_at w.now.current) 0 pa)
 
 abbrev pub tells_of : Meanings → Present → RunState → ℕ → SystemMessage → Told Ended
-tells_of m w r i message = choose r.lock_messages (λ _. told (Ok DoneEnd) w r) (λ _. m.message w r i (message_name message) [])
+tells_of m w r i message =
+    choose r.lock_messages (λ _. told (Ok DoneEnd) w r) (λ _. m.message w r i (message_name message) [])
 
 abbrev pub tells_all_of : Meanings → Present → RunState → List SystemMessage → Told Ended
 tells_all_of m w r [] = told (Ok DoneEnd) w r
-tells_all_of m w r (message ∷ messages) = after (m.tells w r w.now.current message) (λ end w r. goes_on_after end w r (λ _. m.tells_all w r messages))
+tells_all_of m w r (message ∷ messages) =
+    after (m.tells w r w.now.current message) (λ end w r. goes_on_after end w r (λ _. m.tells_all w r messages))
 
 abbrev pub clicks_of : Meanings → Present → RunState → tree.Part → Told Ended
 clicks_of m w r pa =
     after (m.refers w r pa) (λ met w r. maybe met
-    (λ i. after (m.tells w r i MouseDown) (λ end w r. goes_on_after end w r (λ _. choose (is_some (object_at w.now.stack i)) (λ _. m.tells w r i MouseUp) (λ _. told (Ok DoneEnd) w r))))
+    (λ i. after (m.tells w r i MouseDown)
+    (λ end w r. goes_on_after end w r
+    (λ _. choose (is_some (object_at w.now.stack i)) (λ _. m.tells w r i MouseUp) (λ _. told (Ok DoneEnd) w r))))
     (λ _. told (Ok ExitedEnd) w r))
 
 abbrev pub types_over_of : Meanings → Present → RunState → Referent → List ℕ → Told Ended
 types_over_of m w r o t =
     computed (field_text w.now (typed_frame_at w.now.current).variables r.delimiter o)
     (λ old. computed (field_place w.now o)
-    (λ p. after_lines (edit w r (typed_frame_at w.now.current) p (Put Into t)) (λ _ w r. m.tells w r o.object (leaving_message old t)))
+    (λ p. after_lines (edit w r (typed_frame_at w.now.current) p (Put Into t))
+    (λ _ w r. m.tells w r o.object (leaving_message old t)))
     (λ _. unknown))
     (λ _. told (Ok DoneEnd) w r)
 
@@ -59,7 +65,8 @@ types_into_of m w r t pa =
     after (m.refers w r pa) (λ met w r. maybe met
     (λ i. choose (locks_text w.now.stack i)
     (λ _. unknown)
-    (λ _. after (m.tells w r i OpenField) (λ end w2 r. goes_on_after end w2 r (λ _. m.types_over w2 r (met_here w.now.current i) t))))
+    (λ _. after (m.tells w r i OpenField)
+    (λ end w2 r. goes_on_after end w2 r (λ _. m.types_over w2 r (met_here w.now.current i) t))))
     (λ _. told (Ok ExitedEnd) w r))
 
 abbrev pub acts_of : Meanings → Present → RunState → Action → Told Ended

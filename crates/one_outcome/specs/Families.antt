@@ -1,6 +1,5 @@
 -- What each family of rules comes to, computed: from a state, a run, a frame and a tree.
 use Rattle.one_outcome.specs.Told.{Present, Told, Ran}
-use Rattle.one_outcome.specs.Texts.{Cutter}
 use Rattle.std.specs.Prelude.{ℕ, ℤ, List, Bool, Option}
 use Rattle.ht_values.specs.declared.operator.Op.{Op}
 use Rattle.ht_grammar.specs.declared.vocabulary.HandlerKind.{HandlerKind}
@@ -26,7 +25,6 @@ use Rattle.meaning.specs.State.{RunState}
 use Rattle.meaning.specs.Repeats.{CounterState}
 
 pub record Meanings : Type 0 where
-  pub cut : Cutter
   pub val : Present → RunState → Frame → ℕ → tree.Expr → Told (List ℕ)
   pub vals : Present → RunState → Frame → ℕ → tree.Exprs → List (List ℕ) → Told (List (List ℕ))
   pub number_val : Present → RunState → Frame → ℕ → tree.Expr → Told ℤ

@@ -1,5 +1,5 @@
 -- Laws of outcomes.
-use Rattle.std.specs.Prelude.{◌≡◌, ◌↔◌, ℕ, ◌<◌, List, length, map, slice_index_or, Some, Result}
+use Rattle.std.specs.Prelude.{◌≡◌, ℕ, ◌<◌, ◌≤◌, List, length, map, slice_index_or, Some, Result}
 use Rattle.ht_grammar.specs.Statements as stm
 use Rattle.externals.specs.Cells.{Seen}
 use Rattle.externals.specs.Table.{Turn, turn_of}
@@ -11,10 +11,9 @@ use Rattle.meaning.specs.Actions.{Action}
 use Rattle.meaning.specs.Meaning.{Line, Message, Acts}
 use Rattle.meaning.specs.State.{RunState}
 use Rattle.run_laws.specs.Laws.{HasMemory}
-use Rattle.ht_lex.specs.declared.tokens.Span.{Span}
-use Rattle.ht_lex.specs.Tokens.{IsCut}
-use Rattle.one_outcome.specs.Told.{present}
-use Rattle.one_outcome.specs.Texts.{Cutter}
+use Rattle.one_outcome.specs.Told.{present, told}
+use Rattle.one_outcome.specs.Families.{Meanings}
+use Rattle.one_outcome.specs.Meanings.{meanings}
 
 -- a kind that isn't free: each of its turns is that of the table
 abbrev pub IsFixed : ℕ → Type 0
@@ -30,28 +29,57 @@ sorts w = sorts_of w.now.externals
 abbrev pub NoneIsFree : List ℕ → Type 0
 NoneIsFree kinds = (i : ℕ) → i < length kinds → IsFixed (slice_index_or kinds i 0)
 
--- a function that answers just where the tokens of a text stand
-abbrev pub CutsExactly : Cutter → Type 0
-CutsExactly cut = (text : List ℕ) (spans : List Span) → (cut text ≡ Some spans) ↔ IsCut text spans
+-- ---- the function gives what the rules allow
 
--- Where a function cuts texts, two runs of the same lines from the same state, neither of which is out of memory, have the
--- same end, state and run.
+-- with so many nested parts, and with more
+abbrev pub Enough : (Meanings → Type 0) → Type 0
+Enough Holds = (least : ℕ) × ((parts : ℕ) → least ≤ parts → Holds (meanings parts))
+
+-- Where no external is free, and lines don't end out of memory, the function gives their end, state and run.
+abbrev pub LinesAreComputed : Type 0
+LinesAreComputed =
+    (w w2 : History) (r r2 : RunState) (ss : stm.Stmts) (o : Result Ended Stop) →
+    NoneIsFree (sorts w) → Line w r ss o w2 r2 → HasMemory o →
+    Enough (λ m. m.line (present w) r ss ≡ told o (present w2) r2)
+
+-- and so it does of a message
+abbrev pub MessagesAreComputed : Type 0
+MessagesAreComputed =
+    (w w2 : History) (r r2 : RunState) (i : ℕ) (n : List ℕ) (vs : List (List ℕ)) (o : Result Ended Stop) →
+    NoneIsFree (sorts w) → Message w r i n vs o w2 r2 → HasMemory o →
+    Enough (λ m. m.message (present w) r i n vs ≡ told o (present w2) r2)
+
+-- and of an action
+abbrev pub ActionsAreComputed : Type 0
+ActionsAreComputed =
+    (w w2 : History) (r r2 : RunState) (ac : Action) (o : Result Ended Stop) →
+    NoneIsFree (sorts w) → Acts w r ac o w2 r2 → HasMemory o →
+    Enough (λ m. m.acts (present w) r ac ≡ told o (present w2) r2)
+
+-- ---- one outcome
+
+-- Two runs end alike, with the same state and run, and with as many turns of each external where they began with as
+-- many.
+abbrev pub SameOutcome : (w v w2 v2 : History) (r2 q2 : RunState) (o p : Result Ended Stop) → Type 0
+SameOutcome w v w2 v2 r2 q2 o p = (o ≡ p) × (w2.now ≡ v2.now) × (r2 ≡ q2) × (v.turns ≡ w.turns → w2.turns ≡ v2.turns)
+
+-- Two runs of the same lines from the same state, neither of which is out of memory, have one outcome.
 abbrev pub LinesHaveOneOutcome : Type 0
 LinesHaveOneOutcome =
-    (cut : Cutter) → CutsExactly cut → (w v w2 v2 : History) (r r2 q2 : RunState) (ss : stm.Stmts) (o p : Result Ended Stop) →
-    present v ≡ present w → NoneIsFree (sorts w) → Line w r ss o w2 r2 → Line v r ss p v2 q2 → HasMemory o → HasMemory p →
-    (o ≡ p) × (present w2 ≡ present v2) × (r2 ≡ q2)
+    (w v w2 v2 : History) (r r2 q2 : RunState) (ss : stm.Stmts) (o p : Result Ended Stop) →
+    v.now ≡ w.now → NoneIsFree (sorts w) → Line w r ss o w2 r2 → Line v r ss p v2 q2 → HasMemory o → HasMemory p →
+    SameOutcome w v w2 v2 r2 q2 o p
 
--- and so do two runs of the same message
+-- and so have two runs of the same message
 abbrev pub MessagesHaveOneOutcome : Type 0
 MessagesHaveOneOutcome =
-    (cut : Cutter) → CutsExactly cut → (w v w2 v2 : History) (r r2 q2 : RunState) (i : ℕ) (n : List ℕ) (vs : List (List ℕ)) (o p : Result Ended Stop) →
-    present v ≡ present w → NoneIsFree (sorts w) → Message w r i n vs o w2 r2 → Message v r i n vs p v2 q2 → HasMemory o → HasMemory p →
-    (o ≡ p) × (present w2 ≡ present v2) × (r2 ≡ q2)
+    (w v w2 v2 : History) (r r2 q2 : RunState) (i : ℕ) (n : List ℕ) (vs : List (List ℕ)) (o p : Result Ended Stop) →
+    v.now ≡ w.now → NoneIsFree (sorts w) → Message w r i n vs o w2 r2 → Message v r i n vs p v2 q2 →
+    HasMemory o → HasMemory p → SameOutcome w v w2 v2 r2 q2 o p
 
 -- and of the same action
 abbrev pub ActionsHaveOneOutcome : Type 0
 ActionsHaveOneOutcome =
-    (cut : Cutter) → CutsExactly cut → (w v w2 v2 : History) (r r2 q2 : RunState) (ac : Action) (o p : Result Ended Stop) →
-    present v ≡ present w → NoneIsFree (sorts w) → Acts w r ac o w2 r2 → Acts v r ac p v2 q2 → HasMemory o → HasMemory p →
-    (o ≡ p) × (present w2 ≡ present v2) × (r2 ≡ q2)
+    (w v w2 v2 : History) (r r2 q2 : RunState) (ac : Action) (o p : Result Ended Stop) →
+    v.now ≡ w.now → NoneIsFree (sorts w) → Acts w r ac o w2 r2 → Acts v r ac p v2 q2 → HasMemory o → HasMemory p →
+    SameOutcome w v w2 v2 r2 q2 o p

@@ -8,4 +8,5 @@ pub mod Messages
 pub mod Commands
 pub mod Meanings
 pub mod Laws
-pub mod Comes
+pub mod Alone
+pub mod Rows

@@ -2,16 +2,18 @@
 use Rattle.std.specs.Prelude.{ℕ, zero, suc}
 use Rattle.one_outcome.specs.Told.{unknown, unknown_run}
 use Rattle.one_outcome.specs.Families.{Meanings}
-use Rattle.one_outcome.specs.Texts.{Cutter}
-use Rattle.one_outcome.specs.Expressions.{val_of, vals_of, number_val_of, truth_val_of, text_val_of, chunk_of_of, resolves_of, picks_of, seeks_of, owns_of, part_met_of, meets_of, leads_of}
-use Rattle.one_outcome.specs.Statements.{form_of, alters_of, block_of, do_text_of, endless_of, while_of, bounds_of, counts_of}
-use Rattle.one_outcome.specs.Messages.{calls_of, sends_text_of, sends_of, along_of, outside_of, built_in_gives_of, system_of, systems_of, goes_of, menu_of, converses_of, talks_of, calls_back_of}
-use Rattle.one_outcome.specs.Commands.{line_of, message_of, refers_of, tells_of, tells_all_of, clicks_of, types_over_of, types_into_of, acts_of}
+use Rattle.one_outcome.specs.Expressions.{val_of, vals_of, number_val_of, truth_val_of, text_val_of, chunk_of_of}
+use Rattle.one_outcome.specs.Expressions.{resolves_of, picks_of, seeks_of, owns_of, part_met_of, meets_of, leads_of}
+use Rattle.one_outcome.specs.Statements.{form_of, alters_of, block_of, do_text_of, endless_of, while_of, bounds_of}
+use Rattle.one_outcome.specs.Statements.{counts_of}
+use Rattle.one_outcome.specs.Messages.{calls_of, sends_text_of, sends_of, along_of, outside_of, built_in_gives_of}
+use Rattle.one_outcome.specs.Messages.{system_of, systems_of, goes_of, menu_of, converses_of, talks_of, calls_back_of}
+use Rattle.one_outcome.specs.Commands.{line_of, message_of, refers_of, tells_of, tells_all_of, clicks_of, types_over_of}
+use Rattle.one_outcome.specs.Commands.{types_into_of, acts_of}
 
 -- without fuel nothing is known
-abbrev pub nothing : Cutter → Meanings
-nothing cut = record {
-  cut = cut;
+abbrev pub nothing : Meanings
+nothing = record {
   val = λ _ _ _ _ _. unknown;
   vals = λ _ _ _ _ _ _. unknown;
   number_val = λ _ _ _ _ _. unknown;
@@ -60,7 +62,6 @@ nothing cut = record {
 -- each part from the meanings of its parts
 abbrev pub one_more : Meanings → Meanings
 one_more m = record {
-  cut = m.cut;
   val = val_of m;
   vals = vals_of m;
   number_val = number_val_of m;
@@ -107,6 +108,6 @@ one_more m = record {
 }
 
 -- the meanings that so many nested parts can tell
-unfoldable pub meanings : Cutter → ℕ → Meanings
-meanings cut zero = nothing cut
-meanings cut (suc fuel) = one_more (meanings cut fuel)
+unfoldable pub meanings : ℕ → Meanings
+meanings zero = nothing
+meanings (suc parts) = one_more (meanings parts)

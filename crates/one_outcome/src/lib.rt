@@ -4,4 +4,6 @@
 
 mod law;
 
-pub use law::runs_have_one_outcome;
+pub use law::{
+    expressions_are_allowed, runs_are_computed, runs_have_one_outcome, worked_rows_are_computed,
+};

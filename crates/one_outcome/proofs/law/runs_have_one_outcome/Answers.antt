@@ -1,14 +1,23 @@
 use Rattle.one_outcome.proofs.law.runs_have_one_outcome.Goals as goal
-use Rattle.one_outcome.proofs.One.{one_line, one_message, one_action}
+use Rattle.one_outcome.proofs.One.{exactly, one_line, one_message, one_action}
 
 pub returns-clause-lines : goal.returns-clause-lines
 returns-clause-lines c =
-    one_line c.expressions_are_read_exactly.ensures.exact c.lines_are_read_exactly.ensures.exact c.scripts_are_read_exactly.ensures.exact c.messages_are_read_exactly.ensures.exact
+    one_line
+    (exactly c.texts_are_cut_exactly.ensures c.expressions_are_read_exactly.ensures.exact
+    c.lines_are_read_exactly.ensures.exact
+    c.scripts_are_read_exactly.ensures.exact c.messages_are_read_exactly.ensures.exact)
 
 pub returns-clause-messages : goal.returns-clause-messages
 returns-clause-messages c =
-    one_message c.expressions_are_read_exactly.ensures.exact c.lines_are_read_exactly.ensures.exact c.scripts_are_read_exactly.ensures.exact c.messages_are_read_exactly.ensures.exact
+    one_message
+    (exactly c.texts_are_cut_exactly.ensures c.expressions_are_read_exactly.ensures.exact
+    c.lines_are_read_exactly.ensures.exact
+    c.scripts_are_read_exactly.ensures.exact c.messages_are_read_exactly.ensures.exact)
 
 pub returns-clause-actions : goal.returns-clause-actions
 returns-clause-actions c =
-    one_action c.expressions_are_read_exactly.ensures.exact c.lines_are_read_exactly.ensures.exact c.scripts_are_read_exactly.ensures.exact c.messages_are_read_exactly.ensures.exact
+    one_action
+    (exactly c.texts_are_cut_exactly.ensures c.expressions_are_read_exactly.ensures.exact
+    c.lines_are_read_exactly.ensures.exact
+    c.scripts_are_read_exactly.ensures.exact c.messages_are_read_exactly.ensures.exact)
