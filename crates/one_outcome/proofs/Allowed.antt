@@ -1,5 +1,5 @@
 -- What an expression that sends no message comes to, the rules allow.
-use Rattle.std.proofs.Common.{◌≡◌, ℕ, zero, suc, List, [], ◌∷◌, Bool, true, false, Option, Some, None, Result, Ok, Err, refl, sym, ap, subst}
+use Rattle.std.proofs.Common.{◌≡◌, ℕ, zero, suc, List, [], ◌∷◌, Bool, true, false, Option, Some, None, Result, Ok, Err, refl, sym, subst}
 use Rattle.std.specs.Prelude.{◌≢◌}
 use Rattle.ht_values.specs.declared.fault.Fault.{Fault}
 use Rattle.ht_values.specs.declared.fault.Fault.TheVariants.{NoSuchObject}
@@ -11,12 +11,8 @@ use Rattle.ht_grammar.specs.declared.vocabulary.HandlerKind.{HandlerKind}
 use Rattle.ht_grammar.specs.declared.vocabulary.Layer.{Layer}
 use Rattle.ht_grammar.specs.Functions.{func_of}
 use Rattle.ht_grammar.specs.Trees as tree
-use Rattle.chunks.specs.declared.chunk.Chunk.{Chunk}
 use Rattle.change_journal.specs.History.{History}
-use Rattle.object_references.specs.declared.referent.PartScope.{PartScope}
-use Rattle.object_references.specs.declared.referent.Pick.{Pick}
 use Rattle.object_references.specs.declared.referent.Referent.{Referent}
-use Rattle.object_references.specs.declared.referent.Sought.{Sought}
 use Rattle.meaning.specs.declared.end.Stop.{Stop}
 use Rattle.meaning.specs.declared.end.Stop.TheVariants.{Fault as Faults, Exited, Memory}
 use Rattle.meaning.specs.declared.frame.Frame.{Frame}
@@ -25,8 +21,6 @@ use Rattle.meaning.specs.State.{RunState}
 use Rattle.meaning.specs.Values.{Yields}
 use Rattle.one_outcome.specs.Told.{Present, present, Told, unknown, told, after, maybe, there}
 use Rattle.one_outcome.specs.Changes.{yielded}
-use Rattle.one_outcome.specs.Families.{Meanings}
-use Rattle.one_outcome.specs.Meanings.{one_more}
 use Rattle.one_outcome.specs.Alone.{meanings_alone, ExpressionsAreAllowed}
 
 -- an outcome, if it is known, is allowed, and nothing has changed

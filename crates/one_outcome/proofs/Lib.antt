@@ -6,3 +6,4 @@ pub mod One
 pub mod Allowed
 pub mod Steps
 pub mod Rows
+pub mod Replies

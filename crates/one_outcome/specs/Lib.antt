@@ -10,3 +10,4 @@ pub mod Meanings
 pub mod Laws
 pub mod Alone
 pub mod Rows
+pub mod Replies

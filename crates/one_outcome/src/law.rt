@@ -3,6 +3,7 @@
 ghost use Rattle.one_outcome.specs.Alone.{ExpressionsAreAllowed};
 ghost use Rattle.one_outcome.specs.Laws.{LinesAreComputed, MessagesAreComputed, ActionsAreComputed, LinesHaveOneOutcome, MessagesHaveOneOutcome, ActionsHaveOneOutcome};
 ghost use Rattle.one_outcome.specs.Rows.{Sum, Quotient, NoNumber, FaultAfterLines, Choice, Repeated, Chunks, NoExpression, ExitToHyperCard, Delimiter, GlobalVariable, Repeats, Function, Passed, FaultThreeDeep, Conversation};
+ghost use Rattle.one_outcome.specs.Replies.{RepliesAreOne};
 
 use ht_grammar::{
     expressions_are_read_exactly, lines_are_read_exactly, messages_are_read_exactly,
@@ -36,6 +37,13 @@ pub fn runs_have_one_outcome()
     lines_are_read_exactly();
     scripts_are_read_exactly();
     messages_are_read_exactly();
+}
+
+/// Two replies to one fresh command, in one state where no external is free, are the same, and so are the states after it.
+pub fn replies_are_one()
+    ensures { RepliesAreOne }
+{
+    runs_have_one_outcome();
 }
 
 /// What an expression that sends no message comes to by the function, the rules allow, and nothing changes.
