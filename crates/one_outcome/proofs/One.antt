@@ -14,10 +14,10 @@ use Rattle.one_outcome.specs.Told.{Present, Told, told}
 use Rattle.one_outcome.specs.Families.{Meanings}
 use Rattle.one_outcome.specs.Meanings.{meanings}
 use Rattle.one_outcome.specs.Laws.{sorts_of, sorts, NoneIsFree, LinesAreComputed, MessagesAreComputed}
-use Rattle.one_outcome.specs.Laws.{ActionsAreComputed, SameOutcome, LinesHaveOneOutcome, MessagesHaveOneOutcome}
+use Rattle.one_outcome.specs.Laws.{ActionsAreComputed, ValuesAreComputed, SameOutcome, LinesHaveOneOutcome, MessagesHaveOneOutcome}
 use Rattle.one_outcome.specs.Laws.{ActionsHaveOneOutcome}
 use Rattle.one_outcome.proofs.Comes.{AreExact, Sight, sight, Comes}
-use Rattle.one_outcome.proofs.Outcomes.{line_comes, message_comes, acts_comes}
+use Rattle.one_outcome.proofs.Outcomes.{val_comes, line_comes, message_comes, acts_comes}
 
 pub exactly : CutsExactly spans_of → ReadsExactly expression ReadsExpr → ReadsExactly typed_lines ReadsLines →
     ReadsExactly script ReadsScript → ReadsExactly sent_message ReadsMessage → AreExact
@@ -42,6 +42,9 @@ message_is_computed exact w w2 r r2 i n vs o free message has =
 
 pub action_is_computed : AreExact → ActionsAreComputed
 action_is_computed exact w w2 r r2 ac o free acts has = (acts_comes {g = all_turns} acts has).gives exact free
+
+pub value_is_computed : AreExact → ValuesAreComputed
+value_is_computed exact w w2 r r2 f d e o free value has = (val_comes {g = all_turns} value has).gives exact free
 
 -- ---- one outcome
 

@@ -1,14 +1,16 @@
 -- Laws of outcomes.
 use Rattle.std.specs.Prelude.{◌≡◌, ℕ, ◌<◌, ◌≤◌, List, length, map, slice_index_or, Some, Result}
 use Rattle.ht_grammar.specs.Statements as stm
+use Rattle.ht_grammar.specs.Trees as tree
 use Rattle.externals.specs.Cells.{Seen}
 use Rattle.externals.specs.Table.{Turn, turn_of}
 use Rattle.externals.specs.declared.external.Input.{Input}
 use Rattle.change_journal.specs.History.{History}
 use Rattle.meaning.specs.declared.end.Ended.{Ended}
 use Rattle.meaning.specs.declared.end.Stop.{Stop}
+use Rattle.meaning.specs.declared.frame.Frame.{Frame}
 use Rattle.meaning.specs.Actions.{Action}
-use Rattle.meaning.specs.Meaning.{Line, Message, Acts}
+use Rattle.meaning.specs.Meaning.{Val, Line, Message, Acts}
 use Rattle.meaning.specs.State.{RunState}
 use Rattle.run_laws.specs.Laws.{HasMemory}
 use Rattle.one_outcome.specs.Told.{present, told}
@@ -55,6 +57,13 @@ ActionsAreComputed =
     (w w2 : History) (r r2 : RunState) (ac : Action) (o : Result Ended Stop) →
     NoneIsFree (sorts w) → Acts w r ac o w2 r2 → HasMemory o →
     Enough (λ m. m.acts (present w) r ac ≡ told o (present w2) r2)
+
+-- and of the value of an expression
+abbrev pub ValuesAreComputed : Type 0
+ValuesAreComputed =
+    (w w2 : History) (r r2 : RunState) (f : Frame) (d : ℕ) (e : tree.Expr) (o : Result (List ℕ) Stop) →
+    NoneIsFree (sorts w) → Val w r f d e o w2 r2 → HasMemory o →
+    Enough (λ m. m.val (present w) r f d e ≡ told o (present w2) r2)
 
 -- ---- one outcome
 

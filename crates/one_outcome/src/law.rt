@@ -1,7 +1,7 @@
 //! Where no external is free, a function computes a run, and a run has one outcome.
 
 ghost use Rattle.one_outcome.specs.Alone.{ExpressionsAreAllowed};
-ghost use Rattle.one_outcome.specs.Laws.{LinesAreComputed, MessagesAreComputed, ActionsAreComputed, LinesHaveOneOutcome, MessagesHaveOneOutcome, ActionsHaveOneOutcome};
+ghost use Rattle.one_outcome.specs.Laws.{LinesAreComputed, MessagesAreComputed, ActionsAreComputed, ValuesAreComputed, LinesHaveOneOutcome, MessagesHaveOneOutcome, ActionsHaveOneOutcome};
 ghost use Rattle.one_outcome.specs.Rows.{Sum, Quotient, NoNumber, FaultAfterLines, Choice, Repeated, Chunks, NoExpression, ExitToHyperCard, Delimiter, GlobalVariable, Repeats, Function, Passed, FaultThreeDeep, Conversation};
 ghost use Rattle.one_outcome.specs.Replies.{RepliesAreOne};
 
@@ -11,12 +11,13 @@ use ht_grammar::{
 };
 use ht_lex::texts_are_cut_exactly;
 
-/// What the rules allow of lines, a message or an action is what the function gives, with enough fuel,
+/// What the rules allow of lines, a message, an action or an expression is what the function gives, with enough fuel,
 /// where no plugged external is free and the run isn't out of memory.
 pub fn runs_are_computed()
     ensures lines { LinesAreComputed }
     ensures messages { MessagesAreComputed }
     ensures actions { ActionsAreComputed }
+    ensures values { ValuesAreComputed }
 {
     texts_are_cut_exactly();
     expressions_are_read_exactly();
