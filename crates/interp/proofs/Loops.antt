@@ -1,16 +1,11 @@
 -- The list that is left in a loop.
 use Rattle.ht_grammar.specs.Depth.{depth, depths, stmt_depth, stmts_depth}
-use Rattle.std.proofs.Common.{arith, zero, ◌≡◌, ◌≤◌, ℕ, suc, ◌+◌, ◌<◌, List, [], ◌∷◌, length, drop, get_or, sym, ◌∙◌, ap, add-one, drop-cons, drop_of_length-le}
+use Rattle.std.proofs.Common.{arith, zero, ◌≡◌, ◌≤◌, ℕ, suc, ◌+◌, ◌<◌, List, [], ◌∷◌, length, drop, get_or, ap, drop_of_length-le}
+use Rattle.primitives.proofs.Lists.{cut}
 use Rattle.ht_grammar.specs.Trees as tree
 use Rattle.ht_grammar.specs.Statements as stm
 use Rattle.ht_tree.specs.View.{exprs_of}
 use Rattle.ht_tree.specs.StatementView.{stmts_of}
-
-pub cut : {X : Type 0} (xs : List X) (i : ℕ) (x : X) → i < length xs → x ≡ get_or xs i x → drop i xs ≡ x ∷ drop (i + 1) xs
-cut xs i x h e = rw (add-one) (drop-cons xs i x h ∙ ap (λ y. y ∷ drop (suc i) xs) (sym e))
-
-pub cut_at : {X : Type 0} (xs : List X) (i : ℕ) (d : X) → i < length xs → drop i xs ≡ get_or xs i d ∷ drop (i + 1) xs
-cut_at xs i d h = rw (add-one) (drop-cons xs i d h)
 
 pub cut_exprs : (xs : List tree.Expr) (i : ℕ) (x : tree.Expr) → i < length xs → x ≡ get_or xs i x → exprs_of (drop i xs) ≡ tree.more x (exprs_of (drop (i + 1) xs))
 cut_exprs xs i x h e = ap exprs_of (cut xs i x h e)

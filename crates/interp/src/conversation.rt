@@ -6,17 +6,17 @@ ghost use Rattle.containers.specs.Base.{base};
 ghost use Rattle.interp.specs.Views.{asks_back};
 ghost use Rattle.meaning.specs.Meaning.{CallsBack, Converses, Talks};
 
-use crate::arguments::Arguments;
 use crate::expr::eval;
-use crate::leaves::{expression, lines};
-use crate::messages::{start, take_turn};
-use crate::places::{set_field, set_global};
 use crate::stmt::run_block;
 use change_journal::World;
 use externals::{Ask, External, Input, Texts};
 use ht_values::{Fault, Text};
 use meaning::{Budget, Conversed, Frame, Stop};
 use msg_path::Scripts;
+use primitives::arguments::Arguments;
+use primitives::messages::{start, take_turn};
+use primitives::places::{set_field, set_global};
+use primitives::values::{expression, lines};
 
 /// A conversation with an external: its arguments are counted, then the depth is tested.
 #[cycle(run)]

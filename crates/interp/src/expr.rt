@@ -7,15 +7,8 @@ ghost use Rattle.ht_tree.specs.View.{chunk_of as chunk_of_tree, count_of, exprs_
 ghost use Rattle.containers.specs.Base.{base};
 ghost use Rattle.meaning.specs.Meaning.{NumberVal, TextVal, TruthVal, Val, Vals};
 
-use crate::arguments::Arguments;
-use crate::leaves::{
-    apply, apply_one, call_of_one, constant_text, expression, function_named, number, numeral,
-    return_sign, run_property, there, truth,
-};
 use crate::message::calls;
-use crate::objects::{parts_here, property, target_name};
 use crate::pieces::pieces;
-use crate::places::{field_text, variable};
 use crate::reference::{meet, meet_part};
 use change_journal::World;
 use chunks::take;
@@ -25,6 +18,13 @@ use ht_tree::{Chunk, Count, Expr, ExprKind, Exprs, Part, Ref};
 use ht_values::{Fault, Op, Prop, Text, UnOp};
 use meaning::{Budget, Frame, Stop};
 use msg_path::Scripts;
+use primitives::arguments::Arguments;
+use primitives::objects::{parts_here, property, target_name};
+use primitives::places::{field_text, variable};
+use primitives::values::{
+    apply, apply_one, call_of_one, constant_text, expression, function_named, number, numeral,
+    return_sign, run_property, there, truth,
+};
 
 /// The value of an expression.
 #[cycle(run)]

@@ -7,7 +7,6 @@ ghost use Rattle.ht_tree.specs.View.{part_of};
 ghost use Rattle.containers.specs.Base.{base};
 ghost use Rattle.meaning.specs.Meaning.{Line, Message, Refers};
 
-use crate::arguments::Arguments;
 use crate::message::send;
 use crate::reference::meet_part;
 use crate::stmt::run_block;
@@ -19,6 +18,7 @@ use ht_values::Text;
 use meaning::{Budget, Ended, Frame, Stop};
 use msg_path::Scripts;
 use object_table::Id;
+use primitives::arguments::Arguments;
 
 /// Runs the lines of a typed command in the open batch: `me` and `the target` are the card that is current as it begins, and
 /// every variable is a global. What it shows and sends, and the steps that are left, stand in the budget, also where it ends

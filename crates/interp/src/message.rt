@@ -6,11 +6,8 @@ ghost use Rattle.ht_tree.specs.View.{exprs_of};
 ghost use Rattle.containers.specs.Base.{base};
 ghost use Rattle.meaning.specs.Meaning.{Along, BuiltInGives, Calls, Outside, Sends, SendsText};
 
-use crate::arguments::Arguments;
 use crate::conversation::converse;
 use crate::expr::{arguments, text_value};
-use crate::leaves::{call_function, message};
-use crate::messages::{external, find, handler_frame, is_ignored, item_named, outcome, returned};
 use crate::stmt::run_block;
 use crate::system::menu;
 use change_journal::World;
@@ -21,6 +18,11 @@ use ht_values::{Fault, Text};
 use meaning::{Budget, Frame, Stop};
 use msg_path::{BuiltIn, MessagePath, Scripts, path, path_after};
 use object_table::Id;
+use primitives::arguments::Arguments;
+use primitives::messages::{
+    external, find, handler_frame, is_ignored, item_named, outcome, returned,
+};
+use primitives::values::{call_function, message};
 
 /// The arguments are computed, then the message is sent to an object.
 #[cycle(run)]

@@ -7,7 +7,6 @@ ghost use Rattle.containers.specs.Base.{base};
 ghost use Rattle.meaning.specs.Meaning.{ChunkOf, Resolves};
 
 use crate::expr::number_value;
-use crate::places::{field_place, nth_piece, pieces_at, variable_place};
 use crate::reference::meet_part;
 use change_journal::World;
 use containers::Place;
@@ -15,6 +14,7 @@ use externals::External;
 use ht_tree::{Chunk, Container, ContainerKind};
 use meaning::{Budget, Frame, Stop};
 use msg_path::Scripts;
+use primitives::places::{field_place, nth_piece, pieces_at, variable_place};
 
 /// Which pieces are meant: each index is converted as soon as it is computed.
 #[cycle(run)]

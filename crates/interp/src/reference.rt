@@ -8,10 +8,6 @@ ghost use Rattle.containers.specs.Base.{base};
 ghost use Rattle.meaning.specs.Meaning.{Leads, Meets, Owns, PartMet, Picks, Seeks};
 
 use crate::expr::eval;
-use crate::objects::{
-    background_scope, background_there, background_to, card_scope, card_there, card_to,
-    object_there, part_in, scope_here,
-};
 use change_journal::World;
 use externals::External;
 use ht_grammar::Layer;
@@ -20,6 +16,10 @@ use meaning::{Budget, Frame, Stop};
 use msg_path::Scripts;
 use object_references::{PartScope, Pick, Referent, Sought, layer_meant, met_here};
 use object_table::Id;
+use primitives::objects::{
+    background_scope, background_there, background_to, card_scope, card_there, card_to,
+    object_there, part_in, scope_here,
+};
 
 /// Which of several is meant.
 #[cycle(run)]

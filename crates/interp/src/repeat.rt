@@ -8,8 +8,6 @@ ghost use Rattle.containers.specs.Base.{base};
 ghost use Rattle.meaning.specs.Meaning.{Bounds, Counts, Endless, Form, While};
 
 use crate::expr::{eval, number_value, truth_value};
-use crate::leaves::{counter, goes_on};
-use crate::places::assign;
 use crate::stmt::run_block;
 use change_journal::World;
 use externals::External;
@@ -17,6 +15,8 @@ use ht_tree::{Expr, Head, Stmt};
 use ht_values::Name;
 use meaning::{Budget, Counter, Frame, How, Stop};
 use msg_path::Scripts;
+use primitives::places::assign;
+use primitives::values::{counter, goes_on};
 
 /// `repeat`, by its head.
 #[cycle(run)]

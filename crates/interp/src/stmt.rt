@@ -9,10 +9,8 @@ ghost use Rattle.containers.specs.Base.{base};
 ghost use Rattle.meaning.specs.Meaning.{Alters, Block, DoText, Form};
 
 use crate::expr::{eval, truth_value};
-use crate::leaves::lines;
 use crate::message::{calls, send_text};
 use crate::pieces::{pieces, resolve};
-use crate::places::{declare_all, edit, put_into_it, set_property};
 use crate::reference::{lead, meet};
 use crate::repeat::repeat;
 use crate::system::go;
@@ -24,6 +22,8 @@ use ht_tree::{Chunk, Container, Destination, Expr, Exprs, Names, Ref, Stmt, Stmt
 use ht_values::{Fault, Op, Prop, Text, Where};
 use meaning::{Budget, Frame, How, Stop};
 use msg_path::Scripts;
+use primitives::places::{declare_all, edit, put_into_it, set_property};
+use primitives::values::lines;
 
 /// How statements end, a step before each.
 #[cycle(run)]

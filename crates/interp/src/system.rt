@@ -4,12 +4,7 @@ ghost use Rattle.std.specs.Prelude.{◌≡◌, ◌≤◌, IsSome};
 ghost use Rattle.containers.specs.Base.{base};
 ghost use Rattle.meaning.specs.Meaning.{Goes, Menu, System, Systems};
 
-use crate::arguments::Arguments;
 use crate::message::send;
-use crate::objects::{
-    add, closing, has_other_background, is_card_there, is_current, is_other, make,
-    new_background_messages, new_card_messages, new_layer, opening,
-};
 use change_journal::{Change, World};
 use externals::External;
 use ht_grammar::HandlerKind;
@@ -18,6 +13,11 @@ use meaning::{Budget, Frame, Item, Stop, SystemMessage};
 use msg_path::Scripts;
 use object_references::may_delete;
 use object_table::Id;
+use primitives::arguments::Arguments;
+use primitives::objects::{
+    add, closing, has_other_background, is_card_there, is_current, is_other, make,
+    new_background_messages, new_card_messages, new_layer, opening,
+};
 use structural_changes::home_of;
 
 /// A message of the system to an object; none while lockMessages is true.

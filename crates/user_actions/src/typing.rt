@@ -14,11 +14,12 @@ use containers::Edit;
 use externals::External;
 use ht_tree::Part;
 use ht_values::{Text, Where};
-use interp::{edit, field_place, field_text, find_ref};
+use interp::find_ref;
 use meaning::{Budget, Ended, Frame, Stop, SystemMessage};
 use msg_path::Scripts;
 use object_references::{Referent, met_here};
 use object_table::{Id, Kind, Stack};
+use primitives::places::{edit, field_place, field_text};
 
 /// Whether the text of a field is locked against typing.
 fn is_locked(stack: &Stack, field: Id) -> bool

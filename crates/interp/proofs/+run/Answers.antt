@@ -6,7 +6,8 @@ use Rattle.ht_tree.specs.StatementView.{stmts_of}
 use Rattle.ht_tree.specs.View.{part_of}
 use Rattle.meaning.specs.Messages.{lines_of}
 use Rattle.meaning.specs.Meaning.{Val, Vals, Form, Block, Resolves, PartMet, Along, Talks, Systems}
-use Rattle.interp.proofs.Loops.{cut_at, cut_exprs, no_exprs, deep_expr, cut_stmts, no_stmts, deep_stmt}
+use Rattle.primitives.proofs.Lists.{cut_at}
+use Rattle.interp.proofs.Loops.{cut_exprs, no_exprs, deep_expr, cut_stmts, no_stmts, deep_stmt}
 use Rattle.interp.proofs.+run.Goals as goal
 
 pub conversation::talk-returns-in-Fail-clause-meaning : goal.conversation::talk-returns-in-Fail-clause-meaning

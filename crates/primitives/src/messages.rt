@@ -24,9 +24,10 @@ use msg_path::{FoundHandler, Scripts, external_named, first_handler, is_system_m
 use object_table::{Id, Stack};
 use std::alloc::{AllocError, Global};
 
-/// The first handler on a path.
+/// The first handler of a kind and a name on a path; `None` where there is none. A script on the way that isn't in the grammar
+/// is the fault of syntax.
 #[tactic(auto, using(meaning::proofs::Rules::finds_rules))]
-pub(crate) fn find(
+pub fn find(
     stack: &Stack,
     scripts: &mut Scripts,
     path: &[Id],
@@ -43,7 +44,7 @@ pub(crate) fn find(
 }
 
 /// The frame of a handler, in which its parameters have the arguments.
-pub(crate) fn handler_frame(
+pub fn handler_frame(
     alloc: Global,
     found: &FoundHandler,
     target: Id,
@@ -82,7 +83,7 @@ fn bind(alloc: Global, frame: &mut Frame, names: &[Name], values: &[Text]) -> Re
 }
 
 /// What a value is that a handler or an external returns: that of a function, or `the result` of a command.
-pub(crate) fn returned(run: &mut Budget, kind: HandlerKind, value: Text) -> Text
+pub fn returned(run: &mut Budget, kind: HandlerKind, value: Text) -> Text
     ensures meaning { returned_by kind value run.old ≡ record { value = result; run = run.new } }
     ensures left { run.new.left ≡ run.old.left }
 {
@@ -96,7 +97,7 @@ pub(crate) fn returned(run: &mut Budget, kind: HandlerKind, value: Text) -> Text
 }
 
 /// What a handler gives by the end of its lines; `None` where it passes the message.
-pub(crate) fn outcome(run: &mut Budget, kind: HandlerKind, how: How) -> Option<Text>
+pub fn outcome(run: &mut Budget, kind: HandlerKind, how: How) -> Option<Text>
     ensures passed { result ≡ None → how ≡ How.Pass }
     ensures ended { IfSome result (λ v. ends kind how run.old ≡ Some (record { value = v; run = run.new })) }
     ensures same { result ≡ None → run.new ≡ run.old }
@@ -111,11 +112,7 @@ pub(crate) fn outcome(run: &mut Budget, kind: HandlerKind, how: How) -> Option<T
 
 /// The number of the external that a message means.
 #[tactic(auto, using(crate::proofs::Turns::is_titled))]
-pub(crate) fn external<E: External>(
-    world: &World<E>,
-    kind: HandlerKind,
-    name: &Text,
-) -> Option<usize>
+pub fn external<E: External>(world: &World<E>, kind: HandlerKind, name: &Text) -> Option<usize>
     ensures value { result ≡ external_by_name world.now.history.now.externals (calls_function kind) name.now }
     ensures there { IfSome result (λ i. i < length (base world.now.history).titles) }
 {
@@ -126,8 +123,8 @@ pub(crate) fn external<E: External>(
     external_named(world, is_function, name)
 }
 
-/// Whether a message is ignored where nothing handles it.
-pub(crate) fn is_ignored(kind: HandlerKind, name: &Text) -> bool
+/// Whether a message is ignored where nothing handles it: a message of the system is, a call of a function never.
+pub fn is_ignored(kind: HandlerKind, name: &Text) -> bool
     ensures { result ≡ ignores kind name.now }
 {
     match kind {
@@ -136,8 +133,8 @@ pub(crate) fn is_ignored(kind: HandlerKind, name: &Text) -> bool
     }
 }
 
-/// The item of the menu that the arguments of `doMenu` name.
-pub(crate) fn item_named(values: &Arguments) -> Option<Item>
+/// The item of the menu that the arguments of `doMenu` name, in any case; `None` where they don't name just one.
+pub fn item_named(values: &Arguments) -> Option<Item>
     ensures { result ≡ item_by_name values.now }
 {
     let name = values.only()?.as_slice();
@@ -157,7 +154,7 @@ pub(crate) fn item_named(values: &Arguments) -> Option<Item>
 }
 
 /// What an external is told as a conversation begins.
-pub(crate) fn start(alloc: Global, values: &Arguments) -> Result<Input, AllocError>
+pub fn start(alloc: Global, values: &Arguments) -> Result<Input, AllocError>
     ensures { IfOk result (λ i. i ≡ input.Start values.now) }
 {
     let mut texts = Texts::new(alloc);
@@ -176,9 +173,9 @@ fn push(texts: &mut Texts, text: Text) -> Result<(), AllocError>
     }
 }
 
-/// A turn of an external.
+/// A turn of an external, in the open batch. Where it is out of memory, the state at the start of the batch is kept all the same.
 #[tactic(auto, using(containers::proofs::Bases::took_keeps, containers::proofs::Bases::is_open, crate::proofs::Turns::is_there, crate::proofs::Turns::refused_keeps))]
-pub(crate) fn take_turn<E: External>(
+pub fn take_turn<E: External>(
     world: &mut World<E>,
     number: usize,
     input: &Input,

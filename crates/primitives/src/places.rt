@@ -15,8 +15,8 @@ ghost use Rattle.meaning.specs.Meaning.{CallsBack};
 ghost use Rattle.meaning.specs.Repeats.{is_over};
 ghost use Rattle.meaning.specs.Values.{Yields};
 
-use crate::leaves::short_text;
 use crate::objects::make;
+use crate::values::short_text;
 use change_journal::{Change, World};
 use chunks::{Chunk, Index};
 use containers::{Container, Edit, Place, declare, read, read_name, resolve, write};
@@ -29,7 +29,7 @@ use object_references::{Referent, field_named, set_change};
 use std::alloc::{AllocError, Global};
 
 /// The pieces from one number to another.
-pub(crate) fn pieces_at(kind: ChunkKind, from: i64, to: i64) -> Chunk
+pub fn pieces_at(kind: ChunkKind, from: i64, to: i64) -> Chunk
     ensures { result ≡ pieces_at_numbers kind from to }
 {
     Chunk {
@@ -40,7 +40,7 @@ pub(crate) fn pieces_at(kind: ChunkKind, from: i64, to: i64) -> Chunk
 }
 
 /// The one piece of an ordinal.
-pub(crate) fn nth_piece(ordinal: Ordinal, kind: ChunkKind) -> Chunk
+pub fn nth_piece(ordinal: Ordinal, kind: ChunkKind) -> Chunk
     ensures { result ≡ nth_piece_of ordinal kind }
 {
     let index = match ordinal {
@@ -64,7 +64,7 @@ pub(crate) fn nth_piece(ordinal: Ordinal, kind: ChunkKind) -> Chunk
 }
 
 /// What a name reads.
-pub(crate) fn variable<E: External>(
+pub fn variable<E: External>(
     alloc: Global,
     world: &World<E>,
     frame: &Frame,
@@ -76,7 +76,7 @@ pub(crate) fn variable<E: External>(
 }
 
 /// The place of a variable.
-pub(crate) fn variable_place<'a, E: External>(
+pub fn variable_place<'a, E: External>(
     alloc: Global,
     world: &World<E>,
     frame: &Frame,
@@ -191,9 +191,9 @@ fn it(alloc: Global) -> Result<Name, AllocError>
     Name::new(alloc, short_text(alloc, b"it")?)
 }
 
-/// Puts a text into `it`.
+/// Puts a text into `it`, in the open batch.
 #[tactic(auto, using(meaning::proofs::Rules::edits_rules))]
-pub(crate) fn put_into_it<E: External>(
+pub fn put_into_it<E: External>(
     alloc: Global,
     delimiter: u8,
     world: &mut World<E>,
@@ -208,9 +208,9 @@ pub(crate) fn put_into_it<E: External>(
     put_into(alloc, delimiter, world, frame, &it, new)
 }
 
-/// Puts the number of a turn into the variable of a repeat, where it has one.
+/// Puts the number of a turn into the variable of a repeat, where it has one, in the open batch.
 #[tactic(auto, using(meaning::proofs::Rules::assigns_rules))]
-pub(crate) fn assign<E: External>(
+pub fn assign<E: External>(
     alloc: Global,
     delimiter: u8,
     world: &mut World<E>,
@@ -247,9 +247,9 @@ fn declare_one<E: External>(
     declare(alloc, world, &mut frame.variables, name)
 }
 
-/// Names mean globals from here on.
+/// Names mean globals from here on in this handler.
 #[tactic(auto, using(meaning::proofs::Rules::declares_rules))]
-pub(crate) fn declare_all<E: External>(
+pub fn declare_all<E: External>(
     alloc: Global,
     world: &mut World<E>,
     frame: &mut Frame,
@@ -278,9 +278,9 @@ fn setting<E: External>(
     set_change(world.stack(), object, property, text)
 }
 
-/// Sets a property of an object.
+/// Sets a property of an object, in the open batch. A property that it hasn't, or a value that doesn't serve, is its first fault.
 #[tactic(auto, using(meaning::proofs::Rules::sets_rules))]
-pub(crate) fn set_property<E: External>(
+pub fn set_property<E: External>(
     world: &mut World<E>,
     object: Referent,
     property: Prop,
@@ -299,9 +299,9 @@ pub(crate) fn set_property<E: External>(
     }
 }
 
-/// Sets a global for an external, whose name has to be one of a variable.
+/// Sets a global for an external, in the open batch. A name that can't be a variable's is the fault of a bad argument.
 #[tactic(auto, using(meaning::proofs::Rules::callsback_setglobal_rules))]
-pub(crate) fn set_global<E: External>(
+pub fn set_global<E: External>(
     world: &mut World<E>,
     run: &mut Budget,
     nested: u32,
@@ -352,9 +352,9 @@ fn field_named_place<'a, E: External>(
     }
 }
 
-/// Sets a field for an external, by its name.
+/// Sets the first field of a name for an external, in the open batch; fault 3 where there is none.
 #[tactic(auto, using(meaning::proofs::Rules::callsback_setfieldbyname_rules))]
-pub(crate) fn set_field<E: External>(
+pub fn set_field<E: External>(
     world: &mut World<E>,
     run: &mut Budget,
     nested: u32,

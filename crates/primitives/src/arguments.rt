@@ -9,7 +9,7 @@ use std::marker::Model;
 
 /// Texts that are handed over with a message, in their order.
 #[derive(Drop)]
-pub(crate) struct Arguments {
+pub struct Arguments {
     items: Vec<Text>,
 }
 
@@ -23,7 +23,7 @@ impl Model for Arguments {
 
 impl Arguments {
     /// No arguments. It takes no memory.
-    pub(crate) fn new(alloc: Global) -> Arguments
+    pub fn new(alloc: Global) -> Arguments
         ensures { result ≡ [] }
     {
         Arguments {
@@ -32,7 +32,7 @@ impl Arguments {
     }
 
     /// The arguments with another at their end.
-    pub(crate) fn with(mut self, text: Text) -> Result<Arguments, AllocError>
+    pub fn with(mut self, text: Text) -> Result<Arguments, AllocError>
         ensures { IfOk result (λ a. a ≡ self ++ text ∷ []) }
     {
         self.items.push(text)?;
@@ -40,21 +40,21 @@ impl Arguments {
     }
 
     /// How many there are.
-    pub(crate) fn len(&self) -> usize
+    pub fn len(&self) -> usize
         ensures { result ≡ length self.now }
     {
         self.items.len()
     }
 
     /// The arguments as a slice.
-    pub(crate) fn as_slice(&self) -> &[Text]
+    pub fn as_slice(&self) -> &[Text]
         ensures { result.now ≡ self.now }
     {
         &self.items
     }
 
     /// The one argument, where there is just one.
-    pub(crate) fn only(&self) -> Option<&Text>
+    pub fn only(&self) -> Option<&Text>
         ensures { option_copied result ≡ only_of self.now }
     {
         match self.as_slice() {

@@ -1,5 +1,5 @@
 use Rattle.std.proofs.Common.{ℕ, length}
-use Rattle.interp.proofs.messages.+bind.Given as goal
+use Rattle.primitives.proofs.messages.+bind.Given as goal
 
 abbrev pub decreases-bind : goal.decreases-bind
 decreases-bind l = length l.names.now

@@ -4,7 +4,7 @@ use Rattle.containers.specs.Base.{base}
 use Rattle.meaning.specs.declared.end.Stop.{Stop}
 use Rattle.meaning.specs.declared.frame.Frame.{Frame}
 use Rattle.meaning.specs.Places.{DeclaresAll}
-use Rattle.interp.proofs.places.declare_all.Given as goal
+use Rattle.primitives.proofs.places.declare_all.Given as goal
 
 abbrev pub invariant-loop-name : goal.invariant-loop-name
 invariant-loop-name g l = record {

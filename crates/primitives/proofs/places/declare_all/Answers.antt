@@ -1,7 +1,7 @@
 use Rattle.std.proofs.Common.{rules, drop_of_length-le}
 use Rattle.meaning.specs.Places.{DeclaresAll}
-use Rattle.interp.proofs.Loops.{cut}
-use Rattle.interp.proofs.places.declare_all.Goals as goal
+use Rattle.primitives.proofs.Lists.{cut}
+use Rattle.primitives.proofs.places.declare_all.Goals as goal
 
 pub loop-name-preserved : goal.loop-name-preserved
 loop-name-preserved g c = record {

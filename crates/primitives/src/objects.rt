@@ -1,4 +1,4 @@
-//! Objects, as the rules find and change them.
+//! Objects, as the rules find and change them. Where no such object is there, that is fault 3.
 
 ghost use Rattle.std.specs.Prelude.{◌≡◌, ◌<◌, nat_eq, not, true, false, length, IsSome, IfOk, IfErr, OnOk, OnErr};
 ghost use Rattle.object_table.specs.Objects.{has_kind, is_card};
@@ -30,7 +30,7 @@ use structural_changes::home_of;
 
 /// The name of the object to which the message was sent.
 #[tactic(auto, using(meaning::proofs::Rules::yields_rules))]
-pub(crate) fn target_name<E: External>(
+pub fn target_name<E: External>(
     alloc: Global,
     world: &World<E>,
     frame: &Frame,
@@ -44,9 +44,9 @@ pub(crate) fn target_name<E: External>(
     }
 }
 
-/// A property of an object.
+/// A property of an object, or the fault that it has none of this name.
 #[tactic(auto, using(meaning::proofs::Rules::yields_rules))]
-pub(crate) fn property<E: External>(
+pub fn property<E: External>(
     alloc: Global,
     world: &World<E>,
     object: Referent,
@@ -62,11 +62,7 @@ pub(crate) fn property<E: External>(
 }
 
 /// How many parts of a kind there are on the current card or on its background.
-pub(crate) fn parts_here<E: External>(
-    world: &World<E>,
-    layer: Option<Layer>,
-    kind: PartKind,
-) -> usize
+pub fn parts_here<E: External>(world: &World<E>, layer: Option<Layer>, kind: PartKind) -> usize
     ensures { result ≡ length (settings.parts_here world.now.history.now.stack world.now.history.now.current layer kind) }
 {
     let scope = scope_by(world.stack(), layer_meant(layer, kind), world.current());
@@ -74,7 +70,7 @@ pub(crate) fn parts_here<E: External>(
 }
 
 /// Where a part without an owner is looked for.
-pub(crate) fn scope_here<E: External>(world: &World<E>, layer: Layer) -> PartScope
+pub fn scope_here<E: External>(world: &World<E>, layer: Layer) -> PartScope
     ensures { result ≡ references.scope_by world.now.history.now.stack layer world.now.history.now.current }
 {
     scope_by(world.stack(), layer, world.current())
@@ -82,7 +78,7 @@ pub(crate) fn scope_here<E: External>(world: &World<E>, layer: Layer) -> PartSco
 
 /// Where a part of a card is looked for.
 #[tactic(auto, using(meaning::proofs::Rules::yields_rules))]
-pub(crate) fn card_scope<E: External>(
+pub fn card_scope<E: External>(
     world: &World<E>,
     layer: Layer,
     card: &Sought,
@@ -97,7 +93,7 @@ pub(crate) fn card_scope<E: External>(
 
 /// Where a part of a background is looked for.
 #[tactic(auto, using(meaning::proofs::Rules::yields_rules))]
-pub(crate) fn background_scope<E: External>(
+pub fn background_scope<E: External>(
     world: &World<E>,
     layer: Layer,
     background: &Sought,
@@ -112,7 +108,7 @@ pub(crate) fn background_scope<E: External>(
 
 /// The part that is looked for.
 #[tactic(auto, using(meaning::proofs::Rules::yields_rules))]
-pub(crate) fn part_in<E: External>(
+pub fn part_in<E: External>(
     world: &World<E>,
     kind: PartKind,
     scope: PartScope,
@@ -128,7 +124,7 @@ pub(crate) fn part_in<E: External>(
 
 /// An object that may have been deleted.
 #[tactic(auto, using(meaning::proofs::Rules::yields_rules))]
-pub(crate) fn object_there<E: External>(world: &World<E>, object: Id) -> Result<Referent, Stop>
+pub fn object_there<E: External>(world: &World<E>, object: Id) -> Result<Referent, Stop>
     ensures { Yields (references.met_if_there world.now.history.now.stack world.now.history.now.current object) result }
 {
     match met_if_there(world.stack(), world.current(), object) {
@@ -139,7 +135,7 @@ pub(crate) fn object_there<E: External>(world: &World<E>, object: Id) -> Result<
 
 /// The card that is looked for.
 #[tactic(auto, using(meaning::proofs::Rules::yields_rules))]
-pub(crate) fn card_there<E: External>(world: &World<E>, card: &Sought) -> Result<Referent, Stop>
+pub fn card_there<E: External>(world: &World<E>, card: &Sought) -> Result<Referent, Stop>
     ensures { Yields (references.card_met world.now.history.now.stack world.now.history.now.current card.now) result }
 {
     match card_met(world.stack(), world.current(), card) {
@@ -150,7 +146,7 @@ pub(crate) fn card_there<E: External>(world: &World<E>, card: &Sought) -> Result
 
 /// The background that is looked for.
 #[tactic(auto, using(meaning::proofs::Rules::yields_rules))]
-pub(crate) fn background_there<E: External>(
+pub fn background_there<E: External>(
     world: &World<E>,
     background: &Sought,
 ) -> Result<Referent, Stop>
@@ -164,7 +160,7 @@ pub(crate) fn background_there<E: External>(
 
 /// The card to go to.
 #[tactic(auto, using(meaning::proofs::Rules::yields_rules))]
-pub(crate) fn card_to<E: External>(world: &World<E>, card: &Sought) -> Result<Id, Stop>
+pub fn card_to<E: External>(world: &World<E>, card: &Sought) -> Result<Id, Stop>
     ensures { Yields (references.card_found world.now.history.now.stack world.now.history.now.current card.now) result }
 {
     match card_found(world.stack(), world.current(), card) {
@@ -175,7 +171,7 @@ pub(crate) fn card_to<E: External>(world: &World<E>, card: &Sought) -> Result<Id
 
 /// The first card of the background to go to.
 #[tactic(auto, using(meaning::proofs::Rules::yields_rules))]
-pub(crate) fn background_to<E: External>(world: &World<E>, background: &Sought) -> Result<Id, Stop>
+pub fn background_to<E: External>(world: &World<E>, background: &Sought) -> Result<Id, Stop>
     ensures { Yields (references.first_card_found world.now.history.now.stack world.now.history.now.current background.now) result }
 {
     match first_card_found(world.stack(), world.current(), background) {
@@ -185,21 +181,21 @@ pub(crate) fn background_to<E: External>(world: &World<E>, background: &Sought) 
 }
 
 /// Whether a card is current.
-pub(crate) fn is_current<E: External>(world: &World<E>, card: Id) -> bool
+pub fn is_current<E: External>(world: &World<E>, card: Id) -> bool
     ensures { result ≡ nat_eq card world.now.history.now.current }
 {
     card == world.current()
 }
 
 /// Whether two backgrounds are different ones.
-pub(crate) fn is_other(background: Id, other: Id) -> bool
+pub fn is_other(background: Id, other: Id) -> bool
     ensures { result ≡ not (nat_eq background other) }
 {
     background != other
 }
 
 /// Whether a card is of another background than the current one.
-pub(crate) fn has_other_background<E: External>(world: &World<E>, card: Id) -> bool
+pub fn has_other_background<E: External>(world: &World<E>, card: Id) -> bool
     ensures { result ≡ differ world.now.history.now.stack world.now.history.now.current world.now.history.now.stack card }
 {
     is_other(
@@ -209,14 +205,14 @@ pub(crate) fn has_other_background<E: External>(world: &World<E>, card: Id) -> b
 }
 
 /// Whether an object is there and is a card.
-pub(crate) fn is_card_there<E: External>(world: &World<E>, card: Id) -> bool
+pub fn is_card_there<E: External>(world: &World<E>, card: Id) -> bool
     ensures { result ≡ has_kind is_card world.now.history.now.stack card }
 {
     world.fits(&Change::Current(card))
 }
 
 /// Where a new part stands.
-pub(crate) fn new_layer<E: External>(world: &World<E>, run: &Budget) -> LayerId
+pub fn new_layer<E: External>(world: &World<E>, run: &Budget) -> LayerId
     ensures { result ≡ layer_of_new world.now.history.now run.now }
 {
     if run.edit_background() {
@@ -226,9 +222,9 @@ pub(crate) fn new_layer<E: External>(world: &World<E>, run: &Budget) -> LayerId
     }
 }
 
-/// Makes a change that fits.
+/// Makes a change that fits, in the open batch. Where it is out of memory nothing has changed.
 #[tactic(auto, using(containers::proofs::Bases::made_keeps, containers::proofs::Bases::is_open))]
-pub(crate) fn make<E: External>(world: &mut World<E>, change: Change) -> Result<(), AllocError>
+pub fn make<E: External>(world: &mut World<E>, change: Change) -> Result<(), AllocError>
     requires open { IsSome (base world.old.history).start }
     requires fits { fits_state world.old.history.now change ≡ true }
     ensures ok { OnOk result (Made world.old.history world.new.history change) }
@@ -237,9 +233,9 @@ pub(crate) fn make<E: External>(world: &mut World<E>, change: Change) -> Result<
     world.make(change)
 }
 
-/// Makes objects, unless there would be too many.
+/// Makes objects, in the open batch, unless there would be too many, which is a fault.
 #[tactic(auto, using(meaning::proofs::Rules::adds_rules))]
-pub(crate) fn add<E: External>(world: &mut World<E>, change: Change) -> Result<(), Stop>
+pub fn add<E: External>(world: &mut World<E>, change: Change) -> Result<(), Stop>
     requires open { IsSome (base world.old.history).start }
     ensures meaning { Adds world.old.history change result world.new.history }
     ensures base { base world.new.history ≡ base world.old.history }
@@ -251,7 +247,7 @@ pub(crate) fn add<E: External>(world: &mut World<E>, change: Change) -> Result<(
 }
 
 /// The messages before another card becomes current.
-pub(crate) fn closing(differs: bool) -> &'static [SystemMessage]
+pub fn closing(differs: bool) -> &'static [SystemMessage]
     ensures { result.now ≡ closing_of differs }
 {
     if differs {
@@ -262,7 +258,7 @@ pub(crate) fn closing(differs: bool) -> &'static [SystemMessage]
 }
 
 /// The messages after another card became current.
-pub(crate) fn opening(differs: bool) -> &'static [SystemMessage]
+pub fn opening(differs: bool) -> &'static [SystemMessage]
     ensures { result.now ≡ opening_of differs }
 {
     if differs {
@@ -273,14 +269,14 @@ pub(crate) fn opening(differs: bool) -> &'static [SystemMessage]
 }
 
 /// The messages after a card was made.
-pub(crate) fn new_card_messages() -> &'static [SystemMessage]
+pub fn new_card_messages() -> &'static [SystemMessage]
     ensures { result.now ≡ messages_of_new_card }
 {
     &[SystemMessage::NewCard, SystemMessage::OpenCard]
 }
 
 /// The messages after a card was made with its background.
-pub(crate) fn new_background_messages() -> &'static [SystemMessage]
+pub fn new_background_messages() -> &'static [SystemMessage]
     ensures { result.now ≡ messages_of_new_background }
 {
     &[

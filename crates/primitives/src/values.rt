@@ -1,4 +1,4 @@
-//! What the rules compute beside the recursion, each call by itself: values, and parsing.
+//! Values and parsing. A call that computes or parses may also be out of memory, which is `Stop::Memory`.
 
 ghost use Rattle.std.specs.Prelude.{◌≡◌, ℕ, ℤ, pos, [], ◌∷◌, List, IfOk, length, ◌≤◌};
 ghost use Rattle.ht_values.specs.Functions.{built_in as built_in_of};
@@ -18,7 +18,7 @@ ghost use Rattle.meaning.specs.Meaning.{Meets, Val};
 ghost use Rattle.meaning.specs.State.{RunState, run_property as run_property_of};
 ghost use Rattle.meaning.specs.Repeats.{counter_of, goes_on as goes_on_of};
 ghost use Rattle.meaning.specs.Values.{Parses, Yields};
-ghost use Rattle.interp.specs.Views.{read_as};
+ghost use Rattle.primitives.specs.Views.{read_as};
 
 use crate::arguments::Arguments;
 use ht_grammar::{FunctionWord, RunProp};
@@ -33,9 +33,9 @@ use meaning::{Budget, Counter, Stop};
 use object_references::Referent;
 use std::alloc::{AllocError, Global};
 
-/// What an operator gives of two operands.
+/// What an operator gives of two operands, or its first fault.
 #[tactic(auto, using(meaning::proofs::Rules::yields_rules))]
-pub(crate) fn apply(alloc: Global, op: Op, left: &Text, right: &Text) -> Result<Text, Stop>
+pub fn apply(alloc: Global, op: Op, left: &Text, right: &Text) -> Result<Text, Stop>
     ensures { Yields (binary_of op left.now right.now) result }
 {
     match binary(alloc, op, left, right) {
@@ -45,9 +45,9 @@ pub(crate) fn apply(alloc: Global, op: Op, left: &Text, right: &Text) -> Result<
     }
 }
 
-/// What an operator gives of one operand.
+/// What an operator gives of one operand, or its fault.
 #[tactic(auto, using(meaning::proofs::Rules::yields_rules))]
-pub(crate) fn apply_one(alloc: Global, op: UnOp, operand: &Text) -> Result<Text, Stop>
+pub fn apply_one(alloc: Global, op: UnOp, operand: &Text) -> Result<Text, Stop>
     ensures { Yields (unary_of op operand.now) result }
 {
     match unary(alloc, op, operand) {
@@ -57,9 +57,9 @@ pub(crate) fn apply_one(alloc: Global, op: UnOp, operand: &Text) -> Result<Text,
     }
 }
 
-/// What a function gives of its arguments.
+/// What a function gives of its arguments, or its first fault.
 #[tactic(auto, using(meaning::proofs::Rules::yields_rules))]
-pub(crate) fn call_function(alloc: Global, function: Func, values: &Arguments) -> Result<Text, Stop>
+pub fn call_function(alloc: Global, function: Func, values: &Arguments) -> Result<Text, Stop>
     ensures { Yields (built_in_of function values.now) result }
 {
     match built_in(alloc, function, values.as_slice()) {
@@ -69,9 +69,9 @@ pub(crate) fn call_function(alloc: Global, function: Func, values: &Arguments) -
     }
 }
 
-/// What a function gives of one argument.
+/// What a function gives of one argument, or its first fault.
 #[tactic(auto, using(meaning::proofs::Rules::yields_rules))]
-pub(crate) fn call_of_one(alloc: Global, function: Func, value: Text) -> Result<Text, Stop>
+pub fn call_of_one(alloc: Global, function: Func, value: Text) -> Result<Text, Stop>
     ensures { Yields (built_in_of function (value ∷ [])) result }
 {
     let values = Arguments::new(alloc).with(value)?;
@@ -79,15 +79,15 @@ pub(crate) fn call_of_one(alloc: Global, function: Func, value: Text) -> Result<
 }
 
 /// The function that a word calls; none for `value`.
-pub(crate) fn function_named(word: FunctionWord) -> Option<Func>
+pub fn function_named(word: FunctionWord) -> Option<Func>
     ensures { result ≡ func_of word }
 {
     word.func()
 }
 
-/// The number of a text.
+/// The number of a text, or the fault that it is none. It takes no memory.
 #[tactic(auto, using(meaning::proofs::Rules::yields_rules))]
-pub(crate) fn number(text: &Text) -> Result<i64, Stop>
+pub fn number(text: &Text) -> Result<i64, Stop>
     ensures { Yields (number_of_text text.now) result }
 {
     match number_of(text) {
@@ -96,9 +96,9 @@ pub(crate) fn number(text: &Text) -> Result<i64, Stop>
     }
 }
 
-/// The truth value of a text.
+/// The truth value of a text, or the fault that it is none. It takes no memory.
 #[tactic(auto, using(meaning::proofs::Rules::yields_rules))]
-pub(crate) fn truth(text: &Text) -> Result<bool, Stop>
+pub fn truth(text: &Text) -> Result<bool, Stop>
     ensures { Yields (truth_of_text text.now) result }
 {
     match truth_of(text) {
@@ -107,8 +107,8 @@ pub(crate) fn truth(text: &Text) -> Result<bool, Stop>
     }
 }
 
-/// A count as a text.
-pub(crate) fn numeral(alloc: Global, count: usize) -> Result<Text, AllocError>
+/// A count as a text, its decimal numeral.
+pub fn numeral(alloc: Global, count: usize) -> Result<Text, AllocError>
     ensures { IfOk result (λ t. t ≡ numeral_of (pos count)) }
 {
     let mut buffer = Buffer::new();
@@ -120,7 +120,7 @@ pub(crate) fn numeral(alloc: Global, count: usize) -> Result<Text, AllocError>
 }
 
 /// A property of the run as a text.
-pub(crate) fn run_property(run: &Budget, property: RunProp) -> Result<Text, AllocError>
+pub fn run_property(run: &Budget, property: RunProp) -> Result<Text, AllocError>
     ensures { IfOk result (λ t. t ≡ run_property_of run.now property) }
 {
     match run.property(property) {
@@ -130,8 +130,8 @@ pub(crate) fn run_property(run: &Budget, property: RunProp) -> Result<Text, Allo
     }
 }
 
-/// A short text of these bytes.
-pub(crate) fn short_text(alloc: Global, bytes: &[u8]) -> Result<Text, AllocError>
+/// A text of these bytes, at most 100.
+pub fn short_text(alloc: Global, bytes: &[u8]) -> Result<Text, AllocError>
     requires { length bytes.now ≤ 100 }
     ensures { IfOk result (λ t. t ≡ bytes.now) }
 {
@@ -141,8 +141,8 @@ pub(crate) fn short_text(alloc: Global, bytes: &[u8]) -> Result<Text, AllocError
     }
 }
 
-/// A truth value as a text.
-pub(crate) fn word(alloc: Global, truth: bool) -> Result<Text, AllocError>
+/// A truth value as a text, `true` or `false`.
+pub fn word(alloc: Global, truth: bool) -> Result<Text, AllocError>
     ensures { IfOk result (λ t. t ≡ word_of truth) }
 {
     short_text(alloc, if truth { b"true" } else { b"false" })
@@ -150,7 +150,7 @@ pub(crate) fn word(alloc: Global, truth: bool) -> Result<Text, AllocError>
 
 /// What `there is` says of an object that was looked for. That there is none is an answer, any other stop isn't.
 #[tactic(auto, using(meaning::proofs::Rules::val_there_is_rules))]
-pub(crate) fn there(alloc: Global, is_no: bool, met: Result<Referent, Stop>) -> Result<Text, Stop>
+pub fn there(alloc: Global, is_no: bool, met: Result<Referent, Stop>) -> Result<Text, Stop>
     ensures { (w w1 : History) (r r1 : RunState) (f : Frame) (d : ℕ) (sought : tree.Ref) → Meets w r f d sought met w1 r1 → Val w r f d (tree.there_is is_no sought) result w1 r1 }
 {
     match met {
@@ -161,29 +161,29 @@ pub(crate) fn there(alloc: Global, is_no: bool, met: Result<Referent, Stop>) -> 
 }
 
 /// The text of a constant.
-pub(crate) fn constant_text(alloc: Global, constant: Constant) -> Result<Text, AllocError>
+pub fn constant_text(alloc: Global, constant: Constant) -> Result<Text, AllocError>
     ensures { IfOk result (λ t. t ≡ text_of_constant constant) }
 {
     short_text(alloc, constant.bytes())
 }
 
 /// The text of the constant `return`.
-pub(crate) fn return_sign(alloc: Global) -> Result<Text, AllocError>
+pub fn return_sign(alloc: Global) -> Result<Text, AllocError>
     ensures { IfOk result (λ t. t ≡ 13 ∷ []) }
 {
     short_text(alloc, b"\r")
 }
 
 /// Whether a repeat goes on that wants its condition to be so.
-pub(crate) fn goes_on(wanted: bool, truth: bool) -> bool
+pub fn goes_on(wanted: bool, truth: bool) -> bool
     ensures { result ≡ goes_on_of wanted truth }
 {
     if wanted { truth } else { !truth }
 }
 
-/// The numbers from one text to another.
+/// The numbers from one text to another, up or down; the fault of the first text that is no number. It takes no memory.
 #[tactic(auto, using(meaning::proofs::Rules::yields_rules))]
-pub(crate) fn counter(from: &Text, to: &Text, is_down: bool) -> Result<Counter, Stop>
+pub fn counter(from: &Text, to: &Text, is_down: bool) -> Result<Counter, Stop>
     ensures { Yields (counter_of from.now to.now is_down) result }
 {
     match (number_of(from), number_of(to)) {
@@ -193,9 +193,9 @@ pub(crate) fn counter(from: &Text, to: &Text, is_down: bool) -> Result<Counter, 
     }
 }
 
-/// The expression that a text is.
+/// The expression that a text is, or the fault of syntax.
 #[tactic(auto, using(meaning::proofs::Rules::parses_rules))]
-pub(crate) fn expression(alloc: Global, text: &Text) -> Result<Expr, Stop>
+pub fn expression(alloc: Global, text: &Text) -> Result<Expr, Stop>
     ensures { Parses ReadsExpr text.now result }
 {
     match parse_expr(alloc, text) {
@@ -205,9 +205,9 @@ pub(crate) fn expression(alloc: Global, text: &Text) -> Result<Expr, Stop>
     }
 }
 
-/// The lines that a text is.
+/// The lines that a text is, or the fault of syntax.
 #[tactic(auto, using(meaning::proofs::Rules::parses_rules))]
-pub(crate) fn lines(alloc: Global, text: &Text) -> Result<Stmts, Stop>
+pub fn lines(alloc: Global, text: &Text) -> Result<Stmts, Stop>
     ensures { Parses ReadsLines text.now (read_as (λ x. stmts_of x.items.items) result) }
 {
     match parse_lines(alloc, text) {
@@ -217,9 +217,9 @@ pub(crate) fn lines(alloc: Global, text: &Text) -> Result<Stmts, Stop>
     }
 }
 
-/// The message that a text is.
+/// The message that a text is, or the fault of syntax.
 #[tactic(auto, using(meaning::proofs::Rules::parses_rules))]
-pub(crate) fn message(alloc: Global, text: &Text) -> Result<Message, Stop>
+pub fn message(alloc: Global, text: &Text) -> Result<Message, Stop>
     ensures { Parses ReadsMessage text.now (read_as message_of result) }
 {
     match parse_message(alloc, text) {

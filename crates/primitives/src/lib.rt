@@ -1,0 +1,9 @@
+//! What a run of HyperTalk does between the calls of the interpreter to itself, each step by itself: values and parsing,
+//! variables and fields, objects, messages and externals. Each function is one premise of the rules of the meaning.
+#![tactic(auto)]
+
+pub mod arguments;
+pub mod messages;
+pub mod objects;
+pub mod places;
+pub mod values;
