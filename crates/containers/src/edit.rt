@@ -1,6 +1,8 @@
 //! Edits of the text of a container.
 
+ghost use Rattle.ht_values.specs.Operators.{binary as binary_of};
 ghost use Rattle.ht_values.specs.Outcome.{Gives};
+ghost use Rattle.chunks.specs.Nested.{read_within};
 ghost use Rattle.containers.specs.Edits.{edited};
 
 use chunks::{Chunk, delete_within, put_within, take_within};
@@ -34,15 +36,32 @@ impl Edit {
                 alloc, text, chunks, place, new, delimiter,
             )?)),
             Edit::Alter(op, operand) => {
-                let value = binary(
-                    alloc,
-                    op,
-                    &take_within(alloc, text, chunks, delimiter)?,
-                    &operand,
-                )?;
+                let value = altered(alloc, text, chunks, op, &operand, delimiter)?;
                 Ok(Some(put_within(alloc, text, chunks, Where::Into, value, delimiter)?))
             }
             Edit::Delete => delete_within(alloc, text, chunks, delimiter),
         }
+    }
+}
+
+/// What an operator gives of what the chunks read, and of an operand. Without chunks the text is lent, not copied.
+fn altered(
+    alloc: Global,
+    text: &Text,
+    chunks: &[Chunk],
+    op: Op,
+    operand: &Text,
+    delimiter: u8,
+) -> Result<Text, Failure>
+    ensures { Gives result (binary_of op (read_within delimiter chunks.now text.now) operand.now) }
+{
+    match chunks {
+        [] => binary(alloc, op, text, operand),
+        _ => binary(
+            alloc,
+            op,
+            &take_within(alloc, text, chunks, delimiter)?,
+            operand,
+        ),
     }
 }
