@@ -1,22 +1,25 @@
-//! The worked rows and those of the pages, each run as the program would, over memory. A line for each says whether it
-//! passed.
+//! The trees of a table of texts, then the worked rows and those of the pages, each run as the program would, over memory.
 //!
-//! `rows.txt` lists each row with `passes`, or with `waits` where it needs what isn't built yet. A row that waits
-//! and passes all the same is told, so that it can't be left in the list. The rows of the pages are their sessions;
-//! `tools/pages` writes them.
+//! Each line of standard input is a text, whose tree is printed, or `syntax`; the trees that are wanted were written by
+//! hand. `rows.txt` lists each row with `passes`, or with `waits` where it needs what isn't built yet. A line for each says
+//! whether it passed. A row that waits and passes all the same is told, so that it can't be left in the list. The rows of
+//! the pages are their sessions; `tools/pages` writes them.
 #![tactic(auto)]
 
 mod answers;
 mod row;
+mod trees;
 
 use crate::answers::first_unmet;
 use crate::row::{Row, edited, input_of, row_of};
+use crate::trees::print_tree;
 use command_line::{CliFault, cut, options_of, play_with_kit, verdict};
 use devices::{Shelf, Watched};
 use ht_values::Text;
 use std::alloc::{AllocError, Global};
+use std::fs;
+use std::io::{self, Write};
 use std::rt::Files;
-use std::{fs, io};
 
 /// What a run wrote, and how it ended.
 #[derive(Drop)]
@@ -120,7 +123,21 @@ fn report<R: Files + AllocGlobal + Print>(rt: &R, name: &str, waits: bool) -> io
     }
 }
 
-fn main(rt: HostRuntime) -> io::Result<()> {
+/// Prints the trees of the texts of standard input.
+fn print_trees(rt: &HostRuntime) -> anyhow::Result<()> {
+    let alloc = rt.alloc();
+    for line in rt.lines(alloc) {
+        let line = line?;
+        let mut answer = Vec::new(alloc);
+        print_tree(alloc, line.as_str(), &mut answer)?;
+        answer.push(b'\n')?;
+        io::writer(rt).write_all(&answer)?;
+    }
+    Ok(())
+}
+
+fn main(rt: HostRuntime) -> anyhow::Result<()> {
+    print_trees(&rt)?;
     let list = fs::read_to_string(&rt, "rows.txt")?;
     for line in list.lines() {
         if let Some((name, how)) = line.split_once(" ") {

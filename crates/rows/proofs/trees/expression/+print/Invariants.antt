@@ -1,7 +1,7 @@
 use Rattle.std.proofs.Common.{◌≤◌, ◌+◌, ◌*◌, length}
 use Rattle.ht_grammar.specs.Depth.{depth, depths, chunk_depth, which_depth, selector_depth, owner_depth, part_depth, ref_depth, count_depth}
 use Rattle.ht_tree.specs.View.{exprs_of, chunk_of, which_of, selector_of, owner_of, part_of, ref_of, count_of}
-use Rattle.parse_rows.proofs.expression.+print.Given as goal
+use Rattle.rows.proofs.trees.expression.+print.Given as goal
 
 abbrev pub decreases-print_expr : goal.decreases-print_expr
 decreases-print_expr l = 16 * depth l.expr.now + 9

@@ -1,6 +1,6 @@
 //! Containers and statements, written plainly.
 
-use crate::expression::{
+use crate::trees::expression::{
     print_chunk, print_expr, print_exprs, print_part, print_ref, print_selector, print_text,
 };
 use ht_tree::{

@@ -1,7 +1,7 @@
 use Rattle.std.proofs.Common.{◌≤◌, ◌+◌, ◌*◌, length}
 use Rattle.ht_grammar.specs.Depth.{stmt_depth, stmts_depth}
 use Rattle.ht_tree.specs.StatementView.{stmts_of}
-use Rattle.parse_rows.proofs.statement.+print_lines.Given as goal
+use Rattle.rows.proofs.trees.statement.+print_lines.Given as goal
 
 abbrev pub decreases-print_stmt : goal.decreases-print_stmt
 decreases-print_stmt l = 2 * stmt_depth l.stmt.now

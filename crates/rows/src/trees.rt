@@ -1,8 +1,14 @@
-//! A line of the input: what its text is read as, and the text.
+//! Texts and their trees. A line `KIND TEXT` says what its text is read as. In a text `|` stands for a return and `~` for the
+//! byte 0xC2, and `[`, `]` and `#` for 0xB2, 0xB3 and 0xAD. A line `nested N M` is the expression of N opening parentheses,
+//! a 1, and M closing ones.
 
-use crate::expression::{print_expr, print_part};
-use crate::script::{print_message, print_script, print_typing};
-use crate::statement::print_lines;
+mod expression;
+mod script;
+mod statement;
+
+use crate::trees::expression::{print_expr, print_part};
+use crate::trees::script::{print_message, print_script, print_typing};
+use crate::trees::statement::print_lines;
 use ht_parse::{
     ParseError, parse_expr, parse_lines, parse_message, parse_part, parse_script, parse_type,
 };
@@ -99,7 +105,7 @@ fn print_read_message(alloc: Global, text: &Text, out: &mut Vec<u8>) -> anyhow::
 }
 
 /// Prints the tree of a line's text, `syntax` where the text isn't in the grammar, or that the line's first word is none.
-pub fn print_row(alloc: Global, line: &str, out: &mut Vec<u8>) -> anyhow::Result<()> {
+pub fn print_tree(alloc: Global, line: &str, out: &mut Vec<u8>) -> anyhow::Result<()> {
     let (kind, rest) = line.split_once(" ").unwrap_or((line, ""));
     let bytes = if kind == "nested" {
         nested(alloc, rest)?

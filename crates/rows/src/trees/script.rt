@@ -1,7 +1,7 @@
 //! Scripts, messages and texts that are typed, written plainly.
 
-use crate::expression::{print_exprs, print_part, print_text};
-use crate::statement::{print_lines, print_names};
+use crate::trees::expression::{print_exprs, print_part, print_text};
+use crate::trees::statement::{print_lines, print_names};
 use ht_grammar::HandlerKind;
 use ht_tree::{Handler, Message, Script, Typing};
 use std::io::{self, Write};
