@@ -38,10 +38,17 @@ pub(crate) fn text(alloc: Global, bytes: &[u8]) -> Result<Text, Fail> {
     Ok(Text::from_slice(alloc, bytes)?)
 }
 
-fn texts(alloc: Global, all: &[Bytes]) -> Result<Texts, Fail> {
+fn push(texts: &mut Texts, text: Text) -> Result<(), Fail> {
+    match texts.push(text) {
+        Ok(()) => Ok(()),
+        Err(_) => Err("memory".into()),
+    }
+}
+
+pub(crate) fn texts(alloc: Global, all: &[&[u8]]) -> Result<Texts, Fail> {
     let mut texts = Texts::new(alloc);
     for bytes in all {
-        texts.push(text(alloc, bytes)?).map_err(|_| "memory")?;
+        push(&mut texts, text(alloc, bytes)?)?;
     }
     Ok(texts)
 }
@@ -89,6 +96,20 @@ fn has_cell<E: External>(external: &E, cell: usize, bytes: &[u8]) -> bool {
     cell < external.cell_count() && external.cell(cell).as_slice() == bytes
 }
 
+/// Whether cells that are changed have their texts from before, or those from after.
+fn have_texts<E: External>(
+    external: &E,
+    changed: &[(usize, Bytes, Bytes)],
+    is_after: bool,
+) -> bool {
+    for (cell, before, after) in changed {
+        if !has_cell(external, *cell, if is_after { after } else { before }) {
+            return false;
+        }
+    }
+    true
+}
+
 /// Whether a patch names just these cells, in order, and they have these texts now.
 fn names<E: External>(external: &E, patch: &Patch, changed: &[(usize, Bytes, Bytes)]) -> bool {
     if patch.len() != changed.len() {
@@ -99,9 +120,7 @@ fn names<E: External>(external: &E, patch: &Patch, changed: &[(usize, Bytes, Byt
             return false;
         }
     }
-    changed
-        .iter()
-        .all(|(cell, _, after)| has_cell(external, *cell, after))
+    have_texts(external, changed, true)
 }
 
 fn flip<E: External>(external: &mut E, patch: &mut Patch)
@@ -120,10 +139,7 @@ fn flips<E: External>(
     requires { IsProper (length (E.cells external.old)) patch.old }
 {
     flip(external, patch);
-    if !changed
-        .iter()
-        .all(|(cell, before, _)| has_cell(external, *cell, before))
-    {
+    if !have_texts(external, changed, false) {
         return false;
     }
     flip(external, patch);
@@ -154,6 +170,16 @@ pub(crate) fn other_turn<E: External>(
     Ok(None)
 }
 
+/// Whether each of so many cells is this text.
+fn are_all<E: External>(external: &E, cells: usize, bytes: &[u8]) -> bool {
+    for cell in 0..cells {
+        if !has_cell(external, cell, bytes) {
+            return false;
+        }
+    }
+    true
+}
+
 /// Whether an external has this name, kind and flag, cells that are all this text, and has taken no turn.
 pub(crate) fn is_new<E: External>(
     external: &E,
@@ -167,6 +193,6 @@ pub(crate) fn is_new<E: External>(
         && external.kind() == kind
         && external.is_function() == is_function
         && external.cell_count() == cells
-        && (0..cells).all(|cell| has_cell(external, cell, first))
+        && are_all(external, cells, first)
         && external.turns() == 0
 }

@@ -1,8 +1,8 @@
 //! The text tools, in boxes.
 
-use crate::conversations::{Asked, Told, Turn, is_new, other_turn, text};
-use externals::{Ask, External, Input, Texts};
-use ht_values::{Text, text_of};
+use crate::conversations::{Asked, Told, Turn, is_new, other_turn, text, texts};
+use externals::{Ask, External, Input};
+use ht_values::text_of;
 use std::alloc::Global;
 use std::test::Fail;
 use text_tools::{Replace, Table};
@@ -98,32 +98,17 @@ fn a_table_keeps_values(rt: HostRuntime) -> Result<(), Fail> {
     Ok(())
 }
 
-fn three(alloc: Global, first: Text, second: Text, third: Text) -> Result<Input, Fail> {
-    let mut args = Texts::new(alloc);
-    args.push(first).map_err(|_| "memory")?;
-    args.push(second).map_err(|_| "memory")?;
-    args.push(third).map_err(|_| "memory")?;
-    Ok(Input::Start(args))
-}
-
-fn fails<E: External>(alloc: Global, external: &mut E, input: &Input) -> Result<bool, Fail> {
-    let (ask, _) = external.turn(alloc, input)?;
-    Ok(match ask {
-        Ask::Fail => true,
-        _ => false,
-    })
+/// Whether an external that gets these arguments fails.
+fn fails<E: External>(alloc: Global, external: &mut E, arguments: &[&[u8]]) -> Result<bool, Fail> {
+    let input = Input::Start(texts(alloc, arguments)?);
+    let (ask, _) = external.turn(alloc, &input)?;
+    Ok(matches!(ask, Ask::Fail))
 }
 
 /// Whether a replacement in so many bytes fails where each becomes two.
 fn fails_to_double(alloc: Global, count: usize) -> Result<bool, Fail> {
     let long = vec![in alloc; b'a'; count]?;
-    let input = three(
-        alloc,
-        text(alloc, &long)?,
-        text(alloc, b"a")?,
-        text(alloc, b"aa")?,
-    )?;
-    fails(alloc, &mut replace(alloc)?, &input)
+    fails(alloc, &mut replace(alloc)?, &[&long, b"a", b"aa"])
 }
 
 #[test]
@@ -135,13 +120,8 @@ fn a_value_that_is_too_long_fails(rt: HostRuntime) -> Result<(), Fail> {
 }
 
 fn put<E: External>(alloc: Global, external: &mut E, key: i64) -> Result<bool, Fail> {
-    let input = three(
-        alloc,
-        text(alloc, b"put")?,
-        text_of(alloc, key)?,
-        text(alloc, b"x")?,
-    )?;
-    fails(alloc, external, &input)
+    let key = text_of(alloc, key)?;
+    fails(alloc, external, &[b"put", key.as_slice(), b"x"])
 }
 
 /// The first of the keys 0 to 99 that a table can't keep.
