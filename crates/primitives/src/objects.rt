@@ -44,7 +44,7 @@ pub fn target_name<E: External>(
     }
 }
 
-/// A property of an object, or the fault that it has none of this name.
+/// A property of an object, or the fault in its place.
 #[tactic(auto, using(meaning::proofs::Rules::yields_rules))]
 pub fn property<E: External>(
     alloc: Global,
@@ -222,7 +222,7 @@ pub fn new_layer<E: External>(world: &World<E>, run: &Budget) -> LayerId
     }
 }
 
-/// Makes a change that fits, in the open batch. Where it is out of memory nothing has changed.
+/// Makes a change that fits, in the open batch. Where it is out of memory, the history round the batch is kept all the same.
 #[tactic(auto, using(containers::proofs::Bases::made_keeps, containers::proofs::Bases::is_open))]
 pub fn make<E: External>(world: &mut World<E>, change: Change) -> Result<(), AllocError>
     requires open { IsSome (base world.old.history).start }

@@ -278,7 +278,7 @@ fn setting<E: External>(
     set_change(world.stack(), object, property, text)
 }
 
-/// Sets a property of an object, in the open batch. A property that it hasn't, or a value that doesn't serve, is its first fault.
+/// Sets a property of an object, in the open batch, or is the first fault of the property and its value.
 #[tactic(auto, using(meaning::proofs::Rules::sets_rules))]
 pub fn set_property<E: External>(
     world: &mut World<E>,
