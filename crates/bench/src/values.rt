@@ -2,7 +2,7 @@
 
 use crate::timing::{Tenths, time_of};
 use chunks::{Chunk, Index, delete, put, take};
-use ht_values::{ChunkKind, Func, LIMIT, Op, Text, Where, binary, built_in};
+use ht_values::{ChunkKind, Func, LIMIT, Op, Text, Value, Where, binary, built_in};
 use std::alloc::Global;
 use std::io;
 use std::time::Clock;
@@ -18,9 +18,10 @@ const ITEM_LENGTH: usize = 30;
 struct Given {
     items: Text,
     new: Text,
-    search: Vec<Text>,
-    left: Text,
-    right: Text,
+    search: Vec<Value>,
+    numeral: Text,
+    left: Value,
+    right: Value,
 }
 
 /// What is timed.
@@ -53,14 +54,15 @@ fn items(alloc: Global) -> anyhow::Result<Text> {
 fn inputs(alloc: Global) -> anyhow::Result<Given> {
     let items = items(alloc)?;
     let mut search = Vec::new(alloc);
-    search.push(Text::from_slice(alloc, b"a run of twenty byte")?)?;
-    search.push(items.try_clone(alloc)?)?;
+    search.push(Value::of_text(Text::from_slice(alloc, b"a run of twenty byte")?))?;
+    search.push(Value::of_text(items.try_clone(alloc)?))?;
     Ok(Given {
         items,
         new: Text::from_slice(alloc, b"new")?,
         search,
-        left: Text::from_slice(alloc, b"4611686018427387904")?,
-        right: Text::from_slice(alloc, b"-461168601842738790")?,
+        numeral: Text::from_slice(alloc, b"4611686018427387904")?,
+        left: Value::of_text(Text::from_slice(alloc, b"4611686018427387904")?),
+        right: Value::of_text(Text::from_slice(alloc, b"-461168601842738790")?),
     })
 }
 
@@ -78,9 +80,9 @@ fn made(alloc: Global, call: Call, given: &Given) -> anyhow::Result<usize> {
         Call::DeleteItem => {
             delete(alloc, &given.items, &item, b',')?.unwrap_or(Text::new(alloc))
         }
-        Call::Offset => built_in(alloc, Func::Offset, &given.search)?,
-        Call::CopyNumeral => given.left.try_clone(alloc)?,
-        Call::Sum => binary(alloc, Op::Add, &given.left, &given.right)?,
+        Call::Offset => built_in(alloc, Func::Offset, &given.search)?.into_text(alloc)?,
+        Call::CopyNumeral => given.numeral.try_clone(alloc)?,
+        Call::Sum => binary(alloc, Op::Add, &given.left, &given.right)?.into_text(alloc)?,
     };
     Ok(text.len())
 }

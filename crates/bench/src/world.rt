@@ -9,7 +9,7 @@ use crate::timing::{Tenths, nanoseconds_since, ratio};
 use change_journal::{Change, World};
 use containers::{Container, Edit, Variables, resolve, write};
 use externals::External;
-use ht_values::{Name, PartKind, Text, Where};
+use ht_values::{Name, PartKind, Text, Value, Where};
 use object_table::{LayerId, Stack};
 use plain::Plain;
 use std::alloc::Global;
@@ -152,7 +152,7 @@ fn append<E: External>(
     let Ok(place) = place else {
         anyhow::bail!("no place");
     };
-    let edit = Edit::Put(Where::After, value);
+    let edit = Edit::Put(Where::After, Value::of_text(value));
     if write(alloc, world, &mut variables, place, edit, b',').is_err() {
         anyhow::bail!("a text isn't put");
     }

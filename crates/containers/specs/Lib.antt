@@ -4,3 +4,4 @@ pub mod Edits
 pub mod Base
 pub mod Writes
 pub mod Laws
+pub mod Standing

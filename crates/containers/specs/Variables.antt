@@ -21,6 +21,10 @@ is_global v name = v.all_global || unwrap_or (option_map (λ l. is_none l.value)
 abbrev pub own_value : VariablesView → List ℕ → Option (List ℕ)
 own_value v name = option_and_then (λ l. l.value) (local_of v name)
 
+-- its text, which is empty where it has no value
+abbrev pub own_text : VariablesView → List ℕ → List ℕ
+own_text v name = unwrap_or (own_value v name) []
+
 -- the names where this one has a value of its own, or without one means a global; a new name stands last, folded
 abbrev pub with_value : List ℕ → Option (List ℕ) → List Local → List Local
 with_value name value [] = record { name = folded name; value = value } ∷ []

@@ -1,44 +1,51 @@
 //! Reading variables and containers.
 
-ghost use Rattle.std.specs.Prelude.{◌≡◌, [], Ok, Err, MatchResult, option_copied};
+ghost use Rattle.std.specs.Prelude.{◌≡◌, [], IfOk, Ok, Err, MatchOption, MatchResult, None, Some};
+ghost use Rattle.std.specs.FinMap as finite;
 ghost use Rattle.ht_values.specs.Outcome.{Gives};
 ghost use Rattle.containers.specs.Places.{read_name as read_name_of, text_in as text_in_of, whole as whole_of};
 ghost use Rattle.containers.specs.Edits.{read_at};
+ghost use Rattle.containers.specs.Standing.{standing_text};
 
+use crate::edit::part;
 use crate::place::{Holder, Place};
+use crate::standing::Standing;
 use crate::store::Store;
-use crate::variables::Variables;
-use chunks::take_within;
-use ht_values::{Failure, Fault, Name, Text};
-use std::alloc::Global;
+use crate::variables::{Met, Variables};
+use ht_values::{Failure, Fault, Name, Text, Value};
+use std::alloc::{AllocError, Global};
 
-/// What a name reads as an expression: the value of its variable, or its spelling where that has none. It takes no memory.
-pub fn read_name<'a, W: Store>(world: &'a W, variables: &'a Variables, name: &'a Name) -> &'a Text
-    ensures { result.now ≡ read_name_of (W.history world.now).now variables.now name.now }
+/// What a name reads as an expression: the value of its variable, or its spelling where that has none.
+pub fn read_name<W: Store>(
+    alloc: Global,
+    world: &W,
+    variables: &Variables,
+    name: &Name,
+) -> Result<Value, AllocError>
+    ensures { IfOk result (λ v. v ≡ read_name_of (W.history world.now).now variables.now name.now) }
 {
-    let value = if variables.is_global(name.text()) {
-        world.global(name.folded())
-    } else {
-        variables.own_value(name.text())
-    };
-    match value {
-        Some(value) => value,
-        None => name.text(),
+    match variables.met(name.text()) {
+        Met::Own(value) => value.try_clone(alloc),
+        Met::Unknown => Value::copied(alloc, name.text()),
+        Met::Global => match world.global(name.folded()) {
+            Some(text) => Value::copied(alloc, text),
+            None => Value::copied(alloc, name.text()),
+        },
     }
 }
 
-/// The whole text at a place, without its chunks, where there is one: a variable may have none. It takes no memory.
-pub fn text_in<'a, W: Store>(
+/// What stands at a place, whole, lent: a variable may have no value. It takes no memory.
+pub fn standing_in<'a, W: Store>(
     world: &'a W,
     variables: &'a Variables,
     place: &Place<'_>,
-) -> Option<&'a Text>
-    ensures { option_copied result ≡ text_in_of (W.history world.now).now variables.now place.now.holder }
+) -> Option<Standing<'a>>
+    ensures { MatchOption result (text_in_of (W.history world.now).now variables.now place.now.holder ≡ None) (λ s. text_in_of (W.history world.now).now variables.now place.now.holder ≡ Some (standing_text s)) }
 {
     match &place.holder {
-        Holder::Global(name) => world.global(name.folded()),
-        Holder::Own(name) => variables.own_value(name.text()),
-        Holder::Field(field, card) => world.stack().text(*field, *card),
+        Holder::Global(name) => Some(Standing::Text(world.global(name.folded())?)),
+        Holder::Own(name) => Some(Standing::Value(variables.own_value(name.text())?)),
+        Holder::Field(field, card) => Some(Standing::Text(world.stack().text(*field, *card)?)),
     }
 }
 
@@ -49,14 +56,14 @@ pub(crate) fn whole<'a, W: Store>(
     variables: &'a Variables,
     place: &Place<'_>,
     empty: &'a Text,
-) -> Result<&'a Text, Fault>
+) -> Result<Standing<'a>, Fault>
     requires { empty.now ≡ [] }
-    ensures { MatchResult result (λ t. whole_of (W.history world.now).now variables.now place.now.holder ≡ Ok t.now) (λ e. whole_of (W.history world.now).now variables.now place.now.holder ≡ Err e) }
+    ensures { MatchResult result (λ s. whole_of (W.history world.now).now variables.now place.now.holder ≡ Ok (standing_text s)) (λ e. whole_of (W.history world.now).now variables.now place.now.holder ≡ Err e) }
 {
-    match (text_in(world, variables, place), &place.holder) {
-        (Some(text), _) => Ok(text),
+    match (standing_in(world, variables, place), &place.holder) {
+        (Some(standing), _) => Ok(standing),
         (None, Holder::Field(_, _)) => Err(Fault::NoSuchObject),
-        (None, _) => Ok(empty),
+        (None, _) => Ok(Standing::Text(empty)),
     }
 }
 
@@ -68,10 +75,10 @@ pub fn read<W: Store>(
     variables: &Variables,
     place: &Place<'_>,
     delimiter: u8,
-) -> Result<Text, Failure>
+) -> Result<Value, Failure>
     ensures { Gives result (read_at (W.history world.now).now variables.now delimiter place.now) }
 {
     let empty = Text::new(alloc);
-    let text = whole(world, variables, place, &empty)?;
-    Ok(take_within(alloc, text, &place.chunks, delimiter)?)
+    let standing = whole(world, variables, place, &empty)?;
+    part(alloc, standing, &place.chunks, delimiter)
 }

@@ -1,10 +1,19 @@
 //! The variables of a handler that runs, or of a typed line.
 
-ghost use Rattle.std.specs.Prelude.{◌≡◌, ◌<◌, [], true, false, length, OnOk, OnErr, IfSome, option_copied, find, position, slice_index_or, slice_set, Some, None};
+ghost use Rattle.std.specs.Prelude.{◌≡◌, ◌<◌, ℕ, List, [], true, false, length, Err, IfErr, OnOk, OnErr, IfSome, Option, option_copied, find, position, slice_index_or, slice_set, unwrap_or, Some, None};
+ghost use Rattle.ht_values.specs.Outcome.{Gives};
 ghost use Rattle.ht_values.specs.Text.{same};
-ghost use Rattle.containers.specs.Variables.{declared, local_of, is_global, own_value, with_local};
+ghost use Rattle.change_journal.specs.History.{History};
+ghost use Rattle.containers.specs.Edits.{edited};
+ghost use Rattle.containers.specs.Places.{own};
+ghost use Rattle.containers.specs.Variables.{declared, local_of, is_global, own_text, own_value, with_local};
+ghost use Rattle.containers.specs.Writes.{Writes};
+ghost use Rattle.containers.specs.Standing.{IsMet};
 
-use ht_values::Text;
+use crate::edit::Edit;
+use crate::standing::Standing;
+use chunks::Chunk;
+use ht_values::{Failure, Text, Value};
 use std::alloc::{AllocError, Global};
 use std::marker::Model;
 
@@ -12,7 +21,7 @@ use std::marker::Model;
 #[derive(Drop)]
 pub(crate) struct Local {
     pub name: Text,
-    pub value: Option<Text>,
+    pub value: Option<Value>,
 }
 
 impl Local {
@@ -21,6 +30,14 @@ impl Local {
     {
         self.name.same(name)
     }
+}
+
+/// What a name means: a global, a variable of the handler's own with a value, or one that has none.
+#[derive(Clone, Copy)]
+pub(crate) enum Met<'a> {
+    Global,
+    Own(&'a Value),
+    Unknown,
 }
 
 /// The variables of a handler, in the order in which their names came, and the names that mean globals there; or those of
@@ -78,8 +95,24 @@ impl Variables {
             }
     }
 
+    /// What a name means, found by one look over the names.
+    pub(crate) fn met(&self, name: &Text) -> Met<'_>
+        ensures { IsMet self.now name.now result }
+    {
+        if self.all_global {
+            return Met::Global;
+        }
+        match self.local(name) {
+            Some(local) => match &local.value {
+                Some(value) => Met::Own(value),
+                None => Met::Global,
+            },
+            None => Met::Unknown,
+        }
+    }
+
     /// The value of a variable of the handler's own, if it has one.
-    pub(crate) fn own_value(&self, name: &Text) -> Option<&Text>
+    pub(crate) fn own_value(&self, name: &Text) -> Option<&Value>
         ensures { option_copied result ≡ own_value self.now name.now }
     {
         self.local(name)?.value.as_ref()
@@ -87,7 +120,12 @@ impl Variables {
 
     /// Gives a name a value of its own, or none: then it means a global from here on. Where memory was refused nothing
     /// changes.
-    pub fn set(&mut self, alloc: Global, name: &Text, value: Option<Text>) -> Result<(), AllocError>
+    pub fn set(
+        &mut self,
+        alloc: Global,
+        name: &Text,
+        value: Option<Value>,
+    ) -> Result<(), AllocError>
         ensures ok { OnOk result (self.new ≡ with_local self.old name.now value) }
         ensures err { OnErr result (self.new ≡ self.old) }
     {
@@ -99,6 +137,39 @@ impl Variables {
             }
         }
         Ok(())
+    }
+
+    /// Edits a variable of the handler's own, which is looked for once: one without a value is empty. After a fault, and where
+    /// it is out of memory, nothing has changed.
+    pub(crate) fn edit(
+        &mut self,
+        alloc: Global,
+        name: &Text,
+        edit: Edit,
+        chunks: &[Chunk],
+        delimiter: u8,
+    ) -> Result<(), Failure>
+        ensures ok { OnOk result ((h : History) → Writes h self.old (own name.now) (edited delimiter chunks.now edit (own_text self.old name.now)) h self.new) }
+        ensures fault { IfErr result (λ e. Gives {A = Option (List ℕ)} (Err e) (edited delimiter chunks.now edit (own_text self.old name.now))) }
+        ensures err { OnErr result (self.new ≡ self.old) }
+    {
+        match number_of(&self.locals, name) {
+            Some(i) => {
+                if let Some(value) = edited_at(alloc, &self.locals, i, edit, chunks, delimiter)? {
+                    set_value(&mut self.locals, i, Some(value));
+                }
+                Ok(())
+            }
+            None => match edit.edited(
+                alloc,
+                Standing::Text(&Text::new(alloc)),
+                chunks,
+                delimiter,
+            )? {
+                Some(value) => Ok(self.set(alloc, name, Some(value))?),
+                None => Ok(()),
+            },
+        }
     }
 
     /// A name means a global from here on. Where memory was refused nothing changes.
@@ -121,10 +192,28 @@ fn number_of(locals: &[Local], name: &Text) -> Option<usize>
     locals.iter().position(|local| local.is_named(name))
 }
 
-fn set_value(locals: &mut Vec<Local>, i: usize, value: Option<Text>)
+fn set_value(locals: &mut Vec<Local>, i: usize, value: Option<Value>)
     requires { i < length locals.old.items }
     ensures { (other : Local) → locals.new.items ≡ slice_set locals.old.items i (record (slice_index_or locals.old.items i other) { value = value }) }
 {
     let local = &mut locals[i];
     local.value = value;
+}
+
+/// What an edit makes of the value at a place; of one that isn't there, as of an empty one.
+fn edited_at(
+    alloc: Global,
+    locals: &[Local],
+    i: usize,
+    edit: Edit,
+    chunks: &[Chunk],
+    delimiter: u8,
+) -> Result<Option<Value>, Failure>
+    requires { i < length locals.now }
+    ensures { (other : Local) → Gives result (edited delimiter chunks.now edit (unwrap_or (slice_index_or locals.now i other).value [])) }
+{
+    match &locals[i].value {
+        Some(value) => edit.edited(alloc, Standing::Value(value), chunks, delimiter),
+        None => edit.edited(alloc, Standing::Text(&Text::new(alloc)), chunks, delimiter),
+    }
 }

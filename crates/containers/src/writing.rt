@@ -1,62 +1,100 @@
 //! Writing containers.
 
-ghost use Rattle.std.specs.Prelude.{◌≡◌, List, ℕ, Option, Some, IsSome, IsOk, OnOk, OnErr, IfErr, Ok, Err};
-ghost use Rattle.ht_values.specs.Outcome.{Gives};
+ghost use Rattle.std.specs.Prelude.{◌≡◌, List, ℕ, [], Option, Some, IsSome, unwrap_or, OnOk, OnErr, IfErr, Err};
+ghost use Rattle.std.specs.FinMap as finite;
+ghost use Rattle.std.specs.Option.{ok_or};
+ghost use Rattle.ht_values.specs.declared.fault.Fault.TheVariants.{NoSuchObject};
+ghost use Rattle.ht_values.specs.Outcome.{Gives, and_then};
+ghost use Rattle.ht_values.specs.Text.{folded};
+ghost use Rattle.object_table.specs.PartContents.{text_at};
+ghost use Rattle.journal_entries.specs.declared.change.Change.TheVariants as made_change;
+ghost use Rattle.change_journal.specs.Rising.{Made};
 ghost use Rattle.containers.specs.Base.{base};
-ghost use Rattle.containers.specs.Edits.{due};
-ghost use Rattle.containers.specs.Places.{whole as whole_of};
+ghost use Rattle.containers.specs.Edits.{due, edited as edited_text};
 ghost use Rattle.containers.specs.Writes.{Declares, Writes};
 
 use crate::edit::Edit;
 use crate::place::{Holder, Place};
-use crate::reading::whole;
+use crate::standing::Standing;
 use crate::store::Store;
 use crate::variables::Variables;
 use change_journal::Change;
-use ht_values::{Failure, Name, Text};
+use chunks::Chunk;
+use ht_values::{Failure, Fault, Name, Text, Value};
+use object_table::Id;
 use std::alloc::{AllocError, Global};
 
-/// What an edit makes of the text of a container; nothing where it changes nothing.
-fn edited<W: Store>(
+/// What an edit makes of a global: one without a value is empty.
+fn global_edited<W: Store>(
     alloc: Global,
     world: &W,
-    variables: &Variables,
-    place: &Place<'_>,
+    name: &Name,
     edit: Edit,
+    chunks: &[Chunk],
     delimiter: u8,
-) -> Result<Option<Text>, Failure>
-    ensures due { Gives result (due (W.history world.now).now variables.now delimiter place.now edit) }
-    ensures there { OnOk result (IsOk (whole_of (W.history world.now).now variables.now place.now.holder)) }
+) -> Result<Option<Value>, Failure>
+    ensures { Gives result (edited_text delimiter chunks.now edit (unwrap_or (finite.get (W.history world.now).now.globals (folded name.now)) [])) }
 {
-    let empty = Text::new(alloc);
-    let text = whole(world, variables, place, &empty)?;
-    edit.edited(alloc, text, &place.chunks, delimiter)
+    match world.global(name.folded()) {
+        Some(text) => edit.edited(alloc, Standing::Text(text), chunks, delimiter),
+        None => edit.edited(alloc, Standing::Text(&Text::new(alloc)), chunks, delimiter),
+    }
 }
 
-/// Puts a text at a place, whole.
-#[tactic(auto, using(crate::proofs::Rules::writes_rules, crate::proofs::Bases::made_keeps, crate::proofs::Bases::is_open, ht_values::proofs::Folding::folded_is_folded))]
-fn put<W: Store>(
+/// What an edit makes of a text of a field, or that it isn't there.
+fn field_edited<W: Store>(
+    alloc: Global,
+    world: &W,
+    field: Id,
+    card: Id,
+    edit: Edit,
+    chunks: &[Chunk],
+    delimiter: u8,
+) -> Result<Option<Value>, Failure>
+    ensures due { Gives result (and_then (ok_or (text_at (W.history world.now).now.stack field card) NoSuchObject) (λ t. edited_text delimiter chunks.now edit t)) }
+    ensures there { OnOk result (IsSome (text_at (W.history world.now).now.stack field card)) }
+{
+    match world.stack().text(field, card) {
+        Some(text) => edit.edited(alloc, Standing::Text(text), chunks, delimiter),
+        None => Err(Failure::Fault(Fault::NoSuchObject)),
+    }
+}
+
+/// Puts a value into a global.
+#[tactic(auto, using(crate::proofs::Bases::made_keeps, crate::proofs::Bases::is_open, ht_values::proofs::Folding::folded_is_folded))]
+fn put_into_global<W: Store>(
     alloc: Global,
     world: &mut W,
-    variables: &mut Variables,
-    place: Place<'_>,
-    text: Text,
+    name: &Name,
+    value: Value,
 ) -> Result<(), AllocError>
-    requires open { IsSome (base (W.history world.old)).start }
-    requires there { IsOk (whole_of (W.history world.old).now variables.old place.holder) }
-    ensures ok { OnOk result (Writes (W.history world.old) variables.old place.entry.holder (Ok (Some text)) (W.history world.new) variables.new) }
-    ensures err { OnErr result ((W.history world.new ≡ W.history world.old) × (variables.new ≡ variables.old)) }
+    requires { IsSome (base (W.history world.old)).start }
+    ensures ok { OnOk result (Made (W.history world.old) (W.history world.new) (made_change.Global (folded name.now) (Some value))) }
+    ensures err { OnErr result (W.history world.new ≡ W.history world.old) }
     ensures base { base (W.history world.new) ≡ base (W.history world.old) }
 {
-    let Place { holder, chunks: _ } = place;
-    match holder {
-        Holder::Global(name) => {
-            let name = name.folded().try_clone(alloc)?;
-            world.make(Change::Global(name, Some(text)))
-        }
-        Holder::Own(name) => variables.set(alloc, name.text(), Some(text)),
-        Holder::Field(field, card) => world.make(Change::FieldText(field, card, text)),
-    }
+    let name = name.folded().try_clone(alloc)?;
+    let text = value.into_text(alloc)?;
+    world.make(Change::Global(name, Some(text)))
+}
+
+/// Puts a value into a text of a field.
+#[tactic(auto, using(crate::proofs::Bases::made_keeps, crate::proofs::Bases::is_open))]
+fn put_into_field<W: Store>(
+    alloc: Global,
+    world: &mut W,
+    field: Id,
+    card: Id,
+    value: Value,
+) -> Result<(), AllocError>
+    requires open { IsSome (base (W.history world.old)).start }
+    requires there { IsSome (text_at (W.history world.old).now.stack field card) }
+    ensures ok { OnOk result (Made (W.history world.old) (W.history world.new) (made_change.FieldText field card value)) }
+    ensures err { OnErr result (W.history world.new ≡ W.history world.old) }
+    ensures base { base (W.history world.new) ≡ base (W.history world.old) }
+{
+    let text = value.into_text(alloc)?;
+    world.make(Change::FieldText(field, card, text))
 }
 
 /// Edits a container in the open batch: a global and a text of a field by a change of the world, a variable of the
@@ -77,9 +115,21 @@ pub fn write<W: Store>(
     ensures err { OnErr result ((W.history world.new ≡ W.history world.old) × (variables.new ≡ variables.old)) }
     ensures base { base (W.history world.new) ≡ base (W.history world.old) }
 {
-    match edited(alloc, world, variables, &place, edit, delimiter)? {
-        Some(text) => Ok(put(alloc, world, variables, place, text)?),
-        None => Ok(()),
+    let Place { holder, chunks } = place;
+    match holder {
+        Holder::Own(name) => variables.edit(alloc, name.text(), edit, &chunks, delimiter),
+        Holder::Global(name) => {
+            match global_edited(alloc, world, name, edit, &chunks, delimiter)? {
+                Some(value) => Ok(put_into_global(alloc, world, name, value)?),
+                None => Ok(()),
+            }
+        }
+        Holder::Field(field, card) => {
+            match field_edited(alloc, world, field, card, edit, &chunks, delimiter)? {
+                Some(value) => Ok(put_into_field(alloc, world, field, card, value)?),
+                None => Ok(()),
+            }
+        }
     }
 }
 

@@ -7,4 +7,5 @@ mod Powers
 mod ReadBack
 mod Sames
 mod Searches
+mod Spellings
 mod Trims

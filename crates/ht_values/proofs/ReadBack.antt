@@ -12,6 +12,7 @@ use Rattle.std.proofs.lemmas.Str.Parse.{digit_at, digit_from_value}
 use Rattle.ht_values.specs.declared.fault.Fault.TheVariants.{NotANumber, OutOfRange}
 use Rattle.ht_values.specs.Laws.{NumeralsReadBack}
 use Rattle.ht_values.specs.Number.{are_digits, is_in_range, is_space, number_of, ranged, spelled, trimmed, without_front_spaces}
+use Rattle.ht_values.specs.Text.{numeral}
 
 -- a text whose first and last bytes are no spaces stays as it is
 kept : (b : ℕ) (bs : List ℕ) → b ≢ 32 → get_or (b ∷ bs) (length bs) 0 ≢ 32 → trimmed (b ∷ bs) ≡ b ∷ bs
@@ -60,12 +61,18 @@ module _ (c : ℕ) (cs : List ℕ) (digits : AllDigits 10 (c ∷ cs)) where
       ap (λ v. if are_digits (if v then drop 1 t else t) then ranged (if v then neg_ℤ (pos (digits_value 10 (drop 1 t))) else pos (digits_value 10 t)) else Err NotANumber) no_minus
       ∙ ap (λ v. if v then ranged (pos (digits_value 10 t)) else Err NotANumber) are_all
 
+  plain_trimmed : spelled (trimmed (c ∷ cs)) ≡ ranged (pos (digits_value 10 (c ∷ cs)))
+  plain_trimmed = ap spelled trimmed_digits ∙ plain_spelled
+
   plain : number_of (c ∷ cs) ≡ ranged (pos (digits_value 10 (c ∷ cs)))
   unfolding number_of
   plain = ap (λ inner. if length inner == 0 then Ok (pos 0) else spelled inner) trimmed_digits ∙ some_value (length cs) (Ok (pos 0)) (spelled (c ∷ cs)) ∙ plain_spelled
 
   signed_spelled : spelled (45 ∷ c ∷ cs) ≡ ranged (neg_ℤ (pos (digits_value 10 (c ∷ cs))))
   signed_spelled = ap (λ v. if v then ranged (neg_ℤ (pos (digits_value 10 (c ∷ cs)))) else Err NotANumber) are_all
+
+  signed_trimmed : spelled (trimmed (45 ∷ c ∷ cs)) ≡ ranged (neg_ℤ (pos (digits_value 10 (c ∷ cs))))
+  signed_trimmed = ap spelled (kept 45 (c ∷ cs) (λ e. omega arith) last_digit) ∙ signed_spelled
 
   signed : number_of (45 ∷ c ∷ cs) ≡ ranged (neg_ℤ (pos (digits_value 10 (c ∷ cs))))
   unfolding number_of
@@ -80,6 +87,14 @@ plain_of (c ∷ cs) some digits = plain c cs digits
 signed_of : (ds : List ℕ) → 0 < length ds → AllDigits 10 ds → number_of (45 ∷ ds) ≡ ranged (neg_ℤ (pos (digits_value 10 ds)))
 signed_of [] some digits = absurd (omega arith)
 signed_of (c ∷ cs) some digits = signed c cs digits
+
+plain_trimmed_of : (ds : List ℕ) → 0 < length ds → AllDigits 10 ds → spelled (trimmed ds) ≡ ranged (pos (digits_value 10 ds))
+plain_trimmed_of [] some digits = absurd (omega arith)
+plain_trimmed_of (c ∷ cs) some digits = plain_trimmed c cs digits
+
+signed_trimmed_of : (ds : List ℕ) → 0 < length ds → AllDigits 10 ds → spelled (trimmed (45 ∷ ds)) ≡ ranged (neg_ℤ (pos (digits_value 10 ds)))
+signed_trimmed_of [] some digits = absurd (omega arith)
+signed_trimmed_of (c ∷ cs) some digits = signed_trimmed c cs digits
 
 within : (z : ℤ) → is_in_range z ≡ true → ranged z ≡ Ok z
 within z h = ap (λ v. if v then Ok z else Err OutOfRange) h
@@ -96,3 +111,14 @@ numerals_read_back (negsuc n) h =
     let small : n < 2 ^ 63 = below n h in
     let d = decimal_is_IsNumeral (suc n) (omega arith) in
     signed_of (decimal (suc n)) d.0.0 d.0.1 ∙ ap (λ m. ranged (neg_ℤ (pos m))) d.1 ∙ within (negsuc n) h
+
+-- it is a numeral
+pub spelled_back : (z : ℤ) → is_in_range z ≡ true → spelled (trimmed (numeral z)) ≡ Ok z
+spelled_back (pos n) h =
+    let small : n < 2 ^ 63 = below n h in
+    let d = decimal_is_IsNumeral n (omega arith) in
+    plain_trimmed_of (decimal n) d.0.0 d.0.1 ∙ ap (λ m. ranged (pos m)) d.1 ∙ within (pos n) h
+spelled_back (negsuc n) h =
+    let small : n < 2 ^ 63 = below n h in
+    let d = decimal_is_IsNumeral (suc n) (omega arith) in
+    signed_trimmed_of (decimal (suc n)) d.0.0 d.0.1 ∙ ap (λ m. ranged (neg_ℤ (pos m))) d.1 ∙ within (negsuc n) h

@@ -1,5 +1,5 @@
 -- Texts that are the same.
-use Rattle.std.proofs.Common.{◌≡◌, sym, ◌∙◌, ap, ℕ, Bool, cond, List}
+use Rattle.std.proofs.Common.{◌≡◌, ap, ℕ, Bool, cond, List}
 use Rattle.std.specs.Prelude.{IsTrue, ◌↔◌}
 use Rattle.std.proofs.lemmas.Bool.{false_from_ne_true}
 use Rattle.std.proofs.lemmas.Bool.Decides.{same_from_decides}
@@ -9,10 +9,9 @@ use Rattle.ht_values.specs.Number.{value_of}
 use Rattle.ht_values.specs.Operators.{are_equal, are_numerals}
 use Rattle.ht_values.specs.Text.{Same, folded, same}
 
-same_by : (r : Bool) (a b : List ℕ) → (IsTrue r ↔ Same a b) → r ≡ same a b
+pub same_by : (r : Bool) (a b : List ℕ) → (IsTrue r ↔ Same a b) → r ≡ same a b
 same_by r a b h = same_from_decides r (same a b) h (bytes_eq-Decides (folded a) (folded b))
 
 -- where one isn't a numeral, those that are equal are the same
-pub equal_as_texts : (r : Bool) (a b : List ℕ) → ¬ (IsTrue (are_numerals a b)) → (IsTrue r ↔ Same a b) → r ≡ are_equal a b
-equal_as_texts r a b none h =
-    same_by r a b h ∙ sym (ap (λ v. cond v (int_eq (value_of a) (value_of b)) (same a b)) (false_from_ne_true (are_numerals a b) none))
+pub equal_as_texts : (a b : List ℕ) → ¬ (IsTrue (are_numerals a b)) → are_equal a b ≡ same a b
+equal_as_texts a b none = ap (λ v. cond v (int_eq (value_of a) (value_of b)) (same a b)) (false_from_ne_true (are_numerals a b) none)

@@ -6,4 +6,5 @@ pub mod Number
 pub mod Operators
 pub mod Outcome
 pub mod Search
+pub mod Spelling
 pub mod Text

@@ -1,4 +1,4 @@
-//! Arithmetic on the numbers of texts: the left operand is converted first.
+//! Arithmetic on the numbers of values: the left operand is converted first.
 
 ghost use Rattle.std.specs.Prelude.{◌≡◌, ◌≤◌, ◌+ℤ◌, ◌-ℤ◌, ◌*ℤ◌, neg_ℤ, pos};
 ghost use Rattle.std.specs.Int.{int_pow};
@@ -7,41 +7,40 @@ ghost use Rattle.ht_values.specs.Operators.{on_numbers, exact_quotient as exact_
 ghost use Rattle.ht_values.specs.Outcome.{and_then};
 
 use crate::fault::Fault;
-use crate::number::number_of;
-use crate::text::Text;
+use crate::value::Value;
 
 /// `-x`.
-pub(crate) fn negated(operand: &Text) -> Result<i64, Fault>
+pub(crate) fn negated(operand: &Value) -> Result<i64, Fault>
     ensures { result ≡ and_then (number_of_text operand.now) (λ x. ranged (neg_ℤ x)) }
 {
-    let x = number_of(operand)?;
+    let x = operand.number()?;
     x.checked_neg().ok_or(Fault::OutOfRange)
 }
 
 /// `x + y`.
-pub(crate) fn sum(left: &Text, right: &Text) -> Result<i64, Fault>
+pub(crate) fn sum(left: &Value, right: &Value) -> Result<i64, Fault>
     ensures { result ≡ on_numbers (λ x y. ranged (x +ℤ y)) left.now right.now }
 {
-    let x = number_of(left)?;
-    let y = number_of(right)?;
+    let x = left.number()?;
+    let y = right.number()?;
     x.checked_add(y).ok_or(Fault::OutOfRange)
 }
 
 /// `x - y`.
-pub(crate) fn difference(left: &Text, right: &Text) -> Result<i64, Fault>
+pub(crate) fn difference(left: &Value, right: &Value) -> Result<i64, Fault>
     ensures { result ≡ on_numbers (λ x y. ranged (x -ℤ y)) left.now right.now }
 {
-    let x = number_of(left)?;
-    let y = number_of(right)?;
+    let x = left.number()?;
+    let y = right.number()?;
     x.checked_sub(y).ok_or(Fault::OutOfRange)
 }
 
 /// `x * y`.
-pub(crate) fn product(left: &Text, right: &Text) -> Result<i64, Fault>
+pub(crate) fn product(left: &Value, right: &Value) -> Result<i64, Fault>
     ensures { result ≡ on_numbers (λ x y. ranged (x *ℤ y)) left.now right.now }
 {
-    let x = number_of(left)?;
-    let y = number_of(right)?;
+    let x = left.number()?;
+    let y = right.number()?;
     x.checked_mul(y).ok_or(Fault::OutOfRange)
 }
 
@@ -67,11 +66,11 @@ fn cut(x: i64, y: i64) -> Result<i64, Fault>
 }
 
 /// `x / y`, which is exact or `NotExact`.
-pub(crate) fn quotient(left: &Text, right: &Text) -> Result<i64, Fault>
+pub(crate) fn quotient(left: &Value, right: &Value) -> Result<i64, Fault>
     ensures { result ≡ on_numbers exact_quotient_of left.now right.now }
 {
-    let x = number_of(left)?;
-    let y = number_of(right)?;
+    let x = left.number()?;
+    let y = right.number()?;
     if rest_of(x, y)? == 0 {
         cut(x, y)
     } else {
@@ -80,20 +79,20 @@ pub(crate) fn quotient(left: &Text, right: &Text) -> Result<i64, Fault>
 }
 
 /// `x div y`.
-pub(crate) fn cut_quotient(left: &Text, right: &Text) -> Result<i64, Fault>
+pub(crate) fn cut_quotient(left: &Value, right: &Value) -> Result<i64, Fault>
     ensures { result ≡ on_numbers cut_quotient_of left.now right.now }
 {
-    let x = number_of(left)?;
-    let y = number_of(right)?;
+    let x = left.number()?;
+    let y = right.number()?;
     cut(x, y)
 }
 
 /// `x mod y`.
-pub(crate) fn remainder(left: &Text, right: &Text) -> Result<i64, Fault>
+pub(crate) fn remainder(left: &Value, right: &Value) -> Result<i64, Fault>
     ensures { result ≡ on_numbers remainder_of left.now right.now }
 {
-    let x = number_of(left)?;
-    let y = number_of(right)?;
+    let x = left.number()?;
+    let y = right.number()?;
     rest_of(x, y)
 }
 
@@ -127,10 +126,10 @@ fn raised(base: i64, exponent: i64) -> Result<i64, Fault>
 }
 
 /// `x ^ y`.
-pub(crate) fn power(left: &Text, right: &Text) -> Result<i64, Fault>
+pub(crate) fn power(left: &Value, right: &Value) -> Result<i64, Fault>
     ensures { result ≡ on_numbers power_of left.now right.now }
 {
-    let base = number_of(left)?;
-    let exponent = number_of(right)?;
+    let base = left.number()?;
+    let exponent = right.number()?;
     raised(base, exponent)
 }

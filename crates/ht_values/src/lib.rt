@@ -1,6 +1,7 @@
 //! Texts, the values of HyperTalk, and the faults that end a command.
 #![tactic(auto)]
 
+mod applied;
 mod arithmetic;
 mod comparison;
 mod failure;
@@ -17,6 +18,7 @@ mod text;
 mod value;
 mod word;
 
+pub use applied::{binary, unary};
 pub use failure::Failure;
 pub use fault::{Fault, TextError};
 pub use function::built_in;
@@ -24,10 +26,10 @@ pub use join::joined;
 pub use law::{
     div_and_mod_divide, numerals_read_back, places_are_first, texts_are_ordered, values_are_ordered,
 };
-pub use logic::truth_of;
+pub use logic::{in_word, truth_of};
 pub use name::Name;
 pub use number::{number_of, numeral, without_front_spaces};
 pub use operator::{Func, Op, UnOp, ValueType};
 pub use text::{LIMIT, Text, law_of_text, text_of};
-pub use value::{binary, in_word, unary};
+pub use value::{Spelling, Value, law_of_value};
 pub use word::{ChunkKind, PartKind, Prop, Where};

@@ -1,11 +1,14 @@
 //! Truth values, and how they are spelled.
 
-ghost use Rattle.std.specs.Prelude.{◌≡◌, ◌&&◌, ◌||◌, not, Ok};
-ghost use Rattle.ht_values.specs.Operators.{on_truths, truth_of as truth_of_text};
-ghost use Rattle.ht_values.specs.Outcome.{and_then};
+ghost use Rattle.std.specs.Prelude.{◌≡◌, ◌&&◌, ◌||◌, not, IfOk, Ok};
+ghost use Rattle.ht_values.specs.Operators.{on_truths, truth_of as truth_of_text, word_of};
+ghost use Rattle.ht_values.specs.Outcome.{Gives, and_then};
 
+use crate::failure::Failure;
 use crate::fault::Fault;
 use crate::text::Text;
+use crate::value::Value;
+use std::alloc::{AllocError, Global};
 
 /// The truth value of a text that is the same as `true` or `false`; else `NotLogical`.
 pub fn truth_of(text: &Text) -> Result<bool, Fault>
@@ -21,28 +24,46 @@ pub fn truth_of(text: &Text) -> Result<bool, Fault>
     }
 }
 
+/// A truth value as a text, `true` or `false`.
+pub(crate) fn word_text(alloc: Global, truth: bool) -> Result<Text, AllocError>
+    ensures { IfOk result (λ t. t ≡ word_of truth) }
+{
+    let word: &[u8] = if truth { b"true" } else { b"false" };
+    match Text::from_vec(Vec::from_slice(alloc, word)?) {
+        Ok(text) => Ok(text),
+        Err(_) => unreachable!(),
+    }
+}
+
+/// A truth value as a text, `true` or `false`; `Memory` where a growth was refused.
+pub fn in_word(alloc: Global, truth: bool) -> Result<Text, Failure>
+    ensures { Gives result (Ok (word_of truth)) }
+{
+    Ok(word_text(alloc, truth)?)
+}
+
 /// Whether both are true. Both are converted, the left one first.
-pub(crate) fn conjunction(left: &Text, right: &Text) -> Result<bool, Fault>
+pub(crate) fn conjunction(left: &Value, right: &Value) -> Result<bool, Fault>
     ensures { result ≡ on_truths (λ x y. x && y) left.now right.now }
 {
-    let x = truth_of(left)?;
-    let y = truth_of(right)?;
+    let x = left.truth()?;
+    let y = right.truth()?;
     Ok(x && y)
 }
 
 /// Whether one is true. Both are converted, the left one first.
-pub(crate) fn disjunction(left: &Text, right: &Text) -> Result<bool, Fault>
+pub(crate) fn disjunction(left: &Value, right: &Value) -> Result<bool, Fault>
     ensures { result ≡ on_truths (λ x y. x || y) left.now right.now }
 {
-    let x = truth_of(left)?;
-    let y = truth_of(right)?;
+    let x = left.truth()?;
+    let y = right.truth()?;
     Ok(x || y)
 }
 
 /// Whether it isn't true.
-pub(crate) fn negation(operand: &Text) -> Result<bool, Fault>
+pub(crate) fn negation(operand: &Value) -> Result<bool, Fault>
     ensures { result ≡ and_then (truth_of_text operand.now) (λ x. Ok (not x)) }
 {
-    let x = truth_of(operand)?;
+    let x = operand.truth()?;
     Ok(!x)
 }

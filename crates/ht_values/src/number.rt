@@ -1,11 +1,12 @@
 //! Numerals, and the numbers that texts mean.
 
-ghost use Rattle.std.specs.Prelude.{◌≡◌, ◌≤◌, ◌<◌, ◌-◌, ◌^◌, length, IsTrue, pos, neg_ℤ, if◌then◌else◌};
+ghost use Rattle.std.specs.Prelude.{◌≡◌, ◌≤◌, ◌<◌, ◌-◌, ◌^◌, length, IfSome, IsTrue, pos, neg_ℤ, if◌then◌else◌};
 ghost use Rattle.std.specs.List.{list_all, prefix_len, suffix_len};
 ghost use Rattle.std.specs.Char.{is_ascii_digit};
 ghost use Rattle.std.specs.Option.{SomeIff};
 ghost use Rattle.std.specs.Str.Parse.{digits_value};
 ghost use Rattle.ht_values.specs.Number.{is_space, is_numeral, number_of as number_of_text, ranged, spelled as spelled_of, trimmed as trimmed_of, value_of, without_front_spaces as without_front_spaces_of};
+ghost use Rattle.ht_values.specs.Text.{numeral as numeral_text};
 
 use crate::fault::Fault;
 use crate::text::Text;
@@ -120,4 +121,24 @@ pub fn numeral(text: &Text) -> Option<i64>
     ensures { SomeIff result (IsTrue (is_numeral text.now)) (value_of text.now) }
 {
     spelled(trimmed(text.as_slice())).ok()
+}
+
+/// The number whose numeral the text is, where that has no sign and at most 18 digits.
+pub(crate) fn plain_number(text: &[u8]) -> Option<i64>
+    ensures { IfSome result (λ n. numeral_text n ≡ text.now) }
+{
+    if text.is_empty() || 18 < text.len() {
+        return None;
+    }
+    if text[0] == b'0' && 1 < text.len() {
+        return None;
+    }
+    if !all_digits(text) {
+        return None;
+    }
+    let size = magnitude(text)?;
+    match signed(false, size) {
+        Ok(number) => Some(number),
+        Err(_) => None,
+    }
 }

@@ -1,85 +1,205 @@
-//! What operators and functions give.
+//! Values as they are computed: a number or a truth value in place of its spelling, or a text.
 
-ghost use Rattle.std.specs.Prelude.{◌≡◌, Ok};
-ghost use Rattle.ht_values.specs.Operators.{binary as binary_of, in_numerals as in_numerals_of, in_words as in_words_of, unary as unary_of, word_of};
-ghost use Rattle.ht_values.specs.Outcome.{Gives};
+ghost use Rattle.std.specs.Prelude.{◌≡◌, ◌≤◌, length, IfOk, IsTrue};
+ghost use Rattle.std.specs.Option.{SomeIff};
+ghost use Rattle.ht_values.specs.Number.{is_numeral, number_of as number_of_text, value_of};
+ghost use Rattle.ht_values.specs.Operators.{truth_of as truth_of_text, word_of};
+ghost use Rattle.ht_values.specs.Text.{numeral as numeral_of};
+ghost use Rattle.ht_values.specs.declared.text.TheConstants.{LIMIT};
 
-use crate::arithmetic::{
-    cut_quotient, difference, negated, power, product, quotient, remainder, sum,
-};
-use crate::comparison::{are_equal, is_a, order_of};
-use crate::failure::Failure;
 use crate::fault::Fault;
-use crate::join::joined;
-use crate::logic::{conjunction, disjunction, negation};
-use crate::operator::{Op, UnOp};
-use crate::search::is_in;
+use crate::logic::{truth_of, word_text};
+use crate::number::{number_of, numeral, plain_number};
 use crate::text::{Text, text_of};
-use std::alloc::Global;
+use std::alloc::{AllocError, Global};
+use std::marker::Model;
 
-/// The numeral of a number, or the fault in its place.
-pub(crate) fn in_numerals(alloc: Global, number: Result<i64, Fault>) -> Result<Text, Failure>
-    ensures { Gives result (in_numerals_of number) }
-{
-    Ok(text_of(alloc, number?)?)
+/// How a value is kept.
+#[derive(Drop)]
+pub(crate) enum Form {
+    Number(i64),
+    Truth(bool),
+    Spelled(Text),
 }
 
-/// A truth value as a text, `true` or `false`; `Memory` where a growth was refused.
-pub fn in_word(alloc: Global, truth: bool) -> Result<Text, Failure>
-    ensures { Gives result (Ok (word_of truth)) }
-{
-    let word: &[u8] = if truth { b"true" } else { b"false" };
-    Ok(Text::from_vec(Vec::from_slice(alloc, word)?)?)
+/// A value of HyperTalk, which contracts see as its text. What was computed as a number or as a truth value is kept so, and is
+/// spelled only where its bytes are asked for: in between it takes no memory, and nothing is read back.
+#[derive(Drop)]
+pub struct Value {
+    form: Form,
 }
 
-/// The word of a truth value, or the fault in its place.
-fn in_words(alloc: Global, truth: Result<bool, Fault>) -> Result<Text, Failure>
-    ensures { Gives result (in_words_of truth) }
-{
-    in_word(alloc, truth?)
+impl Model for Value {
+    ghost use Rattle.std.specs.Prelude.{List, ℕ};
+
+    ghost Value = { List ℕ };
+
+    ghost use Rattle.ht_values.specs.Spelling.{spelled_form};
+
+    ghost view = { λ v. spelled_form v.form };
 }
 
-/// What an operator of two operands gives: its value, a fault of the command, or `Memory` where a growth was refused.
-/// Both operands are converted, the left one first; a divisor of 0 comes before a quotient that isn't exact, and the range
-/// of 64 bits last. The operators are those of HyperTalk 2.x; whole numbers and the order of faults are this project's
-/// profile.
-#[tactic(auto, unfolding(crate::specs::Operators::binary))]
-pub fn binary(alloc: Global, op: Op, left: &Text, right: &Text) -> Result<Text, Failure>
-    ensures { Gives result (binary_of op left.now right.now) }
-{
-    match op {
-        Op::Or => in_words(alloc, disjunction(left, right)),
-        Op::And => in_words(alloc, conjunction(left, right)),
-        Op::Equal => in_word(alloc, are_equal(left, right)),
-        Op::NotEqual => in_word(alloc, !are_equal(left, right)),
-        Op::Less => in_word(alloc, order_of(left, right).is_lt()),
-        Op::Greater => in_word(alloc, order_of(left, right).is_gt()),
-        Op::LessOrEqual => in_word(alloc, order_of(left, right).is_le()),
-        Op::GreaterOrEqual => in_word(alloc, order_of(left, right).is_ge()),
-        Op::Contains => in_word(alloc, is_in(right, left)),
-        Op::IsIn => in_word(alloc, is_in(left, right)),
-        Op::IsNotIn => in_word(alloc, !is_in(left, right)),
-        Op::Join => joined(alloc, left.as_slice(), b"", right.as_slice()),
-        Op::JoinSpaced => joined(alloc, left.as_slice(), b" ", right.as_slice()),
-        Op::Add => in_numerals(alloc, sum(left, right)),
-        Op::Subtract => in_numerals(alloc, difference(left, right)),
-        Op::Multiply => in_numerals(alloc, product(left, right)),
-        Op::Divide => in_numerals(alloc, quotient(left, right)),
-        Op::Div => in_numerals(alloc, cut_quotient(left, right)),
-        Op::Mod => in_numerals(alloc, remainder(left, right)),
-        Op::Power => in_numerals(alloc, power(left, right)),
+impl Value {
+    /// The numeral of a number. It takes no memory.
+    pub fn of_number(number: i64) -> Value
+        ensures { result ≡ numeral_of number }
+    {
+        Value {
+            form: Form::Number(number),
+        }
+    }
+
+    /// `true` or `false`. It takes no memory.
+    pub fn of_truth(truth: bool) -> Value
+        ensures { result ≡ word_of truth }
+    {
+        Value {
+            form: Form::Truth(truth),
+        }
+    }
+
+    /// A text, which it takes over: it takes no memory.
+    pub fn of_text(text: Text) -> Value
+        ensures { result ≡ text }
+    {
+        Value {
+            form: Form::Spelled(text),
+        }
+    }
+
+    /// An equal value. A numeral without a sign, spaces or leading zeros is kept as its number, which takes no memory.
+    pub fn copied(alloc: Global, text: &Text) -> Result<Value, AllocError>
+        ensures { IfOk result (λ v. v ≡ text.now) }
+    {
+        match plain_number(text.as_slice()) {
+            Some(number) => Ok(Value::of_number(number)),
+            None => Ok(Value::of_text(text.try_clone(alloc)?)),
+        }
+    }
+
+    /// An equal value. It takes memory only for a text.
+    pub fn try_clone(&self, alloc: Global) -> Result<Value, AllocError>
+        ensures { IfOk result (λ v. v ≡ self.now) }
+    {
+        match &self.form {
+            Form::Number(number) => Ok(Value::of_number(*number)),
+            Form::Truth(truth) => Ok(Value::of_truth(*truth)),
+            Form::Spelled(text) => Ok(Value::of_text(text.try_clone(alloc)?)),
+        }
+    }
+
+    /// The text of the value. It takes memory only where the value isn't kept as a text.
+    pub fn into_text(self, alloc: Global) -> Result<Text, AllocError>
+        ensures { IfOk result (λ t. t ≡ self) }
+    {
+        let Value { form } = self;
+        match form {
+            Form::Number(number) => text_of(alloc, number),
+            Form::Truth(truth) => word_text(alloc, truth),
+            Form::Spelled(text) => Ok(text),
+        }
+    }
+
+    /// The text of the value, lent where the value is kept as a text, and else made.
+    pub fn spelled(&self, alloc: Global) -> Result<Spelling<'_>, AllocError>
+        ensures { IfOk result (λ s. s ≡ self.now) }
+    {
+        let text = match &self.form {
+            Form::Number(number) => Lent::Made(text_of(alloc, *number)?),
+            Form::Truth(truth) => Lent::Made(word_text(alloc, *truth)?),
+            Form::Spelled(text) => Lent::Stands(text),
+        };
+        Ok(Spelling { text })
+    }
+
+    /// The number that the value means, or the fault that it means none, as `number_of` says it of a text. It takes no memory.
+    #[tactic(auto, using(crate::proofs::Spellings::numeral_is_read, crate::proofs::Spellings::word_is_no_number))]
+    pub fn number(&self) -> Result<i64, Fault>
+        ensures { result ≡ number_of_text self.now }
+    {
+        match &self.form {
+            Form::Number(number) => Ok(*number),
+            Form::Truth(_) => Err(Fault::NotANumber),
+            Form::Spelled(text) => number_of(text),
+        }
+    }
+
+    /// The number of a numeral, as `numeral` says it of a text.
+    #[tactic(auto, using(crate::proofs::Spellings::numeral_is_one, crate::proofs::Spellings::word_is_no_numeral))]
+    pub(crate) fn numeral(&self) -> Option<i64>
+        ensures { SomeIff result (IsTrue (is_numeral self.now)) (value_of self.now) }
+    {
+        match &self.form {
+            Form::Number(number) => Some(*number),
+            Form::Truth(_) => None,
+            Form::Spelled(text) => numeral(text),
+        }
+    }
+
+    /// The truth value that the value means, or the fault that it means none, as `truth_of` says it of a text. It takes no
+    /// memory.
+    #[tactic(auto, using(crate::proofs::Spellings::word_is_true, crate::proofs::Spellings::numeral_is_no_truth))]
+    pub fn truth(&self) -> Result<bool, Fault>
+        ensures { result ≡ truth_of_text self.now }
+    {
+        match &self.form {
+            Form::Number(number) => {
+                let _in_range = *number;
+                Err(Fault::NotLogical)
+            }
+            Form::Truth(truth) => Ok(*truth),
+            Form::Spelled(text) => truth_of(text),
+        }
     }
 }
 
-/// What an operator of one operand gives: its value, a fault of the command, or `Memory` where a growth was refused.
-#[tactic(auto, unfolding(crate::specs::Operators::unary))]
-pub fn unary(alloc: Global, op: UnOp, operand: &Text) -> Result<Text, Failure>
-    ensures { Gives result (unary_of op operand.now) }
+/// The text of a value is one: it has at most 30,000 bytes. This reads the value and does nothing with it.
+#[tactic(auto, using(crate::proofs::Spellings::numeral_fits, crate::proofs::Spellings::word_fits))]
+pub fn law_of_value(value: &Value)
+    ensures { length value.now ≤ LIMIT }
 {
-    match op {
-        UnOp::Minus => in_numerals(alloc, negated(operand)),
-        UnOp::Not => in_words(alloc, negation(operand)),
-        UnOp::IsA(kind) => in_word(alloc, is_a(kind, operand)),
-        UnOp::IsNotA(kind) => in_word(alloc, !is_a(kind, operand)),
+    match &value.form {
+        Form::Number(number) => {
+            let _in_range = *number;
+        }
+        Form::Truth(_) => {}
+        Form::Spelled(text) => {
+            let _length = text.len();
+        }
+    }
+}
+
+/// Where the text of a value stands.
+#[derive(Drop)]
+pub(crate) enum Lent<'a> {
+    Made(Text),
+    Stands(&'a Text),
+}
+
+/// The text of a value, made for it or lent by it.
+#[derive(Drop)]
+pub struct Spelling<'a> {
+    text: Lent<'a>,
+}
+
+impl<'a> Model for Spelling<'a> {
+    ghost use Rattle.std.specs.Prelude.{List, ℕ};
+
+    ghost Value = { List ℕ };
+
+    ghost use Rattle.ht_values.specs.Spelling.{lent_text};
+
+    ghost view = { λ s. lent_text s.text };
+}
+
+impl<'a> Spelling<'a> {
+    /// The text.
+    pub fn text(&self) -> &Text
+        ensures { result.now ≡ self.now }
+    {
+        match &self.text {
+            Lent::Made(text) => text,
+            Lent::Stands(text) => text,
+        }
     }
 }

@@ -147,6 +147,6 @@ pub(crate) fn eval_text<E: External>(
     let e = expression(run.alloc(), text)?;
     let frame = Frame::typed(run.alloc(), world.current());
     let _depth = e.depth();
-    let value = eval(world, scripts, run, &frame, nested, &e)?;
+    let value = eval(world, scripts, run, &frame, nested, &e)?.into_text(run.alloc())?;
     Ok(Input::Answer(note, value))
 }

@@ -11,19 +11,18 @@ use crate::message::calls;
 use crate::pieces::pieces;
 use crate::reference::{meet, meet_part};
 use change_journal::World;
-use chunks::take;
 use externals::External;
 use ht_grammar::{FunctionWord, HandlerKind};
 use ht_tree::{Chunk, Count, Expr, ExprKind, Exprs, Part, Ref};
-use ht_values::{Fault, Op, Prop, Text, UnOp};
+use ht_values::{Fault, Op, Prop, Text, UnOp, Value};
 use meaning::{Budget, Frame, Stop};
 use msg_path::Scripts;
 use primitives::arguments::Arguments;
 use primitives::objects::{parts_here, property, target_name};
 use primitives::places::{field_text, variable};
 use primitives::values::{
-    apply, apply_one, call_of_one, constant_text, expression, function_named, number, numeral,
-    return_sign, run_property, there, truth,
+    apply, apply_one, call_of_one, constant_value, expression, function_named, number, numeral,
+    piece_count, return_sign, run_property, taken, there, truth,
 };
 
 /// The value of an expression.
@@ -36,7 +35,7 @@ pub(crate) fn eval<E: External>(
     frame: &Frame,
     nested: u32,
     e: &Expr,
-) -> Result<Text, Stop>
+) -> Result<Value, Stop>
     requires nested { nested ≤ 100 }
     requires deep { depth e.now ≤ max_depth }
     requires open { IsSome (base world.old.history).start }
@@ -45,8 +44,8 @@ pub(crate) fn eval<E: External>(
     ensures base { base world.new.history ≡ base world.old.history }
 {
     match e.kind() {
-        ExprKind::Number(text) | ExprKind::Quoted(text) => Ok(text.try_clone(run.alloc())?),
-        ExprKind::Constant(constant) => Ok(constant_text(run.alloc(), *constant)?),
+        ExprKind::Number(text) | ExprKind::Quoted(text) => Ok(Value::copied(run.alloc(), text)?),
+        ExprKind::Constant(constant) => Ok(constant_value(run.alloc(), *constant)?),
         ExprKind::Return => Ok(return_sign(run.alloc())?),
         ExprKind::Name(name) => Ok(variable(run.alloc(), world, frame, name)?),
         ExprKind::Paren(inner) => eval(world, scripts, run, frame, nested, inner),
@@ -86,7 +85,7 @@ pub(crate) fn binary<E: External>(
     op: Op,
     left: &Expr,
     right: &Expr,
-) -> Result<Text, Stop>
+) -> Result<Value, Stop>
     requires nested { nested ≤ 100 }
     requires left { depth left.now < max_depth }
     requires right { depth right.now < max_depth }
@@ -112,7 +111,7 @@ pub(crate) fn unary<E: External>(
     nested: u32,
     op: UnOp,
     operand: &Expr,
-) -> Result<Text, Stop>
+) -> Result<Value, Stop>
     requires nested { nested ≤ 100 }
     requires deep { depth operand.now < max_depth }
     requires open { IsSome (base world.old.history).start }
@@ -121,7 +120,7 @@ pub(crate) fn unary<E: External>(
     ensures base { base world.new.history ≡ base world.old.history }
 {
     let x = eval(world, scripts, run, frame, nested, operand)?;
-    apply_one(run.alloc(), op, &x)
+    apply_one(op, &x)
 }
 
 /// Whether an object is found: whatever the reason is that it isn't, the answer is `false`.
@@ -136,7 +135,7 @@ pub(crate) fn there_is<E: External>(
     nested: u32,
     is_no: bool,
     reference: &Ref,
-) -> Result<Text, Stop>
+) -> Result<Value, Stop>
     requires nested { nested ≤ 100 }
     requires deep { ref_depth (ref_of reference.now) < max_depth }
     requires open { IsSome (base world.old.history).start }
@@ -145,7 +144,7 @@ pub(crate) fn there_is<E: External>(
     ensures base { base world.new.history ≡ base world.old.history }
 {
     let met = meet(world, scripts, run, frame, nested, reference);
-    there(run.alloc(), is_no, met)
+    there(is_no, met)
 }
 
 /// Pieces of a text: the pieces are computed before the text.
@@ -160,7 +159,7 @@ pub(crate) fn chunk_of<E: External>(
     nested: u32,
     chunk: &Chunk,
     text: &Expr,
-) -> Result<Text, Stop>
+) -> Result<Value, Stop>
     requires nested { nested ≤ 100 }
     requires chunk { chunk_depth (chunk_of_tree chunk.now) < max_depth }
     requires text { depth text.now < max_depth }
@@ -171,7 +170,7 @@ pub(crate) fn chunk_of<E: External>(
 {
     let pieces = pieces(world, scripts, run, frame, nested, chunk)?;
     let whole = eval(world, scripts, run, frame, nested, text)?;
-    Ok(take(run.alloc(), &whole, &pieces, run.delimiter())?)
+    Ok(taken(run.alloc(), whole, &pieces, run.delimiter())?)
 }
 
 /// The text of a field.
@@ -185,7 +184,7 @@ pub(crate) fn field<E: External>(
     frame: &Frame,
     nested: u32,
     part: &Part,
-) -> Result<Text, Stop>
+) -> Result<Value, Stop>
     requires nested { nested ≤ 100 }
     requires deep { part_depth (part_of part.now) ≤ max_depth }
     requires open { IsSome (base world.old.history).start }
@@ -208,7 +207,7 @@ pub(crate) fn number_of<E: External>(
     frame: &Frame,
     nested: u32,
     count: &Count,
-) -> Result<Text, Stop>
+) -> Result<Value, Stop>
     requires nested { nested ≤ 100 }
     requires deep { count_depth (count_of count.now) < max_depth }
     requires open { IsSome (base world.old.history).start }
@@ -219,10 +218,7 @@ pub(crate) fn number_of<E: External>(
     match count {
         Count::PiecesOf(kind, text) => {
             let text = eval(world, scripts, run, frame, nested, text)?;
-            Ok(numeral(
-                run.alloc(),
-                chunks::count(text.as_slice(), *kind, run.delimiter()),
-            )?)
+            Ok(piece_count(run.alloc(), text, *kind, run.delimiter())?)
         }
         Count::Cards => Ok(numeral(run.alloc(), world.stack().cards().len())?),
         Count::Backgrounds => Ok(numeral(run.alloc(), world.stack().backgrounds().len())?),
@@ -246,7 +242,7 @@ pub(crate) fn property_of<E: External>(
     nested: u32,
     name: Prop,
     reference: &Ref,
-) -> Result<Text, Stop>
+) -> Result<Value, Stop>
     requires nested { nested ≤ 100 }
     requires deep { ref_depth (ref_of reference.now) < max_depth }
     requires open { IsSome (base world.old.history).start }
@@ -270,7 +266,7 @@ pub(crate) fn function_of<E: External>(
     nested: u32,
     word: FunctionWord,
     operand: &Expr,
-) -> Result<Text, Stop>
+) -> Result<Value, Stop>
     requires nested { nested ≤ 100 }
     requires deep { depth operand.now < max_depth }
     requires open { IsSome (base world.old.history).start }
@@ -281,7 +277,10 @@ pub(crate) fn function_of<E: External>(
     let x = eval(world, scripts, run, frame, nested, operand)?;
     match function_named(word) {
         Some(function) => call_of_one(run.alloc(), function, x),
-        None => text_value(world, scripts, run, frame, nested, &x),
+        None => {
+            let text = x.into_text(run.alloc())?;
+            text_value(world, scripts, run, frame, nested, &text)
+        }
     }
 }
 
@@ -297,7 +296,7 @@ pub(crate) fn call<E: External>(
     nested: u32,
     name: &Text,
     list: &Exprs,
-) -> Result<Text, Stop>
+) -> Result<Value, Stop>
     requires nested { nested ≤ 100 }
     requires deep { depths (exprs_of list.now.items.items) < max_depth }
     requires open { IsSome (base world.old.history).start }
@@ -399,7 +398,7 @@ pub(crate) fn text_value<E: External>(
     frame: &Frame,
     nested: u32,
     text: &Text,
-) -> Result<Text, Stop>
+) -> Result<Value, Stop>
     requires nested { nested ≤ 100 }
     requires open { IsSome (base world.old.history).start }
     ensures meaning { TextVal world.old.history run.old frame.now nested text.now result world.new.history run.new }

@@ -14,15 +14,15 @@ use change_journal::World;
 use externals::External;
 use ht_grammar::HandlerKind;
 use ht_tree::Expr;
-use ht_values::{Fault, Text};
+use ht_values::{Fault, Text, Value};
 use meaning::{Budget, Frame, Stop};
 use msg_path::{BuiltIn, MessagePath, Scripts, path, path_after};
 use object_table::Id;
 use primitives::arguments::Arguments;
 use primitives::messages::{
-    external, find, handler_frame, is_ignored, item_named, outcome, returned,
+    external, find, handler_frame, is_ignored, item_named, only_text, outcome, returned,
 };
-use primitives::values::{call_function, message};
+use primitives::values::{call_function, empty, message};
 
 /// The arguments are computed, then the message is sent to an object.
 #[cycle(run)]
@@ -37,7 +37,7 @@ pub(crate) fn calls<E: External>(
     name: &Text,
     list: &[Expr],
     kind: HandlerKind,
-) -> Result<Text, Stop>
+) -> Result<Value, Stop>
     requires nested { nested ≤ 100 }
     requires deep { depths (exprs_of list.now) ≤ max_depth }
     requires open { IsSome (base world.old.history).start }
@@ -62,7 +62,7 @@ pub(crate) fn send_text<E: External>(
     nested: u32,
     object: Id,
     text: &Text,
-) -> Result<Text, Stop>
+) -> Result<Value, Stop>
     requires nested { nested ≤ 100 }
     requires open { IsSome (base world.old.history).start }
     ensures meaning { SendsText world.old.history run.old frame.now nested object text.now result world.new.history run.new }
@@ -97,7 +97,7 @@ pub(crate) fn send<E: External>(
     name: &Text,
     values: &Arguments,
     kind: HandlerKind,
-) -> Result<Text, Stop>
+) -> Result<Value, Stop>
     requires nested { nested ≤ 100 }
     requires open { IsSome (base world.old.history).start }
     ensures meaning { Sends world.old.history run.old frame.now nested object name.now values.now kind result world.new.history run.new }
@@ -126,7 +126,7 @@ pub(crate) fn along<E: External>(
     name: &Text,
     values: &Arguments,
     kind: HandlerKind,
-) -> Result<Text, Stop>
+) -> Result<Value, Stop>
     requires nested { nested ≤ 100 }
     requires open { IsSome (base world.old.history).start }
     ensures meaning { Along world.old.history run.old frame.now nested object path name.now values.now kind result world.new.history run.new }
@@ -172,7 +172,7 @@ pub(crate) fn outside<E: External>(
     name: &Text,
     values: &Arguments,
     kind: HandlerKind,
-) -> Result<Text, Stop>
+) -> Result<Value, Stop>
     requires nested { nested ≤ 100 }
     requires open { IsSome (base world.old.history).start }
     ensures meaning { Outside world.old.history run.old frame.now nested name.now values.now kind result world.new.history run.new }
@@ -186,7 +186,7 @@ pub(crate) fn outside<E: External>(
             if done.passes {
                 answer(world, scripts, run, frame, nested, name, values, kind)
             } else {
-                Ok(returned(run, kind, done.value))
+                Ok(returned(run, kind, Value::of_text(done.value)))
             }
         }
     }
@@ -204,7 +204,7 @@ pub(crate) fn answer<E: External>(
     name: &Text,
     values: &Arguments,
     kind: HandlerKind,
-) -> Result<Text, Stop>
+) -> Result<Value, Stop>
     requires nested { nested ≤ 100 }
     requires open { IsSome (base world.old.history).start }
     ensures meaning { BuiltInGives world.old.history run.old frame.now nested name.now values.now kind result world.new.history run.new }
@@ -212,16 +212,16 @@ pub(crate) fn answer<E: External>(
     ensures base { base world.new.history ≡ base world.old.history }
 {
     match BuiltIn::named(kind, name) {
-        Some(BuiltIn::Value) => match values.only() {
-            Some(text) => text_value(world, scripts, run, frame, nested, text),
+        Some(BuiltIn::Value) => match only_text(run.alloc(), values)? {
+            Some(text) => text_value(world, scripts, run, frame, nested, &text),
             None => Err(Stop::Fault(Fault::BadArgument)),
         },
         Some(BuiltIn::Function(function)) => call_function(run.alloc(), function, values),
-        Some(BuiltIn::DoMenu) => match item_named(values) {
+        Some(BuiltIn::DoMenu) => match item_named(run.alloc(), values)? {
             Some(item) => menu(world, scripts, run, frame, nested, item),
             None => Err(Stop::Fault(Fault::BadArgument)),
         },
-        None if is_ignored(kind, name) => Ok(Text::new(run.alloc())),
+        None if is_ignored(kind, name) => Ok(empty(run.alloc())),
         None => Err(Stop::Fault(Fault::CantUnderstand)),
     }
 }

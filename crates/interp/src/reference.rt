@@ -40,8 +40,14 @@ pub(crate) fn pick<E: External>(
     ensures base { base world.new.history ≡ base world.old.history }
 {
     match which {
-        Which::ById(id) => Ok(Pick::ById(eval(world, scripts, run, frame, nested, id)?)),
-        Which::ByText(text) => Ok(Pick::ByText(eval(world, scripts, run, frame, nested, text)?)),
+        Which::ById(id) => {
+            let id = eval(world, scripts, run, frame, nested, id)?.into_text(run.alloc())?;
+            Ok(Pick::ById(id))
+        }
+        Which::ByText(text) => {
+            let text = eval(world, scripts, run, frame, nested, text)?.into_text(run.alloc())?;
+            Ok(Pick::ByText(text))
+        }
     }
 }
 

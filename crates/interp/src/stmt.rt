@@ -23,7 +23,7 @@ use ht_values::{Fault, Op, Prop, Text, Where};
 use meaning::{Budget, Frame, How, Stop};
 use msg_path::Scripts;
 use primitives::places::{declare_all, edit, put_into_it, set_property};
-use primitives::values::lines;
+use primitives::values::{empty, lines};
 
 /// How statements end, a step before each.
 #[cycle(run)]
@@ -139,7 +139,7 @@ pub(crate) fn run_stmt<E: External>(
         StmtKind::ExitToHyperCard => Err(Stop::Exited),
         StmtKind::Exit(_) => Ok(How::Exit),
         StmtKind::Pass(_) => Ok(How::Pass),
-        StmtKind::ReturnNothing => Ok(How::Returns(Text::new(run.alloc()))),
+        StmtKind::ReturnNothing => Ok(How::Returns(empty(run.alloc()))),
         StmtKind::ReturnValue(value) => returns(world, scripts, run, frame, nested, value),
         StmtKind::Command(name, list) => command(world, scripts, run, frame, nested, name, list),
         StmtKind::When(condition, lines, otherwise) => {
@@ -271,7 +271,7 @@ pub(crate) fn set<E: External>(
     ensures fewer { run.new.left ≤ run.old.left }
     ensures base { base world.new.history ≡ base world.old.history }
 {
-    let value = eval(world, scripts, run, frame, nested, value)?;
+    let value = eval(world, scripts, run, frame, nested, value)?.into_text(run.alloc())?;
     let referent = meet(world, scripts, run, frame, nested, reference)?;
     set_property(world, referent, property, value)?;
     Ok(How::Next)
@@ -297,7 +297,7 @@ pub(crate) fn set_run<E: External>(
     ensures fewer { run.new.left ≤ run.old.left }
     ensures base { base world.new.history ≡ base world.old.history }
 {
-    let value = eval(world, scripts, run, frame, nested, value)?;
+    let value = eval(world, scripts, run, frame, nested, value)?.into_text(run.alloc())?;
     match run.set_property(property, &value) {
         Ok(()) => Ok(How::Next),
         Err(fault) => Err(Stop::Fault(fault)),
@@ -385,7 +385,7 @@ pub(crate) fn run_do<E: External>(
     ensures fewer { run.new.left ≤ run.old.left }
     ensures base { base world.new.history ≡ base world.old.history }
 {
-    let text = eval(world, scripts, run, frame, nested, text)?;
+    let text = eval(world, scripts, run, frame, nested, text)?.into_text(run.alloc())?;
     do_text(world, scripts, run, frame, nested, &text)
 }
 
@@ -436,7 +436,7 @@ pub(crate) fn run_send<E: External>(
     ensures fewer { run.new.left ≤ run.old.left }
     ensures base { base world.new.history ≡ base world.old.history }
 {
-    let text = eval(world, scripts, run, frame, nested, text)?;
+    let text = eval(world, scripts, run, frame, nested, text)?.into_text(run.alloc())?;
     let referent = meet(world, scripts, run, frame, nested, reference)?;
     let _ = send_text(world, scripts, run, frame, nested, referent.object, &text)?;
     Ok(How::Next)

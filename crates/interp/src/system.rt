@@ -8,7 +8,7 @@ use crate::message::send;
 use change_journal::{Change, World};
 use externals::External;
 use ht_grammar::HandlerKind;
-use ht_values::{Fault, Text};
+use ht_values::{Fault, Value};
 use meaning::{Budget, Frame, Item, Stop, SystemMessage};
 use msg_path::Scripts;
 use object_references::may_delete;
@@ -18,6 +18,7 @@ use primitives::objects::{
     add, closing, has_other_background, is_card_there, is_current, is_other, make,
     new_background_messages, new_card_messages, new_layer, opening,
 };
+use primitives::values::empty;
 use structural_changes::home_of;
 
 /// A message of the system to an object; none while lockMessages is true.
@@ -31,7 +32,7 @@ pub(crate) fn system<E: External>(
     nested: u32,
     object: Id,
     message: SystemMessage,
-) -> Result<Text, Stop>
+) -> Result<Value, Stop>
     requires nested { nested ≤ 100 }
     requires open { IsSome (base world.old.history).start }
     ensures meaning { System world.old.history run.old frame.now nested object message result world.new.history run.new }
@@ -39,7 +40,7 @@ pub(crate) fn system<E: External>(
     ensures base { base world.new.history ≡ base world.old.history }
 {
     if run.lock_messages() {
-        return Ok(Text::new(run.alloc()));
+        return Ok(empty(run.alloc()));
     }
     let name = message.text(run.alloc())?;
     let values = Arguments::new(run.alloc());
@@ -66,7 +67,7 @@ pub(crate) fn systems<E: External>(
     frame: &Frame,
     nested: u32,
     messages: &[SystemMessage],
-) -> Result<Text, Stop>
+) -> Result<Value, Stop>
     requires nested { nested ≤ 100 }
     requires open { IsSome (base world.old.history).start }
     ensures meaning { Systems world.old.history run.old frame.now nested messages.now result world.new.history run.new }
@@ -84,7 +85,7 @@ pub(crate) fn systems<E: External>(
             *message,
         )?;
     }
-    Ok(Text::new(run.alloc()))
+    Ok(empty(run.alloc()))
 }
 
 /// `go` to a card.
@@ -97,7 +98,7 @@ pub(crate) fn go<E: External>(
     frame: &Frame,
     nested: u32,
     card: Id,
-) -> Result<Text, Stop>
+) -> Result<Value, Stop>
     requires nested { nested ≤ 100 }
     requires open { IsSome (base world.old.history).start }
     ensures meaning { Goes world.old.history run.old frame.now nested card result world.new.history run.new }
@@ -105,7 +106,7 @@ pub(crate) fn go<E: External>(
     ensures base { base world.new.history ≡ base world.old.history }
 {
     if is_current(world, card) {
-        return Ok(Text::new(run.alloc()));
+        return Ok(empty(run.alloc()));
     }
     let differs = has_other_background(world, card);
     let _ = systems(world, scripts, run, frame, nested, closing(differs))?;
@@ -126,7 +127,7 @@ pub(crate) fn menu<E: External>(
     frame: &Frame,
     nested: u32,
     item: Item,
-) -> Result<Text, Stop>
+) -> Result<Value, Stop>
     requires nested { nested ≤ 100 }
     requires open { IsSome (base world.old.history).start }
     ensures meaning { Menu world.old.history run.old frame.now nested item result world.new.history run.new }
@@ -153,7 +154,7 @@ pub(crate) fn menu<E: External>(
         }
         Item::NewPart(kind) => {
             add(world, Change::NewPart(new_layer(world, run), kind))?;
-            Ok(Text::new(run.alloc()))
+            Ok(empty(run.alloc()))
         }
         Item::DeleteCard => {
             let background = home_of(world.stack(), world.current());

@@ -3,7 +3,9 @@
 mod functions;
 mod operators;
 
-use ht_values::{Failure, Fault, LIMIT, Name, Text, TextError, law_of_text, text_of};
+use ht_values::{
+    Failure, Fault, LIMIT, Name, Text, TextError, Value, law_of_text, law_of_value, text_of,
+};
 use std::alloc::Global;
 use std::test::*;
 
@@ -13,6 +15,28 @@ fn is_given(answer: Result<Text, Failure>, expected: &Result<&[u8], Fault>) -> b
         Ok(given) => matches!(expected, Ok(value) if given.as_slice() == *value),
         Err(Failure::Fault(given)) => matches!(expected, Err(fault) if given == *fault),
         Err(Failure::Memory) => false,
+    }
+}
+
+/// Whether the answer is a value of this text, or this fault.
+fn is_value(
+    alloc: Global,
+    answer: Result<Value, Failure>,
+    expected: &Result<&[u8], Fault>,
+) -> Result<bool, Fail> {
+    match answer {
+        Ok(value) => Ok(is_given(Ok(value.into_text(alloc)?), expected)),
+        Err(failure) => Ok(is_given(Err(failure), expected)),
+    }
+}
+
+/// Values of these texts: kept as texts, or as numbers where they can be.
+fn value_of(alloc: Global, bytes: &[u8], as_text: bool) -> Result<Value, Fail> {
+    let text = Text::from_slice(alloc, bytes)?;
+    if as_text {
+        Ok(Value::of_text(text))
+    } else {
+        Ok(Value::copied(alloc, &text)?)
     }
 }
 
@@ -125,4 +149,41 @@ fn faults_are_numbered_from_one_to_sixteen(rt: HostRuntime) {
     for (fault, number) in rows {
         assert!(rt; fault.number() == number, "{fault:?}");
     }
+}
+
+/// Whether a value has this text, in each way in which it is asked for, and its clone too.
+fn is_spelled_as(alloc: Global, value: Value, want: &[u8]) -> Result<bool, Fail> {
+    law_of_value(&value);
+    let clone = value.try_clone(alloc)?;
+    let is_same = value.spelled(alloc)?.text().as_slice() == want;
+    Ok(is_same && clone.into_text(alloc)?.as_slice() == want)
+}
+
+#[test]
+fn a_value_has_its_text_however_it_is_kept(rt: HostRuntime) -> Result<(), Fail> {
+    let alloc = rt.alloc();
+    assert!(rt; is_spelled_as(alloc, Value::of_number(-9), b"-9")?);
+    assert!(rt; is_spelled_as(alloc, Value::of_truth(true), b"true")?);
+    for bytes in [
+        b"0".as_slice(),
+        b"17",
+        b"007",
+        b" 7",
+        b"-7",
+        b"",
+        b"7x",
+        b"9999999999999999999",
+    ] {
+        assert!(rt; is_spelled_as(alloc, value_of(alloc, bytes, true)?, bytes)?);
+        assert!(rt; is_spelled_as(alloc, value_of(alloc, bytes, false)?, bytes)?);
+    }
+    Ok(())
+}
+
+#[test]
+fn a_value_means_what_its_text_means(rt: HostRuntime) {
+    assert!(rt; Value::of_number(-9).number() == Ok(-9));
+    assert!(rt; Value::of_number(1).truth() == Err(Fault::NotLogical));
+    assert!(rt; Value::of_truth(false).truth() == Ok(false));
+    assert!(rt; Value::of_truth(true).number() == Err(Fault::NotANumber));
 }

@@ -2,12 +2,13 @@
 
 ghost use Rattle.std.specs.Prelude.{◌≡◌, ◌<◌, ◌≤◌, [], false, Ok, Err, IfOk, IfErr, OnOk, OnErr};
 ghost use Rattle.ht_values.specs.Outcome.{Gives};
+ghost use Rattle.stack_text.specs.Words.{spelled};
 ghost use Rattle.meaning.specs.State.{Step, delimiter_set, fresh_run, noted, run_property, run_property_set, shows};
 
 use crate::end::Stop;
 use crate::sent::{Line, Sent, SentMessage, Shown};
 use ht_grammar::RunProp;
-use ht_values::{Failure, Fault, Text, in_word, truth_of};
+use ht_values::{Failure, Fault, Text, Value, in_word, truth_of};
 use object_table::Id;
 use stack_text::spell_into;
 use std::alloc::{AllocError, Global};
@@ -21,7 +22,7 @@ pub struct Budget {
     delimiter: u8,
     lock_messages: bool,
     edit_background: bool,
-    result: Text,
+    result: Value,
     left: u32,
     shown: Shown,
     sent: Sent,
@@ -54,7 +55,7 @@ impl Budget {
             delimiter: b',',
             lock_messages: false,
             edit_background: false,
-            result: Text::new(alloc),
+            result: Value::of_text(Text::new(alloc)),
             left: steps,
             shown: Shown::new(alloc),
             sent: Sent::new(alloc),
@@ -88,7 +89,7 @@ impl Budget {
     }
 
     /// `the result`.
-    pub fn result(&self) -> &Text
+    pub fn result(&self) -> &Value
         ensures { result.now ≡ self.now.result }
     {
         &self.result
@@ -137,14 +138,13 @@ impl Budget {
         Ok(())
     }
 
-    /// Shows a text as a line of its own. Where memory was refused nothing changes.
-    pub fn show(&mut self, text: &Text) -> Result<(), AllocError>
-        ensures ok { OnOk result (self.new ≡ shows self.old text.now) }
+    /// Shows a value as a line of its own. Where memory was refused nothing changes.
+    pub fn show(&mut self, value: &Value) -> Result<(), AllocError>
+        ensures ok { OnOk result (self.new ≡ shows self.old value.now) }
         ensures err { OnErr result (self.new ≡ self.old) }
     {
-        let mut bytes = Vec::new(self.alloc);
-        spell_into(&mut bytes, text.as_slice())?;
-        self.shown.push(Line::new(bytes))
+        let line = line_of(self.alloc, value)?;
+        self.shown.push(line)
     }
 
     /// Adds a message to those sent, with its name as it is written. Where memory was refused nothing changes.
@@ -157,10 +157,10 @@ impl Budget {
     }
 
     /// Sets `the result`.
-    pub fn set_result(&mut self, text: Text)
-        ensures { self.new ≡ record self.old { result = text } }
+    pub fn set_result(&mut self, value: Value)
+        ensures { self.new ≡ record self.old { result = value } }
     {
-        self.result = text;
+        self.result = value;
     }
 
     /// A property of the run as a text.
@@ -209,4 +209,14 @@ impl Budget {
             _ => Err(Fault::BadArgument),
         }
     }
+}
+
+/// The line that shows a value.
+fn line_of(alloc: Global, value: &Value) -> Result<Line, AllocError>
+    ensures { IfOk result (λ l. l ≡ spelled value.now) }
+{
+    let text = value.spelled(alloc)?;
+    let mut bytes = Vec::new(alloc);
+    spell_into(&mut bytes, text.text().as_slice())?;
+    Ok(Line::new(bytes))
 }

@@ -1,11 +1,10 @@
 //! The numbers of a repeat.
 
-ghost use Rattle.std.specs.Prelude.{◌≡◌, IfOk, false};
+ghost use Rattle.std.specs.Prelude.{◌≡◌, false};
 ghost use Rattle.ht_values.specs.Text.{numeral};
 ghost use Rattle.meaning.specs.Repeats.{is_over as is_over_of, stepped};
 
-use ht_values::{Text, text_of};
-use std::alloc::{AllocError, Global};
+use ht_values::Value;
 use std::marker::Model;
 
 /// The number of the turn that comes next, and the bound, which is passed upward or downward. No number past the bound is
@@ -54,12 +53,12 @@ impl Counter {
             }
     }
 
-    /// The number as a text.
-    pub fn value(&self, alloc: Global) -> Result<Text, AllocError>
+    /// The number of the turn as a value. It takes no memory.
+    pub fn value(&self) -> Value
         requires { is_over_of self.now ≡ false }
-        ensures { IfOk result (λ t. t ≡ numeral self.now.at) }
+        ensures { result ≡ numeral self.now.at }
     {
-        text_of(alloc, self.at)
+        Value::of_number(self.at)
     }
 
     /// Goes on to the next turn.

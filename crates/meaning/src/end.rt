@@ -1,6 +1,6 @@
 //! How statements end, and why a run stops.
 
-use ht_values::{Failure, Fault, Text};
+use ht_values::{Failure, Fault, Text, Value};
 use std::alloc::AllocError;
 
 /// How a statement ends that doesn't stop the run.
@@ -14,7 +14,7 @@ pub enum How {
     Exit,
     /// The message goes on behind the handler's object.
     Pass,
-    Returns(Text),
+    Returns(Value),
 }
 
 /// Why a part of a run ends the whole.

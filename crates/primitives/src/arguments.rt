@@ -3,14 +3,14 @@
 ghost use Rattle.std.specs.Prelude.{◌≡◌, [], ◌∷◌, ◌++◌, IfOk, length, option_copied};
 ghost use Rattle.meaning.specs.Messages.{only as only_of};
 
-use ht_values::Text;
+use ht_values::Value;
 use std::alloc::{AllocError, Global};
 use std::marker::Model;
 
-/// Texts that are handed over with a message, in their order.
+/// Values that are handed over with a message, in their order.
 #[derive(Drop)]
 pub struct Arguments {
-    items: Vec<Text>,
+    items: Vec<Value>,
 }
 
 impl Model for Arguments {
@@ -32,10 +32,10 @@ impl Arguments {
     }
 
     /// The arguments with another at their end.
-    pub fn with(mut self, text: Text) -> Result<Arguments, AllocError>
-        ensures { IfOk result (λ a. a ≡ self ++ text ∷ []) }
+    pub fn with(mut self, value: Value) -> Result<Arguments, AllocError>
+        ensures { IfOk result (λ a. a ≡ self ++ value ∷ []) }
     {
-        self.items.push(text)?;
+        self.items.push(value)?;
         Ok(self)
     }
 
@@ -47,18 +47,18 @@ impl Arguments {
     }
 
     /// The arguments as a slice.
-    pub fn as_slice(&self) -> &[Text]
+    pub fn as_slice(&self) -> &[Value]
         ensures { result.now ≡ self.now }
     {
         &self.items
     }
 
     /// The one argument, where there is just one.
-    pub fn only(&self) -> Option<&Text>
+    pub fn only(&self) -> Option<&Value>
         ensures { option_copied result ≡ only_of self.now }
     {
         match self.as_slice() {
-            [text] => Some(text),
+            [value] => Some(value),
             _ => None,
         }
     }

@@ -8,17 +8,19 @@ ghost use Rattle.change_journal.specs.Rising.{TookTurn};
 ghost use Rattle.containers.specs.Base.{base};
 ghost use Rattle.msg_path.specs.BuiltIns.{calls_function, external_named as external_by_name};
 ghost use Rattle.meaning.specs.Meaning.{CallsBack};
-ghost use Rattle.meaning.specs.Menu.{item_named as item_by_name};
-ghost use Rattle.meaning.specs.Messages.{Finds, is_ignored as ignores, parameters_of};
+ghost use Rattle.ht_values.specs.Text.{entry};
+ghost use Rattle.meaning.specs.Menu.{item_named as item_by_name, items as menu_items};
+ghost use Rattle.meaning.specs.Messages.{Finds, is_ignored as ignores, only as only_of, parameters_of};
 ghost use Rattle.meaning.specs.Repeats.{ends, returned as returned_by};
 ghost use Rattle.meaning.specs.State.{handler_frame as frame_of_handler, bound as bound_to};
 
 use crate::arguments::Arguments;
+use crate::values::empty;
 use change_journal::World;
 use externals::{Ask, External, Input, Texts};
 use ht_grammar::HandlerKind;
 use ht_lex::is_same;
-use ht_values::{Failure, Fault, Name, PartKind, Text};
+use ht_values::{Failure, Fault, Name, PartKind, Text, Value};
 use meaning::{Budget, Frame, How, Item, Stop};
 use msg_path::{FoundHandler, Scripts, external_named, first_handler, is_system_message};
 use object_table::{Id, Stack};
@@ -63,15 +65,18 @@ pub fn handler_frame(
 }
 
 /// Gives parameters their arguments.
-fn bind(alloc: Global, frame: &mut Frame, names: &[Name], values: &[Text]) -> Result<(), AllocError>
+fn bind(
+    alloc: Global,
+    frame: &mut Frame,
+    names: &[Name],
+    values: &[Value],
+) -> Result<(), AllocError>
     ensures { OnOk result (frame.new ≡ record frame.old { variables = bound_to names.now values.now frame.old.variables }) }
 {
     match (names, values) {
         ([], _) => Ok(()),
         ([name, names @ ..], []) => {
-            frame
-                .variables
-                .set(alloc, name.text(), Some(Text::new(alloc)))?;
+            frame.variables.set(alloc, name.text(), Some(empty(alloc)))?;
             bind(alloc, frame, names, &[])
         }
         ([name, names @ ..], [value, values @ ..]) => {
@@ -83,21 +88,21 @@ fn bind(alloc: Global, frame: &mut Frame, names: &[Name], values: &[Text]) -> Re
 }
 
 /// What a value is that a handler or an external returns: that of a function, or `the result` of a command.
-pub fn returned(run: &mut Budget, kind: HandlerKind, value: Text) -> Text
+pub fn returned(run: &mut Budget, kind: HandlerKind, value: Value) -> Value
     ensures meaning { returned_by kind value run.old ≡ record { value = result; run = run.new } }
     ensures left { run.new.left ≡ run.old.left }
 {
     match kind {
         HandlerKind::Command => {
             run.set_result(value);
-            Text::new(run.alloc())
+            empty(run.alloc())
         }
         HandlerKind::Function => value,
     }
 }
 
 /// What a handler gives by the end of its lines; `None` where it passes the message.
-pub fn outcome(run: &mut Budget, kind: HandlerKind, how: How) -> Option<Text>
+pub fn outcome(run: &mut Budget, kind: HandlerKind, how: How) -> Option<Value>
     ensures passed { result ≡ None → how ≡ How.Pass }
     ensures ended { IfSome result (λ v. ends kind how run.old ≡ Some (record { value = v; run = run.new })) }
     ensures same { result ≡ None → run.new ≡ run.old }
@@ -106,7 +111,7 @@ pub fn outcome(run: &mut Budget, kind: HandlerKind, how: How) -> Option<Text>
     match how {
         How::Pass => None,
         How::Returns(value) => Some(returned(run, kind, value)),
-        How::Next | How::Exit | How::ExitRepeat | How::NextRepeat => Some(Text::new(run.alloc())),
+        How::Next | How::Exit | How::ExitRepeat | How::NextRepeat => Some(empty(run.alloc())),
     }
 }
 
@@ -134,10 +139,39 @@ pub fn is_ignored(kind: HandlerKind, name: &Text) -> bool
 }
 
 /// The item of the menu that the arguments of `doMenu` name, in any case; `None` where they don't name just one.
-pub fn item_named(values: &Arguments) -> Option<Item>
-    ensures { result ≡ item_by_name values.now }
+pub fn item_named(alloc: Global, values: &Arguments) -> Result<Option<Item>, AllocError>
+    ensures { IfOk result (λ i. i ≡ item_by_name values.now) }
 {
-    let name = values.only()?.as_slice();
+    match values.as_slice() {
+        [value] => {
+            let name = value.spelled(alloc)?;
+            Ok(item(name.text().as_slice()))
+        }
+        _ => Ok(None),
+    }
+}
+
+/// The text of the one argument, where there is just one.
+pub fn only_text(alloc: Global, values: &Arguments) -> Result<Option<Text>, AllocError>
+    ensures { IfOk result (λ t. t ≡ only_of values.now) }
+{
+    match values.only() {
+        Some(value) => Ok(Some(copied_text(alloc, value)?)),
+        None => Ok(None),
+    }
+}
+
+/// The text of a value, as one of its own.
+fn copied_text(alloc: Global, value: &Value) -> Result<Text, AllocError>
+    ensures { IfOk result (λ t. t ≡ value.now) }
+{
+    value.try_clone(alloc)?.into_text(alloc)
+}
+
+/// The item of the menu of that name, in any case.
+fn item(name: &[u8]) -> Option<Item>
+    ensures { result ≡ entry menu_items name.now }
+{
     if is_same(b"New Card", name) {
         Some(Item::NewCard)
     } else if is_same(b"New Background", name) {
@@ -159,7 +193,7 @@ pub fn start(alloc: Global, values: &Arguments) -> Result<Input, AllocError>
 {
     let mut texts = Texts::new(alloc);
     for value in values.as_slice() {
-        push(&mut texts, value.try_clone(alloc)?)?;
+        push(&mut texts, copied_text(alloc, value)?)?;
     }
     Ok(Input::Start(texts))
 }

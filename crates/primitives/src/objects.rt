@@ -16,7 +16,7 @@ ghost use Rattle.meaning.specs.Values.{Yields};
 use change_journal::{Change, World};
 use externals::External;
 use ht_grammar::Layer;
-use ht_values::{Failure, Fault, PartKind, Prop, Text};
+use ht_values::{Failure, Fault, PartKind, Prop, Value};
 use meaning::{Budget, Frame, Stop, SystemMessage};
 use object_references::{
     PartScope, Pick, Referent, Sought, background_met, card_found, card_met, first_card_found,
@@ -34,11 +34,11 @@ pub fn target_name<E: External>(
     alloc: Global,
     world: &World<E>,
     frame: &Frame,
-) -> Result<Text, Stop>
+) -> Result<Value, Stop>
     ensures { Yields (settings.name_of world.now.history.now.stack world.now.history.now.current frame.now.target) result }
 {
     match name_of(alloc, world.stack(), world.current(), frame.target) {
-        Ok(name) => Ok(name),
+        Ok(name) => Ok(Value::of_text(name)),
         Err(Failure::Fault(fault)) => Err(Stop::Fault(fault)),
         Err(Failure::Memory) => Err(Stop::Memory),
     }
@@ -51,11 +51,11 @@ pub fn property<E: External>(
     world: &World<E>,
     object: Referent,
     name: Prop,
-) -> Result<Text, Stop>
+) -> Result<Value, Stop>
     ensures { Yields (property_text world.now.history.now.stack object.card object.object name) result }
 {
     match get(alloc, world.stack(), object.card, object.object, name) {
-        Ok(text) => Ok(text),
+        Ok(text) => Ok(Value::of_text(text)),
         Err(Failure::Fault(fault)) => Err(Stop::Fault(fault)),
         Err(Failure::Memory) => Err(Stop::Memory),
     }

@@ -23,7 +23,7 @@ use containers::{Container, Edit, Place, declare, read, read_name, resolve, writ
 use externals::{External, Input, Texts};
 use ht_grammar::Layer;
 use ht_lex::{Ordinal, is_name};
-use ht_values::{ChunkKind, Failure, Fault, Name, Prop, Text, Where};
+use ht_values::{ChunkKind, Failure, Fault, Name, Prop, Text, Value, Where};
 use meaning::{Budget, Counter, Frame, Stop};
 use object_references::{Referent, field_named, set_change};
 use std::alloc::{AllocError, Global};
@@ -69,10 +69,10 @@ pub fn variable<E: External>(
     world: &World<E>,
     frame: &Frame,
     name: &Name,
-) -> Result<Text, AllocError>
+) -> Result<Value, AllocError>
     ensures { IfOk result (λ t. t ≡ read_name_of world.now.history.now frame.now.variables name.now) }
 {
-    read_name(world, &frame.variables, name).try_clone(alloc)
+    read_name(alloc, world, &frame.variables, name)
 }
 
 /// The place of a variable.
@@ -120,7 +120,7 @@ pub fn field_text<E: External>(
     frame: &Frame,
     delimiter: u8,
     field: Referent,
-) -> Result<Text, Stop>
+) -> Result<Value, Stop>
     ensures { Yields (text_of_field world.now.history.now frame.now.variables delimiter field) result }
 {
     match resolve(
@@ -130,7 +130,7 @@ pub fn field_text<E: External>(
         Container::Field(field.object, field.card),
     ) {
         Ok(place) => match read(alloc, world, &frame.variables, &place, delimiter) {
-            Ok(text) => Ok(text),
+            Ok(value) => Ok(value),
             Err(Failure::Fault(fault)) => Err(Stop::Fault(fault)),
             Err(Failure::Memory) => Err(Stop::Memory),
         },
@@ -159,7 +159,7 @@ pub fn edit<E: External>(
     }
 }
 
-/// Puts a text into a variable.
+/// Puts a value into a variable.
 #[tactic(auto, using(meaning::proofs::Rules::edits_rules))]
 fn put_into<E: External>(
     alloc: Global,
@@ -167,7 +167,7 @@ fn put_into<E: External>(
     world: &mut World<E>,
     frame: &mut Frame,
     name: &Name,
-    new: Text,
+    new: Value,
 ) -> Result<(), Stop>
     requires open { IsSome (base world.old.history).start }
     ensures meaning { Edits world.old.history frame.old delimiter (place_of_variable frame.old.variables name.now) (Put Into new) result world.new.history frame.new }
@@ -191,14 +191,14 @@ fn it(alloc: Global) -> Result<Name, AllocError>
     Name::new(alloc, short_text(alloc, b"it")?)
 }
 
-/// Puts a text into `it`, in the open batch.
+/// Puts a value into `it`, in the open batch.
 #[tactic(auto, using(meaning::proofs::Rules::edits_rules))]
 pub fn put_into_it<E: External>(
     alloc: Global,
     delimiter: u8,
     world: &mut World<E>,
     frame: &mut Frame,
-    new: Text,
+    new: Value,
 ) -> Result<(), Stop>
     requires open { IsSome (base world.old.history).start }
     ensures meaning { Edits world.old.history frame.old delimiter (place_of_variable frame.old.variables it_name) (Put Into new) result world.new.history frame.new }
@@ -224,10 +224,7 @@ pub fn assign<E: External>(
     ensures base { base world.new.history ≡ base world.old.history }
 {
     match variable {
-        Some(name) => {
-            let value = turn.value(alloc)?;
-            put_into(alloc, delimiter, world, frame, name, value)
-        }
+        Some(name) => { put_into(alloc, delimiter, world, frame, name, turn.value()) }
         None => Ok(()),
     }
 }
@@ -325,7 +322,7 @@ pub fn set_global<E: External>(
         world,
         &mut frame,
         &name,
-        value,
+        Value::of_text(value),
     )?;
     Ok(Input::Answer(note, Text::new(run.alloc())))
 }
@@ -376,7 +373,7 @@ pub fn set_field<E: External>(
         world,
         &mut frame,
         place,
-        Edit::Put(Where::Into, value),
+        Edit::Put(Where::Into, Value::of_text(value)),
     )?;
     Ok(Input::Answer(note, Text::new(run.alloc())))
 }

@@ -3,9 +3,10 @@
 ghost use Rattle.std.specs.Prelude.{◌≡◌, ℕ, ℤ, pos, [], ◌∷◌, List, IfOk, length, ◌≤◌};
 ghost use Rattle.ht_values.specs.Functions.{built_in as built_in_of};
 ghost use Rattle.ht_values.specs.Number.{number_of as number_of_text};
-ghost use Rattle.ht_values.specs.Operators.{binary as binary_of, unary as unary_of, truth_of as truth_of_text, word_of};
+ghost use Rattle.ht_values.specs.Operators.{binary as binary_of, unary as unary_of, truth_of as truth_of_text};
 ghost use Rattle.ht_values.specs.Outcome.{Gives};
 ghost use Rattle.ht_values.specs.Text.{numeral as numeral_of};
+ghost use Rattle.chunks.specs.Pieces.{count as count_of, read};
 ghost use Rattle.ht_lex.specs.Constants.{constant_text as text_of_constant};
 ghost use Rattle.ht_grammar.specs.Functions.{func_of};
 ghost use Rattle.ht_grammar.specs.Trees as tree;
@@ -21,13 +22,12 @@ ghost use Rattle.meaning.specs.Values.{Parses, Yields};
 ghost use Rattle.primitives.specs.Views.{read_as};
 
 use crate::arguments::Arguments;
+use chunks::{Chunk, count, take};
 use ht_grammar::{FunctionWord, RunProp};
 use ht_lex::Constant;
 use ht_parse::{ParseError, parse_expr, parse_lines, parse_message};
 use ht_tree::{Expr, Message, Stmts};
-use ht_values::{
-    Failure, Fault, Func, Op, Text, UnOp, binary, built_in, number_of, truth_of, unary,
-};
+use ht_values::{ChunkKind, Failure, Fault, Func, Op, Text, UnOp, Value, binary, built_in, unary};
 use itoa::Buffer;
 use meaning::{Budget, Counter, Stop};
 use object_references::Referent;
@@ -35,7 +35,7 @@ use std::alloc::{AllocError, Global};
 
 /// What an operator gives of two operands, or its first fault.
 #[tactic(auto, using(meaning::proofs::Rules::yields_rules))]
-pub fn apply(alloc: Global, op: Op, left: &Text, right: &Text) -> Result<Text, Stop>
+pub fn apply(alloc: Global, op: Op, left: &Value, right: &Value) -> Result<Value, Stop>
     ensures { Yields (binary_of op left.now right.now) result }
 {
     match binary(alloc, op, left, right) {
@@ -45,21 +45,20 @@ pub fn apply(alloc: Global, op: Op, left: &Text, right: &Text) -> Result<Text, S
     }
 }
 
-/// What an operator gives of one operand, or its fault.
+/// What an operator gives of one operand, or its fault. It takes no memory.
 #[tactic(auto, using(meaning::proofs::Rules::yields_rules))]
-pub fn apply_one(alloc: Global, op: UnOp, operand: &Text) -> Result<Text, Stop>
+pub fn apply_one(op: UnOp, operand: &Value) -> Result<Value, Stop>
     ensures { Yields (unary_of op operand.now) result }
 {
-    match unary(alloc, op, operand) {
+    match unary(op, operand) {
         Ok(value) => Ok(value),
-        Err(Failure::Fault(fault)) => Err(Stop::Fault(fault)),
-        Err(Failure::Memory) => Err(Stop::Memory),
+        Err(fault) => Err(Stop::Fault(fault)),
     }
 }
 
 /// What a function gives of its arguments, or its first fault.
 #[tactic(auto, using(meaning::proofs::Rules::yields_rules))]
-pub fn call_function(alloc: Global, function: Func, values: &Arguments) -> Result<Text, Stop>
+pub fn call_function(alloc: Global, function: Func, values: &Arguments) -> Result<Value, Stop>
     ensures { Yields (built_in_of function values.now) result }
 {
     match built_in(alloc, function, values.as_slice()) {
@@ -71,7 +70,7 @@ pub fn call_function(alloc: Global, function: Func, values: &Arguments) -> Resul
 
 /// What a function gives of one argument, or its first fault.
 #[tactic(auto, using(meaning::proofs::Rules::yields_rules))]
-pub fn call_of_one(alloc: Global, function: Func, value: Text) -> Result<Text, Stop>
+pub fn call_of_one(alloc: Global, function: Func, value: Value) -> Result<Value, Stop>
     ensures { Yields (built_in_of function (value ∷ [])) result }
 {
     let values = Arguments::new(alloc).with(value)?;
@@ -85,46 +84,46 @@ pub fn function_named(word: FunctionWord) -> Option<Func>
     word.func()
 }
 
-/// The number of a text, or the fault that it is none. It takes no memory.
+/// The number that a value means, or the fault that it means none. It takes no memory.
 #[tactic(auto, using(meaning::proofs::Rules::yields_rules))]
-pub fn number(text: &Text) -> Result<i64, Stop>
-    ensures { Yields (number_of_text text.now) result }
+pub fn number(value: &Value) -> Result<i64, Stop>
+    ensures { Yields (number_of_text value.now) result }
 {
-    match number_of(text) {
+    match value.number() {
         Ok(number) => Ok(number),
         Err(fault) => Err(Stop::Fault(fault)),
     }
 }
 
-/// The truth value of a text, or the fault that it is none. It takes no memory.
+/// The truth value that a value means, or the fault that it means none. It takes no memory.
 #[tactic(auto, using(meaning::proofs::Rules::yields_rules))]
-pub fn truth(text: &Text) -> Result<bool, Stop>
-    ensures { Yields (truth_of_text text.now) result }
+pub fn truth(value: &Value) -> Result<bool, Stop>
+    ensures { Yields (truth_of_text value.now) result }
 {
-    match truth_of(text) {
+    match value.truth() {
         Ok(truth) => Ok(truth),
         Err(fault) => Err(Stop::Fault(fault)),
     }
 }
 
-/// A count as a text, its decimal numeral.
-pub fn numeral(alloc: Global, count: usize) -> Result<Text, AllocError>
+/// A count as a value, its decimal numeral.
+pub fn numeral(alloc: Global, count: usize) -> Result<Value, AllocError>
     ensures { IfOk result (λ t. t ≡ numeral_of (pos count)) }
 {
     let mut buffer = Buffer::new();
     let digits = Vec::from_slice(alloc, buffer.format(count).as_bytes())?;
     match Text::from_vec(digits) {
-        Ok(text) => Ok(text),
+        Ok(text) => Ok(Value::of_text(text)),
         Err(_) => unreachable!(),
     }
 }
 
-/// A property of the run as a text.
-pub fn run_property(run: &Budget, property: RunProp) -> Result<Text, AllocError>
+/// A property of the run as a value.
+pub fn run_property(run: &Budget, property: RunProp) -> Result<Value, AllocError>
     ensures { IfOk result (λ t. t ≡ run_property_of run.now property) }
 {
     match run.property(property) {
-        Ok(text) => Ok(text),
+        Ok(text) => Ok(Value::of_text(text)),
         Err(Failure::Memory) => Err(AllocError),
         Err(Failure::Fault(_)) => unreachable!(),
     }
@@ -141,37 +140,64 @@ pub fn short_text(alloc: Global, bytes: &[u8]) -> Result<Text, AllocError>
     }
 }
 
-/// A truth value as a text, `true` or `false`.
-pub fn word(alloc: Global, truth: bool) -> Result<Text, AllocError>
-    ensures { IfOk result (λ t. t ≡ word_of truth) }
+/// The empty value. It takes no memory.
+pub fn empty(alloc: Global) -> Value
+    ensures { result ≡ [] }
 {
-    short_text(alloc, if truth { b"true" } else { b"false" })
+    Value::of_text(Text::new(alloc))
+}
+
+/// Pieces of a value.
+pub fn taken(
+    alloc: Global,
+    whole: Value,
+    pieces: &Chunk,
+    delimiter: u8,
+) -> Result<Value, AllocError>
+    ensures { IfOk result (λ v. v ≡ read delimiter pieces.now whole) }
+{
+    let whole = whole.into_text(alloc)?;
+    Ok(Value::of_text(take(alloc, &whole, pieces, delimiter)?))
+}
+
+/// How many pieces of a kind a value has, as a value.
+pub fn piece_count(
+    alloc: Global,
+    whole: Value,
+    kind: ChunkKind,
+    delimiter: u8,
+) -> Result<Value, AllocError>
+    ensures { IfOk result (λ v. v ≡ numeral_of (pos (count_of delimiter kind whole))) }
+{
+    let whole = whole.into_text(alloc)?;
+    let number = count(whole.as_slice(), kind, delimiter);
+    Ok(Value::of_number(number as i64))
 }
 
 /// What `there is` says of an object that was looked for. That there is none is an answer, any other stop isn't.
 #[tactic(auto, using(meaning::proofs::Rules::val_there_is_rules))]
-pub fn there(alloc: Global, is_no: bool, met: Result<Referent, Stop>) -> Result<Text, Stop>
+pub fn there(is_no: bool, met: Result<Referent, Stop>) -> Result<Value, Stop>
     ensures { (w w1 : History) (r r1 : RunState) (f : Frame) (d : ℕ) (sought : tree.Ref) → Meets w r f d sought met w1 r1 → Val w r f d (tree.there_is is_no sought) result w1 r1 }
 {
     match met {
-        Ok(_) => Ok(word(alloc, !is_no)?),
-        Err(Stop::Fault(Fault::NoSuchObject)) => Ok(word(alloc, is_no)?),
+        Ok(_) => Ok(Value::of_truth(!is_no)),
+        Err(Stop::Fault(Fault::NoSuchObject)) => Ok(Value::of_truth(is_no)),
         Err(stop) => Err(stop),
     }
 }
 
-/// The text of a constant.
-pub fn constant_text(alloc: Global, constant: Constant) -> Result<Text, AllocError>
-    ensures { IfOk result (λ t. t ≡ text_of_constant constant) }
+/// The value of a constant.
+pub fn constant_value(alloc: Global, constant: Constant) -> Result<Value, AllocError>
+    ensures { IfOk result (λ v. v ≡ text_of_constant constant) }
 {
-    short_text(alloc, constant.bytes())
+    Ok(Value::of_text(short_text(alloc, constant.bytes())?))
 }
 
-/// The text of the constant `return`.
-pub fn return_sign(alloc: Global) -> Result<Text, AllocError>
-    ensures { IfOk result (λ t. t ≡ 13 ∷ []) }
+/// The value of the constant `return`.
+pub fn return_sign(alloc: Global) -> Result<Value, AllocError>
+    ensures { IfOk result (λ v. v ≡ 13 ∷ []) }
 {
-    short_text(alloc, b"\r")
+    Ok(Value::of_text(short_text(alloc, b"\r")?))
 }
 
 /// Whether a repeat goes on that wants its condition to be so.
@@ -181,12 +207,12 @@ pub fn goes_on(wanted: bool, truth: bool) -> bool
     if wanted { truth } else { !truth }
 }
 
-/// The numbers from one text to another, up or down; the fault of the first text that is no number. It takes no memory.
+/// The numbers from one value to another, up or down; the fault of the first that means no number. It takes no memory.
 #[tactic(auto, using(meaning::proofs::Rules::yields_rules))]
-pub fn counter(from: &Text, to: &Text, is_down: bool) -> Result<Counter, Stop>
+pub fn counter(from: &Value, to: &Value, is_down: bool) -> Result<Counter, Stop>
     ensures { Yields (counter_of from.now to.now is_down) result }
 {
-    match (number_of(from), number_of(to)) {
+    match (from.number(), to.number()) {
         (Ok(at), Ok(bound)) => Ok(Counter::new(at, bound, is_down)),
         (Err(fault), _) => Err(Stop::Fault(fault)),
         (Ok(_), Err(fault)) => Err(Stop::Fault(fault)),

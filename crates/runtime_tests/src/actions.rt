@@ -9,7 +9,7 @@ use change_journal::World;
 use containers::Edit;
 use externals::External;
 use ht_parse::{parse_lines, parse_part, parse_type};
-use ht_values::{Fault, Text, Where};
+use ht_values::{Fault, Text, Value, Where};
 use interp::find_ref;
 use meaning::{Budget, Ended, Frame, Sent, Stop};
 use msg_path::Scripts;
@@ -595,8 +595,9 @@ fn written<E: External>(
     };
     let mut frame = Frame::typed(alloc, world.current());
     let place = field_place(alloc, world, &frame, field)?;
-    edit(alloc, b',', world, &mut frame, place, Edit::Put(put, new))?;
-    field_text(alloc, world, &frame, b',', field)
+    let edit_of = Edit::Put(put, Value::of_text(new));
+    edit(alloc, b',', world, &mut frame, place, edit_of)?;
+    Ok(field_text(alloc, world, &frame, b',', field)?.into_text(alloc)?)
 }
 
 /// A field of the stack, for a card.

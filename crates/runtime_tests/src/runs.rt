@@ -1,7 +1,7 @@
 //! Runs of commands: steps, properties, what is shown and sent, frames, and the numbers of repeats.
 
 use ht_grammar::RunProp;
-use ht_values::{Fault, Name, Text};
+use ht_values::{Fault, Name, Text, Value};
 use meaning::{Budget, Counter, Frame, Line, Sent, SentMessage, Shown, Stop, SystemMessage};
 use std::alloc::Global;
 use std::test::*;
@@ -23,8 +23,14 @@ fn steps_are_taken_until_none_is_left(rt: HostRuntime) -> Result<(), Fail> {
 fn a_run_begins_with_nothing_set(rt: HostRuntime) -> Result<(), Fail> {
     let run = Budget::new(rt.alloc(), 1);
     assert!(rt; run.delimiter() == b',' && !run.lock_messages() && !run.edit_background());
-    assert!(rt; run.result().len() == 0 && run.shown().is_empty() && run.sent().is_empty());
+    assert!(rt; is_result(rt.alloc(), &run, b"")?);
+    assert!(rt; run.shown().is_empty() && run.sent().is_empty());
     Ok(())
+}
+
+/// Whether this is the result.
+fn is_result(alloc: Global, run: &Budget, due: &[u8]) -> Result<bool, Fail> {
+    Ok(run.result().spelled(alloc)?.text().as_slice() == due)
 }
 
 /// Whether a text may be set, and is read then.
@@ -66,7 +72,7 @@ fn properties_of_a_run(rt: HostRuntime) -> Result<(), Fail> {
 /// What a run shows of a text.
 fn shown(alloc: Global, bytes: &[u8], due: &[u8]) -> Result<bool, Fail> {
     let mut run = Budget::new(alloc, 1);
-    run.show(&text(alloc, bytes)?)?;
+    run.show(&Value::of_text(text(alloc, bytes)?))?;
     Ok(run.shown().len() == 1 && run.shown().at(0).as_slice() == due)
 }
 
@@ -91,8 +97,8 @@ fn a_message_is_noted_with_its_object(rt: HostRuntime) -> Result<(), Fail> {
 #[test]
 fn the_result_is_set(rt: HostRuntime) -> Result<(), Fail> {
     let mut run = Budget::new(rt.alloc(), 1);
-    run.set_result(text(rt.alloc(), b"7")?);
-    assert!(rt; run.result().as_slice() == b"7".as_slice());
+    run.set_result(Value::of_number(7));
+    assert!(rt; is_result(rt.alloc(), &run, b"7")?);
     Ok(())
 }
 
@@ -116,7 +122,7 @@ fn turns(alloc: Global, counter: Counter, most: usize) -> Result<Vec<Text>, Fail
         if counter.is_over() {
             break;
         }
-        numbers.push(counter.value(alloc)?)?;
+        numbers.push(counter.value().into_text(alloc)?)?;
         counter.step();
     }
     Ok(numbers)

@@ -6,6 +6,8 @@ ghost use Rattle.ht_tree.specs.View.{part_of};
 ghost use Rattle.containers.specs.Base.{base};
 ghost use Rattle.meaning.specs.Actions.{leaving_message as message_on_leaving, locks_text};
 ghost use Rattle.meaning.specs.Meaning.{TypesOver};
+ghost use Rattle.meaning.specs.Places.{field_text as text_of_field};
+ghost use Rattle.meaning.specs.Values.{Yields};
 ghost use Rattle.user_actions.specs.Views.{TypingEnds};
 
 use crate::messages::tell;
@@ -13,13 +15,14 @@ use change_journal::World;
 use containers::Edit;
 use externals::External;
 use ht_tree::Part;
-use ht_values::{Text, Where};
+use ht_values::{Text, Value, Where};
 use interp::find_ref;
 use meaning::{Budget, Ended, Frame, Stop, SystemMessage};
 use msg_path::Scripts;
 use object_references::{Referent, met_here};
 use object_table::{Id, Kind, Stack};
 use primitives::places::{edit, field_place, field_text};
+use std::alloc::Global;
 
 /// Whether the text of a field is locked against typing.
 fn is_locked(stack: &Stack, field: Id) -> bool
@@ -37,6 +40,20 @@ fn is_locked(stack: &Stack, field: Id) -> bool
         },
         None => false,
     }
+}
+
+/// The text of a field for the card with which it was met; fault 3 where it keeps none.
+#[tactic(auto, using(meaning::proofs::Rules::yields_rules))]
+fn text_of<E: External>(
+    alloc: Global,
+    world: &World<E>,
+    frame: &Frame,
+    delimiter: u8,
+    field: Referent,
+) -> Result<Text, Stop>
+    ensures { Yields (text_of_field world.now.history.now frame.now.variables delimiter field) result }
+{
+    Ok(field_text(alloc, world, frame, delimiter, field)?.into_text(alloc)?)
 }
 
 /// The message with which a field is left.
@@ -71,13 +88,13 @@ fn type_over<E: External>(
         Err(Stop::Fault(_)) => return Ok(Ended::Done),
         Err(_) => return Err(Stop::Memory),
     };
-    let old = match field_text(run.alloc(), world, &frame, run.delimiter(), field) {
+    let old = match text_of(run.alloc(), world, &frame, run.delimiter(), field) {
         Ok(old) => old,
         Err(Stop::Fault(_)) => return Ok(Ended::Done),
         Err(_) => return Err(Stop::Memory),
     };
     let message = leaving_message(&old, text);
-    let new = text.try_clone(run.alloc())?;
+    let new = Value::copied(run.alloc(), text)?;
     edit(
         run.alloc(),
         run.delimiter(),

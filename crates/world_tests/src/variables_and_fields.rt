@@ -9,10 +9,10 @@ use crate::worlds::open_world;
 use change_journal::{Change, World};
 use chunks::{Chunk, Index};
 use containers::{
-    Container, Edit, Place, Variables, declare, read, read_name, resolve, text_in, write,
-    writes_are_due, written_is_read,
+    Container, Edit, Place, Standing, Variables, declare, read, read_name, resolve, standing_in,
+    write, writes_are_due, written_is_read,
 };
-use ht_values::{ChunkKind, Failure, Fault, Name, Op, Text, Where};
+use ht_values::{ChunkKind, Failure, Fault, Name, Op, Text, Value, Where};
 use object_table::{Id, PropValue};
 use std::alloc::Global;
 use std::test::Fail;
@@ -64,6 +64,10 @@ fn text(alloc: Global, bytes: &[u8]) -> Result<Text, Failure> {
     }
 }
 
+fn value(alloc: Global, bytes: &[u8]) -> Result<Value, Failure> {
+    Ok(Value::of_text(text(alloc, bytes)?))
+}
+
 fn name(alloc: Global, bytes: &[u8]) -> Result<Name, Failure> {
     Ok(Name::new(alloc, text(alloc, bytes)?)?)
 }
@@ -109,8 +113,8 @@ fn edit(
     ensures { IsSome (base world.new.history).start }
 {
     let edit = match work {
-        Work::Put(at, bytes) => Edit::Put(at, text(alloc, bytes)?),
-        Work::Add(operand) => Edit::Alter(Op::Add, text(alloc, operand)?),
+        Work::Put(at, bytes) => Edit::Put(at, value(alloc, bytes)?),
+        Work::Add(operand) => Edit::Alter(Op::Add, value(alloc, operand)?),
         Work::Delete => Edit::Delete,
     };
     write(alloc, world, variables, place, edit, b',')
@@ -173,7 +177,7 @@ fn held(
     container: Container<'_>,
 ) -> Result<Text, Failure> {
     let place = resolve(alloc, world, variables, container)?;
-    read(alloc, world, variables, &place, b',')
+    Ok(read(alloc, world, variables, &place, b',')?.into_text(alloc)?)
 }
 
 /// Does a part, and reads what the container then holds.
@@ -397,9 +401,9 @@ fn containers_are_edited(rt: HostRuntime) -> Result<(), Fail> {
 }
 
 /// Variables of a handler, of which `SUM` was given a value or declared.
-fn with_sum(alloc: Global, value: Option<&[u8]>) -> Result<Variables, Failure> {
-    let value = match value {
-        Some(value) => Some(text(alloc, value)?),
+fn with_sum(alloc: Global, given: Option<&[u8]>) -> Result<Variables, Failure> {
+    let value = match given {
+        Some(bytes) => Some(value(alloc, bytes)?),
         None => None,
     };
     let sum = text(alloc, b"SUM")?;
@@ -416,7 +420,8 @@ fn sum_reads(
     wanted: &[u8],
 ) -> Result<bool, Failure> {
     let sum = name(alloc, b"Sum")?;
-    Ok(read_name(world, variables, &sum).as_slice() == wanted)
+    let read = read_name(alloc, world, variables, &sum)?.into_text(alloc)?;
+    Ok(read.as_slice() == wanted)
 }
 
 #[test]
@@ -433,9 +438,9 @@ fn names_read_as_values_or_spellings(rt: HostRuntime) -> Result<(), Fail> {
 fn length_in(alloc: Global, world: &World<Turner>) -> Result<usize, Failure> {
     let variables = Variables::of_typed_line(alloc);
     let place = resolve(alloc, world, &variables, Container::Field(3, 2))?;
-    match text_in(world, &variables, &place) {
-        Some(text) => Ok(text.len()),
-        None => Err(Failure::Fault(Fault::NoSuchObject)),
+    match standing_in(world, &variables, &place) {
+        Some(Standing::Text(text)) => Ok(text.len()),
+        _ => Err(Failure::Fault(Fault::NoSuchObject)),
     }
 }
 

@@ -136,4 +136,4 @@ system::systems-loop-message-preserved g t c = record {
 }
 
 pub system::systems-returns-clause-meaning : goal.system::systems-returns-clause-meaning
-system::systems-returns-clause-meaning g t c = rw c.new.ensures (c.loop-message.invariant.rest _ _ _ (Systems.systems_done (drop_of_length-le c.args.messages.now c.loop-message-test.false)))
+system::systems-returns-clause-meaning g t c = rw c.empty.ensures (c.loop-message.invariant.rest _ _ _ (Systems.systems_done (drop_of_length-le c.args.messages.now c.loop-message-test.false)))

@@ -1,18 +1,34 @@
 //! What the functions of texts give.
 
-use super::is_given;
+use super::{is_given, is_value, value_of};
 use ht_grammar::FunctionWord;
-use ht_values::{Fault, Func, LIMIT, Text, built_in, joined};
+use ht_values::{Fault, Func, LIMIT, Text, Value, built_in, joined};
 use std::alloc::Global;
 use std::test::*;
 
-/// The texts that `;` separates.
-fn arguments_of(alloc: Global, bytes: &[u8]) -> Result<Vec<Text>, Fail> {
+/// The values that `;` separates.
+fn arguments_of(alloc: Global, bytes: &[u8], as_text: bool) -> Result<Vec<Value>, Fail> {
     let mut arguments = Vec::new(alloc);
     for bytes in bytes.split(|byte| *byte == b';') {
-        arguments.push(Text::from_slice(alloc, bytes)?)?;
+        arguments.push(value_of(alloc, bytes, as_text)?)?;
     }
     Ok(arguments)
+}
+
+/// Whether the function gives this of its arguments, however their values are kept.
+fn gives(
+    alloc: Global,
+    func: Func,
+    given: &[u8],
+    expected: &Result<&[u8], Fault>,
+) -> Result<bool, Fail> {
+    for as_text in [true, false] {
+        let arguments = arguments_of(alloc, given, as_text)?;
+        if !is_value(alloc, built_in(alloc, func, &arguments), expected)? {
+            return Ok(false);
+        }
+    }
+    Ok(true)
 }
 
 /// Each function gives this of its arguments, which `;` separates.
@@ -53,9 +69,8 @@ fn functions_of_texts(rt: HostRuntime) -> Result<(), Fail> {
         (Func::Offset, b"a", Err(Fault::BadArgument)),
     ];
     for (func, given, expected) in rows {
-        let arguments = arguments_of(rt.alloc(), given)?;
         assert!(rt;
-            is_given(built_in(rt.alloc(), *func, &arguments), expected),
+            gives(rt.alloc(), *func, given, expected)?,
             "{func:?} {given:?}"
         );
     }
@@ -94,11 +109,15 @@ fn words_that_call_functions(rt: HostRuntime) {
 }
 
 #[test]
-fn no_argument_is_a_bad_argument(rt: HostRuntime) {
+fn no_argument_is_a_bad_argument(rt: HostRuntime) -> Result<(), Fail> {
     for func in [Func::Abs, Func::Max, Func::Min, Func::Length, Func::Offset] {
         let given = built_in(rt.alloc(), func, &[]);
-        assert!(rt; is_given(given, &Err(Fault::BadArgument)), "{func:?}");
+        assert!(rt;
+            is_value(rt.alloc(), given, &Err(Fault::BadArgument))?,
+            "{func:?}"
+        );
     }
+    Ok(())
 }
 
 /// The longest text, without its type.

@@ -1,9 +1,9 @@
 //! What operators give, by the table of the profile.
 
-use super::is_given;
+use super::{is_given, is_value, value_of};
 use ht_values::{
-    Fault, LIMIT, Op, Text, UnOp, ValueType, binary, in_word, number_of, numeral, truth_of, unary,
-    without_front_spaces,
+    Failure, Fault, LIMIT, Op, Text, UnOp, ValueType, binary, in_word, number_of, numeral,
+    truth_of, unary, without_front_spaces,
 };
 use std::alloc::Global;
 use std::process::Abort;
@@ -13,7 +13,7 @@ const LEAST: &[u8] = b"-9223372036854775808";
 
 const GREATEST: &[u8] = b"9223372036854775807";
 
-/// Whether the operator gives this of these texts.
+/// Whether the operator gives this of these texts, however their values are kept.
 fn gives(
     alloc: Global,
     op: Op,
@@ -21,9 +21,33 @@ fn gives(
     right: &[u8],
     expected: &Result<&[u8], Fault>,
 ) -> Result<bool, Fail> {
-    let left = Text::from_slice(alloc, left)?;
-    let right = Text::from_slice(alloc, right)?;
-    Ok(is_given(binary(alloc, op, &left, &right), expected))
+    for as_text in [true, false] {
+        let left = value_of(alloc, left, as_text)?;
+        let right = value_of(alloc, right, as_text)?;
+        if !is_value(alloc, binary(alloc, op, &left, &right), expected)? {
+            return Ok(false);
+        }
+    }
+    Ok(true)
+}
+
+/// Whether the operator of one operand gives this, however its value is kept.
+fn gives_of_one(
+    alloc: Global,
+    op: UnOp,
+    operand: &[u8],
+    expected: &Result<&[u8], Fault>,
+) -> Result<bool, Fail> {
+    for as_text in [true, false] {
+        let given = match unary(op, &value_of(alloc, operand, as_text)?) {
+            Ok(value) => Ok(value),
+            Err(fault) => Err(Failure::Fault(fault)),
+        };
+        if !is_value(alloc, given, expected)? {
+            return Ok(false);
+        }
+    }
+    Ok(true)
 }
 
 /// Each operator gives this value of these texts.
@@ -286,9 +310,7 @@ fn operators_of_one_operand(rt: HostRuntime) -> Result<(), Fail> {
         (UnOp::IsNotA(ValueType::Number), b"7x", Ok(b"true")),
     ];
     for (op, operand, expected) in rows {
-        let operand = Text::from_slice(rt.alloc(), operand)?;
-        let given = unary(rt.alloc(), *op, &operand);
-        assert!(rt; is_given(given, expected), "{op:?}");
+        assert!(rt; gives_of_one(rt.alloc(), *op, operand, expected)?, "{op:?}");
     }
     Ok(())
 }
