@@ -1,11 +1,15 @@
-//! Examples of the crates of objects, with ample memory. A crate that has tests is proved a second time for them, so they stand
-//! here, above the crates that they try, where nothing else is to be proved.
+//! Examples of the crates of objects and of externals, with ample memory. A crate that has tests is proved a second time for
+//! them, so they stand here, above the crates that they try, where nothing else is to be proved.
 #![tactic(auto)]
 
+#[cfg(test)]
+mod conversations;
 #[cfg(test)]
 mod external_cells;
 #[cfg(test)]
 mod files;
+#[cfg(test)]
+mod kit;
 #[cfg(test)]
 mod objects;
 #[cfg(test)]
@@ -16,5 +20,7 @@ mod references;
 mod settings;
 #[cfg(test)]
 mod spelling;
+#[cfg(test)]
+mod tools;
 #[cfg(test)]
 mod watched_devices;

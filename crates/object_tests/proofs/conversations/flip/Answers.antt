@@ -1,5 +1,5 @@
 use Rattle.externals.proofs.Flipping.{length-flipped, IsProper-taken_out}
-use Rattle.external_tests.proofs.conversations.flip.Goals as goal
+use Rattle.object_tests.proofs.conversations.flip.Goals as goal
 
 pub returns : goal.returns
 returns g c =
