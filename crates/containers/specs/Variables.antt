@@ -21,7 +21,7 @@ is_global v name = v.all_global || unwrap_or (option_map (λ l. is_none l.value)
 abbrev pub own_value : VariablesView → List ℕ → Option (List ℕ)
 own_value v name = option_and_then (λ l. l.value) (local_of v name)
 
--- its text, which is empty where it has no value
+-- the text of a variable of the handler's own, which is empty where it has no value
 abbrev pub own_text : VariablesView → List ℕ → List ℕ
 own_text v name = unwrap_or (own_value v name) []
 

@@ -1,6 +1,6 @@
 //! Reading variables and containers.
 
-ghost use Rattle.std.specs.Prelude.{◌≡◌, [], IfOk, Ok, Err, MatchOption, MatchResult, None, Some};
+ghost use Rattle.std.specs.Prelude.{◌≡◌, [], Ok, Err, MatchOption, MatchResult, None, Some};
 ghost use Rattle.std.specs.FinMap as finite;
 ghost use Rattle.ht_values.specs.Outcome.{Gives};
 ghost use Rattle.containers.specs.Places.{read_name as read_name_of, text_in as text_in_of, whole as whole_of};
@@ -11,25 +11,24 @@ use crate::edit::part;
 use crate::place::{Holder, Place};
 use crate::standing::Standing;
 use crate::store::Store;
-use crate::variables::{Met, Variables};
+use crate::variables::{NameMeaning, Variables};
 use ht_values::{Failure, Fault, Name, Text, Value};
-use std::alloc::{AllocError, Global};
+use std::alloc::Global;
 
-/// What a name reads as an expression: the value of its variable, or its spelling where that has none.
-pub fn read_name<W: Store>(
-    alloc: Global,
-    world: &W,
-    variables: &Variables,
-    name: &Name,
-) -> Result<Value, AllocError>
-    ensures { IfOk result (λ v. v ≡ read_name_of (W.history world.now).now variables.now name.now) }
+/// What a name reads as an expression, lent: the value of its variable, or its spelling where that has none. It takes no memory.
+pub fn read_name<'a, W: Store>(
+    world: &'a W,
+    variables: &'a Variables,
+    name: &'a Name,
+) -> Standing<'a>
+    ensures { standing_text result ≡ read_name_of (W.history world.now).now variables.now name.now }
 {
-    match variables.met(name.text()) {
-        Met::Own(value) => value.try_clone(alloc),
-        Met::Unknown => Value::copied(alloc, name.text()),
-        Met::Global => match world.global(name.folded()) {
-            Some(text) => Value::copied(alloc, text),
-            None => Value::copied(alloc, name.text()),
+    match variables.meaning_of(name.text()) {
+        NameMeaning::Own(value) => Standing::Value(value),
+        NameMeaning::Unknown => Standing::Text(name.text()),
+        NameMeaning::Global => match world.global(name.folded()) {
+            Some(text) => Standing::Text(text),
+            None => Standing::Text(name.text()),
         },
     }
 }

@@ -3,8 +3,10 @@
 ghost use Rattle.std.specs.Prelude.{◌≡◌, IfOk};
 ghost use Rattle.ht_values.specs.Operators.{binary as binary_of};
 ghost use Rattle.ht_values.specs.Outcome.{Gives};
+ghost use Rattle.chunks.specs.Pieces.{read};
 ghost use Rattle.containers.specs.Standing.{standing_text};
 
+use chunks::{Chunk, take};
 use ht_values::{Failure, Op, Text, Value, binary};
 use std::alloc::{AllocError, Global};
 
@@ -17,13 +19,24 @@ pub enum Standing<'a> {
 
 impl Standing<'_> {
     /// An equal value.
-    pub(crate) fn copied(&self, alloc: Global) -> Result<Value, AllocError>
+    pub fn copied(&self, alloc: Global) -> Result<Value, AllocError>
         ensures { IfOk result (λ v. v ≡ standing_text self.now) }
     {
         match self {
             Standing::Text(text) => Value::copied(alloc, text),
             Standing::Value(value) => value.try_clone(alloc),
         }
+    }
+
+    /// What a chunk reads of it. The delimiter is that of items.
+    pub fn part(&self, alloc: Global, chunk: &Chunk, delimiter: u8) -> Result<Value, AllocError>
+        ensures { IfOk result (λ v. v ≡ read delimiter chunk.now (standing_text self.now)) }
+    {
+        let text = match self {
+            Standing::Text(text) => take(alloc, text, chunk, delimiter)?,
+            Standing::Value(value) => take(alloc, value.spelled(alloc)?.text(), chunk, delimiter)?,
+        };
+        Ok(Value::of_text(text))
     }
 
     /// What an operator gives of it and of an operand.

@@ -8,7 +8,7 @@ ghost use Rattle.containers.specs.Edits.{edited};
 ghost use Rattle.containers.specs.Places.{own};
 ghost use Rattle.containers.specs.Variables.{declared, local_of, is_global, own_text, own_value, with_local};
 ghost use Rattle.containers.specs.Writes.{Writes};
-ghost use Rattle.containers.specs.Standing.{IsMet};
+ghost use Rattle.containers.specs.Standing.{IsMeaning};
 
 use crate::edit::Edit;
 use crate::standing::Standing;
@@ -34,7 +34,7 @@ impl Local {
 
 /// What a name means: a global, a variable of the handler's own with a value, or one that has none.
 #[derive(Clone, Copy)]
-pub(crate) enum Met<'a> {
+pub(crate) enum NameMeaning<'a> {
     Global,
     Own(&'a Value),
     Unknown,
@@ -96,18 +96,18 @@ impl Variables {
     }
 
     /// What a name means, found by one look over the names.
-    pub(crate) fn met(&self, name: &Text) -> Met<'_>
-        ensures { IsMet self.now name.now result }
+    pub(crate) fn meaning_of(&self, name: &Text) -> NameMeaning<'_>
+        ensures { IsMeaning self.now name.now result }
     {
         if self.all_global {
-            return Met::Global;
+            return NameMeaning::Global;
         }
         match self.local(name) {
             Some(local) => match &local.value {
-                Some(value) => Met::Own(value),
-                None => Met::Global,
+                Some(value) => NameMeaning::Own(value),
+                None => NameMeaning::Global,
             },
-            None => Met::Unknown,
+            None => NameMeaning::Unknown,
         }
     }
 

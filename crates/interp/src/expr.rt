@@ -19,7 +19,7 @@ use meaning::{Budget, Frame, Stop};
 use msg_path::Scripts;
 use primitives::arguments::Arguments;
 use primitives::objects::{parts_here, property, target_name};
-use primitives::places::{field_text, variable};
+use primitives::places::{field_text, variable, variable_part};
 use primitives::values::{
     apply, apply_one, call_of_one, constant_value, expression, function_named, number, numeral,
     piece_count, return_sign, run_property, taken, there, truth,
@@ -147,9 +147,9 @@ pub(crate) fn there_is<E: External>(
     there(is_no, met)
 }
 
-/// Pieces of a text: the pieces are computed before the text.
+/// Pieces of a text: the pieces are computed before the text. What a name reads is lent.
 #[cycle(run)]
-#[tactic(auto, using(meaning::proofs::Rules::val_chunk_rules))]
+#[tactic(auto, using(meaning::proofs::Rules::val_chunk_rules, meaning::proofs::Rules::val_name_rules))]
 #[inline(never)]
 pub(crate) fn chunk_of<E: External>(
     world: &mut World<E>,
@@ -169,8 +169,20 @@ pub(crate) fn chunk_of<E: External>(
     ensures base { base world.new.history ≡ base world.old.history }
 {
     let pieces = pieces(world, scripts, run, frame, nested, chunk)?;
-    let whole = eval(world, scripts, run, frame, nested, text)?;
-    Ok(taken(run.alloc(), whole, &pieces, run.delimiter())?)
+    match text.kind() {
+        ExprKind::Name(name) => Ok(variable_part(
+            run.alloc(),
+            world,
+            frame,
+            name,
+            &pieces,
+            run.delimiter(),
+        )?),
+        _ => {
+            let whole = eval(world, scripts, run, frame, nested, text)?;
+            Ok(taken(run.alloc(), whole, &pieces, run.delimiter())?)
+        }
+    }
 }
 
 /// The text of a field.

@@ -3,6 +3,7 @@
 ghost use Rattle.std.specs.Prelude.{◌≡◌, ◌++◌, ◌∷◌, [], IsSome, IfOk, OnOk, option_copied, false, true};
 ghost use Rattle.ht_values.specs.Text.{numeral as numeral_of};
 ghost use Rattle.ht_values.specs.declared.word.Where.TheVariants.{Into};
+ghost use Rattle.chunks.specs.Pieces.{read as read_pieces};
 ghost use Rattle.journal_entries.specs.Changes.{fits as fits_state};
 ghost use Rattle.object_references.specs.Settings.{setting as change_that_sets};
 ghost use Rattle.containers.specs.Base.{base};
@@ -72,7 +73,21 @@ pub fn variable<E: External>(
 ) -> Result<Value, AllocError>
     ensures { IfOk result (λ t. t ≡ read_name_of world.now.history.now frame.now.variables name.now) }
 {
-    read_name(alloc, world, &frame.variables, name)
+    read_name(world, &frame.variables, name).copied(alloc)
+}
+
+/// Pieces of what a name reads, which is lent where it stands.
+pub fn variable_part<E: External>(
+    alloc: Global,
+    world: &World<E>,
+    frame: &Frame,
+    name: &Name,
+    pieces: &Chunk,
+    delimiter: u8,
+) -> Result<Value, AllocError>
+    ensures { IfOk result (λ v. v ≡ read_pieces delimiter pieces.now (read_name_of world.now.history.now frame.now.variables name.now)) }
+{
+    read_name(world, &frame.variables, name).part(alloc, pieces, delimiter)
 }
 
 /// The place of a variable.

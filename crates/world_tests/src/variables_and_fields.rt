@@ -420,7 +420,9 @@ fn sum_reads(
     wanted: &[u8],
 ) -> Result<bool, Failure> {
     let sum = name(alloc, b"Sum")?;
-    let read = read_name(alloc, world, variables, &sum)?.into_text(alloc)?;
+    let read = read_name(world, variables, &sum)
+        .copied(alloc)?
+        .into_text(alloc)?;
     Ok(read.as_slice() == wanted)
 }
 

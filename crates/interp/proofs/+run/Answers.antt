@@ -1,6 +1,7 @@
-use Rattle.std.proofs.Common.{rules, arith, refl, sym, ap, ◌∙◌, drop_of_length-le}
+use Rattle.std.proofs.Common.{◌≡◌, rules, arith, refl, sym, ap, ◌∙◌, drop_of_length-le}
 use Rattle.std.proofs.lemmas.Grind.{common_steps}
 use Rattle.std.proofs.lemmas.Result.{err_from_is_err_and}
+use Rattle.ht_grammar.specs.Trees as tree
 use Rattle.ht_tree.specs.ContainerView.{container_of}
 use Rattle.ht_tree.specs.StatementView.{stmts_of}
 use Rattle.ht_tree.specs.View.{part_of}
@@ -137,3 +138,8 @@ system::systems-loop-message-preserved g t c = record {
 
 pub system::systems-returns-clause-meaning : goal.system::systems-returns-clause-meaning
 system::systems-returns-clause-meaning g t c = rw c.empty.ensures (c.loop-message.invariant.rest _ _ _ (Systems.systems_done (drop_of_length-le c.args.messages.now c.loop-message-test.false)))
+
+pub expr::chunk_of-returns-in_ok-variable_part-in-Name-clause-meaning : goal.expr::chunk_of-returns-in_ok-variable_part-in-Name-clause-meaning
+expr::chunk_of-returns-in_ok-variable_part-in-Name-clause-meaning g t c =
+    let is : c.args.text.now ≡ tree.name c.in-Name.name = search rules in
+    Val.chunk refl c.in_ok-pieces.ensures.meaning (Val.name is refl) (rw (← c.delimiter.ensures) c.in_ok-variable_part-in-Name.ensures)
