@@ -52,9 +52,6 @@ module _ (c : ℕ) (cs : List ℕ) (digits : AllDigits 10 (c ∷ cs)) where
   no_minus : (c == 45) ≡ false
   no_minus = let low = first_digit.0 in grind arith
 
-  some_value : {A : Type 0} (n : ℕ) (none some : A) → (if suc n == 0 then none else some) ≡ some
-  some_value n none some = let e : (suc n == 0) ≡ false = grind arith in ap (λ v. if v then none else some) e
-
   plain_spelled : spelled (c ∷ cs) ≡ ranged (pos (digits_value 10 (c ∷ cs)))
   plain_spelled =
       let t : List ℕ = c ∷ cs in
@@ -64,29 +61,11 @@ module _ (c : ℕ) (cs : List ℕ) (digits : AllDigits 10 (c ∷ cs)) where
   plain_trimmed : spelled (trimmed (c ∷ cs)) ≡ ranged (pos (digits_value 10 (c ∷ cs)))
   plain_trimmed = ap spelled trimmed_digits ∙ plain_spelled
 
-  plain : number_of (c ∷ cs) ≡ ranged (pos (digits_value 10 (c ∷ cs)))
-  unfolding number_of
-  plain = ap (λ inner. if length inner == 0 then Ok (pos 0) else spelled inner) trimmed_digits ∙ some_value (length cs) (Ok (pos 0)) (spelled (c ∷ cs)) ∙ plain_spelled
-
   signed_spelled : spelled (45 ∷ c ∷ cs) ≡ ranged (neg_ℤ (pos (digits_value 10 (c ∷ cs))))
   signed_spelled = ap (λ v. if v then ranged (neg_ℤ (pos (digits_value 10 (c ∷ cs)))) else Err NotANumber) are_all
 
   signed_trimmed : spelled (trimmed (45 ∷ c ∷ cs)) ≡ ranged (neg_ℤ (pos (digits_value 10 (c ∷ cs))))
   signed_trimmed = ap spelled (kept 45 (c ∷ cs) (λ e. omega arith) last_digit) ∙ signed_spelled
-
-  signed : number_of (45 ∷ c ∷ cs) ≡ ranged (neg_ℤ (pos (digits_value 10 (c ∷ cs))))
-  unfolding number_of
-  signed =
-      ap (λ inner. if length inner == 0 then Ok (pos 0) else spelled inner) (kept 45 (c ∷ cs) (λ e. omega arith) last_digit)
-      ∙ some_value (suc (length cs)) (Ok (pos 0)) (spelled (45 ∷ c ∷ cs)) ∙ signed_spelled
-
-plain_of : (ds : List ℕ) → 0 < length ds → AllDigits 10 ds → number_of ds ≡ ranged (pos (digits_value 10 ds))
-plain_of [] some digits = absurd (omega arith)
-plain_of (c ∷ cs) some digits = plain c cs digits
-
-signed_of : (ds : List ℕ) → 0 < length ds → AllDigits 10 ds → number_of (45 ∷ ds) ≡ ranged (neg_ℤ (pos (digits_value 10 ds)))
-signed_of [] some digits = absurd (omega arith)
-signed_of (c ∷ cs) some digits = signed c cs digits
 
 plain_trimmed_of : (ds : List ℕ) → 0 < length ds → AllDigits 10 ds → spelled (trimmed ds) ≡ ranged (pos (digits_value 10 ds))
 plain_trimmed_of [] some digits = absurd (omega arith)
@@ -102,16 +81,6 @@ within z h = ap (λ v. if v then Ok z else Err OutOfRange) h
 below : (n : ℕ) → nat_lt n (2 ^ 63) ≡ true → n < 2 ^ 63
 below n h = grind arith
 
-pub numerals_read_back : NumeralsReadBack
-numerals_read_back (pos n) h =
-    let small : n < 2 ^ 63 = below n h in
-    let d = decimal_is_IsNumeral n (omega arith) in
-    plain_of (decimal n) d.0.0 d.0.1 ∙ ap (λ m. ranged (pos m)) d.1 ∙ within (pos n) h
-numerals_read_back (negsuc n) h =
-    let small : n < 2 ^ 63 = below n h in
-    let d = decimal_is_IsNumeral (suc n) (omega arith) in
-    signed_of (decimal (suc n)) d.0.0 d.0.1 ∙ ap (λ m. ranged (neg_ℤ (pos m))) d.1 ∙ within (negsuc n) h
-
 -- it is a numeral
 pub spelled_back : (z : ℤ) → is_in_range z ≡ true → spelled (trimmed (numeral z)) ≡ Ok z
 spelled_back (pos n) h =
@@ -122,3 +91,12 @@ spelled_back (negsuc n) h =
     let small : n < 2 ^ 63 = below n h in
     let d = decimal_is_IsNumeral (suc n) (omega arith) in
     signed_trimmed_of (decimal (suc n)) d.0.0 d.0.1 ∙ ap (λ m. ranged (neg_ℤ (pos m))) d.1 ∙ within (negsuc n) h
+
+-- no number is spelled by nothing
+some_digits : (inner : List ℕ) (z : ℤ) → spelled inner ≡ Ok z → (if length inner == 0 then Ok (pos 0) else spelled inner) ≡ Ok z
+some_digits [] z e = let no : ⊥ = cc in absurd no
+some_digits (c ∷ cs) z e = let some : (suc (length cs) == 0) ≡ false = grind arith in ap (λ v. if v then Ok (pos 0) else spelled (c ∷ cs)) some ∙ e
+
+pub numerals_read_back : NumeralsReadBack
+unfolding number_of
+numerals_read_back z h = some_digits (trimmed (numeral z)) z (spelled_back z h)
