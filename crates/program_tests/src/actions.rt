@@ -32,7 +32,7 @@ use Doing::{Click, Line, Open, Type};
 
 /// How it ends.
 #[derive(Clone, Copy, PartialEq, Eq, Debug)]
-enum End {
+enum ActionEnd {
     Done,
     Exited,
     /// The field is locked.
@@ -44,7 +44,7 @@ enum End {
 type Message = (&'static [u8], u32);
 
 /// What is done, how it ends, what it shows, and the messages that are sent.
-type Row = (Doing, End, &'static [&'static [u8]], &'static [Message]);
+type Row = (Doing, ActionEnd, &'static [&'static [u8]], &'static [Message]);
 
 fn action(alloc: Global, doing: Doing) -> Result<Action, Fail>
     ensures { IfOk result (λ a. Fits (action_of a)) }
@@ -65,7 +65,7 @@ fn acts<E: External>(
     scripts: &mut Scripts,
     budget: &mut Budget,
     action: &Action,
-) -> Result<End, Fail>
+) -> Result<ActionEnd, Fail>
     requires closed { world.old.history.start ≡ None }
     requires fits { Fits (action_of action.now) }
     ensures { OnOk result (world.new.history.start ≡ None) }
@@ -74,11 +74,11 @@ fn acts<E: External>(
     let end = match act(world, scripts, budget, action) {
         Ok(None) => {
             world.roll_back();
-            return Ok(End::Locked);
+            return Ok(ActionEnd::Locked);
         }
-        Ok(Some(Ended::Done)) => End::Done,
-        Ok(Some(Ended::Exited)) => End::Exited,
-        Err(Stop::Fault(fault)) => End::Fault(fault.number()),
+        Ok(Some(Ended::Done)) => ActionEnd::Done,
+        Ok(Some(Ended::Exited)) => ActionEnd::Exited,
+        Err(Stop::Fault(fault)) => ActionEnd::Fault(fault.number()),
         Err(Stop::Exited) | Err(Stop::Memory) => return Err("out of memory".into()),
     };
     world.commit();
@@ -122,18 +122,18 @@ fn first_wrong<E: External>(
 const LINES: &[Row] = &[
     (
         Line(b"do \"put 2 into g\" & return & \"put 1 div 0\""),
-        End::Fault(6),
+        ActionEnd::Fault(6),
         &[],
         &[],
     ),
-    (Line(b"put g"), End::Done, &[b"2"], &[]),
-    (Line(b"exit to HyperCard"), End::Exited, &[], &[]),
+    (Line(b"put g"), ActionEnd::Done, &[b"2"], &[]),
+    (Line(b"exit to HyperCard"), ActionEnd::Exited, &[], &[]),
 ];
 
 const OPENINGS: &[Row] = &[
     (
         Open,
-        End::Done,
+        ActionEnd::Done,
         &[],
         &[(b"openStack", 2), (b"openBackground", 2), (b"openCard", 2)],
     ),
@@ -141,13 +141,13 @@ const OPENINGS: &[Row] = &[
         Line(
             b"set script of this card to \"on openStack\" & return & \"go card 2\" & return & \"end openStack\"",
         ),
-        End::Done,
+        ActionEnd::Done,
         &[],
         &[],
     ),
     (
         Open,
-        End::Done,
+        ActionEnd::Done,
         &[],
         &[
             (b"openStack", 2),
@@ -161,22 +161,22 @@ const OPENINGS: &[Row] = &[
         Line(
             b"set script of this card to \"on openStack\" & return & \"put 1 div 0\" & return & \"end openStack\"",
         ),
-        End::Done,
+        ActionEnd::Done,
         &[],
         &[],
     ),
-    (Open, End::Fault(6), &[], &[(b"openStack", 4)]),
+    (Open, ActionEnd::Fault(6), &[], &[(b"openStack", 4)]),
     (
         Line(
             b"set script of this card to \"on openBackground\" & return & \"exit to HyperCard\" & return & \"end openBackground\"",
         ),
-        End::Done,
+        ActionEnd::Done,
         &[],
         &[],
     ),
     (
         Open,
-        End::Exited,
+        ActionEnd::Exited,
         &[],
         &[(b"openStack", 4), (b"openBackground", 4)],
     ),
@@ -185,22 +185,22 @@ const OPENINGS: &[Row] = &[
 const CLICKS: &[Row] = &[
     (
         Click(b"field 1"),
-        End::Done,
+        ActionEnd::Done,
         &[],
         &[(b"mouseDown", 3), (b"mouseUp", 3)],
     ),
-    (Click(b"field 9"), End::Fault(3), &[], &[]),
+    (Click(b"field 9"), ActionEnd::Fault(3), &[], &[]),
     (
         Line(
             b"set script of field 1 to \"on mouseDown\" & return & \"put the short id of me\" & return & \"end mouseDown\"",
         ),
-        End::Done,
+        ActionEnd::Done,
         &[],
         &[],
     ),
     (
         Click(b"field \"note\""),
-        End::Done,
+        ActionEnd::Done,
         &[b"3"],
         &[(b"mouseDown", 3), (b"mouseUp", 3)],
     ),
@@ -208,26 +208,26 @@ const CLICKS: &[Row] = &[
         Line(
             b"set script of field 1 to \"on mouseDown\" & return & \"put 1 div 0\" & return & \"end mouseDown\"",
         ),
-        End::Done,
+        ActionEnd::Done,
         &[],
         &[],
     ),
-    (Click(b"field 1"), End::Fault(6), &[], &[(b"mouseDown", 3)]),
+    (Click(b"field 1"), ActionEnd::Fault(6), &[], &[(b"mouseDown", 3)]),
     (
         Line(
             b"set script of field 1 to \"on mouseDown\" & return & \"exit to HyperCard\" & return & \"end mouseDown\"",
         ),
-        End::Done,
+        ActionEnd::Done,
         &[],
         &[],
     ),
-    (Click(b"field 1"), End::Exited, &[], &[(b"mouseDown", 3)]),
+    (Click(b"field 1"), ActionEnd::Exited, &[], &[(b"mouseDown", 3)]),
 ];
 
 const CLICKED_AWAY: &[Row] = &[
     (
         Line(b"doMenu \"New Button\""),
-        End::Done,
+        ActionEnd::Done,
         &[],
         &[(b"doMenu", 2)],
     ),
@@ -235,45 +235,45 @@ const CLICKED_AWAY: &[Row] = &[
         Line(
             b"set script of button 1 to \"on mouseDown\" & return & \"doMenu\" && quote & \"Delete Card\" & quote & return & \"end mouseDown\"",
         ),
-        End::Done,
+        ActionEnd::Done,
         &[],
         &[],
     ),
     (
         Click(b"button 1"),
-        End::Done,
+        ActionEnd::Done,
         &[],
         &[(b"mouseDown", 5), (b"doMenu", 5), (b"openCard", 4)],
     ),
 ];
 
 /// The last message finds no step left.
-const OUT_OF_STEPS: &[Row] = &[(Click(b"field 1"), End::Fault(11), &[], &[(b"mouseDown", 3)])];
+const OUT_OF_STEPS: &[Row] = &[(Click(b"field 1"), ActionEnd::Fault(11), &[], &[(b"mouseDown", 3)])];
 
 const REFERENCES: &[Row] = &[
     (
         Line(
             b"set script of this card to \"function f\" & return & \"set lockMessages to true\" & return & \"return 1\" & return & \"end f\"",
         ),
-        End::Done,
+        ActionEnd::Done,
         &[],
         &[],
     ),
-    (Click(b"field f()"), End::Done, &[], &[(b"f", 2)]),
-    (Type(b"\"x\" into field f()"), End::Done, &[], &[(b"f", 2)]),
-    (Line(b"put field 1"), End::Done, &[b"x"], &[]),
+    (Click(b"field f()"), ActionEnd::Done, &[], &[(b"f", 2)]),
+    (Type(b"\"x\" into field f()"), ActionEnd::Done, &[], &[(b"f", 2)]),
+    (Line(b"put field 1"), ActionEnd::Done, &[b"x"], &[]),
     (
         Line(
             b"set script of this card to \"function f\" & return & \"exit to HyperCard\" & return & \"end f\"",
         ),
-        End::Done,
+        ActionEnd::Done,
         &[],
         &[],
     ),
-    (Click(b"field f()"), End::Exited, &[], &[(b"f", 2)]),
+    (Click(b"field f()"), ActionEnd::Exited, &[], &[(b"f", 2)]),
     (
         Type(b"\"y\" into field f()"),
-        End::Exited,
+        ActionEnd::Exited,
         &[],
         &[(b"f", 2)],
     ),
@@ -281,42 +281,42 @@ const REFERENCES: &[Row] = &[
         Line(
             b"set script of this card to \"function f\" & return & \"put 1 div 0\" & return & \"end f\"",
         ),
-        End::Done,
+        ActionEnd::Done,
         &[],
         &[],
     ),
     (
         Type(b"\"y\" into field f()"),
-        End::Fault(6),
+        ActionEnd::Fault(6),
         &[],
         &[(b"f", 2)],
     ),
-    (Line(b"put field 1"), End::Done, &[b"x"], &[]),
+    (Line(b"put field 1"), ActionEnd::Done, &[b"x"], &[]),
 ];
 
 const TYPING: &[Row] = &[
     (
         Type(b"\"new\" into field 1"),
-        End::Done,
+        ActionEnd::Done,
         &[],
         &[(b"openField", 3), (b"closeField", 3)],
     ),
-    (Line(b"put field 1"), End::Done, &[b"new"], &[]),
+    (Line(b"put field 1"), ActionEnd::Done, &[b"new"], &[]),
     (
         Type(b"\"new\" into field 1"),
-        End::Done,
+        ActionEnd::Done,
         &[],
         &[(b"openField", 3), (b"exitField", 3)],
     ),
-    (Type(b"\"x\" into field 9"), End::Fault(3), &[], &[]),
+    (Type(b"\"x\" into field 9"), ActionEnd::Fault(3), &[], &[]),
     (
         Line(b"set lockText of field 1 to true"),
-        End::Done,
+        ActionEnd::Done,
         &[],
         &[],
     ),
-    (Type(b"\"old\" into field 1"), End::Locked, &[], &[]),
-    (Line(b"put field 1"), End::Done, &[b"new"], &[]),
+    (Type(b"\"old\" into field 1"), ActionEnd::Locked, &[], &[]),
+    (Line(b"put field 1"), ActionEnd::Done, &[b"new"], &[]),
 ];
 
 /// A field is as locked as it was found.
@@ -325,51 +325,51 @@ const LOCKED_AS_IT_OPENS: &[Row] = &[
         Line(
             b"set script of field 1 to \"on openField\" & return & \"set lockText of me to true\" & return & \"end openField\"",
         ),
-        End::Done,
+        ActionEnd::Done,
         &[],
         &[],
     ),
     (
         Type(b"\"new\" into field 1"),
-        End::Done,
+        ActionEnd::Done,
         &[],
         &[(b"openField", 3), (b"closeField", 3)],
     ),
-    (Line(b"put field 1"), End::Done, &[b"new"], &[]),
+    (Line(b"put field 1"), ActionEnd::Done, &[b"new"], &[]),
 ];
 
 const SHARED: &[Row] = &[
     (
         Line(b"set sharedText of field 1 to true"),
-        End::Done,
+        ActionEnd::Done,
         &[],
         &[],
     ),
     (
         Type(b"\"all\" into field 1"),
-        End::Done,
+        ActionEnd::Done,
         &[],
         &[(b"openField", 3), (b"closeField", 3)],
     ),
     (
         Line(b"go card 2"),
-        End::Done,
+        ActionEnd::Done,
         &[],
         &[(b"closeCard", 2), (b"openCard", 4)],
     ),
     (
         Type(b"\"all\" into field 1"),
-        End::Done,
+        ActionEnd::Done,
         &[],
         &[(b"openField", 3), (b"exitField", 3)],
     ),
     (
         Line(b"set sharedText of field 1 to false"),
-        End::Done,
+        ActionEnd::Done,
         &[],
         &[],
     ),
-    (Line(b"put field 1"), End::Done, &[b""], &[]),
+    (Line(b"put field 1"), ActionEnd::Done, &[b""], &[]),
 ];
 
 /// A text is as shared as the field is when the text is written.
@@ -378,24 +378,24 @@ const SHARED_AS_IT_OPENS: &[Row] = &[
         Line(
             b"set script of field 1 to \"on openField\" & return & \"set sharedText of me to true\" & return & \"end openField\"",
         ),
-        End::Done,
+        ActionEnd::Done,
         &[],
         &[],
     ),
     (
         Type(b"\"all\" into field 1"),
-        End::Done,
+        ActionEnd::Done,
         &[],
         &[(b"openField", 3), (b"closeField", 3)],
     ),
-    (Line(b"put field 1"), End::Done, &[b"all"], &[]),
+    (Line(b"put field 1"), ActionEnd::Done, &[b"all"], &[]),
     (
         Line(b"set sharedText of field 1 to false"),
-        End::Done,
+        ActionEnd::Done,
         &[],
         &[],
     ),
-    (Line(b"put field 1"), End::Done, &[b""], &[]),
+    (Line(b"put field 1"), ActionEnd::Done, &[b""], &[]),
 ];
 
 const STOPPED_TYPING: &[Row] = &[
@@ -403,13 +403,13 @@ const STOPPED_TYPING: &[Row] = &[
         Line(
             b"set script of field 1 to \"on openField\" & return & \"put 1 div 0\" & return & \"end openField\"",
         ),
-        End::Done,
+        ActionEnd::Done,
         &[],
         &[],
     ),
     (
         Type(b"\"new\" into field 1"),
-        End::Fault(6),
+        ActionEnd::Fault(6),
         &[],
         &[(b"openField", 3)],
     ),
@@ -417,32 +417,32 @@ const STOPPED_TYPING: &[Row] = &[
         Line(
             b"set script of field 1 to \"on openField\" & return & \"exit to HyperCard\" & return & \"end openField\"",
         ),
-        End::Done,
+        ActionEnd::Done,
         &[],
         &[],
     ),
     (
         Type(b"\"new\" into field 1"),
-        End::Exited,
+        ActionEnd::Exited,
         &[],
         &[(b"openField", 3)],
     ),
-    (Line(b"put field 1"), End::Done, &[b""], &[]),
+    (Line(b"put field 1"), ActionEnd::Done, &[b""], &[]),
     (
         Line(
             b"set script of field 1 to \"on closeField\" & return & \"put 1 div 0\" & return & \"end closeField\"",
         ),
-        End::Done,
+        ActionEnd::Done,
         &[],
         &[],
     ),
     (
         Type(b"\"new\" into field 1"),
-        End::Fault(6),
+        ActionEnd::Fault(6),
         &[],
         &[(b"openField", 3), (b"closeField", 3)],
     ),
-    (Line(b"put field 1"), End::Done, &[b"new"], &[]),
+    (Line(b"put field 1"), ActionEnd::Done, &[b"new"], &[]),
 ];
 
 /// The text goes to the card on which the field was found.
@@ -451,13 +451,13 @@ const ON_TO_ANOTHER_CARD: &[Row] = &[
         Line(
             b"set script of field 1 to \"on openField\" & return & \"go card 2\" & return & \"end openField\"",
         ),
-        End::Done,
+        ActionEnd::Done,
         &[],
         &[],
     ),
     (
         Type(b"\"new\" into field 1"),
-        End::Done,
+        ActionEnd::Done,
         &[],
         &[
             (b"openField", 3),
@@ -466,14 +466,14 @@ const ON_TO_ANOTHER_CARD: &[Row] = &[
             (b"closeField", 3),
         ],
     ),
-    (Line(b"put field 1"), End::Done, &[b""], &[]),
+    (Line(b"put field 1"), ActionEnd::Done, &[b""], &[]),
     (
         Line(b"go card 1"),
-        End::Done,
+        ActionEnd::Done,
         &[],
         &[(b"closeCard", 4), (b"openCard", 2)],
     ),
-    (Line(b"put field 1"), End::Done, &[b"new"], &[]),
+    (Line(b"put field 1"), ActionEnd::Done, &[b"new"], &[]),
 ];
 
 /// The card goes, and the field stays.
@@ -482,24 +482,24 @@ const CARD_GOES: &[Row] = &[
         Line(
             b"set script of field 1 to \"on openField\" & return & \"doMenu\" && quote & \"Delete Card\" & quote & return & \"end openField\"",
         ),
-        End::Done,
+        ActionEnd::Done,
         &[],
         &[],
     ),
     (
         Type(b"\"new\" into field 1"),
-        End::Done,
+        ActionEnd::Done,
         &[],
         &[(b"openField", 3), (b"doMenu", 3), (b"openCard", 4)],
     ),
-    (Line(b"put field 1"), End::Done, &[b""], &[]),
+    (Line(b"put field 1"), ActionEnd::Done, &[b""], &[]),
 ];
 
 /// The card goes with its field.
 const FIELD_GOES: &[Row] = &[
     (
         Line(b"doMenu \"New Field\""),
-        End::Done,
+        ActionEnd::Done,
         &[],
         &[(b"doMenu", 2)],
     ),
@@ -507,13 +507,13 @@ const FIELD_GOES: &[Row] = &[
         Line(
             b"set script of card field 1 to \"on openField\" & return & \"doMenu\" && quote & \"Delete Card\" & quote & return & \"end openField\"",
         ),
-        End::Done,
+        ActionEnd::Done,
         &[],
         &[],
     ),
     (
         Type(b"\"new\" into card field 1"),
-        End::Done,
+        ActionEnd::Done,
         &[],
         &[(b"openField", 5), (b"doMenu", 5), (b"openCard", 4)],
     ),

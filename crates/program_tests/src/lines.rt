@@ -1,8 +1,8 @@
 //! Typed lines of HyperTalk, run on a stack of two cards as a session runs them: what they show, and how they end.
 
 ghost use Rattle.std.specs.Prelude.{◌≡◌, IfOk, None, OnOk};
-ghost use Rattle.object_table.specs.WellFormed.{IsWellFormed};
 
+use crate::sessions::two_cards;
 use change_journal::World;
 use externals::External;
 use ht_parse::{ParseError, parse_lines};
@@ -10,20 +10,12 @@ use ht_values::Text;
 use interp::{run_line, send_message};
 use meaning::{Budget, Stop};
 use msg_path::Scripts;
-use object_table::Stack;
-use stack_file::read;
 use std::alloc::Global;
 use std::test::*;
 
-const TWO_CARDS: &[u8] = b"htstack 2\nnext 5\nname |Demo\nscript 0\nbackgrounds 1\n\
-background 1\nname |\ncantDelete false\nscript 0\nparts 1\n\
-field 3\nname |Note\nvisible true\nlockText false\nsharedText false\nscript 0\nshared 0\n\
-cards 2\ncard 2 1\nname |A\ncantDelete false\nscript 0\nparts 0\ntext 3 0\n\
-card 4 1\nname |B\ncantDelete false\nscript 0\nparts 0\ntext 3 0\nend\n";
-
 /// How a line ends.
 #[derive(Clone, Copy, PartialEq, Eq, Debug)]
-pub(crate) enum End {
+pub(crate) enum LineEnd {
     Ok,
     Fault(u8),
     /// It isn't in the grammar.
@@ -31,13 +23,7 @@ pub(crate) enum End {
 }
 
 /// A line, what it shows, and how it ends.
-type Row = (&'static [u8], &'static [&'static [u8]], End);
-
-fn two_cards(alloc: Global) -> Result<Stack, Fail>
-    ensures { IfOk result (λ s. IsWellFormed s.content) }
-{
-    Ok(read(alloc, TWO_CARDS)?)
-}
+type Row = (&'static [u8], &'static [&'static [u8]], LineEnd);
 
 /// The two cards, with these externals.
 pub(crate) fn opened<E: External>(alloc: Global, externals: Vec<E>) -> Result<Box<World<E>>, Fail>
@@ -57,22 +43,22 @@ pub(crate) fn run<E: External>(
     scripts: &mut Scripts,
     budget: &mut Budget,
     line: &[u8],
-) -> Result<End, Fail>
+) -> Result<LineEnd, Fail>
     requires { world.old.history.start ≡ None }
     ensures { OnOk result (world.new.history.start ≡ None) }
 {
     let text = Text::from_slice(alloc, line)?;
     let lines = match parse_lines(alloc, &text) {
         Ok(lines) => lines,
-        Err(ParseError::Syntax(_)) => return Ok(End::Syntax),
+        Err(ParseError::Syntax(_)) => return Ok(LineEnd::Syntax),
         Err(ParseError::Memory) => return Err("out of memory".into()),
     };
     world.begin(1)?;
     let ended = run_line(world, scripts, budget, &lines);
     world.commit();
     match ended {
-        Ok(_) => Ok(End::Ok),
-        Err(Stop::Fault(fault)) => Ok(End::Fault(fault.number())),
+        Ok(_) => Ok(LineEnd::Ok),
+        Err(Stop::Fault(fault)) => Ok(LineEnd::Fault(fault.number())),
         Err(Stop::Exited) | Err(Stop::Memory) => Err("out of memory".into()),
     }
 }
@@ -123,99 +109,99 @@ fn first_wrong<E: External>(
 }
 
 const VALUES: &[Row] = &[
-    (b"put 2 + 3 * 4", &[b"14"], End::Ok),
-    (b"put 9223372036854775807 + 1", &[], End::Fault(5)),
-    (b"put 7 / 2", &[], End::Fault(7)),
-    (b"put -7 div 2", &[b"-3"], End::Ok),
-    (b"put -7 mod 2", &[b"-1"], End::Ok),
-    (b"put -2 ^ 2", &[b"4"], End::Ok),
-    (b"put 2 ^ 3 ^ 2", &[b"512"], End::Ok),
-    (b"put 1 + 2 & 3 * 4 = 312", &[b"true"], End::Ok),
-    (b"put word 2 to 3 of \"  a  bb c \"", &[b"bb c"], End::Ok),
-    (b"put line 0 of g", &[b""], End::Ok),
+    (b"put 2 + 3 * 4", &[b"14"], LineEnd::Ok),
+    (b"put 9223372036854775807 + 1", &[], LineEnd::Fault(5)),
+    (b"put 7 / 2", &[], LineEnd::Fault(7)),
+    (b"put -7 div 2", &[b"-3"], LineEnd::Ok),
+    (b"put -7 mod 2", &[b"-1"], LineEnd::Ok),
+    (b"put -2 ^ 2", &[b"4"], LineEnd::Ok),
+    (b"put 2 ^ 3 ^ 2", &[b"512"], LineEnd::Ok),
+    (b"put 1 + 2 & 3 * 4 = 312", &[b"true"], LineEnd::Ok),
+    (b"put word 2 to 3 of \"  a  bb c \"", &[b"bb c"], LineEnd::Ok),
+    (b"put line 0 of g", &[b""], LineEnd::Ok),
     (
         b"put the name of field 1",
         &[b"bkgnd field \"Note\""],
-        End::Ok,
+        LineEnd::Ok,
     ),
-    (b"put the name of me", &[b"card \"A\""], End::Ok),
-    (b"put \"x\" into item 3 of g", &[], End::Ok),
-    (b"put g", &[b",,x"], End::Ok),
-    (b"set name of card 9 to 1 div 0", &[], End::Fault(6)),
-    (b"if false then put 1", &[], End::Ok),
-    (b"put (", &[], End::Syntax),
-    (b"foo", &[], End::Fault(2)),
-    (b"put mouseUp()", &[], End::Fault(2)),
+    (b"put the name of me", &[b"card \"A\""], LineEnd::Ok),
+    (b"put \"x\" into item 3 of g", &[], LineEnd::Ok),
+    (b"put g", &[b",,x"], LineEnd::Ok),
+    (b"set name of card 9 to 1 div 0", &[], LineEnd::Fault(6)),
+    (b"if false then put 1", &[], LineEnd::Ok),
+    (b"put (", &[], LineEnd::Syntax),
+    (b"foo", &[], LineEnd::Fault(2)),
+    (b"put mouseUp()", &[], LineEnd::Fault(2)),
 ];
 
 const SHARED_TEXT: &[Row] = &[
-    (b"put \"own\" into field 1", &[], End::Ok),
-    (b"set sharedText of field 1 to true", &[], End::Ok),
-    (b"put field 1", &[b""], End::Ok),
-    (b"put \"all\" into field 1", &[], End::Ok),
-    (b"set sharedText of field 1 to false", &[], End::Ok),
-    (b"put field 1", &[b"own"], End::Ok),
+    (b"put \"own\" into field 1", &[], LineEnd::Ok),
+    (b"set sharedText of field 1 to true", &[], LineEnd::Ok),
+    (b"put field 1", &[b""], LineEnd::Ok),
+    (b"put \"all\" into field 1", &[], LineEnd::Ok),
+    (b"set sharedText of field 1 to false", &[], LineEnd::Ok),
+    (b"put field 1", &[b"own"], LineEnd::Ok),
 ];
 
 const CALLS_TOO_DEEP: &[Row] = &[
     (
         b"set script of this card to \"on f\" & return & \"f\" & return & \"end f\"",
         &[],
-        End::Ok,
+        LineEnd::Ok,
     ),
-    (b"f", &[], End::Fault(12)),
+    (b"f", &[], LineEnd::Fault(12)),
 ];
 
 const LONG_TEXT: &[Row] = &[
     (
         b"do \"put 1 into t\" & return & \"repeat 15\" & return & \"put t & t into t\" & return & \"end repeat\"",
         &[],
-        End::Fault(8),
+        LineEnd::Fault(8),
     ),
-    (b"put the length of t", &[b"16384"], End::Ok),
+    (b"put the length of t", &[b"16384"], LineEnd::Ok),
 ];
 
 const ENDLESS: &[Row] = &[
     (
         b"do \"repeat forever\" & return & \"put 1 after g\" & return & \"end repeat\"",
         &[],
-        End::Fault(11),
+        LineEnd::Fault(11),
     ),
-    (b"put the length of g", &[b"49"], End::Ok),
+    (b"put the length of g", &[b"49"], LineEnd::Ok),
 ];
 
 const PASSED: &[Row] = &[
     (
         b"set script of this card to \"on f\" & return & \"put 1 after field 1\" & return & \"pass f\" & return & \"end f\"",
         &[],
-        End::Ok,
+        LineEnd::Ok,
     ),
     (
         b"set script of this bg to the script of this card",
         &[],
-        End::Ok,
+        LineEnd::Ok,
     ),
     (
         b"set script of this stack to the script of this card",
         &[],
-        End::Ok,
+        LineEnd::Ok,
     ),
-    (b"f", &[], End::Fault(2)),
-    (b"put field 1", &[b"111"], End::Ok),
+    (b"f", &[], LineEnd::Fault(2)),
+    (b"put field 1", &[b"111"], LineEnd::Ok),
 ];
 
 const NEW_OBJECTS: &[Row] = &[
-    (b"doMenu \"New Background\"", &[], End::Ok),
-    (b"doMenu \"New Field\"", &[], End::Ok),
-    (b"put \"q\" into card field 1", &[], End::Ok),
+    (b"doMenu \"New Background\"", &[], LineEnd::Ok),
+    (b"doMenu \"New Field\"", &[], LineEnd::Ok),
+    (b"put \"q\" into card field 1", &[], LineEnd::Ok),
     (
         b"put the short id of this card && card field 1",
         &[b"6 q"],
-        End::Ok,
+        LineEnd::Ok,
     ),
-    (b"doMenu \"Delete Card\"", &[], End::Ok),
-    (b"put the short id of this card", &[b"4"], End::Ok),
-    (b"doMenu \"Other\"", &[], End::Fault(16)),
+    (b"doMenu \"Delete Card\"", &[], LineEnd::Ok),
+    (b"put the short id of this card", &[b"4"], LineEnd::Ok),
+    (b"doMenu \"Other\"", &[], LineEnd::Fault(16)),
 ];
 
 #[test]
@@ -230,11 +216,11 @@ fn lines_and_their_answers(rt: HostRuntime) -> Result<(), Fail> {
         (1000, NEW_OBJECTS),
         (
             2,
-            &[(b"put the value of \"the value of 1\"", &[], End::Fault(11))],
+            &[(b"put the value of \"the value of 1\"", &[], LineEnd::Fault(11))],
         ),
         (
             3,
-            &[(b"put the value of \"the value of 1\"", &[b"1"], End::Ok)],
+            &[(b"put the value of \"the value of 1\"", &[b"1"], LineEnd::Ok)],
         ),
     ];
     for (steps, rows) in tables {
