@@ -127,6 +127,18 @@ fn make<E: External>(world: &mut World<E>, change: Change) -> anyhow::Result<()>
     Ok(())
 }
 
+/// Gives a global a value in the open batch.
+fn put<E: External>(world: &mut World<E>, name: &Text, value: Text) -> anyhow::Result<()>
+    requires { IsSome world.old.history.start }
+    ensures { OnOk result (IsSome world.new.history.start) }
+{
+    if !name.is_folded() {
+        anyhow::bail!("a change doesn't fit");
+    }
+    world.put_global(name, Some(value))?;
+    Ok(())
+}
+
 /// Closes the batch.
 fn commit<E: External>(world: &mut World<E>)
     requires { IsSome world.old.history.start }
@@ -172,7 +184,7 @@ fn write_one<E: External>(
     let name = Text::from_vec(name_of(alloc, call, at)?)?;
     let value = Text::from_vec(value_of(alloc, call, at)?)?;
     match call {
-        Call::OneGlobal | Call::EachGlobal => make(world, Change::Global(name, Some(value))),
+        Call::OneGlobal | Call::EachGlobal => put(world, &name, value),
         Call::FieldText => make(world, Change::FieldText(FIELD.0, FIELD.1, value)),
         Call::After => append(alloc, world, name, value),
         Call::NewCard => make(world, Change::NewCard),

@@ -1,5 +1,5 @@
 -- A change, and a turn of an external, in an open batch.
-use Rattle.std.proofs.Common.{Bool, ◌≡◌, ◌++◌, ℕ, ◌+◌, ◌<◌, ◌≤◌, true, false, if◌then◌else◌, List, [], ◌∷◌, length, get_or, set, map, take, drop, reverse, refl, sym, subst, ap, ◌∙◌, arith, Option, Some, None}
+use Rattle.std.proofs.Common.{Bool, ◌≡◌, ◌++◌, ℕ, ◌+◌, ◌<◌, ◌≤◌, true, false, if◌then◌else◌, List, [], ◌∷◌, length, get_or, set, take, drop, reverse, refl, sym, subst, ap, ◌∙◌, arith, Option, Some, None}
 use Rattle.std.proofs.lemmas.List.{get_or-set_same}
 use Rattle.std.proofs.lemmas.List.Sums.{sum_by-cons}
 use Rattle.std.proofs.lemmas.List.Elements.{All-set}
@@ -16,7 +16,7 @@ use Rattle.stack_places.specs.Exchange.{exchanged as exchanged_in_stack}
 use Rattle.stack_places.specs.declared.entry.StackEntry.TheVariants as stack_entries
 use Rattle.stack_places.proofs.Exchanging.{puts}
 use Rattle.journal_entries.specs.State.{State, IsState, seen_at, titles_of, are_apart}
-use Rattle.journal_entries.specs.Places.{Place, Write, put, put_all, value_at}
+use Rattle.journal_entries.specs.Places.{Write, put, put_all, value_at}
 use Rattle.journal_entries.specs.Changes.{changed, writes_of, fits, HasTexts}
 use Rattle.journal_entries.specs.Replaced.{Replacement, replaced_by, replaced_in_turn, replaced_by_turn, back_weight, forth_weight}
 use Rattle.journal_entries.specs.Trails.{Mark, at, structural, turned, holds, mark_at, marked, IsOnce}

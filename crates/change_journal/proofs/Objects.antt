@@ -1,5 +1,5 @@
 -- What a state is stays true when objects are made and removed.
-use Rattle.std.proofs.Common.{◌≡◌, true, ℕ, ◌+◌, List, [], ◌∷◌, ◌++◌, map, refl, sym, ap, ◌∙◌}
+use Rattle.std.proofs.Common.{◌≡◌, true, ℕ, ◌+◌, List, [], ◌∷◌, ◌++◌, map, refl, ap, ◌∙◌}
 use Rattle.ht_values.specs.declared.word.PartKind.{PartKind}
 use Rattle.object_table.specs.Content.{Content}
 use Rattle.object_table.specs.Objects.{has_kind, is_card}

@@ -7,6 +7,7 @@ ghost use Rattle.object_table.specs.Objects.{has_kind, is_card};
 ghost use Rattle.journal_entries.specs.State.{seen_by, seen_at, first_state, titles_of, has_name, index_of, are_apart as apart_titles};
 ghost use Rattle.journal_entries.specs.Named.{listed, numbered, Lists};
 ghost use Rattle.journal_entries.specs.Changes.{fits};
+ghost use Rattle.journal_entries.specs.declared.change.Change.TheVariants as made_change;
 ghost use Rattle.journal_entries.specs.Trails.{IsOnce, IsShort, different, places_in};
 ghost use Rattle.journal_entries.specs.Turning.{one_more_at};
 ghost use Rattle.change_journal.specs.History.{IsHistory, alone, begun, committed, rolled_back, flipped_back, flipped_forth, plugged, unplugged, stamp_at};
@@ -19,7 +20,7 @@ use crate::fault::{PlugError, WorldError};
 use externals::{Ask, External, Input, law_of_external};
 use ht_values::Text;
 use journal_entries::{
-    Batch, Change, OpenBatch, Present, are_apart, law_of_externals, law_of_texts,
+    Batch, Change, OpenBatch, Present, are_apart, law_of_externals, law_of_global, law_of_texts,
 };
 use object_table::Stack;
 use std::alloc::{AllocError, Global};
@@ -227,6 +228,21 @@ impl<E: External> World<E> {
         law_of_texts(&change);
         match &mut self.open {
             Some(batch) => batch.make(&mut self.present, self.alloc, change),
+            None => unreachable!(),
+        }
+    }
+
+    /// Gives a global a value, or none, by its folded name, as its change does. Where the name was met before, it takes no
+    /// memory but that of an entry. Where memory was refused nothing changes, and the value is dropped.
+    pub fn put_global(&mut self, name: &Text, value: Option<Text>) -> Result<(), AllocError>
+        requires open { IsSome self.old.history.start }
+        requires fits { fits self.old.history.now (made_change.Global name.now value) ≡ true }
+        ensures ok { OnOk result (Made self.old.history self.new.history (made_change.Global name.now value)) }
+        ensures err { OnErr result (self.new.history ≡ self.old.history) }
+    {
+        law_of_global(name, &value);
+        match &mut self.open {
+            Some(batch) => batch.put_global(&mut self.present, name, value),
             None => unreachable!(),
         }
     }

@@ -1,5 +1,5 @@
 -- A change and a turn keep the history round the open batch.
-use Rattle.std.proofs.Common.{IsSome, ◌≡◌, ℕ, List, Option, Some, None, option_map, refl, ap, ◌∙◌}
+use Rattle.std.proofs.Common.{IsSome, ◌≡◌, ℕ, List, Option, Some, None, option_map, ap, ◌∙◌}
 use Rattle.externals.specs.declared.external.Ask.{Ask}
 use Rattle.externals.specs.declared.external.Input.{Input}
 use Rattle.journal_entries.specs.State.{seen_at, titles_of}

@@ -3,6 +3,7 @@
 ghost use Rattle.std.specs.Prelude.{◌≡◌, true, IsSome, OnOk, OnErr, option_copied};
 ghost use Rattle.std.specs.FinMap as finite;
 ghost use Rattle.journal_entries.specs.Changes.{fits};
+ghost use Rattle.journal_entries.specs.declared.change.Change.TheVariants as made_change;
 ghost use Rattle.change_journal.specs.Rising.{Made};
 
 use change_journal::{Change, World};
@@ -25,6 +26,13 @@ pub trait Store {
     fn global(&self, name: &Text) -> Option<&Text>
         ensures { option_copied result ≡ finite.get (history self.now).now.globals name.now };
 
+    /// Gives a global a value, or none, by its folded name, in the open batch. Where memory was refused nothing changes.
+    fn put_global(&mut self, name: &Text, value: Option<Text>) -> Result<(), AllocError>
+        requires open { IsSome (history self.old).start }
+        requires fits { fits (history self.old).now (made_change.Global name.now value) ≡ true }
+        ensures ok { OnOk result (Made (history self.old) (history self.new) (made_change.Global name.now value)) }
+        ensures err { OnErr result (history self.new ≡ history self.old) };
+
     /// Makes a change in the open batch. Where memory was refused nothing changes.
     fn make(&mut self, change: Change) -> Result<(), AllocError>
         requires open { IsSome (history self.old).start }
@@ -42,6 +50,10 @@ impl<E: External> Store for World<E> {
 
     fn global(&self, name: &Text) -> Option<&Text> {
         World::global(self, name)
+    }
+
+    fn put_global(&mut self, name: &Text, value: Option<Text>) -> Result<(), AllocError> {
+        World::put_global(self, name, value)
     }
 
     fn make(&mut self, change: Change) -> Result<(), AllocError> {

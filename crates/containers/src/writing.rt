@@ -73,9 +73,8 @@ fn put_into_global<W: Store>(
     ensures err { OnErr result (W.history world.new ≡ W.history world.old) }
     ensures base { base (W.history world.new) ≡ base (W.history world.old) }
 {
-    let name = name.folded().try_clone(alloc)?;
     let text = value.into_text(alloc)?;
-    world.make(Change::Global(name, Some(text)))
+    world.put_global(name.folded(), Some(text))
 }
 
 /// Puts a value into a text of a field.
@@ -150,9 +149,6 @@ pub fn declare<W: Store>(
     variables.declare(alloc, name.text())?;
     match world.global(name.folded()) {
         Some(_) => Ok(()),
-        None => {
-            let name = name.folded().try_clone(alloc)?;
-            world.make(Change::Global(name, Some(Text::new(alloc))))
-        }
+        None => world.put_global(name.folded(), Some(Text::new(alloc))),
     }
 }

@@ -1,5 +1,5 @@
 -- The places of a state, and values put there.
-use Rattle.std.specs.Prelude.{ℕ, Bool, true, false, ◌&&◌, nat_eq, bytes_eq, List, [], ◌∷◌, Option, Some, None, option_map, option_and_then, unwrap_or, slice_get, slice_set, slice_index_or}
+use Rattle.std.specs.Prelude.{ℕ, Bool, true, false, ◌&&◌, nat_eq, bytes_eq, List, Option, Some, None, option_map, option_and_then, unwrap_or, slice_get, slice_set, slice_index_or}
 use Rattle.stack_places.specs.Places.{StackPlace, Value, as_text, as_number, text, number}
 use Rattle.stack_places.specs.Places as stack
 use Rattle.std.specs.FinMap.{get}

@@ -1,26 +1,42 @@
 //! A batch: what goes back over the changes and turns of one command.
 
-ghost use Rattle.std.specs.Prelude.{◌≡◌};
-ghost use Rattle.journal_entries.specs.Exchange.{back, back_taken, forth, forth_taken, shape_of, AreReady};
+ghost use Rattle.std.specs.Prelude.{◌≡◌, [], ◌∷◌};
+ghost use Rattle.journal_entries.specs.Exchange.{back, back_taken, exchanged, forth, forth_taken, taken, shape_of, AreReady, IsReady};
+ghost use Rattle.journal_entries.specs.Held.{entries_held};
 
 use crate::entry::Entry;
 use crate::present::Present;
 use externals::External;
+use ht_values::Text;
 use std::marker::Model;
+use std::mem;
+
+/// Most lines that change something write one global: where a `u32` numbers it, its entry needs no list, with a value or
+/// without. `Several` may hold any number of entries.
+#[derive(Drop)]
+enum Held {
+    Value(u32, Text),
+    NoValue(u32),
+    Several(Vec<Entry>),
+}
 
 /// Entries in the order in which they were made, with the number of the line that they belong to.
 #[derive(Drop)]
 pub struct Batch {
     number: u32,
-    entries: Vec<Entry>,
+    held: Held,
 }
+
+/// The history keeps one for each line.
+const _: () = prove!(size_of::<Batch>() <= 40);
 
 impl Model for Batch {
     ghost use Rattle.journal_entries.specs.Exchange.{BatchView};
+    ghost use Rattle.journal_entries.specs.Held.{entries_held};
 
     ghost Value = { BatchView };
 
-    ghost view = { λ b. record { number = b.number; entries = b.entries.items } };
+    ghost view = { λ b. record { number = b.number; entries = entries_held b.held } };
 }
 
 impl Batch {
@@ -28,7 +44,10 @@ impl Batch {
     pub(crate) fn of(number: u32, entries: Vec<Entry>) -> Batch
         ensures { result ≡ record { number = number; entries = entries.items } }
     {
-        Batch { number, entries }
+        Batch {
+            number,
+            held: held_of(entries),
+        }
     }
 
     /// The number of its line.
@@ -44,7 +63,15 @@ impl Batch {
         ensures state { present.new ≡ record present.old { state = back present.old.names present.old.state self.old.entries } }
         ensures entries { self.new ≡ record self.old { entries = back_taken present.old.names present.old.state self.old.entries } }
     {
-        present.go_back(&mut self.entries);
+        let held = mem::replace(&mut self.held, Held::NoValue(0));
+        self.held = match held {
+            Held::Value(i, value) => swapped(present, i, Some(value)),
+            Held::NoValue(i) => swapped(present, i, None),
+            Held::Several(mut entries) => {
+                present.go_back(&mut entries);
+                Held::Several(entries)
+            }
+        };
     }
 
     /// Goes forth over all entries, from the first to the last.
@@ -53,6 +80,52 @@ impl Batch {
         ensures state { present.new ≡ record present.old { state = forth present.old.names present.old.state self.old.entries } }
         ensures entries { self.new ≡ record self.old { entries = forth_taken present.old.names present.old.state self.old.entries } }
     {
-        present.go_forth(&mut self.entries);
+        let held = mem::replace(&mut self.held, Held::NoValue(0));
+        self.held = match held {
+            Held::Value(i, value) => swapped(present, i, Some(value)),
+            Held::NoValue(i) => swapped(present, i, None),
+            Held::Several(mut entries) => {
+                present.go_forth(&mut entries);
+                Held::Several(entries)
+            }
+        };
     }
+}
+
+/// A global's entry.
+fn of_global(i: u32, value: Option<Text>) -> Held
+    ensures { entries_held result ≡ Entry.Global i value ∷ [] }
+{
+    match value {
+        Some(value) => Held::Value(i, value),
+        None => Held::NoValue(i),
+    }
+}
+
+/// The entries as a batch keeps them.
+fn held_of(mut entries: Vec<Entry>) -> Held
+    ensures { entries_held result ≡ entries.items }
+{
+    let [Entry::Global(i, _)] = &entries[..] else {
+        return Held::Several(entries);
+    };
+    let Ok(i) = u32::try_from(*i) else {
+        return Held::Several(entries);
+    };
+    match entries.pop() {
+        Some(Entry::Global(_, value)) => of_global(i, value),
+        _ => unreachable!(),
+    }
+}
+
+/// A global's entry after its exchange.
+#[tactic(auto, unfolding(crate::specs::Exchange::IsReady))]
+fn swapped<E: External>(present: &mut Present<E>, i: u32, value: Option<Text>) -> Held
+    requires { IsReady (shape_of present.old) (Entry.Global i value) }
+    ensures state { present.new ≡ record present.old { state = exchanged present.old.names present.old.state (Entry.Global i value) } }
+    ensures entry { entries_held result ≡ taken present.old.names present.old.state (Entry.Global i value) ∷ [] }
+{
+    let mut value = value;
+    present.swap_global(i as usize, &mut value);
+    of_global(i, value)
 }

@@ -1,6 +1,7 @@
 //! The changes of a state.
 
 ghost use Rattle.journal_entries.specs.Changes.{HasTexts};
+ghost use Rattle.journal_entries.specs.declared.change.Change.TheVariants as made_change;
 
 use ht_values::{PartKind, Text, law_of_text};
 use object_table::{Id, LayerId, PropValue};
@@ -34,12 +35,7 @@ pub fn law_of_texts(change: &Change)
     ensures { HasTexts change.now }
 {
     match change {
-        Change::Global(name, value) => {
-            law_of_text(name);
-            if let Some(text) = value {
-                law_of_text(text);
-            }
-        }
+        Change::Global(name, value) => law_of_global(name, value),
         Change::FieldText(_, _, text)
         | Change::Prop(_, PropValue::NameIs(text))
         | Change::Prop(_, PropValue::ScriptIs(text)) => law_of_text(text),
@@ -50,5 +46,15 @@ pub fn law_of_texts(change: &Change)
         | Change::NewBackground
         | Change::NewPart(_, _)
         | Change::DeleteCard => {}
+    }
+}
+
+/// What the texts of a global's change are by their type.
+pub fn law_of_global(name: &Text, value: &Option<Text>)
+    ensures { HasTexts (made_change.Global name.now value.now) }
+{
+    law_of_text(name);
+    if let Some(text) = value {
+        law_of_text(text);
     }
 }

@@ -48,8 +48,8 @@ impl Globals {
 
     /// The number of a name, which gets one if it has none. No value changes. It takes no memory where the name has
     /// one.
-    pub fn number(&mut self, name: Text) -> Result<usize, AllocError>
-        ensures number { IfOk result (λ i. (i < length self.new.names) × (slice_index_or self.new.names i [] ≡ name)) }
+    pub fn number(&mut self, name: &Text) -> Result<usize, AllocError>
+        ensures number { IfOk result (λ i. (i < length self.new.names) × (slice_index_or self.new.names i [] ≡ name.now)) }
         ensures same { self.new.texts ≡ self.old.texts }
         ensures wider { Extends self.old.names self.new.names }
         ensures only { IfOk result (λ i. (j : ℕ) → j < length self.new.names → slice_index_or self.new.names j [] ≡ slice_index_or self.new.names i [] → j ≡ i) }

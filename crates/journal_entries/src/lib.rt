@@ -12,7 +12,7 @@ mod place_key;
 mod present;
 
 pub use batch::Batch;
-pub use change::{Change, law_of_texts};
+pub use change::{Change, law_of_global, law_of_texts};
 pub use entry::{Entry, Prepared};
 pub use globals::Globals;
 pub use laws::{law_of_externals, law_of_trails};

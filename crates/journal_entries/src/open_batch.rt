@@ -5,6 +5,7 @@ ghost use Rattle.std.specs.HashMap.{get_by, spare};
 ghost use Rattle.externals.specs.Cells.{IsPatch, Changes};
 ghost use Rattle.journal_entries.specs.State.{IsState, seen_at};
 ghost use Rattle.journal_entries.specs.Changes.{fits};
+ghost use Rattle.journal_entries.specs.declared.change.Change.TheVariants as made_change;
 ghost use Rattle.journal_entries.specs.Changing.{Makes, kept, kept_in_turn, kept_turn};
 ghost use Rattle.journal_entries.specs.Indexed.{IsIndexed, is_held as is_held_in};
 ghost use Rattle.journal_entries.specs.Keys.{key_of as key_of_entry};
@@ -18,6 +19,7 @@ use crate::entry::{Entry, Prepared, is_structural_entry};
 use crate::place_key::{PlaceKey, key_of};
 use crate::present::Present;
 use externals::{Ask, External, Input, Patch};
+use ht_values::Text;
 use std::alloc::{AllocError, Global};
 use std::collections::HashMap;
 use std::marker::Model;
@@ -151,6 +153,21 @@ impl OpenBatch {
             Prepared::One(entry) => self.write(present, entry),
             Prepared::Several(entries) => self.write_each(present, entries),
         }
+    }
+
+    /// Gives a global a value, or none, as its change does.
+    pub fn put_global<E: External>(
+        &mut self,
+        present: &mut Present<E>,
+        name: &Text,
+        value: Option<Text>,
+    ) -> Result<(), AllocError>
+        requires { fits present.old.state (made_change.Global name.now value) ≡ true }
+        ensures ok { OnOk result (Makes present.old present.new self.old self.new (made_change.Global name.now value)) }
+        ensures err { OnErr result (Grows present.old present.new × (self.new ≡ self.old)) }
+    {
+        let entry = present.prepare_global(name, value)?;
+        self.write(present, entry)
     }
 
     /// Gives an external one turn and keeps its patch, if that names a cell.

@@ -6,6 +6,7 @@ ghost use Rattle.externals.specs.Cells.{IsPatch};
 ghost use Rattle.journal_entries.specs.State.{IsState, seen_by, seen_at, first_state, titles_of, has_name as has_title, index_of as index_of_title};
 ghost use Rattle.journal_entries.specs.Named.{listed, numbered, Lists};
 ghost use Rattle.journal_entries.specs.Changes.{fits};
+ghost use Rattle.journal_entries.specs.declared.change.Change.TheVariants as made_change;
 ghost use Rattle.journal_entries.specs.Exchange.{exchanged, taken, back, back_taken, forth, forth_taken, shape_of, IsReady, AreReady};
 ghost use Rattle.journal_entries.specs.Turning.{Grows, Prepares, Turns, entries_of, one_more_at};
 
@@ -83,11 +84,21 @@ impl<E: External> Present<E> {
         ensures entry { entry.new ≡ taken self.old.names self.old.state entry.old }
     {
         match entry {
-            Entry::Global(i, value) => self.globals.swap(*i, value),
+            Entry::Global(i, value) => self.swap_global(*i, value),
             Entry::Current(current) => mem::swap(&mut self.current, current),
             Entry::Stack(entry) => entry.exchange(&mut self.stack),
             Entry::External(i, patch) => self.externals[*i].flip(patch),
         }
+    }
+
+    /// Exchanges the value of the numbered global.
+    #[tactic(auto, unfolding(crate::specs::Exchange::exchanged, crate::specs::Exchange::taken))]
+    pub(crate) fn swap_global(&mut self, i: usize, value: &mut Option<Text>)
+        requires { i < length self.old.names }
+        ensures state { self.new ≡ record self.old { state = exchanged self.old.names self.old.state (Entry.Global i value.old) } }
+        ensures entry { Entry.Global i value.new ≡ taken self.old.names self.old.state (Entry.Global i value.old) }
+    {
+        self.globals.swap(i, value);
     }
 
     /// Exchanges the entries from the last to the first.
@@ -114,6 +125,20 @@ impl<E: External> Present<E> {
         }
     }
 
+    /// The entry that gives a global a value, or none. It takes no memory where the name has a number.
+    #[tactic(auto, unfolding(crate::specs::Exchange::exchanged, crate::specs::Exchange::taken, crate::specs::Exchange::mark_of, crate::specs::Exchange::entry_weight, crate::specs::Exchange::IsReady, crate::specs::Places::put, crate::specs::Turning::IsNumbered))]
+    pub(crate) fn prepare_global(
+        &mut self,
+        name: &Text,
+        value: Option<Text>,
+    ) -> Result<Entry, AllocError>
+        requires { fits self.old.state (made_change.Global name.now value) ≡ true }
+        ensures entry { IfOk result (λ e. Prepares self.new (made_change.Global name.now value) (e ∷ [])) }
+        ensures grows { Grows self.old self.new }
+    {
+        Ok(Entry::Global(self.globals.number(name)?, value))
+    }
+
     /// Grows what a change needs, and hands out the entries that make it.
     #[tactic(auto, unfolding(crate::specs::Exchange::exchanged, crate::specs::Exchange::taken, crate::specs::Exchange::mark_of, crate::specs::Exchange::entry_weight, crate::specs::Exchange::IsReady, crate::specs::Places::put, crate::specs::Turning::IsNumbered))]
     pub fn prepare(&mut self, alloc: Global, change: Change) -> Result<Prepared, AllocError>
@@ -124,8 +149,7 @@ impl<E: External> Present<E> {
     {
         match change {
             Change::Global(name, value) => {
-                let number = self.globals.number(name)?;
-                Ok(Prepared::One(Entry::Global(number, value)))
+                Ok(Prepared::One(self.prepare_global(&name, value)?))
             }
             Change::FieldText(field, card, text) => {
                 let text = BoxedText::new(alloc, Some(text))?;

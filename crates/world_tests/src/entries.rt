@@ -14,13 +14,13 @@ fn text(alloc: Global, bytes: &[u8]) -> Result<Text, Fail> {
 }
 
 fn number(globals: &mut Globals, name: Text) -> Result<(), Fail> {
-    let _ = globals.number(name)?;
+    let _ = globals.number(&name)?;
     Ok(())
 }
 
 /// Gives a global its first value; whether it had none.
 fn put_global(globals: &mut Globals, name: Text, value: Text) -> Result<bool, Fail> {
-    let i = globals.number(name)?;
+    let i = globals.number(&name)?;
     let mut value = Some(value);
     globals.swap(i, &mut value);
     Ok(value.is_none())

@@ -15,6 +15,8 @@ use std::test::Fail;
 #[derive(Clone, Copy)]
 pub(crate) enum Deed {
     Global(&'static [u8], &'static [u8]),
+    /// The same, with the name lent.
+    PutGlobal(&'static [u8], &'static [u8]),
     FieldText(Id, Id, &'static [u8]),
     Hilite(Id, Id, bool),
     Name(Id, &'static [u8]),
@@ -42,7 +44,7 @@ pub(crate) enum Step {
 
 pub(crate) fn change(alloc: Global, deed: Deed) -> Result<Change, Fail> {
     Ok(match deed {
-        Deed::Global(name, value) => {
+        Deed::Global(name, value) | Deed::PutGlobal(name, value) => {
             let name = Text::from_slice(alloc, name)?;
             Change::Global(name, Some(Text::from_slice(alloc, value)?))
         }
@@ -93,6 +95,30 @@ fn make<E: External>(world: &mut World<E>, change: Change) -> Result<(), Fail>
         return Err("fits".into());
     }
     Ok(world.make(change)?)
+}
+
+fn put_global<E: External>(world: &mut World<E>, name: &Text, value: Text) -> Result<(), Fail>
+    requires { IsSome world.old.history.start }
+    ensures { OnOk result (IsSome world.new.history.start) }
+{
+    if !name.is_folded() {
+        return Err("fits".into());
+    }
+    Ok(world.put_global(name, Some(value))?)
+}
+
+/// Does this in the open batch.
+fn do_one<E: External>(alloc: Global, world: &mut World<E>, deed: Deed) -> Result<(), Fail>
+    requires { IsSome world.old.history.start }
+    ensures { OnOk result (IsSome world.new.history.start) }
+{
+    match deed {
+        Deed::PutGlobal(name, value) => {
+            let name = Text::from_slice(alloc, name)?;
+            put_global(world, &name, Text::from_slice(alloc, value)?)
+        }
+        _ => make(world, change(alloc, deed)?),
+    }
 }
 
 fn turn_first<E: External>(alloc: Global, world: &mut World<E>) -> Result<(), Fail>
@@ -154,7 +180,7 @@ fn do_all<E: External>(
 {
     begin(world, number)?;
     for deed in deeds {
-        make(world, change(alloc, *deed)?)?;
+        do_one(alloc, world, *deed)?;
     }
     Ok(())
 }

@@ -1,4 +1,4 @@
-use Rattle.std.proofs.Common.{◌≡◌, ℕ, List, [], Option, Some, None, Ok, Err, refl, ap, sym, ◌∙◌, get_or, unwrap_or, position, rules}
+use Rattle.std.proofs.Common.{◌≡◌, [], Some, None, Ok, refl, ap, sym, ◌∙◌, get_or, unwrap_or, position, rules}
 use Rattle.ht_values.specs.Text.{same}
 use Rattle.containers.specs.declared.variables.Local.{Local}
 use Rattle.containers.specs.Edits.{edited}

@@ -9,12 +9,12 @@ returns-in_ok-open_text-in-FieldText-clause-entries g c =
 
 pub returns-in_ok-open_text-in-FieldText-clause-grows : goal.returns-in_ok-open_text-in-FieldText-clause-grows
 returns-in_ok-open_text-in-FieldText-clause-grows g c =
-    rw (← c.self-in-FieldText.view_is, c.in_ok-open_text-in-FieldText.ensures.ok)
+    rw (← c.self.view_is, c.in_ok-open_text-in-FieldText.ensures.ok)
     (record {
       state = refl;
       turns = refl;
-      names = ([], sym (append-nil c.self-in-FieldText.inside.globals.names));
-      room = IsWider-text c.self-in-FieldText.inside.stack.room (c.in-FieldText.field, c.in-FieldText.card);
+      names = ([], sym (append-nil c.self.inside.globals.names));
+      room = IsWider-text c.self.inside.stack.room (c.in-FieldText.field, c.in-FieldText.card);
     })
 
 pub returns-in_ok-open_hilite-in-Hilite-clause-entries : goal.returns-in_ok-open_hilite-in-Hilite-clause-entries
