@@ -34,7 +34,7 @@ pub const MOST_DEPTH: u32 = 1_000_000;
 /// round it. Nothing else writes: a change or a turn of an external is made in an open batch, which `commit`
 /// makes a state of the history and `roll_back` gives up.
 ///
-/// `commit`, `roll_back`, the flips, `unplug` and the readers take no memory.
+/// `roll_back`, the flips, `unplug` and the readers take no memory, and `commit` needs none.
 #[derive(Drop)]
 pub struct World<E: External> {
     present: Present<E>,

@@ -102,10 +102,12 @@ fn of_global(i: u32, value: Option<Text>) -> Held
     }
 }
 
-/// The entries as a batch keeps them.
+/// The entries as a batch keeps them. A list gives back what it doesn't fill, or stays as it is where the smaller block is
+/// refused.
 fn held_of(mut entries: Vec<Entry>) -> Held
     ensures { entries_held result ≡ entries.items }
 {
+    entries.shrink_to_fit();
     let [Entry::Global(i, _)] = &entries[..] else {
         return Held::Several(entries);
     };

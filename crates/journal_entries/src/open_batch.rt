@@ -75,7 +75,7 @@ impl OpenBatch {
         self.number
     }
 
-    /// The batch, which grows no more. It takes no memory: its entries stay where they are.
+    /// The batch, which grows no more. It gives back what it doesn't fill, and needs no memory for that.
     pub fn close(self) -> Batch
         ensures { result ≡ self }
     {
@@ -92,7 +92,12 @@ impl OpenBatch {
         requires { AreReady (shape_of present.old) self.entries }
         ensures { present.new ≡ record present.old { state = back present.old.names present.old.state self.entries } }
     {
-        self.close().go_back(present);
+        let OpenBatch {
+            number: _,
+            mut entries,
+            index: _,
+        } = self;
+        present.go_back(&mut entries);
     }
 
     /// Makes an exchange and keeps what comes out, unless the place has its entry already.
