@@ -148,9 +148,7 @@ impl<E: External> Present<E> {
         ensures grows { Grows self.old self.new }
     {
         match change {
-            Change::Global(name, value) => {
-                Ok(Prepared::One(self.prepare_global(&name, value)?))
-            }
+            Change::Global(name, value) => Ok(Prepared::One(self.prepare_global(&name, value)?)),
             Change::FieldText(field, card, text) => {
                 let text = BoxedText::new(alloc, Some(text))?;
                 self.stack.open_text(field, card)?;

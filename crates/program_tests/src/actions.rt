@@ -44,7 +44,12 @@ enum ActionEnd {
 type Message = (&'static [u8], u32);
 
 /// What is done, how it ends, what it shows, and the messages that are sent.
-type Row = (Doing, ActionEnd, &'static [&'static [u8]], &'static [Message]);
+type Row = (
+    Doing,
+    ActionEnd,
+    &'static [&'static [u8]],
+    &'static [Message],
+);
 
 fn action(alloc: Global, doing: Doing) -> Result<Action, Fail>
     ensures { IfOk result (λ a. Fits (action_of a)) }
@@ -212,7 +217,12 @@ const CLICKS: &[Row] = &[
         &[],
         &[],
     ),
-    (Click(b"field 1"), ActionEnd::Fault(6), &[], &[(b"mouseDown", 3)]),
+    (
+        Click(b"field 1"),
+        ActionEnd::Fault(6),
+        &[],
+        &[(b"mouseDown", 3)],
+    ),
     (
         Line(
             b"set script of field 1 to \"on mouseDown\" & return & \"exit to HyperCard\" & return & \"end mouseDown\"",
@@ -221,7 +231,12 @@ const CLICKS: &[Row] = &[
         &[],
         &[],
     ),
-    (Click(b"field 1"), ActionEnd::Exited, &[], &[(b"mouseDown", 3)]),
+    (
+        Click(b"field 1"),
+        ActionEnd::Exited,
+        &[],
+        &[(b"mouseDown", 3)],
+    ),
 ];
 
 const CLICKED_AWAY: &[Row] = &[
@@ -248,7 +263,12 @@ const CLICKED_AWAY: &[Row] = &[
 ];
 
 /// The last message finds no step left.
-const OUT_OF_STEPS: &[Row] = &[(Click(b"field 1"), ActionEnd::Fault(11), &[], &[(b"mouseDown", 3)])];
+const OUT_OF_STEPS: &[Row] = &[(
+    Click(b"field 1"),
+    ActionEnd::Fault(11),
+    &[],
+    &[(b"mouseDown", 3)],
+)];
 
 const REFERENCES: &[Row] = &[
     (
@@ -260,7 +280,12 @@ const REFERENCES: &[Row] = &[
         &[],
     ),
     (Click(b"field f()"), ActionEnd::Done, &[], &[(b"f", 2)]),
-    (Type(b"\"x\" into field f()"), ActionEnd::Done, &[], &[(b"f", 2)]),
+    (
+        Type(b"\"x\" into field f()"),
+        ActionEnd::Done,
+        &[],
+        &[(b"f", 2)],
+    ),
     (Line(b"put field 1"), ActionEnd::Done, &[b"x"], &[]),
     (
         Line(

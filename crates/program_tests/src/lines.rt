@@ -117,7 +117,11 @@ const VALUES: &[Row] = &[
     (b"put -2 ^ 2", &[b"4"], LineEnd::Ok),
     (b"put 2 ^ 3 ^ 2", &[b"512"], LineEnd::Ok),
     (b"put 1 + 2 & 3 * 4 = 312", &[b"true"], LineEnd::Ok),
-    (b"put word 2 to 3 of \"  a  bb c \"", &[b"bb c"], LineEnd::Ok),
+    (
+        b"put word 2 to 3 of \"  a  bb c \"",
+        &[b"bb c"],
+        LineEnd::Ok,
+    ),
     (b"put line 0 of g", &[b""], LineEnd::Ok),
     (
         b"put the name of field 1",
@@ -216,7 +220,11 @@ fn lines_and_their_answers(rt: HostRuntime) -> Result<(), Fail> {
         (1000, NEW_OBJECTS),
         (
             2,
-            &[(b"put the value of \"the value of 1\"", &[], LineEnd::Fault(11))],
+            &[(
+                b"put the value of \"the value of 1\"",
+                &[],
+                LineEnd::Fault(11),
+            )],
         ),
         (
             3,

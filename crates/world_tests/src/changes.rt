@@ -84,7 +84,10 @@ const ROWS: &[Row] = &[
     Row {
         name: "states have the numbers of their lines",
         depth: 5,
-        steps: &[Step::Line(4, &[Deed::Global(b"g", b"1")]), Step::Line(6, PUT)],
+        steps: &[
+            Step::Line(4, &[Deed::Global(b"g", b"1")]),
+            Step::Line(6, PUT),
+        ],
         seen: Seen {
             stamps: &[6, 4, 0],
             has_global: true,
