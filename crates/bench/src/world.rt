@@ -7,7 +7,7 @@ ghost use Rattle.std.specs.Prelude.{◌≡◌, None, IfOk, OnOk, IsSome};
 
 use crate::timing::{Tenths, nanoseconds_since, ratio};
 use change_journal::{Change, World};
-use containers::{Container, Edit, Variables, resolve, write};
+use containers::{Edit, Variables, edit_variable};
 use externals::External;
 use ht_values::{Name, PartKind, Text, Value, Where};
 use object_table::{LayerId, Stack};
@@ -160,12 +160,8 @@ fn append<E: External>(
 {
     let mut variables = Variables::of_typed_line(alloc);
     let name = Name::new(alloc, name)?;
-    let place = resolve(alloc, world, &variables, Container::Variable(&name));
-    let Ok(place) = place else {
-        anyhow::bail!("no place");
-    };
     let edit = Edit::Put(Where::After, Value::of_text(value));
-    if write(alloc, world, &mut variables, place, edit, b',').is_err() {
+    if edit_variable(alloc, world, &mut variables, &name, edit, b',').is_err() {
         anyhow::bail!("a text isn't put");
     }
     Ok(())

@@ -17,4 +17,4 @@ pub use reading::{read, read_name, standing_in};
 pub use standing::Standing;
 pub use store::Store;
 pub use variables::Variables;
-pub use writing::{declare, write};
+pub use writing::{declare, edit_variable, write};

@@ -11,6 +11,8 @@ ghost use Rattle.journal_entries.specs.declared.change.Change.TheVariants as mad
 ghost use Rattle.change_journal.specs.Rising.{Made};
 ghost use Rattle.containers.specs.Base.{base};
 ghost use Rattle.containers.specs.Edits.{due, edited as edited_text};
+ghost use Rattle.containers.specs.Places.{global, named};
+ghost use Rattle.containers.specs.Variables.{VariablesView};
 ghost use Rattle.containers.specs.Writes.{Declares, Writes};
 
 use crate::edit::Edit;
@@ -77,6 +79,28 @@ fn put_into_global<W: Store>(
     world.put_global(name.folded(), Some(text))
 }
 
+/// Edits a global.
+#[tactic(auto, using(crate::proofs::Rules::writes_rules))]
+fn edit_global<W: Store>(
+    alloc: Global,
+    world: &mut W,
+    name: &Name,
+    edit: Edit,
+    chunks: &[Chunk],
+    delimiter: u8,
+) -> Result<(), Failure>
+    requires { IsSome (base (W.history world.old)).start }
+    ensures ok { OnOk result ((v : VariablesView) → Writes (W.history world.old) v (global (folded name.now)) (edited_text delimiter chunks.now edit (unwrap_or (finite.get (W.history world.old).now.globals (folded name.now)) [])) (W.history world.new) v) }
+    ensures fault { IfErr result (λ e. Gives {A = Option (List ℕ)} (Err e) (edited_text delimiter chunks.now edit (unwrap_or (finite.get (W.history world.old).now.globals (folded name.now)) []))) }
+    ensures err { OnErr result (W.history world.new ≡ W.history world.old) }
+    ensures base { base (W.history world.new) ≡ base (W.history world.old) }
+{
+    match global_edited(alloc, world, name, edit, chunks, delimiter)? {
+        Some(value) => Ok(put_into_global(alloc, world, name, value)?),
+        None => Ok(()),
+    }
+}
+
 /// Puts a value into a text of a field.
 #[tactic(auto, using(crate::proofs::Bases::made_keeps, crate::proofs::Bases::is_open))]
 fn put_into_field<W: Store>(
@@ -117,18 +141,37 @@ pub fn write<W: Store>(
     let Place { holder, chunks } = place;
     match holder {
         Holder::Own(name) => variables.edit(alloc, name.text(), edit, &chunks, delimiter),
-        Holder::Global(name) => {
-            match global_edited(alloc, world, name, edit, &chunks, delimiter)? {
-                Some(value) => Ok(put_into_global(alloc, world, name, value)?),
-                None => Ok(()),
-            }
-        }
+        Holder::Global(name) => edit_global(alloc, world, name, edit, &chunks, delimiter),
         Holder::Field(field, card) => {
             match field_edited(alloc, world, field, card, edit, &chunks, delimiter)? {
                 Some(value) => Ok(put_into_field(alloc, world, field, card, value)?),
                 None => Ok(()),
             }
         }
+    }
+}
+
+/// Edits a variable in the open batch, as `write` does at its place, which needs not be made. The delimiter is that of items.
+/// After a fault, and where it is out of memory, nothing has changed.
+#[tactic(auto, using(crate::proofs::Rules::writes_rules))]
+pub fn edit_variable<W: Store>(
+    alloc: Global,
+    world: &mut W,
+    variables: &mut Variables,
+    name: &Name,
+    edit: Edit,
+    delimiter: u8,
+) -> Result<(), Failure>
+    requires { IsSome (base (W.history world.old)).start }
+    ensures ok { OnOk result (Writes (W.history world.old) variables.old (named variables.old name.now) (due (W.history world.old).now variables.old delimiter (record { holder = named variables.old name.now; chunks = [] }) edit) (W.history world.new) variables.new) }
+    ensures fault { IfErr result (λ e. Gives {A = Option (List ℕ)} (Err e) (due (W.history world.old).now variables.old delimiter (record { holder = named variables.old name.now; chunks = [] }) edit)) }
+    ensures err { OnErr result ((W.history world.new ≡ W.history world.old) × (variables.new ≡ variables.old)) }
+    ensures base { base (W.history world.new) ≡ base (W.history world.old) }
+{
+    if variables.is_global(name.text()) {
+        edit_global(alloc, world, name, edit, &[], delimiter)
+    } else {
+        variables.edit(alloc, name.text(), edit, &[], delimiter)
     }
 }
 

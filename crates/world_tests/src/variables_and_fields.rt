@@ -9,8 +9,8 @@ use crate::worlds::open_world;
 use change_journal::{Change, World};
 use chunks::{Chunk, Index};
 use containers::{
-    Container, Edit, Place, Standing, Variables, declare, read, read_name, resolve, standing_in,
-    write, writes_are_due, written_is_read,
+    Container, Edit, Place, Standing, Variables, declare, edit_variable, read, read_name, resolve,
+    standing_in, write, writes_are_due, written_is_read,
 };
 use ht_values::{ChunkKind, Failure, Fault, Name, Op, Text, Value, Where};
 use object_table::{Id, PropValue};
@@ -102,22 +102,36 @@ fn place_of<'a>(
     })?)
 }
 
+fn edit_of(alloc: Global, work: Work) -> Result<Edit, Failure> {
+    match work {
+        Work::Put(at, bytes) => Ok(Edit::Put(at, value(alloc, bytes)?)),
+        Work::Add(operand) => Ok(Edit::Alter(Op::Add, value(alloc, operand)?)),
+        Work::Delete => Ok(Edit::Delete),
+    }
+}
+
+/// Edits a container at its place, or a variable by its name.
 fn edit(
     alloc: Global,
     world: &mut World<Turner>,
     variables: &mut Variables,
-    place: Place<'_>,
+    container: Container<'_>,
+    chunk: Option<(ChunkKind, i64)>,
     work: Work,
 ) -> Result<(), Failure>
     requires { IsSome (base world.old.history).start }
     ensures { IsSome (base world.new.history).start }
 {
-    let edit = match work {
-        Work::Put(at, bytes) => Edit::Put(at, value(alloc, bytes)?),
-        Work::Add(operand) => Edit::Alter(Op::Add, value(alloc, operand)?),
-        Work::Delete => Edit::Delete,
-    };
-    write(alloc, world, variables, place, edit, b',')
+    let edit = edit_of(alloc, work)?;
+    match (container, chunk) {
+        (Container::Variable(name), None) => edit_variable(
+            alloc, world, variables, name, edit, b',',
+        ),
+        _ => {
+            let place = place_of(alloc, world, variables, container, chunk)?;
+            write(alloc, world, variables, place, edit, b',')
+        }
+    }
 }
 
 /// Whether the cards share the text of field 3 from here on.
@@ -160,10 +174,7 @@ fn act_once(
     ensures { IsSome (base world.new.history).start }
 {
     match act {
-        Act::Edit(chunk, work) => {
-            let place = place_of(alloc, world, variables, container, chunk)?;
-            edit(alloc, world, variables, place, work)
-        }
+        Act::Edit(chunk, work) => edit(alloc, world, variables, container, chunk, work),
         Act::Declare => declare_it(alloc, world, variables, container),
         Act::Share(is_shared) => share(world, is_shared),
     }

@@ -3,8 +3,9 @@
 use super::{Call, FIELD, name_of, value_of};
 use std::alloc::{AllocError, Global};
 use std::collections::HashMap;
+use std::mem;
 
-/// Values by name and by field, a text that grows, and ids in order.
+/// Values by name and by field, a text that grows, and ids in order with the orders that came before, as a history keeps them.
 #[derive(Drop)]
 pub(crate) struct Plain {
     globals: HashMap<Vec<u8>, Vec<u8>>,
@@ -12,6 +13,7 @@ pub(crate) struct Plain {
     grown: Vec<u8>,
     cards: HashMap<u32, Vec<u8>>,
     order: Vec<u32>,
+    replaced: Vec<Vec<u32>>,
 }
 
 impl Plain {
@@ -22,12 +24,14 @@ impl Plain {
             grown: Vec::new(alloc),
             cards: HashMap::new(alloc),
             order: Vec::new(alloc),
+            replaced: Vec::new(alloc),
         }
     }
 
     /// Takes the value of the write with this number.
     fn take(
         &mut self,
+        alloc: Global,
         call: Call,
         at: u32,
         name: Vec<u8>,
@@ -43,7 +47,9 @@ impl Plain {
             Call::After => self.grown.extend_from_slice(&value)?,
             Call::NewCard => {
                 self.cards.insert(at, value)?;
-                self.order.push(at)?;
+                let mut order = Vec::from_slice(alloc, &self.order)?;
+                order.push(at)?;
+                self.replaced.push(mem::replace(&mut self.order, order))?;
             }
         }
         Ok(())
@@ -54,7 +60,7 @@ impl Plain {
         for at in 0..count {
             let name = name_of(alloc, call, at)?;
             let value = value_of(alloc, call, at)?;
-            self.take(call, at, name, value)?;
+            self.take(alloc, call, at, name, value)?;
         }
         Ok(())
     }
