@@ -1,1 +1,3 @@
+pub mod Edits
 pub mod Loops
+pub mod Operands

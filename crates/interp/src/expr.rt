@@ -6,6 +6,7 @@ ghost use Rattle.ht_grammar.specs.Depth.{depth, depths, chunk_depth, count_depth
 ghost use Rattle.ht_tree.specs.View.{chunk_of as chunk_of_tree, count_of, exprs_of, part_of, ref_of};
 ghost use Rattle.containers.specs.Base.{base};
 ghost use Rattle.meaning.specs.Meaning.{NumberVal, TextVal, TruthVal, Val, Vals};
+ghost use Rattle.interp.specs.Operands.{MeetsOperand};
 
 use crate::message::calls;
 use crate::pieces::pieces;
@@ -19,10 +20,11 @@ use meaning::{Budget, Frame, Stop};
 use msg_path::Scripts;
 use primitives::arguments::Arguments;
 use primitives::objects::{parts_here, property, target_name};
-use primitives::places::{field_text, variable, variable_part};
+use primitives::operands::{Operand, call_of_operand, operand_count, operand_part, operand_value};
+use primitives::places::{field_text, variable};
 use primitives::values::{
-    apply, apply_one, call_of_one, constant_value, expression, function_named, number, numeral,
-    piece_count, return_sign, run_property, taken, there, truth,
+    apply, apply_one, constant_value, expression, function_named, number, numeral, return_sign,
+    run_property, there, truth,
 };
 
 /// The value of an expression.
@@ -147,9 +149,38 @@ pub(crate) fn there_is<E: External>(
     there(is_no, met)
 }
 
-/// Pieces of a text: the pieces are computed before the text. What a name reads is lent.
+/// An operand whose text is read next: what a name or a field reads isn't copied.
 #[cycle(run)]
-#[tactic(auto, using(meaning::proofs::Rules::val_chunk_rules, meaning::proofs::Rules::val_name_rules))]
+#[tactic(auto, using(crate::proofs::Operands::met_rules))]
+#[inline(never)]
+pub(crate) fn meet_operand<'a, E: External>(
+    world: &mut World<E>,
+    scripts: &mut Scripts,
+    run: &mut Budget,
+    frame: &Frame,
+    nested: u32,
+    e: &'a Expr,
+) -> Result<Operand<'a>, Stop>
+    requires nested { nested ≤ 100 }
+    requires deep { depth e.now ≤ max_depth }
+    requires open { IsSome (base world.old.history).start }
+    ensures meaning { MeetsOperand world.old.history run.old frame.now nested e.now result world.new.history run.new }
+    ensures fewer { run.new.left ≤ run.old.left }
+    ensures base { base world.new.history ≡ base world.old.history }
+{
+    match e.kind() {
+        ExprKind::Name(name) => Ok(Operand::Name(name)),
+        ExprKind::Field(part) => {
+            let referent = meet_part(world, scripts, run, frame, nested, part)?;
+            Ok(Operand::Field(referent))
+        }
+        _ => Ok(Operand::Value(eval(world, scripts, run, frame, nested, e)?)),
+    }
+}
+
+/// Pieces of a text: the pieces are computed before the text, which is lent where it can be.
+#[cycle(run)]
+#[tactic(auto, using(crate::proofs::Operands::chunk_rules))]
 #[inline(never)]
 pub(crate) fn chunk_of<E: External>(
     world: &mut World<E>,
@@ -169,20 +200,8 @@ pub(crate) fn chunk_of<E: External>(
     ensures base { base world.new.history ≡ base world.old.history }
 {
     let pieces = pieces(world, scripts, run, frame, nested, chunk)?;
-    match text.kind() {
-        ExprKind::Name(name) => Ok(variable_part(
-            run.alloc(),
-            world,
-            frame,
-            name,
-            &pieces,
-            run.delimiter(),
-        )?),
-        _ => {
-            let whole = eval(world, scripts, run, frame, nested, text)?;
-            Ok(taken(run.alloc(), whole, &pieces, run.delimiter())?)
-        }
-    }
+    let text = meet_operand(world, scripts, run, frame, nested, text)?;
+    operand_part(run.alloc(), world, frame, &text, &pieces, run.delimiter())
 }
 
 /// The text of a field.
@@ -210,7 +229,7 @@ pub(crate) fn field<E: External>(
 
 /// `the number of` pieces, of cards, backgrounds or parts, or of an object.
 #[cycle(run)]
-#[tactic(auto, using(meaning::proofs::Rules::val_number_of_pieces_of_rules, meaning::proofs::Rules::val_number_of_cards_rules, meaning::proofs::Rules::val_number_of_backgrounds_rules, meaning::proofs::Rules::val_number_of_parts_rules, meaning::proofs::Rules::val_number_of_of_object_rules))]
+#[tactic(auto, using(crate::proofs::Operands::count_rules, meaning::proofs::Rules::val_number_of_cards_rules, meaning::proofs::Rules::val_number_of_backgrounds_rules, meaning::proofs::Rules::val_number_of_parts_rules, meaning::proofs::Rules::val_number_of_of_object_rules))]
 #[inline(never)]
 pub(crate) fn number_of<E: External>(
     world: &mut World<E>,
@@ -229,8 +248,8 @@ pub(crate) fn number_of<E: External>(
 {
     match count {
         Count::PiecesOf(kind, text) => {
-            let text = eval(world, scripts, run, frame, nested, text)?;
-            Ok(piece_count(run.alloc(), text, *kind, run.delimiter())?)
+            let text = meet_operand(world, scripts, run, frame, nested, text)?;
+            operand_count(run.alloc(), world, frame, &text, *kind, run.delimiter())
         }
         Count::Cards => Ok(numeral(run.alloc(), world.stack().cards().len())?),
         Count::Backgrounds => Ok(numeral(run.alloc(), world.stack().backgrounds().len())?),
@@ -268,7 +287,7 @@ pub(crate) fn property_of<E: External>(
 
 /// `the length of` and the like, and `the value of`.
 #[cycle(run)]
-#[tactic(auto, using(meaning::proofs::Rules::val_function_rules))]
+#[tactic(auto, using(crate::proofs::Operands::function_rules))]
 #[inline(never)]
 pub(crate) fn function_of<E: External>(
     world: &mut World<E>,
@@ -286,11 +305,12 @@ pub(crate) fn function_of<E: External>(
     ensures fewer { run.new.left ≤ run.old.left }
     ensures base { base world.new.history ≡ base world.old.history }
 {
-    let x = eval(world, scripts, run, frame, nested, operand)?;
+    let x = meet_operand(world, scripts, run, frame, nested, operand)?;
     match function_named(word) {
-        Some(function) => call_of_one(run.alloc(), function, x),
+        Some(function) => call_of_operand(run.alloc(), world, frame, function, x, run.delimiter()),
         None => {
-            let text = x.into_text(run.alloc())?;
+            let value = operand_value(run.alloc(), world, frame, x, run.delimiter())?;
+            let text = value.into_text(run.alloc())?;
             text_value(world, scripts, run, frame, nested, &text)
         }
     }

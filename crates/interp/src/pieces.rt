@@ -5,16 +5,17 @@ ghost use Rattle.ht_grammar.specs.Depth.{chunk_depth, container_depth, max_depth
 ghost use Rattle.ht_tree.specs.View.{chunk_of};
 ghost use Rattle.containers.specs.Base.{base};
 ghost use Rattle.meaning.specs.Meaning.{ChunkOf, Resolves};
+ghost use Rattle.interp.specs.Edits.{EditsContainer};
 
 use crate::expr::number_value;
 use crate::reference::meet_part;
 use change_journal::World;
-use containers::Place;
+use containers::{Edit, Place};
 use externals::External;
 use ht_tree::{Chunk, Container, ContainerKind};
 use meaning::{Budget, Frame, Stop};
 use msg_path::Scripts;
-use primitives::places::{field_place, nth_piece, pieces_at, variable_place};
+use primitives::places::{edit, edit_variable, field_place, nth_piece, pieces_at, variable_place};
 
 /// Which pieces are meant: each index is converted as soon as it is computed.
 #[cycle(run)]
@@ -76,6 +77,36 @@ pub(crate) fn resolve<'a, E: External>(
             let pieces = pieces(world, scripts, run, frame, nested, chunk)?;
             let place = resolve(world, scripts, run, frame, nested, inner)?;
             Ok(place.with(pieces)?)
+        }
+    }
+}
+
+/// Edits a container in the open batch. No place is made for a variable.
+#[cycle(run)]
+#[tactic(auto, using(crate::proofs::Edits::edit_rules))]
+pub(crate) fn edit_container<E: External>(
+    world: &mut World<E>,
+    scripts: &mut Scripts,
+    run: &mut Budget,
+    frame: &mut Frame,
+    nested: u32,
+    container: &Container,
+    change: Edit,
+) -> Result<(), Stop>
+    requires nested { nested ≤ 100 }
+    requires deep { container_depth container.now < max_depth }
+    requires open { IsSome (base world.old.history).start }
+    ensures meaning { EditsContainer world.old.history run.old frame.old nested container.now change result world.new.history run.new frame.new }
+    ensures fewer { run.new.left ≤ run.old.left }
+    ensures base { base world.new.history ≡ base world.old.history }
+{
+    match container.kind() {
+        ContainerKind::Variable(name) => {
+            edit_variable(run.alloc(), run.delimiter(), world, frame, name, change)
+        }
+        _ => {
+            let place = resolve(world, scripts, run, frame, nested, container)?;
+            edit(run.alloc(), run.delimiter(), world, frame, place, change)
         }
     }
 }

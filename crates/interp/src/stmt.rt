@@ -10,7 +10,7 @@ ghost use Rattle.meaning.specs.Meaning.{Alters, Block, DoText, Form};
 
 use crate::expr::{eval, truth_value};
 use crate::message::{calls, send_text};
-use crate::pieces::{pieces, resolve};
+use crate::pieces::{edit_container, pieces, resolve};
 use crate::reference::{lead, meet};
 use crate::repeat::repeat;
 use crate::system::go;
@@ -192,7 +192,7 @@ pub(crate) fn show<E: External>(
 
 /// `put` into a container, before it or after it.
 #[cycle(run)]
-#[tactic(auto, using(meaning::proofs::Rules::form_put_in_rules))]
+#[tactic(auto, using(crate::proofs::Edits::put_rules))]
 #[inline(never)]
 pub(crate) fn put<E: External>(
     world: &mut World<E>,
@@ -213,15 +213,8 @@ pub(crate) fn put<E: External>(
     ensures base { base world.new.history ≡ base world.old.history }
 {
     let new = eval(world, scripts, run, frame, nested, value)?;
-    let to = resolve(world, scripts, run, frame, nested, container)?;
-    edit(
-        run.alloc(),
-        run.delimiter(),
-        world,
-        frame,
-        to,
-        Edit::Put(place, new),
-    )?;
+    let put = Edit::Put(place, new);
+    edit_container(world, scripts, run, frame, nested, container, put)?;
     Ok(How::Next)
 }
 
@@ -306,7 +299,7 @@ pub(crate) fn set_run<E: External>(
 
 /// Arithmetic on a container.
 #[cycle(run)]
-#[tactic(auto, using(meaning::proofs::Rules::alters_rules))]
+#[tactic(auto, using(crate::proofs::Edits::alter_rules))]
 #[inline(never)]
 pub(crate) fn alter<E: External>(
     world: &mut World<E>,
@@ -327,15 +320,8 @@ pub(crate) fn alter<E: External>(
     ensures base { base world.new.history ≡ base world.old.history }
 {
     let operand = eval(world, scripts, run, frame, nested, value)?;
-    let to = resolve(world, scripts, run, frame, nested, container)?;
-    edit(
-        run.alloc(),
-        run.delimiter(),
-        world,
-        frame,
-        to,
-        Edit::Alter(op, operand),
-    )?;
+    let change = Edit::Alter(op, operand);
+    edit_container(world, scripts, run, frame, nested, container, change)?;
     Ok(How::Next)
 }
 

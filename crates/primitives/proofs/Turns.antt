@@ -1,8 +1,7 @@
 -- Externals by their numbers, and turns that were refused.
-use Rattle.std.proofs.Common.{◌≡◌, ◌<◌, ◌⊎◌, ℕ, List, length, map, refl, ap, subst, sym, inl, inr}
+use Rattle.std.proofs.Common.{◌≡◌, ◌<◌, ◌⊎◌, ℕ, length, ap, subst, sym, inl, inr}
 use Rattle.std.specs.Prelude.{Option, Some, None, IfSome}
 use Rattle.std.proofs.lemmas.List.{length-map}
-use Rattle.journal_entries.specs.State.{titles_of}
 use Rattle.journal_entries.specs.Turning.{one_more_at}
 use Rattle.change_journal.specs.History.{History}
 use Rattle.containers.specs.Base.{base}

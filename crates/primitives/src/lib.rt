@@ -5,5 +5,6 @@
 pub mod arguments;
 pub mod messages;
 pub mod objects;
+pub mod operands;
 pub mod places;
 pub mod values;

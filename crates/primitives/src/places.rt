@@ -3,7 +3,6 @@
 ghost use Rattle.std.specs.Prelude.{◌≡◌, ◌++◌, ◌∷◌, [], IsSome, IfOk, OnOk, option_copied, false, true};
 ghost use Rattle.ht_values.specs.Text.{numeral as numeral_of};
 ghost use Rattle.ht_values.specs.declared.word.Where.TheVariants.{Into};
-ghost use Rattle.chunks.specs.Pieces.{read as read_pieces};
 ghost use Rattle.journal_entries.specs.Changes.{fits as fits_state};
 ghost use Rattle.object_references.specs.Settings.{setting as change_that_sets};
 ghost use Rattle.containers.specs.Base.{base};
@@ -74,20 +73,6 @@ pub fn variable<E: External>(
     ensures { IfOk result (λ t. t ≡ read_name_of world.now.history.now frame.now.variables name.now) }
 {
     read_name(world, &frame.variables, name).copied(alloc)
-}
-
-/// Pieces of what a name reads, which is lent where it stands.
-pub fn variable_part<E: External>(
-    alloc: Global,
-    world: &World<E>,
-    frame: &Frame,
-    name: &Name,
-    pieces: &Chunk,
-    delimiter: u8,
-) -> Result<Value, AllocError>
-    ensures { IfOk result (λ v. v ≡ read_pieces delimiter pieces.now (read_name_of world.now.history.now frame.now.variables name.now)) }
-{
-    read_name(world, &frame.variables, name).part(alloc, pieces, delimiter)
 }
 
 /// The place of a variable.
@@ -174,6 +159,27 @@ pub fn edit<E: External>(
     }
 }
 
+/// Edits a variable in the open batch. After a fault nothing has changed.
+#[tactic(auto, using(meaning::proofs::Rules::edits_rules))]
+pub fn edit_variable<E: External>(
+    alloc: Global,
+    delimiter: u8,
+    world: &mut World<E>,
+    frame: &mut Frame,
+    name: &Name,
+    edit: Edit,
+) -> Result<(), Stop>
+    requires open { IsSome (base world.old.history).start }
+    ensures meaning { Edits world.old.history frame.old delimiter (place_of_variable frame.old.variables name.now) edit result world.new.history frame.new }
+    ensures base { base world.new.history ≡ base world.old.history }
+{
+    match containers::edit_variable(alloc, world, &mut frame.variables, name, edit, delimiter) {
+        Ok(()) => Ok(()),
+        Err(Failure::Fault(fault)) => Err(Stop::Fault(fault)),
+        Err(Failure::Memory) => Err(Stop::Memory),
+    }
+}
+
 /// Puts a value into a variable.
 #[tactic(auto, using(meaning::proofs::Rules::edits_rules))]
 fn put_into<E: External>(
@@ -188,13 +194,12 @@ fn put_into<E: External>(
     ensures meaning { Edits world.old.history frame.old delimiter (place_of_variable frame.old.variables name.now) (Put Into new) result world.new.history frame.new }
     ensures base { base world.new.history ≡ base world.old.history }
 {
-    let place = variable_place(alloc, world, frame, name);
-    edit(
+    edit_variable(
         alloc,
         delimiter,
         world,
         frame,
-        place,
+        name,
         Edit::Put(Where::Into, new),
     )
 }

@@ -6,7 +6,6 @@ ghost use Rattle.ht_values.specs.Number.{number_of as number_of_text};
 ghost use Rattle.ht_values.specs.Operators.{binary as binary_of, unary as unary_of, truth_of as truth_of_text};
 ghost use Rattle.ht_values.specs.Outcome.{Gives};
 ghost use Rattle.ht_values.specs.Text.{numeral as numeral_of};
-ghost use Rattle.chunks.specs.Pieces.{count as count_of, read};
 ghost use Rattle.ht_lex.specs.Constants.{constant_text as text_of_constant};
 ghost use Rattle.ht_grammar.specs.Functions.{func_of};
 ghost use Rattle.ht_grammar.specs.Trees as tree;
@@ -22,12 +21,11 @@ ghost use Rattle.meaning.specs.Values.{Parses, Yields};
 ghost use Rattle.primitives.specs.Views.{read_as};
 
 use crate::arguments::Arguments;
-use chunks::{Chunk, count, take};
 use ht_grammar::{FunctionWord, RunProp};
 use ht_lex::Constant;
 use ht_parse::{ParseError, parse_expr, parse_lines, parse_message};
 use ht_tree::{Expr, Message, Stmts};
-use ht_values::{ChunkKind, Failure, Fault, Func, Op, Text, UnOp, Value, binary, built_in, unary};
+use ht_values::{Failure, Fault, Func, Op, Text, UnOp, Value, binary, built_in, unary};
 use itoa::Buffer;
 use meaning::{Budget, Counter, Stop};
 use object_references::Referent;
@@ -145,33 +143,6 @@ pub fn empty(alloc: Global) -> Value
     ensures { result ≡ [] }
 {
     Value::of_text(Text::new(alloc))
-}
-
-/// Pieces of a value.
-pub fn taken(
-    alloc: Global,
-    whole: Value,
-    pieces: &Chunk,
-    delimiter: u8,
-) -> Result<Value, AllocError>
-    ensures { IfOk result (λ v. v ≡ read delimiter pieces.now whole) }
-{
-    let whole = whole.into_text(alloc)?;
-    Ok(Value::of_text(take(alloc, &whole, pieces, delimiter)?))
-}
-
-/// How many pieces of a kind a value has, as a value.
-pub fn piece_count(
-    alloc: Global,
-    whole: Value,
-    kind: ChunkKind,
-    delimiter: u8,
-) -> Result<Value, AllocError>
-    ensures { IfOk result (λ v. v ≡ numeral_of (pos (count_of delimiter kind whole))) }
-{
-    let whole = whole.into_text(alloc)?;
-    let number = count(whole.as_slice(), kind, delimiter);
-    Ok(Value::of_number(number as i64))
 }
 
 /// What `there is` says of an object that was looked for. That there is none is an answer, any other stop isn't.

@@ -138,6 +138,45 @@ const VALUES: &[Row] = &[
     (b"put mouseUp()", &[], LineEnd::Fault(2)),
 ];
 
+const OPERANDS: &[Row] = &[
+    (
+        b"put \"one two\" & return & \"x\" into field 1",
+        &[],
+        LineEnd::Ok,
+    ),
+    (b"put the length of field 1", &[b"9"], LineEnd::Ok),
+    (b"put the number of words of field 1", &[b"3"], LineEnd::Ok),
+    (b"put line 2 of field 1", &[b"x"], LineEnd::Ok),
+    (
+        b"put char 1 to 3 of word 1 of field 1",
+        &[b"one"],
+        LineEnd::Ok,
+    ),
+    (b"put field 1 into t", &[], LineEnd::Ok),
+    (
+        b"put the length of t && the number of lines of t && word 2 of t",
+        &[b"9 2 two"],
+        LineEnd::Ok,
+    ),
+    (
+        b"put the length of abc && char 2 of abc",
+        &[b"3 b"],
+        LineEnd::Ok,
+    ),
+    (b"put the length of 12", &[b"2"], LineEnd::Ok),
+    (b"put the charToNum of field 1", &[b"111"], LineEnd::Ok),
+    (b"put the length of field 2", &[], LineEnd::Fault(3)),
+    (
+        b"put the number of words of card field 1",
+        &[],
+        LineEnd::Fault(3),
+    ),
+    (b"put word 1 of field \"x\"", &[], LineEnd::Fault(3)),
+    (b"put word (1 div 0) of field 2", &[], LineEnd::Fault(6)),
+    (b"put \"1 + 2\" into field 1", &[], LineEnd::Ok),
+    (b"put the value of field 1", &[b"3"], LineEnd::Ok),
+];
+
 const SHARED_TEXT: &[Row] = &[
     (b"put \"own\" into field 1", &[], LineEnd::Ok),
     (b"set sharedText of field 1 to true", &[], LineEnd::Ok),
@@ -212,6 +251,7 @@ const NEW_OBJECTS: &[Row] = &[
 fn lines_and_their_answers(rt: HostRuntime) -> Result<(), Fail> {
     let tables: &[(u32, &[Row])] = &[
         (1000, VALUES),
+        (1000, OPERANDS),
         (1000, SHARED_TEXT),
         (1000, CALLS_TOO_DEEP),
         (1000, LONG_TEXT),

@@ -4,11 +4,12 @@ use Rattle.std.proofs.lemmas.Result.{err_from_is_err_and}
 use Rattle.ht_grammar.specs.Trees as tree
 use Rattle.ht_tree.specs.ContainerView.{container_of}
 use Rattle.ht_tree.specs.StatementView.{stmts_of}
-use Rattle.ht_tree.specs.View.{part_of}
+use Rattle.ht_tree.specs.View.{count_of, part_of}
 use Rattle.meaning.specs.Messages.{lines_of}
 use Rattle.meaning.specs.Meaning.{Val, Vals, Form, Block, Resolves, PartMet, Along, Talks, Systems}
 use Rattle.primitives.proofs.Lists.{cut_at}
 use Rattle.interp.proofs.Loops.{cut_exprs, no_exprs, deep_expr, cut_stmts, no_stmts, deep_stmt}
+use Rattle.interp.proofs.Operands.{computed, counted, taken}
 use Rattle.interp.proofs.+run.Goals as goal
 
 pub conversation::talk-returns-in-Fail-clause-meaning : goal.conversation::talk-returns-in-Fail-clause-meaning
@@ -139,7 +140,15 @@ system::systems-loop-message-preserved g t c = record {
 pub system::systems-returns-clause-meaning : goal.system::systems-returns-clause-meaning
 system::systems-returns-clause-meaning g t c = rw c.empty.ensures (c.loop-message.invariant.rest _ _ _ (Systems.systems_done (drop_of_length-le c.args.messages.now c.loop-message-test.false)))
 
-pub expr::chunk_of-returns-in_ok-variable_part-in-Name-clause-meaning : goal.expr::chunk_of-returns-in_ok-variable_part-in-Name-clause-meaning
-expr::chunk_of-returns-in_ok-variable_part-in-Name-clause-meaning g t c =
-    let is : c.args.text.now ≡ tree.name c.in-Name.name = search rules in
-    Val.chunk refl c.in_ok-pieces.ensures.meaning (Val.name is refl) (rw (← c.delimiter.ensures) c.in_ok-variable_part-in-Name.ensures)
+pub expr::chunk_of-returns-clause-meaning : goal.expr::chunk_of-returns-clause-meaning
+expr::chunk_of-returns-clause-meaning g t c = taken c.in_ok-text.text c.in_ok-text.ensures.meaning c.in_ok-pieces.ensures.meaning (rw (← c.delimiter.ensures) c.operand_part.ensures)
+
+pub expr::number_of-returns-in_ok-text-in-PiecesOf-clause-meaning : goal.expr::number_of-returns-in_ok-text-in-PiecesOf-clause-meaning
+expr::number_of-returns-in_ok-text-in-PiecesOf-clause-meaning g t c =
+    let form = ap (λ count. tree.number_of (count_of count)) c.in-PiecesOf.is in
+    counted c.in_ok-text-in-PiecesOf.text c.in_ok-text-in-PiecesOf.ensures.meaning form (rw (← c.delimiter.ensures) c.operand_count.ensures)
+
+pub expr::function_of-returns-in-Some-clause-meaning : goal.expr::function_of-returns-in-Some-clause-meaning
+expr::function_of-returns-in-Some-clause-meaning g t c =
+    let named = sym c.function_named.ensures ∙ c.in-Some.is in
+    computed c.in_ok-x.x c.in_ok-x.ensures.meaning named (rw (← c.delimiter.ensures) c.call_of_operand.ensures)

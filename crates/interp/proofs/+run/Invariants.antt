@@ -26,6 +26,9 @@ decreases-expr::unary g l = 1000000 * l.run.now.left + 4000 * (100 - l.nested) +
 abbrev pub decreases-expr::there_is : goal.decreases-expr::there_is
 decreases-expr::there_is g l = 1000000 * l.run.now.left + 4000 * (100 - l.nested) + 8 * ref_depth (ref_of l.reference.now) + 103
 
+abbrev pub decreases-expr::meet_operand : goal.decreases-expr::meet_operand
+decreases-expr::meet_operand g l = 1000000 * l.run.now.left + 4000 * (100 - l.nested) + 8 * depth l.e.now + 103
+
 abbrev pub decreases-expr::chunk_of : goal.decreases-expr::chunk_of
 decreases-expr::chunk_of g l = 1000000 * l.run.now.left + 4000 * (100 - l.nested) + 8 * max (chunk_depth (chunk_of l.chunk.now)) (depth l.text.now) + 107
 
@@ -66,7 +69,7 @@ abbrev pub decreases-expr::property_of : goal.decreases-expr::property_of
 decreases-expr::property_of g l = 1000000 * l.run.now.left + 4000 * (100 - l.nested) + 8 * ref_depth (ref_of l.reference.now) + 103
 
 abbrev pub decreases-expr::function_of : goal.decreases-expr::function_of
-decreases-expr::function_of g l = 1000000 * l.run.now.left + 4000 * (100 - l.nested) + 8 * depth l.operand.now + 103
+decreases-expr::function_of g l = 1000000 * l.run.now.left + 4000 * (100 - l.nested) + 8 * depth l.operand.now + 104
 
 abbrev pub decreases-expr::text_value : goal.decreases-expr::text_value
 decreases-expr::text_value g l = 1000000 * l.run.now.left + 4000 * (100 - l.nested) + 1
@@ -142,6 +145,9 @@ decreases-stmt::set_run g l = 1000000 * l.run.now.left + 4000 * (100 - l.nested)
 
 abbrev pub decreases-stmt::returns : goal.decreases-stmt::returns
 decreases-stmt::returns g l = 1000000 * l.run.now.left + 4000 * (100 - l.nested) + 8 * depth l.value.now + 2003
+
+abbrev pub decreases-pieces::edit_container : goal.decreases-pieces::edit_container
+decreases-pieces::edit_container g l = 1000000 * l.run.now.left + 4000 * (100 - l.nested) + 8 * container_depth l.container.now + 107
 
 abbrev pub decreases-stmt::put : goal.decreases-stmt::put
 decreases-stmt::put g l = 1000000 * l.run.now.left + 4000 * (100 - l.nested) + 8 * max (depth l.value.now) (container_depth l.container.now) + 2003

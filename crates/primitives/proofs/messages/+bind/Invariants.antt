@@ -1,4 +1,4 @@
-use Rattle.std.proofs.Common.{ℕ, length}
+use Rattle.std.proofs.Common.{length}
 use Rattle.primitives.proofs.messages.+bind.Given as goal
 
 abbrev pub decreases-bind : goal.decreases-bind

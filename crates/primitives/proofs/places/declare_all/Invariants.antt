@@ -1,4 +1,4 @@
-use Rattle.std.proofs.Common.{◌≡◌, ℕ, List, drop, Result}
+use Rattle.std.proofs.Common.{◌≡◌, drop, Result}
 use Rattle.change_journal.specs.History.{History}
 use Rattle.containers.specs.Base.{base}
 use Rattle.meaning.specs.declared.end.Stop.{Stop}

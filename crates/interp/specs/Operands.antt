@@ -1,0 +1,16 @@
+-- Operands that are met before their text is read.
+use Rattle.std.specs.Prelude.{ℕ, List, Result, Ok, Err}
+use Rattle.ht_grammar.specs.Trees as tree
+use Rattle.change_journal.specs.History.{History}
+use Rattle.meaning.specs.declared.end.Stop.{Stop}
+use Rattle.meaning.specs.declared.frame.Frame.{Frame}
+use Rattle.meaning.specs.Meaning.{Val}
+use Rattle.meaning.specs.State.{RunState}
+use Rattle.meaning.specs.Values.{Yields}
+use Rattle.primitives.specs.declared.operands.Operand.{Operand}
+use Rattle.primitives.specs.Operands.{operand_text}
+
+-- an operand of an expression is met: whatever its text yields in the state that it leaves, the expression gives
+abbrev pub MeetsOperand : History → RunState → Frame → ℕ → tree.Expr → Result Operand Stop → History → RunState → Type 0
+MeetsOperand w r f d e (Ok x) w1 r1 = (o : Result (List ℕ) Stop) → Yields (operand_text w1.now f.variables r1.delimiter x) o → Val w r f d e o w1 r1
+MeetsOperand w r f d e (Err z) w1 r1 = Val w r f d e (Err z) w1 r1
