@@ -1,10 +1,8 @@
 //! A stack's session over standard input and output: `card_cli STACK [--steps N] [--depth D] [--watch]`.
 #![tactic(auto)]
 
-use command_line::{
-    CliFault, MOST_OF_STACK, Options, bytes_of, cut, options_of, play_with_kit, verdict,
-};
-use devices::Watched;
+use command_line::{CliFault, MOST_OF_STACK, Options, cut, options_of, play_with_kit, verdict};
+use devices::{Watched, bytes_of};
 use file_desk::{FileDesk, Plain};
 use log::{LevelFilter, Logged};
 use std::env;

@@ -1,8 +1,8 @@
 //! A stack's session with two externals, `Replace` and `Table`: `card_tools STACK`, with the options of `card_cli`.
 #![tactic(auto)]
 
-use command_line::{CliFault, MOST_OF_STACK, Options, bytes_of, cut, options_of, play};
-use devices::Watched;
+use command_line::{CliFault, MOST_OF_STACK, Options, cut, options_of, play};
+use devices::{Watched, bytes_of};
 use externals::External;
 use file_desk::{FileDesk, Plain};
 use log::{LevelFilter, Logged};

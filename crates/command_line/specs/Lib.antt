@@ -2,4 +2,3 @@ pub mod Kit
 pub mod Verdicts
 pub mod Words
 pub mod Plays
-pub mod StackBytes

@@ -1,5 +1,7 @@
 -- The status and the line on standard error of each fault that ends the program.
 use Rattle.std.specs.Prelude.{ℕ, List, ◌++◌, take, codes, decimal}
+use Rattle.devices.specs.declared.all_bytes.BytesFault.{BytesFault}
+use Rattle.devices.specs.declared.all_bytes.BytesFault.TheVariants as bytes
 use Rattle.stack_text.specs.declared.fault.FileError.{FileError}
 use Rattle.stack_text.specs.declared.fault.FileError.TheVariants.{BadLine, BadId, Truncated, TooMany}
 use Rattle.command_line.specs.declared.fault.TheConstants.{MOST_OF_NAME}
@@ -11,6 +13,12 @@ abbrev pub IsFaultOfWords : CliFault → Type 0
 IsFaultOfWords (Usage text) = Unit {0}
 IsFaultOfWords Memory = Unit {0}
 IsFaultOfWords _ = ⊥
+
+-- what the program tells of a stack whose bytes aren't to be had
+abbrev pub fault_of_bytes : BytesFault → CliFault
+fault_of_bytes bytes.TooMany = CannotRead
+fault_of_bytes bytes.Device = CannotRead
+fault_of_bytes bytes.Memory = Memory
 
 -- 2 where the words or the stack are wrong, else 1
 abbrev pub status_of : CliFault → ℕ

@@ -4,8 +4,9 @@ ghost use Rattle.std.specs.Prelude.{◌≡◌, ◌++◌, take, length, ◌≤◌
 ghost use Rattle.ht_values.specs.declared.text.TheConstants.{LIMIT};
 ghost use Rattle.command_line.specs.declared.fault.CliFault.TheVariants.{Memory};
 ghost use Rattle.command_line.specs.declared.fault.TheConstants.{MOST_OF_NAME};
-ghost use Rattle.command_line.specs.Verdicts.{status_of, message_of, refusal_of};
+ghost use Rattle.command_line.specs.Verdicts.{fault_of_bytes, status_of, message_of, refusal_of};
 
+use devices::BytesFault;
 use ht_values::{LIMIT, Text, TextError};
 use itoa::Buffer;
 use stack_file::FileError;
@@ -43,6 +44,17 @@ impl<T: Drop> From<AllocFailed<T>> for CliFault {
 
     fn from(_e: AllocFailed<T>) -> CliFault {
         CliFault::Memory
+    }
+}
+
+impl From<BytesFault> for CliFault {
+    ghost from_gives = { λ fault told. told ≡ fault_of_bytes fault };
+
+    fn from(fault: BytesFault) -> CliFault {
+        match fault {
+            BytesFault::TooMany | BytesFault::Device => CliFault::CannotRead,
+            BytesFault::Memory => CliFault::Memory,
+        }
     }
 }
 

@@ -18,6 +18,9 @@ use stack_file::{ReadError, read};
 use std::alloc::Global;
 use std::io::{Read, Write};
 
+/// The most bytes of a stack's file.
+pub const MOST_OF_STACK: usize = 4_000_000_000;
+
 /// The stack of a text, or the fault of the program.
 fn stack_of(alloc: Global, bytes: &[u8]) -> Result<Stack, CliFault>
     ensures ok { IfOk result (λ s. Spells bytes.now s.content) }

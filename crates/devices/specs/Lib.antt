@@ -1,3 +1,4 @@
+pub mod AllBytes
 pub mod Desks
 pub mod Shelves
 pub mod Watching

@@ -7,7 +7,6 @@ use Rattle.ht_grammar.specs.Trees as tree
 use Rattle.change_journal.specs.History.{History}
 use Rattle.containers.specs.declared.edit.Edit.{Edit}
 use Rattle.containers.specs.declared.edit.Edit.TheVariants.{Put, Alter}
-use Rattle.meaning.specs.declared.end.How.{How}
 use Rattle.meaning.specs.declared.end.How.TheVariants.{Next}
 use Rattle.meaning.specs.declared.end.Stop.{Stop}
 use Rattle.meaning.specs.declared.frame.Frame.{Frame}

@@ -1,10 +1,9 @@
-//! Examples of the message path, of what runs the language, of the session and of the program's library, with ample memory. A
-//! crate that has tests is proved a second time for them, so they stand here, above the crates that they try, where nothing else
-//! is to be proved.
+//! Examples of the session and of the program's library, with ample memory. A crate that has tests is proved a second time for
+//! them, so they stand here, above the crates that they try, where nothing else is to be proved.
 #![tactic(auto)]
 
 #[cfg(test)]
-mod actions;
+mod all_bytes;
 #[cfg(test)]
 mod conversations;
 #[cfg(test)]
@@ -16,19 +15,9 @@ mod drops;
 #[cfg(test)]
 mod endless;
 #[cfg(test)]
-mod file_desks;
-#[cfg(test)]
-mod lines;
-#[cfg(test)]
-mod message_path;
-#[cfg(test)]
 mod quiet;
 #[cfg(test)]
-mod runs;
-#[cfg(test)]
 mod sessions;
-#[cfg(test)]
-mod stack_bytes;
 #[cfg(test)]
 mod verdicts;
 #[cfg(test)]

@@ -1,6 +1,7 @@
 //! The verdict on each fault, as this project's profile has it.
 
-use command_line::{BytesFault, CliFault, cut, verdict};
+use command_line::{CliFault, cut, verdict};
+use devices::BytesFault;
 use ht_values::Text;
 use stack_file::FileError;
 use std::alloc::{AllocError, Global};

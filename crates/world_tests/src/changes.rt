@@ -2,6 +2,7 @@
 
 ghost use Rattle.std.specs.Prelude.{◌≡◌, ◌≤◌, None, IfOk};
 
+use crate::texts::text;
 use crate::turner::{all_boxed, boxed};
 use crate::worlds::{Deed, Step, open_world, take_all};
 use change_journal::{PlugError, World, WorldError};
@@ -153,10 +154,6 @@ const ROWS: &[Row] = &[
         },
     },
 ];
-
-fn text(alloc: Global, bytes: &[u8]) -> Result<Text, Fail> {
-    Ok(Text::from_slice(alloc, bytes)?)
-}
 
 /// A world of the empty stack.
 fn opened<E: External>(alloc: Global, externals: Vec<E>, depth: u32) -> Result<Box<World<E>>, Fail>

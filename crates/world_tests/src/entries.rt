@@ -1,5 +1,6 @@
 //! Entries, globals and changes, with ample memory.
 
+use crate::texts::text;
 use crate::turner::{Turner, all_turners};
 use ht_values::Text;
 use journal_entries::{
@@ -8,10 +9,6 @@ use journal_entries::{
 use object_table::Stack;
 use std::alloc::Global;
 use std::test::Fail;
-
-fn text(alloc: Global, bytes: &[u8]) -> Result<Text, Fail> {
-    Ok(Text::from_slice(alloc, bytes)?)
-}
 
 fn number(globals: &mut Globals, name: Text) -> Result<(), Fail> {
     let _ = globals.number(&name)?;

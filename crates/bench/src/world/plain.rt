@@ -5,7 +5,8 @@ use std::alloc::{AllocError, Global};
 use std::collections::HashMap;
 use std::mem;
 
-/// Values by name and by field, a text that grows, and ids in order with the orders that came before, as a history keeps them.
+/// Values by name and by field, a text that grows and is made anew each time, as a world makes it, and ids in order with the
+/// orders that came before, as a history keeps them.
 #[derive(Drop)]
 pub(crate) struct Plain {
     globals: HashMap<Vec<u8>, Vec<u8>>,
@@ -44,7 +45,12 @@ impl Plain {
             Call::FieldText => {
                 self.texts.insert(FIELD, value)?;
             }
-            Call::After => self.grown.extend_from_slice(&value)?,
+            Call::After => {
+                let mut grown = Vec::with_capacity(alloc, self.grown.len().saturating_add(1))?;
+                grown.extend_from_slice(&self.grown)?;
+                grown.extend_from_slice(&value)?;
+                self.grown = grown;
+            }
             Call::NewCard => {
                 self.cards.insert(at, value)?;
                 let mut order = Vec::from_slice(alloc, &self.order)?;

@@ -1,6 +1,6 @@
 -- What falls in each call of the cycle, and what its loops keep. A message, a turn of an external and `value` take a step;
 -- `do` and what they run goes one level deeper; all else goes into a part of a tree.
-use Rattle.std.proofs.Common.{◌≡◌, ◌≤◌, ◌<◌, ℕ, List, [], length, drop, ◌+◌, ◌-◌, ◌*◌, max, Result, option_copied}
+use Rattle.std.proofs.Common.{◌≡◌, ◌≤◌, ℕ, List, [], drop, ◌+◌, ◌-◌, ◌*◌, max, Result, option_copied}
 use Rattle.ht_grammar.specs.Depth.{depth, depths, chunk_depth, container_depth, count_depth, destination_depth, head_depth, owner_depth, part_depth, ref_depth, selector_depth, stmt_depth, stmts_depth, which_depth}
 use Rattle.ht_tree.specs.View.{chunk_of, count_of, exprs_of, owner_of, part_of, ref_of, selector_of, which_of}
 use Rattle.ht_tree.specs.StatementView.{destination_of, head_of, stmts_of}

@@ -2,7 +2,7 @@
 
 ghost use Rattle.std.specs.Prelude.{◌≡◌, IfOk, None, OnOk};
 
-use crate::sessions::two_cards;
+use crate::stacks::two_cards;
 use change_journal::World;
 use externals::External;
 use ht_parse::{ParseError, parse_lines};

@@ -1,8 +1,7 @@
 //! Bytes up to a limit, over readers that give one byte a call and fail in mid-stream.
 
 use crate::drip::Drip;
-use command_line::{BytesFault, bytes_of};
-use devices::Watched;
+use devices::{BytesFault, Watched, bytes_of};
 use std::alloc::Global;
 use std::io::Read;
 use std::test::*;

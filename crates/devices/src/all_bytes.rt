@@ -1,17 +1,13 @@
 //! All the bytes of a reader, up to a limit.
 
 ghost use Rattle.std.specs.Prelude.{◌≡◌, IfOk, IfErr, IsErrOf};
+ghost use Rattle.devices.specs.declared.all_bytes.BytesFault.TheVariants.{Memory};
+ghost use Rattle.devices.specs.AllBytes.{ReadsAll, StopsAfter};
 ghost use Rattle.devices.specs.Watching.{device_of, failures_of, Rose};
-ghost use Rattle.command_line.specs.declared.stack_bytes.BytesFault.TheVariants.{Memory};
-ghost use Rattle.command_line.specs.StackBytes.{ReadsAll, StopsAfter, fault_of_bytes};
 
-use crate::fault::CliFault;
-use devices::Watched;
+use crate::watched::Watched;
 use std::alloc::{AllocError, Global};
 use std::io::Read;
-
-/// The most bytes of a stack's file.
-pub const MOST_OF_STACK: usize = 4_000_000_000;
 
 /// Why the bytes of a reader aren't to be had.
 #[derive(Drop)]
@@ -29,17 +25,6 @@ impl From<AllocError> for BytesFault {
 
     fn from(_e: AllocError) -> BytesFault {
         BytesFault::Memory
-    }
-}
-
-impl From<BytesFault> for CliFault {
-    ghost from_gives = { λ fault told. told ≡ fault_of_bytes fault };
-
-    fn from(fault: BytesFault) -> CliFault {
-        match fault {
-            BytesFault::TooMany | BytesFault::Device => CliFault::CannotRead,
-            BytesFault::Memory => CliFault::Memory,
-        }
     }
 }
 

@@ -3,11 +3,12 @@
 
 ghost use Rattle.std.specs.Prelude.{◌≡◌, IfOk, IsSome, None, OnOk};
 
-use crate::quiet::{Quiet, make_quiet};
-use crate::sessions::two_cards;
+use crate::stacks::two_cards;
+use crate::texts::text;
+use crate::turner::{Turner, all_turners};
 use change_journal::{Change, World};
 use ht_grammar::HandlerKind;
-use ht_values::{Failure, Fault, Func, Text};
+use ht_values::{Failure, Fault, Func};
 use msg_path::{
     BuiltIn, Found, Scripts, first_is_one, is_system_message, next_handler, path, path_after,
 };
@@ -15,15 +16,11 @@ use object_table::{Id, PropValue};
 use std::alloc::Global;
 use std::test::Fail;
 
-fn text(alloc: Global, bytes: &[u8]) -> Result<Text, Fail> {
-    Ok(Text::from_slice(alloc, bytes)?)
-}
-
 /// A world of the two cards and the command `quiet`.
-fn opened(alloc: Global) -> Result<Box<World<Quiet>>, Fail>
+fn opened(alloc: Global) -> Result<Box<World<Turner>>, Fail>
     ensures { IfOk result (λ w. w.value.history.start ≡ None) }
 {
-    let externals = vec![in alloc; make_quiet(alloc, b"quiet", None)?]?;
+    let externals = all_turners(alloc, &[b"quiet"])?;
     match World::open(alloc, two_cards(alloc)?, externals, 9) {
         Ok(world) => Ok(Box::new(alloc, world)?),
         Err(_) => Err("names".into()),
@@ -31,7 +28,7 @@ fn opened(alloc: Global) -> Result<Box<World<Quiet>>, Fail>
 }
 
 /// Gives an object a script.
-fn set_script(alloc: Global, world: &mut World<Quiet>, id: Id, script: &[u8]) -> Result<(), Fail>
+fn set_script(alloc: Global, world: &mut World<Turner>, id: Id, script: &[u8]) -> Result<(), Fail>
     requires { IsSome world.old.history.start }
     ensures { OnOk result (IsSome world.new.history.start) }
 {
@@ -43,7 +40,11 @@ fn set_script(alloc: Global, world: &mut World<Quiet>, id: Id, script: &[u8]) ->
 }
 
 /// Begins a batch, and gives objects their scripts.
-fn set_scripts(alloc: Global, world: &mut World<Quiet>, scripts: &[(Id, &[u8])]) -> Result<(), Fail>
+fn set_scripts(
+    alloc: Global,
+    world: &mut World<Turner>,
+    scripts: &[(Id, &[u8])],
+) -> Result<(), Fail>
     requires { world.old.history.start ≡ None }
     ensures { OnOk result (IsSome world.new.history.start) }
 {
@@ -233,7 +234,7 @@ const MESSAGES: &[Row] = &[
 /// What a message to field 3 meets.
 fn met_by(
     alloc: Global,
-    world: &World<Quiet>,
+    world: &World<Turner>,
     scripts: &mut Scripts,
     kind: HandlerKind,
     name: &[u8],
@@ -278,7 +279,7 @@ fn a_script_that_was_replaced_is_parsed_anew(rt: HostRuntime) -> Result<(), Fail
 }
 
 /// What `foo` met, as it stands after card 2 lost its script.
-fn kept(alloc: Global, world: &mut World<Quiet>, scripts: &mut Scripts) -> Result<Met, Fail>
+fn kept(alloc: Global, world: &mut World<Turner>, scripts: &mut Scripts) -> Result<Met, Fail>
     requires { IsSome world.old.history.start }
 {
     let name = text(alloc, b"foo")?;

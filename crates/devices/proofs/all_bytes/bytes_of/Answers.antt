@@ -1,9 +1,9 @@
 use Rattle.std.proofs.Common.{ℕ, ◌+◌, ◌≤◌, ◌++◌, length, take, arith, length-append, length-take}
 use Rattle.std.proofs.lemmas.Result.{err_from_is_err_and}
 use Rattle.devices.proofs.Known.{Consumes-Consumes}
-use Rattle.command_line.proofs.stack_bytes.bytes_of.Goals as goal
+use Rattle.devices.proofs.all_bytes.bytes_of.Goals as goal
 
--- src/stack_bytes.rt
+-- src/all_bytes.rt
 pub returns-in_err-extend_from_slice-in-Ok-clause-err :
     goal.returns-in_err-extend_from_slice-in-Ok-clause-err
 returns-in_err-extend_from_slice-in-Ok-clause-err g c =

@@ -1,6 +1,6 @@
 use Rattle.std.proofs.Common.{◌≡◌, ◌≤◌, ◌+◌, ◌-◌, length}
 use Rattle.std.specs.Io.KnownBytes.{Consumes}
-use Rattle.command_line.proofs.stack_bytes.bytes_of.Given as goal
+use Rattle.devices.proofs.all_bytes.bytes_of.Given as goal
 
 -- what was read is there, at most one byte past the limit, and no call failed
 abbrev pub invariant-loop-block : goal.invariant-loop-block

@@ -1,14 +1,11 @@
 //! Runs of commands: steps, properties, what is shown and sent, frames, and the numbers of repeats.
 
+use crate::texts::text;
 use ht_grammar::RunProp;
 use ht_values::{Fault, Name, Text, Value};
 use meaning::{Budget, Counter, Frame, Line, Sent, SentMessage, Shown, Stop, SystemMessage};
 use std::alloc::Global;
 use std::test::*;
-
-fn text(alloc: Global, bytes: &[u8]) -> Result<Text, Fail> {
-    Ok(Text::from_slice(alloc, bytes)?)
-}
 
 #[test]
 fn steps_are_taken_until_none_is_left(rt: HostRuntime) -> Result<(), Fail> {
