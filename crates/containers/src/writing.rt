@@ -1,6 +1,6 @@
 //! Writing containers.
 
-ghost use Rattle.std.specs.Prelude.{◌≡◌, List, ℕ, [], Option, Some, IsSome, unwrap_or, OnOk, OnErr, IfErr, Err};
+ghost use Rattle.std.specs.Prelude.{◌≡◌, List, ℕ, [], Option, Some, IsSome, unwrap_or, OnOk, OnErr, IfErr, Ok, Err};
 ghost use Rattle.std.specs.FinMap as finite;
 ghost use Rattle.std.specs.Option.{ok_or};
 ghost use Rattle.ht_values.specs.declared.fault.Fault.TheVariants.{NoSuchObject};
@@ -22,7 +22,7 @@ use crate::store::Store;
 use crate::variables::Variables;
 use change_journal::Change;
 use chunks::Chunk;
-use ht_values::{Failure, Fault, Name, Text, Value};
+use ht_values::{Failure, Fault, Name, Text, Value, Where, law_of_value};
 use object_table::Id;
 use std::alloc::{AllocError, Global};
 
@@ -151,6 +151,27 @@ pub fn write<W: Store>(
     }
 }
 
+/// Puts a value into a variable, whatever stands there.
+#[tactic(auto, using(crate::proofs::Rules::writes_rules))]
+fn put_variable<W: Store>(
+    alloc: Global,
+    world: &mut W,
+    variables: &mut Variables,
+    name: &Name,
+    value: Value,
+) -> Result<(), AllocError>
+    requires { IsSome (base (W.history world.old)).start }
+    ensures ok { OnOk result (Writes (W.history world.old) variables.old (named variables.old name.now) (Ok (Some value)) (W.history world.new) variables.new) }
+    ensures err { OnErr result ((W.history world.new ≡ W.history world.old) × (variables.new ≡ variables.old)) }
+    ensures base { base (W.history world.new) ≡ base (W.history world.old) }
+{
+    if variables.is_global(name.text()) {
+        put_into_global(alloc, world, name, value)
+    } else {
+        variables.set(alloc, name.text(), Some(value))
+    }
+}
+
 /// Edits a variable in the open batch, as `write` does at its place, which needs not be made. The delimiter is that of items.
 /// After a fault, and where it is out of memory, nothing has changed.
 #[tactic(auto, using(crate::proofs::Rules::writes_rules))]
@@ -168,10 +189,18 @@ pub fn edit_variable<W: Store>(
     ensures err { OnErr result ((W.history world.new ≡ W.history world.old) × (variables.new ≡ variables.old)) }
     ensures base { base (W.history world.new) ≡ base (W.history world.old) }
 {
-    if variables.is_global(name.text()) {
-        edit_global(alloc, world, name, edit, &[], delimiter)
-    } else {
-        variables.edit(alloc, name.text(), edit, &[], delimiter)
+    match edit {
+        Edit::Put(Where::Into, value) => {
+            law_of_value(&value);
+            Ok(put_variable(alloc, world, variables, name, value)?)
+        }
+        edit => {
+            if variables.is_global(name.text()) {
+                edit_global(alloc, world, name, edit, &[], delimiter)
+            } else {
+                variables.edit(alloc, name.text(), edit, &[], delimiter)
+            }
+        }
     }
 }
 
