@@ -1,10 +1,10 @@
 //! The words that follow the program's name.
 
-ghost use Rattle.std.specs.Prelude.{◌≡◌, ◌≤◌, ◌↔◌, [], map, IfOk, IfErr, IsTrue};
+ghost use Rattle.std.specs.Prelude.{◌≡◌, ◌≤◌, ◌↔◌, [], map, false, IfOk, IfErr, IsTrue};
 ghost use Rattle.std.specs.String.{string_bytes};
-ghost use Rattle.clap.specs.Words.{app_of, fault_of, kind_of, found_of, rows_of, matches_of, one_of};
+ghost use Rattle.clap.specs.Words.{app_of, fault_of, kind_of, found_of, rows_of, rule_of, matches_of, one_of};
 ghost use Rattle.command_line.specs.Verdicts.{IsFaultOfWords};
-ghost use Rattle.command_line.specs.Words.{program as program_by, IsNumber, Says};
+ghost use Rattle.command_line.specs.Words.{program as program_by, number_rule, IsNumber, Says};
 
 use crate::fault::{CliFault, cut};
 use crate::options::Options;
@@ -17,25 +17,46 @@ use std::alloc::{AllocError, Global};
 /// How many steps a command may take unless the words say so. The history is as deep as it can be unless they say so.
 const DEFAULT_STEPS: u32 = 100_000;
 
-/// The program as `clap` knows it.
+/// An option with a number from 1 to the most.
+fn number_option<'a>(alloc: Global, name: &'a str, most: u32, help: &'a str) -> Arg<'a>
+    ensures rule { rule_of result ≡ number_rule name.entry.now most }
+    ensures local { result.global ≡ false }
+{
+    Arg::new(alloc, name)
+        .long(name)
+        .action(ArgAction::Set)
+        .value_parser(ValueParser::unsigned(1, most as u64))
+        .help(help)
+}
+
+/// The program as `clap` knows it, with what `--help` says of it.
 fn program<'a>(alloc: Global) -> Result<Command<'a>, AllocError>
     ensures { IfOk result (λ c. app_of c ≡ program_by) }
 {
     let stack = Arg::new(alloc, "STACK")
         .required(true)
-        .action(ArgAction::Set);
-    let steps = Arg::new(alloc, "steps")
-        .long("steps")
         .action(ArgAction::Set)
-        .value_parser(ValueParser::unsigned(1, MOST_STEPS as u64));
-    let depth = Arg::new(alloc, "depth")
-        .long("depth")
-        .action(ArgAction::Set)
-        .value_parser(ValueParser::unsigned(1, MOST_DEPTH as u64));
+        .help("The file of the stack");
+    let steps = number_option(
+        alloc,
+        "steps",
+        MOST_STEPS,
+        "How many steps a command may take; 100000 unless it is given",
+    );
+    let depth = number_option(
+        alloc,
+        "depth",
+        MOST_DEPTH,
+        "How many commands the history keeps; 1000000 unless it is given",
+    );
     let watch = Arg::new(alloc, "watch")
         .long("watch")
-        .action(ArgAction::SetTrue);
+        .action(ArgAction::SetTrue)
+        .help("Show the messages that are sent");
     Command::new(alloc, "card_cli")
+        .about(
+            "Opens a stack of cards and answers each line of standard input: HyperTalk, or a command that begins with a dot",
+        )
         .arg(stack)?
         .arg(steps)?
         .arg(depth)?
