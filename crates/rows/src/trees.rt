@@ -5,16 +5,17 @@
 mod expression;
 mod script;
 mod statement;
+mod word;
 
 use crate::trees::expression::{print_expr, print_part};
 use crate::trees::script::{print_message, print_script, print_typing};
 use crate::trees::statement::print_lines;
+use crate::trees::word::print_word;
 use ht_parse::{
     ParseError, parse_expr, parse_lines, parse_message, parse_part, parse_script, parse_type,
 };
 use ht_values::Text;
 use std::alloc::{AllocError, Global};
-use std::io::Write;
 
 /// The byte of a text that a byte of its line stands for.
 fn meant(byte: u8) -> u8 {
@@ -56,7 +57,7 @@ fn nested(alloc: Global, counts: &str) -> Result<Vec<u8>, AllocError> {
 /// Prints that a text isn't in the grammar, or fails where it was out of memory.
 fn refused(out: &mut Vec<u8>, error: ParseError) -> anyhow::Result<()> {
     match error {
-        ParseError::Syntax(_) => write!(out, "syntax")?,
+        ParseError::Syntax(_) => print_word(out, "syntax")?,
         ParseError::Memory => anyhow::bail!("out of memory"),
     }
     Ok(())
@@ -120,6 +121,6 @@ pub fn print_tree(alloc: Global, line: &str, out: &mut Vec<u8>) -> anyhow::Resul
         "part" => print_read_part(alloc, &text, out),
         "type" => print_read_type(alloc, &text, out),
         "message" => print_read_message(alloc, &text, out),
-        _ => Ok(write!(out, "no such kind")?),
+        _ => Ok(print_word(out, "no such kind")?),
     }
 }

@@ -1,14 +1,10 @@
 //! Expressions and references, written plainly.
 
+use crate::trees::word::{print_named, print_opening, print_text, print_word};
 use ht_grammar::Layer;
 use ht_tree::{Chunk, Count, Expr, ExprKind, Exprs, Owner, Part, Ref, Selector, Which};
 use ht_values::Text;
-use std::io::{self, Write};
-
-/// Prints the bytes of a text as they are.
-pub fn print_text(out: &mut Vec<u8>, text: &Text) -> io::Result<()> {
-    out.write_all(text.as_slice())
-}
+use std::io;
 
 /// Prints an expression: a number, a name or a constant as its word, a text in quotes, all else in parentheses.
 #[cycle(print)]
@@ -16,76 +12,75 @@ pub fn print_expr(out: &mut Vec<u8>, expr: &Expr) -> io::Result<()> {
     match expr.kind() {
         ExprKind::Number(digits) => print_text(out, digits),
         ExprKind::Quoted(text) => print_quoted(out, text),
-        ExprKind::Constant(constant) => write!(out, "{constant:?}"),
-        ExprKind::Return => write!(out, "Return"),
+        ExprKind::Constant(constant) => print_named(out, "", constant, ""),
+        ExprKind::Return => print_word(out, "Return"),
         ExprKind::Name(name) => print_text(out, name.text()),
-        ExprKind::Result => write!(out, "(the-result)"),
-        ExprKind::Target => write!(out, "(the-target)"),
-        ExprKind::RunProperty(property) => write!(out, "(the {property:?})"),
+        ExprKind::Result => print_word(out, "(the-result)"),
+        ExprKind::Target => print_word(out, "(the-target)"),
+        ExprKind::RunProperty(property) => print_named(out, "(the ", property, ")"),
         ExprKind::Paren(inner) => {
-            write!(out, "(paren ")?;
+            print_word(out, "(paren ")?;
             print_expr(out, inner)?;
-            write!(out, ")")
+            print_word(out, ")")
         }
         ExprKind::Call(name, arguments) => {
-            write!(out, "(call ")?;
+            print_word(out, "(call ")?;
             print_text(out, name)?;
             print_exprs(out, arguments)?;
-            write!(out, ")")
+            print_word(out, ")")
         }
         ExprKind::Binary(op, left, right) => {
-            write!(out, "({op:?} ")?;
+            print_named(out, "(", op, " ")?;
             print_expr(out, left)?;
-            write!(out, " ")?;
+            print_word(out, " ")?;
             print_expr(out, right)?;
-            write!(out, ")")
+            print_word(out, ")")
         }
         ExprKind::Unary(op, operand) => {
-            write!(out, "({op:?} ")?;
+            print_named(out, "(", op, " ")?;
             print_expr(out, operand)?;
-            write!(out, ")")
+            print_word(out, ")")
         }
         ExprKind::ThereIs(none, reference) => {
-            let article = if *none { "no" } else { "a" };
-            write!(out, "(there-is-{article} ")?;
+            print_opening(out, if *none { "there-is-no" } else { "there-is-a" })?;
             print_ref(out, reference)?;
-            write!(out, ")")
+            print_word(out, ")")
         }
         ExprKind::Chunk(chunk, text) => {
-            write!(out, "(chunk ")?;
+            print_word(out, "(chunk ")?;
             print_chunk(out, chunk)?;
-            write!(out, " ")?;
+            print_word(out, " ")?;
             print_expr(out, text)?;
-            write!(out, ")")
+            print_word(out, ")")
         }
         ExprKind::Field(part) => {
-            write!(out, "(text-of ")?;
+            print_word(out, "(text-of ")?;
             print_part(out, part)?;
-            write!(out, ")")
+            print_word(out, ")")
         }
         ExprKind::NumberOf(count) => {
-            write!(out, "(number-of ")?;
+            print_word(out, "(number-of ")?;
             print_count(out, count)?;
-            write!(out, ")")
+            print_word(out, ")")
         }
         ExprKind::Property(property, reference) => {
-            write!(out, "(the {property:?} ")?;
+            print_named(out, "(the ", property, " ")?;
             print_ref(out, reference)?;
-            write!(out, ")")
+            print_word(out, ")")
         }
         ExprKind::Function(function, operand) => {
-            write!(out, "(the {function:?} ")?;
+            print_named(out, "(the ", function, " ")?;
             print_expr(out, operand)?;
-            write!(out, ")")
+            print_word(out, ")")
         }
     }
 }
 
 /// Prints a text in quotes.
 fn print_quoted(out: &mut Vec<u8>, text: &Text) -> io::Result<()> {
-    write!(out, "\"")?;
+    print_word(out, "\"")?;
     print_text(out, text)?;
-    write!(out, "\"")
+    print_word(out, "\"")
 }
 
 /// Prints expressions, each after a space.
@@ -93,7 +88,7 @@ fn print_quoted(out: &mut Vec<u8>, text: &Text) -> io::Result<()> {
 pub fn print_exprs(out: &mut Vec<u8>, exprs: &Exprs) -> io::Result<()> {
     let mut rest = exprs.items.as_slice();
     while let [first, later @ ..] = rest {
-        write!(out, " ")?;
+        print_word(out, " ")?;
         print_expr(out, first)?;
         rest = later;
     }
@@ -105,18 +100,21 @@ pub fn print_exprs(out: &mut Vec<u8>, exprs: &Exprs) -> io::Result<()> {
 pub fn print_chunk(out: &mut Vec<u8>, chunk: &Chunk) -> io::Result<()> {
     match chunk {
         Chunk::Piece(piece, index) => {
-            write!(out, "({piece:?} ")?;
+            print_named(out, "(", piece, " ")?;
             print_expr(out, index)?;
-            write!(out, ")")
+            print_word(out, ")")
         }
         Chunk::Pieces(piece, first, last) => {
-            write!(out, "({piece:?} ")?;
+            print_named(out, "(", piece, " ")?;
             print_expr(out, first)?;
-            write!(out, " ")?;
+            print_word(out, " ")?;
             print_expr(out, last)?;
-            write!(out, ")")
+            print_word(out, ")")
         }
-        Chunk::NthPiece(ordinal, piece) => write!(out, "({ordinal:?} {piece:?})"),
+        Chunk::NthPiece(ordinal, piece) => {
+            print_named(out, "(", ordinal, " ")?;
+            print_named(out, "", piece, ")")
+        },
     }
 }
 
@@ -124,9 +122,9 @@ pub fn print_chunk(out: &mut Vec<u8>, chunk: &Chunk) -> io::Result<()> {
 fn print_which(out: &mut Vec<u8>, which: &Which) -> io::Result<()> {
     match which {
         Which::ById(id) => {
-            write!(out, "(id ")?;
+            print_word(out, "(id ")?;
             print_expr(out, id)?;
-            write!(out, ")")
+            print_word(out, ")")
         }
         Which::ByText(text) => print_expr(out, text),
     }
@@ -136,10 +134,10 @@ fn print_which(out: &mut Vec<u8>, which: &Which) -> io::Result<()> {
 #[cycle(print)]
 pub fn print_selector(out: &mut Vec<u8>, selector: &Selector) -> io::Result<()> {
     match selector {
-        Selector::This => write!(out, "this"),
-        Selector::Next => write!(out, "next"),
-        Selector::Previous => write!(out, "previous"),
-        Selector::Nth(ordinal) => write!(out, "{ordinal:?}"),
+        Selector::This => print_word(out, "this"),
+        Selector::Next => print_word(out, "next"),
+        Selector::Previous => print_word(out, "previous"),
+        Selector::Nth(ordinal) => print_named(out, "", ordinal, ""),
         Selector::Which(which) => print_which(out, which),
     }
 }
@@ -148,7 +146,7 @@ pub fn print_selector(out: &mut Vec<u8>, selector: &Selector) -> io::Result<()> 
 fn print_layer(out: &mut Vec<u8>, layer: &Option<Layer>) -> io::Result<()> {
     match layer {
         None => Ok(()),
-        Some(layer) => write!(out, "{layer:?} "),
+        Some(layer) => print_named(out, "", layer, " "),
     }
 }
 
@@ -157,14 +155,14 @@ fn print_owner(out: &mut Vec<u8>, owner: &Owner) -> io::Result<()> {
     match owner {
         Owner::NoOwner => Ok(()),
         Owner::OnCard(selector) => {
-            write!(out, " of (Card ")?;
+            print_word(out, " of (Card ")?;
             print_selector(out, selector)?;
-            write!(out, ")")
+            print_word(out, ")")
         }
         Owner::OnBackground(selector) => {
-            write!(out, " of (Background ")?;
+            print_word(out, " of (Background ")?;
             print_selector(out, selector)?;
-            write!(out, ")")
+            print_word(out, ")")
         }
     }
 }
@@ -172,40 +170,40 @@ fn print_owner(out: &mut Vec<u8>, owner: &Owner) -> io::Result<()> {
 /// Prints a part: its layer, kind, number or name, and owner.
 #[cycle(print)]
 pub fn print_part(out: &mut Vec<u8>, part: &Part) -> io::Result<()> {
-    write!(out, "(")?;
+    print_word(out, "(")?;
     match part {
         Part::Plain(layer, kind, which, owner) => {
             print_layer(out, layer)?;
-            write!(out, "{kind:?} ")?;
+            print_named(out, "", kind, " ")?;
             print_which(out, which)?;
             print_owner(out, owner)?;
         }
         Part::Nth(ordinal, layer, kind, owner) => {
-            write!(out, "{ordinal:?} ")?;
+            print_named(out, "", ordinal, " ")?;
             print_layer(out, layer)?;
-            write!(out, "{kind:?}")?;
+            print_named(out, "", kind, "")?;
             print_owner(out, owner)?;
         }
     }
-    write!(out, ")")
+    print_word(out, ")")
 }
 
 /// Prints a reference to an object.
 #[cycle(print)]
 pub fn print_ref(out: &mut Vec<u8>, reference: &Ref) -> io::Result<()> {
     match reference {
-        Ref::Me => write!(out, "(me)"),
-        Ref::Target => write!(out, "(the-target)"),
-        Ref::ThisStack => write!(out, "(this-stack)"),
+        Ref::Me => print_word(out, "(me)"),
+        Ref::Target => print_word(out, "(the-target)"),
+        Ref::ThisStack => print_word(out, "(this-stack)"),
         Ref::Card(selector) => {
-            write!(out, "(Card ")?;
+            print_word(out, "(Card ")?;
             print_selector(out, selector)?;
-            write!(out, ")")
+            print_word(out, ")")
         }
         Ref::Background(selector) => {
-            write!(out, "(Background ")?;
+            print_word(out, "(Background ")?;
             print_selector(out, selector)?;
-            write!(out, ")")
+            print_word(out, ")")
         }
         Ref::Part(part) => print_part(out, part),
     }
@@ -215,14 +213,14 @@ pub fn print_ref(out: &mut Vec<u8>, reference: &Ref) -> io::Result<()> {
 fn print_count(out: &mut Vec<u8>, count: &Count) -> io::Result<()> {
     match count {
         Count::PiecesOf(piece, text) => {
-            write!(out, "{piece:?}s ")?;
+            print_named(out, "", piece, "s ")?;
             print_expr(out, text)
         }
-        Count::Cards => write!(out, "Cards"),
-        Count::Backgrounds => write!(out, "Backgrounds"),
+        Count::Cards => print_word(out, "Cards"),
+        Count::Backgrounds => print_word(out, "Backgrounds"),
         Count::Parts(layer, kind) => {
             print_layer(out, layer)?;
-            write!(out, "{kind:?}s")
+            print_named(out, "", kind, "s")
         }
         Count::OfObject(reference) => print_ref(out, reference),
     }
