@@ -1,7 +1,9 @@
 //! The variables of a handler that runs, or of a typed line.
 
-ghost use Rattle.std.specs.Prelude.{◌≡◌, ◌<◌, ℕ, List, [], true, false, length, Err, IfErr, OnOk, OnErr, IfSome, Option, option_copied, find, position, slice_index_or, slice_set, unwrap_or, Some, None};
-ghost use Rattle.ht_values.specs.Outcome.{Gives};
+ghost use Rattle.std.specs.Prelude.{◌≡◌, ◌<◌, ◌++◌, ℕ, Ok, List, [], true, false, length, Err, IfErr, OnOk, OnErr, IfSome, Option, option_copied, find, position, slice_index_or, slice_set, unwrap_or, Some, None};
+ghost use Rattle.ht_values.specs.Outcome.{Gives, within_limit};
+ghost use Rattle.ht_values.specs.declared.word.Where.TheVariants.{After};
+ghost use Rattle.containers.specs.declared.edit.Edit.TheVariants.{Put};
 ghost use Rattle.ht_values.specs.Text.{same};
 ghost use Rattle.change_journal.specs.History.{History};
 ghost use Rattle.containers.specs.Edits.{edited};
@@ -13,7 +15,7 @@ ghost use Rattle.containers.specs.Standing.{IsMeaning};
 use crate::edit::Edit;
 use crate::standing::Standing;
 use chunks::Chunk;
-use ht_values::{Failure, Text, Value};
+use ht_values::{Failure, Text, Value, Where, law_of_value};
 use std::alloc::{AllocError, Global};
 use std::marker::Model;
 
@@ -29,6 +31,20 @@ impl Local {
         ensures { result ≡ same self.now.name name.now }
     {
         self.name.same(name)
+    }
+
+    /// Adds a value at the end of the one that the name has, which is empty where it has none.
+    fn append(&mut self, alloc: Global, new: Value) -> Result<(), Failure>
+        ensures ok { OnOk result ((t : List ℕ) × (within_limit (unwrap_or self.old.value [] ++ new) ≡ Ok t) × (self.new ≡ record self.old { value = Some t })) }
+        ensures fault { IfErr result (λ e. Gives {A = List ℕ} (Err e) (within_limit (unwrap_or self.old.value [] ++ new))) }
+        ensures err { OnErr result (self.new ≡ self.old) }
+    {
+        if let Some(value) = &mut self.value {
+            return value.append(alloc, &new);
+        }
+        law_of_value(&new);
+        self.value = Some(new);
+        Ok(())
     }
 }
 
@@ -172,6 +188,40 @@ impl Variables {
         }
     }
 
+    /// Adds a value at the end of a variable of the handler's own, in its place where it stands as a text; one without a value is
+    /// empty. After a fault, and where it is out of memory, nothing has changed.
+    pub(crate) fn append(&mut self, alloc: Global, name: &Text, new: Value) -> Result<(), Failure>
+        ensures ok { OnOk result ((h : History) (d : ℕ) → Writes h self.old (own name.now) (edited d [] (Put After new) (own_text self.old name.now)) h self.new) }
+        ensures fault { (d : ℕ) → IfErr result (λ e. Gives {A = Option (List ℕ)} (Err e) (edited d [] (Put After new) (own_text self.old name.now))) }
+        ensures err { OnErr result (self.new ≡ self.old) }
+    {
+        match number_of(&self.locals, name) {
+            Some(i) => append_at(alloc, &mut self.locals, i, new),
+            None => {
+                law_of_value(&new);
+                Ok(self.set(alloc, name, Some(new))?)
+            }
+        }
+    }
+
+    /// Edits the whole of a variable of the handler's own, as `edit` does without chunks.
+    pub(crate) fn edit_whole(
+        &mut self,
+        alloc: Global,
+        name: &Text,
+        edit: Edit,
+        delimiter: u8,
+    ) -> Result<(), Failure>
+        ensures ok { OnOk result ((h : History) → Writes h self.old (own name.now) (edited delimiter [] edit (own_text self.old name.now)) h self.new) }
+        ensures fault { IfErr result (λ e. Gives {A = Option (List ℕ)} (Err e) (edited delimiter [] edit (own_text self.old name.now))) }
+        ensures err { OnErr result (self.new ≡ self.old) }
+    {
+        match edit {
+            Edit::Put(Where::After, value) => self.append(alloc, name, value),
+            edit => self.edit(alloc, name, edit, &[], delimiter),
+        }
+    }
+
     /// A name means a global from here on. Where memory was refused nothing changes.
     pub(crate) fn declare(&mut self, alloc: Global, name: &Text) -> Result<(), AllocError>
         ensures ok { OnOk result (self.new ≡ declared self.old name.now) }
@@ -198,6 +248,17 @@ fn set_value(locals: &mut Vec<Local>, i: usize, value: Option<Value>)
 {
     let local = &mut locals[i];
     local.value = value;
+}
+
+/// Adds a value at the end of the one at a place; one that isn't there is empty.
+fn append_at(alloc: Global, locals: &mut Vec<Local>, i: usize, new: Value) -> Result<(), Failure>
+    requires { i < length locals.old.items }
+    ensures ok { OnOk result ((other : Local) → (t : List ℕ) × (within_limit (unwrap_or (slice_index_or locals.old.items i other).value [] ++ new) ≡ Ok t) × (locals.new.items ≡ slice_set locals.old.items i (record (slice_index_or locals.old.items i other) { value = Some t }))) }
+    ensures fault { (other : Local) → IfErr result (λ e. Gives {A = List ℕ} (Err e) (within_limit (unwrap_or (slice_index_or locals.old.items i other).value [] ++ new))) }
+    ensures err { OnErr result (locals.new.items ≡ locals.old.items) }
+{
+    let local = &mut locals[i];
+    local.append(alloc, new)
 }
 
 /// What an edit makes of the value at a place; of one that isn't there, as of an empty one.

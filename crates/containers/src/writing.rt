@@ -198,7 +198,7 @@ pub fn edit_variable<W: Store>(
             if variables.is_global(name.text()) {
                 edit_global(alloc, world, name, edit, &[], delimiter)
             } else {
-                variables.edit(alloc, name.text(), edit, &[], delimiter)
+                variables.edit_whole(alloc, name.text(), edit, delimiter)
             }
         }
     }

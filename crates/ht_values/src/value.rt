@@ -1,13 +1,16 @@
 //! Values as they are computed: a number or a truth value in place of its spelling, or a text.
 
-ghost use Rattle.std.specs.Prelude.{◌≡◌, ◌≤◌, length, IfOk, IsTrue};
+ghost use Rattle.std.specs.Prelude.{◌≡◌, ◌≤◌, ◌++◌, ℕ, List, length, IfOk, IfErr, OnOk, OnErr, Ok, Err, IsTrue};
 ghost use Rattle.std.specs.Option.{SomeIff};
 ghost use Rattle.ht_values.specs.Number.{is_numeral, number_of as number_of_text, value_of};
 ghost use Rattle.ht_values.specs.Operators.{truth_of as truth_of_text, word_of};
+ghost use Rattle.ht_values.specs.Outcome.{Gives, within_limit};
 ghost use Rattle.ht_values.specs.Text.{numeral as numeral_of};
 ghost use Rattle.ht_values.specs.declared.text.TheConstants.{LIMIT};
 
+use crate::failure::Failure;
 use crate::fault::Fault;
+use crate::join::joined;
 use crate::logic::{truth_of, word_text};
 use crate::number::{number_of, numeral, plain_number};
 use crate::text::{Text, text_of};
@@ -110,6 +113,27 @@ impl Value {
             Form::Spelled(text) => Lent::Stands(text),
         };
         Ok(Spelling { text })
+    }
+
+    /// Adds the text of another value at the end: where this one is kept as a text, in its place. `TooLong` where the text would
+    /// be over 30,000 bytes, else `Memory` where a growth was refused; the value is then as it was.
+    pub fn append(&mut self, alloc: Global, new: &Value) -> Result<(), Failure>
+        ensures ok { OnOk result (within_limit (self.old ++ new.now) ≡ Ok self.new) }
+        ensures fault { IfErr result (λ e. Gives {A = List ℕ} (Err e) (within_limit (self.old ++ new.now))) }
+        ensures err { OnErr result (self.new ≡ self.old) }
+    {
+        let new = new.spelled(alloc)?;
+        if let Form::Spelled(text) = &mut self.form {
+            return text.append(new.text().as_slice());
+        }
+        let whole = joined(
+            alloc,
+            self.spelled(alloc)?.text().as_slice(),
+            b"",
+            new.text().as_slice(),
+        )?;
+        self.form = Form::Spelled(whole);
+        Ok(())
     }
 
     /// The number that the value means, or the fault that it means none, as `number_of` says it of a text. It takes no memory.

@@ -180,6 +180,28 @@ fn a_value_has_its_text_however_it_is_kept(rt: HostRuntime) -> Result<(), Fail> 
     Ok(())
 }
 
+/// A value after another is added at its end.
+fn extended(alloc: Global, value: Value, more: &Value) -> Result<Value, Failure> {
+    let mut value = value;
+    value.append(alloc, more)?;
+    Ok(value)
+}
+
+#[test]
+fn a_value_is_added_however_both_are_kept(rt: HostRuntime) -> Result<(), Fail> {
+    let alloc = rt.alloc();
+    for as_text in [true, false] {
+        let value = value_of(alloc, b"17", as_text)?;
+        let more = value_of(alloc, b"80", !as_text)?;
+        assert!(rt; is_value(alloc, extended(alloc, value, &more), &Ok(b"1780"))?);
+    }
+    let most = vec![in alloc; b'x'; LIMIT]?;
+    let value = value_of(alloc, &most, true)?;
+    let more = Value::of_truth(true);
+    assert!(rt; is_value(alloc, extended(alloc, value, &more), &Err(Fault::TooLong))?);
+    Ok(())
+}
+
 #[test]
 fn a_value_means_what_its_text_means(rt: HostRuntime) {
     assert!(rt; Value::of_number(-9).number() == Ok(-9));

@@ -272,6 +272,14 @@ const PUTS: &[(&[Act], &[u8])] = &[
         ],
         b"ab",
     ),
+    (&[Act::Edit(None, Work::Put(Where::After, b"b"))], b"b"),
+    (
+        &[
+            Act::Edit(None, Work::Add(b"2")),
+            Act::Edit(None, Work::Put(Where::After, b"b")),
+        ],
+        b"2b",
+    ),
     (
         &[
             Act::Edit(None, Work::Put(Where::Into, b"a")),
