@@ -25,7 +25,7 @@ pub enum PartKind {
 }
 
 /// A property by its name.
-#[derive(Clone, Copy, PartialEq, Eq, Debug)]
+#[derive(Clone, Copy, PartialEq, Eq, Hash, Debug)]
 pub enum Prop {
     Name,
     ShortName,

@@ -1,5 +1,5 @@
 -- Keys are the same where entries are of one place.
-use Rattle.std.proofs.Common.{◌≡◌, ℕ, Bool, true, false, ◌&&◌, nat_eq, Option, Some, None, refl, ◌∙◌, arith}
+use Rattle.std.proofs.Common.{◌≡◌, ℕ, Bool, true, false, ◌&&◌, nat_eq, Option, Some, None, refl, arith}
 use Rattle.std.proofs.lemmas.Bool.Decides.{nat_tests}
 use Rattle.stack_places.specs.Exchange.{of_one_property, of_one_place as stack_of_one_place}
 use Rattle.stack_places.specs.declared.entry.StackEntry.{StackEntry}
@@ -7,7 +7,7 @@ use Rattle.stack_places.specs.declared.entry.StackEntry.TheVariants as stack_ent
 use Rattle.object_table.specs.declared.property.PropValue.{PropValue}
 use Rattle.object_table.specs.declared.property.PropValue.TheVariants as settings
 use Rattle.journal_entries.specs.Exchange.{of_one_place}
-use Rattle.journal_entries.specs.Keys.{key_of, stack_key, property_key}
+use Rattle.journal_entries.specs.Keys.{key_of, stack_key, property_of}
 use Rattle.journal_entries.specs.SameKey.{same_key}
 use Rattle.journal_entries.specs.declared.entry.Entry.{Entry}
 use Rattle.journal_entries.specs.declared.entry.Entry.TheVariants.{Global, Current, Stack, External}
@@ -24,18 +24,13 @@ turned i j = grind (arith, nat_tests)
 both_turned : (f c g d : ℕ) → nat_eq f g && nat_eq c d ≡ nat_eq g f && nat_eq d c
 both_turned f c g d = λ i. turned f g i && turned c d i
 
-kept : (i j : ℕ) → nat_eq i j && true ≡ nat_eq j i
-kept i j = and_true (nat_eq i j) ∙ turned i j
-  where
-    and_true : (b : Bool) → b && true ≡ b
-    and_true true = refl
-    and_true false = refl
+kept : (i j : ℕ) → nat_eq i j && true ≡ nat_eq j i && true
+kept i j = λ n. turned i j n && true
 
-and_false : (b : Bool) → b && false ≡ false
-and_false true = refl
-and_false false = refl
+kept_apart : (i j : ℕ) → nat_eq i j && false ≡ nat_eq j i && false
+kept_apart i j = λ n. turned i j n && false
 
-property_place : (i j : ℕ) (v w : PropValue) → nat_eq i j && of_one_property v w ≡ same_key (property_key j w) (property_key i v)
+property_place : (i j : ℕ) (v w : PropValue) → nat_eq i j && of_one_property v w ≡ same_key (keys.Property j (property_of w)) (keys.Property i (property_of v))
 property_place i j (settings.NameIs t) (settings.NameIs u) = kept i j
 property_place i j (settings.ScriptIs t) (settings.ScriptIs u) = kept i j
 property_place i j (settings.VisibleIs a) (settings.VisibleIs b) = kept i j
@@ -44,7 +39,7 @@ property_place i j (settings.SharedHiliteIs a) (settings.SharedHiliteIs b) = kep
 property_place i j (settings.LockTextIs a) (settings.LockTextIs b) = kept i j
 property_place i j (settings.SharedTextIs a) (settings.SharedTextIs b) = kept i j
 property_place i j (settings.CantDeleteIs a) (settings.CantDeleteIs b) = kept i j
-property_place i j v w = and_false (nat_eq i j)
+property_place i j v w = kept_apart i j
 
 stack_place : (e f : StackEntry) → stack_of_one_place e f ≡ same_keys (stack_key f) (stack_key e)
 unfolding stack_of_one_place
@@ -52,78 +47,29 @@ stack_place (stack_entries.Prop i v) (stack_entries.Prop j w) = property_place i
 stack_place (stack_entries.FieldText f c v) (stack_entries.FieldText g d w) = both_turned f c g d
 stack_place (stack_entries.Hilite b c v) (stack_entries.Hilite h d w) = both_turned b c h d
 stack_place (stack_entries.Parts i v) (stack_entries.Parts j w) = turned i j
-stack_place (stack_entries.Prop i (settings.NameIs t)) f = refl
-stack_place (stack_entries.Prop i (settings.ScriptIs t)) f = refl
-stack_place (stack_entries.Prop i (settings.VisibleIs b)) f = refl
-stack_place (stack_entries.Prop i (settings.HiliteIs b)) f = refl
-stack_place (stack_entries.Prop i (settings.SharedHiliteIs b)) f = refl
-stack_place (stack_entries.Prop i (settings.LockTextIs b)) f = refl
-stack_place (stack_entries.Prop i (settings.SharedTextIs b)) f = refl
-stack_place (stack_entries.Prop i (settings.CantDeleteIs b)) f = refl
-stack_place e (stack_entries.Prop j (settings.NameIs t)) = refl
-stack_place e (stack_entries.Prop j (settings.ScriptIs t)) = refl
-stack_place e (stack_entries.Prop j (settings.VisibleIs b)) = refl
-stack_place e (stack_entries.Prop j (settings.HiliteIs b)) = refl
-stack_place e (stack_entries.Prop j (settings.SharedHiliteIs b)) = refl
-stack_place e (stack_entries.Prop j (settings.LockTextIs b)) = refl
-stack_place e (stack_entries.Prop j (settings.SharedTextIs b)) = refl
-stack_place e (stack_entries.Prop j (settings.CantDeleteIs b)) = refl
+stack_place (stack_entries.Prop i v) f = refl
+stack_place e (stack_entries.Prop j w) = refl
 stack_place e f = refl
 
 -- a place of a stack is no global and not the current card
 no_global : (i : ℕ) (f : StackEntry) → false ≡ same_keys (stack_key f) (Some (keys.Global i))
-no_global i (stack_entries.Prop j (settings.NameIs t)) = refl
-no_global i (stack_entries.Prop j (settings.ScriptIs t)) = refl
-no_global i (stack_entries.Prop j (settings.VisibleIs b)) = refl
-no_global i (stack_entries.Prop j (settings.HiliteIs b)) = refl
-no_global i (stack_entries.Prop j (settings.SharedHiliteIs b)) = refl
-no_global i (stack_entries.Prop j (settings.LockTextIs b)) = refl
-no_global i (stack_entries.Prop j (settings.SharedTextIs b)) = refl
-no_global i (stack_entries.Prop j (settings.CantDeleteIs b)) = refl
+no_global i (stack_entries.Prop j v) = refl
 no_global i f = refl
 
 no_stack : (i : ℕ) (f : StackEntry) → false ≡ same_keys (Some (keys.Global i)) (stack_key f)
-no_stack i (stack_entries.Prop j (settings.NameIs t)) = refl
-no_stack i (stack_entries.Prop j (settings.ScriptIs t)) = refl
-no_stack i (stack_entries.Prop j (settings.VisibleIs b)) = refl
-no_stack i (stack_entries.Prop j (settings.HiliteIs b)) = refl
-no_stack i (stack_entries.Prop j (settings.SharedHiliteIs b)) = refl
-no_stack i (stack_entries.Prop j (settings.LockTextIs b)) = refl
-no_stack i (stack_entries.Prop j (settings.SharedTextIs b)) = refl
-no_stack i (stack_entries.Prop j (settings.CantDeleteIs b)) = refl
+no_stack i (stack_entries.Prop j v) = refl
 no_stack i f = refl
 
 no_card : (f : StackEntry) → false ≡ same_keys (stack_key f) (Some keys.CurrentCard)
-no_card (stack_entries.Prop j (settings.NameIs t)) = refl
-no_card (stack_entries.Prop j (settings.ScriptIs t)) = refl
-no_card (stack_entries.Prop j (settings.VisibleIs b)) = refl
-no_card (stack_entries.Prop j (settings.HiliteIs b)) = refl
-no_card (stack_entries.Prop j (settings.SharedHiliteIs b)) = refl
-no_card (stack_entries.Prop j (settings.LockTextIs b)) = refl
-no_card (stack_entries.Prop j (settings.SharedTextIs b)) = refl
-no_card (stack_entries.Prop j (settings.CantDeleteIs b)) = refl
+no_card (stack_entries.Prop j v) = refl
 no_card f = refl
 
 no_current : (f : StackEntry) → false ≡ same_keys (Some keys.CurrentCard) (stack_key f)
-no_current (stack_entries.Prop j (settings.NameIs t)) = refl
-no_current (stack_entries.Prop j (settings.ScriptIs t)) = refl
-no_current (stack_entries.Prop j (settings.VisibleIs b)) = refl
-no_current (stack_entries.Prop j (settings.HiliteIs b)) = refl
-no_current (stack_entries.Prop j (settings.SharedHiliteIs b)) = refl
-no_current (stack_entries.Prop j (settings.LockTextIs b)) = refl
-no_current (stack_entries.Prop j (settings.SharedTextIs b)) = refl
-no_current (stack_entries.Prop j (settings.CantDeleteIs b)) = refl
+no_current (stack_entries.Prop j v) = refl
 no_current f = refl
 
 none_right : (f : StackEntry) → false ≡ same_keys (stack_key f) None
-none_right (stack_entries.Prop j (settings.NameIs t)) = refl
-none_right (stack_entries.Prop j (settings.ScriptIs t)) = refl
-none_right (stack_entries.Prop j (settings.VisibleIs b)) = refl
-none_right (stack_entries.Prop j (settings.HiliteIs b)) = refl
-none_right (stack_entries.Prop j (settings.SharedHiliteIs b)) = refl
-none_right (stack_entries.Prop j (settings.LockTextIs b)) = refl
-none_right (stack_entries.Prop j (settings.SharedTextIs b)) = refl
-none_right (stack_entries.Prop j (settings.CantDeleteIs b)) = refl
+none_right (stack_entries.Prop j v) = refl
 none_right f = refl
 
 -- of one place are those whose keys are the same

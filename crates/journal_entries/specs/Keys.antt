@@ -1,5 +1,7 @@
 -- Places as keys.
-use Rattle.std.specs.Prelude.{ℕ, Option, Some, None}
+use Rattle.std.specs.Prelude.{Option, Some, None}
+use Rattle.ht_values.specs.declared.word.Prop.{Prop}
+use Rattle.ht_values.specs.declared.word.Prop.TheVariants as props
 use Rattle.object_table.specs.declared.property.PropValue.{PropValue}
 use Rattle.object_table.specs.declared.property.PropValue.TheVariants as settings
 use Rattle.stack_places.specs.declared.entry.StackEntry.{StackEntry}
@@ -9,18 +11,19 @@ use Rattle.journal_entries.specs.declared.entry.Entry.TheVariants as entries
 use Rattle.journal_entries.specs.declared.place_key.PlaceKey.{PlaceKey}
 use Rattle.journal_entries.specs.declared.place_key.PlaceKey.TheVariants as keys
 
-abbrev pub property_key : ℕ → PropValue → PlaceKey
-property_key id (settings.NameIs t) = keys.Name id
-property_key id (settings.ScriptIs t) = keys.Script id
-property_key id (settings.VisibleIs b) = keys.Visible id
-property_key id (settings.HiliteIs b) = keys.Hilite id
-property_key id (settings.SharedHiliteIs b) = keys.SharedHilite id
-property_key id (settings.LockTextIs b) = keys.LockText id
-property_key id (settings.SharedTextIs b) = keys.SharedText id
-property_key id (settings.CantDeleteIs b) = keys.CantDelete id
+-- the property that a value is for
+abbrev pub property_of : PropValue → Prop
+property_of (settings.NameIs t) = props.Name
+property_of (settings.ScriptIs t) = props.Script
+property_of (settings.VisibleIs b) = props.Visible
+property_of (settings.HiliteIs b) = props.Hilite
+property_of (settings.SharedHiliteIs b) = props.SharedHilite
+property_of (settings.LockTextIs b) = props.LockText
+property_of (settings.SharedTextIs b) = props.SharedText
+property_of (settings.CantDeleteIs b) = props.CantDelete
 
 abbrev pub stack_key : StackEntry → Option PlaceKey
-stack_key (stack_entries.Prop id v) = Some (property_key id v)
+stack_key (stack_entries.Prop id v) = Some (keys.Property id (property_of v))
 stack_key (stack_entries.FieldText field card v) = Some (keys.FieldText field card)
 stack_key (stack_entries.Hilite button card v) = Some (keys.CardHilite button card)
 stack_key (stack_entries.Object id v) = None

@@ -6,12 +6,12 @@ ghost use Rattle.externals.specs.Cells.{IsPatch, Changes};
 ghost use Rattle.journal_entries.specs.State.{IsState, seen_at};
 ghost use Rattle.journal_entries.specs.Changes.{fits};
 ghost use Rattle.journal_entries.specs.declared.change.Change.TheVariants as made_change;
-ghost use Rattle.journal_entries.specs.Changing.{Makes, kept, kept_in_turn, kept_turn};
+ghost use Rattle.journal_entries.specs.Changing.{Makes, holds_one, kept, kept_in_turn, kept_turn};
 ghost use Rattle.journal_entries.specs.Indexed.{IsIndexed, is_held as is_held_in};
 ghost use Rattle.journal_entries.specs.Keys.{key_of as key_of_entry};
 ghost use Rattle.journal_entries.specs.SameKey.{same_key};
 ghost use Rattle.journal_entries.specs.Turning.{Grows, Turns, TurnsAtMostOnce, one_more_at};
-ghost use Rattle.journal_entries.specs.Exchange.{back, forth, exchanged, taken, shape_of, AreReady, IsReady};
+ghost use Rattle.journal_entries.specs.Exchange.{back, forth, exchanged, of_one_place, taken, shape_of, AreReady, IsReady};
 
 use crate::batch::Batch;
 use crate::change::Change;
@@ -112,7 +112,7 @@ impl OpenBatch {
         ensures state_err { OnErr result (present.new ≡ present.old) }
         ensures entries_err { OnErr result (self.new ≡ self.old) }
     {
-        if is_held(&self.index, &entry) {
+        if is_held(&self.entries, &self.index, &entry) {
             present.exchange(&mut entry);
             return Ok(());
         }
@@ -215,7 +215,35 @@ fn reserve(entries: &mut Vec<Entry>, more: usize) -> Result<(), AllocError>
 }
 
 /// Whether the segment since the latest structural entry has an entry of this one's place.
-fn is_held(index: &Index, entry: &Entry) -> bool
+fn is_held(entries: &[Entry], index: &Index, entry: &Entry) -> bool
+    requires indexed { IsIndexed entries.now index.now.closed (λ key. get_by (same_key key) index.now.latest) }
+    ensures { result ≡ holds_one entry.now entries.now }
+{
+    is_last(entries, entry) || is_found(index, entry)
+}
+
+/// Whether the latest entry is of the same global, as it is where a loop changes one. Then the index needn't be asked.
+fn is_last(entries: &[Entry], entry: &Entry) -> bool
+    ensures { result ≡ true → holds_one entry.now entries.now ≡ true }
+{
+    match entries.last() {
+        Some(last) => are_one_global(entry, last),
+        None => false,
+    }
+}
+
+#[tactic(auto, unfolding(crate::specs::Exchange::of_one_place))]
+fn are_one_global(entry: &Entry, other: &Entry) -> bool
+    ensures { result ≡ true → of_one_place entry.now other.now ≡ true }
+{
+    match (entry, other) {
+        (Entry::Global(i, _), Entry::Global(j, _)) => i == j,
+        _ => false,
+    }
+}
+
+/// Whether the index tells that the segment since the latest structural entry has an entry of this one's place.
+fn is_found(index: &Index, entry: &Entry) -> bool
     ensures { result ≡ is_held_in index.now.closed (λ key. get_by (same_key key) index.now.latest) (key_of_entry entry.now) }
 {
     match key_of(entry) {
@@ -270,7 +298,7 @@ fn write_reserved<E: External>(
     ensures capacity { vec_capacity entries.new ≡ vec_capacity entries.old }
     ensures spare { spare index.old.latest ≤ spare index.new.latest + 1 }
 {
-    let held = is_held(index, &entry);
+    let held = is_held(entries, index, &entry);
     present.exchange(&mut entry);
     if held {
         return;

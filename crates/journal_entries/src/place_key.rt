@@ -1,9 +1,10 @@
 //! Places as keys of a table.
 
 ghost use Rattle.std.specs.Prelude.{◌≡◌};
-ghost use Rattle.journal_entries.specs.Keys.{key_of as key_of_entry, stack_key, property_key as property_key_of};
+ghost use Rattle.journal_entries.specs.Keys.{key_of as key_of_entry, stack_key, property_of as property_by};
 
 use crate::entry::Entry;
+use ht_values::Prop;
 use object_table::{Id, PropValue};
 use stack_places::StackEntry;
 
@@ -13,14 +14,8 @@ pub(crate) enum PlaceKey {
     /// The number of a global's name.
     Global(usize),
     CurrentCard,
-    Name(Id),
-    Script(Id),
-    Visible(Id),
-    Hilite(Id),
-    SharedHilite(Id),
-    LockText(Id),
-    SharedText(Id),
-    CantDelete(Id),
+    /// A property of an object.
+    Property(Id, Prop),
     /// A field and a card, or 0.
     FieldText(Id, Id),
     /// A button and a card, or 0.
@@ -47,7 +42,7 @@ fn stack_key_of(entry: &StackEntry) -> Option<PlaceKey>
     ensures { result ≡ stack_key entry.now }
 {
     match entry {
-        StackEntry::Prop(id, value) => Some(property_key(*id, value)),
+        StackEntry::Prop(id, value) => Some(PlaceKey::Property(*id, property_of(value))),
         StackEntry::FieldText(field, card, _) => Some(PlaceKey::FieldText(*field, *card)),
         StackEntry::Hilite(button, card, _) => Some(PlaceKey::CardHilite(*button, *card)),
         StackEntry::Object(_, _) => None,
@@ -58,17 +53,18 @@ fn stack_key_of(entry: &StackEntry) -> Option<PlaceKey>
     }
 }
 
-fn property_key(id: Id, value: &PropValue) -> PlaceKey
-    ensures { result ≡ property_key_of id value.now }
+/// The property that a value is for.
+fn property_of(value: &PropValue) -> Prop
+    ensures { result ≡ property_by value.now }
 {
     match value {
-        PropValue::NameIs(_) => PlaceKey::Name(id),
-        PropValue::ScriptIs(_) => PlaceKey::Script(id),
-        PropValue::VisibleIs(_) => PlaceKey::Visible(id),
-        PropValue::HiliteIs(_) => PlaceKey::Hilite(id),
-        PropValue::SharedHiliteIs(_) => PlaceKey::SharedHilite(id),
-        PropValue::LockTextIs(_) => PlaceKey::LockText(id),
-        PropValue::SharedTextIs(_) => PlaceKey::SharedText(id),
-        PropValue::CantDeleteIs(_) => PlaceKey::CantDelete(id),
+        PropValue::NameIs(_) => Prop::Name,
+        PropValue::ScriptIs(_) => Prop::Script,
+        PropValue::VisibleIs(_) => Prop::Visible,
+        PropValue::HiliteIs(_) => Prop::Hilite,
+        PropValue::SharedHiliteIs(_) => Prop::SharedHilite,
+        PropValue::LockTextIs(_) => Prop::LockText,
+        PropValue::SharedTextIs(_) => Prop::SharedText,
+        PropValue::CantDeleteIs(_) => Prop::CantDelete,
     }
 }

@@ -55,6 +55,16 @@ const NAME: Step = Step::Line(
     ],
 );
 
+/// `g` is written twice before a card is made, and twice after it.
+const WRITES: &[Deed] = &[
+    Deed::PutGlobal(b"g", b"2"),
+    Deed::PutGlobal(b"g", b"3"),
+    Deed::Card,
+    Deed::Current(2),
+    Deed::PutGlobal(b"g", b"4"),
+    Deed::PutGlobal(b"g", b"5"),
+];
+
 const ROWS: &[Row] = &[
     Row {
         name: "a line that is given up leaves all as it was",
@@ -121,6 +131,27 @@ const ROWS: &[Row] = &[
         seen: Seen {
             stamps: &[1, 0],
             card: b"Home",
+            ..FIRST
+        },
+    },
+    Row {
+        name: "a global goes back past all its writes",
+        depth: 3,
+        steps: &[Step::Line(8, PUT), Step::Line(9, WRITES), Step::Back],
+        seen: Seen {
+            stamps: &[8, 0],
+            redoable: 1,
+            has_global: true,
+            ..FIRST
+        },
+    },
+    Row {
+        name: "writes of a global are given up",
+        depth: 3,
+        steps: &[Step::Line(8, PUT), Step::GivenUp(9, WRITES)],
+        seen: Seen {
+            stamps: &[8, 0],
+            has_global: true,
             ..FIRST
         },
     },
