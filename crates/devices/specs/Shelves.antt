@@ -1,6 +1,6 @@
 -- A desk in memory, as its calls show it.
 use Rattle.std.specs.Prelude.{ℕ, List, Option}
-use Rattle.devices.specs.declared.shelf.Message.{Message}
+use Rattle.devices.specs.declared.shelf.HeardMessage.{HeardMessage}
 use Rattle.devices.specs.declared.shelf.Shelf.{Shelf}
 
 -- the text that it keeps
@@ -8,7 +8,7 @@ abbrev pub text_on : Shelf → List ℕ
 text_on s = s.text.items
 
 -- the messages that it remembers
-abbrev pub messages_on : Shelf → List Message
+abbrev pub messages_on : Shelf → List HeardMessage
 messages_on s = s.messages.items
 
 -- how many times it was asked to keep a text

@@ -9,5 +9,5 @@ mod watched;
 
 pub use all_bytes::{BytesFault, bytes_of};
 pub use desk::Desk;
-pub use shelf::{Message, Shelf};
+pub use shelf::{HeardMessage, Shelf};
 pub use watched::{Watched, WriteFault, write_to};

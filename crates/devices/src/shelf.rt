@@ -10,9 +10,9 @@ use ht_values::Text;
 use object_table::Id;
 use std::alloc::Global;
 
-/// A message that was sent, and the id of the object that it was sent to.
+/// A message that the desk heard of, and the id of the object that it was sent to.
 #[derive(Drop)]
-pub struct Message {
+pub struct HeardMessage {
     pub name: Text,
     pub object: Id,
 }
@@ -22,7 +22,7 @@ pub struct Message {
 pub struct Shelf {
     alloc: Global,
     text: Vec<u8>,
-    messages: Vec<Message>,
+    messages: Vec<HeardMessage>,
     calls: u64,
     fails_at: Option<u64>,
     failures: u64,
@@ -65,7 +65,7 @@ impl Shelf {
     }
 
     /// The messages that it heard of, in their order, but for those for which it was out of memory.
-    pub fn messages(&self) -> &[Message]
+    pub fn messages(&self) -> &[HeardMessage]
         ensures { result.now ≡ messages_on self.now }
     {
         &self.messages
@@ -122,7 +122,7 @@ impl Desk for Shelf {
         ensures due { call_of_failure self.new ≡ call_of_failure self.old }
     {
         if let Ok(name) = name.try_clone(self.alloc) {
-            let _ = self.messages.push(Message { name, object });
+            let _ = self.messages.push(HeardMessage { name, object });
         }
     }
 

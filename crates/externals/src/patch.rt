@@ -1,7 +1,7 @@
 //! Patches: what goes back over a turn of an external.
 
 ghost use Rattle.std.specs.Prelude.{◌≡◌, ℕ, ◌<◌, List, [], ◌∷◌, ◌++◌, length, IfOk, IfErr, OnOk, slice_set, slice_index_or};
-ghost use Rattle.externals.specs.Patches.{changes_held};
+ghost use Rattle.externals.specs.Patches.{changes_of};
 
 use ht_values::Text;
 use std::alloc::Global;
@@ -10,7 +10,7 @@ use std::mem;
 
 /// Most turns change one cell, so one that a `u32` numbers needs no list. `Several` may hold any number.
 #[derive(Drop)]
-enum Held {
+enum CellChanges {
     Nothing,
     One(u32, Text),
     Several(Vec<(usize, Text)>),
@@ -20,7 +20,7 @@ enum Held {
 #[derive(Drop)]
 pub struct Patch {
     alloc: Global,
-    held: Held,
+    changes: CellChanges,
 }
 
 /// The history keeps one for each turn.
@@ -29,18 +29,22 @@ const _: () = prove!(size_of::<Patch>() <= 32);
 impl Model for Patch {
     ghost Value = { List (ℕ × List ℕ) };
 
-    ghost view = { λ p. changes_held p.held };
+    ghost view = { λ p. changes_of p.changes };
 }
 
-fn in_list(mut list: Vec<(usize, Text)>, cell: usize, text: Text) -> Result<Held, (Held, Text)>
-    ensures ok { IfOk result (λ more. changes_held more ≡ list.items ++ (cell, text) ∷ []) }
-    ensures err { IfErr result (λ back. (changes_held back.0 ≡ list.items) × (back.1 ≡ text)) }
+fn in_list(
+    mut list: Vec<(usize, Text)>,
+    cell: usize,
+    text: Text,
+) -> Result<CellChanges, (CellChanges, Text)>
+    ensures ok { IfOk result (λ more. changes_of more ≡ list.items ++ (cell, text) ∷ []) }
+    ensures err { IfErr result (λ back. (changes_of back.0 ≡ list.items) × (back.1 ≡ text)) }
 {
     match list.push((cell, text)) {
-        Ok(()) => Ok(Held::Several(list)),
+        Ok(()) => Ok(CellChanges::Several(list)),
         Err(refused) => {
             let (_, text) = refused.value;
-            Err((Held::Several(list), text))
+            Err((CellChanges::Several(list), text))
         }
     }
 }
@@ -52,30 +56,35 @@ fn in_pair(
     kept: Text,
     cell: usize,
     text: Text,
-) -> Result<Held, (Held, Text)>
-    ensures ok { IfOk result (λ more. changes_held more ≡ (first, kept) ∷ (cell, text) ∷ []) }
-    ensures err { IfErr result (λ back. (changes_held back.0 ≡ (first, kept) ∷ []) × (back.1 ≡ text)) }
+) -> Result<CellChanges, (CellChanges, Text)>
+    ensures ok { IfOk result (λ more. changes_of more ≡ (first, kept) ∷ (cell, text) ∷ []) }
+    ensures err { IfErr result (λ back. (changes_of back.0 ≡ (first, kept) ∷ []) × (back.1 ≡ text)) }
 {
     let mut list = Vec::new(alloc);
     if list.reserve(2).is_err() {
-        return Err((Held::One(first, kept), text));
+        return Err((CellChanges::One(first, kept), text));
     }
     list.push_reserved((first as usize, kept));
     list.push_reserved((cell, text));
-    Ok(Held::Several(list))
+    Ok(CellChanges::Several(list))
 }
 
-fn with_cell(alloc: Global, held: Held, cell: usize, text: Text) -> Result<Held, (Held, Text)>
-    ensures ok { IfOk result (λ more. changes_held more ≡ changes_held held ++ (cell, text) ∷ []) }
-    ensures err { IfErr result (λ back. (changes_held back.0 ≡ changes_held held) × (back.1 ≡ text)) }
+fn with_cell(
+    alloc: Global,
+    changes: CellChanges,
+    cell: usize,
+    text: Text,
+) -> Result<CellChanges, (CellChanges, Text)>
+    ensures ok { IfOk result (λ more. changes_of more ≡ changes_of changes ++ (cell, text) ∷ []) }
+    ensures err { IfErr result (λ back. (changes_of back.0 ≡ changes_of changes) × (back.1 ≡ text)) }
 {
-    match held {
-        Held::Nothing => match u32::try_from(cell) {
-            Ok(cell) => Ok(Held::One(cell, text)),
+    match changes {
+        CellChanges::Nothing => match u32::try_from(cell) {
+            Ok(cell) => Ok(CellChanges::One(cell, text)),
             Err(_) => in_list(Vec::new(alloc), cell, text),
         },
-        Held::One(first, kept) => in_pair(alloc, first, kept, cell, text),
-        Held::Several(list) => in_list(list, cell, text),
+        CellChanges::One(first, kept) => in_pair(alloc, first, kept, cell, text),
+        CellChanges::Several(list) => in_list(list, cell, text),
     }
 }
 
@@ -86,7 +95,7 @@ impl Patch {
     {
         Patch {
             alloc,
-            held: Held::Nothing,
+            changes: CellChanges::Nothing,
         }
     }
 
@@ -95,14 +104,14 @@ impl Patch {
         ensures ok { OnOk result (self.new ≡ self.old ++ (cell, text) ∷ []) }
         ensures err { IfErr result (λ back. (back ≡ text) × (self.new ≡ self.old)) }
     {
-        let held = mem::replace(&mut self.held, Held::Nothing);
-        match with_cell(self.alloc, held, cell, text) {
-            Ok(held) => {
-                self.held = held;
+        let changes = mem::replace(&mut self.changes, CellChanges::Nothing);
+        match with_cell(self.alloc, changes, cell, text) {
+            Ok(changes) => {
+                self.changes = changes;
                 Ok(())
             }
-            Err((held, text)) => {
-                self.held = held;
+            Err((changes, text)) => {
+                self.changes = changes;
                 Err(text)
             }
         }
@@ -112,10 +121,10 @@ impl Patch {
     pub fn len(&self) -> usize
         ensures { result ≡ length self.now }
     {
-        match &self.held {
-            Held::Nothing => 0,
-            Held::One(_, _) => 1,
-            Held::Several(list) => list.len(),
+        match &self.changes {
+            CellChanges::Nothing => 0,
+            CellChanges::One(_, _) => 1,
+            CellChanges::Several(list) => list.len(),
         }
     }
 
@@ -124,10 +133,10 @@ impl Patch {
         requires { i < length self.now }
         ensures { result ≡ (slice_index_or self.now i (0, [])).0 }
     {
-        match &self.held {
-            Held::Nothing => 0,
-            Held::One(cell, _) => *cell as usize,
-            Held::Several(list) => list[i].0,
+        match &self.changes {
+            CellChanges::Nothing => 0,
+            CellChanges::One(cell, _) => *cell as usize,
+            CellChanges::Several(list) => list[i].0,
         }
     }
 
@@ -137,10 +146,10 @@ impl Patch {
         ensures text { text.new ≡ (slice_index_or self.old i (0, [])).1 }
         ensures patch { self.new ≡ slice_set self.old i ((slice_index_or self.old i (0, [])).0, text.old) }
     {
-        match &mut self.held {
-            Held::Nothing => {}
-            Held::One(_, kept) => mem::swap(kept, text),
-            Held::Several(list) => mem::swap(&mut list[i].1, text),
+        match &mut self.changes {
+            CellChanges::Nothing => {}
+            CellChanges::One(_, kept) => mem::swap(kept, text),
+            CellChanges::Several(list) => mem::swap(&mut list[i].1, text),
         }
     }
 }

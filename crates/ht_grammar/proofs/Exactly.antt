@@ -37,16 +37,16 @@ whole_of None x e = cc
 whole_of (Some (y, [])) x e = let same : y ≡ x = cc in ap (λ v. Some (v, [])) same
 whole_of (Some (y, t ∷ ts)) x e = cc
 
--- a tree that was kept
-pub record Kept {A : Type 0} (height : A → ℕ) (o : Option A) (x : A) : Type 0 where
+-- a tree that is read, and not too deep
+pub record IsShallow {A : Type 0} (height : A → ℕ) (o : Option A) (x : A) : Type 0 where
   pub is : o ≡ Some x
   pub fits : height x ≤ max_depth
 
-pub kept : {A : Type 0} (height : A → ℕ) (o : Option A) (x : A) → not_too_deep height o ≡ Some x → Kept height o x
+pub kept : {A : Type 0} (height : A → ℕ) (o : Option A) (x : A) → not_too_deep height o ≡ Some x → IsShallow height o x
 kept height None x e = cc
 kept {A} height (Some y) x e = go (nat_le (height y) max_depth) refl e
   where
-    go : (b : Bool) → nat_le (height y) max_depth ≡ b → cond b (Some y) None ≡ Some x → Kept height (Some y) x
+    go : (b : Bool) → nat_le (height y) max_depth ≡ b → cond b (Some y) None ≡ Some x → IsShallow height (Some y) x
     go true f e = let same : y ≡ x = cc in record { is = ap Some same; fits = subst (λ v. height v ≤ max_depth) same (leb-true (height y) max_depth f) }
     go false f e = cc
 

@@ -220,7 +220,11 @@ fn into_field(alloc: Global, tokens: &mut Cursor<'_>, text: Text) -> Result<Typi
 }
 
 /// The arguments of a message.
-fn given(alloc: Global, tokens: &mut Cursor<'_>, name: Text) -> Result<Message, Stop>
+fn message_with_arguments(
+    alloc: Global,
+    tokens: &mut Cursor<'_>,
+    name: Text,
+) -> Result<Message, Stop>
     ensures { IsWhole message_of (r.not_too_deep message_depth (r.all_of (spec.message_by (first_kind tokens.old) name tokens.old))) result }
 {
     match tokens.peek() {
@@ -246,7 +250,7 @@ pub(crate) fn sent_message(alloc: Global, tokens: &mut Cursor<'_>) -> Result<Mes
     match tokens.peek() {
         Some(TokenKind::Name) => {
             let name = to_text(alloc, tokens.take())?;
-            given(alloc, tokens, name)
+            message_with_arguments(alloc, tokens, name)
         }
         _ => Err(Stop::Syntax),
     }

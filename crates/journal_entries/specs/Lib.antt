@@ -10,4 +10,4 @@ pub mod Turning
 pub mod Changing
 pub mod SameKey
 pub mod Indexed
-pub mod Held
+pub mod BatchEntries

@@ -2,7 +2,7 @@
 
 ghost use Rattle.std.specs.Prelude.{◌≡◌, [], ◌∷◌};
 ghost use Rattle.journal_entries.specs.Exchange.{back, back_taken, exchanged, forth, forth_taken, taken, shape_of, AreReady, IsReady};
-ghost use Rattle.journal_entries.specs.Held.{entries_held};
+ghost use Rattle.journal_entries.specs.BatchEntries.{entries_in};
 
 use crate::entry::Entry;
 use crate::present::Present;
@@ -14,7 +14,7 @@ use std::mem;
 /// Most lines that change something write one global: where a `u32` numbers it, its entry needs no list, with a value or
 /// without. `Several` may hold any number of entries.
 #[derive(Drop)]
-enum Held {
+enum BatchEntries {
     Value(u32, Text),
     NoValue(u32),
     Several(Vec<Entry>),
@@ -24,7 +24,7 @@ enum Held {
 #[derive(Drop)]
 pub struct Batch {
     number: u32,
-    held: Held,
+    entries: BatchEntries,
 }
 
 /// The history keeps one for each line.
@@ -32,11 +32,11 @@ const _: () = prove!(size_of::<Batch>() <= 40);
 
 impl Model for Batch {
     ghost use Rattle.journal_entries.specs.Exchange.{BatchView};
-    ghost use Rattle.journal_entries.specs.Held.{entries_held};
+    ghost use Rattle.journal_entries.specs.BatchEntries.{entries_in};
 
     ghost Value = { BatchView };
 
-    ghost view = { λ b. record { number = b.number; entries = entries_held b.held } };
+    ghost view = { λ b. record { number = b.number; entries = entries_in b.entries } };
 }
 
 impl Batch {
@@ -46,7 +46,7 @@ impl Batch {
     {
         Batch {
             number,
-            held: held_of(entries),
+            entries: batch_entries(entries),
         }
     }
 
@@ -63,13 +63,13 @@ impl Batch {
         ensures state { present.new ≡ record present.old { state = back present.old.names present.old.state self.old.entries } }
         ensures entries { self.new ≡ record self.old { entries = back_taken present.old.names present.old.state self.old.entries } }
     {
-        let held = mem::replace(&mut self.held, Held::NoValue(0));
-        self.held = match held {
-            Held::Value(i, value) => swapped(present, i, Some(value)),
-            Held::NoValue(i) => swapped(present, i, None),
-            Held::Several(mut entries) => {
+        let entries = mem::replace(&mut self.entries, BatchEntries::NoValue(0));
+        self.entries = match entries {
+            BatchEntries::Value(i, value) => swapped(present, i, Some(value)),
+            BatchEntries::NoValue(i) => swapped(present, i, None),
+            BatchEntries::Several(mut entries) => {
                 present.go_back(&mut entries);
-                Held::Several(entries)
+                BatchEntries::Several(entries)
             }
         };
     }
@@ -80,39 +80,39 @@ impl Batch {
         ensures state { present.new ≡ record present.old { state = forth present.old.names present.old.state self.old.entries } }
         ensures entries { self.new ≡ record self.old { entries = forth_taken present.old.names present.old.state self.old.entries } }
     {
-        let held = mem::replace(&mut self.held, Held::NoValue(0));
-        self.held = match held {
-            Held::Value(i, value) => swapped(present, i, Some(value)),
-            Held::NoValue(i) => swapped(present, i, None),
-            Held::Several(mut entries) => {
+        let entries = mem::replace(&mut self.entries, BatchEntries::NoValue(0));
+        self.entries = match entries {
+            BatchEntries::Value(i, value) => swapped(present, i, Some(value)),
+            BatchEntries::NoValue(i) => swapped(present, i, None),
+            BatchEntries::Several(mut entries) => {
                 present.go_forth(&mut entries);
-                Held::Several(entries)
+                BatchEntries::Several(entries)
             }
         };
     }
 }
 
 /// A global's entry.
-fn of_global(i: u32, value: Option<Text>) -> Held
-    ensures { entries_held result ≡ Entry.Global i value ∷ [] }
+fn of_global(i: u32, value: Option<Text>) -> BatchEntries
+    ensures { entries_in result ≡ Entry.Global i value ∷ [] }
 {
     match value {
-        Some(value) => Held::Value(i, value),
-        None => Held::NoValue(i),
+        Some(value) => BatchEntries::Value(i, value),
+        None => BatchEntries::NoValue(i),
     }
 }
 
 /// The entries as a batch keeps them. A list gives back what it doesn't fill, or stays as it is where the smaller block is
 /// refused.
-fn held_of(mut entries: Vec<Entry>) -> Held
-    ensures { entries_held result ≡ entries.items }
+fn batch_entries(mut entries: Vec<Entry>) -> BatchEntries
+    ensures { entries_in result ≡ entries.items }
 {
     entries.shrink_to_fit();
     let [Entry::Global(i, _)] = &entries[..] else {
-        return Held::Several(entries);
+        return BatchEntries::Several(entries);
     };
     let Ok(i) = u32::try_from(*i) else {
-        return Held::Several(entries);
+        return BatchEntries::Several(entries);
     };
     match entries.pop() {
         Some(Entry::Global(_, value)) => of_global(i, value),
@@ -122,10 +122,10 @@ fn held_of(mut entries: Vec<Entry>) -> Held
 
 /// A global's entry after its exchange.
 #[tactic(auto, unfolding(crate::specs::Exchange::IsReady))]
-fn swapped<E: External>(present: &mut Present<E>, i: u32, value: Option<Text>) -> Held
+fn swapped<E: External>(present: &mut Present<E>, i: u32, value: Option<Text>) -> BatchEntries
     requires { IsReady (shape_of present.old) (Entry.Global i value) }
     ensures state { present.new ≡ record present.old { state = exchanged present.old.names present.old.state (Entry.Global i value) } }
-    ensures entry { entries_held result ≡ taken present.old.names present.old.state (Entry.Global i value) ∷ [] }
+    ensures entry { entries_in result ≡ taken present.old.names present.old.state (Entry.Global i value) ∷ [] }
 {
     let mut value = value;
     present.swap_global(i as usize, &mut value);

@@ -3,7 +3,7 @@
 use crate::sessions::{
     Devices, Heard, SOUND, TWO_CARDS, heard_beside, none, session_of, two_cards,
 };
-use devices::{Desk, Message, Shelf};
+use devices::{Desk, HeardMessage, Shelf};
 use externals::External;
 use session::{Ran, RunFault};
 use std::alloc::{AllocError, Global};
@@ -21,7 +21,7 @@ fn heard_on<E: External, D: Desk>(
     Ok(heard_beside(&mut session, alloc, input, devices, desk))
 }
 
-fn are_sent(messages: &[Message], wanted: &[(&[u8], u32)]) -> bool {
+fn are_sent(messages: &[HeardMessage], wanted: &[(&[u8], u32)]) -> bool {
     messages.len() == wanted.len()
         && messages.iter().zip(wanted).all(|(message, (name, object))| {
             message.name.as_slice() == *name && message.object == *object

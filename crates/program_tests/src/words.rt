@@ -5,7 +5,7 @@ use std::alloc::{AllocError, Global};
 use std::test::*;
 
 /// The program's name, and these words.
-fn given(alloc: Global, words: &str) -> Result<Vec<String>, AllocError> {
+fn words_of(alloc: Global, words: &str) -> Result<Vec<String>, AllocError> {
     let mut given = Vec::new(alloc);
     given.push(String::from_str(alloc, "card_cli")?)?;
     for word in words.split_whitespace() {
@@ -19,7 +19,7 @@ fn outcome_of(alloc: Global, words: &[String]) -> Result<Options, CliFault> {
 }
 
 fn is_usage_fault(alloc: Global, words: &str) -> Result<bool, AllocError> {
-    let given = given(alloc, words)?;
+    let given = words_of(alloc, words)?;
     match outcome_of(alloc, given.as_slice()) {
         Err(CliFault::Usage(_)) => Ok(true),
         _ => Ok(false),
@@ -34,7 +34,7 @@ fn gives(
     depth: u32,
     watch: bool,
 ) -> Result<bool, AllocError> {
-    let given = given(alloc, words)?;
+    let given = words_of(alloc, words)?;
     match outcome_of(alloc, given.as_slice()) {
         Ok(options) => Ok(
             options.stack.as_str() == "a.stack"
