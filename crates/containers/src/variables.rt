@@ -190,7 +190,7 @@ impl Variables {
 
     /// Adds a value at the end of a variable of the handler's own, in its place where it stands as a text; one without a value is
     /// empty. After a fault, and where it is out of memory, nothing has changed.
-    pub(crate) fn append(&mut self, alloc: Global, name: &Text, new: Value) -> Result<(), Failure>
+    fn append(&mut self, alloc: Global, name: &Text, new: Value) -> Result<(), Failure>
         ensures ok { OnOk result ((h : History) (d : ℕ) → Writes h self.old (own name.now) (edited d [] (Put After new) (own_text self.old name.now)) h self.new) }
         ensures fault { (d : ℕ) → IfErr result (λ e. Gives {A = Option (List ℕ)} (Err e) (edited d [] (Put After new) (own_text self.old name.now))) }
         ensures err { OnErr result (self.new ≡ self.old) }

@@ -114,7 +114,7 @@ pub fn print_chunk(out: &mut Vec<u8>, chunk: &Chunk) -> io::Result<()> {
         Chunk::NthPiece(ordinal, piece) => {
             print_named(out, "(", ordinal, " ")?;
             print_named(out, "", piece, ")")
-        },
+        }
     }
 }
 
