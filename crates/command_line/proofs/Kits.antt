@@ -6,8 +6,8 @@ use Rattle.devices.specs.Desks.{SeenDesk}
 use Rattle.externals.specs.Cells.{Seen}
 use Rattle.object_table.specs.Content.{Content}
 use Rattle.journal_entries.specs.State.{seen_by, titles_of, are_apart}
-use Rattle.session.specs.Headline.{Timeline, beginning}
-use Rattle.session.specs.declared.conversation.Ran.{Ran}
+use Rattle.headline.specs.Headline.{Timeline, beginning}
+use Rattle.headline.specs.declared.transcript.Ran.{Ran}
 use Rattle.command_line.specs.declared.fault.CliFault.{CliFault}
 use Rattle.command_line.specs.declared.fault.CliFault.TheVariants.{Memory}
 use Rattle.command_line.specs.Kit.{kit, count, bins, relay, gate}

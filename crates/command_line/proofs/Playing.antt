@@ -5,15 +5,15 @@ use Rattle.devices.specs.Desks.{SeenDesk}
 use Rattle.externals.specs.Cells.{Seen}
 use Rattle.object_table.specs.Content.{Content}
 use Rattle.stack_text.specs.Laws.{Spells}
-use Rattle.session.specs.Headline.{beginning}
+use Rattle.headline.specs.Headline.{beginning}
 use Rattle.session.specs.Opening.{opened}
-use Rattle.session.specs.Saving.{Takes}
+use Rattle.headline.specs.Saving.{Takes}
 use Rattle.session.specs.Standing.{Standing}
-use Rattle.session.specs.Stops.{Ended, Stopped}
-use Rattle.session.specs.Unzipped.{timeline_of, RunsFollow, StopsFollow}
-use Rattle.session.specs.declared.conversation.Ran.{Ran}
-use Rattle.session.specs.declared.conversation.RunFault.{RunFault}
-use Rattle.session.specs.declared.conversation.RunFault.TheVariants as runs
+use Rattle.headline.specs.Stops.{Ended, Stopped}
+use Rattle.headline.specs.Unzipped.{timeline_of, RunsFollow, StopsFollow}
+use Rattle.headline.specs.declared.transcript.Ran.{Ran}
+use Rattle.headline.specs.declared.transcript.RunFault.{RunFault}
+use Rattle.headline.specs.declared.transcript.RunFault.TheVariants as runs
 use Rattle.command_line.specs.declared.fault.CliFault.TheVariants.{Read, Write}
 use Rattle.command_line.specs.Plays.{Plays, Stops, Ends, fault_of_run}
 

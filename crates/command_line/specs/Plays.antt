@@ -4,13 +4,13 @@ use Rattle.devices.specs.Desks.{SeenDesk}
 use Rattle.object_table.specs.Content.{Content}
 use Rattle.stack_text.specs.Laws.{Spells}
 use Rattle.stack_text.specs.Reading.{document_at}
-use Rattle.session.specs.Headline.{Timeline, LineMoves, Headline}
-use Rattle.session.specs.Saving.{Settles}
-use Rattle.session.specs.Splits.{AreLines}
-use Rattle.session.specs.Stops.{Ended, Stopped}
-use Rattle.session.specs.declared.conversation.Ran.{Ran}
-use Rattle.session.specs.declared.conversation.RunFault.{RunFault}
-use Rattle.session.specs.declared.conversation.RunFault.TheVariants as runs
+use Rattle.headline.specs.Headline.{Timeline, LineMoves, Headline}
+use Rattle.headline.specs.Saving.{Settles}
+use Rattle.headline.specs.InputLines.{AreLines}
+use Rattle.headline.specs.Stops.{Ended, Stopped}
+use Rattle.headline.specs.declared.transcript.Ran.{Ran}
+use Rattle.headline.specs.declared.transcript.RunFault.{RunFault}
+use Rattle.headline.specs.declared.transcript.RunFault.TheVariants as runs
 use Rattle.command_line.specs.declared.fault.CliFault.{CliFault}
 use Rattle.command_line.specs.declared.fault.CliFault.TheVariants.{Usage, CannotRead, Refused, Read, Write, TooManyLines, Memory}
 

@@ -3,7 +3,7 @@
 ghost use Rattle.std.specs.Prelude.{◌≡◌, ℕ, List, [], ◌∷◌, map, true, IfOk, IfErr, IsErrOf};
 ghost use Rattle.std.specs.Io.KnownBytes.{Appends, Consumes, IsAtEnd};
 ghost use Rattle.journal_entries.specs.State.{are_apart, seen_by};
-ghost use Rattle.session.specs.Headline.{beginning};
+ghost use Rattle.headline.specs.Headline.{beginning};
 ghost use Rattle.devices.specs.Watching.{device_of, failures_of, Rose};
 ghost use Rattle.command_line.specs.Kit.{bins, count, gate, kit, relay};
 ghost use Rattle.command_line.specs.Plays.{Plays, Ends};
@@ -13,7 +13,7 @@ use crate::options::Options;
 use crate::runs::play;
 use devices::{Desk, Watched};
 use externals::External;
-use session::Ran;
+use headline::Ran;
 use std::alloc::{AllocError, Global};
 use std::io::{Read, Write};
 use xkit::{Bins, Count, Gate, Relay};

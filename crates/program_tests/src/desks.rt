@@ -5,7 +5,7 @@ use crate::sessions::{
 };
 use devices::{Desk, HeardMessage, Shelf};
 use externals::External;
-use session::{Ran, RunFault};
+use headline::{Ran, RunFault};
 use std::alloc::{AllocError, Global};
 use std::test::*;
 

@@ -3,7 +3,7 @@
 use crate::sessions::{none, ran_by, session_of, two_cards};
 use devices::{Shelf, Watched};
 use externals::External;
-use session::{Ran, RunFault};
+use headline::{Ran, RunFault};
 use std::alloc::Global;
 use std::io;
 use std::io::{Read, Write};

@@ -7,6 +7,7 @@ use crate::drip::Drip;
 use crate::quiet::make_quiet;
 use devices::{Desk, Shelf, Watched};
 use externals::External;
+use headline::*;
 use ht_values::{Fault, Text};
 use object_table::Stack;
 use session::*;

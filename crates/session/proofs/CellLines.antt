@@ -1,5 +1,5 @@
 -- Cells that are shown, one after the other.
-use Rattle.std.proofs.Common.{◌≡◌, ℕ, zero, suc, List, [], ◌∷◌, ◌++◌, map, take, refl, sym, ap}
+use Rattle.std.proofs.Common.{◌≡◌, ℕ, zero, suc, List, [], ◌∷◌, ◌++◌, map, take, ap}
 use Rattle.std.specs.Prelude.{Some, None, slice_get, unwrap_or}
 use Rattle.stack_text.specs.Words.{spelled}
 

@@ -1,15 +1,11 @@
 pub mod Adding
 pub mod CellLines
-pub mod Conversing
-pub mod Following
 pub mod GlobalsInOrder
 pub mod LineFeeds
 pub mod Moving
 pub mod Opened
 pub mod Performing
 pub mod Refusing
-pub mod Saved
-pub mod Sessions
 pub mod Spaces
 pub mod Stamping
 pub mod Unread

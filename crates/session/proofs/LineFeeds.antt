@@ -5,9 +5,19 @@ use Rattle.std.specs.List.{AllByRecursion, position, position_or_len}
 use Rattle.std.proofs.lemmas.List.{take-append-drop, take_all, append-nil}
 use Rattle.std.proofs.lemmas.List.Quantifiers.{position-Some}
 use Rattle.std.proofs.lemmas.List.Sums.{fails_before_first}
+use Rattle.std.proofs.lemmas.Grind.{flat_map-append}
 use Rattle.std.proofs.lemmas.Bool.{cases_lt, lt-ltb, eqb-true, eq-eqb}
 use Rattle.session.specs.Splits.{IsLine, ended_lines, Splits}
-use Rattle.session.proofs.Sessions.{ended_lines-snoc, all-append}
+
+pub all-append : {X : Type 0} (P : X → Type 0) (xs ys : List X) → AllByRecursion P xs → AllByRecursion P ys → AllByRecursion P (xs ++ ys)
+all-append P [] ys p q = q
+all-append P (x ∷ xs) ys p q = (p.0, all-append P xs ys p.1 q)
+
+pub ended_lines-append : (xs ys : List (List ℕ)) → ended_lines (xs ++ ys) ≡ ended_lines xs ++ ended_lines ys
+ended_lines-append xs ys = flat_map-append (λ line. line ++ 10 ∷ []) xs ys
+
+pub ended_lines-snoc : (lines : List (List ℕ)) (line : List ℕ) → ended_lines (lines ++ line ∷ []) ≡ ended_lines lines ++ (line ++ 10 ∷ [])
+ended_lines-snoc lines line = ended_lines-append lines (line ∷ []) ∙ ap (λ (t : List ℕ). ended_lines lines ++ t) (append-nil (line ++ 10 ∷ []))
 
 -- the bytes in front of a place, where none before it is a line feed
 IsLine-take : (xs : List ℕ) (i : ℕ) → i ≤ length xs → ((k : ℕ) → k < i → (get_or xs k 0 == 10) ≡ false) → IsLine (take i xs)

@@ -1,16 +1,9 @@
-pub mod Answers
 pub mod Commands
-pub mod Conversation
-pub mod Headline
-pub mod Intake
 pub mod Meaning
 pub mod Moves
 pub mod Opening
 pub mod Replies
-pub mod Saving
 pub mod Splits
 pub mod Stamped
 pub mod Standing
-pub mod Stops
 pub mod TakesLine
-pub mod Unzipped

@@ -11,10 +11,20 @@ use Rattle.ht_lex.specs.Words.{is_name}
 use Rattle.journal_entries.specs.State.{State, seen_at, titles_of, index_of}
 use Rattle.session.specs.Splits.{Splits}
 use Rattle.session.specs.declared.reply.Refusal.{Refusal}
-use Rattle.session.specs.declared.reply.Refusal.TheVariants.{BadCommand, NoMemory}
+use Rattle.session.specs.declared.reply.Refusal.TheVariants.{NothingToUndo, NothingToRedo, BadCommand, NoMemory, LineTooLong, FieldLocked, SaveFailed}
 use Rattle.session.specs.declared.reply.Ending.{Ending}
 use Rattle.session.specs.declared.reply.Ending.TheVariants as endings
 use Rattle.session.specs.declared.reply.Reply.{Reply}
+
+-- the number under which a refusal is answered
+abbrev pub number_of_refusal : Refusal → ℕ
+number_of_refusal NothingToUndo = 1
+number_of_refusal NothingToRedo = 2
+number_of_refusal BadCommand = 3
+number_of_refusal NoMemory = 4
+number_of_refusal LineTooLong = 5
+number_of_refusal FieldLocked = 6
+number_of_refusal SaveFailed = 7
 
 -- an answer that shows and sends nothing
 abbrev pub ended : Ending → Reply

@@ -1,13 +1,11 @@
 //! What a line is answered.
 
-ghost use Rattle.std.specs.Prelude.{◌≡◌, ◌++◌, OnOk, IfOk};
-ghost use Rattle.session.specs.Answers.{answer, ending_line, numbered_line, number_of_refusal};
-ghost use Rattle.session.specs.Replies.{ended as ended_by, refused as refused_by};
+ghost use Rattle.std.specs.Prelude.{◌≡◌};
+ghost use Rattle.session.specs.Replies.{ended as ended_by, refused as refused_by, number_of_refusal};
 
 use ht_values::Fault;
-use itoa::Buffer;
 use meaning::{Sent, Shown};
-use std::alloc::{AllocError, Global};
+use std::alloc::Global;
 use std::marker::Model;
 use thiserror::Error;
 
@@ -142,39 +140,4 @@ pub(crate) fn refused(alloc: Global, refusal: Refusal) -> Reply
     ensures { result ≡ refused_by refusal }
 {
     ended(alloc, Ending::Refused(refusal))
-}
-
-/// Writes a word, a number and the end of the line.
-fn write_numbered(out: &mut Vec<u8>, word: &[u8], number: u8) -> Result<(), AllocError>
-    ensures { OnOk result (out.new.items ≡ out.old.items ++ numbered_line word.now number) }
-{
-    let mut digits = Buffer::new();
-    out.extend_from_slice(word)?;
-    out.extend_from_slice(digits.format(number).as_bytes())?;
-    out.push(b'\n')?;
-    Ok(())
-}
-
-fn write_ending(out: &mut Vec<u8>, ending: &Ending) -> Result<(), AllocError>
-    ensures { OnOk result (out.new.items ≡ out.old.items ++ ending_line ending.now) }
-{
-    match ending {
-        Ending::Ok | Ending::Save(_) | Ending::Quit => out.extend_from_slice(b"ok\n"),
-        Ending::Fault(fault) => write_numbered(out, b"fault ", fault.number()),
-        Ending::Refused(refusal) => write_numbered(out, b"refused ", refusal.number()),
-    }
-}
-
-/// The bytes of an answer.
-pub(crate) fn answer_of(alloc: Global, reply: &Reply) -> Result<Vec<u8>, AllocError>
-    ensures { IfOk result (λ bytes. bytes.items ≡ answer reply.now) }
-{
-    let mut out = Vec::new(alloc);
-    for line in reply.shown.as_slice() {
-        out.extend_from_slice(b"> ")?;
-        out.extend_from_slice(line.as_slice())?;
-        out.push(b'\n')?;
-    }
-    write_ending(&mut out, &reply.ending)?;
-    Ok(out)
 }

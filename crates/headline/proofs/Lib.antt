@@ -1,0 +1,4 @@
+pub mod Following
+pub mod Intake
+pub mod Saved
+pub mod Sessions

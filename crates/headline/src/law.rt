@@ -1,0 +1,39 @@
+//! What lines, calls and runs do to the list of whole states: the headline as laws over the definitions.
+
+ghost use Rattle.headline.specs.Unzipped.{LinesFollow, MovesFollow, PlugsFollow, OpensFollow, RunsFollow, StopsFollow, SavesFollow};
+
+/// A fresh command, however it ended, replaces all after the cursor by a state that its meaning allows,
+/// undo and redo only move the cursor, and a line refused for memory changes nothing but its number.
+pub fn lines_follow()
+    ensures { LinesFollow }
+{}
+
+/// The calls that undo and redo move the cursor as the lines do.
+pub fn moves_follow()
+    ensures { MovesFollow }
+{}
+
+/// An external that is plugged in joins each state; one that is unplugged leaves the present state alone.
+pub fn plugs_follow()
+    ensures { PlugsFollow }
+{}
+
+/// A session begins with one state.
+pub fn opens_follow()
+    ensures { OpensFollow }
+{}
+
+/// A run that ended did to the list what the headline says, line after line.
+pub fn runs_follow()
+    ensures { RunsFollow }
+{}
+
+/// A run that stopped did so as far as it came.
+pub fn stops_follow()
+    ensures { StopsFollow }
+{}
+
+/// Beside a desk whose count of failures didn't rise all that was saved is kept.
+pub fn saves_follow()
+    ensures { SavesFollow }
+{}

@@ -1,0 +1,13 @@
+//! A session over a reader, a writer and a desk: the headline, as the contract of `run` and as laws.
+#![tactic(auto)]
+
+mod answer;
+mod law;
+mod limits;
+mod transcript;
+
+pub use law::{
+    lines_follow, moves_follow, opens_follow, plugs_follow, runs_follow, saves_follow, stops_follow,
+};
+pub use limits::{MOST_BYTES, MOST_LINES};
+pub use transcript::{Ran, RunFault, run};

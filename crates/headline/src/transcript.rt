@@ -1,0 +1,362 @@
+//! A session over a reader, a writer and a desk: the headline.
+
+ghost use Rattle.std.specs.Prelude.{◌≡◌, ◌+◌, ◌-◌, ◌<◌, ◌≤◌, ◌≢◌, ◌↔◌, ◌⊎◌, ℕ, IsTrue, List, [], ◌∷◌, ◌++◌, length, take, IfOk, IfErr, OnOk, OnErr, IsErrOf, Ok, true, false};
+ghost use Rattle.std.specs.Vec.{vec_capacity};
+ghost use Rattle.std.specs.Io.KnownBytes.{Appends, Consumes, IsAtEnd};
+ghost use Rattle.devices.specs.Desks.{SeenDesk};
+ghost use Rattle.devices.specs.Watching.{device_of, failures_of, Rose};
+ghost use Rattle.headline.specs.Answers.{answer};
+ghost use Rattle.headline.specs.Saving.{KeptOrNot, Takes};
+ghost use Rattle.session.specs.Standing.{Standing};
+ghost use Rattle.headline.specs.InputLines.{without_return as line_of_ended, AreLines};
+ghost use Rattle.headline.specs.Answering.{is_quit, IsCut, Breaks, Finishes};
+ghost use Rattle.headline.specs.Intake.{Reached, Onward, Broken};
+ghost use Rattle.headline.specs.Stops.{Ended, Stopped};
+ghost use Rattle.headline.specs.Headline.{Headline};
+ghost use Rattle.headline.specs.Unzipped.{timeline_of};
+ghost use Rattle.headline.specs.declared.transcript.TheConstants.{BLOCK, KEPT};
+ghost use Rattle.headline.specs.declared.limits.TheConstants.{MOST_BYTES, MOST_LINES};
+ghost use Rattle.session.specs.declared.reply.Reply.{Reply};
+
+use crate::answer::answer_of;
+use crate::limits::{MOST_BYTES, MOST_LINES};
+use devices::{Desk, Watched, write_to};
+use externals::External;
+use session::{Ending, LONGEST_LINE, Refusal, Reply, Sent, Session};
+use std::alloc::{AllocError, Global};
+use std::io::{Read, Write};
+
+/// How a run ended well.
+#[derive(Clone, Copy, Debug, PartialEq, Eq)]
+pub enum Ran {
+    EndOfInput,
+    Quit,
+}
+
+/// Why a run stopped.
+#[derive(Clone, Copy, Debug, PartialEq, Eq)]
+pub enum RunFault {
+    Memory,
+    Read,
+    Write,
+    TooManyLines,
+}
+
+fn without_return(line: &[u8]) -> &[u8]
+    ensures { result.now ≡ line_of_ended line.now }
+{
+    match line {
+        [front @ .., b'\r'] => front,
+        _ => line,
+    }
+}
+
+/// Tells the desk of the messages that were sent, in their order.
+fn tell<D: Desk>(desk: &mut D, sent: &Sent)
+    ensures { D.seen desk.new ≡ D.seen desk.old }
+{
+    for i in 0..sent.len() {
+        let message = sent.at(i);
+        desk.sent(&message.name, message.object);
+    }
+}
+
+/// How a line is answered that ended so: the desk is asked to keep the text of one that saves.
+fn settle<D: Desk>(desk: &mut D, ending: Ending) -> Ending
+    ensures { KeptOrNot ending (D.seen desk.old) result (D.seen desk.new) }
+{
+    match ending {
+        Ending::Save(text) => {
+            if desk.keep(text.as_slice()) {
+                Ending::Ok
+            } else {
+                Ending::Refused(Refusal::SaveFailed)
+            }
+        }
+        Ending::Ok => Ending::Ok,
+        Ending::Fault(fault) => Ending::Fault(fault),
+        Ending::Refused(refusal) => Ending::Refused(refusal),
+        Ending::Quit => Ending::Quit,
+    }
+}
+
+/// Takes a line, and has the desk hear of its messages and keep what it saves.
+fn take_line<E: External, D: Desk>(session: &mut Session<E>, line: &[u8], desk: &mut D) -> Reply
+    ensures { Takes line.now (session.old, D.seen desk.old) result
+        (session.new, D.seen desk.new) }
+{
+    let Reply {
+        shown,
+        sent,
+        ending,
+    } = session.line(line);
+    tell(desk, &sent);
+    let ending = settle(desk, ending);
+    Reply {
+        shown,
+        sent,
+        ending,
+    }
+}
+
+/// Answers a line, and says whether it quits.
+fn answer_line<E: External, W: Write, D: Desk>(
+    session: &mut Session<E>,
+    alloc: Global,
+    line: &[u8],
+    writer: &mut Watched<W>,
+    desk: &mut D,
+) -> Result<bool, RunFault>
+    ensures ok { IfOk result (λ quits. (reply : Reply)
+        × Takes line.now (session.old, D.seen desk.old) reply (session.new, D.seen desk.new) × (is_quit reply.ending ≡ quits)
+        × Appends (W.contents (device_of writer.old)) (W.contents (device_of writer.new))
+        (answer reply)) }
+    ensures err { IfErr result (λ e. (reply : Reply) × (sent : List ℕ)
+        × Takes line.now (session.old, D.seen desk.old) reply (session.new, D.seen desk.new) × IsCut e (answer reply) sent
+        × Appends (W.contents (device_of writer.old)) (W.contents (device_of writer.new)) sent) }
+    ensures which { IfErr result (λ e. (e ≢ RunFault.Read) × (e ≢ RunFault.TooManyLines)) }
+    ensures failed { IsErrOf result RunFault.Write
+        → Rose (failures_of writer.old) (failures_of writer.new) }
+    ensures sound { ¬ IsErrOf result RunFault.Write
+        → failures_of writer.new ≡ failures_of writer.old }
+{
+    let reply = take_line(session, line, desk);
+    let quits = matches!(reply.ending, Ending::Quit);
+    let Ok(bytes) = answer_of(alloc, &reply) else {
+        return Err(RunFault::Memory);
+    };
+    match write_to(&bytes, writer) {
+        Ok(()) => Ok(quits),
+        Err(_) => Err(RunFault::Write),
+    }
+}
+
+/// The longest line with its carriage return, and one byte more, which shows that it is too long.
+const KEPT: usize = LONGEST_LINE + 2;
+
+/// What is read and not yet answered, and how much was read before.
+#[derive(Drop)]
+struct Intake {
+    pending: Vec<u8>,
+    lines: u32,
+    bytes: u32,
+    ghost few: { lines ≤ MOST_LINES },
+    ghost short: { bytes ≤ MOST_BYTES },
+    ghost room: { KEPT ≤ vec_capacity pending },
+}
+
+impl Intake {
+    fn new(alloc: Global) -> Result<Intake, AllocError>
+        ensures { IfOk result (λ i. (i.pending.items ≡ []) × (i.lines ≡ 0) × (i.bytes ≡ 0)) }
+    {
+        Ok(Intake {
+            pending: Vec::with_capacity(alloc, KEPT)?,
+            lines: 0,
+            bytes: 0,
+        })
+    }
+
+    fn is_full(&self) -> bool
+        ensures { IsTrue result ↔ ((self.now.lines ≡ MOST_LINES) ⊎ (self.now.bytes ≡ MOST_BYTES)) }
+    {
+        self.lines == MOST_LINES || self.bytes == MOST_BYTES
+    }
+}
+
+/// Takes one byte of the input, and answers the line that it ends.
+fn take_byte<E: External, W: Write, D: Desk>(
+    session: &mut Session<E>,
+    alloc: Global,
+    intake: &mut Intake,
+    byte: u8,
+    writer: &mut Watched<W>,
+    desk: &mut D,
+) -> Result<bool, RunFault>
+    requires lines { intake.old.lines < MOST_LINES }
+    requires bytes { intake.old.bytes < MOST_BYTES }
+    ensures ok { IfOk result (λ quits. (text : List ℕ)
+        × Appends (W.contents (device_of writer.old)) (W.contents (device_of writer.new)) text
+        × ((start : Standing × SeenDesk) (read written : List ℕ)
+        → Reached start read written (session.old, D.seen desk.old)
+        intake.old.pending.items intake.old.lines intake.old.bytes
+        → Onward 0 quits start (read ++ byte ∷ []) (written ++ text) (session.new, D.seen desk.new)
+        intake.new.pending.items intake.new.lines intake.new.bytes)) }
+    ensures err { IfErr result (λ e. (text : List ℕ)
+        × Appends (W.contents (device_of writer.old)) (W.contents (device_of writer.new)) text
+        × ((start : Standing × SeenDesk) (read written : List ℕ)
+        → Reached start read written (session.old, D.seen desk.old)
+        intake.old.pending.items intake.old.lines intake.old.bytes
+        → Broken 0 e start (read ++ byte ∷ []) (written ++ text) (session.new, D.seen desk.new))) }
+    ensures which { IfErr result (λ e. (e ≢ RunFault.Read) × (e ≢ RunFault.TooManyLines)) }
+    ensures failed { IsErrOf result RunFault.Write
+        → Rose (failures_of writer.old) (failures_of writer.new) }
+    ensures sound { ¬ IsErrOf result RunFault.Write
+        → failures_of writer.new ≡ failures_of writer.old }
+{
+    intake.bytes += 1;
+    if byte == b'\n' {
+        let quits = answer_line(
+            session,
+            alloc,
+            without_return(&intake.pending),
+            writer,
+            desk,
+        )?;
+        intake.pending.clear();
+        intake.lines += 1;
+        return Ok(quits);
+    }
+    if intake.pending.len() < KEPT {
+        intake.pending.push_reserved(byte);
+    }
+    Ok(false)
+}
+
+/// Takes the bytes of one read.
+fn take_block<E: External, W: Write, D: Desk>(
+    session: &mut Session<E>,
+    alloc: Global,
+    intake: &mut Intake,
+    block: &[u8],
+    writer: &mut Watched<W>,
+    desk: &mut D,
+) -> Result<bool, RunFault>
+    requires { length block.now ≤ BLOCK }
+    ensures ok { IfOk result (λ quits. (text : List ℕ)
+        × Appends (W.contents (device_of writer.old)) (W.contents (device_of writer.new)) text
+        × ((start : Standing × SeenDesk) (read written : List ℕ)
+        → Reached start read written (session.old, D.seen desk.old)
+        intake.old.pending.items intake.old.lines intake.old.bytes
+        → Onward (BLOCK - 1) quits start (read ++ block.now) (written ++ text) (session.new, D.seen desk.new)
+        intake.new.pending.items intake.new.lines intake.new.bytes)) }
+    ensures err { IfErr result (λ e. (text : List ℕ)
+        × Appends (W.contents (device_of writer.old)) (W.contents (device_of writer.new)) text
+        × ((start : Standing × SeenDesk) (read written : List ℕ)
+        → Reached start read written (session.old, D.seen desk.old)
+        intake.old.pending.items intake.old.lines intake.old.bytes
+        → Stopped Takes ⊥ e start (read ++ block.now) (written ++ text) (session.new, D.seen desk.new))) }
+    ensures which { IfErr result (λ e. e ≢ RunFault.Read) }
+    ensures failed { IsErrOf result RunFault.Write
+        → Rose (failures_of writer.old) (failures_of writer.new) }
+    ensures sound { ¬ IsErrOf result RunFault.Write
+        → failures_of writer.new ≡ failures_of writer.old }
+{
+    for byte in block {
+        if intake.is_full() {
+            return Err(RunFault::TooManyLines);
+        }
+        if take_byte(session, alloc, intake, *byte, writer, desk)? {
+            return Ok(true);
+        }
+    }
+    Ok(false)
+}
+
+/// Answers the last line, which nothing ended, if it is not empty.
+fn take_last<E: External, W: Write, D: Desk>(
+    session: &mut Session<E>,
+    alloc: Global,
+    intake: &Intake,
+    writer: &mut Watched<W>,
+    desk: &mut D,
+) -> Result<Ran, RunFault>
+    ensures ok { IfOk result (λ ran. (text : List ℕ)
+        × Appends (W.contents (device_of writer.old)) (W.contents (device_of writer.new)) text
+        × ((start : Standing × SeenDesk) (read written : List ℕ)
+        → Reached start read written (session.old, D.seen desk.old)
+        intake.now.pending.items intake.now.lines intake.now.bytes
+        → Ended Takes (Unit {0}) ran start read (written ++ text) (session.new, D.seen desk.new))) }
+    ensures err { IfErr result (λ e. (text : List ℕ)
+        × Appends (W.contents (device_of writer.old)) (W.contents (device_of writer.new)) text
+        × ((start : Standing × SeenDesk) (read written : List ℕ)
+        → Reached start read written (session.old, D.seen desk.old)
+        intake.now.pending.items intake.now.lines intake.now.bytes
+        → Breaks Takes (Unit {0}) e start read (written ++ text) (session.new, D.seen desk.new))) }
+    ensures which { IfErr result (λ e. (e ≢ RunFault.Read) × (e ≢ RunFault.TooManyLines)) }
+    ensures failed { IsErrOf result RunFault.Write
+        → Rose (failures_of writer.old) (failures_of writer.new) }
+    ensures sound { ¬ IsErrOf result RunFault.Write
+        → failures_of writer.new ≡ failures_of writer.old }
+{
+    if intake.pending.is_empty() {
+        return Ok(Ran::EndOfInput);
+    }
+    if answer_line(session, alloc, &intake.pending, writer, desk)? {
+        return Ok(Ran::Quit);
+    }
+    Ok(Ran::EndOfInput)
+}
+
+/// How many bytes one read may take.
+const BLOCK: usize = 4_096;
+
+/// Answers each line of the input, up to the first that quits. A line ends with a line feed, and one
+/// carriage return before it is dropped; a last line that nothing ends counts if it isn't empty. The
+/// answer to a line is written whole before the next line is done; input is read in blocks of at most
+/// 4,096 bytes.
+///
+/// The desk hears of each message that a line sent, in their order, once the line is done. The text of
+/// a line that saves is handed to it then: the answer is `ok` where it keeps the text. Where it
+/// doesn't, its `failures` rose, what it kept before stands, and the answer is `refused 7`. Both come
+/// before the answer is written.
+///
+/// `TooManyLines` where a byte comes after 1,000,000 lines or 1,000,000,000 bytes; `Read` and `Write`
+/// only where the device failed, and then no line is done further; `Memory` where none was there to
+/// begin, or for the answer to the last line that was done.
+pub fn run<E: External, R: Read, W: Write, D: Desk>(
+    session: &mut Session<E>,
+    alloc: Global,
+    reader: &mut Watched<R>,
+    writer: &mut Watched<W>,
+    desk: &mut D,
+) -> Result<Ran, RunFault>
+    // The headline: what is written is the answers to the lines that are read, those of a list of
+    // whole states with a cursor, beside a desk that keeps what is saved.
+    ensures headline { OnOk result ((read : List ℕ) × (lines : List (List ℕ)) × (text : List ℕ)
+        × Consumes (R.remaining (device_of reader.old)) (R.remaining (device_of reader.new)) read
+        × Appends (W.contents (device_of writer.old)) (W.contents (device_of writer.new)) text
+        × AreLines read lines
+        × Headline (timeline_of session.old, D.seen desk.old) lines text
+        (timeline_of session.new, D.seen desk.new)) }
+    // How far it read, and where the session stands, with the weight of each step.
+    ensures ok { IfOk result (λ ran. (read : List ℕ) × (written : List ℕ)
+        × Consumes (R.remaining (device_of reader.old)) (R.remaining (device_of reader.new)) read
+        × Appends (W.contents (device_of writer.old)) (W.contents (device_of writer.new)) written
+        × Ended Takes (IsAtEnd (R.remaining (device_of reader.new))) ran
+        (session.old, D.seen desk.old) read written (session.new, D.seen desk.new)) }
+    // A fault leaves the session after the lines so far.
+    ensures err { IfErr result (λ e. (read : List ℕ) × (written : List ℕ)
+        × Consumes (R.remaining (device_of reader.old)) (R.remaining (device_of reader.new)) read
+        × Appends (W.contents (device_of writer.old)) (W.contents (device_of writer.new)) written
+        × Stopped Takes (IsAtEnd (R.remaining (device_of reader.new))) e
+        (session.old, D.seen desk.old) read written (session.new, D.seen desk.new)) }
+    // A device is blamed where it failed, and nowhere else.
+    ensures read_failed { IsErrOf result RunFault.Read
+        → Rose (failures_of reader.old) (failures_of reader.new) }
+    ensures read_sound { ¬ IsErrOf result RunFault.Read
+        → failures_of reader.new ≡ failures_of reader.old }
+    ensures write_failed { IsErrOf result RunFault.Write
+        → Rose (failures_of writer.old) (failures_of writer.new) }
+    ensures write_sound { ¬ IsErrOf result RunFault.Write
+        → failures_of writer.new ≡ failures_of writer.old }
+{
+    let mut intake = match Intake::new(alloc) {
+        Ok(intake) => intake,
+        Err(_) => return Err(RunFault::Memory),
+    };
+    let mut block = [0; BLOCK];
+    for _ in 0..=MOST_BYTES {
+        let count = match reader.read(&mut block) {
+            Ok(count) => count,
+            Err(_) => return Err(RunFault::Read),
+        };
+        if count == 0 {
+            let ran = take_last(session, alloc, &intake, writer, desk)?;
+            return Ok(ran);
+        }
+        if take_block(session, alloc, &mut intake, &block[..count], writer, desk)? {
+            return Ok(Ran::Quit);
+        }
+    }
+    Err(RunFault::TooManyLines)
+}

@@ -1,6 +1,0 @@
-use Rattle.std.proofs.Common.{◌≡◌}
-use Rattle.session.proofs.conversation.tell.Given as goal
-
--- hearing of messages changes nothing that is seen of the desk
-abbrev pub invariant-loop-i : goal.invariant-loop-i
-invariant-loop-i g l = g.D.Desk.seen l.desk ≡ g.D.Desk.seen l.fn.desk
