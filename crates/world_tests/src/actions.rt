@@ -103,6 +103,24 @@ fn sends(sent: &Sent, due: &[Message]) -> bool {
     true
 }
 
+/// Whether what is done ends, shows and sends as its row says.
+fn is_met<E: External>(
+    alloc: Global,
+    world: &mut World<E>,
+    scripts: &mut Scripts,
+    steps: u32,
+    row: &Row,
+) -> Result<bool, Fail>
+    requires { world.old.history.start ≡ None }
+    ensures { OnOk result (world.new.history.start ≡ None) }
+{
+    let (doing, end, shown, sent) = *row;
+    let action = action(alloc, doing)?;
+    let mut budget = Budget::new(alloc, steps);
+    let ended = acts(world, scripts, &mut budget, &action)?;
+    Ok(ended == end && shows(&budget, shown) && sends(budget.sent(), sent))
+}
+
 /// The first wrong row, with its number, where actions follow each other in a world of their own.
 fn first_wrong<E: External>(
     alloc: Global,
@@ -113,11 +131,7 @@ fn first_wrong<E: External>(
     let mut world = opened(alloc, externals)?;
     let mut scripts = Scripts::new(alloc);
     for i in 0..rows.len() {
-        let (doing, end, shown, sent) = rows[i];
-        let mut budget = Budget::new(alloc, steps);
-        let action = action(alloc, doing)?;
-        let ended = acts(&mut *world, &mut scripts, &mut budget, &action)?;
-        if ended != end || !shows(&budget, shown) || !sends(budget.sent(), sent) {
+        if !is_met(alloc, &mut *world, &mut scripts, steps, &rows[i])? {
             return Ok(Some(i));
         }
     }
@@ -570,8 +584,23 @@ fn actions_and_their_messages(rt: HostRuntime) -> Result<(), Fail> {
     Ok(())
 }
 
-/// What a reference finds where this line has run.
+/// What a reference finds, as a command of its own.
 #[tactic(auto, using(containers::proofs::Bases::is_open), unfolding(containers::specs::Base::base))]
+fn found<E: External>(
+    alloc: Global,
+    world: &mut World<E>,
+    scripts: &mut Scripts,
+    budget: &mut Budget,
+    reference: &[u8],
+) -> Result<Result<Option<u32>, Stop>, Fail>
+    requires { world.old.history.start ≡ None }
+{
+    let part = parse_part(alloc, &Text::from_slice(alloc, reference)?)?;
+    world.begin(2)?;
+    Ok(find_ref(world, scripts, budget, &part))
+}
+
+/// What a reference finds where this line has run.
 fn finds<E: External>(
     alloc: Global,
     externals: Vec<E>,
@@ -582,9 +611,7 @@ fn finds<E: External>(
     let mut scripts = Scripts::new(alloc);
     let mut budget = Budget::new(alloc, 10);
     run(alloc, &mut *world, &mut scripts, &mut budget, line)?;
-    let part = parse_part(alloc, &Text::from_slice(alloc, reference)?)?;
-    world.begin(2)?;
-    Ok(find_ref(&mut *world, &mut scripts, &mut budget, &part))
+    found(alloc, &mut *world, &mut scripts, &mut budget, reference)
 }
 
 #[test]
