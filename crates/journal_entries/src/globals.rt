@@ -1,6 +1,6 @@
 //! The globals: their names, numbered in the order in which they come, and their values.
 
-ghost use Rattle.std.specs.Prelude.{◌≡◌, ℕ, ◌<◌, [], length, IfOk, slice_index_or, slice_get, Some, option_copied, option_map};
+ghost use Rattle.std.specs.Prelude.{◌≡◌, ◌≢◌, ℕ, ◌<◌, [], length, true, IfOk, IfSome, IfNone, slice_index_or, slice_get, Some, option_copied, option_map};
 ghost use Rattle.std.specs.FinMap as finite;
 ghost use Rattle.object_table.specs.Maps.{put_option};
 ghost use Rattle.journal_entries.specs.Named.{Named, Extends, Lists, listed, numbered};
@@ -11,12 +11,14 @@ use std::alloc::{AllocError, Global};
 use std::marker::Model;
 use std::mem;
 
-/// Texts by name. A name keeps its number from the time it is first met, also while it has no value.
+/// Texts by name. A name keeps its number from the time it is first met, also while it has no value. The number that was
+/// exchanged last is kept, since a loop tends to read and write one global.
 #[derive(Drop)]
 pub struct Globals {
     names: IndexSet<Vec<u8>>,
     values: Vec<Option<Text>>,
     live: usize,
+    last: usize,
     alloc: Global,
 }
 
@@ -42,8 +44,30 @@ impl Globals {
             names: IndexSet::new(alloc),
             values: Vec::new(alloc),
             live: 0,
+            last: 0,
             alloc,
         }
+    }
+
+    /// Whether the name with this number, if there is one, is this name.
+    fn is_at(&self, i: usize, name: &Text) -> bool
+        ensures { result ≡ true → (i < length self.now.names) × (slice_index_or self.now.names i [] ≡ name.now) }
+    {
+        match self.names.get_index(i) {
+            Some(numbered) => numbered.as_slice() == name.as_slice(),
+            None => false,
+        }
+    }
+
+    /// The number of a name, if it has one.
+    fn number_of(&self, name: &Text) -> Option<usize>
+        ensures there { IfSome result (λ i. (i < length self.now.names) × (slice_index_or self.now.names i [] ≡ name.now)) }
+        ensures absent { IfNone result ((i : ℕ) → i < length self.now.names → slice_index_or self.now.names i [] ≢ name.now) }
+    {
+        if self.is_at(self.last, name) {
+            return Some(self.last);
+        }
+        self.names.get_index_of(name.as_slice())
     }
 
     /// The number of a name, which gets one if it has none. No value changes. It takes no memory where the name has
@@ -54,7 +78,7 @@ impl Globals {
         ensures wider { Extends self.old.names self.new.names }
         ensures only { IfOk result (λ i. (j : ℕ) → j < length self.new.names → slice_index_or self.new.names j [] ≡ slice_index_or self.new.names i [] → j ≡ i) }
     {
-        match self.names.get_index_of(name.as_slice()) {
+        match self.number_of(name) {
             Some(i) => return Ok(i),
             None => {}
         }
@@ -74,6 +98,7 @@ impl Globals {
     {
         let added = value.is_some();
         mem::swap(&mut self.values[i], value);
+        self.last = i;
         self.live = self.live - usize::from(value.is_some()) + usize::from(added);
     }
 
@@ -81,7 +106,7 @@ impl Globals {
     pub fn get(&self, name: &Text) -> Option<&Text>
         ensures { option_copied result ≡ finite.get self.now.texts name.now }
     {
-        match self.names.get_index_of(name.as_slice()) {
+        match self.number_of(name) {
             Some(i) => self.values[i].as_ref(),
             None => None,
         }

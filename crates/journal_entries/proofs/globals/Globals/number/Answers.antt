@@ -1,30 +1,22 @@
-use Rattle.std.proofs.Common.{◌≡◌, ◌≢◌, ℕ, ◌<◌, ◌++◌, ◌∷◌, [], None, length, map, get_or, refl, ap, sym, ◌∙◌, arith, length-append}
+use Rattle.std.proofs.Common.{◌≡◌, ◌≢◌, ℕ, ◌<◌, ◌++◌, ◌∷◌, [], None, length, map, get_or, ap, ◌∙◌, arith, length-append}
 use Rattle.journal_entries.specs.Named.{AreDistinct}
 use Rattle.journal_entries.proofs.Naming.{AreDistinct-push, entries_of-none, same_number, count_by-none}
-use Rattle.journal_entries.proofs.Numbering.{position-found, position-absent, name-pushed, at_end}
+use Rattle.journal_entries.proofs.Numbering.{name-pushed, at_end}
 use Rattle.journal_entries.proofs.globals.Globals.number.Goals as goal
-
-pub returns-in-Some-clause-number : goal.returns-in-Some-clause-number
-returns-in-Some-clause-number c =
-    let s = c.self.inside in
-    let ns = map (λ k. k.items) s.names.keys in
-    let there = position-found (λ k. k.items) c.as_slice.result.now s.names.keys ns c.in-Some.i refl (sym c.in-Some.ensures.index) in
-    rw (← c.self.view_is) (there.0, there.1 ∙ c.as_slice.ensures.value)
 
 pub returns-in-Some-clause-only : goal.returns-in-Some-clause-only
 returns-in-Some-clause-only c =
-    let s = c.self.inside in
-    let ns = map (λ k. k.items) s.names.keys in
-    let there = position-found (λ k. k.items) c.as_slice.result.now s.names.keys ns c.in-Some.i refl (sym c.in-Some.ensures.index) in
-    rw (← c.self.view_is) (λ j h e. same_number ns c.in-Some.i j c.self.invariant.1 there.0 h e)
+    let ns = map (λ k. k.items) c.self.inside.names.keys in
+    let names : ns ≡ c.args.self.now.names = ap (λ n. n.names) c.self.view_is in
+    let within : c.in-Some.i < length ns = omega (arith, ap length names, c.in-Some.ensures.there.0) in
+    rw (← c.self.view_is) (λ j h e. same_number ns c.in-Some.i j c.self.invariant.1 within h e)
 
 pub invariant_of-self-2 : goal.invariant_of-self-2
 invariant_of-self-2 c =
     let s = c.self.inside in
     let ns = map (λ k. k.items) s.names.keys in
-    let without = position-absent (λ k. k.items) c.as_slice.result.now s.names.keys ns refl (sym c.in-None.ensures.index) in
-    let absent : (k : ℕ) → k < length ns → get_or ns k [] ≢ c.args.name.now = rw c.as_slice.ensures.value at without in
-    let n = name-pushed (λ k. k.items) s.names.keys _ c.in_ok-bytes.bytes c.args.name.now absent (c.in_ok-bytes.ensures.items ∙ c.as_slice-2.ensures.value) c.in_ok-insert_full.ensures.keys in
+    let absent : (k : ℕ) → k < length ns → get_or ns k [] ≢ c.args.name.now = rw (ap (λ n. n.names) c.self.view_is) c.in-None.ensures.absent in
+    let n = name-pushed (λ k. k.items) s.names.keys _ c.in_ok-bytes.bytes c.args.name.now absent (c.in_ok-bytes.ensures.items ∙ c.as_slice.ensures.value) c.in_ok-insert_full.ensures.keys in
     let v : c.push_reserved.new.self.items ≡ s.values.items ++ None ∷ [] = c.push_reserved.ensures.items ∙ ap (λ xs. xs ++ None ∷ []) c.reserve.ensures.items in (
       rw (n, v, length-append, length-append) (omega (arith, c.self.invariant.0)),
       rw n (AreDistinct-push ns c.args.name.now c.self.invariant.1 absent),
@@ -35,9 +27,8 @@ pub returns-clause-number : goal.returns-clause-number
 returns-clause-number c =
     let s = c.self.inside in
     let ns = map (λ k. k.items) s.names.keys in
-    let without = position-absent (λ k. k.items) c.as_slice.result.now s.names.keys ns refl (sym c.in-None.ensures.index) in
-    let absent : (k : ℕ) → k < length ns → get_or ns k [] ≢ c.args.name.now = rw c.as_slice.ensures.value at without in
-    let n = name-pushed (λ k. k.items) s.names.keys _ c.in_ok-bytes.bytes c.args.name.now absent (c.in_ok-bytes.ensures.items ∙ c.as_slice-2.ensures.value) c.in_ok-insert_full.ensures.keys in
+    let absent : (k : ℕ) → k < length ns → get_or ns k [] ≢ c.args.name.now = rw (ap (λ n. n.names) c.self.view_is) c.in-None.ensures.absent in
+    let n = name-pushed (λ k. k.items) s.names.keys _ c.in_ok-bytes.bytes c.args.name.now absent (c.in_ok-bytes.ensures.items ∙ c.as_slice.ensures.value) c.in_ok-insert_full.ensures.keys in
     let i : c.len-i.result ≡ length ns = omega (arith, c.len-i.ensures, s.values.ok.0, c.self.invariant.0) in
     rw (n, i) (omega (arith, length-append ns (c.args.name.now ∷ [])), at_end ns c.args.name.now)
 
@@ -45,9 +36,8 @@ pub returns-clause-same : goal.returns-clause-same
 returns-clause-same c =
     let s = c.self.inside in
     let ns = map (λ k. k.items) s.names.keys in
-    let without = position-absent (λ k. k.items) c.as_slice.result.now s.names.keys ns refl (sym c.in-None.ensures.index) in
-    let absent : (k : ℕ) → k < length ns → get_or ns k [] ≢ c.args.name.now = rw c.as_slice.ensures.value at without in
-    let n = name-pushed (λ k. k.items) s.names.keys _ c.in_ok-bytes.bytes c.args.name.now absent (c.in_ok-bytes.ensures.items ∙ c.as_slice-2.ensures.value) c.in_ok-insert_full.ensures.keys in
+    let absent : (k : ℕ) → k < length ns → get_or ns k [] ≢ c.args.name.now = rw (ap (λ n. n.names) c.self.view_is) c.in-None.ensures.absent in
+    let n = name-pushed (λ k. k.items) s.names.keys _ c.in_ok-bytes.bytes c.args.name.now absent (c.in_ok-bytes.ensures.items ∙ c.as_slice.ensures.value) c.in_ok-insert_full.ensures.keys in
     let v : c.push_reserved.new.self.items ≡ s.values.items ++ None ∷ [] = c.push_reserved.ensures.items ∙ ap (λ xs. xs ++ None ∷ []) c.reserve.ensures.items in
     rw (n, v, entries_of-none ns s.values.items c.args.name.now c.self.invariant.0) (ap (λ x. x.texts) c.self.view_is)
 
@@ -55,18 +45,16 @@ pub returns-clause-wider : goal.returns-clause-wider
 returns-clause-wider c =
     let s = c.self.inside in
     let ns = map (λ k. k.items) s.names.keys in
-    let without = position-absent (λ k. k.items) c.as_slice.result.now s.names.keys ns refl (sym c.in-None.ensures.index) in
-    let absent : (k : ℕ) → k < length ns → get_or ns k [] ≢ c.args.name.now = rw c.as_slice.ensures.value at without in
-    let n = name-pushed (λ k. k.items) s.names.keys _ c.in_ok-bytes.bytes c.args.name.now absent (c.in_ok-bytes.ensures.items ∙ c.as_slice-2.ensures.value) c.in_ok-insert_full.ensures.keys in
+    let absent : (k : ℕ) → k < length ns → get_or ns k [] ≢ c.args.name.now = rw (ap (λ n. n.names) c.self.view_is) c.in-None.ensures.absent in
+    let n = name-pushed (λ k. k.items) s.names.keys _ c.in_ok-bytes.bytes c.args.name.now absent (c.in_ok-bytes.ensures.items ∙ c.as_slice.ensures.value) c.in_ok-insert_full.ensures.keys in
     (c.args.name.now ∷ [], rw (← c.self.view_is) n)
 
 pub returns-clause-only : goal.returns-clause-only
 returns-clause-only c =
     let s = c.self.inside in
     let ns = map (λ k. k.items) s.names.keys in
-    let without = position-absent (λ k. k.items) c.as_slice.result.now s.names.keys ns refl (sym c.in-None.ensures.index) in
-    let absent : (k : ℕ) → k < length ns → get_or ns k [] ≢ c.args.name.now = rw c.as_slice.ensures.value at without in
-    let n = name-pushed (λ k. k.items) s.names.keys _ c.in_ok-bytes.bytes c.args.name.now absent (c.in_ok-bytes.ensures.items ∙ c.as_slice-2.ensures.value) c.in_ok-insert_full.ensures.keys in
+    let absent : (k : ℕ) → k < length ns → get_or ns k [] ≢ c.args.name.now = rw (ap (λ n. n.names) c.self.view_is) c.in-None.ensures.absent in
+    let n = name-pushed (λ k. k.items) s.names.keys _ c.in_ok-bytes.bytes c.args.name.now absent (c.in_ok-bytes.ensures.items ∙ c.as_slice.ensures.value) c.in_ok-insert_full.ensures.keys in
     let i : c.len-i.result ≡ length ns = omega (arith, c.len-i.ensures, s.values.ok.0, c.self.invariant.0) in
     let distinct : AreDistinct (ns ++ c.args.name.now ∷ []) = AreDistinct-push ns c.args.name.now c.self.invariant.1 absent in
     let last : c.len-i.result < length (ns ++ c.args.name.now ∷ []) = omega (arith, length-append ns (c.args.name.now ∷ [])) in
