@@ -21,8 +21,8 @@ edited delimiter chunks Delete t = deleted_within delimiter chunks t
 
 -- what a container's text becomes; a container that isn't found comes before any fault of the edit
 abbrev pub due : State → VariablesView → ℕ → PlaceView → Edit → Result (Option (List ℕ)) Fault
-due s v delimiter p edit = and_then (whole s v p.holder) (λ t. edited delimiter p.chunks edit t)
+due s v delimiter p edit = and_then (whole s v p.storage) (λ t. edited delimiter p.chunks edit t)
 
 -- what the chunks of a container read
 abbrev pub read_at : State → VariablesView → ℕ → PlaceView → Result (List ℕ) Fault
-read_at s v delimiter p = and_then (whole s v p.holder) (λ t. Ok (read_within delimiter p.chunks t))
+read_at s v delimiter p = and_then (whole s v p.storage) (λ t. Ok (read_within delimiter p.chunks t))

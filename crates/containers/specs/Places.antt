@@ -14,41 +14,41 @@ use Rattle.object_table.specs.PartContents.{text_at}
 use Rattle.journal_entries.specs.State.{State}
 use Rattle.containers.specs.declared.place.Container.{Container}
 use Rattle.containers.specs.declared.place.Container.TheVariants as container
-use Rattle.containers.specs.declared.place.Holder.{Holder}
-use Rattle.containers.specs.declared.place.Holder.TheVariants as holder
+use Rattle.containers.specs.declared.place.Storage.{Storage}
+use Rattle.containers.specs.declared.place.Storage.TheVariants as storage
 use Rattle.containers.specs.Variables.{VariablesView, is_global, own_value}
 
 -- What holds a text: a global by its folded name, a variable of the handler's own by its name, or a field by its id and
 -- that of the card for which it keeps the text, where 0 stands for the text that the cards share.
-pub data HolderView : Type 0 where
-  global : List ℕ → HolderView
-  own : List ℕ → HolderView
-  field_text : ℕ → ℕ → HolderView
+pub data StorageView : Type 0 where
+  global : List ℕ → StorageView
+  own : List ℕ → StorageView
+  field_text : ℕ → ℕ → StorageView
 
 -- what holds a text, and chunks of it, the nearest to it first
 pub record PlaceView : Type 0 where
-  pub holder : HolderView
+  pub storage : StorageView
   pub chunks : List Chunk
 
-abbrev pub holder_view : Holder → HolderView
-holder_view (holder.Global name) = global (folded name.now)
-holder_view (holder.Own name) = own name.now
-holder_view (holder.Field field card) = field_text field card
+abbrev pub storage_view : Storage → StorageView
+storage_view (storage.Global name) = global (folded name.now)
+storage_view (storage.Own name) = own name.now
+storage_view (storage.Field field card) = field_text field card
 
-abbrev pub holder_code : HolderView → List ℕ × (ℕ × (ℕ × ℕ))
-holder_code (global name) = (name, (0, (0, 0)))
-holder_code (own name) = (name, (1, (0, 0)))
-holder_code (field_text field card) = ([], (2, (field, card)))
+abbrev pub storage_code : StorageView → List ℕ × (ℕ × (ℕ × ℕ))
+storage_code (global name) = (name, (0, (0, 0)))
+storage_code (own name) = (name, (1, (0, 0)))
+storage_code (field_text field card) = ([], (2, (field, card)))
 
-abbrev pub holder_coded : List ℕ → ℕ → ℕ → ℕ → HolderView
-holder_coded name zero field card = global name
-holder_coded name (suc zero) field card = own name
-holder_coded name n field card = field_text field card
+abbrev pub storage_coded : List ℕ → ℕ → ℕ → ℕ → StorageView
+storage_coded name zero field card = global name
+storage_coded name (suc zero) field card = own name
+storage_coded name n field card = field_text field card
 
-pub holder_back : (h : HolderView) → (let p = holder_code h in holder_coded p.0 p.1.0 p.1.1.0 p.1.1.1) ≡ h
-holder_back (global name) = refl
-holder_back (own name) = refl
-holder_back (field_text field card) = refl
+pub storage_back : (h : StorageView) → (let p = storage_code h in storage_coded p.0 p.1.0 p.1.1.0 p.1.1.1) ≡ h
+storage_back (global name) = refl
+storage_back (own name) = refl
+storage_back (field_text field card) = refl
 
 -- whether the cards share the text of a field
 abbrev pub is_shared : Content → ℕ → Bool
@@ -60,35 +60,35 @@ keeps_for s field card = not (card == 0) && is_some (text_at s field card)
 
 -- Which text of a field is meant that is met with a card: the shared one where the cards share it, else that of the
 -- card. A field that keeps no text for the card isn't found, also where its text is shared.
-abbrev pub text_met : Content → ℕ → ℕ → Result HolderView Fault
+abbrev pub text_met : Content → ℕ → ℕ → Result StorageView Fault
 text_met s field card = if keeps_for s field card then Ok (field_text field (if is_shared s field then 0 else card)) else Err NoSuchObject
 
 -- what a name means
-abbrev pub named : VariablesView → List ℕ → HolderView
+abbrev pub named : VariablesView → List ℕ → StorageView
 named v name = if is_global v name then global (folded name) else own name
 
 -- what holds the text of a container
-abbrev pub holder_of : Content → VariablesView → Container → Result HolderView Fault
-holder_of s v (container.Variable name) = Ok (named v name.now)
-holder_of s v (container.Field field card) = text_met s field card
+abbrev pub storage_of : Content → VariablesView → Container → Result StorageView Fault
+storage_of s v (container.Variable name) = Ok (named v name.now)
+storage_of s v (container.Field field card) = text_met s field card
 
 -- the place of a container, without chunks
 abbrev pub place_of : Content → VariablesView → Container → Result PlaceView Fault
-place_of s v c = and_then (holder_of s v c) (λ h. Ok (record { holder = h; chunks = [] }))
+place_of s v c = and_then (storage_of s v c) (λ h. Ok (record { storage = h; chunks = [] }))
 
--- the text that a holder has, if it has one
-abbrev pub text_in : State → VariablesView → HolderView → Option (List ℕ)
+-- the text that a storage has, if it has one
+abbrev pub text_in : State → VariablesView → StorageView → Option (List ℕ)
 text_in s v (global name) = get s.globals name
 text_in s v (own name) = own_value v name
 text_in s v (field_text field card) = text_at s.stack field card
 
 -- as a container a variable without a value is empty; a text of a field that isn't there isn't found
-abbrev pub as_container : HolderView → Option (List ℕ) → Result (List ℕ) Fault
+abbrev pub as_container : StorageView → Option (List ℕ) → Result (List ℕ) Fault
 as_container (field_text field card) t = ok_or t NoSuchObject
 as_container _ t = Ok (unwrap_or t [])
 
 -- the whole text of a container
-abbrev pub whole : State → VariablesView → HolderView → Result (List ℕ) Fault
+abbrev pub whole : State → VariablesView → StorageView → Result (List ℕ) Fault
 whole s v h = as_container h (text_in s v h)
 
 -- what a name reads as an expression: its value, or its spelling where it has none

@@ -24,7 +24,7 @@ pub enum Container<'a> {
 /// What holds a text: a global or a variable of the handler's own, by its name, or a field for a card, 0 standing for the
 /// shared text.
 #[derive(Clone, Copy)]
-pub(crate) enum Holder<'a> {
+pub(crate) enum Storage<'a> {
     Global(&'a Name),
     Own(&'a Name),
     Field(Id, Id),
@@ -33,17 +33,17 @@ pub(crate) enum Holder<'a> {
 /// A place whose text is read and written: a variable, a text of a field, or chunks of these.
 #[derive(Drop)]
 pub struct Place<'a> {
-    pub(crate) holder: Holder<'a>,
+    pub(crate) storage: Storage<'a>,
     pub(crate) chunks: Vec<Chunk>,
 }
 
 impl<'a> Model for Place<'a> {
     ghost use Rattle.std.specs.Coded.{Coded};
-    ghost use Rattle.containers.specs.Places.{PlaceView, holder_view};
+    ghost use Rattle.containers.specs.Places.{PlaceView, storage_view};
 
     ghost Value = { PlaceView };
 
-    ghost view = { λ p. record { holder = holder_view p.holder; chunks = p.chunks.items } };
+    ghost view = { λ p. record { storage = storage_view p.storage; chunks = p.chunks.items } };
 }
 
 /// The place of a container, without chunks yet. A name means a global or a variable of the handler's own; a field's text
@@ -57,15 +57,15 @@ pub fn resolve<'a, W: Store>(
 ) -> Result<Place<'a>, Fault>
     ensures { result ≡ place_of (W.history world.now).now.stack variables.now container.entry }
 {
-    let holder = match container {
-        Container::Variable(name) if variables.is_global(name.text()) => Holder::Global(name),
-        Container::Variable(name) => Holder::Own(name),
+    let storage = match container {
+        Container::Variable(name) if variables.is_global(name.text()) => Storage::Global(name),
+        Container::Variable(name) => Storage::Own(name),
         Container::Field(field, card) => {
-            Holder::Field(field, card_of_text(world.stack(), field, card)?)
+            Storage::Field(field, card_of_text(world.stack(), field, card)?)
         }
     };
     Ok(Place {
-        holder,
+        storage,
         chunks: Vec::new(alloc),
     })
 }
@@ -101,7 +101,7 @@ fn is_shared(stack: &Stack, field: Id) -> bool
 impl<'a> Place<'a> {
     /// A chunk of what the place's chunks read.
     pub fn with(mut self, chunk: Chunk) -> Result<Place<'a>, AllocError>
-        ensures { IfOk result (λ p. p ≡ record { holder = self.entry.holder; chunks = self.entry.chunks ++ chunk ∷ [] }) }
+        ensures { IfOk result (λ p. p ≡ record { storage = self.entry.storage; chunks = self.entry.chunks ++ chunk ∷ [] }) }
     {
         self.chunks.push(chunk)?;
         Ok(self)

@@ -8,7 +8,7 @@ ghost use Rattle.containers.specs.Edits.{read_at};
 ghost use Rattle.containers.specs.Standing.{standing_text};
 
 use crate::edit::part;
-use crate::place::{Holder, Place};
+use crate::place::{Place, Storage};
 use crate::standing::Standing;
 use crate::store::Store;
 use crate::variables::{NameMeaning, Variables};
@@ -39,12 +39,12 @@ pub fn standing_in<'a, W: Store>(
     variables: &'a Variables,
     place: &Place<'_>,
 ) -> Option<Standing<'a>>
-    ensures { MatchOption result (text_in_of (W.history world.now).now variables.now place.now.holder ≡ None) (λ s. text_in_of (W.history world.now).now variables.now place.now.holder ≡ Some (standing_text s)) }
+    ensures { MatchOption result (text_in_of (W.history world.now).now variables.now place.now.storage ≡ None) (λ s. text_in_of (W.history world.now).now variables.now place.now.storage ≡ Some (standing_text s)) }
 {
-    match &place.holder {
-        Holder::Global(name) => Some(Standing::Text(world.global(name.folded())?)),
-        Holder::Own(name) => Some(Standing::Value(variables.own_value(name.text())?)),
-        Holder::Field(field, card) => Some(Standing::Text(world.stack().text(*field, *card)?)),
+    match &place.storage {
+        Storage::Global(name) => Some(Standing::Text(world.global(name.folded())?)),
+        Storage::Own(name) => Some(Standing::Value(variables.own_value(name.text())?)),
+        Storage::Field(field, card) => Some(Standing::Text(world.stack().text(*field, *card)?)),
     }
 }
 
@@ -57,11 +57,11 @@ pub(crate) fn whole<'a, W: Store>(
     empty: &'a Text,
 ) -> Result<Standing<'a>, Fault>
     requires { empty.now ≡ [] }
-    ensures { MatchResult result (λ s. whole_of (W.history world.now).now variables.now place.now.holder ≡ Ok (standing_text s)) (λ e. whole_of (W.history world.now).now variables.now place.now.holder ≡ Err e) }
+    ensures { MatchResult result (λ s. whole_of (W.history world.now).now variables.now place.now.storage ≡ Ok (standing_text s)) (λ e. whole_of (W.history world.now).now variables.now place.now.storage ≡ Err e) }
 {
-    match (standing_in(world, variables, place), &place.holder) {
+    match (standing_in(world, variables, place), &place.storage) {
         (Some(standing), _) => Ok(standing),
-        (None, Holder::Field(_, _)) => Err(Fault::NoSuchObject),
+        (None, Storage::Field(_, _)) => Err(Fault::NoSuchObject),
         (None, _) => Ok(Standing::Text(empty)),
     }
 }

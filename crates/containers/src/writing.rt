@@ -16,7 +16,7 @@ ghost use Rattle.containers.specs.Variables.{VariablesView};
 ghost use Rattle.containers.specs.Writes.{Declares, Writes};
 
 use crate::edit::Edit;
-use crate::place::{Holder, Place};
+use crate::place::{Place, Storage};
 use crate::standing::Standing;
 use crate::store::Store;
 use crate::variables::Variables;
@@ -133,16 +133,16 @@ pub fn write<W: Store>(
     delimiter: u8,
 ) -> Result<(), Failure>
     requires { IsSome (base (W.history world.old)).start }
-    ensures ok { OnOk result (Writes (W.history world.old) variables.old place.entry.holder (due (W.history world.old).now variables.old delimiter place.entry edit) (W.history world.new) variables.new) }
+    ensures ok { OnOk result (Writes (W.history world.old) variables.old place.entry.storage (due (W.history world.old).now variables.old delimiter place.entry edit) (W.history world.new) variables.new) }
     ensures fault { IfErr result (λ e. Gives {A = Option (List ℕ)} (Err e) (due (W.history world.old).now variables.old delimiter place.entry edit)) }
     ensures err { OnErr result ((W.history world.new ≡ W.history world.old) × (variables.new ≡ variables.old)) }
     ensures base { base (W.history world.new) ≡ base (W.history world.old) }
 {
-    let Place { holder, chunks } = place;
-    match holder {
-        Holder::Own(name) => variables.edit(alloc, name.text(), edit, &chunks, delimiter),
-        Holder::Global(name) => edit_global(alloc, world, name, edit, &chunks, delimiter),
-        Holder::Field(field, card) => {
+    let Place { storage, chunks } = place;
+    match storage {
+        Storage::Own(name) => variables.edit(alloc, name.text(), edit, &chunks, delimiter),
+        Storage::Global(name) => edit_global(alloc, world, name, edit, &chunks, delimiter),
+        Storage::Field(field, card) => {
             match field_edited(alloc, world, field, card, edit, &chunks, delimiter)? {
                 Some(value) => Ok(put_into_field(alloc, world, field, card, value)?),
                 None => Ok(()),
@@ -184,8 +184,8 @@ pub fn edit_variable<W: Store>(
     delimiter: u8,
 ) -> Result<(), Failure>
     requires { IsSome (base (W.history world.old)).start }
-    ensures ok { OnOk result (Writes (W.history world.old) variables.old (named variables.old name.now) (due (W.history world.old).now variables.old delimiter (record { holder = named variables.old name.now; chunks = [] }) edit) (W.history world.new) variables.new) }
-    ensures fault { IfErr result (λ e. Gives {A = Option (List ℕ)} (Err e) (due (W.history world.old).now variables.old delimiter (record { holder = named variables.old name.now; chunks = [] }) edit)) }
+    ensures ok { OnOk result (Writes (W.history world.old) variables.old (named variables.old name.now) (due (W.history world.old).now variables.old delimiter (record { storage = named variables.old name.now; chunks = [] }) edit) (W.history world.new) variables.new) }
+    ensures fault { IfErr result (λ e. Gives {A = Option (List ℕ)} (Err e) (due (W.history world.old).now variables.old delimiter (record { storage = named variables.old name.now; chunks = [] }) edit)) }
     ensures err { OnErr result ((W.history world.new ≡ W.history world.old) × (variables.new ≡ variables.old)) }
     ensures base { base (W.history world.new) ≡ base (W.history world.old) }
 {

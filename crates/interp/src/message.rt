@@ -153,7 +153,7 @@ pub(crate) fn along<E: External>(
                 )?;
                 match outcome(run, kind, how) {
                     Some(value) => return Ok(value),
-                    None => rest = path_after(world.stack(), world.current(), found.holder()),
+                    None => rest = path_after(world.stack(), world.current(), found.object()),
                 }
             }
         }

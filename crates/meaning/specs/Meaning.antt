@@ -1066,22 +1066,22 @@ mutual
     along_stops : {w w1 : History} {is n : List ℕ} {cl : HandlerKind} {fd : Found} {d i : ℕ} {f1 f2 f : Frame} {vs : List (List ℕ)} {r r1 : RunState} {z : Stop} →
         Finds w.now.stack is cl n (Ok (Some fd)) →
         d < 100 →
-        f1 ≡ handler_frame fd.holder i (parameters_of fd.handler) vs →
+        f1 ≡ handler_frame fd.object i (parameters_of fd.handler) vs →
         Block w r f1 (d + 1) (lines_of fd.handler) (Err z) w1 r1 f2 →
         Along w r f d i is n vs cl (Err z) w1 r1
     along_ends : {w w1 : History} {is n v : List ℕ} {cl : HandlerKind} {fd : Found} {d i : ℕ} {f1 f2 f : Frame} {vs : List (List ℕ)} {r r1 r2 : RunState} {h : How} →
         Finds w.now.stack is cl n (Ok (Some fd)) →
         d < 100 →
-        f1 ≡ handler_frame fd.holder i (parameters_of fd.handler) vs →
+        f1 ≡ handler_frame fd.object i (parameters_of fd.handler) vs →
         Block w r f1 (d + 1) (lines_of fd.handler) (Ok h) w1 r1 f2 →
         ends cl h r1 ≡ Some (record { value = v; run = r2 }) →
         Along w r f d i is n vs cl (Ok v) w1 r2
     along_passes : {w w1 w2 : History} {is n is1 : List ℕ} {cl : HandlerKind} {fd : Found} {d i : ℕ} {f1 f2 f : Frame} {vs : List (List ℕ)} {r r1 r2 : RunState} {o : Result (List ℕ) Stop} →
         Finds w.now.stack is cl n (Ok (Some fd)) →
         d < 100 →
-        f1 ≡ handler_frame fd.holder i (parameters_of fd.handler) vs →
+        f1 ≡ handler_frame fd.object i (parameters_of fd.handler) vs →
         Block w r f1 (d + 1) (lines_of fd.handler) (Ok Pass) w1 r1 f2 →
-        is1 ≡ path_after w1.now.stack w1.now.current fd.holder →
+        is1 ≡ path_after w1.now.stack w1.now.current fd.object →
         Along w1 r1 f d i is1 n vs cl o w2 r2 →
         Along w r f d i is n vs cl o w2 r2
     along_unhandled : {w w1 : History} {is n : List ℕ} {cl : HandlerKind} {r r1 : RunState} {f : Frame} {d i : ℕ} {vs : List (List ℕ)} {o : Result (List ℕ) Stop} →

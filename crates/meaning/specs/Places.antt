@@ -54,11 +54,11 @@ nth_piece o kind = record { kind = kind; from = index_of o; to = index_of o }
 
 -- the place of a variable, whole
 abbrev pub variable_place : VariablesView → List ℕ → PlaceView
-variable_place v name = record { holder = named v name; chunks = [] }
+variable_place v name = record { storage = named v name; chunks = [] }
 
 -- the place of a field's text; a field that keeps no text for the card isn't found
 abbrev pub field_place : State → Referent → Result PlaceView Fault
-field_place s m = and_then (text_met s.stack m.object m.card) (λ h. Ok (record { holder = h; chunks = [] }))
+field_place s m = and_then (text_met s.stack m.object m.card) (λ h. Ok (record { storage = h; chunks = [] }))
 
 -- what a field reads
 abbrev pub field_text : State → VariablesView → ℕ → Referent → Result (List ℕ) Fault
@@ -87,7 +87,7 @@ pub data Edits : History → Frame → ℕ → PlaceView → Edit → Result (Un
   edit_faults : {w w1 : History} {f f1 : Frame} {delimiter : ℕ} {p : PlaceView} {e : Edit} {n : Fault} →
       due w.now f.variables delimiter p e ≡ Err n → w1 ≡ w → f1 ≡ f → Edits w f delimiter p e (Err (stop.Fault n)) w1 f1
   edited : {w w1 : History} {f f1 : Frame} {delimiter : ℕ} {p : PlaceView} {e : Edit} {v : VariablesView} →
-      Writes w f.variables p.holder (due w.now f.variables delimiter p e) w1 v → f1 ≡ record f { variables = v } →
+      Writes w f.variables p.storage (due w.now f.variables delimiter p e) w1 v → f1 ≡ record f { variables = v } →
       Edits w f delimiter p e (Ok tt) w1 f1
 
 -- the number of a turn is put into the variable of a repeat, where it has one

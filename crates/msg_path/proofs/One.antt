@@ -27,7 +27,7 @@ one_handler : {o : Option Handler} {h g : Handler} → o ≡ Some h → o ≡ So
 one_handler e f = cc
 
 abbrev outcome : ℕ → Handler → Result (Option Found) Fault
-outcome i h = Ok (Some (record { holder = i; handler = h }))
+outcome i h = Ok (Some (record { object = i; handler = h }))
 
 outcomes : {i j : ℕ} {h g : Handler} → i ≡ j → h ≡ g → outcome i h ≡ outcome j g
 outcomes {i} {j} {h} {g} e f = ap (λ (k : ℕ). outcome k h) e ∙ ap (λ (k : Handler). outcome j k) f

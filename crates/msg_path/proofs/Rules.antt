@@ -17,8 +17,8 @@ use Rattle.msg_path.specs.Trees.{IsNoTree}
 
 pub ruleset meeting = (meets.on_path, meets.after_stack, meets.stops)
 
-pub leads_to : (s : Content) (id : ℕ) (kind : HandlerKind) (name : List ℕ) (hs : Handlers) (found : Found) → Reads ReadsScript (script_at s id) hs → handler_in hs kind name ≡ Some found.handler → found.holder ≡ id → (rest : List ℕ) → First s (id ∷ rest) kind name (Ok (Some found))
-leads_to s id kind name hs found r h e rest = first.here refl r h (ap (λ (k : ℕ). Ok (Some (let f : Found = record { holder = k; handler = found.handler } in f))) e)
+pub leads_to : (s : Content) (id : ℕ) (kind : HandlerKind) (name : List ℕ) (hs : Handlers) (found : Found) → Reads ReadsScript (script_at s id) hs → handler_in hs kind name ≡ Some found.handler → found.object ≡ id → (rest : List ℕ) → First s (id ∷ rest) kind name (Ok (Some found))
+leads_to s id kind name hs found r h e rest = first.here refl r h (ap (λ (k : ℕ). Ok (Some (let f : Found = record { object = k; handler = found.handler } in f))) e)
 
 pub leads_past : (s : Content) (id : ℕ) (kind : HandlerKind) (name : List ℕ) (hs : Handlers) → Reads ReadsScript (script_at s id) hs → handler_in hs kind name ≡ None → (rest : List ℕ) (outcome : Result (Option Found) Fault) → First s rest kind name outcome → First s (id ∷ rest) kind name outcome
 leads_past s id kind name hs r h rest outcome p = first.further_on refl r h p

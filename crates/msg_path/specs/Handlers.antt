@@ -12,7 +12,7 @@ use Rattle.object_table.specs.Objects.{object_at}
 
 -- a handler, and the object whose script has it
 pub record Found : Type 0 where
-  pub holder : ℕ
+  pub object : ℕ
   pub handler : Handler
 
 -- a handler without a name and lines
@@ -29,7 +29,7 @@ pub data First : Content → List ℕ → HandlerKind → List ℕ → Result (O
       path ≡ [] → outcome ≡ Ok None → First s path kind name outcome
   here : {s : Content} {path rest name : List ℕ} {id : ℕ} {kind : HandlerKind} {hs : Handlers} {h : Handler} {outcome : Result (Option Found) Fault} →
       path ≡ id ∷ rest → Reads ReadsScript (script_at s id) hs → handler_in hs kind name ≡ Some h →
-      outcome ≡ Ok (Some (record { holder = id; handler = h })) → First s path kind name outcome
+      outcome ≡ Ok (Some (record { object = id; handler = h })) → First s path kind name outcome
   further_on : {s : Content} {path rest name : List ℕ} {id : ℕ} {kind : HandlerKind} {hs : Handlers} {outcome : Result (Option Found) Fault} →
       path ≡ id ∷ rest → Reads ReadsScript (script_at s id) hs → handler_in hs kind name ≡ None →
       First s rest kind name outcome → First s path kind name outcome

@@ -12,7 +12,7 @@ use std::rc::Rc;
 /// object's script is replaced, or the object goes.
 #[derive(Drop)]
 pub struct FoundHandler {
-    holder: Id,
+    object: Id,
     script: Rc<Script>,
     place: usize,
 }
@@ -28,30 +28,30 @@ impl Model for FoundHandler {
 
     ghost coded = { coded_found stmt.the_row.coded };
 
-    ghost view = { λ f. record { holder = f.holder; handler = unwrap_or (handler_at f.script.value f.place) no_handler } };
+    ghost view = { λ f. record { object = f.object; handler = unwrap_or (handler_at f.script.value f.place) no_handler } };
 
     ghost invariant = { λ f. f.place < length f.script.value.handlers.items };
 }
 
 impl FoundHandler {
     /// The handler at a place of a script, which is that of this object.
-    pub(crate) fn new(holder: Id, script: Rc<Script>, place: usize) -> FoundHandler
+    pub(crate) fn new(object: Id, script: Rc<Script>, place: usize) -> FoundHandler
         requires { place < length script.value.handlers.items }
-        ensures holder { result.holder ≡ holder }
+        ensures object { result.object ≡ object }
         ensures handler { handler_at script.value place ≡ Some result.handler }
     {
         FoundHandler {
-            holder,
+            object,
             script,
             place,
         }
     }
 
     /// The object whose script has it: `me` while it runs.
-    pub fn holder(&self) -> Id
-        ensures { result ≡ self.now.holder }
+    pub fn object(&self) -> Id
+        ensures { result ≡ self.now.object }
     {
-        self.holder
+        self.object
     }
 
     /// The handler.

@@ -24,7 +24,7 @@ use Rattle.journal_entries.specs.Turning.{with_cells_at, one_more_at}
 use Rattle.change_journal.specs.History.{History}
 use Rattle.change_journal.specs.Rising.{Made, TookTurn}
 use Rattle.containers.specs.declared.edit.Edit.{Edit}
-use Rattle.containers.specs.Places.{HolderView, PlaceView}
+use Rattle.containers.specs.Places.{StorageView, PlaceView}
 use Rattle.containers.specs.Variables.{VariablesView, declared}
 use Rattle.containers.specs.Writes.{Writes, Declares}
 use Rattle.object_references.specs.declared.referent.Referent.{Referent}
@@ -140,7 +140,7 @@ pub makes : {g : Sight} {w w1 : History} {c : Change} {r : RunState} → Made w 
 unfolding make
 makes {g} {r = r} m = leaf (sorts_made m) (ap (λ w. told (Ok tt) w r) (present_made g m))
 
-writes : (g : Sight) {w w1 : History} {v : VariablesView} {p : HolderView} {d : Result (Option (List ℕ)) Fault}
+writes : (g : Sight) {w w1 : History} {v : VariablesView} {p : StorageView} {d : Result (Option (List ℕ)) Fault}
     {r : RunState} {f : Frame} → Writes w f.variables p d w1 v →
     (sorts w1 ≡ sorts w) × (edit_by (sight g w) r f p d ≡ ran (Ok tt) (sight g w1) r (with_variables f v))
 writes g {w} {p = p} {r = r} {f = f} (Writes.nothing_due is) = (refl, ap (edit_by (sight g w) r f p) is)
@@ -166,7 +166,7 @@ pub edits : {g : Sight} {w w1 : History} {f f1 : Frame} {r : RunState} {p : Plac
 edits {w} {w1} {f} {f1} {r} {p} {e} Edits.edit_memory has = absurd (has refl)
 edits {g} {w} {w1} {f} {f1} {r} {p} {e} (Edits.edit_faults {n = n} is same frame) has =
     leaf (ap sorts same)
-    (ap (edit_by (sight g w) r f p.holder) is ∙ ap (λ (v : History). ran (Err (Faults n)) (sight g v) r f) (sym same)
+    (ap (edit_by (sight g w) r f p.storage) is ∙ ap (λ (v : History). ran (Err (Faults n)) (sight g v) r f) (sym same)
     ∙ ap (ran (Err (Faults n)) (sight g w1) r) (sym frame))
 edits {g} {w} {w1} {f} {f1} {r} {p} {e} (Edits.edited done_by frame) has =
     let both = writes g {r = r} {f = f} done_by in leaf both.0 (both.1 ∙ ap (ran (Ok tt) (sight g w1) r) (sym frame))

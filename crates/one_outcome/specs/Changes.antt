@@ -19,7 +19,7 @@ use Rattle.object_references.specs.Settings.{setting}
 use Rattle.containers.specs.declared.edit.Edit.{Edit}
 use Rattle.containers.specs.declared.edit.Edit.TheVariants.{Put}
 use Rattle.containers.specs.Edits.{due}
-use Rattle.containers.specs.Places.{HolderView, PlaceView, global, own, field_text}
+use Rattle.containers.specs.Places.{StorageView, PlaceView, global, own, field_text}
 use Rattle.containers.specs.Variables.{VariablesView, declared, with_local}
 use Rattle.meaning.specs.declared.end.Stop.{Stop}
 use Rattle.meaning.specs.declared.end.Stop.TheVariants.{Fault as Faults}
@@ -54,19 +54,19 @@ abbrev pub with_variables : Frame → VariablesView → Frame
 with_variables f v = record f { variables = v }
 
 -- a text is written to its place
-abbrev pub written : Present → RunState → Frame → HolderView → List ℕ → Ran (Unit {0})
+abbrev pub written : Present → RunState → Frame → StorageView → List ℕ → Ran (Unit {0})
 written w r f (global name) t = ran (Ok tt) (made w (Global name (Some t))) r f
 written w r f (own name) t = ran (Ok tt) w r (with_variables f (with_local f.variables name (Some t)))
 written w r f (field_text field card) t = ran (Ok tt) (made w (FieldText field card t)) r f
 
-abbrev pub edit_by : Present → RunState → Frame → HolderView → Result (Option (List ℕ)) Fault → Ran (Unit {0})
-edit_by w r f holder (Ok (Some t)) = written w r f holder t
-edit_by w r f holder (Ok None) = ran (Ok tt) w r f
-edit_by w r f holder (Err n) = ran (Err (Faults n)) w r f
+abbrev pub edit_by : Present → RunState → Frame → StorageView → Result (Option (List ℕ)) Fault → Ran (Unit {0})
+edit_by w r f storage (Ok (Some t)) = written w r f storage t
+edit_by w r f storage (Ok None) = ran (Ok tt) w r f
+edit_by w r f storage (Err n) = ran (Err (Faults n)) w r f
 
 -- a container is edited
 abbrev pub edit : Present → RunState → Frame → PlaceView → Edit → Ran (Unit {0})
-edit w r f p e = edit_by w r f p.holder (due w.now f.variables r.delimiter p e)
+edit w r f p e = edit_by w r f p.storage (due w.now f.variables r.delimiter p e)
 
 -- the number of a turn is put into the variable of a repeat
 abbrev pub assign : Present → RunState → Frame → Option (List ℕ) → List ℕ → Ran (Unit {0})

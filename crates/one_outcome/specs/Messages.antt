@@ -70,11 +70,11 @@ abbrev pub met_by : Meanings → Present → RunState → Frame → ℕ → ℕ 
 met_by m w r f d i n vs kind (Some handler) =
     choose (nat_lt d 100)
     (λ _. after_lines
-    (m.block w r (handler_frame handler.holder i (parameters_of handler.handler) vs) (d + 1)
+    (m.block w r (handler_frame handler.object i (parameters_of handler.handler) vs) (d + 1)
     (lines_of handler.handler)) (λ h w r.
     maybe (ends kind h r)
     (λ out. gave w out)
-    (λ _. m.along w r f d i (path_after w.now.stack w.now.current handler.holder) n vs kind)))
+    (λ _. m.along w r f d i (path_after w.now.stack w.now.current handler.object) n vs kind)))
     (λ _. told (Err (Faults TooDeep)) w r)
 met_by m w r f d i n vs kind None = m.outside w r f d n vs kind
 

@@ -27,7 +27,7 @@ parsed read text = or_syntax (read_by read text)
 
 -- the handler of a script, or else what the rest of the path has
 abbrev pub handled : ℕ → Option Handler → (Unit {0} → Result (Option Found) Stop) → Result (Option Found) Stop
-handled id (Some h) rest = Ok (Some (record { holder = id; handler = h }))
+handled id (Some h) rest = Ok (Some (record { object = id; handler = h }))
 handled id None rest = rest tt
 
 -- the first handler on a path

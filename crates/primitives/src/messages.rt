@@ -52,9 +52,9 @@ pub fn handler_frame(
     target: Id,
     values: &Arguments,
 ) -> Result<Frame, AllocError>
-    ensures { IfOk result (λ f. f ≡ frame_of_handler found.now.holder target (parameters_of found.now.handler) values.now) }
+    ensures { IfOk result (λ f. f ≡ frame_of_handler found.now.object target (parameters_of found.now.handler) values.now) }
 {
-    let mut frame = Frame::of_handler(alloc, found.holder(), target);
+    let mut frame = Frame::of_handler(alloc, found.object(), target);
     bind(
         alloc,
         &mut frame,

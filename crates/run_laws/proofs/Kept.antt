@@ -7,7 +7,7 @@ use Rattle.change_journal.specs.History.{History}
 use Rattle.object_references.specs.declared.referent.Referent.{Referent}
 use Rattle.containers.specs.declared.edit.Edit.{Edit}
 use Rattle.containers.specs.Base.{base}
-use Rattle.containers.specs.Places.{HolderView, PlaceView}
+use Rattle.containers.specs.Places.{StorageView, PlaceView}
 use Rattle.containers.specs.Variables.{VariablesView}
 use Rattle.containers.specs.Writes.{Writes, Declares}
 use Rattle.containers.proofs.Bases.{made_keeps}
@@ -16,7 +16,7 @@ use Rattle.meaning.specs.declared.frame.Frame.{Frame}
 use Rattle.meaning.specs.Places.{Edits, Assigns, DeclaresAll, Sets, Adds}
 use Rattle.run_laws.specs.Laws.{HasMemory}
 
-base_writes : {w w2 : History} {v v2 : VariablesView} {p : HolderView} {due : Result (Option (List ℕ)) Fault} → Writes w v p due w2 v2 → base w2 ≡ base w
+base_writes : {w w2 : History} {v v2 : VariablesView} {p : StorageView} {due : Result (Option (List ℕ)) Fault} → Writes w v p due w2 v2 → base w2 ≡ base w
 base_writes (Writes.nothing_due _) = refl
 base_writes (Writes.to_global _ _ made) = made_keeps made
 base_writes (Writes.to_own _ _ _) = refl

@@ -13,7 +13,7 @@ use Rattle.change_journal.specs.History.{History, Open}
 use Rattle.change_journal.specs.Rising.{Made, TookTurn, Rises, BothOpen, trail_after, trail_after_turn}
 use Rattle.object_references.specs.declared.referent.Referent.{Referent}
 use Rattle.containers.specs.declared.edit.Edit.{Edit}
-use Rattle.containers.specs.Places.{HolderView, PlaceView}
+use Rattle.containers.specs.Places.{StorageView, PlaceView}
 use Rattle.containers.specs.Variables.{VariablesView}
 use Rattle.containers.specs.Writes.{Writes, Declares}
 use Rattle.meaning.specs.declared.end.Stop.{Stop}
@@ -91,7 +91,7 @@ rises_turn {w} {w2} {k} turn = record { by = turn_in k (seen_at w.now k).cells (
 
 -- ---- what writes, declares, sets and makes
 
-rises_writes : {w w2 : History} {v v2 : VariablesView} {p : HolderView} {due : Result (Option (List ℕ)) Fault} (written : Writes w v p due w2 v2) → RisesBy (replaced_writes written) w.start w2.start
+rises_writes : {w w2 : History} {v v2 : VariablesView} {p : StorageView} {due : Result (Option (List ℕ)) Fault} (written : Writes w v p due w2 v2) → RisesBy (replaced_writes written) w.start w2.start
 rises_writes (Writes.nothing_due _) = rises_nothing
 rises_writes (Writes.to_global _ _ made) = rises_made made
 rises_writes (Writes.to_own _ _ _) = rises_nothing

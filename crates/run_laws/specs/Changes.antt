@@ -11,7 +11,7 @@ use Rattle.change_journal.specs.History.{History}
 use Rattle.change_journal.specs.Rising.{Made, TookTurn}
 use Rattle.object_references.specs.declared.referent.Referent.{Referent}
 use Rattle.containers.specs.declared.edit.Edit.{Edit}
-use Rattle.containers.specs.Places.{HolderView, PlaceView}
+use Rattle.containers.specs.Places.{StorageView, PlaceView}
 use Rattle.containers.specs.Variables.{VariablesView}
 use Rattle.containers.specs.Writes.{Writes, Declares}
 use Rattle.meaning.specs.declared.end.Stop.{Stop}
@@ -26,7 +26,7 @@ abbrev pub replaced_turn : {w w2 : History} {k : ℕ} {input : Input} {ask : Ask
 replaced_turn {w} {w2} {k} turn = replaced_by_turn k (seen_at w.now k).cells (seen_at w2.now k).cells
 
 -- a variable of the handler's own is no place
-abbrev pub replaced_writes : {w w2 : History} {v v2 : VariablesView} {p : HolderView} {due : Result (Option (List ℕ)) Fault} → Writes w v p due w2 v2 → List Replacement
+abbrev pub replaced_writes : {w w2 : History} {v v2 : VariablesView} {p : StorageView} {due : Result (Option (List ℕ)) Fault} → Writes w v p due w2 v2 → List Replacement
 replaced_writes (Writes.nothing_due _) = []
 replaced_writes (Writes.to_global _ _ made) = replaced_made made
 replaced_writes (Writes.to_own _ _ _) = []

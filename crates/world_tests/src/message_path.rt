@@ -101,7 +101,7 @@ fn paths_lead_to_the_stack(rt: HostRuntime) -> Result<(), Fail> {
     Ok(())
 }
 
-/// What is met: a handler of so many lines and its holder, or what comes after the stack.
+/// What is met: a handler of so many lines and its object, or what comes after the stack.
 #[derive(Clone, Copy, PartialEq, Eq)]
 enum Met {
     Handler(Id, usize),
@@ -115,7 +115,7 @@ enum Met {
 fn outcome(found: Result<Found, Failure>) -> Met {
     match found {
         Ok(Found::Handler(found)) => {
-            Met::Handler(found.holder(), found.handler().lines.items.len())
+            Met::Handler(found.object(), found.handler().lines.items.len())
         }
         Ok(Found::External(i)) => Met::External(i),
         Ok(Found::BuiltIn(built_in)) => Met::BuiltIn(built_in),

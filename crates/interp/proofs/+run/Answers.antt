@@ -75,7 +75,7 @@ message::along-loop-world-preserved g t c =
     record {
       fewer = omega (arith, c.outcome.ensures.left, c.run_block.ensures.fewer, c.loop-world.invariant.fewer);
       base = c.run_block.ensures.base ∙ c.loop-world.invariant.base;
-      rest = λ o w r h. c.loop-world.invariant.rest _ _ _ (Along.along_passes {fd = c.in-Some.found} (search rules) (first_of (search rules, grind (arith, common_steps))) c.in_ok-inner-in-Some.ensures (rw (q, passes) at c.in_ok-how-in-Some.ensures.meaning) (rw (c.stack-in-None-outcome.ensures.content, c.current.ensures.value, c.holder.ensures) at c.path_after-rest.ensures) (rw same at h));
+      rest = λ o w r h. c.loop-world.invariant.rest _ _ _ (Along.along_passes {fd = c.in-Some.found} (search rules) (first_of (search rules, grind (arith, common_steps))) c.in_ok-inner-in-Some.ensures (rw (q, passes) at c.in_ok-how-in-Some.ensures.meaning) (rw (c.stack-in-None-outcome.ensures.content, c.current.ensures.value, c.object.ensures) at c.path_after-rest.ensures) (rw same at h));
     }
 
 pub pieces::resolve-returns-in_err-pieces-in-Chunk-clause-meaning : goal.pieces::resolve-returns-in_err-pieces-in-Chunk-clause-meaning
