@@ -1,5 +1,5 @@
 -- The names of a handler with another value for one of them, by the place of that name.
-use Rattle.std.proofs.Common.{◌≡◌, ℕ, zero, suc, ◌<◌, ◌≤◌, Bool, true, false, List, [], ◌∷◌, ◌++◌, length, get_or, slice_set, find, position, unwrap_or, Option, Some, None, refl, ap, arith}
+use Rattle.std.proofs.Common.{◌≡◌, ℕ, zero, suc, ◌<◌, ◌≤◌, Bool, true, false, List, [], ◌∷◌, ◌++◌, length, get_or, slice_set, find, position, unwrap_or, is_none, ◌||◌, Option, option_map, Some, None, refl, ap, arith}
 use Rattle.std.specs.List.{position_or_len}
 use Rattle.std.specs.Option.{option_and_then}
 use Rattle.std.proofs.lemmas.List.Quantifiers.{position-Some}
@@ -7,7 +7,7 @@ use Rattle.std.proofs.lemmas.List.Sums.{fails_before_first}
 use Rattle.std.proofs.lemmas.Grind.{common_steps}
 use Rattle.ht_values.specs.Text.{folded, same}
 use Rattle.containers.specs.declared.variables.Local.{Local}
-use Rattle.containers.specs.Variables.{own_text, with_value}
+use Rattle.containers.specs.Variables.{is_global, own_text, with_value}
 
 abbrev is_it : List ℕ → Local → Bool
 is_it name l = same l.name name
@@ -51,6 +51,13 @@ value_added name v ls e =
     let past : length ls ≤ position_or_len (is_it name) ls = grind (arith, common_steps) in
     let d : Local = record { name = []; value = None } in
     added name v ls d (λ k h. fails_before_first (is_it name) ls k d (omega (arith, past, h)))
+
+-- whether a name means a global, by its place
+pub global_found : (g : Bool) (name : List ℕ) (ls : List Local) (i : ℕ) (d : Local) → position (λ l. same l.name name) ls ≡ Some i → is_global (record { all_global = g; locals = ls }) name ≡ (g || is_none (get_or ls i d).value)
+global_found g name ls i d e = ap (λ o. g || unwrap_or (option_map (λ l. is_none l.value) o) false) (local_found name ls i d e)
+
+pub global_missing : (g : Bool) (name : List ℕ) (ls : List Local) → position (λ l. same l.name name) ls ≡ None → is_global (record { all_global = g; locals = ls }) name ≡ (g || false)
+global_missing g name ls e = ap (λ o. g || unwrap_or (option_map (λ l. is_none l.value) o) false) (local_missing name ls e)
 
 -- the text of a variable, by the place of its name
 pub text_found : (g : Bool) (name : List ℕ) (ls : List Local) (i : ℕ) (d : Local) → position (λ l. same l.name name) ls ≡ Some i → own_text (record { all_global = g; locals = ls }) name ≡ unwrap_or (get_or ls i d).value []

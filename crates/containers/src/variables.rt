@@ -1,6 +1,6 @@
 //! The variables of a handler that runs, or of a typed line.
 
-ghost use Rattle.std.specs.Prelude.{◌≡◌, ◌<◌, ◌++◌, ℕ, Ok, List, [], true, false, length, Err, IfErr, OnOk, OnErr, IfSome, Option, option_copied, find, position, slice_index_or, slice_set, unwrap_or, Some, None};
+ghost use Rattle.std.specs.Prelude.{◌≡◌, ◌<◌, ◌++◌, ℕ, Ok, List, [], true, false, length, Err, IfErr, IfOk, OnOk, OnErr, IfNone, IfSome, Option, option_copied, find, position, slice_index_or, slice_set, unwrap_or, Some, None};
 ghost use Rattle.ht_values.specs.Outcome.{Gives, within_limit};
 ghost use Rattle.ht_values.specs.declared.word.Where.TheVariants.{After};
 ghost use Rattle.containers.specs.declared.edit.Edit.TheVariants.{Put};
@@ -153,6 +153,34 @@ impl Variables {
             }
         }
         Ok(())
+    }
+
+    /// Puts a value into a variable of the handler's own, which is looked for once. Where the name means a global the value comes back.
+    /// Then, and where memory was refused, nothing changes.
+    pub(crate) fn put(
+        &mut self,
+        alloc: Global,
+        name: &Text,
+        value: Value,
+    ) -> Result<Option<Value>, AllocError>
+        ensures own { IfOk result (λ back. IfNone back ((is_global self.old name.now ≡ false) × (self.new ≡ with_local self.old name.now (Some value)))) }
+        ensures global { IfOk result (λ back. IfSome back (λ v. (is_global self.old name.now ≡ true) × (v ≡ value) × (self.new ≡ self.old))) }
+        ensures err { OnErr result (self.new ≡ self.old) }
+    {
+        if self.all_global {
+            return Ok(Some(value));
+        }
+        match number_of(&self.locals, name) {
+            Some(i) if self.locals[i].value.is_none() => Ok(Some(value)),
+            Some(i) => {
+                set_value(&mut self.locals, i, Some(value));
+                Ok(None)
+            }
+            None => {
+                self.set(alloc, name, Some(value))?;
+                Ok(None)
+            }
+        }
     }
 
     /// Edits a variable of the handler's own, which is looked for once: one without a value is empty. After a fault, and where

@@ -165,10 +165,9 @@ fn put_variable<W: Store>(
     ensures err { OnErr result ((W.history world.new ≡ W.history world.old) × (variables.new ≡ variables.old)) }
     ensures base { base (W.history world.new) ≡ base (W.history world.old) }
 {
-    if variables.is_global(name.text()) {
-        put_into_global(alloc, world, name, value)
-    } else {
-        variables.set(alloc, name.text(), Some(value))
+    match variables.put(alloc, name.text(), value)? {
+        Some(value) => put_into_global(alloc, world, name, value),
+        None => Ok(()),
     }
 }
 
