@@ -1,8 +1,8 @@
 -- Lines added at an end.
-use Rattle.std.proofs.Common.{◌≡◌, ℕ, List, [], ◌∷◌, ◌++◌, refl, sym, ap, ◌∙◌, append_assoc, ◌+◌, ◌<◌, length, get_or, drop, add-one}
+use Rattle.std.proofs.Common.{◌≡◌, ℕ, List, [], ◌∷◌, ◌++◌, refl, sym, ap, ◌∙◌, append_assoc, ◌+◌, ◌<◌, ◌≤◌, length, get_or, drop, add-one}
 use Rattle.std.specs.Prelude.{flat_map, map, Result, Ok, Err, OnOk}
 use Rattle.std.specs.declared.alloc.AllocError.{AllocError}
-use Rattle.std.proofs.lemmas.List.{append-nil}
+use Rattle.std.proofs.lemmas.List.{append-nil, drop_all}
 use Rattle.std.proofs.Math.Seq.{drop-cons}
 use Rattle.ht_values.specs.Delimited.{ended_lines}
 use Rattle.stack_file.specs.Lines.{with_lines}
@@ -31,3 +31,7 @@ on_ok (Err e) f h = tt
 -- the one that is next, and those that are left
 pub next_is : (ids : List ℕ) (i x : ℕ) → i < length ids → x ≡ get_or ids i 0 → x ∷ drop (i + 1) ids ≡ drop i ids
 next_is ids i x within is = rw (is, add-one) (sym (drop-cons ids i 0 within))
+
+-- none is left
+pub all_done : {Y : Type 0} (lines : Y → List (List ℕ)) (g : ℕ → Y) (a whole : List ℕ) (ids : List ℕ) (i : ℕ) → length ids ≤ i → with_lines a (flat_map lines (map g (drop i ids))) ≡ whole → a ≡ whole
+all_done lines g a whole ids i past e = sym (ap (λ (xs : List ℕ). with_lines a (flat_map lines (map g xs))) (drop_all i ids past)) ∙ e

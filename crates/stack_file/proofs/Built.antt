@@ -1,5 +1,5 @@
 -- A stack that is built from what a document lists, the last first.
-use Rattle.std.proofs.Common.{◌≡◌, ℕ, Bool, true, false, List, [], ◌∷◌, ◌++◌, map, flat_map, refl, sym, ◌∙◌, ap, Option, nat_eq, arith}
+use Rattle.std.proofs.Common.{◌≡◌, ℕ, Bool, true, List, [], ◌∷◌, ◌++◌, map, flat_map, refl, sym, ◌∙◌, ap, Option, nat_eq, arith}
 use Rattle.std.proofs.lemmas.List.Elements.{filter_map-append}
 use Rattle.std.proofs.lemmas.Bool.Decides.{nat_tests}
 use Rattle.std.proofs.lemmas.List.{map-append, append-nil}
@@ -15,9 +15,9 @@ use Rattle.object_table.proofs.Pairs.{pair_tied, pair_cmp_total}
 use Rattle.stack_text.specs.declared.sheets.PartContent.{PartContent}
 use Rattle.stack_text.specs.declared.sheets.Part.{Part}
 use Rattle.stack_text.specs.declared.sheets.Keeping.{Keeping}
-use Rattle.stack_text.specs.Document.{Sheet, Document, sheet_ids}
+use Rattle.stack_text.specs.Document.{Sheet, Document}
 use Rattle.stack_text.specs.Listing.{part_entry, object_entries, parts_entry, contents_on, written, lit, content_entry, content_entries, all_parts, all_contents, content_of}
-use Rattle.stack_file.specs.Building.{inserted, own_contents, with_parts, with_keepings, with_sheet, card_for, with_sheets, with_stack}
+use Rattle.stack_file.specs.Building.{inserted, own_contents, with_parts, with_keepings, with_rows, with_sheet, card_for, with_sheets, with_document}
 
 -- a pair that was opened is in the room
 pub opened : (room : set.FinSet pair_cmp) (part card : ℕ) → set.contains (set.insert room (part, card)) (part, card) ≡ true
@@ -64,11 +64,10 @@ keepings-onto card ks k s =
     let hilites = inserted-contents lit card s.hilites (map pair ks) (pair k ∷ []) ∙ ap (λ es. inserted s.hilites (content_entries lit card es)) both in
     λ i. record s { texts = texts i; hilites = hilites i }
 
--- a sheet, from its keepings to its parts and its own object
-pub sheet-is : (card : ℕ) (x : Sheet) (s a b c d : Content) (ids : List ℕ) → a ≡ with_keepings card x.keepings s → b ≡ with_parts card x.parts a → c ≡ record b { objects = insert b.objects x.id x.object } → ids ≡ (parts_entry x).1 → d ≡ record c { parts = insert c.parts x.id ids } → d ≡ with_sheet card x s
-sheet-is card x s a b c d ids keepings parts object list last =
-    last ∙ (λ i. record (object i) { parts = insert (object i).parts x.id (list i) }) ∙ (λ i. record (parts i) { objects = insert (parts i).objects x.id x.object; parts = insert (parts i).parts x.id (parts_entry x).1 })
-    ∙ (λ i. record (with_parts card x.parts (keepings i)) { objects = insert (with_parts card x.parts (keepings i)).objects x.id x.object; parts = insert (keepings i).parts x.id (parts_entry x).1 })
+-- a sheet, from its rows to its own object
+pub sheet-is : (card : ℕ) (x : Sheet) (s a b : Content) → a ≡ with_rows x.id card x.parts x.keepings s → b ≡ record a { objects = insert a.objects x.id x.object } → b ≡ with_sheet card x s
+sheet-is card x s a b rows last =
+    last ∙ (λ i. record (rows i) { objects = insert (rows i).objects x.id x.object })
     ∙ (λ i. record (with_sheet card x s) { texts = inserted-contents written card s.texts (own_contents x.parts) (map (λ k. (k.part, k.content)) x.keepings) i; hilites = inserted-contents lit card s.hilites (own_contents x.parts) (map (λ k. (k.part, k.content)) x.keepings) i })
 
 last-joined : {Y : Type 0} (f : Sheet → List Y) (xs : List Sheet) (x : Sheet) → flat_map f (xs ++ x ∷ []) ≡ flat_map f xs ++ f x
@@ -92,7 +91,7 @@ step view shared xs all x s e = sheets-onto shared (map view xs) (view x) s ∙ 
 abbrev own : {X : Type 0} → (PartContent → Option X) → Sheet → List (Pair × X)
 own pick x = content_entries pick x.id (contents_on x)
 
-pub built-is : (d : Document) → record (with_stack d.stack (with_sheets true d.backgrounds (with_sheets false d.cards blank_stack))) { next = d.next; backgrounds = sheet_ids d.backgrounds; cards = sheet_ids d.cards } ≡ content_of d
+pub built-is : (d : Document) → with_document d blank_stack ≡ content_of d
 built-is d =
     let objects = inserted-empty {R = nat_cmp} (flat_map object_entries d.backgrounds ++ flat_map object_entries d.cards) ∙ inserted-append empty (flat_map object_entries d.backgrounds) (flat_map object_entries d.cards) in
     let parts = inserted-empty {R = nat_cmp} (all_parts d) ∙ inserted-append empty (map parts_entry d.backgrounds) (map parts_entry d.cards) in
@@ -105,7 +104,3 @@ built-is d =
     ∙ ap (inserted (inserted empty (flat_map (own lit) d.cards))) (content_entries-sheets lit 0 d.backgrounds)
     in
     λ i. record (content_of d) { objects = insert ((sym objects) i) 0 d.stack; parts = (sym parts) i; texts = (sym texts) i; hilites = (sym hilites) i }
-
-pub ordered : (d : Document) (s : Content) (backgrounds cards : List ℕ) → s ≡ with_stack d.stack (with_sheets true d.backgrounds (with_sheets false d.cards blank_stack)) → backgrounds ≡ sheet_ids d.backgrounds → cards ≡ sheet_ids d.cards
-    → record s { next = d.next; backgrounds = backgrounds; cards = cards } ≡ content_of d
-ordered d s backgrounds cards is bs cs = (λ i. record (is i) { next = d.next; backgrounds = bs i; cards = cs i }) ∙ built-is d

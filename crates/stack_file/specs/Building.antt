@@ -7,7 +7,7 @@ use Rattle.object_table.specs.declared.object.Object.{Object}
 use Rattle.stack_text.specs.declared.sheets.PartContent.{PartContent}
 use Rattle.stack_text.specs.declared.sheets.Part.{Part}
 use Rattle.stack_text.specs.declared.sheets.Keeping.{Keeping}
-use Rattle.stack_text.specs.Document.{Sheet}
+use Rattle.stack_text.specs.Document.{Sheet, Document, part_ids, sheet_ids}
 use Rattle.stack_text.specs.Listing.{part_entry, object_entries, parts_entry, contents_on, written, lit, content_entries}
 
 -- the map with these entries, where the first of a key counts
@@ -31,6 +31,14 @@ with_parts card parts s = record s {
 
 abbrev pub with_keepings : ℕ → List Keeping → Content → Content
 with_keepings card keepings s = with_contents card (map (λ k. (k.part, k.content)) keepings) s
+
+-- with the list of a sheet's parts
+abbrev pub with_list : ℕ → List Part → Content → Content
+with_list id parts s = record s { parts = insert s.parts id (part_ids parts) }
+
+-- with that list, what is kept for the parts, and the parts
+abbrev pub with_rows : ℕ → ℕ → List Part → List Keeping → Content → Content
+with_rows id card parts keepings s = with_parts card parts (with_keepings card keepings (with_list id parts s))
 
 abbrev pub with_sheet : ℕ → Sheet → Content → Content
 with_sheet card x s = record s {
@@ -56,3 +64,13 @@ with_sheets shared xs s = record s {
 -- with the stack itself
 abbrev pub with_stack : Object → Content → Content
 with_stack o s = record s { objects = insert s.objects 0 o }
+
+abbrev pub with_orders : List Sheet → List Sheet → Content → Content
+with_orders backgrounds cards s = record s { backgrounds = sheet_ids backgrounds; cards = sheet_ids cards }
+
+abbrev pub with_all_sheets : List Sheet → List Sheet → Content → Content
+with_all_sheets backgrounds cards s = with_sheets true backgrounds (with_sheets false cards (with_orders backgrounds cards s))
+
+-- with all that a document lists
+abbrev pub with_document : Document → Content → Content
+with_document d s = with_stack d.stack (with_all_sheets d.backgrounds d.cards (record s { next = d.next }))

@@ -75,6 +75,18 @@ fn owners_of(alloc: Global, cards: &[SheetLines]) -> Result<PlacedIds, AllocErro
     Ok(owners)
 }
 
+/// Whether each background is among the owners.
+fn each_among(backgrounds: &[SheetLines], owners: &PlacedIds) -> bool
+    ensures { result ≡ list_all (λ b. contains_id b.id owners.now) (map sheet_seen backgrounds.now) }
+{
+    for background in backgrounds {
+        if !owners.contains(background.id) {
+            return false;
+        }
+    }
+    true
+}
+
 /// Whether each background has a card.
 pub(crate) fn each_has_card(
     alloc: Global,
@@ -84,10 +96,5 @@ pub(crate) fn each_has_card(
     ensures { IfOk result (λ x. x ≡ list_all (λ b. contains_id b.id (backgrounds_of (map sheet_seen cards.now))) (map sheet_seen backgrounds.now)) }
 {
     let owners = owners_of(alloc, cards)?;
-    for background in backgrounds {
-        if !owners.contains(background.id) {
-            return Ok(false);
-        }
-    }
-    Ok(true)
+    Ok(each_among(backgrounds, &owners))
 }

@@ -1,14 +1,13 @@
 //! A stack, built from what the lines of its text say, from the last to the first.
 
-ghost use Rattle.std.specs.Prelude.{◌≡◌, ◌∷◌, [], true, false, map, IfOk, IfErr, OnOk, Ok};
+ghost use Rattle.std.specs.Prelude.{◌≡◌, ◌∷◌, [], map, IfOk, IfErr, OnOk, Ok};
 ghost use Rattle.std.specs.FinMap.{insert};
 ghost use Rattle.object_table.specs.Content.{Content};
-ghost use Rattle.object_table.specs.Empty.{blank_stack};
 ghost use Rattle.stack_text.specs.Document.{part_ids, sheet_ids};
 ghost use Rattle.stack_text.specs.Listing.{content_of};
 ghost use Rattle.stack_text.specs.Laws.{Spells};
 ghost use Rattle.stack_text.specs.Reading.{Gives, Fails, document_at};
-ghost use Rattle.stack_file.specs.Building.{with_contents, with_parts, with_keepings, with_sheet, with_sheets, card_for as card_for_sheet, with_stack};
+ghost use Rattle.stack_file.specs.Building.{with_contents, with_parts, with_keepings, with_list, with_rows, with_sheet, with_sheets, card_for as card_for_sheet, with_orders, with_all_sheets, with_document};
 ghost use Rattle.stack_file.specs.Views.{sheet_seen, text_seen};
 
 use crate::document::document;
@@ -24,15 +23,6 @@ fn put_object(stack: &mut Stack, id: Id, object: Object) -> Result<(), AllocErro
     stack.open_slot(id)?;
     let mut slot = Some(object);
     stack.swap_object(id, &mut slot);
-    Ok(())
-}
-
-fn put_list(stack: &mut Stack, id: Id, parts: IdList) -> Result<(), AllocError>
-    ensures { OnOk result (stack.new.content ≡ record stack.old.content { parts = insert stack.old.content.parts id parts }) }
-{
-    stack.open_slot(id)?;
-    let mut slot = Some(parts);
-    stack.swap_parts(id, &mut slot);
     Ok(())
 }
 
@@ -84,8 +74,8 @@ fn put_part(stack: &mut Stack, card: Id, part: Part) -> Result<(), AllocError>
     put_content(stack, card, id, content)
 }
 
-fn add_parts(stack: &mut Stack, card: Id, mut parts: Vec<Part>) -> Result<(), AllocError>
-    ensures { OnOk result (stack.new.content ≡ with_parts card parts.items stack.old.content) }
+fn add_parts(stack: &mut Stack, card: Id, parts: &mut Vec<Part>) -> Result<(), AllocError>
+    ensures { OnOk result (stack.new.content ≡ with_parts card parts.old.items stack.old.content) }
 {
     while let Some(part) = parts.pop() {
         put_part(stack, card, part)?;
@@ -100,8 +90,8 @@ fn put_keeping(stack: &mut Stack, card: Id, keeping: Keeping) -> Result<(), Allo
     put_content(stack, card, part, content)
 }
 
-fn add_keepings(stack: &mut Stack, card: Id, mut keepings: Vec<Keeping>) -> Result<(), AllocError>
-    ensures { OnOk result (stack.new.content ≡ with_keepings card keepings.items stack.old.content) }
+fn add_keepings(stack: &mut Stack, card: Id, keepings: &mut Vec<Keeping>) -> Result<(), AllocError>
+    ensures { OnOk result (stack.new.content ≡ with_keepings card keepings.old.items stack.old.content) }
 {
     while let Some(keeping) = keepings.pop() {
         put_keeping(stack, card, keeping)?;
@@ -119,6 +109,32 @@ fn ids_of_parts(alloc: Global, parts: &[Part]) -> Result<IdList, AllocError>
     Ok(ids)
 }
 
+/// The list of a sheet's parts.
+fn put_list(stack: &mut Stack, alloc: Global, id: Id, parts: &[Part]) -> Result<(), AllocError>
+    ensures { OnOk result (stack.new.content ≡ with_list id parts.now stack.old.content) }
+{
+    stack.open_slot(id)?;
+    let mut slot = Some(ids_of_parts(alloc, parts)?);
+    stack.swap_parts(id, &mut slot);
+    Ok(())
+}
+
+/// The list of a sheet's parts, what is kept for them, and the parts.
+fn add_rows(
+    stack: &mut Stack,
+    alloc: Global,
+    id: Id,
+    card: Id,
+    parts: &mut Vec<Part>,
+    keepings: &mut Vec<Keeping>,
+) -> Result<(), AllocError>
+    ensures { OnOk result (stack.new.content ≡ with_rows id card parts.old.items keepings.old.items stack.old.content) }
+{
+    put_list(stack, alloc, id, parts.as_slice())?;
+    add_keepings(stack, card, keepings)?;
+    add_parts(stack, card, parts)
+}
+
 /// A background or a card with its parts, and what is kept for them.
 fn add_sheet(
     stack: &mut Stack,
@@ -131,14 +147,11 @@ fn add_sheet(
     let SheetLines {
         id,
         object,
-        parts,
-        keepings,
+        mut parts,
+        mut keepings,
     } = sheet;
-    let ids = ids_of_parts(alloc, &parts)?;
-    add_keepings(stack, card, keepings)?;
-    add_parts(stack, card, parts)?;
-    put_object(stack, id, object)?;
-    put_list(stack, id, ids)
+    add_rows(stack, alloc, id, card, &mut parts, &mut keepings)?;
+    put_object(stack, id, object)
 }
 
 /// The card for which the parts of a sheet are kept: 0 where they are shared.
@@ -152,9 +165,9 @@ fn add_sheets(
     stack: &mut Stack,
     alloc: Global,
     shared: bool,
-    mut sheets: Vec<SheetLines>,
+    sheets: &mut Vec<SheetLines>,
 ) -> Result<(), AllocError>
-    ensures { OnOk result (stack.new.content ≡ with_sheets shared (map sheet_seen sheets.items) stack.old.content) }
+    ensures { OnOk result (stack.new.content ≡ with_sheets shared (map sheet_seen sheets.old.items) stack.old.content) }
 {
     while let Some(sheet) = sheets.pop() {
         add_sheet(stack, alloc, card_for(shared, sheet.id), sheet)?;
@@ -172,45 +185,56 @@ fn ids_of_sheets(alloc: Global, sheets: &[SheetLines]) -> Result<IdList, AllocEr
     Ok(ids)
 }
 
-/// The objects that the lines list, their parts, and what is kept for them.
-fn listed_objects(
+/// The orders of the backgrounds and of the cards.
+fn set_orders(
+    stack: &mut Stack,
     alloc: Global,
-    object: Object,
-    backgrounds: Vec<SheetLines>,
-    cards: Vec<SheetLines>,
-) -> Result<Stack, AllocError>
-    ensures { IfOk result (λ s. s.content ≡ with_stack object
-        (with_sheets true (map sheet_seen backgrounds.items) (with_sheets false (map sheet_seen cards.items) blank_stack))) }
+    backgrounds: &[SheetLines],
+    cards: &[SheetLines],
+) -> Result<(), AllocError>
+    ensures { OnOk result (stack.new.content ≡ with_orders (map sheet_seen backgrounds.now) (map sheet_seen cards.now) stack.old.content) }
 {
-    let mut stack = Stack::blank(alloc);
-    add_sheets(&mut stack, alloc, false, cards)?;
-    add_sheets(&mut stack, alloc, true, backgrounds)?;
-    put_object(&mut stack, 0, object)?;
-    Ok(stack)
+    let mut order = ids_of_sheets(alloc, cards)?;
+    stack.swap_order(&mut order);
+    let mut order = ids_of_sheets(alloc, backgrounds)?;
+    stack.swap_backgrounds(&mut order);
+    Ok(())
 }
 
-fn set_orders(stack: &mut Stack, mut next: Id, mut backgrounds: IdList, mut cards: IdList)
-    ensures { stack.new.content ≡ record stack.old.content { next = next; backgrounds = backgrounds; cards = cards } }
+/// The backgrounds and the cards that the lines list, and their orders.
+fn add_all_sheets(
+    stack: &mut Stack,
+    alloc: Global,
+    backgrounds: &mut Vec<SheetLines>,
+    cards: &mut Vec<SheetLines>,
+) -> Result<(), AllocError>
+    ensures { OnOk result (stack.new.content ≡ with_all_sheets (map sheet_seen backgrounds.old.items) (map sheet_seen cards.old.items) stack.old.content) }
 {
+    set_orders(stack, alloc, backgrounds.as_slice(), cards.as_slice())?;
+    add_sheets(stack, alloc, false, cards)?;
+    add_sheets(stack, alloc, true, backgrounds)
+}
+
+fn add_document(stack: &mut Stack, alloc: Global, lines: TextLines) -> Result<(), AllocError>
+    ensures { OnOk result (stack.new.content ≡ with_document (text_seen lines) stack.old.content) }
+{
+    let TextLines {
+        mut next,
+        stack: object,
+        mut backgrounds,
+        mut cards,
+    } = lines;
     stack.swap_next(&mut next);
-    stack.swap_backgrounds(&mut backgrounds);
-    stack.swap_order(&mut cards);
+    add_all_sheets(stack, alloc, &mut backgrounds, &mut cards)?;
+    put_object(stack, 0, object)
 }
 
 /// The stack that the lines list.
 pub(crate) fn build(alloc: Global, lines: TextLines) -> Result<Stack, AllocError>
     ensures { IfOk result (λ s. s.content ≡ content_of (text_seen lines)) }
 {
-    let TextLines {
-        next,
-        stack: object,
-        backgrounds,
-        cards,
-    } = lines;
-    let background_order = ids_of_sheets(alloc, &backgrounds)?;
-    let card_order = ids_of_sheets(alloc, &cards)?;
-    let mut stack = listed_objects(alloc, object, backgrounds, cards)?;
-    set_orders(&mut stack, next, background_order, card_order);
+    let mut stack = Stack::blank(alloc);
+    add_document(&mut stack, alloc, lines)?;
     Ok(stack)
 }
 

@@ -2,7 +2,7 @@
 
 ghost use Rattle.std.specs.Prelude.{◌≡◌, ◌<◌, ◌==◌, length, position, codes, IfSome, IfOk, IfErr, option_copied, option_map, option_and_then};
 ghost use Rattle.std.specs.List.{list_any};
-ghost use Rattle.stack_text.specs.Reading.{after_prefix, short_text, at_least, flag_at, count_at, piece_at, is_piece as is_piece_in, around_space, pair_at, part_header, version_at};
+ghost use Rattle.stack_text.specs.Reading.{after_prefix, short_text, at_least, flag_at, count_at, piece_at, is_piece as is_piece_in, around_space, both as both_of, pair_at, part_header, version_at};
 ghost use Rattle.stack_text.specs.Words.{number_at as number_of};
 ghost use Rattle.stack_text.specs.declared.fault.ReadError.TheVariants.{Memory};
 
@@ -13,18 +13,12 @@ use std::alloc::Global;
 /// The greatest number of pieces of a text.
 const MOST_PIECES: u32 = 30_001;
 
-pub(crate) fn line_feed_in(bytes: &[u8]) -> Option<usize>
-    ensures value { result ≡ position (λ b. b == 10) bytes.now }
+/// Where a byte comes first.
+pub(crate) fn place_of(bytes: &[u8], byte: u8) -> Option<usize>
+    ensures value { result ≡ position (λ b. b == byte) bytes.now }
     ensures within { IfSome result (λ i. i < length bytes.now) }
 {
-    bytes.iter().position(|b| *b == b'\n')
-}
-
-fn space_in(bytes: &[u8]) -> Option<usize>
-    ensures value { result ≡ position (λ b. b == 32) bytes.now }
-    ensures within { IfSome result (λ i. i < length bytes.now) }
-{
-    bytes.iter().position(|b| *b == b' ')
+    bytes.iter().position(|b| *b == byte)
 }
 
 fn has_return(bytes: &[u8]) -> bool
@@ -155,29 +149,39 @@ pub(crate) fn piece_in(
 fn words_of(line: &[u8]) -> Option<(&[u8], &[u8])>
     ensures { option_map (λ x. (x.0.now, x.1.now)) result ≡ around_space line.now }
 {
-    let space = space_in(line)?;
+    let space = place_of(line, b' ')?;
     Some((&line[..space], &line[space + 1..]))
+}
+
+/// Two values, where both are there.
+fn both<A: Copy, B: Copy>(first: Option<A>, second: Option<B>) -> Option<(A, B)>
+    ensures { result ≡ both_of first second }
+{
+    match (first, second) {
+        (Some(first), Some(second)) => Some((first, second)),
+        _ => None,
+    }
 }
 
 pub(crate) fn card_in(line: &[u8]) -> Option<(u32, u32)>
     ensures { result ≡ option_and_then (pair_at number_of number_of) (after_prefix (codes "card ") line.now) }
 {
     let (id, background) = words_of(rest_after(line, b"card ")?)?;
-    Some((number_at(id)?, number_at(background)?))
+    both(number_at(id), number_at(background))
 }
 
 pub(crate) fn text_in(line: &[u8]) -> Option<(u32, u32)>
     ensures { result ≡ option_and_then (pair_at number_of count_at) (after_prefix (codes "text ") line.now) }
 {
     let (field, count) = words_of(rest_after(line, b"text ")?)?;
-    Some((number_at(field)?, piece_count(count)?))
+    both(number_at(field), piece_count(count))
 }
 
 pub(crate) fn hilite_in(line: &[u8]) -> Option<(u32, bool)>
     ensures { result ≡ option_and_then (pair_at number_of flag_at) (after_prefix (codes "hilite ") line.now) }
 {
     let (button, lit) = words_of(rest_after(line, b"hilite ")?)?;
-    Some((number_at(button)?, flag_of(lit)?))
+    both(number_at(button), flag_of(lit))
 }
 
 /// The kind and the id of a part.

@@ -1,14 +1,14 @@
 //! Lines of a text, read one after the other, each by its form.
 
 ghost use Rattle.std.specs.Prelude.{◌≡◌, ◌<◌, codes, length, [], IfOk};
-ghost use Rattle.stack_text.specs.Reading.{Gives, next_line, line_after, exactly, name_at, number_after, count_after, flag_after, flag_at, count_at, piece_at, pair_at, part_header, new_id, version_at, nothing_left};
+ghost use Rattle.stack_text.specs.Reading.{Gives, next_line, or_bad_line, line_after, exactly, name_at, number_after, count_after, flag_after, flag_at, count_at, piece_at, pair_at, part_header, new_id, version_at, nothing_left};
 ghost use Rattle.stack_text.specs.Words.{number_at as number_of};
 ghost use Rattle.stack_text.specs.declared.fault.FileError.TheVariants.{BadLine, BadId};
 ghost use Rattle.stack_text.specs.declared.fault.ReadError.TheVariants.{File};
 
 use crate::forms::{
-    card_in, count_in, flag_in, hilite_in, line_feed_in, name_in, number_in, part_in,
-    piece_count_in, piece_in, text_in, version_in,
+    card_in, count_in, flag_in, hilite_in, name_in, number_in, part_in, piece_count_in, piece_in,
+    place_of, text_in, version_in,
 };
 use crate::placed::PlacedIds;
 use ht_values::{PartKind, Text};
@@ -55,7 +55,7 @@ impl<'a> Lines<'a> {
     fn next_line(&mut self) -> Result<&'a [u8], ReadError>
         ensures { Gives (λ x. (x.now, self.new)) result (next_line self.old) }
     {
-        match line_feed_in(self.bytes) {
+        match place_of(self.bytes, b'\n') {
             Some(end) => {
                 let line = &self.bytes[..end];
                 self.bytes = &self.bytes[end + 1..];
@@ -70,6 +70,16 @@ impl<'a> Lines<'a> {
         ensures { result ≡ File (BadLine self.now.number) }
     {
         ReadError::File(FileError::BadLine(self.number))
+    }
+
+    /// What a line says, or that it is bad.
+    fn or_bad_line<T>(&self, found: Option<T>) -> Result<T, ReadError>
+        ensures { Gives (λ x. (x, self.now)) result (or_bad_line found self.now) }
+    {
+        match found {
+            Some(value) => Ok(value),
+            None => Err(self.bad_line()),
+        }
     }
 
     pub(crate) fn bad_id(&self) -> ReadError
@@ -96,10 +106,7 @@ impl<'a> Lines<'a> {
         ensures { Gives (λ x. (x, self.new)) result (number_after prefix.now self.old) }
     {
         let line = self.next_line()?;
-        match number_in(line, prefix) {
-            Some(number) => Ok(number),
-            None => Err(self.bad_line()),
-        }
+        self.or_bad_line(number_in(line, prefix))
     }
 
     /// The first line, which tells the version of the text.
@@ -107,10 +114,7 @@ impl<'a> Lines<'a> {
         ensures { Gives (λ x. (x, self.new)) result (line_after (codes "htstack ") version_at self.old) }
     {
         let line = self.next_line()?;
-        match version_in(line) {
-            Some(version) => Ok(version),
-            None => Err(self.bad_line()),
-        }
+        self.or_bad_line(version_in(line))
     }
 
     /// A number that is no less than the least. One over the most is too many.
@@ -136,10 +140,7 @@ impl<'a> Lines<'a> {
         ensures { Gives (λ x. (x, self.new)) result (flag_after prefix.now self.old) }
     {
         let line = self.next_line()?;
-        match flag_in(line, prefix) {
-            Some(flag) => Ok(flag),
-            None => Err(self.bad_line()),
-        }
+        self.or_bad_line(flag_in(line, prefix))
     }
 
     #[tactic(auto, unfolding(stack_text::specs::Reading::name_at))]
@@ -147,10 +148,7 @@ impl<'a> Lines<'a> {
         ensures { Gives (λ x. (x, self.new)) result (name_at self.old) }
     {
         let line = self.next_line()?;
-        match name_in(alloc, line)? {
-            Some(name) => Ok(name),
-            None => Err(self.bad_line()),
-        }
+        self.or_bad_line(name_in(alloc, line)?)
     }
 
     /// How many pieces a text has.
@@ -158,10 +156,7 @@ impl<'a> Lines<'a> {
         ensures { Gives (λ x. (x, self.new)) result (line_after prefix.now count_at self.old) }
     {
         let line = self.next_line()?;
-        match piece_count_in(line, prefix) {
-            Some(count) => Ok(count),
-            None => Err(self.bad_line()),
-        }
+        self.or_bad_line(piece_count_in(line, prefix))
     }
 
     /// A piece that is shorter than the room, and not empty where it is alone.
@@ -187,10 +182,7 @@ impl<'a> Lines<'a> {
             (line_after (codes "card ") (pair_at number_of number_of) self.old) }
     {
         let line = self.next_line()?;
-        match card_in(line) {
-            Some(head) => Ok(head),
-            None => Err(self.bad_line()),
-        }
+        self.or_bad_line(card_in(line))
     }
 
     /// A field's id and the number of its text's pieces.
@@ -199,10 +191,7 @@ impl<'a> Lines<'a> {
             (line_after (codes "text ") (pair_at number_of count_at) self.old) }
     {
         let line = self.next_line()?;
-        match text_in(line) {
-            Some(head) => Ok(head),
-            None => Err(self.bad_line()),
-        }
+        self.or_bad_line(text_in(line))
     }
 
     /// A button's id and whether it is lit.
@@ -211,10 +200,7 @@ impl<'a> Lines<'a> {
             (line_after (codes "hilite ") (pair_at number_of flag_at) self.old) }
     {
         let line = self.next_line()?;
-        match hilite_in(line) {
-            Some(head) => Ok(head),
-            None => Err(self.bad_line()),
-        }
+        self.or_bad_line(hilite_in(line))
     }
 
     /// The kind and the id of a part.
@@ -222,10 +208,7 @@ impl<'a> Lines<'a> {
         ensures { Gives (λ x. (x, self.new)) result (line_after [] part_header self.old) }
     {
         let line = self.next_line()?;
-        match part_in(line) {
-            Some(head) => Ok(head),
-            None => Err(self.bad_line()),
-        }
+        self.or_bad_line(part_in(line))
     }
 
     /// Takes the id of the next object, which has to be new and below `next`; whether nothing else

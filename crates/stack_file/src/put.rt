@@ -3,7 +3,7 @@
 ghost use Rattle.std.specs.Prelude.{◌≡◌, ◌≤◌, ◌==◌, ◌∷◌, ◌++◌, [], codes, count_by, decimal, length, map, OnOk};
 ghost use Rattle.ht_values.specs.Delimited.{delimited};
 ghost use Rattle.stack_text.specs.Spelling.{name_line as name_spelled, layer_lines, cant_delete_of as cant_delete_in};
-ghost use Rattle.stack_text.specs.Words.{numbered, flagged, barred, block as block_lines};
+ghost use Rattle.stack_text.specs.Words.{numbered, flagged, barred, spelled_flag, block as block_lines};
 ghost use Rattle.stack_file.specs.Lines.{with_lines};
 ghost use Rattle.stack_file.specs.Written.{in_piece};
 
@@ -12,30 +12,53 @@ use object_table::{Id, Kind, Object};
 use stack_text::spell_into;
 use std::alloc::AllocError;
 
-fn put_number(out: &mut Vec<u8>, number: usize) -> Result<(), AllocError>
-    ensures { OnOk result (out.new.items ≡ out.old.items ++ decimal number) }
+fn put(out: &mut Vec<u8>, bytes: &[u8]) -> Result<(), AllocError>
+    ensures { OnOk result (out.new.items ≡ out.old.items ++ bytes.now) }
 {
-    let mut digits = Buffer::new();
-    out.extend_from_slice(digits.format(number).as_bytes())?;
+    out.extend_from_slice(bytes)?;
     Ok(())
 }
 
 pub(crate) fn put_line(out: &mut Vec<u8>, line: &[u8]) -> Result<(), AllocError>
     ensures { OnOk result (out.new.items ≡ with_lines out.old.items (line.now ∷ [])) }
 {
-    out.extend_from_slice(line)?;
-    out.push(b'\n')?;
-    Ok(())
+    put(out, line)?;
+    put(out, b"\n")
+}
+
+/// A space and a number.
+fn put_number(out: &mut Vec<u8>, number: usize) -> Result<(), AllocError>
+    ensures { OnOk result (out.new.items ≡ out.old.items ++ 32 ∷ decimal number) }
+{
+    let mut digits = Buffer::new();
+    put(out, b" ")?;
+    put(out, digits.format(number).as_bytes())
+}
+
+/// A key and a number.
+fn put_numbered(out: &mut Vec<u8>, key: &[u8], number: usize) -> Result<(), AllocError>
+    ensures { OnOk result (out.new.items ≡ out.old.items ++ numbered key.now number) }
+{
+    put(out, key)?;
+    put_number(out, number)
+}
+
+/// A space and a flag, and the end of the line.
+fn put_flag(out: &mut Vec<u8>, flag: bool) -> Result<(), AllocError>
+    ensures { OnOk result (out.new.items ≡ out.old.items ++ (32 ∷ (spelled_flag flag ++ 10 ∷ []))) }
+{
+    if flag {
+        put(out, b" true\n")
+    } else {
+        put(out, b" false\n")
+    }
 }
 
 pub(crate) fn number_line(out: &mut Vec<u8>, key: &[u8], number: usize) -> Result<(), AllocError>
     ensures { OnOk result (out.new.items ≡ with_lines out.old.items (numbered key.now number ∷ [])) }
 {
-    out.extend_from_slice(key)?;
-    out.push(b' ')?;
-    put_number(out, number)?;
-    out.push(b'\n')?;
-    Ok(())
+    put_numbered(out, key, number)?;
+    put(out, b"\n")
 }
 
 /// A key and two numbers.
@@ -47,48 +70,32 @@ pub(crate) fn numbers_line(
 ) -> Result<(), AllocError>
     ensures { OnOk result (out.new.items ≡ with_lines out.old.items (numbered (numbered key.now first) second ∷ [])) }
 {
-    out.extend_from_slice(key)?;
-    out.push(b' ')?;
-    put_number(out, first)?;
-    out.push(b' ')?;
+    put_numbered(out, key, first)?;
     put_number(out, second)?;
-    out.push(b'\n')?;
-    Ok(())
+    put(out, b"\n")
 }
 
 pub(crate) fn flag_line(out: &mut Vec<u8>, key: &[u8], flag: bool) -> Result<(), AllocError>
     ensures { OnOk result (out.new.items ≡ with_lines out.old.items (flagged key.now flag ∷ [])) }
 {
-    out.extend_from_slice(key)?;
-    if flag {
-        out.extend_from_slice(b" true\n")?;
-    } else {
-        out.extend_from_slice(b" false\n")?;
-    }
-    Ok(())
+    put(out, key)?;
+    put_flag(out, flag)
 }
 
 /// A key, an id and a flag.
 pub(crate) fn hilite_line(out: &mut Vec<u8>, button: Id, lit: bool) -> Result<(), AllocError>
     ensures { OnOk result (out.new.items ≡ with_lines out.old.items (flagged (numbered (codes "hilite") button) lit ∷ [])) }
 {
-    out.extend_from_slice(b"hilite ")?;
-    put_number(out, button as usize)?;
-    if lit {
-        out.extend_from_slice(b" true\n")?;
-    } else {
-        out.extend_from_slice(b" false\n")?;
-    }
-    Ok(())
+    put_numbered(out, b"hilite", button as usize)?;
+    put_flag(out, lit)
 }
 
 pub(crate) fn name_line(out: &mut Vec<u8>, name: &[u8]) -> Result<(), AllocError>
     ensures { OnOk result (out.new.items ≡ with_lines out.old.items (name_spelled name.now ∷ [])) }
 {
-    out.extend_from_slice(b"name |")?;
+    put(out, b"name |")?;
     spell_into(out, name)?;
-    out.push(b'\n')?;
-    Ok(())
+    put(out, b"\n")
 }
 
 fn returns_in(text: &[u8]) -> usize
@@ -114,8 +121,7 @@ fn put_in_piece(out: &mut Vec<u8>, byte: u8) -> Result<(), AllocError>
     ensures { OnOk result (out.new.items ≡ out.old.items ++ in_piece byte) }
 {
     if byte == b'\r' {
-        out.extend_from_slice(b"\n|")?;
-        Ok(())
+        put(out, b"\n|")
     } else {
         spell_into(out, &[byte])
     }
@@ -129,12 +135,11 @@ fn put_pieces(out: &mut Vec<u8>, text: &[u8]) -> Result<(), AllocError>
     if text.is_empty() {
         return Ok(());
     }
-    out.push(b'|')?;
+    put(out, b"|")?;
     for byte in text {
         put_in_piece(out, *byte)?;
     }
-    out.push(b'\n')?;
-    Ok(())
+    put(out, b"\n")
 }
 
 /// A key with the number of a text's pieces, and the pieces.

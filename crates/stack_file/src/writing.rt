@@ -143,7 +143,6 @@ fn put_part(out: &mut Vec<u8>, stack: &Stack, card: Id, id: Id) -> Result<(), Al
     }
 }
 
-#[tactic(auto, using(crate::proofs::Adding::with_lines_append))]
 fn put_each_part(out: &mut Vec<u8>, stack: &Stack, card: Id, ids: &[Id]) -> Result<(), AllocError>
     ensures { OnOk result (out.new.items ≡ with_lines out.old.items (flat_map (part_lines second) (map (part_of stack.now.content card) ids.now))) }
 {
@@ -179,7 +178,6 @@ fn put_keeping(out: &mut Vec<u8>, stack: &Stack, card: Id, id: Id) -> Result<(),
     }
 }
 
-#[tactic(auto, using(crate::proofs::Adding::with_lines_append))]
 fn put_keepings(out: &mut Vec<u8>, stack: &Stack, card: Id, ids: &[Id]) -> Result<(), AllocError>
     ensures { OnOk result (out.new.items ≡ with_lines out.old.items (flat_map (keeping_lines second) (map (keeping_of stack.now.content card) ids.now))) }
 {
@@ -240,7 +238,6 @@ fn put_card(out: &mut Vec<u8>, stack: &Stack, id: Id) -> Result<(), AllocError>
     put_keepings(out, stack, id, parts_on(stack, background))
 }
 
-#[tactic(auto, using(crate::proofs::Adding::with_lines_append))]
 fn put_backgrounds(out: &mut Vec<u8>, stack: &Stack, ids: &[Id]) -> Result<(), AllocError>
     requires { All (λ id. IsTrue (has_kind is_background stack.now.content id)) ids.now }
     ensures { OnOk result (out.new.items ≡ with_lines out.old.items (flat_map (background_lines second) (map (background_sheet stack.now.content) ids.now))) }
@@ -251,7 +248,6 @@ fn put_backgrounds(out: &mut Vec<u8>, stack: &Stack, ids: &[Id]) -> Result<(), A
     Ok(())
 }
 
-#[tactic(auto, using(crate::proofs::Adding::with_lines_append))]
 fn put_cards(out: &mut Vec<u8>, stack: &Stack, ids: &[Id]) -> Result<(), AllocError>
     requires formed { IsWellFormed stack.now.content }
     requires cards { All (λ id. IsTrue (has_kind is_card stack.now.content id)) ids.now }

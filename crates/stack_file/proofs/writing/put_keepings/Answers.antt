@@ -1,4 +1,4 @@
-use Rattle.std.proofs.Common.{◌∙◌, ◌+◌, ◌<◌, ap, map, drop, length, get_or, refl, arith, List, ℕ}
+use Rattle.std.proofs.Common.{◌∙◌, ◌+◌, ◌<◌, ◌≤◌, ap, map, drop, length, get_or, refl, arith, List, ℕ}
 use Rattle.std.specs.Prelude.{flat_map}
 use Rattle.std.proofs.lemmas.Bool.Decides.{nat_tests}
 use Rattle.std.proofs.lemmas.Grind.{common_steps}
@@ -6,7 +6,7 @@ use Rattle.stack_text.specs.Listing.{keeping_of}
 use Rattle.stack_text.specs.Spelling.{keeping_lines}
 use Rattle.stack_text.specs.declared.sheets.Version.TheVariants.{Second as second}
 use Rattle.stack_file.specs.Lines.{with_lines}
-use Rattle.stack_file.proofs.Adding.{each-step, next_is}
+use Rattle.stack_file.proofs.Adding.{all_done, each-step, next_is}
 use Rattle.stack_file.proofs.writing.put_keepings.Goals as goal
 
 pub loop-id-preserved : goal.loop-id-preserved
@@ -18,3 +18,9 @@ loop-id-preserved c =
     each-step (keeping_lines second) (keeping_of c.args.stack.now.content c.args.card) a c.put_keeping.new.out.items (get_or ids i 0) (drop (i + 1) ids) c.in_ok-put_keeping.ensures
     ∙ ap (λ (xs : List ℕ). with_lines a (flat_map (keeping_lines second) (map (keeping_of c.args.stack.now.content c.args.card) xs))) (next_is ids i (get_or ids i 0) within refl)
     ∙ c.loop-id.invariant
+
+pub returns : goal.returns
+returns c =
+    let ids = c.args.ids.now in
+    let past : length ids ≤ c.loop-id.id-index = grind (arith, common_steps, nat_tests) in
+    all_done (keeping_lines second) (keeping_of c.args.stack.now.content c.args.card) c.loop-id.out.items _ ids c.loop-id.id-index past c.loop-id.invariant
