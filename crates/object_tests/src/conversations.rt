@@ -3,12 +3,10 @@
 ghost use Rattle.std.specs.Prelude.{length};
 ghost use Rattle.externals.specs.Cells.{IsProper};
 
+use crate::plain_texts::{Bytes, is_text, text};
 use externals::{Ask, External, Input, Patch, Texts};
 use ht_values::Text;
 use std::alloc::Global;
-use std::test::Fail;
-
-pub(crate) type Bytes = &'static [u8];
 
 /// What an external is told at a turn.
 #[derive(Clone, Copy)]
@@ -34,38 +32,47 @@ pub(crate) enum Asked {
 #[derive(Clone, Copy)]
 pub(crate) struct Turn(pub Told, pub Asked, pub &'static [(usize, Bytes, Bytes)]);
 
-pub(crate) fn text(alloc: Global, bytes: &[u8]) -> Result<Text, Fail> {
-    Ok(Text::from_slice(alloc, bytes)?)
+/// What an external is: its name, its kind, whether it is a function, how many cells it has, which text each of them is,
+/// and how many turns it has taken.
+pub(crate) struct Profile {
+    pub name: Bytes,
+    pub kind: u32,
+    pub is_function: bool,
+    pub cells: usize,
+    pub text: Bytes,
+    pub turns: u64,
 }
 
-fn push(texts: &mut Texts, text: Text) -> Result<(), Fail> {
-    match texts.push(text) {
-        Ok(()) => Ok(()),
-        Err(_) => Err("memory".into()),
+fn is_pushed(alloc: Global, texts: &mut Texts, bytes: &[u8]) -> bool {
+    match Text::from_slice(alloc, bytes) {
+        Ok(text) => texts.push(text).is_ok(),
+        Err(_) => false,
     }
 }
 
-pub(crate) fn texts(alloc: Global, all: &[&[u8]]) -> Result<Texts, Fail> {
+pub(crate) fn texts(alloc: Global, all: &[&[u8]]) -> Option<Texts> {
     let mut texts = Texts::new(alloc);
     for bytes in all {
-        push(&mut texts, text(alloc, bytes)?)?;
+        if !is_pushed(alloc, &mut texts, bytes) {
+            return None;
+        }
     }
-    Ok(texts)
+    Some(texts)
 }
 
-fn input(alloc: Global, told: Told) -> Result<Input, Fail> {
-    Ok(match told {
-        Told::Start(args) => Input::Start(texts(alloc, args)?),
-        Told::Answer(note, value) => Input::Answer(texts(alloc, note)?, text(alloc, value)?),
-    })
+fn input(alloc: Global, told: Told) -> Option<Input> {
+    match told {
+        Told::Start(args) => Some(Input::Start(texts(alloc, args)?)),
+        Told::Answer(note, value) => Some(Input::Answer(texts(alloc, note)?, text(alloc, value)?)),
+    }
 }
 
-fn is_note(note: &Texts, all: &[Bytes]) -> bool {
-    if note.len() != all.len() {
+pub(crate) fn are_texts(texts: &Texts, all: &[Bytes]) -> bool {
+    if texts.len() != all.len() {
         return false;
     }
-    for i in 0..note.len() {
-        if i < all.len() && note.at(i).as_slice() != all[i] {
+    for i in 0..texts.len() {
+        if i < all.len() && texts.at(i).as_slice() != all[i] {
             return false;
         }
     }
@@ -73,27 +80,24 @@ fn is_note(note: &Texts, all: &[Bytes]) -> bool {
 }
 
 fn is_asked(ask: &Ask, asked: Asked) -> bool {
-    match (ask, asked) {
-        (Ask::SendCardMessage(note, text), Asked::Send(all, line)) => {
-            is_note(note, all) && text.as_slice() == line
+    match ask {
+        Ask::SendCardMessage(note, text) => {
+            matches!(asked, Asked::Send(all, line) if are_texts(note, all) && is_text(text, line))
         }
-        (Ask::EvalExpr(note, text), Asked::Value(all, expression)) => {
-            is_note(note, all) && text.as_slice() == expression
+        Ask::EvalExpr(note, text) => {
+            matches!(asked, Asked::Value(all, line) if are_texts(note, all) && is_text(text, line))
         }
-        (Ask::SetGlobal(note, name, value), Asked::Global(all, global, set)) => {
-            is_note(note, all) && name.as_slice() == global && value.as_slice() == set
+        Ask::SetGlobal(note, name, value) => {
+            matches!(asked, Asked::Global(all, global, set) if are_texts(note, all) && is_text(name, global) && is_text(value, set))
         }
-        (Ask::SetFieldByName(note, false, name, value), Asked::BackgroundField(all, field, set)) =>
-            { is_note(note, all) && name.as_slice() == field && value.as_slice() == set }
-        (Ask::Done(value, false), Asked::Done(told)) => value.as_slice() == told,
-        (Ask::Done(_, true), Asked::Pass) => true,
-        (Ask::Fail, Asked::Fail) => true,
-        _ => false,
+        Ask::SetFieldByName(_, true, _, _) => false,
+        Ask::SetFieldByName(note, false, name, value) => {
+            matches!(asked, Asked::BackgroundField(all, field, set) if are_texts(note, all) && is_text(name, field) && is_text(value, set))
+        }
+        Ask::Done(value, false) => matches!(asked, Asked::Done(told) if is_text(value, told)),
+        Ask::Done(_, true) => matches!(asked, Asked::Pass),
+        Ask::Fail => matches!(asked, Asked::Fail),
     }
-}
-
-fn has_cell<E: External>(external: &E, cell: usize, bytes: &[u8]) -> bool {
-    cell < external.cell_count() && external.cell(cell).as_slice() == bytes
 }
 
 /// Whether cells that are changed have their texts from before, or those from after.
@@ -103,15 +107,16 @@ fn have_texts<E: External>(
     is_after: bool,
 ) -> bool {
     for (cell, before, after) in changed {
-        if !has_cell(external, *cell, if is_after { after } else { before }) {
+        let due = if is_after { after } else { before };
+        if *cell >= external.cell_count() || external.cell(*cell).as_slice() != *due {
             return false;
         }
     }
     true
 }
 
-/// Whether a patch names just these cells, in order, and they have these texts now.
-fn names<E: External>(external: &E, patch: &Patch, changed: &[(usize, Bytes, Bytes)]) -> bool {
+/// Whether a patch names just these cells, in order.
+fn names(patch: &Patch, changed: &[(usize, Bytes, Bytes)]) -> bool {
     if patch.len() != changed.len() {
         return false;
     }
@@ -120,7 +125,7 @@ fn names<E: External>(external: &E, patch: &Patch, changed: &[(usize, Bytes, Byt
             return false;
         }
     }
-    have_texts(external, changed, true)
+    true
 }
 
 fn flip<E: External>(external: &mut E, patch: &mut Patch)
@@ -130,7 +135,7 @@ fn flip<E: External>(external: &mut E, patch: &mut Patch)
     external.flip(patch);
 }
 
-/// Whether a flip of the patch gives the old texts back, and another one the new texts.
+/// Whether the cells have the new texts, a flip of the patch gives the old ones back, and another one the new ones.
 fn flips<E: External>(
     external: &mut E,
     patch: &mut Patch,
@@ -138,61 +143,62 @@ fn flips<E: External>(
 ) -> bool
     requires { IsProper (length (E.cells external.old)) patch.old }
 {
+    let began = have_texts(external, changed, true);
     flip(external, patch);
-    if !have_texts(external, changed, false) {
-        return false;
+    let went_back = have_texts(external, changed, false);
+    flip(external, patch);
+    began && went_back && have_texts(external, changed, true) && names(patch, changed)
+}
+
+fn answers<E: External>(alloc: Global, external: &mut E, input: &Input, turn: &Turn) -> bool {
+    match external.turn(alloc, input) {
+        Ok((ask, mut patch)) => {
+            is_asked(&ask, turn.1) && names(&patch, turn.2) && flips(external, &mut patch, turn.2)
+        }
+        Err(_) => false,
     }
-    flip(external, patch);
-    names(external, patch, changed)
 }
 
-fn takes<E: External>(alloc: Global, external: &mut E, turn: Turn) -> Result<bool, Fail> {
-    let input = input(alloc, turn.0)?;
-    let (ask, mut patch) = external.turn(alloc, &input)?;
-    Ok(
-        is_asked(&ask, turn.1)
-            && names(external, &patch, turn.2)
-            && flips(external, &mut patch, turn.2),
-    )
+/// Whether an external takes a turn like this, by its own and by flips of its patch.
+pub(crate) fn takes<E: External>(alloc: Global, external: &mut E, turn: &Turn) -> bool {
+    match input(alloc, turn.0) {
+        Some(input) => answers(alloc, external, &input, turn),
+        None => false,
+    }
 }
 
-/// The first turn that is another, if there is one.
+/// The first turn that an external, if there is one, takes in another way.
 pub(crate) fn other_turn<E: External>(
     alloc: Global,
-    mut external: E,
+    external: Option<E>,
     turns: &[Turn],
-) -> Result<Option<usize>, Fail> {
+) -> Option<usize> {
+    let mut external = match external {
+        Some(external) => external,
+        None => return Some(0),
+    };
     for (i, turn) in turns.iter().enumerate() {
-        if !takes(alloc, &mut external, *turn)? {
-            return Ok(Some(i));
+        if !takes(alloc, &mut external, turn) {
+            return Some(i);
         }
     }
-    Ok(None)
+    None
 }
 
-/// Whether each of so many cells is this text.
-fn are_all<E: External>(external: &E, cells: usize, bytes: &[u8]) -> bool {
-    for cell in 0..cells {
-        if !has_cell(external, cell, bytes) {
+fn are_all<E: External>(external: &E, bytes: &[u8]) -> bool {
+    for cell in 0..external.cell_count() {
+        if external.cell(cell).as_slice() != bytes {
             return false;
         }
     }
     true
 }
 
-/// Whether an external has this name, kind and flag, cells that are all this text, and has taken no turn.
-pub(crate) fn is_new<E: External>(
-    external: &E,
-    name: &[u8],
-    kind: u32,
-    is_function: bool,
-    cells: usize,
-    first: &[u8],
-) -> bool {
-    external.name().as_slice() == name
-        && external.kind() == kind
-        && external.is_function() == is_function
-        && external.cell_count() == cells
-        && are_all(external, cells, first)
-        && external.turns() == 0
+pub(crate) fn has_profile<E: External>(external: &E, due: &Profile) -> bool {
+    is_text(external.name(), due.name)
+        && external.kind() == due.kind
+        && external.is_function() == due.is_function
+        && external.cell_count() == due.cells
+        && are_all(external, due.text)
+        && external.turns() == due.turns
 }

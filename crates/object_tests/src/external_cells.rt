@@ -1,8 +1,12 @@
+//! An external that is none of the kit's, in a box and without, and lists of texts and patches alone.
+
+use crate::boxed_externals::Boxed;
+use crate::conversations::*;
+use crate::plain_texts::{Bytes, is_text, text};
 use externals::{Ask, External, Input, Patch, Texts, law_of_external, laws_of_flips};
 use ht_values::Text;
 use std::alloc::{AllocError, Global};
 use std::mem;
-use std::test::Fail;
 
 /// Of no known kind, a command: at each start its cell becomes the first argument, and it asks for its value. It fails at
 /// an answer.
@@ -81,111 +85,73 @@ impl External for Echo {
     }
 }
 
-fn text(alloc: Global, bytes: &[u8]) -> Result<Text, Fail> {
-    Ok(Text::from_slice(alloc, bytes)?)
-}
-
-fn arguments(alloc: Global, bytes: &[u8]) -> Result<Texts, Fail> {
-    let mut args = Texts::new(alloc);
-    args.push(text(alloc, bytes)?).map_err(|_| "arguments")?;
-    Ok(args)
-}
-
-fn make_echo(alloc: Global) -> Result<Echo, Fail> {
-    Ok(Echo {
+fn make_echo(alloc: Global) -> Option<Echo> {
+    Some(Echo {
         name: text(alloc, b"Echo")?,
         cell: text(alloc, b"old")?,
         turns: 0,
     })
 }
 
-fn asks_for(ask: &Ask, text: &[u8]) -> bool {
-    match ask {
-        Ask::EvalExpr(_, asked) => asked.as_slice() == text,
-        _ => false,
-    }
+fn boxed_echo(alloc: Global) -> Option<Boxed> {
+    let boxed: Boxed = Box::new(alloc, make_echo(alloc)?).ok()?;
+    Some(boxed)
 }
 
-/// A turn, and a flip of its patch or none. Whether the external asked for the value of `new`.
-fn asks_in_turn<E: External>(
-    alloc: Global,
-    external: &mut E,
-    input: &Input,
-    flipped: bool,
-) -> Result<bool, Fail> {
-    let (ask, mut patch) = external.turn(alloc, input)?;
-    if flipped {
-        external.flip(&mut patch);
-    }
-    Ok(asks_for(&ask, b"new"))
-}
+const TURN: Turn = Turn(
+    Told::Start(&[b"new"]),
+    Asked::Value(&[], b"new"),
+    &[(0, b"old", b"new")],
+);
 
-fn has_cell<E: External>(external: &E, bytes: &[u8]) -> bool {
-    external.cell_count() == 1 && external.cell(0).as_slice() == bytes
-}
-
-/// Whether an external is the command Echo, after one turn.
-fn is_echo<E: External>(external: &E) -> bool {
-    external.name().as_slice() == b"Echo".as_slice()
-        && external.kind() == 0
-        && external.turns() == 1
-        && !external.is_function()
-}
+const AFTER: Profile = Profile {
+    name: b"Echo",
+    kind: 0,
+    is_function: false,
+    cells: 1,
+    text: b"new",
+    turns: 1,
+};
 
 fn keeps_laws<E: External>(external: &E) {
     law_of_external(external);
     laws_of_flips();
 }
 
-/// Whether an external asks for the value of `new` when it starts with it, and then has this cell, after a flip of that
-/// turn's patch or none.
-fn meets<E: External>(
-    alloc: Global,
-    mut external: E,
-    flipped: bool,
-    cell: &[u8],
-) -> Result<bool, Fail> {
-    let input = Input::Start(arguments(alloc, b"new")?);
-    let asks = asks_in_turn(alloc, &mut external, &input, flipped)?;
-    keeps_laws(&external);
-    Ok(asks && has_cell(&external, cell) && is_echo(&external))
-}
-
-fn boxed_echo(alloc: Global) -> Result<Box<dyn External>, Fail> {
-    let boxed: Box<dyn External> = Box::new(alloc, make_echo(alloc)?)?;
-    Ok(boxed)
+/// Whether an external asks for the value of `new` when it starts with it, and its cell then becomes `new`.
+fn meets<E: External>(alloc: Global, external: Option<E>) -> bool {
+    match external {
+        Some(mut external) => {
+            let took = takes(alloc, &mut external, &TURN);
+            keeps_laws(&external);
+            took && has_profile(&external, &AFTER)
+        }
+        None => false,
+    }
 }
 
 #[test]
-fn a_boxed_external_turns_and_flips(rt: HostRuntime) -> Result<(), Fail> {
-    assert!(rt; meets(rt.alloc(), boxed_echo(rt.alloc())?, false, b"new")?);
-    assert!(rt; meets(rt.alloc(), boxed_echo(rt.alloc())?, true, b"old")?);
-    Ok(())
+fn an_external_turns_and_flips(rt: HostRuntime) {
+    assert!(rt; meets(rt.alloc(), boxed_echo(rt.alloc())));
+    assert!(rt; meets(rt.alloc(), make_echo(rt.alloc())));
+}
+
+fn keeps_texts(alloc: Global, all: &[Bytes]) -> bool {
+    match texts(alloc, all) {
+        Some(texts) => are_texts(&texts, all),
+        None => false,
+    }
 }
 
 #[test]
-fn an_external_turns_and_flips(rt: HostRuntime) -> Result<(), Fail> {
-    assert!(rt; meets(rt.alloc(), make_echo(rt.alloc())?, true, b"old")?);
-    Ok(())
+fn lists_of_texts(rt: HostRuntime) {
+    assert!(rt; keeps_texts(rt.alloc(), &[b"a", b"b"]));
 }
 
-fn has_texts(texts: &Texts, first: &[u8], second: &[u8]) -> bool {
-    texts.len() == 2 && texts.at(0).as_slice() == first && texts.at(1).as_slice() == second
-}
-
-#[test]
-fn lists_of_texts(rt: HostRuntime) -> Result<(), Fail> {
-    let mut texts = arguments(rt.alloc(), b"a")?;
-    let second = text(rt.alloc(), b"b")?;
-    assert!(rt; texts.push(second).is_ok());
-    assert!(rt; has_texts(&texts, b"a", b"b"));
-    Ok(())
-}
-
-fn patch_of(alloc: Global, cell: usize, bytes: &[u8]) -> Result<Patch, Fail> {
+fn patch_of(alloc: Global, cell: usize, bytes: &[u8]) -> Option<Patch> {
     let mut patch = Patch::new(alloc);
-    patch.push(cell, text(alloc, bytes)?).map_err(|_| "patch")?;
-    Ok(patch)
+    patch.push(cell, text(alloc, bytes)?).ok()?;
+    Some(patch)
 }
 
 /// Exchanges the text of a patch that names the cell alone.
@@ -197,11 +163,21 @@ fn is_swapped(patch: &mut Patch, cell: usize, text: &mut Text) -> bool {
     true
 }
 
+fn swaps(alloc: Global, patch: &mut Patch) -> bool {
+    match text(alloc, b"new") {
+        Some(mut text) => is_swapped(patch, 3, &mut text) && is_text(&text, b"old"),
+        None => false,
+    }
+}
+
+fn patch_swaps(alloc: Global) -> bool {
+    match patch_of(alloc, 3, b"old") {
+        Some(mut patch) => swaps(alloc, &mut patch),
+        None => false,
+    }
+}
+
 #[test]
-fn patches(rt: HostRuntime) -> Result<(), Fail> {
-    let mut other = text(rt.alloc(), b"new")?;
-    let mut patch = patch_of(rt.alloc(), 3, b"old")?;
-    assert!(rt; is_swapped(&mut patch, 3, &mut other));
-    assert!(rt; other.as_slice() == b"old".as_slice());
-    Ok(())
+fn patches(rt: HostRuntime) {
+    assert!(rt; patch_swaps(rt.alloc()));
 }

@@ -3,10 +3,63 @@
 use devices::Desk;
 use file_desk::{FileDesk, Plain};
 use log::{LevelFilter, Logged};
-use std::fs::File;
+use std::fs;
 use std::rt::Files;
-use std::test::*;
-use std::{fs, io};
+
+type Name = &'static str;
+
+/// What is done with files and the desk, or holds of them.
+enum Step {
+    Write(Name, &'static str),
+    Folder(Name),
+    /// The file that a link leads to, and the link.
+    Link(Name, Name),
+    /// A save, and whether it is kept.
+    Keep(&'static [u8], bool),
+    /// How many saves have failed.
+    Failures(u64),
+    Text(Name, &'static str),
+    IsThere(Name, bool),
+    IsLink(Name),
+    Remove(Name),
+    RemoveFolder(Name),
+}
+
+fn has_text<R: Files + AllocGlobal>(rt: &R, path: &str, due: &str) -> bool {
+    match fs::read_to_string(rt, path) {
+        Ok(text) => text.as_str() == due,
+        Err(_) => false,
+    }
+}
+
+fn is_link<R: Files>(rt: &R, path: &str) -> bool {
+    match fs::symlink_metadata(rt, path) {
+        Ok(metadata) => metadata.is_symlink(),
+        Err(_) => false,
+    }
+}
+
+fn is_there<R: Files>(rt: &R, path: &str, due: bool) -> bool {
+    match fs::exists(rt, path) {
+        Ok(is_there) => is_there == due,
+        Err(_) => false,
+    }
+}
+
+/// Whether a step on files alone is done, or holds.
+fn is_done<R: Files + AllocGlobal>(rt: &R, step: &Step) -> bool {
+    match step {
+        Step::Write(path, text) => fs::write(rt, path, *text).is_ok(),
+        Step::Folder(path) => fs::create_dir(rt, path).is_ok(),
+        Step::Link(file, path) => rt.symlink(file, path).is_ok(),
+        Step::Text(path, due) => has_text(rt, path, due),
+        Step::IsThere(path, due) => is_there(rt, path, *due),
+        Step::IsLink(path) => is_link(rt, path),
+        Step::Remove(path) => fs::remove_file(rt, path).is_ok(),
+        Step::RemoveFolder(path) => fs::remove_dir(rt, path).is_ok(),
+        Step::Keep(_, _) | Step::Failures(_) => false,
+    }
+}
 
 fn keeps<D: Desk>(desk: &mut D, text: &[u8]) -> bool {
     desk.keep(text)
@@ -16,127 +69,118 @@ fn failures_of<D: Desk>(desk: &D) -> u64 {
     desk.failures()
 }
 
-/// What stands beside the file before it is saved.
-#[derive(Clone, Copy)]
-enum Beside {
-    Nothing,
-    OldFile,
-    LinkToAnother,
-    Folder,
-}
-
+/// The path of a desk, and the steps.
 struct Row {
-    path: &'static str,
-    beside: Beside,
-    kept: bool,
+    path: Name,
+    steps: &'static [Step],
 }
 
 const ROWS: &[Row] = &[
+    // A save replaces the file, whatever file or link stands beside it, and leaves it where a folder stands there.
     Row {
         path: "alone.stack",
-        beside: Beside::Nothing,
-        kept: true,
+        steps: &[
+            Step::Write("alone.stack", "old"),
+            Step::Keep(b"new", true),
+            Step::Text("alone.stack", "new"),
+            Step::Failures(0),
+            Step::IsThere("alone.stack.new", false),
+            Step::Remove("alone.stack"),
+        ],
     },
     Row {
         path: "left_over.stack",
-        beside: Beside::OldFile,
-        kept: true,
+        steps: &[
+            Step::Write("left_over.stack", "old"),
+            Step::Write("left_over.stack.new", "left"),
+            Step::Keep(b"new", true),
+            Step::Text("left_over.stack", "new"),
+            Step::Failures(0),
+            Step::IsThere("left_over.stack.new", false),
+            Step::Remove("left_over.stack"),
+        ],
     },
     Row {
         path: "linked.stack",
-        beside: Beside::LinkToAnother,
-        kept: true,
+        steps: &[
+            Step::Write("linked.stack", "old"),
+            Step::Write("another.txt", "other"),
+            Step::Link("another.txt", "linked.stack.new"),
+            Step::Keep(b"new", true),
+            Step::Text("linked.stack", "new"),
+            Step::Failures(0),
+            Step::IsThere("linked.stack.new", false),
+            Step::Text("another.txt", "other"),
+            Step::Remove("linked.stack"),
+            Step::Remove("another.txt"),
+        ],
     },
     Row {
         path: "folder.stack",
-        beside: Beside::Folder,
-        kept: false,
+        steps: &[
+            Step::Write("folder.stack", "old"),
+            Step::Folder("folder.stack.new"),
+            Step::Keep(b"new", false),
+            Step::Text("folder.stack", "old"),
+            Step::Failures(1),
+            Step::IsThere("folder.stack.new", true),
+            Step::Remove("folder.stack"),
+            Step::RemoveFolder("folder.stack.new"),
+        ],
+    },
+    // A later save works.
+    Row {
+        path: "later.stack",
+        steps: &[
+            Step::Write("later.stack", "old"),
+            Step::Folder("later.stack.new"),
+            Step::Keep(b"first", false),
+            Step::RemoveFolder("later.stack.new"),
+            Step::Keep(b"second", true),
+            Step::Text("later.stack", "second"),
+            Step::Failures(1),
+            Step::Remove("later.stack"),
+        ],
+    },
+    // A link stays, and its file is replaced.
+    Row {
+        path: "link.stack",
+        steps: &[
+            Step::Write("target.stack", "old"),
+            Step::Link("target.stack", "link.stack"),
+            Step::Keep(b"new", true),
+            Step::Text("target.stack", "new"),
+            Step::IsLink("link.stack"),
+            Step::Remove("link.stack"),
+            Step::Remove("target.stack"),
+        ],
+    },
+    // A path that is a folder is left.
+    Row {
+        path: "folder_itself.stack",
+        steps: &[
+            Step::Folder("folder_itself.stack"),
+            Step::Keep(b"new", false),
+            Step::IsThere("folder_itself.stack.new", false),
+            Step::RemoveFolder("folder_itself.stack"),
+        ],
     },
 ];
 
-/// The text of a file; of none where it isn't there.
-fn text_of<R: Files + AllocGlobal>(rt: &R, path: &str) -> io::Result<String> {
-    if fs::exists(rt, path)? {
-        return fs::read_to_string(rt, path);
-    }
-    Ok(String::new(rt.alloc()))
-}
-
-const ANOTHER: &str = "another.txt";
-
-fn place<R: Files>(rt: &R, path: &str, beside: Beside) -> io::Result<()> {
-    match beside {
-        Beside::Nothing => Ok(()),
-        Beside::OldFile => fs::write(rt, path, "left"),
-        Beside::LinkToAnother => {
-            fs::write(rt, ANOTHER, "other")?;
-            rt.symlink(ANOTHER, path)
-        }
-        Beside::Folder => fs::create_dir(rt, path),
-    }
-}
-
 #[test]
-fn a_save_replaces_the_file_or_leaves_it(rt: HostRuntime) -> Result<(), Fail> {
+fn a_save_replaces_the_file_or_leaves_it(rt: HostRuntime) {
     let logger = Logged::new(&rt, LevelFilter::Off, Plain(&rt));
     for row in ROWS {
-        let beside = format!(in rt.alloc(); "{}.new", row.path)?;
-        fs::write(&rt, row.path, "old")?;
-        place(&rt, beside.as_str(), row.beside)?;
         let mut desk = FileDesk::new(&logger, row.path);
-        assert!(rt; keeps(&mut desk, b"new") == row.kept, "{}", row.path);
-        let wanted = if row.kept { "new" } else { "old" };
-        assert!(rt; text_of(&rt, row.path)?.as_str() == wanted, "{}", row.path);
-        assert!(rt; failures_of(&desk) == if row.kept { 0 } else { 1 });
-        assert!(rt;
-            fs::exists(&rt, beside.as_str())? != row.kept,
-            "{}",
-            row.path
-        );
-        fs::remove_file(&rt, row.path)?;
+        let mut holds = true;
+        for step in row.steps {
+            holds = holds
+                && match step {
+                    Step::Keep(text, kept) => keeps(&mut desk, text) == *kept,
+                    Step::Failures(count) => failures_of(&desk) == *count,
+                    _ => is_done(&rt, step),
+                };
+        }
+        assert!(rt; holds, "{}", row.path);
     }
-    assert!(rt; text_of(&rt, ANOTHER)?.as_str() == "other");
-    fs::remove_file(&rt, ANOTHER)?;
-    fs::remove_dir(&rt, "folder.stack.new")?;
-    Ok(())
-}
-
-#[test]
-fn a_later_save_works(rt: HostRuntime) -> Result<(), Fail> {
-    let logger = Logged::new(&rt, LevelFilter::Off, Plain(&rt));
-    fs::write(&rt, "later.stack", "old")?;
-    fs::create_dir(&rt, "later.stack.new")?;
-    let mut desk = FileDesk::new(&logger, "later.stack");
-    assert!(rt; !keeps(&mut desk, b"first"));
-    fs::remove_dir(&rt, "later.stack.new")?;
-    assert!(rt; keeps(&mut desk, b"second"));
-    assert!(rt; text_of(&rt, "later.stack")?.as_str() == "second");
-    assert!(rt; failures_of(&desk) == 1);
-    fs::remove_file(&rt, "later.stack")?;
-    Ok(())
-}
-
-#[test]
-fn a_link_stays_and_its_file_is_replaced(rt: HostRuntime) -> Result<(), Fail> {
-    let logger = Logged::new(&rt, LevelFilter::Off, Plain(&rt));
-    fs::write(&rt, "target.stack", "old")?;
-    rt.symlink("target.stack", "link.stack")?;
-    let mut desk = FileDesk::new(&logger, "link.stack");
-    assert!(rt; keeps(&mut desk, b"new"));
-    assert!(rt; text_of(&rt, "target.stack")?.as_str() == "new");
-    assert!(rt; fs::symlink_metadata(&rt, "link.stack")?.is_symlink());
-    fs::remove_file(&rt, "link.stack")?;
-    fs::remove_file(&rt, "target.stack")?;
-    Ok(())
-}
-
-#[test]
-fn a_path_that_is_a_folder_is_left(rt: HostRuntime) -> Result<(), Fail> {
-    let logger = Logged::new(&rt, LevelFilter::Off, Plain(&rt));
-    fs::create_dir(&rt, "folder_itself.stack")?;
-    let mut desk = FileDesk::new(&logger, "folder_itself.stack");
-    assert!(rt; !keeps(&mut desk, b"new"));
-    assert!(rt; !fs::exists(&rt, "folder_itself.stack.new")?);
-    fs::remove_dir(&rt, "folder_itself.stack")?;
-    Ok(())
 }

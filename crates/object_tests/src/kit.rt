@@ -1,45 +1,74 @@
 //! The four externals of the kit, in boxes.
 
-use crate::conversations::{Asked, Told, Turn, is_new, other_turn, text};
-use externals::External;
-use std::alloc::Global;
-use std::test::Fail;
-use xkit::{Bins, Count, Gate, Relay};
+use crate::boxed_externals::{Made, begins, make_external};
+use crate::conversations::{Asked, Profile, Told, Turn, other_turn};
 
-type Boxed = Box<dyn External>;
-
-fn count(alloc: Global, start: i64) -> Result<Boxed, Fail> {
-    let external: Boxed = Box::new(alloc, Count::new(alloc, text(alloc, b"Count")?, start)?)?;
-    Ok(external)
-}
-
-fn bins(alloc: Global) -> Result<Boxed, Fail> {
-    let external: Boxed = Box::new(alloc, Bins::new(alloc, text(alloc, b"Bins")?)?)?;
-    Ok(external)
-}
-
-fn relay(alloc: Global) -> Result<Boxed, Fail> {
-    let external: Boxed = Box::new(alloc, Relay::new(alloc, text(alloc, b"Relay")?)?)?;
-    Ok(external)
-}
-
-fn gate(alloc: Global) -> Result<Boxed, Fail> {
-    let external: Boxed = Box::new(alloc, Gate::new(alloc, text(alloc, b"doMenu")?)?)?;
-    Ok(external)
-}
+const BEGUN: &[(Made, Profile)] = &[
+    (
+        Made::Count(0),
+        Profile {
+            name: b"Count",
+            kind: 1,
+            is_function: true,
+            cells: 1,
+            text: b"0",
+            turns: 0,
+        },
+    ),
+    (
+        Made::Count(-7),
+        Profile {
+            name: b"Count",
+            kind: 1,
+            is_function: true,
+            cells: 1,
+            text: b"-7",
+            turns: 0,
+        },
+    ),
+    (
+        Made::Bins,
+        Profile {
+            name: b"Bins",
+            kind: 2,
+            is_function: false,
+            cells: 16,
+            text: b"",
+            turns: 0,
+        },
+    ),
+    (
+        Made::Relay,
+        Profile {
+            name: b"Relay",
+            kind: 3,
+            is_function: false,
+            cells: 2,
+            text: b"",
+            turns: 0,
+        },
+    ),
+    (
+        Made::Gate,
+        Profile {
+            name: b"doMenu",
+            kind: 4,
+            is_function: false,
+            cells: 1,
+            text: b"0",
+            turns: 0,
+        },
+    ),
+];
 
 #[test]
-fn they_begin_with_their_cells(rt: HostRuntime) -> Result<(), Fail> {
-    let alloc = rt.alloc();
-    assert!(rt; is_new(&count(alloc, 0)?, b"Count", 1, true, 1, b"0"));
-    assert!(rt; is_new(&count(alloc, -7)?, b"Count", 1, true, 1, b"-7"));
-    assert!(rt; is_new(&bins(alloc)?, b"Bins", 2, false, 16, b""));
-    assert!(rt; is_new(&relay(alloc)?, b"Relay", 3, false, 2, b""));
-    assert!(rt; is_new(&gate(alloc)?, b"doMenu", 4, false, 1, b"0"));
-    Ok(())
+fn they_begin_with_their_cells(rt: HostRuntime) {
+    for (made, profile) in BEGUN {
+        assert!(rt; begins(rt.alloc(), *made, profile));
+    }
 }
 
-const COUNTS: [Turn; 3] = [
+const COUNTS: &[Turn] = &[
     Turn(Told::Start(&[]), Asked::Done(b"1"), &[(0, b"0", b"1")]),
     Turn(Told::Answer(&[], b"1"), Asked::Fail, &[]),
     Turn(
@@ -49,7 +78,7 @@ const COUNTS: [Turn; 3] = [
     ),
 ];
 
-const LAST_COUNTS: [Turn; 2] = [
+const LAST_COUNTS: &[Turn] = &[
     Turn(
         Told::Start(&[]),
         Asked::Done(b"9223372036854775807"),
@@ -58,18 +87,7 @@ const LAST_COUNTS: [Turn; 2] = [
     Turn(Told::Start(&[]), Asked::Fail, &[]),
 ];
 
-#[test]
-fn count_counts_up_to_the_greatest_number(rt: HostRuntime) -> Result<(), Fail> {
-    let alloc = rt.alloc();
-    assert_eq!(rt; other_turn(alloc, count(alloc, 0)?, &COUNTS)?, None);
-    assert_eq!(rt;
-        other_turn(alloc, count(alloc, i64::MAX - 1)?, &LAST_COUNTS)?,
-        None
-    );
-    Ok(())
-}
-
-const BINS: [Turn; 9] = [
+const BINS: &[Turn] = &[
     Turn(Told::Start(&[b"17", b"x"]), Asked::Fail, &[]),
     Turn(
         Told::Start(&[b"16", b"x"]),
@@ -93,14 +111,7 @@ const BINS: [Turn; 9] = [
     Turn(Told::Answer(&[b"1", b"x"], b""), Asked::Fail, &[]),
 ];
 
-#[test]
-fn bins_keep_texts(rt: HostRuntime) -> Result<(), Fail> {
-    let alloc = rt.alloc();
-    assert_eq!(rt; other_turn(alloc, bins(alloc)?, &BINS)?, None);
-    Ok(())
-}
-
-const RELAYED: [Turn; 8] = [
+const RELAYED: &[Turn] = &[
     Turn(
         Told::Start(&[b"g", b"Note", b"5", b"again"]),
         Asked::Global(&[b"1", b"Note", b"5", b"again"], b"g", b"relay"),
@@ -127,14 +138,7 @@ const RELAYED: [Turn; 8] = [
     Turn(Told::Start(&[b"g", b"Note", b"5"]), Asked::Fail, &[]),
 ];
 
-#[test]
-fn relay_uses_each_call_back(rt: HostRuntime) -> Result<(), Fail> {
-    let alloc = rt.alloc();
-    assert_eq!(rt; other_turn(alloc, relay(alloc)?, &RELAYED)?, None);
-    Ok(())
-}
-
-const GATED: [Turn; 4] = [
+const GATED: &[Turn] = &[
     Turn(
         Told::Start(&[b"New Card"]),
         Asked::Done(b""),
@@ -145,9 +149,18 @@ const GATED: [Turn; 4] = [
     Turn(Told::Start(&[]), Asked::Done(b""), &[(0, b"0", b"1")]),
 ];
 
+const CONVERSATIONS: &[(Made, &[Turn])] = &[
+    (Made::Count(0), COUNTS),
+    (Made::Count(i64::MAX - 1), LAST_COUNTS),
+    (Made::Bins, BINS),
+    (Made::Relay, RELAYED),
+    (Made::Gate, GATED),
+];
+
 #[test]
-fn a_gate_passes_every_other_message(rt: HostRuntime) -> Result<(), Fail> {
-    let alloc = rt.alloc();
-    assert_eq!(rt; other_turn(alloc, gate(alloc)?, &GATED)?, None);
-    Ok(())
+fn they_converse(rt: HostRuntime) {
+    for (i, (made, turns)) in CONVERSATIONS.iter().enumerate() {
+        let external = make_external(rt.alloc(), *made);
+        assert!(rt; other_turn(rt.alloc(), external, turns).is_none(), "{i}");
+    }
 }

@@ -3,6 +3,8 @@
 #![tactic(auto)]
 
 #[cfg(test)]
+mod boxed_externals;
+#[cfg(test)]
 mod conversations;
 #[cfg(test)]
 mod external_cells;
@@ -15,6 +17,8 @@ mod kit;
 #[cfg(test)]
 mod objects;
 #[cfg(test)]
+mod plain_texts;
+#[cfg(test)]
 mod property_values;
 #[cfg(test)]
 mod references;
@@ -22,6 +26,8 @@ mod references;
 mod settings;
 #[cfg(test)]
 mod spelling;
+#[cfg(test)]
+mod stacks;
 #[cfg(test)]
 mod tools;
 #[cfg(test)]

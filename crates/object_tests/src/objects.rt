@@ -1,489 +1,372 @@
 //! Examples, with ample memory: the empty stack, and the stack Demo, whose background 1 has the field 3 Note
 //! and whose cards are 2 A and 4 B.
 
+use crate::plain_texts::{Bytes, is_text_or_none, text};
+use crate::stacks::*;
 use ht_values::{PartKind, Text};
-use object_table::{Id, IdList, Kind, LayerId, Object, PropValue, Stack, Which};
+use object_table::{Id, IdList, Kind, LayerId, Object, PropValue, Stack};
 use std::alloc::Global;
-use std::test::*;
 
-fn put(alloc: Global, stack: &mut Stack, id: Id, name: &[u8], kind: Kind) -> Result<(), Fail> {
-    stack.open_slot(id)?;
-    let mut object = Some(Object {
-        name: Text::from_slice(alloc, name)?,
-        script: Text::new(alloc),
-        kind,
-    });
-    stack.swap_object(id, &mut object);
-    Ok(())
-}
+const CARD: Kind = Kind::Card {
+    background: 1,
+    cant_delete: false,
+};
 
-fn put_parts(stack: &mut Stack, id: Id, parts: IdList) -> Result<(), Fail> {
-    stack.open_slot(id)?;
-    let mut parts = Some(parts);
-    stack.swap_parts(id, &mut parts);
-    Ok(())
-}
+const BACKGROUND: Kind = Kind::Background { cant_delete: false };
 
-/// The empty stack. It stands in a box, so that each exit of a test drops it by one call.
-fn empty_stack(alloc: Global) -> Result<Box<Stack>, Fail> {
-    Ok(Box::new(alloc, Stack::new(alloc)?)?)
-}
+const BACKGROUND_FIELD: Kind = Kind::BackgroundField {
+    visible: false,
+    lock_text: false,
+    shared_text: false,
+};
 
-fn put_objects(alloc: Global, stack: &mut Stack) -> Result<(), Fail> {
-    let card = Kind::Card {
-        background: 1,
-        cant_delete: false,
-    };
-    let field = Kind::BackgroundField {
-        visible: true,
-        lock_text: false,
-        shared_text: false,
-    };
-    put(alloc, stack, 0, b"Demo", Kind::Stack)?;
-    put(alloc, stack, 2, b"A", card)?;
-    put(alloc, stack, 3, b"Note", field)?;
-    put(alloc, stack, 4, b"B", card)
-}
+const DEMO: &[Placed] = &[
+    Placed(0, b"Demo", b"", Kind::Stack),
+    Placed(2, b"A", b"", CARD),
+    Placed(
+        3,
+        b"Note",
+        b"",
+        Kind::BackgroundField {
+            visible: true,
+            lock_text: false,
+            shared_text: false,
+        },
+    ),
+    Placed(4, b"B", b"", CARD),
+];
 
-fn demo(alloc: Global) -> Result<Box<Stack>, Fail> {
-    let mut stack = empty_stack(alloc)?;
-    put_objects(alloc, &mut stack)?;
-    put_parts(&mut stack, 1, IdList::from_vec(vec![in alloc; 3]?))?;
-    put_parts(&mut stack, 4, IdList::new(alloc))?;
-    stack.swap_order(&mut IdList::from_vec(vec![in alloc; 2, 4]?));
+fn put_demo(alloc: Global, stack: &mut Stack) -> bool {
     stack.swap_next(&mut 5);
-    Ok(stack)
+    put_all(alloc, stack, DEMO)
+        && put_parts(alloc, stack, 1, &[3])
+        && put_parts(alloc, stack, 4, &[])
+        && put_order(alloc, stack, &[2, 4])
 }
 
-fn has_name(stack: &Stack, id: Id, name: &[u8]) -> bool {
-    match stack.object(id) {
-        Some(object) => object.name.as_slice() == name && object.script.len() == 0,
-        None => false,
+fn demo(alloc: Global) -> Option<Box<Stack>> {
+    let mut stack = empty_stack(alloc)?;
+    if put_demo(alloc, &mut stack) {
+        Some(stack)
+    } else {
+        None
     }
 }
 
-/// Whether the object has the kind that is printed so.
-fn has_kind(alloc: Global, stack: &Stack, id: Id, printed: &str) -> Result<bool, Fail> {
-    match stack.object(id) {
-        Some(object) => Ok(format!(in alloc; "{:?}", object.kind)?.as_str() == printed),
-        None => Ok(false),
-    }
+const EMPTY_FACTS: &[Fact] = &[
+    Fact::Kind(0, "Stack"),
+    Fact::Kind(1, "Background { cant_delete: false }"),
+    Fact::Kind(2, "Card { background: 1, cant_delete: false }"),
+    Fact::Object(0, b"", b""),
+    Fact::NoObject(3),
+    Fact::Counts(2, 3),
+    Fact::Orders(&[1], &[2]),
+    Fact::Parts(LayerId::OfBackground(1), &[]),
+    Fact::Parts(LayerId::OfCard(2), &[]),
+];
+
+#[test]
+fn the_empty_stack_has_a_background_and_a_card(rt: HostRuntime) {
+    assert!(rt; hold_of(rt.alloc(), empty_stack(rt.alloc()), EMPTY_FACTS));
 }
 
-fn has_script(stack: &Stack, id: Id, script: &[u8]) -> bool {
-    match stack.object(id) {
-        Some(object) => object.script.as_slice() == script,
-        None => false,
-    }
+const ON_BACKGROUND: LayerId = LayerId::OfBackground(1);
+
+const DEMO_FACTS: &[Fact] = &[
+    Fact::Object(0, b"Demo", b""),
+    Fact::Object(3, b"Note", b""),
+    Fact::Object(4, b"B", b""),
+    Fact::NoObject(5),
+    Fact::Counts(4, 5),
+    Fact::Orders(&[1], &[2, 4]),
+    // A layer is named by its kind.
+    Fact::Parts(LayerId::OfBackground(1), &[3]),
+    Fact::Parts(LayerId::OfCard(4), &[]),
+    Fact::NoLayer(LayerId::OfCard(1)),
+    Fact::NoLayer(LayerId::OfBackground(3)),
+    Fact::NoLayer(LayerId::OfCard(9)),
+    // Cards are numbered from one, and so are objects.
+    Fact::CardAt(1, Some(2)),
+    Fact::CardAt(2, Some(4)),
+    Fact::CardAt(0, None),
+    Fact::CardAt(3, None),
+    Fact::Number(0, None),
+    Fact::Number(1, Some(1)),
+    Fact::Number(4, Some(2)),
+    Fact::Number(3, Some(1)),
+    Fact::Number(5, None),
+    // A part is found by its number, by its id and by its name.
+    Fact::PartAt(ON_BACKGROUND, PartKind::Field, 1, Some(3)),
+    Fact::PartAt(ON_BACKGROUND, PartKind::Field, 0, None),
+    Fact::PartAt(ON_BACKGROUND, PartKind::Field, 2, None),
+    Fact::PartAt(ON_BACKGROUND, PartKind::Button, 1, None),
+    Fact::PartOfId(ON_BACKGROUND, PartKind::Field, 3, Some(3)),
+    Fact::PartOfId(ON_BACKGROUND, PartKind::Field, 2, None),
+    Fact::PartOfId(LayerId::OfCard(2), PartKind::Field, 3, None),
+    Fact::PartOfName(ON_BACKGROUND, PartKind::Field, b"nOTE", Some(3)),
+    Fact::PartOfName(ON_BACKGROUND, PartKind::Field, b"Not", None),
+    Fact::Text(3, 2, None),
+];
+
+#[test]
+fn objects_are_found_counted_and_numbered(rt: HostRuntime) {
+    assert!(rt; hold_of(rt.alloc(), demo(rt.alloc()), DEMO_FACTS));
 }
 
-/// Whether the layer has these parts, or with `None` is no layer.
-fn has_parts(stack: &Stack, layer: LayerId, parts: Option<&[Id]>) -> bool {
-    match (stack.parts(layer), parts) {
-        (Some(list), Some(parts)) => list.as_slice() == parts,
-        (None, None) => true,
-        _ => false,
-    }
+/// A value that may or may not be set in an object.
+const SETTINGS: &[(Id, Value, bool)] = &[
+    (3, Value::Name(b""), true),
+    (3, Value::SharedText(true), true),
+    (3, Value::Hilite(true), false),
+    (4, Value::CantDelete(true), true),
+    (4, Value::Visible(true), false),
+    (5, Value::Name(b""), false),
+];
+
+fn may_set(alloc: Global, stack: &Stack, id: Id, value: Value) -> Option<bool> {
+    let value = prop_value(alloc, value)?;
+    Some(stack.may_set(id, &value))
 }
 
-fn has_lists(stack: &Stack, backgrounds: &[Id], cards: &[Id]) -> bool {
-    stack.backgrounds().as_slice() == backgrounds && stack.cards().as_slice() == cards
-}
-
-fn taken_backgrounds(alloc: Global, stack: &mut Stack) -> IdList {
-    let mut backgrounds = IdList::new(alloc);
-    stack.swap_backgrounds(&mut backgrounds);
-    backgrounds
-}
-
-fn has_ids(list: &IdList, ids: &[Id]) -> bool {
-    list.as_slice() == ids
-}
-
-fn counts(stack: &Stack) -> (usize, Id) {
-    (stack.object_count(), stack.next_id())
-}
-
-fn is_vacant(stack: &Stack, id: Id) -> bool {
-    stack.object(id).is_none()
+fn may_set_in_demo(alloc: Global, id: Id, value: Value) -> Option<bool> {
+    let stack = demo(alloc)?;
+    may_set(alloc, &stack, id, value)
 }
 
 #[test]
-fn what_may_be_set(rt: HostRuntime) -> Result<(), Fail> {
-    let stack = demo(rt.alloc())?;
-    let rows = [
-        (3, PropValue::NameIs(Text::new(rt.alloc())), true),
-        (3, PropValue::SharedTextIs(true), true),
-        (3, PropValue::HiliteIs(true), false),
-        (4, PropValue::CantDeleteIs(true), true),
-        (4, PropValue::VisibleIs(true), false),
-        (5, PropValue::NameIs(Text::new(rt.alloc())), false),
-    ];
-    for (id, value, due) in &rows {
-        assert!(rt; stack.may_set(*id, value) == *due, "object {id}");
-    }
-    Ok(())
-}
-
-#[test]
-fn the_empty_stack_has_three_objects(rt: HostRuntime) -> Result<(), Fail> {
-    let stack = empty_stack(rt.alloc())?;
-    let kinds: &[(Id, &str)] = &[
-        (0, "Stack"),
-        (1, "Background { cant_delete: false }"),
-        (2, "Card { background: 1, cant_delete: false }"),
-    ];
-    for (id, printed) in kinds {
-        assert!(rt; has_kind(rt.alloc(), &stack, *id, printed)?, "object {id}");
-    }
-    assert!(rt; has_name(&stack, 0, b"") && is_vacant(&stack, 3));
-    Ok(())
-}
-
-#[test]
-fn the_empty_stack_has_a_background_and_a_card(rt: HostRuntime) -> Result<(), Fail> {
-    let stack = empty_stack(rt.alloc())?;
-    assert!(rt; counts(&stack) == (2, 3));
-    assert!(rt; has_lists(&stack, &[1], &[2]));
-    assert!(rt; has_parts(&stack, LayerId::OfBackground(1), Some(&[])));
-    assert!(rt; has_parts(&stack, LayerId::OfCard(2), Some(&[])));
-    Ok(())
-}
-
-#[test]
-fn a_layer_is_named_by_its_kind(rt: HostRuntime) -> Result<(), Fail> {
-    let stack = demo(rt.alloc())?;
-    let rows: &[(LayerId, Option<&[Id]>)] = &[
-        (LayerId::OfBackground(1), Some(&[3])),
-        (LayerId::OfCard(4), Some(&[])),
-        (LayerId::OfCard(1), None),
-        (LayerId::OfBackground(3), None),
-        (LayerId::OfCard(9), None),
-    ];
-    for (layer, parts) in rows {
-        assert!(rt; has_parts(&stack, *layer, *parts), "{layer:?}");
-    }
-    Ok(())
-}
-
-#[test]
-fn objects_are_found_and_counted(rt: HostRuntime) -> Result<(), Fail> {
-    let stack = demo(rt.alloc())?;
-    assert!(rt; has_name(&stack, 0, b"Demo"));
-    assert!(rt; has_name(&stack, 3, b"Note"));
-    assert!(rt; has_name(&stack, 4, b"B"));
-    assert!(rt; is_vacant(&stack, 5));
-    assert!(rt; counts(&stack) == (4, 5));
-    assert!(rt; has_lists(&stack, &[1], &[2, 4]));
-    Ok(())
-}
-
-#[test]
-fn cards_are_numbered_from_one(rt: HostRuntime) -> Result<(), Fail> {
-    let stack = demo(rt.alloc())?;
-    for (number, due) in [(1, Some(2)), (2, Some(4)), (0, None), (3, None)] {
-        assert!(rt; stack.card_at(number) == due, "card {number}");
-    }
-    Ok(())
-}
-
-#[test]
-fn objects_are_numbered_from_one(rt: HostRuntime) -> Result<(), Fail> {
-    let stack = demo(rt.alloc())?;
-    for (id, due) in [
-        (0, None),
-        (1, Some(1)),
-        (4, Some(2)),
-        (3, Some(1)),
-        (5, None),
-    ] {
-        assert!(rt; stack.number(id) == due, "object {id}");
-    }
-    Ok(())
-}
-
-#[test]
-fn a_part_is_found_by_its_number(rt: HostRuntime) -> Result<(), Fail> {
-    let stack = demo(rt.alloc())?;
-    let layer = LayerId::OfBackground(1);
-    let rows: &[(PartKind, usize, Option<Id>)] = &[
-        (PartKind::Field, 1, Some(3)),
-        (PartKind::Field, 0, None),
-        (PartKind::Field, 2, None),
-        (PartKind::Button, 1, None),
-    ];
-    for (kind, number, due) in rows {
+fn what_may_be_set(rt: HostRuntime) {
+    for (id, value, due) in SETTINGS {
         assert!(rt;
-            stack.find_part(layer, *kind, Which::Number(*number)) == *due,
-            "{number}"
+            may_set_in_demo(rt.alloc(), *id, *value) == Some(*due),
+            "object {id}"
         );
     }
-    Ok(())
 }
 
-#[test]
-fn a_part_is_found_by_its_id(rt: HostRuntime) -> Result<(), Fail> {
-    let stack = demo(rt.alloc())?;
-    let rows: &[(LayerId, usize, Option<Id>)] = &[
-        (LayerId::OfBackground(1), 3, Some(3)),
-        (LayerId::OfBackground(1), 2, None),
-        (LayerId::OfCard(2), 3, None),
-    ];
-    for (layer, id, due) in rows {
-        assert!(rt;
-            stack.find_part(*layer, PartKind::Field, Which::Id(*id)) == *due,
-            "{id}"
-        );
-    }
-    Ok(())
+/// An exchange: what is put, and what was there.
+enum Step {
+    /// The object of an id, by its name.
+    Object(Id, Option<Bytes>, Option<Bytes>),
+    /// The text of a field for a card.
+    Text(Id, Id, Option<Bytes>, Option<Bytes>),
+    /// The hilite of a button for a card.
+    Hilite(Id, Id, Option<bool>, Option<bool>),
+    /// The backgrounds, for none.
+    Backgrounds(&'static [Id]),
+    Next(Id, Id),
 }
 
-#[test]
-fn a_part_is_found_by_its_name(rt: HostRuntime) -> Result<(), Fail> {
-    let stack = demo(rt.alloc())?;
-    let layer = LayerId::OfBackground(1);
-    let rows: &[(&[u8], Option<Id>)] = &[(b"nOTE", Some(3)), (b"Not", None)];
-    for (name, due) in rows {
-        let name = Text::from_slice(rt.alloc(), name)?;
-        assert!(rt; stack.find_part(layer, PartKind::Field, Which::Name(&name)) == *due);
-    }
-    Ok(())
-}
-
-fn swap_object(stack: &mut Stack, id: Id, object: &mut Option<Object>) -> Result<(), Fail> {
-    stack.open_slot(id)?;
-    stack.swap_object(id, object);
-    Ok(())
-}
-
-#[test]
-fn an_exchange_gives_the_object_that_was_there(rt: HostRuntime) -> Result<(), Fail> {
-    let mut stack = demo(rt.alloc())?;
-    let mut taken = None;
-    swap_object(&mut stack, 3, &mut taken)?;
-    assert!(rt; taken.is_some());
-    assert!(rt; is_vacant(&stack, 3));
-    assert!(rt; counts(&stack) == (3, 5));
-    swap_object(&mut stack, 6, &mut taken)?;
-    assert!(rt; taken.is_none());
-    assert!(rt; has_name(&stack, 6, b"Note"));
-    Ok(())
-}
-
-#[test]
-fn the_greatest_id_stands_alone(rt: HostRuntime) -> Result<(), Fail> {
-    let alloc = rt.alloc();
-    let mut stack = Stack::blank(alloc);
-    put(alloc, &mut stack, 1_000_000, b"Far", Kind::Stack)?;
-    assert!(rt; has_name(&stack, 1_000_000, b"Far"));
-    assert!(rt; is_vacant(&stack, 999_999) && is_vacant(&stack, 0));
-    assert!(rt; counts(&stack) == (1, 1));
-    Ok(())
-}
-
-#[test]
-fn objects_that_go_are_not_counted(rt: HostRuntime) -> Result<(), Fail> {
-    let mut stack = demo(rt.alloc())?;
-    let rows: &[(Id, usize)] = &[(3, 3), (3, 3), (9, 3), (0, 3), (4, 2)];
-    for (id, due) in rows {
-        swap_object(&mut stack, *id, &mut None)?;
-        assert_eq!(rt; stack.object_count(), *due);
-    }
-    Ok(())
-}
-
-#[test]
-fn an_exchange_gives_the_backgrounds_that_were_there(rt: HostRuntime) -> Result<(), Fail> {
-    let mut stack = demo(rt.alloc())?;
-    let backgrounds = taken_backgrounds(rt.alloc(), &mut stack);
-    assert!(rt; has_ids(&backgrounds, &[1]) && has_lists(&stack, &[], &[2, 4]));
-    Ok(())
-}
-
-#[test]
-fn an_exchange_gives_the_next_id_that_was_there(rt: HostRuntime) -> Result<(), Fail> {
-    let mut stack = demo(rt.alloc())?;
-    let mut next = 7;
-    stack.swap_next(&mut next);
-    assert!(rt; next == 5);
-    assert!(rt; counts(&stack) == (4, 7));
-    Ok(())
-}
-
-#[test]
-fn an_empty_object_has_no_name_and_no_script(rt: HostRuntime) -> Result<(), Fail> {
-    let object = Object::empty(rt.alloc(), Kind::Background { cant_delete: true });
-    assert!(rt; object.name.len() == 0 && object.script.len() == 0);
-    assert!(rt; matches!(object.kind, Kind::Background { cant_delete: true }));
-    Ok(())
-}
-
-fn seven_and_five(alloc: Global) -> Result<IdList, Fail> {
-    let mut ids = IdList::new(alloc);
-    ids.push(7)?;
-    ids.push(5)?;
-    Ok(ids)
-}
-
-#[test]
-fn a_list_of_ids_keeps_its_order(rt: HostRuntime) -> Result<(), Fail> {
-    let ids = seven_and_five(rt.alloc())?;
-    assert!(rt; ids.len() == 2 && ids.at(0) == 7 && ids.at(1) == 5);
-    assert!(rt; ids.into_vec().as_slice() == [7, 5].as_slice());
-    Ok(())
-}
-
-#[test]
-fn a_list_of_ids_is_numbered_from_one(rt: HostRuntime) -> Result<(), Fail> {
-    let ids = seven_and_five(rt.alloc())?;
-    assert!(rt; ids.at_number(2) == Some(5) && ids.at_number(0).is_none());
-    assert!(rt; ids.number_of(5) == Some(2) && ids.number_of(6).is_none());
-    Ok(())
-}
-
-fn swap_text(stack: &mut Stack, field: Id, card: Id, text: &mut Option<Text>) -> Result<(), Fail> {
-    stack.open_text(field, card)?;
-    stack.swap_text(field, card, text);
-    Ok(())
-}
-
-/// Whether a field has this text for a card, or with `None` has none.
-fn has_text(stack: &Stack, field: Id, card: Id, due: Option<&[u8]>) -> bool {
-    match (stack.text(field, card), due) {
-        (Some(text), Some(due)) => text.as_slice() == due,
-        (None, None) => true,
-        _ => false,
+/// Whether this is an object of this name without a script, or with `None` none.
+fn is_named(object: &Option<Object>, due: Option<&[u8]>) -> bool {
+    match object {
+        Some(object) => {
+            object.script.len() == 0 && matches!(due, Some(name) if object.name.as_slice() == name)
+        }
+        None => due.is_none(),
     }
 }
 
-/// Puts a text, and says whether there was none.
-fn put_text(
+fn exchanges_object(
+    alloc: Global,
+    stack: &mut Stack,
+    id: Id,
+    name: Option<&[u8]>,
+    was: Option<&[u8]>,
+) -> bool {
+    let mut put = match name {
+        Some(name) => object(alloc, name, b"", Kind::Stack),
+        None => None,
+    };
+    swap_object(stack, id, &mut put) && is_named(&put, was)
+}
+
+fn swap_text(stack: &mut Stack, field: Id, card: Id, text: &mut Option<Text>) -> bool {
+    match stack.open_text(field, card) {
+        Ok(()) => {
+            stack.swap_text(field, card, text);
+            true
+        }
+        Err(_) => false,
+    }
+}
+
+fn exchanges_text(
     alloc: Global,
     stack: &mut Stack,
     field: Id,
     card: Id,
-    text: &[u8],
-) -> Result<bool, Fail> {
-    let mut text = Some(Text::from_slice(alloc, text)?);
-    swap_text(stack, field, card, &mut text)?;
-    Ok(text.is_none())
+    bytes: Option<&[u8]>,
+    was: Option<&[u8]>,
+) -> bool {
+    let mut put = match bytes {
+        Some(bytes) => text(alloc, bytes),
+        None => None,
+    };
+    swap_text(stack, field, card, &mut put) && is_text_or_none(put.as_ref(), was)
 }
 
-/// Takes a text away, and says whether there was one.
-fn take_text(stack: &mut Stack, field: Id, card: Id) -> Result<bool, Fail> {
-    let mut text = None;
-    swap_text(stack, field, card, &mut text)?;
-    Ok(text.is_some())
+fn exchanges_backgrounds(alloc: Global, stack: &mut Stack, was: &[Id]) -> bool {
+    let mut backgrounds = IdList::new(alloc);
+    stack.swap_backgrounds(&mut backgrounds);
+    are_ids(&backgrounds, was)
 }
 
-fn has_texts(stack: &Stack, rows: &[(Id, Id, Option<&[u8]>)]) -> bool {
-    for (field, card, due) in rows {
-        if !has_text(stack, *field, *card, *due) {
+fn exchanges(alloc: Global, stack: &mut Stack, step: &Step) -> bool {
+    match step {
+        Step::Object(id, name, was) => exchanges_object(alloc, stack, *id, *name, *was),
+        Step::Text(field, card, bytes, was) => {
+            exchanges_text(alloc, stack, *field, *card, *bytes, *was)
+        }
+        Step::Hilite(button, card, lit, was) => {
+            let mut hilite = *lit;
+            swap_hilite(stack, *button, *card, &mut hilite) && hilite == *was
+        }
+        Step::Backgrounds(was) => exchanges_backgrounds(alloc, stack, was),
+        Step::Next(id, was) => {
+            let mut next = *id;
+            stack.swap_next(&mut next);
+            next == *was
+        }
+    }
+}
+
+/// Steps from Demo, each with what holds after it.
+const EXCHANGES: &[&[(Step, &[Fact])]] = &[
+    &[
+        (
+            Step::Object(3, None, Some(b"Note")),
+            &[Fact::NoObject(3), Fact::Counts(3, 5)],
+        ),
+        (
+            Step::Object(6, Some(b"Note"), None),
+            &[Fact::Object(6, b"Note", b"")],
+        ),
+    ],
+    // Objects that go are not counted.
+    &[
+        (Step::Object(3, None, Some(b"Note")), &[Fact::Counts(3, 5)]),
+        (Step::Object(3, None, None), &[Fact::Counts(3, 5)]),
+        (Step::Object(9, None, None), &[Fact::Counts(3, 5)]),
+        (Step::Object(0, None, Some(b"Demo")), &[Fact::Counts(3, 5)]),
+        (Step::Object(4, None, Some(b"B")), &[Fact::Counts(2, 5)]),
+    ],
+    &[(Step::Backgrounds(&[1]), &[Fact::Orders(&[], &[2, 4])])],
+    &[(Step::Next(7, 5), &[Fact::Counts(4, 7)])],
+    // A field keeps shared and own texts.
+    &[
+        (Step::Text(3, 0, Some(b"all"), None), &[]),
+        (
+            Step::Text(3, 2, Some(b"own"), None),
+            &[
+                Fact::Text(3, 0, Some(b"all")),
+                Fact::Text(3, 2, Some(b"own")),
+                Fact::Text(3, 4, None),
+                Fact::Text(2, 3, None),
+            ],
+        ),
+        (
+            Step::Text(3, 2, None, Some(b"own")),
+            &[Fact::Text(3, 2, None), Fact::Text(3, 0, Some(b"all"))],
+        ),
+    ],
+    // A button keeps shared and own hilites.
+    &[
+        (
+            Step::Hilite(5, 2, Some(true), None),
+            &[Fact::Hilite(5, 2, Some(true)), Fact::Hilite(5, 0, None)],
+        ),
+        (
+            Step::Hilite(5, 2, None, Some(true)),
+            &[Fact::Hilite(5, 2, None)],
+        ),
+    ],
+];
+
+fn take(alloc: Global, stack: &mut Stack, steps: &[(Step, &[Fact])]) -> bool {
+    for (step, facts) in steps {
+        if !exchanges(alloc, stack, step) || !hold(alloc, stack, facts) {
             return false;
         }
     }
     true
 }
 
-#[test]
-fn a_field_keeps_shared_and_own_texts(rt: HostRuntime) -> Result<(), Fail> {
-    let mut stack = demo(rt.alloc())?;
-    assert!(rt; has_texts(&stack, &[(3, 2, None)]));
-    assert!(rt; put_text(rt.alloc(), &mut stack, 3, 0, b"all")?);
-    assert!(rt; put_text(rt.alloc(), &mut stack, 3, 2, b"own")?);
-    let rows: &[(Id, Id, Option<&[u8]>)] = &[
-        (3, 0, Some(b"all")),
-        (3, 2, Some(b"own")),
-        (3, 4, None),
-        (2, 3, None),
-    ];
-    assert!(rt; has_texts(&stack, rows));
-    assert!(rt; take_text(&mut stack, 3, 2)?);
-    assert!(rt; has_texts(&stack, &[(3, 2, None), (3, 0, Some(b"all"))]));
-    Ok(())
-}
-
-fn swap_hilite(
-    stack: &mut Stack,
-    button: Id,
-    card: Id,
-    hilite: &mut Option<bool>,
-) -> Result<(), Fail> {
-    stack.open_hilite(button, card)?;
-    stack.swap_hilite(button, card, hilite);
-    Ok(())
-}
-
-#[test]
-fn a_button_keeps_shared_and_own_hilites(rt: HostRuntime) -> Result<(), Fail> {
-    let mut stack = demo(rt.alloc())?;
-    let mut hilite = Some(true);
-    swap_hilite(&mut stack, 5, 2, &mut hilite)?;
-    assert!(rt; hilite == None);
-    assert!(rt; stack.hilite(5, 2) == Some(true) && stack.hilite(5, 0) == None);
-    swap_hilite(&mut stack, 5, 2, &mut hilite)?;
-    assert!(rt; hilite == Some(true));
-    assert!(rt; stack.hilite(5, 2) == None);
-    Ok(())
-}
-
-/// Exchanges a property of a new object 9, which is otherwise empty.
-fn exchange(
-    alloc: Global,
-    stack: &mut Stack,
-    kind: Kind,
-    value: &mut PropValue,
-) -> Result<(), Fail> {
-    swap_object(stack, 9, &mut Some(Object::empty(alloc, kind)))?;
-    if stack.may_set(9, value) {
-        stack.swap_prop(9, value);
-    }
-    Ok(())
-}
-
-#[test]
-fn a_name_is_exchanged(rt: HostRuntime) -> Result<(), Fail> {
-    let mut stack = demo(rt.alloc())?;
-    let mut name = PropValue::NameIs(Text::from_slice(rt.alloc(), b"N")?);
-    exchange(rt.alloc(), &mut stack, Kind::Stack, &mut name)?;
-    assert!(rt; has_name(&stack, 9, b"N"));
-    assert!(rt; matches!(&name, PropValue::NameIs(old) if old.len() == 0));
-    Ok(())
-}
-
-#[test]
-fn a_script_is_exchanged(rt: HostRuntime) -> Result<(), Fail> {
-    let mut stack = demo(rt.alloc())?;
-    let mut script = PropValue::ScriptIs(Text::from_slice(rt.alloc(), b"on f")?);
-    exchange(rt.alloc(), &mut stack, Kind::Stack, &mut script)?;
-    assert!(rt; has_script(&stack, 9, b"on f"));
-    assert!(rt; matches!(&script, PropValue::ScriptIs(old) if old.len() == 0));
-    Ok(())
-}
-
-fn is_off(value: &PropValue) -> bool {
-    match value {
-        PropValue::NameIs(_) | PropValue::ScriptIs(_) => false,
-        PropValue::VisibleIs(on)
-        | PropValue::HiliteIs(on)
-        | PropValue::SharedHiliteIs(on)
-        | PropValue::LockTextIs(on)
-        | PropValue::SharedTextIs(on)
-        | PropValue::CantDeleteIs(on) => !*on,
+fn take_from_demo(alloc: Global, steps: &[(Step, &[Fact])]) -> bool {
+    match demo(alloc) {
+        Some(mut stack) => take(alloc, &mut stack, steps),
+        None => false,
     }
 }
 
-/// Whether the exchange of a flag that was off gives this kind, and the flag back.
-fn is_exchanged(
-    alloc: Global,
-    stack: &mut Stack,
-    kind: Kind,
-    value: &mut PropValue,
-    printed: &str,
-) -> Result<bool, Fail> {
-    exchange(alloc, stack, kind, value)?;
-    Ok(is_off(value) && has_kind(alloc, stack, 9, printed)?)
+#[test]
+fn an_exchange_gives_what_was_there(rt: HostRuntime) {
+    for (i, steps) in EXCHANGES.iter().enumerate() {
+        assert!(rt; take_from_demo(rt.alloc(), steps), "{i}");
+    }
 }
+
+const FAR_FACTS: &[Fact] = &[
+    Fact::Object(1_000_000, b"Far", b""),
+    Fact::NoObject(999_999),
+    Fact::NoObject(0),
+    Fact::Counts(1, 1),
+];
+
+/// A stack of one object, whose id is the greatest.
+fn far_stack(alloc: Global) -> Option<Box<Stack>> {
+    let mut stack = Box::new(alloc, Stack::blank(alloc)).ok()?;
+    let _ = put(alloc, &mut stack, 1_000_000, b"Far", b"", Kind::Stack);
+    Some(stack)
+}
+
+#[test]
+fn the_greatest_id_stands_alone(rt: HostRuntime) {
+    assert!(rt; hold_of(rt.alloc(), far_stack(rt.alloc()), FAR_FACTS));
+}
+
+fn is_empty(object: &Object) -> bool {
+    object.name.len() == 0
+        && object.script.len() == 0
+        && matches!(object.kind, Kind::Background { cant_delete: true })
+}
+
+#[test]
+fn an_empty_object_has_no_name_and_no_script(rt: HostRuntime) {
+    let object = Object::empty(rt.alloc(), Kind::Background { cant_delete: true });
+    assert!(rt; is_empty(&object));
+}
+
+fn has_seven_and_five(ids: &IdList) -> bool {
+    ids.len() == 2
+        && ids.at(0) == 7
+        && ids.at(1) == 5
+        && ids.at_number(2) == Some(5)
+        && ids.at_number(0).is_none()
+        && ids.number_of(5) == Some(2)
+        && ids.number_of(6).is_none()
+}
+
+fn seven_and_five(alloc: Global) -> Option<IdList> {
+    let mut ids = IdList::new(alloc);
+    ids.push(7).ok()?;
+    ids.push(5).ok()?;
+    Some(ids)
+}
+
+fn keeps_order(alloc: Global) -> bool {
+    match seven_and_five(alloc) {
+        Some(ids) => has_seven_and_five(&ids) && ids.into_vec().as_slice() == [7, 5].as_slice(),
+        None => false,
+    }
+}
+
+#[test]
+fn a_list_of_ids_keeps_its_order_and_is_numbered_from_one(rt: HostRuntime) {
+    assert!(rt; keeps_order(rt.alloc()));
+}
+
+/// A property that is exchanged in a new object 9 of a kind: what is put, what was there, and what then holds.
+struct Exchanged(Kind, Value, Value, Fact);
 
 const CARD_BUTTON: Kind = Kind::CardButton {
     visible: false,
@@ -500,84 +383,137 @@ const CARD_FIELD: Kind = Kind::CardField {
     lock_text: false,
 };
 
-const BACKGROUND_FIELD: Kind = Kind::BackgroundField {
-    visible: false,
-    lock_text: false,
-    shared_text: false,
-};
-
-const BACKGROUND: Kind = Kind::Background { cant_delete: false };
-
-const CARD: Kind = Kind::Card {
-    background: 1,
-    cant_delete: false,
-};
-
-#[test]
-fn each_flag_is_exchanged(rt: HostRuntime) -> Result<(), Fail> {
-    let mut stack = demo(rt.alloc())?;
-    let rows: &mut [(Kind, PropValue, &str)] = &mut [
-        (
-            CARD_BUTTON,
-            PropValue::VisibleIs(true),
-            "CardButton { visible: true, hilite: false }",
-        ),
-        (
-            CARD_BUTTON,
-            PropValue::HiliteIs(true),
-            "CardButton { visible: false, hilite: true }",
-        ),
-        (
-            BACKGROUND_BUTTON,
-            PropValue::VisibleIs(true),
+const PROPERTIES: &[Exchanged] = &[
+    Exchanged(
+        Kind::Stack,
+        Value::Name(b"N"),
+        Value::Name(b""),
+        Fact::Object(9, b"N", b""),
+    ),
+    Exchanged(
+        Kind::Stack,
+        Value::Script(b"on f"),
+        Value::Script(b""),
+        Fact::Object(9, b"", b"on f"),
+    ),
+    Exchanged(
+        CARD_BUTTON,
+        Value::Visible(true),
+        Value::Visible(false),
+        Fact::Kind(9, "CardButton { visible: true, hilite: false }"),
+    ),
+    Exchanged(
+        CARD_BUTTON,
+        Value::Hilite(true),
+        Value::Hilite(false),
+        Fact::Kind(9, "CardButton { visible: false, hilite: true }"),
+    ),
+    Exchanged(
+        BACKGROUND_BUTTON,
+        Value::Visible(true),
+        Value::Visible(false),
+        Fact::Kind(
+            9,
             "BackgroundButton { visible: true, shared_hilite: false }",
         ),
-        (
-            BACKGROUND_BUTTON,
-            PropValue::SharedHiliteIs(true),
+    ),
+    Exchanged(
+        BACKGROUND_BUTTON,
+        Value::SharedHilite(true),
+        Value::SharedHilite(false),
+        Fact::Kind(
+            9,
             "BackgroundButton { visible: false, shared_hilite: true }",
         ),
-        (
-            CARD_FIELD,
-            PropValue::VisibleIs(true),
-            "CardField { visible: true, lock_text: false }",
-        ),
-        (
-            CARD_FIELD,
-            PropValue::LockTextIs(true),
-            "CardField { visible: false, lock_text: true }",
-        ),
-        (
-            BACKGROUND_FIELD,
-            PropValue::VisibleIs(true),
+    ),
+    Exchanged(
+        CARD_FIELD,
+        Value::Visible(true),
+        Value::Visible(false),
+        Fact::Kind(9, "CardField { visible: true, lock_text: false }"),
+    ),
+    Exchanged(
+        CARD_FIELD,
+        Value::LockText(true),
+        Value::LockText(false),
+        Fact::Kind(9, "CardField { visible: false, lock_text: true }"),
+    ),
+    Exchanged(
+        BACKGROUND_FIELD,
+        Value::Visible(true),
+        Value::Visible(false),
+        Fact::Kind(
+            9,
             "BackgroundField { visible: true, lock_text: false, shared_text: false }",
         ),
-        (
-            BACKGROUND_FIELD,
-            PropValue::LockTextIs(true),
+    ),
+    Exchanged(
+        BACKGROUND_FIELD,
+        Value::LockText(true),
+        Value::LockText(false),
+        Fact::Kind(
+            9,
             "BackgroundField { visible: false, lock_text: true, shared_text: false }",
         ),
-        (
-            BACKGROUND_FIELD,
-            PropValue::SharedTextIs(true),
+    ),
+    Exchanged(
+        BACKGROUND_FIELD,
+        Value::SharedText(true),
+        Value::SharedText(false),
+        Fact::Kind(
+            9,
             "BackgroundField { visible: false, lock_text: false, shared_text: true }",
         ),
-        (
-            BACKGROUND,
-            PropValue::CantDeleteIs(true),
-            "Background { cant_delete: true }",
-        ),
-        (
-            CARD,
-            PropValue::CantDeleteIs(true),
-            "Card { background: 1, cant_delete: true }",
-        ),
-    ];
-    for (kind, value, printed) in rows {
-        assert!(rt;
-            is_exchanged(rt.alloc(), &mut stack, *kind, value, printed)?,
-            "{printed}"
-        );
+    ),
+    Exchanged(
+        BACKGROUND,
+        Value::CantDelete(true),
+        Value::CantDelete(false),
+        Fact::Kind(9, "Background { cant_delete: true }"),
+    ),
+    Exchanged(
+        CARD,
+        Value::CantDelete(true),
+        Value::CantDelete(false),
+        Fact::Kind(9, "Card { background: 1, cant_delete: true }"),
+    ),
+];
+
+fn is_exchanged(stack: &mut Stack, value: &mut PropValue, was: Value) -> bool {
+    let may_set = stack.may_set(9, value);
+    if may_set {
+        stack.swap_prop(9, value);
     }
-    Ok(())
+    may_set && is_value(value, was)
+}
+
+fn exchanges_value(alloc: Global, stack: &mut Stack, value: Value, was: Value) -> bool {
+    match prop_value(alloc, value) {
+        Some(mut value) => is_exchanged(stack, &mut value, was),
+        None => false,
+    }
+}
+
+fn exchange_all(alloc: Global, stack: &mut Stack, rows: &[Exchanged]) -> bool {
+    for Exchanged(kind, value, was, fact) in rows {
+        if !swap_object(stack, 9, &mut Some(Object::empty(alloc, *kind)))
+            || !exchanges_value(alloc, stack, *value, *was)
+            || !holds(alloc, stack, fact)
+        {
+            return false;
+        }
+    }
+    true
+}
+
+fn exchange_all_in_demo(alloc: Global, rows: &[Exchanged]) -> bool {
+    match demo(alloc) {
+        Some(mut stack) => exchange_all(alloc, &mut stack, rows),
+        None => false,
+    }
+}
+
+#[test]
+fn each_property_is_exchanged(rt: HostRuntime) {
+    assert!(rt; exchange_all_in_demo(rt.alloc(), PROPERTIES));
 }

@@ -1,33 +1,44 @@
 //! The text tools, in boxes.
 
-use crate::conversations::{Asked, Told, Turn, is_new, other_turn, text, texts};
+use crate::boxed_externals::{Made, begins, make_external};
+use crate::conversations::{Asked, Profile, Told, Turn, other_turn, texts};
 use externals::{Ask, External, Input};
 use ht_values::text_of;
 use std::alloc::Global;
-use std::test::Fail;
-use text_tools::{Replace, Table};
 
-type Boxed = Box<dyn External>;
-
-fn replace(alloc: Global) -> Result<Boxed, Fail> {
-    let external: Boxed = Box::new(alloc, Replace::new(alloc, text(alloc, b"Replace")?)?)?;
-    Ok(external)
-}
-
-fn table(alloc: Global) -> Result<Boxed, Fail> {
-    let external: Boxed = Box::new(alloc, Table::new(alloc, text(alloc, b"Table")?)?)?;
-    Ok(external)
-}
+const BEGUN: &[(Made, Profile)] = &[
+    (
+        Made::Replace,
+        Profile {
+            name: b"Replace",
+            kind: 0,
+            is_function: true,
+            cells: 0,
+            text: b"",
+            turns: 0,
+        },
+    ),
+    (
+        Made::Table,
+        Profile {
+            name: b"Table",
+            kind: 0,
+            is_function: false,
+            cells: 64,
+            text: b"",
+            turns: 0,
+        },
+    ),
+];
 
 #[test]
-fn they_begin_empty(rt: HostRuntime) -> Result<(), Fail> {
-    let alloc = rt.alloc();
-    assert!(rt; is_new(&replace(alloc)?, b"Replace", 0, true, 0, b""));
-    assert!(rt; is_new(&table(alloc)?, b"Table", 0, false, 64, b""));
-    Ok(())
+fn they_begin_empty(rt: HostRuntime) {
+    for (made, profile) in BEGUN {
+        assert!(rt; begins(rt.alloc(), *made, profile));
+    }
 }
 
-const REPLACED: [Turn; 9] = [
+const REPLACED: &[Turn] = &[
     Turn(
         Told::Start(&[b"banana", b"an", b"AN"]),
         Asked::Done(b"bANANa"),
@@ -51,14 +62,7 @@ const REPLACED: [Turn; 9] = [
     Turn(Told::Start(&[b"abc", b"a", b"b", b"c"]), Asked::Fail, &[]),
 ];
 
-#[test]
-fn each_occurrence_is_replaced(rt: HostRuntime) -> Result<(), Fail> {
-    let alloc = rt.alloc();
-    assert_eq!(rt; other_turn(alloc, replace(alloc)?, &REPLACED)?, None);
-    Ok(())
-}
-
-const KEPT: [Turn; 10] = [
+const KEPT: &[Turn] = &[
     Turn(Told::Start(&[b"get", b"one"]), Asked::Done(b""), &[]),
     Turn(
         Told::Start(&[b"put", b"one", b"1"]),
@@ -91,52 +95,63 @@ const KEPT: [Turn; 10] = [
     Turn(Told::Answer(&[b"get", b"three"], b""), Asked::Fail, &[]),
 ];
 
+const CONVERSATIONS: &[(Made, &[Turn])] = &[(Made::Replace, REPLACED), (Made::Table, KEPT)];
+
 #[test]
-fn a_table_keeps_values(rt: HostRuntime) -> Result<(), Fail> {
-    let alloc = rt.alloc();
-    assert_eq!(rt; other_turn(alloc, table(alloc)?, &KEPT)?, None);
-    Ok(())
+fn they_converse(rt: HostRuntime) {
+    for (i, (made, turns)) in CONVERSATIONS.iter().enumerate() {
+        let external = make_external(rt.alloc(), *made);
+        assert!(rt; other_turn(rt.alloc(), external, turns).is_none(), "{i}");
+    }
 }
 
-/// Whether an external that gets these arguments fails.
-fn fails<E: External>(alloc: Global, external: &mut E, arguments: &[&[u8]]) -> Result<bool, Fail> {
+fn is_failed<E: External>(alloc: Global, external: &mut E, input: &Input) -> Option<bool> {
+    let (ask, _) = external.turn(alloc, input).ok()?;
+    Some(matches!(ask, Ask::Fail))
+}
+
+/// Whether an external that gets these arguments fails; `None` where memory is refused.
+fn fails<E: External>(alloc: Global, external: &mut E, arguments: &[&[u8]]) -> Option<bool> {
     let input = Input::Start(texts(alloc, arguments)?);
-    let (ask, _) = external.turn(alloc, &input)?;
-    Ok(matches!(ask, Ask::Fail))
+    is_failed(alloc, external, &input)
+}
+
+fn fails_to_replace(alloc: Global, long: &[u8]) -> Option<bool> {
+    let mut replace = make_external(alloc, Made::Replace)?;
+    fails(alloc, &mut replace, &[long, b"a", b"aa"])
 }
 
 /// Whether a replacement in so many bytes fails where each becomes two.
-fn fails_to_double(alloc: Global, count: usize) -> Result<bool, Fail> {
-    let long = vec![in alloc; b'a'; count]?;
-    fails(alloc, &mut replace(alloc)?, &[&long, b"a", b"aa"])
+fn fails_to_double(alloc: Global, count: usize) -> Option<bool> {
+    let long = vec![in alloc; b'a'; count].ok()?;
+    fails_to_replace(alloc, &long)
 }
 
 #[test]
-fn a_value_that_is_too_long_fails(rt: HostRuntime) -> Result<(), Fail> {
-    let alloc = rt.alloc();
-    assert!(rt; !fails_to_double(alloc, 15_000)?);
-    assert!(rt; fails_to_double(alloc, 15_001)?);
-    Ok(())
+fn a_value_that_is_too_long_fails(rt: HostRuntime) {
+    for (count, due) in [(15_000, false), (15_001, true)] {
+        assert!(rt; fails_to_double(rt.alloc(), count) == Some(due));
+    }
 }
 
-fn put<E: External>(alloc: Global, external: &mut E, key: i64) -> Result<bool, Fail> {
-    let key = text_of(alloc, key)?;
+fn fails_to_put<E: External>(alloc: Global, external: &mut E, key: i64) -> Option<bool> {
+    let key = text_of(alloc, key).ok()?;
     fails(alloc, external, &[b"put", key.as_slice(), b"x"])
 }
 
-/// The first of the keys 0 to 99 that a table can't keep.
-fn first_that_fails<E: External>(alloc: Global, mut external: E) -> Result<i64, Fail> {
+/// The first of the keys 0 to 99 that an external, if there is one, can't keep.
+fn first_that_fails<E: External>(alloc: Global, external: Option<E>) -> Option<i64> {
+    let mut external = external?;
     for key in 0..100 {
-        if put(alloc, &mut external, key)? {
-            return Ok(key);
+        if fails_to_put(alloc, &mut external, key)? {
+            return Some(key);
         }
     }
-    Ok(100)
+    None
 }
 
 #[test]
-fn a_table_keeps_32_keys(rt: HostRuntime) -> Result<(), Fail> {
-    let alloc = rt.alloc();
-    assert_eq!(rt; first_that_fails(alloc, table(alloc)?)?, 32);
-    Ok(())
+fn a_table_keeps_32_keys(rt: HostRuntime) {
+    let table = make_external(rt.alloc(), Made::Table);
+    assert!(rt; first_that_fails(rt.alloc(), table) == Some(32));
 }

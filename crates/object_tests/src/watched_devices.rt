@@ -4,7 +4,6 @@ use devices::*;
 use std::alloc::Global;
 use std::io;
 use std::io::{Read, Write};
-use std::test::*;
 
 /// Takes at most so many bytes a call, and fails at a call.
 #[derive(Drop)]
@@ -46,59 +45,96 @@ fn device(alloc: Global, most: usize, fails_at: usize) -> Slow {
     }
 }
 
-/// What a write to a device ends with, and how many calls have failed by then.
-fn put<W: Write>(bytes: &[u8], out: &mut Watched<W>) -> (Result<(), WriteFault>, u64) {
-    let ended = write_to(bytes, out);
-    (ended, out.failures())
+/// A call of a watched device: what it comes to, and how many calls have failed by then.
+enum Call {
+    Write(&'static [u8], Result<(), WriteFault>, u64),
+    /// Whether it is flushed.
+    Flush(bool, u64),
 }
 
-/// Whether a device is flushed, and how many calls have failed by then.
-fn flushed<W: Write>(out: &mut Watched<W>) -> (bool, u64) {
-    let ended = out.flush();
-    (ended.is_ok(), out.failures())
+fn comes_to<W: Write>(out: &mut Watched<W>, call: &Call) -> bool {
+    match call {
+        Call::Write(bytes, due, failures) => {
+            write_to(bytes, out) == *due && out.failures() == *failures
+        }
+        Call::Flush(due, failures) => { out.flush().is_ok() == *due && out.failures() == *failures }
+    }
 }
 
-fn took(slow: &Slow, bytes: &[u8]) -> bool {
-    slow.taken.as_slice() == bytes
+fn come_to<W: Write>(out: &mut Watched<W>, calls: &[Call]) -> bool {
+    for call in calls {
+        if !comes_to(out, call) {
+            return false;
+        }
+    }
+    true
+}
+
+/// A device that takes at most so many bytes a call and fails at a call, what is called on it, the bytes that it has then
+/// taken, and how many calls it has answered, where that is known.
+struct Row {
+    most: usize,
+    fails_at: usize,
+    calls: &'static [Call],
+    taken: &'static [u8],
+    answered: Option<usize>,
+}
+
+const ROWS: &[Row] = &[
+    // A writer that takes a byte a call gets them all.
+    Row {
+        most: 1,
+        fails_at: 100,
+        calls: &[Call::Write(b"abc", Ok(()), 0), Call::Flush(true, 0)],
+        taken: b"abc",
+        answered: Some(4),
+    },
+    // A writer that takes nothing fails once.
+    Row {
+        most: 0,
+        fails_at: 100,
+        calls: &[
+            Call::Write(b"abc", Err(WriteFault { written: 0 }), 1),
+            Call::Write(b"", Ok(()), 1),
+        ],
+        taken: b"",
+        answered: None,
+    },
+    // A fault tells the bytes that went out.
+    Row {
+        most: 2,
+        fails_at: 2,
+        calls: &[
+            Call::Write(b"abcdef", Err(WriteFault { written: 4 }), 1),
+            Call::Flush(false, 2),
+        ],
+        taken: b"abcd",
+        answered: Some(2),
+    },
+];
+
+fn is_so(alloc: Global, row: &Row) -> bool {
+    let mut slow = device(alloc, row.most, row.fails_at);
+    let came = come_to(&mut Watched::new(&mut slow), row.calls);
+    came && slow.taken.as_slice() == row.taken
+        && (row.answered == Some(slow.calls) || row.answered.is_none())
 }
 
 #[test]
-fn a_writer_that_takes_a_byte_a_call_gets_them_all(rt: HostRuntime) -> Result<(), Fail> {
-    let mut slow = device(rt.alloc(), 1, 100);
-    let mut out = Watched::new(&mut slow);
-    assert!(rt; put(b"abc", &mut out) == (Ok(()), 0));
-    assert!(rt; flushed(&mut out) == (true, 0));
-    assert!(rt; took(&slow, b"abc"));
-    assert!(rt; slow.calls == 4);
-    Ok(())
+fn a_watched_writer_tells_what_went_out(rt: HostRuntime) {
+    for (i, row) in ROWS.iter().enumerate() {
+        assert!(rt; is_so(rt.alloc(), row), "{i}");
+    }
 }
 
-#[test]
-fn a_writer_that_takes_nothing_fails_once(rt: HostRuntime) -> Result<(), Fail> {
-    let mut slow = device(rt.alloc(), 0, 100);
-    let mut out = Watched::new(&mut slow);
-    assert!(rt; put(b"abc", &mut out) == (Err(WriteFault { written: 0 }), 1));
-    assert!(rt; put(b"", &mut out) == (Ok(()), 1));
-    Ok(())
-}
-
-#[test]
-fn a_fault_tells_the_bytes_that_went_out(rt: HostRuntime) -> Result<(), Fail> {
-    let mut slow = device(rt.alloc(), 2, 2);
-    let mut out = Watched::new(&mut slow);
-    assert!(rt; put(b"abcdef", &mut out) == (Err(WriteFault { written: 4 }), 1));
-    assert!(rt; flushed(&mut out) == (false, 2));
-    assert!(rt; took(&slow, b"abcd"));
-    Ok(())
-}
-
-#[test]
-fn a_watched_reader_hands_on_the_bytes(rt: HostRuntime) -> Result<(), Fail> {
-    let mut bytes = b"abc".as_slice();
-    let mut watched = Watched::new(&mut bytes);
+fn hands_on<R: Read>(watched: &mut Watched<R>) -> bool {
     let mut buf = [0; 2];
-    let taken = watched.read(&mut buf)?;
-    assert!(rt; taken == 2 && buf == *b"ab");
-    assert!(rt; watched.failures() == 0);
-    Ok(())
+    let is_read = matches!(watched.read(&mut buf), Ok(2));
+    is_read && watched.failures() == 0 && buf == *b"ab"
+}
+
+#[test]
+fn a_watched_reader_hands_on_the_bytes(rt: HostRuntime) {
+    let mut bytes = b"abc".as_slice();
+    assert!(rt; hands_on(&mut Watched::new(&mut bytes)));
 }

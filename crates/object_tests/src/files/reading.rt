@@ -1,13 +1,13 @@
 //! Stack texts, read.
 
-use super::{fault_of, has_kind, has_name, has_parts, has_script, stack_of};
-use object_table::{LayerId, Stack};
+use super::{Due, Source, comes_to, fault_of, push_all, text_of};
+use crate::stacks::Fact;
+use object_table::LayerId;
 use stack_file::*;
 use std::alloc::{AllocError, Global};
-use std::test::*;
 
 /// A stack of two cards on one background, which has one field.
-const TWO_CARDS: [&[u8]; 31] = [
+const TWO_CARDS: &[&[u8]] = &[
     b"htstack 1",
     b"next 5",
     b"name |Demo",
@@ -42,90 +42,62 @@ const TWO_CARDS: [&[u8]; 31] = [
 ];
 
 /// The text with this for the line of this number, counted from 1.
-pub(super) fn text_with(
-    alloc: Global,
+pub(super) fn push_two_cards(
+    text: &mut Vec<u8>,
     number: usize,
     changed: &[u8],
-) -> Result<Vec<u8>, AllocError> {
-    let mut text = Vec::new(alloc);
+) -> Result<(), AllocError> {
     for (i, line) in TWO_CARDS.iter().enumerate() {
-        if i + 1 == number {
-            text.extend_from_slice(changed)?;
-        } else {
-            text.extend_from_slice(line)?;
-        }
-        text.push(b'\n')?;
-    }
-    Ok(text)
-}
-
-/// Whether an object has this name and no script.
-fn is_named(stack: &Stack, id: u32, name: &[u8]) -> bool {
-    has_name(stack, id, name) && has_script(stack, id, b"")
-}
-
-fn has_objects(stack: &Stack) -> bool {
-    is_named(stack, 0, b"Demo")
-        && is_named(stack, 1, b"")
-        && is_named(stack, 2, b"A")
-        && is_named(stack, 3, b"Note")
-        && is_named(stack, 4, b"B")
-}
-
-fn has_lists(stack: &Stack) -> bool {
-    stack.backgrounds().as_slice() == [1].as_slice()
-        && stack.cards().as_slice() == [2, 4].as_slice()
-}
-
-const NOTE: &str = "BackgroundField { visible: true, lock_text: false, shared_text: false }";
-
-const LOCKED: &str = "BackgroundField { visible: true, lock_text: true, shared_text: false }";
-
-const CARD: &str = "Card { background: 1, cant_delete: false }";
-
-fn has_layers(stack: &Stack) -> bool {
-    has_parts(stack, LayerId::OfBackground(1), &[3]) && has_parts(stack, LayerId::OfCard(4), &[])
-}
-
-fn has_kinds(alloc: Global, stack: &Stack) -> Result<bool, Fail> {
-    Ok(has_kind(alloc, stack, 3, NOTE)? && has_kind(alloc, stack, 4, CARD)?)
-}
-
-fn is_two_cards(alloc: Global, stack: &Stack) -> Result<bool, Fail> {
-    let counts = stack.next_id() == 5 && stack.object_count() == 4;
-    Ok(
-        counts
-            && has_lists(stack)
-            && has_objects(stack)
-            && has_layers(stack)
-            && has_kinds(alloc, stack)?,
-    )
-}
-
-#[test]
-fn both_versions_are_read(rt: HostRuntime) -> Result<(), Fail> {
-    for header in [b"htstack 1", b"htstack 2"] {
-        let text = text_with(rt.alloc(), 1, header)?;
-        let stack = stack_of(rt.alloc(), &text)?;
-        assert!(rt; is_two_cards(rt.alloc(), &stack)?);
+        push_all(text, &[if i + 1 == number { changed } else { line }, b"\n"])?;
     }
     Ok(())
 }
 
-#[test]
-fn escapes_are_read(rt: HostRuntime) -> Result<(), Fail> {
-    let text = text_with(rt.alloc(), 3, b"name |\\5c\\0d\\ff~")?;
-    let stack = stack_of(rt.alloc(), &text)?;
-    assert!(rt; is_named(&stack, 0, b"\\\r\xff~"));
-    Ok(())
-}
+const TWO_CARDS_FACTS: &[Fact] = &[
+    Fact::Counts(4, 5),
+    Fact::Orders(&[1], &[2, 4]),
+    Fact::Object(0, b"Demo", b""),
+    Fact::Object(1, b"", b""),
+    Fact::Object(2, b"A", b""),
+    Fact::Object(3, b"Note", b""),
+    Fact::Object(4, b"B", b""),
+    Fact::Parts(LayerId::OfBackground(1), &[3]),
+    Fact::Parts(LayerId::OfCard(4), &[]),
+    Fact::Kind(
+        3,
+        "BackgroundField { visible: true, lock_text: false, shared_text: false }",
+    ),
+    Fact::Kind(4, "Card { background: 1, cant_delete: false }"),
+];
+
+const READ: &[(Source, Due)] = &[
+    (
+        Source::TwoCards(1, b"htstack 1"),
+        Due::Stack(TWO_CARDS_FACTS),
+    ),
+    (
+        Source::TwoCards(1, b"htstack 2"),
+        Due::Stack(TWO_CARDS_FACTS),
+    ),
+    // Escapes are read, and so are flags.
+    (
+        Source::TwoCards(3, b"name |\\5c\\0d\\ff~"),
+        Due::Stack(&[Fact::Object(0, b"\\\r\xff~", b"")]),
+    ),
+    (
+        Source::TwoCards(14, b"lockText true"),
+        Due::Stack(&[Fact::Kind(
+            3,
+            "BackgroundField { visible: true, lock_text: true, shared_text: false }",
+        )]),
+    ),
+];
 
 #[test]
-fn flags_are_read(rt: HostRuntime) -> Result<(), Fail> {
-    let text = text_with(rt.alloc(), 14, b"lockText true")?;
-    let stack = stack_of(rt.alloc(), &text)?;
-    assert!(rt; has_kind(rt.alloc(), &stack, 3, LOCKED)?);
-    Ok(())
+fn both_versions_are_read(rt: HostRuntime) {
+    for (i, (source, due)) in READ.iter().enumerate() {
+        assert!(rt; comes_to(rt.alloc(), source, due), "{i}");
+    }
 }
 
 /// A line of another form for the one of this number, and the fault that it makes.
@@ -164,32 +136,41 @@ const CHANGES: &[(usize, &[u8], FileError)] = &[
     (31, b"end\n", FileError::BadLine(32)),
 ];
 
+/// A background without a card is a fault of the end.
+const NO_CARD: &[u8] = b"htstack 2\nnext 4\nname |\nscript 0\nbackgrounds 2\n\
+background 1\nname |\ncantDelete false\nscript 0\nparts 0\n\
+background 3\nname |\ncantDelete false\nscript 0\nparts 0\n\
+cards 1\ncard 2 1\nname |\ncantDelete false\nscript 0\nparts 0\nend\n";
+
 #[test]
-fn the_first_line_at_fault_decides(rt: HostRuntime) -> Result<(), Fail> {
+fn the_first_line_at_fault_decides(rt: HostRuntime) {
     for (number, line, fault) in CHANGES {
-        let text = text_with(rt.alloc(), *number, line)?;
+        let source = Source::TwoCards(*number, line);
         assert!(rt;
-            fault_of(rt.alloc(), &text) == Some(*fault),
+            comes_to(rt.alloc(), &source, &Due::Fault(*fault)),
             "line {number}"
         );
     }
-    Ok(())
+    assert!(rt; fault_of(rt.alloc(), NO_CARD) == Some(FileError::BadId(22)));
 }
 
-#[test]
-fn a_background_without_a_card_is_a_fault_of_the_end(rt: HostRuntime) {
-    let text = b"htstack 2\nnext 4\nname |\nscript 0\nbackgrounds 2\n\
-        background 1\nname |\ncantDelete false\nscript 0\nparts 0\n\
-        background 3\nname |\ncantDelete false\nscript 0\nparts 0\n\
-        cards 1\ncard 2 1\nname |\ncantDelete false\nscript 0\nparts 0\nend\n";
-    assert!(rt; fault_of(rt.alloc(), text) == Some(FileError::BadId(22)));
-}
-
-#[test]
-fn each_part_of_a_text_is_truncated(rt: HostRuntime) -> Result<(), Fail> {
-    let text = text_with(rt.alloc(), 0, b"")?;
+fn are_truncated(alloc: Global, text: &[u8]) -> bool {
     for cut in 0..text.len() {
-        assert!(rt; fault_of(rt.alloc(), &text[..cut]) == Some(FileError::Truncated));
+        if fault_of(alloc, &text[..cut]) != Some(FileError::Truncated) {
+            return false;
+        }
     }
-    Ok(())
+    true
+}
+
+fn parts_are_truncated(alloc: Global, source: &Source) -> bool {
+    match text_of(alloc, source) {
+        Some(text) => are_truncated(alloc, &text),
+        None => false,
+    }
+}
+
+#[test]
+fn each_part_of_a_text_is_truncated(rt: HostRuntime) {
+    assert!(rt; parts_are_truncated(rt.alloc(), &Source::TwoCards(0, b"")));
 }
