@@ -1,5 +1,6 @@
 //! Expressions, read from tokens.
 
+use crate::cases::text_of;
 use ht_expressions::{WHOLE, read};
 use ht_lex::{Cursor, Key, Stop, TokenKind, lex};
 use ht_tree::ExprKind;
@@ -10,6 +11,19 @@ use std::test::*;
 /// Whether the cursor is before three tokens of these kinds.
 fn is_before(cursor: &Cursor<'_>, first: TokenKind, second: TokenKind, third: TokenKind) -> bool {
     cursor.peek() == Some(first) && cursor.second() == Some(second) && cursor.third() == Some(third)
+}
+
+/// Whether a text begins with a key, a quoted text and another key.
+fn begins_with(alloc: Global, text: &Text, first: Key, third: Key) -> Result<bool, Fail> {
+    let _size = text.len();
+    let tokens = lex(alloc, text)?;
+    let cursor = Cursor::new(&tokens);
+    Ok(is_before(
+        &cursor,
+        TokenKind::Key(first),
+        TokenKind::Quoted,
+        TokenKind::Key(third),
+    ))
 }
 
 /// Whether the second of four tokens has this text, also when it is taken, and a mark stays before the first.
@@ -36,38 +50,39 @@ fn ends_after(alloc: Global, text: &Text, many: usize) -> Result<bool, Fail> {
     Ok(left == many && cursor.peek().is_none())
 }
 
+/// Whether a power is read.
+fn is_power(alloc: Global, cursor: &mut Cursor<'_>) -> bool {
+    match read(alloc, cursor, WHOLE, 100) {
+        Ok(power) => matches!(power.kind(), ExprKind::Binary(Op::Power, _, _)),
+        Err(_) => false,
+    }
+}
+
+/// Whether no expression begins.
+fn is_none(alloc: Global, cursor: &mut Cursor<'_>) -> bool {
+    matches!(read(alloc, cursor, WHOLE, 100), Err(Stop::Syntax))
+}
+
 /// Whether a power is read from the tokens of the text, and then this token stands there, at which no expression begins.
 fn reads_power_before(alloc: Global, text: &Text, next: TokenKind) -> Result<bool, Fail> {
     let _size = text.len();
     let tokens = lex(alloc, text)?;
     let mut cursor = Cursor::new(&tokens);
-    let is_power = match read(alloc, &mut cursor, WHOLE, 100) {
-        Ok(power) => matches!(power.kind(), ExprKind::Binary(Op::Power, _, _)),
-        Err(_) => false,
-    };
+    let is_read = is_power(alloc, &mut cursor);
     let is_next = cursor.peek() == Some(next);
-    let is_none = matches!(read(alloc, &mut cursor, WHOLE, 100), Err(Stop::Syntax));
-    Ok(is_power && is_next && is_none)
+    Ok(is_read && is_next && is_none(alloc, &mut cursor))
 }
 
 #[test]
 fn a_cursor_is_before_the_tokens(rt: HostRuntime) -> Result<(), Fail> {
-    let text = Text::from_slice(rt.alloc(), b"put \"a b\" into c")?;
-    let tokens = lex(rt.alloc(), &text)?;
-    assert!(rt;
-        is_before(
-            &Cursor::new(&tokens),
-            TokenKind::Key(Key::Put),
-            TokenKind::Quoted,
-            TokenKind::Key(Key::Into)
-        )
-    );
+    let text = text_of(rt.alloc(), b"put \"a b\" into c")?;
+    assert!(rt; begins_with(rt.alloc(), &text, Key::Put, Key::Into)?);
     Ok(())
 }
 
 #[test]
 fn a_cursor_goes_over_the_tokens(rt: HostRuntime) -> Result<(), Fail> {
-    let text = Text::from_slice(rt.alloc(), b"put \"a b\" into c")?;
+    let text = text_of(rt.alloc(), b"put \"a b\" into c")?;
     assert!(rt; takes_second(rt.alloc(), &text, b"a b")?);
     assert!(rt; ends_after(rt.alloc(), &text, 4)?);
     Ok(())
@@ -75,7 +90,7 @@ fn a_cursor_goes_over_the_tokens(rt: HostRuntime) -> Result<(), Fail> {
 
 #[test]
 fn an_expression_ends_before_what_is_none(rt: HostRuntime) -> Result<(), Fail> {
-    let text = Text::from_slice(rt.alloc(), b"2 ^ 3 ^ 4 into x")?;
+    let text = text_of(rt.alloc(), b"2 ^ 3 ^ 4 into x")?;
     assert!(rt; reads_power_before(rt.alloc(), &text, TokenKind::Key(Key::Into))?);
     Ok(())
 }

@@ -1,10 +1,15 @@
 //! The edges of chunks.
 
+use crate::cases::{Case, Due, check, is_given, is_text, text_of};
+use ChunkKind::{Char, Item, Line, Word};
+use Fault::{BadArgument, TooLong};
+use Index::{At, Last};
+use Where::{After, Before, Into};
 use chunks::{
     Chunk, Index, Span, count, delete, delete_within, find, part, part_within, put, put_within,
     take, take_within,
 };
-use ht_values::{ChunkKind, Failure, Fault, LIMIT, Text, Where};
+use ht_values::{ChunkKind, Fault, LIMIT, Text, Where};
 use std::alloc::Global;
 use std::test::*;
 
@@ -12,301 +17,205 @@ use std::test::*;
 fn pieces(kind: ChunkKind, from: i64, to: i64) -> Chunk {
     Chunk {
         kind,
-        from: Index::At(from),
-        to: Index::At(to),
+        from: At(from),
+        to: At(to),
     }
 }
 
-/// The last piece of a kind.
-fn last(kind: ChunkKind) -> Chunk {
-    Chunk {
-        kind,
-        from: Index::Last,
-        to: Index::Last,
+/// A text, a chunk by its kind and its ends, the delimiter of items, and the part that the chunk reads.
+struct Read(&'static [u8], ChunkKind, Index, Index, u8, &'static [u8]);
+
+impl Case for Read {
+    fn is_met(&self, alloc: Global) -> Result<bool, Fail> {
+        let Read(bytes, kind, from, to, delimiter, part) = *self;
+        let chunk = Chunk { kind, from, to };
+        let text = text_of(alloc, bytes)?;
+        Ok(take(alloc, &text, &chunk, delimiter)?.as_slice() == part)
     }
 }
 
-/// Whether the chunk reads this part.
-fn takes(
-    alloc: Global,
-    text: &[u8],
-    chunk: &Chunk,
-    delimiter: u8,
-    part: &[u8],
-) -> Result<bool, Fail> {
-    let text = Text::from_slice(alloc, text)?;
-    Ok(take(alloc, &text, chunk, delimiter)?.as_slice() == part)
-}
+const READS: &[Read] = &[
+    Read(b"a,b", Item, At(2), At(2), b',', b"b"),
+    Read(b"  a  bb c ", Word, At(2), At(3), b',', b"bb c"),
+    Read(b"a\rb", Line, At(0), At(0), b',', b""),
+    Read(b"a\rb\rc", Line, At(-1), At(2), b',', b"a\rb"),
+    Read(b"abc", Char, At(2), At(9), b',', b"bc"),
+    Read(b"abc", Char, At(3), At(2), b',', b""),
+    Read(b"abc", Char, At(4), At(4), b',', b""),
+    Read(
+        b"abc",
+        Char,
+        At(9_223_372_036_854_775_807),
+        At(9_223_372_036_854_775_807),
+        b',',
+        b"",
+    ),
+    Read(
+        b"abc",
+        Char,
+        At(-9_223_372_036_854_775_808),
+        At(9_223_372_036_854_775_807),
+        b',',
+        b"abc",
+    ),
+    Read(b"a,b,", Item, At(3), At(3), b',', b""),
+    Read(b"a,b,", Item, At(2), At(3), b',', b"b,"),
+    Read(b",a", Item, At(1), At(1), b',', b""),
+    Read(b"a b\rc", Word, At(2), At(3), b',', b"b\rc"),
+    Read(b"a,b;c", Item, At(2), At(2), b',', b"b;c"),
+    Read(b"", Line, At(1), At(1), b',', b""),
+    Read(b"a bb ", Word, Last, Last, b';', b"bb"),
+    Read(b"a;b", Item, Last, Last, b';', b"b"),
+    Read(b"a;b;", Item, Last, Last, b';', b""),
+    Read(b"", Item, Last, Last, b';', b""),
+    Read(b"", Char, Last, Last, b';', b""),
+    Read(b"  ", Word, Last, Last, b';', b""),
+    Read(b"a\rb", Line, Last, Last, b';', b"b"),
+    Read(b"abc", Char, Last, Last, b';', b"c"),
+];
 
-/// Whether the text is these bytes, or there is none.
-fn is_text(text: &Option<Text>, bytes: Option<&[u8]>) -> bool {
-    match (text, bytes) {
-        (Some(text), Some(bytes)) => text.as_slice() == bytes,
+/// The first byte of a part and the first after it, if it is found.
+type Found = Option<(usize, usize)>;
+
+/// Whether the pieces are found from this byte up to that one, or nowhere.
+fn is_found(text: &[u8], chunk: &Chunk, part: Found) -> bool {
+    match (find(text, chunk, b','), part) {
+        (Some(span), Some((start, after))) => span == Span { start, after },
         (None, None) => true,
         _ => false,
     }
 }
 
-/// Whether this is left when the chunk is deleted; nothing where it isn't found.
-fn leaves(alloc: Global, text: &[u8], chunk: &Chunk, left: Option<&[u8]>) -> Result<bool, Fail> {
-    let text = Text::from_slice(alloc, text)?;
-    Ok(is_text(&delete(alloc, &text, chunk, b',')?, left))
-}
+/// A text, the pieces of a kind from one number to another, and where they are found.
+struct Place(&'static [u8], ChunkKind, i64, i64, Found);
 
-/// Whether a put at the chunk makes this text.
-fn makes(
-    alloc: Global,
-    text: &[u8],
-    chunk: &Chunk,
-    place: Where,
-    new: &[u8],
-    whole: &[u8],
-) -> Result<bool, Fail> {
-    let text = Text::from_slice(alloc, text)?;
-    let new = Text::from_slice(alloc, new)?;
-    Ok(put(alloc, &text, chunk, place, &new, b',')?.as_slice() == whole)
-}
-
-/// Whether a put into the chunk has this fault.
-fn faults(alloc: Global, chunk: &Chunk, fault: Fault) -> Result<bool, Fail> {
-    let text = Text::from_slice(alloc, b"a")?;
-    let new = Text::from_slice(alloc, b"x")?;
-    let given = put(alloc, &text, chunk, Where::Into, &new, b',');
-    Ok(matches!(given, Err(Failure::Fault(given)) if given == fault))
-}
-
-/// Whether the chunk is found from this byte up to that one, or nowhere.
-fn is_found(text: &[u8], chunk: &Chunk, part: Option<(usize, usize)>) -> bool {
-    let part = part.map(|(start, after)| Span { start, after });
-    find(text, chunk, b',') == part
-}
-
-#[test]
-fn reads_of_pieces(rt: HostRuntime) -> Result<(), Fail> {
-    let rows: &[(&[u8], ChunkKind, i64, i64, &[u8])] = &[
-        (b"a,b", ChunkKind::Item, 2, 2, b"b"),
-        (b"  a  bb c ", ChunkKind::Word, 2, 3, b"bb c"),
-        (b"a\rb", ChunkKind::Line, 0, 0, b""),
-        (b"a\rb\rc", ChunkKind::Line, -1, 2, b"a\rb"),
-        (b"abc", ChunkKind::Char, 2, 9, b"bc"),
-        (b"abc", ChunkKind::Char, 3, 2, b""),
-        (b"abc", ChunkKind::Char, 4, 4, b""),
-        (
-            b"abc",
-            ChunkKind::Char,
-            9_223_372_036_854_775_807,
-            9_223_372_036_854_775_807,
-            b"",
-        ),
-        (
-            b"abc",
-            ChunkKind::Char,
-            -9_223_372_036_854_775_808,
-            9_223_372_036_854_775_807,
-            b"abc",
-        ),
-        (b"a,b,", ChunkKind::Item, 3, 3, b""),
-        (b"a,b,", ChunkKind::Item, 2, 3, b"b,"),
-        (b",a", ChunkKind::Item, 1, 1, b""),
-        (b"a b\rc", ChunkKind::Word, 2, 3, b"b\rc"),
-        (b"a,b;c", ChunkKind::Item, 2, 2, b"b;c"),
-        (b"", ChunkKind::Line, 1, 1, b""),
-    ];
-    for (text, kind, from, to, part) in rows {
-        let chunk = pieces(*kind, *from, *to);
-        assert!(rt;
-            takes(rt.alloc(), text, &chunk, b',', part)?,
-            "{text:?} {chunk:?}"
-        );
-    }
-    Ok(())
-}
-
-#[test]
-fn reads_of_the_last_piece(rt: HostRuntime) -> Result<(), Fail> {
-    let rows: &[(&[u8], ChunkKind, &[u8])] = &[
-        (b"a bb ", ChunkKind::Word, b"bb"),
-        (b"a;b", ChunkKind::Item, b"b"),
-        (b"a;b;", ChunkKind::Item, b""),
-        (b"", ChunkKind::Item, b""),
-        (b"", ChunkKind::Char, b""),
-        (b"  ", ChunkKind::Word, b""),
-        (b"a\rb", ChunkKind::Line, b"b"),
-        (b"abc", ChunkKind::Char, b"c"),
-    ];
-    for (text, kind, part) in rows {
-        assert!(rt;
-            takes(rt.alloc(), text, &last(*kind), b';', part)?,
-            "{text:?} {kind:?}"
-        );
-    }
-    Ok(())
-}
-
-#[test]
-fn places_of_parts(rt: HostRuntime) {
-    let rows: &[(&[u8], ChunkKind, i64, i64, Option<(usize, usize)>)] = &[
-        (b"a,b,c", ChunkKind::Item, 2, 7, Some((2, 5))),
-        (b"a,b,c", ChunkKind::Item, 4, 7, None),
-        (b",", ChunkKind::Item, 1, 1, Some((0, 0))),
-        (b"", ChunkKind::Item, 1, 1, None),
-    ];
-    for (bytes, kind, from, to, span) in rows {
-        let chunk = pieces(*kind, *from, *to);
-        assert!(rt; is_found(bytes, &chunk, *span), "{bytes:?} {chunk:?}");
+impl Case for Place {
+    fn is_met(&self, _alloc: Global) -> Result<bool, Fail> {
+        let Place(bytes, kind, from, to, part) = *self;
+        Ok(is_found(bytes, &pieces(kind, from, to), part))
     }
 }
 
-#[test]
-fn counts_of_pieces(rt: HostRuntime) {
-    let rows: &[(&[u8], ChunkKind, usize)] = &[
-        (b",", ChunkKind::Item, 2),
-        (b"", ChunkKind::Item, 0),
-        (b"a", ChunkKind::Item, 1),
-        (b"", ChunkKind::Line, 0),
-        (b"\r", ChunkKind::Line, 2),
-        (b"a\rb\r", ChunkKind::Line, 3),
-        (b"  ", ChunkKind::Word, 0),
-        (b" a\rb  c ", ChunkKind::Word, 3),
-        (b"a,b c", ChunkKind::Word, 2),
-        (b"abc", ChunkKind::Char, 3),
-    ];
-    for (text, kind, many) in rows {
-        assert!(rt; count(text, *kind, b',') == *many, "{text:?} {kind:?}");
+const PLACES: &[Place] = &[
+    Place(b"a,b,c", Item, 2, 7, Some((2, 5))),
+    Place(b"a,b,c", Item, 4, 7, None),
+    Place(b",", Item, 1, 1, Some((0, 0))),
+    Place(b"", Item, 1, 1, None),
+];
+
+/// A text, a kind, and how many pieces of it the text has.
+struct Count(&'static [u8], ChunkKind, usize);
+
+impl Case for Count {
+    fn is_met(&self, _alloc: Global) -> Result<bool, Fail> {
+        let Count(bytes, kind, many) = *self;
+        Ok(count(bytes, kind, b',') == many)
     }
 }
 
-#[test]
-fn puts_at_pieces(rt: HostRuntime) -> Result<(), Fail> {
-    let rows: &[(&[u8], ChunkKind, i64, i64, Where, &[u8], &[u8])] = &[
-        (b"a,b", ChunkKind::Item, 4, 4, Where::Into, b"x", b"a,b,,x"),
-        (b"", ChunkKind::Item, 3, 3, Where::Into, b"x", b",,x"),
-        (b"", ChunkKind::Item, 1, 1, Where::Into, b"x", b"x"),
-        (b"", ChunkKind::Line, 2, 2, Where::Into, b"x", b"\rx"),
-        (b"a", ChunkKind::Line, 2, 5, Where::After, b"x", b"a\rx"),
-        (b"ab", ChunkKind::Char, 5, 5, Where::Before, b"z", b"abz"),
-        (b"a", ChunkKind::Word, 3, 3, Where::After, b"b", b"a b"),
-        (b"", ChunkKind::Word, 3, 3, Where::Into, b"b", b"b"),
-        (b" ", ChunkKind::Word, 1, 1, Where::Into, b"b", b"  b"),
-        (
-            b"a,b,c",
-            ChunkKind::Item,
-            2,
-            9,
-            Where::Before,
-            b"x",
-            b"a,xb,c",
-        ),
-        (b"a,b,c", ChunkKind::Item, 2, 9, Where::Into, b"x", b"a,x"),
-        (
-            b"a,b,c",
-            ChunkKind::Item,
-            1,
-            2,
-            Where::After,
-            b"x",
-            b"a,bx,c",
-        ),
-        (
-            b"a  b c",
-            ChunkKind::Word,
-            1,
-            2,
-            Where::After,
-            b"x",
-            b"a  bx c",
-        ),
-        (b"a,b,", ChunkKind::Item, 3, 3, Where::Into, b"x", b"a,b,x"),
-        (b"a,b,", ChunkKind::Item, 4, 4, Where::Into, b"x", b"a,b,,x"),
-        (b"abc", ChunkKind::Char, 2, 2, Where::Into, b"", b"ac"),
-    ];
-    for (text, kind, from, to, place, new, whole) in rows {
-        let chunk = pieces(*kind, *from, *to);
-        assert!(rt;
-            makes(rt.alloc(), text, &chunk, *place, new, whole)?,
-            "{chunk:?} {place:?}"
-        );
+const COUNTS: &[Count] = &[
+    Count(b",", Item, 2),
+    Count(b"", Item, 0),
+    Count(b"a", Item, 1),
+    Count(b"", Line, 0),
+    Count(b"\r", Line, 2),
+    Count(b"a\rb\r", Line, 3),
+    Count(b"  ", Word, 0),
+    Count(b" a\rb  c ", Word, 3),
+    Count(b"a,b c", Word, 2),
+    Count(b"abc", Char, 3),
+];
+
+/// A text, a chunk by its kind and its ends, where a new text is put, and what that makes.
+struct Put(
+    &'static [u8],
+    ChunkKind,
+    Index,
+    Index,
+    Where,
+    &'static [u8],
+    Due<'static>,
+);
+
+impl Case for Put {
+    fn is_met(&self, alloc: Global) -> Result<bool, Fail> {
+        let Put(bytes, kind, from, to, place, new, whole) = *self;
+        let chunk = Chunk { kind, from, to };
+        let text = text_of(alloc, bytes)?;
+        let new = text_of(alloc, new)?;
+        Ok(is_given(put(alloc, &text, &chunk, place, &new, b','), whole))
     }
-    Ok(())
 }
 
-#[test]
-fn faults_of_puts(rt: HostRuntime) -> Result<(), Fail> {
-    let rows: &[(ChunkKind, i64, i64, Fault)] = &[
-        (ChunkKind::Item, 0, 0, Fault::BadArgument),
-        (ChunkKind::Item, -1, 2, Fault::BadArgument),
-        (ChunkKind::Item, 2, 1, Fault::BadArgument),
-        (ChunkKind::Item, 30_001, 30_001, Fault::TooLong),
-        (
-            ChunkKind::Line,
-            9_223_372_036_854_775_807,
-            9_223_372_036_854_775_807,
-            Fault::TooLong,
-        ),
-    ];
-    for (kind, from, to, fault) in rows {
-        let chunk = pieces(*kind, *from, *to);
-        assert!(rt; faults(rt.alloc(), &chunk, *fault)?, "{chunk:?}");
+const PUTS: &[Put] = &[
+    Put(b"a,b", Item, At(4), At(4), Into, b"x", Ok(b"a,b,,x")),
+    Put(b"", Item, At(3), At(3), Into, b"x", Ok(b",,x")),
+    Put(b"", Item, At(1), At(1), Into, b"x", Ok(b"x")),
+    Put(b"", Line, At(2), At(2), Into, b"x", Ok(b"\rx")),
+    Put(b"a", Line, At(2), At(5), After, b"x", Ok(b"a\rx")),
+    Put(b"ab", Char, At(5), At(5), Before, b"z", Ok(b"abz")),
+    Put(b"a", Word, At(3), At(3), After, b"b", Ok(b"a b")),
+    Put(b"", Word, At(3), At(3), Into, b"b", Ok(b"b")),
+    Put(b" ", Word, At(1), At(1), Into, b"b", Ok(b"  b")),
+    Put(b"a,b,c", Item, At(2), At(9), Before, b"x", Ok(b"a,xb,c")),
+    Put(b"a,b,c", Item, At(2), At(9), Into, b"x", Ok(b"a,x")),
+    Put(b"a,b,c", Item, At(1), At(2), After, b"x", Ok(b"a,bx,c")),
+    Put(b"a  b c", Word, At(1), At(2), After, b"x", Ok(b"a  bx c")),
+    Put(b"a,b,", Item, At(3), At(3), Into, b"x", Ok(b"a,b,x")),
+    Put(b"a,b,", Item, At(4), At(4), Into, b"x", Ok(b"a,b,,x")),
+    Put(b"abc", Char, At(2), At(2), Into, b"", Ok(b"ac")),
+    Put(b"a", Item, At(0), At(0), Into, b"x", Err(BadArgument)),
+    Put(b"a", Item, At(-1), At(2), Into, b"x", Err(BadArgument)),
+    Put(b"a", Item, At(2), At(1), Into, b"x", Err(BadArgument)),
+    Put(b"a", Item, At(30_001), At(30_001), Into, b"x", Err(TooLong)),
+    Put(
+        b"a",
+        Line,
+        At(9_223_372_036_854_775_807),
+        At(9_223_372_036_854_775_807),
+        Into,
+        b"x",
+        Err(TooLong),
+    ),
+    Put(b"", Item, Last, Last, After, b"x", Ok(b"x")),
+    Put(b"a,b", Item, Last, Last, After, b"x", Ok(b"a,bx")),
+];
+
+/// The length of the text that a put at the last item that a text can have makes of none.
+fn length_of_a_far_put(alloc: Global) -> Result<usize, Fail> {
+    let far = pieces(Item, 30_000, 30_000);
+    let new = text_of(alloc, b"x")?;
+    Ok(put(alloc, &Text::new(alloc), &far, Into, &new, b',')?.len())
+}
+
+/// A text, the pieces of a kind from one number to another, and what is left without them; nothing where none is found.
+struct Delete(&'static [u8], ChunkKind, i64, i64, Option<&'static [u8]>);
+
+impl Case for Delete {
+    fn is_met(&self, alloc: Global) -> Result<bool, Fail> {
+        let Delete(bytes, kind, from, to, left) = *self;
+        let text = text_of(alloc, bytes)?;
+        Ok(is_text(&delete(alloc, &text, &pieces(kind, from, to), b',')?, left))
     }
-    Ok(())
 }
 
-#[test]
-fn puts_at_the_last_piece(rt: HostRuntime) -> Result<(), Fail> {
-    let rows: &[(&[u8], &[u8])] = &[(b"", b"x"), (b"a,b", b"a,bx")];
-    for (text, whole) in rows {
-        let chunk = last(ChunkKind::Item);
-        assert!(rt;
-            makes(rt.alloc(), text, &chunk, Where::After, b"x", whole)?,
-            "{text:?}"
-        );
-    }
-    Ok(())
-}
-
-#[test]
-fn a_put_fills_up_to_the_limit(rt: HostRuntime) -> Result<(), Fail> {
-    let none = Text::new(rt.alloc());
-    let new = Text::from_slice(rt.alloc(), b"x")?;
-    let far = pieces(ChunkKind::Item, 30_000, 30_000);
-    let whole = put(rt.alloc(), &none, &far, Where::Into, &new, b',')?;
-    assert_eq!(rt; whole.len(), LIMIT);
-    Ok(())
-}
-
-#[test]
-fn deletes_of_pieces(rt: HostRuntime) -> Result<(), Fail> {
-    let rows: &[(&[u8], ChunkKind, i64, i64, Option<&[u8]>)] = &[
-        (b"a,b,c", ChunkKind::Item, 3, 3, Some(b"a,b")),
-        (b"a,b,c", ChunkKind::Item, 1, 1, Some(b"b,c")),
-        (b"a,b,c", ChunkKind::Item, 2, 2, Some(b"a,c")),
-        (b"a", ChunkKind::Item, 1, 1, Some(b"")),
-        (b",", ChunkKind::Item, 2, 2, Some(b"")),
-        (b",", ChunkKind::Item, 1, 2, Some(b"")),
-        (b"a,b,", ChunkKind::Item, 3, 3, Some(b"a,b")),
-        (b"a b  c", ChunkKind::Word, 2, 2, Some(b"a c")),
-        (b"a b", ChunkKind::Word, 2, 2, Some(b"a ")),
-        (b"a b\rc", ChunkKind::Word, 2, 2, Some(b"a \rc")),
-        (b"a\rb", ChunkKind::Line, 1, 2, Some(b"")),
-        (b"ab", ChunkKind::Char, 3, 3, None),
-        (b"abc", ChunkKind::Char, 2, 2, Some(b"ac")),
-        (b"a,b", ChunkKind::Item, 0, 0, None),
-        (b"", ChunkKind::Word, 1, 1, None),
-    ];
-    for (text, kind, from, to, left) in rows {
-        let chunk = pieces(*kind, *from, *to);
-        assert!(rt;
-            leaves(rt.alloc(), text, &chunk, *left)?,
-            "{text:?} {chunk:?}"
-        );
-    }
-    Ok(())
-}
-
-/// The length of a text, if there is one.
-fn length_of(text: &Option<Text>) -> Option<usize> {
-    text.as_ref().map(|text| text.len())
-}
+const DELETES: &[Delete] = &[
+    Delete(b"a,b,c", Item, 3, 3, Some(b"a,b")),
+    Delete(b"a,b,c", Item, 1, 1, Some(b"b,c")),
+    Delete(b"a,b,c", Item, 2, 2, Some(b"a,c")),
+    Delete(b"a", Item, 1, 1, Some(b"")),
+    Delete(b",", Item, 2, 2, Some(b"")),
+    Delete(b",", Item, 1, 2, Some(b"")),
+    Delete(b"a,b,", Item, 3, 3, Some(b"a,b")),
+    Delete(b"a b  c", Word, 2, 2, Some(b"a c")),
+    Delete(b"a b", Word, 2, 2, Some(b"a ")),
+    Delete(b"a b\rc", Word, 2, 2, Some(b"a \rc")),
+    Delete(b"a\rb", Line, 1, 2, Some(b"")),
+    Delete(b"ab", Char, 3, 3, None),
+    Delete(b"abc", Char, 2, 2, Some(b"ac")),
+    Delete(b"a,b", Item, 0, 0, None),
+    Delete(b"", Word, 1, 1, None),
+];
 
 /// The longest text: 1,000 items of 29 bytes, with commas between.
 fn longest(alloc: Global) -> Result<Text, Fail> {
@@ -318,38 +227,48 @@ fn longest(alloc: Global) -> Result<Text, Fail> {
     Ok(Text::from_vec(bytes)?)
 }
 
-#[test]
-fn pieces_of_the_longest_text(rt: HostRuntime) -> Result<(), Fail> {
-    let text = longest(rt.alloc())?;
-    let rows: &[(ChunkKind, i64, i64, Option<(usize, usize)>)] = &[
-        (ChunkKind::Item, 1, 1, Some((0, 29))),
-        (ChunkKind::Item, 6, 6, Some((150, 179))),
-        (ChunkKind::Item, 7, 7, Some((180, 209))),
-        (ChunkKind::Item, 6, 8, Some((150, 239))),
-        (ChunkKind::Item, 999, 1_000, Some((29_940, 30_000))),
-        (ChunkKind::Item, 1_000, 1_000, Some((29_970, 30_000))),
-        (ChunkKind::Item, 1_001, 1_001, None),
-        (ChunkKind::Line, 1, 1, Some((0, LIMIT))),
-        (ChunkKind::Line, 2, 2, None),
-        (ChunkKind::Word, 1, 9, Some((0, LIMIT))),
-    ];
-    for (kind, from, to, span) in rows {
-        let chunk = pieces(*kind, *from, *to);
-        assert!(rt; is_found(text.as_slice(), &chunk, *span), "{chunk:?}");
+/// The pieces of a kind from one number to another, and where they are found in the longest text.
+struct FarPlace(ChunkKind, i64, i64, Found);
+
+impl Case for FarPlace {
+    fn is_met(&self, alloc: Global) -> Result<bool, Fail> {
+        let FarPlace(kind, from, to, part) = *self;
+        Ok(is_found(longest(alloc)?.as_slice(), &pieces(kind, from, to), part))
     }
-    Ok(())
 }
 
-#[test]
-fn counts_in_the_longest_text(rt: HostRuntime) -> Result<(), Fail> {
-    let text = longest(rt.alloc())?;
-    assert_eq!(rt; count(text.as_slice(), ChunkKind::Item, b','), 1_000);
-    assert_eq!(rt; count(text.as_slice(), ChunkKind::Line, b','), 1);
-    let last = pieces(ChunkKind::Item, 1_000, 1_000);
-    let left = delete(rt.alloc(), &text, &last, b',')?;
-    assert_eq!(rt; length_of(&left), Some(29_969));
-    Ok(())
+const FAR_PLACES: &[FarPlace] = &[
+    FarPlace(Item, 1, 1, Some((0, 29))),
+    FarPlace(Item, 6, 6, Some((150, 179))),
+    FarPlace(Item, 7, 7, Some((180, 209))),
+    FarPlace(Item, 6, 8, Some((150, 239))),
+    FarPlace(Item, 999, 1_000, Some((29_940, 30_000))),
+    FarPlace(Item, 1_000, 1_000, Some((29_970, 30_000))),
+    FarPlace(Item, 1_001, 1_001, None),
+    FarPlace(Line, 1, 1, Some((0, LIMIT))),
+    FarPlace(Line, 2, 2, None),
+    FarPlace(Word, 1, 9, Some((0, LIMIT))),
+];
+
+/// A kind, and how many pieces of it the longest text has.
+struct FarCount(ChunkKind, usize);
+
+impl Case for FarCount {
+    fn is_met(&self, alloc: Global) -> Result<bool, Fail> {
+        Ok(count(longest(alloc)?.as_slice(), self.0, b',') == self.1)
+    }
 }
+
+/// The length of the longest text without its last item, if it has one.
+fn length_without_last(alloc: Global) -> Result<Option<usize>, Fail> {
+    let last = pieces(Item, 1_000, 1_000);
+    match delete(alloc, &longest(alloc)?, &last, b',')? {
+        Some(left) => Ok(Some(left.len())),
+        None => Ok(None),
+    }
+}
+
+const FAR_COUNTS: &[FarCount] = &[FarCount(Item, 1_000), FarCount(Line, 1)];
 
 /// Chunks of a text, what is put into the innermost, the text after it, and the text after the innermost is deleted.
 struct NestedRow {
@@ -385,39 +304,69 @@ const NESTED: &[NestedRow] = &[
 ];
 
 const SECOND_ITEM: Chunk = Chunk {
-    kind: ChunkKind::Item,
-    from: Index::At(2),
-    to: Index::At(2),
+    kind: Item,
+    from: At(2),
+    to: At(2),
 };
 
 const FIRST_WORD: Chunk = Chunk {
-    kind: ChunkKind::Word,
-    from: Index::At(1),
-    to: Index::At(1),
+    kind: Word,
+    from: At(1),
+    to: At(1),
 };
 
-/// Whether a put into the innermost chunk makes the text of the row, and a delete its other one.
-fn changes_inside(alloc: Global, row: &NestedRow) -> Result<bool, Fail> {
-    let text = Text::from_slice(alloc, row.text)?;
-    let new = Text::from_slice(alloc, b"x")?;
-    let put = put_within(alloc, &text, row.chunks, Where::Into, new, b',')?;
-    let left = delete_within(alloc, &text, row.chunks, b',')?;
-    Ok(put.as_slice() == row.put && is_text(&left, row.deleted))
+/// Whether a put into the innermost chunk makes the text of the row.
+fn puts_inside(alloc: Global, row: &NestedRow, text: &Text) -> Result<bool, Fail> {
+    let new = text_of(alloc, b"x")?;
+    Ok(put_within(alloc, text, row.chunks, Into, new, b',')?.as_slice() == row.put)
+}
+
+/// Whether a delete of the innermost chunk makes its text of the row.
+fn deletes_inside(alloc: Global, row: &NestedRow, text: &Text) -> Result<bool, Fail> {
+    Ok(is_text(&delete_within(alloc, text, row.chunks, b',')?, row.deleted))
 }
 
 /// Whether the chunks read the part of the row, lent and copied.
-fn reads_inside(alloc: Global, row: &NestedRow) -> Result<bool, Fail> {
-    let text = Text::from_slice(alloc, row.text)?;
-    let copy = take_within(alloc, &text, row.chunks, b',')?;
-    Ok(part_within(row.text, row.chunks, b',') == row.part && copy.as_slice() == row.part)
+fn reads_inside(alloc: Global, row: &NestedRow, text: &Text) -> Result<bool, Fail> {
+    let is_lent = part_within(row.text, row.chunks, b',') == row.part;
+    Ok(is_lent && take_within(alloc, text, row.chunks, b',')?.as_slice() == row.part)
+}
+
+impl Case for NestedRow {
+    fn is_met(&self, alloc: Global) -> Result<bool, Fail> {
+        let text = text_of(alloc, self.text)?;
+        Ok(
+            puts_inside(alloc, self, &text)?
+                && deletes_inside(alloc, self, &text)?
+                && reads_inside(alloc, self, &text)?,
+        )
+    }
+}
+
+#[test]
+fn pieces_are_read(rt: HostRuntime) -> Result<(), Fail> {
+    check(&rt, rt.alloc(), "reads", READS)?;
+    check(&rt, rt.alloc(), "places", PLACES)?;
+    check(&rt, rt.alloc(), "counts", COUNTS)
+}
+
+#[test]
+fn pieces_are_changed(rt: HostRuntime) -> Result<(), Fail> {
+    check(&rt, rt.alloc(), "puts", PUTS)?;
+    assert_eq!(rt; length_of_a_far_put(rt.alloc())?, LIMIT);
+    check(&rt, rt.alloc(), "deletes", DELETES)
 }
 
 #[test]
 fn chunks_of_chunks(rt: HostRuntime) -> Result<(), Fail> {
-    for row in NESTED {
-        assert!(rt; changes_inside(rt.alloc(), row)?, "{:?}", row.text);
-        assert!(rt; reads_inside(rt.alloc(), row)?, "{:?}", row.text);
-    }
     assert!(rt; part(b"a,b", &SECOND_ITEM, b',') == b"b".as_slice());
+    check(&rt, rt.alloc(), "nested", NESTED)
+}
+
+#[test]
+fn pieces_of_the_longest_text(rt: HostRuntime) -> Result<(), Fail> {
+    check(&rt, rt.alloc(), "far places", FAR_PLACES)?;
+    check(&rt, rt.alloc(), "far counts", FAR_COUNTS)?;
+    assert_eq!(rt; length_without_last(rt.alloc())?, Some(29_969));
     Ok(())
 }

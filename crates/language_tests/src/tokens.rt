@@ -1,204 +1,210 @@
 //! The tokens of texts.
 
-use ht_lex::{Constant, Key, LexError, TokenKind, is_name, lex, to_name};
-use ht_values::{ChunkKind, PartKind, Text};
+use crate::cases::{Case, check, text_of};
+use ht_lex::{Constant, Key, LexError, Span, TokenKind, is_name, lex, to_name};
+use ht_values::{ChunkKind, PartKind};
 use std::alloc::Global;
 use std::test::*;
 
-/// Whether a text has tokens of these kinds, and no other.
-fn has_kinds(alloc: Global, bytes: &[u8], want: &[TokenKind]) -> Result<bool, Fail> {
-    let text = Text::from_slice(alloc, bytes)?;
-    let tokens = lex(alloc, &text)?;
-    let mut kinds = Vec::new(alloc);
-    for place in 0..tokens.len() {
-        kinds.push(tokens.at(place).kind)?;
+/// A text, and the kinds of its tokens.
+struct Kinds(&'static [u8], &'static [TokenKind]);
+
+/// Whether the tokens are of these kinds, and there is no other.
+fn are_of(tokens: &[Span], kinds: &[TokenKind]) -> bool {
+    if tokens.len() != kinds.len() {
+        return false;
     }
-    Ok(kinds.as_slice() == want)
+    for i in 0..kinds.len() {
+        if i < tokens.len() && tokens[i].kind != kinds[i] {
+            return false;
+        }
+    }
+    true
 }
 
-/// Whether the token of this number begins there, is of the kind and has these bytes.
-fn has_token(
-    alloc: Global,
-    bytes: &[u8],
-    place: usize,
-    start: usize,
-    kind: TokenKind,
-    want: &[u8],
-) -> Result<bool, Fail> {
-    let text = Text::from_slice(alloc, bytes)?;
-    let tokens = lex(alloc, &text)?;
-    if tokens.len() <= place {
-        return Ok(false);
+impl Case for Kinds {
+    fn is_met(&self, alloc: Global) -> Result<bool, Fail> {
+        let text = text_of(alloc, self.0)?;
+        Ok(are_of(lex(alloc, &text)?.spans(), self.1))
     }
-    let token = tokens.at(place);
-    Ok(token.start == start && token.kind == kind && token.text == want)
 }
 
-/// Whether no token begins at this place, and tokens stand before it.
-fn stops_at(alloc: Global, bytes: &[u8], place: usize) -> Result<bool, Fail> {
-    let text = Text::from_slice(alloc, bytes)?;
-    Ok(matches!(lex(alloc, &text), Err(LexError::Syntax(stop)) if stop == place))
+const KINDS: &[Kinds] = &[
+    Kinds(
+        b"put 1 -- x",
+        &[TokenKind::Key(Key::Put), TokenKind::Number],
+    ),
+    Kinds(
+        b"1--2\r--\r3",
+        &[
+            TokenKind::Number,
+            TokenKind::Eol,
+            TokenKind::Eol,
+            TokenKind::Number,
+        ],
+    ),
+    Kinds(
+        b"<><=<&&&-(",
+        &[
+            TokenKind::Key(Key::NotEqual),
+            TokenKind::Key(Key::LessEqual),
+            TokenKind::Key(Key::Less),
+            TokenKind::Key(Key::DoubleAmpersand),
+            TokenKind::Key(Key::Ampersand),
+            TokenKind::Key(Key::Minus),
+            TokenKind::Key(Key::LeftParen),
+        ],
+    ),
+    Kinds(
+        b"\xB2\xB3\xAD",
+        &[
+            TokenKind::Key(Key::LessEqual),
+            TokenKind::Key(Key::GreaterEqual),
+            TokenKind::Key(Key::NotEqual),
+        ],
+    ),
+    Kinds(
+        b"<= >= <>",
+        &[
+            TokenKind::Key(Key::LessEqual),
+            TokenKind::Key(Key::GreaterEqual),
+            TokenKind::Key(Key::NotEqual),
+        ],
+    ),
+    Kinds(
+        b"12ab_1\t\"it's -- x\"",
+        &[TokenKind::Number, TokenKind::Name, TokenKind::Quoted],
+    ),
+    // A line goes on after the byte 194.
+    Kinds(
+        b"a\xC2 \t\rb\xC2\r\r",
+        &[TokenKind::Name, TokenKind::Name, TokenKind::Eol],
+    ),
+    Kinds(b"", &[]),
+    // Synonyms have one key in any case.
+    Kinds(b"bkgnd", &[TokenKind::Key(Key::Background)]),
+    Kinds(b"BG", &[TokenKind::Key(Key::Background)]),
+    Kinds(b"Prev", &[TokenKind::Key(Key::Previous)]),
+    Kinds(b"character", &[TokenKind::Key(Key::Piece(ChunkKind::Char))]),
+    Kinds(b"btns", &[TokenKind::Key(Key::Parts(PartKind::Button))]),
+    Kinds(b"times", &[TokenKind::Name]),
+];
+
+/// A text, the number of a token, where it begins, its kind and its bytes.
+struct Placed(&'static [u8], usize, usize, TokenKind, &'static [u8]);
+
+impl Case for Placed {
+    fn is_met(&self, alloc: Global) -> Result<bool, Fail> {
+        let Placed(bytes, place, start, kind, want) = *self;
+        let text = text_of(alloc, bytes)?;
+        let tokens = lex(alloc, &text)?;
+        if tokens.len() <= place {
+            return Ok(false);
+        }
+        let token = tokens.at(place);
+        Ok(token.start == start && token.kind == kind && token.text == want)
+    }
+}
+
+const PUT_ONE: &[u8] = b"put 1 -- x";
+
+const WORDS: &[u8] = b"12ab_1\t\"it's -- x\"";
+
+const PLACED: &[Placed] = &[
+    Placed(PUT_ONE, 0, 0, TokenKind::Key(Key::Put), b"put"),
+    Placed(PUT_ONE, 1, 4, TokenKind::Number, b"1"),
+    Placed(WORDS, 0, 0, TokenKind::Number, b"12"),
+    Placed(WORDS, 1, 2, TokenKind::Name, b"ab_1"),
+    Placed(WORDS, 2, 7, TokenKind::Quoted, b"\"it's -- x\""),
+];
+
+/// A text, and where no token begins after the tokens before.
+struct Stuck(&'static [u8], usize);
+
+impl Case for Stuck {
+    fn is_met(&self, alloc: Global) -> Result<bool, Fail> {
+        let text = text_of(alloc, self.0)?;
+        match lex(alloc, &text) {
+            Err(LexError::Syntax(place)) => Ok(place == self.1),
+            _ => Ok(false),
+        }
+    }
+}
+
+const STUCK: &[Stuck] = &[
+    Stuck(b"put \"a", 4),
+    Stuck(b"put \"a\rb\"", 4),
+    Stuck(b"ab \xC2x", 3),
+    Stuck(b"a\xC2", 1),
+    Stuck(b"1 + #2 $", 4),
+    Stuck(b"\x00", 0),
+];
+
+/// A word, and whether it is a name.
+struct Word(&'static [u8], bool);
+
+impl Case for Word {
+    fn is_met(&self, _alloc: Global) -> Result<bool, Fail> {
+        Ok(is_name(self.0) == self.1)
+    }
+}
+
+const NAMES: &[Word] = &[
+    Word(b"g", true),
+    Word(b"Total_1", true),
+    Word(b"_", true),
+    Word(b"mouseUp", true),
+    Word(b"times", true),
+    Word(b"put1", true),
+    Word(b"", false),
+    Word(b"1a", false),
+    Word(b"a b", false),
+    Word(b"a-b", false),
+    Word(b"\xE4", false),
+    Word(b"put", false),
+    Word(b"PUT", false),
+    Word(b"lineFeed", false),
+    Word(b"linefeed", false),
+];
+
+/// A constant and its text.
+struct Spelled(Constant, &'static [u8]);
+
+impl Case for Spelled {
+    fn is_met(&self, _alloc: Global) -> Result<bool, Fail> {
+        Ok(self.0.bytes() == self.1)
+    }
+}
+
+const SPELLED: &[Spelled] = &[
+    Spelled(Constant::Empty, b""),
+    Spelled(Constant::Quote, b"\""),
+    Spelled(Constant::Space, b" "),
+    Spelled(Constant::Tab, b"\t"),
+    Spelled(Constant::LineFeed, b"\n"),
+    Spelled(Constant::FormFeed, b"\x0C"),
+    Spelled(Constant::False, b"false"),
+    Spelled(Constant::Ten, b"10"),
+];
+
+/// Whether a name is spelled as the word of which it is made.
+fn is_spelled_as_made(alloc: Global) -> bool {
+    match to_name(alloc, b"Sum") {
+        Ok(name) => name.text().as_slice() == b"Sum".as_slice(),
+        Err(_) => false,
+    }
 }
 
 #[test]
-fn kinds_of_texts(rt: HostRuntime) -> Result<(), Fail> {
-    let rows: &[(&[u8], &[TokenKind])] = &[
-        (
-            b"put 1 -- x",
-            &[TokenKind::Key(Key::Put), TokenKind::Number],
-        ),
-        (
-            b"1--2\r--\r3",
-            &[
-                TokenKind::Number,
-                TokenKind::Eol,
-                TokenKind::Eol,
-                TokenKind::Number,
-            ],
-        ),
-        (
-            b"<><=<&&&-(",
-            &[
-                TokenKind::Key(Key::NotEqual),
-                TokenKind::Key(Key::LessEqual),
-                TokenKind::Key(Key::Less),
-                TokenKind::Key(Key::DoubleAmpersand),
-                TokenKind::Key(Key::Ampersand),
-                TokenKind::Key(Key::Minus),
-                TokenKind::Key(Key::LeftParen),
-            ],
-        ),
-        (
-            b"\xB2\xB3\xAD",
-            &[
-                TokenKind::Key(Key::LessEqual),
-                TokenKind::Key(Key::GreaterEqual),
-                TokenKind::Key(Key::NotEqual),
-            ],
-        ),
-        (
-            b"<= >= <>",
-            &[
-                TokenKind::Key(Key::LessEqual),
-                TokenKind::Key(Key::GreaterEqual),
-                TokenKind::Key(Key::NotEqual),
-            ],
-        ),
-        (
-            b"12ab_1\t\"it's -- x\"",
-            &[TokenKind::Number, TokenKind::Name, TokenKind::Quoted],
-        ),
-        // A line goes on after the byte 194.
-        (
-            b"a\xC2 \t\rb\xC2\r\r",
-            &[TokenKind::Name, TokenKind::Name, TokenKind::Eol],
-        ),
-        (b"", &[]),
-    ];
-    for (bytes, kinds) in rows {
-        assert!(rt; has_kinds(rt.alloc(), bytes, kinds)?, "{bytes:?}");
-    }
-    Ok(())
+fn texts_are_cut_into_tokens(rt: HostRuntime) -> Result<(), Fail> {
+    check(&rt, rt.alloc(), "kinds", KINDS)?;
+    check(&rt, rt.alloc(), "placed", PLACED)?;
+    check(&rt, rt.alloc(), "stuck", STUCK)
 }
 
 #[test]
-fn synonyms_have_one_key_in_any_case(rt: HostRuntime) -> Result<(), Fail> {
-    let rows: &[(&[u8], TokenKind)] = &[
-        (b"bkgnd", TokenKind::Key(Key::Background)),
-        (b"BG", TokenKind::Key(Key::Background)),
-        (b"Prev", TokenKind::Key(Key::Previous)),
-        (b"character", TokenKind::Key(Key::Piece(ChunkKind::Char))),
-        (b"btns", TokenKind::Key(Key::Parts(PartKind::Button))),
-        (b"times", TokenKind::Name),
-    ];
-    for (word, kind) in rows {
-        assert!(rt; has_kinds(rt.alloc(), word, &[*kind])?, "{word:?}");
-    }
-    Ok(())
-}
-
-#[test]
-fn tokens_stand_at_their_places(rt: HostRuntime) -> Result<(), Fail> {
-    let put: &[u8] = b"put 1 -- x";
-    let words: &[u8] = b"12ab_1\t\"it's -- x\"";
-    let rows: &[(&[u8], usize, usize, TokenKind, &[u8])] = &[
-        (put, 0, 0, TokenKind::Key(Key::Put), b"put"),
-        (put, 1, 4, TokenKind::Number, b"1"),
-        (words, 0, 0, TokenKind::Number, b"12"),
-        (words, 1, 2, TokenKind::Name, b"ab_1"),
-        (words, 2, 7, TokenKind::Quoted, b"\"it's -- x\""),
-    ];
-    for (bytes, place, start, kind, want) in rows {
-        assert!(rt;
-            has_token(rt.alloc(), bytes, *place, *start, *kind, want)?,
-            "{want:?}"
-        );
-    }
-    Ok(())
-}
-
-#[test]
-fn the_first_byte_without_a_token_is_told(rt: HostRuntime) -> Result<(), Fail> {
-    let rows: &[(&[u8], usize)] = &[
-        (b"put \"a", 4),
-        (b"put \"a\rb\"", 4),
-        (b"ab \xC2x", 3),
-        (b"a\xC2", 1),
-        (b"1 + #2 $", 4),
-        (b"\x00", 0),
-    ];
-    for (bytes, place) in rows {
-        assert!(rt; stops_at(rt.alloc(), bytes, *place)?, "{bytes:?}");
-    }
-    Ok(())
-}
-
-#[test]
-fn a_name_is_a_word_that_is_not_reserved(rt: HostRuntime) {
-    let rows: &[(&[u8], bool)] = &[
-        (b"g", true),
-        (b"Total_1", true),
-        (b"_", true),
-        (b"mouseUp", true),
-        (b"times", true),
-        (b"put1", true),
-        (b"", false),
-        (b"1a", false),
-        (b"a b", false),
-        (b"a-b", false),
-        (b"\xE4", false),
-        (b"put", false),
-        (b"PUT", false),
-        (b"lineFeed", false),
-        (b"linefeed", false),
-    ];
-    for (word, is_one) in rows {
-        assert!(rt; is_name(word) == *is_one, "{word:?}");
-    }
-}
-
-#[test]
-fn texts_of_constants(rt: HostRuntime) {
-    let rows: &[(Constant, &[u8])] = &[
-        (Constant::Empty, b""),
-        (Constant::Quote, b"\""),
-        (Constant::Space, b" "),
-        (Constant::Tab, b"\t"),
-        (Constant::LineFeed, b"\n"),
-        (Constant::FormFeed, b"\x0C"),
-        (Constant::False, b"false"),
-        (Constant::Ten, b"10"),
-    ];
-    for (constant, bytes) in rows {
-        assert!(rt; constant.bytes() == *bytes, "{constant:?}");
-    }
-}
-
-#[test]
-fn a_name_keeps_its_spelling(rt: HostRuntime) -> Result<(), Fail> {
-    match to_name(rt.alloc(), b"Sum") {
-        Ok(name) => assert!(rt; name.text().as_slice() == b"Sum".as_slice()),
-        Err(_) => return Err("out of memory".into()),
-    }
-    Ok(())
+fn names_and_constants_have_their_texts(rt: HostRuntime) -> Result<(), Fail> {
+    check(&rt, rt.alloc(), "spelled", SPELLED)?;
+    assert!(rt; is_spelled_as_made(rt.alloc()));
+    check(&rt, rt.alloc(), "names", NAMES)
 }

@@ -1,5 +1,6 @@
 //! Trees, built by hand.
 
+use crate::cases::text_of;
 use ht_grammar::{HandlerKind, Layer};
 use ht_lex::Ordinal;
 use ht_tree::{
@@ -15,7 +16,7 @@ const BELOW: usize = 98;
 
 /// A number.
 fn number(alloc: Global) -> Result<Expr, Fail> {
-    Ok(Expr::new(alloc, ExprKind::Number(Text::from_slice(alloc, b"7")?))?)
+    Ok(Expr::new(alloc, ExprKind::Number(text_of(alloc, b"7")?))?)
 }
 
 /// An expression in parentheses.
@@ -48,7 +49,7 @@ fn number_of(alloc: Global, reference: Ref) -> Result<Expr, Fail> {
 
 /// The variable `it`.
 fn it(alloc: Global) -> Result<Container, Fail> {
-    let name = Name::new(alloc, Text::from_slice(alloc, b"it")?)?;
+    let name = Name::new(alloc, text_of(alloc, b"it")?)?;
     Ok(Container::new(alloc, ContainerKind::Variable(name))?)
 }
 
@@ -133,132 +134,178 @@ fn first_field(which: Which) -> Part {
     Part::Nth(Ordinal::First, Some(Layer::Card), PartKind::Field, owner)
 }
 
-#[test]
-fn parentheses_go_to_the_limit(rt: HostRuntime) -> Result<(), Fail> {
-    let mut tree = number(rt.alloc())?;
+/// Whether a number in as many parentheses as there can be is a tree, of this depth.
+fn is_as_deep_as_can_be(alloc: Global, depth: usize) -> Result<bool, Fail> {
+    let mut tree = number(alloc)?;
     for _ in 0..99 {
-        tree = in_parens(rt.alloc(), tree)?;
+        tree = in_parens(alloc, tree)?;
     }
-    assert_eq!(rt; tree.depth(), 100);
-    assert!(rt; matches!(tree.kind(), ExprKind::Paren(_)));
-    Ok(())
+    Ok(tree.depth() == depth && matches!(tree.kind(), ExprKind::Paren(_)))
 }
 
-#[test]
-fn an_expression_is_one_deeper_than_its_deepest_part(rt: HostRuntime) -> Result<(), Fail> {
-    let sum = sum(
-        rt.alloc(),
-        number(rt.alloc())?,
-        number_in_parens(rt.alloc())?,
-    )?;
-    assert_eq!(rt; sum.depth(), 3);
-    let words = Chunk::Pieces(ChunkKind::Word, sum, number(rt.alloc())?);
-    assert_eq!(rt; words.depth(), 3);
-    assert_eq!(rt; Chunk::NthPiece(Ordinal::Last, ChunkKind::Char).depth(), 0);
-    Ok(())
+/// The depths of a sum, and of words that it numbers.
+fn depths_of_sum(alloc: Global) -> Result<(usize, usize), Fail> {
+    let sum = sum(alloc, number(alloc)?, number_in_parens(alloc)?)?;
+    let depth = sum.depth();
+    let words = Chunk::Pieces(ChunkKind::Word, sum, number(alloc)?);
+    Ok((depth, words.depth()))
 }
 
-#[test]
-fn arguments_are_as_deep_as_the_deepest(rt: HostRuntime) -> Result<(), Fail> {
-    assert_eq!(rt; Exprs::new(rt.alloc()).depth(), 0);
-    let arguments = two_arguments(rt.alloc())?;
-    assert_eq!(rt; arguments.depth(), 2);
-    assert!(rt; matches!(arguments.items.as_slice(), [_, last] if last.depth() == 1));
+/// Whether there are two arguments, of these depths together and of the last.
+fn are_two(arguments: &Exprs, deepest: usize, last: usize) -> bool {
+    arguments.depth() == deepest
+        && matches!(arguments.items.as_slice(), [_, second] if second.depth() == last)
+}
+
+/// Whether two arguments are as deep as the deepest, and a message with them too.
+fn is_message_of_two(alloc: Global, deepest: usize, last: usize) -> Result<bool, Fail> {
     let message = Message {
-        name: Text::new(rt.alloc()),
-        arguments,
+        name: Text::new(alloc),
+        arguments: two_arguments(alloc)?,
     };
-    assert_eq!(rt; message.depth(), 2);
-    Ok(())
+    Ok(are_two(&message.arguments, deepest, last) && message.depth() == deepest)
 }
 
-#[test]
-fn a_selector_is_as_deep_as_its_number(rt: HostRuntime) -> Result<(), Fail> {
-    let which = Which::ByText(number(rt.alloc())?);
-    assert_eq!(rt; which.depth(), 1);
-    assert_eq!(rt; Selector::This.depth(), 0);
+/// The depths of the text that a selector is by, of the selector, and of an owner by it.
+fn depths_of_selector(alloc: Global) -> Result<(usize, usize, usize), Fail> {
+    let which = Which::ByText(number(alloc)?);
+    let number = which.depth();
     let selector = Selector::Which(which);
-    assert_eq!(rt; selector.depth(), 1);
-    assert_eq!(rt; Owner::NoOwner.depth(), 0);
-    assert_eq!(rt; Owner::OnBackground(selector).depth(), 2);
-    Ok(())
+    let depth = selector.depth();
+    Ok((number, depth, Owner::OnBackground(selector).depth()))
 }
 
-#[test]
-fn a_reference_is_one_node_and_its_owner_another(rt: HostRuntime) -> Result<(), Fail> {
-    let field = first_field(Which::ByText(number(rt.alloc())?));
-    assert_eq!(rt; field.depth(), 3);
+/// The depths of the field into which is typed, of a reference to it, and of its number.
+fn depths_of_field(alloc: Global) -> Result<(usize, usize, usize), Fail> {
     let typing = Typing {
-        text: Text::new(rt.alloc()),
-        field,
+        text: Text::new(alloc),
+        field: first_field(Which::ByText(number(alloc)?)),
     };
-    assert_eq!(rt; Ref::Me.depth(), 1);
+    let depth = typing.field.depth();
     let reference = Ref::Part(typing.field);
-    assert_eq!(rt; reference.depth(), 3);
-    assert_eq!(rt; number_of(rt.alloc(), reference)?.depth(), 4);
-    Ok(())
+    let one = reference.depth();
+    Ok((depth, one, number_of(alloc, reference)?.depth()))
 }
 
-#[test]
-fn each_chunk_of_a_container_is_a_node(rt: HostRuntime) -> Result<(), Fail> {
-    let word = last_word(rt.alloc())?;
-    assert_eq!(rt; word.depth(), 2);
-    assert!(rt; matches!(word.kind(), ContainerKind::Chunk(_, _)));
-    let same = made_again(rt.alloc(), word)?;
-    assert_eq!(rt; delete_line(rt.alloc(), same)?.depth(), 4);
-    Ok(())
+/// Whether the container is a chunk of another, and this deep.
+fn is_chunk(container: &Container, depth: usize) -> bool {
+    container.depth() == depth && matches!(container.kind(), ContainerKind::Chunk(_, _))
 }
 
-#[test]
-fn a_statement_is_one_deeper_than_its_deepest_part(rt: HostRuntime) -> Result<(), Fail> {
-    let put = put_after(rt.alloc(), number_in_parens(rt.alloc())?, it(rt.alloc())?)?;
-    assert_eq!(rt; put.depth(), 3);
-    assert!(rt; matches!(put.kind(), StmtKind::PutIn(Where::After, _, _)));
-    let destination = Destination::ToCard(Selector::Which(Which::ByText(number(rt.alloc())?)));
-    assert_eq!(rt; destination.depth(), 2);
-    assert_eq!(rt; go(rt.alloc(), destination)?.depth(), 3);
-    Ok(())
+/// How deep a delete of a line of this container is, when the container was taken apart and put together.
+fn depth_of_delete(alloc: Global, container: Container) -> Result<usize, Fail> {
+    let same = made_again(alloc, container)?;
+    Ok(delete_line(alloc, same)?.depth())
 }
 
-#[test]
-fn names_are_no_nodes(rt: HostRuntime) -> Result<(), Fail> {
-    let total = Name::new(rt.alloc(), Text::from_slice(rt.alloc(), b"total")?)?;
-    let names = Names::new(rt.alloc()).with(total)?;
-    assert!(rt;
-        matches!(names.items.as_slice(), [name] if name.text().as_slice() == b"total".as_slice())
-    );
-    assert_eq!(rt; Stmt::new(rt.alloc(), StmtKind::Global(names))?.depth(), 1);
-    Ok(())
+/// Whether the last word of `it` is a chunk of the first depth, and a delete in it of the second.
+fn is_deeper_by_chunks(alloc: Global, depth: usize, of_delete: usize) -> Result<bool, Fail> {
+    let word = last_word(alloc)?;
+    let is_one = is_chunk(&word, depth);
+    Ok(is_one && depth_of_delete(alloc, word)? == of_delete)
 }
 
-#[test]
-fn a_block_is_one_deeper_than_its_deepest_line(rt: HostRuntime) -> Result<(), Fail> {
-    let lines = two_lines(rt.alloc())?;
-    assert_eq!(rt; lines.depth(), 3);
-    assert!(rt; matches!(lines.items.as_slice(), [_, last] if last.depth() == 1));
-    assert_eq!(rt; Head::Forever.depth(), 0);
-    let head = Head::Times(number(rt.alloc())?);
-    assert_eq!(rt; head.depth(), 1);
-    let repeat = repeat(rt.alloc(), head, lines)?;
-    assert_eq!(rt; repeat.depth(), 4);
-    let otherwise = Stmts::new(rt.alloc()).with(repeat)?;
-    let when = unless(rt.alloc(), number(rt.alloc())?, otherwise)?;
-    assert_eq!(rt; when.depth(), 5);
-    Ok(())
+/// Whether a number in parentheses that is put after `it` is a statement of this depth.
+fn is_put(alloc: Global, depth: usize) -> Result<bool, Fail> {
+    let put = put_after(alloc, number_in_parens(alloc)?, it(alloc)?)?;
+    Ok(put.depth() == depth && matches!(put.kind(), StmtKind::PutIn(Where::After, _, _)))
 }
 
-#[test]
-fn a_script_is_as_deep_as_its_deepest_line(rt: HostRuntime) -> Result<(), Fail> {
-    let none = Script::new(rt.alloc());
-    assert_eq!(rt; none.depth(), 0);
-    let handler = Handler {
+/// The depths of a destination and of a statement that goes there.
+fn depths_of_go(alloc: Global) -> Result<(usize, usize), Fail> {
+    let destination = Destination::ToCard(Selector::Which(Which::ByText(number(alloc)?)));
+    let depth = destination.depth();
+    Ok((depth, go(alloc, destination)?.depth()))
+}
+
+/// Whether there is one name, which is spelled so.
+fn is_one_name(names: &Names, spelling: &[u8]) -> bool {
+    matches!(names.items.as_slice(), [name] if name.text().as_slice() == spelling)
+}
+
+/// A list of one name.
+fn one_name(alloc: Global, spelling: &[u8]) -> Result<Names, Fail> {
+    let name = Name::new(alloc, text_of(alloc, spelling)?)?;
+    Ok(Names::new(alloc).with(name)?)
+}
+
+/// Whether a list of one name has it, and a statement with the list is this deep.
+fn is_global(alloc: Global, spelling: &[u8], depth: usize) -> Result<bool, Fail> {
+    let names = one_name(alloc, spelling)?;
+    let is_one = is_one_name(&names, spelling);
+    Ok(is_one && Stmt::new(alloc, StmtKind::Global(names))?.depth() == depth)
+}
+
+/// Whether there are two lines, of these depths together and of the last.
+fn are_two_lines(lines: &Stmts, deepest: usize, last: usize) -> bool {
+    lines.depth() == deepest
+        && matches!(lines.items.as_slice(), [_, second] if second.depth() == last)
+}
+
+/// The depth of a statement with another one for where its condition does not hold.
+fn depth_of_unless(alloc: Global, otherwise: Stmt) -> Result<usize, Fail> {
+    let lines = Stmts::new(alloc).with(otherwise)?;
+    Ok(unless(alloc, number(alloc)?, lines)?.depth())
+}
+
+/// The depths of the head of a repeat, of the repeat of two lines, and of a statement with the repeat.
+fn depths_of_repeat(alloc: Global) -> Result<(usize, usize, usize), Fail> {
+    let head = Head::Times(number(alloc)?);
+    let depth = head.depth();
+    let repeat = repeat(alloc, head, two_lines(alloc)?)?;
+    let of_repeat = repeat.depth();
+    Ok((depth, of_repeat, depth_of_unless(alloc, repeat)?))
+}
+
+/// A function of two lines.
+fn function_of_two_lines(alloc: Global) -> Result<Handler, Fail> {
+    Ok(Handler {
         kind: HandlerKind::Function,
-        name: Text::new(rt.alloc()),
-        parameters: Names::new(rt.alloc()),
-        lines: two_lines(rt.alloc())?,
-    };
-    let script = none.with(handler)?;
-    assert_eq!(rt; script.depth(), 3);
-    assert_eq!(rt; script.handlers.len(), 1);
+        name: Text::new(alloc),
+        parameters: Names::new(alloc),
+        lines: two_lines(alloc)?,
+    })
+}
+
+/// The depth of a script of one handler, and how many handlers it has.
+fn depth_of_script(alloc: Global) -> Result<(usize, usize), Fail> {
+    let script = Script::new(alloc).with(function_of_two_lines(alloc)?)?;
+    Ok((script.depth(), script.handlers.len()))
+}
+
+/// Expressions, and what is in them, are one deeper than their deepest part; a list is as deep as its deepest.
+#[test]
+fn expressions_are_one_deeper_than_their_deepest_part(rt: HostRuntime) -> Result<(), Fail> {
+    assert!(rt; is_as_deep_as_can_be(rt.alloc(), 100)?);
+    assert!(rt; depths_of_sum(rt.alloc())? == (3, 3));
+    assert!(rt; Chunk::NthPiece(Ordinal::Last, ChunkKind::Char).depth() == 0);
+    assert!(rt; Exprs::new(rt.alloc()).depth() == 0);
+    assert!(rt; is_message_of_two(rt.alloc(), 2, 1)?);
+    assert!(rt; depths_of_selector(rt.alloc())? == (1, 1, 2));
+    assert!(rt; Selector::This.depth() == 0);
+    assert!(rt; Owner::NoOwner.depth() == 0);
+    assert!(rt; depths_of_field(rt.alloc())? == (3, 3, 4));
+    assert!(rt; Ref::Me.depth() == 1);
+    Ok(())
+}
+
+/// Each chunk of a container is a node, and no name is.
+#[test]
+fn statements_are_one_deeper_than_their_deepest_part(rt: HostRuntime) -> Result<(), Fail> {
+    assert!(rt; is_deeper_by_chunks(rt.alloc(), 2, 4)?);
+    assert!(rt; is_put(rt.alloc(), 3)?);
+    assert!(rt; depths_of_go(rt.alloc())? == (2, 3));
+    assert!(rt; is_global(rt.alloc(), b"total", 1)?);
+    Ok(())
+}
+
+/// A script is as deep as its deepest line.
+#[test]
+fn blocks_are_one_deeper_than_their_deepest_line(rt: HostRuntime) -> Result<(), Fail> {
+    assert!(rt; are_two_lines(&two_lines(rt.alloc())?, 3, 1));
+    assert!(rt; Head::Forever.depth() == 0);
+    assert!(rt; depths_of_repeat(rt.alloc())? == (1, 4, 5));
+    assert!(rt; Script::new(rt.alloc()).depth() == 0);
+    assert!(rt; depth_of_script(rt.alloc())? == (3, 1));
     Ok(())
 }
