@@ -25,7 +25,7 @@ structural_apart (Stack e) (Stack f) h = stack.structural_apart e f h
 structural_apart (Stack e) (External j p) h = refl
 structural_apart (External i q) f h = refl
 
-neither : (a b c : Bool) → a ≡ false → c ≡ false → (a || (b && c)) ≡ false
+pub neither : (a b c : Bool) → a ≡ false → c ≡ false → (a || (b && c)) ≡ false
 neither a true c p q = rw (p, q) refl
 neither a false c p q = rw p refl
 

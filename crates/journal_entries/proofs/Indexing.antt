@@ -2,6 +2,7 @@
 use Rattle.std.proofs.Common.{◌≡◌, ℕ, ◌+◌, ◌<◌, Bool, true, false, not, cond, leb, ◌&&◌, ◌||◌, List, [], ◌∷◌, ◌++◌, length, Option, Some, None, option_map, unwrap_or, refl, sym, subst, ap, ◌∙◌, arith, length-append}
 use Rattle.std.specs.List.{list_any}
 use Rattle.std.proofs.lemmas.Bool.Decides.{nat_tests}
+use Rattle.std.proofs.Math.Bool.{or-false, or-true}
 use Rattle.std.proofs.lemmas.List.Folds.{list_any-append}
 use Rattle.stack_places.specs.declared.entry.StackEntry.{StackEntry}
 use Rattle.stack_places.specs.declared.entry.StackEntry.TheVariants as stack_entries
@@ -19,10 +20,6 @@ use Rattle.journal_entries.proofs.Keys.{same_keys, one_place}
 
 -- ---- one entry more
 
-or_false : (b : Bool) → b || false ≡ b
-or_false true = refl
-or_false false = refl
-
 moved : (h a g o : Bool) → (h || o) || (not a && g) ≡ (h || (not a && g)) || o
 moved true a g o = refl
 moved false true g true = refl
@@ -39,18 +36,14 @@ held-plain e t (f ∷ es) p =
     ∙ moved (holds_one e es) (list_any is_structural es) (of_one_place e f) (of_one_place e t)
   where
     any : list_any is_structural (es ++ t ∷ []) ≡ list_any is_structural es
-    any = list_any-append is_structural es (t ∷ []) ∙ ap (λ b. list_any is_structural es || (b || false)) p ∙ or_false (list_any is_structural es)
+    any = list_any-append is_structural es (t ∷ []) ∙ ap (λ b. list_any is_structural es || (b || false)) p ∙ or-false (list_any is_structural es)
 
 held-structural : (e t : Entry) (es : List Entry) → is_structural t ≡ true → holds_one e (es ++ t ∷ []) ≡ false
 held-structural e t [] p = structural_apart e t p
 held-structural e t (f ∷ es) p = λ i. held-structural e t es p i || (not (any i) && of_one_place e f)
   where
-    or_true : (b : Bool) → b || true ≡ true
-    or_true true = refl
-    or_true false = refl
-
     any : list_any is_structural (es ++ t ∷ []) ≡ true
-    any = list_any-append is_structural es (t ∷ []) ∙ ap (λ b. list_any is_structural es || (b || false)) p ∙ or_true (list_any is_structural es)
+    any = list_any-append is_structural es (t ∷ []) ∙ ap (λ b. list_any is_structural es || (b || false)) p ∙ or-true (list_any is_structural es)
 
 -- ---- what is known of the latest
 
@@ -96,12 +89,8 @@ indexed-placed es t key closed old new is updates h = record {
     behind = let few = h.few in grind (arith, nat_tests)
 
     found : (q : PlaceKey) (b : Bool) → unwrap_or (option_map (λ i. leb closed i) (old q)) false || b ≡ unwrap_or (option_map (λ i. leb closed i) (cond b (Some (length es)) (old q))) false
-    found q true = or_true (unwrap_or (option_map (λ i. leb closed i) (old q)) false) ∙ sym behind
-      where
-        or_true : (b : Bool) → b || true ≡ true
-        or_true true = refl
-        or_true false = refl
-    found q false = or_false (unwrap_or (option_map (λ i. leb closed i) (old q)) false)
+    found q true = or-true (unwrap_or (option_map (λ i. leb closed i) (old q)) false) ∙ sym behind
+    found q false = or-false (unwrap_or (option_map (λ i. leb closed i) (old q)) false)
 
     by : (o : Option PlaceKey) → is_held closed old o || same_keys (Some key) o ≡ is_held closed new o
     by None = refl
@@ -130,7 +119,7 @@ indexed-structural es t closed latest is h = record {
 -- one of an external
 pub indexed-turned : (es : List Entry) (t : Entry) (closed : ℕ) (latest : PlaceKey → Option ℕ) → key_of t ≡ None → is_structural t ≡ false → IsIndexed es closed latest → IsIndexed (es ++ t ∷ []) closed latest
 indexed-turned es t closed latest none plain h = record {
-  held = λ e. held-plain e t es plain ∙ (λ i. h.held e i || one_place e t i) ∙ ap (λ k. is_held closed latest (key_of e) || same_keys k (key_of e)) none ∙ or_false (is_held closed latest (key_of e));
+  held = λ e. held-plain e t es plain ∙ (λ i. h.held e i || one_place e t i) ∙ ap (λ k. is_held closed latest (key_of e) || same_keys k (key_of e)) none ∙ or-false (is_held closed latest (key_of e));
   within = λ q i found. omega (arith, longer es t, h.within q i found);
   few = omega (arith, longer es t, h.few);
 }

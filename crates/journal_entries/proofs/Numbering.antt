@@ -2,7 +2,7 @@
 use Rattle.std.proofs.Common.{◌≡◌, ◌≢◌, ℕ, suc, ◌+◌, ◌<◌, ◌≤◌, Bool, true, false, cond, not, nat_lt, ◌||◌, bytes_eq, List, [], ◌∷◌, ◌++◌, length, map, get_or, refl, sym, ap, ◌∙◌, arith, Option, Some, None, IfSome, IfNone}
 use Rattle.std.specs.List.{position, position_or_len, prefix_len, list_any}
 use Rattle.std.proofs.lemmas.List.Sums.{prefix_len_passes, prefix_len_stops}
-use Rattle.std.proofs.lemmas.Bool.{ltb-true, ltb-false}
+use Rattle.std.proofs.lemmas.Bool.{ltb-true, ltb-false, not-false, not-true}
 use Rattle.std.proofs.lemmas.Slice.Eq.{bytes_eq-Decides}
 use Rattle.std.proofs.lemmas.List.{map-append}
 use Rattle.stack_places.proofs.Exchanging.{false_true}
@@ -18,19 +18,11 @@ first-map : {X : Type 0} (f : X → List ℕ) (name : List ℕ) (ks : List X) �
 first-map f name [] = refl
 first-map f name (k ∷ ks) = ap (λ n. cond (not (is name (f k))) (1 + n) 0) (first-map f name ks)
 
-not_false : (b : Bool) → not b ≡ false → b ≡ true
-not_false true h = refl
-not_false false h = false_true (sym h)
-
-not_true : (b : Bool) → not b ≡ true → b ≡ false
-not_true true h = false_true h
-not_true false h = refl
-
 first-here : (name : List ℕ) (ns : List (List ℕ)) → first name ns < length ns → get_or ns (first name ns) [] ≡ name
-first-here name ns h = sym ((bytes_eq-Decides name (get_or ns (first name ns) [])).0 (not_false (is name (get_or ns (first name ns) [])) (prefix_len_stops (λ n. not (is name n)) ns [] h)))
+first-here name ns h = sym ((bytes_eq-Decides name (get_or ns (first name ns) [])).0 (not-false (is name (get_or ns (first name ns) [])) (prefix_len_stops (λ n. not (is name n)) ns [] h)))
 
 first-past : (name : List ℕ) (ns : List (List ℕ)) (k : ℕ) → k < first name ns → get_or ns k [] ≢ name
-first-past name ns k h e = false_true (sym (not_true (is name (get_or ns k [])) (prefix_len_passes (λ n. not (is name n)) ns k [] h)) ∙ (bytes_eq-Decides name (get_or ns k [])).1 (sym e))
+first-past name ns k h e = false_true (sym (not-true (is name (get_or ns k [])) (prefix_len_passes (λ n. not (is name n)) ns k [] h)) ∙ (bytes_eq-Decides name (get_or ns k [])).1 (sym e))
 
 found : (n m i : ℕ) → cond (nat_lt n m) (Some n) None ≡ Some i → (n < m) × (n ≡ i)
 found n m i h =

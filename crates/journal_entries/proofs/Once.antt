@@ -26,6 +26,7 @@ use Rattle.journal_entries.specs.Changing.{holds_one, kept}
 use Rattle.journal_entries.specs.declared.entry.Entry.{Entry}
 use Rattle.journal_entries.specs.declared.entry.Entry.TheVariants.{Global, Current, Stack, External}
 use Rattle.journal_entries.proofs.Marks.{stack_mark, stack_marked}
+use Rattle.journal_entries.proofs.Holding.{neither}
 use Rattle.journal_entries.proofs.Naming.{antisymmetric}
 use Rattle.journal_entries.proofs.Replacing.{bytes_differ}
 use Rattle.journal_entries.proofs.Weighing.{trail_of-recorded}
@@ -297,10 +298,6 @@ at_is names h p (External i q) f m only n r = let none : turned ≡ at p → ⊥
 apart_from : (e : Entry) → ((f : Entry) → of_one_place e f ≡ false) → (es : List Entry) → holds_one e es ≡ false
 apart_from e h [] = refl
 apart_from e h (f ∷ es) = neither (holds_one e es) (not (list_any is_structural es)) (of_one_place e f) (apart_from e h es) (h f)
-  where
-    neither : (a b c : Bool) → a ≡ false → c ≡ false → (a || (b && c)) ≡ false
-    neither a true c p q = rw (p, q) refl
-    neither a false c p q = rw p refl
 
 stack_from : (e f : StackEntry) → stack_is_structural e ≡ true → stack_of_one_place e f ≡ false
 unfolding stack_of_one_place stack_is_structural

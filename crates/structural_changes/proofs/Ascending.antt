@@ -1,5 +1,6 @@
 -- Lists of ids, and of pairs of them, that ascend.
 use Rattle.std.proofs.Common.{◌≡◌, ℕ, Bool, true, false, cond, ◌&&◌, ◌||◌, List, [], ◌∷◌, filter, map, nat_eq, eqb, refl, sym, subst, ap, ◌∙◌, T, Option, Some, None, is_some, option_map, option_and_then, unwrap_or}
+use Rattle.std.proofs.Math.Bool.{and-true}
 use Rattle.std.proofs.lemmas.Bool.{false≢true}
 use Rattle.std.proofs.lemmas.Cmp.{tied_itself}
 use Rattle.std.proofs.lemmas.List.Kept.{IsStrictlySortedBy-filter, IsStrictlySortedBy-dedup}
@@ -167,10 +168,6 @@ cards_found s w background id = contains-filter id (is_card_of s background) s.c
 pub parts_found : (s : Content) (p : Kind → Bool) (background id : ℕ) → contains_id id (filter (has_kind p s) (parts_at s background)) ≡ is_part_of p s background id && is_some (object_at s id)
 parts_found s p background id = contains-filter id (has_kind p s) (parts_at s background) ∙ by (object_at s id) (contains_id id (parts_at s background))
   where
-    and_true : (b : Bool) → b ≡ b && true
-    and_true true = refl
-    and_true false = refl
-
     by : (found : Option Object) (b : Bool) → unwrap_or (option_map (λ o. p o.kind) found) false && b ≡ (unwrap_or (option_map (λ o. p o.kind) found) false && b) && is_some found
     by None b = refl
-    by (Some o) b = and_true (p o.kind && b)
+    by (Some o) b = sym (and-true (p o.kind && b))

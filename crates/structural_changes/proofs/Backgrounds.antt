@@ -1,5 +1,6 @@
 -- A stack stays well formed when a background is made, with its card.
 use Rattle.std.proofs.Common.{◌≡◌, ℕ, ◌+◌, ◌≤◌, Bool, true, false, cond, ◌&&◌, ◌||◌, ◌==◌, List, [], ◌∷◌, ◌++◌, filter, flat_map, length, nat_eq, leb, refl, sym, subst, ap, ◌∙◌, arith, rules, Option, Some, None, IsTrue, IfSome, is_some, option_map, option_and_then, unwrap_or, ◌↔◌, T}
+use Rattle.std.proofs.Math.Bool.{or-true}
 use Rattle.std.proofs.lemmas.Bool.{le-leb}
 use Rattle.std.proofs.lemmas.Bool.Decides.{nat_tests}
 use Rattle.std.proofs.Math.Facts.{leb_yes}
@@ -19,7 +20,7 @@ use Rattle.structural_changes.proofs.Filled.{filled_for}
 use Rattle.structural_changes.proofs.Formed.{IsFormed, HasCards, formed, whole}
 use Rattle.structural_changes.proofs.Grown.{objects_and, same_id, none_at_new, found-with, found-as_before, ids-with, count-with, names-with}
 use Rattle.structural_changes.proofs.Parts.{passes, bool_iff, iff_bool, and_false, both}
-use Rattle.structural_changes.proofs.Tallies.{one_if, tally, total-append, total-flat_map, named-tally, tally-named}
+use Rattle.structural_changes.proofs.Tallies.{one_if, tally, total-append, total-flat_map, named-tally, tally-named, itself}
 
 -- the stack with a background, which has no card yet
 abbrev pub with_background : Content → Content
@@ -32,10 +33,6 @@ with_background s = record s {
 
 no_more : (n : ℕ) → n + 0 ≡ n
 no_more n = omega arith
-
-or_true : (b : Bool) → b || true ≡ true
-or_true true = refl
-or_true false = refl
 
 one_longer : (xs : List ℕ) (x : ℕ) → 1 ≤ length (xs ++ x ∷ [])
 one_longer [] x = omega arith
@@ -128,7 +125,7 @@ module _ (s : Content) (w : IsFormed s) (room : has_room_for 1 s ≡ true) where
     where
       still : (found : Option ℕ) → IfSome found (λ b. IsTrue (has_kind is_background s b)) → IfSome found (λ b. IsTrue (has_kind is_background now b))
       still None h = tt
-      still (Some b) h = kinds is_background refl b ∙ ap (λ x. nat_eq b s.next || x) h ∙ or_true (nat_eq b s.next)
+      still (Some b) h = kinds is_background refl b ∙ ap (λ x. nat_eq b s.next || x) h ∙ or-true (nat_eq b s.next)
 
 -- ---- with its card
 
@@ -176,9 +173,6 @@ new_background_fits s card w room = (subst IsWellFormed (sym (written s f card))
     second =
         let count : object_count (with_background s) ≤ object_count s + 1 = count-with s f (empty_object (Background false)) in
         λ i. le-leb (s.next + 1 + 1) 1000001 (let h = high in omega arith) i && le-leb (object_count (with_background s) + 1) 10000 (let h = few in omega arith) i
-
-    itself : (n : ℕ) → nat_eq n n ≡ true
-    itself n = grind (arith, nat_tests)
 
     live : has_kind is_background (with_background s) s.next ≡ true
     live = kinds s f first is_background refl s.next ∙ ap (λ b. b || has_kind is_background s s.next) (itself s.next)

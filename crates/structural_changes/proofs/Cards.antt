@@ -1,5 +1,6 @@
 -- A stack stays well formed when a card is made.
 use Rattle.std.proofs.Common.{◌≡◌, ℕ, ◌+◌, ◌≤◌, Bool, true, false, cond, ◌&&◌, ◌||◌, ◌==◌, List, [], flat_map, nat_eq, leb, refl, sym, subst, ap, ◌∙◌, arith, rules, Option, Some, None, IsTrue, IfSome, is_some, option_map, option_and_then, unwrap_or, ◌↔◌, T}
+use Rattle.std.proofs.Math.Bool.{and-true}
 use Rattle.std.proofs.lemmas.Bool.{false≢true}
 use Rattle.std.proofs.lemmas.Bool.Decides.{nat_tests}
 use Rattle.std.proofs.Math.Facts.{leb_yes}
@@ -66,17 +67,13 @@ module _ (s : Content) (w : IsFormed s) where
   pub nothing_listed : parts_at s s.next ≡ []
   nothing_listed = ap (λ found. unwrap_or found []) no_list
 
-and_true : (b : Bool) → b && true ≡ b
-and_true true = refl
-and_true false = refl
-
 -- what is one of a background's parts is there
 contains-parts_of : (s : Content) (p : Kind → Bool) (background id : ℕ) → contains_id id (ids_where s (is_part_of p s background)) ≡ is_part_of p s background id
 contains-parts_of s p background id = contains-ids_where s (is_part_of p s background) id ∙ by (object_at s id) (contains_id id (parts_at s background))
   where
     by : (found : Option Object) (b : Bool) → (passes p found && b) && is_some found ≡ passes p found && b
     by None b = refl
-    by (Some o) b = and_true (p o.kind && b)
+    by (Some o) b = and-true (p o.kind && b)
 
 -- ---- the stack with a card
 

@@ -1,6 +1,7 @@
 -- A stack stays well formed when a card goes, and with the last one its background.
 use Rattle.std.proofs.Common.{◌≡◌, ℕ, zero, suc, ◌+◌, ◌≤◌, Bool, true, false, cond, not, ◌&&◌, ◌||◌, ◌==◌, List, [], ◌∷◌, ◌++◌, filter, flat_map, length, nat_eq, refl, sym, subst, ap, ◌∙◌, arith, Option, Some, None, IsTrue, IfSome, is_some, option_map, option_and_then, unwrap_or, ◌↔◌, if◌then◌else◌, T}
-use Rattle.std.proofs.lemmas.Bool.{false≢true}
+use Rattle.std.proofs.Math.Bool.{or-true, and-true}
+use Rattle.std.proofs.lemmas.Bool.{false≢true, not-false, not-true}
 use Rattle.std.proofs.lemmas.Bool.Decides.{nat_tests}
 use Rattle.std.proofs.Math.Facts.{leb_yes}
 use Rattle.std.specs.List.{list_all}
@@ -18,11 +19,11 @@ use Rattle.object_table.proofs.Pairs.{pair_cmp_total, pair_cmp-IsAntisymmetric}
 use Rattle.stack_places.specs.Places.{put, card_order, background_order, ids}
 use Rattle.structural_changes.specs.Writes.{put_each, write, writes_of_deletion, clears_of_deletion, fits_deletion, first_or, behind, following, home, without, is_card_of, is_last_card, goes_as_layer, goes_as_part, goes_as_content, ids_where}
 use Rattle.structural_changes.proofs.Cards.{card_home, live_home}
-use Rattle.structural_changes.proofs.Filled.{cleared, all_cleared, get-cleared_where, len-cleared}
+use Rattle.structural_changes.proofs.Filled.{cleared, all_cleared, get-cleared_where, len-cleared, nat_eq_sym}
 use Rattle.structural_changes.proofs.Formed.{formed}
 use Rattle.structural_changes.proofs.Grown.{same_id}
-use Rattle.structural_changes.proofs.Parts.{passes, bool_iff, iff_bool, and_false, both}
-use Rattle.structural_changes.proofs.Tallies.{one_if, total, tally, total-flat_map, contains-tally, named-tally, tally-named, one_member}
+use Rattle.structural_changes.proofs.Parts.{passes, bool_iff, iff_bool, and_false, both, card_is_layer, background_is_layer}
+use Rattle.structural_changes.proofs.Tallies.{one_if, total, tally, total-flat_map, contains-tally, named-tally, tally-named, one_member, itself}
 
 -- ---- lists without an id
 
@@ -58,12 +59,8 @@ total-among : (g h : ℕ → ℕ) (xs : List ℕ) → ((x : ℕ) → contains_id
 total-among g h [] e = refl
 total-among g h (x ∷ xs) e =
     let first : g x ≡ h x = e x (let itself : nat_eq x x ≡ true = grind (arith, nat_tests) in ap (λ b. b || contains_id x xs) itself) in
-    let rest : total g xs ≡ total h xs = total-among g h xs (λ y more. e y (ap (λ b. nat_eq x y || b) more ∙ or_true (nat_eq x y))) in
+    let rest : total g xs ≡ total h xs = total-among g h xs (λ y more. e y (ap (λ b. nat_eq x y || b) more ∙ or-true (nat_eq x y))) in
     omega arith
-  where
-    or_true : (b : Bool) → b || true ≡ true
-    or_true true = refl
-    or_true false = refl
 
 -- ---- what goes is a layer or a part
 
@@ -133,14 +130,6 @@ all-fails p (x ∷ xs) e = by (λ h. all-fails p xs h) (p x) refl e
 neither : (a b : Bool) → a || b ≡ false → (a ≡ false) × (b ≡ false)
 neither true b e = absurd (false≢true (sym e))
 neither false b e = (refl, e)
-
-not_false : (b : Bool) → not b ≡ false → b ≡ true
-not_false true e = refl
-not_false false e = absurd (false≢true (sym e))
-
-not_back : (b : Bool) → not b ≡ true → b ≡ false
-not_back true e = absurd (false≢true e)
-not_back false e = refl
 
 only : (a l : Bool) → (a || (l && false)) || (false || (l && false)) ≡ a
 only true l = refl
@@ -270,16 +259,13 @@ module _ (s : Content) (w : IsWellFormed s) (c : ℕ) (e : has_kind is_card s c 
       rest : ℕ → ℕ
       rest id = total (λ x. cond (nat_eq x y) 0 (one_if (nat_eq x id))) order
 
-      turned : (a b : ℕ) → nat_eq a b ≡ nat_eq b a
-      turned a b = grind (arith, nat_tests)
-
       lost : (id : ℕ) → one_if (has_kind of_layer s id) ≡ total (λ x. cond (nat_eq x y) 0 (one_if (nat_eq x id))) order + one_if (nat_eq id y)
       lost id =
           let once : tally y order ≤ 1 = (let is_one : tally y order ≡ 1 = named-tally (has_kind of_layer s) order layers y ∙ ap one_if is in omega arith) in
           sym (named-tally (has_kind of_layer s) order layers id)
           ∙ total-lost (λ x. one_if (nat_eq x id)) y order once
           ∙ ap (λ b. total (λ x. cond (nat_eq x y) 0 (one_if (nat_eq x id))) order + cond b (one_if (nat_eq y id)) 0) (layers.each y ∙ is)
-          ∙ ap (λ b. total (λ x. cond (nat_eq x y) 0 (one_if (nat_eq x id))) order + one_if b) (turned y id)
+          ∙ ap (λ b. total (λ x. cond (nat_eq x y) 0 (one_if (nat_eq x id))) order + one_if b) (nat_eq_sym y id)
 
       by : (id : ℕ) (a : Bool) → has_kind of_layer s id ≡ a → (b : Bool) → nat_eq id y ≡ b → total (λ x. cond (nat_eq x y) 0 (one_if (nat_eq x id))) order ≡ one_if (not b && a)
       by id true q true z = let sum : 1 ≡ total (λ x. cond (nat_eq x y) 0 (one_if (nat_eq x id))) order + 1 = sym (ap one_if q) ∙ lost id ∙ ap (λ b. total (λ x. cond (nat_eq x y) 0 (one_if (nat_eq x id))) order + one_if b) z in omega arith
@@ -332,22 +318,14 @@ module _ (s : Content) (w : IsWellFormed s) (c : ℕ) (e : has_kind is_card s c 
     where
       as_layer : (x : Option Object) → passes is_card x ≡ true → passes is_layer x ≡ true
       as_layer None h = absurd (false≢true h)
-      as_layer (Some o) h = of_kind o.kind h
-        where
-          of_kind : (k : Kind) → is_card k ≡ true → is_layer k ≡ true
-          of_kind (Card b x) h = refl
-          of_kind _ h = absurd (false≢true h)
+      as_layer (Some o) h = card_is_layer o.kind h
 
   goes-background : (z : ℕ) → has_kind is_background s z ≡ true → goes_as_layer s c z ≡ is_last_card s c && nat_eq z (home s c)
   goes-background z is = sym (gone-layer z (as_layer (object_at s z) is)) ∙ gone-background z is
     where
       as_layer : (x : Option Object) → passes is_background x ≡ true → passes is_layer x ≡ true
       as_layer None h = absurd (false≢true h)
-      as_layer (Some o) h = of_kind o.kind h
-        where
-          of_kind : (k : Kind) → is_background k ≡ true → is_layer k ≡ true
-          of_kind (Background x) h = refl
-          of_kind _ h = absurd (false≢true h)
+      as_layer (Some o) h = background_is_layer o.kind h
 
   cards_left : NamesEach (has_kind is_card now) now.cards
   cards_left = subst (λ p. NamesEach p (without c s.cards)) (λ i id. sym (left-by is_card (λ x. nat_eq x c) gone-card id) i) (order_without is_card s.cards c w.cards e)
@@ -369,9 +347,6 @@ module _ (s : Content) (w : IsWellFormed s) (c : ℕ) (e : has_kind is_card s c 
       ∙ ap one_if (sym (left-by is_background_part (λ x. false) (λ x is. gone-background_part x is ∙ ap (λ b. b && contains_id x (parts_at s (home s c))) q) id)))
 
   -- ---- the last card of a background
-
-  itself : (n : ℕ) → nat_eq n n ≡ true
-  itself n = grind (arith, nat_tests)
 
   home_of_c : background_at s c ≡ Some (home s c)
   home_of_c = card_home s c e
@@ -403,7 +378,7 @@ module _ (s : Content) (w : IsWellFormed s) (c : ℕ) (e : has_kind is_card s c 
   another more =
       let other = all-fails (λ x. nat_eq x c || not (is_card_of s (home s c) x)) s.cards more in
       let parts = neither (nat_eq other.0 c) (not (is_card_of s (home s c) other.0)) other.1 in
-      (other.0, (on (background_at s other.0) (not_false _ parts.1), parts.0))
+      (other.0, (on (background_at s other.0) (not-false _ parts.1), parts.0))
     where
       on : (x : Option ℕ) → unwrap_or (option_map (λ b. nat_eq b (home s c)) x) false ≡ true → x ≡ Some (home s c)
       on None h = absurd (false≢true h)
@@ -437,22 +412,18 @@ module _ (s : Content) (w : IsWellFormed s) (c : ℕ) (e : has_kind is_card s c 
   has_cards id h =
       let parts = both (not (gone s c id)) (has_kind is_background s id) (sym (left is_background id) ∙ h) in
       let old = w.some_card id parts.1 in
-      by old.0 old.1 (sym (gone-background id parts.1) ∙ not_back _ parts.0) (nat_eq old.0 c) refl
+      by old.0 old.1 (sym (gone-background id parts.1) ∙ not-true _ parts.0) (nat_eq old.0 c) refl
     where
       by : (card : ℕ) → background_at s card ≡ Some id → is_last_card s c && nat_eq id (home s c) ≡ false → (b : Bool) → nat_eq card c ≡ b → (k : ℕ) × (background_at now k ≡ Some id)
       by card q alive false z = (card, stays card id q z)
       by card q alive true z =
           let same : home s c ≡ id = unsome (sym home_of_c ∙ ap (background_at s) (sym (same_id card c z)) ∙ q) in
-          let more : is_last_card s c ≡ false = sym (true_right (is_last_card s c)) ∙ ap (λ b. is_last_card s c && b) (sym (ap (λ x. nat_eq x (home s c)) (sym same) ∙ itself (home s c))) ∙ alive in
+          let more : is_last_card s c ≡ false = sym (and-true (is_last_card s c)) ∙ ap (λ b. is_last_card s c && b) (sym (ap (λ x. nat_eq x (home s c)) (sym same) ∙ itself (home s c))) ∙ alive in
           let other = another more in
           (other.0, stays other.0 id (other.1.0 ∙ ap (λ x. Some x) same) other.1.1)
         where
           unsome : {a b : ℕ} → Some a ≡ Some b → a ≡ b
           unsome p = ap (λ x. unwrap_or x 0) p
-
-          true_right : (b : Bool) → b && true ≡ b
-          true_right true = refl
-          true_right false = refl
 
   -- a second card
   second : (xs : List ℕ) → 2 ≤ length xs → tally c xs ≤ 1 → (d : ℕ) × ((contains_id d xs ≡ true) × (nat_eq d c ≡ false))
@@ -464,11 +435,7 @@ module _ (s : Content) (w : IsWellFormed s) (c : ℕ) (e : has_kind is_card s c 
       here = ap (λ b. b || contains_id x (y ∷ zs)) (itself x)
 
       there : contains_id y (x ∷ y ∷ zs) ≡ true
-      there = ap (λ b. nat_eq x y || (b || contains_id y zs)) (itself y) ∙ or_true (nat_eq x y)
-        where
-          or_true : (b : Bool) → b || true ≡ true
-          or_true true = refl
-          or_true false = refl
+      there = ap (λ b. nat_eq x y || (b || contains_id y zs)) (itself y) ∙ or-true (nat_eq x y)
 
       by : (a : Bool) → nat_eq x c ≡ a → (b : Bool) → nat_eq y c ≡ b → (d : ℕ) × ((contains_id d (x ∷ y ∷ zs) ≡ true) × (nat_eq d c ≡ false))
       by false p b q = (x, (here, p))
@@ -701,13 +668,6 @@ behind_another c [] once x rest e = absurd (not_nil e)
     not_nil p = false≢true (sym (ap is_nil p))
 behind_another c (y ∷ ys) once x rest e = by (λ few q. behind_another c ys few x rest q) (nat_eq y c) refl once e
   where
-    itself : (n : ℕ) → nat_eq n n ≡ true
-    itself n = grind (arith, nat_tests)
-
-    or_true : (b : Bool) → b || true ≡ true
-    or_true true = refl
-    or_true false = refl
-
     other : (b : Bool) → nat_eq x c ≡ b → one_if b + tally c rest ≤ 0 → b ≡ false
     other false q few = refl
     other true q few = absurd (omega arith)
@@ -715,17 +675,14 @@ behind_another c (y ∷ ys) once x rest e = by (λ few q. behind_another c ys fe
     by : (tally c ys ≤ 1 → behind c ys ≡ x ∷ rest → (contains_id x ys ≡ true) × (nat_eq x c ≡ false)) → (b : Bool) → nat_eq y c ≡ b → one_if b + tally c ys ≤ 1 → cond b ys (behind c ys) ≡ x ∷ rest → (contains_id x (y ∷ ys) ≡ true) × (nat_eq x c ≡ false)
     by again true q few p =
         let none : one_if (nat_eq x c) + tally c rest ≤ 0 = subst (λ l. tally c l ≤ 0) p (omega arith) in
-        (ap (λ b. nat_eq y x || b) (ap (contains_id x) p ∙ ap (λ b. b || contains_id x rest) (itself x)) ∙ or_true (nat_eq y x), other (nat_eq x c) refl none)
-    by again false q few p = let found = again (let less : 0 + tally c ys ≤ 1 = few in omega arith) p in (ap (λ b. nat_eq y x || b) found.0 ∙ or_true (nat_eq y x), found.1)
+        (ap (λ b. nat_eq y x || b) (ap (contains_id x) p ∙ ap (λ b. b || contains_id x rest) (itself x)) ∙ or-true (nat_eq y x), other (nat_eq x c) refl none)
+    by again false q few p = let found = again (let less : 0 + tally c ys ≤ 1 = few in omega arith) p in (ap (λ b. nat_eq y x || b) found.0 ∙ or-true (nat_eq y x), found.1)
 
 -- the last of two or more isn't the first
 last_of_many : (c : ℕ) (xs : List ℕ) → 2 ≤ length xs → contains_id c xs ≡ true → behind c xs ≡ [] → (contains_id (first_or c xs) xs ≡ true) × (nat_eq (first_or c xs) c ≡ false)
 last_of_many c [] many e q = absurd (omega arith)
 last_of_many c (x ∷ xs) many e q = by (nat_eq x c) refl q
   where
-    itself : (n : ℕ) → nat_eq n n ≡ true
-    itself n = grind (arith, nat_tests)
-
     by : (b : Bool) → nat_eq x c ≡ b → cond b xs (behind c xs) ≡ [] → (contains_id x (x ∷ xs) ≡ true) × (nat_eq x c ≡ false)
     by true p z = absurd (let short : length xs ≡ 0 = ap length z in omega arith)
     by false p z = (ap (λ b. b || contains_id x xs) (itself x), p)

@@ -1,5 +1,6 @@
 -- What goes with a card, as it is found.
 use Rattle.std.proofs.Common.{◌≡◌, ℕ, ◌+◌, ◌≤◌, Bool, true, false, cond, not, ◌&&◌, ◌||◌, ◌==◌, List, [], ◌∷◌, ◌++◌, filter, flat_map, map, nat_eq, refl, sym, subst, ap, ◌∙◌, arith, Option, Some, None, IsTrue, IfSome, is_some, option_map, unwrap_or, if◌then◌else◌}
+use Rattle.std.proofs.Math.Bool.{or-true, or-false, and-true}
 use Rattle.std.proofs.lemmas.Bool.{false≢true}
 use Rattle.std.proofs.lemmas.Bool.Decides.{nat_tests}
 use Rattle.std.proofs.lemmas.List.Folds.{list_any-append}
@@ -26,15 +27,11 @@ use Rattle.structural_changes.proofs.Deletion.{total-lost, and_passes, card_part
 use Rattle.structural_changes.proofs.Filled.{any-filter, nat_eq_sym}
 use Rattle.structural_changes.proofs.Grown.{same_id}
 use Rattle.structural_changes.proofs.Parts.{passes, bool_iff, and_false, both}
-use Rattle.structural_changes.proofs.Tallies.{one_if, total, tally, total-flat_map, contains-tally, named-tally, one_member}
+use Rattle.structural_changes.proofs.Tallies.{one_if, total, tally, total-flat_map, contains-tally, named-tally, one_member, at_most_one}
 
 implied : (a b : Bool) → (a ≡ true → b ≡ true) → a ≡ a && b
 implied true b h = sym (h refl)
 implied false b h = refl
-
-or_true : (b : Bool) → b || true ≡ true
-or_true true = refl
-or_true false = refl
 
 or_assoc : (a b c : Bool) → (a || b) || c ≡ a || (b || c)
 or_assoc true b c = refl
@@ -63,10 +60,6 @@ member-tally id xs e = by (nat_eq (tally id xs) 0) refl (sym (contains-tally id 
 one_layer : (s : Content) (of_layer of_part : Kind → Bool) (order : List ℕ) → NamesEach (has_kind of_layer s) order → NamesEach (has_kind of_part s) (flat_map (parts_at s) order) → (y z id : ℕ) → has_kind of_layer s y ≡ true → has_kind of_layer s z ≡ true → contains_id id (parts_at s y) ≡ true → contains_id id (parts_at s z) ≡ true → nat_eq z y ≡ true
 one_layer s of_layer of_part order layers parts y z id is_y is_z in_y in_z = by (nat_eq z y) refl
   where
-    at_most_one : (b : Bool) → one_if b ≤ 1
-    at_most_one true = omega arith
-    at_most_one false = omega arith
-
     by : (b : Bool) → nat_eq z y ≡ b → b ≡ true
     by true q = refl
     by false q = absurd (
@@ -114,11 +107,7 @@ found_goes false false false true z a b d = and_false z
 found_goes false false false false z a b d = and_false z
 
 if_kept : (t k p h l z : Bool) → (t ≡ true → ((k && p) || (k && h)) || (z && (l && h)) ≡ k || (p || (l && h))) → ((t && (k && p)) || (t && (k && h))) || (t && (z && (l && h))) ≡ (k || (p || (l && h))) && t
-if_kept true k p h l z e = e refl ∙ sym (and_true (k || (p || (l && h))))
-  where
-    and_true : (b : Bool) → b && true ≡ b
-    and_true true = refl
-    and_true false = refl
+if_kept true k p h l z e = e refl ∙ sym (and-true (k || (p || (l && h))))
 if_kept false k p h l z e = sym (and_false (k || (p || (l && h))))
 
 -- what these parts keep for a card, or for 0
@@ -129,15 +118,11 @@ module _ (s : Content) (w : IsWellFormed s) (c : ℕ) (e : has_kind is_card s c 
   -- ---- layers and objects
 
   layers_found : (id : ℕ) → contains_id id (c ∷ (if is_last_card s c then home s c ∷ [] else [])) ≡ goes_as_layer s c id
-  layers_found id = (λ i. nat_eq_sym c id i || (contains-if id (is_last_card s c) (home s c ∷ []) ∙ ap (λ b. is_last_card s c && b) (one (nat_eq (home s c) id) ∙ nat_eq_sym (home s c) id)) i)
-    where
-      one : (b : Bool) → b || false ≡ b
-      one true = refl
-      one false = refl
+  layers_found id = (λ i. nat_eq_sym c id i || (contains-if id (is_last_card s c) (home s c ∷ []) ∙ ap (λ b. is_last_card s c && b) (or-false (nat_eq (home s c) id) ∙ nat_eq_sym (home s c) id)) i)
 
   goes_is_layer : (id : ℕ) → goes_as_layer s c id ≡ true → has_kind is_layer s id ≡ true
   goes_is_layer id h = one_of (nat_eq id c) (is_last_card s c && nat_eq id (home s c)) h (has_kind is_layer s id ≡ true)
-      (λ q. has_kind-weaker is_card is_layer s id (λ k a. ap (λ b. is_background k || b) a ∙ or_true (is_background k)) (ap (has_kind is_card s) (same_id id c q) ∙ e))
+      (λ q. has_kind-weaker is_card is_layer s id (λ k a. ap (λ b. is_background k || b) a ∙ or-true (is_background k)) (ap (has_kind is_card s) (same_id id c q) ∙ e))
       (λ q. has_kind-weaker is_background is_layer s id (λ k a. ap (λ b. b || is_card k) a) (ap (has_kind is_background s) (same_id id (home s c) (both _ _ q).1) ∙ live s w c e))
 
   pub found_layers : (id : ℕ) → contains_id id (c ∷ (if is_last_card s c then home s c ∷ [] else [])) ≡ goes_as_layer s c id && is_some (get s.parts id)
@@ -199,7 +184,7 @@ module _ (s : Content) (w : IsWellFormed s) (c : ℕ) (e : has_kind is_card s c 
   -- a part that stands on the background of the last card keeps something for that card and for 0
   of_background : (f k : ℕ) → is_kept_for s f k ≡ true → is_last_card s c ≡ true → contains_id f (parts_at s (home s c)) ≡ true → nat_eq k c || nat_eq k 0 ≡ true
   of_background f k h last on_b = one_of (k == 0) (is_on_background_of s f k) h (nat_eq k c || nat_eq k 0 ≡ true)
-      (λ q. ap (λ b. nat_eq k c || b) q ∙ or_true (nat_eq k c))
+      (λ q. ap (λ b. nat_eq k c || b) q ∙ or-true (nat_eq k c))
       (λ q. by (background_at s k) refl q)
     where
       by : (x : Option ℕ) → background_at s k ≡ x → unwrap_or (option_map (λ b. contains_id f (parts_at s b)) x) false ≡ true → nat_eq k c || nat_eq k 0 ≡ true
@@ -229,7 +214,7 @@ module _ (s : Content) (w : IsWellFormed s) (c : ℕ) (e : has_kind is_card s c 
   background_facts : (p : Kind → Bool) → ((k : Kind) → p k ≡ true → is_background_part k ≡ true) → (f k : ℕ) → has_kind p s f && is_kept_for s f k ≡ true → Facts f k
   background_facts p is_part f k h =
       let parts = both (has_kind p s f) (is_kept_for s f k) h in (
-        λ q. ap (λ b. contains_id f (parts_at s c) || b) (for_card f k parts.1 q) ∙ or_true (contains_id f (parts_at s c)),
+        λ q. ap (λ b. contains_id f (parts_at s c) || b) (for_card f k parts.1 q) ∙ or-true (contains_id f (parts_at s c)),
         λ q. absurd (not_both f (part_of_c f q) (of_kind p is_background_part is_part f parts.0)),
         λ q. let gone_with = both (is_last_card s c) (contains_id f (parts_at s (home s c))) q in of_background f k parts.1 gone_with.0 gone_with.1,
       )

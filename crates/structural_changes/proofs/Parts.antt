@@ -1,5 +1,6 @@
 -- A stack stays well formed when a part is made.
 use Rattle.std.proofs.Common.{◌≡◌, ℕ, zero, suc, ◌+◌, ◌≤◌, Bool, true, false, cond, not, ◌&&◌, ◌||◌, ◌==◌, List, [], ◌∷◌, ◌++◌, flat_map, nat_eq, leb, refl, sym, subst, ap, ◌∙◌, arith, rules, Option, Some, None, IsTrue, IfSome, is_some, option_map, option_and_then, unwrap_or, ◌↔◌, if◌then◌else◌, T}
+use Rattle.std.proofs.Math.Bool.{or-false, and-true}
 use Rattle.std.proofs.lemmas.Bool.{false≢true}
 use Rattle.std.proofs.lemmas.Bool.Decides.{nat_tests}
 use Rattle.std.proofs.Math.Facts.{leb_yes}
@@ -24,7 +25,7 @@ use Rattle.object_table.specs.declared.object.LayerId.TheVariants.{OfCard, OfBac
 use Rattle.object_table.proofs.Maps.{get-put_option}
 use Rattle.stack_places.specs.Places.{put}
 use Rattle.structural_changes.specs.Writes.{put_each, writes_of_new_part, fits_new_part, has_room_for, kind_of_new, name_of_new, new_part, kept_for, is_card_of}
-use Rattle.structural_changes.proofs.Filled.{filled, texts_filled, hilites_filled, get-filled, contains-ids_where}
+use Rattle.structural_changes.proofs.Filled.{filled, texts_filled, hilites_filled, get-filled, contains-ids_where, nat_eq_sym}
 use Rattle.structural_changes.proofs.Formed.{IsFormed, HasCards, formed, whole}
 use Rattle.structural_changes.proofs.Grown.{objects_and, same_id, none_new, none_at_new, object-with, found-with, found-as_before, ids-with, count-with, names-with}
 use Rattle.structural_changes.proofs.Tallies.{one_if, total, tally, total-append, total-flat_map, total-plus, total-zero, none_more, contains-tally, named-tally, tally-named, one_member}
@@ -43,13 +44,13 @@ as_false : (p q : Kind → Bool) → ((k : Kind) → p k ≡ true → q k ≡ fa
 as_false p q h None e = refl
 as_false p q h (Some o) e = h o.kind e
 
-card_is_layer : (k : Kind) → is_card k ≡ true → is_layer k ≡ true
+pub card_is_layer : (k : Kind) → is_card k ≡ true → is_layer k ≡ true
 card_is_layer (Card b c) e = refl
 card_is_layer Stack e = absurd (false≢true e)
 card_is_layer (Background c) e = refl
 card_is_layer _ e = absurd (false≢true e)
 
-background_is_layer : (k : Kind) → is_background k ≡ true → is_layer k ≡ true
+pub background_is_layer : (k : Kind) → is_background k ≡ true → is_layer k ≡ true
 background_is_layer (Background c) e = refl
 background_is_layer _ e = absurd (false≢true e)
 
@@ -68,26 +69,15 @@ abbrev pub kept_by : Content → LayerId → ℕ → Bool
 kept_by s (OfCard card) c = nat_eq c card
 kept_by s (OfBackground background) c = (c == 0) || is_card_of s background c
 
-nat_eq_sym : (a b : ℕ) → nat_eq a b ≡ nat_eq b a
-nat_eq_sym a b = grind (arith, nat_tests)
-
-pub or_false : (b : Bool) → b || false ≡ b
-or_false true = refl
-or_false false = refl
-
 pub card_is_there : (s : Content) (background card : ℕ) → is_card_of s background card && is_some (object_at s card) ≡ is_card_of s background card
 card_is_there s background card = by (object_at s card)
   where
     by : (found : Option Object) → let is : Bool = unwrap_or (option_map (λ b. nat_eq b background) (option_and_then (λ o. background_of o.kind) found)) false in is && is_some found ≡ is
     by None = refl
-    by (Some o) = and_true (unwrap_or (option_map (λ b. nat_eq b background) (background_of o.kind)) false)
-      where
-        and_true : (b : Bool) → b && true ≡ b
-        and_true true = refl
-        and_true false = refl
+    by (Some o) = and-true (unwrap_or (option_map (λ b. nat_eq b background) (background_of o.kind)) false)
 
 pub contains-kept_for : (s : Content) (layer : LayerId) (c : ℕ) → contains_id c (kept_for s layer) ≡ kept_by s layer c
-contains-kept_for s (OfCard card) c = or_false (nat_eq card c) ∙ nat_eq_sym card c
+contains-kept_for s (OfCard card) c = or-false (nat_eq card c) ∙ nat_eq_sym card c
 contains-kept_for s (OfBackground background) c = λ i. nat_eq_sym 0 c i || (contains-ids_where s (is_card_of s background) c ∙ card_is_there s background c) i
 
 -- ---- the stack with a part
@@ -230,7 +220,7 @@ module _ (s : Content) (w : IsFormed s) (l : ℕ) (new : Object) (no_layer : bac
   kept-before : (part card : ℕ) → nat_eq part s.next ≡ false → kept_now part card ≡ (card == 0) || is_on_background_of s part card
   kept-before part card q =
       let other : nat_eq s.next part ≡ false = nat_eq_sym s.next part ∙ q in
-      (λ i. (card == 0) || unwrap_or (option_map (λ b. (contains-parts s w l part b ∙ ap (λ x. contains_id part (parts_at s b) || (x && nat_eq b l)) other ∙ or_false (contains_id part (parts_at s b))) i) (home-as_before card i)) false)
+      (λ i. (card == 0) || unwrap_or (option_map (λ b. (contains-parts s w l part b ∙ ap (λ x. contains_id part (parts_at s b) || (x && nat_eq b l)) other ∙ or-false (contains_id part (parts_at s b))) i) (home-as_before card i)) false)
 
   kept-new : (card : ℕ) → kept_now s.next card ≡ (card == 0) || is_card_of s l card
   kept-new card =
@@ -264,7 +254,7 @@ module _ (s : Content) (w : IsFormed s) (l : ℕ) (new : Object) (no_layer : bac
   keeps_text-before : (f c : ℕ) → nat_eq f s.next ≡ false → keeps_text_now f c ≡ keeps_text s f c
   keeps_text-before f c q =
       let other : nat_eq s.next f ≡ false = nat_eq_sym s.next f ∙ q in
-      (λ i. (passes is_card_field (at-before f q i) && (contains-parts s w l f c ∙ ap (λ x. contains_id f (parts_at s c) || (x && nat_eq c l)) other ∙ or_false (contains_id f (parts_at s c))) i) || (passes is_background_field (at-before f q i) && kept-before f c q i))
+      (λ i. (passes is_card_field (at-before f q i) && (contains-parts s w l f c ∙ ap (λ x. contains_id f (parts_at s c) || (x && nat_eq c l)) other ∙ or-false (contains_id f (parts_at s c))) i) || (passes is_background_field (at-before f q i) && kept-before f c q i))
 
   keeps_hilite-new : (card : ℕ) → keeps_hilite_now s.next card ≡ gains_hilite card
   keeps_hilite-new card = λ i. passes is_background_button (at-new i) && kept-new card i
@@ -284,14 +274,14 @@ module _ (s : Content) (w : IsFormed s) (l : ℕ) (new : Object) (no_layer : bac
     texts-there gains f c = there-filled s.texts s.next cards [] f c ∙ by (nat_eq f s.next) refl
       where
         by : (b : Bool) → nat_eq f s.next ≡ b → cond b (contains_id c cards || is_some (text_at s f c)) (is_some (text_at s f c)) ≡ keeps_text_now f c
-        by true q = subst (λ g. contains_id c cards || is_some (text_at s g c) ≡ keeps_text_now g c) (sym (same_id f s.next q)) ((λ i. gains c i || no_text c i) ∙ or_false (gains_text c) ∙ sym (keeps_text-new c))
+        by true q = subst (λ g. contains_id c cards || is_some (text_at s g c) ≡ keeps_text_now g c) (sym (same_id f s.next q)) ((λ i. gains c i || no_text c i) ∙ or-false (gains_text c) ∙ sym (keeps_text-new c))
         by false q = bool_iff (is_some (text_at s f c)) (keeps_text s f c) (w.texts f c) ∙ sym (keeps_text-before f c q)
 
     pub hilites-there : ((c : ℕ) → contains_id c cards ≡ gains_hilite c) → (b c : ℕ) → is_some (get (filled s.hilites s.next cards false) (b, c)) ≡ keeps_hilite_now b c
     hilites-there gains b c = there-filled s.hilites s.next cards false b c ∙ by (nat_eq b s.next) refl
       where
         by : (x : Bool) → nat_eq b s.next ≡ x → cond x (contains_id c cards || is_some (hilite_at s b c)) (is_some (hilite_at s b c)) ≡ keeps_hilite_now b c
-        by true q = subst (λ g. contains_id c cards || is_some (hilite_at s g c) ≡ keeps_hilite_now g c) (sym (same_id b s.next q)) ((λ i. gains c i || no_hilite c i) ∙ or_false (gains_hilite c) ∙ sym (keeps_hilite-new c))
+        by true q = subst (λ g. contains_id c cards || is_some (hilite_at s g c) ≡ keeps_hilite_now g c) (sym (same_id b s.next q)) ((λ i. gains c i || no_hilite c i) ∙ or-false (gains_hilite c) ∙ sym (keeps_hilite-new c))
         by false q = bool_iff (is_some (hilite_at s b c)) (keeps_hilite s b c) (w.hilites b c) ∙ sym (keeps_hilite-before b c q)
 
     -- an empty text is a text
@@ -333,7 +323,7 @@ written s (OfBackground background) Field = texts_filled _ s.next (kept_for s (O
 
 text_gains : (s : Content) (w : IsFormed s) (layer : LayerId) (kind : PartKind) (c : ℕ) → contains_id c (text_cards s layer kind) ≡ (is_card_field (kind_of_new layer kind) && nat_eq c (layer_id layer)) || (is_background_field (kind_of_new layer kind) && ((c == 0) || is_card_of s (layer_id layer) c))
 unfolding text_cards
-text_gains s w (OfCard card) Field c = contains-kept_for s (OfCard card) c ∙ sym (or_false (nat_eq c card))
+text_gains s w (OfCard card) Field c = contains-kept_for s (OfCard card) c ∙ sym (or-false (nat_eq c card))
 text_gains s w (OfBackground background) Field c = contains-kept_for s (OfBackground background) c
 text_gains s w (OfCard card) Button c = refl
 text_gains s w (OfBackground background) Button c = refl

@@ -1,7 +1,7 @@
 -- Lists of ids by how often each id stands there.
 use Rattle.std.proofs.Common.{◌≡◌, ℕ, zero, suc, ◌+◌, ◌≤◌, Bool, true, false, not, ◌||◌, List, [], ◌∷◌, ◌++◌, flat_map, nat_eq, refl, sym, ap, subst, ◌∙◌, arith, if◌then◌else◌}
 use Rattle.std.specs.List.{IsDistinct, AllByRecursion}
-use Rattle.std.proofs.lemmas.Bool.{false≢true}
+use Rattle.std.proofs.lemmas.Bool.{eq-eqb, false≢true}
 use Rattle.std.proofs.lemmas.Bool.Decides.{nat_tests}
 use Rattle.object_table.specs.Objects.{contains_id}
 use Rattle.object_table.specs.WellFormed.{NamesEach}
@@ -63,6 +63,10 @@ contains-tally id (x ∷ xs) = by (contains-tally id xs) (nat_eq x id)
     by rest true = let some : nat_eq (1 + tally id xs) 0 ≡ false = grind (arith, nat_tests) in rw some refl
     by rest false = rest ∙ ap (λ n. not (nat_eq n 0)) (sym (none_more (tally id xs)))
 
+-- an id is the same as itself
+pub itself : (n : ℕ) → nat_eq n n ≡ true
+itself n = eq-eqb n n refl
+
 apart-tally : (x : ℕ) (xs : List ℕ) → AllByRecursion (λ y. nat_eq x y ≡ false) xs → tally x xs ≡ 0
 apart-tally x [] h = refl
 apart-tally x (y ∷ ys) h = let rest = apart-tally x ys h.1 in let other : nat_eq y x ≡ false = grind (arith, nat_tests, h.0) in ap (λ b. one_if b + tally x ys) other ∙ none_more (tally x ys) ∙ rest
@@ -109,7 +113,7 @@ one_back : (b : Bool) → not (nat_eq (one_if b) 0) ≡ b
 one_back true = refl
 one_back false = refl
 
-at_most_one : (b : Bool) → one_if b ≤ 1
+pub at_most_one : (b : Bool) → one_if b ≤ 1
 at_most_one true = omega arith
 at_most_one false = omega arith
 
