@@ -2,11 +2,14 @@
 
 ghost use Rattle.std.specs.Prelude.{◌≡◌, ◌⊎◌, ℕ, ◌<◌, ◌≤◌, List, [], ◌∷◌, ◌++◌, length, true, IsErr, Some, None, IsSome, IfSome, IsTrue, IfOk, IfErr, OnErr, OnOk, is_ok, map, option_map, option_copied, slice_index_or, slice_get};
 ghost use Rattle.std.specs.FinMap as finite;
+ghost use Rattle.ht_grammar.specs.Reads.{Reads, ReadsScript};
+ghost use Rattle.ht_tree.specs.ScriptView.{script_of};
 ghost use Rattle.object_table.specs.WellFormed.{IsWellFormed};
 ghost use Rattle.object_table.specs.Objects.{has_kind, is_card};
 ghost use Rattle.journal_entries.specs.State.{seen_by, seen_at, first_state, titles_of, has_name, index_of, are_apart as apart_titles};
 ghost use Rattle.journal_entries.specs.Named.{listed, numbered, Lists};
 ghost use Rattle.journal_entries.specs.Changes.{fits};
+ghost use Rattle.journal_entries.specs.ScriptTrees.{object_script};
 ghost use Rattle.journal_entries.specs.declared.change.Change.TheVariants as made_change;
 ghost use Rattle.journal_entries.specs.Trails.{IsOnce, IsShort, different, places_in};
 ghost use Rattle.journal_entries.specs.Turning.{one_more_at};
@@ -18,14 +21,16 @@ ghost use Rattle.change_journal.specs.declared.world.TheConstants.{MOST_DEPTH};
 
 use crate::fault::{PlugError, WorldError};
 use externals::{Ask, External, Input, law_of_external};
+use ht_tree::Script;
 use ht_values::Text;
 use journal_entries::{
     Batch, Change, OpenBatch, Present, are_apart, law_of_externals, law_of_global, law_of_texts,
 };
-use object_table::Stack;
+use object_table::{Id, Stack};
 use std::alloc::{AllocError, Global};
 use std::collections::VecDeque;
 use std::marker::Model;
+use std::rc::Rc;
 
 /// The most states that can stand before the present one.
 pub const MOST_DEPTH: u32 = 1_000_000;
@@ -102,6 +107,21 @@ impl<E: External> World<E> {
         ensures well_formed { IsWellFormed result.now.content }
     {
         self.present.stack()
+    }
+
+    /// The tree of an object's script, if it is kept: that of the script of now.
+    pub fn script_tree(&self, id: Id) -> Option<&Rc<Script>>
+        ensures { IfSome result (λ tree. Reads ReadsScript (object_script self.now.history.now.stack id) (script_of tree.now.value)) }
+    {
+        self.present.script_tree(id)
+    }
+
+    /// Keeps the tree of an object's script until that script changes. It shows nowhere but in time.
+    pub fn keep_script_tree(&mut self, id: Id, tree: Rc<Script>) -> Result<(), AllocError>
+        requires { Reads ReadsScript (object_script self.old.history.now.stack id) (script_of tree.value) }
+        ensures { self.new ≡ self.old }
+    {
+        self.present.keep_script_tree(id, tree)
     }
 
     /// The value of a global, by its folded name, if it has one.

@@ -12,7 +12,6 @@ use change_journal::World;
 use externals::{Ask, External, Input, Texts};
 use ht_values::{Fault, Text};
 use meaning::{Budget, Conversed, Frame, Stop};
-use msg_path::Scripts;
 use primitives::arguments::Arguments;
 use primitives::messages::{start, take_turn};
 use primitives::places::{set_field, set_global};
@@ -23,7 +22,6 @@ use primitives::values::{expression, lines};
 #[tactic(auto, using(meaning::proofs::Rules::converses_rules))]
 pub(crate) fn converse<E: External>(
     world: &mut World<E>,
-    scripts: &mut Scripts,
     run: &mut Budget,
     nested: u32,
     number: usize,
@@ -43,7 +41,7 @@ pub(crate) fn converse<E: External>(
         return Err(Stop::Fault(Fault::TooDeep));
     }
     let input = start(run.alloc(), values)?;
-    talk(world, scripts, run, nested + 1, number, input)
+    talk(world, run, nested + 1, number, input)
 }
 
 /// The turns of a conversation, a step before each.
@@ -51,7 +49,6 @@ pub(crate) fn converse<E: External>(
 #[tactic(auto, using(meaning::proofs::Rules::talks_rules))]
 pub(crate) fn talk<E: External>(
     world: &mut World<E>,
-    scripts: &mut Scripts,
     run: &mut Budget,
     nested: u32,
     number: usize,
@@ -70,7 +67,7 @@ pub(crate) fn talk<E: External>(
         match take_turn(world, number, &next)? {
             Ask::Done(value, passes) => return Ok(Conversed { value, passes }),
             Ask::Fail => return Err(Stop::Fault(Fault::ExternalFault)),
-            ask => next = call_back(world, scripts, run, nested, ask)?,
+            ask => next = call_back(world, run, nested, ask)?,
         }
     }
 }
@@ -80,7 +77,6 @@ pub(crate) fn talk<E: External>(
 #[tactic(auto, using(meaning::proofs::Rules::callsback_rules))]
 pub(crate) fn call_back<E: External>(
     world: &mut World<E>,
-    scripts: &mut Scripts,
     run: &mut Budget,
     nested: u32,
     ask: Ask,
@@ -93,8 +89,8 @@ pub(crate) fn call_back<E: External>(
     ensures base { base world.new.history ≡ base world.old.history }
 {
     match ask {
-        Ask::SendCardMessage(note, text) => run_text(world, scripts, run, nested, note, &text),
-        Ask::EvalExpr(note, text) => eval_text(world, scripts, run, nested, note, &text),
+        Ask::SendCardMessage(note, text) => run_text(world, run, nested, note, &text),
+        Ask::EvalExpr(note, text) => eval_text(world, run, nested, note, &text),
         Ask::SetGlobal(note, name, value) => set_global(world, run, nested, note, name, value),
         Ask::SetFieldByName(note, on_card, name, value) => {
             set_field(world, run, nested, note, on_card, &name, value)
@@ -108,7 +104,6 @@ pub(crate) fn call_back<E: External>(
 #[tactic(auto, using(meaning::proofs::Rules::callsback_sendcardmessage_rules))]
 pub(crate) fn run_text<E: External>(
     world: &mut World<E>,
-    scripts: &mut Scripts,
     run: &mut Budget,
     nested: u32,
     note: Texts,
@@ -123,7 +118,7 @@ pub(crate) fn run_text<E: External>(
     let lines = lines(run.alloc(), text)?;
     let mut frame = Frame::typed(run.alloc(), world.current());
     let _depth = lines.depth();
-    let _ = run_block(world, scripts, run, &mut frame, nested, &lines.items)?;
+    let _ = run_block(world, run, &mut frame, nested, &lines.items)?;
     Ok(Input::Answer(note, Text::new(run.alloc())))
 }
 
@@ -132,7 +127,6 @@ pub(crate) fn run_text<E: External>(
 #[tactic(auto, using(meaning::proofs::Rules::callsback_evalexpr_rules))]
 pub(crate) fn eval_text<E: External>(
     world: &mut World<E>,
-    scripts: &mut Scripts,
     run: &mut Budget,
     nested: u32,
     note: Texts,
@@ -147,6 +141,6 @@ pub(crate) fn eval_text<E: External>(
     let e = expression(run.alloc(), text)?;
     let frame = Frame::typed(run.alloc(), world.current());
     let _depth = e.depth();
-    let value = eval(world, scripts, run, &frame, nested, &e)?.into_text(run.alloc())?;
+    let value = eval(world, run, &frame, nested, &e)?.into_text(run.alloc())?;
     Ok(Input::Answer(note, value))
 }

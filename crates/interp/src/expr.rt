@@ -17,7 +17,6 @@ use ht_grammar::{FunctionWord, HandlerKind};
 use ht_tree::{Chunk, Count, Expr, ExprKind, Exprs, Part, Ref};
 use ht_values::{Fault, Op, Prop, Text, UnOp, Value};
 use meaning::{Budget, Frame, Stop};
-use msg_path::Scripts;
 use primitives::arguments::Arguments;
 use primitives::objects::{parts_here, property, target_name};
 use primitives::operands::{Operand, call_of_operand, operand_count, operand_part, operand_value};
@@ -32,7 +31,6 @@ use primitives::values::{
 #[tactic(auto, using(meaning::proofs::Rules::val_rules))]
 pub(crate) fn eval<E: External>(
     world: &mut World<E>,
-    scripts: &mut Scripts,
     run: &mut Budget,
     frame: &Frame,
     nested: u32,
@@ -50,27 +48,23 @@ pub(crate) fn eval<E: External>(
         ExprKind::Constant(constant) => Ok(constant_value(run.alloc(), *constant)?),
         ExprKind::Return => Ok(return_sign(run.alloc())?),
         ExprKind::Name(name) => Ok(variable(run.alloc(), world, frame, name)?),
-        ExprKind::Paren(inner) => eval(world, scripts, run, frame, nested, inner),
-        ExprKind::Call(name, list) => call(world, scripts, run, frame, nested, name, list),
-        ExprKind::Binary(op, left, right) => binary(
-            world, scripts, run, frame, nested, *op, left, right,
-        ),
-        ExprKind::Unary(op, operand) => unary(world, scripts, run, frame, nested, *op, operand),
+        ExprKind::Paren(inner) => eval(world, run, frame, nested, inner),
+        ExprKind::Call(name, list) => call(world, run, frame, nested, name, list),
+        ExprKind::Binary(op, left, right) => binary(world, run, frame, nested, *op, left, right),
+        ExprKind::Unary(op, operand) => unary(world, run, frame, nested, *op, operand),
         ExprKind::ThereIs(is_no, reference) => there_is(
-            world, scripts, run, frame, nested, *is_no, reference,
+            world, run, frame, nested, *is_no, reference,
         ),
-        ExprKind::Chunk(chunk, text) => chunk_of(world, scripts, run, frame, nested, chunk, text),
-        ExprKind::Field(part) => field(world, scripts, run, frame, nested, part),
+        ExprKind::Chunk(chunk, text) => chunk_of(world, run, frame, nested, chunk, text),
+        ExprKind::Field(part) => field(world, run, frame, nested, part),
         ExprKind::Result => Ok(run.result().try_clone(run.alloc())?),
         ExprKind::Target => target_name(run.alloc(), world, frame),
-        ExprKind::NumberOf(count) => number_of(world, scripts, run, frame, nested, count),
+        ExprKind::NumberOf(count) => number_of(world, run, frame, nested, count),
         ExprKind::Property(property, reference) => property_of(
-            world, scripts, run, frame, nested, *property, reference,
+            world, run, frame, nested, *property, reference,
         ),
         ExprKind::RunProperty(property) => Ok(run_property(run, *property)?),
-        ExprKind::Function(word, operand) => function_of(
-            world, scripts, run, frame, nested, *word, operand,
-        ),
+        ExprKind::Function(word, operand) => function_of(world, run, frame, nested, *word, operand),
     }
 }
 
@@ -80,7 +74,6 @@ pub(crate) fn eval<E: External>(
 #[inline(never)]
 pub(crate) fn binary<E: External>(
     world: &mut World<E>,
-    scripts: &mut Scripts,
     run: &mut Budget,
     frame: &Frame,
     nested: u32,
@@ -96,8 +89,8 @@ pub(crate) fn binary<E: External>(
     ensures fewer { run.new.left ≤ run.old.left }
     ensures base { base world.new.history ≡ base world.old.history }
 {
-    let x = eval(world, scripts, run, frame, nested, left)?;
-    let y = eval(world, scripts, run, frame, nested, right)?;
+    let x = eval(world, run, frame, nested, left)?;
+    let y = eval(world, run, frame, nested, right)?;
     apply(run.alloc(), op, &x, &y)
 }
 
@@ -107,7 +100,6 @@ pub(crate) fn binary<E: External>(
 #[inline(never)]
 pub(crate) fn unary<E: External>(
     world: &mut World<E>,
-    scripts: &mut Scripts,
     run: &mut Budget,
     frame: &Frame,
     nested: u32,
@@ -121,7 +113,7 @@ pub(crate) fn unary<E: External>(
     ensures fewer { run.new.left ≤ run.old.left }
     ensures base { base world.new.history ≡ base world.old.history }
 {
-    let x = eval(world, scripts, run, frame, nested, operand)?;
+    let x = eval(world, run, frame, nested, operand)?;
     apply_one(op, &x)
 }
 
@@ -131,7 +123,6 @@ pub(crate) fn unary<E: External>(
 #[inline(never)]
 pub(crate) fn there_is<E: External>(
     world: &mut World<E>,
-    scripts: &mut Scripts,
     run: &mut Budget,
     frame: &Frame,
     nested: u32,
@@ -145,7 +136,7 @@ pub(crate) fn there_is<E: External>(
     ensures fewer { run.new.left ≤ run.old.left }
     ensures base { base world.new.history ≡ base world.old.history }
 {
-    let met = meet(world, scripts, run, frame, nested, reference);
+    let met = meet(world, run, frame, nested, reference);
     there(is_no, met)
 }
 
@@ -155,7 +146,6 @@ pub(crate) fn there_is<E: External>(
 #[inline(never)]
 pub(crate) fn meet_operand<'a, E: External>(
     world: &mut World<E>,
-    scripts: &mut Scripts,
     run: &mut Budget,
     frame: &Frame,
     nested: u32,
@@ -171,10 +161,10 @@ pub(crate) fn meet_operand<'a, E: External>(
     match e.kind() {
         ExprKind::Name(name) => Ok(Operand::Name(name)),
         ExprKind::Field(part) => {
-            let referent = meet_part(world, scripts, run, frame, nested, part)?;
+            let referent = meet_part(world, run, frame, nested, part)?;
             Ok(Operand::Field(referent))
         }
-        _ => Ok(Operand::Value(eval(world, scripts, run, frame, nested, e)?)),
+        _ => Ok(Operand::Value(eval(world, run, frame, nested, e)?)),
     }
 }
 
@@ -184,7 +174,6 @@ pub(crate) fn meet_operand<'a, E: External>(
 #[inline(never)]
 pub(crate) fn chunk_of<E: External>(
     world: &mut World<E>,
-    scripts: &mut Scripts,
     run: &mut Budget,
     frame: &Frame,
     nested: u32,
@@ -199,8 +188,8 @@ pub(crate) fn chunk_of<E: External>(
     ensures fewer { run.new.left ≤ run.old.left }
     ensures base { base world.new.history ≡ base world.old.history }
 {
-    let pieces = pieces(world, scripts, run, frame, nested, chunk)?;
-    let text = meet_operand(world, scripts, run, frame, nested, text)?;
+    let pieces = pieces(world, run, frame, nested, chunk)?;
+    let text = meet_operand(world, run, frame, nested, text)?;
     operand_part(run.alloc(), world, frame, &text, &pieces, run.delimiter())
 }
 
@@ -210,7 +199,6 @@ pub(crate) fn chunk_of<E: External>(
 #[inline(never)]
 pub(crate) fn field<E: External>(
     world: &mut World<E>,
-    scripts: &mut Scripts,
     run: &mut Budget,
     frame: &Frame,
     nested: u32,
@@ -223,7 +211,7 @@ pub(crate) fn field<E: External>(
     ensures fewer { run.new.left ≤ run.old.left }
     ensures base { base world.new.history ≡ base world.old.history }
 {
-    let referent = meet_part(world, scripts, run, frame, nested, part)?;
+    let referent = meet_part(world, run, frame, nested, part)?;
     field_text(run.alloc(), world, frame, run.delimiter(), referent)
 }
 
@@ -233,7 +221,6 @@ pub(crate) fn field<E: External>(
 #[inline(never)]
 pub(crate) fn number_of<E: External>(
     world: &mut World<E>,
-    scripts: &mut Scripts,
     run: &mut Budget,
     frame: &Frame,
     nested: u32,
@@ -248,14 +235,14 @@ pub(crate) fn number_of<E: External>(
 {
     match count {
         Count::PiecesOf(kind, text) => {
-            let text = meet_operand(world, scripts, run, frame, nested, text)?;
+            let text = meet_operand(world, run, frame, nested, text)?;
             operand_count(run.alloc(), world, frame, &text, *kind, run.delimiter())
         }
         Count::Cards => Ok(numeral(run.alloc(), world.stack().cards().len())?),
         Count::Backgrounds => Ok(numeral(run.alloc(), world.stack().backgrounds().len())?),
         Count::Parts(layer, kind) => Ok(numeral(run.alloc(), parts_here(world, *layer, *kind))?),
         Count::OfObject(reference) => {
-            let referent = meet(world, scripts, run, frame, nested, reference)?;
+            let referent = meet(world, run, frame, nested, reference)?;
             property(run.alloc(), world, referent, Prop::Number)
         }
     }
@@ -267,7 +254,6 @@ pub(crate) fn number_of<E: External>(
 #[inline(never)]
 pub(crate) fn property_of<E: External>(
     world: &mut World<E>,
-    scripts: &mut Scripts,
     run: &mut Budget,
     frame: &Frame,
     nested: u32,
@@ -281,7 +267,7 @@ pub(crate) fn property_of<E: External>(
     ensures fewer { run.new.left ≤ run.old.left }
     ensures base { base world.new.history ≡ base world.old.history }
 {
-    let referent = meet(world, scripts, run, frame, nested, reference)?;
+    let referent = meet(world, run, frame, nested, reference)?;
     property(run.alloc(), world, referent, name)
 }
 
@@ -291,7 +277,6 @@ pub(crate) fn property_of<E: External>(
 #[inline(never)]
 pub(crate) fn function_of<E: External>(
     world: &mut World<E>,
-    scripts: &mut Scripts,
     run: &mut Budget,
     frame: &Frame,
     nested: u32,
@@ -305,13 +290,13 @@ pub(crate) fn function_of<E: External>(
     ensures fewer { run.new.left ≤ run.old.left }
     ensures base { base world.new.history ≡ base world.old.history }
 {
-    let x = meet_operand(world, scripts, run, frame, nested, operand)?;
+    let x = meet_operand(world, run, frame, nested, operand)?;
     match function_named(word) {
         Some(function) => call_of_operand(run.alloc(), world, frame, function, x, run.delimiter()),
         None => {
             let value = operand_value(run.alloc(), world, frame, x, run.delimiter())?;
             let text = value.into_text(run.alloc())?;
-            text_value(world, scripts, run, frame, nested, &text)
+            text_value(world, run, frame, nested, &text)
         }
     }
 }
@@ -322,7 +307,6 @@ pub(crate) fn function_of<E: External>(
 #[inline(never)]
 pub(crate) fn call<E: External>(
     world: &mut World<E>,
-    scripts: &mut Scripts,
     run: &mut Budget,
     frame: &Frame,
     nested: u32,
@@ -338,7 +322,6 @@ pub(crate) fn call<E: External>(
 {
     calls(
         world,
-        scripts,
         run,
         frame,
         nested,
@@ -355,7 +338,6 @@ pub(crate) fn call<E: External>(
 #[inline(never)]
 pub(crate) fn arguments<E: External>(
     world: &mut World<E>,
-    scripts: &mut Scripts,
     run: &mut Budget,
     frame: &Frame,
     nested: u32,
@@ -370,7 +352,7 @@ pub(crate) fn arguments<E: External>(
 {
     let mut values = Arguments::new(run.alloc());
     for e in list {
-        let value = eval(world, scripts, run, frame, nested, e)?;
+        let value = eval(world, run, frame, nested, e)?;
         values = values.with(value)?;
     }
     Ok(values)
@@ -381,7 +363,6 @@ pub(crate) fn arguments<E: External>(
 #[tactic(auto, using(meaning::proofs::Rules::numberval_rules))]
 pub(crate) fn number_value<E: External>(
     world: &mut World<E>,
-    scripts: &mut Scripts,
     run: &mut Budget,
     frame: &Frame,
     nested: u32,
@@ -394,7 +375,7 @@ pub(crate) fn number_value<E: External>(
     ensures fewer { run.new.left ≤ run.old.left }
     ensures base { base world.new.history ≡ base world.old.history }
 {
-    let value = eval(world, scripts, run, frame, nested, e)?;
+    let value = eval(world, run, frame, nested, e)?;
     number(&value)
 }
 
@@ -403,7 +384,6 @@ pub(crate) fn number_value<E: External>(
 #[tactic(auto, using(meaning::proofs::Rules::truthval_rules))]
 pub(crate) fn truth_value<E: External>(
     world: &mut World<E>,
-    scripts: &mut Scripts,
     run: &mut Budget,
     frame: &Frame,
     nested: u32,
@@ -416,7 +396,7 @@ pub(crate) fn truth_value<E: External>(
     ensures fewer { run.new.left ≤ run.old.left }
     ensures base { base world.new.history ≡ base world.old.history }
 {
-    let value = eval(world, scripts, run, frame, nested, e)?;
+    let value = eval(world, run, frame, nested, e)?;
     truth(&value)
 }
 
@@ -425,7 +405,6 @@ pub(crate) fn truth_value<E: External>(
 #[tactic(auto, using(meaning::proofs::Rules::textval_rules))]
 pub(crate) fn text_value<E: External>(
     world: &mut World<E>,
-    scripts: &mut Scripts,
     run: &mut Budget,
     frame: &Frame,
     nested: u32,
@@ -443,5 +422,5 @@ pub(crate) fn text_value<E: External>(
     }
     let e = expression(run.alloc(), text)?;
     let _depth = e.depth();
-    eval(world, scripts, run, frame, nested + 1, &e)
+    eval(world, run, frame, nested + 1, &e)
 }

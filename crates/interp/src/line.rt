@@ -16,7 +16,6 @@ use ht_grammar::HandlerKind;
 use ht_tree::{Part, Stmts};
 use ht_values::Text;
 use meaning::{Budget, Ended, Frame, Stop};
-use msg_path::Scripts;
 use object_table::Id;
 use primitives::arguments::Arguments;
 
@@ -27,7 +26,6 @@ use primitives::arguments::Arguments;
 #[tactic(auto, using(meaning::proofs::Rules::line_rules))]
 pub fn run_line<E: External>(
     world: &mut World<E>,
-    scripts: &mut Scripts,
     run: &mut Budget,
     lines: &Stmts,
 ) -> Result<Ended, Stop>
@@ -38,7 +36,7 @@ pub fn run_line<E: External>(
 {
     let mut frame = Frame::typed(run.alloc(), world.current());
     let _depth = lines.depth();
-    match run_block(world, scripts, run, &mut frame, 0, &lines.items) {
+    match run_block(world, run, &mut frame, 0, &lines.items) {
         Ok(_) => Ok(Ended::Done),
         Err(Stop::Exited) => Ok(Ended::Exited),
         Err(Stop::Fault(fault)) => Err(Stop::Fault(fault)),
@@ -50,7 +48,6 @@ pub fn run_line<E: External>(
 #[tactic(auto, using(meaning::proofs::Rules::message_rules))]
 pub fn send_message<E: External>(
     world: &mut World<E>,
-    scripts: &mut Scripts,
     run: &mut Budget,
     object: Id,
     name: &Text,
@@ -64,7 +61,6 @@ pub fn send_message<E: External>(
     let values = Arguments::new(run.alloc());
     match send(
         world,
-        scripts,
         run,
         &frame,
         0,
@@ -86,7 +82,6 @@ pub fn send_message<E: External>(
 #[tactic(auto, using(meaning::proofs::Rules::refers_rules))]
 pub fn find_ref<E: External>(
     world: &mut World<E>,
-    scripts: &mut Scripts,
     run: &mut Budget,
     part: &Part,
 ) -> Result<Option<Id>, Stop>
@@ -97,7 +92,7 @@ pub fn find_ref<E: External>(
     ensures base { base world.new.history ≡ base world.old.history }
 {
     let frame = Frame::typed(run.alloc(), world.current());
-    match meet_part(world, scripts, run, &frame, 0, part) {
+    match meet_part(world, run, &frame, 0, part) {
         Ok(met) => Ok(Some(met.object)),
         Err(Stop::Exited) => Ok(None),
         Err(Stop::Fault(fault)) => Err(Stop::Fault(fault)),

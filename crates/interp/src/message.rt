@@ -16,7 +16,7 @@ use ht_grammar::HandlerKind;
 use ht_tree::Expr;
 use ht_values::{Fault, Text, Value};
 use meaning::{Budget, Frame, Stop};
-use msg_path::{BuiltIn, MessagePath, Scripts, path, path_after};
+use msg_path::{BuiltIn, MessagePath, path, path_after};
 use object_table::Id;
 use primitives::arguments::Arguments;
 use primitives::messages::{
@@ -29,7 +29,6 @@ use primitives::values::{call_function, empty, message};
 #[tactic(auto, using(meaning::proofs::Rules::calls_rules))]
 pub(crate) fn calls<E: External>(
     world: &mut World<E>,
-    scripts: &mut Scripts,
     run: &mut Budget,
     frame: &Frame,
     nested: u32,
@@ -45,10 +44,8 @@ pub(crate) fn calls<E: External>(
     ensures fewer { run.new.left ≤ run.old.left }
     ensures base { base world.new.history ≡ base world.old.history }
 {
-    let values = arguments(world, scripts, run, frame, nested, list)?;
-    send(
-        world, scripts, run, frame, nested, object, name, &values, kind,
-    )
+    let values = arguments(world, run, frame, nested, list)?;
+    send(world, run, frame, nested, object, name, &values, kind)
 }
 
 /// A text is sent as a message.
@@ -56,7 +53,6 @@ pub(crate) fn calls<E: External>(
 #[tactic(auto, using(meaning::proofs::Rules::sendstext_rules))]
 pub(crate) fn send_text<E: External>(
     world: &mut World<E>,
-    scripts: &mut Scripts,
     run: &mut Budget,
     frame: &Frame,
     nested: u32,
@@ -73,7 +69,6 @@ pub(crate) fn send_text<E: External>(
     let _depth = message.depth();
     calls(
         world,
-        scripts,
         run,
         frame,
         nested,
@@ -89,7 +84,6 @@ pub(crate) fn send_text<E: External>(
 #[tactic(auto, using(meaning::proofs::Rules::sends_rules))]
 pub(crate) fn send<E: External>(
     world: &mut World<E>,
-    scripts: &mut Scripts,
     run: &mut Budget,
     frame: &Frame,
     nested: u32,
@@ -107,9 +101,7 @@ pub(crate) fn send<E: External>(
     run.step()?;
     run.note(name, object)?;
     let path = path(world.stack(), world.current(), object);
-    along(
-        world, scripts, run, frame, nested, object, path, name, values, kind,
-    )
+    along(world, run, frame, nested, object, path, name, values, kind)
 }
 
 /// Sends a message along a path. A handler that passes it lets it go on behind its object.
@@ -117,7 +109,6 @@ pub(crate) fn send<E: External>(
 #[tactic(auto, using(meaning::proofs::Rules::along_rules))]
 pub(crate) fn along<E: External>(
     world: &mut World<E>,
-    scripts: &mut Scripts,
     run: &mut Budget,
     frame: &Frame,
     nested: u32,
@@ -135,8 +126,8 @@ pub(crate) fn along<E: External>(
 {
     let mut rest = path;
     loop {
-        match find(world.stack(), scripts, rest.as_slice(), kind, name)? {
-            None => return outside(world, scripts, run, frame, nested, name, values, kind),
+        match find(run.alloc(), world, rest.as_slice(), kind, name)? {
+            None => return outside(world, run, frame, nested, name, values, kind),
             Some(found) => {
                 if nested == 100 {
                     return Err(Stop::Fault(Fault::TooDeep));
@@ -145,7 +136,6 @@ pub(crate) fn along<E: External>(
                 let _depth = found.handler().lines.depth();
                 let how = run_block(
                     world,
-                    scripts,
                     run,
                     &mut inner,
                     nested + 1,
@@ -165,7 +155,6 @@ pub(crate) fn along<E: External>(
 #[tactic(auto, using(meaning::proofs::Rules::outside_rules))]
 pub(crate) fn outside<E: External>(
     world: &mut World<E>,
-    scripts: &mut Scripts,
     run: &mut Budget,
     frame: &Frame,
     nested: u32,
@@ -180,11 +169,11 @@ pub(crate) fn outside<E: External>(
     ensures base { base world.new.history ≡ base world.old.history }
 {
     match external(world, kind, name) {
-        None => answer(world, scripts, run, frame, nested, name, values, kind),
+        None => answer(world, run, frame, nested, name, values, kind),
         Some(i) => {
-            let done = converse(world, scripts, run, nested, i, values)?;
+            let done = converse(world, run, nested, i, values)?;
             if done.passes {
-                answer(world, scripts, run, frame, nested, name, values, kind)
+                answer(world, run, frame, nested, name, values, kind)
             } else {
                 Ok(returned(run, kind, Value::of_text(done.value)))
             }
@@ -197,7 +186,6 @@ pub(crate) fn outside<E: External>(
 #[tactic(auto, using(meaning::proofs::Rules::builtingives_rules))]
 pub(crate) fn answer<E: External>(
     world: &mut World<E>,
-    scripts: &mut Scripts,
     run: &mut Budget,
     frame: &Frame,
     nested: u32,
@@ -213,12 +201,12 @@ pub(crate) fn answer<E: External>(
 {
     match BuiltIn::named(kind, name) {
         Some(BuiltIn::Value) => match only_text(run.alloc(), values)? {
-            Some(text) => text_value(world, scripts, run, frame, nested, &text),
+            Some(text) => text_value(world, run, frame, nested, &text),
             None => Err(Stop::Fault(Fault::BadArgument)),
         },
         Some(BuiltIn::Function(function)) => call_function(run.alloc(), function, values),
         Some(BuiltIn::DoMenu) => match item_named(run.alloc(), values)? {
-            Some(item) => menu(world, scripts, run, frame, nested, item),
+            Some(item) => menu(world, run, frame, nested, item),
             None => Err(Stop::Fault(Fault::BadArgument)),
         },
         None if is_ignored(kind, name) => Ok(empty(run.alloc())),

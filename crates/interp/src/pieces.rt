@@ -14,7 +14,6 @@ use containers::{Edit, Place};
 use externals::External;
 use ht_tree::{Chunk, Container, ContainerKind};
 use meaning::{Budget, Frame, Stop};
-use msg_path::Scripts;
 use primitives::places::{edit, edit_variable, field_place, nth_piece, pieces_at, variable_place};
 
 /// Which pieces are meant: each index is converted as soon as it is computed.
@@ -22,7 +21,6 @@ use primitives::places::{edit, edit_variable, field_place, nth_piece, pieces_at,
 #[tactic(auto, using(meaning::proofs::Rules::chunkof_rules))]
 pub(crate) fn pieces<E: External>(
     world: &mut World<E>,
-    scripts: &mut Scripts,
     run: &mut Budget,
     frame: &Frame,
     nested: u32,
@@ -37,12 +35,12 @@ pub(crate) fn pieces<E: External>(
 {
     match chunk {
         Chunk::Piece(kind, index) => {
-            let at = number_value(world, scripts, run, frame, nested, index)?;
+            let at = number_value(world, run, frame, nested, index)?;
             Ok(pieces_at(*kind, at, at))
         }
         Chunk::Pieces(kind, first, last) => {
-            let from = number_value(world, scripts, run, frame, nested, first)?;
-            let to = number_value(world, scripts, run, frame, nested, last)?;
+            let from = number_value(world, run, frame, nested, first)?;
+            let to = number_value(world, run, frame, nested, last)?;
             Ok(pieces_at(*kind, from, to))
         }
         Chunk::NthPiece(ordinal, kind) => Ok(nth_piece(*ordinal, *kind)),
@@ -54,7 +52,6 @@ pub(crate) fn pieces<E: External>(
 #[tactic(auto, using(meaning::proofs::Rules::resolves_rules))]
 pub(crate) fn resolve<'a, E: External>(
     world: &mut World<E>,
-    scripts: &mut Scripts,
     run: &mut Budget,
     frame: &Frame,
     nested: u32,
@@ -70,12 +67,12 @@ pub(crate) fn resolve<'a, E: External>(
     match container.kind() {
         ContainerKind::Variable(name) => Ok(variable_place(run.alloc(), world, frame, name)),
         ContainerKind::Field(part) => {
-            let referent = meet_part(world, scripts, run, frame, nested, part)?;
+            let referent = meet_part(world, run, frame, nested, part)?;
             field_place(run.alloc(), world, frame, referent)
         }
         ContainerKind::Chunk(chunk, inner) => {
-            let pieces = pieces(world, scripts, run, frame, nested, chunk)?;
-            let place = resolve(world, scripts, run, frame, nested, inner)?;
+            let pieces = pieces(world, run, frame, nested, chunk)?;
+            let place = resolve(world, run, frame, nested, inner)?;
             Ok(place.with(pieces)?)
         }
     }
@@ -86,7 +83,6 @@ pub(crate) fn resolve<'a, E: External>(
 #[tactic(auto, using(crate::proofs::Edits::edit_rules))]
 pub(crate) fn edit_container<E: External>(
     world: &mut World<E>,
-    scripts: &mut Scripts,
     run: &mut Budget,
     frame: &mut Frame,
     nested: u32,
@@ -105,7 +101,7 @@ pub(crate) fn edit_container<E: External>(
             edit_variable(run.alloc(), run.delimiter(), world, frame, name, change)
         }
         _ => {
-            let place = resolve(world, scripts, run, frame, nested, container)?;
+            let place = resolve(world, run, frame, nested, container)?;
             edit(run.alloc(), run.delimiter(), world, frame, place, change)
         }
     }

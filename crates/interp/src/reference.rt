@@ -13,7 +13,6 @@ use externals::External;
 use ht_grammar::Layer;
 use ht_tree::{Destination, Owner, Part, Ref, Selector, Which};
 use meaning::{Budget, Frame, Stop};
-use msg_path::Scripts;
 use object_references::{PartScope, Pick, Referent, Sought, layer_meant, met_here};
 use object_table::Id;
 use primitives::objects::{
@@ -26,7 +25,6 @@ use primitives::objects::{
 #[tactic(auto, using(meaning::proofs::Rules::picks_rules))]
 pub(crate) fn pick<E: External>(
     world: &mut World<E>,
-    scripts: &mut Scripts,
     run: &mut Budget,
     frame: &Frame,
     nested: u32,
@@ -41,11 +39,11 @@ pub(crate) fn pick<E: External>(
 {
     match which {
         Which::ById(id) => {
-            let id = eval(world, scripts, run, frame, nested, id)?.into_text(run.alloc())?;
+            let id = eval(world, run, frame, nested, id)?.into_text(run.alloc())?;
             Ok(Pick::ById(id))
         }
         Which::ByText(text) => {
-            let text = eval(world, scripts, run, frame, nested, text)?.into_text(run.alloc())?;
+            let text = eval(world, run, frame, nested, text)?.into_text(run.alloc())?;
             Ok(Pick::ByText(text))
         }
     }
@@ -56,7 +54,6 @@ pub(crate) fn pick<E: External>(
 #[tactic(auto, using(meaning::proofs::Rules::seeks_rules))]
 pub(crate) fn seek<E: External>(
     world: &mut World<E>,
-    scripts: &mut Scripts,
     run: &mut Budget,
     frame: &Frame,
     nested: u32,
@@ -74,9 +71,7 @@ pub(crate) fn seek<E: External>(
         Selector::Next => Ok(Sought::Next),
         Selector::Previous => Ok(Sought::Previous),
         Selector::Nth(ordinal) => Ok(Sought::Picked(Pick::Nth(*ordinal))),
-        Selector::Which(which) => Ok(Sought::Picked(pick(
-            world, scripts, run, frame, nested, which,
-        )?)),
+        Selector::Which(which) => Ok(Sought::Picked(pick(world, run, frame, nested, which)?)),
     }
 }
 
@@ -85,7 +80,6 @@ pub(crate) fn seek<E: External>(
 #[tactic(auto, using(meaning::proofs::Rules::owns_rules))]
 pub(crate) fn scope<E: External>(
     world: &mut World<E>,
-    scripts: &mut Scripts,
     run: &mut Budget,
     frame: &Frame,
     nested: u32,
@@ -102,11 +96,11 @@ pub(crate) fn scope<E: External>(
     match owner {
         Owner::NoOwner => Ok(scope_here(world, layer)),
         Owner::OnCard(card) => {
-            let card = seek(world, scripts, run, frame, nested, card)?;
+            let card = seek(world, run, frame, nested, card)?;
             card_scope(world, layer, &card)
         }
         Owner::OnBackground(background) => {
-            let background = seek(world, scripts, run, frame, nested, background)?;
+            let background = seek(world, run, frame, nested, background)?;
             background_scope(world, layer, &background)
         }
     }
@@ -117,7 +111,6 @@ pub(crate) fn scope<E: External>(
 #[tactic(auto, using(meaning::proofs::Rules::partmet_rules))]
 pub(crate) fn meet_part<E: External>(
     world: &mut World<E>,
-    scripts: &mut Scripts,
     run: &mut Budget,
     frame: &Frame,
     nested: u32,
@@ -132,28 +125,12 @@ pub(crate) fn meet_part<E: External>(
 {
     match part {
         Part::Plain(layer, kind, which, owner) => {
-            let pick = pick(world, scripts, run, frame, nested, which)?;
-            let scope = scope(
-                world,
-                scripts,
-                run,
-                frame,
-                nested,
-                layer_meant(*layer, *kind),
-                owner,
-            )?;
+            let pick = pick(world, run, frame, nested, which)?;
+            let scope = scope(world, run, frame, nested, layer_meant(*layer, *kind), owner)?;
             part_in(world, *kind, scope, &pick)
         }
         Part::Nth(ordinal, layer, kind, owner) => {
-            let scope = scope(
-                world,
-                scripts,
-                run,
-                frame,
-                nested,
-                layer_meant(*layer, *kind),
-                owner,
-            )?;
+            let scope = scope(world, run, frame, nested, layer_meant(*layer, *kind), owner)?;
             part_in(world, *kind, scope, &Pick::Nth(*ordinal))
         }
     }
@@ -164,7 +141,6 @@ pub(crate) fn meet_part<E: External>(
 #[tactic(auto, using(meaning::proofs::Rules::meets_rules))]
 pub(crate) fn meet<E: External>(
     world: &mut World<E>,
-    scripts: &mut Scripts,
     run: &mut Budget,
     frame: &Frame,
     nested: u32,
@@ -182,14 +158,14 @@ pub(crate) fn meet<E: External>(
         Ref::Target => object_there(world, frame.target),
         Ref::ThisStack => Ok(met_here(world.current(), 0)),
         Ref::Card(selector) => {
-            let sought = seek(world, scripts, run, frame, nested, selector)?;
+            let sought = seek(world, run, frame, nested, selector)?;
             card_there(world, &sought)
         }
         Ref::Background(selector) => {
-            let sought = seek(world, scripts, run, frame, nested, selector)?;
+            let sought = seek(world, run, frame, nested, selector)?;
             background_there(world, &sought)
         }
-        Ref::Part(part) => meet_part(world, scripts, run, frame, nested, part),
+        Ref::Part(part) => meet_part(world, run, frame, nested, part),
     }
 }
 
@@ -198,7 +174,6 @@ pub(crate) fn meet<E: External>(
 #[tactic(auto, using(meaning::proofs::Rules::leads_rules))]
 pub(crate) fn lead<E: External>(
     world: &mut World<E>,
-    scripts: &mut Scripts,
     run: &mut Budget,
     frame: &Frame,
     nested: u32,
@@ -213,11 +188,11 @@ pub(crate) fn lead<E: External>(
 {
     match destination {
         Destination::ToCard(selector) => {
-            let sought = seek(world, scripts, run, frame, nested, selector)?;
+            let sought = seek(world, run, frame, nested, selector)?;
             card_to(world, &sought)
         }
         Destination::ToBackground(selector) => {
-            let sought = seek(world, scripts, run, frame, nested, selector)?;
+            let sought = seek(world, run, frame, nested, selector)?;
             background_to(world, &sought)
         }
     }

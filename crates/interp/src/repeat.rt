@@ -14,7 +14,6 @@ use externals::External;
 use ht_tree::{Expr, Head, Stmt};
 use ht_values::Name;
 use meaning::{Budget, Counter, Frame, How, Stop};
-use msg_path::Scripts;
 use primitives::places::assign;
 use primitives::values::{counter, goes_on};
 
@@ -24,7 +23,6 @@ use primitives::values::{counter, goes_on};
 #[inline(never)]
 pub(crate) fn repeat<E: External>(
     world: &mut World<E>,
-    scripts: &mut Scripts,
     run: &mut Budget,
     frame: &mut Frame,
     nested: u32,
@@ -40,12 +38,11 @@ pub(crate) fn repeat<E: External>(
     ensures base { base world.new.history ≡ base world.old.history }
 {
     match head {
-        Head::Forever => repeat_forever(world, scripts, run, frame, nested, lines),
+        Head::Forever => repeat_forever(world, run, frame, nested, lines),
         Head::Times(times) => {
-            let times = number_value(world, scripts, run, frame, nested, times)?;
+            let times = number_value(world, run, frame, nested, times)?;
             turns(
                 world,
-                scripts,
                 run,
                 frame,
                 nested,
@@ -54,37 +51,15 @@ pub(crate) fn repeat<E: External>(
                 lines,
             )
         }
-        Head::While(condition) => repeat_while(
-            world, scripts, run, frame, nested, true, condition, lines,
-        ),
-        Head::Until(condition) => repeat_while(
-            world, scripts, run, frame, nested, false, condition, lines,
-        ),
+        Head::While(condition) => repeat_while(world, run, frame, nested, true, condition, lines),
+        Head::Until(condition) => repeat_while(world, run, frame, nested, false, condition, lines),
         Head::CountedUp(name, from, to) => {
-            let counter = bounds(world, scripts, run, frame, nested, from, to, false)?;
-            turns(
-                world,
-                scripts,
-                run,
-                frame,
-                nested,
-                Some(name),
-                counter,
-                lines,
-            )
+            let counter = bounds(world, run, frame, nested, from, to, false)?;
+            turns(world, run, frame, nested, Some(name), counter, lines)
         }
         Head::CountedDown(name, from, to) => {
-            let counter = bounds(world, scripts, run, frame, nested, from, to, true)?;
-            turns(
-                world,
-                scripts,
-                run,
-                frame,
-                nested,
-                Some(name),
-                counter,
-                lines,
-            )
+            let counter = bounds(world, run, frame, nested, from, to, true)?;
+            turns(world, run, frame, nested, Some(name), counter, lines)
         }
     }
 }
@@ -94,7 +69,6 @@ pub(crate) fn repeat<E: External>(
 #[tactic(auto, using(meaning::proofs::Rules::bounds_rules))]
 pub(crate) fn bounds<E: External>(
     world: &mut World<E>,
-    scripts: &mut Scripts,
     run: &mut Budget,
     frame: &Frame,
     nested: u32,
@@ -110,8 +84,8 @@ pub(crate) fn bounds<E: External>(
     ensures fewer { run.new.left ≤ run.old.left }
     ensures base { base world.new.history ≡ base world.old.history }
 {
-    let first = eval(world, scripts, run, frame, nested, from)?;
-    let last = eval(world, scripts, run, frame, nested, to)?;
+    let first = eval(world, run, frame, nested, from)?;
+    let last = eval(world, run, frame, nested, to)?;
     counter(&first, &last, is_down)
 }
 
@@ -121,7 +95,6 @@ pub(crate) fn bounds<E: External>(
 #[inline(never)]
 pub(crate) fn repeat_forever<E: External>(
     world: &mut World<E>,
-    scripts: &mut Scripts,
     run: &mut Budget,
     frame: &mut Frame,
     nested: u32,
@@ -136,7 +109,7 @@ pub(crate) fn repeat_forever<E: External>(
 {
     loop {
         run.step()?;
-        match run_block(world, scripts, run, frame, nested, lines)? {
+        match run_block(world, run, frame, nested, lines)? {
             How::Next | How::NextRepeat => {}
             How::ExitRepeat => return Ok(How::Next),
             How::Exit => return Ok(How::Exit),
@@ -152,7 +125,6 @@ pub(crate) fn repeat_forever<E: External>(
 #[inline(never)]
 pub(crate) fn repeat_while<E: External>(
     world: &mut World<E>,
-    scripts: &mut Scripts,
     run: &mut Budget,
     frame: &mut Frame,
     nested: u32,
@@ -170,11 +142,11 @@ pub(crate) fn repeat_while<E: External>(
 {
     loop {
         run.step()?;
-        let truth = truth_value(world, scripts, run, frame, nested, condition)?;
+        let truth = truth_value(world, run, frame, nested, condition)?;
         if !goes_on(wanted, truth) {
             return Ok(How::Next);
         }
-        match run_block(world, scripts, run, frame, nested, lines)? {
+        match run_block(world, run, frame, nested, lines)? {
             How::Next | How::NextRepeat => {}
             How::ExitRepeat => return Ok(How::Next),
             How::Exit => return Ok(How::Exit),
@@ -190,7 +162,6 @@ pub(crate) fn repeat_while<E: External>(
 #[inline(never)]
 pub(crate) fn turns<E: External>(
     world: &mut World<E>,
-    scripts: &mut Scripts,
     run: &mut Budget,
     frame: &mut Frame,
     nested: u32,
@@ -212,7 +183,7 @@ pub(crate) fn turns<E: External>(
             return Ok(How::Next);
         }
         assign(run.alloc(), run.delimiter(), world, frame, variable, &turn)?;
-        match run_block(world, scripts, run, frame, nested, lines)? {
+        match run_block(world, run, frame, nested, lines)? {
             How::Next | How::NextRepeat => {}
             How::ExitRepeat => return Ok(How::Next),
             How::Exit => return Ok(How::Exit),

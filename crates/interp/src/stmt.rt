@@ -21,7 +21,6 @@ use ht_grammar::{HandlerKind, RunProp};
 use ht_tree::{Chunk, Container, Destination, Expr, Exprs, Names, Ref, Stmt, StmtKind};
 use ht_values::{Fault, Op, Prop, Text, Where};
 use meaning::{Budget, Frame, How, Stop};
-use msg_path::Scripts;
 use primitives::places::{declare_all, edit, put_into_it, set_property};
 use primitives::values::{empty, lines};
 
@@ -30,7 +29,6 @@ use primitives::values::{empty, lines};
 #[tactic(auto, using(meaning::proofs::Rules::block_rules))]
 pub(crate) fn run_block<E: External>(
     world: &mut World<E>,
-    scripts: &mut Scripts,
     run: &mut Budget,
     frame: &mut Frame,
     nested: u32,
@@ -46,7 +44,7 @@ pub(crate) fn run_block<E: External>(
 {
     for stmt in lines {
         run.step()?;
-        match run_stmt(world, scripts, run, frame, nested, stmt)? {
+        match run_stmt(world, run, frame, nested, stmt)? {
             How::Next => {}
             how => return Ok(how),
         }
@@ -60,7 +58,6 @@ pub(crate) fn run_block<E: External>(
 #[inline(never)]
 pub(crate) fn run_stmt<E: External>(
     world: &mut World<E>,
-    scripts: &mut Scripts,
     run: &mut Budget,
     frame: &mut Frame,
     nested: u32,
@@ -74,20 +71,17 @@ pub(crate) fn run_stmt<E: External>(
     ensures base { base world.new.history ≡ base world.old.history }
 {
     match stmt.kind() {
-        StmtKind::Put(value) => show(world, scripts, run, frame, nested, value),
+        StmtKind::Put(value) => show(world, run, frame, nested, value),
         StmtKind::PutIn(place, value, container) => put(
-            world, scripts, run, frame, nested, *place, value, container,
+            world, run, frame, nested, *place, value, container,
         ),
-        StmtKind::Get(value) => get(world, scripts, run, frame, nested, value),
+        StmtKind::Get(value) => get(world, run, frame, nested, value),
         StmtKind::Set(property, reference, value) => set(
-            world, scripts, run, frame, nested, *property, reference, value,
+            world, run, frame, nested, *property, reference, value,
         ),
-        StmtKind::SetRun(property, value) => set_run(
-            world, scripts, run, frame, nested, *property, value,
-        ),
+        StmtKind::SetRun(property, value) => set_run(world, run, frame, nested, *property, value),
         StmtKind::Add(value, container) => alter(
             world,
-            scripts,
             run,
             frame,
             nested,
@@ -97,7 +91,6 @@ pub(crate) fn run_stmt<E: External>(
         ),
         StmtKind::Subtract(value, container) => alter(
             world,
-            scripts,
             run,
             frame,
             nested,
@@ -107,7 +100,6 @@ pub(crate) fn run_stmt<E: External>(
         ),
         StmtKind::Multiply(container, value) => alter(
             world,
-            scripts,
             run,
             frame,
             nested,
@@ -117,7 +109,6 @@ pub(crate) fn run_stmt<E: External>(
         ),
         StmtKind::Divide(container, value) => alter(
             world,
-            scripts,
             run,
             frame,
             nested,
@@ -125,14 +116,10 @@ pub(crate) fn run_stmt<E: External>(
             value,
             container,
         ),
-        StmtKind::Delete(chunk, container) => delete(
-            world, scripts, run, frame, nested, chunk, container,
-        ),
-        StmtKind::Do(text) => run_do(world, scripts, run, frame, nested, text),
-        StmtKind::Send(text, reference) => run_send(
-            world, scripts, run, frame, nested, text, reference,
-        ),
-        StmtKind::Go(destination) => run_go(world, scripts, run, frame, nested, destination),
+        StmtKind::Delete(chunk, container) => delete(world, run, frame, nested, chunk, container),
+        StmtKind::Do(text) => run_do(world, run, frame, nested, text),
+        StmtKind::Send(text, reference) => run_send(world, run, frame, nested, text, reference),
+        StmtKind::Go(destination) => run_go(world, run, frame, nested, destination),
         StmtKind::Global(names) => globals(world, run, frame, nested, names),
         StmtKind::ExitRepeat => Ok(How::ExitRepeat),
         StmtKind::NextRepeat => Ok(How::NextRepeat),
@@ -140,12 +127,11 @@ pub(crate) fn run_stmt<E: External>(
         StmtKind::Exit(_) => Ok(How::Exit),
         StmtKind::Pass(_) => Ok(How::Pass),
         StmtKind::ReturnNothing => Ok(How::Returns(empty(run.alloc()))),
-        StmtKind::ReturnValue(value) => returns(world, scripts, run, frame, nested, value),
-        StmtKind::Command(name, list) => command(world, scripts, run, frame, nested, name, list),
+        StmtKind::ReturnValue(value) => returns(world, run, frame, nested, value),
+        StmtKind::Command(name, list) => command(world, run, frame, nested, name, list),
         StmtKind::When(condition, lines, otherwise) => {
             when(
                 world,
-                scripts,
                 run,
                 frame,
                 nested,
@@ -154,15 +140,7 @@ pub(crate) fn run_stmt<E: External>(
                 &otherwise.items,
             )
         }
-        StmtKind::Repeat(head, lines) => repeat(
-            world,
-            scripts,
-            run,
-            frame,
-            nested,
-            head,
-            &lines.items,
-        ),
+        StmtKind::Repeat(head, lines) => repeat(world, run, frame, nested, head, &lines.items),
     }
 }
 
@@ -172,7 +150,6 @@ pub(crate) fn run_stmt<E: External>(
 #[inline(never)]
 pub(crate) fn show<E: External>(
     world: &mut World<E>,
-    scripts: &mut Scripts,
     run: &mut Budget,
     frame: &mut Frame,
     nested: u32,
@@ -185,7 +162,7 @@ pub(crate) fn show<E: External>(
     ensures fewer { run.new.left ≤ run.old.left }
     ensures base { base world.new.history ≡ base world.old.history }
 {
-    let value = eval(world, scripts, run, frame, nested, value)?;
+    let value = eval(world, run, frame, nested, value)?;
     run.show(&value)?;
     Ok(How::Next)
 }
@@ -196,7 +173,6 @@ pub(crate) fn show<E: External>(
 #[inline(never)]
 pub(crate) fn put<E: External>(
     world: &mut World<E>,
-    scripts: &mut Scripts,
     run: &mut Budget,
     frame: &mut Frame,
     nested: u32,
@@ -212,9 +188,9 @@ pub(crate) fn put<E: External>(
     ensures fewer { run.new.left ≤ run.old.left }
     ensures base { base world.new.history ≡ base world.old.history }
 {
-    let new = eval(world, scripts, run, frame, nested, value)?;
+    let new = eval(world, run, frame, nested, value)?;
     let put = Edit::Put(place, new);
-    edit_container(world, scripts, run, frame, nested, container, put)?;
+    edit_container(world, run, frame, nested, container, put)?;
     Ok(How::Next)
 }
 
@@ -224,7 +200,6 @@ pub(crate) fn put<E: External>(
 #[inline(never)]
 pub(crate) fn get<E: External>(
     world: &mut World<E>,
-    scripts: &mut Scripts,
     run: &mut Budget,
     frame: &mut Frame,
     nested: u32,
@@ -237,7 +212,7 @@ pub(crate) fn get<E: External>(
     ensures fewer { run.new.left ≤ run.old.left }
     ensures base { base world.new.history ≡ base world.old.history }
 {
-    let new = eval(world, scripts, run, frame, nested, value)?;
+    let new = eval(world, run, frame, nested, value)?;
     put_into_it(run.alloc(), run.delimiter(), world, frame, new)?;
     Ok(How::Next)
 }
@@ -248,7 +223,6 @@ pub(crate) fn get<E: External>(
 #[inline(never)]
 pub(crate) fn set<E: External>(
     world: &mut World<E>,
-    scripts: &mut Scripts,
     run: &mut Budget,
     frame: &mut Frame,
     nested: u32,
@@ -264,8 +238,8 @@ pub(crate) fn set<E: External>(
     ensures fewer { run.new.left ≤ run.old.left }
     ensures base { base world.new.history ≡ base world.old.history }
 {
-    let value = eval(world, scripts, run, frame, nested, value)?.into_text(run.alloc())?;
-    let referent = meet(world, scripts, run, frame, nested, reference)?;
+    let value = eval(world, run, frame, nested, value)?.into_text(run.alloc())?;
+    let referent = meet(world, run, frame, nested, reference)?;
     set_property(world, referent, property, value)?;
     Ok(How::Next)
 }
@@ -276,7 +250,6 @@ pub(crate) fn set<E: External>(
 #[inline(never)]
 pub(crate) fn set_run<E: External>(
     world: &mut World<E>,
-    scripts: &mut Scripts,
     run: &mut Budget,
     frame: &mut Frame,
     nested: u32,
@@ -290,7 +263,7 @@ pub(crate) fn set_run<E: External>(
     ensures fewer { run.new.left ≤ run.old.left }
     ensures base { base world.new.history ≡ base world.old.history }
 {
-    let value = eval(world, scripts, run, frame, nested, value)?.into_text(run.alloc())?;
+    let value = eval(world, run, frame, nested, value)?.into_text(run.alloc())?;
     match run.set_property(property, &value) {
         Ok(()) => Ok(How::Next),
         Err(fault) => Err(Stop::Fault(fault)),
@@ -303,7 +276,6 @@ pub(crate) fn set_run<E: External>(
 #[inline(never)]
 pub(crate) fn alter<E: External>(
     world: &mut World<E>,
-    scripts: &mut Scripts,
     run: &mut Budget,
     frame: &mut Frame,
     nested: u32,
@@ -319,9 +291,9 @@ pub(crate) fn alter<E: External>(
     ensures fewer { run.new.left ≤ run.old.left }
     ensures base { base world.new.history ≡ base world.old.history }
 {
-    let operand = eval(world, scripts, run, frame, nested, value)?;
+    let operand = eval(world, run, frame, nested, value)?;
     let change = Edit::Alter(op, operand);
-    edit_container(world, scripts, run, frame, nested, container, change)?;
+    edit_container(world, run, frame, nested, container, change)?;
     Ok(How::Next)
 }
 
@@ -331,7 +303,6 @@ pub(crate) fn alter<E: External>(
 #[inline(never)]
 pub(crate) fn delete<E: External>(
     world: &mut World<E>,
-    scripts: &mut Scripts,
     run: &mut Budget,
     frame: &mut Frame,
     nested: u32,
@@ -346,8 +317,8 @@ pub(crate) fn delete<E: External>(
     ensures fewer { run.new.left ≤ run.old.left }
     ensures base { base world.new.history ≡ base world.old.history }
 {
-    let pieces = pieces(world, scripts, run, frame, nested, chunk)?;
-    let to = resolve(world, scripts, run, frame, nested, container)?.with(pieces)?;
+    let pieces = pieces(world, run, frame, nested, chunk)?;
+    let to = resolve(world, run, frame, nested, container)?.with(pieces)?;
     edit(run.alloc(), run.delimiter(), world, frame, to, Edit::Delete)?;
     Ok(How::Next)
 }
@@ -358,7 +329,6 @@ pub(crate) fn delete<E: External>(
 #[inline(never)]
 pub(crate) fn run_do<E: External>(
     world: &mut World<E>,
-    scripts: &mut Scripts,
     run: &mut Budget,
     frame: &mut Frame,
     nested: u32,
@@ -371,8 +341,8 @@ pub(crate) fn run_do<E: External>(
     ensures fewer { run.new.left ≤ run.old.left }
     ensures base { base world.new.history ≡ base world.old.history }
 {
-    let text = eval(world, scripts, run, frame, nested, text)?.into_text(run.alloc())?;
-    do_text(world, scripts, run, frame, nested, &text)
+    let text = eval(world, run, frame, nested, text)?.into_text(run.alloc())?;
+    do_text(world, run, frame, nested, &text)
 }
 
 /// A text that is run as lines.
@@ -381,7 +351,6 @@ pub(crate) fn run_do<E: External>(
 #[inline(never)]
 pub(crate) fn do_text<E: External>(
     world: &mut World<E>,
-    scripts: &mut Scripts,
     run: &mut Budget,
     frame: &mut Frame,
     nested: u32,
@@ -398,7 +367,7 @@ pub(crate) fn do_text<E: External>(
     }
     let lines = lines(run.alloc(), text)?;
     let _depth = lines.depth();
-    run_block(world, scripts, run, frame, nested + 1, &lines.items)
+    run_block(world, run, frame, nested + 1, &lines.items)
 }
 
 /// `send`: the text, then the object, then the message.
@@ -407,7 +376,6 @@ pub(crate) fn do_text<E: External>(
 #[inline(never)]
 pub(crate) fn run_send<E: External>(
     world: &mut World<E>,
-    scripts: &mut Scripts,
     run: &mut Budget,
     frame: &mut Frame,
     nested: u32,
@@ -422,9 +390,9 @@ pub(crate) fn run_send<E: External>(
     ensures fewer { run.new.left ≤ run.old.left }
     ensures base { base world.new.history ≡ base world.old.history }
 {
-    let text = eval(world, scripts, run, frame, nested, text)?.into_text(run.alloc())?;
-    let referent = meet(world, scripts, run, frame, nested, reference)?;
-    let _ = send_text(world, scripts, run, frame, nested, referent.object, &text)?;
+    let text = eval(world, run, frame, nested, text)?.into_text(run.alloc())?;
+    let referent = meet(world, run, frame, nested, reference)?;
+    let _ = send_text(world, run, frame, nested, referent.object, &text)?;
     Ok(How::Next)
 }
 
@@ -434,7 +402,6 @@ pub(crate) fn run_send<E: External>(
 #[inline(never)]
 pub(crate) fn run_go<E: External>(
     world: &mut World<E>,
-    scripts: &mut Scripts,
     run: &mut Budget,
     frame: &mut Frame,
     nested: u32,
@@ -447,8 +414,8 @@ pub(crate) fn run_go<E: External>(
     ensures fewer { run.new.left ≤ run.old.left }
     ensures base { base world.new.history ≡ base world.old.history }
 {
-    let card = lead(world, scripts, run, frame, nested, destination)?;
-    let _ = go(world, scripts, run, frame, nested, card)?;
+    let card = lead(world, run, frame, nested, destination)?;
+    let _ = go(world, run, frame, nested, card)?;
     Ok(How::Next)
 }
 
@@ -477,7 +444,6 @@ pub(crate) fn globals<E: External>(
 #[inline(never)]
 pub(crate) fn returns<E: External>(
     world: &mut World<E>,
-    scripts: &mut Scripts,
     run: &mut Budget,
     frame: &mut Frame,
     nested: u32,
@@ -490,7 +456,7 @@ pub(crate) fn returns<E: External>(
     ensures fewer { run.new.left ≤ run.old.left }
     ensures base { base world.new.history ≡ base world.old.history }
 {
-    let value = eval(world, scripts, run, frame, nested, value)?;
+    let value = eval(world, run, frame, nested, value)?;
     Ok(How::Returns(value))
 }
 
@@ -500,7 +466,6 @@ pub(crate) fn returns<E: External>(
 #[inline(never)]
 pub(crate) fn command<E: External>(
     world: &mut World<E>,
-    scripts: &mut Scripts,
     run: &mut Budget,
     frame: &mut Frame,
     nested: u32,
@@ -516,7 +481,6 @@ pub(crate) fn command<E: External>(
 {
     let _ = calls(
         world,
-        scripts,
         run,
         frame,
         nested,
@@ -533,7 +497,6 @@ pub(crate) fn command<E: External>(
 #[tactic(auto, using(meaning::proofs::Rules::form_when_rules))]
 pub(crate) fn when<E: External>(
     world: &mut World<E>,
-    scripts: &mut Scripts,
     run: &mut Budget,
     frame: &mut Frame,
     nested: u32,
@@ -550,9 +513,9 @@ pub(crate) fn when<E: External>(
     ensures fewer { run.new.left ≤ run.old.left }
     ensures base { base world.new.history ≡ base world.old.history }
 {
-    if truth_value(world, scripts, run, frame, nested, condition)? {
-        run_block(world, scripts, run, frame, nested, lines)
+    if truth_value(world, run, frame, nested, condition)? {
+        run_block(world, run, frame, nested, lines)
     } else {
-        run_block(world, scripts, run, frame, nested, otherwise)
+        run_block(world, run, frame, nested, otherwise)
     }
 }

@@ -10,7 +10,6 @@ use externals::External;
 use ht_grammar::HandlerKind;
 use ht_values::{Fault, Value};
 use meaning::{Budget, Frame, Item, Stop, SystemMessage};
-use msg_path::Scripts;
 use object_references::may_delete;
 use object_table::Id;
 use primitives::arguments::Arguments;
@@ -26,7 +25,6 @@ use structural_changes::home_of;
 #[tactic(auto, using(meaning::proofs::Rules::system_rules))]
 pub(crate) fn system<E: External>(
     world: &mut World<E>,
-    scripts: &mut Scripts,
     run: &mut Budget,
     frame: &Frame,
     nested: u32,
@@ -46,7 +44,6 @@ pub(crate) fn system<E: External>(
     let values = Arguments::new(run.alloc());
     send(
         world,
-        scripts,
         run,
         frame,
         nested,
@@ -62,7 +59,6 @@ pub(crate) fn system<E: External>(
 #[tactic(auto, using(meaning::proofs::Rules::systems_rules))]
 pub(crate) fn systems<E: External>(
     world: &mut World<E>,
-    scripts: &mut Scripts,
     run: &mut Budget,
     frame: &Frame,
     nested: u32,
@@ -75,15 +71,7 @@ pub(crate) fn systems<E: External>(
     ensures base { base world.new.history ≡ base world.old.history }
 {
     for message in messages {
-        let _ = system(
-            world,
-            scripts,
-            run,
-            frame,
-            nested,
-            world.current(),
-            *message,
-        )?;
+        let _ = system(world, run, frame, nested, world.current(), *message)?;
     }
     Ok(empty(run.alloc()))
 }
@@ -93,7 +81,6 @@ pub(crate) fn systems<E: External>(
 #[tactic(auto, using(meaning::proofs::Rules::goes_rules))]
 pub(crate) fn go<E: External>(
     world: &mut World<E>,
-    scripts: &mut Scripts,
     run: &mut Budget,
     frame: &Frame,
     nested: u32,
@@ -109,12 +96,12 @@ pub(crate) fn go<E: External>(
         return Ok(empty(run.alloc()));
     }
     let differs = has_other_background(world, card);
-    let _ = systems(world, scripts, run, frame, nested, closing(differs))?;
+    let _ = systems(world, run, frame, nested, closing(differs))?;
     if !is_card_there(world, card) {
         return Err(Stop::Fault(Fault::NoSuchObject));
     }
     make(world, Change::Current(card))?;
-    systems(world, scripts, run, frame, nested, opening(differs))
+    systems(world, run, frame, nested, opening(differs))
 }
 
 /// The items of `doMenu`.
@@ -122,7 +109,6 @@ pub(crate) fn go<E: External>(
 #[tactic(auto, using(meaning::proofs::Rules::menu_rules))]
 pub(crate) fn menu<E: External>(
     world: &mut World<E>,
-    scripts: &mut Scripts,
     run: &mut Budget,
     frame: &Frame,
     nested: u32,
@@ -136,21 +122,14 @@ pub(crate) fn menu<E: External>(
 {
     match item {
         Item::NewCard => {
-            let _ = systems(world, scripts, run, frame, nested, closing(false))?;
+            let _ = systems(world, run, frame, nested, closing(false))?;
             add(world, Change::NewCard)?;
-            systems(world, scripts, run, frame, nested, new_card_messages())
+            systems(world, run, frame, nested, new_card_messages())
         }
         Item::NewBackground => {
-            let _ = systems(world, scripts, run, frame, nested, closing(true))?;
+            let _ = systems(world, run, frame, nested, closing(true))?;
             add(world, Change::NewBackground)?;
-            systems(
-                world,
-                scripts,
-                run,
-                frame,
-                nested,
-                new_background_messages(),
-            )
+            systems(world, run, frame, nested, new_background_messages())
         }
         Item::NewPart(kind) => {
             add(world, Change::NewPart(new_layer(world, run), kind))?;
@@ -163,7 +142,7 @@ pub(crate) fn menu<E: External>(
             }
             make(world, Change::DeleteCard)?;
             let differs = is_other(background, home_of(world.stack(), world.current()));
-            systems(world, scripts, run, frame, nested, opening(differs))
+            systems(world, run, frame, nested, opening(differs))
         }
     }
 }

@@ -15,3 +15,4 @@ pub mod Several
 mod Listing
 pub mod Keys
 pub mod Indexing
+pub mod ScriptTrees

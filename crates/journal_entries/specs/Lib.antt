@@ -11,3 +11,4 @@ pub mod Changing
 pub mod SameKey
 pub mod Indexed
 pub mod BatchEntries
+pub mod ScriptTrees

@@ -10,6 +10,7 @@ mod names;
 mod open_batch;
 mod place_key;
 mod present;
+mod script_trees;
 
 pub use batch::Batch;
 pub use change::{Change, law_of_global, law_of_texts};

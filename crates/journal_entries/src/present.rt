@@ -1,10 +1,14 @@
 //! The present state: the stack, the globals, the current card and the externals.
 
-ghost use Rattle.std.specs.Prelude.{◌≡◌, ℕ, ◌<◌, List, [], ◌∷◌, ◌++◌, length, ◌+◌, true, take, drop, IfOk, IfErr, OnErr, OnOk, slice_index_or, option_copied, option_map, map, slice_get, Some};
+ghost use Rattle.std.specs.Prelude.{◌≡◌, ℕ, ◌<◌, List, [], ◌∷◌, ◌++◌, length, ◌+◌, true, take, drop, IfOk, IfErr, IfSome, OnErr, OnOk, slice_index_or, option_copied, option_map, map, slice_get, Some};
 ghost use Rattle.std.specs.FinMap as finite;
+ghost use Rattle.ht_grammar.specs.Reads.{Reads, ReadsScript};
+ghost use Rattle.ht_tree.specs.ScriptView.{script_of};
 ghost use Rattle.externals.specs.Cells.{IsPatch};
+ghost use Rattle.stack_places.specs.Exchange as places;
 ghost use Rattle.journal_entries.specs.State.{IsState, seen_by, seen_at, first_state, titles_of, has_name as has_title, index_of as index_of_title};
 ghost use Rattle.journal_entries.specs.Named.{listed, numbered, Lists};
+ghost use Rattle.journal_entries.specs.ScriptTrees.{object_script};
 ghost use Rattle.journal_entries.specs.Changes.{fits};
 ghost use Rattle.journal_entries.specs.declared.change.Change.TheVariants as made_change;
 ghost use Rattle.journal_entries.specs.Exchange.{exchanged, taken, back, back_taken, forth, forth_taken, shape_of, IsReady, AreReady};
@@ -14,23 +18,27 @@ use crate::change::Change;
 use crate::entry::{Entry, Prepared};
 use crate::globals::Globals;
 use crate::names::{has_name, index_of};
+use crate::script_trees::ScriptTrees;
 use externals::{Ask, External, Input, Patch};
+use ht_tree::Script;
 use ht_values::{PartKind, Text};
-use object_table::{LayerId, Stack};
+use object_table::{Id, LayerId, Stack};
 use stack_places::{BoxedText, StackEntry};
 use std::alloc::{AllocError, Global};
 use std::marker::Model;
 use std::mem;
+use std::rc::Rc;
 use structural_changes::{
     fits_deletion, fits_new_part, following_card, has_room, is_card, prepare_deletion,
     prepare_new_background, prepare_new_card, prepare_new_part,
 };
 
 /// The present state, which contracts see beside the names of globals that have numbers and the externals'
-/// turns.
+/// turns. It keeps trees of scripts that were parsed, which no contract sees.
 #[derive(Drop)]
 pub struct Present<E: External> {
     stack: Stack,
+    trees: ScriptTrees,
     globals: Globals,
     current: u32,
     externals: Vec<E>,
@@ -40,6 +48,7 @@ impl<E: External> Model for Present<E> {
     ghost use Rattle.std.specs.Prelude.{map};
     ghost use Rattle.journal_entries.specs.State.{seen_by};
     ghost use Rattle.journal_entries.specs.Exchange.{PresentView, coded_present_view};
+    ghost use Rattle.journal_entries.specs.ScriptTrees.{AreTrees, trees_in};
 
     ghost Value = { PresentView };
 
@@ -56,6 +65,8 @@ impl<E: External> Model for Present<E> {
       turns = map E.turn_count p.externals.items;
       room = p.stack.room;
     } };
+
+    ghost invariant = { λ p. AreTrees p.stack.content (trees_in p.trees) };
 }
 
 impl<E: External> Present<E> {
@@ -70,6 +81,7 @@ impl<E: External> Present<E> {
     {
         Present {
             stack,
+            trees: ScriptTrees::new(alloc),
             globals: Globals::new(alloc),
             current,
             externals,
@@ -86,9 +98,19 @@ impl<E: External> Present<E> {
         match entry {
             Entry::Global(i, value) => self.swap_global(*i, value),
             Entry::Current(current) => mem::swap(&mut self.current, current),
-            Entry::Stack(entry) => entry.exchange(&mut self.stack),
+            Entry::Stack(entry) => self.exchange_in_stack(entry),
             Entry::External(i, patch) => self.externals[*i].flip(patch),
         }
+    }
+
+    /// Exchanges the value of one place of the stack. The tree of a script that may change goes.
+    fn exchange_in_stack(&mut self, entry: &mut StackEntry)
+        requires { places.IsReady self.old.room entry.old }
+        ensures state { self.new ≡ record self.old { state = record self.old.state { stack = places.exchanged self.old.state.stack entry.old } } }
+        ensures entry { entry.new ≡ places.taken self.old.state.stack entry.old }
+    {
+        self.trees.forget(entry);
+        entry.exchange(&mut self.stack);
     }
 
     /// Exchanges the value of the numbered global.
@@ -250,6 +272,21 @@ impl<E: External> Present<E> {
         self.externals[i].turn(alloc, input)
     }
 
+    /// The tree of an object's script, if it is kept: that of the script of now.
+    pub fn script_tree(&self, id: Id) -> Option<&Rc<Script>>
+        ensures { IfSome result (λ tree. Reads ReadsScript (object_script self.now.state.stack id) (script_of tree.now.value)) }
+    {
+        self.trees.get(id)
+    }
+
+    /// Keeps the tree of an object's script until that script changes. It shows nowhere but in time.
+    pub fn keep_script_tree(&mut self, id: Id, tree: Rc<Script>) -> Result<(), AllocError>
+        requires { Reads ReadsScript (object_script self.old.state.stack id) (script_of tree.value) }
+        ensures { self.new ≡ self.old }
+    {
+        self.trees.keep(id, tree)
+    }
+
     /// The stack.
     pub fn stack(&self) -> &Stack
         ensures { result.now.content ≡ self.now.state.stack }
@@ -385,6 +422,7 @@ impl<E: External> Present<E> {
     {
         let Present {
             stack: _,
+            trees: _,
             globals: _,
             current: _,
             externals,

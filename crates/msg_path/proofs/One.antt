@@ -7,7 +7,8 @@ use Rattle.ht_grammar.specs.Handlers.{handler_in}
 use Rattle.ht_grammar.specs.Reads.{Reads, ReadsScript}
 use Rattle.ht_grammar.specs.Laws.{OneTreePerText}
 use Rattle.object_table.specs.Content.{Content}
-use Rattle.msg_path.specs.Handlers.{Found, First, script_at}
+use Rattle.journal_entries.specs.ScriptTrees.{object_script}
+use Rattle.msg_path.specs.Handlers.{Found, First}
 use Rattle.msg_path.specs.Handlers as first
 use Rattle.msg_path.specs.Laws.{FirstIsOne}
 
@@ -33,12 +34,12 @@ outcomes : {i j : ℕ} {h g : Handler} → i ≡ j → h ≡ g → outcome i h �
 outcomes {i} {j} {h} {g} e f = ap (λ (k : ℕ). outcome k h) e ∙ ap (λ (k : Handler). outcome j k) f
 
 -- what the first script of a path is read as
-moved : (s : Content) {path rest other : List ℕ} {i j : ℕ} {gs : Handlers} → path ≡ i ∷ rest → path ≡ j ∷ other → Reads ReadsScript (script_at s j) gs → Reads ReadsScript (script_at s i) gs
-moved s {gs = gs} e f r = subst (λ (k : ℕ). Reads ReadsScript (script_at s k) gs) (sym (heads e f)) r
+moved : (s : Content) {path rest other : List ℕ} {i j : ℕ} {gs : Handlers} → path ≡ i ∷ rest → path ≡ j ∷ other → Reads ReadsScript (object_script s j) gs → Reads ReadsScript (object_script s i) gs
+moved s {gs = gs} e f r = subst (λ (k : ℕ). Reads ReadsScript (object_script s k) gs) (sym (heads e f)) r
 
 -- where two paths are one, their first scripts have the same handlers
-same_handler : OneTreePerText ReadsScript → (s : Content) (kind : HandlerKind) (name : List ℕ) {path rest other : List ℕ} {i j : ℕ} {hs gs : Handlers} → path ≡ i ∷ rest → path ≡ j ∷ other → Reads ReadsScript (script_at s i) hs → Reads ReadsScript (script_at s j) gs → handler_in hs kind name ≡ handler_in gs kind name
-same_handler law s kind name {i = i} {hs = hs} {gs = gs} e f r t = ap (λ (x : Handlers). handler_in x kind name) (law (script_at s i) hs gs r (moved s e f t))
+same_handler : OneTreePerText ReadsScript → (s : Content) (kind : HandlerKind) (name : List ℕ) {path rest other : List ℕ} {i j : ℕ} {hs gs : Handlers} → path ≡ i ∷ rest → path ≡ j ∷ other → Reads ReadsScript (object_script s i) hs → Reads ReadsScript (object_script s j) gs → handler_in hs kind name ≡ handler_in gs kind name
+same_handler law s kind name {i = i} {hs = hs} {gs = gs} e f r t = ap (λ (x : Handlers). handler_in x kind name) (law (object_script s i) hs gs r (moved s e f t))
 
 pub first_one : OneTreePerText ReadsScript → FirstIsOne
 first_one law s path kind name o q (first.nothing_left e a) (first.nothing_left f b) = a ∙ sym b

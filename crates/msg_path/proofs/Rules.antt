@@ -1,5 +1,5 @@
 -- The rules of what a message meets.
-use Rattle.std.proofs.Common.{◌≡◌, refl, ap, subst, ℕ, List, ◌∷◌, Option, Some, None, Result, Ok, Err}
+use Rattle.std.proofs.Common.{◌≡◌, refl, ap, ℕ, List, ◌∷◌, Option, Some, None, Result, Ok, Err}
 use Rattle.ht_values.specs.declared.failure.Failure.{Failure}
 use Rattle.ht_values.specs.declared.failure.Failure.TheVariants as failure
 use Rattle.ht_values.specs.declared.fault.Fault.{Fault}
@@ -9,7 +9,8 @@ use Rattle.ht_grammar.specs.Statements.{Handlers}
 use Rattle.ht_grammar.specs.Handlers.{handler_in}
 use Rattle.ht_grammar.specs.Reads.{Reads, ReadsScript}
 use Rattle.object_table.specs.Content.{Content}
-use Rattle.msg_path.specs.Handlers.{Found, First, script_at}
+use Rattle.journal_entries.specs.ScriptTrees.{object_script}
+use Rattle.msg_path.specs.Handlers.{Found, First}
 use Rattle.msg_path.specs.Handlers as first
 use Rattle.msg_path.specs.Meets.{GivesDue, LeadsOn}
 use Rattle.msg_path.specs.Meets as meets
@@ -17,18 +18,18 @@ use Rattle.msg_path.specs.Trees.{IsNoTree}
 
 pub ruleset meeting = (meets.on_path, meets.after_stack, meets.stops)
 
-pub leads_to : (s : Content) (id : ℕ) (kind : HandlerKind) (name : List ℕ) (hs : Handlers) (found : Found) → Reads ReadsScript (script_at s id) hs → handler_in hs kind name ≡ Some found.handler → found.object ≡ id → (rest : List ℕ) → First s (id ∷ rest) kind name (Ok (Some found))
+pub leads_to : (s : Content) (id : ℕ) (kind : HandlerKind) (name : List ℕ) (hs : Handlers) (found : Found) → Reads ReadsScript (object_script s id) hs → handler_in hs kind name ≡ Some found.handler → found.object ≡ id → (rest : List ℕ) → First s (id ∷ rest) kind name (Ok (Some found))
 leads_to s id kind name hs found r h e rest = first.here refl r h (ap (λ (k : ℕ). Ok (Some (let f : Found = record { object = k; handler = found.handler } in f))) e)
 
-pub leads_past : (s : Content) (id : ℕ) (kind : HandlerKind) (name : List ℕ) (hs : Handlers) → Reads ReadsScript (script_at s id) hs → handler_in hs kind name ≡ None → (rest : List ℕ) (outcome : Result (Option Found) Fault) → First s rest kind name outcome → First s (id ∷ rest) kind name outcome
+pub leads_past : (s : Content) (id : ℕ) (kind : HandlerKind) (name : List ℕ) (hs : Handlers) → Reads ReadsScript (object_script s id) hs → handler_in hs kind name ≡ None → (rest : List ℕ) (outcome : Result (Option Found) Fault) → First s rest kind name outcome → First s (id ∷ rest) kind name outcome
 leads_past s id kind name hs r h rest outcome p = first.further_on refl r h p
 
-pub leads_nowhere : (s : Content) (id : ℕ) (kind : HandlerKind) (name : List ℕ) (fault : Fault) → fault ≡ Syntax → ((hs : Handlers) → Reads ReadsScript (script_at s id) hs → ⊥) → (rest : List ℕ) → First s (id ∷ rest) kind name (Err fault)
+pub leads_nowhere : (s : Content) (id : ℕ) (kind : HandlerKind) (name : List ℕ) (fault : Fault) → fault ≡ Syntax → ((hs : Handlers) → Reads ReadsScript (object_script s id) hs → ⊥) → (rest : List ℕ) → First s (id ∷ rest) kind name (Err fault)
 leads_nowhere s id kind name fault e n rest = first.no_script refl n (ap Err e)
 
 pub ruleset leading = (leads_to, leads_past)
 
 -- where the script of an object isn't read, a path stops there
-pub stops_there : (s : Content) (id : ℕ) (kind : HandlerKind) (name text : List ℕ) (e : Failure) → text ≡ script_at s id → IsNoTree text e → GivesDue (LeadsOn s id kind name) (Err e)
-stops_there s id kind name text (failure.Fault fault) t p = leads_nowhere s id kind name fault p.0 (subst (λ (k : List ℕ). (hs : Handlers) → Reads ReadsScript k hs → ⊥) t p.1)
-stops_there s id kind name text failure.Memory t p = tt
+pub stops_there : (s : Content) (id : ℕ) (kind : HandlerKind) (name : List ℕ) (e : Failure) → IsNoTree (object_script s id) e → GivesDue (LeadsOn s id kind name) (Err e)
+stops_there s id kind name (failure.Fault fault) p = leads_nowhere s id kind name fault p.0 p.1
+stops_there s id kind name failure.Memory p = tt

@@ -1,5 +1,5 @@
 -- The first handler on a path.
-use Rattle.std.specs.Prelude.{◌≡◌, ℕ, List, [], ◌∷◌, Option, Some, None, option_map, unwrap_or, Result, Ok, Err}
+use Rattle.std.specs.Prelude.{◌≡◌, ℕ, List, [], ◌∷◌, Option, Some, None, Result, Ok, Err}
 use Rattle.ht_values.specs.declared.fault.Fault.{Fault}
 use Rattle.ht_values.specs.declared.fault.Fault.TheVariants.{Syntax}
 use Rattle.ht_grammar.specs.declared.vocabulary.HandlerKind.{HandlerKind}
@@ -8,7 +8,7 @@ use Rattle.ht_grammar.specs.Statements.{Handler, handler, Handlers, stop}
 use Rattle.ht_grammar.specs.Handlers.{handler_in}
 use Rattle.ht_grammar.specs.Reads.{Reads, ReadsScript}
 use Rattle.object_table.specs.Content.{Content}
-use Rattle.object_table.specs.Objects.{object_at}
+use Rattle.journal_entries.specs.ScriptTrees.{object_script}
 
 -- a handler, and the object whose script has it
 pub record Found : Type 0 where
@@ -19,20 +19,16 @@ pub record Found : Type 0 where
 abbrev pub no_handler : Handler
 no_handler = handler Command [] [] stop
 
--- the script of an object; what isn't there has an empty one
-abbrev pub script_at : Content → ℕ → List ℕ
-script_at s id = unwrap_or (option_map (λ o. o.script) (object_at s id)) []
-
 -- The first handler of a kind and a name on a path. A script on the way that isn't in the grammar is a fault.
 pub data First : Content → List ℕ → HandlerKind → List ℕ → Result (Option Found) Fault → Type 0 where
   nothing_left : {s : Content} {path name : List ℕ} {kind : HandlerKind} {outcome : Result (Option Found) Fault} →
       path ≡ [] → outcome ≡ Ok None → First s path kind name outcome
   here : {s : Content} {path rest name : List ℕ} {id : ℕ} {kind : HandlerKind} {hs : Handlers} {h : Handler} {outcome : Result (Option Found) Fault} →
-      path ≡ id ∷ rest → Reads ReadsScript (script_at s id) hs → handler_in hs kind name ≡ Some h →
+      path ≡ id ∷ rest → Reads ReadsScript (object_script s id) hs → handler_in hs kind name ≡ Some h →
       outcome ≡ Ok (Some (record { object = id; handler = h })) → First s path kind name outcome
   further_on : {s : Content} {path rest name : List ℕ} {id : ℕ} {kind : HandlerKind} {hs : Handlers} {outcome : Result (Option Found) Fault} →
-      path ≡ id ∷ rest → Reads ReadsScript (script_at s id) hs → handler_in hs kind name ≡ None →
+      path ≡ id ∷ rest → Reads ReadsScript (object_script s id) hs → handler_in hs kind name ≡ None →
       First s rest kind name outcome → First s path kind name outcome
   no_script : {s : Content} {path rest name : List ℕ} {id : ℕ} {kind : HandlerKind} {outcome : Result (Option Found) Fault} →
-      path ≡ id ∷ rest → ((hs : Handlers) → Reads ReadsScript (script_at s id) hs → ⊥) →
+      path ≡ id ∷ rest → ((hs : Handlers) → Reads ReadsScript (object_script s id) hs → ⊥) →
       outcome ≡ Err Syntax → First s path kind name outcome

@@ -13,4 +13,3 @@ pub use found::FoundHandler;
 pub use law::first_is_one;
 pub use next::{Found, external_named, first_handler, next_handler};
 pub use objects::{MessagePath, path, path_after};
-pub use scripts::Scripts;

@@ -1,19 +1,20 @@
 //! What a message meets next.
 
-ghost use Rattle.std.specs.Prelude.{◌≡◌, ◌<◌, [], length, IfSome};
+ghost use Rattle.std.specs.Prelude.{◌≡◌, ◌<◌, length, IfSome};
 ghost use Rattle.journal_entries.specs.State.{seen_by};
-ghost use Rattle.msg_path.specs.Handlers.{First, script_at};
+ghost use Rattle.msg_path.specs.Handlers.{First};
 ghost use Rattle.msg_path.specs.BuiltIns.{answers as is_answering, calls_function as is_function_call, external_named as external_by_name};
 ghost use Rattle.msg_path.specs.Meets.{GivesDue, LeadsOn, Meets};
 
 use crate::built_in::BuiltIn;
 use crate::found::FoundHandler;
-use crate::scripts::Scripts;
+use crate::scripts::tree;
 use change_journal::World;
 use externals::External;
 use ht_grammar::HandlerKind;
 use ht_values::{Failure, Text};
-use object_table::{Id, Stack};
+use object_table::Id;
+use std::alloc::Global;
 
 /// What a message meets.
 #[derive(Drop)]
@@ -26,30 +27,19 @@ pub enum Found {
     Nobody,
 }
 
-/// The script of an object, which is empty where there is no such object.
-fn script_of<'a>(stack: &'a Stack, id: Id, empty: &'a Text) -> &'a Text
-    requires { empty.now ≡ [] }
-    ensures { result.now ≡ script_at stack.now.content id }
-{
-    match stack.object(id) {
-        Some(object) => &object.script,
-        None => empty,
-    }
-}
-
 /// The first handler of a kind and a name in the script of an object. `Syntax` where the script isn't in the grammar.
 #[tactic(auto, using(crate::proofs::Rules::leading))]
-fn handler_here(
-    stack: &Stack,
-    scripts: &mut Scripts,
+fn handler_here<E: External>(
+    alloc: Global,
+    world: &mut World<E>,
     id: Id,
     kind: HandlerKind,
     name: &Text,
 ) -> Result<Option<FoundHandler>, Failure>
-    ensures { GivesDue (LeadsOn stack.now.content id kind name.now) result }
+    ensures due { GivesDue (LeadsOn world.old.history.now.stack id kind name.now) result }
+    ensures world { world.new ≡ world.old }
 {
-    let empty = Text::new(scripts.alloc());
-    let script = scripts.tree(id, script_of(stack, id, &empty))?;
+    let script = tree(alloc, world, id)?;
     let Some(place) = script.first(kind, name) else {
         return Ok(None);
     };
@@ -57,18 +47,20 @@ fn handler_here(
 }
 
 /// The first handler of a kind and a name on a path; `None` where no script on it has one. Scripts are parsed one after
-/// another, up to the one that has it: one on the way that isn't in the grammar is the fault `Syntax`.
-pub fn first_handler(
-    stack: &Stack,
-    scripts: &mut Scripts,
+/// another, up to the one that has it: one on the way that isn't in the grammar is the fault `Syntax`. The world keeps the
+/// trees, which shows nowhere but in time.
+pub fn first_handler<E: External>(
+    alloc: Global,
+    world: &mut World<E>,
     path: &[Id],
     kind: HandlerKind,
     name: &Text,
 ) -> Result<Option<FoundHandler>, Failure>
-    ensures { GivesDue (First stack.now.content path.now kind name.now) result }
+    ensures due { GivesDue (First world.old.history.now.stack path.now kind name.now) result }
+    ensures world { world.new ≡ world.old }
 {
     for id in path {
-        if let Some(found) = handler_here(stack, scripts, *id, kind, name)? {
+        if let Some(found) = handler_here(alloc, world, *id, kind, name)? {
             return Ok(Some(found));
         }
     }
@@ -114,15 +106,16 @@ pub fn external_named<E: External>(
 /// of that name; else what is built in. A script on the way that isn't in the grammar is the fault `Syntax`.
 #[tactic(auto, using(crate::proofs::Rules::meeting))]
 pub fn next_handler<E: External>(
-    world: &World<E>,
-    scripts: &mut Scripts,
+    alloc: Global,
+    world: &mut World<E>,
     path: &[Id],
     kind: HandlerKind,
     name: &Text,
 ) -> Result<Found, Failure>
-    ensures { GivesDue (Meets world.now.history.now path.now kind name.now) result }
+    ensures due { GivesDue (Meets world.old.history.now path.now kind name.now) result }
+    ensures world { world.new ≡ world.old }
 {
-    if let Some(found) = first_handler(world.stack(), scripts, path, kind, name)? {
+    if let Some(found) = first_handler(alloc, world, path, kind, name)? {
         return Ok(Found::Handler(found));
     }
     if let Some(i) = external_named(world, calls_function(kind), name) {

@@ -1,86 +1,72 @@
-//! Scripts that were parsed.
+//! Scripts of objects, as trees.
 
-ghost use Rattle.std.specs.Prelude.{◌≡◌, IfOk};
+ghost use Rattle.std.specs.Prelude.{◌≡◌, [], IfOk};
 ghost use Rattle.ht_grammar.specs.Reads.{Reads, ReadsScript};
 ghost use Rattle.ht_tree.specs.ScriptView.{script_of};
+ghost use Rattle.journal_entries.specs.ScriptTrees.{object_script};
 ghost use Rattle.msg_path.specs.Trees.{GivesTree};
 
+use change_journal::World;
+use externals::External;
 use ht_parse::{ParseError, parse_script};
 use ht_tree::Script;
 use ht_values::{Failure, Fault, Text};
-use object_table::Id;
+use object_table::{Id, Stack};
 use std::alloc::{AllocError, Global};
-use std::collections::HashMap;
-use std::marker::Model;
 use std::rc::Rc;
 
-/// A text with the script that it is, which contracts see as the text.
-#[derive(Drop)]
-struct Parsed {
-    text: Text,
-    script: Rc<Script>,
+/// The script of an object, which is empty where there is no such object.
+fn script_text<'a>(stack: &'a Stack, id: Id, empty: &'a Text) -> &'a Text
+    requires { empty.now ≡ [] }
+    ensures { result.now ≡ object_script stack.now.content id }
+{
+    match stack.object(id) {
+        Some(object) => &object.script,
+        None => empty,
+    }
 }
 
-impl Model for Parsed {
-    ghost use Rattle.std.specs.Prelude.{ℕ, List};
-    ghost use Rattle.ht_grammar.specs.Reads.{Reads, ReadsScript};
-    ghost use Rattle.ht_tree.specs.ScriptView.{script_of};
-
-    ghost Value = { List ℕ };
-
-    ghost view = { λ p. p.text };
-
-    ghost invariant = { λ p. Reads ReadsScript p.text (script_of p.script.value) };
+/// The tree of a script. `Syntax` where it isn't in the grammar.
+fn parsed(alloc: Global, text: &Text) -> Result<Script, Failure>
+    ensures { GivesTree script_of text.now result }
+{
+    match parse_script(alloc, text) {
+        Ok(script) => Ok(script),
+        Err(ParseError::Syntax(_)) => Err(Failure::Fault(Fault::Syntax)),
+        Err(ParseError::Memory) => Err(Failure::Memory),
+    }
 }
 
-/// Scripts that were parsed, at most one for each object. One serves only where its text is the object's script of now, byte
-/// for byte; else it is parsed anew, and replaced. What it holds shows nowhere but in time.
-#[derive(Drop)]
-pub struct Scripts {
-    parsed: HashMap<Id, Parsed>,
+/// Keeps the tree of an object's script in the world, and shares it.
+fn kept<E: External>(
     alloc: Global,
+    world: &mut World<E>,
+    id: Id,
+    script: Script,
+) -> Result<Rc<Script>, AllocError>
+    requires { Reads ReadsScript (object_script world.old.history.now.stack id) (script_of script) }
+    ensures tree { IfOk result (λ tree. tree.value ≡ script) }
+    ensures world { world.new ≡ world.old }
+{
+    let tree = Rc::new(alloc, script)?;
+    world.keep_script_tree(id, tree.clone()?)?;
+    Ok(tree)
 }
 
-impl Scripts {
-    /// No scripts yet. It takes no memory.
-    pub fn new(alloc: Global) -> Scripts {
-        Scripts {
-            parsed: HashMap::new(alloc),
-            alloc,
-        }
+/// The tree of an object's script, shared. It is parsed where the world doesn't keep it, and kept from then on. `Syntax` where
+/// the script isn't in the grammar.
+pub(crate) fn tree<E: External>(
+    alloc: Global,
+    world: &mut World<E>,
+    id: Id,
+) -> Result<Rc<Script>, Failure>
+    ensures tree { GivesTree (λ tree. script_of tree.value) (object_script world.old.history.now.stack id) result }
+    ensures world { world.new ≡ world.old }
+{
+    if let Some(tree) = world.script_tree(id) {
+        return Ok(tree.clone()?);
     }
-
-    pub(crate) fn alloc(&self) -> Global {
-        self.alloc
-    }
-
-    /// The tree of an object's script, shared. `Syntax` where the script isn't in the grammar.
-    pub(crate) fn tree(&mut self, id: Id, text: &Text) -> Result<Rc<Script>, Failure>
-        ensures { GivesTree (λ tree. script_of tree.value) text.now result }
-    {
-        if let Some(parsed) = self.parsed.get(&id) {
-            if parsed.text.as_slice() == text.as_slice() {
-                return Ok(parsed.script.clone()?);
-            }
-        }
-        match parse_script(self.alloc, text) {
-            Ok(script) => Ok(self.keep(id, text, script)?),
-            Err(ParseError::Syntax(_)) => Err(Failure::Fault(Fault::Syntax)),
-            Err(ParseError::Memory) => Err(Failure::Memory),
-        }
-    }
-
-    /// Keeps the tree of an object's script in the place of the one before.
-    fn keep(&mut self, id: Id, text: &Text, script: Script) -> Result<Rc<Script>, AllocError>
-        requires { Reads ReadsScript text.now (script_of script) }
-        ensures { IfOk result (λ tree. tree.value ≡ script) }
-    {
-        let script = Rc::new(self.alloc, script)?;
-        let parsed = Parsed {
-            text: text.try_clone(self.alloc)?,
-            script: script.clone()?,
-        };
-        self.parsed.insert(id, parsed)?;
-        Ok(script)
-    }
+    let empty = Text::new(alloc);
+    let script = parsed(alloc, script_text(world.stack(), id, &empty))?;
+    Ok(kept(alloc, world, id, script)?)
 }

@@ -56,7 +56,8 @@ use Rattle.ht_grammar.specs.Whole.{script, sent_message}
 use Rattle.object_table.specs.Content.{Content}
 use Rattle.externals.specs.Cells.{Seen, none_seen}
 use Rattle.msg_path.specs.BuiltIns.{external_named, answers}
-use Rattle.msg_path.specs.Handlers.{Found, First, script_at}
+use Rattle.journal_entries.specs.ScriptTrees.{object_script}
+use Rattle.msg_path.specs.Handlers.{Found, First}
 use Rattle.meaning.specs.declared.end.Conversed.{Conversed}
 use Rattle.meaning.specs.Meaning.{CallsBack}
 use Rattle.meaning.specs.Messages.{Finds}
@@ -417,7 +418,7 @@ first_is {s} {path} {name} {kind} exact (First.further_on {rest = rest} {id = id
 first_is {s} {path} {name} {kind} exact (First.no_script {rest = rest} {id = id} e none a) =
     ap (λ p. first_found s p kind name) e
     ∙ ap (λ x. maybe x (λ hs. handled id (handler_in hs kind name) (λ _. first_found s rest kind name))
-    (λ _. Err (Faults Syntax))) (is_unread script ReadsScript (script_at s id) exact.cuts exact.scripts none)
+    (λ _. Err (Faults Syntax))) (is_unread script ReadsScript (object_script s id) exact.cuts exact.scripts none)
     ∙ ap yielded (sym a)
 
 found_first : {g : Sight} {path name : List ℕ} {kind : HandlerKind} {out : Result (Option Found) Fault} {w : History}

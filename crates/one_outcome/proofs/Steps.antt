@@ -17,7 +17,8 @@ use Rattle.object_table.specs.Objects.{object_at}
 use Rattle.object_table.specs.declared.object.Object.{Object}
 use Rattle.externals.specs.Cells.{Seen}
 use Rattle.journal_entries.specs.State.{Globals}
-use Rattle.msg_path.specs.Handlers.{Found, script_at}
+use Rattle.journal_entries.specs.ScriptTrees.{object_script}
+use Rattle.msg_path.specs.Handlers.{Found}
 use Rattle.msg_path.specs.Path.{path, path_by, path_after}
 use Rattle.meaning.specs.declared.end.Ended.{Ended}
 use Rattle.meaning.specs.declared.end.How.TheVariants.{Next}
@@ -45,7 +46,7 @@ on_card c b s globals externals turns =
 object_is : (c b s : List ℕ) (id : ℕ) → object_at (two_cards c b s) id ≡ find nat_cmp id (objects_of c b s)
 object_is c b s id = get-from_sorted nat_cmp (objects_of c b s) id tt
 
-script_is : (c b s : List ℕ) (id : ℕ) → script_at (two_cards c b s) id
+script_is : (c b s : List ℕ) (id : ℕ) → object_script (two_cards c b s) id
     ≡ unwrap_or (option_map (λ o. o.script) (find nat_cmp id (objects_of c b s))) []
 script_is c b s id = ap (λ (o : Option Object). unwrap_or (option_map (λ o. o.script) o) []) (object_is c b s id)
 
@@ -62,7 +63,7 @@ found_among (e ∷ es) kind n =
     (λ _. Err (Faults Syntax))
 
 one_more_script : (s : Content) (id : ℕ) (t : List ℕ) (is : List ℕ) (kind : HandlerKind) (n : List ℕ)
-    (y : Result (Option Found) Stop) → script_at s id ≡ t → first_found s is kind n ≡ y →
+    (y : Result (Option Found) Stop) → object_script s id ≡ t → first_found s is kind n ≡ y →
     first_found s (id ∷ is) kind n
     ≡ maybe (read_by script t) (λ hs. handled id (handler_in hs kind n) (λ _. y)) (λ _. Err (Faults Syntax))
 one_more_script s id t is kind n y here later =

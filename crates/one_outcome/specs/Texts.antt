@@ -8,7 +8,8 @@ use Rattle.ht_grammar.specs.Handlers.{handler_in}
 use Rattle.ht_grammar.specs.Statements.{Handler}
 use Rattle.ht_grammar.specs.Whole.{script}
 use Rattle.object_table.specs.Content.{Content}
-use Rattle.msg_path.specs.Handlers.{Found, script_at}
+use Rattle.journal_entries.specs.ScriptTrees.{object_script}
+use Rattle.msg_path.specs.Handlers.{Found}
 use Rattle.meaning.specs.declared.end.Stop.{Stop}
 use Rattle.meaning.specs.declared.end.Stop.TheVariants.{Fault as Faults}
 use Rattle.one_outcome.specs.Told.{maybe}
@@ -34,6 +35,6 @@ handled id None rest = rest tt
 abbrev pub first_found : Content → List ℕ → HandlerKind → List ℕ → Result (Option Found) Stop
 first_found s [] kind name = Ok None
 first_found s (id ∷ rest) kind name =
-    maybe (read_by script (script_at s id))
+    maybe (read_by script (object_script s id))
     (λ hs. handled id (handler_in hs kind name) (λ _. first_found s rest kind name))
     (λ _. Err (Faults Syntax))

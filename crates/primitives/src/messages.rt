@@ -22,23 +22,24 @@ use ht_grammar::HandlerKind;
 use ht_lex::is_same;
 use ht_values::{Failure, Fault, Name, PartKind, Text, Value};
 use meaning::{Budget, Frame, How, Item, Stop};
-use msg_path::{FoundHandler, Scripts, external_named, first_handler, is_system_message};
-use object_table::{Id, Stack};
+use msg_path::{FoundHandler, external_named, first_handler, is_system_message};
+use object_table::Id;
 use std::alloc::{AllocError, Global};
 
 /// The first handler of a kind and a name on a path; `None` where there is none. A script on the way that isn't in the grammar
 /// is the fault of syntax.
 #[tactic(auto, using(meaning::proofs::Rules::finds_rules))]
-pub fn find(
-    stack: &Stack,
-    scripts: &mut Scripts,
+pub fn find<E: External>(
+    alloc: Global,
+    world: &mut World<E>,
     path: &[Id],
     kind: HandlerKind,
     name: &Text,
 ) -> Result<Option<FoundHandler>, Stop>
-    ensures { Finds stack.now.content path.now kind name.now result }
+    ensures found { Finds world.old.history.now.stack path.now kind name.now result }
+    ensures world { world.new ≡ world.old }
 {
-    match first_handler(stack, scripts, path, kind, name) {
+    match first_handler(alloc, world, path, kind, name) {
         Ok(found) => Ok(found),
         Err(Failure::Fault(fault)) => Err(Stop::Fault(fault)),
         Err(Failure::Memory) => Err(Stop::Memory),

@@ -17,7 +17,6 @@ use externals::External;
 use ht_parse::{ParseError, parse_lines, parse_part, parse_type};
 use ht_values::{Text, TextError};
 use meaning::{Budget, Stop};
-use msg_path::Scripts;
 use std::alloc::{AllocError, Global};
 use user_actions::{Action, act};
 
@@ -106,7 +105,6 @@ fn kept_out<E: External>(alloc: Global, world: &mut World<E>) -> Reply
 fn perform<E: External>(
     alloc: Global,
     world: &mut World<E>,
-    scripts: &mut Scripts,
     steps: u32,
     number: u32,
     action: &Action,
@@ -119,7 +117,7 @@ fn perform<E: External>(
 {
     world.begin(number)?;
     let mut run = Budget::new(alloc, steps);
-    match act(world, scripts, &mut run, action) {
+    match act(world, &mut run, action) {
         Ok(Some(_)) => Ok(finished(world, run, Ending::Ok)),
         Err(Stop::Exited) => Ok(finished(world, run, Ending::Ok)),
         Err(Stop::Fault(fault)) => Ok(finished(world, run, Ending::Fault(fault))),
@@ -137,7 +135,6 @@ fn perform<E: External>(
 pub fn obey<E: External>(
     alloc: Global,
     world: &mut World<E>,
-    scripts: &mut Scripts,
     steps: u32,
     number: u32,
     reading: Reading,
@@ -149,7 +146,7 @@ pub fn obey<E: External>(
     ensures closed { world.new.history.start ≡ None }
 {
     let action = action_in(alloc, reading, text)?;
-    match perform(alloc, world, scripts, steps, number, &action) {
+    match perform(alloc, world, steps, number, &action) {
         Ok(reply) => Ok(reply),
         Err(_) => Err(Refusal::NoMemory),
     }

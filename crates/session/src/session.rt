@@ -27,18 +27,16 @@ use change_journal::{MOST_DEPTH, PlugError, World};
 use externals::External;
 use ht_values::Text;
 use meaning::{Sent, Shown};
-use msg_path::Scripts;
 use object_table::Stack;
 use stack_file::write;
 use std::alloc::{AllocError, Global};
 use std::marker::Model;
 
-/// A world with the scripts that were parsed, the number of lines that it took, and how many steps a command may take.
+/// A world with the number of lines that it took, and how many steps a command may take.
 #[derive(Drop)]
 pub struct Session<E: External> {
     alloc: Global,
     world: World<E>,
-    scripts: Scripts,
     lines: u32,
     steps: u32,
 }
@@ -120,7 +118,6 @@ fn stack_text<E: External>(alloc: Global, world: &World<E>) -> Result<Bytes, All
 fn perform<E: External>(
     alloc: Global,
     world: &mut World<E>,
-    scripts: &mut Scripts,
     steps: u32,
     number: u32,
     line: &[u8],
@@ -146,10 +143,7 @@ fn perform<E: External>(
         Command::Save => saving(alloc, stack_text(alloc, world)),
         Command::Act(reading) => {
             let text = behind_name(line);
-            typed(
-                alloc,
-                obey(alloc, world, scripts, steps, number, reading, text),
-            )
+            typed(alloc, obey(alloc, world, steps, number, reading, text))
         }
         Command::Quit => ended(alloc, Ending::Quit),
     }
@@ -187,7 +181,6 @@ impl<E: External> Session<E> {
             Ok(world) => Ok(Session {
                 alloc,
                 world,
-                scripts: Scripts::new(alloc),
                 lines: 0,
                 steps,
             }),
@@ -243,7 +236,6 @@ impl<E: External> Session<E> {
         let Session {
             alloc: _,
             world,
-            scripts: _,
             lines: _,
             steps: _,
         } = self;
@@ -265,19 +257,11 @@ impl<E: External> Session<E> {
             return refused(self.alloc, Refusal::LineTooLong);
         }
         if is_dot_line(line) {
-            return perform(
-                self.alloc,
-                &mut self.world,
-                &mut self.scripts,
-                self.steps,
-                self.lines,
-                line,
-            );
+            return perform(self.alloc, &mut self.world, self.steps, self.lines, line);
         }
         let outcome = obey(
             self.alloc,
             &mut self.world,
-            &mut self.scripts,
             self.steps,
             self.lines,
             Reading::Lines,

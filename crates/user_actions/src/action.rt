@@ -12,7 +12,6 @@ use externals::External;
 use ht_tree::{Part, Stmts, Typing};
 use interp::run_line;
 use meaning::{Budget, Ended, Stop};
-use msg_path::Scripts;
 
 /// A command of a user.
 #[derive(Drop)]
@@ -37,7 +36,6 @@ pub enum Action {
 #[tactic(auto, using(meaning::proofs::Rules::acts_rules))]
 pub fn act<E: External>(
     world: &mut World<E>,
-    scripts: &mut Scripts,
     run: &mut Budget,
     action: &Action,
 ) -> Result<Option<Ended>, Stop>
@@ -48,9 +46,9 @@ pub fn act<E: External>(
     ensures base { base world.new.history ≡ base world.old.history }
 {
     match action {
-        Action::RunLines(lines) => Ok(Some(run_line(world, scripts, run, lines)?)),
-        Action::OpenStack => Ok(Some(open_stack(world, scripts, run)?)),
-        Action::Click(part) => Ok(Some(click(world, scripts, run, part)?)),
-        Action::TypeText(typing) => type_text(world, scripts, run, &typing.text, &typing.field),
+        Action::RunLines(lines) => Ok(Some(run_line(world, run, lines)?)),
+        Action::OpenStack => Ok(Some(open_stack(world, run)?)),
+        Action::Click(part) => Ok(Some(click(world, run, part)?)),
+        Action::TypeText(typing) => type_text(world, run, &typing.text, &typing.field),
     }
 }

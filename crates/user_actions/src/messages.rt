@@ -9,14 +9,12 @@ use change_journal::World;
 use externals::External;
 use interp::send_message;
 use meaning::{Budget, Ended, Stop, SystemMessage};
-use msg_path::Scripts;
 use object_table::Id;
 
 /// A message of the system to an object; none while lockMessages is true.
 #[tactic(auto, using(meaning::proofs::Rules::tells_rules))]
 pub(crate) fn tell<E: External>(
     world: &mut World<E>,
-    scripts: &mut Scripts,
     run: &mut Budget,
     object: Id,
     message: SystemMessage,
@@ -30,14 +28,13 @@ pub(crate) fn tell<E: External>(
         return Ok(Ended::Done);
     }
     let name = message.text(run.alloc())?;
-    send_message(world, scripts, run, object, &name)
+    send_message(world, run, object, &name)
 }
 
 /// Messages of the system, each to the card that is current at that moment.
 #[tactic(auto, using(meaning::proofs::Rules::tellsall_rules))]
 fn tell_all<E: External>(
     world: &mut World<E>,
-    scripts: &mut Scripts,
     run: &mut Budget,
     messages: &[SystemMessage],
 ) -> Result<Ended, Stop>
@@ -48,19 +45,15 @@ fn tell_all<E: External>(
 {
     match messages {
         [] => Ok(Ended::Done),
-        [message, rest @ ..] => match tell(world, scripts, run, world.current(), *message)? {
+        [message, rest @ ..] => match tell(world, run, world.current(), *message)? {
             Ended::Exited => Ok(Ended::Exited),
-            Ended::Done => tell_all(world, scripts, run, rest),
+            Ended::Done => tell_all(world, run, rest),
         },
     }
 }
 
 /// `.open`
-pub(crate) fn open_stack<E: External>(
-    world: &mut World<E>,
-    scripts: &mut Scripts,
-    run: &mut Budget,
-) -> Result<Ended, Stop>
+pub(crate) fn open_stack<E: External>(world: &mut World<E>, run: &mut Budget) -> Result<Ended, Stop>
     requires open { IsSome (base world.old.history).start }
     ensures meaning { TellsAll world.old.history run.old opening_stack result world.new.history run.new }
     ensures fewer { run.new.left ≤ run.old.left }
@@ -71,5 +64,5 @@ pub(crate) fn open_stack<E: External>(
         SystemMessage::OpenBackground,
         SystemMessage::OpenCard,
     ];
-    tell_all(world, scripts, run, &messages)
+    tell_all(world, run, &messages)
 }

@@ -13,7 +13,6 @@ use externals::External;
 use ht_tree::Part;
 use interp::find_ref;
 use meaning::{Budget, Ended, Stop, SystemMessage};
-use msg_path::Scripts;
 use object_table::Id;
 
 /// Whether an object is still there.
@@ -27,7 +26,6 @@ fn is_there<E: External>(world: &World<E>, object: Id) -> bool
 #[tactic(auto, using(meaning::proofs::Rules::clicks_rules))]
 pub(crate) fn click<E: External>(
     world: &mut World<E>,
-    scripts: &mut Scripts,
     run: &mut Budget,
     part: &Part,
 ) -> Result<Ended, Stop>
@@ -37,12 +35,12 @@ pub(crate) fn click<E: External>(
     ensures fewer { run.new.left ≤ run.old.left }
     ensures base { base world.new.history ≡ base world.old.history }
 {
-    let Some(object) = find_ref(world, scripts, run, part)? else {
+    let Some(object) = find_ref(world, run, part)? else {
         return Ok(Ended::Exited);
     };
-    match tell(world, scripts, run, object, SystemMessage::MouseDown)? {
+    match tell(world, run, object, SystemMessage::MouseDown)? {
         Ended::Done if is_there(world, object) => {
-            tell(world, scripts, run, object, SystemMessage::MouseUp)
+            tell(world, run, object, SystemMessage::MouseUp)
         }
         ended => Ok(ended),
     }

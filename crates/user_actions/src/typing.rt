@@ -18,7 +18,6 @@ use ht_tree::Part;
 use ht_values::{Text, Value, Where};
 use interp::find_ref;
 use meaning::{Budget, Ended, Frame, Stop, SystemMessage};
-use msg_path::Scripts;
 use object_references::{Referent, met_here};
 use object_table::{Id, Kind, Stack};
 use primitives::places::{edit, field_place, field_text};
@@ -72,7 +71,6 @@ fn leaving_message(old: &Text, new: &Text) -> SystemMessage
 #[tactic(auto, using(meaning::proofs::Rules::typesover_rules))]
 fn type_over<E: External>(
     world: &mut World<E>,
-    scripts: &mut Scripts,
     run: &mut Budget,
     field: Referent,
     text: &Text,
@@ -103,14 +101,13 @@ fn type_over<E: External>(
         place,
         Edit::Put(Where::Into, new),
     )?;
-    tell(world, scripts, run, field.object, message)
+    tell(world, run, field.object, message)
 }
 
 /// `.type`; `None` where the field is locked.
 #[tactic(auto, using(meaning::proofs::Rules::typesinto_rules))]
 pub(crate) fn type_text<E: External>(
     world: &mut World<E>,
-    scripts: &mut Scripts,
     run: &mut Budget,
     text: &Text,
     part: &Part,
@@ -121,15 +118,15 @@ pub(crate) fn type_text<E: External>(
     ensures fewer { run.new.left ≤ run.old.left }
     ensures base { base world.new.history ≡ base world.old.history }
 {
-    let Some(object) = find_ref(world, scripts, run, part)? else {
+    let Some(object) = find_ref(world, run, part)? else {
         return Ok(Some(Ended::Exited));
     };
     if is_locked(world.stack(), object) {
         return Ok(None);
     }
     let field = met_here(world.current(), object);
-    match tell(world, scripts, run, object, SystemMessage::OpenField)? {
-        Ended::Done => Ok(Some(type_over(world, scripts, run, field, text)?)),
+    match tell(world, run, object, SystemMessage::OpenField)? {
+        Ended::Done => Ok(Some(type_over(world, run, field, text)?)),
         Ended::Exited => Ok(Some(Ended::Exited)),
     }
 }

@@ -12,7 +12,6 @@ use ht_parse::{parse_lines, parse_part, parse_type};
 use ht_values::{Fault, Text, Value, Where};
 use interp::find_ref;
 use meaning::{Budget, Ended, Frame, Sent, Stop};
-use msg_path::Scripts;
 use object_references::Referent;
 use primitives::places::{edit, field_place, field_text};
 use std::alloc::Global;
@@ -67,7 +66,6 @@ fn action(alloc: Global, doing: Doing) -> Result<Action, Fail>
 #[tactic(auto, using(containers::proofs::Bases::is_open), unfolding(containers::specs::Base::base))]
 fn acts<E: External>(
     world: &mut World<E>,
-    scripts: &mut Scripts,
     budget: &mut Budget,
     action: &Action,
 ) -> Result<ActionEnd, Fail>
@@ -76,7 +74,7 @@ fn acts<E: External>(
     ensures { OnOk result (world.new.history.start ≡ None) }
 {
     world.begin(1)?;
-    let end = match act(world, scripts, budget, action) {
+    let end = match act(world, budget, action) {
         Ok(None) => {
             world.roll_back();
             return Ok(ActionEnd::Locked);
@@ -107,7 +105,6 @@ fn sends(sent: &Sent, due: &[Message]) -> bool {
 fn is_met<E: External>(
     alloc: Global,
     world: &mut World<E>,
-    scripts: &mut Scripts,
     steps: u32,
     row: &Row,
 ) -> Result<bool, Fail>
@@ -117,7 +114,7 @@ fn is_met<E: External>(
     let (doing, end, shown, sent) = *row;
     let action = action(alloc, doing)?;
     let mut budget = Budget::new(alloc, steps);
-    let ended = acts(world, scripts, &mut budget, &action)?;
+    let ended = acts(world, &mut budget, &action)?;
     Ok(ended == end && shows(&budget, shown) && sends(budget.sent(), sent))
 }
 
@@ -129,9 +126,8 @@ fn first_wrong<E: External>(
     rows: &[Row],
 ) -> Result<Option<usize>, Fail> {
     let mut world = opened(alloc, externals)?;
-    let mut scripts = Scripts::new(alloc);
     for i in 0..rows.len() {
-        if !is_met(alloc, &mut *world, &mut scripts, steps, &rows[i])? {
+        if !is_met(alloc, &mut *world, steps, &rows[i])? {
             return Ok(Some(i));
         }
     }
@@ -589,7 +585,6 @@ fn actions_and_their_messages(rt: HostRuntime) -> Result<(), Fail> {
 fn found<E: External>(
     alloc: Global,
     world: &mut World<E>,
-    scripts: &mut Scripts,
     budget: &mut Budget,
     reference: &[u8],
 ) -> Result<Result<Option<u32>, Stop>, Fail>
@@ -597,7 +592,7 @@ fn found<E: External>(
 {
     let part = parse_part(alloc, &Text::from_slice(alloc, reference)?)?;
     world.begin(2)?;
-    Ok(find_ref(world, scripts, budget, &part))
+    Ok(find_ref(world, budget, &part))
 }
 
 /// What a reference finds where this line has run.
@@ -608,10 +603,9 @@ fn finds<E: External>(
     reference: &[u8],
 ) -> Result<Result<Option<u32>, Stop>, Fail> {
     let mut world = opened(alloc, externals)?;
-    let mut scripts = Scripts::new(alloc);
     let mut budget = Budget::new(alloc, 10);
-    run(alloc, &mut *world, &mut scripts, &mut budget, line)?;
-    found(alloc, &mut *world, &mut scripts, &mut budget, reference)
+    run(alloc, &mut *world, &mut budget, line)?;
+    found(alloc, &mut *world, &mut budget, reference)
 }
 
 #[test]

@@ -9,7 +9,6 @@ use ht_parse::{ParseError, parse_lines};
 use ht_values::Text;
 use interp::{run_line, send_message};
 use meaning::{Budget, Stop};
-use msg_path::Scripts;
 use std::alloc::Global;
 use std::test::*;
 
@@ -40,7 +39,6 @@ pub(crate) fn opened<E: External>(alloc: Global, externals: Vec<E>) -> Result<Bo
 pub(crate) fn run<E: External>(
     alloc: Global,
     world: &mut World<E>,
-    scripts: &mut Scripts,
     budget: &mut Budget,
     line: &[u8],
 ) -> Result<LineEnd, Fail>
@@ -54,7 +52,7 @@ pub(crate) fn run<E: External>(
         Err(ParseError::Memory) => return Err("out of memory".into()),
     };
     world.begin(1)?;
-    let ended = run_line(world, scripts, budget, &lines);
+    let ended = run_line(world, budget, &lines);
     world.commit();
     match ended {
         Ok(_) => Ok(LineEnd::Ok),
@@ -85,11 +83,10 @@ fn first_wrong_in<E: External>(
 ) -> Result<Option<usize>, Fail>
     requires { world.old.history.start ≡ None }
 {
-    let mut scripts = Scripts::new(alloc);
     for i in 0..rows.len() {
         let (line, due, end) = rows[i];
         let mut budget = Budget::new(alloc, steps);
-        let ended = run(alloc, world, &mut scripts, &mut budget, line)?;
+        let ended = run(alloc, world, &mut budget, line)?;
         if ended != end || !shows(&budget, due) {
             return Ok(Some(i));
         }
@@ -288,11 +285,10 @@ fn sends<E: External>(
     name: &[u8],
 ) -> Result<bool, Fail> {
     let mut world = opened(alloc, externals)?;
-    let mut scripts = Scripts::new(alloc);
     let mut budget = Budget::new(alloc, 10);
     world.begin(1)?;
     let name = Text::from_slice(alloc, name)?;
-    let ended = send_message(&mut *world, &mut scripts, &mut budget, object, &name);
+    let ended = send_message(&mut *world, &mut budget, object, &name);
     Ok(ended.is_ok() && budget.sent().len() == 1)
 }
 

@@ -9,9 +9,7 @@ use crate::turner::{Turner, all_turners};
 use change_journal::{Change, World};
 use ht_grammar::HandlerKind;
 use ht_values::{Failure, Fault, Func};
-use msg_path::{
-    BuiltIn, Found, Scripts, first_is_one, is_system_message, next_handler, path, path_after,
-};
+use msg_path::{BuiltIn, Found, first_is_one, is_system_message, next_handler, path, path_after};
 use object_table::{Id, PropValue};
 use std::alloc::Global;
 use std::test::Fail;
@@ -27,12 +25,17 @@ fn opened(alloc: Global) -> Result<Box<World<Turner>>, Fail>
     }
 }
 
+/// A change of an object's script.
+fn script_change(alloc: Global, id: Id, script: &[u8]) -> Result<Change, Fail> {
+    Ok(Change::Prop(id, PropValue::ScriptIs(text(alloc, script)?)))
+}
+
 /// Gives an object a script.
 fn set_script(alloc: Global, world: &mut World<Turner>, id: Id, script: &[u8]) -> Result<(), Fail>
     requires { IsSome world.old.history.start }
     ensures { OnOk result (IsSome world.new.history.start) }
 {
-    let change = Change::Prop(id, PropValue::ScriptIs(text(alloc, script)?));
+    let change = script_change(alloc, id, script)?;
     if world.fits(&change) {
         world.make(change)?;
     }
@@ -234,14 +237,15 @@ const MESSAGES: &[Row] = &[
 /// What a message to field 3 meets.
 fn met_by(
     alloc: Global,
-    world: &World<Turner>,
-    scripts: &mut Scripts,
+    world: &mut World<Turner>,
     kind: HandlerKind,
     name: &[u8],
-) -> Result<Met, Fail> {
+) -> Result<Met, Fail>
+    ensures { world.new.history ≡ world.old.history }
+{
     let path = path(world.stack(), world.current(), 3);
     let name = text(alloc, name)?;
-    Ok(outcome(next_handler(world, scripts, path.as_slice(), kind, &name)))
+    Ok(outcome(next_handler(alloc, world, path.as_slice(), kind, &name)))
 }
 
 #[test]
@@ -250,7 +254,7 @@ fn messages_meet_the_first_handler(rt: HostRuntime) -> Result<(), Fail> {
     for row in MESSAGES {
         let mut world = opened(alloc)?;
         set_scripts(alloc, &mut world, row.scripts)?;
-        let met = met_by(alloc, &world, &mut Scripts::new(alloc), row.kind, row.name)?;
+        let met = met_by(alloc, &mut world, row.kind, row.name)?;
         assert!(rt; met == row.met);
     }
     first_is_one();
@@ -268,22 +272,65 @@ fn a_script_that_was_replaced_is_parsed_anew(rt: HostRuntime) -> Result<(), Fail
     let alloc = rt.alloc();
     for (script, met) in REPLACED {
         let mut world = opened(alloc)?;
-        let mut scripts = Scripts::new(alloc);
         set_scripts(alloc, &mut world, &[(2, FOO)])?;
-        let first = met_by(alloc, &world, &mut scripts, HandlerKind::Command, b"foo")?;
+        let first = met_by(alloc, &mut world, HandlerKind::Command, b"foo")?;
         set_script(alloc, &mut world, 2, script)?;
-        let last = met_by(alloc, &world, &mut scripts, HandlerKind::Command, b"foo")?;
+        let last = met_by(alloc, &mut world, HandlerKind::Command, b"foo")?;
         assert!(rt; first == Met::Handler(2, 1) && last == *met);
     }
     Ok(())
 }
 
+/// What `foo` meets after another script of card 2 was met and taken back.
+fn met_after_undo(alloc: Global, world: &mut World<Turner>, script: &[u8]) -> Result<Met, Fail>
+    requires { IsSome world.old.history.start }
+{
+    world.commit();
+    set_scripts(alloc, world, &[(2, script)])?;
+    let _ = met_by(alloc, world, HandlerKind::Command, b"foo")?;
+    world.roll_back();
+    met_by(alloc, world, HandlerKind::Command, b"foo")
+}
+
+#[test]
+fn a_script_that_comes_back_is_parsed_anew(rt: HostRuntime) -> Result<(), Fail> {
+    let alloc = rt.alloc();
+    for (script, _) in REPLACED {
+        let mut world = opened(alloc)?;
+        set_scripts(alloc, &mut world, &[(2, FOO)])?;
+        let met = met_after_undo(alloc, &mut world, script)?;
+        assert!(rt; met == Met::Handler(2, 1));
+    }
+    Ok(())
+}
+
+/// Whether the tree of card 2's script, once parsed, is kept over a change.
+fn is_kept_over(alloc: Global, change: Change) -> Result<bool, Fail> {
+    let mut world = opened(alloc)?;
+    set_scripts(alloc, &mut world, &[(2, FOO)])?;
+    let _ = met_by(alloc, &mut world, HandlerKind::Command, b"foo")?;
+    if world.fits(&change) {
+        world.make(change)?;
+    }
+    Ok(world.script_tree(2).is_some())
+}
+
+#[test]
+fn a_tree_is_kept_until_its_script_changes(rt: HostRuntime) -> Result<(), Fail> {
+    let alloc = rt.alloc();
+    let name = Change::Prop(2, PropValue::NameIs(text(alloc, b"a")?));
+    assert!(rt; is_kept_over(alloc, name)?);
+    assert!(rt; is_kept_over(alloc, script_change(alloc, 1, FOO)?)?);
+    assert!(rt; !is_kept_over(alloc, script_change(alloc, 2, FOO)?)?);
+    Ok(())
+}
+
 /// What `foo` met, as it stands after card 2 lost its script.
-fn kept(alloc: Global, world: &mut World<Turner>, scripts: &mut Scripts) -> Result<Met, Fail>
+fn kept(alloc: Global, world: &mut World<Turner>) -> Result<Met, Fail>
     requires { IsSome world.old.history.start }
 {
     let name = text(alloc, b"foo")?;
-    let found = next_handler(world, scripts, &[2], HandlerKind::Command, &name);
+    let found = next_handler(alloc, world, &[2], HandlerKind::Command, &name);
     set_script(alloc, world, 2, b"")?;
     Ok(outcome(found))
 }
@@ -293,7 +340,7 @@ fn a_found_handler_keeps_its_script(rt: HostRuntime) -> Result<(), Fail> {
     let alloc = rt.alloc();
     let mut world = opened(alloc)?;
     set_scripts(alloc, &mut world, &[(2, FOO)])?;
-    let met = kept(alloc, &mut world, &mut Scripts::new(alloc))?;
+    let met = kept(alloc, &mut world)?;
     assert!(rt; met == Met::Handler(2, 1));
     Ok(())
 }

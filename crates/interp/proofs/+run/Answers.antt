@@ -60,12 +60,12 @@ pub message::along-returns-in_err-how-in-Some-clause-meaning : goal.message::alo
 message::along-returns-in_err-how-in-Some-clause-meaning g t c =
     let p = err_from_is_err_and c.from_residual-in_err-how-in-Some.result c.from_residual-in_err-how-in-Some.ensures.1 in
     let q = ap stmts_of c.deref.ensures.value ∙ ap lines_of c.handler-in-Some.ensures in
-    rw (p.1, p.2) (c.loop-world.invariant.rest _ _ _ (Along.along_stops {fd = c.in-Some.found} (search rules) (first_of (search rules, grind (arith, common_steps))) c.in_ok-inner-in-Some.ensures (rw q at c.in_err-how-in-Some.ensures.meaning)))
+    rw (p.1, p.2) (c.loop-world.invariant.rest _ _ _ (Along.along_stops {fd = c.in-Some.found} (search rules) (first_of (search rules, grind (arith, common_steps))) c.in_ok-inner-in-Some.ensures (rw (q, c.find.ensures.world) at c.in_err-how-in-Some.ensures.meaning)))
 
 pub message::along-returns-in-Some-outcome-clause-meaning : goal.message::along-returns-in-Some-outcome-clause-meaning
 message::along-returns-in-Some-outcome-clause-meaning g t c =
     let q = ap stmts_of c.deref.ensures.value ∙ ap lines_of c.handler-in-Some.ensures in
-    c.loop-world.invariant.rest _ _ _ (Along.along_ends {fd = c.in-Some.found} (search rules) (first_of (search rules, grind (arith, common_steps))) c.in_ok-inner-in-Some.ensures (rw q at c.in_ok-how-in-Some.ensures.meaning) c.in-Some-outcome.ensures.ended)
+    c.loop-world.invariant.rest _ _ _ (Along.along_ends {fd = c.in-Some.found} (search rules) (first_of (search rules, grind (arith, common_steps))) c.in_ok-inner-in-Some.ensures (rw (q, c.find.ensures.world) at c.in_ok-how-in-Some.ensures.meaning) c.in-Some-outcome.ensures.ended)
 
 pub message::along-loop-world-preserved : goal.message::along-loop-world-preserved
 message::along-loop-world-preserved g t c =
@@ -74,8 +74,8 @@ message::along-loop-world-preserved g t c =
     let same = c.outcome.ensures.same c.in-None-outcome.is in
     record {
       fewer = omega (arith, c.outcome.ensures.left, c.run_block.ensures.fewer, c.loop-world.invariant.fewer);
-      base = c.run_block.ensures.base ∙ c.loop-world.invariant.base;
-      rest = λ o w r h. c.loop-world.invariant.rest _ _ _ (Along.along_passes {fd = c.in-Some.found} (search rules) (first_of (search rules, grind (arith, common_steps))) c.in_ok-inner-in-Some.ensures (rw (q, passes) at c.in_ok-how-in-Some.ensures.meaning) (rw (c.stack-in-None-outcome.ensures.content, c.current.ensures.value, c.object.ensures) at c.path_after-rest.ensures) (rw same at h));
+      base = (rw (c.find.ensures.world) at c.run_block.ensures.base) ∙ c.loop-world.invariant.base;
+      rest = λ o w r h. c.loop-world.invariant.rest _ _ _ (Along.along_passes {fd = c.in-Some.found} (search rules) (first_of (search rules, grind (arith, common_steps))) c.in_ok-inner-in-Some.ensures (rw (q, passes, c.find.ensures.world) at c.in_ok-how-in-Some.ensures.meaning) (rw (c.stack.ensures.content, c.current.ensures.value, c.object.ensures) at c.path_after-rest.ensures) (rw same at h));
     }
 
 pub pieces::resolve-returns-in_err-pieces-in-Chunk-clause-meaning : goal.pieces::resolve-returns-in_err-pieces-in-Chunk-clause-meaning
