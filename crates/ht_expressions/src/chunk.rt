@@ -14,7 +14,7 @@ ghost use Rattle.ht_expressions.specs.Nests.{Nests};
 
 use crate::contextual_keywords::{function_of, prop_front, run_prop, short_of};
 use crate::front::{article, eat_of};
-use crate::grammar::{Grammar, Level, WHOLE};
+use crate::grammar::{Grammar, Level, WHOLE, to_expr};
 use ht_grammar::{FunctionWord, Layer};
 use ht_lex::{Cursor, Key, Ordinal, Stop, TokenKind, is_same};
 use ht_tree::{Chunk, Count, Expr, ExprKind};
@@ -83,6 +83,17 @@ impl<F: Fn(Global, &mut Cursor<'_>, Level, usize) -> Result<Expr, Stop>> Grammar
         }
     }
 
+    /// `of` or `in`, and a factor.
+    fn factor_of(&self, tokens: &mut Cursor<'_>) -> Result<Expr, Stop>
+        requires { Nests self.now.depth (F.pre self.now.read) (F.post self.now.read) }
+        ensures { ReadsExpr self.now.depth (spec.of_part (spec.read self.now.depth) self.now.depth (spec.read self.now.depth e.factor) (f.after_of tokens.old)) result tokens.new }
+    {
+        if !eat_of(tokens) {
+            return Err(Stop::Syntax);
+        }
+        self.read(tokens, Level::Factor)
+    }
+
     /// Pieces of a factor's text.
     #[tactic(auto, unfolding(ht_grammar::specs::Reading::chunk_form))]
     fn chunk_form(&self, tokens: &mut Cursor<'_>) -> Result<Expr, Stop>
@@ -91,11 +102,16 @@ impl<F: Fn(Global, &mut Cursor<'_>, Level, usize) -> Result<Expr, Stop>> Grammar
         ensures { ReadsExpr (self.now.depth + 1) (spec.chunk_form (spec.read self.now.depth) self.now.depth tokens.old) result tokens.new }
     {
         let chunk = self.chunk_head(tokens)?;
-        if !eat_of(tokens) {
-            return Err(Stop::Syntax);
-        }
-        let text = self.read(tokens, Level::Factor)?;
-        Ok(Expr::new(self.alloc, ExprKind::Chunk(chunk, text))?)
+        let text = self.factor_of(tokens)?;
+        to_expr(self.alloc, ExprKind::Chunk(chunk, text))
+    }
+
+    /// An object whose number is asked.
+    fn object_asked(&self, tokens: &mut Cursor<'_>) -> Result<Count, Stop>
+        requires { Nests self.now.depth (F.pre self.now.read) (F.post self.now.read) }
+        ensures { Reads count_of count_depth self.now.depth (spec.made t.of_object (spec.inner_ref (spec.read self.now.depth) self.now.depth tokens.old)) result tokens.new }
+    {
+        Ok(Count::OfObject(self.inner_reference(tokens)?))
     }
 
     /// Parts of a layer, or an object, at the layer's word.
@@ -109,7 +125,7 @@ impl<F: Fn(Global, &mut Cursor<'_>, Level, usize) -> Result<Expr, Stop>> Grammar
                 tokens.skip();
                 Ok(Count::Parts(Some(layer), kind))
             }
-            _ => Ok(Count::OfObject(self.inner_reference(tokens)?)),
+            _ => self.object_asked(tokens),
         }
     }
 
@@ -118,10 +134,7 @@ impl<F: Fn(Global, &mut Cursor<'_>, Level, usize) -> Result<Expr, Stop>> Grammar
         requires { Nests self.now.depth (F.pre self.now.read) (F.post self.now.read) }
         ensures { Reads count_of count_depth self.now.depth (spec.made (t.pieces_of piece) (spec.of_part (spec.read self.now.depth) self.now.depth (spec.read self.now.depth e.factor) (f.after_of tokens.old))) result tokens.new }
     {
-        if !eat_of(tokens) {
-            return Err(Stop::Syntax);
-        }
-        let text = self.read(tokens, Level::Factor)?;
+        let text = self.factor_of(tokens)?;
         Ok(Count::PiecesOf(piece, text))
     }
 
@@ -150,7 +163,7 @@ impl<F: Fn(Global, &mut Cursor<'_>, Level, usize) -> Result<Expr, Stop>> Grammar
             }
             Some(TokenKind::Key(Key::Card)) => self.layered_count(tokens, Layer::Card),
             Some(TokenKind::Key(Key::Background)) => self.layered_count(tokens, Layer::Background),
-            _ => Ok(Count::OfObject(self.inner_reference(tokens)?)),
+            _ => self.object_asked(tokens),
         }
     }
 
@@ -164,7 +177,8 @@ impl<F: Fn(Global, &mut Cursor<'_>, Level, usize) -> Result<Expr, Stop>> Grammar
         if !eat_of(tokens) {
             return Err(Stop::Syntax);
         }
-        Ok(Expr::new(self.alloc, ExprKind::NumberOf(self.count(tokens)?))?)
+        let count = self.count(tokens)?;
+        to_expr(self.alloc, ExprKind::NumberOf(count))
     }
 
     /// A property at its name, if there is one.
@@ -180,10 +194,8 @@ impl<F: Fn(Global, &mut Cursor<'_>, Level, usize) -> Result<Expr, Stop>> Grammar
         if !eat_of(tokens) {
             return Err(Stop::Syntax);
         }
-        Ok(Expr::new(
-            self.alloc,
-            ExprKind::Property(prop, self.inner_reference(tokens)?),
-        )?)
+        let reference = self.inner_reference(tokens)?;
+        to_expr(self.alloc, ExprKind::Property(prop, reference))
     }
 
     /// The short form of a property at its name.
@@ -212,11 +224,8 @@ impl<F: Fn(Global, &mut Cursor<'_>, Level, usize) -> Result<Expr, Stop>> Grammar
             return Err(Stop::Syntax);
         };
         tokens.skip();
-        if !eat_of(tokens) {
-            return Err(Stop::Syntax);
-        }
-        let operand = self.read(tokens, Level::Factor)?;
-        Ok(Expr::new(self.alloc, ExprKind::Function(function, operand))?)
+        let operand = self.factor_of(tokens)?;
+        to_expr(self.alloc, ExprKind::Function(function, operand))
     }
 
     /// A property or a function, at its name.
@@ -232,7 +241,7 @@ impl<F: Fn(Global, &mut Cursor<'_>, Level, usize) -> Result<Expr, Stop>> Grammar
         match run_prop(tokens.text()) {
             Some(prop) => {
                 tokens.skip();
-                Ok(Expr::new(self.alloc, ExprKind::RunProperty(prop))?)
+                to_expr(self.alloc, ExprKind::RunProperty(prop))
             }
             None => {
                 let function = function_of(tokens.text());
@@ -250,10 +259,10 @@ impl<F: Fn(Global, &mut Cursor<'_>, Level, usize) -> Result<Expr, Stop>> Grammar
         let name = tokens.text();
         if is_same(name, b"result") {
             tokens.skip();
-            Ok(Expr::new(self.alloc, ExprKind::Result)?)
+            to_expr(self.alloc, ExprKind::Result)
         } else if is_same(name, b"target") {
             tokens.skip();
-            Ok(Expr::new(self.alloc, ExprKind::Target)?)
+            to_expr(self.alloc, ExprKind::Target)
         } else if is_same(name, b"short") {
             tokens.skip();
             let prop = prop_front(tokens);
@@ -294,7 +303,8 @@ impl<F: Fn(Global, &mut Cursor<'_>, Level, usize) -> Result<Expr, Stop>> Grammar
         requires shallow { self.now.depth < max_depth }
         ensures { ReadsExpr (self.now.depth + 1) (spec.made t.field (spec.field_at (spec.read self.now.depth) self.now.depth tokens.old)) result tokens.new }
     {
-        Ok(Expr::new(self.alloc, ExprKind::Field(self.field(tokens)?))?)
+        let field = self.field(tokens)?;
+        to_expr(self.alloc, ExprKind::Field(field))
     }
 
     /// A chunk or a field, at an ordinal.
@@ -344,7 +354,7 @@ impl<F: Fn(Global, &mut Cursor<'_>, Level, usize) -> Result<Expr, Stop>> Grammar
                     return Err(Stop::Syntax);
                 };
                 let reference = self.inner_reference(tokens)?;
-                Ok(Expr::new(self.alloc, ExprKind::ThereIs(is_absent, reference))?)
+                to_expr(self.alloc, ExprKind::ThereIs(is_absent, reference))
             }
             _ => Err(Stop::Syntax),
         }

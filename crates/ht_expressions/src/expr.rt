@@ -12,7 +12,7 @@ ghost use Rattle.ht_tree.specs.View.{expr_of, exprs_of};
 ghost use Rattle.ht_expressions.specs.Answer.{Reads, ReadsExpr};
 ghost use Rattle.ht_expressions.specs.Nests.{Nests};
 
-use crate::grammar::{Grammar, Level, WHOLE};
+use crate::grammar::{Grammar, Level, WHOLE, to_expr};
 use crate::operator::{EQUALITY, LeadingOperator, take_operator};
 use ht_lex::{Cursor, Key, Stop, TokenKind, to_name, to_text};
 use ht_tree::{Expr, ExprKind, Exprs};
@@ -28,9 +28,13 @@ fn closed(alloc: Global, tokens: &mut Cursor<'_>, kind: ExprKind) -> Result<Expr
     match tokens.peek() {
         Some(TokenKind::Key(Key::RightParen)) => {
             tokens.skip();
-            Ok(Expr::new(alloc, kind)?)
+            to_expr(alloc, kind)
         }
-        _ => Err(Stop::Syntax),
+        _ => {
+            // one call to prove, where an enum that goes by itself is let go variant by variant
+            drop(kind);
+            Err(Stop::Syntax)
+        }
     }
 }
 
@@ -61,7 +65,7 @@ impl<F: Fn(Global, &mut Cursor<'_>, Level, usize) -> Result<Expr, Stop>> Grammar
         match tokens.peek() {
             Some(TokenKind::Key(Key::RightParen)) => {
                 tokens.skip();
-                Ok(Expr::new(self.alloc, ExprKind::Call(name, Exprs::new(self.alloc)))?)
+                to_expr(self.alloc, ExprKind::Call(name, Exprs::new(self.alloc)))
             }
             _ => {
                 let turns = tokens.left();
@@ -86,7 +90,7 @@ impl<F: Fn(Global, &mut Cursor<'_>, Level, usize) -> Result<Expr, Stop>> Grammar
             }
             _ => {
                 let name = to_name(self.alloc, name)?;
-                Ok(Expr::new(self.alloc, ExprKind::Name(name))?)
+                to_expr(self.alloc, ExprKind::Name(name))
             }
         }
     }
@@ -101,11 +105,11 @@ impl<F: Fn(Global, &mut Cursor<'_>, Level, usize) -> Result<Expr, Stop>> Grammar
         match tokens.peek() {
             Some(TokenKind::Number) => {
                 let digits = to_text(self.alloc, tokens.take())?;
-                Ok(Expr::new(self.alloc, ExprKind::Number(digits))?)
+                to_expr(self.alloc, ExprKind::Number(digits))
             }
             Some(TokenKind::Quoted) => {
                 let text = to_text(self.alloc, tokens.take())?;
-                Ok(Expr::new(self.alloc, ExprKind::Quoted(text))?)
+                to_expr(self.alloc, ExprKind::Quoted(text))
             }
             Some(TokenKind::Name) => {
                 let name = tokens.take();
@@ -118,11 +122,11 @@ impl<F: Fn(Global, &mut Cursor<'_>, Level, usize) -> Result<Expr, Stop>> Grammar
             }
             Some(TokenKind::Key(Key::Constant(constant))) => {
                 tokens.skip();
-                Ok(Expr::new(self.alloc, ExprKind::Constant(constant))?)
+                to_expr(self.alloc, ExprKind::Constant(constant))
             }
             Some(TokenKind::Key(Key::Return)) => {
                 tokens.skip();
-                Ok(Expr::new(self.alloc, ExprKind::Return)?)
+                to_expr(self.alloc, ExprKind::Return)
             }
             _ => Err(Stop::Syntax),
         }
@@ -135,7 +139,7 @@ impl<F: Fn(Global, &mut Cursor<'_>, Level, usize) -> Result<Expr, Stop>> Grammar
         ensures { ReadsExpr (self.now.depth + 1) (spec.made (t.unary op) (spec.read self.now.depth e.prefixed tokens.old)) result tokens.new }
     {
         let operand = self.read(tokens, Level::Prefixed)?;
-        Ok(Expr::new(self.alloc, ExprKind::Unary(op, operand))?)
+        to_expr(self.alloc, ExprKind::Unary(op, operand))
     }
 
     /// `^` after its base: it joins from the right.
@@ -165,7 +169,7 @@ impl<F: Fn(Global, &mut Cursor<'_>, Level, usize) -> Result<Expr, Stop>> Grammar
         requires right { depth right ≤ self.now.depth }
         ensures { Gives (t.binary op left right) result }
     {
-        Ok(Expr::new(self.alloc, ExprKind::Binary(op, left, right))?)
+        to_expr(self.alloc, ExprKind::Binary(op, left, right))
     }
 
     #[tactic(auto, unfolding(ht_grammar::specs::Reading::power_at))]
@@ -202,7 +206,7 @@ impl<F: Fn(Global, &mut Cursor<'_>, Level, usize) -> Result<Expr, Stop>> Grammar
         if left.depth() > self.depth {
             return Err(Stop::Syntax);
         }
-        Ok(Expr::new(self.alloc, ExprKind::Unary(op, left))?)
+        to_expr(self.alloc, ExprKind::Unary(op, left))
     }
 
     /// Joins operators of rank `below + 1` from the left.

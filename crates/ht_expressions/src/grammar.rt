@@ -1,13 +1,15 @@
 //! The rules take the reader of an expression's parts as a parameter, so that each is proved by itself.
 
 ghost use Rattle.std.specs.Prelude.{◌≡◌, ◌<◌, ◌≤◌, ◌+◌};
-ghost use Rattle.ht_grammar.specs.Depth.{max_depth};
+ghost use Rattle.ht_lex.specs.Stops.{Gives};
+ghost use Rattle.ht_grammar.specs.Depth.{depth, max_depth};
 ghost use Rattle.ht_grammar.specs.Reading as spec;
+ghost use Rattle.ht_tree.specs.View.{expr_of};
 ghost use Rattle.ht_expressions.specs.Answer.{ReadsExpr};
 ghost use Rattle.ht_expressions.specs.Nests.{Nests, IsRanked, level_of};
 
 use ht_lex::{Cursor, Stop};
-use ht_tree::Expr;
+use ht_tree::{Expr, ExprKind};
 use std::alloc::Global;
 
 /// A part of the grammar that is read as an expression.
@@ -23,6 +25,14 @@ pub enum Level {
 
 /// A whole expression.
 pub const WHOLE: Level = Level::Rank(7);
+
+/// The expression of this kind, unless memory is refused.
+pub(crate) fn to_expr(alloc: Global, kind: ExprKind) -> Result<Expr, Stop>
+    requires { depth (expr_of kind) ≤ max_depth }
+    ensures { Gives (expr_of kind) result }
+{
+    Ok(Expr::new(alloc, kind)?)
+}
 
 /// The rules of expressions with at most `depth + 1` levels, whose parts `read` reads.
 #[derive(Clone, Copy)]

@@ -73,10 +73,8 @@ impl<F: Fn(Global, &mut Cursor<'_>, Level, usize) -> Result<Expr, Stop>> Grammar
         ensures { Reads selector_of (λ p. suc (selector_depth p)) self.now.depth (spec.fitting (spec.read self.now.depth) self.now.depth (λ p. suc (selector_depth p)) (spec.selector_at (spec.read self.now.depth) self.now.depth tokens.old)) result tokens.new }
     {
         let selector = self.selector(tokens)?;
-        if selector.depth() + 1 > self.depth {
-            return Err(Stop::Syntax);
-        }
-        Ok(selector)
+        let fits = selector.depth() < self.depth;
+        fits.then_some(selector).ok_or(Stop::Syntax)
     }
 
     /// The owner after `of` or `in`, where a card or a background comes and no part on it.
@@ -94,8 +92,13 @@ impl<F: Fn(Global, &mut Cursor<'_>, Level, usize) -> Result<Expr, Stop>> Grammar
                 *tokens = before;
                 Ok(Owner::NoOwner)
             }
-            Some(Layer::Card) => Ok(Owner::OnCard(self.owning_selector(tokens)?)),
-            Some(Layer::Background) => Ok(Owner::OnBackground(self.owning_selector(tokens)?)),
+            Some(layer) => {
+                let selector = self.owning_selector(tokens)?;
+                match layer {
+                    Layer::Card => Ok(Owner::OnCard(selector)),
+                    Layer::Background => Ok(Owner::OnBackground(selector)),
+                }
+            }
         }
     }
 
@@ -153,10 +156,8 @@ impl<F: Fn(Global, &mut Cursor<'_>, Level, usize) -> Result<Expr, Stop>> Grammar
         ensures { Reads part_of part_depth (self.now.depth + 1) (spec.field_at (spec.read self.now.depth) self.now.depth tokens.old) result tokens.new }
     {
         let part = self.part(tokens)?;
-        match part.kind() {
-            PartKind::Field => Ok(part),
-            PartKind::Button => Err(Stop::Syntax),
-        }
+        let is_field = matches!(part.kind(), PartKind::Field);
+        is_field.then_some(part).ok_or(Stop::Syntax)
     }
 
     /// A card, a background or a part, by its layer's word in front.
@@ -165,8 +166,13 @@ impl<F: Fn(Global, &mut Cursor<'_>, Level, usize) -> Result<Expr, Stop>> Grammar
         ensures { Reads ref_of ref_depth (self.now.depth + 1) (spec.ref_of_layer (spec.read self.now.depth) self.now.depth layer tokens.old) result tokens.new }
     {
         match layer {
-            Some(Layer::Card) => Ok(Ref::Card(self.selector(tokens)?)),
-            Some(Layer::Background) => Ok(Ref::Background(self.selector(tokens)?)),
+            Some(layer) => {
+                let selector = self.selector(tokens)?;
+                match layer {
+                    Layer::Card => Ok(Ref::Card(selector)),
+                    Layer::Background => Ok(Ref::Background(selector)),
+                }
+            }
             None => Ok(Ref::Part(self.part(tokens)?)),
         }
     }
@@ -219,10 +225,8 @@ impl<F: Fn(Global, &mut Cursor<'_>, Level, usize) -> Result<Expr, Stop>> Grammar
         ensures { Reads ref_of ref_depth self.now.depth (spec.inner_ref (spec.read self.now.depth) self.now.depth tokens.old) result tokens.new }
     {
         let reference = self.reference(tokens)?;
-        if reference.depth() > self.depth {
-            return Err(Stop::Syntax);
-        }
-        Ok(reference)
+        let fits = reference.depth() <= self.depth;
+        fits.then_some(reference).ok_or(Stop::Syntax)
     }
 }
 
