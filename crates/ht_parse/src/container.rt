@@ -1,17 +1,27 @@
 //! Containers, and names with commas between.
 
 ghost use Rattle.std.specs.Prelude.{◌≡◌, ◌<◌, ◌≤◌, ◌+◌};
+ghost use Rattle.ht_lex.specs.Stops.{Gives};
 ghost use Rattle.ht_lex.specs.Token.{first_kind, later};
 ghost use Rattle.ht_grammar.specs.Trees as t;
 ghost use Rattle.ht_grammar.specs.Reading as r;
 ghost use Rattle.ht_grammar.specs.Depth.{container_depth, max_depth};
 ghost use Rattle.ht_grammar.specs.Lines as spec;
+ghost use Rattle.ht_tree.specs.ContainerView.{container_of};
 ghost use Rattle.ht_expressions.specs.Answer.{Reads};
 
 use ht_expressions::{chunk_head, eat_of, field};
 use ht_lex::{Cursor, Key, Stop, TokenKind, to_name};
 use ht_tree::{Container, ContainerKind, Names};
 use std::alloc::Global;
+
+/// The container of this kind, unless memory is refused.
+fn to_container(alloc: Global, kind: ContainerKind) -> Result<Container, Stop>
+    requires { container_depth (container_of kind) ≤ max_depth }
+    ensures { Gives (container_of kind) result }
+{
+    Ok(Container::new(alloc, kind)?)
+}
 
 /// A container of at most `depth` levels.
 #[cycle(container)]
@@ -31,7 +41,7 @@ pub(crate) fn container(
     match tokens.peek() {
         Some(TokenKind::Name) => {
             let name = to_name(alloc, tokens.take())?;
-            Ok(Container::new(alloc, ContainerKind::Variable(name))?)
+            to_container(alloc, ContainerKind::Variable(name))
         }
         Some(TokenKind::Key(Key::Part(_))) => in_field(alloc, tokens, depth),
         Some(TokenKind::Key(Key::Card)) => in_field(alloc, tokens, depth),
@@ -47,7 +57,7 @@ fn in_field(alloc: Global, tokens: &mut Cursor<'_>, depth: usize) -> Result<Cont
     ensures { Reads (λ c. c) container_depth (depth + 1) (r.made t.in_field (r.field_at (r.read depth) depth tokens.old)) result tokens.new }
 {
     let field = field(alloc, tokens, depth)?;
-    Ok(Container::new(alloc, ContainerKind::Field(field))?)
+    to_container(alloc, ContainerKind::Field(field))
 }
 
 /// Pieces of a container or a field, at an ordinal.
@@ -73,7 +83,7 @@ fn in_chunk(alloc: Global, tokens: &mut Cursor<'_>, depth: usize) -> Result<Cont
         return Err(Stop::Syntax);
     }
     let whole = container(alloc, tokens, depth)?;
-    Ok(Container::new(alloc, ContainerKind::Chunk(chunk, whole))?)
+    to_container(alloc, ContainerKind::Chunk(chunk, whole))
 }
 
 /// One name or more, at most so many.

@@ -71,27 +71,23 @@ pub(crate) fn begins_simple(kind: Option<TokenKind>) -> bool
     ensures { result ≡ spec.begins_simple kind }
 {
     match kind {
-        Some(TokenKind::Name)
-        | Some(
-            TokenKind::Key(
-                Key::Put
-                | Key::Get
-                | Key::Set
-                | Key::Add
-                | Key::Subtract
-                | Key::Multiply
-                | Key::Divide
-                | Key::Delete
-                | Key::Do
-                | Key::Send
-                | Key::Go
-                | Key::Global
-                | Key::Exit
-                | Key::Next
-                | Key::Pass
-                | Key::Return,
-            ),
-        ) => true,
+        Some(TokenKind::Name) => true,
+        Some(TokenKind::Key(Key::Put)) => true,
+        Some(TokenKind::Key(Key::Get)) => true,
+        Some(TokenKind::Key(Key::Set)) => true,
+        Some(TokenKind::Key(Key::Add)) => true,
+        Some(TokenKind::Key(Key::Subtract)) => true,
+        Some(TokenKind::Key(Key::Multiply)) => true,
+        Some(TokenKind::Key(Key::Divide)) => true,
+        Some(TokenKind::Key(Key::Delete)) => true,
+        Some(TokenKind::Key(Key::Do)) => true,
+        Some(TokenKind::Key(Key::Send)) => true,
+        Some(TokenKind::Key(Key::Go)) => true,
+        Some(TokenKind::Key(Key::Global)) => true,
+        Some(TokenKind::Key(Key::Exit)) => true,
+        Some(TokenKind::Key(Key::Next)) => true,
+        Some(TokenKind::Key(Key::Pass)) => true,
+        Some(TokenKind::Key(Key::Return)) => true,
         _ => false,
     }
 }
@@ -101,7 +97,8 @@ pub(crate) fn begins_statement(kind: Option<TokenKind>) -> bool
     ensures { result ≡ spec.begins_statement kind }
 {
     match kind {
-        Some(TokenKind::Key(Key::If | Key::Repeat)) => true,
+        Some(TokenKind::Key(Key::If)) => true,
+        Some(TokenKind::Key(Key::Repeat)) => true,
         _ => begins_simple(kind),
     }
 }
@@ -111,24 +108,22 @@ pub(crate) fn begins_expr(kind: Option<TokenKind>) -> bool
     ensures { result ≡ spec.begins_expr kind }
 {
     match kind {
-        Some(TokenKind::Name | TokenKind::Number | TokenKind::Quoted)
-        | Some(
-            TokenKind::Key(
-                Key::LeftParen
-                | Key::Minus
-                | Key::Not
-                | Key::There
-                | Key::The
-                | Key::Number
-                | Key::Return
-                | Key::Card
-                | Key::Background
-                | Key::Piece(_)
-                | Key::Part(_)
-                | Key::Ordinal(_)
-                | Key::Constant(_),
-            ),
-        ) => true,
+        Some(TokenKind::Name) => true,
+        Some(TokenKind::Number) => true,
+        Some(TokenKind::Quoted) => true,
+        Some(TokenKind::Key(Key::LeftParen)) => true,
+        Some(TokenKind::Key(Key::Minus)) => true,
+        Some(TokenKind::Key(Key::Not)) => true,
+        Some(TokenKind::Key(Key::There)) => true,
+        Some(TokenKind::Key(Key::The)) => true,
+        Some(TokenKind::Key(Key::Number)) => true,
+        Some(TokenKind::Key(Key::Return)) => true,
+        Some(TokenKind::Key(Key::Card)) => true,
+        Some(TokenKind::Key(Key::Background)) => true,
+        Some(TokenKind::Key(Key::Piece(_))) => true,
+        Some(TokenKind::Key(Key::Part(_))) => true,
+        Some(TokenKind::Key(Key::Ordinal(_))) => true,
+        Some(TokenKind::Key(Key::Constant(_))) => true,
         _ => false,
     }
 }

@@ -43,10 +43,7 @@ impl Simple {
         requires fits { depth from ≤ self.now.depth }
         ensures { Reads head_of head_depth self.now.depth (spec.after_key k.To (λ m. r.made (s.counted_down name from) (r.read self.now.depth e.whole m)) tokens.old) result tokens.new }
     {
-        if !tokens.eat(Key::To) {
-            return Err(Stop::Syntax);
-        }
-        let to = self.expr(tokens)?;
+        let to = self.value_after(tokens, Key::To)?;
         Ok(Head::CountedDown(name, from, to))
     }
 
@@ -80,10 +77,7 @@ impl Simple {
         match tokens.peek() {
             Some(TokenKind::Name) => {
                 let name = to_name(self.alloc, tokens.take())?;
-                if !tokens.eat(Key::Equal) {
-                    return Err(Stop::Syntax);
-                }
-                let from = self.expr(tokens)?;
+                let from = self.value_after(tokens, Key::Equal)?;
                 self.bound(tokens, name, from)
             }
             _ => Err(Stop::Syntax),
@@ -165,11 +159,11 @@ impl Simple {
         if tokens.is_at(Key::Else) && begins_simple(tokens.second()) {
             tokens.skip();
             let otherwise = self.one(self.within(tokens, context)?)?;
-            return Ok(Stmt::new(self.alloc, StmtKind::When(condition, lines, otherwise))?);
+            return self.stmt(StmtKind::When(condition, lines, otherwise));
         }
         *tokens = before;
         let otherwise = Stmts::new(self.alloc);
-        Ok(Stmt::new(self.alloc, StmtKind::When(condition, lines, otherwise))?)
+        self.stmt(StmtKind::When(condition, lines, otherwise))
     }
 }
 
@@ -291,10 +285,7 @@ fn long(
     }
     let then_lines = lines(rules.alloc, tokens, context, rules.depth)?;
     let else_lines = otherwise(rules.alloc, tokens, context, rules.depth)?;
-    Ok(Stmt::new(
-        rules.alloc,
-        StmtKind::When(condition, then_lines, else_lines),
-    )?)
+    rules.stmt(StmtKind::When(condition, then_lines, else_lines))
 }
 
 /// After `repeat`.
@@ -315,7 +306,7 @@ fn repeat(rules: Simple, tokens: &mut Cursor<'_>, context: Context<'_>) -> Resul
     if !tokens.eat(Key::Repeat) {
         return Err(Stop::Syntax);
     }
-    Ok(Stmt::new(rules.alloc, StmtKind::Repeat(head, body))?)
+    rules.stmt(StmtKind::Repeat(head, body))
 }
 
 /// What comes after the lines of `then`, up to `end if`.

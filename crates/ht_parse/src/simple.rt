@@ -76,7 +76,7 @@ impl Simple {
         container(self.alloc, tokens, self.depth)
     }
 
-    fn stmt(&self, kind: StmtKind) -> Result<Stmt, Stop>
+    pub(crate) fn stmt(&self, kind: StmtKind) -> Result<Stmt, Stop>
         requires { stmt_depth (stmt_of kind) ≤ max_depth }
         ensures { Gives (stmt_of kind) result }
     {
@@ -115,16 +115,35 @@ impl Simple {
         self.stmt(StmtKind::Get(value))
     }
 
+    /// A value after this key.
+    pub(crate) fn value_after(&self, tokens: &mut Cursor<'_>, key: Key) -> Result<Expr, Stop>
+        requires { self.now.depth ≤ max_depth }
+        ensures { ReadsExpr self.now.depth (spec.after_key key (r.read self.now.depth e.whole) tokens.old) result tokens.new }
+    {
+        if !tokens.eat(key) {
+            return Err(Stop::Syntax);
+        }
+        self.expr(tokens)
+    }
+
+    /// A container after this key.
+    fn container_after(&self, tokens: &mut Cursor<'_>, key: Key) -> Result<Container, Stop>
+        requires { self.now.depth ≤ max_depth }
+        ensures { Reads (λ c. c) container_depth self.now.depth (spec.after_key key (spec.container self.now.depth) tokens.old) result tokens.new }
+    {
+        if !tokens.eat(key) {
+            return Err(Stop::Syntax);
+        }
+        self.container(tokens)
+    }
+
     /// The value after `to`, of a property of an object.
     fn set_to(&self, tokens: &mut Cursor<'_>, prop: Prop, reference: Ref) -> Result<Stmt, Stop>
         requires shallow { self.now.depth < max_depth }
         requires fits { ref_depth (ref_of reference) ≤ self.now.depth }
         ensures { Reads (λ s. s) stmt_depth (self.now.depth + 1) (spec.after_key k.To (λ m. r.made (s.set prop (ref_of reference)) (r.read self.now.depth e.whole m)) tokens.old) result tokens.new }
     {
-        if !tokens.eat(Key::To) {
-            return Err(Stop::Syntax);
-        }
-        let value = self.expr(tokens)?;
+        let value = self.value_after(tokens, Key::To)?;
         self.stmt(StmtKind::Set(prop, reference, value))
     }
 
@@ -150,10 +169,7 @@ impl Simple {
             return Err(Stop::Syntax);
         };
         tokens.skip();
-        if !tokens.eat(Key::To) {
-            return Err(Stop::Syntax);
-        }
-        let value = self.expr(tokens)?;
+        let value = self.value_after(tokens, Key::To)?;
         self.stmt(StmtKind::SetRun(prop, value))
     }
 
@@ -173,10 +189,7 @@ impl Simple {
         ensures { Reads (λ s. s) stmt_depth (self.now.depth + 1) (r.and_then (r.read self.now.depth e.whole tokens.old) (λ v. spec.after_key k.To (λ m. r.made (s.add v) (spec.container self.now.depth m)))) result tokens.new }
     {
         let value = self.expr(tokens)?;
-        if !tokens.eat(Key::To) {
-            return Err(Stop::Syntax);
-        }
-        let container = self.container(tokens)?;
+        let container = self.container_after(tokens, Key::To)?;
         self.stmt(StmtKind::Add(value, container))
     }
 
@@ -185,10 +198,7 @@ impl Simple {
         ensures { Reads (λ s. s) stmt_depth (self.now.depth + 1) (r.and_then (r.read self.now.depth e.whole tokens.old) (λ v. spec.after_key k.From (λ m. r.made (s.subtract v) (spec.container self.now.depth m)))) result tokens.new }
     {
         let value = self.expr(tokens)?;
-        if !tokens.eat(Key::From) {
-            return Err(Stop::Syntax);
-        }
-        let container = self.container(tokens)?;
+        let container = self.container_after(tokens, Key::From)?;
         self.stmt(StmtKind::Subtract(value, container))
     }
 
@@ -197,10 +207,7 @@ impl Simple {
         ensures { Reads (λ s. s) stmt_depth (self.now.depth + 1) (r.and_then (spec.container self.now.depth tokens.old) (λ c. spec.after_key k.By (λ m. r.made (s.multiply c) (r.read self.now.depth e.whole m)))) result tokens.new }
     {
         let container = self.container(tokens)?;
-        if !tokens.eat(Key::By) {
-            return Err(Stop::Syntax);
-        }
-        let value = self.expr(tokens)?;
+        let value = self.value_after(tokens, Key::By)?;
         self.stmt(StmtKind::Multiply(container, value))
     }
 
@@ -209,10 +216,7 @@ impl Simple {
         ensures { Reads (λ s. s) stmt_depth (self.now.depth + 1) (r.and_then (spec.container self.now.depth tokens.old) (λ c. spec.after_key k.By (λ m. r.made (s.divide c) (r.read self.now.depth e.whole m)))) result tokens.new }
     {
         let container = self.container(tokens)?;
-        if !tokens.eat(Key::By) {
-            return Err(Stop::Syntax);
-        }
-        let value = self.expr(tokens)?;
+        let value = self.value_after(tokens, Key::By)?;
         self.stmt(StmtKind::Divide(container, value))
     }
 
@@ -255,10 +259,13 @@ impl Simple {
         ensures { Reads destination_of destination_depth (self.now.depth + 1) (spec.destination_by self.now.depth at_large (r.referenced_layer tokens.old) tokens.old) result tokens.new }
     {
         match referenced_layer(tokens) {
-            Some(Layer::Card) => Ok(Destination::ToCard(selector(self.alloc, tokens, self.depth)?)),
-            Some(Layer::Background) => Ok(Destination::ToBackground(selector(
-                self.alloc, tokens, self.depth,
-            )?)),
+            Some(layer) => {
+                let selector = selector(self.alloc, tokens, self.depth)?;
+                match layer {
+                    Layer::Card => Ok(Destination::ToCard(selector)),
+                    Layer::Background => Ok(Destination::ToBackground(selector)),
+                }
+            }
             None => bare_destination(tokens),
         }
     }
@@ -269,10 +276,8 @@ impl Simple {
         ensures { Reads destination_of destination_depth self.now.depth (spec.destination_at self.now.depth at_large tokens.old) result tokens.new }
     {
         let destination = self.destination_on(tokens)?;
-        if destination.depth() > self.depth {
-            return Err(Stop::Syntax);
-        }
-        Ok(destination)
+        let fits = destination.depth() <= self.depth;
+        fits.then_some(destination).ok_or(Stop::Syntax)
     }
 
     fn go(&self, tokens: &mut Cursor<'_>) -> Result<Stmt, Stop>

@@ -182,11 +182,8 @@ pub(crate) fn clicked_part(alloc: Global, tokens: &mut Cursor<'_>) -> Result<Par
 fn unowned(part: Part) -> Result<Part, Stop>
     ensures { IsWhole part_of (spec.unowned (Some (part_of part))) result }
 {
-    match part.owner() {
-        Owner::NoOwner => Ok(part),
-        Owner::OnCard(_) => Err(Stop::Syntax),
-        Owner::OnBackground(_) => Err(Stop::Syntax),
-    }
+    let is_unowned = matches!(part.owner(), Owner::NoOwner);
+    is_unowned.then_some(part).ok_or(Stop::Syntax)
 }
 
 /// The text to be typed and its field, that the tokens are.
@@ -210,10 +207,10 @@ fn into_field(alloc: Global, tokens: &mut Cursor<'_>, text: Text) -> Result<Typi
         Some(TokenKind::Key(Key::Into)) => {
             tokens.skip();
             let field = clicked_part(alloc, tokens)?;
-            match field.kind() {
-                PartKind::Field => Ok(Typing { text, field }),
-                PartKind::Button => Err(Stop::Syntax),
-            }
+            let is_field = matches!(field.kind(), PartKind::Field);
+            is_field
+                .then_some(Typing { text, field })
+                .ok_or(Stop::Syntax)
         }
         _ => Err(Stop::Syntax),
     }
