@@ -2,13 +2,13 @@
 use Rattle.std.proofs.Common.{◌≡◌, ◌≢◌, ℕ, List, [], Bool, true, false, cond, nat_eq, Option, Some, None, IfSome, option_copied, option_map, unwrap_or, Bor, refl, sym, ap, ◌∙◌, subst, arith}
 use Rattle.std.proofs.lemmas.Bool.{eq-eqb, false≢true}
 use Rattle.std.proofs.lemmas.Bool.Decides.{nat_tests}
+use Rattle.std.proofs.lemmas.Option.{none-some, same_Some}
 use Rattle.std.specs.Cmp.{nat_cmp_total, unsigned_tied}
 use Rattle.std.specs.Ordering.{nat_cmp, eq_by_cmp}
 use Rattle.std.specs.FinMap.{get, nat_cmp-IsAntisymmetric}
 use Rattle.ht_grammar.specs.Statements.{Handlers}
 use Rattle.ht_grammar.specs.Reads.{Reads, ReadsScript}
 use Rattle.object_table.specs.Content.{Content}
-use Rattle.object_table.specs.Maps.{put_option}
 use Rattle.object_table.specs.Setting.{with_value}
 use Rattle.object_table.specs.declared.object.Object as object
 use Rattle.object_table.specs.declared.property.PropValue.{PropValue}
@@ -40,47 +40,24 @@ kept_by : (s : Content) (v : PropValue) → KeepsScript v → (id q : ℕ) → o
 unfolding exchanged
 kept_by s v keeps id q = ap script_in (get-put_option nat_cmp_total nat_cmp-IsAntisymmetric s.objects id (option_map (with_value v) (get s.objects id)) q) ∙ set_there (eq_by_cmp nat_cmp q id) s v keeps id q refl
 
--- an exchange that changes no script
-stays : (s : Content) (e : StackEntry) → changes_script_of e ≡ None → (q : ℕ) → object_script (exchanged s e) q ≡ object_script s q
+-- an exchange leaves the script of each object but the one that it names
+others : (s : Content) (e : StackEntry) (q : ℕ) → changes_script_of e ≢ Some q → object_script (exchanged s e) q ≡ object_script s q
 unfolding exchanged
-stays s (Prop id (settings.ScriptIs t)) none q = let no : Some id ≡ None → object_script (exchanged s (Prop id (settings.ScriptIs t))) q ≡ object_script s q = λ x. cc in no none
-stays s (Prop id (settings.NameIs t)) none q = kept_by s (settings.NameIs t) (λ o. refl) id q
-stays s (Prop id (settings.VisibleIs b)) none q = kept_by s (settings.VisibleIs b) (λ o. refl) id q
-stays s (Prop id (settings.HiliteIs b)) none q = kept_by s (settings.HiliteIs b) (λ o. refl) id q
-stays s (Prop id (settings.SharedHiliteIs b)) none q = kept_by s (settings.SharedHiliteIs b) (λ o. refl) id q
-stays s (Prop id (settings.LockTextIs b)) none q = kept_by s (settings.LockTextIs b) (λ o. refl) id q
-stays s (Prop id (settings.SharedTextIs b)) none q = kept_by s (settings.SharedTextIs b) (λ o. refl) id q
-stays s (Prop id (settings.CantDeleteIs b)) none q = kept_by s (settings.CantDeleteIs b) (λ o. refl) id q
-stays s (Object id o) none q = let no : Some id ≡ None → object_script (exchanged s (Object id o)) q ≡ object_script s q = λ x. cc in no none
-stays s (FieldText field card v) none q = refl
-stays s (Hilite button card v) none q = refl
-stays s (CardOrder l) none q = refl
-stays s (BackgroundOrder l) none q = refl
-stays s (Parts layer v) none q = refl
-stays s (NextId n) none q = refl
-
--- an exchange that may change one changes no other
-others : (s : Content) (e : StackEntry) (id : ℕ) → changes_script_of e ≡ Some id → (q : ℕ) → id ≢ q → object_script (exchanged s e) q ≡ object_script s q
-unfolding exchanged
-others s (Prop i (settings.ScriptIs t)) id is q apart =
-    let same : i ≡ id = cc in
-    ap script_in (get-put_option_apart nat_cmp_total nat_cmp-IsAntisymmetric s.objects i q (option_map (with_value (settings.ScriptIs t)) (get s.objects i)) (subst (λ k. k ≢ q) (sym same) apart))
-others s (Object i o) id is q apart =
-    let same : i ≡ id = cc in
-    ap script_in (get-put_option_apart nat_cmp_total nat_cmp-IsAntisymmetric s.objects i q o (subst (λ k. k ≢ q) (sym same) apart))
-others s (Prop i (settings.NameIs t)) id is q apart = kept_by s (settings.NameIs t) (λ o. refl) i q
-others s (Prop i (settings.VisibleIs b)) id is q apart = kept_by s (settings.VisibleIs b) (λ o. refl) i q
-others s (Prop i (settings.HiliteIs b)) id is q apart = kept_by s (settings.HiliteIs b) (λ o. refl) i q
-others s (Prop i (settings.SharedHiliteIs b)) id is q apart = kept_by s (settings.SharedHiliteIs b) (λ o. refl) i q
-others s (Prop i (settings.LockTextIs b)) id is q apart = kept_by s (settings.LockTextIs b) (λ o. refl) i q
-others s (Prop i (settings.SharedTextIs b)) id is q apart = kept_by s (settings.SharedTextIs b) (λ o. refl) i q
-others s (Prop i (settings.CantDeleteIs b)) id is q apart = kept_by s (settings.CantDeleteIs b) (λ o. refl) i q
-others s (FieldText field card v) id is q apart = refl
-others s (Hilite button card v) id is q apart = refl
-others s (CardOrder l) id is q apart = refl
-others s (BackgroundOrder l) id is q apart = refl
-others s (Parts layer v) id is q apart = refl
-others s (NextId n) id is q apart = refl
+others s (Prop id (settings.ScriptIs t)) q apart = ap script_in (get-put_option_apart nat_cmp_total nat_cmp-IsAntisymmetric s.objects id q (option_map (with_value (settings.ScriptIs t)) (get s.objects id)) (λ same. apart (ap Some same)))
+others s (Object id o) q apart = ap script_in (get-put_option_apart nat_cmp_total nat_cmp-IsAntisymmetric s.objects id q o (λ same. apart (ap Some same)))
+others s (Prop id (settings.NameIs t)) q apart = kept_by s (settings.NameIs t) (λ o. refl) id q
+others s (Prop id (settings.VisibleIs b)) q apart = kept_by s (settings.VisibleIs b) (λ o. refl) id q
+others s (Prop id (settings.HiliteIs b)) q apart = kept_by s (settings.HiliteIs b) (λ o. refl) id q
+others s (Prop id (settings.SharedHiliteIs b)) q apart = kept_by s (settings.SharedHiliteIs b) (λ o. refl) id q
+others s (Prop id (settings.LockTextIs b)) q apart = kept_by s (settings.LockTextIs b) (λ o. refl) id q
+others s (Prop id (settings.SharedTextIs b)) q apart = kept_by s (settings.SharedTextIs b) (λ o. refl) id q
+others s (Prop id (settings.CantDeleteIs b)) q apart = kept_by s (settings.CantDeleteIs b) (λ o. refl) id q
+others s (FieldText field card v) q apart = refl
+others s (Hilite button card v) q apart = refl
+others s (CardOrder l) q apart = refl
+others s (BackgroundOrder l) q apart = refl
+others s (Parts layer v) q apart = refl
+others s (NextId n) q apart = refl
 
 abbrev IsTreeAt : Content → ℕ → Option Handlers → Type 0
 IsTreeAt s id tree = IfSome tree (λ hs. Reads ReadsScript (object_script s id) hs)
@@ -92,7 +69,7 @@ with_script s t q tree e = subst (λ script. IfSome tree (λ hs. Reads ReadsScri
 -- nothing is forgotten, and no script changes
 pub kept_trees : (s : Content) (e : StackEntry) (trees : ℕ → Option Handlers) → changes_script_of e ≡ None → AreTrees s trees → AreTrees (exchanged s e) trees
 unfolding AreTrees
-kept_trees s e trees none are q = with_script s (exchanged s e) q (trees q) (stays s e none q) (are q)
+kept_trees s e trees none are q = with_script s (exchanged s e) q (trees q) (others s e q (λ is. none-some q (sym none ∙ is))) (are q)
 
 -- the tree of the script that may change is forgotten
 pub forgot_tree : (s : Content) (e : StackEntry) (id : ℕ) (old new : ℕ → Option Handlers) → changes_script_of e ≡ Some id → ((q : ℕ) → new q ≡ cond (nat_eq id q) None (old q)) → AreTrees s old → AreTrees (exchanged s e) new
@@ -101,7 +78,7 @@ forgot_tree s e id old new is forgets are q = subst (IsTreeAt (exchanged s e) q)
   where
     by : (b : Bool) → nat_eq id q ≡ b → IsTreeAt (exchanged s e) q (cond b None (old q))
     by true same = tt
-    by false apart = with_script s (exchanged s e) q (old q) (others s e id is q (λ same. false≢true (sym apart ∙ ap (nat_eq id) (sym same) ∙ eq-eqb id id refl))) (are q)
+    by false apart = with_script s (exchanged s e) q (old q) (others s e q (λ changes. false≢true (sym apart ∙ eq-eqb id q (same_Some id q (sym is ∙ changes))))) (are q)
 
 -- a tree is kept
 pub kept_tree : (s : Content) (id : ℕ) (hs : Handlers) (old new : ℕ → Option Handlers) → ((q : ℕ) → new q ≡ cond (nat_eq id q) (Some hs) (old q)) → Reads ReadsScript (object_script s id) hs → AreTrees s old → AreTrees s new
