@@ -38,16 +38,24 @@ struct Given {
     stack: Stack,
 }
 
-/// The text of a stack, and the stack; it is written as it was read.
-fn inputs(alloc: Global, groups: u32, step: u32) -> anyhow::Result<Given>
-    ensures { IfOk result (λ g. IsWellFormed g.stack.content) }
+/// Whether a stack is written so.
+fn is_written(alloc: Global, stack: &Stack, text: &[u8]) -> anyhow::Result<bool>
+    requires { IsWellFormed stack.now.content }
+{
+    Ok(write(alloc, stack)?.as_slice() == text)
+}
+
+/// The text of a stack, and the stack; it is written as it was read. Both stand in a box, which each exit drops by one call.
+fn inputs(alloc: Global, groups: u32, step: u32) -> anyhow::Result<Box<Given>>
+    ensures { IfOk result (λ g. IsWellFormed g.value.stack.content) }
 {
     let text = text_of(alloc, groups, step)?.into_bytes();
     let stack = read(alloc, &text)?;
-    if write(alloc, &stack)? != text {
+    let given = Box::new(alloc, Given { text, stack })?;
+    if !is_written(alloc, &given.stack, &given.text)? {
         anyhow::bail!("a stack isn't written as it was read");
     }
-    Ok(Given { text, stack })
+    Ok(given)
 }
 
 /// Makes a call once, and tells how much came out.
@@ -74,6 +82,44 @@ fn show(rt: &impl Print, name: &str, bytes: u64, time: u64, copy: u64) -> io::Re
     )
 }
 
+/// Prints what is read and written.
+fn print_size(rt: &impl Print, given: &Given) -> io::Result<()> {
+    println!(rt;
+        "{} objects, {} bytes, next id {}",
+        given.stack.object_count(),
+        given.text.len(),
+        given.stack.next_id()
+    )
+}
+
+/// The nanoseconds of so many rounds of a call.
+fn time(
+    rt: &impl Clock,
+    alloc: Global,
+    rounds: usize,
+    call: Call,
+    given: &Given,
+) -> anyhow::Result<u64>
+    requires { IsWellFormed given.now.stack.content }
+{
+    time_of(rt, rounds, || made(alloc, call, given))
+}
+
+/// Prints the times of the calls on a stack.
+fn print_times<R: Clock + Print>(rt: &R, alloc: Global, given: &Given) -> anyhow::Result<()>
+    requires { IsWellFormed given.now.stack.content }
+{
+    let length = given.text.len();
+    let rounds = BYTES / length.max(1);
+    let bytes = (length as u64).wrapping_mul(rounds as u64);
+    let copy = time(rt, alloc, rounds, Call::Copy, given)?;
+    show(rt, "copy", bytes, copy, copy)?;
+    let read = time(rt, alloc, rounds, Call::Read, given)?;
+    show(rt, "read", bytes, read, copy)?;
+    let write = time(rt, alloc, rounds, Call::Write, given)?;
+    Ok(show(rt, "write", bytes, write, copy)?)
+}
+
 /// Prints the times of a stack.
 fn measure_one<R: Clock + Print>(
     rt: &R,
@@ -82,20 +128,8 @@ fn measure_one<R: Clock + Print>(
     step: u32,
 ) -> anyhow::Result<()> {
     let given = inputs(alloc, groups, step)?;
-    let (objects, length) = (given.stack.object_count(), given.text.len());
-    println!(rt;
-        "{objects} objects, {length} bytes, next id {}",
-        given.stack.next_id()
-    )?;
-    let rounds = BYTES / length.max(1);
-    let bytes = (length as u64).wrapping_mul(rounds as u64);
-    let copy = time_of(rt, rounds, || made(alloc, Call::Copy, &given))?;
-    show(rt, "copy", bytes, copy, copy)?;
-    for (name, call) in [("read", Call::Read), ("write", Call::Write)] {
-        let time = time_of(rt, rounds, || made(alloc, call, &given))?;
-        show(rt, name, bytes, time, copy)?;
-    }
-    Ok(())
+    print_size(rt, &given)?;
+    print_times(rt, alloc, &given)
 }
 
 /// Prints the times of stacks of all sizes, with ids side by side and far apart.

@@ -50,20 +50,31 @@ fn items(alloc: Global) -> anyhow::Result<Text> {
     Ok(Text::from_vec(bytes)?)
 }
 
-/// What all calls are given.
-fn inputs(alloc: Global) -> anyhow::Result<Given> {
-    let items = items(alloc)?;
+fn value(alloc: Global, bytes: &[u8]) -> anyhow::Result<Value> {
+    Ok(Value::of_text(Text::from_slice(alloc, bytes)?))
+}
+
+/// What `offset` is given: a run of bytes that isn't in the items, and the items.
+fn search(alloc: Global, items: &Text) -> anyhow::Result<Vec<Value>> {
     let mut search = Vec::new(alloc);
-    search.push(Value::of_text(Text::from_slice(alloc, b"a run of twenty byte")?))?;
+    search.push(value(alloc, b"a run of twenty byte")?)?;
     search.push(Value::of_text(items.try_clone(alloc)?))?;
-    Ok(Given {
+    Ok(search)
+}
+
+/// What all calls are given, in a box, which each exit drops by one call.
+fn inputs(alloc: Global) -> anyhow::Result<Box<Given>> {
+    let items = items(alloc)?;
+    let search = search(alloc, &items)?;
+    let given = Given {
         items,
         new: Text::from_slice(alloc, b"new")?,
         search,
         numeral: Text::from_slice(alloc, b"4611686018427387904")?,
-        left: Value::of_text(Text::from_slice(alloc, b"4611686018427387904")?),
-        right: Value::of_text(Text::from_slice(alloc, b"-461168601842738790")?),
-    })
+        left: value(alloc, b"4611686018427387904")?,
+        right: value(alloc, b"-461168601842738790")?,
+    };
+    Ok(Box::new(alloc, given)?)
 }
 
 /// Makes a call once, and tells the length of its outcome.
@@ -101,23 +112,38 @@ fn show(rt: &impl Print, name: &str, time: u64, copy: u64) -> io::Result<()> {
     )
 }
 
+/// Prints the times of a copy and of other calls beside it.
+fn print_times<R: Clock + Print>(
+    rt: &R,
+    alloc: Global,
+    given: &Given,
+    copy: (&str, Call),
+    calls: &[(&str, Call)],
+) -> anyhow::Result<()> {
+    let copy_time = time(rt, alloc, copy.1, given)?;
+    show(rt, copy.0, copy_time, copy_time)?;
+    for (name, call) in calls {
+        show(rt, name, time(rt, alloc, *call, given)?, copy_time)?;
+    }
+    Ok(())
+}
+
+const COPY_TEXT: (&str, Call) = ("copy of 30,000 bytes", Call::CopyText);
+
+const ON_TEXTS: &[(&str, Call)] = &[
+    ("item 1,000 of them read", Call::TakeItem),
+    ("item 1,000 of them put", Call::PutItem),
+    ("item 1,000 of them deleted", Call::DeleteItem),
+    ("offset of 20 bytes in them", Call::Offset),
+];
+
+const COPY_NUMERAL: (&str, Call) = ("copy of a numeral", Call::CopyNumeral);
+
+const ON_NUMERALS: &[(&str, Call)] = &[("sum of two numerals", Call::Sum)];
+
 /// Prints the times of all calls.
 pub(crate) fn measure<R: Clock + Print>(rt: &R, alloc: Global) -> anyhow::Result<()> {
     let given = inputs(alloc)?;
-    let copy = time(rt, alloc, Call::CopyText, &given)?;
-    show(rt, "copy of 30,000 bytes", copy, copy)?;
-    let rows = [
-        ("item 1,000 of them read", Call::TakeItem),
-        ("item 1,000 of them put", Call::PutItem),
-        ("item 1,000 of them deleted", Call::DeleteItem),
-        ("offset of 20 bytes in them", Call::Offset),
-    ];
-    for (name, call) in rows {
-        show(rt, name, time(rt, alloc, call, &given)?, copy)?;
-    }
-    let copy = time(rt, alloc, Call::CopyNumeral, &given)?;
-    show(rt, "copy of a numeral", copy, copy)?;
-    let sum = time(rt, alloc, Call::Sum, &given)?;
-    show(rt, "sum of two numerals", sum, copy)?;
-    Ok(())
+    print_times(rt, alloc, &given, COPY_TEXT, ON_TEXTS)?;
+    print_times(rt, alloc, &given, COPY_NUMERAL, ON_NUMERALS)
 }

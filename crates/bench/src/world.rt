@@ -248,7 +248,50 @@ fn held<R: Files + AllocGlobal>(rt: &R) -> anyhow::Result<u64> {
     Ok(held.parse::<u64>().unwrap_or(0).saturating_mul(PAGE))
 }
 
-/// The writes of a row in a world, and in plain maps and lists. Both are kept, so that what they hold isn't used again.
+/// The nanoseconds of the writes in a world, and the bytes that they took.
+fn spend_on_writes<R: Clock + Files + AllocGlobal, E: External>(
+    rt: &R,
+    world: &mut World<E>,
+    call: Call,
+    count: u32,
+) -> anyhow::Result<(u64, u64)>
+    requires { world.old.history.start ≡ None }
+    ensures { OnOk result (world.new.history.start ≡ None) }
+{
+    let before = held(rt)?;
+    let start = Instant::now(rt)?;
+    write_all(rt.alloc(), world, call, count)?;
+    let time = nanoseconds_since(rt, &start)?;
+    Ok((time, held(rt)?.saturating_sub(before)))
+}
+
+/// The nanoseconds of the ways back and forth over the writes.
+fn spend_on_ways<E: External>(rt: &impl Clock, world: &mut World<E>) -> anyhow::Result<(u64, u64)>
+    requires { world.old.history.start ≡ None }
+{
+    let start = Instant::now(rt)?;
+    go_back(world)?;
+    let back = nanoseconds_since(rt, &start)?;
+    let start = Instant::now(rt)?;
+    go_forth(world)?;
+    Ok((back, nanoseconds_since(rt, &start)?))
+}
+
+/// The nanoseconds of the writes in plain maps and lists, and the bytes that they took.
+fn spend_on_plain<R: Clock + Files + AllocGlobal>(
+    rt: &R,
+    plain: &mut Plain,
+    call: Call,
+    count: u32,
+) -> anyhow::Result<(u64, u64)> {
+    let before = held(rt)?;
+    let start = Instant::now(rt)?;
+    plain.take_all(rt.alloc(), call, count)?;
+    let time = nanoseconds_since(rt, &start)?;
+    Ok((time, held(rt)?.saturating_sub(before)))
+}
+
+/// The writes of a row in a world, and in plain maps and lists.
 fn spend<R: Clock + Files + AllocGlobal, E: External>(
     rt: &R,
     world: &mut World<E>,
@@ -258,29 +301,17 @@ fn spend<R: Clock + Files + AllocGlobal, E: External>(
 ) -> anyhow::Result<Spent>
     requires { world.old.history.start ≡ None }
 {
-    let alloc = rt.alloc();
     add_field(world)?;
-    let before = held(rt)?;
-    let start = Instant::now(rt)?;
-    write_all(alloc, world, call, count)?;
-    let written = nanoseconds_since(rt, &start)?;
-    let bytes = held(rt)?.saturating_sub(before);
-    let start = Instant::now(rt)?;
-    go_back(world)?;
-    let back = nanoseconds_since(rt, &start)?;
-    let start = Instant::now(rt)?;
-    go_forth(world)?;
-    let forth = nanoseconds_since(rt, &start)?;
-    let before = held(rt)?;
-    let start = Instant::now(rt)?;
-    plain.take_all(alloc, call, count)?;
+    let (write, bytes) = spend_on_writes(rt, world, call, count)?;
+    let (back, forth) = spend_on_ways(rt, world)?;
+    let (plain, plain_bytes) = spend_on_plain(rt, plain, call, count)?;
     Ok(Spent {
-        write: written,
+        write,
         back,
         forth,
         bytes,
-        plain: nanoseconds_since(rt, &start)?,
-        plain_bytes: held(rt)?.saturating_sub(before),
+        plain,
+        plain_bytes,
     })
 }
 
@@ -300,19 +331,38 @@ fn show(rt: &impl Print, name: &str, count: u32, spent: Spent) -> io::Result<()>
     )
 }
 
+/// What the rows have written, which is kept, so that what it holds isn't used again.
+#[derive(Drop)]
+struct Written<E: External> {
+    worlds: Vec<Box<World<E>>>,
+    plains: Vec<Box<Plain>>,
+}
+
+/// Prints the times and bytes of a row with one of its counts.
+fn measure_row<R: Clock + Files + Print + AllocGlobal, E: External>(
+    rt: &R,
+    row: &Row,
+    count: u32,
+    written: &mut Written<E>,
+) -> anyhow::Result<()> {
+    let alloc = rt.alloc();
+    let mut world = open_world(alloc)?;
+    let mut plain = Box::new(alloc, Plain::new(alloc))?;
+    let spent = spend(rt, &mut *world, &mut *plain, row.call, count)?;
+    show(rt, row.name, count, spent)?;
+    written.worlds.push(world)?;
+    Ok(written.plains.push(plain)?)
+}
+
 /// Prints the times and bytes of all rows.
 fn measure_rows<R: Clock + Files + Print + AllocGlobal, E: External>(rt: &R) -> anyhow::Result<()> {
-    let alloc = rt.alloc();
-    let mut worlds: Vec<Box<World<E>>> = Vec::new(alloc);
-    let mut plains = Vec::new(alloc);
+    let mut written: Written<E> = Written {
+        worlds: Vec::new(rt.alloc()),
+        plains: Vec::new(rt.alloc()),
+    };
     for row in ROWS {
         for count in row.counts {
-            let mut world = open_world(alloc)?;
-            let mut plain = Plain::new(alloc);
-            let spent = spend(rt, &mut world, &mut plain, row.call, *count)?;
-            show(rt, row.name, *count, spent)?;
-            worlds.push(world)?;
-            plains.push(plain)?;
+            measure_row(rt, row, *count, &mut written)?;
         }
     }
     Ok(())
