@@ -1,6 +1,6 @@
 //! The batch of the line that runs.
 
-ghost use Rattle.std.specs.Prelude.{◌≡◌, ℕ, ◌<◌, ◌≤◌, ◌+◌, max, vec_len, vec_capacity, true, List, [], ◌∷◌, ◌++◌, length, IfOk, OnErr, OnOk};
+ghost use Rattle.std.specs.Prelude.{◌≡◌, ℕ, ◌<◌, ◌≤◌, ◌+◌, max, vec_len, vec_capacity, true, false, List, [], ◌∷◌, ◌++◌, length, IfOk, OnErr, OnOk};
 ghost use Rattle.std.specs.HashMap.{get_by, spare};
 ghost use Rattle.externals.specs.Cells.{IsPatch, Changes};
 ghost use Rattle.journal_entries.specs.State.{IsState, seen_at};
@@ -104,7 +104,7 @@ impl OpenBatch {
     fn write<E: External>(
         &mut self,
         present: &mut Present<E>,
-        mut entry: Entry,
+        entry: Entry,
     ) -> Result<(), AllocError>
         requires { IsReady (shape_of present.old) entry }
         ensures state { OnOk result (present.new ≡ record present.old { state = exchanged present.old.names present.old.state entry }) }
@@ -112,14 +112,16 @@ impl OpenBatch {
         ensures state_err { OnErr result (present.new ≡ present.old) }
         ensures entries_err { OnErr result (self.new ≡ self.old) }
     {
-        if is_held(&self.entries, &self.index, &entry) {
-            present.exchange(&mut entry);
-            return Ok(());
+        match make_room(&mut self.entries, &mut self.index, &entry) {
+            Ok(()) => {
+                write_reserved(&mut self.entries, &mut self.index, present, entry);
+                Ok(())
+            }
+            Err(refused) => {
+                drop(entry);
+                Err(refused)
+            }
         }
-        reserve(&mut self.entries, 1)?;
-        self.index.latest.reserve(1)?;
-        write_reserved(&mut self.entries, &mut self.index, present, entry);
-        Ok(())
     }
 
     /// Makes exchanges, from the first to the last, and keeps of what comes out what the places have no entry for.
@@ -214,6 +216,21 @@ fn reserve(entries: &mut Vec<Entry>, more: usize) -> Result<(), AllocError>
     }
 }
 
+/// Makes room for an entry, unless its place has one already.
+fn make_room(entries: &mut Vec<Entry>, index: &mut Index, entry: &Entry) -> Result<(), AllocError>
+    requires indexed { IsIndexed entries.old.items index.old.closed (λ key. get_by (same_key key) index.old.latest) }
+    ensures items { entries.new.items ≡ entries.old.items }
+    ensures indexed { IsIndexed entries.new.items index.new.closed (λ key. get_by (same_key key) index.new.latest) }
+    ensures place { OnOk result (holds_one entry.now entries.old.items ≡ false → vec_len entries.new < vec_capacity entries.new) }
+    ensures room { OnOk result (holds_one entry.now entries.old.items ≡ false → 0 < spare index.new.latest) }
+{
+    if !is_held(entries, index, entry) {
+        reserve(entries, 1)?;
+        index.latest.reserve(1)?;
+    }
+    Ok(())
+}
+
 /// Whether the segment since the latest structural entry has an entry of this one's place.
 fn is_held(entries: &[Entry], index: &Index, entry: &Entry) -> bool
     requires indexed { IsIndexed entries.now index.now.closed (λ key. get_by (same_key key) index.now.latest) }
@@ -280,7 +297,7 @@ fn keep(entries: &mut Vec<Entry>, index: &mut Index, entry: Entry)
     entries.push_reserved(entry);
 }
 
-/// Makes an exchange and keeps what comes out, unless the place has its entry already. There is room for one.
+/// Makes an exchange and keeps what comes out, unless the place has its entry already. Where it has none, there is room.
 fn write_reserved<E: External>(
     entries: &mut Vec<Entry>,
     index: &mut Index,
@@ -288,8 +305,8 @@ fn write_reserved<E: External>(
     mut entry: Entry,
 )
     requires ready { IsReady (shape_of present.old) entry }
-    requires place { vec_len entries.old < vec_capacity entries.old }
-    requires room { 0 < spare index.old.latest }
+    requires place { holds_one entry entries.old.items ≡ false → vec_len entries.old < vec_capacity entries.old }
+    requires room { holds_one entry entries.old.items ≡ false → 0 < spare index.old.latest }
     requires indexed { IsIndexed entries.old.items index.old.closed (λ key. get_by (same_key key) index.old.latest) }
     ensures state { present.new ≡ record present.old { state = exchanged present.old.names present.old.state entry } }
     ensures items { entries.new.items ≡ kept entries.old.items entry (taken present.old.names present.old.state entry) }

@@ -161,6 +161,37 @@ impl<E: External> Present<E> {
         Ok(Entry::Global(self.globals.number(name)?, value))
     }
 
+    /// The entry that gives a field a text for a card.
+    #[tactic(auto, unfolding(crate::specs::Exchange::exchanged, crate::specs::Exchange::taken, crate::specs::Exchange::mark_of, crate::specs::Exchange::entry_weight, crate::specs::Exchange::IsReady, crate::specs::Places::put, crate::specs::Turning::IsNumbered))]
+    fn prepare_text(
+        &mut self,
+        alloc: Global,
+        field: Id,
+        card: Id,
+        text: Text,
+    ) -> Result<Entry, AllocError>
+        requires { fits self.old.state (made_change.FieldText field card text) ≡ true }
+        ensures entry { IfOk result (λ e. Prepares self.new (made_change.FieldText field card text) (e ∷ [])) }
+        ensures grows { Grows self.old self.new }
+    {
+        let text = BoxedText::new(alloc, Some(text))?;
+        self.stack.open_text(field, card)?;
+        let entry = StackEntry::FieldText(field, card, text);
+        Ok(Entry::Stack(entry))
+    }
+
+    /// The entry that gives a button a hilite for a card.
+    #[tactic(auto, unfolding(crate::specs::Exchange::exchanged, crate::specs::Exchange::taken, crate::specs::Exchange::mark_of, crate::specs::Exchange::entry_weight, crate::specs::Exchange::IsReady, crate::specs::Places::put, crate::specs::Turning::IsNumbered))]
+    fn prepare_hilite(&mut self, button: Id, card: Id, hilite: bool) -> Result<Entry, AllocError>
+        requires { fits self.old.state (made_change.Hilite button card hilite) ≡ true }
+        ensures entry { IfOk result (λ e. Prepares self.new (made_change.Hilite button card hilite) (e ∷ [])) }
+        ensures grows { Grows self.old self.new }
+    {
+        self.stack.open_hilite(button, card)?;
+        let entry = StackEntry::Hilite(button, card, Some(hilite));
+        Ok(Entry::Stack(entry))
+    }
+
     /// Grows what a change needs, and hands out the entries that make it.
     #[tactic(auto, unfolding(crate::specs::Exchange::exchanged, crate::specs::Exchange::taken, crate::specs::Exchange::mark_of, crate::specs::Exchange::entry_weight, crate::specs::Exchange::IsReady, crate::specs::Places::put, crate::specs::Turning::IsNumbered))]
     pub fn prepare(&mut self, alloc: Global, change: Change) -> Result<Prepared, AllocError>
@@ -170,26 +201,23 @@ impl<E: External> Present<E> {
         ensures grows { Grows self.old self.new }
     {
         match change {
-            Change::Global(name, value) => Ok(Prepared::One(self.prepare_global(&name, value)?)),
+            Change::Global(name, value) => self.prepare_global(&name, value).map(Prepared::One),
             Change::FieldText(field, card, text) => {
-                let text = BoxedText::new(alloc, Some(text))?;
-                self.stack.open_text(field, card)?;
-                let entry = StackEntry::FieldText(field, card, text);
-                Ok(Prepared::One(Entry::Stack(entry)))
+                self.prepare_text(alloc, field, card, text)
+                    .map(Prepared::One)
             }
             Change::Hilite(button, card, hilite) => {
-                self.stack.open_hilite(button, card)?;
-                let entry = StackEntry::Hilite(button, card, Some(hilite));
-                Ok(Prepared::One(Entry::Stack(entry)))
+                self.prepare_hilite(button, card, hilite).map(Prepared::One)
             }
             Change::Prop(id, value) => Ok(Prepared::One(Entry::Stack(StackEntry::Prop(id, value)))),
             Change::Current(card) => Ok(Prepared::One(Entry::Current(card))),
-            Change::NewCard => Ok(Prepared::Several(self.prepare_new_card(alloc)?)),
-            Change::NewBackground => Ok(Prepared::Several(self.prepare_new_background(alloc)?)),
+            Change::NewCard => self.prepare_new_card(alloc).map(Prepared::Several),
+            Change::NewBackground => self.prepare_new_background(alloc).map(Prepared::Several),
             Change::NewPart(layer, kind) => {
-                Ok(Prepared::Several(self.prepare_new_part(alloc, layer, kind)?))
+                self.prepare_new_part(alloc, layer, kind)
+                    .map(Prepared::Several)
             }
-            Change::DeleteCard => Ok(Prepared::Several(self.prepare_deletion(alloc)?)),
+            Change::DeleteCard => self.prepare_deletion(alloc).map(Prepared::Several),
         }
     }
 
@@ -202,10 +230,7 @@ impl<E: External> Present<E> {
     {
         let next = self.stack.next_id();
         let made = prepare_new_card(alloc, &mut self.stack, self.current)?;
-        let mut entries = Vec::new(alloc);
-        add_each(&mut entries, made)?;
-        entries.push(Entry::Current(next))?;
-        Ok(entries)
+        entries_with_current(alloc, made, next)
     }
 
     /// The entries of a new background and its card.
@@ -217,10 +242,7 @@ impl<E: External> Present<E> {
     {
         let next = self.stack.next_id();
         let made = prepare_new_background(alloc, &mut self.stack, self.current)?;
-        let mut entries = Vec::new(alloc);
-        add_each(&mut entries, made)?;
-        entries.push(Entry::Current(next + 1))?;
-        Ok(entries)
+        entries_with_current(alloc, made, next + 1)
     }
 
     /// The entries of a new part.
@@ -236,9 +258,7 @@ impl<E: External> Present<E> {
         ensures grows { Grows self.old self.new }
     {
         let made = prepare_new_part(alloc, &mut self.stack, layer, kind)?;
-        let mut entries = Vec::new(alloc);
-        add_each(&mut entries, made)?;
-        Ok(entries)
+        stack_entries(alloc, made)
     }
 
     /// The entries of the current card's deletion.
@@ -250,10 +270,7 @@ impl<E: External> Present<E> {
     {
         let next = following_card(&self.stack, self.current);
         let gone = prepare_deletion(alloc, &mut self.stack, self.current)?;
-        let mut entries = Vec::new(alloc);
-        entries.push(Entry::Current(next))?;
-        add_each(&mut entries, gone)?;
-        Ok(entries)
+        current_with_entries(alloc, next, gone)
     }
 
     /// Gives an external one turn.
@@ -429,6 +446,43 @@ impl<E: External> Present<E> {
         } = self;
         externals
     }
+}
+
+/// Entries of the stack, as a list of entries.
+fn stack_entries(alloc: Global, made: Vec<StackEntry>) -> Result<Vec<Entry>, AllocError>
+    ensures { IfOk result (λ entries. entries.items ≡ map (λ e. Entry.Stack e) made.items) }
+{
+    let mut entries = Vec::new(alloc);
+    add_each(&mut entries, made)?;
+    Ok(entries)
+}
+
+/// Entries of the stack, and then that of the card that becomes current.
+fn entries_with_current(
+    alloc: Global,
+    made: Vec<StackEntry>,
+    current: Id,
+) -> Result<Vec<Entry>, AllocError>
+    ensures { IfOk result (λ entries. entries.items ≡ map (λ e. Entry.Stack e) made.items ++ Entry.Current current ∷ []) }
+{
+    let mut entries = Vec::new(alloc);
+    add_each(&mut entries, made)?;
+    entries.push(Entry::Current(current))?;
+    Ok(entries)
+}
+
+/// The entry of the card that becomes current, and then entries of the stack.
+fn current_with_entries(
+    alloc: Global,
+    current: Id,
+    gone: Vec<StackEntry>,
+) -> Result<Vec<Entry>, AllocError>
+    ensures { IfOk result (λ entries. entries.items ≡ Entry.Current current ∷ map (λ e. Entry.Stack e) gone.items) }
+{
+    let mut entries = Vec::new(alloc);
+    entries.push(Entry::Current(current))?;
+    add_each(&mut entries, gone)?;
+    Ok(entries)
 }
 
 /// Adds entries of the stack.

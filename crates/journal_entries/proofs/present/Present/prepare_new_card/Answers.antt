@@ -1,4 +1,5 @@
 use Rattle.std.proofs.Common.{◌≡◌, ◌++◌, [], ◌∷◌, map, refl, sym, ap, ◌∙◌, subst}
+use Rattle.std.proofs.lemmas.Result.{IfOk-weaker}
 use Rattle.structural_changes.specs.Prepared.{Adds}
 use Rattle.structural_changes.specs.Writes.{writes_of_new_card}
 use Rattle.journal_entries.specs.declared.entry.Entry.TheVariants.{Current, Stack}
@@ -12,8 +13,5 @@ returns-clause-entries g c =
     let made = c.in_ok-made.made.items in
     let same = c.prepare_new_card.ensures.opens.content in
     let next = c.next_id-next.ensures ∙ ap (λ s. s.next) (sym same) in
-    let is : c.push.new.self.items ≡ map (λ e. Stack e) made ++ Current new.content.next ∷ [] =
-    c.in_ok-push.ensures.items
-    ∙ ap (λ l. l ++ Current c.next_id-next.result ∷ []) (c.in_ok-add_each.ensures ∙ ap (λ l. l ++ map (λ e. Stack e) made) c.new-entries.ensures.items)
-    ∙ ap (λ n. map (λ e. Stack e) made ++ Current n ∷ []) next in
-    rw is (prepares_new_card _ old new made refl (subst (λ s. Adds old new [] made (writes_of_new_card s c.self.inside.current)) (sym same) c.in_ok-made.ensures.entries))
+    let adds = subst (λ s. Adds old new [] made (writes_of_new_card s c.self.inside.current)) (sym same) c.in_ok-made.ensures.entries in
+    IfOk-weaker c.entries_with_current.result _ _ (λ entries is. let all : entries.items ≡ map (λ e. Stack e) made ++ Current new.content.next ∷ [] = is ∙ ap (λ n. map (λ e. Stack e) made ++ Current n ∷ []) next in rw all (prepares_new_card _ old new made refl adds)) c.entries_with_current.ensures
