@@ -5,22 +5,10 @@ use Rattle.ht_values.specs.Text.{same}
 use Rattle.journal_entries.specs.Exchange.{BatchView, back}
 use Rattle.journal_entries.proofs.Going.{shape-back}
 use Rattle.change_journal.specs.Batches.{Journal, open_of, history_of, IsSound}
-use Rattle.change_journal.proofs.States.{IsHistory-begun, IsHistory-rolled_back, IsHistory-unplugged}
+use Rattle.change_journal.proofs.States.{IsHistory-rolled_back, IsHistory-unplugged}
 
 abbrev pub empty_batch : ℕ → BatchView
 empty_batch number = record { number = number; entries = [] }
-
-pub IsSound-begun : (b : Journal) (number room more : ℕ) (o : Option BatchView) → o ≡ None → length b.batches < more → IsSound b room o → IsSound b more (Some (empty_batch number))
-IsSound-begun b number room more o none l sound =
-    let was = rw none at sound.history in
-    record {
-      within = sound.within;
-      few = sound.few;
-      some = sound.some;
-      ready = sound.ready;
-      opened = (tt, l);
-      history = IsHistory-begun (history_of b None) number was;
-    }
 
 -- the state that the open batch leads back to
 abbrev pub gone_back : Journal → BatchView → Journal

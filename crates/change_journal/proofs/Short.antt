@@ -5,8 +5,8 @@ use Rattle.std.specs.List.{list_any}
 use Rattle.stack_places.specs.Places.{property, field_text, button_hilite, whole, card_order, background_order, layer_parts, next_id}
 use Rattle.journal_entries.specs.Places.{Place, same_place, global, in_stack, current_card, cell}
 use Rattle.journal_entries.specs.Replaced.{Replacement, places_of}
-use Rattle.journal_entries.specs.Trails.{Mark, at, structural, turned, holds, mark_at, marked, IsOnce, AreAmong, IsShort, different}
-use Rattle.journal_entries.proofs.Trails.{short, same_place-same}
+use Rattle.journal_entries.specs.Trails.{Mark, at, structural, turned, holds, mark_at, marked, AreAmong}
+use Rattle.journal_entries.proofs.Trails.{same_place-same}
 use Rattle.change_journal.specs.Rising.{trail_after}
 
 -- each place that is replaced is one of these
@@ -44,7 +44,3 @@ placed (cell i c) p m = cc
 pub among-after : (ps : List Place) (rs : List Replacement) (trail : List Mark) → AreOf ps rs → AreAmong ps trail → AreAmong ps (trail_after rs trail)
 among-after ps [] trail of h = h
 among-after ps (r ∷ rs) trail of h = among-after ps rs (marked (mark_at r.place) trail) of.1 (among-marked ps (mark_at r.place) trail (λ p m. ap (λ q. list_any (same_place q) ps) (placed r.place p m) ∙ of.0) h)
-
--- the trail of what was replaced has few entries for its different places
-pub short-after : (rs : List Replacement) (trail : List Mark) → trail ≡ trail_after rs [] → IsOnce trail → IsShort trail (different (places_of rs))
-short-after rs trail is once = short trail (places_of rs) once (rw is (among-after (places_of rs) rs [] (of-own rs) tt))

@@ -17,9 +17,6 @@ AreStates-take ts (suc n) [] h = tt
 AreStates-take ts zero (s ∷ steps) h = tt
 AreStates-take ts (suc n) (s ∷ steps) h = (h.0, AreStates-take ts n steps h.1)
 
-pub IsHistory-begun : (h : History) (number : ℕ) → IsHistory h → IsHistory (begun h number)
-IsHistory-begun h number q = record { titles = q.titles; past = q.past; now = q.now; future = q.future; start = (q.now, tt) }
-
 pub IsHistory-committed : (h : History) (o : Open) → h.start ≡ Some o → IsHistory h → IsHistory (committed h)
 IsHistory-committed h o e q =
     let start = rw e at q.start in

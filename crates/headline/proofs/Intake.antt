@@ -15,7 +15,7 @@ use Rattle.session.specs.Splits.{IsLine, ended_lines, Splits}
 use Rattle.headline.specs.InputLines.{without_return, last_line}
 use Rattle.headline.specs.Saving.{Takes}
 use Rattle.session.specs.Standing.{Standing}
-use Rattle.headline.specs.Answering.{is_quit, Answered, OneMore, IsCut, Stands, Finishes, Quits, Breaks, Exceeds}
+use Rattle.headline.specs.Answering.{is_quit, Answered, OneMore, IsCut, Finishes, Quits, Breaks, Exceeds}
 use Rattle.headline.specs.Intake.{Reached, Broken}
 use Rattle.session.proofs.LineFeeds.{all-append, ended_lines-snoc}
 use Rattle.headline.proofs.Sessions.{mapped-snoc, last_line-some, Answered-snoc}
@@ -172,9 +172,6 @@ module _ (old : Standing × SeenDesk) (read written : List ℕ) (now : Standing 
     most = elim most [ inl h ↦ inl (sym r.lines_counted ∙ h) | inr h ↦ inr (sym r.bytes_counted ∙ h) ];
     close = close;
   }
-
-  pub reached_stands : Stands Takes old read written now
-  reached_stands = record { lines = r.lines; rest = r.rest; splits = r.splits; answers = r.answers }
 
   -- ---- the end of the input
 

@@ -8,7 +8,7 @@ use Rattle.ht_lex.specs.declared.key.TokenKind.{TokenKind}
 use Rattle.ht_lex.specs.declared.key.TokenKind.TheVariants as kind
 use Rattle.ht_values.specs.declared.word.ChunkKind.{ChunkKind}
 use Rattle.ht_values.specs.declared.word.PartKind.{PartKind}
-use Rattle.ht_lex.specs.Token.{Token, key, eol, first_kind, later}
+use Rattle.ht_lex.specs.Token.{Token, key, first_kind, later}
 use Rattle.ht_lex.specs.Token as token
 use Rattle.ht_values.specs.declared.operator.Op.{Op}
 use Rattle.ht_values.specs.declared.operator.Op.TheVariants as o
@@ -17,7 +17,7 @@ use Rattle.ht_values.specs.declared.operator.UnOp.TheVariants as un
 use Rattle.ht_values.specs.declared.word.Prop.{Prop}
 use Rattle.ht_grammar.specs.declared.vocabulary.Layer.{Layer}
 use Rattle.ht_grammar.specs.declared.vocabulary.Layer.TheVariants as layer
-use Rattle.ht_grammar.specs.Trees.{Expr, Exprs, Chunk, Which, Selector, Owner, Part, Ref, Count, none, more, kind_of_part}
+use Rattle.ht_grammar.specs.Trees.{Expr, Exprs, Chunk, Which, Selector, Owner, Part, Ref, Count, none, kind_of_part}
 use Rattle.ht_grammar.specs.Trees as t
 use Rattle.ht_grammar.specs.Depth.{depth, depths, chunk_depth, which_depth, selector_depth, owner_depth, part_depth, ref_depth, count_depth}
 use Rattle.ht_grammar.specs.Fronts.{LeadingOperator, infix_at, test_at, neither, leading_operator, equality, after_of, past_the, same_name, is_article, prop_front, short_of}
@@ -171,17 +171,6 @@ module _ (deeper : Level → Parser Expr) (d : ℕ) where
     ap (turn deeper d (chain_at deeper d 4 j) 4 x m) f
         ∙ step (chain_at deeper d 4 j) (ap (λ v. cond v (Some (t.unary op x, c)) None) (le-leb (depth x) d le)),
   )
-
-  primary_is_prefixed : {a c : List Token} {x : Expr} → Derives primary a x c → prefixed_at deeper d a ≡ primary_at deeper d a
-  unfolding prefixed_at factor_at
-  primary_is_prefixed e.number = refl
-  primary_is_prefixed e.quoted = refl
-  primary_is_prefixed (e.paren h) = refl
-  primary_is_prefixed e.constant = refl
-  primary_is_prefixed e.return_ = refl
-  primary_is_prefixed (e.call h) = refl
-  primary_is_prefixed e.call_bare = refl
-  primary_is_prefixed e.name = refl
 
   primary_is_factor : {a c : List Token} {x : Expr} → Derives primary a x c → factor_at deeper d a ≡ primary_at deeper d a
   unfolding factor_at

@@ -16,11 +16,6 @@ use Rattle.ht_grammar.specs.Expressions as e
 use Rattle.ht_grammar.specs.Reading.{Outcome, Parser, made, part_kind_by, unless_part, layer_by, referenced_layer, which_at, selector_at, owner_at, owner_by, owner_of_layer, fitting}
 use Rattle.ht_grammar.proofs.Steps.{became, making, tested}
 
--- the key of a layer's word
-pub key_of : Layer → Key
-key_of layer.Card = k.Card
-key_of layer.Background = k.Background
-
 unless : (o : Option TokenKind) (l : Option Layer) → part_kind_by o ≡ None → unless_part o l ≡ l
 unless None l f = refl
 unless (Some (kind.Key (k.Part p))) l f = cc

@@ -1,3 +1,2 @@
 pub mod Deeper
 pub mod Lists
-pub mod Texts

@@ -1,5 +1,5 @@
 -- Lists that a loop makes from the front, beside rules that make them from the back.
-use Rattle.std.proofs.Common.{◌≡◌, ◌≤◌, ℕ, max, List, [], ◌∷◌, ◌++◌, Option, Some, None, refl, ap, sym, ◌∙◌, append_assoc, arith}
+use Rattle.std.proofs.Common.{◌≡◌, ◌≤◌, ℕ, List, [], ◌∷◌, ◌++◌, Some, None, refl, ap, sym, append_assoc, arith}
 use Rattle.ht_grammar.specs.Statements.{Stmt, Stmts, stop, also, Handler, handler, Handlers, no_handlers, and_handler}
 use Rattle.ht_grammar.specs.Depth.{stmt_depth, stmts_depth, handlers_depth}
 use Rattle.ht_grammar.specs.Reading.{Outcome, made}
@@ -42,10 +42,6 @@ append_none (and_handler x xs) = ap (and_handler x) (append_none xs)
 pub made_handlers : (found : Handlers) (x : Handler) (o : Outcome Handlers) → made (append_handlers found) (made (and_handler x) o) ≡ made (append_handlers (with_handler found x)) o
 made_handlers found x None = refl
 made_handlers found x (Some p) = ap (λ hs. Some (hs, p.1)) (sym (append_with_handler found x p.0))
-
-pub made_none : (o : Outcome Handlers) → made (append_handlers no_handlers) o ≡ o
-made_none None = refl
-made_none (Some p) = refl
 
 pub handlers_fit : {d : ℕ} (xs : Handlers) (x : Handler) → handlers_depth xs ≤ d → handler_depth x ≤ d → handlers_depth (with_handler xs x) ≤ d
 handlers_fit no_handlers (handler k w ps ss) a b = omega (arith, a, b)

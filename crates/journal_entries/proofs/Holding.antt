@@ -1,7 +1,6 @@
 -- Whether the segment since the last structural entry has an entry of a place.
 use Rattle.std.proofs.Common.{◌≡◌, ℕ, zero, suc, ◌+◌, ◌<◌, Bool, true, false, not, ◌&&◌, ◌||◌, List, [], ◌∷◌, ◌++◌, length, get_or, drop, slice_get, Some, None, refl, sym, ap, ◌∙◌, arith, ◌-◌}
 use Rattle.std.specs.List.{list_any}
-use Rattle.std.proofs.lemmas.List.{drop_more}
 use Rattle.std.proofs.lemmas.List.Folds.{list_any_at}
 use Rattle.stack_places.proofs.Exchanging as stack
 use Rattle.journal_entries.specs.Exchange.{of_one_place, is_structural}
@@ -45,11 +44,6 @@ holds_one-drop e [] (suc i) h = h
 holds_one-drop e (f ∷ es) zero h = h
 holds_one-drop e (f ∷ es) (suc i) h = rw (holds_one-drop e es i h) refl
 
--- an entry of the place with no structural one behind it
-pub holds_one-here : (e : Entry) (es : List Entry) (i : ℕ) (f : Entry) → i < length es → f ≡ get_or es i f → list_any is_structural (drop (i + 1) es) ≡ false → holds_one e (drop (i + 1) es) ≡ false → of_one_place e f ≡ true → holds_one e es ≡ true
-holds_one-here e es i f l x none later same =
-    holds_one-drop e es i (ap (holds_one e) (drop_more es i f l ∙ ap (λ y. y ∷ drop (i + 1) es) (sym x)) ∙ rw (later, none, same) refl)
-
 -- the last entry is of the place
 pub holds_one-last : (e t : Entry) (es : List Entry) → slice_get es (length es - 1) ≡ Some t → of_one_place e t ≡ true → holds_one e es ≡ true
 holds_one-last e t [] is same = let never : None ≡ Some t → ⊥ = λ x. cc in absurd (never is)
@@ -57,9 +51,6 @@ holds_one-last e t (f ∷ []) is same = let here : f ≡ t = cc in rw here same
 holds_one-last e t (f ∷ g ∷ es) is same =
     let one_less : length (f ∷ g ∷ es) - 1 ≡ suc (length (g ∷ es) - 1) = omega arith in
     rw (holds_one-last e t (g ∷ es) (ap (slice_get (f ∷ g ∷ es)) (sym one_less) ∙ is) same) refl
-
-pub kept-held : (es : List Entry) (e t : Entry) → holds_one e es ≡ true → kept es e t ≡ es
-kept-held es e t h = rw h refl
 
 pub kept-new : (es : List Entry) (e t : Entry) → holds_one e es ≡ false → kept es e t ≡ es ++ t ∷ []
 kept-new es e t h = rw h refl

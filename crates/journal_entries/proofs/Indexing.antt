@@ -47,16 +47,6 @@ held-structural e t (f ∷ es) p = λ i. held-structural e t es p i || (not (any
 
 -- ---- what is known of the latest
 
-pub indexed-empty : (latest : PlaceKey → Option ℕ) → ((key : PlaceKey) → latest key ≡ None) → IsIndexed [] 0 latest
-indexed-empty latest none = record { held = λ e. by (key_of e); within = λ key i q. nothing (sym (none key) ∙ q); few = omega arith }
-  where
-    by : (o : Option PlaceKey) → false ≡ is_held 0 latest o
-    by None = refl
-    by (Some key) = ap (λ o. unwrap_or (option_map (λ i. leb 0 i) o) false) (sym (none key))
-
-    nothing : {i : ℕ} → None ≡ Some i → i < 0
-    nothing {i} q = let never : None ≡ Some i → ⊥ = λ x. cc in absurd (never q)
-
 keyed : (t : Entry) (key : PlaceKey) → key_of t ≡ Some key → is_structural t ≡ false
 unfolding is_structural stack_is_structural
 keyed (Global i v) key q = refl

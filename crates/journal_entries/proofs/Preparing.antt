@@ -1,22 +1,18 @@
 -- An entry for each change.
-use Rattle.std.proofs.Common.{◌≡◌, ◌∷◌, true, Bool, ℕ, ◌+◌, ◌<◌, List, [], length, get_or, refl, sym, subst, ap, ◌∙◌, Option, Some, option_map}
-use Rattle.std.specs.FinMap.{get}
+use Rattle.std.proofs.Common.{◌≡◌, ◌∷◌, true, Bool, ℕ, List, [], refl, sym, subst, ap, Some}
 use Rattle.std.specs.FinSet.{contains}
-use Rattle.object_table.specs.Maps.{put_option}
 use Rattle.object_table.specs.Setting.{may_set}
 use Rattle.object_table.specs.declared.property.PropValue.{PropValue}
-use Rattle.stack_places.specs.Places.{text, size_of}
 use Rattle.stack_places.specs.Exchange.{entry_weight as stack_weight, IsReady as IsStackReady}
 use Rattle.stack_places.specs.declared.entry.StackEntry.{StackEntry}
 use Rattle.stack_places.specs.declared.entry.StackEntry.TheVariants as stack_entries
-use Rattle.stack_places.proofs.Exchanging.{IsThere, puts, taken_weight, texts_back}
+use Rattle.stack_places.proofs.Exchanging.{IsThere, puts, taken_weight}
 use Rattle.structural_changes.specs.Prepared.{write_of}
 use Rattle.journal_entries.specs.State.{State}
 use Rattle.journal_entries.specs.Changes.{writes_of, makes_current}
 use Rattle.journal_entries.specs.declared.change.Change.{Change}
 use Rattle.journal_entries.specs.declared.entry.Entry.{Entry}
-use Rattle.journal_entries.specs.Places.{Write, global, in_the_stack, put}
-use Rattle.journal_entries.specs.Trails.{at}
+use Rattle.journal_entries.specs.Places.{Write, in_the_stack, put}
 use Rattle.journal_entries.specs.Exchange.{PresentView, shape_of, exchanged, taken, mark_of, entry_weight, IsReady}
 use Rattle.journal_entries.specs.Turning.{Prepares, IsNumbered, Carries, AreCarried}
 use Rattle.journal_entries.specs.declared.change.Change.TheVariants as changes
@@ -29,25 +25,10 @@ prepares_one h change w e ready numbered writes carries = record {
   carried = subst (λ ws. AreCarried h.names h.state ws (e ∷ [])) (sym writes) (numbered, carries, tt);
 }
 
-pub prepares_global : (h : PresentView) (i : ℕ) (name : List ℕ) (v : Option (List ℕ)) → i < length h.names → get_or h.names i [] ≡ name → ((j : ℕ) → j < length h.names → get_or h.names j [] ≡ get_or h.names i [] → j ≡ i) → Prepares h (changes.Global name v) (entries.Global i v ∷ [])
-unfolding exchanged taken mark_of entry_weight IsReady IsNumbered put
-prepares_global h i name v there named only =
-    prepares_one h (changes.Global name v) (record { place = global name; value = option_map (λ t. text t) v }) (entries.Global i v) there only refl
-    (record {
-      mark = ap (λ k. at (global k)) named;
-      state = ap (λ k. record h.state { globals = put_option h.state.globals k v }) named ∙ ap (λ w. record h.state { globals = put_option h.state.globals name w }) (sym (texts_back v));
-      forth = refl;
-      back = ap (λ k. 32 + size_of (option_map (λ t. text t) (get h.state.globals k))) named;
-    })
-
 -- the card that becomes the current one
 pub current_carried : (names : List (List ℕ)) (s : State) (card : ℕ) → Carries names s (makes_current card) (entries.Current card)
 unfolding exchanged taken mark_of entry_weight put
 current_carried names s card = record { mark = refl; state = refl; forth = refl; back = refl }
-
-pub prepares_current : (h : PresentView) (card : ℕ) → Prepares h (changes.Current card) (entries.Current card ∷ [])
-unfolding IsReady IsNumbered
-prepares_current h card = prepares_one h (changes.Current card) (makes_current card) (entries.Current card) tt tt refl (current_carried h.names h.state card)
 
 -- an entry of the stack
 pub stack_carried : (names : List (List ℕ)) (s : State) (e : StackEntry) → IsThere s.stack e → Carries names s (in_the_stack (write_of e)) (entries.Stack e)

@@ -6,8 +6,7 @@ use Rattle.std.specs.Cmp.{nat_cmp_total}
 use Rattle.std.specs.FinMap.{FinMap, empty, get, remove, len, empty_of_len, same_map, get-empty, get-remove, len-empty, len-remove, nat_cmp-IsAntisymmetric}
 use Rattle.std.proofs.lemmas.Bool.{cases_eq, false≢true}
 use Rattle.std.proofs.lemmas.Bool.Decides.{nat_tests}
-use Rattle.object_table.specs.Content.{Content}
-use Rattle.object_table.specs.Objects.{object_at, object_count, contains_id}
+use Rattle.object_table.specs.Objects.{contains_id}
 use Rattle.object_table.proofs.Slots.{tied_apart, tied_same}
 
 pub contains_id-head : (x : ℕ) (xs : List ℕ) → contains_id x (x ∷ xs) ≡ true
@@ -93,18 +92,3 @@ module _ {X : Type 0} where
             | inl e ↦ absurd (none_is_not_some (get (remove m x) id) (subst (λ n. get (remove m x) n ≡ None) e (get-remove_same m x)) h)
             | inr n ↦ contains_id-later id x xs n (listed id (sym (ap (λ o. is_some o) (get-remove_apart m x id n)) ∙ h))
           ]
-
--- ids of objects other than the stack, all apart, are at most as many as the objects
-pub length-le-object_count : (s : Content) (ids : List ℕ) → IsDistinct nat_eq ids → ((id : ℕ) → contains_id id ids ≡ true → (id ≢ 0) × IsSome (object_at s id)) → length ids ≤ object_count s
-length-le-object_count s ids once there = length-le-len (remove s.objects 0) ids once (λ id found. let h = there id found in ap (λ o. is_some o) (get-remove_apart s.objects 0 id (λ e. h.0 (sym e))) ∙ h.1)
-
--- objects that a list contains, the stack aside, are at most as many as it is long
-pub object_count-le-length : (s : Content) (ids : List ℕ) → ((id : ℕ) → id ≢ 0 → IsSome (object_at s id) → contains_id id ids ≡ true) → object_count s ≤ length ids
-object_count-le-length s ids listed = len-le-length (remove s.objects 0) ids by
-  where
-    by : (id : ℕ) → IsSome (get (remove s.objects 0) id) → contains_id id ids ≡ true
-    by id h =
-        elim (cases_eq 0 id) [
-          | inl e ↦ absurd (none_is_not_some (get (remove s.objects 0) id) (subst (λ n. get (remove s.objects 0) n ≡ None) e (get-remove_same s.objects 0)) h)
-          | inr n ↦ listed id (λ e. n (sym e)) (sym (ap (λ o. is_some o) (get-remove_apart s.objects 0 id n)) ∙ h)
-        ]

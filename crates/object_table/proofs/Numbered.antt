@@ -1,9 +1,9 @@
 -- The number of an id leads back to it.
-use Rattle.std.proofs.Common.{◌≡◌, ◌==◌, ℕ, ◌+◌, ◌-◌, true, cond, List, get_or, refl, ap, ◌∙◌, arith, Option, Some, None, IfSome, option_map, position, slice_get}
+use Rattle.std.proofs.Common.{◌≡◌, ◌==◌, ℕ, ◌+◌, ◌-◌, true, cond, List, get_or, ap, ◌∙◌, arith, Option, Some, None, position, slice_get}
 use Rattle.std.proofs.lemmas.Bool.Decides.{nat_tests}
 use Rattle.std.proofs.lemmas.List.Quantifiers.{position-Some}
 use Rattle.std.proofs.lemmas.Option.{slice_get-get_or}
-use Rattle.object_table.specs.Numbers.{at_number, number_in}
+use Rattle.object_table.specs.Numbers.{at_number}
 
 same_number : (a b : ℕ) → (a == b) ≡ true → a ≡ b
 same_number a b h = grind (arith, nat_tests)
@@ -15,10 +15,3 @@ pub at_number-position : (ids : List ℕ) (id i : ℕ) → position (λ x. x == 
 at_number-position ids id i found =
     let there = position-Some (λ x. x == id) ids i 0 found in
     at_next i (λ k. slice_get ids k) ∙ slice_get-get_or ids i 0 there.0 ∙ ap (λ x. Some x) (same_number (get_or ids i 0) id there.1)
-
-pub at_number-number_in : (ids : List ℕ) (id : ℕ) → IfSome (number_in id ids) (λ number. at_number ids number ≡ Some id)
-at_number-number_in ids id = by (position (λ x. x == id) ids) refl
-  where
-    by : (o : Option ℕ) → position (λ x. x == id) ids ≡ o → IfSome (option_map (λ i. i + 1) o) (λ number. at_number ids number ≡ Some id)
-    by None e = tt
-    by (Some i) e = at_number-position ids id i e

@@ -177,9 +177,6 @@ below le = grind (arith, le)
 pub at_least : {a b : ℕ} → b ≤ a → nat_lt a b ≡ false
 at_least le = grind (arith, le)
 
-pub at_limit : {d : ℕ} → d ≡ 100 → nat_lt d 100 ≡ false
-at_limit is = grind (arith, is)
-
 pub gives_outcome : {g : Sight} {w : History} {out : Outcome} {v : List ℕ} {r : RunState} → out
     ≡ record { value = v; run = r } → Comes g w (λ parts. gave (sight g w) out) (told (Ok v) (sight g w) r) w
 gives_outcome {g} {w} {out} {v} {r} is = is_done (λ parts. ap (gave (sight g w)) is)

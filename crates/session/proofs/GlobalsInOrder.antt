@@ -1,5 +1,5 @@
 -- Globals in the order of their names.
-use Rattle.std.proofs.Common.{◌≡◌, ◌≢◌, ℕ, zero, suc, ◌+◌, ◌<◌, ◌≤◌, false, Option, option_map, take_all, List, [], ◌∷◌, ◌++◌, length, map, take, get_or, refl, sym, ◌∙◌, ap, arith, add-one}
+use Rattle.std.proofs.Common.{◌≡◌, ◌≢◌, ℕ, zero, suc, ◌+◌, ◌<◌, false, Option, option_map, List, [], ◌∷◌, ◌++◌, length, map, take, get_or, refl, sym, ◌∙◌, ap, arith, add-one}
 use Rattle.std.specs.Prelude.{Some, None, slice_get}
 use Rattle.std.specs.Borrow.{Bor}
 use Rattle.std.specs.BTreeMap.{insert_entry}
@@ -114,7 +114,3 @@ place_none ns m i lt e = by (get m (get_or ns i [])) refl
     by : (o : Option (List ℕ)) → get m (get_or ns i []) ≡ o → place ns m (i + 1) ≡ place ns m i
     by None q = rw add-one (place_more ns m i lt ∙ ap (λ o. place ns m i + one o) q ∙ omega arith)
     by (Some w) q = let none : None ≡ Some (get_or ns i [], w) → ⊥ = λ x. cc in absurd (none (e ∙ ap (option_map (λ x. (get_or ns i [], x))) q))
-
--- all of them
-pub place_all : (ns : List (List ℕ)) (m : Globals) (i : ℕ) → length ns ≤ i → take (place ns m i) (listed ns m) ≡ listed ns m
-place_all ns m i le = ap (λ xs. take (length (listed xs m)) (listed ns m)) (take_all i ns le) ∙ take_all (length (listed ns m)) (listed ns m) (omega arith)

@@ -5,7 +5,6 @@ pub mod LineFeeds
 pub mod Moving
 pub mod Opened
 pub mod Performing
-pub mod Refusing
 pub mod Spaces
 pub mod Stamping
 pub mod Unread

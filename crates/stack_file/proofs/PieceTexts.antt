@@ -1,5 +1,5 @@
 -- Pieces that are read one after the other into one text.
-use Rattle.std.proofs.Common.{◌≡◌, ℕ, zero, suc, ◌+◌, ◌-◌, ◌<◌, ◌≤◌, List, [], ◌∷◌, ◌++◌, length, Result, Ok, Err, refl, sym, ap, ◌∙◌, arith, append_assoc, add-one, is_some, IsSome, true, false, true≢false, leb}
+use Rattle.std.proofs.Common.{◌≡◌, ℕ, suc, ◌+◌, ◌-◌, ◌<◌, ◌≤◌, List, [], ◌∷◌, ◌++◌, length, Result, Ok, Err, refl, sym, ap, ◌∙◌, arith, append_assoc, add-one, is_some, IsSome, true, false, true≢false, leb}
 use Rattle.std.specs.Prelude.{Bool, Option, Some, None, codes, ◌==◌}
 use Rattle.std.specs.Option.{option_to_list}
 use Rattle.std.specs.List.{join_with_byte}
@@ -40,17 +40,6 @@ fail alone m room text start f e = ap (λ (o : Result (List ℕ × Position) Fil
 pub piece-fail : (alone : Bool) (n m room : ℕ) (text : List ℕ) (start : Position) (e : ReadError) → n ≡ m + 1 → Fails e (line_after (codes "|") (piece_at alone room) start) → Fails e (with_text text (pieces_at alone n room start))
 piece-fail alone n m room text start errors.Memory is h = tt
 piece-fail alone n m room text start (errors.File f) is h = rw (is, add-one) (fail alone m room text start f h)
-
-pub piece-none : (alone : Bool) (n room : ℕ) (text : List ℕ) (start : Position) → n ≡ 0 → with_text text (pieces_at alone n room start) ≡ Ok (text, start)
-piece-none alone zero room text start e = ap (λ (t : List ℕ). let x : Result (List ℕ × Position) FileError = Ok (t, start) in x) (append-nil text)
-piece-none alone (suc n) room text start e = absurd (omega arith)
-
-pub ended_at-is : (count : ℕ) (start : Position) → ended_at count start ≡ with_text [] (pieces_at (count == 1) count 30001 start)
-ended_at-is count start = by (pieces_at (count == 1) count 30001 start)
-  where
-    by : (r : Result (List (List ℕ) × Position) FileError) → chain r (λ ps. give (ended 13 ps)) ≡ with_text [] r
-    by (Ok p) = refl
-    by (Err e) = refl
 
 -- ---- without the return behind the last
 

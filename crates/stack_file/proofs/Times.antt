@@ -1,8 +1,8 @@
 -- Readings in a row, one after the other.
-use Rattle.std.proofs.Common.{◌≡◌, ℕ, zero, suc, ◌+◌, List, [], ◌∷◌, ◌++◌, map, refl, sym, ◌∙◌, ap, arith, append_assoc, add-one}
+use Rattle.std.proofs.Common.{◌≡◌, ℕ, suc, ◌+◌, List, [], ◌∷◌, ◌++◌, map, refl, sym, ap, append_assoc, add-one}
 use Rattle.std.specs.Prelude.{Result, Ok, Err}
-use Rattle.std.proofs.lemmas.List.{append-nil, map-append}
-use Rattle.stack_text.specs.Reading.{Position, Reader, chain, give, times, for_each, Fails}
+use Rattle.std.proofs.lemmas.List.{map-append}
+use Rattle.stack_text.specs.Reading.{Position, Reader, chain, give, times, Fails}
 use Rattle.stack_text.specs.declared.fault.FileError.{FileError}
 use Rattle.stack_text.specs.declared.fault.ReadError.{ReadError}
 use Rattle.stack_text.specs.declared.fault.ReadError.TheVariants as errors
@@ -21,32 +21,6 @@ go r m front start after x e = rw e (onto front x (times m r after))
 
 pub times-step : {A : Type 0} (r : Reader A) (n m : ℕ) (front : List A) (start after : Position) (x : A) → n ≡ m + 1 → r start ≡ Ok (x, after) → with_front front (times n r start) ≡ with_front (front ++ x ∷ []) (times m r after)
 times-step r n m front start after x is e = rw (is, add-one) (go r m front start after x e)
-
-fail : {A : Type 0} (r : Reader A) (m : ℕ) (front : List A) (start : Position) (f : FileError) → r start ≡ Err f → with_front front (times (suc m) r start) ≡ Err f
-fail r m front start f e = rw e refl
-
-pub times-fail : {A : Type 0} (r : Reader A) (n m : ℕ) (front : List A) (start : Position) (e : ReadError) → n ≡ m + 1 → Fails e (r start) → Fails e (with_front front (times n r start))
-times-fail r n m front start errors.Memory is h = tt
-times-fail r n m front start (errors.File f) is h = rw (is, add-one) (fail r m front start f h)
-
-pub times-none : {A : Type 0} (r : Reader A) (n : ℕ) (front : List A) (start : Position) → n ≡ 0 → with_front front (times n r start) ≡ Ok (front, start)
-times-none r zero front start e = ap (λ t. Ok (t, start)) (append-nil front)
-times-none r (suc n) front start e = absurd (omega arith)
-
-pub Fails-along : {Y : Type 0} (e : ReadError) (a b : Result Y FileError) → a ≡ b → Fails e a → Fails e b
-Fails-along errors.Memory a b is h = tt
-Fails-along (errors.File f) a b is h = sym is ∙ h
-
--- the same for each member of a list
-pub for_each-step : {A B : Type 0} (r : A → Reader B) (a : A) (as' : List A) (front : List B) (start after : Position) (x : B) → r a start ≡ Ok (x, after) → with_front front (for_each (a ∷ as') r start) ≡ with_front (front ++ x ∷ []) (for_each as' r after)
-for_each-step r a as' front start after x e = rw e (onto front x (for_each as' r after))
-
-pub for_each-fail : {A B : Type 0} (r : A → Reader B) (a : A) (as' : List A) (front : List B) (start : Position) (e : ReadError) → Fails e (r a start) → Fails e (with_front front (for_each (a ∷ as') r start))
-for_each-fail r a as' front start errors.Memory h = tt
-for_each-fail r a as' front start (errors.File f) h = rw h refl
-
-pub for_each-none : {A B : Type 0} (r : A → Reader B) (front : List B) (start : Position) → with_front front (for_each [] r start) ≡ Ok (front, start)
-for_each-none r front start = ap (λ t. Ok (t, start)) (append-nil front)
 
 -- One more is read, of which the definitions see a view.
 pub times-push : {X A : Type 0} (view : X → A) (r : Reader A) (n m : ℕ) (xs more : List X) (start after : Position) (x : X) → n ≡ m + 1 → r start ≡ Ok (view x, after) → more ≡ xs ++ x ∷ []

@@ -153,11 +153,6 @@ place_of-taken s (BackgroundOrder l) = refl
 place_of-taken s (Parts layer v) = refl
 place_of-taken s (NextId n) = refl
 
-pub is_structural-taken : (s : Content) (e : StackEntry) → is_structural (taken s e) ≡ is_structural e
-unfolding taken is_structural
-is_structural-taken s (Prop id v) = refl
-is_structural-taken s _ = refl
-
 -- ---- two entries
 
 pub structural_apart : (e f : StackEntry) → is_structural f ≡ true → of_one_place e f ≡ false

@@ -82,9 +82,6 @@ next_line-again n used rest line e =
     let one : drop (length line + 1) (line ++ 10 ∷ rest) ≡ rest = ap (λ (b : List ℕ). drop (length line + 1) b) (sym (append_assoc line (10 ∷ []) rest)) ∙ drop_at (line ++ 10 ∷ []) rest (length line + 1) (length-append line (10 ∷ [])) in
     rw (found_at 10 line rest e, take_at line (10 ∷ rest) (length line) len, one) refl
 
-pub next_line-reads : Reads next_line (λ used line. has 10 line ≡ false) (λ line. line ∷ []) (λ line. [])
-next_line-reads = record { found = next_line-found; again = λ n used rest line h. next_line-again n used rest line h }
-
 -- ---- a key, and then a word
 
 -- The form reads the words of which this holds, each from its own spelling, and no others; none has a line feed.

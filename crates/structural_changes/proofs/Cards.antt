@@ -190,9 +190,6 @@ module _ (s : Content) (w : IsFormed s) (background place : ℕ) (live : has_kin
   texts_there : (f c : ℕ) → is_some (text_at now f c) ≡ keeps_text now f c
   texts_there f c = ap is_some (get-filled_for s.texts (ids_where s (is_part_of is_background_field s background)) s.next [] (f, c)) ∙ by (nat_eq c s.next) refl ∙ sym (keeps_text-now f c)
     where
-      fields : List ℕ
-      fields = ids_where s (is_part_of is_background_field s background)
-
       given : (a : Bool) → is_some (cond (a && true) (Some []) (text_at s f s.next)) ≡ a
       given true = refl
       given false = no_text f

@@ -1,5 +1,5 @@
 -- Entries that are added.
-use Rattle.std.proofs.Common.{◌≡◌, ℕ, ◌≤◌, ◌++◌, List, [], ◌∷◌, map, refl, sym, ap, ◌∙◌, subst, append_assoc, append-nil, arith}
+use Rattle.std.proofs.Common.{◌≡◌, ℕ, ◌++◌, List, [], ◌∷◌, map, refl, sym, ap, ◌∙◌, subst, append_assoc}
 use Rattle.std.proofs.lemmas.List.{map-append}
 use Rattle.std.specs.List.{AllByRecursion}
 use Rattle.object_table.specs.Table.{Table}
@@ -36,9 +36,6 @@ IsWider-then a b c v w = record {
   hilites = λ p h. w.hilites p (v.hilites p h);
 }
 
-pub adds_nothing : (t : Table) (es : List StackEntry) → Adds t t es es []
-adds_nothing t es = record { content = refl; wider = IsWider-same t.room; written = sym (append-nil (map write_of es)); ready = λ h. h }
-
 pub adds_then : (a b c : Table) (es fs gs : List StackEntry) (ws vs : List StackWrite) → Adds a b es fs ws → Adds b c fs gs vs → Adds a c es gs (ws ++ vs)
 adds_then a b c es fs gs ws vs one two = record {
   content = two.content ∙ one.content;
@@ -51,12 +48,6 @@ adds_then a b c es fs gs ws vs one two = record {
 
 pub opens_nothing : (t : Table) → Opens t t
 opens_nothing t = record { content = refl; wider = IsWider-same t.room }
-
-pub opens_then : (a b c : Table) → Opens a b → Opens b c → Opens a c
-opens_then a b c one two = record { content = two.content ∙ one.content; wider = IsWider-then a.room b.room c.room one.wider two.wider }
-
-pub opens_added : (a b : Table) (es fs : List StackEntry) (ws : List StackWrite) → Adds a b es fs ws → Opens a b
-opens_added a b es fs ws adds = record { content = adds.content; wider = adds.wider }
 
 pub opens_slot : (old new : Table) (id : ℕ) → new ≡ record old { room = record old.room { slots = insert old.room.slots id } } → Opens old new
 opens_slot old new id e = record { content = ap (λ t. t.content) e; wider = subst (λ t. IsWider old.room t.room) (sym e) (IsWider-slot old.room id) }

@@ -41,10 +41,6 @@ pub total-zero : (xs : List ℕ) → total (λ x. 0) xs ≡ 0
 total-zero [] = refl
 total-zero (x ∷ xs) = let rest = total-zero xs in omega arith
 
--- a sum in which one id gives one more
-pub total-one_more : (g : ℕ → ℕ) (id : ℕ) (xs : List ℕ) → total (λ x. g x + one_if (nat_eq x id)) xs ≡ total g xs + tally id xs
-total-one_more g id xs = total-plus g (λ x. one_if (nat_eq x id)) xs
-
 pub total-insert_after : (g : ℕ → ℕ) (place id : ℕ) (xs : List ℕ) → total g (insert_after place id xs) ≡ g id + total g xs
 total-insert_after g place id [] = refl
 total-insert_after g place id (x ∷ xs) = by (total-insert_after g place id xs) (nat_eq x place)
