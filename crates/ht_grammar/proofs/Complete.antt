@@ -1,5 +1,6 @@
 -- What is in the grammar is read: expressions and references.
 use Rattle.std.proofs.Common.{◌≡◌, ℕ, zero, suc, ◌+◌, ◌<◌, ◌≤◌, inl, inr, List, [], ◌∷◌, length, Bool, true, false, Option, Some, None, cond, codes, ◌||◌, nat_eq, nat_le, refl, sym, ap, ◌∙◌, subst, arith}
+use Rattle.std.proofs.lemmas.Option.{none-some}
 use Rattle.std.proofs.lemmas.Bool.{le-leb}
 use Rattle.std.proofs.lemmas.Bool.Decides.{nat_tests}
 use Rattle.ht_lex.specs.declared.key.Key.{Key}
@@ -270,7 +271,7 @@ module _ (deeper : Level → Parser Expr) (d : ℕ) where
   unfolding factor_at prop_front
   property_goes (token.name w ∷ ts) p f = plain_goes w ts (prop_plain w ts p f) ∙ ap (λ o. prop_or deeper d o w (token.name w ∷ ts)) f
   property_goes (key k.Id ∷ ts) p f = ap (λ o. property_by deeper d o (key k.Id ∷ ts)) f
-  property_goes m p f = cc
+  property_goes m p f = absurd (none-some _ f)
 
   -- the property of an object, after the words that name it
   property_end : (p : Prop) (m : List Token) {a : List Token} {r : Ref} {c : List Token} → after_of (later m) ≡ Some a → inner_ref deeper d a ≡ Some (r, c) → property_by deeper d (Some p) m ≡ Some (t.property p r, c)
@@ -279,7 +280,7 @@ module _ (deeper : Level → Parser Expr) (d : ℕ) where
   piece_stops : (p : ChunkKind) (i : Expr) (m : List Token) {b : List Token} → after_of m ≡ Some b → piece_by deeper d (first_kind m) p i m ≡ Some (t.piece p i, m)
   piece_stops p i (key k.Of ∷ ts) o = refl
   piece_stops p i (key k.In ∷ ts) o = refl
-  piece_stops p i m o = cc
+  piece_stops p i m o = absurd (none-some _ o)
 
   object_is_counted : {a c : List Token} {r : Ref} → DerivesRef a r c → count_at deeper d a ≡ made t.of_object (inner_ref deeper d a)
   unfolding count_at

@@ -1,5 +1,7 @@
 -- What may stand after statements and their parts.
-use Rattle.std.proofs.Common.{◌≡◌, ℕ, ◌<◌, List, [], ◌∷◌, Bool, true, false, Some, None, refl, arith}
+use Rattle.std.proofs.Common.{◌≡◌, ℕ, ◌<◌, List, [], ◌∷◌, Bool, true, false, Some, None, refl, sym, subst, arith}
+use Rattle.std.proofs.lemmas.Option.{none-some}
+use Rattle.std.proofs.lemmas.Bool.{false≢true}
 use Rattle.ht_lex.specs.declared.key.Key.{Key}
 use Rattle.ht_lex.specs.declared.key.Key.TheVariants as k
 use Rattle.ht_lex.specs.Token.{Token, key, eol, first_kind, later}
@@ -25,64 +27,68 @@ unfolding tie leading_operator
 stop_loose [] f = omega arith
 stop_loose (eol ∷ ts) f = omega arith
 stop_loose (key k.Else ∷ ts) f = omega arith
-stop_loose c f = cc
+stop_loose c f = absurd (false≢true f)
 
 pub stop_no_expr : (c : List Token) → stops c ≡ true → begins_expr (first_kind c) ≡ false
 stop_no_expr [] f = refl
 stop_no_expr (eol ∷ ts) f = refl
 stop_no_expr (key k.Else ∷ ts) f = refl
-stop_no_expr c f = cc
+stop_no_expr c f = absurd (false≢true f)
 
 pub stop_no_comma : (c : List Token) → stops c ≡ true → is_comma c ≡ false
 stop_no_comma [] f = refl
 stop_no_comma (eol ∷ ts) f = refl
 stop_no_comma (key k.Else ∷ ts) f = refl
-stop_no_comma c f = cc
+stop_no_comma c f = absurd (false≢true f)
 
 pub stop_no_place : (d : ℕ) (x : Context) (c : List Token) → stops c ≡ true → place_front d x (first_kind c) ≡ None
 stop_no_place d x [] f = refl
 stop_no_place d x (eol ∷ ts) f = refl
 stop_no_place d x (key k.Else ∷ ts) f = refl
-stop_no_place d x c f = cc
+stop_no_place d x c f = absurd (false≢true f)
 
 pub stop_no_layer : (c : List Token) → stops c ≡ true → layer_by (first_kind c) ≡ None
 stop_no_layer [] f = refl
 stop_no_layer (eol ∷ ts) f = refl
 stop_no_layer (key k.Else ∷ ts) f = refl
-stop_no_layer c f = cc
+stop_no_layer c f = absurd (false≢true f)
 
 pub ended_stops : (c : List Token) {l : List Token} → ended c ≡ Some l → stops c ≡ true
 unfolding ended
 ended_stops [] f = refl
 ended_stops (eol ∷ ts) f = refl
-ended_stops c f = cc
+ended_stops c f = absurd (none-some _ f)
 
 pub else_stops : (c : List Token) {l : List Token} → past_ends c ≡ key k.Else ∷ l → stops c ≡ true
 else_stops [] f = cc
 else_stops (eol ∷ ts) f = refl
 else_stops (key k.Else ∷ ts) f = refl
-else_stops c f = cc
+else_stops c f = subst (λ d. stops d ≡ true) (sym f) refl
+
+loose_then : (ts : List Token) → 9 < tie (key k.Then ∷ ts)
+unfolding tie leading_operator
+loose_then ts = omega arith
 
 pub then_loose : (c : List Token) {l : List Token} → past_ends c ≡ key k.Then ∷ l → 9 < tie c
 unfolding tie leading_operator
 then_loose [] f = cc
 then_loose (eol ∷ ts) f = omega arith
 then_loose (key k.Then ∷ ts) f = omega arith
-then_loose c f = cc
+then_loose c {l} f = subst (λ d. 9 < tie d) (sym f) (loose_then l)
 
 pub place_loose : (h : Key) {w : Where} (ts : List Token) → place_of h ≡ Some w → 9 < tie (key h ∷ ts)
 unfolding tie leading_operator
 place_loose k.Into ts f = omega arith
 place_loose k.Before ts f = omega arith
 place_loose k.After ts f = omega arith
-place_loose h ts f = cc
+place_loose h ts f = absurd (none-some _ f)
 
 pub times_loose : (c : List Token) {l : List Token} → ended (past_times c) ≡ Some l → 9 < tie c
 unfolding tie leading_operator ended past_times
 times_loose [] f = omega arith
 times_loose (eol ∷ ts) f = omega arith
 times_loose (token.name w ∷ ts) f = omega arith
-times_loose c f = cc
+times_loose c f = absurd (none-some _ f)
 
 pub loose_from : (ts : List Token) → 9 < tie (key k.From ∷ ts)
 unfolding tie leading_operator

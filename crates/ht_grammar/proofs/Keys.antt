@@ -1,5 +1,6 @@
 -- Tests of the first token, and what they tell of the tokens.
 use Rattle.std.proofs.Common.{◌≡◌, List, ◌∷◌, true, Option, Some, None, refl}
+use Rattle.std.proofs.lemmas.Bool.{false≢true}
 use Rattle.ht_lex.specs.declared.key.Key.{Key}
 use Rattle.ht_lex.specs.declared.key.Key.TheVariants as k
 use Rattle.ht_lex.specs.Token.{Token, key, first_kind, later, is_key}
@@ -14,47 +15,47 @@ Recognizes h = (ts : List Token) → is_key h (first_kind ts) ≡ true → ts �
 pub then_key : Recognizes k.Then
 unfolding is_key
 then_key (key k.Then ∷ ts) e = refl
-then_key ts e = cc
+then_key ts e = absurd (false≢true e)
 
 pub else_key : Recognizes k.Else
 unfolding is_key
 else_key (key k.Else ∷ ts) e = refl
-else_key ts e = cc
+else_key ts e = absurd (false≢true e)
 
 pub if_key : Recognizes k.If
 unfolding is_key
 if_key (key k.If ∷ ts) e = refl
-if_key ts e = cc
+if_key ts e = absurd (false≢true e)
 
 pub end_key : Recognizes k.End
 unfolding is_key
 end_key (key k.End ∷ ts) e = refl
-end_key ts e = cc
+end_key ts e = absurd (false≢true e)
 
 pub repeat_key : Recognizes k.Repeat
 unfolding is_key
 repeat_key (key k.Repeat ∷ ts) e = refl
-repeat_key ts e = cc
+repeat_key ts e = absurd (false≢true e)
 
 pub to_key : Recognizes k.To
 unfolding is_key
 to_key (key k.To ∷ ts) e = refl
-to_key ts e = cc
+to_key ts e = absurd (false≢true e)
 
 pub from_key : Recognizes k.From
 unfolding is_key
 from_key (key k.From ∷ ts) e = refl
-from_key ts e = cc
+from_key ts e = absurd (false≢true e)
 
 pub by_key : Recognizes k.By
 unfolding is_key
 by_key (key k.By ∷ ts) e = refl
-by_key ts e = cc
+by_key ts e = absurd (false≢true e)
 
 pub equal_key : Recognizes k.Equal
 unfolding is_key
 equal_key (key k.Equal ∷ ts) e = refl
-equal_key ts e = cc
+equal_key ts e = absurd (false≢true e)
 
 -- What came after a key.
 pub keyed : {A : Type 0} {h : Key} → Recognizes h → (f : Parser A) (ts : List Token) {q : A × List Token} (P : Type 0) → after_key h f ts ≡ Some q → ((c : List Token) → ts ≡ key h ∷ c → f c ≡ Some q → P) → P

@@ -1,5 +1,6 @@
 -- The look-ahead after a part: an owner is read exactly where the grammar has one.
 use Rattle.std.proofs.Common.{◌≡◌, ℕ, suc, List, ◌∷◌, Option, Some, None, refl, nat_le}
+use Rattle.std.proofs.lemmas.Option.{none-some}
 use Rattle.ht_lex.specs.declared.key.Key.{Key}
 use Rattle.ht_lex.specs.declared.key.Key.TheVariants as k
 use Rattle.ht_lex.specs.declared.key.TokenKind.{TokenKind}
@@ -76,7 +77,10 @@ module _ (deeper : Level → Parser Expr) (d : ℕ) (good : (p : Level) (ts : Li
   card_sound (key k.Card ∷ ts) q l same = making t.which (which_at deeper d ts) (λ q. DerivesSelector k.Card (key k.Card ∷ ts) q.0 q.1) same (λ p h. e.which (which_sound ts p h))
   card_sound (key k.Background ∷ ts) q l same = let h : Some layer.Background ≡ Some layer.Card = unless_some (first_kind ts) (Some layer.Background) layer.Card l in cc
   card_sound (key (k.Ordinal n) ∷ ts) q l same = let h : layer_by (first_kind ts) ≡ Some layer.Card = unless_some (first_kind (later ts)) (layer_by (first_kind ts)) layer.Card l in cc
-  card_sound ts q l same = cc
+  card_sound (key k.This ∷ key k.Background ∷ ts) q l same = cc
+  card_sound (key k.Next ∷ key k.Background ∷ ts) q l same = cc
+  card_sound (key k.Previous ∷ key k.Background ∷ ts) q l same = cc
+  card_sound ts q l same = absurd (none-some _ l)
 
   pub background_sound : (ts : List Token) (q : Selector × List Token) → referenced_layer ts ≡ Some layer.Background → selector_at deeper d ts ≡ Some q → DerivesSelector k.Background ts q.0 q.1
   unfolding referenced_layer selector_at
@@ -87,7 +91,10 @@ module _ (deeper : Level → Parser Expr) (d : ℕ) (good : (p : Level) (ts : Li
   background_sound (key k.Background ∷ ts) q l same = making t.which (which_at deeper d ts) (λ q. DerivesSelector k.Background (key k.Background ∷ ts) q.0 q.1) same (λ p h. e.which (which_sound ts p h))
   background_sound (key k.Card ∷ ts) q l same = let h : Some layer.Card ≡ Some layer.Background = unless_some (first_kind ts) (Some layer.Card) layer.Background l in cc
   background_sound (key (k.Ordinal n) ∷ ts) q l same = let h : layer_by (first_kind ts) ≡ Some layer.Background = unless_some (first_kind (later ts)) (layer_by (first_kind ts)) layer.Background l in cc
-  background_sound ts q l same = cc
+  background_sound (key k.This ∷ key k.Card ∷ ts) q l same = cc
+  background_sound (key k.Next ∷ key k.Card ∷ ts) q l same = cc
+  background_sound (key k.Previous ∷ key k.Card ∷ ts) q l same = cc
+  background_sound ts q l same = absurd (none-some _ l)
 
   pub fitted : {A : Type 0} (height : A → ℕ) (r : Outcome A) (q : A × List Token) → fitting deeper d height r ≡ Some q → r ≡ Some q
   fitted height None q same = cc

@@ -1,5 +1,6 @@
 -- What is read is of the grammar.
 use Rattle.std.proofs.Common.{◌≡◌, ℕ, zero, suc, List, ◌∷◌, length, Bool, true, false, Option, Some, None, refl, sym, subst, ap, ◌∙◌, eqb-true, nat_le, nat_eq, cond, codes}
+use Rattle.std.proofs.lemmas.Option.{none-some}
 use Rattle.ht_lex.specs.declared.key.Key.TheVariants as k
 use Rattle.ht_values.specs.declared.word.ChunkKind.{ChunkKind}
 use Rattle.ht_values.specs.declared.word.PartKind.{PartKind}
@@ -30,16 +31,16 @@ unfolding part_front
 part_front_sound (key k.Card ∷ key (k.Part p) ∷ ts) q same = became (λ q. DerivesLayer (key k.Card ∷ key (k.Part p) ∷ ts) q.0.0 (key (k.Part q.0.1) ∷ q.1)) same e.on_card
 part_front_sound (key k.Background ∷ key (k.Part p) ∷ ts) q same = became (λ q. DerivesLayer (key k.Background ∷ key (k.Part p) ∷ ts) q.0.0 (key (k.Part q.0.1) ∷ q.1)) same e.on_background
 part_front_sound (key (k.Part p) ∷ ts) q same = became (λ q. DerivesLayer (key (k.Part p) ∷ ts) q.0.0 (key (k.Part q.0.1) ∷ q.1)) same e.no_layer
-part_front_sound ts q same = cc
+part_front_sound ts q same = absurd (none-some _ same)
 
 pub if_fielded : (f : PartKind) (p : Part) (ts : List Token) (q : Part × List Token) (P : Part × List Token → Type 0) → if_field f p ts ≡ Some q → (f ≡ part_kind.Field → P (p, ts)) → P q
 if_fielded part_kind.Field p ts q P same h = became P same (h refl)
-if_fielded part_kind.Button p ts q P same h = cc
+if_fielded part_kind.Button p ts q P same h = absurd (none-some _ same)
 
 closing : {A : Type 0} (x : A) (ts : List Token) {q : A × List Token} (P : A × List Token → Type 0) → closed x ts ≡ Some q → ((c : List Token) → ts ≡ key k.RightParen ∷ c → P (x, c)) → P q
 unfolding closed
 closing x (key k.RightParen ∷ ts) P e h = became P e (h ts refl)
-closing x _ P e h = cc
+closing x _ P e h = absurd (none-some _ e)
 
 pub chosen : {A : Type 0} (b : Bool) {x y z : Option A} (P : Type 0) → cond b x y ≡ z → (b ≡ true → x ≡ z → P) → (b ≡ false → y ≡ z → P) → P
 chosen true P same f g = f refl same
@@ -74,14 +75,14 @@ article_sound (token.name w ∷ ts) q same = chosen (is_article w) (DerivesArtic
     (λ b same. became (λ q. DerivesArticle (token.name w ∷ ts) q.0 q.1) same (e.an b))
     (λ b same. tested (same_name w (codes "no")) (DerivesArticle (token.name w ∷ ts) q.0 q.1) same (λ c same. became (λ q. DerivesArticle (token.name w ∷ ts) q.0 q.1) same (e.no_ c)))
 article_sound (key k.Not ∷ token.name w ∷ ts) q same = tested (is_article w) (DerivesArticle (key k.Not ∷ token.name w ∷ ts) q.0 q.1) same (λ b same. became (λ q. DerivesArticle (key k.Not ∷ token.name w ∷ ts) q.0 q.1) same (e.not_an b))
-article_sound ts q same = cc
+article_sound ts q same = absurd (none-some _ same)
 
 module _ (deeper : Level → Parser Expr) (d : ℕ) (good : (p : Level) (ts : List Token) (q : Expr × List Token) → deeper p ts ≡ Some q → Derives p ts q.0 q.1) where
   pub after : {A : Type 0} (read : Parser A) (m : List Token) (q : A × List Token) (P : Type 0) → of_part deeper d read (after_of m) ≡ Some q → ((b : List Token) → after_of m ≡ Some b → read b ≡ Some q → P) → P
   after {A} read m q P same h = go (after_of m) refl same
     where
       go : (o : Option (List Token)) → after_of m ≡ o → of_part deeper d read o ≡ Some q → P
-      go None f same = cc
+      go None f same = absurd (none-some _ same)
       go (Some b) f same = h b f same
 
   plain_part : (ts : List Token) (q : Part × List Token) → and_then (part_front ts) (part_end deeper d) ≡ Some q → DerivesPart ts q.0 q.1
@@ -115,7 +116,7 @@ module _ (deeper : Level → Parser Expr) (d : ℕ) (good : (p : Level) (ts : Li
   ref_sound (key k.Me ∷ ts) q same = became (λ q. DerivesRef (key k.Me ∷ ts) q.0 q.1) same e.me
   ref_sound (key k.The ∷ token.name w ∷ ts) q same = tested (same_name w (codes "target")) (DerivesRef (key k.The ∷ token.name w ∷ ts) q.0 q.1) same (λ b same.
       became (λ q. DerivesRef (key k.The ∷ token.name w ∷ ts) q.0 q.1) same (e.the_target b))
-  ref_sound (key k.The ∷ ts) q same = cc
+  ref_sound (key k.The ∷ ts) q same = absurd (none-some _ same)
   ref_sound (key k.This ∷ key k.Stack ∷ ts) q same = became (λ q. DerivesRef (key k.This ∷ key k.Stack ∷ ts) q.0 q.1) same e.this_stack
   ref_sound ts q same = layer_ref (referenced_layer _) _ q refl same
 
@@ -146,7 +147,7 @@ module _ (deeper : Level → Parser Expr) (d : ℕ) (good : (p : Level) (ts : Li
   chunk_sound (key (k.Piece p) ∷ ts) q same = taken (deeper whole ts) (λ i r. piece_by deeper d (first_kind r) p i r) (DerivesChunk (key (k.Piece p) ∷ ts) q.0 q.1) same (λ v h same. piece_sound p ts v.1 v.0 q (good whole ts v h) same)
   chunk_sound (key k.The ∷ key (k.Ordinal n) ∷ key (k.Piece p) ∷ ts) q same = became (λ q. DerivesChunk (key k.The ∷ key (k.Ordinal n) ∷ key (k.Piece p) ∷ ts) q.0 q.1) same (e.nth_piece refl)
   chunk_sound (key (k.Ordinal n) ∷ key (k.Piece p) ∷ ts) q same = became (λ q. DerivesChunk (key (k.Ordinal n) ∷ key (k.Piece p) ∷ ts) q.0 q.1) same (e.nth_piece refl)
-  chunk_sound ts q same = cc
+  chunk_sound ts q same = absurd (none-some _ same)
 
   pub chunk_form_sound : (ts : List Token) (q : Expr × List Token) → chunk_form deeper d ts ≡ Some q → Derives factor ts q.0 q.1
   unfolding chunk_form
@@ -165,7 +166,7 @@ module _ (deeper : Level → Parser Expr) (d : ℕ) (good : (p : Level) (ts : Li
 
   pub list_sound : (n : ℕ) (found : Exprs) (ts : List Token) (q : Exprs × List Token) → list_at deeper d n found ts ≡ Some q → GoodList found ts q
   unfolding list_at
-  list_sound zero found ts q same = cc
+  list_sound zero found ts q same = absurd (none-some _ same)
   list_sound (suc n) found ts q same = taken (deeper whole ts) (λ x r. list_more deeper d (list_at deeper d n) (first_kind r) (snoc found x) r) (GoodList found ts q) same (λ p i same.
       more_sound ts q (list_at deeper d n) (list_sound n) found p.0 p.1 (good whole ts p i) same)
 
@@ -183,7 +184,7 @@ module _ (deeper : Level → Parser Expr) (d : ℕ) (good : (p : Level) (ts : Li
   primary_sound (token.name w ∷ ts) q same = became (λ q. Derives primary (token.name w ∷ ts) q.0 q.1) same e.name
   primary_sound (key k.LeftParen ∷ ts) q same = taken (deeper whole ts) (λ x. closed (t.paren x)) (Derives primary (key k.LeftParen ∷ ts) q.0 q.1) same (λ p i same.
       closing (t.paren p.0) p.1 (λ q. Derives primary (key k.LeftParen ∷ ts) q.0 q.1) same (λ c f. e.paren (ends_at (good whole ts p i) f)))
-  primary_sound ts q same = cc
+  primary_sound ts q same = absurd (none-some _ same)
 
   numbered : (a m : List Token) (q : Expr × List Token) → past_the a ≡ key k.Number ∷ m → number_form deeper d m ≡ Some q → Derives factor a q.0 q.1
   unfolding number_form
@@ -191,21 +192,21 @@ module _ (deeper : Level → Parser Expr) (d : ℕ) (good : (p : Level) (ts : Li
       after (count_at deeper d) m v (Derives factor a (t.number_of v.0) v.1) h (λ b g i. e.number_of f g (count_sound b v i)))
 
   property_sound : (ts : List Token) (p : Option Prop) (q : Expr × List Token) → prop_front ts ≡ p → property_by deeper d p ts ≡ Some q → Derives factor (key k.The ∷ ts) q.0 q.1
-  property_sound ts None q f same = cc
+  property_sound ts None q f same = absurd (none-some _ same)
   property_sound ts (Some p) q f same = making (t.property p) (of_part deeper d (inner_ref deeper d) (after_of (later ts))) (λ q. Derives factor (key k.The ∷ ts) q.0 q.1) same (λ v h.
       after (inner_ref deeper d) (later ts) v (Derives factor (key k.The ∷ ts) (t.property p v.0) v.1) h (λ b g i. e.property f g (inner_sound b v i)))
 
   short_sound : (w : List ℕ) (ts : List Token) (p : Prop) (o : Option Prop) (q : Expr × List Token) → same_name w (codes "short") ≡ true → prop_front ts ≡ Some p → short_of p ≡ o → property_by deeper d o ts ≡ Some q → Derives factor (key k.The ∷ token.name w ∷ ts) q.0 q.1
-  short_sound w ts p None q s f g same = cc
+  short_sound w ts p None q s f g same = absurd (none-some _ same)
   short_sound w ts p (Some o) q s f g same = making (t.property o) (of_part deeper d (inner_ref deeper d) (after_of (later ts))) (λ q. Derives factor (key k.The ∷ token.name w ∷ ts) q.0 q.1) same (λ v h.
       after (inner_ref deeper d) (later ts) v (Derives factor (key k.The ∷ token.name w ∷ ts) (t.property o v.0) v.1) h (λ c i j. e.short_property s f g i (inner_sound c v j)))
 
   short_taken : (w : List ℕ) (ts : List Token) (p : Option Prop) (q : Expr × List Token) → same_name w (codes "short") ≡ true → prop_front ts ≡ p → short_by deeper d p ts ≡ Some q → Derives factor (key k.The ∷ token.name w ∷ ts) q.0 q.1
-  short_taken w ts None q s f same = cc
+  short_taken w ts None q s f same = absurd (none-some _ same)
   short_taken w ts (Some p) q s f same = short_sound w ts p (short_of p) q s f refl same
 
   function_sound : (w : List ℕ) (ts : List Token) (f : Option FunctionWord) (q : Expr × List Token) → function_of w ≡ f → function_by deeper d f (token.name w ∷ ts) ≡ Some q → Derives factor (key k.The ∷ token.name w ∷ ts) q.0 q.1
-  function_sound w ts None q g same = cc
+  function_sound w ts None q g same = absurd (none-some _ same)
   function_sound w ts (Some f) q g same = making (t.function f) (of_part deeper d (deeper factor) (after_of ts)) (λ q. Derives factor (key k.The ∷ token.name w ∷ ts) q.0 q.1) same (λ v h.
       after (deeper factor) ts v (Derives factor (key k.The ∷ token.name w ∷ ts) (t.function f v.0) v.1) h (λ b i j. e.function g i (good factor b v j)))
 
@@ -256,7 +257,7 @@ module _ (deeper : Level → Parser Expr) (d : ℕ) (good : (p : Level) (ts : Li
   prefixed_sound (key k.Minus ∷ ts) q same = making (t.unary un.Minus) (deeper prefixed ts) (λ q. Derives prefixed (key k.Minus ∷ ts) q.0 q.1) same (λ v h. e.minus (good prefixed ts v h))
   prefixed_sound (key k.Not ∷ ts) q same = making (t.unary un.Not) (deeper prefixed ts) (λ q. Derives prefixed (key k.Not ∷ ts) q.0 q.1) same (λ v h. e.not_ (good prefixed ts v h))
   prefixed_sound (key k.There ∷ key k.Is ∷ ts) q same = there_sound ts q same
-  prefixed_sound (key k.There ∷ ts) q same = cc
+  prefixed_sound (key k.There ∷ ts) q same = absurd (none-some _ same)
   prefixed_sound ts q same = bare_sound _ q same
 
   power_end_sound : (a m : List Token) (x : Expr) (q : Expr × List Token) → Derives prefixed a x m → power_end deeper d x m ≡ Some q → Derives power a q.0 q.1
@@ -294,7 +295,7 @@ module _ (deeper : Level → Parser Expr) (d : ℕ) (good : (p : Level) (ts : Li
 
   chain_sound : (n j : ℕ) (a m : List Token) (x : Expr) (q : Expr × List Token) → Derives (rank (suc n)) a x m → chain_at deeper d n j x m ≡ Some q → Derives (rank (suc n)) a q.0 q.1
   unfolding chain_at
-  chain_sound n zero a m x q h same = cc
+  chain_sound n zero a m x q h same = absurd (none-some _ same)
   chain_sound n (suc j) a m x q h same = turn_sound n (chain_at deeper d n j) a m x q (leading_operator m) refl h (λ y c h same. chain_sound n j a c y q h same) same
 
   rank_sound : (n : ℕ) (ts : List Token) (q : Expr × List Token) → rank_at deeper d n ts ≡ Some q → Derives (rank n) ts q.0 q.1
@@ -314,5 +315,5 @@ module _ (deeper : Level → Parser Expr) (d : ℕ) (good : (p : Level) (ts : Li
 -- What is read is derived.
 pub read_sound : (d : ℕ) (p : Level) (ts : List Token) (q : Expr × List Token) → read d p ts ≡ Some q → Derives p ts q.0 q.1
 unfolding read
-read_sound zero p ts q same = cc
+read_sound zero p ts q same = absurd (none-some _ same)
 read_sound (suc d) p ts q same = level_sound (read d) d (read_sound d) p ts q same

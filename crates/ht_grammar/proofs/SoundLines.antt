@@ -1,5 +1,6 @@
 -- What is read as statements is of the grammar.
 use Rattle.std.proofs.Common.{◌≡◌, ℕ, zero, suc, List, [], ◌∷◌, length, true, false, Some, None, ◌&&◌, refl, sym, ap, ◌∙◌, subst, codes}
+use Rattle.std.proofs.lemmas.Option.{none-some}
 use Rattle.std.specs.Cmp.{first_so}
 use Rattle.ht_lex.specs.declared.key.Key.TheVariants as k
 use Rattle.ht_lex.specs.Token.{Token, key, eol, first_kind, first_text, later, is_key}
@@ -29,13 +30,13 @@ module _ (d : ℕ) (x : Context) where
       keyed to_key (λ m. made (s.counted_down w v) (read d whole m)) m (DerivesHead (key k.With ∷ token.name w ∷ key k.Equal ∷ a) q.0 q.1) same (λ n i same.
       making (s.counted_down w v) (read d whole n) (λ q. DerivesHead (key k.With ∷ token.name w ∷ key k.Equal ∷ a) q.0 q.1) same (λ p j.
       g.counted_down (ended_by_key h (ap (λ l. token.name u ∷ l) i)) b (read_sound d whole n p j))))
-  bound_sound w a m v q h same = cc
+  bound_sound w a m v q h same = absurd (none-some _ same)
 
   with_sound : (ts : List Token) (q : Head × List Token) → with_by d x (first_kind ts) ts ≡ Some q → DerivesHead (key k.With ∷ ts) q.0 q.1
   with_sound (token.name w ∷ ts) q same = keyed equal_key (λ m. and_then (read d whole m) (λ e r. bound_by d x w e (first_kind r) r)) ts (DerivesHead (key k.With ∷ token.name w ∷ ts) q.0 q.1) same (λ m i same.
       taken (read d whole m) (λ e r. bound_by d x w e (first_kind r) r) (DerivesHead (key k.With ∷ token.name w ∷ ts) q.0 q.1) same (λ p h same.
       subst (λ l. DerivesHead (key k.With ∷ token.name w ∷ l) q.0 q.1) (sym i) (bound_sound w m p.1 p.0 q (read_sound d whole m p h) same)))
-  with_sound ts q same = cc
+  with_sound ts q same = absurd (none-some _ same)
 
   times_sound : (a : List Token) (q : Head × List Token) → times_at d x (past_for a) ≡ Some q → DerivesHead a q.0 q.1
   times_sound a q same = taken (read d whole (past_for a)) (λ e r. Some (s.times e, past_times r)) (DerivesHead a q.0 q.1) same (λ p h same.
@@ -119,7 +120,7 @@ module _ (statement : Context → Parser Stmt) (else_if : Context → Parser Stm
     (fine : (x : Context) (ts : List Token) (q : Stmt × List Token) → else_if x ts ≡ Some q → GoodElseIf x ts q) where
   lines_sound : (n : ℕ) (x : Context) (ts : List Token) (q : Stmts × List Token) → lines_at statement else_if n x ts ≡ Some q → DerivesLines x ts q.0 q.1
   unfolding lines_at
-  lines_sound zero x ts q same = cc
+  lines_sound zero x ts q same = absurd (none-some _ same)
   lines_sound (suc n) x ts q same = chosen (begins_statement (first_kind ts)) (DerivesLines x ts q.0 q.1) same
       (λ b same. taken (statement x ts) (λ t r. ended_then (ended r) (λ b. made (also t) (lines_at statement else_if n x b))) (DerivesLines x ts q.0 q.1) same (λ p h same.
       past_end (ended p.1) (λ b. made (also p.0) (lines_at statement else_if n x b)) (DerivesLines x ts q.0 q.1) same (λ l i same.
@@ -144,7 +145,7 @@ module _ (statement : Context → Parser Stmt) (else_if : Context → Parser Stm
   otherwise_sound x (key k.End ∷ ts) q same = keyed if_key (λ c. Some (stop, c)) ts (DerivesElse x (key k.End ∷ ts) q.0 q.1) same (λ c f same.
       became (λ q. DerivesElse x (key k.End ∷ ts) q.0 q.1) same (subst (λ l. DerivesElse x (key k.End ∷ l) stop c) (sym f) g.end_if))
   otherwise_sound x (key k.Else ∷ ts) q same = else_sound x ts q same
-  otherwise_sound x ts q same = cc
+  otherwise_sound x ts q same = absurd (none-some _ same)
 
   block_sound : (b : Block) (x : Context) (ts : List Token) (q : Stmts × List Token) → block_at statement else_if b x ts ≡ Some q → GoodBlock b x ts q
   unfolding block_at

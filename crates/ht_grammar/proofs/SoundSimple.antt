@@ -1,5 +1,6 @@
 -- What is read as a container or as a statement on one line is of the grammar.
 use Rattle.std.proofs.Common.{◌≡◌, ℕ, zero, suc, List, ◌∷◌, length, Option, Some, None, refl, sym, subst, codes}
+use Rattle.std.proofs.lemmas.Option.{none-some}
 use Rattle.std.specs.Prelude.{is_some}
 use Rattle.ht_lex.specs.declared.key.Key.TheVariants as k
 use Rattle.ht_lex.specs.Token.{Token, key, eol, first_kind, later, is_key}
@@ -51,15 +52,15 @@ module _ (again : Parser Container) (d : ℕ) (good : (ts : List Token) (q : Con
 
 pub container_sound : (d : ℕ) (ts : List Token) (q : Container × List Token) → container d ts ≡ Some q → DerivesContainer ts q.0 q.1
 unfolding container
-container_sound zero ts q same = cc
+container_sound zero ts q same = absurd (none-some _ same)
 container_sound (suc d) ts q same = container_step (container d) d (container_sound d) ts q same
 
 pub names_sound : (n : ℕ) (ts : List Token) (q : List (List ℕ) × List Token) → names_at n ts ≡ Some q → DerivesNames ts q.0 q.1
 unfolding names_at
-names_sound zero ts q same = cc
+names_sound zero ts q same = absurd (none-some _ same)
 names_sound (suc n) (token.name w ∷ key k.CommaSign ∷ ts) q same = making (λ ws. w ∷ ws) (names_at n ts) (λ q. DerivesNames (token.name w ∷ key k.CommaSign ∷ ts) q.0 q.1) same (λ p h. g.more_names (names_sound n ts p h))
 names_sound (suc n) (token.name w ∷ ts) q same = became (λ q. DerivesNames (token.name w ∷ ts) q.0 q.1) same g.one_name
-names_sound (suc n) ts q same = cc
+names_sound (suc n) ts q same = absurd (none-some _ same)
 
 pub whole_list : (d n : ℕ) (ts : List Token) (q : Exprs × List Token) → list_at (read d) d n none ts ≡ Some q → DerivesList ts q.0 q.1
 unfolding joined
@@ -80,7 +81,7 @@ module _ (d : ℕ) (x : Context) where
       keyed to_key (λ m. made (s.set_run p) (read d whole m)) ts (DerivesSimple x (key k.Set ∷ a) q.0 q.1) same (λ m i same.
       making (s.set_run p) (read d whole m) (λ q. DerivesSimple x (key k.Set ∷ a) q.0 q.1) same (λ v j.
       g.set_run (subst (λ l. past_the a ≡ token.name w ∷ l) i f) h (read_sound d whole m v j)))
-  set_run_sound a ts None q f h same = cc
+  set_run_sound a ts None q f h same = absurd (none-some _ same)
   set_run_sound a ts o q f h same = cc
 
   set_sound : (a : List Token) (o : Option Prop) (q : Stmt × List Token) → prop_front (past_the a) ≡ o → set_by d x o (past_the a) ≡ Some q → DerivesSimple x (key k.Set ∷ a) q.0 q.1
@@ -99,7 +100,7 @@ module _ (d : ℕ) (x : Context) where
   destination_sound (key k.Next ∷ ts) None q f same = became (λ q. DerivesDestination (key k.Next ∷ ts) q.0 q.1) same g.next_alone
   destination_sound (key k.Previous ∷ ts) None q f same = became (λ q. DerivesDestination (key k.Previous ∷ ts) q.0 q.1) same g.previous_alone
   destination_sound (key (k.Ordinal n) ∷ ts) None q f same = became (λ q. DerivesDestination (key (k.Ordinal n) ∷ ts) q.0 q.1) same g.nth_alone
-  destination_sound ts None q f same = cc
+  destination_sound ts None q f same = absurd (none-some _ same)
 
   go_sound : (a : List Token) (q : Stmt × List Token) → made s.go (destination_at d x (past_to a)) ≡ Some q → DerivesSimple x (key k.Go ∷ a) q.0 q.1
   unfolding destination_at
@@ -111,12 +112,12 @@ module _ (d : ℕ) (x : Context) where
   exit_sound (key k.To ∷ token.name w ∷ ts) q same = tested (same_name w (codes "HyperCard")) (DerivesSimple x (key k.Exit ∷ key k.To ∷ token.name w ∷ ts) q.0 q.1) same (λ b same.
       became (λ q. DerivesSimple x (key k.Exit ∷ key k.To ∷ token.name w ∷ ts) q.0 q.1) same (g.exit_to_hypercard b))
   exit_sound (token.name w ∷ ts) q same = tested (names_handler x.handler w) (DerivesSimple x (key k.Exit ∷ token.name w ∷ ts) q.0 q.1) same (λ b same. became (λ q. DerivesSimple x (key k.Exit ∷ token.name w ∷ ts) q.0 q.1) same (g.exit b))
-  exit_sound ts q same = cc
+  exit_sound ts q same = absurd (none-some _ same)
 
   deleted_sound : (a m : List Token) (c : Container) (q : Stmt × List Token) → DerivesContainer a c m → deleted c m ≡ Some q → DerivesSimple x (key k.Delete ∷ a) q.0 q.1
   deleted_sound a m (t.in_chunk h c) q (e.in_chunk f o i) same = became (λ q. DerivesSimple x (key k.Delete ∷ a) q.0 q.1) same (g.delete f o i)
-  deleted_sound a m (t.variable w) q h same = cc
-  deleted_sound a m (t.in_field p) q h same = cc
+  deleted_sound a m (t.variable w) q h same = absurd (none-some _ same)
+  deleted_sound a m (t.in_field p) q h same = absurd (none-some _ same)
 
   pub simple_sound : (ts : List Token) (q : Stmt × List Token) → simple_at d x ts ≡ Some q → DerivesSimple x ts q.0 q.1
   unfolding simple_at is_key
@@ -152,8 +153,8 @@ module _ (d : ℕ) (x : Context) where
       chosen (begins_expr (first_kind ts)) (DerivesSimple x (key k.Return ∷ ts) q.0 q.1) same
       (λ f same. making s.return_value (read d whole ts) (λ q. DerivesSimple x (key k.Return ∷ ts) q.0 q.1) same (λ p h. g.return_value b (read_sound d whole ts p h)))
       (λ f same. became (λ q. DerivesSimple x (key k.Return ∷ ts) q.0 q.1) same (g.return_nothing b)))
-  simple_sound ts q same = cc
+  simple_sound ts q same = absurd (none-some _ same)
 
 pub within_sound : (d : ℕ) (x : Context) (ts : List Token) (q : Stmt × List Token) → simple_within d x ts ≡ Some q → DerivesSimple x ts q.0 q.1
-within_sound zero x ts q same = cc
+within_sound zero x ts q same = absurd (none-some _ same)
 within_sound (suc d) x ts q same = simple_sound d x ts q same
