@@ -40,7 +40,6 @@ pub const MOST_DEPTH: u32 = 1_000_000;
 /// makes a state of the history and `roll_back` gives up.
 ///
 /// `roll_back`, the flips, `unplug` and the readers take no memory, and `commit` needs none.
-#[derive(Drop)]
 pub struct World<E: External> {
     present: Present<E>,
     batches: VecDeque<Batch>,
@@ -49,6 +48,21 @@ pub struct World<E: External> {
     oldest: u32,
     depth: u32,
     alloc: Global,
+}
+
+/// Written here and not derived, so that no crate above proves anew how it is dropped.
+impl<E: External> Drop for World<E> {
+    fn drop(self) {
+        let World {
+            present: _,
+            batches: _,
+            cursor: _,
+            open: _,
+            oldest: _,
+            depth: _,
+            alloc: _,
+        } = self;
+    }
 }
 
 impl<E: External> Model for World<E> {

@@ -11,10 +11,17 @@ use std::marker::Model;
 
 /// Where a text is put, at most 100 levels deep.
 #[cycle(container)]
-#[derive(Drop)]
 pub struct Container {
     kind: Box<ContainerKind>,
     depth: usize,
+}
+
+/// Written here and not derived, so that no crate above proves anew how a tree is dropped.
+impl Drop for Container {
+    #[cycle(container)]
+    fn drop(self) {
+        let Container { kind: _, depth: _ } = self;
+    }
 }
 
 /// What a container is, with its parts.
@@ -76,7 +83,8 @@ impl Container {
     pub fn into_kind(self) -> ContainerKind
         ensures { container_of result ≡ self }
     {
-        Box::into_inner(self.kind)
+        let Container { kind, depth: _ } = self;
+        Box::into_inner(kind)
     }
 
     /// The greatest number of nodes on a way down, at most 100.

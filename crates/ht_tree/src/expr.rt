@@ -14,10 +14,17 @@ use std::marker::Model;
 
 /// An expression, at most 100 levels deep.
 #[cycle(tree)]
-#[derive(Drop)]
 pub struct Expr {
     kind: Box<ExprKind>,
     depth: usize,
+}
+
+/// Written here and not derived, so that no crate above proves anew how a tree is dropped.
+impl Drop for Expr {
+    #[cycle(tree)]
+    fn drop(self) {
+        let Expr { kind: _, depth: _ } = self;
+    }
 }
 
 /// What an expression is, with its parts.

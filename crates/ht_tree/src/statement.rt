@@ -40,10 +40,17 @@ pub enum Head {
 
 /// A statement, at most 100 levels deep.
 #[cycle(statement)]
-#[derive(Drop)]
 pub struct Stmt {
     kind: Box<StmtKind>,
     depth: usize,
+}
+
+/// Written here and not derived, so that no crate above proves anew how a tree is dropped.
+impl Drop for Stmt {
+    #[cycle(statement)]
+    fn drop(self) {
+        let Stmt { kind: _, depth: _ } = self;
+    }
 }
 
 /// What a statement is, with its parts.

@@ -33,11 +33,21 @@ struct Index {
 
 /// A batch that grows. Beside its entries stands an index by place, so that it is known at once whether the segment since
 /// the latest structural entry has an entry of a place.
-#[derive(Drop)]
 pub struct OpenBatch {
     number: u32,
     entries: Vec<Entry>,
     index: Index,
+}
+
+/// Written here and not derived, so that no crate above proves anew how it is dropped.
+impl Drop for OpenBatch {
+    fn drop(self) {
+        let OpenBatch {
+            number: _,
+            entries: _,
+            index: _,
+        } = self;
+    }
 }
 
 impl Model for OpenBatch {

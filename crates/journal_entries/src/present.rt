@@ -35,13 +35,25 @@ use structural_changes::{
 
 /// The present state, which contracts see beside the names of globals that have numbers and the externals'
 /// turns. It keeps trees of scripts that were parsed, which no contract sees.
-#[derive(Drop)]
 pub struct Present<E: External> {
     stack: Stack,
     trees: ScriptTrees,
     globals: Globals,
     current: u32,
     externals: Vec<E>,
+}
+
+/// Written here and not derived, so that no crate above proves anew how it is dropped.
+impl<E: External> Drop for Present<E> {
+    fn drop(self) {
+        let Present {
+            stack: _,
+            trees: _,
+            globals: _,
+            current: _,
+            externals: _,
+        } = self;
+    }
 }
 
 impl<E: External> Model for Present<E> {

@@ -16,7 +16,6 @@ use std::marker::Model;
 
 /// The run of one command: the item delimiter, lockMessages and editBkgnd, `the result`, the steps that are left, the lines
 /// shown, and the messages sent.
-#[derive(Drop)]
 pub struct Budget {
     alloc: Global,
     delimiter: u8,
@@ -26,6 +25,22 @@ pub struct Budget {
     left: u32,
     shown: Shown,
     sent: Sent,
+}
+
+/// Written here and not derived, so that no crate above proves anew how it is dropped.
+impl Drop for Budget {
+    fn drop(self) {
+        let Budget {
+            alloc: _,
+            delimiter: _,
+            lock_messages: _,
+            edit_background: _,
+            result: _,
+            left: _,
+            shown: _,
+            sent: _,
+        } = self;
+    }
 }
 
 impl Model for Budget {
@@ -120,7 +135,16 @@ impl Budget {
     pub fn into_shown_and_sent(self) -> (Shown, Sent)
         ensures { result ≡ (self.shown, self.sent) }
     {
-        let Budget { shown, sent, .. } = self;
+        let Budget {
+            alloc: _,
+            delimiter: _,
+            lock_messages: _,
+            edit_background: _,
+            result: _,
+            left: _,
+            shown,
+            sent,
+        } = self;
         (shown, sent)
     }
 

@@ -5,6 +5,7 @@ ghost use Rattle.containers.specs.Base.{base};
 ghost use Rattle.user_actions.specs.Views.{Fits, action_of};
 
 use crate::lines::{opened, run, shows};
+use crate::runs::new_run;
 use change_journal::World;
 use containers::Edit;
 use externals::External;
@@ -113,9 +114,9 @@ fn is_met<E: External>(
 {
     let (doing, end, shown, sent) = *row;
     let action = action(alloc, doing)?;
-    let mut budget = Budget::new(alloc, steps);
-    let ended = acts(world, &mut budget, &action)?;
-    Ok(ended == end && shows(&budget, shown) && sends(budget.sent(), sent))
+    let mut budget = new_run(alloc, steps)?;
+    let ended = acts(world, &mut *budget, &action)?;
+    Ok(ended == end && shows(&*budget, shown) && sends(budget.sent(), sent))
 }
 
 /// The first wrong row, with its number, where actions follow each other in a world of their own.
@@ -603,9 +604,9 @@ fn finds<E: External>(
     reference: &[u8],
 ) -> Result<Result<Option<u32>, Stop>, Fail> {
     let mut world = opened(alloc, externals)?;
-    let mut budget = Budget::new(alloc, 10);
-    run(alloc, &mut *world, &mut budget, line)?;
-    found(alloc, &mut *world, &mut budget, reference)
+    let mut budget = new_run(alloc, 10)?;
+    run(alloc, &mut *world, &mut *budget, line)?;
+    found(alloc, &mut *world, &mut *budget, reference)
 }
 
 #[test]
@@ -625,6 +626,29 @@ fn references_and_what_they_find(rt: HostRuntime) -> Result<(), Fail> {
     Ok(())
 }
 
+/// Puts a text to that of a field for a card.
+fn put_text<E: External>(
+    alloc: Global,
+    world: &mut World<E>,
+    frame: &mut Frame,
+    field: Referent,
+    put: Where,
+    new: Text,
+) -> Result<(), Stop>
+    requires open { IsSome (base world.old.history).start }
+    ensures base { base world.new.history ≡ base world.old.history }
+{
+    let place = field_place(alloc, world, frame, field)?;
+    edit(
+        alloc,
+        b',',
+        world,
+        frame,
+        place,
+        Edit::Put(put, Value::of_text(new)),
+    )
+}
+
 /// Puts a text to that of a field for a card, and reads it back.
 fn written<E: External>(
     alloc: Global,
@@ -640,15 +664,29 @@ fn written<E: External>(
         return Err(Stop::Memory);
     };
     let mut frame = Frame::typed(alloc, world.current());
-    let place = field_place(alloc, world, &frame, field)?;
-    let edit_of = Edit::Put(put, Value::of_text(new));
-    edit(alloc, b',', world, &mut frame, place, edit_of)?;
+    put_text(alloc, world, &mut frame, field, put, new)?;
     Ok(field_text(alloc, world, &frame, b',', field)?.into_text(alloc)?)
 }
 
 /// A field of the stack, for a card.
 fn field(object: u32, card: u32) -> Referent {
     Referent { object, card }
+}
+
+/// Whether a field reads as its row says once the row's text was put to it.
+fn is_written<E: External>(
+    alloc: Global,
+    world: &mut World<E>,
+    row: (Referent, Where, &[u8], &[u8]),
+) -> bool
+    requires open { IsSome (base world.old.history).start }
+    ensures base { base world.new.history ≡ base world.old.history }
+{
+    let (field, put, bytes, due) = row;
+    match written(alloc, world, field, put, bytes) {
+        Ok(text) => text.as_slice() == due,
+        Err(_) => false,
+    }
 }
 
 /// The first wrong row, with its number, where texts are put one after the other.
@@ -661,10 +699,8 @@ fn first_unwritten<E: External>(
     let mut world = opened(alloc, externals)?;
     world.begin(1)?;
     for i in 0..rows.len() {
-        let (field, put, bytes, due) = rows[i];
-        match written(alloc, &mut *world, field, put, bytes) {
-            Ok(text) if text.as_slice() == due => {}
-            _ => return Ok(Some(i)),
+        if !is_written(alloc, &mut *world, rows[i]) {
+            return Ok(Some(i));
         }
     }
     Ok(None)

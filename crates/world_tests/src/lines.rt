@@ -2,6 +2,7 @@
 
 ghost use Rattle.std.specs.Prelude.{◌≡◌, IfOk, None, OnOk};
 
+use crate::runs::new_run;
 use crate::stacks::two_cards;
 use change_journal::World;
 use externals::External;
@@ -74,6 +75,22 @@ pub(crate) fn shows(budget: &Budget, due: &[&[u8]]) -> bool {
     true
 }
 
+/// Whether a line is answered as its row says.
+fn is_answered<E: External>(
+    alloc: Global,
+    world: &mut World<E>,
+    steps: u32,
+    row: &Row,
+) -> Result<bool, Fail>
+    requires { world.old.history.start ≡ None }
+    ensures { OnOk result (world.new.history.start ≡ None) }
+{
+    let (line, due, end) = *row;
+    let mut budget = new_run(alloc, steps)?;
+    let ended = run(alloc, world, &mut *budget, line)?;
+    Ok(ended == end && shows(&*budget, due))
+}
+
 /// The first line that isn't answered so, with its number, where lines are run one after the other.
 fn first_wrong_in<E: External>(
     alloc: Global,
@@ -84,10 +101,7 @@ fn first_wrong_in<E: External>(
     requires { world.old.history.start ≡ None }
 {
     for i in 0..rows.len() {
-        let (line, due, end) = rows[i];
-        let mut budget = Budget::new(alloc, steps);
-        let ended = run(alloc, world, &mut budget, line)?;
-        if ended != end || !shows(&budget, due) {
+        if !is_answered(alloc, world, steps, &rows[i])? {
             return Ok(Some(i));
         }
     }
@@ -285,10 +299,10 @@ fn sends<E: External>(
     name: &[u8],
 ) -> Result<bool, Fail> {
     let mut world = opened(alloc, externals)?;
-    let mut budget = Budget::new(alloc, 10);
+    let mut budget = new_run(alloc, 10)?;
     world.begin(1)?;
     let name = Text::from_slice(alloc, name)?;
-    let ended = send_message(&mut *world, &mut budget, object, &name);
+    let ended = send_message(&mut *world, &mut *budget, object, &name);
     Ok(ended.is_ok() && budget.sent().len() == 1)
 }
 

@@ -9,7 +9,7 @@ use std::test::*;
 
 #[test]
 fn steps_are_taken_until_none_is_left(rt: HostRuntime) -> Result<(), Fail> {
-    let mut run = Budget::new(rt.alloc(), 2);
+    let mut run = new_run(rt.alloc(), 2)?;
     assert!(rt; run.step().is_ok() && run.left() == 1);
     assert!(rt; run.step().is_ok() && run.left() == 0);
     assert!(rt; run.step() == Err(Stop::Fault(Fault::StepLimit)));
@@ -18,11 +18,16 @@ fn steps_are_taken_until_none_is_left(rt: HostRuntime) -> Result<(), Fail> {
 
 #[test]
 fn a_run_begins_with_nothing_set(rt: HostRuntime) -> Result<(), Fail> {
-    let run = Budget::new(rt.alloc(), 1);
+    let run = new_run(rt.alloc(), 1)?;
     assert!(rt; run.delimiter() == b',' && !run.lock_messages() && !run.edit_background());
-    assert!(rt; is_result(rt.alloc(), &run, b"")?);
+    assert!(rt; is_result(rt.alloc(), &*run, b"")?);
     assert!(rt; run.shown().is_empty() && run.sent().is_empty());
     Ok(())
+}
+
+/// A run of so many steps. It stands in a box, so that who owns it has one thing to drop.
+pub(crate) fn new_run(alloc: Global, steps: u32) -> Result<Box<Budget>, Fail> {
+    Ok(Box::new(alloc, Budget::new(alloc, steps))?)
 }
 
 /// Whether this is the result.
@@ -32,7 +37,7 @@ fn is_result(alloc: Global, run: &Budget, due: &[u8]) -> Result<bool, Fail> {
 
 /// Whether a text may be set, and is read then.
 fn sets(alloc: Global, property: RunProp, bytes: &[u8]) -> Result<bool, Fail> {
-    let mut run = Budget::new(alloc, 1);
+    let mut run = new_run(alloc, 1)?;
     if run.set_property(property, &text(alloc, bytes)?).is_err() {
         return Ok(false);
     }
@@ -41,7 +46,7 @@ fn sets(alloc: Global, property: RunProp, bytes: &[u8]) -> Result<bool, Fail> {
 
 /// The fault of a text that may not be set.
 fn fault(alloc: Global, property: RunProp, bytes: &[u8]) -> Result<Option<Fault>, Fail> {
-    let mut run = Budget::new(alloc, 1);
+    let mut run = new_run(alloc, 1)?;
     Ok(run.set_property(property, &text(alloc, bytes)?).err())
 }
 
@@ -68,7 +73,7 @@ fn properties_of_a_run(rt: HostRuntime) -> Result<(), Fail> {
 
 /// What a run shows of a text.
 fn shown(alloc: Global, bytes: &[u8], due: &[u8]) -> Result<bool, Fail> {
-    let mut run = Budget::new(alloc, 1);
+    let mut run = new_run(alloc, 1)?;
     run.show(&Value::of_text(text(alloc, bytes)?))?;
     Ok(run.shown().len() == 1 && run.shown().at(0).as_slice() == due)
 }
@@ -84,7 +89,7 @@ fn a_text_is_shown_as_it_is_spelled(rt: HostRuntime) -> Result<(), Fail> {
 
 #[test]
 fn a_message_is_noted_with_its_object(rt: HostRuntime) -> Result<(), Fail> {
-    let mut run = Budget::new(rt.alloc(), 1);
+    let mut run = new_run(rt.alloc(), 1)?;
     run.note(&text(rt.alloc(), b"mouseUp")?, 2)?;
     assert!(rt; run.sent().len() == 1 && run.sent().at(0).object == 2);
     assert!(rt; run.sent().at(0).name.as_slice() == b"mouseUp".as_slice());
@@ -93,9 +98,9 @@ fn a_message_is_noted_with_its_object(rt: HostRuntime) -> Result<(), Fail> {
 
 #[test]
 fn the_result_is_set(rt: HostRuntime) -> Result<(), Fail> {
-    let mut run = Budget::new(rt.alloc(), 1);
+    let mut run = new_run(rt.alloc(), 1)?;
     run.set_result(Value::of_number(7));
-    assert!(rt; is_result(rt.alloc(), &run, b"7")?);
+    assert!(rt; is_result(rt.alloc(), &*run, b"7")?);
     Ok(())
 }
 
