@@ -34,7 +34,6 @@ use std::mem;
 ///
 /// A stack as such may be not well formed; `Stack::new` gives a well formed one, and `Stack::blank` one that is to be
 /// filled.
-#[derive(Drop)]
 pub struct Stack {
     slots: SlotTable,
     backgrounds: IdList,
@@ -42,6 +41,20 @@ pub struct Stack {
     texts: PairTable<Text>,
     hilites: PairTable<bool>,
     next: u32,
+}
+
+/// Written here and not derived, so that no crate above proves anew how it is dropped.
+impl Drop for Stack {
+    fn drop(self) {
+        let Stack {
+            slots: _,
+            backgrounds: _,
+            cards: _,
+            texts: _,
+            hilites: _,
+            next: _,
+        } = self;
+    }
 }
 
 impl Model for Stack {
