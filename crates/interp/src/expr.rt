@@ -2,8 +2,8 @@
 
 ghost use Rattle.std.specs.Prelude.{◌≡◌, ◌≤◌, ◌<◌, [], IsSome};
 ghost use Rattle.ht_grammar.specs.Trees as tree;
-ghost use Rattle.ht_grammar.specs.Depth.{depth, depths, chunk_depth, count_depth, part_depth, ref_depth, max_depth};
-ghost use Rattle.ht_tree.specs.View.{chunk_of as chunk_of_tree, count_of, exprs_of, part_of, ref_of};
+ghost use Rattle.ht_grammar.specs.Depth.{depth, depths, chunk_depth, count_depth, max_depth};
+ghost use Rattle.ht_tree.specs.View.{chunk_of as chunk_of_tree, count_of, exprs_of};
 ghost use Rattle.containers.specs.Base.{base};
 ghost use Rattle.meaning.specs.Meaning.{NumberVal, TextVal, TruthVal, Val, Vals};
 ghost use Rattle.interp.specs.Operands.{MeetsOperand};
@@ -14,7 +14,7 @@ use crate::reference::{meet, meet_part};
 use change_journal::World;
 use externals::External;
 use ht_grammar::{FunctionWord, HandlerKind};
-use ht_tree::{Chunk, Count, Expr, ExprKind, Exprs, Part, Ref};
+use ht_tree::{Chunk, Count, Expr, ExprKind};
 use ht_values::{Fault, Op, Prop, Text, UnOp, Value};
 use meaning::{Budget, Frame, Stop};
 use primitives::arguments::Arguments;
@@ -49,20 +49,37 @@ pub(crate) fn eval<E: External>(
         ExprKind::Return => Ok(return_sign(run.alloc())?),
         ExprKind::Name(name) => Ok(variable(run.alloc(), world, frame, name)?),
         ExprKind::Paren(inner) => eval(world, run, frame, nested, inner),
-        ExprKind::Call(name, list) => call(world, run, frame, nested, name, list),
+        ExprKind::Call(name, list) => {
+            let function = HandlerKind::Function;
+            calls(
+                world,
+                run,
+                frame,
+                nested,
+                frame.me,
+                name,
+                &list.items,
+                function,
+            )
+        }
         ExprKind::Binary(op, left, right) => binary(world, run, frame, nested, *op, left, right),
         ExprKind::Unary(op, operand) => unary(world, run, frame, nested, *op, operand),
-        ExprKind::ThereIs(is_no, reference) => there_is(
-            world, run, frame, nested, *is_no, reference,
-        ),
+        ExprKind::ThereIs(is_no, reference) => {
+            let met = meet(world, run, frame, nested, reference);
+            there(*is_no, met)
+        }
         ExprKind::Chunk(chunk, text) => chunk_of(world, run, frame, nested, chunk, text),
-        ExprKind::Field(part) => field(world, run, frame, nested, part),
+        ExprKind::Field(part) => {
+            let referent = meet_part(world, run, frame, nested, part)?;
+            field_text(run.alloc(), world, frame, run.delimiter(), referent)
+        }
         ExprKind::Result => Ok(run.result().try_clone(run.alloc())?),
         ExprKind::Target => target_name(run.alloc(), world, frame),
         ExprKind::NumberOf(count) => number_of(world, run, frame, nested, count),
-        ExprKind::Property(property, reference) => property_of(
-            world, run, frame, nested, *property, reference,
-        ),
+        ExprKind::Property(name, reference) => {
+            let referent = meet(world, run, frame, nested, reference)?;
+            property(run.alloc(), world, referent, *name)
+        }
         ExprKind::RunProperty(property) => Ok(run_property(run, *property)?),
         ExprKind::Function(word, operand) => function_of(world, run, frame, nested, *word, operand),
     }
@@ -115,29 +132,6 @@ pub(crate) fn unary<E: External>(
 {
     let x = eval(world, run, frame, nested, operand)?;
     apply_one(op, &x)
-}
-
-/// Whether an object is found: whatever the reason is that it isn't, the answer is `false`.
-#[cycle(run)]
-#[tactic(auto, using(meaning::proofs::Rules::val_there_is_rules))]
-#[inline(never)]
-pub(crate) fn there_is<E: External>(
-    world: &mut World<E>,
-    run: &mut Budget,
-    frame: &Frame,
-    nested: u32,
-    is_no: bool,
-    reference: &Ref,
-) -> Result<Value, Stop>
-    requires nested { nested ≤ 100 }
-    requires deep { ref_depth (ref_of reference.now) < max_depth }
-    requires open { IsSome (base world.old.history).start }
-    ensures meaning { Val world.old.history run.old frame.now nested (tree.there_is is_no (ref_of reference.now)) result world.new.history run.new }
-    ensures fewer { run.new.left ≤ run.old.left }
-    ensures base { base world.new.history ≡ base world.old.history }
-{
-    let met = meet(world, run, frame, nested, reference);
-    there(is_no, met)
 }
 
 /// An operand whose text is read next: what a name or a field reads isn't copied.
@@ -193,28 +187,6 @@ pub(crate) fn chunk_of<E: External>(
     operand_part(run.alloc(), world, frame, &text, &pieces, run.delimiter())
 }
 
-/// The text of a field.
-#[cycle(run)]
-#[tactic(auto, using(meaning::proofs::Rules::val_field_rules))]
-#[inline(never)]
-pub(crate) fn field<E: External>(
-    world: &mut World<E>,
-    run: &mut Budget,
-    frame: &Frame,
-    nested: u32,
-    part: &Part,
-) -> Result<Value, Stop>
-    requires nested { nested ≤ 100 }
-    requires deep { part_depth (part_of part.now) ≤ max_depth }
-    requires open { IsSome (base world.old.history).start }
-    ensures meaning { Val world.old.history run.old frame.now nested (tree.field (part_of part.now)) result world.new.history run.new }
-    ensures fewer { run.new.left ≤ run.old.left }
-    ensures base { base world.new.history ≡ base world.old.history }
-{
-    let referent = meet_part(world, run, frame, nested, part)?;
-    field_text(run.alloc(), world, frame, run.delimiter(), referent)
-}
-
 /// `the number of` pieces, of cards, backgrounds or parts, or of an object.
 #[cycle(run)]
 #[tactic(auto, using(crate::proofs::Operands::count_rules, meaning::proofs::Rules::val_number_of_cards_rules, meaning::proofs::Rules::val_number_of_backgrounds_rules, meaning::proofs::Rules::val_number_of_parts_rules, meaning::proofs::Rules::val_number_of_of_object_rules))]
@@ -248,29 +220,6 @@ pub(crate) fn number_of<E: External>(
     }
 }
 
-/// A property of an object.
-#[cycle(run)]
-#[tactic(auto, using(meaning::proofs::Rules::val_property_rules))]
-#[inline(never)]
-pub(crate) fn property_of<E: External>(
-    world: &mut World<E>,
-    run: &mut Budget,
-    frame: &Frame,
-    nested: u32,
-    name: Prop,
-    reference: &Ref,
-) -> Result<Value, Stop>
-    requires nested { nested ≤ 100 }
-    requires deep { ref_depth (ref_of reference.now) < max_depth }
-    requires open { IsSome (base world.old.history).start }
-    ensures meaning { Val world.old.history run.old frame.now nested (tree.property name (ref_of reference.now)) result world.new.history run.new }
-    ensures fewer { run.new.left ≤ run.old.left }
-    ensures base { base world.new.history ≡ base world.old.history }
-{
-    let referent = meet(world, run, frame, nested, reference)?;
-    property(run.alloc(), world, referent, name)
-}
-
 /// `the length of` and the like, and `the value of`.
 #[cycle(run)]
 #[tactic(auto, using(crate::proofs::Operands::function_rules))]
@@ -299,37 +248,6 @@ pub(crate) fn function_of<E: External>(
             text_value(world, run, frame, nested, &text)
         }
     }
-}
-
-/// A call of a function.
-#[cycle(run)]
-#[tactic(auto, using(meaning::proofs::Rules::val_call_rules))]
-#[inline(never)]
-pub(crate) fn call<E: External>(
-    world: &mut World<E>,
-    run: &mut Budget,
-    frame: &Frame,
-    nested: u32,
-    name: &Text,
-    list: &Exprs,
-) -> Result<Value, Stop>
-    requires nested { nested ≤ 100 }
-    requires deep { depths (exprs_of list.now.items.items) < max_depth }
-    requires open { IsSome (base world.old.history).start }
-    ensures meaning { Val world.old.history run.old frame.now nested (tree.call name.now (exprs_of list.now.items.items)) result world.new.history run.new }
-    ensures fewer { run.new.left ≤ run.old.left }
-    ensures base { base world.new.history ≡ base world.old.history }
-{
-    calls(
-        world,
-        run,
-        frame,
-        nested,
-        frame.me,
-        name,
-        &list.items,
-        HandlerKind::Function,
-    )
 }
 
 /// The values of expressions from left to right.

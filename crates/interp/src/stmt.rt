@@ -2,11 +2,11 @@
 
 ghost use Rattle.std.specs.Prelude.{◌≡◌, ◌≤◌, ◌<◌, IsSome, IfOk};
 ghost use Rattle.ht_grammar.specs.Statements as stm;
-ghost use Rattle.ht_grammar.specs.Depth.{chunk_depth, container_depth, depth, depths, destination_depth, ref_depth, stmt_depth, stmts_depth, max_depth};
+ghost use Rattle.ht_grammar.specs.Depth.{chunk_depth, container_depth, depth, destination_depth, ref_depth, stmt_depth, stmts_depth, max_depth};
 ghost use Rattle.ht_tree.specs.StatementView.{destination_of, stmts_of};
-ghost use Rattle.ht_tree.specs.View.{chunk_of, exprs_of, ref_of};
+ghost use Rattle.ht_tree.specs.View.{chunk_of, ref_of};
 ghost use Rattle.containers.specs.Base.{base};
-ghost use Rattle.meaning.specs.Meaning.{Alters, Block, DoText, Form};
+ghost use Rattle.meaning.specs.Meaning.{Alters, Block, Form};
 
 use crate::expr::{eval, truth_value};
 use crate::message::{calls, send_text};
@@ -18,8 +18,8 @@ use change_journal::World;
 use containers::Edit;
 use externals::External;
 use ht_grammar::{HandlerKind, RunProp};
-use ht_tree::{Chunk, Container, Destination, Expr, Exprs, Names, Ref, Stmt, StmtKind};
-use ht_values::{Fault, Op, Prop, Text, Where};
+use ht_tree::{Chunk, Container, Destination, Expr, Names, Ref, Stmt, StmtKind};
+use ht_values::{Fault, Op, Prop, Where};
 use meaning::{Budget, Frame, How, Stop};
 use primitives::places::{declare_all, edit, put_into_it, set_property};
 use primitives::values::{empty, lines};
@@ -127,8 +127,24 @@ pub(crate) fn run_stmt<E: External>(
         StmtKind::Exit(_) => Ok(How::Exit),
         StmtKind::Pass(_) => Ok(How::Pass),
         StmtKind::ReturnNothing => Ok(How::Returns(empty(run.alloc()))),
-        StmtKind::ReturnValue(value) => returns(world, run, frame, nested, value),
-        StmtKind::Command(name, list) => command(world, run, frame, nested, name, list),
+        StmtKind::ReturnValue(value) => {
+            let value = eval(world, run, frame, nested, value)?;
+            Ok(How::Returns(value))
+        }
+        StmtKind::Command(name, list) => {
+            let command = HandlerKind::Command;
+            let _ = calls(
+                world,
+                run,
+                frame,
+                nested,
+                frame.me,
+                name,
+                &list.items,
+                command,
+            )?;
+            Ok(How::Next)
+        }
         StmtKind::When(condition, lines, otherwise) => {
             when(
                 world,
@@ -325,7 +341,7 @@ pub(crate) fn delete<E: External>(
 
 /// `do`: a text is run as lines, one level deeper.
 #[cycle(run)]
-#[tactic(auto, using(meaning::proofs::Rules::form_do_rules))]
+#[tactic(auto, using(meaning::proofs::Rules::form_do_rules, meaning::proofs::Rules::dotext_rules))]
 #[inline(never)]
 pub(crate) fn run_do<E: External>(
     world: &mut World<E>,
@@ -342,30 +358,10 @@ pub(crate) fn run_do<E: External>(
     ensures base { base world.new.history ≡ base world.old.history }
 {
     let text = eval(world, run, frame, nested, text)?.into_text(run.alloc())?;
-    do_text(world, run, frame, nested, &text)
-}
-
-/// A text that is run as lines.
-#[cycle(run)]
-#[tactic(auto, using(meaning::proofs::Rules::dotext_rules))]
-#[inline(never)]
-pub(crate) fn do_text<E: External>(
-    world: &mut World<E>,
-    run: &mut Budget,
-    frame: &mut Frame,
-    nested: u32,
-    text: &Text,
-) -> Result<How, Stop>
-    requires nested { nested ≤ 100 }
-    requires open { IsSome (base world.old.history).start }
-    ensures meaning { DoText world.old.history run.old frame.old nested text.now result world.new.history run.new frame.new }
-    ensures fewer { run.new.left ≤ run.old.left }
-    ensures base { base world.new.history ≡ base world.old.history }
-{
     if nested == 100 {
         return Err(Stop::Fault(Fault::TooDeep));
     }
-    let lines = lines(run.alloc(), text)?;
+    let lines = lines(run.alloc(), &text)?;
     let _depth = lines.depth();
     run_block(world, run, frame, nested + 1, &lines.items)
 }
@@ -435,60 +431,6 @@ pub(crate) fn globals<E: External>(
     ensures base { base world.new.history ≡ base world.old.history }
 {
     declare_all(run.alloc(), world, frame, &names.items)?;
-    Ok(How::Next)
-}
-
-/// `return` with a value.
-#[cycle(run)]
-#[tactic(auto, using(meaning::proofs::Rules::form_return_value_rules))]
-#[inline(never)]
-pub(crate) fn returns<E: External>(
-    world: &mut World<E>,
-    run: &mut Budget,
-    frame: &mut Frame,
-    nested: u32,
-    value: &Expr,
-) -> Result<How, Stop>
-    requires nested { nested ≤ 100 }
-    requires deep { depth value.now < max_depth }
-    requires open { IsSome (base world.old.history).start }
-    ensures meaning { Form world.old.history run.old frame.old nested (stm.return_value value.now) result world.new.history run.new frame.new }
-    ensures fewer { run.new.left ≤ run.old.left }
-    ensures base { base world.new.history ≡ base world.old.history }
-{
-    let value = eval(world, run, frame, nested, value)?;
-    Ok(How::Returns(value))
-}
-
-/// A message as a statement.
-#[cycle(run)]
-#[tactic(auto, using(meaning::proofs::Rules::form_command_rules))]
-#[inline(never)]
-pub(crate) fn command<E: External>(
-    world: &mut World<E>,
-    run: &mut Budget,
-    frame: &mut Frame,
-    nested: u32,
-    name: &Text,
-    list: &Exprs,
-) -> Result<How, Stop>
-    requires nested { nested ≤ 100 }
-    requires deep { depths (exprs_of list.now.items.items) < max_depth }
-    requires open { IsSome (base world.old.history).start }
-    ensures meaning { Form world.old.history run.old frame.old nested (stm.command name.now (exprs_of list.now.items.items)) result world.new.history run.new frame.new }
-    ensures fewer { run.new.left ≤ run.old.left }
-    ensures base { base world.new.history ≡ base world.old.history }
-{
-    let _ = calls(
-        world,
-        run,
-        frame,
-        nested,
-        frame.me,
-        name,
-        &list.items,
-        HandlerKind::Command,
-    )?;
     Ok(How::Next)
 }
 

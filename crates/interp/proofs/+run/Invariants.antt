@@ -23,9 +23,6 @@ decreases-expr::binary g l = 1000000 * l.run.now.left + 4000 * (100 - l.nested) 
 abbrev pub decreases-expr::unary : goal.decreases-expr::unary
 decreases-expr::unary g l = 1000000 * l.run.now.left + 4000 * (100 - l.nested) + 8 * depth l.operand.now + 103
 
-abbrev pub decreases-expr::there_is : goal.decreases-expr::there_is
-decreases-expr::there_is g l = 1000000 * l.run.now.left + 4000 * (100 - l.nested) + 8 * ref_depth (ref_of l.reference.now) + 103
-
 abbrev pub decreases-expr::meet_operand : goal.decreases-expr::meet_operand
 decreases-expr::meet_operand g l = 1000000 * l.run.now.left + 4000 * (100 - l.nested) + 8 * depth l.e.now + 103
 
@@ -40,9 +37,6 @@ decreases-expr::number_value g l = 1000000 * l.run.now.left + 4000 * (100 - l.ne
 
 abbrev pub decreases-expr::truth_value : goal.decreases-expr::truth_value
 decreases-expr::truth_value g l = 1000000 * l.run.now.left + 4000 * (100 - l.nested) + 8 * depth l.e.now + 103
-
-abbrev pub decreases-expr::field : goal.decreases-expr::field
-decreases-expr::field g l = 1000000 * l.run.now.left + 4000 * (100 - l.nested) + 8 * part_depth (part_of l.part.now) + 101
 
 abbrev pub decreases-reference::meet_part : goal.decreases-reference::meet_part
 decreases-reference::meet_part g l = 1000000 * l.run.now.left + 4000 * (100 - l.nested) + 8 * part_depth (part_of l.part.now) + 100
@@ -65,17 +59,11 @@ decreases-reference::lead g l = 1000000 * l.run.now.left + 4000 * (100 - l.neste
 abbrev pub decreases-expr::number_of : goal.decreases-expr::number_of
 decreases-expr::number_of g l = 1000000 * l.run.now.left + 4000 * (100 - l.nested) + 8 * count_depth (count_of l.count.now) + 104
 
-abbrev pub decreases-expr::property_of : goal.decreases-expr::property_of
-decreases-expr::property_of g l = 1000000 * l.run.now.left + 4000 * (100 - l.nested) + 8 * ref_depth (ref_of l.reference.now) + 103
-
 abbrev pub decreases-expr::function_of : goal.decreases-expr::function_of
 decreases-expr::function_of g l = 1000000 * l.run.now.left + 4000 * (100 - l.nested) + 8 * depth l.operand.now + 104
 
 abbrev pub decreases-expr::text_value : goal.decreases-expr::text_value
 decreases-expr::text_value g l = 1000000 * l.run.now.left + 4000 * (100 - l.nested) + 1
-
-abbrev pub decreases-expr::call : goal.decreases-expr::call
-decreases-expr::call g l = 1000000 * l.run.now.left + 4000 * (100 - l.nested) + 8 * depths (exprs_of l.list.now.items.items) + 106
 
 abbrev pub decreases-message::calls : goal.decreases-message::calls
 decreases-message::calls g l = 1000000 * l.run.now.left + 4000 * (100 - l.nested) + 8 * depths (exprs_of l.list.now) + 105
@@ -143,9 +131,6 @@ decreases-stmt::get g l = 1000000 * l.run.now.left + 4000 * (100 - l.nested) + 8
 abbrev pub decreases-stmt::set_run : goal.decreases-stmt::set_run
 decreases-stmt::set_run g l = 1000000 * l.run.now.left + 4000 * (100 - l.nested) + 8 * depth l.value.now + 2003
 
-abbrev pub decreases-stmt::returns : goal.decreases-stmt::returns
-decreases-stmt::returns g l = 1000000 * l.run.now.left + 4000 * (100 - l.nested) + 8 * depth l.value.now + 2003
-
 abbrev pub decreases-pieces::edit_container : goal.decreases-pieces::edit_container
 decreases-pieces::edit_container g l = 1000000 * l.run.now.left + 4000 * (100 - l.nested) + 8 * container_depth l.container.now + 107
 
@@ -164,17 +149,11 @@ decreases-stmt::delete g l = 1000000 * l.run.now.left + 4000 * (100 - l.nested) 
 abbrev pub decreases-stmt::run_do : goal.decreases-stmt::run_do
 decreases-stmt::run_do g l = 1000000 * l.run.now.left + 4000 * (100 - l.nested) + 8 * depth l.text.now + 2003
 
-abbrev pub decreases-stmt::do_text : goal.decreases-stmt::do_text
-decreases-stmt::do_text g l = 1000000 * l.run.now.left + 4000 * (100 - l.nested) + 1
-
 abbrev pub decreases-stmt::run_send : goal.decreases-stmt::run_send
 decreases-stmt::run_send g l = 1000000 * l.run.now.left + 4000 * (100 - l.nested) + 8 * max (depth l.text.now) (ref_depth (ref_of l.reference.now)) + 2003
 
 abbrev pub decreases-stmt::run_go : goal.decreases-stmt::run_go
 decreases-stmt::run_go g l = 1000000 * l.run.now.left + 4000 * (100 - l.nested) + 8 * destination_depth (destination_of l.destination.now) + 2003
-
-abbrev pub decreases-stmt::command : goal.decreases-stmt::command
-decreases-stmt::command g l = 1000000 * l.run.now.left + 4000 * (100 - l.nested) + 8 * depths (exprs_of l.list.now.items.items) + 2003
 
 abbrev pub decreases-stmt::when : goal.decreases-stmt::when
 decreases-stmt::when g l = 1000000 * l.run.now.left + 4000 * (100 - l.nested) + 8 * max (depth l.condition.now) (max (stmts_depth (stmts_of l.lines.now)) (stmts_depth (stmts_of l.otherwise.now))) + 2005
