@@ -27,23 +27,33 @@ fn shown_in(alloc: Global, answer: &str) -> Result<String, AllocError> {
     Ok(shown)
 }
 
-/// Whether the lines A and B of `HEADER: A / B` stand one after the other in the part of a stack text that the
-/// line HEADER begins; one line alone stands there.
-fn stands_in(alloc: Global, text: &str, wanted: &str) -> Result<bool, AllocError> {
-    let Some((header, lines)) = wanted.split_once(": ") else {
-        return Ok(false);
-    };
+/// The part of a stack text that a line begins, if it is there.
+fn part_below<'a>(
+    alloc: Global,
+    text: &'a str,
+    header: &str,
+) -> Result<Option<&'a str>, AllocError> {
     let mut begin = String::from_str(alloc, "\n")?;
     begin.push_str(header)?;
     begin.push('\n')?;
+    match text.split_once(begin.as_str()) {
+        Some((_, part)) => Ok(Some(part)),
+        None => Ok(None),
+    }
+}
+
+/// The lines A and B of `A / B`, a line feed before them and one after each.
+fn framed_run(alloc: Global, lines: &str) -> Result<String, AllocError> {
     let mut run = String::from_str(alloc, "\n")?;
     for line in lines.split(" / ") {
         run.push_str(line)?;
         run.push('\n')?;
     }
-    let Some((_, part)) = text.split_once(begin.as_str()) else {
-        return Ok(false);
-    };
+    Ok(run)
+}
+
+/// The lines up to the next card or background, a line feed before them and one after each.
+fn framed_part(alloc: Global, part: &str) -> Result<String, AllocError> {
     let mut framed = String::from_str(alloc, "\n")?;
     for line in part.lines() {
         if line.starts_with("card ") || line.starts_with("background ") {
@@ -52,7 +62,47 @@ fn stands_in(alloc: Global, text: &str, wanted: &str) -> Result<bool, AllocError
         framed.push_str(line)?;
         framed.push('\n')?;
     }
-    Ok(framed.as_str().contains(run.as_str()))
+    Ok(framed)
+}
+
+/// Whether the lines stand one after the other in the part.
+fn has_run(alloc: Global, part: &str, lines: &str) -> Result<bool, AllocError> {
+    let run = framed_run(alloc, lines)?;
+    Ok(framed_part(alloc, part)?.as_str().contains(run.as_str()))
+}
+
+/// Whether the lines A and B of `HEADER: A / B` stand one after the other in the part of a stack text that the
+/// line HEADER begins; one line alone stands there.
+fn stands_in(alloc: Global, text: &str, wanted: &str) -> Result<bool, AllocError> {
+    let Some((header, lines)) = wanted.split_once(": ") else {
+        return Ok(false);
+    };
+    match part_below(alloc, text, header)? {
+        Some(part) => has_run(alloc, part, lines),
+        None => Ok(false),
+    }
+}
+
+/// Whether the text that was kept under a name is this one.
+fn is_kept(kept: &[NamedText], name: &str, shown: &str) -> bool {
+    for one in kept {
+        if one.name.as_str() == name {
+            return one.text.as_str() == shown;
+        }
+    }
+    false
+}
+
+/// Keeps a text under a name.
+fn keep(
+    alloc: Global,
+    name: &str,
+    text: String,
+    kept: &mut Vec<NamedText>,
+) -> Result<(), AllocError> {
+    let name = String::from_str(alloc, name)?;
+    kept.push(NamedText { name, text })?;
+    Ok(())
 }
 
 /// Whether a shown stack text passes a check of a row; `keep` keeps it.
@@ -63,23 +113,17 @@ fn passes(
     stack: &str,
     kept: &mut Vec<NamedText>,
 ) -> Result<bool, AllocError> {
+    if let Some(name) = check.strip_prefix("keep ") {
+        keep(alloc, name, shown, kept)?;
+        return Ok(true);
+    }
     if let Some(wanted) = check.strip_prefix("in ") {
         return stands_in(alloc, shown.as_str(), wanted);
     }
-    if let Some(name) = check.strip_prefix("keep ") {
-        let name = String::from_str(alloc, name)?;
-        kept.push(NamedText { name, text: shown })?;
-        return Ok(true);
-    }
-    if let Some(name) = check.strip_prefix("same ") {
-        for one in kept.as_slice() {
-            if one.name.as_str() == name {
-                return Ok(one.text.as_str() == shown.as_str());
-            }
-        }
-        return Ok(false);
-    }
-    Ok(check == "stack" && shown.as_str() == stack)
+    Ok(match check.strip_prefix("same ") {
+        Some(name) => is_kept(kept.as_slice(), name, shown.as_str()),
+        None => check == "stack" && shown.as_str() == stack,
+    })
 }
 
 /// The answers that are still to be compared, and what is kept of those before.

@@ -82,14 +82,8 @@ fn performed(alloc: Global, row: &Row<'_>, stack: &str) -> Result<Ended, AllocEr
     })
 }
 
-/// What a row wants and didn't get, or none.
-fn unmet(
-    alloc: Global,
-    row: &Row<'_>,
-    stack: &str,
-    shown: &str,
-) -> Result<Option<String>, AllocError> {
-    let ended = performed(alloc, row, stack)?;
+/// What is wrong with how a run ended, if anything.
+fn wrong_end(alloc: Global, row: &Row<'_>, ended: &Ended) -> Result<Option<String>, AllocError> {
     let status = format!(in alloc; "{}", ended.status)?;
     if status.as_str() != row.status {
         return Ok(Some(format!(in alloc; "status {}", status)?));
@@ -97,7 +91,17 @@ fn unmet(
     if row.stderr != "*" && row.stderr.as_bytes() != ended.stderr.as_slice() {
         return Ok(Some(String::from_str(alloc, "standard error")?));
     }
-    let Ok(answers) = String::from_utf8(ended.answers) else {
+    Ok(None)
+}
+
+/// The first line of a row that its answers don't meet, or none.
+fn wrong_answer(
+    alloc: Global,
+    row: &Row<'_>,
+    answers: Vec<u8>,
+    shown: &str,
+) -> Result<Option<String>, AllocError> {
+    let Ok(answers) = String::from_utf8(answers) else {
         return Ok(Some(String::from_str(alloc, "other bytes")?));
     };
     match first_unmet(alloc, row.body, answers.as_str(), shown)? {
@@ -106,16 +110,39 @@ fn unmet(
     }
 }
 
+/// What a row wants and didn't get on a stack, or none.
+fn unmet_on(
+    alloc: Global,
+    row: &Row<'_>,
+    stack: &str,
+    shown: &str,
+) -> Result<Option<String>, AllocError> {
+    let ended = performed(alloc, row, stack)?;
+    match wrong_end(alloc, row, &ended)? {
+        Some(wrong) => Ok(Some(wrong)),
+        None => wrong_answer(alloc, row, ended.answers, shown),
+    }
+}
+
+/// What a row wants and didn't get, or none, where this is the text of its stack before the edit.
+fn unmet(alloc: Global, row: &Row<'_>, base: &str) -> Result<Option<String>, AllocError> {
+    let shown = edited(alloc, base, "line 1 htstack 2")?;
+    let stack = edited(alloc, base, row.edit)?;
+    unmet_on(alloc, row, stack.as_str(), shown.as_str())
+}
+
+/// The text of a row of the list.
+fn text_of<R: Files + AllocGlobal>(rt: &R, name: &str) -> io::Result<String> {
+    let file = format!(in rt.alloc(); "{}.row", name)?;
+    fs::read_to_string(rt, file.as_str())
+}
+
 /// Runs a row of the list, and prints how it went.
 fn report<R: Files + AllocGlobal + Print>(rt: &R, name: &str, waits: bool) -> io::Result<()> {
-    let alloc = rt.alloc();
-    let file = format!(in alloc; "{}.row", name)?;
-    let text = fs::read_to_string(rt, file.as_str())?;
+    let text = text_of(rt, name)?;
     let row = row_of(text.as_str());
     let base = fs::read_to_string(rt, row.stack)?;
-    let shown = edited(alloc, base.as_str(), "line 1 htstack 2")?;
-    let stack = edited(alloc, base.as_str(), row.edit)?;
-    match (unmet(alloc, &row, stack.as_str(), shown.as_str())?, waits) {
+    match (unmet(rt.alloc(), &row, base.as_str())?, waits) {
         (None, false) => println!(rt; "{} passed", name),
         (None, true) => println!(rt; "{} passed, and is listed as waiting", name),
         (Some(_), true) => println!(rt; "{} waits", name),

@@ -105,22 +105,32 @@ fn print_read_message(alloc: Global, text: &Text, out: &mut Vec<u8>) -> anyhow::
     }
 }
 
-/// Prints the tree of a line's text, `syntax` where the text isn't in the grammar, or that the line's first word is none.
-pub fn print_tree(alloc: Global, line: &str, out: &mut Vec<u8>) -> anyhow::Result<()> {
-    let (kind, rest) = line.split_once(" ").unwrap_or((line, ""));
+/// The text of a line of this kind.
+fn text_in(alloc: Global, kind: &str, rest: &str) -> anyhow::Result<Text> {
     let bytes = if kind == "nested" {
         nested(alloc, rest)?
     } else {
         written(alloc, rest)?
     };
-    let text = Text::from_vec(bytes)?;
+    Ok(Text::from_vec(bytes)?)
+}
+
+/// Prints the tree of a text that is read as its kind says, or that there is no such kind.
+fn print_as(alloc: Global, kind: &str, text: &Text, out: &mut Vec<u8>) -> anyhow::Result<()> {
     match kind {
-        "expr" | "nested" => print_read_expr(alloc, &text, out),
-        "lines" => print_read_lines(alloc, &text, out),
-        "script" => print_read_script(alloc, &text, out),
-        "part" => print_read_part(alloc, &text, out),
-        "type" => print_read_type(alloc, &text, out),
-        "message" => print_read_message(alloc, &text, out),
+        "expr" | "nested" => print_read_expr(alloc, text, out),
+        "lines" => print_read_lines(alloc, text, out),
+        "script" => print_read_script(alloc, text, out),
+        "part" => print_read_part(alloc, text, out),
+        "type" => print_read_type(alloc, text, out),
+        "message" => print_read_message(alloc, text, out),
         _ => Ok(print_word(out, "no such kind")?),
     }
+}
+
+/// Prints the tree of a line's text, `syntax` where the text isn't in the grammar, or that the line's first word is none.
+pub fn print_tree(alloc: Global, line: &str, out: &mut Vec<u8>) -> anyhow::Result<()> {
+    let (kind, rest) = line.split_once(" ").unwrap_or((line, ""));
+    let text = text_in(alloc, kind, rest)?;
+    print_as(alloc, kind, &text, out)
 }
