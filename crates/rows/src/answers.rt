@@ -1,5 +1,6 @@
 //! What a row's answers have to be.
 
+use devices::HeardMessage;
 use std::alloc::{AllocError, Global};
 
 /// A shown text that was kept under a name, to compare later ones with.
@@ -126,10 +127,23 @@ fn passes(
     })
 }
 
+/// Whether a message is the one of a line: its name, and the id of its object.
+fn is_message(message: &HeardMessage, wanted: &str) -> bool {
+    match wanted.split_once(" ") {
+        Some((name, object)) => {
+            message.name.as_slice() == name.as_bytes() && object.parse() == Ok(message.object)
+        }
+        None => false,
+    }
+}
+
 /// The answers that are still to be compared, and what is kept of those before.
 #[derive(Drop)]
 struct Comparison<'a> {
     rest: &'a str,
+    /// The messages that were sent, and how many of them were compared.
+    messages: &'a [HeardMessage],
+    compared: usize,
     /// The answer that checks look at, up to the next input line.
     checked: Option<&'a str>,
     kept: Vec<NamedText>,
@@ -146,12 +160,36 @@ impl<'a> Comparison<'a> {
         self.checked
     }
 
-    /// Whether the next answers are those of a line of the row; an input line has none of its own.
+    /// Whether the next message is the one of a line.
+    fn is_next_message(&mut self, wanted: &str) -> bool {
+        let next = self.messages.get(self.compared);
+        self.compared = self.compared.saturating_add(1);
+        match next {
+            Some(message) => is_message(message, wanted),
+            None => false,
+        }
+    }
+
+    /// What comes after the last line of the row, or none. Where a row names messages, it names all.
+    fn more(&self) -> Option<&'static str> {
+        if self.rest != "" {
+            return Some("nothing more");
+        }
+        if 0 < self.compared && self.compared < self.messages.len() {
+            return Some("no more messages");
+        }
+        None
+    }
+
+    /// Whether the next answers, or the next message, are those of a line of the row; an input line has none of its own.
     fn meets(&mut self, alloc: Global, line: &str, stack: &str) -> Result<bool, AllocError> {
         if let Some(wanted) = line.strip_prefix("= ") {
             let (answer, after) = self.rest.split_once("\n").unwrap_or(("", ""));
             self.rest = after;
             return Ok(answer == wanted);
+        }
+        if let Some(wanted) = line.strip_prefix("! ") {
+            return Ok(self.is_next_message(wanted));
         }
         let Some(check) = line.strip_prefix("~ ") else {
             self.checked = None;
@@ -165,15 +203,18 @@ impl<'a> Comparison<'a> {
     }
 }
 
-/// The first line of a row that its answers don't meet, or none; the stack as it is shown at first.
-pub fn first_unmet<'a>(
+/// The first line of a row that its answers and messages don't meet, or none; the stack as it is shown at first.
+pub fn first_unmet<'a, 'b>(
     alloc: Global,
     body: &'a str,
-    answers: &str,
+    answers: &'b str,
+    messages: &'b [HeardMessage],
     stack: &str,
 ) -> Result<Option<&'a str>, AllocError> {
     let mut comparison = Comparison {
         rest: answers,
+        messages,
+        compared: 0,
         checked: None,
         kept: Vec::new(alloc),
     };
@@ -182,9 +223,5 @@ pub fn first_unmet<'a>(
             return Ok(Some(line));
         }
     }
-    Ok(if comparison.rest == "" {
-        None
-    } else {
-        Some("nothing more")
-    })
+    Ok(comparison.more())
 }

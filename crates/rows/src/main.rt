@@ -14,17 +14,18 @@ use crate::answers::first_unmet;
 use crate::row::{Row, edited, input_of, row_of};
 use crate::trees::print_tree;
 use command_line::{CliFault, cut, options_of, play_with_kit, verdict};
-use devices::{Shelf, Watched};
+use devices::{HeardMessage, Shelf, Watched};
 use ht_values::Text;
 use std::alloc::{AllocError, Global};
 use std::fs;
 use std::io::{self, Write};
 use std::rt::Files;
 
-/// What a run wrote, and how it ended.
+/// What a run wrote, the desk that heard its messages, and how it ended.
 #[derive(Drop)]
 struct Ended {
     answers: Vec<u8>,
+    desk: Shelf,
     status: u8,
     stderr: Text,
 }
@@ -49,20 +50,20 @@ fn desk_of(alloc: Global, fails_at: &str) -> Shelf {
     }
 }
 
-/// Runs an input on a stack, and writes the answers.
+/// Runs an input on a stack at a desk, and writes the answers.
 fn run_on(
     alloc: Global,
     row: &Row<'_>,
     stack: &[u8],
     input: &[u8],
     answers: &mut Vec<u8>,
+    desk: &mut Shelf,
 ) -> Result<(), CliFault> {
     let words = words(alloc, row)?;
     let options = options_of(alloc, words.as_slice())?;
     let mut reader = Watched::new(input);
     let mut writer = Watched::new(answers);
-    let mut desk = desk_of(alloc, row.desk);
-    play_with_kit(alloc, &options, stack, &mut reader, &mut writer, &mut desk)?;
+    play_with_kit(alloc, &options, stack, &mut reader, &mut writer, desk)?;
     Ok(())
 }
 
@@ -70,13 +71,22 @@ fn run_on(
 fn performed(alloc: Global, row: &Row<'_>, stack: &str) -> Result<Ended, AllocError> {
     let input = input_of(alloc, row.body)?;
     let mut answers = Vec::new(alloc);
-    let outcome = run_on(alloc, row, stack.as_bytes(), input.as_bytes(), &mut answers);
+    let mut desk = desk_of(alloc, row.desk);
+    let outcome = run_on(
+        alloc,
+        row,
+        stack.as_bytes(),
+        input.as_bytes(),
+        &mut answers,
+        &mut desk,
+    );
     let (status, stderr) = match outcome {
         Ok(()) => (0, Text::new(alloc)),
         Err(fault) => verdict(alloc, &fault, &cut(alloc, row.stack.as_bytes())?)?,
     };
     Ok(Ended {
         answers,
+        desk,
         status,
         stderr,
     })
@@ -94,17 +104,18 @@ fn wrong_end(alloc: Global, row: &Row<'_>, ended: &Ended) -> Result<Option<Strin
     Ok(None)
 }
 
-/// The first line of a row that its answers don't meet, or none.
+/// The first line of a row that its answers and messages don't meet, or none.
 fn wrong_answer(
     alloc: Global,
     row: &Row<'_>,
     answers: Vec<u8>,
+    messages: &[HeardMessage],
     shown: &str,
 ) -> Result<Option<String>, AllocError> {
     let Ok(answers) = String::from_utf8(answers) else {
         return Ok(Some(String::from_str(alloc, "other bytes")?));
     };
-    match first_unmet(alloc, row.body, answers.as_str(), shown)? {
+    match first_unmet(alloc, row.body, answers.as_str(), messages, shown)? {
         None => Ok(None),
         Some(line) => Ok(Some(String::from_str(alloc, line)?)),
     }
@@ -120,7 +131,7 @@ fn unmet_on(
     let ended = performed(alloc, row, stack)?;
     match wrong_end(alloc, row, &ended)? {
         Some(wrong) => Ok(Some(wrong)),
-        None => wrong_answer(alloc, row, ended.answers, shown),
+        None => wrong_answer(alloc, row, ended.answers, ended.desk.messages(), shown),
     }
 }
 

@@ -17,7 +17,8 @@ pub struct Row<'a> {
     pub status: &'a str,
     /// The line that is wanted on standard error; `*` is any line.
     pub stderr: &'a str,
-    /// The lines of the row.
+    /// The lines of the row: what is typed (`< LINE`), each line of the answer (`= LINE`), what a shown stack text has to be
+    /// (`~ CHECK`), and each message that the run sends, in their order, with the id of its object (`! NAME ID`).
     pub body: &'a str,
 }
 
