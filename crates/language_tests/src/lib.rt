@@ -1,18 +1,11 @@
-//! Examples of the crates of the language, with ample memory. A crate that has tests is proved a second time for them, so they
-//! stand here, above the crates that they try, where nothing else is to be proved.
+//! Examples of the crates of the language that no run of the program and no printed tree shows, with ample memory; all others
+//! are rows and trees of `rows`. A crate that has tests is proved a second time for them, so they stand here, above the crates
+//! that they try, where nothing else is to be proved.
 #![tactic(auto)]
 
 #[cfg(test)]
 mod cases;
 #[cfg(test)]
-mod expressions;
+mod places;
 #[cfg(test)]
-mod pieces;
-#[cfg(test)]
-mod texts;
-#[cfg(test)]
-mod tokens;
-#[cfg(test)]
-mod trees;
-#[cfg(test)]
-mod values;
+mod unseen;
