@@ -19,12 +19,6 @@ mod objects;
 #[cfg(test)]
 mod plain_texts;
 #[cfg(test)]
-mod property_values;
-#[cfg(test)]
-mod references;
-#[cfg(test)]
-mod settings;
-#[cfg(test)]
 mod spelling;
 #[cfg(test)]
 mod stacks;
@@ -32,3 +26,5 @@ mod stacks;
 mod tools;
 #[cfg(test)]
 mod watched_devices;
+#[cfg(test)]
+mod what_no_run_shows;
