@@ -1,22 +1,14 @@
-//! Examples of the crates of the world, of the message path and of what runs the language, with ample memory. A crate that has
-//! tests is proved a second time for them, so they stand here, above the crates that they try, where nothing else is to be
-//! proved.
+//! Examples of the crates of the world, with ample memory, and of what no run of the program shows of the message path and of
+//! what runs the language; the worked rows try the rest of these. A crate that has tests is proved a second time for them, so
+//! they stand here, above the crates that they try, where nothing else is to be proved.
 #![tactic(auto)]
 
-#[cfg(test)]
-mod actions;
 #[cfg(test)]
 mod changes;
 #[cfg(test)]
 mod entries;
 #[cfg(test)]
-mod lines;
-#[cfg(test)]
-mod message_path;
-#[cfg(test)]
 mod places;
-#[cfg(test)]
-mod runs;
 #[cfg(test)]
 mod stack_changes;
 #[cfg(test)]
@@ -26,6 +18,6 @@ mod texts;
 #[cfg(test)]
 mod turner;
 #[cfg(test)]
-mod variables_and_fields;
+mod unseen;
 #[cfg(test)]
 mod worlds;
