@@ -1,5 +1,5 @@
-//! What no run of the program shows: what laws promise, trees that are kept, a batch that is given up, a name and fields to which
-//! no line leads, and what a run tells of itself while it lasts.
+//! What no run of the program shows: what laws promise, trees that are kept, a batch that is given up, a name and fields to
+//! which no line leads, what a run tells of itself while it lasts, and a message by itself that isn't of the system.
 
 ghost use Rattle.std.specs.Prelude.{◌≡◌, IfOk, IsSome, None, OnOk};
 
@@ -11,6 +11,7 @@ use change_journal::{Change, World};
 use containers::{Variables, read_name, writes_are_due, written_is_read};
 use ht_grammar::HandlerKind;
 use ht_values::{Fault, Name, Value};
+use interp::send_message;
 use meaning::{Budget, Frame, Stop};
 use msg_path::{Found, first_is_one, next_handler};
 use object_references::Referent;
@@ -174,7 +175,26 @@ fn a_run_tells_what_it_did(rt: HostRuntime) -> Result<(), Fail> {
     run.show(&Value::of_number(7))?;
     run.note(&text(rt.alloc(), b"f")?, 4)?;
     assert!(rt; run.left() == 0 && run.step() == Err(Stop::Fault(Fault::StepLimit)));
+    assert!(rt; !run.shown().is_empty() && !run.sent().is_empty());
     assert!(rt; run.shown().len() == 1 && run.shown().at(0).as_slice() == b"7".as_slice());
     assert!(rt; run.sent().len() == 1 && run.sent().at(0).object == 4);
+    Ok(())
+}
+
+/// Whether a message that is sent to card 2 by itself ends well, and is noted.
+#[tactic(auto, using(containers::proofs::Bases::is_open), unfolding(containers::specs::Base::base))]
+fn is_sent(alloc: Global, name: &[u8]) -> Result<bool, Fail> {
+    let mut world = opened(alloc)?;
+    let mut run = Box::new(alloc, Budget::new(alloc, 10))?;
+    world.begin(1)?;
+    let name = text(alloc, name)?;
+    let ended = send_message(&mut *world, &mut *run, 2, &name);
+    Ok(ended.is_ok() && run.sent().len() == 1)
+}
+
+#[test]
+fn a_message_is_sent_by_itself(rt: HostRuntime) -> Result<(), Fail> {
+    assert!(rt; is_sent(rt.alloc(), b"mouseUp")?);
+    assert!(rt; !is_sent(rt.alloc(), b"foo")?);
     Ok(())
 }
