@@ -3,7 +3,6 @@ pub mod CellLines
 pub mod GlobalsInOrder
 pub mod LineFeeds
 pub mod Moving
-pub mod Opened
 pub mod Performing
 pub mod Spaces
 pub mod Stamping

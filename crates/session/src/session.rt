@@ -1,6 +1,6 @@
 //! A session: a world, and the lines that it takes.
 
-ghost use Rattle.std.specs.Prelude.{◌≡◌, ◌≤◌, ◌==◌, ◌⊎◌, [], ◌∷◌, length, true, OnOk, OnErr, IfOk, IfErr, IsErr, IsErrOf, IsOk, MatchBool, Some, None, map, option_map, slice_index_or};
+ghost use Rattle.std.specs.Prelude.{◌≡◌, ◌≤◌, ◌==◌, ◌&&◌, ◌⊎◌, [], ◌∷◌, nat_le, length, true, OnOk, OnErr, IfOk, IfErr, IsErr, IsErrOf, IsOk, MatchBool, Some, None, map, option_map, slice_index_or};
 ghost use Rattle.object_table.specs.WellFormed.{IsWellFormed};
 ghost use Rattle.journal_entries.specs.State.{seen_by, seen_at, titles_of, has_name, index_of};
 ghost use Rattle.change_journal.specs.History.{plugged, unplugged};
@@ -160,6 +160,13 @@ fn perform<E: External>(
     }
 }
 
+/// Whether a number is from 1 to the greatest one.
+fn is_within(number: u32, greatest: u32) -> bool
+    ensures { result ≡ (nat_le 1 number && nat_le number greatest) }
+{
+    1 <= number && number <= greatest
+}
+
 impl<E: External> Session<E> {
     /// A session of one state: the stack, no global, its first card, and the externals with their
     /// cells of now. A command may take as many steps, 1 to 10,000,000; at most `depth` places, 1 to
@@ -182,10 +189,10 @@ impl<E: External> Session<E> {
             (open_fault steps depth (map E.title externals.items) ≡ Some e.0)
             × (e.1 ≡ stack) × (e.2.items ≡ externals.items)) }
     {
-        if !(1..=MOST_STEPS).contains(&steps) {
+        if !is_within(steps, MOST_STEPS) {
             return Err((OpenError::BadSteps, stack, externals));
         }
-        if !(1..=MOST_DEPTH).contains(&depth) {
+        if !is_within(depth, MOST_DEPTH) {
             return Err((OpenError::BadDepth, stack, externals));
         }
         match World::open(alloc, stack, externals, depth) {
