@@ -18,27 +18,53 @@ use std::alloc::{AllocError, Global};
 use std::io::{Read, Write};
 use xkit::{Bins, Count, Gate, Relay};
 
-/// The four externals of the kit.
+/// The four externals of the kit, each in a box.
 #[derive(Drop)]
 struct Kit {
-    count: Count,
-    bins: Bins,
-    relay: Relay,
-    gate: Gate,
+    count: Box<Count>,
+    bins: Box<Bins>,
+    relay: Box<Relay>,
+    gate: Box<Gate>,
+}
+
+// Each external of the kit as it begins, under its name.
+
+fn count_of(alloc: Global) -> Result<Box<Count>, AllocError>
+    ensures { IfOk result (λ c. seen_by ⟦<Count as External>⟧.title ⟦<Count as External>⟧.sort ⟦<Count as External>⟧.answers_calls ⟦<Count as External>⟧.cells c.value ≡ count) }
+{
+    Ok(Box::new(alloc, Count::new(alloc, cut(alloc, b"Count")?, 0)?)?)
+}
+
+fn bins_of(alloc: Global) -> Result<Box<Bins>, AllocError>
+    ensures { IfOk result (λ b. seen_by ⟦<Bins as External>⟧.title ⟦<Bins as External>⟧.sort ⟦<Bins as External>⟧.answers_calls ⟦<Bins as External>⟧.cells b.value ≡ bins) }
+{
+    Ok(Box::new(alloc, Bins::new(alloc, cut(alloc, b"Bins")?)?)?)
+}
+
+fn relay_of(alloc: Global) -> Result<Box<Relay>, AllocError>
+    ensures { IfOk result (λ r. seen_by ⟦<Relay as External>⟧.title ⟦<Relay as External>⟧.sort ⟦<Relay as External>⟧.answers_calls ⟦<Relay as External>⟧.cells r.value ≡ relay) }
+{
+    Ok(Box::new(alloc, Relay::new(alloc, cut(alloc, b"Relay")?)?)?)
+}
+
+fn gate_of(alloc: Global) -> Result<Box<Gate>, AllocError>
+    ensures { IfOk result (λ g. seen_by ⟦<Gate as External>⟧.title ⟦<Gate as External>⟧.sort ⟦<Gate as External>⟧.answers_calls ⟦<Gate as External>⟧.cells g.value ≡ gate) }
+{
+    Ok(Box::new(alloc, Gate::new(alloc, cut(alloc, b"Gate")?)?)?)
 }
 
 /// The four as they begin, each under its name.
 fn kit_of(alloc: Global) -> Result<Kit, AllocError>
-    ensures count { IfOk result (λ k. seen_by ⟦<Count as External>⟧.title ⟦<Count as External>⟧.sort ⟦<Count as External>⟧.answers_calls ⟦<Count as External>⟧.cells k.count ≡ count) }
-    ensures bins { IfOk result (λ k. seen_by ⟦<Bins as External>⟧.title ⟦<Bins as External>⟧.sort ⟦<Bins as External>⟧.answers_calls ⟦<Bins as External>⟧.cells k.bins ≡ bins) }
-    ensures relay { IfOk result (λ k. seen_by ⟦<Relay as External>⟧.title ⟦<Relay as External>⟧.sort ⟦<Relay as External>⟧.answers_calls ⟦<Relay as External>⟧.cells k.relay ≡ relay) }
-    ensures gate { IfOk result (λ k. seen_by ⟦<Gate as External>⟧.title ⟦<Gate as External>⟧.sort ⟦<Gate as External>⟧.answers_calls ⟦<Gate as External>⟧.cells k.gate ≡ gate) }
+    ensures count { IfOk result (λ k. seen_by ⟦<Count as External>⟧.title ⟦<Count as External>⟧.sort ⟦<Count as External>⟧.answers_calls ⟦<Count as External>⟧.cells k.count.value ≡ count) }
+    ensures bins { IfOk result (λ k. seen_by ⟦<Bins as External>⟧.title ⟦<Bins as External>⟧.sort ⟦<Bins as External>⟧.answers_calls ⟦<Bins as External>⟧.cells k.bins.value ≡ bins) }
+    ensures relay { IfOk result (λ k. seen_by ⟦<Relay as External>⟧.title ⟦<Relay as External>⟧.sort ⟦<Relay as External>⟧.answers_calls ⟦<Relay as External>⟧.cells k.relay.value ≡ relay) }
+    ensures gate { IfOk result (λ k. seen_by ⟦<Gate as External>⟧.title ⟦<Gate as External>⟧.sort ⟦<Gate as External>⟧.answers_calls ⟦<Gate as External>⟧.cells k.gate.value ≡ gate) }
 {
     Ok(Kit {
-        count: Count::new(alloc, cut(alloc, b"Count")?, 0)?,
-        bins: Bins::new(alloc, cut(alloc, b"Bins")?)?,
-        relay: Relay::new(alloc, cut(alloc, b"Relay")?)?,
-        gate: Gate::new(alloc, cut(alloc, b"Gate")?)?,
+        count: count_of(alloc)?,
+        bins: bins_of(alloc)?,
+        relay: relay_of(alloc)?,
+        gate: gate_of(alloc)?,
     })
 }
 
@@ -103,10 +129,10 @@ pub fn play_with_kit<R: Read, W: Write, D: Desk>(
     ensures write_sound { ¬ IsErrOf result CliFault.Write → failures_of writer.new ≡ failures_of writer.old }
 {
     let kit = kit_of(alloc)?;
-    let count: Box<dyn External> = Box::new(alloc, kit.count)?;
-    let bins: Box<dyn External> = Box::new(alloc, kit.bins)?;
-    let relay: Box<dyn External> = Box::new(alloc, kit.relay)?;
-    let gate: Box<dyn External> = Box::new(alloc, kit.gate)?;
+    let count: Box<dyn External> = kit.count;
+    let bins: Box<dyn External> = kit.bins;
+    let relay: Box<dyn External> = kit.relay;
+    let gate: Box<dyn External> = kit.gate;
     let externals = kit_listed(alloc, count, bins, relay, gate)?;
     play(alloc, options, bytes, externals, reader, writer, desk)
 }

@@ -4,7 +4,7 @@ ghost use Rattle.std.specs.Prelude.{◌≡◌, ◌≤◌, ◌↔◌, [], map, fa
 ghost use Rattle.std.specs.String.{string_bytes};
 ghost use Rattle.clap.specs.Words.{app_of, fault_of, kind_of, found_of, rows_of, rule_of, matches_of, one_of};
 ghost use Rattle.command_line.specs.Verdicts.{IsFaultOfWords};
-ghost use Rattle.command_line.specs.Words.{program as program_by, number_rule, IsNumber, Says};
+ghost use Rattle.command_line.specs.Words.{program as program_by, stack_rule, number_rule, watch_rule, IsNumber, Says};
 
 use crate::fault::{CliFault, cut};
 use crate::options::Options;
@@ -29,38 +29,50 @@ fn number_option<'a>(alloc: Global, name: &'a str, most: u32, help: &'a str) -> 
         .help(help)
 }
 
+/// The word for the file of the stack, which has to be there.
+fn stack_word<'a>(alloc: Global) -> Arg<'a>
+    ensures rule { rule_of result ≡ stack_rule }
+    ensures local { result.global ≡ false }
+{
+    Arg::new(alloc, "STACK")
+        .required(true)
+        .action(ArgAction::Set)
+        .help("The file of the stack")
+}
+
+/// The flag that shows messages.
+fn watch_flag<'a>(alloc: Global) -> Arg<'a>
+    ensures rule { rule_of result ≡ watch_rule }
+    ensures local { result.global ≡ false }
+{
+    Arg::new(alloc, "watch")
+        .long("watch")
+        .action(ArgAction::SetTrue)
+        .help("Show the messages that are sent")
+}
+
 /// The program as `clap` knows it, with what `--help` says of it.
 fn program<'a>(alloc: Global) -> Result<Command<'a>, AllocError>
     ensures { IfOk result (λ c. app_of c ≡ program_by) }
 {
-    let stack = Arg::new(alloc, "STACK")
-        .required(true)
-        .action(ArgAction::Set)
-        .help("The file of the stack");
-    let steps = number_option(
-        alloc,
-        "steps",
-        MOST_STEPS,
-        "How many steps a command may take; 100000 unless it is given",
-    );
-    let depth = number_option(
-        alloc,
-        "depth",
-        MOST_DEPTH,
-        "How many commands the history keeps; 1000000 unless it is given",
-    );
-    let watch = Arg::new(alloc, "watch")
-        .long("watch")
-        .action(ArgAction::SetTrue)
-        .help("Show the messages that are sent");
     Command::new(alloc, "card_cli")
         .about(
             "Opens a stack of cards and answers each line of standard input: HyperTalk, or a command that begins with a dot",
         )
-        .arg(stack)?
-        .arg(steps)?
-        .arg(depth)?
-        .arg(watch)
+        .arg(stack_word(alloc))?
+        .arg(number_option(
+            alloc,
+            "steps",
+            MOST_STEPS,
+            "How many steps a command may take; 100000 unless it is given",
+        ))?
+        .arg(number_option(
+            alloc,
+            "depth",
+            MOST_DEPTH,
+            "How many commands the history keeps; 1000000 unless it is given",
+        ))?
+        .arg(watch_flag(alloc))
 }
 
 /// A number that `clap` let through, from 1 to the most, or this one where none was given.

@@ -8,26 +8,6 @@ returns-in_err-kit-clause-err g c =
     let p = err_from_is_err_and c.from_residual.result c.from_residual.ensures.1 in
     idles _ _ _ _ _ _ _ (p.1 ∙ ap Err p.2)
 
-pub returns-in_err-new-clause-err : goal.returns-in_err-new-clause-err
-returns-in_err-new-clause-err g c =
-    let p = err_from_is_err_and c.from_residual-in_err-new.result c.from_residual-in_err-new.ensures.1 in
-    idles _ _ _ _ _ _ _ (p.1 ∙ ap Err p.2)
-
-pub returns-in_err-new-2-clause-err : goal.returns-in_err-new-2-clause-err
-returns-in_err-new-2-clause-err g c =
-    let p = err_from_is_err_and c.from_residual-in_err-new-2.result c.from_residual-in_err-new-2.ensures.1 in
-    idles _ _ _ _ _ _ _ (p.1 ∙ ap Err p.2)
-
-pub returns-in_err-new-3-clause-err : goal.returns-in_err-new-3-clause-err
-returns-in_err-new-3-clause-err g c =
-    let p = err_from_is_err_and c.from_residual-in_err-new-3.result c.from_residual-in_err-new-3.ensures.1 in
-    idles _ _ _ _ _ _ _ (p.1 ∙ ap Err p.2)
-
-pub returns-in_err-new-4-clause-err : goal.returns-in_err-new-4-clause-err
-returns-in_err-new-4-clause-err g c =
-    let p = err_from_is_err_and c.from_residual-in_err-new-4.result c.from_residual-in_err-new-4.ensures.1 in
-    idles _ _ _ _ _ _ _ (p.1 ∙ ap Err p.2)
-
 pub returns-in_err-externals-clause-err : goal.returns-in_err-externals-clause-err
 returns-in_err-externals-clause-err g c =
     let p = err_from_is_err_and c.from_residual-in_err-externals.result c.from_residual-in_err-externals.ensures.1 in
