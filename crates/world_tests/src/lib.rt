@@ -1,16 +1,12 @@
-//! Examples of the crates of the world, with ample memory, and of what no run of the program shows of the message path and of
-//! what runs the language; the worked rows try the rest of these. A crate that has tests is proved a second time for them, so
+//! Examples of what no run of the program shows of the crates of the world, with ample memory, of the message path and of what
+//! runs the language; the worked rows try the rest. A crate that has tests is proved a second time for them, so
 //! they stand here, above the crates that they try, where nothing else is to be proved.
 #![tactic(auto)]
 
 #[cfg(test)]
-mod changes;
-#[cfg(test)]
 mod entries;
 #[cfg(test)]
 mod places;
-#[cfg(test)]
-mod stack_changes;
 #[cfg(test)]
 mod stacks;
 #[cfg(test)]

@@ -8,7 +8,7 @@ use stack_file::read;
 use std::alloc::Global;
 use std::test::Fail;
 
-pub(crate) const TWO_CARDS: &[u8] =
+const TWO_CARDS: &[u8] =
     b"htstack 2\nnext 5\nname |Demo\nscript 0\nbackgrounds 1\nbackground 1\nname |\ncantDelete false\nscript 0\nparts 1\nfield 3\nname |Note\nvisible true\nlockText false\nsharedText false\nscript 0\nshared 0\ncards 2\ncard 2 1\nname |A\ncantDelete false\nscript 0\nparts 0\ntext 3 0\ncard 4 1\nname |B\ncantDelete false\nscript 0\nparts 0\ntext 3 0\nend\n";
 
 pub(crate) fn two_cards(alloc: Global) -> Result<Stack, Fail>

@@ -3,10 +3,9 @@
 use externals::{Ask, External, Input, Patch};
 use ht_values::Text;
 use std::alloc::{AllocError, Global};
-use std::mem;
 use std::test::Fail;
 
-/// Of no known kind, a command that fails at each turn: its cell is `first`, and `turned` after a turn.
+/// Of no known kind, a command with one empty cell that stays: it fails at each turn.
 #[derive(Drop)]
 pub(crate) struct Turner {
     name: Text,
@@ -51,19 +50,7 @@ impl External for Turner {
     fn turn(&mut self, alloc: Global, input: &Input) -> Result<(Ask, Patch), AllocError> {
         let _ = input;
         self.turns = self.turns.saturating_add(1);
-        let mut next = Text::from_slice(alloc, b"turned").map_err(|_| AllocError)?;
-        let mut patch = Patch::new(alloc);
-        if next.as_slice() == self.cell.as_slice() {
-            return Ok((Ask::Fail, patch));
-        }
-        mem::swap(&mut self.cell, &mut next);
-        match patch.push(0, next) {
-            Ok(()) => Ok((Ask::Fail, patch)),
-            Err(old) => {
-                self.cell = old;
-                Err(AllocError)
-            }
-        }
+        Ok((Ask::Fail, Patch::new(alloc)))
     }
 
     fn flip(&mut self, patch: &mut Patch) {
@@ -77,10 +64,10 @@ impl External for Turner {
     }
 }
 
-fn make_turner(alloc: Global, name: &[u8]) -> Result<Turner, Fail> {
+pub(crate) fn make_turner(alloc: Global, name: &[u8]) -> Result<Turner, Fail> {
     Ok(Turner {
         name: Text::from_slice(alloc, name)?,
-        cell: Text::from_slice(alloc, b"first")?,
+        cell: Text::new(alloc),
         turns: 0,
     })
 }
@@ -91,20 +78,4 @@ pub(crate) fn all_turners(alloc: Global, names: &[&[u8]]) -> Result<Vec<Turner>,
         turners.push(make_turner(alloc, name)?)?;
     }
     Ok(turners)
-}
-
-pub(crate) type Boxed = Box<dyn External>;
-
-pub(crate) fn boxed(alloc: Global, name: &[u8]) -> Result<Boxed, Fail> {
-    let external: Boxed = Box::new(alloc, make_turner(alloc, name)?)?;
-    Ok(external)
-}
-
-/// Externals of these names, each in a box.
-pub(crate) fn all_boxed(alloc: Global, names: &[&[u8]]) -> Result<Vec<Boxed>, Fail> {
-    let mut externals = Vec::new(alloc);
-    for name in names {
-        externals.push(boxed(alloc, name)?).ok().ok_or("memory")?;
-    }
-    Ok(externals)
 }

@@ -6,7 +6,7 @@ ghost use Rattle.std.specs.Prelude.{◌≡◌, IfOk, IsSome, None, OnOk};
 use crate::stacks::two_cards;
 use crate::texts::text;
 use crate::turner::Turner;
-use crate::worlds::open_world;
+use crate::worlds::{make, open_world};
 use change_journal::{Change, World};
 use containers::{Variables, read_name, writes_are_due, written_is_read};
 use ht_grammar::HandlerKind;
@@ -19,12 +19,16 @@ use object_table::{Id, PropValue};
 use primitives::places::{field_place, field_text};
 use std::alloc::Global;
 use std::test::Fail;
+use structural_changes::{laws_of_changes, laws_of_current_cards, laws_of_places};
 
 #[test]
 fn laws_are_promised(_rt: HostRuntime) {
     writes_are_due();
     written_is_read();
     first_is_one();
+    laws_of_changes();
+    laws_of_current_cards();
+    laws_of_places();
 }
 
 /// A world of the two cards.
@@ -39,17 +43,6 @@ const FOO: &[u8] = b"on foo\rput 1\rend foo\r";
 /// A change of an object's script.
 fn script_change(alloc: Global, id: Id, script: &[u8]) -> Result<Change, Fail> {
     Ok(Change::Prop(id, PropValue::ScriptIs(text(alloc, script)?)))
-}
-
-/// Makes a change in the open batch, where it fits.
-fn make(world: &mut World<Turner>, change: Change) -> Result<(), Fail>
-    requires { IsSome world.old.history.start }
-    ensures { OnOk result (IsSome world.new.history.start) }
-{
-    if world.fits(&change) {
-        world.make(change)?;
-    }
-    Ok(())
 }
 
 /// Begins a batch, and gives card 2 a script.

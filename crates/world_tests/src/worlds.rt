@@ -1,67 +1,19 @@
-//! Worlds of the examples: what is done to them, by plain values, and each call of them by a function of its own, which
-//! promises whether a batch is open and nothing else of the history. A world stands in a box, which is dropped by one call.
+//! Worlds of the examples, and what no run of the program shows of them: a global that is changed by name, how globals are
+//! counted, changes that no line makes, and externals that are plugged in and out. A world stands in a box, which is dropped by
+//! one call.
 
 ghost use Rattle.std.specs.Prelude.{◌≡◌, ◌≤◌, None, OnOk, IfOk, IsSome};
 ghost use Rattle.object_table.specs.WellFormed.{IsWellFormed};
 
-use change_journal::{Change, World};
-use externals::{External, Input, Texts};
+use crate::texts::text;
+use crate::turner::{Turner, all_turners, make_turner};
+use change_journal::{Change, PlugError, World, WorldError};
+use externals::External;
 use ht_values::{PartKind, Text};
-use object_table::{Id, LayerId, PropValue, Stack};
+use object_table::{LayerId, PropValue, Stack};
+use stack_file::read;
 use std::alloc::Global;
 use std::test::Fail;
-
-/// A change, by plain values.
-#[derive(Clone, Copy)]
-pub(crate) enum Deed {
-    Global(&'static [u8], &'static [u8]),
-    /// The same, with the name lent.
-    PutGlobal(&'static [u8], &'static [u8]),
-    FieldText(Id, Id, &'static [u8]),
-    Hilite(Id, Id, bool),
-    Name(Id, &'static [u8]),
-    CantDelete(Id, bool),
-    LockText(Id, bool),
-    Current(Id),
-    Card,
-    Background,
-    Part(LayerId, PartKind),
-    Delete,
-}
-
-/// A line of this number, or a move along the history.
-#[derive(Clone, Copy)]
-pub(crate) enum Step {
-    /// Its changes are committed.
-    Line(u32, &'static [Deed]),
-    /// Its changes are given up.
-    GivenUp(u32, &'static [Deed]),
-    /// The first external takes a turn.
-    Turn(u32),
-    Back,
-    Forth,
-}
-
-pub(crate) fn change(alloc: Global, deed: Deed) -> Result<Change, Fail> {
-    Ok(match deed {
-        Deed::Global(name, value) | Deed::PutGlobal(name, value) => {
-            let name = Text::from_slice(alloc, name)?;
-            Change::Global(name, Some(Text::from_slice(alloc, value)?))
-        }
-        Deed::FieldText(field, card, text) => {
-            Change::FieldText(field, card, Text::from_slice(alloc, text)?)
-        }
-        Deed::Hilite(button, card, lit) => Change::Hilite(button, card, lit),
-        Deed::Name(id, name) => Change::Prop(id, PropValue::NameIs(Text::from_slice(alloc, name)?)),
-        Deed::CantDelete(id, on) => Change::Prop(id, PropValue::CantDeleteIs(on)),
-        Deed::LockText(id, on) => Change::Prop(id, PropValue::LockTextIs(on)),
-        Deed::Current(card) => Change::Current(card),
-        Deed::Card => Change::NewCard,
-        Deed::Background => Change::NewBackground,
-        Deed::Part(layer, kind) => Change::NewPart(layer, kind),
-        Deed::Delete => Change::DeleteCard,
-    })
-}
 
 pub(crate) fn open_world<E: External>(
     alloc: Global,
@@ -80,14 +32,8 @@ pub(crate) fn open_world<E: External>(
     }
 }
 
-fn begin<E: External>(world: &mut World<E>, number: u32) -> Result<(), Fail>
-    requires { world.old.history.start ≡ None }
-    ensures { OnOk result (IsSome world.new.history.start) }
-{
-    Ok(world.begin(number)?)
-}
-
-fn make<E: External>(world: &mut World<E>, change: Change) -> Result<(), Fail>
+/// Makes a change in the open batch.
+pub(crate) fn make<E: External>(world: &mut World<E>, change: Change) -> Result<(), Fail>
     requires { IsSome world.old.history.start }
     ensures { OnOk result (IsSome world.new.history.start) }
 {
@@ -97,135 +43,153 @@ fn make<E: External>(world: &mut World<E>, change: Change) -> Result<(), Fail>
     Ok(world.make(change)?)
 }
 
-fn put_global<E: External>(world: &mut World<E>, name: &Text, value: Text) -> Result<(), Fail>
-    requires { IsSome world.old.history.start }
-    ensures { OnOk result (IsSome world.new.history.start) }
+/// Gives the global `g` the value `1`, in a batch of its own.
+fn put_one<E: External>(alloc: Global, world: &mut World<E>) -> Result<(), Fail>
+    requires { world.old.history.start ≡ None }
+    ensures { OnOk result (world.new.history.start ≡ None) }
 {
-    if !name.is_folded() {
-        return Err("fits".into());
-    }
-    Ok(world.put_global(name, Some(value))?)
-}
-
-/// Does this in the open batch.
-fn do_one<E: External>(alloc: Global, world: &mut World<E>, deed: Deed) -> Result<(), Fail>
-    requires { IsSome world.old.history.start }
-    ensures { OnOk result (IsSome world.new.history.start) }
-{
-    match deed {
-        Deed::PutGlobal(name, value) => {
-            let name = Text::from_slice(alloc, name)?;
-            put_global(world, &name, Text::from_slice(alloc, value)?)
-        }
-        _ => make(world, change(alloc, deed)?),
-    }
-}
-
-fn turn_first<E: External>(alloc: Global, world: &mut World<E>) -> Result<(), Fail>
-    requires { IsSome world.old.history.start }
-    ensures { OnOk result (IsSome world.new.history.start) }
-{
-    if world.external_count() == 0 {
-        return Err("no external".into());
-    }
-    let _ = world.turn_external(0, &Input::Start(Texts::new(alloc)))?;
-    Ok(())
-}
-
-fn commit<E: External>(world: &mut World<E>)
-    requires { IsSome world.old.history.start }
-    ensures { world.new.history.start ≡ None }
-{
+    let change = Change::Global(text(alloc, b"g")?, Some(text(alloc, b"1")?));
+    world.begin(1)?;
+    make(world, change)?;
     world.commit();
+    Ok(())
 }
 
-fn roll_back<E: External>(world: &mut World<E>)
-    requires { IsSome world.old.history.start }
+/// Whether `g` is `1`, and no other global has a value.
+fn lists_one<E: External>(world: &World<E>) -> bool {
+    if world.global_count() != 1 {
+        return false;
+    }
+    let (name, value) = world.global_at(0);
+    name == b"g".as_slice() && value.as_slice() == b"1".as_slice()
+}
+
+/// Why an external isn't plugged, or none.
+fn plug<E: External>(world: &mut World<E>, external: E) -> Option<PlugError>
+    requires { world.old.history.start ≡ None }
     ensures { world.new.history.start ≡ None }
 {
-    world.roll_back();
-}
-
-fn flip_back<E: External>(world: &mut World<E>) -> Result<(), Fail>
-    requires { world.old.history.start ≡ None }
-    ensures { OnOk result (world.new.history.start ≡ None) }
-{
-    if world.undoable() == 0 {
-        return Err("no place".into());
+    match world.plug(external) {
+        Ok(()) => None,
+        Err((error, _)) => Some(error),
     }
-    world.flip_back();
-    Ok(())
 }
 
-fn flip_forth<E: External>(world: &mut World<E>) -> Result<(), Fail>
+/// Whether an external of this name was unplugged.
+fn unplug<E: External>(world: &mut World<E>, name: &Text) -> bool
     requires { world.old.history.start ≡ None }
-    ensures { OnOk result (world.new.history.start ≡ None) }
+    ensures { world.new.history.start ≡ None }
 {
-    if world.redoable() == 0 {
-        return Err("no place".into());
-    }
-    world.flip_forth();
-    Ok(())
+    world.unplug(name).is_some()
 }
 
-/// Opens a batch, and does this in it.
-fn do_all<E: External>(
+fn count_at_close<E: External>(world: Box<World<E>>) -> usize {
+    world.law_of_states();
+    Box::into_inner(world).close().len()
+}
+
+/// What is plugged into a world of the external `a` after a change, or why it isn't, and what is then unplugged, with how many
+/// externals there are after each.
+struct PlugRow {
+    plugged: &'static [u8],
+    error: Option<PlugError>,
+    then: usize,
+    unplugged: &'static [u8],
+    last: usize,
+}
+
+const PLUGS: &[PlugRow] = &[
+    PlugRow {
+        plugged: b"A",
+        error: Some(PlugError::DuplicateName),
+        then: 1,
+        unplugged: b"A",
+        last: 0,
+    },
+    PlugRow {
+        plugged: b"new",
+        error: None,
+        then: 2,
+        unplugged: b"NEW",
+        last: 1,
+    },
+];
+
+/// The change's place stays where an external is plugged or not, and goes where one is unplugged.
+fn plugs<E: External>(
     alloc: Global,
-    world: &mut World<E>,
-    number: u32,
-    deeds: &[Deed],
-) -> Result<(), Fail>
-    requires { world.old.history.start ≡ None }
-    ensures { OnOk result (IsSome world.new.history.start) }
-{
-    begin(world, number)?;
-    for deed in deeds {
-        do_one(alloc, world, *deed)?;
+    externals: Vec<E>,
+    new: E,
+    name: &Text,
+    row: &PlugRow,
+) -> Result<bool, Fail> {
+    let mut world = open_world(alloc, Stack::new(alloc)?, externals, 1)?;
+    put_one(alloc, &mut world)?;
+    let is_plugged = plug(&mut world, new) == row.error
+        && world.external_count() == row.then
+        && world.undoable() == 1;
+    let is_unplugged = unplug(&mut world, name) && world.undoable() == 0 && lists_one(&world);
+    Ok(is_plugged && is_unplugged && count_at_close(world) == row.last)
+}
+
+#[test]
+fn externals_are_plugged_and_unplugged(rt: HostRuntime) -> Result<(), Fail> {
+    for row in PLUGS {
+        let name = text(rt.alloc(), row.unplugged)?;
+        let new = make_turner(rt.alloc(), row.plugged)?;
+        let externals = all_turners(rt.alloc(), &[b"a".as_slice()])?;
+        assert!(rt; plugs(rt.alloc(), externals, new, &name, row)?);
     }
     Ok(())
 }
 
-fn turn<E: External>(alloc: Global, world: &mut World<E>, number: u32) -> Result<(), Fail>
-    requires { world.old.history.start ≡ None }
-    ensures { OnOk result (world.new.history.start ≡ None) }
-{
-    begin(world, number)?;
-    turn_first(alloc, world)?;
-    commit(world);
-    Ok(())
-}
-
-fn take<E: External>(alloc: Global, world: &mut World<E>, step: Step) -> Result<(), Fail>
-    requires { world.old.history.start ≡ None }
-    ensures { OnOk result (world.new.history.start ≡ None) }
-{
-    match step {
-        Step::Line(number, deeds) => {
-            do_all(alloc, world, number, deeds)?;
-            commit(world);
-            Ok(())
-        }
-        Step::GivenUp(number, deeds) => {
-            do_all(alloc, world, number, deeds)?;
-            roll_back(world);
-            Ok(())
-        }
-        Step::Turn(number) => turn(alloc, world, number),
-        Step::Back => flip_back(world),
-        Step::Forth => flip_forth(world),
-    }
-}
-
-pub(crate) fn take_all<E: External>(
+/// Why no world is opened, and how many externals come back.
+fn refusal_to_open<E: External>(
     alloc: Global,
-    world: &mut World<E>,
-    steps: &[Step],
-) -> Result<(), Fail>
-    requires { world.old.history.start ≡ None }
-    ensures { OnOk result (world.new.history.start ≡ None) }
-{
-    for step in steps {
-        take(alloc, world, *step)?;
+    externals: Vec<E>,
+) -> Result<Option<(WorldError, usize)>, Fail> {
+    let opened = World::open(alloc, Stack::new(alloc)?, externals, 1);
+    match opened.err() {
+        None => Ok(None),
+        Some((error, _, externals)) => Ok(Some((error, externals.len()))),
     }
+}
+
+#[test]
+fn names_are_apart(rt: HostRuntime) -> Result<(), Fail> {
+    let two = all_turners(rt.alloc(), &[b"a".as_slice(), b"A".as_slice()])?;
+    let refusal = refusal_to_open(rt.alloc(), two)?;
+    assert!(rt; refusal == Some((WorldError::DuplicateName, 2)));
+    Ok(())
+}
+
+/// One card, whose background has the button 5 and the field 6.
+const BUTTON_AND_FIELD: &[u8] = b"htstack 2\nnext 7\nname |\nscript 0\nbackgrounds 1\n\
+background 1\nname |\ncantDelete false\nscript 0\nparts 2\n\
+button 5\nname |\nvisible true\nsharedHilite false\nhilite true\nscript 0\n\
+field 6\nname |\nvisible true\nlockText false\nsharedText true\nscript 0\nshared 0\n\
+cards 1\ncard 2 1\nname |\ncantDelete false\nscript 0\nparts 0\nhilite 5 true\ntext 6 0\nend\n";
+
+fn fits(world: &World<Turner>, change: Change) -> bool {
+    world.fits(&change)
+}
+
+/// The only card stays; a text isn't there, a field has no hilite and a button's text no lock, and these layers aren't there.
+#[test]
+fn what_no_line_makes_does_not_fit(rt: HostRuntime) -> Result<(), Fail> {
+    let alloc = rt.alloc();
+    let world = open_world(alloc, read(alloc, BUTTON_AND_FIELD)?, Vec::new(alloc), 1)?;
+    assert!(rt; fits(&world, Change::NewPart(LayerId::OfCard(2), PartKind::Field)));
+    assert!(rt; !fits(&world, Change::DeleteCard));
+    assert!(rt; !fits(&world, Change::FieldText(6, 1, Text::new(alloc))));
+    assert!(rt; !fits(&world, Change::Hilite(6, 2, true)));
+    assert!(rt; !fits(&world, Change::Prop(5, PropValue::LockTextIs(true))));
+    assert!(rt; !fits(&world, Change::NewPart(LayerId::OfCard(1), PartKind::Field)));
+    assert!(rt;
+        !fits(
+            &world,
+            Change::NewPart(LayerId::OfBackground(2), PartKind::Field)
+        )
+    );
     Ok(())
 }
