@@ -1,6 +1,5 @@
-//! Worlds of the examples, and what no run of the program shows of them: a global that is changed by name, how globals are
-//! counted, changes that no line makes, and externals that are plugged in and out. A world stands in a box, which is dropped by
-//! one call.
+//! Worlds of the examples, and what no run of the program shows of them: the change of a global, the count of globals, changes
+//! that don't fit, and externals that are plugged in and out. A world stands in a box, which is dropped by one call.
 
 ghost use Rattle.std.specs.Prelude.{◌≡◌, ◌≤◌, None, OnOk, IfOk, IsSome};
 ghost use Rattle.object_table.specs.WellFormed.{IsWellFormed};
