@@ -12,7 +12,7 @@ mod trees;
 
 use crate::answers::first_unmet;
 use crate::row::{Row, edited, input_of, row_of};
-use crate::trees::print_tree;
+use crate::trees::tree_of;
 use command_line::{CliFault, cut, options_of, play_with_kit, verdict};
 use devices::{HeardMessage, Shelf, Watched};
 use ht_values::Text;
@@ -166,8 +166,7 @@ fn print_trees(rt: &HostRuntime) -> anyhow::Result<()> {
     let alloc = rt.alloc();
     for line in rt.lines(alloc) {
         let line = line?;
-        let mut answer = Vec::new(alloc);
-        print_tree(alloc, line.as_str(), &mut answer)?;
+        let mut answer = tree_of(alloc, line.as_str())?;
         answer.push(b'\n')?;
         io::writer(rt).write_all(&answer)?;
     }

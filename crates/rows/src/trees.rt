@@ -3,14 +3,14 @@
 //! a 1, and M closing ones.
 
 mod expression;
+mod printed;
 mod script;
 mod statement;
-mod word;
 
 use crate::trees::expression::{print_expr, print_part};
+use crate::trees::printed::Printed;
 use crate::trees::script::{print_message, print_script, print_typing};
 use crate::trees::statement::print_lines;
-use crate::trees::word::print_word;
 use ht_parse::{
     ParseError, parse_expr, parse_lines, parse_message, parse_part, parse_script, parse_type,
 };
@@ -54,53 +54,52 @@ fn nested(alloc: Global, counts: &str) -> Result<Vec<u8>, AllocError> {
     Ok(bytes)
 }
 
-/// Prints that a text isn't in the grammar, or fails where it was out of memory.
-fn refused(out: &mut Vec<u8>, error: ParseError) -> anyhow::Result<()> {
+/// Prints that a text isn't in the grammar.
+fn refused(out: &mut Printed, error: ParseError) {
     match error {
-        ParseError::Syntax(_) => print_word(out, "syntax")?,
-        ParseError::Memory => anyhow::bail!("out of memory"),
+        ParseError::Syntax(_) => out.word("syntax"),
+        ParseError::Memory => out.cut(),
     }
-    Ok(())
 }
 
-fn print_read_expr(alloc: Global, text: &Text, out: &mut Vec<u8>) -> anyhow::Result<()> {
+fn print_read_expr(alloc: Global, text: &Text, out: &mut Printed) {
     match parse_expr(alloc, text) {
-        Ok(expr) => Ok(print_expr(out, &expr)?),
+        Ok(expr) => print_expr(out, &expr),
         Err(error) => refused(out, error),
     }
 }
 
-fn print_read_lines(alloc: Global, text: &Text, out: &mut Vec<u8>) -> anyhow::Result<()> {
+fn print_read_lines(alloc: Global, text: &Text, out: &mut Printed) {
     match parse_lines(alloc, text) {
-        Ok(lines) => Ok(print_lines(out, &lines)?),
+        Ok(lines) => print_lines(out, &lines),
         Err(error) => refused(out, error),
     }
 }
 
-fn print_read_script(alloc: Global, text: &Text, out: &mut Vec<u8>) -> anyhow::Result<()> {
+fn print_read_script(alloc: Global, text: &Text, out: &mut Printed) {
     match parse_script(alloc, text) {
-        Ok(script) => Ok(print_script(out, &script)?),
+        Ok(script) => print_script(out, &script),
         Err(error) => refused(out, error),
     }
 }
 
-fn print_read_part(alloc: Global, text: &Text, out: &mut Vec<u8>) -> anyhow::Result<()> {
+fn print_read_part(alloc: Global, text: &Text, out: &mut Printed) {
     match parse_part(alloc, text) {
-        Ok(part) => Ok(print_part(out, &part)?),
+        Ok(part) => print_part(out, &part),
         Err(error) => refused(out, error),
     }
 }
 
-fn print_read_type(alloc: Global, text: &Text, out: &mut Vec<u8>) -> anyhow::Result<()> {
+fn print_read_type(alloc: Global, text: &Text, out: &mut Printed) {
     match parse_type(alloc, text) {
-        Ok(typing) => Ok(print_typing(out, &typing)?),
+        Ok(typing) => print_typing(out, &typing),
         Err(error) => refused(out, error),
     }
 }
 
-fn print_read_message(alloc: Global, text: &Text, out: &mut Vec<u8>) -> anyhow::Result<()> {
+fn print_read_message(alloc: Global, text: &Text, out: &mut Printed) {
     match parse_message(alloc, text) {
-        Ok(message) => Ok(print_message(out, &message)?),
+        Ok(message) => print_message(out, &message),
         Err(error) => refused(out, error),
     }
 }
@@ -116,7 +115,7 @@ fn text_in(alloc: Global, kind: &str, rest: &str) -> anyhow::Result<Text> {
 }
 
 /// Prints the tree of a text that is read as its kind says, or that there is no such kind.
-fn print_as(alloc: Global, kind: &str, text: &Text, out: &mut Vec<u8>) -> anyhow::Result<()> {
+fn print_as(alloc: Global, kind: &str, text: &Text, out: &mut Printed) {
     match kind {
         "expr" | "nested" => print_read_expr(alloc, text, out),
         "lines" => print_read_lines(alloc, text, out),
@@ -124,13 +123,15 @@ fn print_as(alloc: Global, kind: &str, text: &Text, out: &mut Vec<u8>) -> anyhow
         "part" => print_read_part(alloc, text, out),
         "type" => print_read_type(alloc, text, out),
         "message" => print_read_message(alloc, text, out),
-        _ => Ok(print_word(out, "no such kind")?),
+        _ => out.word("no such kind"),
     }
 }
 
-/// Prints the tree of a line's text, `syntax` where the text isn't in the grammar, or that the line's first word is none.
-pub fn print_tree(alloc: Global, line: &str, out: &mut Vec<u8>) -> anyhow::Result<()> {
+/// The tree of a line's text, `syntax` where the text isn't in the grammar, or that the line's first word is no kind.
+pub fn tree_of(alloc: Global, line: &str) -> anyhow::Result<Vec<u8>> {
     let (kind, rest) = line.split_once(" ").unwrap_or((line, ""));
     let text = text_in(alloc, kind, rest)?;
-    print_as(alloc, kind, &text, out)
+    let mut out = Printed::new(alloc);
+    print_as(alloc, kind, &text, &mut out);
+    Ok(out.into_bytes()?)
 }

@@ -1,130 +1,128 @@
 //! Expressions and references, written plainly.
 
-use crate::trees::word::{print_named, print_opening, print_text, print_word};
+use crate::trees::printed::Printed;
 use ht_grammar::Layer;
 use ht_tree::{Chunk, Count, Expr, ExprKind, Exprs, Owner, Part, Ref, Selector, Which};
 use ht_values::Text;
-use std::io;
 
 /// Prints an expression: a number, a name or a constant as its word, a text in quotes, all else in parentheses.
 #[cycle(print)]
-pub fn print_expr(out: &mut Vec<u8>, expr: &Expr) -> io::Result<()> {
+pub fn print_expr(out: &mut Printed, expr: &Expr) {
     match expr.kind() {
-        ExprKind::Number(digits) => print_text(out, digits),
+        ExprKind::Number(digits) => out.text(digits),
         ExprKind::Quoted(text) => print_quoted(out, text),
-        ExprKind::Constant(constant) => print_named(out, "", constant, ""),
-        ExprKind::Return => print_word(out, "Return"),
-        ExprKind::Name(name) => print_text(out, name.text()),
-        ExprKind::Result => print_word(out, "(the-result)"),
-        ExprKind::Target => print_word(out, "(the-target)"),
-        ExprKind::RunProperty(property) => print_named(out, "(the ", property, ")"),
+        ExprKind::Constant(constant) => out.named("", constant, ""),
+        ExprKind::Return => out.word("Return"),
+        ExprKind::Name(name) => out.text(name.text()),
+        ExprKind::Result => out.word("(the-result)"),
+        ExprKind::Target => out.word("(the-target)"),
+        ExprKind::RunProperty(property) => out.named("(the ", property, ")"),
         ExprKind::Paren(inner) => {
-            print_word(out, "(paren ")?;
-            print_expr(out, inner)?;
-            print_word(out, ")")
+            out.word("(paren ");
+            print_expr(out, inner);
+            out.word(")");
         }
         ExprKind::Call(name, arguments) => {
-            print_word(out, "(call ")?;
-            print_text(out, name)?;
-            print_exprs(out, arguments)?;
-            print_word(out, ")")
+            out.word("(call ");
+            out.text(name);
+            print_exprs(out, arguments);
+            out.word(")");
         }
         ExprKind::Binary(op, left, right) => {
-            print_named(out, "(", op, " ")?;
-            print_expr(out, left)?;
-            print_word(out, " ")?;
-            print_expr(out, right)?;
-            print_word(out, ")")
+            out.named("(", op, " ");
+            print_expr(out, left);
+            out.word(" ");
+            print_expr(out, right);
+            out.word(")");
         }
         ExprKind::Unary(op, operand) => {
-            print_named(out, "(", op, " ")?;
-            print_expr(out, operand)?;
-            print_word(out, ")")
+            out.named("(", op, " ");
+            print_expr(out, operand);
+            out.word(")");
         }
         ExprKind::ThereIs(none, reference) => {
-            print_opening(out, if *none { "there-is-no" } else { "there-is-a" })?;
-            print_ref(out, reference)?;
-            print_word(out, ")")
+            out.opening(if *none { "there-is-no" } else { "there-is-a" });
+            print_ref(out, reference);
+            out.word(")");
         }
         ExprKind::Chunk(chunk, text) => {
-            print_word(out, "(chunk ")?;
-            print_chunk(out, chunk)?;
-            print_word(out, " ")?;
-            print_expr(out, text)?;
-            print_word(out, ")")
+            out.word("(chunk ");
+            print_chunk(out, chunk);
+            out.word(" ");
+            print_expr(out, text);
+            out.word(")");
         }
         ExprKind::Field(part) => {
-            print_word(out, "(text-of ")?;
-            print_part(out, part)?;
-            print_word(out, ")")
+            out.word("(text-of ");
+            print_part(out, part);
+            out.word(")");
         }
         ExprKind::NumberOf(count) => {
-            print_word(out, "(number-of ")?;
-            print_count(out, count)?;
-            print_word(out, ")")
+            out.word("(number-of ");
+            print_count(out, count);
+            out.word(")");
         }
         ExprKind::Property(property, reference) => {
-            print_named(out, "(the ", property, " ")?;
-            print_ref(out, reference)?;
-            print_word(out, ")")
+            out.named("(the ", property, " ");
+            print_ref(out, reference);
+            out.word(")");
         }
         ExprKind::Function(function, operand) => {
-            print_named(out, "(the ", function, " ")?;
-            print_expr(out, operand)?;
-            print_word(out, ")")
+            out.named("(the ", function, " ");
+            print_expr(out, operand);
+            out.word(")");
         }
     }
 }
 
 /// Prints a text in quotes.
-fn print_quoted(out: &mut Vec<u8>, text: &Text) -> io::Result<()> {
-    print_word(out, "\"")?;
-    print_text(out, text)?;
-    print_word(out, "\"")
+fn print_quoted(out: &mut Printed, text: &Text) {
+    out.word("\"");
+    out.text(text);
+    out.word("\"");
 }
 
 /// Prints expressions, each after a space.
 #[cycle(print)]
-pub fn print_exprs(out: &mut Vec<u8>, exprs: &Exprs) -> io::Result<()> {
+pub fn print_exprs(out: &mut Printed, exprs: &Exprs) {
     let mut rest = exprs.items.as_slice();
     while let [first, later @ ..] = rest {
-        print_word(out, " ")?;
-        print_expr(out, first)?;
+        out.word(" ");
+        print_expr(out, first);
         rest = later;
     }
-    Ok(())
 }
 
 /// Prints which pieces of a text.
 #[cycle(print)]
-pub fn print_chunk(out: &mut Vec<u8>, chunk: &Chunk) -> io::Result<()> {
+pub fn print_chunk(out: &mut Printed, chunk: &Chunk) {
     match chunk {
         Chunk::Piece(piece, index) => {
-            print_named(out, "(", piece, " ")?;
-            print_expr(out, index)?;
-            print_word(out, ")")
+            out.named("(", piece, " ");
+            print_expr(out, index);
+            out.word(")");
         }
         Chunk::Pieces(piece, first, last) => {
-            print_named(out, "(", piece, " ")?;
-            print_expr(out, first)?;
-            print_word(out, " ")?;
-            print_expr(out, last)?;
-            print_word(out, ")")
+            out.named("(", piece, " ");
+            print_expr(out, first);
+            out.word(" ");
+            print_expr(out, last);
+            out.word(")");
         }
         Chunk::NthPiece(ordinal, piece) => {
-            print_named(out, "(", ordinal, " ")?;
-            print_named(out, "", piece, ")")
+            out.named("(", ordinal, " ");
+            out.named("", piece, ")");
         }
     }
 }
 
 #[cycle(print)]
-fn print_which(out: &mut Vec<u8>, which: &Which) -> io::Result<()> {
+fn print_which(out: &mut Printed, which: &Which) {
     match which {
         Which::ById(id) => {
-            print_word(out, "(id ")?;
-            print_expr(out, id)?;
-            print_word(out, ")")
+            out.word("(id ");
+            print_expr(out, id);
+            out.word(")");
         }
         Which::ByText(text) => print_expr(out, text),
     }
@@ -132,95 +130,95 @@ fn print_which(out: &mut Vec<u8>, which: &Which) -> io::Result<()> {
 
 /// Prints which card or background.
 #[cycle(print)]
-pub fn print_selector(out: &mut Vec<u8>, selector: &Selector) -> io::Result<()> {
+pub fn print_selector(out: &mut Printed, selector: &Selector) {
     match selector {
-        Selector::This => print_word(out, "this"),
-        Selector::Next => print_word(out, "next"),
-        Selector::Previous => print_word(out, "previous"),
-        Selector::Nth(ordinal) => print_named(out, "", ordinal, ""),
+        Selector::This => out.word("this"),
+        Selector::Next => out.word("next"),
+        Selector::Previous => out.word("previous"),
+        Selector::Nth(ordinal) => out.named("", ordinal, ""),
         Selector::Which(which) => print_which(out, which),
     }
 }
 
 /// Prints a layer and a space, where there is a layer.
-fn print_layer(out: &mut Vec<u8>, layer: &Option<Layer>) -> io::Result<()> {
+fn print_layer(out: &mut Printed, layer: &Option<Layer>) {
     match layer {
-        None => Ok(()),
-        Some(layer) => print_named(out, "", layer, " "),
+        None => {}
+        Some(layer) => out.named("", layer, " "),
     }
 }
 
 #[cycle(print)]
-fn print_owner(out: &mut Vec<u8>, owner: &Owner) -> io::Result<()> {
+fn print_owner(out: &mut Printed, owner: &Owner) {
     match owner {
-        Owner::NoOwner => Ok(()),
+        Owner::NoOwner => {}
         Owner::OnCard(selector) => {
-            print_word(out, " of (Card ")?;
-            print_selector(out, selector)?;
-            print_word(out, ")")
+            out.word(" of (Card ");
+            print_selector(out, selector);
+            out.word(")");
         }
         Owner::OnBackground(selector) => {
-            print_word(out, " of (Background ")?;
-            print_selector(out, selector)?;
-            print_word(out, ")")
+            out.word(" of (Background ");
+            print_selector(out, selector);
+            out.word(")");
         }
     }
 }
 
 /// Prints a part: its layer, kind, number or name, and owner.
 #[cycle(print)]
-pub fn print_part(out: &mut Vec<u8>, part: &Part) -> io::Result<()> {
-    print_word(out, "(")?;
+pub fn print_part(out: &mut Printed, part: &Part) {
+    out.word("(");
     match part {
         Part::Plain(layer, kind, which, owner) => {
-            print_layer(out, layer)?;
-            print_named(out, "", kind, " ")?;
-            print_which(out, which)?;
-            print_owner(out, owner)?;
+            print_layer(out, layer);
+            out.named("", kind, " ");
+            print_which(out, which);
+            print_owner(out, owner);
         }
         Part::Nth(ordinal, layer, kind, owner) => {
-            print_named(out, "", ordinal, " ")?;
-            print_layer(out, layer)?;
-            print_named(out, "", kind, "")?;
-            print_owner(out, owner)?;
+            out.named("", ordinal, " ");
+            print_layer(out, layer);
+            out.named("", kind, "");
+            print_owner(out, owner);
         }
     }
-    print_word(out, ")")
+    out.word(")");
 }
 
 /// Prints a reference to an object.
 #[cycle(print)]
-pub fn print_ref(out: &mut Vec<u8>, reference: &Ref) -> io::Result<()> {
+pub fn print_ref(out: &mut Printed, reference: &Ref) {
     match reference {
-        Ref::Me => print_word(out, "(me)"),
-        Ref::Target => print_word(out, "(the-target)"),
-        Ref::ThisStack => print_word(out, "(this-stack)"),
+        Ref::Me => out.word("(me)"),
+        Ref::Target => out.word("(the-target)"),
+        Ref::ThisStack => out.word("(this-stack)"),
         Ref::Card(selector) => {
-            print_word(out, "(Card ")?;
-            print_selector(out, selector)?;
-            print_word(out, ")")
+            out.word("(Card ");
+            print_selector(out, selector);
+            out.word(")");
         }
         Ref::Background(selector) => {
-            print_word(out, "(Background ")?;
-            print_selector(out, selector)?;
-            print_word(out, ")")
+            out.word("(Background ");
+            print_selector(out, selector);
+            out.word(")");
         }
         Ref::Part(part) => print_part(out, part),
     }
 }
 
 #[cycle(print)]
-fn print_count(out: &mut Vec<u8>, count: &Count) -> io::Result<()> {
+fn print_count(out: &mut Printed, count: &Count) {
     match count {
         Count::PiecesOf(piece, text) => {
-            print_named(out, "", piece, "s ")?;
-            print_expr(out, text)
+            out.named("", piece, "s ");
+            print_expr(out, text);
         }
-        Count::Cards => print_word(out, "Cards"),
-        Count::Backgrounds => print_word(out, "Backgrounds"),
+        Count::Cards => out.word("Cards"),
+        Count::Backgrounds => out.word("Backgrounds"),
         Count::Parts(layer, kind) => {
-            print_layer(out, layer)?;
-            print_named(out, "", kind, "s")
+            print_layer(out, layer);
+            out.named("", kind, "s");
         }
         Count::OfObject(reference) => print_ref(out, reference),
     }

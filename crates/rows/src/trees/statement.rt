@@ -3,159 +3,152 @@
 use crate::trees::expression::{
     print_chunk, print_expr, print_exprs, print_part, print_ref, print_selector,
 };
-use crate::trees::word::{print_named, print_opening, print_text, print_word};
+use crate::trees::printed::Printed;
 use ht_tree::{
     Chunk, Container, ContainerKind, Destination, Expr, Head, Names, Ref, Stmt, StmtKind, Stmts,
 };
-use std::io;
 
 /// Prints a container: a variable as its name, all else in parentheses.
-fn print_container(out: &mut Vec<u8>, container: &Container) -> io::Result<()> {
+fn print_container(out: &mut Printed, container: &Container) {
     match container.kind() {
-        ContainerKind::Variable(name) => print_text(out, name.text()),
+        ContainerKind::Variable(name) => out.text(name.text()),
         ContainerKind::Field(part) => {
-            print_word(out, "(text-of ")?;
-            print_part(out, part)?;
-            print_word(out, ")")
+            out.word("(text-of ");
+            print_part(out, part);
+            out.word(")");
         }
         ContainerKind::Chunk(chunk, whole) => {
-            print_word(out, "(chunk ")?;
-            print_chunk(out, chunk)?;
-            print_word(out, " ")?;
-            print_container(out, whole)?;
-            print_word(out, ")")
+            out.word("(chunk ");
+            print_chunk(out, chunk);
+            out.word(" ");
+            print_container(out, whole);
+            out.word(")");
         }
     }
 }
 
 /// Prints names, with spaces between.
-pub fn print_names(out: &mut Vec<u8>, names: &Names) -> io::Result<()> {
+pub fn print_names(out: &mut Printed, names: &Names) {
     let mut between = "";
     for name in names.items.iter() {
-        print_word(out, between)?;
-        print_text(out, name.text())?;
+        out.word(between);
+        out.text(name.text());
         between = " ";
     }
-    Ok(())
 }
 
 /// Prints a word and an expression, in parentheses.
-fn print_one(out: &mut Vec<u8>, word: &str, value: &Expr) -> io::Result<()> {
-    print_opening(out, word)?;
-    print_expr(out, value)?;
-    print_word(out, ")")
+fn print_one(out: &mut Printed, word: &str, value: &Expr) {
+    out.opening(word);
+    print_expr(out, value);
+    out.word(")");
 }
 
 /// Prints a word, an expression and a container, in parentheses.
-fn print_into(
-    out: &mut Vec<u8>,
-    word: &str,
-    value: &Expr,
-    container: &Container,
-) -> io::Result<()> {
-    print_opening(out, word)?;
-    print_expr(out, value)?;
-    print_word(out, " ")?;
-    print_container(out, container)?;
-    print_word(out, ")")
+fn print_into(out: &mut Printed, word: &str, value: &Expr, container: &Container) {
+    out.opening(word);
+    print_expr(out, value);
+    out.word(" ");
+    print_container(out, container);
+    out.word(")");
 }
 
 /// Prints a word, a container and an expression, in parentheses.
-fn print_by(out: &mut Vec<u8>, word: &str, container: &Container, value: &Expr) -> io::Result<()> {
-    print_opening(out, word)?;
-    print_container(out, container)?;
-    print_word(out, " ")?;
-    print_expr(out, value)?;
-    print_word(out, ")")
+fn print_by(out: &mut Printed, word: &str, container: &Container, value: &Expr) {
+    out.opening(word);
+    print_container(out, container);
+    out.word(" ");
+    print_expr(out, value);
+    out.word(")");
 }
 
 /// Prints an object, a space, an expression and a closing parenthesis.
-fn print_to(out: &mut Vec<u8>, reference: &Ref, value: &Expr) -> io::Result<()> {
-    print_ref(out, reference)?;
-    print_word(out, " ")?;
-    print_expr(out, value)?;
-    print_word(out, ")")
+fn print_to(out: &mut Printed, reference: &Ref, value: &Expr) {
+    print_ref(out, reference);
+    out.word(" ");
+    print_expr(out, value);
+    out.word(")");
 }
 
-fn print_delete(out: &mut Vec<u8>, chunk: &Chunk, container: &Container) -> io::Result<()> {
-    print_word(out, "(delete ")?;
-    print_chunk(out, chunk)?;
-    print_word(out, " ")?;
-    print_container(out, container)?;
-    print_word(out, ")")
+fn print_delete(out: &mut Printed, chunk: &Chunk, container: &Container) {
+    out.word("(delete ");
+    print_chunk(out, chunk);
+    out.word(" ");
+    print_container(out, container);
+    out.word(")");
 }
 
-fn print_send(out: &mut Vec<u8>, message: &Expr, reference: &Ref) -> io::Result<()> {
-    print_word(out, "(send ")?;
-    print_expr(out, message)?;
-    print_word(out, " ")?;
-    print_ref(out, reference)?;
-    print_word(out, ")")
+fn print_send(out: &mut Printed, message: &Expr, reference: &Ref) {
+    out.word("(send ");
+    print_expr(out, message);
+    out.word(" ");
+    print_ref(out, reference);
+    out.word(")");
 }
 
-fn print_go(out: &mut Vec<u8>, destination: &Destination) -> io::Result<()> {
+fn print_go(out: &mut Printed, destination: &Destination) {
     match destination {
         Destination::ToCard(selector) => {
-            print_word(out, "(go Card ")?;
-            print_selector(out, selector)?;
+            out.word("(go Card ");
+            print_selector(out, selector);
         }
         Destination::ToBackground(selector) => {
-            print_word(out, "(go Background ")?;
-            print_selector(out, selector)?;
+            out.word("(go Background ");
+            print_selector(out, selector);
         }
     }
-    print_word(out, ")")
+    out.word(")");
 }
 
 /// Prints how often `repeat` does its lines.
-fn print_head(out: &mut Vec<u8>, head: &Head) -> io::Result<()> {
+fn print_head(out: &mut Printed, head: &Head) {
     match head {
-        Head::Forever => print_word(out, "forever"),
+        Head::Forever => out.word("forever"),
         Head::Times(times) => print_one(out, "times", times),
         Head::While(condition) => print_one(out, "while", condition),
         Head::Until(condition) => print_one(out, "until", condition),
         Head::CountedUp(name, from, to) => {
-            print_word(out, "(up ")?;
-            print_text(out, name.text())?;
-            print_word(out, " ")?;
-            print_expr(out, from)?;
-            print_word(out, " ")?;
-            print_expr(out, to)?;
-            print_word(out, ")")
+            out.word("(up ");
+            out.text(name.text());
+            out.word(" ");
+            print_expr(out, from);
+            out.word(" ");
+            print_expr(out, to);
+            out.word(")");
         }
         Head::CountedDown(name, from, to) => {
-            print_word(out, "(down ")?;
-            print_text(out, name.text())?;
-            print_word(out, " ")?;
-            print_expr(out, from)?;
-            print_word(out, " ")?;
-            print_expr(out, to)?;
-            print_word(out, ")")
+            out.word("(down ");
+            out.text(name.text());
+            out.word(" ");
+            print_expr(out, from);
+            out.word(" ");
+            print_expr(out, to);
+            out.word(")");
         }
     }
 }
 
 /// Prints a statement in parentheses: its word, and its parts in the order of the tree.
 #[cycle(print_lines)]
-fn print_stmt(out: &mut Vec<u8>, stmt: &Stmt) -> io::Result<()> {
+fn print_stmt(out: &mut Printed, stmt: &Stmt) {
     match stmt.kind() {
         StmtKind::Put(value) => print_one(out, "put", value),
         StmtKind::PutIn(place, value, container) => {
-            print_named(out, "(put-", place, " ")?;
-            print_expr(out, value)?;
-            print_word(out, " ")?;
-            print_container(out, container)?;
-            print_word(out, ")")
+            out.named("(put-", place, " ");
+            print_expr(out, value);
+            out.word(" ");
+            print_container(out, container);
+            out.word(")");
         }
         StmtKind::Get(value) => print_one(out, "get", value),
         StmtKind::Set(property, reference, value) => {
-            print_named(out, "(set ", property, " ")?;
-            print_to(out, reference, value)
+            out.named("(set ", property, " ");
+            print_to(out, reference, value);
         }
         StmtKind::SetRun(property, value) => {
-            print_named(out, "(set ", property, " ")?;
-            print_expr(out, value)?;
-            print_word(out, ")")
+            out.named("(set ", property, " ");
+            print_expr(out, value);
+            out.word(")");
         }
         StmtKind::Add(value, container) => print_into(out, "add", value, container),
         StmtKind::Subtract(value, container) => print_into(out, "subtract", value, container),
@@ -166,61 +159,61 @@ fn print_stmt(out: &mut Vec<u8>, stmt: &Stmt) -> io::Result<()> {
         StmtKind::Send(message, reference) => print_send(out, message, reference),
         StmtKind::Go(destination) => print_go(out, destination),
         StmtKind::Global(names) => {
-            print_word(out, "(global ")?;
-            print_names(out, names)?;
-            print_word(out, ")")
+            out.word("(global ");
+            print_names(out, names);
+            out.word(")");
         }
-        StmtKind::ExitRepeat => print_word(out, "(exit-repeat)"),
-        StmtKind::NextRepeat => print_word(out, "(next-repeat)"),
-        StmtKind::ExitToHyperCard => print_word(out, "(exit-to-HyperCard)"),
+        StmtKind::ExitRepeat => out.word("(exit-repeat)"),
+        StmtKind::NextRepeat => out.word("(next-repeat)"),
+        StmtKind::ExitToHyperCard => out.word("(exit-to-HyperCard)"),
         StmtKind::Exit(name) => {
-            print_word(out, "(exit ")?;
-            print_text(out, name)?;
-            print_word(out, ")")
+            out.word("(exit ");
+            out.text(name);
+            out.word(")");
         }
         StmtKind::Pass(name) => {
-            print_word(out, "(pass ")?;
-            print_text(out, name)?;
-            print_word(out, ")")
+            out.word("(pass ");
+            out.text(name);
+            out.word(")");
         }
-        StmtKind::ReturnNothing => print_word(out, "(return)"),
+        StmtKind::ReturnNothing => out.word("(return)"),
         StmtKind::ReturnValue(value) => print_one(out, "return", value),
         StmtKind::Command(name, arguments) => {
-            print_word(out, "(command ")?;
-            print_text(out, name)?;
-            print_exprs(out, arguments)?;
-            print_word(out, ")")
+            out.word("(command ");
+            out.text(name);
+            print_exprs(out, arguments);
+            out.word(")");
         }
         StmtKind::When(condition, lines, otherwise) => {
-            print_word(out, "(if ")?;
-            print_expr(out, condition)?;
-            print_word(out, " ")?;
-            print_lines(out, lines)?;
-            print_word(out, " ")?;
-            print_lines(out, otherwise)?;
-            print_word(out, ")")
+            out.word("(if ");
+            print_expr(out, condition);
+            out.word(" ");
+            print_lines(out, lines);
+            out.word(" ");
+            print_lines(out, otherwise);
+            out.word(")");
         }
         StmtKind::Repeat(head, lines) => {
-            print_word(out, "(repeat ")?;
-            print_head(out, head)?;
-            print_word(out, " ")?;
-            print_lines(out, lines)?;
-            print_word(out, ")")
+            out.word("(repeat ");
+            print_head(out, head);
+            out.word(" ");
+            print_lines(out, lines);
+            out.word(")");
         }
     }
 }
 
 /// Prints statements in brackets, with spaces between.
 #[cycle(print_lines)]
-pub fn print_lines(out: &mut Vec<u8>, lines: &Stmts) -> io::Result<()> {
-    print_word(out, "[")?;
+pub fn print_lines(out: &mut Printed, lines: &Stmts) {
+    out.word("[");
     let mut rest = lines.items.as_slice();
     while let [first, later @ ..] = rest {
-        print_stmt(out, first)?;
+        print_stmt(out, first);
         if !later.is_empty() {
-            print_word(out, " ")?;
+            out.word(" ");
         }
         rest = later;
     }
-    print_word(out, "]")
+    out.word("]");
 }
