@@ -48,20 +48,17 @@ pub fn row_of(text: &str) -> Row<'_> {
     }
 }
 
-/// The bytes of the stack after the edit: `cut N`, or `line N TEXT`.
-pub fn edited(alloc: Global, stack: &str, edit: &str) -> Result<String, AllocError> {
-    let mut out = String::new(alloc);
-    if let Some(count) = edit.strip_prefix("cut ") {
-        let count: usize = count.parse().unwrap_or(0);
-        for c in stack.chars().take(count) {
-            out.push(c)?;
-        }
-        return Ok(out);
+/// The first characters of a stack's text, so many.
+fn push_cut(out: &mut String, stack: &str, count: &str) -> Result<(), AllocError> {
+    let count: usize = count.parse().unwrap_or(0);
+    for c in stack.chars().take(count) {
+        out.push(c)?;
     }
-    let (number, new) = edit
-        .strip_prefix("line ")
-        .and_then(|rest| rest.split_once(" "))
-        .unwrap_or(("0", ""));
+    Ok(())
+}
+
+/// A stack's text with another line of this number, from 1.
+fn push_changed(out: &mut String, stack: &str, number: &str, new: &str) -> Result<(), AllocError> {
     let number: usize = number.parse().unwrap_or(0);
     let mut at: usize = 0;
     for line in stack.lines() {
@@ -69,7 +66,54 @@ pub fn edited(alloc: Global, stack: &str, edit: &str) -> Result<String, AllocErr
         out.push_str(if at == number { new } else { line })?;
         out.push('\n')?;
     }
+    Ok(())
+}
+
+/// The bytes of the stack after the edit: `cut N`, or `line N TEXT`.
+pub fn edited(alloc: Global, stack: &str, edit: &str) -> Result<String, AllocError> {
+    let mut out = String::new(alloc);
+    if let Some(count) = edit.strip_prefix("cut ") {
+        push_cut(&mut out, stack, count)?;
+        return Ok(out);
+    }
+    let (number, new) = edit
+        .strip_prefix("line ")
+        .and_then(|rest| rest.split_once(" "))
+        .unwrap_or(("0", ""));
+    push_changed(&mut out, stack, number, new)?;
     Ok(out)
+}
+
+/// A text in which each `~` is a return.
+fn push_returns(out: &mut String, text: &str) -> Result<(), AllocError> {
+    for c in text.chars() {
+        out.push(if c == '~' { '\r' } else { c })?;
+    }
+    Ok(())
+}
+
+/// For `N C` the text C, N times.
+fn push_long(out: &mut String, rest: &str) -> Result<(), AllocError> {
+    let (count, text) = rest.split_once(" ").unwrap_or(("0", ""));
+    let count: u32 = count.parse().unwrap_or(0);
+    for _ in 0..count {
+        out.push_str(text)?;
+    }
+    Ok(())
+}
+
+/// The line of the input for a line of a row, if it is one that is typed.
+fn push_typed(out: &mut String, line: &str) -> Result<(), AllocError> {
+    if let Some(text) = line.strip_prefix("< ") {
+        out.push_str(text)?;
+    } else if let Some(text) = line.strip_prefix("<cr ") {
+        push_returns(out, text)?;
+    } else if let Some(rest) = line.strip_prefix("<long ") {
+        push_long(out, rest)?;
+    } else {
+        return Ok(());
+    }
+    out.push('\n')
 }
 
 /// The input of a row: a line for `< TEXT`, for `<long N C`, which is the byte C, N times, and for `<cr TEXT`,
@@ -77,22 +121,7 @@ pub fn edited(alloc: Global, stack: &str, edit: &str) -> Result<String, AllocErr
 pub fn input_of(alloc: Global, body: &str) -> Result<String, AllocError> {
     let mut out = String::new(alloc);
     for line in body.lines() {
-        if let Some(text) = line.strip_prefix("< ") {
-            out.push_str(text)?;
-            out.push('\n')?;
-        } else if let Some(text) = line.strip_prefix("<cr ") {
-            for c in text.chars() {
-                out.push(if c == '~' { '\r' } else { c })?;
-            }
-            out.push('\n')?;
-        } else if let Some(rest) = line.strip_prefix("<long ") {
-            let (count, text) = rest.split_once(" ").unwrap_or(("0", ""));
-            let count: u32 = count.parse().unwrap_or(0);
-            for _ in 0..count {
-                out.push_str(text)?;
-            }
-            out.push('\n')?;
-        }
+        push_typed(&mut out, line)?;
     }
     Ok(out)
 }
