@@ -127,6 +127,22 @@ fn answered(alloc: Global, cells: &Cells, note: &Texts, value: &Text) -> Result<
     text(alloc, bytes.as_slice())
 }
 
+/// The first argument is to be computed, and the cell keeps them all.
+fn asked(cells: &mut Cells, alloc: Global, args: &Texts) -> Step
+    requires { length cells.old ≡ 1 }
+    ensures ok { IfOk result (λ r. IsPatch cells.old cells.new r.1) }
+    ensures err { OnErr result (cells.new ≡ cells.old) }
+    ensures count { length cells.new ≡ length cells.old }
+{
+    if args.len() == 0 {
+        return Ok(unchanged(alloc, Ask::Fail));
+    }
+    let kept = joined(alloc, args)?;
+    let asked = args.at(0).try_clone(alloc)?;
+    let note = note_of(alloc, b"n")?;
+    changed(cells, alloc, 0, kept, Ask::EvalExpr(note, asked))
+}
+
 fn echoed(cells: &mut Cells, alloc: Global, input: &Input) -> Step
     requires { length cells.old ≡ 1 }
     ensures ok { IfOk result (λ r. IsPatch cells.old cells.new r.1) }
@@ -134,18 +150,66 @@ fn echoed(cells: &mut Cells, alloc: Global, input: &Input) -> Step
     ensures count { length cells.new ≡ length cells.old }
 {
     match input {
-        Input::Start(args) if args.len() > 0 => {
-            let asked = args.at(0).try_clone(alloc)?;
-            let ask = Ask::EvalExpr(note_of(alloc, b"n")?, asked);
-            let kept = joined(alloc, args)?;
-            changed(cells, alloc, 0, kept, ask)
-        }
-        Input::Start(_) => Ok(unchanged(alloc, Ask::Fail)),
+        Input::Start(args) => asked(cells, alloc, args),
         Input::Answer(note, value) => {
             let kept = answered(alloc, cells, note, value)?;
-            changed(cells, alloc, 0, kept, Ask::Done(Text::new(alloc), false))
+            changed(cells, alloc, 0, kept, done(alloc))
         }
     }
+}
+
+/// The conversation ends with no value.
+fn done(alloc: Global) -> Ask {
+    Ask::Done(Text::new(alloc), false)
+}
+
+/// The turn is counted, and ends the conversation.
+fn counted(cells: &mut Cells, alloc: Global) -> Step
+    requires { length cells.old ≡ 1 }
+    ensures ok { IfOk result (λ r. IsPatch cells.old cells.new r.1) }
+    ensures err { OnErr result (cells.new ≡ cells.old) }
+    ensures count { length cells.new ≡ length cells.old }
+{
+    let count = more(cells, alloc)?;
+    changed(cells, alloc, 0, count, done(alloc))
+}
+
+/// The turn is counted, and the count is to be the global `g`.
+fn counted_in_global(cells: &mut Cells, alloc: Global) -> Step
+    requires { length cells.old ≡ 1 }
+    ensures ok { IfOk result (λ r. IsPatch cells.old cells.new r.1) }
+    ensures err { OnErr result (cells.new ≡ cells.old) }
+    ensures count { length cells.new ≡ length cells.old }
+{
+    let count = more(cells, alloc)?;
+    let told = count.try_clone(alloc)?;
+    let name = text(alloc, b"g")?;
+    let ask = Ask::SetGlobal(Texts::new(alloc), name, told);
+    changed(cells, alloc, 0, count, ask)
+}
+
+/// The turn is counted, and the message that starts it is to be sent.
+fn counted_and_sent(cells: &mut Cells, alloc: Global) -> Step
+    requires { length cells.old ≡ 1 }
+    ensures ok { IfOk result (λ r. IsPatch cells.old cells.new r.1) }
+    ensures err { OnErr result (cells.new ≡ cells.old) }
+    ensures count { length cells.new ≡ length cells.old }
+{
+    let count = more(cells, alloc)?;
+    let message = text(alloc, b"Deep")?;
+    let ask = Ask::SendCardMessage(Texts::new(alloc), message);
+    changed(cells, alloc, 0, count, ask)
+}
+
+/// The turn is counted, and fails.
+fn counted_in_vain(cells: &mut Cells, alloc: Global) -> Step
+    requires { length cells.old ≡ 1 }
+    ensures ok { IfOk result (λ r. IsPatch cells.old cells.new r.1) }
+    ensures err { OnErr result (cells.new ≡ cells.old) }
+    ensures count { length cells.new ≡ length cells.old }
+{
+    let count = more(cells, alloc)?;
+    changed(cells, alloc, 0, count, Ask::Fail)
 }
 
 /// One turn.
@@ -155,24 +219,15 @@ fn turned(manner: Manner, cells: &mut Cells, alloc: Global, input: &Input) -> St
     ensures err { OnErr result (cells.new ≡ cells.old) }
     ensures count { length cells.new ≡ length cells.old }
 {
-    let none = Texts::new(alloc);
-    let count = more(cells, alloc)?;
-    let done = Ask::Done(Text::new(alloc), false);
-    match (manner, input) {
-        (Manner::Echo, _) => echoed(cells, alloc, input),
-        (Manner::Turns, Input::Start(_)) => changed(cells, alloc, 0, count, done),
-        (Manner::Turns, Input::Answer(_, _)) => Ok(unchanged(alloc, Ask::Fail)),
-        (Manner::Ask, _) => {
-            let told = count.try_clone(alloc)?;
-            let ask = Ask::SetGlobal(none, text(alloc, b"g")?, told);
-            changed(cells, alloc, 0, count, ask)
-        }
-        (Manner::Deep, Input::Start(_)) => {
-            let ask = Ask::SendCardMessage(none, text(alloc, b"Deep")?);
-            changed(cells, alloc, 0, count, ask)
-        }
-        (Manner::Deep, Input::Answer(_, _)) => changed(cells, alloc, 0, count, done),
-        (Manner::Mute, _) => changed(cells, alloc, 0, count, Ask::Fail),
+    let is_start = matches!(input, Input::Start(_));
+    match manner {
+        Manner::Echo => echoed(cells, alloc, input),
+        Manner::Turns if is_start => counted(cells, alloc),
+        Manner::Turns => Ok(unchanged(alloc, Ask::Fail)),
+        Manner::Ask => counted_in_global(cells, alloc),
+        Manner::Deep if is_start => counted_and_sent(cells, alloc),
+        Manner::Deep => counted(cells, alloc),
+        Manner::Mute => counted_in_vain(cells, alloc),
     }
 }
 

@@ -570,57 +570,6 @@ fn replies_show_lines_and_end(rt: HostRuntime) -> Result<(), Fail> {
     Ok(())
 }
 
-/// Whether a reply sends just these messages, each with its name and the id of its object.
-fn sends(reply: &Reply, due: &[(&[u8], u32)]) -> bool {
-    let sent = &reply.sent;
-    if sent.len() != due.len() {
-        return false;
-    }
-    for i in 0..due.len() {
-        let (name, object) = due[i];
-        if i < sent.len() && (sent.at(i).name.as_slice() != name || sent.at(i).object != object) {
-            return false;
-        }
-    }
-    true
-}
-
-fn sends_for<E: External>(
-    alloc: Global,
-    externals: Vec<E>,
-    line: &[u8],
-    due: &[(&[u8], u32)],
-) -> Result<bool, Fail> {
-    let mut session = session_of(alloc, two_cards(alloc)?, externals, 100)?;
-    let reply = reply_to(&mut session, line);
-    Ok(sends(&reply, due))
-}
-
-#[test]
-fn replies_tell_the_messages_that_were_sent(rt: HostRuntime) -> Result<(), Fail> {
-    let rows: &[(&[u8], &[(&[u8], u32)])] = &[
-        (b"put 1", &[]),
-        (b"go card 2", &[(b"closeCard", 2), (b"openCard", 4)]),
-        (b"set lockMessages to true\rgo card 2", &[]),
-        (b"Foo", &[(b"Foo", 2)]),
-        (b"put Abs(1)", &[(b"Abs", 2)]),
-        (b"send \"mouseUp\" to card 2", &[(b"mouseUp", 4)]),
-        (
-            b"go next\rfoo",
-            &[(b"closeCard", 2), (b"openCard", 4), (b"foo", 2)],
-        ),
-        (b".where", &[]),
-        (b"put (", &[]),
-    ];
-    for (line, due) in rows {
-        assert!(rt;
-            sends_for(rt.alloc(), none(rt.alloc()), line, due)?,
-            "{line:?}"
-        );
-    }
-    Ok(())
-}
-
 #[test]
 fn refusals_are_numbered_from_one_to_seven(rt: HostRuntime) -> Result<(), Fail> {
     for (refusal, number) in [
