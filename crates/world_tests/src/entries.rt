@@ -1,6 +1,5 @@
 //! Entries, globals and changes, with ample memory.
 
-use crate::texts::text;
 use crate::turner::{Turner, all_turners};
 use ht_values::Text;
 use journal_entries::{
@@ -10,17 +9,30 @@ use object_table::Stack;
 use std::alloc::Global;
 use std::test::Fail;
 
-fn number(globals: &mut Globals, name: Text) -> Result<(), Fail> {
-    let _ = globals.number(&name)?;
-    Ok(())
+/// Whether a name has a number from here on.
+fn number(alloc: Global, globals: &mut Globals, name: &[u8]) -> bool {
+    match Text::from_slice(alloc, name) {
+        Ok(name) => globals.number(&name).is_ok(),
+        Err(_) => false,
+    }
 }
 
-/// Gives a global its first value; whether it had none.
-fn put_global(globals: &mut Globals, name: Text, value: Text) -> Result<bool, Fail> {
-    let i = globals.number(&name)?;
+/// Gives a global a value; whether it had none.
+fn put(globals: &mut Globals, name: &Text, value: Text) -> bool {
     let mut value = Some(value);
-    globals.swap(i, &mut value);
-    Ok(value.is_none())
+    match globals.number(name) {
+        Ok(i) => {
+            globals.swap(i, &mut value);
+            value.is_none()
+        }
+        Err(_) => false,
+    }
+}
+
+fn put_global(alloc: Global, globals: &mut Globals, name: &[u8], value: &[u8]) -> Option<bool> {
+    let name = Text::from_slice(alloc, name).ok()?;
+    let value = Text::from_slice(alloc, value).ok()?;
+    Some(put(globals, &name, value))
 }
 
 /// Whether one global alone has a value, and is named so.
@@ -32,29 +44,47 @@ fn lists(globals: &Globals, name: &[u8], value: &[u8]) -> bool {
     first == name && its_value.as_slice() == value
 }
 
-fn has_global(alloc: Global, globals: &Globals, name: &[u8]) -> Result<bool, Fail> {
-    let name = text(alloc, name)?;
-    Ok(globals.get(&name).is_some())
+fn has_global(alloc: Global, globals: &Globals, name: &[u8]) -> Option<bool> {
+    let name = Text::from_slice(alloc, name).ok()?;
+    Some(globals.get(&name).is_some())
+}
+
+/// No global yet. They stand in a box, which is dropped by one call.
+fn new_globals(alloc: Global) -> Option<Box<Globals>> {
+    Box::new(alloc, Globals::new(alloc)).ok()
+}
+
+fn stays_without_value(alloc: Global) -> bool {
+    match new_globals(alloc) {
+        Some(mut globals) => {
+            globals.count() == 0 && number(alloc, &mut globals, b"g") && globals.count() == 0
+        }
+        None => false,
+    }
 }
 
 #[test]
-fn a_number_is_no_value(rt: HostRuntime) -> Result<(), Fail> {
-    let mut globals = Box::new(rt.alloc(), Globals::new(rt.alloc()))?;
-    assert!(rt; globals.count() == 0);
-    number(&mut globals, text(rt.alloc(), b"g")?)?;
-    assert!(rt; globals.count() == 0);
-    Ok(())
+fn a_number_is_no_value(rt: HostRuntime) {
+    assert!(rt; stays_without_value(rt.alloc()));
+}
+
+fn gets_value(alloc: Global, globals: &mut Globals) -> bool {
+    put_global(alloc, globals, b"g", b"1") == Some(true)
+        && lists(globals, b"g", b"1")
+        && has_global(alloc, globals, b"g") == Some(true)
+        && has_global(alloc, globals, b"h") == Some(false)
+}
+
+fn first_gets_value(alloc: Global) -> bool {
+    match new_globals(alloc) {
+        Some(mut globals) => gets_value(alloc, &mut globals),
+        None => false,
+    }
 }
 
 #[test]
-fn a_global_has_a_value(rt: HostRuntime) -> Result<(), Fail> {
-    let value = text(rt.alloc(), b"1")?;
-    let mut globals = Box::new(rt.alloc(), Globals::new(rt.alloc()))?;
-    assert!(rt; put_global(&mut globals, text(rt.alloc(), b"g")?, value)?);
-    assert!(rt; lists(&globals, b"g", b"1"));
-    assert!(rt; has_global(rt.alloc(), &globals, b"g")?);
-    assert!(rt; !has_global(rt.alloc(), &globals, b"h")?);
-    Ok(())
+fn a_global_has_a_value(rt: HostRuntime) {
+    assert!(rt; first_gets_value(rt.alloc()));
 }
 
 #[test]
@@ -69,11 +99,6 @@ fn are_names_apart(alloc: Global, names: &[&[u8]]) -> Result<bool, Fail> {
     Ok(are_apart(&turners))
 }
 
-fn place_of(alloc: Global, turners: &[Turner], name: &[u8]) -> Result<Option<usize>, Fail> {
-    let name = text(alloc, name)?;
-    Ok(index_of(turners, &name))
-}
-
 #[test]
 fn names_of_externals(rt: HostRuntime) -> Result<(), Fail> {
     assert!(rt; are_names_apart(rt.alloc(), &[b"a".as_slice(), b"b".as_slice()])?);
@@ -81,30 +106,52 @@ fn names_of_externals(rt: HostRuntime) -> Result<(), Fail> {
     Ok(())
 }
 
+/// Whether the external of a name stands at this place, or with `None` nowhere.
+fn is_at(alloc: Global, turners: &[Turner], name: &[u8], due: Option<usize>) -> bool {
+    match Text::from_slice(alloc, name) {
+        Ok(name) => index_of(turners, &name) == due,
+        Err(_) => false,
+    }
+}
+
+fn second_is_found(alloc: Global) -> Result<bool, Fail> {
+    let two = all_turners(alloc, &[b"a".as_slice(), b"b".as_slice()])?;
+    Ok(is_at(alloc, &two, b"B", Some(1)) && is_at(alloc, &two, b"c", None))
+}
+
 #[test]
 fn an_external_is_found_by_its_name(rt: HostRuntime) -> Result<(), Fail> {
-    let two = all_turners(rt.alloc(), &[b"a".as_slice(), b"b".as_slice()])?;
-    assert!(rt; place_of(rt.alloc(), &two, b"B")? == Some(1));
-    assert!(rt; place_of(rt.alloc(), &two, b"c")?.is_none());
+    assert!(rt; second_is_found(rt.alloc())?);
     Ok(())
 }
 
-/// A state in which card 2 is current. It stands in a box, so that each exit of a test drops it by one call.
-fn present_of(alloc: Global, stack: Stack) -> Result<Box<Present<Turner>>, Fail> {
-    let none = Vec::new(alloc);
-    Ok(Box::new(alloc, Present::new(alloc, stack, 2, none))?)
+/// A state of the empty stack in which card 2 is current, in a box.
+fn new_present(alloc: Global) -> Option<Box<Present<Turner>>> {
+    let stack = Stack::new(alloc).ok()?;
+    Box::new(alloc, Present::new(alloc, stack, 2, Vec::new(alloc))).ok()
 }
 
 fn fits(present: &Present<Turner>, change: Change) -> bool {
     present.fits(&change)
 }
 
+/// Whether a global's name that isn't folded fits.
+fn fits_unfolded(alloc: Global, present: &Present<Turner>) -> Option<bool> {
+    let name = Text::from_slice(alloc, b"G").ok()?;
+    Some(fits(present, Change::Global(name, None)))
+}
+
+fn the_card_alone_fits(alloc: Global) -> bool {
+    match new_present(alloc) {
+        Some(present) => present.current() == 2
+            && fits(&present, Change::Current(2))
+            && !fits(&present, Change::Current(1))
+            && fits_unfolded(alloc, &present) == Some(false),
+        None => false,
+    }
+}
+
 #[test]
-fn fits_and_current(rt: HostRuntime) -> Result<(), Fail> {
-    let present = present_of(rt.alloc(), Stack::new(rt.alloc())?)?;
-    assert!(rt; present.current() == 2);
-    assert!(rt; fits(&present, Change::Current(2)));
-    assert!(rt; !fits(&present, Change::Current(1)));
-    assert!(rt; !fits(&present, Change::Global(text(rt.alloc(), b"G")?, None)));
-    Ok(())
+fn fits_and_current(rt: HostRuntime) {
+    assert!(rt; the_card_alone_fits(rt.alloc()));
 }

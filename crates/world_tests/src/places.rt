@@ -4,7 +4,6 @@ use ht_values::Text;
 use object_table::{Id, IdList, Kind, LayerId, Object, PropValue, Stack};
 use stack_places::{BoxedObject, BoxedText, StackEntry, laws_of_exchanges};
 use std::alloc::Global;
-use std::test::Fail;
 
 const FIELD: Kind = Kind::BackgroundField {
     visible: true,
@@ -12,17 +11,18 @@ const FIELD: Kind = Kind::BackgroundField {
     shared_text: false,
 };
 
-/// The empty stack. It stands in a box, so that each exit of a test drops it by one call.
-fn empty_stack(alloc: Global) -> Result<Box<Stack>, Fail> {
-    Ok(Box::new(alloc, Stack::new(alloc)?)?)
+/// The empty stack. It stands in a box, which is dropped by one call.
+fn empty_stack(alloc: Global) -> Option<Box<Stack>> {
+    Box::new(alloc, Stack::new(alloc).ok()?).ok()
 }
 
 // Each exchange by a function that promises nothing: what is seen after it, and after the same entry is exchanged again.
 
 #[tactic(auto, unfolding(stack_places::specs::Exchange::IsReady, stack_places::specs::Exchange::taken))]
-fn exchange_text(alloc: Global, stack: &mut Stack, bytes: &[u8]) -> Result<[bool; 2], Fail> {
-    let text = BoxedText::new(alloc, Some(Text::from_slice(alloc, bytes)?))?;
-    stack.open_text(3, 2)?;
+fn exchange_text(alloc: Global, stack: &mut Stack, bytes: &[u8]) -> Option<[bool; 2]> {
+    stack.open_text(3, 2).ok()?;
+    let text = Text::from_slice(alloc, bytes).ok()?;
+    let text = BoxedText::new(alloc, Some(text)).ok()?;
     let mut entry = StackEntry::FieldText(3, 2, text);
     entry.exchange(stack);
     let has_text = match stack.text(3, 2) {
@@ -30,35 +30,35 @@ fn exchange_text(alloc: Global, stack: &mut Stack, bytes: &[u8]) -> Result<[bool
         None => false,
     };
     entry.exchange(stack);
-    Ok([has_text, stack.text(3, 2).is_some()])
+    Some([has_text, stack.text(3, 2).is_some()])
 }
 
 #[tactic(auto, unfolding(stack_places::specs::Exchange::IsReady, stack_places::specs::Exchange::taken))]
-fn exchange_hilite(stack: &mut Stack) -> Result<[Option<bool>; 2], Fail> {
-    stack.open_hilite(4, 2)?;
+fn exchange_hilite(stack: &mut Stack) -> Option<[Option<bool>; 2]> {
+    stack.open_hilite(4, 2).ok()?;
     let mut entry = StackEntry::Hilite(4, 2, Some(true));
     entry.exchange(stack);
     let hilite = stack.hilite(4, 2);
     entry.exchange(stack);
-    Ok([hilite, stack.hilite(4, 2)])
+    Some([hilite, stack.hilite(4, 2)])
 }
 
 #[tactic(auto, unfolding(stack_places::specs::Exchange::IsReady, stack_places::specs::Exchange::taken))]
-fn exchange_object(alloc: Global, stack: &mut Stack) -> Result<[bool; 2], Fail> {
-    let field = BoxedObject::new(alloc, Some(Object::empty(alloc, FIELD)))?;
-    stack.open_slot(4)?;
+fn exchange_object(alloc: Global, stack: &mut Stack) -> Option<[bool; 2]> {
+    stack.open_slot(4).ok()?;
+    let field = BoxedObject::new(alloc, Some(Object::empty(alloc, FIELD))).ok()?;
     let mut entry = StackEntry::Object(4, field);
     entry.exchange(stack);
     let is_there = stack.object(4).is_some();
     entry.exchange(stack);
-    Ok([is_there, stack.object(4).is_some()])
+    Some([is_there, stack.object(4).is_some()])
 }
 
 #[tactic(auto, unfolding(stack_places::specs::Exchange::IsReady, stack_places::specs::Exchange::taken))]
-fn exchange_parts(stack: &mut Stack) -> Result<bool, Fail> {
-    stack.open_slot(2)?;
+fn exchange_parts(stack: &mut Stack) -> Option<bool> {
+    stack.open_slot(2).ok()?;
     StackEntry::Parts(2, None).exchange(stack);
-    Ok(stack.parts(LayerId::OfCard(2)).is_some())
+    Some(stack.parts(LayerId::OfCard(2)).is_some())
 }
 
 #[tactic(auto, unfolding(stack_places::specs::Exchange::IsReady, stack_places::specs::Exchange::taken))]
@@ -80,39 +80,63 @@ fn exchange_backgrounds(stack: &mut Stack, backgrounds: IdList) {
     StackEntry::BackgroundOrder(backgrounds).exchange(stack);
 }
 
+/// Whether each value is seen after its exchange, and gone after the next one.
+fn go_back(alloc: Global, stack: &mut Stack) -> bool {
+    exchange_text(alloc, stack, b"new") == Some([true, false])
+        && exchange_hilite(stack) == Some([Some(true), None])
+        && exchange_object(alloc, stack) == Some([true, false])
+        && exchange_next(stack) == [7, 3]
+}
+
+fn values_go_back_in_it(alloc: Global) -> bool {
+    match empty_stack(alloc) {
+        Some(mut stack) => go_back(alloc, &mut stack),
+        None => false,
+    }
+}
+
 #[test]
-fn values_go_back(rt: HostRuntime) -> Result<(), Fail> {
-    let mut stack = empty_stack(rt.alloc())?;
-    assert!(rt; exchange_text(rt.alloc(), &mut stack, b"new")? == [true, false]);
-    assert!(rt; exchange_hilite(&mut stack)? == [Some(true), None]);
-    assert!(rt; exchange_object(rt.alloc(), &mut stack)? == [true, false]);
-    assert!(rt; exchange_next(&mut stack) == [7, 3]);
+fn values_go_back(rt: HostRuntime) {
+    assert!(rt; values_go_back_in_it(rt.alloc()));
     laws_of_exchanges();
-    Ok(())
 }
 
-fn ids(alloc: Global, ids: &[Id]) -> Result<IdList, Fail> {
-    Ok(IdList::from_vec(ids.to_vec(alloc)?))
+fn ids(alloc: Global, ids: &[Id]) -> Option<IdList> {
+    Some(IdList::from_vec(ids.to_vec(alloc).ok()?))
+}
+
+fn exchange_orders(alloc: Global, stack: &mut Stack) -> Option<()> {
+    exchange_cards(stack, ids(alloc, &[2, 5])?);
+    exchange_backgrounds(stack, ids(alloc, &[1, 6])?);
+    Some(())
+}
+
+fn has_new_orders(alloc: Global, stack: &mut Stack) -> bool {
+    exchange_orders(alloc, stack).is_some()
+        && stack.cards().as_slice() == [2, 5].as_slice()
+        && stack.backgrounds().as_slice() == [1, 6].as_slice()
+        && exchange_parts(stack) == Some(false)
+}
+
+fn orders_are_new_in_it(alloc: Global) -> bool {
+    match empty_stack(alloc) {
+        Some(mut stack) => has_new_orders(alloc, &mut stack),
+        None => false,
+    }
 }
 
 #[test]
-fn lists_are_exchanged(rt: HostRuntime) -> Result<(), Fail> {
-    let cards = ids(rt.alloc(), &[2, 5])?;
-    let backgrounds = ids(rt.alloc(), &[1, 6])?;
-    let mut stack = empty_stack(rt.alloc())?;
-    exchange_cards(&mut stack, cards);
-    exchange_backgrounds(&mut stack, backgrounds);
-    assert_eq!(rt; stack.cards().as_slice(), [2, 5].as_slice());
-    assert_eq!(rt; stack.backgrounds().as_slice(), [1, 6].as_slice());
-    assert!(rt; !exchange_parts(&mut stack)?);
-    Ok(())
+fn lists_are_exchanged(rt: HostRuntime) {
+    assert!(rt; orders_are_new_in_it(rt.alloc()));
 }
 
-fn put(stack: &mut Stack, id: Id, object: Object) -> Result<(), Fail> {
-    stack.open_slot(id)?;
-    let mut object = Some(object);
+fn put_field(alloc: Global, stack: &mut Stack, id: Id) -> bool {
+    let mut object = Some(Object::empty(alloc, FIELD));
+    if stack.open_slot(id).is_err() {
+        return false;
+    }
     stack.swap_object(id, &mut object);
-    Ok(())
+    true
 }
 
 /// Exchanges a property of object 3, and hands its entry out.
@@ -123,21 +147,45 @@ fn exchange_property(stack: &mut Stack, value: PropValue) -> StackEntry {
     entry
 }
 
-#[test]
-fn a_property_goes_back_where_it_is_there(rt: HostRuntime) -> Result<(), Fail> {
-    let mut stack = empty_stack(rt.alloc())?;
-    put(&mut stack, 3, Object::empty(rt.alloc(), FIELD))?;
-    let entry = exchange_property(&mut stack, PropValue::LockTextIs(true));
-    assert!(rt; matches!(entry, StackEntry::Prop(3, PropValue::LockTextIs(false))));
-    let nowhere = exchange_property(&mut stack, PropValue::HiliteIs(true));
-    assert!(rt; matches!(nowhere, StackEntry::Prop(3, PropValue::HiliteIs(true))));
-    Ok(())
+/// Whether the lock of a field's text is exchanged.
+fn takes_lock(stack: &mut Stack) -> bool {
+    let entry = exchange_property(stack, PropValue::LockTextIs(true));
+    matches!(entry, StackEntry::Prop(3, PropValue::LockTextIs(false)))
+}
+
+/// Whether a hilite, which no field has, stays in its entry.
+fn leaves_hilite(stack: &mut Stack) -> bool {
+    let entry = exchange_property(stack, PropValue::HiliteIs(true));
+    matches!(entry, StackEntry::Prop(3, PropValue::HiliteIs(true)))
+}
+
+fn a_field_has_its_properties(alloc: Global) -> bool {
+    match empty_stack(alloc) {
+        Some(mut stack) => {
+            put_field(alloc, &mut stack, 3) && takes_lock(&mut stack) && leaves_hilite(&mut stack)
+        }
+        None => false,
+    }
 }
 
 #[test]
-fn objects_alone_are_structural(rt: HostRuntime) -> Result<(), Fail> {
-    let gone = BoxedObject::new(rt.alloc(), None)?;
-    assert!(rt; StackEntry::Object(3, gone).is_structural());
-    assert!(rt; !StackEntry::NextId(7).is_structural());
-    Ok(())
+fn a_property_goes_back_where_it_is_there(rt: HostRuntime) {
+    assert!(rt; a_field_has_its_properties(rt.alloc()));
+}
+
+fn is_structural(entry: StackEntry) -> bool {
+    entry.is_structural()
+}
+
+fn is_gone_structural(alloc: Global) -> bool {
+    match BoxedObject::new(alloc, None) {
+        Ok(gone) => is_structural(StackEntry::Object(3, gone)),
+        Err(_) => false,
+    }
+}
+
+#[test]
+fn objects_alone_are_structural(rt: HostRuntime) {
+    assert!(rt; is_gone_structural(rt.alloc()));
+    assert!(rt; !is_structural(StackEntry::NextId(7)));
 }

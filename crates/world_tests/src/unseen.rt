@@ -10,7 +10,7 @@ use crate::worlds::{make, open_world};
 use change_journal::{Change, World};
 use containers::{Variables, read_name, writes_are_due, written_is_read};
 use ht_grammar::HandlerKind;
-use ht_values::{Fault, Name, Value};
+use ht_values::{Fault, Name, Text, Value};
 use interp::send_message;
 use meaning::{Budget, Frame, Stop};
 use msg_path::{Found, first_is_one, next_handler};
@@ -105,15 +105,25 @@ fn a_script_that_comes_back_is_parsed_anew(rt: HostRuntime) -> Result<(), Fail> 
     Ok(())
 }
 
-/// What `Sum` reads as in a handler that declared it, where the global has no value.
+/// Whether a name reads so as an expression.
+fn reads(
+    alloc: Global,
+    world: &World<Turner>,
+    variables: &Variables,
+    name: &Name,
+    wanted: &[u8],
+) -> Result<bool, Fail> {
+    let read = read_name(world, variables, name).copied(alloc)?;
+    Ok(read.into_text(alloc)?.as_slice() == wanted)
+}
+
+/// Whether `Sum` reads so in a handler that declared it, where the global has no value.
 fn declared_reads(alloc: Global, world: &World<Turner>, wanted: &[u8]) -> Result<bool, Fail> {
-    let mut variables = Variables::of_handler(alloc);
-    variables.set(alloc, &text(alloc, b"SUM")?, None)?;
+    let declared = text(alloc, b"SUM")?;
     let sum = Name::new(alloc, text(alloc, b"Sum")?)?;
-    let read = read_name(world, &variables, &sum)
-        .copied(alloc)?
-        .into_text(alloc)?;
-    Ok(read.as_slice() == wanted)
+    let mut variables = Variables::of_handler(alloc);
+    variables.set(alloc, &declared, None)?;
+    reads(alloc, world, &variables, &sum, wanted)
 }
 
 #[test]
@@ -160,17 +170,35 @@ fn fields_that_keep_no_text(rt: HostRuntime) -> Result<(), Fail> {
     Ok(())
 }
 
+/// Whether a run of one step takes it, and no other.
+fn takes_one_step(run: &mut Budget) -> bool {
+    run.left() == 1
+        && run.step().is_ok()
+        && run.left() == 0
+        && run.step() == Err(Stop::Fault(Fault::StepLimit))
+}
+
+fn shows_seven(run: &mut Budget) -> bool {
+    run.shown().is_empty()
+        && run.show(&Value::of_number(7)).is_ok()
+        && !run.shown().is_empty()
+        && run.shown().len() == 1
+        && run.shown().at(0).as_slice() == b"7".as_slice()
+}
+
+fn notes_one(run: &mut Budget, name: &Text) -> bool {
+    run.sent().is_empty()
+        && run.note(name, 4).is_ok()
+        && !run.sent().is_empty()
+        && run.sent().len() == 1
+        && run.sent().at(0).object == 4
+}
+
 #[test]
 fn a_run_tells_what_it_did(rt: HostRuntime) -> Result<(), Fail> {
-    let mut run = Box::new(rt.alloc(), Budget::new(rt.alloc(), 1))?;
-    assert!(rt; run.shown().is_empty() && run.sent().is_empty() && run.left() == 1);
-    run.step().ok().ok_or("steps")?;
-    run.show(&Value::of_number(7))?;
-    run.note(&text(rt.alloc(), b"f")?, 4)?;
-    assert!(rt; run.left() == 0 && run.step() == Err(Stop::Fault(Fault::StepLimit)));
-    assert!(rt; !run.shown().is_empty() && !run.sent().is_empty());
-    assert!(rt; run.shown().len() == 1 && run.shown().at(0).as_slice() == b"7".as_slice());
-    assert!(rt; run.sent().len() == 1 && run.sent().at(0).object == 4);
+    let name = text(rt.alloc(), b"f")?;
+    let mut run = Budget::new(rt.alloc(), 1);
+    assert!(rt; takes_one_step(&mut run) && shows_seven(&mut run) && notes_one(&mut run, &name));
     Ok(())
 }
 
