@@ -8,23 +8,26 @@ mod timing;
 mod values;
 mod world;
 
-use std::{env, io};
+use std::env;
 
-/// Prints each word with what it times.
-fn print_words(rt: &impl Print) -> io::Result<()> {
-    println!(rt; "bench values: times of calls on texts and chunks")?;
-    println!(rt; "bench parser: times of parsing scripts")?;
-    println!(rt; "bench stack: times of reading and writing stacks")?;
-    println!(rt; "bench world: times and bytes of writes, and times of undo and redo")
+/// Each word with what it times.
+const WORDS: &str = "bench values: times of calls on texts and chunks\n\
+bench parser: times of parsing scripts\n\
+bench stack: times of reading and writing stacks\n\
+bench world: times and bytes of writes, and times of undo and redo";
+
+/// Times what a word says, or prints the words.
+fn measure(rt: &HostRuntime, word: &str) -> anyhow::Result<()> {
+    match word {
+        "values" => values::measure(rt, rt.alloc()),
+        "parser" => parser::measure(rt, rt.alloc()),
+        "stack" => stack::measure(rt, rt.alloc()),
+        "world" => world::measure(rt),
+        _ => Ok(println!(rt; "{WORDS}")?),
+    }
 }
 
 fn main(rt: HostRuntime) -> anyhow::Result<()> {
     let word = env::args(&rt)?.nth(1);
-    match word.as_ref().map_or("", |word| word.as_str()) {
-        "values" => values::measure(&rt, rt.alloc()),
-        "parser" => parser::measure(&rt, rt.alloc()),
-        "stack" => stack::measure(&rt, rt.alloc()),
-        "world" => world::measure(&rt),
-        _ => Ok(print_words(&rt)?),
-    }
+    measure(&rt, word.as_ref().map_or("", |word| word.as_str()))
 }

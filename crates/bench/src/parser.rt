@@ -3,7 +3,7 @@
 use crate::timing::{Tenths, ratio, time_of};
 use ht_parse::parse_script;
 use ht_values::Text;
-use std::alloc::Global;
+use std::alloc::{AllocError, Global};
 use std::io;
 use std::time::Clock;
 
@@ -13,60 +13,67 @@ const BYTES: usize = 3_000_000;
 /// The sizes of the scripts.
 const SIZES: [usize; 5] = [300, 1_000, 3_000, 10_000, 30_000];
 
-/// What the lines of a script are like.
-#[derive(Clone, Copy)]
-enum Shape {
-    /// Short statements, one after another.
-    Flat,
-    /// Operators of one rank, joined up to the limit.
-    Chained,
-    /// Parentheses, nested up to the limit.
-    Nested,
+/// The line that a script repeats: pieces, each so many times.
+type Line = &'static [(&'static [u8], u32)];
+
+/// Short statements, one after another.
+const FLAT: Line = &[(
+    b"  put item i of x & \"abc\" into field \"name\" of card 3\r",
+    1,
+)];
+
+/// Operators of one rank, joined up to the limit.
+const CHAINED: Line = &[(b"  get 1", 1), (b"+1", 95), (b"\r", 1)];
+
+/// Parentheses, nested up to the limit.
+const NESTED: Line = &[
+    (b"  get ", 1),
+    (b"(", 95),
+    (b"1", 1),
+    (b")", 95),
+    (b"\r", 1),
+];
+
+/// The shapes of the scripts.
+const SHAPES: &[(&str, Line)] = &[("flat", FLAT), ("chained", CHAINED), ("nested", NESTED)];
+
+/// Writes a piece so many times.
+fn push_times(out: &mut Vec<u8>, piece: &[u8], times: u32) -> Result<(), AllocError> {
+    for _ in 0..times {
+        out.extend_from_slice(piece)?;
+    }
+    Ok(())
 }
 
-const FLAT: &[u8] = b"  put item i of x & \"abc\" into field \"name\" of card 3\r";
-
-/// The line that a script of this shape repeats.
-fn line_of(alloc: Global, shape: Shape) -> anyhow::Result<Vec<u8>> {
-    let mut line = Vec::new(alloc);
-    match shape {
-        Shape::Flat => line.extend_from_slice(FLAT)?,
-        Shape::Chained => {
-            line.extend_from_slice(b"  get 1")?;
-            for _ in 0..95 {
-                line.extend_from_slice(b"+1")?;
-            }
-            line.push(b'\r')?;
-        }
-        Shape::Nested => {
-            line.extend_from_slice(b"  get ")?;
-            for _ in 0..95 {
-                line.push(b'(')?;
-            }
-            line.push(b'1')?;
-            for _ in 0..95 {
-                line.push(b')')?;
-            }
-            line.push(b'\r')?;
-        }
+/// Writes the line that a script repeats.
+fn push_line(out: &mut Vec<u8>, line: Line) -> Result<(), AllocError> {
+    for (piece, times) in line {
+        push_times(out, piece, *times)?;
     }
-    Ok(line)
+    Ok(())
+}
+
+/// Writes a script of about this size that repeats a line, and tells how many lines it has.
+fn push_script(out: &mut Vec<u8>, line: &[u8], size: usize) -> Result<usize, AllocError> {
+    out.extend_from_slice(b"on mouseUp\r")?;
+    let mut lines: usize = 2;
+    for _ in 0..size {
+        if out.len().saturating_add(line.len()) >= size.saturating_sub(11) {
+            break;
+        }
+        out.extend_from_slice(line)?;
+        lines = lines.wrapping_add(1);
+    }
+    out.extend_from_slice(b"end mouseUp")?;
+    Ok(lines)
 }
 
 /// A script of about this size, and how many lines it has.
-fn script_of(alloc: Global, shape: Shape, size: usize) -> anyhow::Result<(Text, usize)> {
-    let line = line_of(alloc, shape)?;
+fn script_of(alloc: Global, line: Line, size: usize) -> anyhow::Result<(Text, usize)> {
+    let mut repeated = Vec::new(alloc);
+    push_line(&mut repeated, line)?;
     let mut bytes = Vec::new(alloc);
-    bytes.extend_from_slice(b"on mouseUp\r")?;
-    let mut lines: usize = 2;
-    for _ in 0..size {
-        if bytes.len().saturating_add(line.len()) >= size.saturating_sub(11) {
-            break;
-        }
-        bytes.extend_from_slice(&line)?;
-        lines = lines.wrapping_add(1);
-    }
-    bytes.extend_from_slice(b"end mouseUp")?;
+    let lines = push_script(&mut bytes, repeated.as_slice(), size)?;
     Ok((Text::from_vec(bytes)?, lines))
 }
 
@@ -88,21 +95,27 @@ fn show(
     )
 }
 
+/// Prints the times of a script of a shape and size.
+fn measure_one<R: Clock + Print>(
+    rt: &R,
+    alloc: Global,
+    name: &str,
+    line: Line,
+    size: usize,
+) -> anyhow::Result<()> {
+    let (script, lines) = script_of(alloc, line, size)?;
+    let rounds = BYTES / script.len().max(1);
+    let time = time_of(rt, rounds, || {
+        Ok(parse_script(alloc, &script)?.handlers.len())
+    })?;
+    Ok(show(rt, name, (script.len(), lines), rounds, time)?)
+}
+
 /// Prints the times of scripts of each shape and size.
 pub(crate) fn measure<R: Clock + Print>(rt: &R, alloc: Global) -> anyhow::Result<()> {
-    let shapes = [
-        ("flat", Shape::Flat),
-        ("chained", Shape::Chained),
-        ("nested", Shape::Nested),
-    ];
-    for (name, shape) in shapes {
+    for (name, line) in SHAPES {
         for size in SIZES {
-            let (script, lines) = script_of(alloc, shape, size)?;
-            let rounds = BYTES / script.len().max(1);
-            let time = time_of(rt, rounds, || {
-                Ok(parse_script(alloc, &script)?.handlers.len())
-            })?;
-            show(rt, name, (script.len(), lines), rounds, time)?;
+            measure_one(rt, alloc, name, *line, size)?;
         }
     }
     Ok(())

@@ -38,11 +38,26 @@ struct Given {
     stack: Stack,
 }
 
-/// Whether a stack is written so.
-fn is_written(alloc: Global, stack: &Stack, text: &[u8]) -> anyhow::Result<bool>
+impl Given {
+    /// How often a call is made.
+    fn rounds(&self) -> usize {
+        BYTES / self.text.len().max(1)
+    }
+
+    /// How many bytes go through all of the calls.
+    fn bytes(&self) -> u64 {
+        (self.text.len() as u64).wrapping_mul(self.rounds() as u64)
+    }
+}
+
+/// Sees that a stack is written so.
+fn check_written(alloc: Global, stack: &Stack, text: &[u8]) -> anyhow::Result<()>
     requires { IsWellFormed stack.now.content }
 {
-    Ok(write(alloc, stack)?.as_slice() == text)
+    if write(alloc, stack)?.as_slice() != text {
+        anyhow::bail!("a stack isn't written as it was read");
+    }
+    Ok(())
 }
 
 /// The text of a stack, and the stack; it is written as it was read. Both stand in a box, which each exit drops by one call.
@@ -52,9 +67,7 @@ fn inputs(alloc: Global, groups: u32, step: u32) -> anyhow::Result<Box<Given>>
     let text = text_of(alloc, groups, step)?.into_bytes();
     let stack = read(alloc, &text)?;
     let given = Box::new(alloc, Given { text, stack })?;
-    if !is_written(alloc, &given.stack, &given.text)? {
-        anyhow::bail!("a stack isn't written as it was read");
-    }
+    check_written(alloc, &given.stack, &given.text)?;
     Ok(given)
 }
 
@@ -105,19 +118,29 @@ fn time(
     time_of(rt, rounds, || made(alloc, call, given))
 }
 
+/// Prints the time of a call beside that of the copy.
+fn print_time<R: Clock + Print>(
+    rt: &R,
+    alloc: Global,
+    name: &str,
+    call: Call,
+    given: &Given,
+    copy: u64,
+) -> anyhow::Result<()>
+    requires { IsWellFormed given.now.stack.content }
+{
+    let time = time(rt, alloc, given.rounds(), call, given)?;
+    Ok(show(rt, name, given.bytes(), time, copy)?)
+}
+
 /// Prints the times of the calls on a stack.
 fn print_times<R: Clock + Print>(rt: &R, alloc: Global, given: &Given) -> anyhow::Result<()>
     requires { IsWellFormed given.now.stack.content }
 {
-    let length = given.text.len();
-    let rounds = BYTES / length.max(1);
-    let bytes = (length as u64).wrapping_mul(rounds as u64);
-    let copy = time(rt, alloc, rounds, Call::Copy, given)?;
-    show(rt, "copy", bytes, copy, copy)?;
-    let read = time(rt, alloc, rounds, Call::Read, given)?;
-    show(rt, "read", bytes, read, copy)?;
-    let write = time(rt, alloc, rounds, Call::Write, given)?;
-    Ok(show(rt, "write", bytes, write, copy)?)
+    let copy = time(rt, alloc, given.rounds(), Call::Copy, given)?;
+    show(rt, "copy", given.bytes(), copy, copy)?;
+    print_time(rt, alloc, "read", Call::Read, given, copy)?;
+    print_time(rt, alloc, "write", Call::Write, given, copy)
 }
 
 /// Prints the times of a stack.

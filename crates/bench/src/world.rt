@@ -68,15 +68,20 @@ const ROWS: &[Row] = &[
     },
 ];
 
-/// Nanoseconds of all writes and of the ways over them, and bytes that they took.
+/// What writes took: nanoseconds, and bytes.
+#[derive(Clone, Copy)]
+struct Taken {
+    time: u64,
+    bytes: u64,
+}
+
+/// What the writes of a row took in a world and in plain maps and lists, and nanoseconds of the ways over them.
 #[derive(Clone, Copy)]
 struct Spent {
-    write: u64,
+    writes: Taken,
     back: u64,
     forth: u64,
-    bytes: u64,
-    plain: u64,
-    plain_bytes: u64,
+    plain: Taken,
 }
 
 /// The name that a write with this number has.
@@ -96,12 +101,27 @@ fn value_of(alloc: Global, call: Call, at: u32) -> anyhow::Result<Vec<u8>> {
     })
 }
 
-/// The empty stack's world, in a box.
-fn open_world<E: External>(alloc: Global) -> anyhow::Result<Box<World<E>>>
-    ensures { IfOk result (λ w. w.value.history.start ≡ None) }
+/// A text of these bytes.
+fn text_in(bytes: anyhow::Result<Vec<u8>>) -> anyhow::Result<Text> {
+    Ok(Text::from_vec(bytes?)?)
+}
+
+/// What is written in a row: a world, and plain maps and lists.
+#[derive(Drop)]
+struct Sides<E: External> {
+    world: World<E>,
+    plain: Plain,
+}
+
+/// The empty stack's world, and nothing plain. Both stand in a box, which each exit drops by one call.
+fn open_sides<E: External>(alloc: Global) -> anyhow::Result<Box<Sides<E>>>
+    ensures { IfOk result (λ s. s.value.world.history.start ≡ None) }
 {
     match World::open(alloc, Stack::new(alloc)?, Vec::new(alloc), 10) {
-        Ok(world) => Ok(Box::new(alloc, world)?),
+        Ok(world) => {
+            let plain = Plain::new(alloc);
+            Ok(Box::new(alloc, Sides { world, plain })?)
+        }
         Err(_) => anyhow::bail!("two externals have one name"),
     }
 }
@@ -147,8 +167,26 @@ fn commit<E: External>(world: &mut World<E>)
     world.commit();
 }
 
-/// Puts a text after a global's.
+/// Puts a text after a variable's.
 #[tactic(auto, unfolding(containers::specs::Base::base))]
+fn put_after<E: External>(
+    alloc: Global,
+    world: &mut World<E>,
+    variables: &mut Variables,
+    name: &Name,
+    value: Text,
+) -> anyhow::Result<()>
+    requires { IsSome world.old.history.start }
+    ensures { OnOk result (IsSome world.new.history.start) }
+{
+    let edit = Edit::Put(Where::After, Value::of_text(value));
+    if edit_variable(alloc, world, variables, name, edit, b',').is_err() {
+        anyhow::bail!("a text isn't put");
+    }
+    Ok(())
+}
+
+/// Puts a text after a global's.
 fn append<E: External>(
     alloc: Global,
     world: &mut World<E>,
@@ -158,13 +196,9 @@ fn append<E: External>(
     requires { IsSome world.old.history.start }
     ensures { OnOk result (IsSome world.new.history.start) }
 {
-    let mut variables = Variables::of_typed_line(alloc);
     let name = Name::new(alloc, name)?;
-    let edit = Edit::Put(Where::After, Value::of_text(value));
-    if edit_variable(alloc, world, &mut variables, &name, edit, b',').is_err() {
-        anyhow::bail!("a text isn't put");
-    }
-    Ok(())
+    let mut variables = Variables::of_typed_line(alloc);
+    put_after(alloc, world, &mut variables, &name, value)
 }
 
 /// The write with this number.
@@ -177,8 +211,8 @@ fn write_one<E: External>(
     requires { IsSome world.old.history.start }
     ensures { OnOk result (IsSome world.new.history.start) }
 {
-    let name = Text::from_vec(name_of(alloc, call, at)?)?;
-    let value = Text::from_vec(value_of(alloc, call, at)?)?;
+    let name = text_in(name_of(alloc, call, at))?;
+    let value = text_in(value_of(alloc, call, at))?;
     match call {
         Call::OneGlobal | Call::EachGlobal => put(world, &name, value),
         Call::FieldText => make(world, Change::FieldText(FIELD.0, FIELD.1, value)),
@@ -219,28 +253,6 @@ fn add_field<E: External>(world: &mut World<E>) -> anyhow::Result<()>
     Ok(())
 }
 
-fn go_back<E: External>(world: &mut World<E>) -> anyhow::Result<()>
-    requires { world.old.history.start ≡ None }
-    ensures { OnOk result (world.new.history.start ≡ None) }
-{
-    if world.undoable() == 0 {
-        anyhow::bail!("no place");
-    }
-    world.flip_back();
-    Ok(())
-}
-
-fn go_forth<E: External>(world: &mut World<E>) -> anyhow::Result<()>
-    requires { world.old.history.start ≡ None }
-    ensures { OnOk result (world.new.history.start ≡ None) }
-{
-    if world.redoable() == 0 {
-        anyhow::bail!("no place");
-    }
-    world.flip_forth();
-    Ok(())
-}
-
 /// The bytes of memory that the program holds.
 fn held<R: Files + AllocGlobal>(rt: &R) -> anyhow::Result<u64> {
     let pages = fs::read_to_string(rt, "/proc/self/statm")?;
@@ -248,127 +260,195 @@ fn held<R: Files + AllocGlobal>(rt: &R) -> anyhow::Result<u64> {
     Ok(held.parse::<u64>().unwrap_or(0).saturating_mul(PAGE))
 }
 
-/// The nanoseconds of the writes in a world, and the bytes that they took.
+/// A moment, and the bytes that the program held then.
+#[derive(Clone, Copy)]
+struct Meter {
+    bytes: u64,
+    start: Instant,
+}
+
+impl Meter {
+    /// It measures from now on.
+    fn begin<R: Clock + Files + AllocGlobal>(rt: &R) -> anyhow::Result<Meter> {
+        let bytes = held(rt)?;
+        let start = Instant::now(rt)?;
+        Ok(Meter { bytes, start })
+    }
+
+    /// What was taken since it began.
+    fn read<R: Clock + Files + AllocGlobal>(&self, rt: &R) -> anyhow::Result<Taken> {
+        let time = nanoseconds_since(rt, &self.start)?;
+        let bytes = held(rt)?.saturating_sub(self.bytes);
+        Ok(Taken { time, bytes })
+    }
+}
+
+/// What the writes in a world take, after its field was added.
 fn spend_on_writes<R: Clock + Files + AllocGlobal, E: External>(
     rt: &R,
     world: &mut World<E>,
     call: Call,
     count: u32,
-) -> anyhow::Result<(u64, u64)>
+) -> anyhow::Result<Taken>
     requires { world.old.history.start ≡ None }
     ensures { OnOk result (world.new.history.start ≡ None) }
 {
-    let before = held(rt)?;
-    let start = Instant::now(rt)?;
+    add_field(world)?;
+    let meter = Meter::begin(rt)?;
     write_all(rt.alloc(), world, call, count)?;
-    let time = nanoseconds_since(rt, &start)?;
-    Ok((time, held(rt)?.saturating_sub(before)))
+    meter.read(rt)
 }
 
-/// The nanoseconds of the ways back and forth over the writes.
-fn spend_on_ways<E: External>(rt: &impl Clock, world: &mut World<E>) -> anyhow::Result<(u64, u64)>
+/// The nanoseconds of the way back over the writes.
+fn spend_on_way_back<E: External>(rt: &impl Clock, world: &mut World<E>) -> anyhow::Result<u64>
+    requires { world.old.history.start ≡ None }
+    ensures { OnOk result (world.new.history.start ≡ None) }
+{
+    if world.undoable() == 0 {
+        anyhow::bail!("no place");
+    }
+    let start = Instant::now(rt)?;
+    world.flip_back();
+    Ok(nanoseconds_since(rt, &start)?)
+}
+
+/// The nanoseconds of the way forth over them.
+fn spend_on_way_forth<E: External>(rt: &impl Clock, world: &mut World<E>) -> anyhow::Result<u64>
     requires { world.old.history.start ≡ None }
 {
+    if world.redoable() == 0 {
+        anyhow::bail!("no place");
+    }
     let start = Instant::now(rt)?;
-    go_back(world)?;
-    let back = nanoseconds_since(rt, &start)?;
-    let start = Instant::now(rt)?;
-    go_forth(world)?;
-    Ok((back, nanoseconds_since(rt, &start)?))
+    world.flip_forth();
+    Ok(nanoseconds_since(rt, &start)?)
 }
 
-/// The nanoseconds of the writes in plain maps and lists, and the bytes that they took.
+/// What the writes in plain maps and lists take.
 fn spend_on_plain<R: Clock + Files + AllocGlobal>(
     rt: &R,
     plain: &mut Plain,
     call: Call,
     count: u32,
-) -> anyhow::Result<(u64, u64)> {
-    let before = held(rt)?;
-    let start = Instant::now(rt)?;
+) -> anyhow::Result<Taken> {
+    let meter = Meter::begin(rt)?;
     plain.take_all(rt.alloc(), call, count)?;
-    let time = nanoseconds_since(rt, &start)?;
-    Ok((time, held(rt)?.saturating_sub(before)))
+    meter.read(rt)
 }
 
 /// The writes of a row in a world, and in plain maps and lists.
 fn spend<R: Clock + Files + AllocGlobal, E: External>(
     rt: &R,
-    world: &mut World<E>,
-    plain: &mut Plain,
+    sides: &mut Sides<E>,
     call: Call,
     count: u32,
 ) -> anyhow::Result<Spent>
-    requires { world.old.history.start ≡ None }
+    requires { sides.old.world.history.start ≡ None }
 {
-    add_field(world)?;
-    let (write, bytes) = spend_on_writes(rt, world, call, count)?;
-    let (back, forth) = spend_on_ways(rt, world)?;
-    let (plain, plain_bytes) = spend_on_plain(rt, plain, call, count)?;
+    let writes = spend_on_writes(rt, &mut sides.world, call, count)?;
+    let back = spend_on_way_back(rt, &mut sides.world)?;
+    let forth = spend_on_way_forth(rt, &mut sides.world)?;
+    let plain = spend_on_plain(rt, &mut sides.plain, call, count)?;
     Ok(Spent {
-        write,
+        writes,
         back,
         forth,
-        bytes,
         plain,
-        plain_bytes,
     })
 }
 
-/// Prints a line of the table, for a write each.
-fn show(rt: &impl Print, name: &str, count: u32, spent: Spent) -> io::Result<()> {
-    let count = u64::from(count);
-    println!(rt;
-        "{name:<15} {count:>9} {:>7} ns {} plain {:>6} bytes {:>6} plain, undo {:>6} ns {} plain, redo {:>6} ns {} plain",
-        ratio(spent.write, count, 1),
-        Tenths::new(spent.write, spent.plain),
-        ratio(spent.bytes, count, 1),
-        ratio(spent.plain_bytes, count, 1),
-        ratio(spent.back, count, 1),
-        Tenths::new(spent.back, spent.plain),
-        ratio(spent.forth, count, 1),
-        Tenths::new(spent.forth, spent.plain)
+/// Prints what the writes took, for one each.
+fn show_writes(rt: &impl Print, name: &str, count: u64, spent: &Spent) -> io::Result<()> {
+    print!(rt;
+        "{name:<15} {count:>9} {:>7} ns {} plain",
+        ratio(spent.writes.time, count, 1),
+        Tenths::new(spent.writes.time, spent.plain.time)
     )
 }
 
-/// What the rows have written, which is kept, so that what it holds isn't used again.
-#[derive(Drop)]
-struct Written<E: External> {
-    worlds: Vec<Box<World<E>>>,
-    plains: Vec<Box<Plain>>,
+/// Prints the bytes that the writes took, for one each.
+fn show_bytes(rt: &impl Print, count: u64, spent: &Spent) -> io::Result<()> {
+    print!(rt;
+        " {:>6} bytes {:>6} plain",
+        ratio(spent.writes.bytes, count, 1),
+        ratio(spent.plain.bytes, count, 1)
+    )
+}
+
+/// Prints what a way over the writes took, for one each.
+fn show_way(rt: &impl Print, way: &str, count: u64, time: u64, plain: u64) -> io::Result<()> {
+    print!(rt;
+        ", {way} {:>6} ns {} plain",
+        ratio(time, count, 1),
+        Tenths::new(time, plain)
+    )
+}
+
+/// Prints a line of the table.
+fn show(rt: &impl Print, name: &str, count: u32, spent: &Spent) -> io::Result<()> {
+    let count = u64::from(count);
+    show_writes(rt, name, count, spent)?;
+    show_bytes(rt, count, spent)?;
+    show_way(rt, "undo", count, spent.back, spent.plain.time)?;
+    show_way(rt, "redo", count, spent.forth, spent.plain.time)?;
+    println!(rt)
 }
 
 /// Prints the times and bytes of a row with one of its counts.
+fn print_row<R: Clock + Files + Print + AllocGlobal, E: External>(
+    rt: &R,
+    row: &Row,
+    count: u32,
+    sides: &mut Sides<E>,
+) -> anyhow::Result<()>
+    requires { sides.old.world.history.start ≡ None }
+{
+    let spent = spend(rt, sides, row.call, count)?;
+    Ok(show(rt, row.name, count, &spent)?)
+}
+
+/// Measures a row with one of its counts. What it has written is kept, so that what it holds isn't used again.
 fn measure_row<R: Clock + Files + Print + AllocGlobal, E: External>(
     rt: &R,
     row: &Row,
     count: u32,
-    written: &mut Written<E>,
+    kept: &mut Vec<Box<Sides<E>>>,
 ) -> anyhow::Result<()> {
-    let alloc = rt.alloc();
-    let mut world = open_world(alloc)?;
-    let mut plain = Box::new(alloc, Plain::new(alloc))?;
-    let spent = spend(rt, &mut *world, &mut *plain, row.call, count)?;
-    show(rt, row.name, count, spent)?;
-    written.worlds.push(world)?;
-    Ok(written.plains.push(plain)?)
+    let mut sides = open_sides(rt.alloc())?;
+    print_row(rt, row, count, &mut *sides)?;
+    Ok(kept.push(sides)?)
 }
 
-/// Prints the times and bytes of all rows.
-fn measure_rows<R: Clock + Files + Print + AllocGlobal, E: External>(rt: &R) -> anyhow::Result<()> {
-    let mut written: Written<E> = Written {
-        worlds: Vec::new(rt.alloc()),
-        plains: Vec::new(rt.alloc()),
-    };
-    for row in ROWS {
-        for count in row.counts {
-            measure_row(rt, row, *count, &mut written)?;
-        }
+/// Measures a row with all of its counts.
+fn measure_counts<R: Clock + Files + Print + AllocGlobal, E: External>(
+    rt: &R,
+    row: &Row,
+    kept: &mut Vec<Box<Sides<E>>>,
+) -> anyhow::Result<()> {
+    for count in row.counts {
+        measure_row(rt, row, *count, kept)?;
     }
     Ok(())
 }
 
+/// Measures all rows.
+fn measure_rows<R: Clock + Files + Print + AllocGlobal, E: External>(
+    rt: &R,
+    kept: &mut Vec<Box<Sides<E>>>,
+) -> anyhow::Result<()> {
+    for row in ROWS {
+        measure_counts(rt, row, kept)?;
+    }
+    Ok(())
+}
+
+/// Measures all rows, and keeps what they have written up to the end.
+fn measure_all<R: Clock + Files + Print + AllocGlobal, E: External>(rt: &R) -> anyhow::Result<()> {
+    let mut kept: Vec<Box<Sides<E>>> = Vec::new(rt.alloc());
+    measure_rows(rt, &mut kept)
+}
+
 /// Prints the times and bytes of writes in worlds in which no external is plugged.
 pub(crate) fn measure<R: Clock + Files + Print + AllocGlobal>(rt: &R) -> anyhow::Result<()> {
-    measure_rows::<R, Box<dyn External>>(rt)
+    measure_all::<R, Box<dyn External>>(rt)
 }

@@ -6,6 +6,11 @@ use std::alloc::{AllocError, Global};
 /// a group of 100 objects.
 const CARDS: u32 = 32;
 
+/// The ids that a background and its parts take, and those that a card and its parts take.
+const BACKGROUND_IDS: u32 = 4;
+
+const CARD_IDS: u32 = 3;
+
 const SCRIPT: &str = "script 7\n|on mouseUp\n\
 |  put item 3 of line 2 of field \"Notes\" into total\n\
 |  repeat with i = 1 to the number of lines of total\n\
@@ -19,123 +24,159 @@ const NOTES: &str = "5\n|Ring the caf\\8e about the order, and ask when it opens
 |Then file the letters by name, the newest first, and number them.\n\
 |None goes out before the list was read through once more.\n";
 
-/// The ids of a background and of its parts.
+/// A piece of the text of a layer.
 #[derive(Clone, Copy)]
-struct Background {
-    id: u32,
-    button: u32,
-    notes: u32,
-    title: u32,
+enum Piece {
+    Text(&'static str),
+    Script,
+    Notes,
+    /// The id of the background where this is 0, and those of its parts from 1 on.
+    OfBackground(u32),
+    /// The id of the card where this is 0, and those of its parts from 1 on.
+    OfCard(u32),
 }
 
-/// A text that grows, and the id of its newest object.
-#[derive(Drop)]
-struct Maker {
-    text: String,
-    newest: u32,
+const FIELD_FLAGS: &str = "\nname |Notes\nvisible true\nlockText false\nsharedText false\n";
+
+const BACKGROUND: &[Piece] = &[
+    Piece::Text("background "),
+    Piece::OfBackground(0),
+    Piece::Text("\nname |People\ncantDelete false\n"),
+    Piece::Script,
+    Piece::Text("parts 3\nbutton "),
+    Piece::OfBackground(1),
+    Piece::Text("\nname |Done\nvisible true\nsharedHilite false\nhilite false\n"),
+    Piece::Script,
+    Piece::Text("field "),
+    Piece::OfBackground(2),
+    Piece::Text(FIELD_FLAGS),
+    Piece::Script,
+    Piece::Text("shared "),
+    Piece::Notes,
+    Piece::Text("field "),
+    Piece::OfBackground(3),
+    Piece::Text(FIELD_FLAGS),
+    Piece::Script,
+    Piece::Text("shared "),
+    Piece::Notes,
+];
+
+const CARD: &[Piece] = &[
+    Piece::Text("card "),
+    Piece::OfCard(0),
+    Piece::Text(" "),
+    Piece::OfBackground(0),
+    Piece::Text("\nname |Card "),
+    Piece::OfCard(0),
+    Piece::Text("\ncantDelete false\n"),
+    Piece::Script,
+    Piece::Text("parts 2\nbutton "),
+    Piece::OfCard(1),
+    Piece::Text("\nname |Next\nvisible true\nhilite false\n"),
+    Piece::Script,
+    Piece::Text("field "),
+    Piece::OfCard(2),
+    Piece::Text("\nname |Letters\nvisible true\nlockText true\nscript 0\ntext "),
+    Piece::Notes,
+    Piece::Text("hilite "),
+    Piece::OfBackground(1),
+    Piece::Text(" true\ntext "),
+    Piece::OfBackground(2),
+    Piece::Text(" "),
+    Piece::Notes,
+    Piece::Text("text "),
+    Piece::OfBackground(3),
+    Piece::Text(" 1\n|Person "),
+    Piece::OfCard(0),
+    Piece::Text("\n"),
+];
+
+/// A layer: how many ids come before its background's and before its card's, and the step between ids.
+#[derive(Clone, Copy)]
+struct Layer {
+    before_background: u32,
+    before_card: u32,
     step: u32,
 }
 
-impl Maker {
-    fn new_id(&mut self) -> u32 {
-        self.newest = self.newest.wrapping_add(self.step);
-        self.newest
-    }
+/// Writes an id, behind so many others.
+fn push_id(out: &mut String, before: u32, step: u32) -> Result<(), AllocError> {
+    let id = before.wrapping_add(1).wrapping_mul(step);
+    write!(out, "{id}")
+}
 
-    fn head(&mut self, groups: u32) -> Result<(), AllocError> {
-        let greatest = groups.wrapping_mul(100).wrapping_mul(self.step);
-        let next = greatest.wrapping_add(1);
-        write!(
-            self.text,
-            "htstack 2\nnext {next}\nname |Addresses\n{SCRIPT}"
-        )?;
-        write!(self.text, "backgrounds {groups}\n")
+/// Writes a piece of a layer.
+fn push_piece(out: &mut String, piece: Piece, layer: Layer) -> Result<(), AllocError> {
+    match piece {
+        Piece::Text(text) => out.push_str(text),
+        Piece::Script => out.push_str(SCRIPT),
+        Piece::Notes => out.push_str(NOTES),
+        Piece::OfBackground(place) => {
+            push_id(out, layer.before_background.wrapping_add(place), layer.step)
+        }
+        Piece::OfCard(place) => push_id(out, layer.before_card.wrapping_add(place), layer.step),
     }
+}
 
-    fn background_field(&mut self) -> Result<u32, AllocError> {
-        let id = self.new_id();
-        write!(
-            self.text,
-            "field {id}\nname |Notes\nvisible true\nlockText false\nsharedText false\n"
-        )?;
-        write!(self.text, "{SCRIPT}shared {NOTES}")?;
-        Ok(id)
+/// Writes a layer.
+fn push_layer(out: &mut String, pieces: &[Piece], layer: Layer) -> Result<(), AllocError> {
+    for piece in pieces {
+        push_piece(out, *piece, layer)?;
     }
+    Ok(())
+}
 
-    fn background_button(&mut self) -> Result<u32, AllocError> {
-        let id = self.new_id();
-        write!(
-            self.text,
-            "button {id}\nname |Done\nvisible true\nsharedHilite false\nhilite false\n{SCRIPT}"
-        )?;
-        Ok(id)
-    }
+/// Writes what stands before the layers.
+fn push_head(out: &mut String, groups: u32, step: u32) -> Result<(), AllocError> {
+    let greatest = groups.wrapping_mul(100).wrapping_mul(step);
+    let next = greatest.wrapping_add(1);
+    write!(
+        out,
+        "htstack 2\nnext {next}\nname |Addresses\n{SCRIPT}backgrounds {groups}\n"
+    )
+}
 
-    fn background(&mut self) -> Result<Background, AllocError> {
-        let id = self.new_id();
-        write!(
-            self.text,
-            "background {id}\nname |People\ncantDelete false\n{SCRIPT}parts 3\n"
-        )?;
-        Ok(Background {
-            id,
-            button: self.background_button()?,
-            notes: self.background_field()?,
-            title: self.background_field()?,
-        })
+/// Writes the backgrounds, which take the first ids.
+fn push_backgrounds(out: &mut String, groups: u32, step: u32) -> Result<(), AllocError> {
+    for group in 0..groups {
+        let layer = Layer {
+            before_background: group.wrapping_mul(BACKGROUND_IDS),
+            before_card: 0,
+            step,
+        };
+        push_layer(out, BACKGROUND, layer)?;
     }
+    Ok(())
+}
 
-    fn card_parts(&mut self) -> Result<(), AllocError> {
-        let button = self.new_id();
-        write!(
-            self.text,
-            "button {button}\nname |Next\nvisible true\nhilite false\n{SCRIPT}"
-        )?;
-        let field = self.new_id();
-        write!(
-            self.text,
-            "field {field}\nname |Letters\nvisible true\nlockText true\nscript 0\ntext {NOTES}"
-        )
+/// Writes the cards, which take the ids behind those.
+fn push_cards(out: &mut String, groups: u32, step: u32) -> Result<(), AllocError> {
+    let cards = groups.wrapping_mul(CARDS);
+    write!(out, "cards {cards}\n")?;
+    for card in 0..cards {
+        let layer = Layer {
+            before_background: (card / CARDS).wrapping_mul(BACKGROUND_IDS),
+            before_card: groups
+                .wrapping_mul(BACKGROUND_IDS)
+                .wrapping_add(card.wrapping_mul(CARD_IDS)),
+            step,
+        };
+        push_layer(out, CARD, layer)?;
     }
+    Ok(())
+}
 
-    fn card(&mut self, background: &Background) -> Result<(), AllocError> {
-        let Background {
-            id: owner,
-            button,
-            notes,
-            title,
-        } = background;
-        let id = self.new_id();
-        write!(
-            self.text,
-            "card {id} {owner}\nname |Card {id}\ncantDelete false\n{SCRIPT}parts 2\n"
-        )?;
-        self.card_parts()?;
-        write!(
-            self.text,
-            "hilite {button} true\ntext {notes} {NOTES}text {title} 1\n|Person {id}\n"
-        )
-    }
+/// Writes a stack of so many groups of 100 objects, whose ids lie a step apart.
+fn push_stack(out: &mut String, groups: u32, step: u32) -> Result<(), AllocError> {
+    push_head(out, groups, step)?;
+    push_backgrounds(out, groups, step)?;
+    push_cards(out, groups, step)?;
+    out.push_str("end\n")
 }
 
 /// The text of a stack of so many groups of 100 objects, whose ids lie a step apart.
 pub(crate) fn text_of(alloc: Global, groups: u32, step: u32) -> Result<String, AllocError> {
-    let mut maker = Maker {
-        text: String::new(alloc),
-        newest: 0,
-        step,
-    };
-    maker.head(groups)?;
-    let mut backgrounds = Vec::new(alloc);
-    for _ in 0..groups {
-        backgrounds.push(maker.background()?)?;
-    }
-    write!(maker.text, "cards {}\n", groups.wrapping_mul(CARDS))?;
-    for background in &backgrounds {
-        for _ in 0..CARDS {
-            maker.card(background)?;
-        }
-    }
-    write!(maker.text, "end\n")?;
-    Ok(maker.text)
+    let mut text = String::new(alloc);
+    push_stack(&mut text, groups, step)?;
+    Ok(text)
 }

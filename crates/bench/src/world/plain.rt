@@ -17,6 +17,21 @@ pub(crate) struct Plain {
     replaced: Vec<Vec<u32>>,
 }
 
+/// Bytes, and others behind them.
+fn joined(alloc: Global, bytes: &[u8], behind: &[u8]) -> Result<Vec<u8>, AllocError> {
+    let mut joined = Vec::with_capacity(alloc, bytes.len().saturating_add(1))?;
+    joined.extend_from_slice(bytes)?;
+    joined.extend_from_slice(behind)?;
+    Ok(joined)
+}
+
+/// Ids, and one more behind them.
+fn with(alloc: Global, ids: &[u32], id: u32) -> Result<Vec<u32>, AllocError> {
+    let mut with = Vec::from_slice(alloc, ids)?;
+    with.push(id)?;
+    Ok(with)
+}
+
 impl Plain {
     pub(crate) fn new(alloc: Global) -> Plain {
         Plain {
@@ -29,6 +44,28 @@ impl Plain {
         }
     }
 
+    fn put_global(&mut self, name: Vec<u8>, value: Vec<u8>) -> Result<(), AllocError> {
+        self.globals.insert(name, value)?;
+        Ok(())
+    }
+
+    fn put_text(&mut self, value: Vec<u8>) -> Result<(), AllocError> {
+        self.texts.insert(FIELD, value)?;
+        Ok(())
+    }
+
+    fn append(&mut self, alloc: Global, value: &[u8]) -> Result<(), AllocError> {
+        self.grown = joined(alloc, self.grown.as_slice(), value)?;
+        Ok(())
+    }
+
+    fn add_card(&mut self, alloc: Global, at: u32, value: Vec<u8>) -> Result<(), AllocError> {
+        self.cards.insert(at, value)?;
+        let order = with(alloc, self.order.as_slice(), at)?;
+        self.replaced.push(mem::replace(&mut self.order, order))?;
+        Ok(())
+    }
+
     /// Takes the value of the write with this number.
     fn take(
         &mut self,
@@ -39,26 +76,11 @@ impl Plain {
         value: Vec<u8>,
     ) -> Result<(), AllocError> {
         match call {
-            Call::OneGlobal | Call::EachGlobal => {
-                self.globals.insert(name, value)?;
-            }
-            Call::FieldText => {
-                self.texts.insert(FIELD, value)?;
-            }
-            Call::After => {
-                let mut grown = Vec::with_capacity(alloc, self.grown.len().saturating_add(1))?;
-                grown.extend_from_slice(&self.grown)?;
-                grown.extend_from_slice(&value)?;
-                self.grown = grown;
-            }
-            Call::NewCard => {
-                self.cards.insert(at, value)?;
-                let mut order = Vec::from_slice(alloc, &self.order)?;
-                order.push(at)?;
-                self.replaced.push(mem::replace(&mut self.order, order))?;
-            }
+            Call::OneGlobal | Call::EachGlobal => self.put_global(name, value),
+            Call::FieldText => self.put_text(value),
+            Call::After => self.append(alloc, value.as_slice()),
+            Call::NewCard => self.add_card(alloc, at, value),
         }
-        Ok(())
     }
 
     /// Takes so many values.
