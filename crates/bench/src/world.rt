@@ -13,8 +13,7 @@ use ht_values::{Name, PartKind, Text, Value, Where};
 use object_table::{LayerId, Stack};
 use plain::Plain;
 use std::alloc::Global;
-use std::rt::Files;
-use std::time::{Clock, Instant};
+use std::time::Instant;
 use std::{fs, io};
 
 /// The bytes of a page, in which the system counts what a program holds.
@@ -254,7 +253,7 @@ fn add_field<E: External>(world: &mut World<E>) -> anyhow::Result<()>
 }
 
 /// The bytes of memory that the program holds.
-fn held<R: Files + AllocGlobal>(rt: &R) -> anyhow::Result<u64> {
+fn held(rt: &HostRuntime) -> anyhow::Result<u64> {
     let pages = fs::read_to_string(rt, "/proc/self/statm")?;
     let held = pages.as_str().split_whitespace().nth(1).unwrap_or("0");
     Ok(held.parse::<u64>().unwrap_or(0).saturating_mul(PAGE))
@@ -269,14 +268,14 @@ struct Meter {
 
 impl Meter {
     /// It measures from now on.
-    fn begin<R: Clock + Files + AllocGlobal>(rt: &R) -> anyhow::Result<Meter> {
+    fn begin(rt: &HostRuntime) -> anyhow::Result<Meter> {
         let bytes = held(rt)?;
         let start = Instant::now(rt)?;
         Ok(Meter { bytes, start })
     }
 
     /// What was taken since it began.
-    fn read<R: Clock + Files + AllocGlobal>(&self, rt: &R) -> anyhow::Result<Taken> {
+    fn read(&self, rt: &HostRuntime) -> anyhow::Result<Taken> {
         let time = nanoseconds_since(rt, &self.start)?;
         let bytes = held(rt)?.saturating_sub(self.bytes);
         Ok(Taken { time, bytes })
@@ -284,8 +283,8 @@ impl Meter {
 }
 
 /// What the writes in a world take, after its field was added.
-fn spend_on_writes<R: Clock + Files + AllocGlobal, E: External>(
-    rt: &R,
+fn spend_on_writes<E: External>(
+    rt: &HostRuntime,
     world: &mut World<E>,
     call: Call,
     count: u32,
@@ -300,7 +299,7 @@ fn spend_on_writes<R: Clock + Files + AllocGlobal, E: External>(
 }
 
 /// The nanoseconds of the way back over the writes.
-fn spend_on_way_back<E: External>(rt: &impl Clock, world: &mut World<E>) -> anyhow::Result<u64>
+fn spend_on_way_back<E: External>(rt: &HostRuntime, world: &mut World<E>) -> anyhow::Result<u64>
     requires { world.old.history.start ≡ None }
     ensures { OnOk result (world.new.history.start ≡ None) }
 {
@@ -313,7 +312,7 @@ fn spend_on_way_back<E: External>(rt: &impl Clock, world: &mut World<E>) -> anyh
 }
 
 /// The nanoseconds of the way forth over them.
-fn spend_on_way_forth<E: External>(rt: &impl Clock, world: &mut World<E>) -> anyhow::Result<u64>
+fn spend_on_way_forth<E: External>(rt: &HostRuntime, world: &mut World<E>) -> anyhow::Result<u64>
     requires { world.old.history.start ≡ None }
 {
     if world.redoable() == 0 {
@@ -325,8 +324,8 @@ fn spend_on_way_forth<E: External>(rt: &impl Clock, world: &mut World<E>) -> any
 }
 
 /// What the writes in plain maps and lists take.
-fn spend_on_plain<R: Clock + Files + AllocGlobal>(
-    rt: &R,
+fn spend_on_plain(
+    rt: &HostRuntime,
     plain: &mut Plain,
     call: Call,
     count: u32,
@@ -337,8 +336,8 @@ fn spend_on_plain<R: Clock + Files + AllocGlobal>(
 }
 
 /// The writes of a row in a world, and in plain maps and lists.
-fn spend<R: Clock + Files + AllocGlobal, E: External>(
-    rt: &R,
+fn spend<E: External>(
+    rt: &HostRuntime,
     sides: &mut Sides<E>,
     call: Call,
     count: u32,
@@ -358,7 +357,7 @@ fn spend<R: Clock + Files + AllocGlobal, E: External>(
 }
 
 /// Prints what the writes took, for one each.
-fn show_writes(rt: &impl Print, name: &str, count: u64, spent: &Spent) -> io::Result<()> {
+fn show_writes(rt: &HostRuntime, name: &str, count: u64, spent: &Spent) -> io::Result<()> {
     print!(rt;
         "{name:<15} {count:>9} {:>7} ns {} plain",
         ratio(spent.writes.time, count, 1),
@@ -367,7 +366,7 @@ fn show_writes(rt: &impl Print, name: &str, count: u64, spent: &Spent) -> io::Re
 }
 
 /// Prints the bytes that the writes took, for one each.
-fn show_bytes(rt: &impl Print, count: u64, spent: &Spent) -> io::Result<()> {
+fn show_bytes(rt: &HostRuntime, count: u64, spent: &Spent) -> io::Result<()> {
     print!(rt;
         " {:>6} bytes {:>6} plain",
         ratio(spent.writes.bytes, count, 1),
@@ -376,7 +375,7 @@ fn show_bytes(rt: &impl Print, count: u64, spent: &Spent) -> io::Result<()> {
 }
 
 /// Prints what a way over the writes took, for one each.
-fn show_way(rt: &impl Print, way: &str, count: u64, time: u64, plain: u64) -> io::Result<()> {
+fn show_way(rt: &HostRuntime, way: &str, count: u64, time: u64, plain: u64) -> io::Result<()> {
     print!(rt;
         ", {way} {:>6} ns {} plain",
         ratio(time, count, 1),
@@ -385,7 +384,7 @@ fn show_way(rt: &impl Print, way: &str, count: u64, time: u64, plain: u64) -> io
 }
 
 /// Prints a line of the table.
-fn show(rt: &impl Print, name: &str, count: u32, spent: &Spent) -> io::Result<()> {
+fn show(rt: &HostRuntime, name: &str, count: u32, spent: &Spent) -> io::Result<()> {
     let count = u64::from(count);
     show_writes(rt, name, count, spent)?;
     show_bytes(rt, count, spent)?;
@@ -394,61 +393,39 @@ fn show(rt: &impl Print, name: &str, count: u32, spent: &Spent) -> io::Result<()
     println!(rt)
 }
 
-/// Prints the times and bytes of a row with one of its counts.
-fn print_row<R: Clock + Files + Print + AllocGlobal, E: External>(
-    rt: &R,
-    row: &Row,
-    count: u32,
-    sides: &mut Sides<E>,
-) -> anyhow::Result<()>
-    requires { sides.old.world.history.start ≡ None }
-{
-    let spent = spend(rt, sides, row.call, count)?;
-    Ok(show(rt, row.name, count, &spent)?)
-}
-
 /// Measures a row with one of its counts. What it has written is kept, so that what it holds isn't used again.
-fn measure_row<R: Clock + Files + Print + AllocGlobal, E: External>(
-    rt: &R,
+fn measure_row<E: External>(
+    rt: &HostRuntime,
     row: &Row,
     count: u32,
     kept: &mut Vec<Box<Sides<E>>>,
 ) -> anyhow::Result<()> {
     let mut sides = open_sides(rt.alloc())?;
-    print_row(rt, row, count, &mut *sides)?;
+    let spent = spend(rt, &mut *sides, row.call, count)?;
+    show(rt, row.name, count, &spent)?;
     Ok(kept.push(sides)?)
 }
 
-/// Measures a row with all of its counts.
-fn measure_counts<R: Clock + Files + Print + AllocGlobal, E: External>(
-    rt: &R,
-    row: &Row,
-    kept: &mut Vec<Box<Sides<E>>>,
-) -> anyhow::Result<()> {
-    for count in row.counts {
-        measure_row(rt, row, *count, kept)?;
-    }
-    Ok(())
-}
-
-/// Measures all rows.
-fn measure_rows<R: Clock + Files + Print + AllocGlobal, E: External>(
-    rt: &R,
+/// Measures all rows with all of their counts.
+fn measure_rows<E: External>(
+    rt: &HostRuntime,
     kept: &mut Vec<Box<Sides<E>>>,
 ) -> anyhow::Result<()> {
     for row in ROWS {
-        measure_counts(rt, row, kept)?;
+        for count in row.counts {
+            measure_row(rt, row, *count, kept)?;
+        }
     }
     Ok(())
 }
 
 /// Measures all rows, and keeps what they have written up to the end.
-fn measure_all<R: Clock + Files + Print + AllocGlobal, E: External>(rt: &R) -> anyhow::Result<()> {
+fn measure_all<E: External>(rt: &HostRuntime) -> anyhow::Result<()> {
     let mut kept: Vec<Box<Sides<E>>> = Vec::new(rt.alloc());
     measure_rows(rt, &mut kept)
 }
 
 /// Prints the times and bytes of writes in worlds in which no external is plugged.
-pub(crate) fn measure<R: Clock + Files + Print + AllocGlobal>(rt: &R) -> anyhow::Result<()> {
-    measure_all::<R, Box<dyn External>>(rt)
+pub(crate) fn measure(rt: &HostRuntime) -> anyhow::Result<()> {
+    measure_all::<Box<dyn External>>(rt)
 }
