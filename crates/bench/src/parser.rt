@@ -5,7 +5,6 @@ use ht_parse::parse_script;
 use ht_values::Text;
 use std::alloc::{AllocError, Global};
 use std::io;
-use std::time::Clock;
 
 /// How many bytes are parsed in a measurement.
 const BYTES: usize = 3_000_000;
@@ -80,7 +79,7 @@ fn script_of(alloc: Global, line: Line, size: usize) -> anyhow::Result<(Text, us
 /// Prints a line of the table: the size, the time of a byte, and how many lines are parsed in a second. It is told the
 /// nanoseconds of so many rounds of a script of so many bytes and lines.
 fn show(
-    rt: &impl Print,
+    rt: &HostRuntime,
     name: &str,
     (bytes, lines): (usize, usize),
     rounds: usize,
@@ -96,8 +95,8 @@ fn show(
 }
 
 /// Prints the times of a script of a shape and size.
-fn measure_one<R: Clock + Print>(
-    rt: &R,
+fn measure_one(
+    rt: &HostRuntime,
     alloc: Global,
     name: &str,
     line: Line,
@@ -112,7 +111,7 @@ fn measure_one<R: Clock + Print>(
 }
 
 /// Prints the times of scripts of each shape and size.
-pub(crate) fn measure<R: Clock + Print>(rt: &R, alloc: Global) -> anyhow::Result<()> {
+pub(crate) fn measure(rt: &HostRuntime, alloc: Global) -> anyhow::Result<()> {
     for (name, line) in SHAPES {
         for size in SIZES {
             measure_one(rt, alloc, name, *line, size)?;

@@ -11,7 +11,6 @@ use object_table::Stack;
 use stack_file::{read, write};
 use std::alloc::Global;
 use std::io;
-use std::time::Clock;
 use texts::text_of;
 
 /// How many bytes go through a measurement.
@@ -84,7 +83,7 @@ fn made(alloc: Global, call: Call, given: &Given) -> anyhow::Result<usize>
 
 /// Prints a line of the table: a call, the time of a byte, how many bytes go through in a second, and the
 /// ratio to the copy.
-fn show(rt: &impl Print, name: &str, bytes: u64, time: u64, copy: u64) -> io::Result<()> {
+fn show(rt: &HostRuntime, name: &str, bytes: u64, time: u64, copy: u64) -> io::Result<()> {
     let hundredths = ratio(time, bytes, 100);
     println!(rt;
         "  {name:<6} {:>3}.{:02} ns a byte {:>6} MB a second {} copies",
@@ -96,7 +95,7 @@ fn show(rt: &impl Print, name: &str, bytes: u64, time: u64, copy: u64) -> io::Re
 }
 
 /// Prints what is read and written.
-fn print_size(rt: &impl Print, given: &Given) -> io::Result<()> {
+fn print_size(rt: &HostRuntime, given: &Given) -> io::Result<()> {
     println!(rt;
         "{} objects, {} bytes, next id {}",
         given.stack.object_count(),
@@ -107,7 +106,7 @@ fn print_size(rt: &impl Print, given: &Given) -> io::Result<()> {
 
 /// The nanoseconds of so many rounds of a call.
 fn time(
-    rt: &impl Clock,
+    rt: &HostRuntime,
     alloc: Global,
     rounds: usize,
     call: Call,
@@ -119,8 +118,8 @@ fn time(
 }
 
 /// Prints the time of a call beside that of the copy.
-fn print_time<R: Clock + Print>(
-    rt: &R,
+fn print_time(
+    rt: &HostRuntime,
     alloc: Global,
     name: &str,
     call: Call,
@@ -134,7 +133,7 @@ fn print_time<R: Clock + Print>(
 }
 
 /// Prints the times of the calls on a stack.
-fn print_times<R: Clock + Print>(rt: &R, alloc: Global, given: &Given) -> anyhow::Result<()>
+fn print_times(rt: &HostRuntime, alloc: Global, given: &Given) -> anyhow::Result<()>
     requires { IsWellFormed given.now.stack.content }
 {
     let copy = time(rt, alloc, given.rounds(), Call::Copy, given)?;
@@ -144,19 +143,14 @@ fn print_times<R: Clock + Print>(rt: &R, alloc: Global, given: &Given) -> anyhow
 }
 
 /// Prints the times of a stack.
-fn measure_one<R: Clock + Print>(
-    rt: &R,
-    alloc: Global,
-    groups: u32,
-    step: u32,
-) -> anyhow::Result<()> {
+fn measure_one(rt: &HostRuntime, alloc: Global, groups: u32, step: u32) -> anyhow::Result<()> {
     let given = inputs(alloc, groups, step)?;
     print_size(rt, &given)?;
     print_times(rt, alloc, &given)
 }
 
 /// Prints the times of stacks of all sizes, with ids side by side and far apart.
-pub(crate) fn measure<R: Clock + Print>(rt: &R, alloc: Global) -> anyhow::Result<()> {
+pub(crate) fn measure(rt: &HostRuntime, alloc: Global) -> anyhow::Result<()> {
     for step in STEPS {
         for groups in GROUPS {
             measure_one(rt, alloc, groups, step)?;

@@ -2,13 +2,13 @@
 
 ghost use Rattle.std.specs.Prelude.{◌≡◌, ◌*◌, ◌/◌, max};
 
-use std::time::{Clock, Instant};
+use std::time::Instant;
 use std::{fmt, io};
 
 /// The nanoseconds of so many rounds of a call, which tells how much came out of it. An error is the call's or the
 /// clock's, or says that nothing came out of any round.
 pub(crate) fn time_of<C: Fn() -> anyhow::Result<usize>>(
-    rt: &impl Clock,
+    rt: &HostRuntime,
     rounds: usize,
     call: C,
 ) -> anyhow::Result<u64>
@@ -26,7 +26,7 @@ pub(crate) fn time_of<C: Fn() -> anyhow::Result<usize>>(
 }
 
 /// The nanoseconds since a moment.
-pub(crate) fn nanoseconds_since(rt: &impl Clock, start: &Instant) -> io::Result<u64> {
+pub(crate) fn nanoseconds_since(rt: &HostRuntime, start: &Instant) -> io::Result<u64> {
     let elapsed = start.elapsed(rt)?.as_nanos();
     Ok(u64::try_from(elapsed).unwrap_or(u64::MAX))
 }

@@ -5,7 +5,6 @@ use chunks::{Chunk, Index, delete, put, take};
 use ht_values::{ChunkKind, Func, LIMIT, Op, Text, Value, Where, binary, built_in};
 use std::alloc::Global;
 use std::io;
-use std::time::Clock;
 
 /// How often each call is timed.
 const ROUNDS: usize = 5_000;
@@ -99,12 +98,12 @@ fn made(alloc: Global, call: Call, given: &Given) -> anyhow::Result<usize> {
 }
 
 /// The nanoseconds of all rounds of a call.
-fn time(rt: &impl Clock, alloc: Global, call: Call, given: &Given) -> anyhow::Result<u64> {
+fn time(rt: &HostRuntime, alloc: Global, call: Call, given: &Given) -> anyhow::Result<u64> {
     time_of(rt, ROUNDS, || made(alloc, call, given))
 }
 
 /// Prints a line of the table: a call, its time, and the ratio to the copy.
-fn show(rt: &impl Print, name: &str, time: u64, copy: u64) -> io::Result<()> {
+fn show(rt: &HostRuntime, name: &str, time: u64, copy: u64) -> io::Result<()> {
     println!(rt;
         "{name:<32} {:>9} ns {} copies",
         time / ROUNDS as u64,
@@ -113,8 +112,8 @@ fn show(rt: &impl Print, name: &str, time: u64, copy: u64) -> io::Result<()> {
 }
 
 /// Prints the times of a copy and of other calls beside it.
-fn print_times<R: Clock + Print>(
-    rt: &R,
+fn print_times(
+    rt: &HostRuntime,
     alloc: Global,
     given: &Given,
     copy: (&str, Call),
@@ -142,7 +141,7 @@ const COPY_NUMERAL: (&str, Call) = ("copy of a numeral", Call::CopyNumeral);
 const ON_NUMERALS: &[(&str, Call)] = &[("sum of two numerals", Call::Sum)];
 
 /// Prints the times of all calls.
-pub(crate) fn measure<R: Clock + Print>(rt: &R, alloc: Global) -> anyhow::Result<()> {
+pub(crate) fn measure(rt: &HostRuntime, alloc: Global) -> anyhow::Result<()> {
     let given = inputs(alloc)?;
     print_times(rt, alloc, &given, COPY_TEXT, ON_TEXTS)?;
     print_times(rt, alloc, &given, COPY_NUMERAL, ON_NUMERALS)
