@@ -18,12 +18,17 @@ fn until_ok(answers: &str) -> Option<(&str, &str)> {
     }
 }
 
+/// Writes a line with a line feed.
+fn push_line(out: &mut String, line: &str) -> Result<(), AllocError> {
+    out.push_str(line)?;
+    out.push('\n')
+}
+
 /// The shown lines of an answer without `> `, each with a line feed.
 fn shown_in(alloc: Global, answer: &str) -> Result<String, AllocError> {
     let mut shown = String::new(alloc);
     for line in answer.lines() {
-        shown.push_str(line.strip_prefix("> ").unwrap_or(line))?;
-        shown.push('\n')?;
+        push_line(&mut shown, line.strip_prefix("> ").unwrap_or(line))?;
     }
     Ok(shown)
 }
@@ -35,8 +40,7 @@ fn part_below<'a>(
     header: &str,
 ) -> Result<Option<&'a str>, AllocError> {
     let mut begin = String::from_str(alloc, "\n")?;
-    begin.push_str(header)?;
-    begin.push('\n')?;
+    push_line(&mut begin, header)?;
     match text.split_once(begin.as_str()) {
         Some((_, part)) => Ok(Some(part)),
         None => Ok(None),
@@ -47,8 +51,7 @@ fn part_below<'a>(
 fn framed_run(alloc: Global, lines: &str) -> Result<String, AllocError> {
     let mut run = String::from_str(alloc, "\n")?;
     for line in lines.split(" / ") {
-        run.push_str(line)?;
-        run.push('\n')?;
+        push_line(&mut run, line)?;
     }
     Ok(run)
 }
@@ -60,8 +63,7 @@ fn framed_part(alloc: Global, part: &str) -> Result<String, AllocError> {
         if line.starts_with("card ") || line.starts_with("background ") {
             break;
         }
-        framed.push_str(line)?;
-        framed.push('\n')?;
+        push_line(&mut framed, line)?;
     }
     Ok(framed)
 }
@@ -98,10 +100,11 @@ fn is_kept(kept: &[NamedText], name: &str, shown: &str) -> bool {
 fn keep(
     alloc: Global,
     name: &str,
-    text: String,
+    text: &str,
     kept: &mut Vec<NamedText>,
 ) -> Result<(), AllocError> {
     let name = String::from_str(alloc, name)?;
+    let text = String::from_str(alloc, text)?;
     kept.push(NamedText { name, text })?;
     Ok(())
 }
@@ -110,7 +113,7 @@ fn keep(
 fn passes(
     alloc: Global,
     check: &str,
-    shown: String,
+    shown: &str,
     stack: &str,
     kept: &mut Vec<NamedText>,
 ) -> Result<bool, AllocError> {
@@ -119,11 +122,11 @@ fn passes(
         return Ok(true);
     }
     if let Some(wanted) = check.strip_prefix("in ") {
-        return stands_in(alloc, shown.as_str(), wanted);
+        return stands_in(alloc, shown, wanted);
     }
     Ok(match check.strip_prefix("same ") {
-        Some(name) => is_kept(kept.as_slice(), name, shown.as_str()),
-        None => check == "stack" && shown.as_str() == stack,
+        Some(name) => is_kept(kept.as_slice(), name, shown),
+        None => check == "stack" && shown == stack,
     })
 }
 
@@ -181,25 +184,35 @@ impl<'a> Comparison<'a> {
         None
     }
 
-    /// Whether the next answers, or the next message, are those of a line of the row; an input line has none of its own.
-    fn meets(&mut self, alloc: Global, line: &str, stack: &str) -> Result<bool, AllocError> {
-        if let Some(wanted) = line.strip_prefix("= ") {
-            let (answer, after) = self.rest.split_once("\n").unwrap_or(("", ""));
-            self.rest = after;
-            return Ok(answer == wanted);
-        }
-        if let Some(wanted) = line.strip_prefix("! ") {
-            return Ok(self.is_next_message(wanted));
-        }
-        let Some(check) = line.strip_prefix("~ ") else {
-            self.checked = None;
-            return Ok(true);
-        };
+    /// Whether the next line of the answers is this one.
+    fn is_next_line(&mut self, wanted: &str) -> bool {
+        let (answer, after) = self.rest.split_once("\n").unwrap_or(("", ""));
+        self.rest = after;
+        answer == wanted
+    }
+
+    /// Whether the next answer passes a check.
+    fn is_checked(&mut self, alloc: Global, check: &str, stack: &str) -> Result<bool, AllocError> {
         let Some(answer) = self.checked() else {
             return Ok(false);
         };
         let shown = shown_in(alloc, answer)?;
-        passes(alloc, check, shown, stack, &mut self.kept)
+        passes(alloc, check, shown.as_str(), stack, &mut self.kept)
+    }
+
+    /// Whether the next answers, or the next message, are those of a line of the row; an input line has none of its own.
+    fn meets(&mut self, alloc: Global, line: &str, stack: &str) -> Result<bool, AllocError> {
+        if let Some(wanted) = line.strip_prefix("= ") {
+            return Ok(self.is_next_line(wanted));
+        }
+        if let Some(wanted) = line.strip_prefix("! ") {
+            return Ok(self.is_next_message(wanted));
+        }
+        if let Some(check) = line.strip_prefix("~ ") {
+            return self.is_checked(alloc, check, stack);
+        }
+        self.checked = None;
+        Ok(true)
     }
 }
 

@@ -13,13 +13,12 @@ mod trees;
 use crate::answers::first_unmet;
 use crate::row::{Row, edited, input_of, row_of};
 use crate::trees::tree_of;
-use command_line::{CliFault, cut, options_of, play_with_kit, verdict};
-use devices::{HeardMessage, Shelf, Watched};
+use command_line::{CliFault, Options, cut, options_of, play_with_kit, verdict};
+use devices::{Shelf, Watched};
 use ht_values::Text;
 use std::alloc::{AllocError, Global};
 use std::fs;
 use std::io::{self, Write};
-use std::rt::Files;
 
 /// What a run wrote, the desk that heard its messages, and how it ended.
 #[derive(Drop)]
@@ -30,15 +29,34 @@ struct Ended {
     stderr: Text,
 }
 
-/// The words of the program: its name, the stack's and those of the row.
-fn words(alloc: Global, row: &Row<'_>) -> Result<Vec<String>, AllocError> {
-    let mut words = Vec::new(alloc);
-    words.push(String::from_str(alloc, "card_cli")?)?;
-    words.push(String::from_str(alloc, row.stack)?)?;
+/// What is wrong with how a run ended, or with what it wrote.
+#[derive(Clone, Copy)]
+enum Wrong<'a> {
+    Status(u8),
+    Text(&'a str),
+}
+
+/// Lists a word.
+fn push_word(alloc: Global, word: &str, words: &mut Vec<String>) -> Result<(), AllocError> {
+    let word = String::from_str(alloc, word)?;
+    Ok(words.push(word)?)
+}
+
+/// Lists the words of the program: its name, the stack's and those of the row.
+fn push_words(alloc: Global, row: &Row<'_>, words: &mut Vec<String>) -> Result<(), AllocError> {
+    push_word(alloc, "card_cli", words)?;
+    push_word(alloc, row.stack, words)?;
     for word in row.args.split_whitespace() {
-        words.push(String::from_str(alloc, word)?)?;
+        push_word(alloc, word, words)?;
     }
-    Ok(words)
+    Ok(())
+}
+
+/// What the words of the program say.
+fn options(alloc: Global, row: &Row<'_>) -> Result<Options, CliFault> {
+    let mut words = Vec::new(alloc);
+    push_words(alloc, row, &mut words)?;
+    options_of(alloc, words.as_slice())
 }
 
 /// The desk of a row, which fails at the save of this number; where it is no number it keeps all.
@@ -59,116 +77,180 @@ fn run_on(
     answers: &mut Vec<u8>,
     desk: &mut Shelf,
 ) -> Result<(), CliFault> {
-    let words = words(alloc, row)?;
-    let options = options_of(alloc, words.as_slice())?;
+    let options = options(alloc, row)?;
     let mut reader = Watched::new(input);
     let mut writer = Watched::new(answers);
     play_with_kit(alloc, &options, stack, &mut reader, &mut writer, desk)?;
     Ok(())
 }
 
+/// Keeps what is told of a fault.
+fn tell(
+    alloc: Global,
+    row: &Row<'_>,
+    fault: &CliFault,
+    ended: &mut Ended,
+) -> Result<(), AllocError> {
+    let stack = cut(alloc, row.stack.as_bytes())?;
+    let (status, stderr) = verdict(alloc, fault, &stack)?;
+    ended.status = status;
+    ended.stderr = stderr;
+    Ok(())
+}
+
 /// Runs a row as the program would.
-fn performed(alloc: Global, row: &Row<'_>, stack: &str) -> Result<Ended, AllocError> {
+fn perform(alloc: Global, row: &Row<'_>, stack: &str, ended: &mut Ended) -> Result<(), AllocError> {
     let input = input_of(alloc, row.body)?;
-    let mut answers = Vec::new(alloc);
-    let mut desk = desk_of(alloc, row.desk);
-    let outcome = run_on(
+    match run_on(
         alloc,
         row,
         stack.as_bytes(),
         input.as_bytes(),
-        &mut answers,
-        &mut desk,
-    );
-    let (status, stderr) = match outcome {
-        Ok(()) => (0, Text::new(alloc)),
-        Err(fault) => verdict(alloc, &fault, &cut(alloc, row.stack.as_bytes())?)?,
-    };
-    Ok(Ended {
-        answers,
-        desk,
-        status,
-        stderr,
-    })
+        &mut ended.answers,
+        &mut ended.desk,
+    ) {
+        Ok(()) => Ok(()),
+        Err(fault) => tell(alloc, row, &fault, ended),
+    }
 }
 
 /// What is wrong with how a run ended, if anything.
-fn wrong_end(alloc: Global, row: &Row<'_>, ended: &Ended) -> Result<Option<String>, AllocError> {
-    let status = format!(in alloc; "{}", ended.status)?;
-    if status.as_str() != row.status {
-        return Ok(Some(format!(in alloc; "status {}", status)?));
+fn wrong_end<'a>(row: &Row<'a>, ended: &Ended) -> Option<Wrong<'a>> {
+    if row.status.parse() != Ok(ended.status) {
+        return Some(Wrong::Status(ended.status));
     }
     if row.stderr != "*" && row.stderr.as_bytes() != ended.stderr.as_slice() {
-        return Ok(Some(String::from_str(alloc, "standard error")?));
+        return Some(Wrong::Text("standard error"));
     }
-    Ok(None)
+    None
 }
 
 /// The first line of a row that its answers and messages don't meet, or none.
-fn wrong_answer(
+fn wrong_answer<'a>(
     alloc: Global,
-    row: &Row<'_>,
-    answers: Vec<u8>,
-    messages: &[HeardMessage],
+    row: &Row<'a>,
+    ended: &Ended,
     shown: &str,
-) -> Result<Option<String>, AllocError> {
-    let Ok(answers) = String::from_utf8(answers) else {
-        return Ok(Some(String::from_str(alloc, "other bytes")?));
+) -> Result<Option<Wrong<'a>>, AllocError> {
+    let Ok(answers) = str::from_utf8(ended.answers.as_slice()) else {
+        return Ok(Some(Wrong::Text("other bytes")));
     };
-    match first_unmet(alloc, row.body, answers.as_str(), messages, shown)? {
+    match first_unmet(alloc, row.body, answers, ended.desk.messages(), shown)? {
         None => Ok(None),
-        Some(line) => Ok(Some(String::from_str(alloc, line)?)),
+        Some(line) => Ok(Some(Wrong::Text(line))),
+    }
+}
+
+/// Runs a row on a stack, and tells what it wants and didn't get, or none.
+fn unmet_after<'a>(
+    alloc: Global,
+    row: &Row<'a>,
+    stack: &str,
+    shown: &str,
+    ended: &mut Ended,
+) -> Result<Option<Wrong<'a>>, AllocError> {
+    perform(alloc, row, stack, ended)?;
+    match wrong_end(row, ended) {
+        Some(wrong) => Ok(Some(wrong)),
+        None => wrong_answer(alloc, row, ended, shown),
     }
 }
 
 /// What a row wants and didn't get on a stack, or none.
-fn unmet_on(
+fn unmet_on<'a>(
     alloc: Global,
-    row: &Row<'_>,
+    row: &Row<'a>,
     stack: &str,
     shown: &str,
-) -> Result<Option<String>, AllocError> {
-    let ended = performed(alloc, row, stack)?;
-    match wrong_end(alloc, row, &ended)? {
-        Some(wrong) => Ok(Some(wrong)),
-        None => wrong_answer(alloc, row, ended.answers, ended.desk.messages(), shown),
-    }
+) -> Result<Option<Wrong<'a>>, AllocError> {
+    let mut ended = Ended {
+        answers: Vec::new(alloc),
+        desk: desk_of(alloc, row.desk),
+        status: 0,
+        stderr: Text::new(alloc),
+    };
+    unmet_after(alloc, row, stack, shown, &mut ended)
 }
 
 /// What a row wants and didn't get, or none, where this is the text of its stack before the edit.
-fn unmet(alloc: Global, row: &Row<'_>, base: &str) -> Result<Option<String>, AllocError> {
+fn unmet<'a>(alloc: Global, row: &Row<'a>, base: &str) -> Result<Option<Wrong<'a>>, AllocError> {
     let shown = edited(alloc, base, "line 1 htstack 2")?;
     let stack = edited(alloc, base, row.edit)?;
     unmet_on(alloc, row, stack.as_str(), shown.as_str())
 }
 
 /// The text of a row of the list.
-fn text_of<R: Files + AllocGlobal>(rt: &R, name: &str) -> io::Result<String> {
+fn text_of(rt: &HostRuntime, name: &str) -> io::Result<String> {
     let file = format!(in rt.alloc(); "{}.row", name)?;
     fs::read_to_string(rt, file.as_str())
 }
 
-/// Runs a row of the list, and prints how it went.
-fn report<R: Files + AllocGlobal + Print>(rt: &R, name: &str, waits: bool) -> io::Result<()> {
-    let text = text_of(rt, name)?;
-    let row = row_of(text.as_str());
-    let base = fs::read_to_string(rt, row.stack)?;
-    match (unmet(rt.alloc(), &row, base.as_str())?, waits) {
-        (None, false) => println!(rt; "{} passed", name),
-        (None, true) => println!(rt; "{} passed, and is listed as waiting", name),
-        (Some(_), true) => println!(rt; "{} waits", name),
-        (Some(line), false) => println!(rt; "{} failed: {}", name, line),
+/// Prints what a row of the list didn't get.
+fn print_wrong(rt: &HostRuntime, name: &str, wrong: Wrong<'_>) -> io::Result<()> {
+    match wrong {
+        Wrong::Status(status) => println!(rt; "{} failed: status {}", name, status),
+        Wrong::Text(text) => println!(rt; "{} failed: {}", name, text),
     }
+}
+
+/// How a row went that has all that it wants, or that waits.
+fn how(is_met: bool, waits: bool) -> &'static str {
+    if !is_met {
+        "waits"
+    } else if waits {
+        "passed, and is listed as waiting"
+    } else {
+        "passed"
+    }
+}
+
+/// Prints how a row of the list went.
+fn print_outcome(
+    rt: &HostRuntime,
+    name: &str,
+    unmet: Option<Wrong<'_>>,
+    waits: bool,
+) -> io::Result<()> {
+    match unmet {
+        Some(wrong) if !waits => print_wrong(rt, name, wrong),
+        _ => println!(rt; "{} {}", name, how(unmet.is_none(), waits)),
+    }
+}
+
+/// Runs a row, and prints how it went.
+fn report_row(rt: &HostRuntime, name: &str, row: &Row<'_>, waits: bool) -> io::Result<()> {
+    let base = fs::read_to_string(rt, row.stack)?;
+    let unmet = unmet(rt.alloc(), row, base.as_str())?;
+    print_outcome(rt, name, unmet, waits)
+}
+
+/// Runs a row of the list, and prints how it went.
+fn report(rt: &HostRuntime, name: &str, waits: bool) -> io::Result<()> {
+    let text = text_of(rt, name)?;
+    report_row(rt, name, &row_of(text.as_str()), waits)
+}
+
+/// Prints the tree of a text.
+fn print_tree(rt: &HostRuntime, line: &str) -> anyhow::Result<()> {
+    let mut answer = tree_of(rt.alloc(), line)?;
+    answer.push(b'\n')?;
+    Ok(io::writer(rt).write_all(&answer)?)
 }
 
 /// Prints the trees of the texts of standard input.
 fn print_trees(rt: &HostRuntime) -> anyhow::Result<()> {
-    let alloc = rt.alloc();
-    for line in rt.lines(alloc) {
-        let line = line?;
-        let mut answer = tree_of(alloc, line.as_str())?;
-        answer.push(b'\n')?;
-        io::writer(rt).write_all(&answer)?;
+    for line in rt.lines(rt.alloc()) {
+        print_tree(rt, line?.as_str())?;
+    }
+    Ok(())
+}
+
+/// Runs the rows of a list.
+fn report_all(rt: &HostRuntime, list: &str) -> io::Result<()> {
+    for line in list.lines() {
+        if let Some((name, state)) = line.split_once(" ") {
+            report(rt, name, state == "waits")?;
+        }
     }
     Ok(())
 }
@@ -176,10 +258,5 @@ fn print_trees(rt: &HostRuntime) -> anyhow::Result<()> {
 fn main(rt: HostRuntime) -> anyhow::Result<()> {
     print_trees(&rt)?;
     let list = fs::read_to_string(&rt, "rows.txt")?;
-    for line in list.lines() {
-        if let Some((name, how)) = line.split_once(" ") {
-            report(&rt, name, how == "waits")?;
-        }
-    }
-    Ok(())
+    Ok(report_all(&rt, list.as_str())?)
 }

@@ -3,7 +3,7 @@
 use std::alloc::{AllocError, Global};
 
 /// A row as its file has it.
-#[derive(Drop)]
+#[derive(Clone, Copy)]
 pub struct Row<'a> {
     /// The file of the stack that it runs on.
     pub stack: &'a str,
@@ -69,18 +69,22 @@ fn push_changed(out: &mut String, stack: &str, number: &str, new: &str) -> Resul
     Ok(())
 }
 
-/// The bytes of the stack after the edit: `cut N`, or `line N TEXT`.
-pub fn edited(alloc: Global, stack: &str, edit: &str) -> Result<String, AllocError> {
-    let mut out = String::new(alloc);
+/// A stack's text after an edit: `cut N`, or `line N TEXT`.
+fn push_edited(out: &mut String, stack: &str, edit: &str) -> Result<(), AllocError> {
     if let Some(count) = edit.strip_prefix("cut ") {
-        push_cut(&mut out, stack, count)?;
-        return Ok(out);
+        return push_cut(out, stack, count);
     }
     let (number, new) = edit
         .strip_prefix("line ")
         .and_then(|rest| rest.split_once(" "))
         .unwrap_or(("0", ""));
-    push_changed(&mut out, stack, number, new)?;
+    push_changed(out, stack, number, new)
+}
+
+/// The text of the stack after the edit.
+pub fn edited(alloc: Global, stack: &str, edit: &str) -> Result<String, AllocError> {
+    let mut out = String::new(alloc);
+    push_edited(&mut out, stack, edit)?;
     Ok(out)
 }
 

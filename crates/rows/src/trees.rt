@@ -38,19 +38,21 @@ fn written(alloc: Global, text: &str) -> Result<Vec<u8>, AllocError> {
     Ok(bytes)
 }
 
+/// Writes a byte so many times.
+fn push_times(bytes: &mut Vec<u8>, byte: u8, times: u16) -> Result<(), AllocError> {
+    for _ in 0..times {
+        bytes.push(byte)?;
+    }
+    Ok(())
+}
+
 /// A 1 in as many opening and closing parentheses as the two numbers say.
 fn nested(alloc: Global, counts: &str) -> Result<Vec<u8>, AllocError> {
     let (opening, closing) = counts.split_once(" ").unwrap_or(("0", "0"));
-    let opening: u16 = opening.parse().unwrap_or(0);
-    let closing: u16 = closing.parse().unwrap_or(0);
     let mut bytes = Vec::new(alloc);
-    for _ in 0..opening {
-        bytes.push(b'(')?;
-    }
+    push_times(&mut bytes, b'(', opening.parse().unwrap_or(0))?;
     bytes.push(b'1')?;
-    for _ in 0..closing {
-        bytes.push(b')')?;
-    }
+    push_times(&mut bytes, b')', closing.parse().unwrap_or(0))?;
     Ok(bytes)
 }
 

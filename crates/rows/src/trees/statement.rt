@@ -7,6 +7,7 @@ use crate::trees::printed::Printed;
 use ht_tree::{
     Chunk, Container, ContainerKind, Destination, Expr, Head, Names, Ref, Stmt, StmtKind, Stmts,
 };
+use ht_values::{Name, Text};
 
 /// Prints a container: a variable as its name, all else in parentheses.
 fn print_container(out: &mut Printed, container: &Container) {
@@ -86,6 +87,13 @@ fn print_send(out: &mut Printed, message: &Expr, reference: &Ref) {
     out.word(")");
 }
 
+/// Prints a word and the name of a message, in parentheses.
+fn print_message_name(out: &mut Printed, word: &str, name: &Text) {
+    out.opening(word);
+    out.text(name);
+    out.word(")");
+}
+
 fn print_go(out: &mut Printed, destination: &Destination) {
     match destination {
         Destination::ToCard(selector) => {
@@ -100,6 +108,17 @@ fn print_go(out: &mut Printed, destination: &Destination) {
     out.word(")");
 }
 
+/// Prints a word, the variable of a `repeat`, and the numbers from which and to which it counts, in parentheses.
+fn print_counted(out: &mut Printed, word: &str, name: &Name, from: &Expr, to: &Expr) {
+    out.opening(word);
+    out.text(name.text());
+    out.word(" ");
+    print_expr(out, from);
+    out.word(" ");
+    print_expr(out, to);
+    out.word(")");
+}
+
 /// Prints how often `repeat` does its lines.
 fn print_head(out: &mut Printed, head: &Head) {
     match head {
@@ -107,24 +126,8 @@ fn print_head(out: &mut Printed, head: &Head) {
         Head::Times(times) => print_one(out, "times", times),
         Head::While(condition) => print_one(out, "while", condition),
         Head::Until(condition) => print_one(out, "until", condition),
-        Head::CountedUp(name, from, to) => {
-            out.word("(up ");
-            out.text(name.text());
-            out.word(" ");
-            print_expr(out, from);
-            out.word(" ");
-            print_expr(out, to);
-            out.word(")");
-        }
-        Head::CountedDown(name, from, to) => {
-            out.word("(down ");
-            out.text(name.text());
-            out.word(" ");
-            print_expr(out, from);
-            out.word(" ");
-            print_expr(out, to);
-            out.word(")");
-        }
+        Head::CountedUp(name, from, to) => print_counted(out, "up", name, from, to),
+        Head::CountedDown(name, from, to) => print_counted(out, "down", name, from, to),
     }
 }
 
@@ -166,16 +169,8 @@ fn print_stmt(out: &mut Printed, stmt: &Stmt) {
         StmtKind::ExitRepeat => out.word("(exit-repeat)"),
         StmtKind::NextRepeat => out.word("(next-repeat)"),
         StmtKind::ExitToHyperCard => out.word("(exit-to-HyperCard)"),
-        StmtKind::Exit(name) => {
-            out.word("(exit ");
-            out.text(name);
-            out.word(")");
-        }
-        StmtKind::Pass(name) => {
-            out.word("(pass ");
-            out.text(name);
-            out.word(")");
-        }
+        StmtKind::Exit(name) => print_message_name(out, "exit", name),
+        StmtKind::Pass(name) => print_message_name(out, "pass", name),
         StmtKind::ReturnNothing => out.word("(return)"),
         StmtKind::ReturnValue(value) => print_one(out, "return", value),
         StmtKind::Command(name, arguments) => {
