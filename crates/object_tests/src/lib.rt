@@ -25,6 +25,6 @@ mod stacks;
 #[cfg(test)]
 mod tools;
 #[cfg(test)]
-mod watched_devices;
+mod unseen;
 #[cfg(test)]
-mod what_no_run_shows;
+mod watched_devices;
