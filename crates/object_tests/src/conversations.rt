@@ -5,26 +5,29 @@ ghost use Rattle.externals.specs.Cells.{IsProper};
 
 use crate::plain_texts::{Bytes, is_text, text};
 use externals::{Ask, External, Input, Patch, Texts};
-use ht_values::Text;
+use ht_values::{Text, text_of};
 use std::alloc::Global;
 
-/// What an external is told at a turn.
+/// What an external is told at a turn; the texts have commas between them.
 #[derive(Clone, Copy)]
 pub(crate) enum Told {
-    Start(&'static [Bytes]),
-    /// The note, and the value.
-    Answer(&'static [Bytes], Bytes),
+    Start(&'static str),
+    /// A start with a text of so many `a`, with `a` and with `aa`.
+    Doubled(usize),
+    /// A start with `put`, with a key and with `x`.
+    Put(i64),
+    /// The note of an answer, and its value.
+    Answer(&'static str, Bytes),
 }
 
-/// What an external asks; a call-back begins with its note.
+/// What an external asks.
 #[derive(Clone, Copy)]
 pub(crate) enum Asked {
-    Send(&'static [Bytes], Bytes),
-    Value(&'static [Bytes], Bytes),
-    Global(&'static [Bytes], Bytes, Bytes),
-    BackgroundField(&'static [Bytes], Bytes, Bytes),
+    /// For the value of an expression, without a note.
+    Value(Bytes),
     Done(Bytes),
-    Pass,
+    /// It is done, with any value.
+    Any,
     Fail,
 }
 
@@ -50,53 +53,72 @@ fn is_pushed(alloc: Global, texts: &mut Texts, bytes: &[u8]) -> bool {
     }
 }
 
-pub(crate) fn texts(alloc: Global, all: &[&[u8]]) -> Option<Texts> {
-    let mut texts = Texts::new(alloc);
-    for bytes in all {
-        if !is_pushed(alloc, &mut texts, bytes) {
-            return None;
-        }
+/// Adds the texts with commas between them; of no bytes none.
+fn push_words(alloc: Global, texts: &mut Texts, line: &str) -> bool {
+    if line == "" {
+        return true;
     }
-    Some(texts)
-}
-
-fn input(alloc: Global, told: Told) -> Option<Input> {
-    match told {
-        Told::Start(args) => Some(Input::Start(texts(alloc, args)?)),
-        Told::Answer(note, value) => Some(Input::Answer(texts(alloc, note)?, text(alloc, value)?)),
-    }
-}
-
-pub(crate) fn are_texts(texts: &Texts, all: &[Bytes]) -> bool {
-    if texts.len() != all.len() {
-        return false;
-    }
-    for i in 0..texts.len() {
-        if i < all.len() && texts.at(i).as_slice() != all[i] {
+    for word in line.split(",") {
+        if !is_pushed(alloc, texts, word.as_bytes()) {
             return false;
         }
     }
     true
 }
 
+fn texts(alloc: Global, line: &str) -> Option<Texts> {
+    let mut texts = Texts::new(alloc);
+    push_words(alloc, &mut texts, line).then_some(texts)
+}
+
+fn three_texts(alloc: Global, first: &[u8], second: &[u8], third: &[u8]) -> Option<Texts> {
+    let mut texts = Texts::new(alloc);
+    let are_pushed = is_pushed(alloc, &mut texts, first)
+        && is_pushed(alloc, &mut texts, second)
+        && is_pushed(alloc, &mut texts, third);
+    are_pushed.then_some(texts)
+}
+
+fn doubled(alloc: Global, count: usize) -> Option<Texts> {
+    let long = vec![in alloc; b'a'; count].ok()?;
+    three_texts(alloc, &long, b"a", b"aa")
+}
+
+fn put(alloc: Global, key: i64) -> Option<Texts> {
+    let key = text_of(alloc, key).ok()?;
+    three_texts(alloc, b"put", key.as_slice(), b"x")
+}
+
+fn input(alloc: Global, told: Told) -> Option<Input> {
+    match told {
+        Told::Start(args) => Some(Input::Start(texts(alloc, args)?)),
+        Told::Doubled(count) => Some(Input::Start(doubled(alloc, count)?)),
+        Told::Put(key) => Some(Input::Start(put(alloc, key)?)),
+        Told::Answer(note, value) => Some(Input::Answer(texts(alloc, note)?, text(alloc, value)?)),
+    }
+}
+
+fn is_done(value: &Text, asked: Asked) -> bool {
+    match asked {
+        Asked::Done(told) => is_text(value, told),
+        Asked::Any => true,
+        Asked::Value(_) | Asked::Fail => false,
+    }
+}
+
+fn is_value(note: &Texts, text: &Text, asked: Asked) -> bool {
+    match asked {
+        Asked::Value(told) => note.len() == 0 && is_text(text, told),
+        _ => false,
+    }
+}
+
 fn is_asked(ask: &Ask, asked: Asked) -> bool {
     match ask {
-        Ask::SendCardMessage(note, text) => {
-            matches!(asked, Asked::Send(all, line) if are_texts(note, all) && is_text(text, line))
-        }
-        Ask::EvalExpr(note, text) => {
-            matches!(asked, Asked::Value(all, line) if are_texts(note, all) && is_text(text, line))
-        }
-        Ask::SetGlobal(note, name, value) => {
-            matches!(asked, Asked::Global(all, global, set) if are_texts(note, all) && is_text(name, global) && is_text(value, set))
-        }
-        Ask::SetFieldByName(_, true, _, _) => false,
-        Ask::SetFieldByName(note, false, name, value) => {
-            matches!(asked, Asked::BackgroundField(all, field, set) if are_texts(note, all) && is_text(name, field) && is_text(value, set))
-        }
-        Ask::Done(value, false) => matches!(asked, Asked::Done(told) if is_text(value, told)),
-        Ask::Done(_, true) => matches!(asked, Asked::Pass),
+        Ask::Done(value, false) => is_done(value, asked),
+        Ask::EvalExpr(note, text) => is_value(note, text, asked),
         Ask::Fail => matches!(asked, Asked::Fail),
+        _ => false,
     }
 }
 
@@ -153,7 +175,8 @@ fn flips<E: External>(
 fn answers<E: External>(alloc: Global, external: &mut E, input: &Input, turn: &Turn) -> bool {
     match external.turn(alloc, input) {
         Ok((ask, mut patch)) => {
-            is_asked(&ask, turn.1) && names(&patch, turn.2) && flips(external, &mut patch, turn.2)
+            let asked = is_asked(&ask, turn.1);
+            asked & flips(external, &mut patch, turn.2)
         }
         Err(_) => false,
     }

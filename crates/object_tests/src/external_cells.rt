@@ -1,8 +1,8 @@
-//! An external that is none of the kit's, in a box and without, and lists of texts and patches alone.
+//! An external that is none of the kit's, in a box and without.
 
 use crate::boxed_externals::Boxed;
 use crate::conversations::*;
-use crate::plain_texts::{Bytes, is_text, text};
+use crate::plain_texts::text;
 use externals::{Ask, External, Input, Patch, Texts, law_of_external, laws_of_flips};
 use ht_values::Text;
 use std::alloc::{AllocError, Global};
@@ -99,8 +99,8 @@ fn boxed_echo(alloc: Global) -> Option<Boxed> {
 }
 
 const TURN: Turn = Turn(
-    Told::Start(&[b"new"]),
-    Asked::Value(&[], b"new"),
+    Told::Start("new"),
+    Asked::Value(b"new"),
     &[(0, b"old", b"new")],
 );
 
@@ -134,50 +134,4 @@ fn meets<E: External>(alloc: Global, external: Option<E>) -> bool {
 fn an_external_turns_and_flips(rt: HostRuntime) {
     assert!(rt; meets(rt.alloc(), boxed_echo(rt.alloc())));
     assert!(rt; meets(rt.alloc(), make_echo(rt.alloc())));
-}
-
-fn keeps_texts(alloc: Global, all: &[Bytes]) -> bool {
-    match texts(alloc, all) {
-        Some(texts) => are_texts(&texts, all),
-        None => false,
-    }
-}
-
-#[test]
-fn lists_of_texts(rt: HostRuntime) {
-    assert!(rt; keeps_texts(rt.alloc(), &[b"a", b"b"]));
-}
-
-fn patch_of(alloc: Global, cell: usize, bytes: &[u8]) -> Option<Patch> {
-    let mut patch = Patch::new(alloc);
-    patch.push(cell, text(alloc, bytes)?).ok()?;
-    Some(patch)
-}
-
-/// Exchanges the text of a patch that names the cell alone.
-fn is_swapped(patch: &mut Patch, cell: usize, text: &mut Text) -> bool {
-    if patch.len() != 1 || patch.cell_at(0) != cell {
-        return false;
-    }
-    patch.swap(0, text);
-    true
-}
-
-fn swaps(alloc: Global, patch: &mut Patch) -> bool {
-    match text(alloc, b"new") {
-        Some(mut text) => is_swapped(patch, 3, &mut text) && is_text(&text, b"old"),
-        None => false,
-    }
-}
-
-fn patch_swaps(alloc: Global) -> bool {
-    match patch_of(alloc, 3, b"old") {
-        Some(mut patch) => swaps(alloc, &mut patch),
-        None => false,
-    }
-}
-
-#[test]
-fn patches(rt: HostRuntime) {
-    assert!(rt; patch_swaps(rt.alloc()));
 }

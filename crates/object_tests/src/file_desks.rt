@@ -6,23 +6,21 @@ use log::{LevelFilter, Logged};
 use std::fs;
 use std::rt::Files;
 
-type Name = &'static str;
-
 /// What is done with files and the desk, or holds of them.
-enum Step {
-    Write(Name, &'static str),
-    Folder(Name),
+enum Step<'a> {
+    Write(&'a str, &'a str),
+    Folder(&'a str),
     /// The file that a link leads to, and the link.
-    Link(Name, Name),
+    Link(&'a str, &'a str),
     /// A save, and whether it is kept.
-    Keep(&'static [u8], bool),
+    Keep(&'a [u8], bool),
     /// How many saves have failed.
     Failures(u64),
-    Text(Name, &'static str),
-    IsThere(Name, bool),
-    IsLink(Name),
-    Remove(Name),
-    RemoveFolder(Name),
+    Text(&'a str, &'a str),
+    IsThere(&'a str, bool),
+    IsLink(&'a str),
+    Remove(&'a str),
+    RemoveFolder(&'a str),
 }
 
 fn has_text<R: Files + AllocGlobal>(rt: &R, path: &str, due: &str) -> bool {
@@ -47,7 +45,7 @@ fn is_there<R: Files>(rt: &R, path: &str, due: bool) -> bool {
 }
 
 /// Whether a step on files alone is done, or holds.
-fn is_done<R: Files + AllocGlobal>(rt: &R, step: &Step) -> bool {
+fn is_done<R: Files + AllocGlobal>(rt: &R, step: &Step<'_>) -> bool {
     match step {
         Step::Write(path, text) => fs::write(rt, path, *text).is_ok(),
         Step::Folder(path) => fs::create_dir(rt, path).is_ok(),
@@ -61,21 +59,31 @@ fn is_done<R: Files + AllocGlobal>(rt: &R, step: &Step) -> bool {
     }
 }
 
-fn keeps<D: Desk>(desk: &mut D, text: &[u8]) -> bool {
-    desk.keep(text)
+/// Whether a step is done at a desk, or holds of it or of files.
+fn is_so<R: Files + AllocGlobal, D: Desk>(rt: &R, desk: &mut D, step: &Step<'_>) -> bool {
+    match step {
+        Step::Keep(text, kept) => desk.keep(text) == *kept,
+        Step::Failures(count) => desk.failures() == *count,
+        _ => is_done(rt, step),
+    }
 }
 
-fn failures_of<D: Desk>(desk: &D) -> u64 {
-    desk.failures()
+fn are_so<R: Files + AllocGlobal, D: Desk>(rt: &R, desk: &mut D, steps: &[Step<'_>]) -> bool {
+    for step in steps {
+        if !is_so(rt, desk, step) {
+            return false;
+        }
+    }
+    true
 }
 
 /// The path of a desk, and the steps.
-struct Row {
-    path: Name,
-    steps: &'static [Step],
+struct Row<'a> {
+    path: &'a str,
+    steps: &'a [Step<'a>],
 }
 
-const ROWS: &[Row] = &[
+const ROWS: &[Row<'static>] = &[
     // A save replaces the file, whatever file or link stands beside it, and leaves it where a folder stands there.
     Row {
         path: "alone.stack",
@@ -172,15 +180,6 @@ fn a_save_replaces_the_file_or_leaves_it(rt: HostRuntime) {
     let logger = Logged::new(&rt, LevelFilter::Off, Plain(&rt));
     for row in ROWS {
         let mut desk = FileDesk::new(&logger, row.path);
-        let mut holds = true;
-        for step in row.steps {
-            holds = holds
-                && match step {
-                    Step::Keep(text, kept) => keeps(&mut desk, text) == *kept,
-                    Step::Failures(count) => failures_of(&desk) == *count,
-                    _ => is_done(&rt, step),
-                };
-        }
-        assert!(rt; holds, "{}", row.path);
+        assert!(rt; are_so(&rt, &mut desk, row.steps), "{}", row.path);
     }
 }

@@ -1,67 +1,25 @@
-//! Examples of the stack file, with ample memory: a text is made, and comes to something where it is read.
+//! Examples of the stack file, with ample memory: a text is made, and comes to something where it is read. Most are rows of
+//! `rows`; here are long texts, and those with each byte changed, or cut at each place.
 
 ghost use Rattle.object_table.specs.WellFormed.{IsWellFormed};
 
 mod changed;
 mod limits;
-mod reading;
-mod rich;
-mod writing;
+mod pieces;
 
-use crate::plain_texts::Bytes;
 use crate::stacks::{Fact, hold};
-use limits::{Piece, push_piece};
 use object_table::Stack;
-use reading::push_two_cards;
+use pieces::{Piece, text_of};
 use stack_file::*;
-use std::alloc::{AllocError, Global};
-
-/// How a stack text is made.
-#[derive(Clone, Copy)]
-enum Source {
-    /// Of these pieces, one after the other.
-    Pieces(&'static [Bytes]),
-    /// The text of two cards, with this for the line of this number, counted from 1.
-    TwoCards(usize, Bytes),
-    Long(&'static [Piece]),
-}
+use std::alloc::Global;
 
 /// What a stack text comes to where it is read.
 #[derive(Clone, Copy)]
 enum Due {
     Stack(&'static [Fact]),
-    /// A stack whose script has every byte, in order.
-    EveryByte,
+    /// A stack that is written as it is read.
+    Kept(&'static [Fact]),
     Fault(FileError),
-    /// A stack that is written as this text.
-    Written(Source),
-}
-
-fn push_all(text: &mut Vec<u8>, pieces: &[&[u8]]) -> Result<(), AllocError> {
-    for piece in pieces {
-        text.extend_from_slice(piece)?;
-    }
-    Ok(())
-}
-
-fn push_source(text: &mut Vec<u8>, source: &Source) -> Result<(), AllocError> {
-    match source {
-        Source::Pieces(pieces) => push_all(text, pieces),
-        Source::TwoCards(number, changed) => push_two_cards(text, *number, changed),
-        Source::Long(pieces) => {
-            for piece in *pieces {
-                push_piece(text, piece)?;
-            }
-            Ok(())
-        }
-    }
-}
-
-/// The text; none where memory is refused.
-fn text_of(alloc: Global, source: &Source) -> Option<Vec<u8>> {
-    let mut text = Vec::new(alloc);
-    push_source(&mut text, source).ok()?;
-    Some(text)
 }
 
 /// The stack of a text that has one, in a box, which is dropped by one call.
@@ -93,50 +51,23 @@ fn is_written(alloc: Global, text: &[u8], due: &[u8]) -> bool {
     }
 }
 
-fn is_written_as(alloc: Global, text: &[u8], due: &Source) -> bool {
-    match text_of(alloc, due) {
-        Some(due) => is_written(alloc, text, &due),
-        None => false,
-    }
-}
-
-fn are_every_byte(bytes: &[u8]) -> bool {
-    for (i, byte) in bytes.iter().enumerate() {
-        if i != *byte as usize {
-            return false;
-        }
-    }
-    bytes.len() == 256
-}
-
-fn has_every_byte(stack: &Stack) -> bool {
-    match stack.object(0) {
-        Some(object) => are_every_byte(object.script.as_slice()),
-        None => false,
-    }
-}
-
-fn reads_every_byte(alloc: Global, text: &[u8]) -> bool {
+fn reads(alloc: Global, text: &[u8], facts: &[Fact]) -> bool {
     match stack_of(alloc, text) {
-        Some(stack) => has_every_byte(&stack),
+        Some(stack) => hold(alloc, &stack, facts),
         None => false,
     }
 }
 
 fn is_due(alloc: Global, text: &[u8], due: &Due) -> bool {
     match due {
-        Due::Stack(facts) => match stack_of(alloc, text) {
-            Some(stack) => hold(alloc, &stack, facts),
-            None => false,
-        },
-        Due::EveryByte => reads_every_byte(alloc, text),
+        Due::Stack(facts) => reads(alloc, text, facts),
+        Due::Kept(facts) => reads(alloc, text, facts) && is_written(alloc, text, text),
         Due::Fault(fault) => fault_of(alloc, text) == Some(*fault),
-        Due::Written(source) => is_written_as(alloc, text, source),
     }
 }
 
-fn comes_to(alloc: Global, source: &Source, due: &Due) -> bool {
-    match text_of(alloc, source) {
+fn comes_to(alloc: Global, pieces: &[Piece], due: &Due) -> bool {
+    match text_of(alloc, pieces) {
         Some(text) => is_due(alloc, &text, due),
         None => false,
     }

@@ -1,7 +1,10 @@
-//! The four externals of the kit, in boxes.
+//! The externals of the kit and the text tools, each in a box: how they begin, and conversations that no run of the program
+//! shows. The text tools aren't in the program of the rows, and the kit gets no answer there to what it hasn't asked.
 
 use crate::boxed_externals::{Made, begins, make_external};
-use crate::conversations::{Asked, Profile, Told, Turn, other_turn};
+use crate::conversations::{Asked, Profile, Told, Turn, other_turn, takes};
+use externals::External;
+use std::alloc::Global;
 
 const BEGUN: &[(Made, Profile)] = &[
     (
@@ -59,6 +62,28 @@ const BEGUN: &[(Made, Profile)] = &[
             turns: 0,
         },
     ),
+    (
+        Made::Replace,
+        Profile {
+            name: b"Replace",
+            kind: 0,
+            is_function: true,
+            cells: 0,
+            text: b"",
+            turns: 0,
+        },
+    ),
+    (
+        Made::Table,
+        Profile {
+            name: b"Table",
+            kind: 0,
+            is_function: false,
+            cells: 64,
+            text: b"",
+            turns: 0,
+        },
+    ),
 ];
 
 #[test]
@@ -68,93 +93,83 @@ fn they_begin_with_their_cells(rt: HostRuntime) {
     }
 }
 
-const COUNTS: &[Turn] = &[
-    Turn(Told::Start(&[]), Asked::Done(b"1"), &[(0, b"0", b"1")]),
-    Turn(Told::Answer(&[], b"1"), Asked::Fail, &[]),
-    Turn(
-        Told::Start(&[b"any", b"thing"]),
-        Asked::Done(b"2"),
-        &[(0, b"1", b"2")],
-    ),
-];
-
+/// A count of nearly the greatest number, and then of that.
 const LAST_COUNTS: &[Turn] = &[
     Turn(
-        Told::Start(&[]),
+        Told::Start(""),
         Asked::Done(b"9223372036854775807"),
         &[(0, b"9223372036854775806", b"9223372036854775807")],
     ),
-    Turn(Told::Start(&[]), Asked::Fail, &[]),
+    Turn(Told::Start(""), Asked::Fail, &[]),
 ];
 
-const BINS: &[Turn] = &[
-    Turn(Told::Start(&[b"17", b"x"]), Asked::Fail, &[]),
-    Turn(
-        Told::Start(&[b"16", b"x"]),
-        Asked::Done(b""),
-        &[(15, b"", b"x")],
-    ),
-    Turn(Told::Start(&[b"16", b"x"]), Asked::Done(b"x"), &[]),
-    Turn(
-        Told::Start(&[b"16", b""]),
-        Asked::Done(b"x"),
-        &[(15, b"x", b"")],
-    ),
-    Turn(
-        Told::Start(&[b" 1 ", b"one"]),
-        Asked::Done(b""),
-        &[(0, b"", b"one")],
-    ),
-    Turn(Told::Start(&[b"0", b"x"]), Asked::Fail, &[]),
-    Turn(Told::Start(&[b"", b"x"]), Asked::Fail, &[]),
-    Turn(Told::Start(&[b"1"]), Asked::Fail, &[]),
-    Turn(Told::Answer(&[b"1", b"x"], b""), Asked::Fail, &[]),
-];
+const COUNTS: &[Turn] = &[Turn(Told::Answer("", b"1"), Asked::Fail, &[])];
+
+const BINS: &[Turn] = &[Turn(Told::Answer("1,x", b""), Asked::Fail, &[])];
 
 const RELAYED: &[Turn] = &[
-    Turn(
-        Told::Start(&[b"g", b"Note", b"5", b"again"]),
-        Asked::Global(&[b"1", b"Note", b"5", b"again"], b"g", b"relay"),
-        &[(0, b"", b"g")],
-    ),
-    Turn(
-        Told::Answer(&[b"1", b"Note", b"5", b"again"], b""),
-        Asked::BackgroundField(&[b"2", b"5", b"again"], b"Note", b"g"),
-        &[],
-    ),
-    Turn(
-        Told::Answer(&[b"2", b"5", b"again"], b""),
-        Asked::Value(&[b"3", b"again"], b"5"),
-        &[],
-    ),
-    Turn(
-        Told::Answer(&[b"3", b"again"], b"5"),
-        Asked::Send(&[b"4", b"5"], b"again"),
-        &[(1, b"", b"5")],
-    ),
-    Turn(Told::Answer(&[b"4", b"5"], b""), Asked::Done(b"5"), &[]),
-    Turn(Told::Answer(&[b"5", b"5"], b""), Asked::Fail, &[]),
-    Turn(Told::Answer(&[], b""), Asked::Fail, &[]),
-    Turn(Told::Start(&[b"g", b"Note", b"5"]), Asked::Fail, &[]),
+    Turn(Told::Answer("5,5", b""), Asked::Fail, &[]),
+    Turn(Told::Answer("", b""), Asked::Fail, &[]),
 ];
 
-const GATED: &[Turn] = &[
+const GATED: &[Turn] = &[Turn(Told::Answer("New Card", b""), Asked::Fail, &[])];
+
+const REPLACED: &[Turn] = &[
+    Turn(Told::Start("banana,an,AN"), Asked::Done(b"bANANa"), &[]),
+    Turn(Told::Start("aaaaa,aa,b"), Asked::Done(b"bba"), &[]),
+    Turn(Told::Start("aaa,a,aa"), Asked::Done(b"aaaaaa"), &[]),
+    Turn(Told::Start("Bob,b,"), Asked::Done(b"Bo"), &[]),
+    Turn(Told::Start("abc,,x"), Asked::Done(b"abc"), &[]),
+    Turn(Told::Start("ab,abc,x"), Asked::Done(b"ab"), &[]),
+    Turn(Told::Start(",a,x"), Asked::Done(b""), &[]),
+    Turn(Told::Start("abc,a"), Asked::Fail, &[]),
+    Turn(Told::Start("abc,a,b,c"), Asked::Fail, &[]),
+    // A value that is too long fails.
+    Turn(Told::Doubled(15_000), Asked::Any, &[]),
+    Turn(Told::Doubled(15_001), Asked::Fail, &[]),
+];
+
+const KEPT: &[Turn] = &[
+    Turn(Told::Start("get,one"), Asked::Done(b""), &[]),
     Turn(
-        Told::Start(&[b"New Card"]),
+        Told::Start("put,one,1"),
         Asked::Done(b""),
-        &[(0, b"0", b"1")],
+        &[(0, b"", b"one"), (32, b"", b"1")],
     ),
-    Turn(Told::Start(&[b"New Card"]), Asked::Pass, &[(0, b"1", b"0")]),
-    Turn(Told::Answer(&[b"New Card"], b""), Asked::Fail, &[]),
-    Turn(Told::Start(&[]), Asked::Done(b""), &[(0, b"0", b"1")]),
+    Turn(
+        Told::Start("put,two,"),
+        Asked::Done(b""),
+        &[(1, b"", b"two")],
+    ),
+    Turn(
+        Told::Start("PUT,ONE,first"),
+        Asked::Done(b""),
+        &[(32, b"1", b"first")],
+    ),
+    Turn(Told::Start("get,One"), Asked::Done(b"first"), &[]),
+    Turn(
+        Told::Start("delete,one"),
+        Asked::Done(b""),
+        &[(0, b"one", b""), (32, b"first", b"")],
+    ),
+    Turn(
+        Told::Start("put,three,3"),
+        Asked::Done(b""),
+        &[(0, b"", b"three"), (32, b"", b"3")],
+    ),
+    Turn(Told::Start("put,,x"), Asked::Fail, &[]),
+    Turn(Told::Start("clear,three"), Asked::Fail, &[]),
+    Turn(Told::Answer("get,three", b""), Asked::Fail, &[]),
 ];
 
 const CONVERSATIONS: &[(Made, &[Turn])] = &[
-    (Made::Count(0), COUNTS),
     (Made::Count(i64::MAX - 1), LAST_COUNTS),
+    (Made::Count(0), COUNTS),
     (Made::Bins, BINS),
     (Made::Relay, RELAYED),
     (Made::Gate, GATED),
+    (Made::Replace, REPLACED),
+    (Made::Table, KEPT),
 ];
 
 #[test]
@@ -163,4 +178,25 @@ fn they_converse(rt: HostRuntime) {
         let external = make_external(rt.alloc(), *made);
         assert!(rt; other_turn(rt.alloc(), external, turns).is_none(), "{i}");
     }
+}
+
+/// The first of the keys 0 to 99 that an external, if there is one, can't keep.
+fn first_that_fails<E: External>(alloc: Global, external: Option<E>) -> Option<i64> {
+    let mut external = external?;
+    for key in 0..100 {
+        if takes(
+            alloc,
+            &mut external,
+            &Turn(Told::Put(key), Asked::Fail, &[]),
+        ) {
+            return Some(key);
+        }
+    }
+    None
+}
+
+#[test]
+fn a_table_keeps_32_keys(rt: HostRuntime) {
+    let table = make_external(rt.alloc(), Made::Table);
+    assert!(rt; first_that_fails(rt.alloc(), table) == Some(32));
 }

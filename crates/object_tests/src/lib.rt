@@ -23,8 +23,6 @@ mod spelling;
 #[cfg(test)]
 mod stacks;
 #[cfg(test)]
-mod tools;
-#[cfg(test)]
 mod unseen;
 #[cfg(test)]
 mod watched_devices;

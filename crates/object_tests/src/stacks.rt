@@ -1,6 +1,6 @@
 //! Stacks by plain values: what is put into one, and what holds of one.
 
-use crate::plain_texts::{Bytes, is_text_or_none};
+use crate::plain_texts::{Bytes, is_text_or_none, text};
 use ht_values::{PartKind, Text};
 use object_table::{Id, IdList, Kind, LayerId, Object, PropValue, Stack, Which};
 use std::alloc::Global;
@@ -24,6 +24,8 @@ pub(crate) enum Fact {
     Counts(usize, Id),
     BackgroundCount(usize),
     ScriptLength(Id, usize),
+    /// A script has every byte, in order.
+    EveryByte(Id),
     /// The card of a number.
     CardAt(usize, Option<Id>),
     /// The number of an object.
@@ -31,6 +33,18 @@ pub(crate) enum Fact {
     PartAt(LayerId, PartKind, usize, Option<Id>),
     PartOfId(LayerId, PartKind, usize, Option<Id>),
     PartOfName(LayerId, PartKind, Bytes, Option<Id>),
+    /// Whether a value may be set in an object.
+    MaySet(Id, Setting, bool),
+}
+
+/// A value that is set: no name, or a flag that is true.
+#[derive(Clone, Copy)]
+pub(crate) enum Setting {
+    NoName,
+    Visible,
+    Hilite,
+    SharedText,
+    CantDelete,
 }
 
 fn is_object(object: Option<&Object>, name: &[u8], script: &[u8]) -> bool {
@@ -47,23 +61,39 @@ fn has_script_length(object: Option<&Object>, length: usize) -> bool {
     }
 }
 
-fn is_of_kind(alloc: Global, object: Option<&Object>, printed: &str) -> bool {
+fn are_every_byte(bytes: &[u8]) -> bool {
+    for (i, byte) in bytes.iter().enumerate() {
+        if i != *byte as usize {
+            return false;
+        }
+    }
+    bytes.len() == 256
+}
+
+fn has_every_byte(object: Option<&Object>) -> bool {
     match object {
-        Some(object) => match format!(in alloc; "{:?}", object.kind) {
-            Ok(text) => text.as_str() == printed,
-            Err(_) => false,
-        },
+        Some(object) => are_every_byte(object.script.as_slice()),
         None => false,
     }
 }
 
-pub(crate) fn are_ids(list: &IdList, ids: &[Id]) -> bool {
-    list.as_slice() == ids
+fn is_printed(alloc: Global, kind: Kind, printed: &str) -> bool {
+    match format!(in alloc; "{:?}", kind) {
+        Ok(text) => text.as_str() == printed,
+        Err(_) => false,
+    }
 }
 
-fn are_parts(list: Option<&IdList>, parts: &[Id]) -> bool {
+fn is_of_kind(alloc: Global, object: Option<&Object>, printed: &str) -> bool {
+    match object {
+        Some(object) => is_printed(alloc, object.kind, printed),
+        None => false,
+    }
+}
+
+fn are_ids(list: Option<&IdList>, ids: &[Id]) -> bool {
     match list {
-        Some(list) => list.as_slice() == parts,
+        Some(list) => list.as_slice() == ids,
         None => false,
     }
 }
@@ -76,29 +106,45 @@ fn is_named_part(
     name: &[u8],
     due: Option<Id>,
 ) -> bool {
-    match Text::from_slice(alloc, name) {
-        Ok(name) => stack.find_part(layer, kind, Which::Name(&name)) == due,
-        Err(_) => false,
+    match text(alloc, name) {
+        Some(name) => stack.find_part(layer, kind, Which::Name(&name)) == due,
+        None => false,
     }
 }
 
-pub(crate) fn holds(alloc: Global, stack: &Stack, fact: &Fact) -> bool {
+fn value_of(alloc: Global, setting: Setting) -> PropValue {
+    match setting {
+        Setting::NoName => PropValue::NameIs(Text::new(alloc)),
+        Setting::Visible => PropValue::VisibleIs(true),
+        Setting::Hilite => PropValue::HiliteIs(true),
+        Setting::SharedText => PropValue::SharedTextIs(true),
+        Setting::CantDelete => PropValue::CantDeleteIs(true),
+    }
+}
+
+fn may_set(alloc: Global, stack: &Stack, id: Id, setting: Setting) -> bool {
+    let value = value_of(alloc, setting);
+    stack.may_set(id, &value)
+}
+
+fn holds(alloc: Global, stack: &Stack, fact: &Fact) -> bool {
     match fact {
         Fact::Object(id, name, script) => is_object(stack.object(*id), name, script),
         Fact::NoObject(id) => stack.object(*id).is_none(),
         Fact::Kind(id, printed) => is_of_kind(alloc, stack.object(*id), printed),
-        Fact::Parts(layer, parts) => are_parts(stack.parts(*layer), parts),
+        Fact::Parts(layer, parts) => are_ids(stack.parts(*layer), parts),
         Fact::NoLayer(layer) => stack.parts(*layer).is_none(),
         Fact::Text(field, card, due) => is_text_or_none(stack.text(*field, *card), *due),
         Fact::Hilite(button, card, due) => stack.hilite(*button, *card) == *due,
         Fact::Orders(backgrounds, cards) => {
-            are_ids(stack.backgrounds(), backgrounds) && are_ids(stack.cards(), cards)
+            are_ids(Some(stack.backgrounds()), backgrounds) && are_ids(Some(stack.cards()), cards)
         }
         Fact::Counts(objects, next) => {
             stack.object_count() == *objects && stack.next_id() == *next
         }
         Fact::BackgroundCount(count) => stack.backgrounds().len() == *count,
         Fact::ScriptLength(id, length) => has_script_length(stack.object(*id), *length),
+        Fact::EveryByte(id) => has_every_byte(stack.object(*id)),
         Fact::CardAt(number, due) => stack.card_at(*number) == *due,
         Fact::Number(id, due) => stack.number(*id) == *due,
         Fact::PartAt(layer, kind, number, due) => {
@@ -110,6 +156,7 @@ pub(crate) fn holds(alloc: Global, stack: &Stack, fact: &Fact) -> bool {
         Fact::PartOfName(layer, kind, name, due) => {
             is_named_part(alloc, stack, *layer, *kind, name, *due)
         }
+        Fact::MaySet(id, setting, due) => may_set(alloc, stack, *id, *setting) == *due,
     }
 }
 
@@ -122,30 +169,44 @@ pub(crate) fn hold(alloc: Global, stack: &Stack, facts: &[Fact]) -> bool {
     true
 }
 
-pub(crate) fn hold_of(alloc: Global, stack: Option<Box<Stack>>, facts: &[Fact]) -> bool {
-    match stack {
-        Some(stack) => hold(alloc, &stack, facts),
-        None => false,
+/// An exchange: what is put, and what was there, where that is looked at.
+pub(crate) enum Step {
+    /// An object of this name, and the name of the one that was there.
+    Put(Id, Bytes, Kind, Option<Bytes>),
+    /// No object, and the name of the one that was there.
+    Take(Id, Option<Bytes>),
+    /// The parts of a card or a background.
+    Parts(Id, &'static [Id]),
+    /// The cards.
+    Cards(&'static [Id]),
+    /// No backgrounds, and those that were there.
+    Backgrounds(&'static [Id]),
+    Next(Id, Id),
+    /// The text of a field for a card.
+    Text(Id, Id, Option<Bytes>, Option<Bytes>),
+    /// The hilite of a button for a card.
+    Hilite(Id, Id, Option<bool>, Option<bool>),
+}
+
+/// Whether this is an object of this name without a script, or with `None` none.
+fn is_named(object: &Option<Object>, due: Option<&[u8]>) -> bool {
+    match object {
+        Some(object) => match due {
+            Some(name) => object.name.as_slice() == name && object.script.len() == 0,
+            None => false,
+        },
+        None => due.is_none(),
     }
 }
 
-/// The empty stack. It stands in a box, which is dropped by one call.
-pub(crate) fn empty_stack(alloc: Global) -> Option<Box<Stack>> {
-    Box::new(alloc, Stack::new(alloc).ok()?).ok()
+fn object(alloc: Global, name: &[u8], kind: Kind) -> Option<Object> {
+    let mut name = text(alloc, name)?;
+    let mut object = Object::empty(alloc, kind);
+    std::mem::swap(&mut object.name, &mut name);
+    Some(object)
 }
 
-/// An object that is put into a stack: its id, its name, its script and its kind.
-pub(crate) struct Placed(pub Id, pub Bytes, pub Bytes, pub Kind);
-
-pub(crate) fn object(alloc: Global, name: &[u8], script: &[u8], kind: Kind) -> Option<Object> {
-    Some(Object {
-        name: Text::from_slice(alloc, name).ok()?,
-        script: Text::from_slice(alloc, script).ok()?,
-        kind,
-    })
-}
-
-pub(crate) fn swap_object(stack: &mut Stack, id: Id, object: &mut Option<Object>) -> bool {
+fn swap_object(stack: &mut Stack, id: Id, object: &mut Option<Object>) -> bool {
     match stack.open_slot(id) {
         Ok(()) => {
             stack.swap_object(id, object);
@@ -155,60 +216,38 @@ pub(crate) fn swap_object(stack: &mut Stack, id: Id, object: &mut Option<Object>
     }
 }
 
-pub(crate) fn put(
-    alloc: Global,
-    stack: &mut Stack,
-    id: Id,
-    name: &[u8],
-    script: &[u8],
-    kind: Kind,
-) -> bool {
-    swap_object(stack, id, &mut object(alloc, name, script, kind))
+fn takes_object(stack: &mut Stack, id: Id, mut object: Option<Object>, was: Option<&[u8]>) -> bool {
+    swap_object(stack, id, &mut object) && is_named(&object, was)
 }
 
-pub(crate) fn put_all(alloc: Global, stack: &mut Stack, objects: &[Placed]) -> bool {
-    for Placed(id, name, script, kind) in objects {
-        if !swap_object(stack, *id, &mut object(alloc, name, script, *kind)) {
-            return false;
-        }
-    }
-    true
-}
-
-fn id_list(alloc: Global, ids: &[Id]) -> Option<IdList> {
-    Some(IdList::from_vec(Vec::from_slice(alloc, ids).ok()?))
-}
-
-fn swap_parts(stack: &mut Stack, id: Id, parts: &mut Option<IdList>) -> bool {
-    match stack.open_slot(id) {
+fn swap_text(stack: &mut Stack, field: Id, card: Id, text: &mut Option<Text>) -> bool {
+    match stack.open_text(field, card) {
         Ok(()) => {
-            stack.swap_parts(id, parts);
+            stack.swap_text(field, card, text);
             true
         }
         Err(_) => false,
     }
 }
 
-pub(crate) fn put_parts(alloc: Global, stack: &mut Stack, id: Id, parts: &[Id]) -> bool {
-    swap_parts(stack, id, &mut id_list(alloc, parts))
+fn takes_text(
+    stack: &mut Stack,
+    field: Id,
+    card: Id,
+    mut text: Option<Text>,
+    was: Option<&[u8]>,
+) -> bool {
+    swap_text(stack, field, card, &mut text) && is_text_or_none(text.as_ref(), was)
 }
 
-pub(crate) fn put_order(alloc: Global, stack: &mut Stack, cards: &[Id]) -> bool {
-    match id_list(alloc, cards) {
-        Some(mut cards) => {
-            stack.swap_order(&mut cards);
-            true
-        }
-        None => false,
+fn text_or_none(alloc: Global, bytes: Option<&[u8]>) -> Option<Text> {
+    match bytes {
+        Some(bytes) => text(alloc, bytes),
+        None => None,
     }
 }
 
-pub(crate) fn swap_hilite(
-    stack: &mut Stack,
-    button: Id,
-    card: Id,
-    hilite: &mut Option<bool>,
-) -> bool {
+fn swap_hilite(stack: &mut Stack, button: Id, card: Id, hilite: &mut Option<bool>) -> bool {
     match stack.open_hilite(button, card) {
         Ok(()) => {
             stack.swap_hilite(button, card, hilite);
@@ -218,43 +257,90 @@ pub(crate) fn swap_hilite(
     }
 }
 
-/// A property's value, as a row of a table has it.
-#[derive(Clone, Copy)]
-pub(crate) enum Value {
-    Name(Bytes),
-    Script(Bytes),
-    Visible(bool),
-    Hilite(bool),
-    SharedHilite(bool),
-    LockText(bool),
-    SharedText(bool),
-    CantDelete(bool),
+fn takes_hilite(
+    stack: &mut Stack,
+    button: Id,
+    card: Id,
+    mut hilite: Option<bool>,
+    was: Option<bool>,
+) -> bool {
+    swap_hilite(stack, button, card, &mut hilite) && hilite == was
 }
 
-pub(crate) fn prop_value(alloc: Global, value: Value) -> Option<PropValue> {
-    Some(match value {
-        Value::Name(name) => PropValue::NameIs(Text::from_slice(alloc, name).ok()?),
-        Value::Script(script) => PropValue::ScriptIs(Text::from_slice(alloc, script).ok()?),
-        Value::Visible(flag) => PropValue::VisibleIs(flag),
-        Value::Hilite(flag) => PropValue::HiliteIs(flag),
-        Value::SharedHilite(flag) => PropValue::SharedHiliteIs(flag),
-        Value::LockText(flag) => PropValue::LockTextIs(flag),
-        Value::SharedText(flag) => PropValue::SharedTextIs(flag),
-        Value::CantDelete(flag) => PropValue::CantDeleteIs(flag),
-    })
+fn id_list(alloc: Global, ids: &[Id]) -> Option<IdList> {
+    Some(IdList::from_vec(Vec::from_slice(alloc, ids).ok()?))
 }
 
-pub(crate) fn is_value(value: &PropValue, due: Value) -> bool {
-    match value {
-        PropValue::NameIs(name) => matches!(due, Value::Name(bytes) if name.as_slice() == bytes),
-        PropValue::ScriptIs(script) => {
-            matches!(due, Value::Script(bytes) if script.as_slice() == bytes)
+fn takes_parts(stack: &mut Stack, id: Id, mut parts: Option<IdList>) -> bool {
+    match stack.open_slot(id) {
+        Ok(()) => {
+            stack.swap_parts(id, &mut parts);
+            true
         }
-        PropValue::VisibleIs(flag) => matches!(due, Value::Visible(due) if *flag == due),
-        PropValue::HiliteIs(flag) => matches!(due, Value::Hilite(due) if *flag == due),
-        PropValue::SharedHiliteIs(flag) => matches!(due, Value::SharedHilite(due) if *flag == due),
-        PropValue::LockTextIs(flag) => matches!(due, Value::LockText(due) if *flag == due),
-        PropValue::SharedTextIs(flag) => matches!(due, Value::SharedText(due) if *flag == due),
-        PropValue::CantDeleteIs(flag) => matches!(due, Value::CantDelete(due) if *flag == due),
+        Err(_) => false,
     }
+}
+
+fn takes_cards(stack: &mut Stack, cards: Option<IdList>) -> bool {
+    match cards {
+        Some(mut cards) => {
+            stack.swap_order(&mut cards);
+            true
+        }
+        None => false,
+    }
+}
+
+fn takes_backgrounds(stack: &mut Stack, mut backgrounds: IdList, was: &[Id]) -> bool {
+    stack.swap_backgrounds(&mut backgrounds);
+    are_ids(Some(&backgrounds), was)
+}
+
+fn takes_next(stack: &mut Stack, mut next: Id, was: Id) -> bool {
+    stack.swap_next(&mut next);
+    next == was
+}
+
+fn exchanges(alloc: Global, stack: &mut Stack, step: &Step) -> bool {
+    match step {
+        Step::Put(id, name, kind, was) => {
+            takes_object(stack, *id, object(alloc, name, *kind), *was)
+        }
+        Step::Take(id, was) => takes_object(stack, *id, None, *was),
+        Step::Parts(id, parts) => takes_parts(stack, *id, id_list(alloc, parts)),
+        Step::Cards(cards) => takes_cards(stack, id_list(alloc, cards)),
+        Step::Backgrounds(was) => takes_backgrounds(stack, IdList::new(alloc), was),
+        Step::Next(id, was) => takes_next(stack, *id, *was),
+        Step::Text(field, card, bytes, was) => {
+            takes_text(stack, *field, *card, text_or_none(alloc, *bytes), *was)
+        }
+        Step::Hilite(button, card, lit, was) => takes_hilite(stack, *button, *card, *lit, *was),
+    }
+}
+
+/// A step, and what holds after it.
+pub(crate) type Change = (Step, &'static [Fact]);
+
+pub(crate) fn takes(alloc: Global, stack: &mut Stack, changes: &[Change]) -> bool {
+    for (step, facts) in changes {
+        if !exchanges(alloc, stack, step) || !hold(alloc, stack, facts) {
+            return false;
+        }
+    }
+    true
+}
+
+/// The empty stack. It stands in a box, which is dropped by one call.
+fn empty_stack(alloc: Global) -> Option<Box<Stack>> {
+    Box::new(alloc, Stack::new(alloc).ok()?).ok()
+}
+
+/// The empty stack after some changes; none where one of them isn't as it says.
+pub(crate) fn changed_stack(alloc: Global, changes: &[Change]) -> Option<Box<Stack>> {
+    let mut stack = empty_stack(alloc)?;
+    takes(alloc, &mut stack, changes).then_some(stack)
+}
+
+pub(crate) fn takes_blank(alloc: Global, changes: &[Change]) -> bool {
+    takes(alloc, &mut Stack::blank(alloc), changes)
 }

@@ -1,21 +1,35 @@
-//! A stack text with each byte changed.
+//! The text of a stack of two cards on one background, which has one field: with each byte changed, and cut at each place.
+//! And the text of the empty stack.
 
-use super::{Source, fault_of, is_written, text_of};
+use super::pieces::{Piece, text_of};
+use super::{fault_of, is_written, writes};
+use crate::plain_texts::Bytes;
+use object_table::Stack;
+use stack_file::*;
 use std::alloc::Global;
+
+const TWO_CARDS: Bytes = b"next 5\nname |Demo\nscript 0\nbackgrounds 1\n\
+background 1\nname |\ncantDelete false\nscript 0\nparts 1\n\
+field 3\nname |Note\nvisible true\nlockText false\nsharedText false\nscript 0\nshared 0\n\
+cards 2\n\
+card 2 1\nname |A\ncantDelete false\nscript 0\nparts 0\ntext 3 0\n\
+card 4 1\nname |B\ncantDelete false\nscript 0\nparts 0\ntext 3 0\nend\n";
+
+const FIRST: &[Piece] = &[Piece::Text(b"htstack 1\n"), Piece::Text(TWO_CARDS)];
+
+const SECOND: &[Piece] = &[Piece::Text(b"htstack 2\n"), Piece::Text(TWO_CARDS)];
 
 /// Whether a text is refused for what is in it, or is written as it is.
 fn is_refused_or_written(alloc: Global, text: &[u8]) -> bool {
     fault_of(alloc, text).is_some() || is_written(alloc, text, text)
 }
 
-const SECOND: Source = Source::TwoCards(1, b"htstack 2");
-
 /// The first place at which a text with this byte is neither, if there is one.
-fn first_other_place(alloc: Global, mut text: Vec<u8>, byte: u8) -> Option<usize> {
+fn first_other_place(alloc: Global, text: &mut Vec<u8>, byte: u8) -> Option<usize> {
     for place in 0..text.len() {
         let old = text[place];
         text[place] = byte;
-        if !is_refused_or_written(alloc, &text) {
+        if !is_refused_or_written(alloc, text) {
             return Some(place);
         }
         text[place] = old;
@@ -23,21 +37,56 @@ fn first_other_place(alloc: Global, mut text: Vec<u8>, byte: u8) -> Option<usize
     None
 }
 
-fn place_of_other(alloc: Global, source: &Source, byte: u8) -> Option<usize> {
-    match text_of(alloc, source) {
-        Some(text) => first_other_place(alloc, text, byte),
+fn place_of_other(alloc: Global, byte: u8) -> Option<usize> {
+    match text_of(alloc, SECOND) {
+        Some(mut text) => first_other_place(alloc, &mut text, byte),
         None => Some(0),
     }
 }
 
-const BYTES: &[u8] = &[0, b'|', b'9', 255];
+const BYTES: &[u8] = &[0, b'\r', b'|', b'9', 255];
 
 #[test]
 fn a_changed_text_is_refused_or_written_as_it_is(rt: HostRuntime) {
     for byte in BYTES {
-        assert!(rt;
-            place_of_other(rt.alloc(), &SECOND, *byte).is_none(),
-            "byte {byte}"
-        );
+        assert!(rt; place_of_other(rt.alloc(), *byte).is_none(), "byte {byte}");
     }
+}
+
+/// Whether each part of a text up to its end is truncated.
+fn are_truncated(alloc: Global, text: &[u8]) -> bool {
+    for cut in 0..text.len() {
+        if fault_of(alloc, &text[..cut]) != Some(FileError::Truncated) {
+            return false;
+        }
+    }
+    true
+}
+
+fn parts_are_truncated(alloc: Global) -> bool {
+    match text_of(alloc, FIRST) {
+        Some(text) => are_truncated(alloc, &text),
+        None => false,
+    }
+}
+
+#[test]
+fn each_part_of_a_text_is_truncated(rt: HostRuntime) {
+    assert!(rt; parts_are_truncated(rt.alloc()));
+}
+
+const EMPTY: Bytes = b"htstack 2\nnext 3\nname |\nscript 0\nbackgrounds 1\n\
+background 1\nname |\ncantDelete false\nscript 0\nparts 0\n\
+cards 1\ncard 2 1\nname |\ncantDelete false\nscript 0\nparts 0\nend\n";
+
+fn writes_empty(alloc: Global) -> bool {
+    match Stack::new(alloc) {
+        Ok(stack) => writes(alloc, &stack, EMPTY),
+        Err(_) => false,
+    }
+}
+
+#[test]
+fn the_empty_stack_is_written_in_version_2(rt: HostRuntime) {
+    assert!(rt; writes_empty(rt.alloc()));
 }
