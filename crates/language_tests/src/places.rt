@@ -1,13 +1,12 @@
 //! Where tokens begin, and where a text that isn't in the grammar stops being read.
 
-use crate::cases::{Case, check, text_of};
-use ht_lex::{Key, TokenKind, lex};
+use crate::cases::{Case, first_unmet, text_of};
+use ht_lex::{Key, TokenKind, Tokens, lex};
 use ht_parse::{
     ParseError, parse_expr, parse_lines, parse_message, parse_part, parse_script, parse_type,
 };
 use ht_values::Text;
 use std::alloc::Global;
-use std::test::*;
 
 /// What a text is read as.
 #[derive(Clone, Copy)]
@@ -37,12 +36,18 @@ fn error_of(alloc: Global, whole: Whole, text: &Text) -> Option<ParseError> {
 /// What a text is not, and from one place to another where its error is told.
 struct Broken(Whole, &'static [u8], usize, usize);
 
+fn is_broken(alloc: Global, text: &Text, row: &Broken) -> bool {
+    match error_of(alloc, row.0, text) {
+        Some(ParseError::Syntax(place)) => row.2 <= place && place <= row.3,
+        _ => false,
+    }
+}
+
 impl Case for Broken {
-    fn is_met(&self, alloc: Global) -> Result<bool, Fail> {
-        let Broken(whole, bytes, from, to) = *self;
-        match error_of(alloc, whole, &text_of(alloc, bytes)?) {
-            Some(ParseError::Syntax(place)) => Ok(from <= place && place <= to),
-            _ => Ok(false),
+    fn is_met(&self, alloc: Global) -> bool {
+        match text_of(alloc, self.1) {
+            Some(text) => is_broken(alloc, &text, self),
+            None => false,
         }
     }
 }
@@ -69,16 +74,27 @@ const BROKEN: &[Broken] = &[
 /// A text, the number of a token, where it begins, its kind and its bytes.
 struct Placed(&'static [u8], usize, usize, TokenKind, &'static [u8]);
 
+fn is_among(tokens: &Tokens<'_>, row: &Placed) -> bool {
+    if tokens.len() <= row.1 {
+        return false;
+    }
+    let token = tokens.at(row.1);
+    token.start == row.2 && token.kind == row.3 && token.text == row.4
+}
+
+fn is_placed(alloc: Global, text: &Text, row: &Placed) -> bool {
+    match lex(alloc, text) {
+        Ok(tokens) => is_among(&tokens, row),
+        Err(_) => false,
+    }
+}
+
 impl Case for Placed {
-    fn is_met(&self, alloc: Global) -> Result<bool, Fail> {
-        let Placed(bytes, place, start, kind, want) = *self;
-        let text = text_of(alloc, bytes)?;
-        let tokens = lex(alloc, &text)?;
-        if tokens.len() <= place {
-            return Ok(false);
+    fn is_met(&self, alloc: Global) -> bool {
+        match text_of(alloc, self.0) {
+            Some(text) => is_placed(alloc, &text, self),
+            None => false,
         }
-        let token = tokens.at(place);
-        Ok(token.start == start && token.kind == kind && token.text == want)
     }
 }
 
@@ -95,7 +111,7 @@ const PLACED: &[Placed] = &[
 ];
 
 #[test]
-fn places_of_tokens_and_of_errors(rt: HostRuntime) -> Result<(), Fail> {
-    check(&rt, rt.alloc(), "broken", BROKEN)?;
-    check(&rt, rt.alloc(), "placed", PLACED)
+fn places_of_tokens_and_of_errors(rt: HostRuntime) {
+    assert!(rt; first_unmet(rt.alloc(), BROKEN) == None);
+    assert!(rt; first_unmet(rt.alloc(), PLACED) == None);
 }
