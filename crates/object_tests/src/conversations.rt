@@ -89,12 +89,20 @@ fn put(alloc: Global, key: i64) -> Option<Texts> {
     three_texts(alloc, b"put", key.as_slice(), b"x")
 }
 
+fn start(args: Option<Texts>) -> Option<Input> {
+    Some(Input::Start(args?))
+}
+
+fn answer(alloc: Global, note: Texts, value: &[u8]) -> Option<Input> {
+    Some(Input::Answer(note, text(alloc, value)?))
+}
+
 fn input(alloc: Global, told: Told) -> Option<Input> {
     match told {
-        Told::Start(args) => Some(Input::Start(texts(alloc, args)?)),
-        Told::Doubled(count) => Some(Input::Start(doubled(alloc, count)?)),
-        Told::Put(key) => Some(Input::Start(put(alloc, key)?)),
-        Told::Answer(note, value) => Some(Input::Answer(texts(alloc, note)?, text(alloc, value)?)),
+        Told::Start(args) => start(texts(alloc, args)),
+        Told::Doubled(count) => start(doubled(alloc, count)),
+        Told::Put(key) => start(put(alloc, key)),
+        Told::Answer(note, value) => answer(alloc, texts(alloc, note)?, value),
     }
 }
 

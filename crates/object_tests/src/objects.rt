@@ -3,7 +3,7 @@
 
 use crate::stacks::{Change, Fact, Setting, Step, changed_stack, takes, takes_blank};
 use ht_values::PartKind;
-use object_table::{IdList, Kind, LayerId};
+use object_table::{Kind, LayerId};
 use std::alloc::Global;
 
 const CARD: Kind = Kind::Card {
@@ -17,11 +17,8 @@ const FIELD: Kind = Kind::BackgroundField {
     shared_text: false,
 };
 
-/// What holds of the empty stack, but for the next id, which is changed.
+/// What holds of the empty stack, but for the next id, which is changed; its text tells the kinds.
 const EMPTY: &[Fact] = &[
-    Fact::Kind(0, "Stack"),
-    Fact::Kind(1, "Background { cant_delete: false }"),
-    Fact::Kind(2, "Card { background: 1, cant_delete: false }"),
     Fact::Object(0, b"", b""),
     Fact::NoObject(3),
     Fact::Counts(2, 5),
@@ -150,10 +147,7 @@ const FAR: &[Change] = &[
     ),
     (
         Step::Put(9, b"", Kind::Background { cant_delete: true }, None),
-        &[
-            Fact::Object(9, b"", b""),
-            Fact::Kind(9, "Background { cant_delete: true }"),
-        ],
+        &[Fact::Object(9, b"", b""), Fact::Locked(9)],
     ),
 ];
 
@@ -181,36 +175,4 @@ fn an_exchange_gives_what_was_there(rt: HostRuntime) {
     for (i, changes) in COURSES.iter().enumerate() {
         assert!(rt; demo_takes(rt.alloc(), changes), "{i}");
     }
-}
-
-fn push_all(list: &mut IdList, ids: &[u32]) -> bool {
-    for id in ids {
-        if list.push(*id).is_err() {
-            return false;
-        }
-    }
-    true
-}
-
-/// Whether a list keeps the ids that it gets, and numbers them from one.
-fn keeps_order(alloc: Global) -> bool {
-    let mut ids = IdList::new(alloc);
-    push_all(&mut ids, &[7, 5])
-        && is_seven_and_five(&ids)
-        && ids.into_vec().as_slice() == [7, 5].as_slice()
-}
-
-fn is_seven_and_five(ids: &IdList) -> bool {
-    ids.len() == 2
-        && ids.at(0) == 7
-        && ids.at(1) == 5
-        && ids.at_number(2) == Some(5)
-        && ids.at_number(0).is_none()
-        && ids.number_of(5) == Some(2)
-        && ids.number_of(6).is_none()
-}
-
-#[test]
-fn a_list_of_ids_keeps_its_order_and_is_numbered_from_one(rt: HostRuntime) {
-    assert!(rt; keeps_order(rt.alloc()));
 }

@@ -10,8 +10,8 @@ pub(crate) enum Fact {
     /// An object has this name and this script.
     Object(Id, Bytes, Bytes),
     NoObject(Id),
-    /// An object has the kind that is printed so.
-    Kind(Id, &'static str),
+    /// An object is a background that can't be deleted.
+    Locked(Id),
     Parts(LayerId, &'static [Id]),
     NoLayer(LayerId),
     /// A field has this text for a card, or none.
@@ -77,16 +77,9 @@ fn has_every_byte(object: Option<&Object>) -> bool {
     }
 }
 
-fn is_printed(alloc: Global, kind: Kind, printed: &str) -> bool {
-    match format!(in alloc; "{:?}", kind) {
-        Ok(text) => text.as_str() == printed,
-        Err(_) => false,
-    }
-}
-
-fn is_of_kind(alloc: Global, object: Option<&Object>, printed: &str) -> bool {
+fn is_locked(object: Option<&Object>) -> bool {
     match object {
-        Some(object) => is_printed(alloc, object.kind, printed),
+        Some(object) => matches!(object.kind, Kind::Background { cant_delete: true }),
         None => false,
     }
 }
@@ -131,7 +124,7 @@ fn holds(alloc: Global, stack: &Stack, fact: &Fact) -> bool {
     match fact {
         Fact::Object(id, name, script) => is_object(stack.object(*id), name, script),
         Fact::NoObject(id) => stack.object(*id).is_none(),
-        Fact::Kind(id, printed) => is_of_kind(alloc, stack.object(*id), printed),
+        Fact::Locked(id) => is_locked(stack.object(*id)),
         Fact::Parts(layer, parts) => are_ids(stack.parts(*layer), parts),
         Fact::NoLayer(layer) => stack.parts(*layer).is_none(),
         Fact::Text(field, card, due) => is_text_or_none(stack.text(*field, *card), *due),
