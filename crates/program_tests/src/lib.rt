@@ -1,23 +1,21 @@
-//! Examples of the session and of the program's library, with ample memory. A crate that has tests is proved a second time for
-//! them, so they stand here, above the crates that they try, where nothing else is to be proved.
+//! Examples of the session and of the program's library, with ample memory: what no row shows. A crate that has tests is proved a
+//! second time for them, so they stand here, above the crates that they try, where nothing else is to be proved.
 #![tactic(auto)]
 
 #[cfg(test)]
 mod all_bytes;
 #[cfg(test)]
-mod conversations;
-#[cfg(test)]
-mod desks;
+mod calls;
 #[cfg(test)]
 mod drip;
 #[cfg(test)]
-mod drops;
+mod free;
 #[cfg(test)]
-mod endless;
+mod limits;
 #[cfg(test)]
-mod quiet;
+mod opened;
 #[cfg(test)]
-mod sessions;
+mod talks;
 #[cfg(test)]
 mod verdicts;
 #[cfg(test)]

@@ -4,72 +4,114 @@ use command_line::{CliFault, cut, verdict};
 use devices::BytesFault;
 use ht_values::Text;
 use stack_file::FileError;
-use std::alloc::{AllocError, Global};
-use std::test::*;
+use std::alloc::Global;
+
+/// The status and the line for a fault with a stack of this name.
+fn told(alloc: Global, fault: &CliFault, name: &[u8]) -> Option<(u8, Text)> {
+    let name = cut(alloc, name).ok()?;
+    verdict(alloc, fault, &name).ok()
+}
 
 /// Whether the verdict on a fault with the stack `a.stack` has this status and line.
-fn tells(alloc: Global, fault: &CliFault, status: u8, line: &str) -> Result<bool, AllocError> {
-    let name = cut(alloc, b"a.stack")?;
-    let told = verdict(alloc, fault, &name)?;
-    Ok(told.0 == status && told.1.as_slice() == line.as_bytes())
-}
-
-#[test]
-fn a_usage_fault_has_its_own_text(rt: HostRuntime) -> Result<(), Fail> {
-    let usage = CliFault::Usage(cut(rt.alloc(), b"error: no")?);
-    assert!(rt; tells(rt.alloc(), &usage, 2, "error: no")?);
-    Ok(())
-}
-
-#[test]
-fn a_refused_stack_has_a_number_and_a_line(rt: HostRuntime) -> Result<(), Fail> {
-    let rows: &[(FileError, &str)] = &[
-        (FileError::BadLine(3), "card_cli: stack refused 1 at line 3"),
-        (FileError::BadId(19), "card_cli: stack refused 2 at line 19"),
-        (FileError::Truncated, "card_cli: stack refused 3"),
-        (FileError::TooMany, "card_cli: stack refused 4"),
-    ];
-    for (error, line) in rows {
-        assert!(rt;
-            tells(rt.alloc(), &CliFault::Refused(*error), 2, line)?,
-            "{line}"
-        );
+fn tells(alloc: Global, fault: &CliFault, status: u8, line: &str) -> bool {
+    match told(alloc, fault, b"a.stack") {
+        Some((number, text)) => number == status && text.as_slice() == line.as_bytes(),
+        None => false,
     }
-    Ok(())
 }
 
-#[test]
-fn each_fault_of_a_run_has_its_line(rt: HostRuntime) -> Result<(), Fail> {
-    let rows: &[(CliFault, &str)] = &[
-        (CliFault::CannotRead, "card_cli: cannot read a.stack"),
-        (CliFault::Read, "card_cli: read fault"),
-        (CliFault::Write, "card_cli: write fault"),
-        (CliFault::TooManyLines, "card_cli: too many lines"),
-        (CliFault::Memory, "card_cli: no memory"),
-    ];
-    for (fault, line) in rows {
-        assert!(rt; tells(rt.alloc(), fault, 1, line)?, "{line}");
+/// A fault without a text of its own.
+#[derive(Clone, Copy)]
+enum Plain {
+    Refused(FileError),
+    CannotRead,
+    Read,
+    Write,
+    TooManyLines,
+    Memory,
+}
+
+fn fault_of(plain: Plain) -> CliFault {
+    match plain {
+        Plain::Refused(error) => CliFault::Refused(error),
+        Plain::CannotRead => CliFault::CannotRead,
+        Plain::Read => CliFault::Read,
+        Plain::Write => CliFault::Write,
+        Plain::TooManyLines => CliFault::TooManyLines,
+        Plain::Memory => CliFault::Memory,
     }
-    Ok(())
 }
 
-/// How long the line is of a stack with a name of so many bytes that can't be read.
-fn length_told(alloc: Global, bytes: usize) -> Result<usize, Fail> {
-    let bytes = vec![in alloc; b'n'; bytes]?;
-    let name = Text::from_slice(alloc, &bytes)?;
-    let told = verdict(alloc, &CliFault::CannotRead, &name)?;
-    Ok(told.1.len())
+const FAULTS: &[(Plain, u8, &str)] = &[
+    (
+        Plain::Refused(FileError::BadLine(3)),
+        2,
+        "card_cli: stack refused 1 at line 3",
+    ),
+    (
+        Plain::Refused(FileError::BadId(19)),
+        2,
+        "card_cli: stack refused 2 at line 19",
+    ),
+    (
+        Plain::Refused(FileError::Truncated),
+        2,
+        "card_cli: stack refused 3",
+    ),
+    (
+        Plain::Refused(FileError::TooMany),
+        2,
+        "card_cli: stack refused 4",
+    ),
+    (Plain::CannotRead, 1, "card_cli: cannot read a.stack"),
+    (Plain::Read, 1, "card_cli: read fault"),
+    (Plain::Write, 1, "card_cli: write fault"),
+    (Plain::TooManyLines, 1, "card_cli: too many lines"),
+    (Plain::Memory, 1, "card_cli: no memory"),
+];
+
+fn is_met(alloc: Global, plain: Plain, status: u8, line: &str) -> bool {
+    tells(alloc, &fault_of(plain), status, line)
 }
 
 #[test]
-fn a_long_name_is_cut_after_4096_bytes(rt: HostRuntime) -> Result<(), Fail> {
-    assert!(rt; length_told(rt.alloc(), 5_000)? == 22 + 4_096);
-    Ok(())
+fn each_fault_has_its_status_and_line(rt: HostRuntime) {
+    for (plain, status, line) in FAULTS {
+        assert!(rt; is_met(rt.alloc(), *plain, *status, line), "{line}");
+    }
+}
+
+/// Whether a usage fault has its own text.
+fn tells_usage(alloc: Global) -> Option<bool> {
+    let usage = CliFault::Usage(cut(alloc, b"error: no").ok()?);
+    Some(tells(alloc, &usage, 2, "error: no"))
+}
+
+/// How long the line is of a stack with a name of 5,000 bytes that can't be read.
+fn length_told(alloc: Global) -> Option<usize> {
+    let name = vec![in alloc; b'n'; 5_000].ok()?;
+    let (_, line) = told(alloc, &CliFault::CannotRead, &name)?;
+    Some(line.len())
+}
+
+#[test]
+fn a_usage_fault_has_its_own_text_and_a_long_name_is_cut_after_4096_bytes(rt: HostRuntime) {
+    assert!(rt; tells_usage(rt.alloc()) == Some(true));
+    assert!(rt; length_told(rt.alloc()) == Some(22 + 4_096));
+}
+
+/// Whether a fault of a file's bytes is told as one of memory, or as a file that can't be read.
+fn is_of_memory(fault: BytesFault) -> Option<bool> {
+    match CliFault::from(fault) {
+        CliFault::Memory => Some(true),
+        CliFault::CannotRead => Some(false),
+        _ => None,
+    }
 }
 
 #[test]
 fn only_want_of_memory_is_told_as_such(rt: HostRuntime) {
-    assert!(rt; matches!(CliFault::from(BytesFault::TooMany), CliFault::CannotRead));
-    assert!(rt; matches!(CliFault::from(BytesFault::Device), CliFault::CannotRead));
-    assert!(rt; matches!(CliFault::from(BytesFault::Memory), CliFault::Memory));
+    assert!(rt; is_of_memory(BytesFault::TooMany) == Some(false));
+    assert!(rt; is_of_memory(BytesFault::Device) == Some(false));
+    assert!(rt; is_of_memory(BytesFault::Memory) == Some(true));
 }

@@ -1,0 +1,172 @@
+//! Externals for the examples.
+
+ghost use Rattle.std.specs.Prelude.{◌≡◌, length, IfOk, IfSome, OnErr};
+ghost use Rattle.externals.specs.Cells.{IsPatch};
+
+use externals::{Ask, External, Input, Patch, Texts};
+use ht_values::{Text, numeral, text_of};
+use std::alloc::{AllocError, Global};
+use std::rc::Rc;
+use xkit::{Cells, Gate, Step, changed};
+
+/// What an external asks at each turn.
+#[derive(Clone, Copy)]
+pub(crate) enum Manner {
+    /// That the conversation ends.
+    End,
+    /// To set the global `g` to the number of the turn, without end.
+    Set,
+    /// At a start, to send the message that starts it; that the conversation ends once it was sent.
+    Send,
+    /// It fails.
+    Fail,
+    /// It is none of these, but the gate of the kit.
+    Gate,
+}
+
+/// Of no known kind, a command whose one cell counts its turns. It holds a mark while it is there.
+#[derive(Drop)]
+struct Free {
+    name: Text,
+    manner: Manner,
+    cells: Cells,
+    turns: u64,
+    mark: Rc<u8>,
+    ghost one_cell: { length cells ≡ 1 },
+}
+
+impl External for Free {
+    ghost use Rattle.std.specs.Prelude.{false};
+
+    ghost title = { λ e. e.name };
+
+    ghost sort = { λ _. 0 };
+
+    ghost answers_calls = { λ _. false };
+
+    ghost cells = { λ e. e.cells };
+
+    ghost turn_count = { λ e. e.turns };
+
+    fn name(&self) -> &Text {
+        &self.name
+    }
+
+    fn kind(&self) -> u32 {
+        0
+    }
+
+    fn is_function(&self) -> bool {
+        false
+    }
+
+    fn cell_count(&self) -> usize {
+        self.cells.len()
+    }
+
+    fn cell(&self, i: usize) -> &Text {
+        self.cells.at(i)
+    }
+
+    fn turn(&mut self, alloc: Global, input: &Input) -> Result<(Ask, Patch), AllocError> {
+        self.turns = self.turns.saturating_add(1);
+        turned(self.manner, &mut self.cells, alloc, input)
+    }
+
+    fn flip(&mut self, patch: &mut Patch) {
+        self.cells.flip(patch);
+    }
+
+    fn turns(&self) -> u64 {
+        self.turns
+    }
+}
+
+fn text(alloc: Global, bytes: &[u8]) -> Result<Text, AllocError> {
+    Text::from_slice(alloc, bytes).map_err(|_| AllocError)
+}
+
+/// The number after the one in the cell.
+fn more(cells: &Cells, alloc: Global) -> Result<Text, AllocError>
+    requires { length cells.now ≡ 1 }
+{
+    text_of(alloc, numeral(cells.at(0)).unwrap_or(0).saturating_add(1))
+}
+
+fn set_global(alloc: Global, count: &Text) -> Result<Ask, AllocError> {
+    let name = text(alloc, b"g")?;
+    let told = count.try_clone(alloc)?;
+    Ok(Ask::SetGlobal(Texts::new(alloc), name, told))
+}
+
+fn send_message(alloc: Global) -> Result<Ask, AllocError> {
+    let message = text(alloc, b"Deep")?;
+    Ok(Ask::SendCardMessage(Texts::new(alloc), message))
+}
+
+/// What is asked at a turn of this number.
+fn asked(manner: Manner, alloc: Global, input: &Input, count: &Text) -> Result<Ask, AllocError> {
+    match manner {
+        Manner::Set => set_global(alloc, count),
+        Manner::Send if matches!(input, Input::Start(_)) => send_message(alloc),
+        Manner::Send | Manner::End => Ok(Ask::Done(Text::new(alloc), false)),
+        Manner::Fail | Manner::Gate => Ok(Ask::Fail),
+    }
+}
+
+/// One turn, which is counted.
+fn turned(manner: Manner, cells: &mut Cells, alloc: Global, input: &Input) -> Step
+    requires { length cells.old ≡ 1 }
+    ensures ok { IfOk result (λ r. IsPatch cells.old cells.new r.1) }
+    ensures err { OnErr result (cells.new ≡ cells.old) }
+    ensures count { length cells.new ≡ length cells.old }
+{
+    let count = more(cells, alloc)?;
+    let ask = asked(manner, alloc, input, &count)?;
+    changed(cells, alloc, 0, count, ask)
+}
+
+fn cells_of(alloc: Global) -> Option<Cells>
+    ensures { IfSome result (λ c. length c ≡ 1) }
+{
+    Cells::one(alloc, Text::from_slice(alloc, b"0").ok()?).ok()
+}
+
+fn free_of(alloc: Global, name: Text, manner: Manner, mark: &Rc<u8>) -> Option<Free> {
+    let cells = cells_of(alloc)?;
+    let mark = mark.clone().ok()?;
+    Some(Free {
+        name,
+        manner,
+        cells,
+        turns: 0,
+        mark,
+    })
+}
+
+/// An external as the session holds it.
+pub(crate) type Boxed = Box<dyn External>;
+
+fn boxed_free(alloc: Global, name: Text, manner: Manner, mark: &Rc<u8>) -> Option<Boxed> {
+    let boxed: Boxed = Box::new(alloc, free_of(alloc, name, manner, mark)?).ok()?;
+    Some(boxed)
+}
+
+fn boxed_gate(alloc: Global, name: Text) -> Option<Boxed> {
+    let boxed: Boxed = Box::new(alloc, Gate::new(alloc, name).ok()?).ok()?;
+    Some(boxed)
+}
+
+/// An external of this name and manner. It holds the mark while it is there, unless it is a gate.
+pub(crate) fn external_of(
+    alloc: Global,
+    name: &[u8],
+    manner: Manner,
+    mark: &Rc<u8>,
+) -> Option<Boxed> {
+    let name = Text::from_slice(alloc, name).ok()?;
+    match manner {
+        Manner::Gate => boxed_gate(alloc, name),
+        _ => boxed_free(alloc, name, manner, mark),
+    }
+}
