@@ -9,12 +9,21 @@ use ht_values::Text;
 use std::alloc::{AllocError, Global};
 
 /// What an external is told at a turn.
-#[derive(Drop)]
 pub enum Input {
     /// A handler called it with these arguments.
     Start(Texts),
     /// The call-back with this note has this value.
     Answer(Texts, Text),
+}
+
+/// Written here and not derived, so that no crate above proves anew how it is dropped.
+impl Drop for Input {
+    fn drop(self) {
+        match self {
+            Input::Start(_) => {}
+            Input::Answer(_, _) => {}
+        }
+    }
 }
 
 /// What an external wants after a turn: a call-back, whose answer comes with the same note, or an end. The first member

@@ -65,24 +65,44 @@ pub struct Exprs {
 
 /// Which pieces of a text.
 #[cycle(tree)]
-#[derive(Drop)]
 pub enum Chunk {
     Piece(ChunkKind, Expr),
     Pieces(ChunkKind, Expr, Expr),
     NthPiece(Ordinal, ChunkKind),
 }
 
+/// Written here and not derived, so that no crate above proves anew how it is dropped.
+impl Drop for Chunk {
+    #[cycle(tree)]
+    fn drop(self) {
+        match self {
+            Chunk::Piece(_, _) => {}
+            Chunk::Pieces(_, _, _) => {}
+            Chunk::NthPiece(_, _) => {}
+        }
+    }
+}
+
 /// Which object: by its id, or by its number or name.
 #[cycle(tree)]
-#[derive(Drop)]
 pub enum Which {
     ById(Expr),
     ByText(Expr),
 }
 
+/// Written here and not derived, so that no crate above proves anew how it is dropped.
+impl Drop for Which {
+    #[cycle(tree)]
+    fn drop(self) {
+        match self {
+            Which::ById(_) => {}
+            Which::ByText(_) => {}
+        }
+    }
+}
+
 /// Which card or background.
 #[cycle(tree)]
-#[derive(Drop)]
 pub enum Selector {
     This,
     Next,
@@ -91,26 +111,60 @@ pub enum Selector {
     Which(Which),
 }
 
+/// Written here and not derived, so that no crate above proves anew how it is dropped.
+impl Drop for Selector {
+    #[cycle(tree)]
+    fn drop(self) {
+        match self {
+            Selector::This => {}
+            Selector::Next => {}
+            Selector::Previous => {}
+            Selector::Nth(_) => {}
+            Selector::Which(_) => {}
+        }
+    }
+}
+
 /// The card or background on which a part is looked for.
 #[cycle(tree)]
-#[derive(Drop)]
 pub enum Owner {
     NoOwner,
     OnCard(Selector),
     OnBackground(Selector),
 }
 
+/// Written here and not derived, so that no crate above proves anew how it is dropped.
+impl Drop for Owner {
+    #[cycle(tree)]
+    fn drop(self) {
+        match self {
+            Owner::NoOwner => {}
+            Owner::OnCard(_) => {}
+            Owner::OnBackground(_) => {}
+        }
+    }
+}
+
 /// A button or a field, with the layer that is written before it.
 #[cycle(tree)]
-#[derive(Drop)]
 pub enum Part {
     Plain(Option<Layer>, PartKind, Which, Owner),
     Nth(Ordinal, Option<Layer>, PartKind, Owner),
 }
 
+/// Written here and not derived, so that no crate above proves anew how it is dropped.
+impl Drop for Part {
+    #[cycle(tree)]
+    fn drop(self) {
+        match self {
+            Part::Plain(_, _, _, _) => {}
+            Part::Nth(_, _, _, _) => {}
+        }
+    }
+}
+
 /// A reference to an object.
 #[cycle(tree)]
-#[derive(Drop)]
 pub enum Ref {
     Me,
     Target,
@@ -120,15 +174,43 @@ pub enum Ref {
     Part(Part),
 }
 
+/// Written here and not derived, so that no crate above proves anew how it is dropped.
+impl Drop for Ref {
+    #[cycle(tree)]
+    fn drop(self) {
+        match self {
+            Ref::Me => {}
+            Ref::Target => {}
+            Ref::ThisStack => {}
+            Ref::Card(_) => {}
+            Ref::Background(_) => {}
+            Ref::Part(_) => {}
+        }
+    }
+}
+
 /// What `the number of` counts, or the object whose number it is.
 #[cycle(tree)]
-#[derive(Drop)]
 pub enum Count {
     PiecesOf(ChunkKind, Expr),
     Cards,
     Backgrounds,
     Parts(Option<Layer>, PartKind),
     OfObject(Ref),
+}
+
+/// Written here and not derived, so that no crate above proves anew how it is dropped.
+impl Drop for Count {
+    #[cycle(tree)]
+    fn drop(self) {
+        match self {
+            Count::PiecesOf(_, _) => {}
+            Count::Cards => {}
+            Count::Backgrounds => {}
+            Count::Parts(_, _) => {}
+            Count::OfObject(_) => {}
+        }
+    }
 }
 
 impl Model for Expr {

@@ -13,12 +13,23 @@ use ht_values::Text;
 use std::alloc::{AllocError, Global};
 
 /// A handler of a script.
-#[derive(Drop)]
 pub struct Handler {
     pub kind: HandlerKind,
     pub name: Text,
     pub parameters: Names,
     pub lines: Stmts,
+}
+
+/// Written here and not derived, so that no crate above proves anew how it is dropped.
+impl Drop for Handler {
+    fn drop(self) {
+        let Handler {
+            kind: _,
+            name: _,
+            parameters: _,
+            lines: _,
+        } = self;
+    }
 }
 
 /// The handlers of a script, in order.
@@ -34,10 +45,19 @@ impl Drop for Script {
 }
 
 /// A text for `send`: a name and its arguments.
-#[derive(Drop)]
 pub struct Message {
     pub name: Text,
     pub arguments: Exprs,
+}
+
+/// Written here and not derived, so that no crate above proves anew how it is dropped.
+impl Drop for Message {
+    fn drop(self) {
+        let Message {
+            name: _,
+            arguments: _,
+        } = self;
+    }
 }
 
 /// A text that is typed, and the field for it.

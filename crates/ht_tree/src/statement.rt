@@ -19,14 +19,22 @@ pub struct Names {
 }
 
 /// Where `go` goes.
-#[derive(Drop)]
 pub enum Destination {
     ToCard(Selector),
     ToBackground(Selector),
 }
 
+/// Written here and not derived, so that no crate above proves anew how it is dropped.
+impl Drop for Destination {
+    fn drop(self) {
+        match self {
+            Destination::ToCard(_) => {}
+            Destination::ToBackground(_) => {}
+        }
+    }
+}
+
 /// How often `repeat` does its lines.
-#[derive(Drop)]
 pub enum Head {
     Forever,
     Times(Expr),
@@ -36,6 +44,20 @@ pub enum Head {
     CountedUp(Name, Expr, Expr),
     /// With a variable, from the first number down to the second.
     CountedDown(Name, Expr, Expr),
+}
+
+/// Written here and not derived, so that no crate above proves anew how it is dropped.
+impl Drop for Head {
+    fn drop(self) {
+        match self {
+            Head::Forever => {}
+            Head::Times(_) => {}
+            Head::While(_) => {}
+            Head::Until(_) => {}
+            Head::CountedUp(_, _, _) => {}
+            Head::CountedDown(_, _, _) => {}
+        }
+    }
 }
 
 /// A statement, at most 100 levels deep.

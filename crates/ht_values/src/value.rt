@@ -27,9 +27,15 @@ pub(crate) enum Form {
 
 /// A value of HyperTalk, which contracts see as its text. What was computed as a number or as a truth value is kept so, and is
 /// spelled only where its bytes are asked for: in between it takes no memory, and nothing is read back.
-#[derive(Drop)]
 pub struct Value {
     form: Form,
+}
+
+/// Written here and not derived, so that no crate above proves anew how it is dropped.
+impl Drop for Value {
+    fn drop(self) {
+        let Value { form: _ } = self;
+    }
 }
 
 impl Model for Value {
@@ -201,9 +207,15 @@ pub(crate) enum Lent<'a> {
 }
 
 /// The text of a value, made for it or lent by it.
-#[derive(Drop)]
 pub struct Spelling<'a> {
     text: Lent<'a>,
+}
+
+/// Written here and not derived, so that no crate above proves anew how it is dropped.
+impl<'a> Drop for Spelling<'a> {
+    fn drop(self) {
+        let Spelling { text: _ } = self;
+    }
 }
 
 impl<'a> Model for Spelling<'a> {

@@ -10,11 +10,21 @@ use std::rc::Rc;
 
 /// A handler that was found, and the object whose script has it. It shares that script, so it stays as it was found where the
 /// object's script is replaced, or the object goes.
-#[derive(Drop)]
 pub struct FoundHandler {
     object: Id,
     script: Rc<Script>,
     place: usize,
+}
+
+/// Written here and not derived, so that no crate above proves anew how it is dropped.
+impl Drop for FoundHandler {
+    fn drop(self) {
+        let FoundHandler {
+            object: _,
+            script: _,
+            place: _,
+        } = self;
+    }
 }
 
 impl Model for FoundHandler {

@@ -5,7 +5,6 @@ use ht_values::Text;
 use object_table::{Id, LayerId};
 
 /// One of several objects in their order: by its place, its id, or its number or name.
-#[derive(Drop)]
 pub enum Pick {
     Nth(Ordinal),
     /// The id is a text that may be no numeral: then nothing is found.
@@ -14,13 +13,35 @@ pub enum Pick {
     ByText(Text),
 }
 
+/// Written here and not derived, so that no crate above proves anew how it is dropped.
+impl Drop for Pick {
+    fn drop(self) {
+        match self {
+            Pick::Nth(_) => {}
+            Pick::ById(_) => {}
+            Pick::ByText(_) => {}
+        }
+    }
+}
+
 /// What a reference to a card or a background looks for.
-#[derive(Drop)]
 pub enum Sought {
     This,
     Next,
     Previous,
     Picked(Pick),
+}
+
+/// Written here and not derived, so that no crate above proves anew how it is dropped.
+impl Drop for Sought {
+    fn drop(self) {
+        match self {
+            Sought::This => {}
+            Sought::Next => {}
+            Sought::Previous => {}
+            Sought::Picked(_) => {}
+        }
+    }
 }
 
 /// Where a part is looked for: its layer, and the card that is meant with the part. That is the card which the reference

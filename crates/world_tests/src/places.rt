@@ -26,7 +26,7 @@ fn put_field(alloc: Global, stack: &mut Stack) -> bool {
 fn leaves_hilite(stack: &mut Stack) -> bool {
     let mut entry = StackEntry::Prop(3, PropValue::HiliteIs(true));
     entry.exchange(stack);
-    matches!(entry, StackEntry::Prop(3, PropValue::HiliteIs(true)))
+    matches!(&entry, StackEntry::Prop(3, PropValue::HiliteIs(true)))
 }
 
 /// The empty stack. It stands in a box, which is dropped by one call.
