@@ -4,7 +4,7 @@ ghost use Rattle.std.specs.Prelude.{◌≡◌, ◌≤◌, IsSome};
 ghost use Rattle.ht_grammar.specs.Depth.{depths, max_depth};
 ghost use Rattle.ht_tree.specs.View.{exprs_of};
 ghost use Rattle.containers.specs.Base.{base};
-ghost use Rattle.meaning.specs.Meaning.{Along, BuiltInGives, Calls, Outside, Sends, SendsText};
+ghost use Rattle.meaning.specs.Meaning.{Along, BuiltInGives, Calls, Outside, Sends};
 
 use crate::conversation::converse;
 use crate::expr::{arguments, text_value};
@@ -22,7 +22,7 @@ use primitives::arguments::Arguments;
 use primitives::messages::{
     external, find, handler_frame, is_ignored, item_named, only_text, outcome, returned,
 };
-use primitives::values::{call_function, empty, message};
+use primitives::values::{call_function, empty};
 
 /// The arguments are computed, then the message is sent to an object.
 #[cycle(run)]
@@ -46,37 +46,6 @@ pub(crate) fn calls<E: External>(
 {
     let values = arguments(world, run, frame, nested, list)?;
     send(world, run, frame, nested, object, name, &values, kind)
-}
-
-/// A text is sent as a message.
-#[cycle(run)]
-#[tactic(auto, using(meaning::proofs::Rules::sendstext_rules))]
-pub(crate) fn send_text<E: External>(
-    world: &mut World<E>,
-    run: &mut Budget,
-    frame: &Frame,
-    nested: u32,
-    object: Id,
-    text: &Text,
-) -> Result<Value, Stop>
-    requires nested { nested ≤ 100 }
-    requires open { IsSome (base world.old.history).start }
-    ensures meaning { SendsText world.old.history run.old frame.now nested object text.now result world.new.history run.new }
-    ensures fewer { run.new.left ≤ run.old.left }
-    ensures base { base world.new.history ≡ base world.old.history }
-{
-    let message = message(run.alloc(), text)?;
-    let _depth = message.depth();
-    calls(
-        world,
-        run,
-        frame,
-        nested,
-        object,
-        &message.name,
-        &message.arguments.items,
-        HandlerKind::Command,
-    )
 }
 
 /// Sends a message to an object: a step, then along its path.

@@ -15,7 +15,7 @@ use ht_tree::{Expr, Head, Stmt};
 use ht_values::Name;
 use meaning::{Budget, Counter, Frame, How, Stop};
 use primitives::places::assign;
-use primitives::values::{counter, goes_on};
+use primitives::values::{counter, goes_on, leaves_repeat};
 
 /// `repeat`, by its head.
 #[cycle(run)]
@@ -109,12 +109,9 @@ pub(crate) fn repeat_forever<E: External>(
 {
     loop {
         run.step()?;
-        match run_block(world, run, frame, nested, lines)? {
-            How::Next | How::NextRepeat => {}
-            How::ExitRepeat => return Ok(How::Next),
-            How::Exit => return Ok(How::Exit),
-            How::Pass => return Ok(How::Pass),
-            How::Returns(value) => return Ok(How::Returns(value)),
+        let how = run_block(world, run, frame, nested, lines)?;
+        if let Some(how) = leaves_repeat(how) {
+            return Ok(how);
         }
     }
 }
@@ -146,12 +143,9 @@ pub(crate) fn repeat_while<E: External>(
         if !goes_on(wanted, truth) {
             return Ok(How::Next);
         }
-        match run_block(world, run, frame, nested, lines)? {
-            How::Next | How::NextRepeat => {}
-            How::ExitRepeat => return Ok(How::Next),
-            How::Exit => return Ok(How::Exit),
-            How::Pass => return Ok(How::Pass),
-            How::Returns(value) => return Ok(How::Returns(value)),
+        let how = run_block(world, run, frame, nested, lines)?;
+        if let Some(how) = leaves_repeat(how) {
+            return Ok(how);
         }
     }
 }
@@ -183,12 +177,9 @@ pub(crate) fn turns<E: External>(
             return Ok(How::Next);
         }
         assign(run.alloc(), run.delimiter(), world, frame, variable, &turn)?;
-        match run_block(world, run, frame, nested, lines)? {
-            How::Next | How::NextRepeat => {}
-            How::ExitRepeat => return Ok(How::Next),
-            How::Exit => return Ok(How::Exit),
-            How::Pass => return Ok(How::Pass),
-            How::Returns(value) => return Ok(How::Returns(value)),
+        let how = run_block(world, run, frame, nested, lines)?;
+        if let Some(how) = leaves_repeat(how) {
+            return Ok(how);
         }
         turn.step();
     }

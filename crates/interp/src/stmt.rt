@@ -9,7 +9,7 @@ ghost use Rattle.containers.specs.Base.{base};
 ghost use Rattle.meaning.specs.Meaning.{Alters, Block, Form};
 
 use crate::expr::{eval, truth_value};
-use crate::message::{calls, send_text};
+use crate::message::calls;
 use crate::pieces::{edit_container, pieces, resolve};
 use crate::reference::{lead, meet};
 use crate::repeat::repeat;
@@ -22,7 +22,7 @@ use ht_tree::{Chunk, Container, Destination, Expr, Names, Ref, Stmt, StmtKind};
 use ht_values::{Fault, Op, Prop, Where};
 use meaning::{Budget, Frame, How, Stop};
 use primitives::places::{declare_all, edit, put_into_it, set_property};
-use primitives::values::{empty, lines};
+use primitives::values::{empty, lines, message};
 
 /// How statements end, a step before each.
 #[cycle(run)]
@@ -368,7 +368,7 @@ pub(crate) fn run_do<E: External>(
 
 /// `send`: the text, then the object, then the message.
 #[cycle(run)]
-#[tactic(auto, using(meaning::proofs::Rules::form_send_rules))]
+#[tactic(auto, using(meaning::proofs::Rules::form_send_rules, meaning::proofs::Rules::sendstext_rules))]
 #[inline(never)]
 pub(crate) fn run_send<E: External>(
     world: &mut World<E>,
@@ -388,7 +388,18 @@ pub(crate) fn run_send<E: External>(
 {
     let text = eval(world, run, frame, nested, text)?.into_text(run.alloc())?;
     let referent = meet(world, run, frame, nested, reference)?;
-    let _ = send_text(world, run, frame, nested, referent.object, &text)?;
+    let message = message(run.alloc(), &text)?;
+    let _depth = message.depth();
+    let _ = calls(
+        world,
+        run,
+        frame,
+        nested,
+        referent.object,
+        &message.name,
+        &message.arguments.items,
+        HandlerKind::Command,
+    )?;
     Ok(How::Next)
 }
 

@@ -16,7 +16,7 @@ ghost use Rattle.change_journal.specs.History.{History};
 ghost use Rattle.meaning.specs.declared.frame.Frame.{Frame};
 ghost use Rattle.meaning.specs.Meaning.{Meets, Val};
 ghost use Rattle.meaning.specs.State.{RunState, run_property as run_property_of};
-ghost use Rattle.meaning.specs.Repeats.{counter_of, goes_on as goes_on_of};
+ghost use Rattle.meaning.specs.Repeats.{counter_of, goes_on as goes_on_of, leaves_repeat as leaves_repeat_of};
 ghost use Rattle.meaning.specs.Values.{Parses, Yields};
 ghost use Rattle.primitives.specs.Views.{read_as};
 
@@ -27,7 +27,7 @@ use ht_parse::{ParseError, parse_expr, parse_lines, parse_message};
 use ht_tree::{Expr, Message, Stmts};
 use ht_values::{Failure, Fault, Func, Op, Text, UnOp, Value, binary, built_in, unary};
 use itoa::Buffer;
-use meaning::{Budget, Counter, Stop};
+use meaning::{Budget, Counter, How, Stop};
 use object_references::Referent;
 use std::alloc::{AllocError, Global};
 
@@ -176,6 +176,17 @@ pub fn goes_on(wanted: bool, truth: bool) -> bool
     ensures { result ≡ goes_on_of wanted truth }
 {
     if wanted { truth } else { !truth }
+}
+
+/// How a repeat ends by the end of its lines; `None` where it goes on with its next turn.
+pub fn leaves_repeat(how: How) -> Option<How>
+    ensures { result ≡ leaves_repeat_of how }
+{
+    match how {
+        How::Next | How::NextRepeat => None,
+        How::ExitRepeat => Some(How::Next),
+        How::Exit | How::Pass | How::Returns(_) => Some(how),
+    }
 }
 
 /// The numbers from one value to another, up or down; the fault of the first that means no number. It takes no memory.

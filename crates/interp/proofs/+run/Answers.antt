@@ -12,11 +12,11 @@ use Rattle.interp.proofs.Loops.{cut_exprs, no_exprs, deep_expr, cut_stmts, no_st
 use Rattle.interp.proofs.Operands.{computed, counted, taken}
 use Rattle.interp.proofs.+run.Goals as goal
 
-pub conversation::talk-returns-in-Fail-clause-meaning : goal.conversation::talk-returns-in-Fail-clause-meaning
-conversation::talk-returns-in-Fail-clause-meaning g t c = c.loop-next.invariant.rest _ _ _ (Talks.talk_fails c.in_ok-step.ensures.meaning c.in_ok-ask.ensures.ok c.in-Fail.is)
+pub conversation::converse-returns-in-Fail-clause-meaning : goal.conversation::converse-returns-in-Fail-clause-meaning
+conversation::converse-returns-in-Fail-clause-meaning g t c = c.loop-next.invariant.rest _ _ _ (Talks.talk_fails c.in_ok-step.ensures.meaning c.in_ok-ask.ensures.ok c.in-Fail.is)
 
-pub conversation::talk-returns-in_err-next-in_default : goal.conversation::talk-returns-in_err-next-in_default
-conversation::talk-returns-in_err-next-in_default g t c =
+pub conversation::converse-returns-in_err-next-in_default : goal.conversation::converse-returns-in_err-next-in_default
+conversation::converse-returns-in_err-next-in_default g t c =
     let p = err_from_is_err_and c.from_residual-in_err-next-in_default.result c.from_residual-in_err-next-in_default.ensures.1 in
     record {
       meaning = rw (p.1, p.2) (c.loop-next.invariant.rest _ _ _ (Talks.talk_stops c.in_ok-step.ensures.meaning c.in_ok-ask.ensures.ok c.in_err-next-in_default.ensures.meaning));
@@ -24,8 +24,8 @@ conversation::talk-returns-in_err-next-in_default g t c =
       base = c.call_back.ensures.base ∙ (c.take_turn.ensures.base ∙ c.loop-next.invariant.base);
     }
 
-pub conversation::talk-loop-next-preserved : goal.conversation::talk-loop-next-preserved
-conversation::talk-loop-next-preserved g t c = record {
+pub conversation::converse-loop-next-preserved : goal.conversation::converse-loop-next-preserved
+conversation::converse-loop-next-preserved g t c = record {
   fewer = omega (arith, c.call_back.ensures.fewer, c.step.ensures.fewer, c.loop-next.invariant.fewer);
   base = c.call_back.ensures.base ∙ (c.take_turn.ensures.base ∙ c.loop-next.invariant.base);
   rest = λ o w r h. c.loop-next.invariant.rest _ _ _ (Talks.talk_goes_on c.in_ok-step.ensures.meaning c.in_ok-ask.ensures.ok c.in_ok-next-in_default.ensures.meaning h);

@@ -11,7 +11,7 @@ use Rattle.meaning.specs.declared.end.How.{How}
 use Rattle.meaning.specs.declared.end.Stop.{Stop}
 use Rattle.meaning.specs.declared.frame.Frame.{Frame}
 use Rattle.meaning.specs.State.{RunState}
-use Rattle.meaning.specs.Meaning.{Vals, Block, Endless, While, Counts, Along, Systems, Talks}
+use Rattle.meaning.specs.Meaning.{Vals, Block, Endless, While, Counts, Along, Systems, Converses, Talks}
 use Rattle.interp.proofs.+run.Given as goal
 
 abbrev pub decreases-expr::eval : goal.decreases-expr::eval
@@ -71,9 +71,6 @@ decreases-message::calls g l = 1000000 * l.run.now.left + 4000 * (100 - l.nested
 abbrev pub decreases-expr::arguments : goal.decreases-expr::arguments
 decreases-expr::arguments g l = 1000000 * l.run.now.left + 4000 * (100 - l.nested) + 8 * depths (exprs_of l.list.now) + 103
 
-abbrev pub decreases-message::send_text : goal.decreases-message::send_text
-decreases-message::send_text g l = 1000000 * l.run.now.left + 4000 * (100 - l.nested) + 1500
-
 abbrev pub decreases-message::send : goal.decreases-message::send
 decreases-message::send g l = 1000000 * l.run.now.left + 4000 * (100 - l.nested) + 10
 
@@ -101,17 +98,8 @@ decreases-message::along g l = 1000000 * l.run.now.left + 4000 * (100 - l.nested
 abbrev pub decreases-conversation::converse : goal.decreases-conversation::converse
 decreases-conversation::converse g l = 1000000 * l.run.now.left + 4000 * (100 - l.nested) + 9
 
-abbrev pub decreases-conversation::talk : goal.decreases-conversation::talk
-decreases-conversation::talk g l = 1000000 * l.run.now.left + 4000 * (100 - l.nested) + 8
-
 abbrev pub decreases-conversation::call_back : goal.decreases-conversation::call_back
 decreases-conversation::call_back g l = 1000000 * l.run.now.left + 4000 * (100 - l.nested) + 3000
-
-abbrev pub decreases-conversation::run_text : goal.decreases-conversation::run_text
-decreases-conversation::run_text g l = 1000000 * l.run.now.left + 4000 * (100 - l.nested) + 2999
-
-abbrev pub decreases-conversation::eval_text : goal.decreases-conversation::eval_text
-decreases-conversation::eval_text g l = 1000000 * l.run.now.left + 4000 * (100 - l.nested) + 2999
 
 abbrev pub decreases-pieces::resolve : goal.decreases-pieces::resolve
 decreases-pieces::resolve g l = 1000000 * l.run.now.left + 4000 * (100 - l.nested) + 8 * container_depth l.container.now + 106
@@ -248,14 +236,14 @@ invariant-system::systems-loop-message g l = record {
       Systems l.fn.world.history l.fn.run l.frame l.nested l.messages o w r;
 }
 
-abbrev pub invariant-conversation::talk-loop-next : goal.invariant-conversation::talk-loop-next
-invariant-conversation::talk-loop-next g l = record {
+abbrev pub invariant-conversation::converse-loop-next : goal.invariant-conversation::converse-loop-next
+invariant-conversation::converse-loop-next g l = record {
   fewer : l.run.left ≤ l.fn.run.left;
   base : base l.world.history ≡ base l.fn.world.history;
   rest : (o : Result Conversed Stop) (w : History) (r : RunState) →
-      Talks l.world.history l.run l.nested l.number l.next o w r →
-      Talks l.fn.world.history l.fn.run l.nested l.number l.fn.input o w r;
+      Talks l.world.history l.run (l.nested + 1) l.number l.next o w r →
+      Converses l.fn.world.history l.fn.run l.nested l.number l.values o w r;
 }
 
-abbrev pub decreases-conversation::talk-loop-next : goal.decreases-conversation::talk-loop-next
-decreases-conversation::talk-loop-next g l = l.run.left
+abbrev pub decreases-conversation::converse-loop-next : goal.decreases-conversation::converse-loop-next
+decreases-conversation::converse-loop-next g l = l.run.left
