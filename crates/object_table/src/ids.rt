@@ -38,14 +38,6 @@ impl IdList {
         IdList { items }
     }
 
-    /// The ids as a `Vec`. It takes no memory.
-    pub fn into_vec(self) -> Vec<Id>
-        ensures { result.items ≡ self }
-    {
-        let IdList { items } = self;
-        items
-    }
-
     /// Adds an id at the end. Where a growth is refused the list is as before.
     pub fn push(&mut self, id: Id) -> Result<(), AllocError>
         ensures ok { OnOk result (self.new ≡ self.old ++ id ∷ []) }
