@@ -87,6 +87,8 @@ module _ {w w1 : History} {r r1 : RunState} {f : Frame} {d : ℕ} {x : tree.Expr
       of_steps found (went_on is (Yields.yields value)) = Val.chunk refl found (met _ (Yields.yields is)) (same_value _ refl value)
       of_steps found (went_on is (Yields.faults fault)) = cc
 
+pub ruleset text_rules = (Val.memory, computed_met)
+
 pub ruleset met_rules = (Val.memory, name_met, computed_met, Val.field_stops, Val.field)
 
 pub ruleset count_rules = (Val.memory, Val.pieces_stop)

@@ -1,3 +1,4 @@
 pub mod Edits
+pub mod Keeps
 pub mod Operands
 pub mod Views

@@ -4,8 +4,9 @@ ghost use Rattle.std.specs.Prelude.{◌≡◌, ◌≤◌, ◌<◌, IsSome, lengt
 ghost use Rattle.containers.specs.Base.{base};
 ghost use Rattle.interp.specs.Views.{asks_back};
 ghost use Rattle.meaning.specs.Meaning.{CallsBack, Converses};
+ghost use Rattle.interp.specs.Keeps.{Keeps};
 
-use crate::expr::eval;
+use crate::expr::eval_text;
 use crate::stmt::run_block;
 use change_journal::World;
 use externals::{Ask, External, Input};
@@ -31,8 +32,7 @@ pub(crate) fn converse<E: External>(
     requires there { number < length (base world.old.history).titles }
     requires open { IsSome (base world.old.history).start }
     ensures meaning { Converses world.old.history run.old nested number values.now result world.new.history run.new }
-    ensures fewer { run.new.left ≤ run.old.left }
-    ensures base { base world.new.history ≡ base world.old.history }
+    ensures keeps { Keeps world.old.history run.old world.new.history run.new }
 {
     if 16 < values.len() {
         return Err(Stop::Fault(Fault::BadArgument));
@@ -40,7 +40,7 @@ pub(crate) fn converse<E: External>(
     if nested == 100 {
         return Err(Stop::Fault(Fault::TooDeep));
     }
-    let mut next = start(run.alloc(), values)?;
+    let mut next = start(run, values)?;
     loop {
         run.step()?;
         match take_turn(world, number, &next)? {
@@ -64,22 +64,21 @@ pub(crate) fn call_back<E: External>(
     requires asks { asks_back ask ≡ true }
     requires open { IsSome (base world.old.history).start }
     ensures meaning { CallsBack world.old.history run.old nested ask result world.new.history run.new }
-    ensures fewer { run.new.left ≤ run.old.left }
-    ensures base { base world.new.history ≡ base world.old.history }
+    ensures keeps { Keeps world.old.history run.old world.new.history run.new }
 {
     match ask {
         Ask::SendCardMessage(note, text) => {
-            let lines = lines(run.alloc(), &text)?;
+            let lines = lines(run, &text)?;
             let mut frame = Frame::typed(run.alloc(), world.current());
             let _depth = lines.depth();
             let _ = run_block(world, run, &mut frame, nested, &lines.items)?;
             Ok(Input::Answer(note, Text::new(run.alloc())))
         }
         Ask::EvalExpr(note, text) => {
-            let e = expression(run.alloc(), &text)?;
+            let e = expression(run, &text)?;
             let frame = Frame::typed(run.alloc(), world.current());
             let _depth = e.depth();
-            let value = eval(world, run, &frame, nested, &e)?.into_text(run.alloc())?;
+            let value = eval_text(world, run, &frame, nested, &e)?;
             Ok(Input::Answer(note, value))
         }
         Ask::SetGlobal(note, name, value) => set_global(world, run, nested, note, name, value),

@@ -7,6 +7,7 @@ ghost use Rattle.ht_tree.specs.View.{chunk_of as chunk_of_tree, count_of, exprs_
 ghost use Rattle.containers.specs.Base.{base};
 ghost use Rattle.meaning.specs.Meaning.{NumberVal, TextVal, TruthVal, Val, Vals};
 ghost use Rattle.interp.specs.Operands.{MeetsOperand};
+ghost use Rattle.interp.specs.Keeps.{Keeps};
 
 use crate::message::calls;
 use crate::pieces::pieces;
@@ -18,13 +19,13 @@ use ht_tree::{Chunk, Count, Expr, ExprKind};
 use ht_values::{Fault, Op, Prop, Text, UnOp, Value};
 use meaning::{Budget, Frame, Stop};
 use primitives::arguments::Arguments;
-use primitives::objects::{parts_here, property, target_name};
-use primitives::operands::{Operand, call_of_operand, operand_count, operand_part, operand_value};
-use primitives::places::{field_text, variable};
-use primitives::values::{
-    apply, apply_one, constant_value, expression, function_named, number, numeral, return_sign,
-    run_property, there, truth,
+use primitives::atoms::{atom, object_count};
+use primitives::objects::property;
+use primitives::operands::{
+    Operand, call_of_operand, operand_count, operand_into_text, operand_part,
 };
+use primitives::places::field_text;
+use primitives::values::{apply, apply_one, expression, function_named, number, there, truth};
 
 /// The value of an expression.
 #[cycle(run)]
@@ -40,14 +41,9 @@ pub(crate) fn eval<E: External>(
     requires deep { depth e.now ≤ max_depth }
     requires open { IsSome (base world.old.history).start }
     ensures meaning { Val world.old.history run.old frame.now nested e.now result world.new.history run.new }
-    ensures fewer { run.new.left ≤ run.old.left }
-    ensures base { base world.new.history ≡ base world.old.history }
+    ensures keeps { Keeps world.old.history run.old world.new.history run.new }
 {
     match e.kind() {
-        ExprKind::Number(text) | ExprKind::Quoted(text) => Ok(Value::copied(run.alloc(), text)?),
-        ExprKind::Constant(constant) => Ok(constant_value(run.alloc(), *constant)?),
-        ExprKind::Return => Ok(return_sign(run.alloc())?),
-        ExprKind::Name(name) => Ok(variable(run.alloc(), world, frame, name)?),
         ExprKind::Paren(inner) => eval(world, run, frame, nested, inner),
         ExprKind::Call(name, list) => {
             let function = HandlerKind::Function;
@@ -71,18 +67,36 @@ pub(crate) fn eval<E: External>(
         ExprKind::Chunk(chunk, text) => chunk_of(world, run, frame, nested, chunk, text),
         ExprKind::Field(part) => {
             let referent = meet_part(world, run, frame, nested, part)?;
-            field_text(run.alloc(), world, frame, run.delimiter(), referent)
+            field_text(world, run, frame, referent)
         }
-        ExprKind::Result => Ok(run.result().try_clone(run.alloc())?),
-        ExprKind::Target => target_name(run.alloc(), world, frame),
         ExprKind::NumberOf(count) => number_of(world, run, frame, nested, count),
         ExprKind::Property(name, reference) => {
             let referent = meet(world, run, frame, nested, reference)?;
-            property(run.alloc(), world, referent, *name)
+            property(world, run, referent, *name)
         }
-        ExprKind::RunProperty(property) => Ok(run_property(run, *property)?),
         ExprKind::Function(word, operand) => function_of(world, run, frame, nested, *word, operand),
+        _ => atom(world, run, frame, e),
     }
+}
+
+/// The value of an expression, as a text of its own.
+#[cycle(run)]
+#[tactic(auto, using(crate::proofs::Operands::text_rules))]
+pub(crate) fn eval_text<E: External>(
+    world: &mut World<E>,
+    run: &mut Budget,
+    frame: &Frame,
+    nested: u32,
+    e: &Expr,
+) -> Result<Text, Stop>
+    requires nested { nested ≤ 100 }
+    requires deep { depth e.now ≤ max_depth }
+    requires open { IsSome (base world.old.history).start }
+    ensures meaning { Val world.old.history run.old frame.now nested e.now result world.new.history run.new }
+    ensures keeps { Keeps world.old.history run.old world.new.history run.new }
+{
+    let value = eval(world, run, frame, nested, e)?;
+    Ok(value.into_text(run.alloc())?)
 }
 
 /// Two operands from left to right, and what the operator gives.
@@ -103,12 +117,11 @@ pub(crate) fn binary<E: External>(
     requires right { depth right.now < max_depth }
     requires open { IsSome (base world.old.history).start }
     ensures meaning { Val world.old.history run.old frame.now nested (tree.binary op left.now right.now) result world.new.history run.new }
-    ensures fewer { run.new.left ≤ run.old.left }
-    ensures base { base world.new.history ≡ base world.old.history }
+    ensures keeps { Keeps world.old.history run.old world.new.history run.new }
 {
     let x = eval(world, run, frame, nested, left)?;
     let y = eval(world, run, frame, nested, right)?;
-    apply(run.alloc(), op, &x, &y)
+    apply(run, op, &x, &y)
 }
 
 /// An operand, and what the operator gives.
@@ -127,8 +140,7 @@ pub(crate) fn unary<E: External>(
     requires deep { depth operand.now < max_depth }
     requires open { IsSome (base world.old.history).start }
     ensures meaning { Val world.old.history run.old frame.now nested (tree.unary op operand.now) result world.new.history run.new }
-    ensures fewer { run.new.left ≤ run.old.left }
-    ensures base { base world.new.history ≡ base world.old.history }
+    ensures keeps { Keeps world.old.history run.old world.new.history run.new }
 {
     let x = eval(world, run, frame, nested, operand)?;
     apply_one(op, &x)
@@ -149,8 +161,7 @@ pub(crate) fn meet_operand<'a, E: External>(
     requires deep { depth e.now ≤ max_depth }
     requires open { IsSome (base world.old.history).start }
     ensures meaning { MeetsOperand world.old.history run.old frame.now nested e.now result world.new.history run.new }
-    ensures fewer { run.new.left ≤ run.old.left }
-    ensures base { base world.new.history ≡ base world.old.history }
+    ensures keeps { Keeps world.old.history run.old world.new.history run.new }
 {
     match e.kind() {
         ExprKind::Name(name) => Ok(Operand::Name(name)),
@@ -179,17 +190,16 @@ pub(crate) fn chunk_of<E: External>(
     requires text { depth text.now < max_depth }
     requires open { IsSome (base world.old.history).start }
     ensures meaning { Val world.old.history run.old frame.now nested (tree.chunk (chunk_of_tree chunk.now) text.now) result world.new.history run.new }
-    ensures fewer { run.new.left ≤ run.old.left }
-    ensures base { base world.new.history ≡ base world.old.history }
+    ensures keeps { Keeps world.old.history run.old world.new.history run.new }
 {
     let pieces = pieces(world, run, frame, nested, chunk)?;
     let text = meet_operand(world, run, frame, nested, text)?;
-    operand_part(run.alloc(), world, frame, &text, &pieces, run.delimiter())
+    operand_part(world, run, frame, &text, &pieces)
 }
 
 /// `the number of` pieces, of cards, backgrounds or parts, or of an object.
 #[cycle(run)]
-#[tactic(auto, using(crate::proofs::Operands::count_rules, meaning::proofs::Rules::val_number_of_cards_rules, meaning::proofs::Rules::val_number_of_backgrounds_rules, meaning::proofs::Rules::val_number_of_parts_rules, meaning::proofs::Rules::val_number_of_of_object_rules))]
+#[tactic(auto, using(crate::proofs::Operands::count_rules, meaning::proofs::Rules::val_number_of_of_object_rules))]
 #[inline(never)]
 pub(crate) fn number_of<E: External>(
     world: &mut World<E>,
@@ -202,21 +212,18 @@ pub(crate) fn number_of<E: External>(
     requires deep { count_depth (count_of count.now) < max_depth }
     requires open { IsSome (base world.old.history).start }
     ensures meaning { Val world.old.history run.old frame.now nested (tree.number_of (count_of count.now)) result world.new.history run.new }
-    ensures fewer { run.new.left ≤ run.old.left }
-    ensures base { base world.new.history ≡ base world.old.history }
+    ensures keeps { Keeps world.old.history run.old world.new.history run.new }
 {
     match count {
         Count::PiecesOf(kind, text) => {
             let text = meet_operand(world, run, frame, nested, text)?;
-            operand_count(run.alloc(), world, frame, &text, *kind, run.delimiter())
+            operand_count(world, run, frame, &text, *kind)
         }
-        Count::Cards => Ok(numeral(run.alloc(), world.stack().cards().len())?),
-        Count::Backgrounds => Ok(numeral(run.alloc(), world.stack().backgrounds().len())?),
-        Count::Parts(layer, kind) => Ok(numeral(run.alloc(), parts_here(world, *layer, *kind))?),
         Count::OfObject(reference) => {
             let referent = meet(world, run, frame, nested, reference)?;
-            property(run.alloc(), world, referent, Prop::Number)
+            property(world, run, referent, Prop::Number)
         }
+        _ => object_count(world, run, count),
     }
 }
 
@@ -236,15 +243,13 @@ pub(crate) fn function_of<E: External>(
     requires deep { depth operand.now < max_depth }
     requires open { IsSome (base world.old.history).start }
     ensures meaning { Val world.old.history run.old frame.now nested (tree.function word operand.now) result world.new.history run.new }
-    ensures fewer { run.new.left ≤ run.old.left }
-    ensures base { base world.new.history ≡ base world.old.history }
+    ensures keeps { Keeps world.old.history run.old world.new.history run.new }
 {
     let x = meet_operand(world, run, frame, nested, operand)?;
     match function_named(word) {
-        Some(function) => call_of_operand(run.alloc(), world, frame, function, x, run.delimiter()),
+        Some(function) => call_of_operand(world, run, frame, function, x),
         None => {
-            let value = operand_value(run.alloc(), world, frame, x, run.delimiter())?;
-            let text = value.into_text(run.alloc())?;
+            let text = operand_into_text(world, run, frame, x)?;
             text_value(world, run, frame, nested, &text)
         }
     }
@@ -265,8 +270,7 @@ pub(crate) fn arguments<E: External>(
     requires deep { depths (exprs_of list.now) ≤ max_depth }
     requires open { IsSome (base world.old.history).start }
     ensures meaning { Vals world.old.history run.old frame.now nested (exprs_of list.now) [] result world.new.history run.new }
-    ensures fewer { run.new.left ≤ run.old.left }
-    ensures base { base world.new.history ≡ base world.old.history }
+    ensures keeps { Keeps world.old.history run.old world.new.history run.new }
 {
     let mut values = Arguments::new(run.alloc());
     for e in list {
@@ -290,8 +294,7 @@ pub(crate) fn number_value<E: External>(
     requires deep { depth e.now < max_depth }
     requires open { IsSome (base world.old.history).start }
     ensures meaning { NumberVal world.old.history run.old frame.now nested e.now result world.new.history run.new }
-    ensures fewer { run.new.left ≤ run.old.left }
-    ensures base { base world.new.history ≡ base world.old.history }
+    ensures keeps { Keeps world.old.history run.old world.new.history run.new }
 {
     let value = eval(world, run, frame, nested, e)?;
     number(&value)
@@ -311,8 +314,7 @@ pub(crate) fn truth_value<E: External>(
     requires deep { depth e.now < max_depth }
     requires open { IsSome (base world.old.history).start }
     ensures meaning { TruthVal world.old.history run.old frame.now nested e.now result world.new.history run.new }
-    ensures fewer { run.new.left ≤ run.old.left }
-    ensures base { base world.new.history ≡ base world.old.history }
+    ensures keeps { Keeps world.old.history run.old world.new.history run.new }
 {
     let value = eval(world, run, frame, nested, e)?;
     truth(&value)
@@ -331,14 +333,13 @@ pub(crate) fn text_value<E: External>(
     requires nested { nested ≤ 100 }
     requires open { IsSome (base world.old.history).start }
     ensures meaning { TextVal world.old.history run.old frame.now nested text.now result world.new.history run.new }
-    ensures fewer { run.new.left ≤ run.old.left }
-    ensures base { base world.new.history ≡ base world.old.history }
+    ensures keeps { Keeps world.old.history run.old world.new.history run.new }
 {
     run.step()?;
     if nested == 100 {
         return Err(Stop::Fault(Fault::TooDeep));
     }
-    let e = expression(run.alloc(), text)?;
+    let e = expression(run, text)?;
     let _depth = e.depth();
     eval(world, run, frame, nested + 1, &e)
 }

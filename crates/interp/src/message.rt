@@ -5,6 +5,7 @@ ghost use Rattle.ht_grammar.specs.Depth.{depths, max_depth};
 ghost use Rattle.ht_tree.specs.View.{exprs_of};
 ghost use Rattle.containers.specs.Base.{base};
 ghost use Rattle.meaning.specs.Meaning.{Along, BuiltInGives, Calls, Outside, Sends};
+ghost use Rattle.interp.specs.Keeps.{Keeps};
 
 use crate::conversation::converse;
 use crate::expr::{arguments, text_value};
@@ -41,8 +42,7 @@ pub(crate) fn calls<E: External>(
     requires deep { depths (exprs_of list.now) ≤ max_depth }
     requires open { IsSome (base world.old.history).start }
     ensures meaning { Calls world.old.history run.old frame.now nested object name.now (exprs_of list.now) kind result world.new.history run.new }
-    ensures fewer { run.new.left ≤ run.old.left }
-    ensures base { base world.new.history ≡ base world.old.history }
+    ensures keeps { Keeps world.old.history run.old world.new.history run.new }
 {
     let values = arguments(world, run, frame, nested, list)?;
     send(world, run, frame, nested, object, name, &values, kind)
@@ -64,8 +64,7 @@ pub(crate) fn send<E: External>(
     requires nested { nested ≤ 100 }
     requires open { IsSome (base world.old.history).start }
     ensures meaning { Sends world.old.history run.old frame.now nested object name.now values.now kind result world.new.history run.new }
-    ensures fewer { run.new.left ≤ run.old.left }
-    ensures base { base world.new.history ≡ base world.old.history }
+    ensures keeps { Keeps world.old.history run.old world.new.history run.new }
 {
     run.step()?;
     run.note(name, object)?;
@@ -90,18 +89,17 @@ pub(crate) fn along<E: External>(
     requires nested { nested ≤ 100 }
     requires open { IsSome (base world.old.history).start }
     ensures meaning { Along world.old.history run.old frame.now nested object path name.now values.now kind result world.new.history run.new }
-    ensures fewer { run.new.left ≤ run.old.left }
-    ensures base { base world.new.history ≡ base world.old.history }
+    ensures keeps { Keeps world.old.history run.old world.new.history run.new }
 {
     let mut rest = path;
     loop {
-        match find(run.alloc(), world, rest.as_slice(), kind, name)? {
+        match find(world, run, rest.as_slice(), kind, name)? {
             None => return outside(world, run, frame, nested, name, values, kind),
             Some(found) => {
                 if nested == 100 {
                     return Err(Stop::Fault(Fault::TooDeep));
                 }
-                let mut inner = handler_frame(run.alloc(), &found, object, values)?;
+                let mut inner = handler_frame(run, &found, object, values)?;
                 let _depth = found.handler().lines.depth();
                 let how = run_block(
                     world,
@@ -134,8 +132,7 @@ pub(crate) fn outside<E: External>(
     requires nested { nested ≤ 100 }
     requires open { IsSome (base world.old.history).start }
     ensures meaning { Outside world.old.history run.old frame.now nested name.now values.now kind result world.new.history run.new }
-    ensures fewer { run.new.left ≤ run.old.left }
-    ensures base { base world.new.history ≡ base world.old.history }
+    ensures keeps { Keeps world.old.history run.old world.new.history run.new }
 {
     match external(world, kind, name) {
         None => answer(world, run, frame, nested, name, values, kind),
@@ -165,20 +162,19 @@ pub(crate) fn answer<E: External>(
     requires nested { nested ≤ 100 }
     requires open { IsSome (base world.old.history).start }
     ensures meaning { BuiltInGives world.old.history run.old frame.now nested name.now values.now kind result world.new.history run.new }
-    ensures fewer { run.new.left ≤ run.old.left }
-    ensures base { base world.new.history ≡ base world.old.history }
+    ensures keeps { Keeps world.old.history run.old world.new.history run.new }
 {
     match BuiltIn::named(kind, name) {
-        Some(BuiltIn::Value) => match only_text(run.alloc(), values)? {
+        Some(BuiltIn::Value) => match only_text(run, values)? {
             Some(text) => text_value(world, run, frame, nested, &text),
             None => Err(Stop::Fault(Fault::BadArgument)),
         },
-        Some(BuiltIn::Function(function)) => call_function(run.alloc(), function, values),
-        Some(BuiltIn::DoMenu) => match item_named(run.alloc(), values)? {
+        Some(BuiltIn::Function(function)) => call_function(run, function, values),
+        Some(BuiltIn::DoMenu) => match item_named(run, values)? {
             Some(item) => menu(world, run, frame, nested, item),
             None => Err(Stop::Fault(Fault::BadArgument)),
         },
-        None if is_ignored(kind, name) => Ok(empty(run.alloc())),
+        None if is_ignored(kind, name) => Ok(empty(run)),
         None => Err(Stop::Fault(Fault::CantUnderstand)),
     }
 }

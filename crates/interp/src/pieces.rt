@@ -6,6 +6,7 @@ ghost use Rattle.ht_tree.specs.View.{chunk_of};
 ghost use Rattle.containers.specs.Base.{base};
 ghost use Rattle.meaning.specs.Meaning.{ChunkOf, Resolves};
 ghost use Rattle.interp.specs.Edits.{EditsContainer};
+ghost use Rattle.interp.specs.Keeps.{Keeps};
 
 use crate::expr::number_value;
 use crate::reference::meet_part;
@@ -30,8 +31,7 @@ pub(crate) fn pieces<E: External>(
     requires deep { chunk_depth (chunk_of chunk.now) < max_depth }
     requires open { IsSome (base world.old.history).start }
     ensures meaning { ChunkOf world.old.history run.old frame.now nested (chunk_of chunk.now) result world.new.history run.new }
-    ensures fewer { run.new.left ≤ run.old.left }
-    ensures base { base world.new.history ≡ base world.old.history }
+    ensures keeps { Keeps world.old.history run.old world.new.history run.new }
 {
     match chunk {
         Chunk::Piece(kind, index) => {
@@ -61,14 +61,13 @@ pub(crate) fn resolve<'a, E: External>(
     requires deep { container_depth container.now < max_depth }
     requires open { IsSome (base world.old.history).start }
     ensures meaning { Resolves world.old.history run.old frame.now nested container.now result world.new.history run.new }
-    ensures fewer { run.new.left ≤ run.old.left }
-    ensures base { base world.new.history ≡ base world.old.history }
+    ensures keeps { Keeps world.old.history run.old world.new.history run.new }
 {
     match container.kind() {
-        ContainerKind::Variable(name) => Ok(variable_place(run.alloc(), world, frame, name)),
+        ContainerKind::Variable(name) => Ok(variable_place(world, run, frame, name)),
         ContainerKind::Field(part) => {
             let referent = meet_part(world, run, frame, nested, part)?;
-            field_place(run.alloc(), world, frame, referent)
+            field_place(world, run, frame, referent)
         }
         ContainerKind::Chunk(chunk, inner) => {
             let pieces = pieces(world, run, frame, nested, chunk)?;
@@ -93,16 +92,13 @@ pub(crate) fn edit_container<E: External>(
     requires deep { container_depth container.now < max_depth }
     requires open { IsSome (base world.old.history).start }
     ensures meaning { EditsContainer world.old.history run.old frame.old nested container.now change result world.new.history run.new frame.new }
-    ensures fewer { run.new.left ≤ run.old.left }
-    ensures base { base world.new.history ≡ base world.old.history }
+    ensures keeps { Keeps world.old.history run.old world.new.history run.new }
 {
     match container.kind() {
-        ContainerKind::Variable(name) => {
-            edit_variable(run.alloc(), run.delimiter(), world, frame, name, change)
-        }
+        ContainerKind::Variable(name) => { edit_variable(world, run, frame, name, change) }
         _ => {
             let place = resolve(world, run, frame, nested, container)?;
-            edit(run.alloc(), run.delimiter(), world, frame, place, change)
+            edit(world, run, frame, place, change)
         }
     }
 }

@@ -6,8 +6,9 @@ ghost use Rattle.ht_tree.specs.StatementView.{destination_of};
 ghost use Rattle.ht_tree.specs.View.{owner_of, part_of, ref_of, selector_of, which_of};
 ghost use Rattle.containers.specs.Base.{base};
 ghost use Rattle.meaning.specs.Meaning.{Leads, Meets, Owns, PartMet, Picks, Seeks};
+ghost use Rattle.interp.specs.Keeps.{Keeps};
 
-use crate::expr::eval;
+use crate::expr::eval_text;
 use change_journal::World;
 use externals::External;
 use ht_grammar::Layer;
@@ -34,16 +35,15 @@ pub(crate) fn pick<E: External>(
     requires deep { which_depth (which_of which.now) < max_depth }
     requires open { IsSome (base world.old.history).start }
     ensures meaning { Picks world.old.history run.old frame.now nested (which_of which.now) result world.new.history run.new }
-    ensures fewer { run.new.left ≤ run.old.left }
-    ensures base { base world.new.history ≡ base world.old.history }
+    ensures keeps { Keeps world.old.history run.old world.new.history run.new }
 {
     match which {
         Which::ById(id) => {
-            let id = eval(world, run, frame, nested, id)?.into_text(run.alloc())?;
+            let id = eval_text(world, run, frame, nested, id)?;
             Ok(Pick::ById(id))
         }
         Which::ByText(text) => {
-            let text = eval(world, run, frame, nested, text)?.into_text(run.alloc())?;
+            let text = eval_text(world, run, frame, nested, text)?;
             Ok(Pick::ByText(text))
         }
     }
@@ -63,8 +63,7 @@ pub(crate) fn seek<E: External>(
     requires deep { selector_depth (selector_of selector.now) < max_depth }
     requires open { IsSome (base world.old.history).start }
     ensures meaning { Seeks world.old.history run.old frame.now nested (selector_of selector.now) result world.new.history run.new }
-    ensures fewer { run.new.left ≤ run.old.left }
-    ensures base { base world.new.history ≡ base world.old.history }
+    ensures keeps { Keeps world.old.history run.old world.new.history run.new }
 {
     match selector {
         Selector::This => Ok(Sought::This),
@@ -90,8 +89,7 @@ pub(crate) fn scope<E: External>(
     requires deep { owner_depth (owner_of owner.now) < max_depth }
     requires open { IsSome (base world.old.history).start }
     ensures meaning { Owns world.old.history run.old frame.now nested layer (owner_of owner.now) result world.new.history run.new }
-    ensures fewer { run.new.left ≤ run.old.left }
-    ensures base { base world.new.history ≡ base world.old.history }
+    ensures keeps { Keeps world.old.history run.old world.new.history run.new }
 {
     match owner {
         Owner::NoOwner => Ok(scope_here(world, layer)),
@@ -120,8 +118,7 @@ pub(crate) fn meet_part<E: External>(
     requires deep { part_depth (part_of part.now) ≤ max_depth }
     requires open { IsSome (base world.old.history).start }
     ensures meaning { PartMet world.old.history run.old frame.now nested (part_of part.now) result world.new.history run.new }
-    ensures fewer { run.new.left ≤ run.old.left }
-    ensures base { base world.new.history ≡ base world.old.history }
+    ensures keeps { Keeps world.old.history run.old world.new.history run.new }
 {
     match part {
         Part::Plain(layer, kind, which, owner) => {
@@ -150,8 +147,7 @@ pub(crate) fn meet<E: External>(
     requires deep { ref_depth (ref_of reference.now) ≤ max_depth }
     requires open { IsSome (base world.old.history).start }
     ensures meaning { Meets world.old.history run.old frame.now nested (ref_of reference.now) result world.new.history run.new }
-    ensures fewer { run.new.left ≤ run.old.left }
-    ensures base { base world.new.history ≡ base world.old.history }
+    ensures keeps { Keeps world.old.history run.old world.new.history run.new }
 {
     match reference {
         Ref::Me => object_there(world, frame.me),
@@ -183,8 +179,7 @@ pub(crate) fn lead<E: External>(
     requires deep { destination_depth (destination_of destination.now) ≤ max_depth }
     requires open { IsSome (base world.old.history).start }
     ensures meaning { Leads world.old.history run.old frame.now nested (destination_of destination.now) result world.new.history run.new }
-    ensures fewer { run.new.left ≤ run.old.left }
-    ensures base { base world.new.history ≡ base world.old.history }
+    ensures keeps { Keeps world.old.history run.old world.new.history run.new }
 {
     match destination {
         Destination::ToCard(selector) => {

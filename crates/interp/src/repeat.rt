@@ -6,6 +6,7 @@ ghost use Rattle.ht_grammar.specs.Depth.{depth, head_depth, stmts_depth, max_dep
 ghost use Rattle.ht_tree.specs.StatementView.{head_of, stmts_of};
 ghost use Rattle.containers.specs.Base.{base};
 ghost use Rattle.meaning.specs.Meaning.{Bounds, Counts, Endless, Form, While};
+ghost use Rattle.interp.specs.Keeps.{Keeps};
 
 use crate::expr::{eval, number_value, truth_value};
 use crate::stmt::run_block;
@@ -34,8 +35,7 @@ pub(crate) fn repeat<E: External>(
     requires lines { stmts_depth (stmts_of lines.now) < max_depth }
     requires open { IsSome (base world.old.history).start }
     ensures meaning { Form world.old.history run.old frame.old nested (stm.repeat (head_of head.now) (stmts_of lines.now)) result world.new.history run.new frame.new }
-    ensures fewer { run.new.left ≤ run.old.left }
-    ensures base { base world.new.history ≡ base world.old.history }
+    ensures keeps { Keeps world.old.history run.old world.new.history run.new }
 {
     match head {
         Head::Forever => repeat_forever(world, run, frame, nested, lines),
@@ -81,8 +81,7 @@ pub(crate) fn bounds<E: External>(
     requires to { depth to.now < max_depth }
     requires open { IsSome (base world.old.history).start }
     ensures meaning { Bounds world.old.history run.old frame.now nested from.now to.now is_down result world.new.history run.new }
-    ensures fewer { run.new.left ≤ run.old.left }
-    ensures base { base world.new.history ≡ base world.old.history }
+    ensures keeps { Keeps world.old.history run.old world.new.history run.new }
 {
     let first = eval(world, run, frame, nested, from)?;
     let last = eval(world, run, frame, nested, to)?;
@@ -104,8 +103,7 @@ pub(crate) fn repeat_forever<E: External>(
     requires lines { stmts_depth (stmts_of lines.now) < max_depth }
     requires open { IsSome (base world.old.history).start }
     ensures meaning { Endless world.old.history run.old frame.old nested (stmts_of lines.now) result world.new.history run.new frame.new }
-    ensures fewer { run.new.left ≤ run.old.left }
-    ensures base { base world.new.history ≡ base world.old.history }
+    ensures keeps { Keeps world.old.history run.old world.new.history run.new }
 {
     loop {
         run.step()?;
@@ -134,8 +132,7 @@ pub(crate) fn repeat_while<E: External>(
     requires lines { stmts_depth (stmts_of lines.now) < max_depth }
     requires open { IsSome (base world.old.history).start }
     ensures meaning { While world.old.history run.old frame.old nested wanted condition.now (stmts_of lines.now) result world.new.history run.new frame.new }
-    ensures fewer { run.new.left ≤ run.old.left }
-    ensures base { base world.new.history ≡ base world.old.history }
+    ensures keeps { Keeps world.old.history run.old world.new.history run.new }
 {
     loop {
         run.step()?;
@@ -167,8 +164,7 @@ pub(crate) fn turns<E: External>(
     requires lines { stmts_depth (stmts_of lines.now) < max_depth }
     requires open { IsSome (base world.old.history).start }
     ensures meaning { Counts world.old.history run.old frame.old nested (option_copied variable.entry) counter (stmts_of lines.now) result world.new.history run.new frame.new }
-    ensures fewer { run.new.left ≤ run.old.left }
-    ensures base { base world.new.history ≡ base world.old.history }
+    ensures keeps { Keeps world.old.history run.old world.new.history run.new }
 {
     let mut turn = counter;
     loop {
@@ -176,7 +172,7 @@ pub(crate) fn turns<E: External>(
         if turn.is_over() {
             return Ok(How::Next);
         }
-        assign(run.alloc(), run.delimiter(), world, frame, variable, &turn)?;
+        assign(world, run, frame, variable, &turn)?;
         let how = run_block(world, run, frame, nested, lines)?;
         if let Some(how) = leaves_repeat(how) {
             return Ok(how);

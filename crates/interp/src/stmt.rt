@@ -7,8 +7,9 @@ ghost use Rattle.ht_tree.specs.StatementView.{destination_of, stmts_of};
 ghost use Rattle.ht_tree.specs.View.{chunk_of, ref_of};
 ghost use Rattle.containers.specs.Base.{base};
 ghost use Rattle.meaning.specs.Meaning.{Alters, Block, Form};
+ghost use Rattle.interp.specs.Keeps.{Keeps};
 
-use crate::expr::{eval, truth_value};
+use crate::expr::{eval, eval_text, truth_value};
 use crate::message::calls;
 use crate::pieces::{edit_container, pieces, resolve};
 use crate::reference::{lead, meet};
@@ -18,7 +19,7 @@ use change_journal::World;
 use containers::Edit;
 use externals::External;
 use ht_grammar::{HandlerKind, RunProp};
-use ht_tree::{Chunk, Container, Destination, Expr, Names, Ref, Stmt, StmtKind};
+use ht_tree::{Chunk, Container, Destination, Expr, Ref, Stmt, StmtKind};
 use ht_values::{Fault, Op, Prop, Where};
 use meaning::{Budget, Frame, How, Stop};
 use primitives::places::{declare_all, edit, put_into_it, set_property};
@@ -39,8 +40,7 @@ pub(crate) fn run_block<E: External>(
     requires open { IsSome (base world.old.history).start }
     ensures meaning { Block world.old.history run.old frame.old nested (stmts_of lines.now) result world.new.history run.new frame.new }
     ensures passes { IfOk result (λ how. how ≡ How.Pass → run.new.left < run.old.left) }
-    ensures fewer { run.new.left ≤ run.old.left }
-    ensures base { base world.new.history ≡ base world.old.history }
+    ensures keeps { Keeps world.old.history run.old world.new.history run.new }
 {
     for stmt in lines {
         run.step()?;
@@ -67,8 +67,7 @@ pub(crate) fn run_stmt<E: External>(
     requires deep { stmt_depth stmt.now ≤ max_depth }
     requires open { IsSome (base world.old.history).start }
     ensures meaning { Form world.old.history run.old frame.old nested stmt.now result world.new.history run.new frame.new }
-    ensures fewer { run.new.left ≤ run.old.left }
-    ensures base { base world.new.history ≡ base world.old.history }
+    ensures keeps { Keeps world.old.history run.old world.new.history run.new }
 {
     match stmt.kind() {
         StmtKind::Put(value) => show(world, run, frame, nested, value),
@@ -120,13 +119,16 @@ pub(crate) fn run_stmt<E: External>(
         StmtKind::Do(text) => run_do(world, run, frame, nested, text),
         StmtKind::Send(text, reference) => run_send(world, run, frame, nested, text, reference),
         StmtKind::Go(destination) => run_go(world, run, frame, nested, destination),
-        StmtKind::Global(names) => globals(world, run, frame, nested, names),
+        StmtKind::Global(names) => {
+            declare_all(world, run, frame, &names.items)?;
+            Ok(How::Next)
+        }
         StmtKind::ExitRepeat => Ok(How::ExitRepeat),
         StmtKind::NextRepeat => Ok(How::NextRepeat),
         StmtKind::ExitToHyperCard => Err(Stop::Exited),
         StmtKind::Exit(_) => Ok(How::Exit),
         StmtKind::Pass(_) => Ok(How::Pass),
-        StmtKind::ReturnNothing => Ok(How::Returns(empty(run.alloc()))),
+        StmtKind::ReturnNothing => Ok(How::Returns(empty(run))),
         StmtKind::ReturnValue(value) => {
             let value = eval(world, run, frame, nested, value)?;
             Ok(How::Returns(value))
@@ -175,8 +177,7 @@ pub(crate) fn show<E: External>(
     requires deep { depth value.now < max_depth }
     requires open { IsSome (base world.old.history).start }
     ensures meaning { Form world.old.history run.old frame.old nested (stm.put value.now) result world.new.history run.new frame.new }
-    ensures fewer { run.new.left ≤ run.old.left }
-    ensures base { base world.new.history ≡ base world.old.history }
+    ensures keeps { Keeps world.old.history run.old world.new.history run.new }
 {
     let value = eval(world, run, frame, nested, value)?;
     run.show(&value)?;
@@ -201,8 +202,7 @@ pub(crate) fn put<E: External>(
     requires container { container_depth container.now < max_depth }
     requires open { IsSome (base world.old.history).start }
     ensures meaning { Form world.old.history run.old frame.old nested (stm.put_in place value.now container.now) result world.new.history run.new frame.new }
-    ensures fewer { run.new.left ≤ run.old.left }
-    ensures base { base world.new.history ≡ base world.old.history }
+    ensures keeps { Keeps world.old.history run.old world.new.history run.new }
 {
     let new = eval(world, run, frame, nested, value)?;
     let put = Edit::Put(place, new);
@@ -225,11 +225,10 @@ pub(crate) fn get<E: External>(
     requires deep { depth value.now < max_depth }
     requires open { IsSome (base world.old.history).start }
     ensures meaning { Form world.old.history run.old frame.old nested (stm.get value.now) result world.new.history run.new frame.new }
-    ensures fewer { run.new.left ≤ run.old.left }
-    ensures base { base world.new.history ≡ base world.old.history }
+    ensures keeps { Keeps world.old.history run.old world.new.history run.new }
 {
     let new = eval(world, run, frame, nested, value)?;
-    put_into_it(run.alloc(), run.delimiter(), world, frame, new)?;
+    put_into_it(world, run, frame, new)?;
     Ok(How::Next)
 }
 
@@ -251,10 +250,9 @@ pub(crate) fn set<E: External>(
     requires value { depth value.now < max_depth }
     requires open { IsSome (base world.old.history).start }
     ensures meaning { Form world.old.history run.old frame.old nested (stm.set property (ref_of reference.now) value.now) result world.new.history run.new frame.new }
-    ensures fewer { run.new.left ≤ run.old.left }
-    ensures base { base world.new.history ≡ base world.old.history }
+    ensures keeps { Keeps world.old.history run.old world.new.history run.new }
 {
-    let value = eval(world, run, frame, nested, value)?.into_text(run.alloc())?;
+    let value = eval_text(world, run, frame, nested, value)?;
     let referent = meet(world, run, frame, nested, reference)?;
     set_property(world, referent, property, value)?;
     Ok(How::Next)
@@ -276,10 +274,9 @@ pub(crate) fn set_run<E: External>(
     requires deep { depth value.now < max_depth }
     requires open { IsSome (base world.old.history).start }
     ensures meaning { Form world.old.history run.old frame.old nested (stm.set_run property value.now) result world.new.history run.new frame.new }
-    ensures fewer { run.new.left ≤ run.old.left }
-    ensures base { base world.new.history ≡ base world.old.history }
+    ensures keeps { Keeps world.old.history run.old world.new.history run.new }
 {
-    let value = eval(world, run, frame, nested, value)?.into_text(run.alloc())?;
+    let value = eval_text(world, run, frame, nested, value)?;
     match run.set_property(property, &value) {
         Ok(()) => Ok(How::Next),
         Err(fault) => Err(Stop::Fault(fault)),
@@ -304,8 +301,7 @@ pub(crate) fn alter<E: External>(
     requires container { container_depth container.now < max_depth }
     requires open { IsSome (base world.old.history).start }
     ensures meaning { Alters world.old.history run.old frame.old nested op value.now container.now result world.new.history run.new frame.new }
-    ensures fewer { run.new.left ≤ run.old.left }
-    ensures base { base world.new.history ≡ base world.old.history }
+    ensures keeps { Keeps world.old.history run.old world.new.history run.new }
 {
     let operand = eval(world, run, frame, nested, value)?;
     let change = Edit::Alter(op, operand);
@@ -330,12 +326,11 @@ pub(crate) fn delete<E: External>(
     requires container { container_depth container.now < max_depth }
     requires open { IsSome (base world.old.history).start }
     ensures meaning { Form world.old.history run.old frame.old nested (stm.delete (chunk_of chunk.now) container.now) result world.new.history run.new frame.new }
-    ensures fewer { run.new.left ≤ run.old.left }
-    ensures base { base world.new.history ≡ base world.old.history }
+    ensures keeps { Keeps world.old.history run.old world.new.history run.new }
 {
     let pieces = pieces(world, run, frame, nested, chunk)?;
     let to = resolve(world, run, frame, nested, container)?.with(pieces)?;
-    edit(run.alloc(), run.delimiter(), world, frame, to, Edit::Delete)?;
+    edit(world, run, frame, to, Edit::Delete)?;
     Ok(How::Next)
 }
 
@@ -354,14 +349,13 @@ pub(crate) fn run_do<E: External>(
     requires deep { depth text.now < max_depth }
     requires open { IsSome (base world.old.history).start }
     ensures meaning { Form world.old.history run.old frame.old nested (stm.do_ text.now) result world.new.history run.new frame.new }
-    ensures fewer { run.new.left ≤ run.old.left }
-    ensures base { base world.new.history ≡ base world.old.history }
+    ensures keeps { Keeps world.old.history run.old world.new.history run.new }
 {
-    let text = eval(world, run, frame, nested, text)?.into_text(run.alloc())?;
+    let text = eval_text(world, run, frame, nested, text)?;
     if nested == 100 {
         return Err(Stop::Fault(Fault::TooDeep));
     }
-    let lines = lines(run.alloc(), &text)?;
+    let lines = lines(run, &text)?;
     let _depth = lines.depth();
     run_block(world, run, frame, nested + 1, &lines.items)
 }
@@ -383,12 +377,11 @@ pub(crate) fn run_send<E: External>(
     requires reference { ref_depth (ref_of reference.now) < max_depth }
     requires open { IsSome (base world.old.history).start }
     ensures meaning { Form world.old.history run.old frame.old nested (stm.send text.now (ref_of reference.now)) result world.new.history run.new frame.new }
-    ensures fewer { run.new.left ≤ run.old.left }
-    ensures base { base world.new.history ≡ base world.old.history }
+    ensures keeps { Keeps world.old.history run.old world.new.history run.new }
 {
-    let text = eval(world, run, frame, nested, text)?.into_text(run.alloc())?;
+    let text = eval_text(world, run, frame, nested, text)?;
     let referent = meet(world, run, frame, nested, reference)?;
-    let message = message(run.alloc(), &text)?;
+    let message = message(run, &text)?;
     let _depth = message.depth();
     let _ = calls(
         world,
@@ -418,30 +411,10 @@ pub(crate) fn run_go<E: External>(
     requires deep { destination_depth (destination_of destination.now) ≤ max_depth }
     requires open { IsSome (base world.old.history).start }
     ensures meaning { Form world.old.history run.old frame.old nested (stm.go (destination_of destination.now)) result world.new.history run.new frame.new }
-    ensures fewer { run.new.left ≤ run.old.left }
-    ensures base { base world.new.history ≡ base world.old.history }
+    ensures keeps { Keeps world.old.history run.old world.new.history run.new }
 {
     let card = lead(world, run, frame, nested, destination)?;
     let _ = go(world, run, frame, nested, card)?;
-    Ok(How::Next)
-}
-
-/// `global`: names mean globals from here on.
-#[tactic(auto, using(meaning::proofs::Rules::form_global_rules))]
-#[inline(never)]
-pub(crate) fn globals<E: External>(
-    world: &mut World<E>,
-    run: &mut Budget,
-    frame: &mut Frame,
-    nested: u32,
-    names: &Names,
-) -> Result<How, Stop>
-    requires open { IsSome (base world.old.history).start }
-    ensures meaning { Form world.old.history run.old frame.old nested (stm.global names.now.items.items) result world.new.history run.new frame.new }
-    ensures fewer { run.new.left ≤ run.old.left }
-    ensures base { base world.new.history ≡ base world.old.history }
-{
-    declare_all(run.alloc(), world, frame, &names.items)?;
     Ok(How::Next)
 }
 
@@ -463,8 +436,7 @@ pub(crate) fn when<E: External>(
     requires otherwise { stmts_depth (stmts_of otherwise.now) < max_depth }
     requires open { IsSome (base world.old.history).start }
     ensures meaning { Form world.old.history run.old frame.old nested (stm.when condition.now (stmts_of lines.now) (stmts_of otherwise.now)) result world.new.history run.new frame.new }
-    ensures fewer { run.new.left ≤ run.old.left }
-    ensures base { base world.new.history ≡ base world.old.history }
+    ensures keeps { Keeps world.old.history run.old world.new.history run.new }
 {
     if truth_value(world, run, frame, nested, condition)? {
         run_block(world, run, frame, nested, lines)

@@ -3,6 +3,7 @@
 ghost use Rattle.std.specs.Prelude.{◌≡◌, ◌≤◌, IsSome};
 ghost use Rattle.containers.specs.Base.{base};
 ghost use Rattle.meaning.specs.Meaning.{Goes, Menu, System, Systems};
+ghost use Rattle.interp.specs.Keeps.{Keeps};
 
 use crate::message::send;
 use change_journal::{Change, World};
@@ -34,11 +35,10 @@ pub(crate) fn system<E: External>(
     requires nested { nested ≤ 100 }
     requires open { IsSome (base world.old.history).start }
     ensures meaning { System world.old.history run.old frame.now nested object message result world.new.history run.new }
-    ensures fewer { run.new.left ≤ run.old.left }
-    ensures base { base world.new.history ≡ base world.old.history }
+    ensures keeps { Keeps world.old.history run.old world.new.history run.new }
 {
     if run.lock_messages() {
-        return Ok(empty(run.alloc()));
+        return Ok(empty(run));
     }
     let name = message.text(run.alloc())?;
     let values = Arguments::new(run.alloc());
@@ -67,13 +67,12 @@ pub(crate) fn systems<E: External>(
     requires nested { nested ≤ 100 }
     requires open { IsSome (base world.old.history).start }
     ensures meaning { Systems world.old.history run.old frame.now nested messages.now result world.new.history run.new }
-    ensures fewer { run.new.left ≤ run.old.left }
-    ensures base { base world.new.history ≡ base world.old.history }
+    ensures keeps { Keeps world.old.history run.old world.new.history run.new }
 {
     for message in messages {
         let _ = system(world, run, frame, nested, world.current(), *message)?;
     }
-    Ok(empty(run.alloc()))
+    Ok(empty(run))
 }
 
 /// `go` to a card.
@@ -89,11 +88,10 @@ pub(crate) fn go<E: External>(
     requires nested { nested ≤ 100 }
     requires open { IsSome (base world.old.history).start }
     ensures meaning { Goes world.old.history run.old frame.now nested card result world.new.history run.new }
-    ensures fewer { run.new.left ≤ run.old.left }
-    ensures base { base world.new.history ≡ base world.old.history }
+    ensures keeps { Keeps world.old.history run.old world.new.history run.new }
 {
     if is_current(world, card) {
-        return Ok(empty(run.alloc()));
+        return Ok(empty(run));
     }
     let differs = has_other_background(world, card);
     let _ = systems(world, run, frame, nested, closing(differs))?;
@@ -117,8 +115,7 @@ pub(crate) fn menu<E: External>(
     requires nested { nested ≤ 100 }
     requires open { IsSome (base world.old.history).start }
     ensures meaning { Menu world.old.history run.old frame.now nested item result world.new.history run.new }
-    ensures fewer { run.new.left ≤ run.old.left }
-    ensures base { base world.new.history ≡ base world.old.history }
+    ensures keeps { Keeps world.old.history run.old world.new.history run.new }
 {
     match item {
         Item::NewCard => {
@@ -133,7 +130,7 @@ pub(crate) fn menu<E: External>(
         }
         Item::NewPart(kind) => {
             add(world, Change::NewPart(new_layer(world, run), kind))?;
-            Ok(empty(run.alloc()))
+            Ok(empty(run))
         }
         Item::DeleteCard => {
             let background = home_of(world.stack(), world.current());

@@ -1,2 +1,3 @@
+pub mod Atoms
 pub mod Operands
 pub mod Views

@@ -3,6 +3,7 @@
 #![tactic(auto)]
 
 pub mod arguments;
+pub mod atoms;
 pub mod messages;
 pub mod objects;
 pub mod operands;

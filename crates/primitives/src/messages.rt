@@ -24,14 +24,14 @@ use ht_values::{Failure, Fault, Name, PartKind, Text, Value};
 use meaning::{Budget, Frame, How, Item, Stop};
 use msg_path::{FoundHandler, external_named, first_handler, is_system_message};
 use object_table::Id;
-use std::alloc::{AllocError, Global};
+use std::alloc::AllocError;
 
 /// The first handler of a kind and a name on a path; `None` where there is none. A script on the way that isn't in the grammar
 /// is the fault of syntax.
 #[tactic(auto, using(meaning::proofs::Rules::finds_rules))]
 pub fn find<E: External>(
-    alloc: Global,
     world: &mut World<E>,
+    run: &Budget,
     path: &[Id],
     kind: HandlerKind,
     name: &Text,
@@ -39,7 +39,7 @@ pub fn find<E: External>(
     ensures found { Finds world.old.history.now.stack path.now kind name.now result }
     ensures world { world.new ≡ world.old }
 {
-    match first_handler(alloc, world, path, kind, name) {
+    match first_handler(run.alloc(), world, path, kind, name) {
         Ok(found) => Ok(found),
         Err(Failure::Fault(fault)) => Err(Stop::Fault(fault)),
         Err(Failure::Memory) => Err(Stop::Memory),
@@ -48,16 +48,16 @@ pub fn find<E: External>(
 
 /// The frame of a handler, in which its parameters have the arguments.
 pub fn handler_frame(
-    alloc: Global,
+    run: &Budget,
     found: &FoundHandler,
     target: Id,
     values: &Arguments,
 ) -> Result<Frame, AllocError>
     ensures { IfOk result (λ f. f ≡ frame_of_handler found.now.object target (parameters_of found.now.handler) values.now) }
 {
-    let mut frame = Frame::of_handler(alloc, found.object(), target);
+    let mut frame = Frame::of_handler(run.alloc(), found.object(), target);
     bind(
-        alloc,
+        run,
         &mut frame,
         &found.handler().parameters.items,
         values.as_slice(),
@@ -66,24 +66,21 @@ pub fn handler_frame(
 }
 
 /// Gives parameters their arguments.
-fn bind(
-    alloc: Global,
-    frame: &mut Frame,
-    names: &[Name],
-    values: &[Value],
-) -> Result<(), AllocError>
+fn bind(run: &Budget, frame: &mut Frame, names: &[Name], values: &[Value]) -> Result<(), AllocError>
     ensures { OnOk result (frame.new ≡ record frame.old { variables = bound_to names.now values.now frame.old.variables }) }
 {
     match (names, values) {
         ([], _) => Ok(()),
         ([name, names @ ..], []) => {
-            frame.variables.set(alloc, name.text(), Some(empty(alloc)))?;
-            bind(alloc, frame, names, &[])
+            frame
+                .variables
+                .set(run.alloc(), name.text(), Some(empty(run)))?;
+            bind(run, frame, names, &[])
         }
         ([name, names @ ..], [value, values @ ..]) => {
-            let value = value.try_clone(alloc)?;
-            frame.variables.set(alloc, name.text(), Some(value))?;
-            bind(alloc, frame, names, values)
+            let value = value.try_clone(run.alloc())?;
+            frame.variables.set(run.alloc(), name.text(), Some(value))?;
+            bind(run, frame, names, values)
         }
     }
 }
@@ -96,7 +93,7 @@ pub fn returned(run: &mut Budget, kind: HandlerKind, value: Value) -> Value
     match kind {
         HandlerKind::Command => {
             run.set_result(value);
-            empty(run.alloc())
+            empty(run)
         }
         HandlerKind::Function => value,
     }
@@ -112,7 +109,7 @@ pub fn outcome(run: &mut Budget, kind: HandlerKind, how: How) -> Option<Value>
     match how {
         How::Pass => None,
         How::Returns(value) => Some(returned(run, kind, value)),
-        How::Next | How::Exit | How::ExitRepeat | How::NextRepeat => Some(empty(run.alloc())),
+        How::Next | How::Exit | How::ExitRepeat | How::NextRepeat => Some(empty(run)),
     }
 }
 
@@ -140,12 +137,12 @@ pub fn is_ignored(kind: HandlerKind, name: &Text) -> bool
 }
 
 /// The item of the menu that the arguments of `doMenu` name, in any case; `None` where they don't name just one.
-pub fn item_named(alloc: Global, values: &Arguments) -> Result<Option<Item>, AllocError>
+pub fn item_named(run: &Budget, values: &Arguments) -> Result<Option<Item>, AllocError>
     ensures { IfOk result (λ i. i ≡ item_by_name values.now) }
 {
     match values.as_slice() {
         [value] => {
-            let name = value.spelled(alloc)?;
+            let name = value.spelled(run.alloc())?;
             Ok(item(name.text().as_slice()))
         }
         _ => Ok(None),
@@ -153,20 +150,20 @@ pub fn item_named(alloc: Global, values: &Arguments) -> Result<Option<Item>, All
 }
 
 /// The text of the one argument, where there is just one.
-pub fn only_text(alloc: Global, values: &Arguments) -> Result<Option<Text>, AllocError>
+pub fn only_text(run: &Budget, values: &Arguments) -> Result<Option<Text>, AllocError>
     ensures { IfOk result (λ t. t ≡ only_of values.now) }
 {
     match values.only() {
-        Some(value) => Ok(Some(copied_text(alloc, value)?)),
+        Some(value) => Ok(Some(copied_text(run, value)?)),
         None => Ok(None),
     }
 }
 
 /// The text of a value, as one of its own.
-fn copied_text(alloc: Global, value: &Value) -> Result<Text, AllocError>
+fn copied_text(run: &Budget, value: &Value) -> Result<Text, AllocError>
     ensures { IfOk result (λ t. t ≡ value.now) }
 {
-    value.try_clone(alloc)?.into_text(alloc)
+    value.try_clone(run.alloc())?.into_text(run.alloc())
 }
 
 /// The item of the menu of that name, in any case.
@@ -189,12 +186,12 @@ fn item(name: &[u8]) -> Option<Item>
 }
 
 /// What an external is told as a conversation begins.
-pub fn start(alloc: Global, values: &Arguments) -> Result<Input, AllocError>
+pub fn start(run: &Budget, values: &Arguments) -> Result<Input, AllocError>
     ensures { IfOk result (λ i. i ≡ input.Start values.now) }
 {
-    let mut texts = Texts::new(alloc);
+    let mut texts = Texts::new(run.alloc());
     for value in values.as_slice() {
-        push(&mut texts, copied_text(alloc, value)?)?;
+        push(&mut texts, copied_text(run, value)?)?;
     }
     Ok(Input::Start(texts))
 }

@@ -25,19 +25,19 @@ use object_references::{
 };
 use object_table::{Id, LayerId};
 use properties::get;
-use std::alloc::{AllocError, Global};
+use std::alloc::AllocError;
 use structural_changes::home_of;
 
 /// The name of the object to which the message was sent.
 #[tactic(auto, using(meaning::proofs::Rules::yields_rules))]
-pub fn target_name<E: External>(
-    alloc: Global,
+pub(crate) fn target_name<E: External>(
     world: &World<E>,
+    run: &Budget,
     frame: &Frame,
 ) -> Result<Value, Stop>
     ensures { Yields (settings.name_of world.now.history.now.stack world.now.history.now.current frame.now.target) result }
 {
-    match name_of(alloc, world.stack(), world.current(), frame.target) {
+    match name_of(run.alloc(), world.stack(), world.current(), frame.target) {
         Ok(name) => Ok(Value::of_text(name)),
         Err(Failure::Fault(fault)) => Err(Stop::Fault(fault)),
         Err(Failure::Memory) => Err(Stop::Memory),
@@ -47,14 +47,14 @@ pub fn target_name<E: External>(
 /// A property of an object, or the fault in its place.
 #[tactic(auto, using(meaning::proofs::Rules::yields_rules))]
 pub fn property<E: External>(
-    alloc: Global,
     world: &World<E>,
+    run: &Budget,
     object: Referent,
     name: Prop,
 ) -> Result<Value, Stop>
     ensures { Yields (property_text world.now.history.now.stack object.card object.object name) result }
 {
-    match get(alloc, world.stack(), object.card, object.object, name) {
+    match get(run.alloc(), world.stack(), object.card, object.object, name) {
         Ok(text) => Ok(Value::of_text(text)),
         Err(Failure::Fault(fault)) => Err(Stop::Fault(fault)),
         Err(Failure::Memory) => Err(Stop::Memory),
@@ -62,7 +62,11 @@ pub fn property<E: External>(
 }
 
 /// How many parts of a kind there are on the current card or on its background.
-pub fn parts_here<E: External>(world: &World<E>, layer: Option<Layer>, kind: PartKind) -> usize
+pub(crate) fn parts_here<E: External>(
+    world: &World<E>,
+    layer: Option<Layer>,
+    kind: PartKind,
+) -> usize
     ensures { result ≡ length (settings.parts_here world.now.history.now.stack world.now.history.now.current layer kind) }
 {
     let scope = scope_by(world.stack(), layer_meant(layer, kind), world.current());

@@ -15,10 +15,10 @@ use change_journal::World;
 use chunks::{Chunk, count};
 use containers::{Container, Standing, read_name, resolve, standing_in};
 use externals::External;
-use ht_values::{ChunkKind, Fault, Func, Name, Value};
-use meaning::{Frame, Stop};
+use ht_values::{ChunkKind, Fault, Func, Name, Text, Value};
+use meaning::{Budget, Frame, Stop};
 use object_references::Referent;
-use std::alloc::{AllocError, Global};
+use std::alloc::AllocError;
 
 /// What an operand is once all that it computes is computed, before its text is read.
 #[derive(Drop)]
@@ -33,19 +33,19 @@ pub enum Operand<'a> {
 
 /// What stands at an operand, lent; fault 3 where it is a field that keeps no text for its card. It takes no memory.
 fn standing<'a, E: External>(
-    alloc: Global,
     world: &'a World<E>,
+    run: &Budget,
     frame: &'a Frame,
     operand: &'a Operand<'_>,
 ) -> Result<Standing<'a>, Fault>
-    ensures { (delimiter : ℕ) → MatchResult result (λ s. operand_text world.now.history.now frame.now.variables delimiter operand.now ≡ Ok (standing_text s)) (λ e. operand_text world.now.history.now frame.now.variables delimiter operand.now ≡ Err e) }
+    ensures { MatchResult result (λ s. operand_text world.now.history.now frame.now.variables run.now.delimiter operand.now ≡ Ok (standing_text s)) (λ e. operand_text world.now.history.now frame.now.variables run.now.delimiter operand.now ≡ Err e) }
 {
     match operand {
         Operand::Value(value) => Ok(Standing::Value(value)),
         Operand::Name(name) => Ok(read_name(world, &frame.variables, name)),
         Operand::Field(field) => {
             let container = Container::Field(field.object, field.card);
-            let place = resolve(alloc, world, &frame.variables, container)?;
+            let place = resolve(run.alloc(), world, &frame.variables, container)?;
             match standing_in(world, &frame.variables, &place) {
                 Some(standing) => Ok(standing),
                 None => Err(Fault::NoSuchObject),
@@ -56,29 +56,28 @@ fn standing<'a, E: External>(
 
 /// How long a text is, as a value.
 #[tactic(auto, unfolding(ht_values::specs::Functions::built_in))]
-fn length_of(alloc: Global, standing: Standing<'_>) -> Result<Value, AllocError>
+fn length_of(run: &Budget, standing: Standing<'_>) -> Result<Value, AllocError>
     ensures { IfOk result (λ v. built_in_of Func.Length (standing_text standing.entry ∷ []) ≡ Ok v) }
 {
     let length = match standing {
         Standing::Text(text) => text.len(),
-        Standing::Value(value) => value.spelled(alloc)?.text().len(),
+        Standing::Value(value) => value.spelled(run.alloc())?.text().len(),
     };
     Ok(Value::of_number(length as i64))
 }
 
 /// How many pieces of a kind a text has, as a value.
-fn count_in(
-    alloc: Global,
-    standing: Standing<'_>,
-    kind: ChunkKind,
-    delimiter: u8,
-) -> Result<Value, AllocError>
-    ensures { IfOk result (λ v. v ≡ numeral_of (pos (count_of delimiter kind (standing_text standing.entry)))) }
+fn count_in(run: &Budget, standing: Standing<'_>, kind: ChunkKind) -> Result<Value, AllocError>
+    ensures { IfOk result (λ v. v ≡ numeral_of (pos (count_of run.now.delimiter kind (standing_text standing.entry)))) }
 {
     let number = match standing {
-        Standing::Text(text) => count(text.as_slice(), kind, delimiter),
+        Standing::Text(text) => count(text.as_slice(), kind, run.delimiter()),
         Standing::Value(value) => {
-            count(value.spelled(alloc)?.text().as_slice(), kind, delimiter)
+            count(
+                value.spelled(run.alloc())?.text().as_slice(),
+                kind,
+                run.delimiter(),
+            )
         }
     };
     Ok(Value::of_number(number as i64))
@@ -86,36 +85,47 @@ fn count_in(
 
 /// The value of an operand; fault 3 where it is a field that keeps no text for its card. A name's and a field's are copied.
 #[tactic(auto, using(meaning::proofs::Rules::yields_rules))]
-pub fn operand_value<E: External>(
-    alloc: Global,
+fn operand_value<E: External>(
     world: &World<E>,
+    run: &Budget,
     frame: &Frame,
     operand: Operand<'_>,
-    delimiter: u8,
 ) -> Result<Value, Stop>
-    ensures { Yields (operand_text world.now.history.now frame.now.variables delimiter operand.entry) result }
+    ensures { Yields (operand_text world.now.history.now frame.now.variables run.now.delimiter operand.entry) result }
 {
     match operand {
         Operand::Value(value) => Ok(value),
-        Operand::Name(name) => Ok(variable(alloc, world, frame, name)?),
-        Operand::Field(field) => field_text(alloc, world, frame, delimiter, field),
+        Operand::Name(name) => Ok(variable(world, run, frame, name)?),
+        Operand::Field(field) => field_text(world, run, frame, field),
     }
+}
+
+/// The text of an operand, as one of its own; fault 3 where it is a field that keeps no text for its card.
+#[tactic(auto, using(meaning::proofs::Rules::yields_rules))]
+pub fn operand_into_text<E: External>(
+    world: &World<E>,
+    run: &Budget,
+    frame: &Frame,
+    operand: Operand<'_>,
+) -> Result<Text, Stop>
+    ensures { Yields (operand_text world.now.history.now frame.now.variables run.now.delimiter operand.entry) result }
+{
+    Ok(operand_value(world, run, frame, operand)?.into_text(run.alloc())?)
 }
 
 /// Pieces of an operand, which is lent; fault 3 where it is a field that keeps no text for its card.
 #[tactic(auto, using(meaning::proofs::Rules::yields_rules))]
 pub fn operand_part<E: External>(
-    alloc: Global,
     world: &World<E>,
+    run: &Budget,
     frame: &Frame,
     operand: &Operand<'_>,
     pieces: &Chunk,
-    delimiter: u8,
 ) -> Result<Value, Stop>
-    ensures { Yields (and_then (operand_text world.now.history.now frame.now.variables delimiter operand.now) (λ t. Ok (read_pieces delimiter pieces.now t))) result }
+    ensures { Yields (and_then (operand_text world.now.history.now frame.now.variables run.now.delimiter operand.now) (λ t. Ok (read_pieces run.now.delimiter pieces.now t))) result }
 {
-    match standing(alloc, world, frame, operand) {
-        Ok(standing) => Ok(standing.part(alloc, pieces, delimiter)?),
+    match standing(world, run, frame, operand) {
+        Ok(standing) => Ok(standing.part(run.alloc(), pieces, run.delimiter())?),
         Err(fault) => Err(Stop::Fault(fault)),
     }
 }
@@ -123,17 +133,16 @@ pub fn operand_part<E: External>(
 /// How many pieces of a kind an operand has, which is lent; fault 3 where it is a field that keeps no text for its card.
 #[tactic(auto, using(meaning::proofs::Rules::yields_rules))]
 pub fn operand_count<E: External>(
-    alloc: Global,
     world: &World<E>,
+    run: &Budget,
     frame: &Frame,
     operand: &Operand<'_>,
     kind: ChunkKind,
-    delimiter: u8,
 ) -> Result<Value, Stop>
-    ensures { Yields (and_then (operand_text world.now.history.now frame.now.variables delimiter operand.now) (λ t. Ok (numeral_of (pos (count_of delimiter kind t))))) result }
+    ensures { Yields (and_then (operand_text world.now.history.now frame.now.variables run.now.delimiter operand.now) (λ t. Ok (numeral_of (pos (count_of run.now.delimiter kind t))))) result }
 {
-    match standing(alloc, world, frame, operand) {
-        Ok(standing) => Ok(count_in(alloc, standing, kind, delimiter)?),
+    match standing(world, run, frame, operand) {
+        Ok(standing) => Ok(count_in(run, standing, kind)?),
         Err(fault) => Err(Stop::Fault(fault)),
     }
 }
@@ -142,23 +151,22 @@ pub fn operand_count<E: External>(
 /// card. For its length an operand is lent.
 #[tactic(auto, using(meaning::proofs::Rules::yields_rules))]
 pub fn call_of_operand<E: External>(
-    alloc: Global,
     world: &World<E>,
+    run: &Budget,
     frame: &Frame,
     function: Func,
     operand: Operand<'_>,
-    delimiter: u8,
 ) -> Result<Value, Stop>
-    ensures { Yields (and_then (operand_text world.now.history.now frame.now.variables delimiter operand.entry) (λ t. built_in_of function (t ∷ []))) result }
+    ensures { Yields (and_then (operand_text world.now.history.now frame.now.variables run.now.delimiter operand.entry) (λ t. built_in_of function (t ∷ []))) result }
 {
     match function {
-        Func::Length => match standing(alloc, world, frame, &operand) {
-            Ok(standing) => Ok(length_of(alloc, standing)?),
+        Func::Length => match standing(world, run, frame, &operand) {
+            Ok(standing) => Ok(length_of(run, standing)?),
             Err(fault) => Err(Stop::Fault(fault)),
         },
         _ => {
-            let value = operand_value(alloc, world, frame, operand, delimiter)?;
-            call_of_one(alloc, function, value)
+            let value = operand_value(world, run, frame, operand)?;
+            call_of_one(run, function, value)
         }
     }
 }

@@ -64,27 +64,32 @@ pub fn nth_piece(ordinal: Ordinal, kind: ChunkKind) -> Chunk
 }
 
 /// What a name reads.
-pub fn variable<E: External>(
-    alloc: Global,
+pub(crate) fn variable<E: External>(
     world: &World<E>,
+    run: &Budget,
     frame: &Frame,
     name: &Name,
 ) -> Result<Value, AllocError>
     ensures { IfOk result (λ t. t ≡ read_name_of world.now.history.now frame.now.variables name.now) }
 {
-    read_name(world, &frame.variables, name).copied(alloc)
+    read_name(world, &frame.variables, name).copied(run.alloc())
 }
 
 /// The place of a variable.
 pub fn variable_place<'a, E: External>(
-    alloc: Global,
     world: &World<E>,
+    run: &Budget,
     frame: &Frame,
     name: &'a Name,
 ) -> Place<'a>
     ensures { result ≡ place_of_variable frame.now.variables name.now }
 {
-    match resolve(alloc, world, &frame.variables, Container::Variable(name)) {
+    match resolve(
+        run.alloc(),
+        world,
+        &frame.variables,
+        Container::Variable(name),
+    ) {
         Ok(place) => place,
         Err(_) => unreachable!(),
     }
@@ -94,15 +99,15 @@ pub fn variable_place<'a, E: External>(
 /// memory.
 #[tactic(auto, using(meaning::proofs::Rules::yields_rules))]
 pub fn field_place<'a, E: External>(
-    alloc: Global,
     world: &World<E>,
+    run: &Budget,
     frame: &Frame,
     field: Referent,
 ) -> Result<Place<'a>, Stop>
     ensures { Yields (place_of_field world.now.history.now field) result }
 {
     match resolve(
-        alloc,
+        run.alloc(),
         world,
         &frame.variables,
         Container::Field(field.object, field.card),
@@ -115,21 +120,26 @@ pub fn field_place<'a, E: External>(
 /// The text of a field for the card with which it was met; fault 3 where it keeps none.
 #[tactic(auto, using(meaning::proofs::Rules::yields_rules))]
 pub fn field_text<E: External>(
-    alloc: Global,
     world: &World<E>,
+    run: &Budget,
     frame: &Frame,
-    delimiter: u8,
     field: Referent,
 ) -> Result<Value, Stop>
-    ensures { Yields (text_of_field world.now.history.now frame.now.variables delimiter field) result }
+    ensures { Yields (text_of_field world.now.history.now frame.now.variables run.now.delimiter field) result }
 {
     match resolve(
-        alloc,
+        run.alloc(),
         world,
         &frame.variables,
         Container::Field(field.object, field.card),
     ) {
-        Ok(place) => match read(alloc, world, &frame.variables, &place, delimiter) {
+        Ok(place) => match read(
+            run.alloc(),
+            world,
+            &frame.variables,
+            &place,
+            run.delimiter(),
+        ) {
             Ok(value) => Ok(value),
             Err(Failure::Fault(fault)) => Err(Stop::Fault(fault)),
             Err(Failure::Memory) => Err(Stop::Memory),
@@ -141,18 +151,24 @@ pub fn field_text<E: External>(
 /// Edits a container in the open batch. After a fault nothing has changed.
 #[tactic(auto, using(meaning::proofs::Rules::edits_rules))]
 pub fn edit<E: External>(
-    alloc: Global,
-    delimiter: u8,
     world: &mut World<E>,
+    run: &Budget,
     frame: &mut Frame,
     place: Place<'_>,
     edit: Edit,
 ) -> Result<(), Stop>
     requires open { IsSome (base world.old.history).start }
-    ensures meaning { Edits world.old.history frame.old delimiter place.entry edit result world.new.history frame.new }
+    ensures meaning { Edits world.old.history frame.old run.now.delimiter place.entry edit result world.new.history frame.new }
     ensures base { base world.new.history ≡ base world.old.history }
 {
-    match write(alloc, world, &mut frame.variables, place, edit, delimiter) {
+    match write(
+        run.alloc(),
+        world,
+        &mut frame.variables,
+        place,
+        edit,
+        run.delimiter(),
+    ) {
         Ok(()) => Ok(()),
         Err(Failure::Fault(fault)) => Err(Stop::Fault(fault)),
         Err(Failure::Memory) => Err(Stop::Memory),
@@ -162,18 +178,24 @@ pub fn edit<E: External>(
 /// Edits a variable in the open batch. After a fault nothing has changed.
 #[tactic(auto, using(meaning::proofs::Rules::edits_rules))]
 pub fn edit_variable<E: External>(
-    alloc: Global,
-    delimiter: u8,
     world: &mut World<E>,
+    run: &Budget,
     frame: &mut Frame,
     name: &Name,
     edit: Edit,
 ) -> Result<(), Stop>
     requires open { IsSome (base world.old.history).start }
-    ensures meaning { Edits world.old.history frame.old delimiter (place_of_variable frame.old.variables name.now) edit result world.new.history frame.new }
+    ensures meaning { Edits world.old.history frame.old run.now.delimiter (place_of_variable frame.old.variables name.now) edit result world.new.history frame.new }
     ensures base { base world.new.history ≡ base world.old.history }
 {
-    match containers::edit_variable(alloc, world, &mut frame.variables, name, edit, delimiter) {
+    match containers::edit_variable(
+        run.alloc(),
+        world,
+        &mut frame.variables,
+        name,
+        edit,
+        run.delimiter(),
+    ) {
         Ok(()) => Ok(()),
         Err(Failure::Fault(fault)) => Err(Stop::Fault(fault)),
         Err(Failure::Memory) => Err(Stop::Memory),
@@ -183,25 +205,17 @@ pub fn edit_variable<E: External>(
 /// Puts a value into a variable.
 #[tactic(auto, using(meaning::proofs::Rules::edits_rules))]
 fn put_into<E: External>(
-    alloc: Global,
-    delimiter: u8,
     world: &mut World<E>,
+    run: &Budget,
     frame: &mut Frame,
     name: &Name,
     new: Value,
 ) -> Result<(), Stop>
     requires open { IsSome (base world.old.history).start }
-    ensures meaning { Edits world.old.history frame.old delimiter (place_of_variable frame.old.variables name.now) (Put Into new) result world.new.history frame.new }
+    ensures meaning { Edits world.old.history frame.old run.now.delimiter (place_of_variable frame.old.variables name.now) (Put Into new) result world.new.history frame.new }
     ensures base { base world.new.history ≡ base world.old.history }
 {
-    edit_variable(
-        alloc,
-        delimiter,
-        world,
-        frame,
-        name,
-        Edit::Put(Where::Into, new),
-    )
+    edit_variable(world, run, frame, name, Edit::Put(Where::Into, new))
 }
 
 /// `it`.
@@ -214,45 +228,43 @@ fn it(alloc: Global) -> Result<Name, AllocError>
 /// Puts a value into `it`, in the open batch.
 #[tactic(auto, using(meaning::proofs::Rules::edits_rules))]
 pub fn put_into_it<E: External>(
-    alloc: Global,
-    delimiter: u8,
     world: &mut World<E>,
+    run: &Budget,
     frame: &mut Frame,
     new: Value,
 ) -> Result<(), Stop>
     requires open { IsSome (base world.old.history).start }
-    ensures meaning { Edits world.old.history frame.old delimiter (place_of_variable frame.old.variables it_name) (Put Into new) result world.new.history frame.new }
+    ensures meaning { Edits world.old.history frame.old run.now.delimiter (place_of_variable frame.old.variables it_name) (Put Into new) result world.new.history frame.new }
     ensures base { base world.new.history ≡ base world.old.history }
 {
-    let it = it(alloc)?;
-    put_into(alloc, delimiter, world, frame, &it, new)
+    let it = it(run.alloc())?;
+    put_into(world, run, frame, &it, new)
 }
 
 /// Puts the number of a turn into the variable of a repeat, where it has one, in the open batch.
 #[tactic(auto, using(meaning::proofs::Rules::assigns_rules))]
 pub fn assign<E: External>(
-    alloc: Global,
-    delimiter: u8,
     world: &mut World<E>,
+    run: &Budget,
     frame: &mut Frame,
     variable: Option<&Name>,
     turn: &Counter,
 ) -> Result<(), Stop>
     requires open { IsSome (base world.old.history).start }
     requires turns { is_over turn.now ≡ false }
-    ensures meaning { Assigns world.old.history frame.old delimiter (option_copied variable.entry) (numeral_of turn.now.at) result world.new.history frame.new }
+    ensures meaning { Assigns world.old.history frame.old run.now.delimiter (option_copied variable.entry) (numeral_of turn.now.at) result world.new.history frame.new }
     ensures base { base world.new.history ≡ base world.old.history }
 {
     match variable {
-        Some(name) => { put_into(alloc, delimiter, world, frame, name, turn.value()) }
+        Some(name) => put_into(world, run, frame, name, turn.value()),
         None => Ok(()),
     }
 }
 
 /// A name means a global from here on.
 fn declare_one<E: External>(
-    alloc: Global,
     world: &mut World<E>,
+    run: &Budget,
     frame: &mut Frame,
     name: &Name,
 ) -> Result<(), AllocError>
@@ -261,14 +273,14 @@ fn declare_one<E: External>(
     ensures frame { OnOk result (frame.new ≡ record frame.old { variables = frame.new.variables }) }
     ensures base { base world.new.history ≡ base world.old.history }
 {
-    declare(alloc, world, &mut frame.variables, name)
+    declare(run.alloc(), world, &mut frame.variables, name)
 }
 
 /// Names mean globals from here on in this handler.
 #[tactic(auto, using(meaning::proofs::Rules::declares_rules))]
 pub fn declare_all<E: External>(
-    alloc: Global,
     world: &mut World<E>,
+    run: &Budget,
     frame: &mut Frame,
     names: &[Name],
 ) -> Result<(), Stop>
@@ -277,7 +289,7 @@ pub fn declare_all<E: External>(
     ensures base { base world.new.history ≡ base world.old.history }
 {
     for name in names {
-        declare_one(alloc, world, frame, name)?;
+        declare_one(world, run, frame, name)?;
     }
     Ok(())
 }
@@ -320,15 +332,14 @@ pub fn set_property<E: External>(
 #[tactic(auto, using(meaning::proofs::Rules::callsback_setglobal_rules))]
 pub fn set_global<E: External>(
     world: &mut World<E>,
-    run: &mut Budget,
+    run: &Budget,
     nested: u32,
     note: Texts,
     name: Text,
     value: Text,
 ) -> Result<Input, Stop>
     requires open { IsSome (base world.old.history).start }
-    ensures meaning { CallsBack world.old.history run.old nested (ask.SetGlobal note name value) result world.new.history run.new }
-    ensures same { run.new ≡ run.old }
+    ensures meaning { CallsBack world.old.history run.now nested (ask.SetGlobal note name value) result world.new.history run.now }
     ensures base { base world.new.history ≡ base world.old.history }
 {
     if !is_name(name.as_slice()) {
@@ -336,22 +347,15 @@ pub fn set_global<E: External>(
     }
     let name = Name::new(run.alloc(), name)?;
     let mut frame = Frame::typed(run.alloc(), world.current());
-    put_into(
-        run.alloc(),
-        run.delimiter(),
-        world,
-        &mut frame,
-        &name,
-        Value::of_text(value),
-    )?;
+    put_into(world, run, &mut frame, &name, Value::of_text(value))?;
     Ok(Input::Answer(note, Text::new(run.alloc())))
 }
 
 /// The place of the first field of a name, on the current card or on its background.
 #[tactic(auto, using(meaning::proofs::Rules::yields_rules))]
 fn field_named_place<'a, E: External>(
-    alloc: Global,
     world: &World<E>,
+    run: &Budget,
     frame: &Frame,
     on_card: bool,
     name: &Text,
@@ -364,7 +368,7 @@ fn field_named_place<'a, E: External>(
         Layer::Background
     };
     match field_named(world.stack(), world.current(), layer, name) {
-        Ok(field) => field_place(alloc, world, frame, field),
+        Ok(field) => field_place(world, run, frame, field),
         Err(fault) => Err(Stop::Fault(fault)),
     }
 }
@@ -373,7 +377,7 @@ fn field_named_place<'a, E: External>(
 #[tactic(auto, using(meaning::proofs::Rules::callsback_setfieldbyname_rules))]
 pub fn set_field<E: External>(
     world: &mut World<E>,
-    run: &mut Budget,
+    run: &Budget,
     nested: u32,
     note: Texts,
     on_card: bool,
@@ -381,19 +385,12 @@ pub fn set_field<E: External>(
     value: Text,
 ) -> Result<Input, Stop>
     requires open { IsSome (base world.old.history).start }
-    ensures meaning { CallsBack world.old.history run.old nested (ask.SetFieldByName note on_card name.now value) result world.new.history run.new }
-    ensures same { run.new ≡ run.old }
+    ensures meaning { CallsBack world.old.history run.now nested (ask.SetFieldByName note on_card name.now value) result world.new.history run.now }
     ensures base { base world.new.history ≡ base world.old.history }
 {
     let mut frame = Frame::typed(run.alloc(), world.current());
-    let place = field_named_place(run.alloc(), world, &frame, on_card, name)?;
-    edit(
-        run.alloc(),
-        run.delimiter(),
-        world,
-        &mut frame,
-        place,
-        Edit::Put(Where::Into, Value::of_text(value)),
-    )?;
+    let place = field_named_place(world, run, &frame, on_card, name)?;
+    let put = Edit::Put(Where::Into, Value::of_text(value));
+    edit(world, run, &mut frame, place, put)?;
     Ok(Input::Answer(note, Text::new(run.alloc())))
 }

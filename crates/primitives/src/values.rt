@@ -33,10 +33,10 @@ use std::alloc::{AllocError, Global};
 
 /// What an operator gives of two operands, or its first fault.
 #[tactic(auto, using(meaning::proofs::Rules::yields_rules))]
-pub fn apply(alloc: Global, op: Op, left: &Value, right: &Value) -> Result<Value, Stop>
+pub fn apply(run: &Budget, op: Op, left: &Value, right: &Value) -> Result<Value, Stop>
     ensures { Yields (binary_of op left.now right.now) result }
 {
-    match binary(alloc, op, left, right) {
+    match binary(run.alloc(), op, left, right) {
         Ok(value) => Ok(value),
         Err(Failure::Fault(fault)) => Err(Stop::Fault(fault)),
         Err(Failure::Memory) => Err(Stop::Memory),
@@ -56,10 +56,10 @@ pub fn apply_one(op: UnOp, operand: &Value) -> Result<Value, Stop>
 
 /// What a function gives of its arguments, or its first fault.
 #[tactic(auto, using(meaning::proofs::Rules::yields_rules))]
-pub fn call_function(alloc: Global, function: Func, values: &Arguments) -> Result<Value, Stop>
+pub fn call_function(run: &Budget, function: Func, values: &Arguments) -> Result<Value, Stop>
     ensures { Yields (built_in_of function values.now) result }
 {
-    match built_in(alloc, function, values.as_slice()) {
+    match built_in(run.alloc(), function, values.as_slice()) {
         Ok(value) => Ok(value),
         Err(Failure::Fault(fault)) => Err(Stop::Fault(fault)),
         Err(Failure::Memory) => Err(Stop::Memory),
@@ -68,11 +68,11 @@ pub fn call_function(alloc: Global, function: Func, values: &Arguments) -> Resul
 
 /// What a function gives of one argument, or its first fault.
 #[tactic(auto, using(meaning::proofs::Rules::yields_rules))]
-pub fn call_of_one(alloc: Global, function: Func, value: Value) -> Result<Value, Stop>
+pub(crate) fn call_of_one(run: &Budget, function: Func, value: Value) -> Result<Value, Stop>
     ensures { Yields (built_in_of function (value ∷ [])) result }
 {
-    let values = Arguments::new(alloc).with(value)?;
-    call_function(alloc, function, &values)
+    let values = Arguments::new(run.alloc()).with(value)?;
+    call_function(run, function, &values)
 }
 
 /// The function that a word calls; none for `value`.
@@ -105,11 +105,11 @@ pub fn truth(value: &Value) -> Result<bool, Stop>
 }
 
 /// A count as a value, its decimal numeral.
-pub fn numeral(alloc: Global, count: usize) -> Result<Value, AllocError>
+pub(crate) fn numeral(run: &Budget, count: usize) -> Result<Value, AllocError>
     ensures { IfOk result (λ t. t ≡ numeral_of (pos count)) }
 {
     let mut buffer = Buffer::new();
-    let digits = Vec::from_slice(alloc, buffer.format(count).as_bytes())?;
+    let digits = Vec::from_slice(run.alloc(), buffer.format(count).as_bytes())?;
     match Text::from_vec(digits) {
         Ok(text) => Ok(Value::of_text(text)),
         Err(_) => unreachable!(),
@@ -117,7 +117,7 @@ pub fn numeral(alloc: Global, count: usize) -> Result<Value, AllocError>
 }
 
 /// A property of the run as a value.
-pub fn run_property(run: &Budget, property: RunProp) -> Result<Value, AllocError>
+pub(crate) fn run_property(run: &Budget, property: RunProp) -> Result<Value, AllocError>
     ensures { IfOk result (λ t. t ≡ run_property_of run.now property) }
 {
     match run.property(property) {
@@ -128,7 +128,7 @@ pub fn run_property(run: &Budget, property: RunProp) -> Result<Value, AllocError
 }
 
 /// A text of these bytes, at most 100.
-pub fn short_text(alloc: Global, bytes: &[u8]) -> Result<Text, AllocError>
+pub(crate) fn short_text(alloc: Global, bytes: &[u8]) -> Result<Text, AllocError>
     requires { length bytes.now ≤ 100 }
     ensures { IfOk result (λ t. t ≡ bytes.now) }
 {
@@ -139,10 +139,10 @@ pub fn short_text(alloc: Global, bytes: &[u8]) -> Result<Text, AllocError>
 }
 
 /// The empty value. It takes no memory.
-pub fn empty(alloc: Global) -> Value
+pub fn empty(run: &Budget) -> Value
     ensures { result ≡ [] }
 {
-    Value::of_text(Text::new(alloc))
+    Value::of_text(Text::new(run.alloc()))
 }
 
 /// What `there is` says of an object that was looked for. That there is none is an answer, any other stop isn't.
@@ -158,17 +158,17 @@ pub fn there(is_no: bool, met: Result<Referent, Stop>) -> Result<Value, Stop>
 }
 
 /// The value of a constant.
-pub fn constant_value(alloc: Global, constant: Constant) -> Result<Value, AllocError>
+pub(crate) fn constant_value(run: &Budget, constant: Constant) -> Result<Value, AllocError>
     ensures { IfOk result (λ v. v ≡ text_of_constant constant) }
 {
-    Ok(Value::of_text(short_text(alloc, constant.bytes())?))
+    Ok(Value::of_text(short_text(run.alloc(), constant.bytes())?))
 }
 
 /// The value of the constant `return`.
-pub fn return_sign(alloc: Global) -> Result<Value, AllocError>
+pub(crate) fn return_sign(run: &Budget) -> Result<Value, AllocError>
     ensures { IfOk result (λ v. v ≡ 13 ∷ []) }
 {
-    Ok(Value::of_text(short_text(alloc, b"\r")?))
+    Ok(Value::of_text(short_text(run.alloc(), b"\r")?))
 }
 
 /// Whether a repeat goes on that wants its condition to be so.
@@ -203,10 +203,10 @@ pub fn counter(from: &Value, to: &Value, is_down: bool) -> Result<Counter, Stop>
 
 /// The expression that a text is, or the fault of syntax.
 #[tactic(auto, using(meaning::proofs::Rules::parses_rules))]
-pub fn expression(alloc: Global, text: &Text) -> Result<Expr, Stop>
+pub fn expression(run: &Budget, text: &Text) -> Result<Expr, Stop>
     ensures { Parses ReadsExpr text.now result }
 {
-    match parse_expr(alloc, text) {
+    match parse_expr(run.alloc(), text) {
         Ok(e) => Ok(e),
         Err(ParseError::Syntax(_)) => Err(Stop::Fault(Fault::Syntax)),
         Err(ParseError::Memory) => Err(Stop::Memory),
@@ -215,10 +215,10 @@ pub fn expression(alloc: Global, text: &Text) -> Result<Expr, Stop>
 
 /// The lines that a text is, or the fault of syntax.
 #[tactic(auto, using(meaning::proofs::Rules::parses_rules))]
-pub fn lines(alloc: Global, text: &Text) -> Result<Stmts, Stop>
+pub fn lines(run: &Budget, text: &Text) -> Result<Stmts, Stop>
     ensures { Parses ReadsLines text.now (read_as (λ x. stmts_of x.items.items) result) }
 {
-    match parse_lines(alloc, text) {
+    match parse_lines(run.alloc(), text) {
         Ok(lines) => Ok(lines),
         Err(ParseError::Syntax(_)) => Err(Stop::Fault(Fault::Syntax)),
         Err(ParseError::Memory) => Err(Stop::Memory),
@@ -227,10 +227,10 @@ pub fn lines(alloc: Global, text: &Text) -> Result<Stmts, Stop>
 
 /// The message that a text is, or the fault of syntax.
 #[tactic(auto, using(meaning::proofs::Rules::parses_rules))]
-pub fn message(alloc: Global, text: &Text) -> Result<Message, Stop>
+pub fn message(run: &Budget, text: &Text) -> Result<Message, Stop>
     ensures { Parses ReadsMessage text.now (read_as message_of result) }
 {
-    match parse_message(alloc, text) {
+    match parse_message(run.alloc(), text) {
         Ok(message) => Ok(message),
         Err(ParseError::Syntax(_)) => Err(Stop::Fault(Fault::Syntax)),
         Err(ParseError::Memory) => Err(Stop::Memory),

@@ -21,7 +21,6 @@ use meaning::{Budget, Ended, Frame, Stop, SystemMessage};
 use object_references::{Referent, met_here};
 use object_table::{Id, Kind, Stack};
 use primitives::places::{edit, field_place, field_text};
-use std::alloc::Global;
 
 /// Whether the text of a field is locked against typing.
 fn is_locked(stack: &Stack, field: Id) -> bool
@@ -44,15 +43,14 @@ fn is_locked(stack: &Stack, field: Id) -> bool
 /// The text of a field for the card with which it was met; fault 3 where it keeps none.
 #[tactic(auto, using(meaning::proofs::Rules::yields_rules))]
 fn text_of<E: External>(
-    alloc: Global,
     world: &World<E>,
+    run: &Budget,
     frame: &Frame,
-    delimiter: u8,
     field: Referent,
 ) -> Result<Text, Stop>
-    ensures { Yields (text_of_field world.now.history.now frame.now.variables delimiter field) result }
+    ensures { Yields (text_of_field world.now.history.now frame.now.variables run.now.delimiter field) result }
 {
-    Ok(field_text(alloc, world, frame, delimiter, field)?.into_text(alloc)?)
+    Ok(field_text(world, run, frame, field)?.into_text(run.alloc())?)
 }
 
 /// The message with which a field is left.
@@ -81,26 +79,19 @@ fn type_over<E: External>(
     ensures base { base world.new.history ≡ base world.old.history }
 {
     let mut frame = Frame::typed(run.alloc(), world.current());
-    let place = match field_place(run.alloc(), world, &frame, field) {
+    let place = match field_place(world, run, &frame, field) {
         Ok(place) => place,
         Err(Stop::Fault(_)) => return Ok(Ended::Done),
         Err(_) => return Err(Stop::Memory),
     };
-    let old = match text_of(run.alloc(), world, &frame, run.delimiter(), field) {
+    let old = match text_of(world, run, &frame, field) {
         Ok(old) => old,
         Err(Stop::Fault(_)) => return Ok(Ended::Done),
         Err(_) => return Err(Stop::Memory),
     };
     let message = leaving_message(&old, text);
     let new = Value::copied(run.alloc(), text)?;
-    edit(
-        run.alloc(),
-        run.delimiter(),
-        world,
-        &mut frame,
-        place,
-        Edit::Put(Where::Into, new),
-    )?;
+    edit(world, run, &mut frame, place, Edit::Put(Where::Into, new))?;
     tell(world, run, field.object, message)
 }
 

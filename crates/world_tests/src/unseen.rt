@@ -211,12 +211,12 @@ fn a_declared_name_without_a_value_reads_as_its_spelling(rt: HostRuntime) {
     assert!(rt; matches!(&read, Some(read) if read.as_slice() == b"Sum".as_slice()));
 }
 
-fn place_fault(alloc: Global, world: &PlainWorld, frame: &Frame, field: Referent) -> Option<Stop> {
-    field_place(alloc, world, frame, field).err()
+fn place_fault(world: &PlainWorld, run: &Budget, frame: &Frame, field: Referent) -> Option<Stop> {
+    field_place(world, run, frame, field).err()
 }
 
-fn text_fault(alloc: Global, world: &PlainWorld, frame: &Frame, field: Referent) -> Option<Stop> {
-    field_text(alloc, world, frame, b',', field).err()
+fn text_fault(world: &PlainWorld, run: &Budget, frame: &Frame, field: Referent) -> Option<Stop> {
+    field_text(world, run, frame, field).err()
 }
 
 /// A field, a card, and the fault of the field's place and of its text for that card.
@@ -233,16 +233,16 @@ const FIELDS: &[FieldRow] = &[
     (2, 2, GONE),
 ];
 
-fn has_due_faults(alloc: Global, world: &PlainWorld, frame: &Frame, row: &FieldRow) -> bool {
+fn has_due_faults(world: &PlainWorld, run: &Budget, frame: &Frame, row: &FieldRow) -> bool {
     let (object, card, due) = *row;
     let field = Referent { object, card };
-    place_fault(alloc, world, frame, field) == due && text_fault(alloc, world, frame, field) == due
+    place_fault(world, run, frame, field) == due && text_fault(world, run, frame, field) == due
 }
 
 /// The first field that has another fault.
-fn wrong_field(alloc: Global, world: &PlainWorld, frame: &Frame) -> Option<Id> {
+fn wrong_field(world: &PlainWorld, run: &Budget, frame: &Frame) -> Option<Id> {
     for row in FIELDS {
-        if !has_due_faults(alloc, world, frame, row) {
+        if !has_due_faults(world, run, frame, row) {
             return Some(row.0);
         }
     }
@@ -251,8 +251,9 @@ fn wrong_field(alloc: Global, world: &PlainWorld, frame: &Frame) -> Option<Id> {
 
 fn wrong_field_of_two_cards(alloc: Global) -> Option<Option<Id>> {
     let world = opened(alloc)?;
+    let run = run_of(alloc, 1)?;
     let frame = Frame::typed(alloc, 2);
-    Some(wrong_field(alloc, &world, &frame))
+    Some(wrong_field(&world, &run, &frame))
 }
 
 #[test]

@@ -20,14 +20,13 @@ conversation::converse-returns-in_err-next-in_default g t c =
     let p = err_from_is_err_and c.from_residual-in_err-next-in_default.result c.from_residual-in_err-next-in_default.ensures.1 in
     record {
       meaning = rw (p.1, p.2) (c.loop-next.invariant.rest _ _ _ (Talks.talk_stops c.in_ok-step.ensures.meaning c.in_ok-ask.ensures.ok c.in_err-next-in_default.ensures.meaning));
-      fewer = omega (arith, c.call_back.ensures.fewer, c.step.ensures.fewer, c.loop-next.invariant.fewer);
-      base = c.call_back.ensures.base ∙ (c.take_turn.ensures.base ∙ c.loop-next.invariant.base);
+      keeps = (c.call_back.ensures.keeps.0 ∙ (c.take_turn.ensures.base ∙ c.loop-next.invariant.base), omega (arith, c.call_back.ensures.keeps.1, c.step.ensures.fewer, c.loop-next.invariant.fewer));
     }
 
 pub conversation::converse-loop-next-preserved : goal.conversation::converse-loop-next-preserved
 conversation::converse-loop-next-preserved g t c = record {
-  fewer = omega (arith, c.call_back.ensures.fewer, c.step.ensures.fewer, c.loop-next.invariant.fewer);
-  base = c.call_back.ensures.base ∙ (c.take_turn.ensures.base ∙ c.loop-next.invariant.base);
+  fewer = omega (arith, c.call_back.ensures.keeps.1, c.step.ensures.fewer, c.loop-next.invariant.fewer);
+  base = c.call_back.ensures.keeps.0 ∙ (c.take_turn.ensures.base ∙ c.loop-next.invariant.base);
   rest = λ o w r h. c.loop-next.invariant.rest _ _ _ (Talks.talk_goes_on c.in_ok-step.ensures.meaning c.in_ok-ask.ensures.ok c.in_ok-next-in_default.ensures.meaning h);
 }
 
@@ -73,8 +72,8 @@ message::along-loop-world-preserved g t c =
     let passes = c.outcome.ensures.passed c.in-None-outcome.is in
     let same = c.outcome.ensures.same c.in-None-outcome.is in
     record {
-      fewer = omega (arith, c.outcome.ensures.left, c.run_block.ensures.fewer, c.loop-world.invariant.fewer);
-      base = (rw (c.find.ensures.world) at c.run_block.ensures.base) ∙ c.loop-world.invariant.base;
+      fewer = omega (arith, c.outcome.ensures.left, c.run_block.ensures.keeps.1, c.loop-world.invariant.fewer);
+      base = (rw (c.find.ensures.world) at c.run_block.ensures.keeps.0) ∙ c.loop-world.invariant.base;
       rest = λ o w r h. c.loop-world.invariant.rest _ _ _ (Along.along_passes {fd = c.in-Some.found} (search rules) (first_of (search rules, grind (arith, common_steps))) c.in_ok-inner-in-Some.ensures (rw (q, passes, c.find.ensures.world) at c.in_ok-how-in-Some.ensures.meaning) (rw (c.stack.ensures.content, c.current.ensures.value, c.object.ensures) at c.path_after-rest.ensures) (rw same at h));
     }
 
@@ -105,8 +104,7 @@ pub stmt::run_block-returns-in_default : goal.stmt::run_block-returns-in_default
 stmt::run_block-returns-in_default g t c = record {
   meaning = c.loop-stmt.invariant.rest _ _ _ _ (Block.block_leaves (cut_stmts c.args.lines.now c.loop-stmt.stmt-index c.stmt-item.result c.loop-stmt-test.true c.stmt-item.is) c.in_ok-step.ensures.meaning c.in_ok-how.ensures.meaning c.in_default.not-Next);
   passes = search rules;
-  fewer = search rules;
-  base = search rules;
+  keeps = search rules;
 }
 
 pub stmt::run_block-loop-stmt-preserved : goal.stmt::run_block-loop-stmt-preserved
@@ -132,8 +130,8 @@ system::systems-returns-in_err-system-clause-meaning g t c =
 
 pub system::systems-loop-message-preserved : goal.system::systems-loop-message-preserved
 system::systems-loop-message-preserved g t c = record {
-  fewer = omega (arith, c.system.ensures.fewer, c.loop-message.invariant.fewer);
-  base = c.system.ensures.base ∙ c.loop-message.invariant.base;
+  fewer = omega (arith, c.system.ensures.keeps.1, c.loop-message.invariant.fewer);
+  base = c.system.ensures.keeps.0 ∙ c.loop-message.invariant.base;
   rest = λ o w r h. c.loop-message.invariant.rest _ _ _ (Systems.systems_more (cut_at c.args.messages.now c.loop-message.message-index _ c.loop-message-test.true) c.current.ensures.value c.in_ok-system.ensures.meaning h);
 }
 
@@ -141,14 +139,14 @@ pub system::systems-returns-clause-meaning : goal.system::systems-returns-clause
 system::systems-returns-clause-meaning g t c = rw c.empty.ensures (c.loop-message.invariant.rest _ _ _ (Systems.systems_done (drop_of_length-le c.args.messages.now c.loop-message-test.false)))
 
 pub expr::chunk_of-returns-clause-meaning : goal.expr::chunk_of-returns-clause-meaning
-expr::chunk_of-returns-clause-meaning g t c = taken c.in_ok-text.text c.in_ok-text.ensures.meaning c.in_ok-pieces.ensures.meaning (rw (← c.delimiter.ensures) c.operand_part.ensures)
+expr::chunk_of-returns-clause-meaning g t c = taken c.in_ok-text.text c.in_ok-text.ensures.meaning c.in_ok-pieces.ensures.meaning c.operand_part.ensures
 
 pub expr::number_of-returns-in_ok-text-in-PiecesOf-clause-meaning : goal.expr::number_of-returns-in_ok-text-in-PiecesOf-clause-meaning
 expr::number_of-returns-in_ok-text-in-PiecesOf-clause-meaning g t c =
     let form = ap (λ count. tree.number_of (count_of count)) c.in-PiecesOf.is in
-    counted c.in_ok-text-in-PiecesOf.text c.in_ok-text-in-PiecesOf.ensures.meaning form (rw (← c.delimiter.ensures) c.operand_count.ensures)
+    counted c.in_ok-text-in-PiecesOf.text c.in_ok-text-in-PiecesOf.ensures.meaning form c.operand_count.ensures
 
 pub expr::function_of-returns-in-Some-clause-meaning : goal.expr::function_of-returns-in-Some-clause-meaning
 expr::function_of-returns-in-Some-clause-meaning g t c =
     let named = sym c.function_named.ensures ∙ c.in-Some.is in
-    computed c.in_ok-x.x c.in_ok-x.ensures.meaning named (rw (← c.delimiter.ensures) c.call_of_operand.ensures)
+    computed c.in_ok-x.x c.in_ok-x.ensures.meaning named c.call_of_operand.ensures

@@ -17,6 +17,9 @@ use Rattle.interp.proofs.+run.Given as goal
 abbrev pub decreases-expr::eval : goal.decreases-expr::eval
 decreases-expr::eval g l = 1000000 * l.run.now.left + 4000 * (100 - l.nested) + 8 * depth l.e.now + 102
 
+abbrev pub decreases-expr::eval_text : goal.decreases-expr::eval_text
+decreases-expr::eval_text g l = 1000000 * l.run.now.left + 4000 * (100 - l.nested) + 8 * depth l.e.now + 103
+
 abbrev pub decreases-expr::binary : goal.decreases-expr::binary
 decreases-expr::binary g l = 1000000 * l.run.now.left + 4000 * (100 - l.nested) + 8 * max (depth l.left.now) (depth l.right.now) + 103
 
@@ -48,10 +51,10 @@ abbrev pub decreases-reference::scope : goal.decreases-reference::scope
 decreases-reference::scope g l = 1000000 * l.run.now.left + 4000 * (100 - l.nested) + 8 * owner_depth (owner_of l.owner.now) + 100
 
 abbrev pub decreases-reference::seek : goal.decreases-reference::seek
-decreases-reference::seek g l = 1000000 * l.run.now.left + 4000 * (100 - l.nested) + 8 * selector_depth (selector_of l.selector.now) + 104
+decreases-reference::seek g l = 1000000 * l.run.now.left + 4000 * (100 - l.nested) + 8 * selector_depth (selector_of l.selector.now) + 105
 
 abbrev pub decreases-reference::pick : goal.decreases-reference::pick
-decreases-reference::pick g l = 1000000 * l.run.now.left + 4000 * (100 - l.nested) + 8 * which_depth (which_of l.which.now) + 103
+decreases-reference::pick g l = 1000000 * l.run.now.left + 4000 * (100 - l.nested) + 8 * which_depth (which_of l.which.now) + 104
 
 abbrev pub decreases-reference::lead : goal.decreases-reference::lead
 decreases-reference::lead g l = 1000000 * l.run.now.left + 4000 * (100 - l.nested) + 8 * destination_depth (destination_of l.destination.now) + 100

@@ -1,0 +1,58 @@
+//! Expressions whose value asks for no other's.
+
+ghost use Rattle.std.specs.Prelude.{◌≡◌, ℕ, true};
+ghost use Rattle.ht_grammar.specs.Trees as tree;
+ghost use Rattle.ht_tree.specs.View.{count_of};
+ghost use Rattle.meaning.specs.declared.frame.Frame.{Frame};
+ghost use Rattle.meaning.specs.Meaning.{Val};
+ghost use Rattle.primitives.specs.Atoms.{counts_objects, is_atom};
+
+use crate::objects::{parts_here, target_name};
+use crate::places::variable;
+use crate::values::{constant_value, numeral, return_sign, run_property};
+use change_journal::World;
+use externals::External;
+use ht_tree::{Count, Expr, ExprKind};
+use ht_values::Value;
+use meaning::{Budget, Frame, Stop};
+
+/// The value of an expression that has no other one, and no reference, in it.
+#[tactic(auto, using(meaning::proofs::Rules::val_rules))]
+pub fn atom<E: External>(
+    world: &World<E>,
+    run: &Budget,
+    frame: &Frame,
+    e: &Expr,
+) -> Result<Value, Stop>
+    requires { is_atom e.now ≡ true }
+    ensures { (d : ℕ) → Val world.now.history run.now frame.now d e.now result world.now.history run.now }
+{
+    match e.kind() {
+        ExprKind::Number(text) | ExprKind::Quoted(text) => Ok(Value::copied(run.alloc(), text)?),
+        ExprKind::Constant(constant) => Ok(constant_value(run, *constant)?),
+        ExprKind::Return => Ok(return_sign(run)?),
+        ExprKind::Name(name) => Ok(variable(world, run, frame, name)?),
+        ExprKind::Result => Ok(run.result().try_clone(run.alloc())?),
+        ExprKind::Target => target_name(world, run, frame),
+        ExprKind::RunProperty(property) => Ok(run_property(run, *property)?),
+        _ => unreachable!(),
+    }
+}
+
+/// How many cards, backgrounds or parts there are.
+#[tactic(auto, using(meaning::proofs::Rules::val_number_of_cards_rules, meaning::proofs::Rules::val_number_of_backgrounds_rules, meaning::proofs::Rules::val_number_of_parts_rules))]
+pub fn object_count<E: External>(
+    world: &World<E>,
+    run: &Budget,
+    count: &Count,
+) -> Result<Value, Stop>
+    requires { counts_objects (count_of count.now) ≡ true }
+    ensures { (f : Frame) (d : ℕ) → Val world.now.history run.now f d (tree.number_of (count_of count.now)) result world.now.history run.now }
+{
+    match count {
+        Count::Cards => Ok(numeral(run, world.stack().cards().len())?),
+        Count::Backgrounds => Ok(numeral(run, world.stack().backgrounds().len())?),
+        Count::Parts(layer, kind) => Ok(numeral(run, parts_here(world, *layer, *kind))?),
+        Count::PiecesOf(_, _) | Count::OfObject(_) => unreachable!(),
+    }
+}
