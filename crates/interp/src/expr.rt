@@ -82,6 +82,7 @@ pub(crate) fn eval<E: External>(
 /// The value of an expression, as a text of its own.
 #[cycle(run)]
 #[tactic(auto, using(crate::proofs::Operands::text_rules))]
+#[inline]
 pub(crate) fn eval_text<E: External>(
     world: &mut World<E>,
     run: &mut Budget,

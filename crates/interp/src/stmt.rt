@@ -22,7 +22,7 @@ use ht_grammar::{HandlerKind, RunProp};
 use ht_tree::{Chunk, Container, Destination, Expr, Ref, Stmt, StmtKind};
 use ht_values::{Fault, Op, Prop, Where};
 use meaning::{Budget, Frame, How, Stop};
-use primitives::places::{declare_all, edit, put_into_it, set_property};
+use primitives::places::{declare_globals, edit, put_into_it, set_property};
 use primitives::values::{empty, lines, message};
 
 /// How statements end, a step before each.
@@ -119,10 +119,7 @@ pub(crate) fn run_stmt<E: External>(
         StmtKind::Do(text) => run_do(world, run, frame, nested, text),
         StmtKind::Send(text, reference) => run_send(world, run, frame, nested, text, reference),
         StmtKind::Go(destination) => run_go(world, run, frame, nested, destination),
-        StmtKind::Global(names) => {
-            declare_all(world, run, frame, &names.items)?;
-            Ok(How::Next)
-        }
+        StmtKind::Global(names) => declare_globals(world, run, frame, &names.items),
         StmtKind::ExitRepeat => Ok(How::ExitRepeat),
         StmtKind::NextRepeat => Ok(How::NextRepeat),
         StmtKind::ExitToHyperCard => Err(Stop::Exited),

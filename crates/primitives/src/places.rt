@@ -1,6 +1,6 @@
 //! Variables, fields and containers, as the rules read and write them.
 
-ghost use Rattle.std.specs.Prelude.{◌≡◌, ◌++◌, ◌∷◌, [], IsSome, IfOk, OnOk, option_copied, false, true};
+ghost use Rattle.std.specs.Prelude.{◌≡◌, ◌++◌, ◌∷◌, ℕ, [], IsSome, IfOk, OnOk, option_copied, false, true};
 ghost use Rattle.ht_values.specs.Text.{numeral as numeral_of};
 ghost use Rattle.ht_values.specs.declared.word.Where.TheVariants.{Into};
 ghost use Rattle.journal_entries.specs.Changes.{fits as fits_state};
@@ -11,7 +11,8 @@ ghost use Rattle.containers.specs.Places.{read_name as read_name_of};
 ghost use Rattle.meaning.specs.Places.{Assigns, DeclaresAll, Edits, Sets, field_named_place as place_of_field_named, field_place as place_of_field, field_text as text_of_field, it_name, nth_piece as nth_piece_of, pieces_at as pieces_at_numbers, variable_place as place_of_variable};
 ghost use Rattle.containers.specs.Writes.{Declares};
 ghost use Rattle.externals.specs.declared.external.Ask.TheVariants as ask;
-ghost use Rattle.meaning.specs.Meaning.{CallsBack};
+ghost use Rattle.ht_grammar.specs.Statements as stm;
+ghost use Rattle.meaning.specs.Meaning.{CallsBack, Form};
 ghost use Rattle.meaning.specs.Repeats.{is_over};
 ghost use Rattle.meaning.specs.Values.{Yields};
 
@@ -24,7 +25,7 @@ use externals::{External, Input, Texts};
 use ht_grammar::Layer;
 use ht_lex::{Ordinal, is_name};
 use ht_values::{ChunkKind, Failure, Fault, Name, Prop, Text, Value, Where};
-use meaning::{Budget, Counter, Frame, Stop};
+use meaning::{Budget, Counter, Frame, How, Stop};
 use object_references::{Referent, field_named, set_change};
 use std::alloc::{AllocError, Global};
 
@@ -278,7 +279,7 @@ fn declare_one<E: External>(
 
 /// Names mean globals from here on in this handler.
 #[tactic(auto, using(meaning::proofs::Rules::declares_rules))]
-pub fn declare_all<E: External>(
+fn declare_all<E: External>(
     world: &mut World<E>,
     run: &Budget,
     frame: &mut Frame,
@@ -292,6 +293,22 @@ pub fn declare_all<E: External>(
         declare_one(world, run, frame, name)?;
     }
     Ok(())
+}
+
+/// `global`: names mean globals from here on in this handler.
+#[tactic(auto, using(meaning::proofs::Rules::form_global_rules))]
+pub fn declare_globals<E: External>(
+    world: &mut World<E>,
+    run: &Budget,
+    frame: &mut Frame,
+    names: &[Name],
+) -> Result<How, Stop>
+    requires open { IsSome (base world.old.history).start }
+    ensures meaning { (d : ℕ) → Form world.old.history run.now frame.old d (stm.global names.now) result world.new.history run.now frame.new }
+    ensures base { base world.new.history ≡ base world.old.history }
+{
+    declare_all(world, run, frame, names)?;
+    Ok(How::Next)
 }
 
 /// The change that sets a property of an object, which fits.
