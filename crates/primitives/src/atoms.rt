@@ -1,4 +1,4 @@
-//! Expressions whose value asks for no other's.
+//! Expressions whose value asks for no other's. A call may also be out of memory, which is `Stop::Memory`.
 
 ghost use Rattle.std.specs.Prelude.{◌≡◌, ℕ, true};
 ghost use Rattle.ht_grammar.specs.Trees as tree;
@@ -16,7 +16,7 @@ use ht_tree::{Count, Expr, ExprKind};
 use ht_values::Value;
 use meaning::{Budget, Frame, Stop};
 
-/// The value of an expression that has no other one, and no reference, in it.
+/// The value of an expression that has no other one, and no reference, in it; fault 3 where it is `the target`, which is gone.
 #[tactic(auto, using(meaning::proofs::Rules::val_rules))]
 pub fn atom<E: External>(
     world: &World<E>,
