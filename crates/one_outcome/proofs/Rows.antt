@@ -59,7 +59,7 @@ use Rattle.journal_entries.specs.Places.{put as put_in_state}
 use Rattle.one_outcome.specs.Changes.{make}
 use Rattle.one_outcome.specs.Meanings.{meanings}
 use Rattle.one_outcome.specs.Rows.{Sum, Quotient, NoNumber, FaultAfterLines, Choice, Repeated, Chunks, NoExpression}
-use Rattle.one_outcome.specs.Rows.{ExitToHyperCard, Delimiter, answers, answered, two_cards, gate, repeats_script}
+use Rattle.one_outcome.specs.Rows.{ExitToHyperCard, Delimiter, and_more, answers, answered, two_cards, gate, repeats_script}
 use Rattle.one_outcome.specs.Rows.{function_script, passing_script, last_script, deep_script, Repeats}
 
 -- `unfolding computing` opens the definitions that a row computes through
@@ -75,43 +75,43 @@ computing = tt
 
 pub sum : Sum
 unfolding computing
-sum w = refl
+sum k w = refl
 
 pub quotient : Quotient
 unfolding computing
-quotient w = refl
+quotient k w = refl
 
 pub no_number : NoNumber
 unfolding computing
-no_number w = refl
+no_number k w = refl
 
 pub fault_after_lines : FaultAfterLines
 unfolding computing
-fault_after_lines w = refl
+fault_after_lines k w = refl
 
 pub choice : Choice
 unfolding computing
-choice w = refl
+choice k w = refl
 
 pub repeated : Repeated
 unfolding computing
-repeated w = refl
+repeated k w = refl
 
 pub chunk : Chunks
 unfolding computing
-chunk w = refl
+chunk k w = refl
 
 pub no_expression : NoExpression
 unfolding computing
-no_expression w = refl
+no_expression k w = refl
 
 pub exit_to_hypercard : ExitToHyperCard
 unfolding computing
-exit_to_hypercard w = refl
+exit_to_hypercard k w = refl
 
 pub delimiter : Delimiter
 unfolding computing
-delimiter w = refl
+delimiter k w = refl
 
 -- ---- rows of a state
 
@@ -120,25 +120,25 @@ repeats_read : parsed typed_lines (codes "repeats 9")
 unfolding computing
 repeats_read = refl
 
-repeats_values : (w : Present) (r : RunState) (f : Frame) →
-    (meanings 36).vals w r f 0 (tree.more (tree.number (codes "9")) tree.none) [] ≡ told (Ok (codes "9" ∷ [])) w r
+repeats_values : (k : ℕ) (w : Present) (r : RunState) (f : Frame) →
+    (meanings (and_more 36 k)).vals w r f 0 (tree.more (tree.number (codes "9")) tree.none) [] ≡ told (Ok (codes "9" ∷ [])) w r
 unfolding computing
-repeats_values w r f = refl
+repeats_values k w r f = refl
 
-repeats_end : answered (command_ends (on_card [] [] repeats_script empty [] [])
-    (by_found 34 (on_card [] [] repeats_script empty [] []) (noted (run_at 999998 [] []) (codes "repeats") 2)
+repeats_end : (k : ℕ) → answered (command_ends k (on_card [] [] repeats_script empty [] [])
+    (by_found (and_more 34 k) (on_card [] [] repeats_script empty [] []) (noted (run_at 999998 [] []) (codes "repeats") 2)
     (typed_frame_at 2) 0 (codes "repeats") (codes "9" ∷ []) Command
     (found_among ((2, []) ∷ (1, []) ∷ (0, repeats_script) ∷ []) Command (codes "repeats")))) (λ w. [])
     ≡ codes "> 134321xxwwuff" ∷ codes "ok" ∷ []
 unfolding computing
-repeats_end = refl
+repeats_end k = refl
 
 pub repeats : Repeats
-repeats =
+repeats k =
     ap (λ t. answered t (λ w. []))
-    (typed_command [] [] repeats_script empty [] [] (codes "repeats 9") (codes "repeats")
-    (tree.more (tree.number (codes "9")) tree.none) (codes "9" ∷ []) repeats_read (repeats_values _ _ _))
-    ∙ repeats_end
+    (typed_command k [] [] repeats_script empty [] [] (codes "repeats 9") (codes "repeats")
+    (tree.more (tree.number (codes "9")) tree.none) (codes "9" ∷ []) repeats_read (repeats_values k _ _ _))
+    ∙ repeats_end k
 
 -- ---- a function
 
@@ -146,34 +146,34 @@ abbrev h_line : List ℕ
 h_line = codes "do \"put h()\" & return & \"put the result\""
 
 -- the answer, by what the call comes to
-abbrev by_call : Told (List ℕ) → List (List ℕ)
-by_call x =
+abbrev by_call : (k : ℕ) → Told (List ℕ) → List (List ℕ)
+by_call k x =
     answered
     (ended_lines
     (after_next (after_next (after_in (typed_frame_at 2) x (λ v w r. ran (Ok Next) w (shows r v) (typed_frame_at 2)))
-    (λ w r f. (meanings 35).block w r f 1 (stm.also (stm.put tree.result) stm.stop)))
-    (λ w r f. (meanings 38).block w r f 0 stm.stop))) (λ w. [])
+    (λ w r f. (meanings (and_more 35 k)).block w r f 1 (stm.also (stm.put tree.result) stm.stop)))
+    (λ w r f. (meanings (and_more 38 k)).block w r f 0 stm.stop))) (λ w. [])
 
-function_calls : answers 40 (on_card function_script [] [] empty [] []) (h_line ∷ [])
-    ≡ by_call
-    ((meanings 32).sends (on_card function_script [] [] empty [] []) (run_at 999998 [] []) (typed_frame_at 2) 1 2
+function_calls : (k : ℕ) → answers (and_more 40 k) (on_card function_script [] [] empty [] []) (h_line ∷ [])
+    ≡ by_call k
+    ((meanings (and_more 32 k)).sends (on_card function_script [] [] empty [] []) (run_at 999998 [] []) (typed_frame_at 2) 1 2
     (codes "h") [] Function)
 unfolding computing
-function_calls = refl
+function_calls k = refl
 
-function_end : by_call
-    (by_found 30 (on_card function_script [] [] empty [] []) (noted (run_at 999997 [] []) (codes "h") 2)
+function_end : (k : ℕ) → by_call k
+    (by_found (and_more 30 k) (on_card function_script [] [] empty [] []) (noted (run_at 999997 [] []) (codes "h") 2)
     (typed_frame_at 2) 1 (codes "h") [] Function
     (found_among ((2, function_script) ∷ (1, []) ∷ (0, []) ∷ []) Function (codes "h"))) ≡ codes "> 4" ∷ codes "> "
     ∷ codes "ok" ∷ []
 unfolding computing
-function_end = refl
+function_end k = refl
 
 pub function : rows.Function
-function = function_calls
-    ∙ ap by_call
-    (sent 30 function_script [] [] empty [] [] (run_at 999998 [] []) (run_at 999997 [] []) (typed_frame_at 2) 1
-    (codes "h") [] Function refl) ∙ function_end
+function k = function_calls k
+    ∙ ap (by_call k)
+    (sent (and_more 30 k) function_script [] [] empty [] [] (run_at 999998 [] []) (run_at 999997 [] []) (typed_frame_at 2) 1
+    (codes "h") [] Function refl) ∙ function_end k
 
 -- ---- a message that is passed
 
@@ -181,37 +181,37 @@ who_read : parsed typed_lines (codes "who") ≡ Ok (stm.also (stm.command (codes
 unfolding computing
 who_read = refl
 
-no_values : (w : Present) (r : RunState) (f : Frame) → (meanings 36).vals w r f 0 tree.none [] ≡ told (Ok []) w r
+no_values : (k : ℕ) (w : Present) (r : RunState) (f : Frame) → (meanings (and_more 36 k)).vals w r f 0 tree.none [] ≡ told (Ok []) w r
 unfolding computing
-no_values w r f = refl
+no_values k w r f = refl
 
-passes : by_found 34 (on_card [] passing_script last_script empty [] []) (noted (run_at 999998 [] []) (codes "who") 2)
+passes : (k : ℕ) → by_found (and_more 34 k) (on_card [] passing_script last_script empty [] []) (noted (run_at 999998 [] []) (codes "who") 2)
     (typed_frame_at 2) 0 (codes "who") [] Command
     (found_among ((2, []) ∷ (1, passing_script) ∷ (0, last_script) ∷ []) Command (codes "who"))
-    ≡ (meanings 34).along (on_card [] passing_script last_script empty [] [])
+    ≡ (meanings (and_more 34 k)).along (on_card [] passing_script last_script empty [] [])
     (noted (run_at 999996 (codes "bg" ∷ []) []) (codes "who") 2) (typed_frame_at 2) 0 2
     (path_after (two_cards [] passing_script last_script) 2 1) (codes "who") [] Command
 unfolding computing
-passes = refl
+passes k = refl
 
-passed_end : answered (command_ends (on_card [] passing_script last_script empty [] [])
-    (by_found 33 (on_card [] passing_script last_script empty [] [])
+passed_end : (k : ℕ) → answered (command_ends k (on_card [] passing_script last_script empty [] [])
+    (by_found (and_more 33 k) (on_card [] passing_script last_script empty [] [])
     (noted (run_at 999996 (codes "bg" ∷ []) []) (codes "who") 2) (typed_frame_at 2) 0 (codes "who") [] Command
     (found_among ((0, last_script) ∷ []) Command (codes "who")))) (λ w. [])
     ≡ codes "> bg" ∷ codes "> stack" ∷ codes "ok" ∷ []
 unfolding computing
-passed_end = refl
+passed_end k = refl
 
 pub passed : rows.Passed
-passed =
+passed k =
     ap (λ t. answered t (λ w. []))
-    (typed_command [] passing_script last_script empty [] [] (codes "who") (codes "who") tree.none [] who_read
-    (no_values _ _ _))
-    ∙ ap (λ x. answered (command_ends (on_card [] passing_script last_script empty [] []) x) (λ w. []))
-    (passes
-    ∙ passed_on 33 [] passing_script last_script empty [] []
+    (typed_command k [] passing_script last_script empty [] [] (codes "who") (codes "who") tree.none [] who_read
+    (no_values k _ _ _))
+    ∙ ap (λ x. answered (command_ends k (on_card [] passing_script last_script empty [] []) x) (λ w. []))
+    (passes k
+    ∙ passed_on (and_more 33 k) [] passing_script last_script empty [] []
     (noted (run_at 999996 (codes "bg" ∷ []) []) (codes "who") 2) (typed_frame_at 2) 0 (codes "who") [] Command)
-    ∙ passed_end
+    ∙ passed_end k
 
 -- ---- a conversation
 
@@ -223,73 +223,73 @@ unfolding computing
 gate_read = refl
 
 -- the answer of Gate, which no script has, and then the rest
-abbrev by_gate : Seen → ℕ → (Present → List (List ℕ)) → List (List ℕ)
-by_gate e turns rest = answered (command_ends (on_card [] [] [] empty (e ∷ []) (turns ∷ []))
-    (by_found 34 (on_card [] [] [] empty (e ∷ []) (turns ∷ [])) (noted (run_at 999998 [] []) (codes "Gate") 2)
+abbrev by_gate : (k : ℕ) → Seen → ℕ → (Present → List (List ℕ)) → List (List ℕ)
+by_gate k e turns rest = answered (command_ends k (on_card [] [] [] empty (e ∷ []) (turns ∷ []))
+    (by_found (and_more 34 k) (on_card [] [] [] empty (e ∷ []) (turns ∷ [])) (noted (run_at 999998 [] []) (codes "Gate") 2)
     (typed_frame_at 2) 0 (codes "Gate") [] Command
     (found_among ((2, []) ∷ (1, []) ∷ (0, []) ∷ []) Command (codes "Gate")))) rest
 
-gate_once : (rest : Present → List (List ℕ)) → by_gate gate 0 rest ≡ codes "ok"
+gate_once : (k : ℕ) (rest : Present → List (List ℕ)) → by_gate k gate 0 rest ≡ codes "ok"
     ∷ rest (on_card [] [] [] empty (open_gate ∷ []) (1 ∷ []))
 unfolding computing
-gate_once rest = refl
+gate_once k rest = refl
 
-gate_again : by_gate open_gate 1 (λ w. []) ≡ codes "fault 2" ∷ []
+gate_again : (k : ℕ) → by_gate k open_gate 1 (λ w. []) ≡ codes "fault 2" ∷ []
 unfolding computing
-gate_again = refl
+gate_again k = refl
 
 pub conversation : rows.Conversation
-conversation =
-    ap (λ t. answered t (λ w. answers 40 w (codes "Gate" ∷ [])))
-    (typed_command [] [] [] empty (gate ∷ []) (0 ∷ []) (codes "Gate") (codes "Gate") tree.none [] gate_read
-    (no_values _ _ _))
-    ∙ gate_once (λ w. answers 40 w (codes "Gate" ∷ []))
+conversation k =
+    ap (λ t. answered t (λ w. answers (and_more 40 k) w (codes "Gate" ∷ [])))
+    (typed_command k [] [] [] empty (gate ∷ []) (0 ∷ []) (codes "Gate") (codes "Gate") tree.none [] gate_read
+    (no_values k _ _ _))
+    ∙ gate_once k (λ w. answers (and_more 40 k) w (codes "Gate" ∷ []))
     ∙ ap (λ t. codes "ok" ∷ answered t (λ w. []))
-    (typed_command [] [] [] empty (open_gate ∷ []) (1 ∷ []) (codes "Gate") (codes "Gate") tree.none [] gate_read
-    (no_values _ _ _))
-    ∙ ap (λ rest. codes "ok" ∷ rest) gate_again
+    (typed_command k [] [] [] empty (open_gate ∷ []) (1 ∷ []) (codes "Gate") (codes "Gate") tree.none [] gate_read
+    (no_values k _ _ _))
+    ∙ ap (λ rest. codes "ok" ∷ rest) (gate_again k)
 
 -- ---- globals
 
 -- a global's name that is shown, by its value
-abbrev by_value : (c : List ℕ) → Globals → List ℕ → (Present → List (List ℕ)) → Option (List ℕ) → List (List ℕ)
-by_value c globals name rest v =
+abbrev by_value : (k : ℕ) (c : List ℕ) → Globals → List ℕ → (Present → List (List ℕ)) → Option (List ℕ) → List (List ℕ)
+by_value k c globals name rest v =
     answered
     (ended_lines
     (after_next
     (after_in (typed_frame_at 2) (told (Ok (unwrap_or v name)) (on_card c [] [] globals [] []) (run_at 999999 [] []))
-    (λ v w r. ran (Ok Next) w (shows r v) (typed_frame_at 2))) (λ w r f. (meanings 38).block w r f 0 stm.stop))) rest
+    (λ v w r. ran (Ok Next) w (shows r v) (typed_frame_at 2))) (λ w r f. (meanings (and_more 38 k)).block w r f 0 stm.stop))) rest
 
 abbrev with_abc : Globals
 with_abc = insert empty (codes "abc") (codes "1")
 
-no_value : answers 40 (on_card [] [] [] empty [] []) (codes "put Abc" ∷ codes "put 1 into ABC" ∷ codes "put abc" ∷ [])
-    ≡ by_value [] empty (codes "Abc") (λ w. answers 40 w (codes "put 1 into ABC" ∷ codes "put abc" ∷ []))
+no_value : (k : ℕ) → answers (and_more 40 k) (on_card [] [] [] empty [] []) (codes "put Abc" ∷ codes "put 1 into ABC" ∷ codes "put abc" ∷ [])
+    ≡ (by_value k) [] empty (codes "Abc") (λ w. answers (and_more 40 k) w (codes "put 1 into ABC" ∷ codes "put abc" ∷ []))
     (get {R = slice_cmp nat_cmp} empty (codes "abc"))
 unfolding computing
-no_value = refl
+no_value k = refl
 
-a_value : by_value [] empty (codes "Abc") (λ w. answers 40 w (codes "put 1 into ABC" ∷ codes "put abc" ∷ [])) None
+a_value : (k : ℕ) → by_value k [] empty (codes "Abc") (λ w. answers (and_more 40 k) w (codes "put 1 into ABC" ∷ codes "put abc" ∷ [])) None
     ≡ codes "> Abc" ∷ codes "ok" ∷ codes "ok"
-    ∷ by_value [] with_abc (codes "abc") (λ w. []) (get with_abc (codes "abc"))
+    ∷ by_value k [] with_abc (codes "abc") (λ w. []) (get with_abc (codes "abc"))
 unfolding computing
-a_value = refl
+a_value k = refl
 
 its_value : get with_abc (codes "abc") ≡ Some (codes "1")
 its_value = get-insert nat_list_cmp_total empty (codes "abc") (codes "1") (codes "abc")
 
-value_shown : by_value [] with_abc (codes "abc") (λ w. []) (Some (codes "1")) ≡ codes "> 1" ∷ codes "ok" ∷ []
+value_shown : (k : ℕ) → by_value k [] with_abc (codes "abc") (λ w. []) (Some (codes "1")) ≡ codes "> 1" ∷ codes "ok" ∷ []
 unfolding computing
-value_shown = refl
+value_shown k = refl
 
 pub global_variable : rows.GlobalVariable
-global_variable =
-    no_value
-    ∙ ap (by_value [] empty (codes "Abc") (λ w. answers 40 w (codes "put 1 into ABC" ∷ codes "put abc" ∷ [])))
+global_variable k =
+    no_value k
+    ∙ ap (by_value k [] empty (codes "Abc") (λ w. answers (and_more 40 k) w (codes "put 1 into ABC" ∷ codes "put abc" ∷ [])))
     (get-empty (slice_cmp nat_cmp) (codes "abc"))
-    ∙ a_value
-    ∙ ap (λ v. codes "> Abc" ∷ codes "ok" ∷ codes "ok" ∷ by_value [] with_abc (codes "abc") (λ w. []) v) its_value
-    ∙ ap (λ rest. codes "> Abc" ∷ codes "ok" ∷ codes "ok" ∷ rest) value_shown
+    ∙ a_value k
+    ∙ ap (λ v. codes "> Abc" ∷ codes "ok" ∷ codes "ok" ∷ by_value k [] with_abc (codes "abc") (λ w. []) v) its_value
+    ∙ ap (λ rest. codes "> Abc" ∷ codes "ok" ∷ codes "ok" ∷ rest) (value_shown k)
 
 -- ---- a fault three handlers deep
 
@@ -322,17 +322,17 @@ handler_ends parts f d n x =
     (λ h w r. maybe (ends Command h r) (λ out. gave w out)
     (λ _. (meanings parts).along w r f d 2 (path_after w.now.stack w.now.current 2) n [] Command))
 
-abbrev in_a : Told (List ℕ) → Told (List ℕ)
-in_a x =
-    handler_ends 34 (typed_frame_at 2) 0 (codes "a")
+abbrev in_a : (k : ℕ) → Told (List ℕ) → Told (List ℕ)
+in_a k x =
+    handler_ends (and_more 34 k) (typed_frame_at 2) 0 (codes "a")
     (after_next (after_in own_frame x (λ _ w r. ran (Ok Next) w r own_frame))
-    (λ w r f. (meanings 32).block w r f 1 (stm.also (stm.put (tree.number (codes "2"))) stm.stop)))
+    (λ w r f. (meanings (and_more 32 k)).block w r f 1 (stm.also (stm.put (tree.number (codes "2"))) stm.stop)))
 
-abbrev in_b : Told (List ℕ) → Told (List ℕ)
-in_b x =
-    handler_ends 28 own_frame 1 (codes "b")
+abbrev in_b : (k : ℕ) → Told (List ℕ) → Told (List ℕ)
+in_b k x =
+    handler_ends (and_more 28 k) own_frame 1 (codes "b")
     (after_next (after_in own_frame x (λ _ w r. ran (Ok Next) w r own_frame))
-    (λ w r f. (meanings 26).block w r f 2 (stm.also (stm.put (tree.number (codes "4"))) stm.stop)))
+    (λ w r f. (meanings (and_more 26 k)).block w r f 2 (stm.also (stm.put (tree.number (codes "4"))) stm.stop)))
 
 abbrev last_line : stm.Stmts
 last_line = stm.also (stm.put_in Into (tree.number (codes "6")) (tree.variable (codes "g"))) stm.stop
@@ -342,19 +342,19 @@ last_lines =
     stm.also (stm.put_in Into (tree.number (codes "5")) (tree.variable (codes "g")))
     (stm.also (stm.put (tree.call (codes "foo") tree.none)) last_line)
 
-abbrev declares_g : Option (List ℕ) → Told (List ℕ)
-declares_g v = handler_ends 22 own_frame 2 (codes "c")
+abbrev declares_g : (k : ℕ) → Option (List ℕ) → Told (List ℕ)
+declares_g k v = handler_ends (and_more 22 k) own_frame 2 (codes "c")
     (after_next
     (ran (Ok Next) (with_global before_g (codes "g") v)
     (run_at 999991 (codes "1" ∷ codes "3" ∷ [])
     (to_card (codes "a") ∷ to_card (codes "b") ∷ to_card (codes "c") ∷ [])) with_g)
-    (λ w r f. (meanings 21).block w r f 3 last_lines))
+    (λ w r f. (meanings (and_more 21 k)).block w r f 3 last_lines))
 
-abbrev in_c : Told (List ℕ) → Told (List ℕ)
-in_c x =
-    handler_ends 22 own_frame 2 (codes "c")
+abbrev in_c : (k : ℕ) → Told (List ℕ) → Told (List ℕ)
+in_c k x =
+    handler_ends (and_more 22 k) own_frame 2 (codes "c")
     (after_next (after_in with_g x (λ v w r. ran (Ok Next) w (shows r v) with_g))
-    (λ w r f. (meanings 19).block w r f 3 last_line))
+    (λ w r f. (meanings (and_more 19 k)).block w r f 3 last_line))
 
 abbrev run_a : ℕ → RunState
 run_a left = run_at left (codes "1" ∷ []) (to_card (codes "a") ∷ [])
@@ -370,65 +370,65 @@ a_read : parsed typed_lines (codes "a") ≡ Ok (stm.also (stm.command (codes "a"
 unfolding computing
 a_read = refl
 
-a_calls : by_found 34 before_g (noted (run_at 999998 [] []) (codes "a") 2) (typed_frame_at 2) 0 (codes "a") [] Command
+a_calls : (k : ℕ) → by_found (and_more 34 k) before_g (noted (run_at 999998 [] []) (codes "a") 2) (typed_frame_at 2) 0 (codes "a") [] Command
     (among Command (codes "a"))
-    ≡ in_a ((meanings 30).sends before_g (run_a 999996) own_frame 1 2 (codes "b") [] Command)
+    ≡ in_a k ((meanings (and_more 30 k)).sends before_g (run_a 999996) own_frame 1 2 (codes "b") [] Command)
 unfolding computing
-a_calls = refl
+a_calls k = refl
 
-b_calls : by_found 28 before_g (noted (run_a 999995) (codes "b") 2) own_frame 1 (codes "b") [] Command
+b_calls : (k : ℕ) → by_found (and_more 28 k) before_g (noted (run_a 999995) (codes "b") 2) own_frame 1 (codes "b") [] Command
     (among Command (codes "b"))
-    ≡ in_b ((meanings 24).sends before_g (run_b 999993) own_frame 2 2 (codes "c") [] Command)
+    ≡ in_b k ((meanings (and_more 24 k)).sends before_g (run_b 999993) own_frame 2 2 (codes "c") [] Command)
 unfolding computing
-b_calls = refl
+b_calls k = refl
 
-c_declares : by_found 22 before_g (noted (run_b 999992) (codes "c") 2) own_frame 2 (codes "c") [] Command
-    (among Command (codes "c")) ≡ declares_g (get {R = slice_cmp nat_cmp} empty (codes "g"))
+c_declares : (k : ℕ) → by_found (and_more 22 k) before_g (noted (run_b 999992) (codes "c") 2) own_frame 2 (codes "c") [] Command
+    (among Command (codes "c")) ≡ declares_g k (get {R = slice_cmp nat_cmp} empty (codes "g"))
 unfolding computing
-c_declares = refl
+c_declares k = refl
 
-c_calls : declares_g None ≡ in_c ((meanings 16).sends after_g (run_c 999989) with_g 3 2 (codes "foo") [] Function)
+c_calls : (k : ℕ) → declares_g k None ≡ in_c k ((meanings (and_more 16 k)).sends after_g (run_c 999989) with_g 3 2 (codes "foo") [] Function)
 unfolding computing
-c_calls = refl
+c_calls k = refl
 
 -- the answers of both lines, by what the message `a` comes to
-abbrev by_a : Told (List ℕ) → List (List ℕ)
-by_a x = answered (command_ends before_g x) (λ w. answers 40 w (codes "put g" ∷ []))
+abbrev by_a : (k : ℕ) → Told (List ℕ) → List (List ℕ)
+by_a k x = answered (command_ends k before_g x) (λ w. answers (and_more 40 k) w (codes "put g" ∷ []))
 
-fault_ends : by_a
-    (in_a
-    (in_b
-    (in_c
-    (by_found 14 after_g (noted (run_c 999988) (codes "foo") 2) with_g 3 (codes "foo") [] Function
+fault_ends : (k : ℕ) → by_a k
+    (in_a k
+    (in_b k
+    (in_c k
+    (by_found (and_more 14 k) after_g (noted (run_c 999988) (codes "foo") 2) with_g 3 (codes "foo") [] Function
     (among Function (codes "foo"))))))
     ≡ codes "> 1" ∷ codes "> 3" ∷ codes "fault 2"
-    ∷ by_value deep_script globals_g (codes "g") (λ w. []) (get globals_g (codes "g"))
+    ∷ by_value k deep_script globals_g (codes "g") (λ w. []) (get globals_g (codes "g"))
 unfolding computing
-fault_ends = refl
+fault_ends k = refl
 
 value_of_g : get globals_g (codes "g") ≡ Some (codes "5")
 value_of_g = get-insert nat_list_cmp_total (insert empty (codes "g") []) (codes "g") (codes "5") (codes "g")
 
-g_shown : by_value deep_script globals_g (codes "g") (λ w. []) (Some (codes "5")) ≡ codes "> 5" ∷ codes "ok" ∷ []
+g_shown : (k : ℕ) → by_value k deep_script globals_g (codes "g") (λ w. []) (Some (codes "5")) ≡ codes "> 5" ∷ codes "ok" ∷ []
 unfolding computing
-g_shown = refl
+g_shown k = refl
 
 pub fault_three_deep : rows.FaultThreeDeep
-fault_three_deep =
-    ap (λ t. answered t (λ w. answers 40 w (codes "put g" ∷ [])))
-    (typed_command deep_script [] [] empty [] [] (codes "a") (codes "a") tree.none [] a_read (no_values _ _ _))
-    ∙ ap by_a
-    (a_calls
-    ∙ ap in_a
-    (sent 28 deep_script [] [] empty [] [] (run_a 999996) (run_a 999995) own_frame 1 (codes "b") [] Command refl
-    ∙ b_calls
-    ∙ ap in_b
-    (sent 22 deep_script [] [] empty [] [] (run_b 999993) (run_b 999992) own_frame 2 (codes "c") [] Command refl
-    ∙ c_declares ∙ ap declares_g (get-empty (slice_cmp nat_cmp) (codes "g"))
-    ∙ c_calls
-    ∙ ap in_c
-    (sent 14 deep_script [] [] globals_g [] [] (run_c 999989) (run_c 999988) with_g 3 (codes "foo") [] Function refl))))
-    ∙ fault_ends
-    ∙ ap (λ v. codes "> 1" ∷ codes "> 3" ∷ codes "fault 2" ∷ by_value deep_script globals_g (codes "g") (λ w. []) v)
+fault_three_deep k =
+    ap (λ t. answered t (λ w. answers (and_more 40 k) w (codes "put g" ∷ [])))
+    (typed_command k deep_script [] [] empty [] [] (codes "a") (codes "a") tree.none [] a_read (no_values k _ _ _))
+    ∙ ap (by_a k)
+    (a_calls k
+    ∙ ap (in_a k)
+    (sent (and_more 28 k) deep_script [] [] empty [] [] (run_a 999996) (run_a 999995) own_frame 1 (codes "b") [] Command refl
+    ∙ b_calls k
+    ∙ ap (in_b k)
+    (sent (and_more 22 k) deep_script [] [] empty [] [] (run_b 999993) (run_b 999992) own_frame 2 (codes "c") [] Command refl
+    ∙ c_declares k ∙ ap (declares_g k) (get-empty (slice_cmp nat_cmp) (codes "g"))
+    ∙ c_calls k
+    ∙ ap (in_c k)
+    (sent (and_more 14 k) deep_script [] [] globals_g [] [] (run_c 999989) (run_c 999988) with_g 3 (codes "foo") [] Function refl))))
+    ∙ fault_ends k
+    ∙ ap (λ v. codes "> 1" ∷ codes "> 3" ∷ codes "fault 2" ∷ by_value k deep_script globals_g (codes "g") (λ w. []) v)
     value_of_g
-    ∙ ap (λ rest. codes "> 1" ∷ codes "> 3" ∷ codes "fault 2" ∷ rest) g_shown
+    ∙ ap (λ rest. codes "> 1" ∷ codes "> 3" ∷ codes "fault 2" ∷ rest) (g_shown k)

@@ -32,7 +32,7 @@ use Rattle.one_outcome.specs.Changes.{step}
 use Rattle.one_outcome.specs.Texts.{read_by, parsed, handled, first_found}
 use Rattle.one_outcome.specs.Messages.{met_by}
 use Rattle.one_outcome.specs.Meanings.{meanings}
-use Rattle.one_outcome.specs.Rows.{objects_of, two_cards, typed}
+use Rattle.one_outcome.specs.Rows.{and_more, objects_of, two_cards, typed}
 
 -- the stack in a state, with its first card as the current one
 abbrev pub on_card : (card background stack : List ℕ) → Globals → List Seen → List ℕ → Present
@@ -128,29 +128,29 @@ abbrev pub run_at : ℕ → List (List ℕ) → List SentMessage → RunState
 run_at left shown sent = record (fresh_run 1000000) { left = left; shown = shown; sent = sent }
 
 -- how a command that is typed alone ends, by what its message comes to
-abbrev pub command_ends : Present → Told (List ℕ) → Told Ended
-command_ends w x =
+abbrev pub command_ends : (k : ℕ) → Present → Told (List ℕ) → Told Ended
+command_ends k w x =
     ended_lines
     (after_next
     (after_in (typed_frame_at w.now.current) x (λ _ w2 r. ran (Ok Next) w2 r (typed_frame_at w.now.current)))
-    (λ w r f. (meanings 38).block w r f 0 stm.stop))
+    (λ w r f. (meanings (and_more 38 k)).block w r f 0 stm.stop))
 
 -- a command that is typed alone, while the first card is the current one
-pub typed_command : (c b s : List ℕ) (globals : Globals) (externals : List Seen) (turns : List ℕ) (line n : List ℕ)
+pub typed_command : (k : ℕ) (c b s : List ℕ) (globals : Globals) (externals : List Seen) (turns : List ℕ) (line n : List ℕ)
     (es : tree.Exprs) (vs : List (List ℕ)) →
     parsed typed_lines line ≡ Ok (stm.also (stm.command n es) stm.stop) →
-    (meanings 36).vals (on_card c b s globals externals turns) (run_at 999999 [] []) (typed_frame_at 2) 0 es []
+    (meanings (and_more 36 k)).vals (on_card c b s globals externals turns) (run_at 999999 [] []) (typed_frame_at 2) 0 es []
     ≡ told (Ok vs) (on_card c b s globals externals turns) (run_at 999999 [] []) →
-    typed 40 (on_card c b s globals externals turns) line
-    ≡ command_ends (on_card c b s globals externals turns)
-    (by_found 34 (on_card c b s globals externals turns) (noted (run_at 999998 [] []) n 2)
+    typed (and_more 40 k) (on_card c b s globals externals turns) line
+    ≡ command_ends k (on_card c b s globals externals turns)
+    (by_found (and_more 34 k) (on_card c b s globals externals turns) (noted (run_at 999998 [] []) n 2)
     (typed_frame_at 2) 0 n vs Command (found_among ((2, c) ∷ (1, b) ∷ (0, s) ∷ []) Command n))
 unfolding meanings
-typed_command c b s globals externals turns line n es vs read values =
+typed_command k c b s globals externals turns line n es vs read values =
     let w = on_card c b s globals externals turns in
-    ap (λ t. after (told t w (fresh_run 1000000)) (λ ss w r. (meanings 40).line w r ss)) read
-    ∙ ap (λ t. command_ends w (after t (λ vs w2 r. (meanings 36).sends w2 r (typed_frame_at 2) 0 2 n vs Command)))
+    ap (λ t. after (told t w (fresh_run 1000000)) (λ ss w r. (meanings (and_more 40 k)).line w r ss)) read
+    ∙ ap (λ t. command_ends k w (after t (λ vs w2 r. (meanings (and_more 36 k)).sends w2 r (typed_frame_at 2) 0 2 n vs Command)))
     values
-    ∙ ap (command_ends w)
-    (sent 34 c b s globals externals turns (run_at 999999 [] []) (run_at 999998 [] [])
+    ∙ ap (command_ends k w)
+    (sent (and_more 34 k) c b s globals externals turns (run_at 999999 [] []) (run_at 999998 [] [])
     (typed_frame_at 2) 0 n vs Command refl)

@@ -1,5 +1,6 @@
--- Worked rows of the language: what is typed, and what is answered. The function gives each answer.
-use Rattle.std.specs.Prelude.{◌≡◌, ℕ, List, [], ◌∷◌, ◌++◌, map, codes, decimal, true, false, Result, Ok, Err}
+-- Worked rows of the language: what is typed, and what is answered. With so many nested parts, or more, the function
+-- gives each answer.
+use Rattle.std.specs.Prelude.{zero, suc, ◌≡◌, ℕ, List, [], ◌∷◌, ◌++◌, map, codes, decimal, true, false, Result, Ok, Err}
 use Rattle.std.specs.FinMap.{empty, from_sorted}
 use Rattle.ht_values.specs.Faults.{number_of_fault}
 use Rattle.ht_grammar.specs.Lines.{typed_lines}
@@ -27,6 +28,11 @@ ending (Err stop) = codes "no answer"
 -- what a command shows, and then how it ends
 abbrev pub answer : Result Ended Stop → RunState → List (List ℕ)
 answer o r = map (λ line. codes "> " ++ line) r.shown ++ ending o ∷ []
+
+-- so many, and so many more
+abbrev pub and_more : ℕ → ℕ → ℕ
+and_more zero more = more
+and_more (suc n) more = suc (and_more n more)
 
 -- a line that is typed, where so many nested parts can be told
 abbrev pub typed : ℕ → Present → List ℕ → Told Ended
@@ -75,54 +81,54 @@ gate = record { title = codes "Gate"; sort = 4; answers_calls = false; cells = c
 -- ---- rows of any state
 
 abbrev pub Sum : Type 0
-Sum = (w : Present) → answers 20 w (codes "put 2 + 3" ∷ []) ≡ codes "> 5" ∷ codes "ok" ∷ []
+Sum = (k : ℕ) (w : Present) → answers (and_more 20 k) w (codes "put 2 + 3" ∷ []) ≡ codes "> 5" ∷ codes "ok" ∷ []
 
 -- the quotient is rounded towards zero
 abbrev pub Quotient : Type 0
-Quotient = (w : Present) → answers 20 w (codes "put 7 div -2" ∷ []) ≡ codes "> -3" ∷ codes "ok" ∷ []
+Quotient = (k : ℕ) (w : Present) → answers (and_more 20 k) w (codes "put 7 div -2" ∷ []) ≡ codes "> -3" ∷ codes "ok" ∷ []
 
 abbrev pub NoNumber : Type 0
-NoNumber = (w : Present) → answers 20 w (codes "put \"x\" + 1" ∷ []) ≡ codes "fault 4" ∷ []
+NoNumber = (k : ℕ) (w : Present) → answers (and_more 20 k) w (codes "put \"x\" + 1" ∷ []) ≡ codes "fault 4" ∷ []
 
 -- a fault ends the command, and what was shown stays shown
 abbrev pub FaultAfterLines : Type 0
 FaultAfterLines =
-    (w : Present) → answers 20 w (codes "put 2\rput 3 div 0\rput 4" ∷ []) ≡ codes "> 2" ∷ codes "fault 6" ∷ []
+    (k : ℕ) (w : Present) → answers (and_more 20 k) w (codes "put 2\rput 3 div 0\rput 4" ∷ []) ≡ codes "> 2" ∷ codes "fault 6" ∷ []
 
 abbrev pub Choice : Type 0
 Choice =
-    (w : Present) →
-    answers 20 w
+    (k : ℕ) (w : Present) →
+    answers (and_more 20 k) w
     ((codes "do \"if false then\" & return & \"put 1\" & return & \"else if true then\" & return & \"put 2\""
     ++ codes " & return & \"else\" & return & \"put 3\" & return & \"end if\"") ∷ [])
     ≡ codes "> 2" ∷ codes "ok" ∷ []
 
 abbrev pub Repeated : Type 0
 Repeated =
-    (w : Present) →
-    answers 20 w (codes "do \"repeat for 2 times\" & return & \"put 1\" & return & \"end repeat\"" ∷ [])
+    (k : ℕ) (w : Present) →
+    answers (and_more 20 k) w (codes "do \"repeat for 2 times\" & return & \"put 1\" & return & \"end repeat\"" ∷ [])
     ≡ codes "> 1" ∷ codes "> 1" ∷ codes "ok" ∷ []
 
 abbrev pub Chunks : Type 0
 Chunks =
-    (w : Present) →
-    answers 20 w (codes "put \"[\" & char 4 to 9 of \"hello\" & \"]\" && \"[\" & item 0 of \"a,b\" & \"]\"" ∷ [])
+    (k : ℕ) (w : Present) →
+    answers (and_more 20 k) w (codes "put \"[\" & char 4 to 9 of \"hello\" & \"]\" && \"[\" & item 0 of \"a,b\" & \"]\"" ∷ [])
     ≡ codes "> [lo] []" ∷ codes "ok" ∷ []
 
 abbrev pub NoExpression : Type 0
-NoExpression = (w : Present) → answers 20 w (codes "put the value of \"1 +\"" ∷ []) ≡ codes "fault 1" ∷ []
+NoExpression = (k : ℕ) (w : Present) → answers (and_more 20 k) w (codes "put the value of \"1 +\"" ∷ []) ≡ codes "fault 1" ∷ []
 
 abbrev pub ExitToHyperCard : Type 0
 ExitToHyperCard =
-    (w : Present) →
-    answers 20 w (codes "do \"put 1\" & return & \"exit to HyperCard\" & return & \"put 2\"" ∷ [])
+    (k : ℕ) (w : Present) →
+    answers (and_more 20 k) w (codes "do \"put 1\" & return & \"exit to HyperCard\" & return & \"put 2\"" ∷ [])
     ≡ codes "> 1" ∷ codes "ok" ∷ []
 
 -- the delimiter of items is the run's: the next command has a comma again
 abbrev pub Delimiter : Type 0
 Delimiter =
-    (w : Present) →
-    answers 20 w (codes "set itemDelimiter to \";\"\rput item 1 of \"a;b,c\"" ∷ codes "put item 1 of \"a;b,c\"" ∷ [])
+    (k : ℕ) (w : Present) →
+    answers (and_more 20 k) w (codes "set itemDelimiter to \";\"\rput item 1 of \"a;b,c\"" ∷ codes "put item 1 of \"a;b,c\"" ∷ [])
     ≡ codes "> a" ∷ codes "ok" ∷ codes "> a;b" ∷ codes "ok" ∷ []
 
 -- ---- rows of a state
@@ -130,7 +136,7 @@ Delimiter =
 -- a name without a value reads as it is written, and names of globals are folded
 abbrev pub GlobalVariable : Type 0
 GlobalVariable =
-    answers 40 (first_card [] [] [] []) (codes "put Abc" ∷ codes "put 1 into ABC" ∷ codes "put abc" ∷ [])
+    (k : ℕ) → answers (and_more 40 k) (first_card [] [] [] []) (codes "put Abc" ∷ codes "put 1 into ABC" ∷ codes "put abc" ∷ [])
     ≡ codes "> Abc" ∷ codes "ok" ∷ codes "ok" ∷ codes "> 1" ∷ codes "ok" ∷ []
 
 -- the lines of a script, with a return after each
@@ -169,7 +175,7 @@ repeats_script = script_of (
 
 abbrev pub Repeats : Type 0
 Repeats =
-    answers 40 (first_card [] [] repeats_script []) (codes "repeats 9" ∷ [])
+    (k : ℕ) → answers (and_more 40 k) (first_card [] [] repeats_script []) (codes "repeats 9" ∷ [])
     ≡ codes "> 134321xxwwuff" ∷ codes "ok" ∷ []
 
 abbrev pub function_script : List ℕ
@@ -178,7 +184,7 @@ function_script = script_of (codes "function h" ∷ codes "return 4" ∷ codes "
 -- the value of a function, which leaves no result
 abbrev pub Function : Type 0
 Function =
-    answers 40 (first_card function_script [] [] []) (codes "do \"put h()\" & return & \"put the result\"" ∷ [])
+    (k : ℕ) → answers (and_more 40 k) (first_card function_script [] [] []) (codes "do \"put h()\" & return & \"put the result\"" ∷ [])
     ≡ codes "> 4" ∷ codes "> " ∷ codes "ok" ∷ []
 
 abbrev pub passing_script : List ℕ
@@ -191,7 +197,7 @@ last_script = script_of (codes "on who" ∷ codes "put \"stack\"" ∷ codes "end
 -- a handler of the background passes a message on to the stack
 abbrev pub Passed : Type 0
 Passed =
-    answers 40 (first_card [] passing_script last_script []) (codes "who" ∷ [])
+    (k : ℕ) → answers (and_more 40 k) (first_card [] passing_script last_script []) (codes "who" ∷ [])
     ≡ codes "> bg" ∷ codes "> stack" ∷ codes "ok" ∷ []
 
 -- three handlers, of which each calls the next, and the third calls what isn't there
@@ -218,10 +224,10 @@ deep_script = script_of (
 -- a fault in the third of three handlers: what was put before it stays
 abbrev pub FaultThreeDeep : Type 0
 FaultThreeDeep =
-    answers 40 (first_card deep_script [] [] []) (codes "a" ∷ codes "put g" ∷ [])
+    (k : ℕ) → answers (and_more 40 k) (first_card deep_script [] [] []) (codes "a" ∷ codes "put g" ∷ [])
     ≡ codes "> 1" ∷ codes "> 3" ∷ codes "fault 2" ∷ codes "> 5" ∷ codes "ok" ∷ []
 
 -- conversations with an external, which passes every other message on
 abbrev pub Conversation : Type 0
 Conversation =
-    answers 40 (first_card [] [] [] (gate ∷ [])) (codes "Gate" ∷ codes "Gate" ∷ []) ≡ codes "ok" ∷ codes "fault 2" ∷ []
+    (k : ℕ) → answers (and_more 40 k) (first_card [] [] [] (gate ∷ [])) (codes "Gate" ∷ codes "Gate" ∷ []) ≡ codes "ok" ∷ codes "fault 2" ∷ []

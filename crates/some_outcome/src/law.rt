@@ -1,0 +1,33 @@
+//! Laws of outcomes that exist.
+
+ghost use Rattle.some_outcome.specs.Replies.{RepliesExist};
+ghost use Rattle.some_outcome.specs.Laws.{LinesHaveAnOutcome, MessagesHaveAnOutcome, ValuesHaveAnOutcome, ActionsHaveAnOutcome};
+
+use ht_grammar::{
+    expressions_are_read_exactly, lines_are_read_exactly, messages_are_read_exactly,
+    scripts_are_read_exactly,
+};
+use ht_lex::texts_are_cut_exactly;
+
+/// Lines, a message, an action or the value of an expression have an end that the rules allow and that isn't out of memory,
+/// while a batch is open; but for a text that is typed into a locked field.
+pub fn runs_have_an_outcome()
+    ensures lines { LinesHaveAnOutcome }
+    ensures messages { MessagesHaveAnOutcome }
+    ensures actions { ActionsHaveAnOutcome }
+    ensures values { ValuesHaveAnOutcome }
+{
+    texts_are_cut_exactly();
+    expressions_are_read_exactly();
+    lines_are_read_exactly();
+    scripts_are_read_exactly();
+    messages_are_read_exactly();
+}
+
+/// Each fresh command has a reply, with a state after it, in any state and with any number of steps; but for a text that is
+/// typed into a locked field.
+pub fn replies_exist()
+    ensures { RepliesExist }
+{
+    runs_have_an_outcome();
+}
