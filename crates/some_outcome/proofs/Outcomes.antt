@@ -22,7 +22,8 @@ use Rattle.some_outcome.proofs.Messages.{along_has, talks_has, calls_back_has}
 use Rattle.some_outcome.proofs.Statements.{form_has}
 use Rattle.some_outcome.proofs.Commands.{line_has, message_has, acts_has}
 
-pub exactly : CutsExactly spans_of → ReadsExactly expression ReadsExpr → ReadsExactly typed_lines ReadsLines → ReadsExactly script ReadsScript → ReadsExactly sent_message ReadsMessage → AreExact
+pub exactly : CutsExactly spans_of → ReadsExactly expression ReadsExpr → ReadsExactly typed_lines ReadsLines →
+    ReadsExactly script ReadsScript → ReadsExactly sent_message ReadsMessage → AreExact
 exactly c e l s m = record { cuts = c; expressions = e; lines = l; messages = m; scripts = s }
 
 no_fewer : {w : History} {r : RunState} → Underway zero w r → ⊥
@@ -70,14 +71,17 @@ pub lines_have_an_outcome : AreExact → LinesHaveAnOutcome
 lines_have_an_outcome exact w r ss is_open = known (line_has (level exact r.left) w r ss (begins r is_open))
 
 pub messages_have_an_outcome : AreExact → MessagesHaveAnOutcome
-messages_have_an_outcome exact w r i name vs is_open = known (message_has (level exact r.left) w r i name vs (begins r is_open))
+messages_have_an_outcome exact w r i name vs is_open = known
+    (message_has (level exact r.left) w r i name vs (begins r is_open))
 
 pub values_have_an_outcome : AreExact → ValuesHaveAnOutcome
-values_have_an_outcome exact w r f d e is_open le = known (val_has exact (level exact r.left) w r f d e le (begins r is_open))
+values_have_an_outcome exact w r f d e is_open le = known
+    (val_has exact (level exact r.left) w r f d e le (begins r is_open))
 
 pub actions_have_an_outcome : AreExact → ActionsHaveAnOutcome
 actions_have_an_outcome exact w r ac is_open = by_lock (acts_has exact (level exact r.left) w r ac (begins r is_open))
   where
-    by_lock : Has (suc r.left) (Acts w r ac) ⊎ ((w2 : History) × ((r2 : RunState) × MeetsLock w r ac w2 r2)) → HasOutcome (Acts w r ac) ⊎ ((w2 : History) × ((r2 : RunState) × MeetsLock w r ac w2 r2))
+    by_lock : Has (suc r.left) (Acts w r ac) ⊎ ((w2 : History) × ((r2 : RunState) × MeetsLock w r ac w2 r2)) →
+        HasOutcome (Acts w r ac) ⊎ ((w2 : History) × ((r2 : RunState) × MeetsLock w r ac w2 r2))
     by_lock (inl acts) = inl (known acts)
     by_lock (inr locked) = inr locked

@@ -39,11 +39,16 @@ pub replies : ActionsHaveAnOutcome → RepliesExist
 unfolding opened
 replies actions s steps does = by_end (actions (opened s) (fresh_run steps) does refl)
   where
-    by_end : HasOutcome (Acts (opened s) (fresh_run steps) does) ⊎ ((w : History) × ((r : _) × MeetsLock (opened s) (fresh_run steps) does w r)) → ((reply : Reply) × ((new : State) × Fresh s steps does reply new)) ⊎ Locked s steps does
+    by_end : HasOutcome (Acts (opened s) (fresh_run steps) does) ⊎
+        ((w : History) × ((r : _) × MeetsLock (opened s) (fresh_run steps) does w r)) →
+        ((reply : Reply) × ((new : State) × Fresh s steps does reply new)) ⊎ Locked s steps does
     by_end (inl (outcome o w r has means)) =
         let ending = answered o has in
         inl (
           reply_of r ending.0,
-          (w.now, record { old = opened s; end = w; runs = record { run = r; end = o; means = means; ending = ending.0; ends = ending.1; answer = refl }; here = refl; leaves = refl }),
+          (w.now, record { old = opened s; end = w; runs = record
+              { run = r; end = o; means = means; ending = ending.0; ends = ending.1; answer = refl }; here = refl;
+              leaves = refl }),
         )
-    by_end (inr locked) = inr (record { old = opened s; end = locked.0; run = locked.1.0; meets = locked.1.1; here = refl })
+    by_end (inr locked) = inr
+        (record { old = opened s; end = locked.0; run = locked.1.0; meets = locked.1.1; here = refl })

@@ -58,7 +58,8 @@ relays cells (Start (a ∷ b ∷ c ∷ d ∷ [])) = length-set cells 0 a
 relays cells (Start (a ∷ b ∷ c ∷ d ∷ e ∷ rest)) = refl
 relays cells (Answer [] value) = refl
 relays cells (Answer (stage ∷ []) value) = refl
-relays cells (Answer (stage ∷ text ∷ []) value) = either (is_stage stage (codes "3")) _ _ (length-set cells 1 value) (either (is_stage stage (codes "4")) _ _ refl refl)
+relays cells (Answer (stage ∷ text ∷ []) value) = either (is_stage stage (codes "3")) _ _ (length-set cells 1 value)
+    (either (is_stage stage (codes "4")) _ _ refl refl)
 relays cells (Answer (stage ∷ a ∷ b ∷ []) value) = either (is_stage stage (codes "2")) _ _ refl refl
 relays cells (Answer (stage ∷ a ∷ b ∷ c ∷ []) value) = either (is_stage stage (codes "1")) _ _ refl refl
 relays cells (Answer (stage ∷ a ∷ b ∷ c ∷ d ∷ rest) value) = refl
@@ -68,7 +69,8 @@ counters cells (Start args) = counts cells (number_in (cell cells 0))
 counters cells (Answer note value) = refl
 
 gates : (cells : List (List ℕ)) (input : Input) → Keeps (length cells) (gate_turn cells input)
-gates cells (Start args) = either (bytes_eq (cell cells 0) (codes "0")) _ _ (length-set cells 0 _) (either (bytes_eq (cell cells 0) (codes "1")) _ _ (length-set cells 0 _) refl)
+gates cells (Start args) = either (bytes_eq (cell cells 0) (codes "0")) _ _ (length-set cells 0 _)
+    (either (bytes_eq (cell cells 0) (codes "1")) _ _ (length-set cells 0 _) refl)
 gates cells (Answer note value) = refl
 
 if_some : (P : Turn → Type 0) (b : Bool) (x y : Option Turn) → IfSome x P → IfSome y P → IfSome (if b then x else y) P
@@ -79,12 +81,14 @@ keeps : (sort : ℕ) (cells : List (List ℕ)) (input : Input) → IfSome (turn_
 keeps sort cells input =
     if_some (Keeps (length cells)) (nat_eq sort 1) _ _ (counters cells input)
     (if_some (Keeps (length cells)) (nat_eq sort 2) _ _ (bins cells input)
-    (if_some (Keeps (length cells)) (nat_eq sort 3) _ _ (relays cells input) (if_some (Keeps (length cells)) (nat_eq sort 4) _ _ (gates cells input) tt)))
+    (if_some (Keeps (length cells)) (nat_eq sort 3) _ _ (relays cells input)
+        (if_some (Keeps (length cells)) (nat_eq sort 4) _ _ (gates cells input) tt)))
 
 -- ---- a turn of an open history
 
 -- an external that has a turn of the table is there
-is_there : (es : List Seen) (k : ℕ) (input : Input) (t : Turn) → turn_of (slice_index_or es k none_seen).sort (slice_index_or es k none_seen).cells input ≡ Some t → k < length es
+is_there : (es : List Seen) (k : ℕ) (input : Input) (t : Turn) →
+    turn_of (slice_index_or es k none_seen).sort (slice_index_or es k none_seen).cells input ≡ Some t → k < length es
 is_there [] k input t e = absurd (none-some _ e)
 is_there (s ∷ es) zero input t e = omega arith
 is_there (s ∷ es) (suc k) input t e = let before = is_there es k input t e in omega (arith, before)
@@ -93,11 +97,15 @@ is_there (s ∷ es) (suc k) input t e = let before = is_there es k input t e in 
 abbrev with_turn : History → Open → ℕ → Turn → History
 with_turn w batch k t = record w {
   now = with_cells_at w.now k t.1;
-  start = Some (record batch { trail = trail_after_turn (replaced_by_turn k (seen_at w.now k).cells (seen_at (with_cells_at w.now k t.1) k).cells) batch.trail });
+  start = Some (record batch
+      { trail = trail_after_turn
+      (replaced_by_turn k (seen_at w.now k).cells (seen_at (with_cells_at w.now k t.1) k).cells) batch.trail });
   turns = one_more_at w.turns k;
 }
 
-takes : (w : History) (batch : Open) (k : ℕ) (input : Input) (t : Turn) → w.start ≡ Some batch → (seen_at (with_cells_at w.now k t.1) k).cells ≡ t.1 → Answers (seen_at w.now k).sort (seen_at w.now k).cells input t.0 t.1
+takes : (w : History) (batch : Open) (k : ℕ) (input : Input) (t : Turn) → w.start ≡ Some batch →
+    (seen_at (with_cells_at w.now k t.1) k).cells ≡ t.1 →
+    Answers (seen_at w.now k).sort (seen_at w.now k).cells input t.0 t.1
     → TookTurn w (with_turn w batch k t) k input t.0
 takes w batch k input t e cells answers = record {
   turn = record {
@@ -108,26 +116,33 @@ takes w batch k input t e cells answers = record {
   start =
       subst
       (λ s. BothOpen s (with_turn w batch k t).start
-      (λ o p. let replaced = replaced_by_turn k (seen_at w.now k).cells (seen_at (with_cells_at w.now k t.1) k).cells in Rises replaced (trail_after_turn replaced o.trail) o p))
+      (λ o p. let replaced = replaced_by_turn k (seen_at w.now k).cells (seen_at (with_cells_at w.now k t.1) k).cells
+          in Rises replaced (trail_after_turn replaced o.trail) o p))
       (sym e) (record { state = refl; number = refl; undo = omega arith; redo = omega arith; trail = refl });
 }
 
 -- A turn of an external, and then: of a kind that isn't free the one of the table, of a free one that it fails.
-pub then_turn : {B : Type 0} {n : ℕ} {Q : Result B Stop → History → RunState → Type 0} (w : History) (r : RunState) (k : ℕ) (input : Input) → Underway n w r
+pub then_turn : {B : Type 0} {n : ℕ} {Q : Result B Stop → History → RunState → Type 0} (w : History) (r : RunState)
+    (k : ℕ) (input : Input) → Underway n w r
     → ((ask : Ask) (w1 : History) → Underway n w1 r → TookTurn w w1 k input ask → Has n Q) → Has n Q
-then_turn {B} {n} {Q} w r k input goes goes_on = by_turn (turn_of (seen_at w.now k).sort (seen_at w.now k).cells input) refl
+then_turn {B} {n} {Q} w r k input goes goes_on = by_turn
+    (turn_of (seen_at w.now k).sort (seen_at w.now k).cells input) refl
   where
     by_turn : (t : Option Turn) → turn_of (seen_at w.now k).sort (seen_at w.now k).cells input ≡ t → Has n Q
     by_turn None is =
         let t : Turn = (Fail, (seen_at w.now k).cells) in
         goes_on Fail (with_turn w goes.is_open.0 k t) (record { is_open = (_, refl); left = goes.left })
-        (takes w goes.is_open.0 k input t goes.is_open.1 (ap (λ es. (slice_index_or es k none_seen).cells) (set-get_or w.now.externals k none_seen))
-        (record { count = refl; known = subst (λ o. IfSome o (λ turn. (Fail ≡ turn.0) × ((seen_at w.now k).cells ≡ turn.1))) (sym is) tt }))
+        (takes w goes.is_open.0 k input t goes.is_open.1
+            (ap (λ es. (slice_index_or es k none_seen).cells) (set-get_or w.now.externals k none_seen))
+        (record { count = refl; known = subst
+            (λ o. IfSome o (λ turn. (Fail ≡ turn.0) × ((seen_at w.now k).cells ≡ turn.1))) (sym is) tt }))
     by_turn (Some t) is =
         goes_on t.0 (with_turn w goes.is_open.0 k t) (record { is_open = (_, refl); left = goes.left })
         (takes w goes.is_open.0 k input t goes.is_open.1
-        (ap (λ s. s.cells) (get_or-set_same w.now.externals k (with_cells (seen_at w.now k) t.1) none_seen (is_there w.now.externals k input t is)))
+        (ap (λ s. s.cells) (get_or-set_same w.now.externals k (with_cells (seen_at w.now k) t.1) none_seen
+            (is_there w.now.externals k input t is)))
         (record {
-          count = subst (λ o. IfSome o (Keeps (length (seen_at w.now k).cells))) is (keeps (seen_at w.now k).sort (seen_at w.now k).cells input);
+          count = subst (λ o. IfSome o (Keeps (length (seen_at w.now k).cells))) is
+              (keeps (seen_at w.now k).sort (seen_at w.now k).cells input);
           known = subst (λ o. IfSome o (λ turn. (t.0 ≡ turn.0) × (t.1 ≡ turn.1))) (sym is) (refl, refl);
         }))

@@ -21,11 +21,13 @@ LinesHaveAnOutcome = (w : History) (r : RunState) (ss : stm.Stmts) → IsSome w.
 
 -- and so has a message
 abbrev pub MessagesHaveAnOutcome : Type 0
-MessagesHaveAnOutcome = (w : History) (r : RunState) (i : ℕ) (n : List ℕ) (vs : List (List ℕ)) → IsSome w.start → HasOutcome (Message w r i n vs)
+MessagesHaveAnOutcome = (w : History) (r : RunState) (i : ℕ) (n : List ℕ) (vs : List (List ℕ)) → IsSome w.start →
+    HasOutcome (Message w r i n vs)
 
 -- and the value of an expression, at most a hundred calls deep
 abbrev pub ValuesHaveAnOutcome : Type 0
-ValuesHaveAnOutcome = (w : History) (r : RunState) (f : Frame) (d : ℕ) (e : tree.Expr) → IsSome w.start → d ≤ 100 → HasOutcome (Val w r f d e)
+ValuesHaveAnOutcome = (w : History) (r : RunState) (f : Frame) (d : ℕ) (e : tree.Expr) → IsSome w.start → d ≤ 100 →
+    HasOutcome (Val w r f d e)
 
 -- and an action, unless it types into a locked field
 abbrev pub ActionsHaveAnOutcome : Type 0

@@ -1,0 +1,4 @@
+pub mod Once
+pub mod Kept
+pub mod One
+pub mod Exists

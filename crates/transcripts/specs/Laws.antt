@@ -1,0 +1,47 @@
+-- Laws of transcripts: what lines are answered, from a list of whole states and a desk on.
+use Rattle.std.specs.Prelude.{◌≡◌, ◌≢◌, ℕ, ◌<◌, List, length}
+use Rattle.std.specs.List.{AllByRecursion}
+use Rattle.devices.specs.Desks.{SeenDesk}
+use Rattle.one_outcome.specs.Laws.{IsFixed, sorts_of, NoneIsFree}
+use Rattle.session.specs.declared.reply.Ending.TheVariants.{Refused}
+use Rattle.session.specs.declared.reply.Refusal.TheVariants.{NoMemory, SaveFailed}
+use Rattle.session.specs.declared.reply.Reply.{Reply}
+use Rattle.headline.specs.Answering.{Session}
+use Rattle.headline.specs.Headline.{Snapshot, Timeline, LineMoves}
+use Rattle.headline.specs.Saving.{Settles}
+
+-- a line is taken with the memory that it needs, and what it saves is kept
+pub record Succeeds {S : Type 0} (takes : List ℕ → S → Reply → S → Type 0) (line : List ℕ) (old : S) (reply : Reply)
+    (new : S) : Type 0 where
+  pub taken : takes line old reply new
+  pub memory : reply.ending ≢ Refused NoMemory
+  pub kept : reply.ending ≢ Refused SaveFailed
+
+-- the answers to lines, none of which is refused for memory or for its file
+abbrev pub Transcript : Timeline × SeenDesk → List (List ℕ) → List ℕ → Timeline × SeenDesk → Type 0
+Transcript = Session (Succeeds (Settles LineMoves))
+
+-- the cursor stands on a state
+abbrev pub HasPresent : Timeline → Type 0
+HasPresent t = t.cursor < length t.snapshots
+
+-- no external of a state is free
+abbrev pub IsDetermined : Snapshot → Type 0
+IsDetermined s = NoneIsFree (sorts_of s.state.externals)
+
+-- Each list of lines has a transcript.
+abbrev pub TranscriptsExist : Type 0
+TranscriptsExist =
+    (old : Timeline × SeenDesk) (lines : List (List ℕ)) → HasPresent old.0 →
+    (text : List ℕ) × ((new : Timeline × SeenDesk) × Transcript old lines text new)
+
+-- Where no external of the states is free, it has one.
+abbrev pub TranscriptsAreOne : Type 0
+TranscriptsAreOne =
+    (old : Timeline × SeenDesk) (lines : List (List ℕ)) (text text2 : List ℕ) (new new2 : Timeline × SeenDesk) →
+    AllByRecursion IsDetermined old.0.snapshots → Transcript old lines text new → Transcript old lines text2 new2 →
+    (text ≡ text2) × (new ≡ new2)
+
+-- No external of the kit is free.
+abbrev pub KitIsFixed : Type 0
+KitIsFixed = IsFixed 1 × IsFixed 2 × IsFixed 3 × IsFixed 4
