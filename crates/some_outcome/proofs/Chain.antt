@@ -158,7 +158,7 @@ nested lt = omega (arith, lt)
 pub there : {n : ℕ} {P : Result Referent Stop → History → RunState → Type 0}
     {Q : Result (List ℕ) Stop → History → RunState → Type 0} (some none : List ℕ) → Has n P
     → ((m : Referent) (w : History) (r : RunState) → P (Ok m) w r → Q (Ok some) w r) →
-        ((w : History) (r : RunState) → P (Err (Faults NoSuchObject)) w r → Q (Ok none) w r)
+    ((w : History) (r : RunState) → P (Err (Faults NoSuchObject)) w r → Q (Ok none) w r)
     → ((z : Stop) (w : History) (r : RunState) → z ≢ Faults NoSuchObject → P (Err z) w r → Q (Err z) w r) → Has n Q
 there some none (has (Ok m) w r has_memory k h) is isnt stops = ok _ k (is m w r h)
 there some none (has (Err Memory) w r has_memory k h) is isnt stops = absurd (has_memory refl)
@@ -172,7 +172,7 @@ there some none (has (Err (Faults n)) w r has_memory k h) is isnt stops = fault 
 pub lines_end : {A : Type 0} {n : ℕ} {P : Result A Stop → History → RunState → Frame → Type 0}
     {Q : Result Ended Stop → History → RunState → Type 0} → HasRun n P
     → ((fa : Fault) (w : History) (r : RunState) (f : Frame) → P (Err (Faults fa)) w r f → Q (Err (Faults fa)) w r) →
-        ((w : History) (r : RunState) (f : Frame) → P (Err Exited) w r f → Q (Ok ExitedEnd) w r)
+    ((w : History) (r : RunState) (f : Frame) → P (Err Exited) w r f → Q (Ok ExitedEnd) w r)
     → ((a : A) (w : History) (r : RunState) (f : Frame) → P (Ok a) w r f → Q (Ok DoneEnd) w r) → Has n Q
 lines_end (has_run (Ok a) w r f has_memory k h) faults exits ends = ok _ k (ends a w r f h)
 lines_end (has_run (Err (Faults fa)) w r f has_memory k h) faults exits ends = fault _ k (faults fa w r f h)
@@ -182,7 +182,7 @@ lines_end (has_run (Err Memory) w r f has_memory k h) faults exits ends = absurd
 pub message_ends : {A : Type 0} {n : ℕ} {P : Result A Stop → History → RunState → Type 0}
     {Q : Result Ended Stop → History → RunState → Type 0} → Has n P
     → ((fa : Fault) (w : History) (r : RunState) → P (Err (Faults fa)) w r → Q (Err (Faults fa)) w r) →
-        ((w : History) (r : RunState) → P (Err Exited) w r → Q (Ok ExitedEnd) w r)
+    ((w : History) (r : RunState) → P (Err Exited) w r → Q (Ok ExitedEnd) w r)
     → ((a : A) (w : History) (r : RunState) → P (Ok a) w r → Q (Ok DoneEnd) w r) → Has n Q
 message_ends (has (Ok a) w r has_memory k h) faults exits ends = ok _ k (ends a w r h)
 message_ends (has (Err (Faults fa)) w r has_memory k h) faults exits ends = fault _ k (faults fa w r h)
@@ -192,7 +192,7 @@ message_ends (has (Err Memory) w r has_memory k h) faults exits ends = absurd (h
 pub refers_to : {n : ℕ} {P : Result Referent Stop → History → RunState → Type 0}
     {Q : Result (Option ℕ) Stop → History → RunState → Type 0} → Has n P
     → ((fa : Fault) (w : History) (r : RunState) → P (Err (Faults fa)) w r → Q (Err (Faults fa)) w r) →
-        ((w : History) (r : RunState) → P (Err Exited) w r → Q (Ok None) w r)
+    ((w : History) (r : RunState) → P (Err Exited) w r → Q (Ok None) w r)
     → ((m : Referent) (w : History) (r : RunState) → P (Ok m) w r → Q (Ok (Some m.object)) w r) → Has n Q
 refers_to (has (Ok m) w r has_memory k h) faults exits ends = ok _ k (ends m w r h)
 refers_to (has (Err (Faults fa)) w r has_memory k h) faults exits ends = fault _ k (faults fa w r h)
@@ -202,7 +202,7 @@ refers_to (has (Err Memory) w r has_memory k h) faults exits ends = absurd (has_
 -- a message, and what follows unless it ended by `exit to HyperCard`
 pub then_ended : {n : ℕ} {P Q : Result Ended Stop → History → RunState → Type 0} → Has n P
     → ((z : Stop) (w : History) (r : RunState) → P (Err z) w r → Q (Err z) w r) →
-        ((w : History) (r : RunState) → P (Ok ExitedEnd) w r → Q (Ok ExitedEnd) w r)
+    ((w : History) (r : RunState) → P (Ok ExitedEnd) w r → Q (Ok ExitedEnd) w r)
     → ((w : History) (r : RunState) → Underway n w r → P (Ok DoneEnd) w r → Has n Q) → Has n Q
 then_ended (has (Ok DoneEnd) w r has_memory k h) stops exits goes_on = goes_on w r k h
 then_ended (has (Ok ExitedEnd) w r has_memory k h) stops exits goes_on = ok _ k (exits w r h)

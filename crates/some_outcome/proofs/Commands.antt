@@ -38,8 +38,8 @@ pub message_has : {n : ℕ} → Level n → (w : History) (r : RunState) (i : �
     Underway (suc n) w r → Has (suc n) (Message w r i name vs)
 message_has h w r i name vs k =
     message_ends (sends_has h w r (typed_frame w) 0 i name vs Command (omega arith) k)
-        (λ fa w1 r1 g. Message.message_faults refl g) (λ w1 r1 g. Message.message_exits refl g)
-        (λ v w1 r1 g. Message.message_ends refl g)
+    (λ fa w1 r1 g. Message.message_faults refl g) (λ w1 r1 g. Message.message_exits refl g)
+    (λ v w1 r1 g. Message.message_ends refl g)
 
 -- ---- dot lines that send messages
 
@@ -47,20 +47,20 @@ refers_has : {n : ℕ} → AreExact → Level n → (w : History) (r : RunState)
     Has (suc n) (Refers w r pa)
 refers_has exact h w r pa k =
     refers_to (part_has exact h w r (typed_frame w) 0 pa (omega arith) k) (λ fa w1 r1 g. Refers.refer_faults refl g)
-        (λ w1 r1 g. Refers.refer_exits refl g) (λ met w1 r1 g. Refers.refers refl g refl)
+    (λ w1 r1 g. Refers.refer_exits refl g) (λ met w1 r1 g. Refers.refers refl g refl)
 
 tells_has : {n : ℕ} → Level n → (w : History) (r : RunState) (i : ℕ) (mg : SystemMessage) → Underway (suc n) w r →
     Has (suc n) (Tells w r i mg)
 tells_has h w r i mg k =
     choose r.lock_messages (λ locked. ok _ k (Tells.tells_nothing locked))
-        (λ free. same (message_has h w r i (message_name mg) [] k) (λ o w1 r1 g. Tells.tells free refl g))
+    (λ free. same (message_has h w r i (message_name mg) [] k) (λ o w1 r1 g. Tells.tells free refl g))
 
 tells_all_has : {n : ℕ} → Level n → (w : History) (r : RunState) (ms : List SystemMessage) → Underway (suc n) w r →
     Has (suc n) (TellsAll w r ms)
 tells_all_has h w r [] k = ok _ k (TellsAll.none_to_tell refl)
 tells_all_has h w r (mg ∷ ms) k =
     then_ended (tells_has h w r w.now.current mg k) (λ z w1 r1 g. TellsAll.tell_stops refl g)
-        (λ w1 r1 g. TellsAll.tell_exits refl g)
+    (λ w1 r1 g. TellsAll.tell_exits refl g)
     (λ w1 r1 k1 g. same (tells_all_has h w1 r1 ms k1) (λ o w2 r2 g2. TellsAll.tells_on refl g g2))
 
 clicks_has : {n : ℕ} → AreExact → Level n → (w : History) (r : RunState) (pa : tree.Part) → Underway (suc n) w r →
@@ -72,10 +72,10 @@ clicks_has {n} exact h w r pa k = by_part (refers_has exact h w r pa k)
     by_part (has (Ok None) w1 r1 has_memory k1 g) = ok _ k1 (Clicks.click_exits g)
     by_part (has (Ok (Some i)) w1 r1 has_memory k1 g) =
         then_ended (tells_has h w1 r1 i MouseDown k1) (λ z w2 r2 g2. Clicks.press_stops g g2)
-            (λ w2 r2 g2. Clicks.press_exits g g2) (λ w2 r2 k2 g2.
+        (λ w2 r2 g2. Clicks.press_exits g g2) (λ w2 r2 k2 g2.
         choose (is_some (object_at w2.now.stack i))
-            (λ there. same (tells_has h w2 r2 i MouseUp k2) (λ o w3 r3 g3. Clicks.clicks g g2 there g3))
-            (λ gone. ok _ k2 (Clicks.part_goes g g2 gone)))
+        (λ there. same (tells_has h w2 r2 i MouseUp k2) (λ o w3 r3 g3. Clicks.clicks g g2 there g3))
+        (λ gone. ok _ k2 (Clicks.part_goes g g2 gone)))
 
 no_value : {A : Type 0} {fa : Fault} {a : A} → Err fa ≡ Ok a → ⊥
 no_value e = cc
@@ -84,13 +84,13 @@ types_over_has : {n : ℕ} → Level n → (w : History) (r : RunState) (o : Ref
     Has (suc n) (TypesOver w r o t)
 types_over_has h w r o t k =
     computed (field_text w.now (typed_frame w).variables r.delimiter o)
-        (λ old is. computed (field_place w.now o) (λ p at.
+    (λ old is. computed (field_place w.now o) (λ p at.
     then_edited_lines k (edits w (typed_frame w) r.delimiter p (Put Into t) k.is_open)
-        (λ z w1 f1 g. TypesOver.type_over_stops refl is at g) (λ w1 f1 k1 g.
+    (λ z w1 f1 g. TypesOver.type_over_stops refl is at g) (λ w1 f1 k1 g.
     same (tells_has h w1 r o.object (leaving_message old t) k1)
-        (λ o w2 r1 g2. TypesOver.types_over refl is at g refl refl g2)))
+    (λ o w2 r1 g2. TypesOver.types_over refl is at g refl refl g2)))
     (λ fa at. absurd (no_value
-        (sym (ap (λ c. and_then c (λ p. read_at w.now (typed_frame w).variables r.delimiter p)) at) ∙ is))))
+    (sym (ap (λ c. and_then c (λ p. read_at w.now (typed_frame w).variables r.delimiter p)) at) ∙ is))))
     (λ fa gone. ok _ k (TypesOver.typed_field_goes refl gone))
 
 -- a text is typed, unless the field is locked
@@ -108,9 +108,9 @@ types_into_has {n} exact h w r t pa k = by_part (refers_has exact h w r pa k)
     by_part (has (Ok (Some i)) w1 r1 has_memory k1 g) =
         choose (locks_text w1.now.stack i) (λ locked. inr (w1, (r1, (i, g, locked)))) (λ free. inl
         (then_ended (tells_has h w1 r1 i OpenField k1) (λ z w2 r2 g2. TypesInto.field_open_stops g free g2)
-            (λ w2 r2 g2. TypesInto.field_open_exits g free g2) (λ w2 r2 k2 g2.
+        (λ w2 r2 g2. TypesInto.field_open_exits g free g2) (λ w2 r2 k2 g2.
         same (types_over_has h w2 r2 (met_here w1.now.current i) t k2)
-            (λ o w3 r3 g3. TypesInto.types_into g free refl g2 g3))))
+        (λ o w3 r3 g3. TypesInto.types_into g free refl g2 g3))))
 
 pub acts_has : {n : ℕ} → AreExact → Level n → (w : History) (r : RunState) (ac : Action) → Underway (suc n) w r →
     Has (suc n) (Acts w r ac) ⊎ ((w2 : History) × ((r2 : RunState) × MeetsLock w r ac w2 r2))

@@ -26,17 +26,17 @@ pub sends_has : {n : ℕ} → Level n →
     d ≤ 100 → Underway (suc n) w r → Has (suc n) (Sends w r f d i name vs kind)
 sends_has h w r f d i name vs kind le k =
     then_step w r k (λ z r1 st. Sends.sends_no_step st)
-        (λ r1 k1 st. lift (same
-        (h.along w (noted r1 name i) f d i (path w.now.stack w.now.current i) name vs kind le
-        (record { is_open = k1.is_open; left = k1.left })) (λ o w1 r3 g. Sends.sends st refl refl g)))
+    (λ r1 k1 st. lift (same
+    (h.along w (noted r1 name i) f d i (path w.now.stack w.now.current i) name vs kind le
+    (record { is_open = k1.is_open; left = k1.left })) (λ o w1 r3 g. Sends.sends st refl refl g)))
 
 pub text_val_has : {n : ℕ} → AreExact → Level n → (w : History) (r : RunState) (f : Frame) (d : ℕ) (t : List ℕ) →
     d ≤ 100 → Underway (suc n) w r → Has (suc n) (TextVal w r f d t)
 text_val_has exact h w r f d t le k =
     then_step w r k (λ z r1 st. TextVal.value_no_step st) (λ r1 k1 st. lift
     (deep d le (λ lt. then_parsed expression ReadsExpr t exact.cuts exact.expressions k1
-        (λ z p. TextVal.value_syntax st lt p)
-        (λ e p. same (h.val w r1 f (d + 1) e (nested lt) k1) (λ o w1 r2 g. TextVal.value st lt p g)))
+    (λ z p. TextVal.value_syntax st lt p)
+    (λ e p. same (h.val w r1 f (d + 1) e (nested lt) k1) (λ o w1 r2 g. TextVal.value st lt p g)))
     (λ at. fault _ k1 (TextVal.value_too_deep st at))))
 
 -- ---- expressions that are converted
@@ -71,18 +71,18 @@ mutual
   val_has exact h w r f d (tree.paren x) le k = same (val_has exact h w r f d x le k) (λ o w1 r1 g. Val.paren refl g)
   val_has exact h w r f d (tree.unary un x) le k =
       then (val_has exact h w r f d x le k) (λ z w1 r1 g. Val.operand_stops refl g)
-          (λ p w1 r1 k1 g. yield (unary un p) k1 (λ o y. Val.one_operand refl g y))
+      (λ p w1 r1 k1 g. yield (unary un p) k1 (λ o y. Val.one_operand refl g y))
   val_has exact h w r f d (tree.binary op x y) le k =
       then (val_has exact h w r f d x le k) (λ z w1 r1 g. Val.left_stops refl g) (λ p w1 r1 k1 g.
       then (val_has exact h w1 r1 f d y le k1) (λ z w2 r2 g2. Val.right_stops refl g g2)
-          (λ q w2 r2 k2 g2. yield (binary op p q) k2 (λ o y. Val.two_operands refl g g2 y)))
+      (λ q w2 r2 k2 g2. yield (binary op p q) k2 (λ o y. Val.two_operands refl g g2 y)))
   val_has exact h w r f d (tree.there_is denied ref) le k =
       there _ _ (meets_has exact h w r f d ref le k) (λ m w1 r1 g. Val.there_is refl g refl)
-          (λ w1 r1 g. Val.there_is_none refl g refl) (λ z w1 r1 isnt g. Val.there_stops refl g isnt)
+      (λ w1 r1 g. Val.there_is_none refl g refl) (λ z w1 r1 isnt g. Val.there_stops refl g isnt)
   val_has exact h w r f d (tree.chunk head x) le k =
       then (chunk_has exact h w r f d head le k) (λ z w1 r1 g. Val.chunk_stops refl g) (λ c w1 r1 k1 g.
       then (val_has exact h w1 r1 f d x le k1) (λ z w2 r2 g2. Val.chunk_of_stops refl g g2)
-          (λ p w2 r2 k2 g2. ok _ k2 (Val.chunk refl g g2 refl)))
+      (λ p w2 r2 k2 g2. ok _ k2 (Val.chunk refl g g2 refl)))
   val_has exact h w r f d (tree.field pa) le k = then (part_has exact h w r f d pa le k)
       (λ z w1 r1 g. Val.field_stops refl g) (λ m w1 r1 k1 g. yield _ k1 (λ o y. Val.field refl g y))
   val_has exact h w r f d tree.result le k = ok _ k (Val.the_result refl refl)
@@ -94,7 +94,7 @@ mutual
   val_has exact h w r f d (tree.number_of (tree.parts layer kind)) le k = ok _ k (Val.parts refl refl)
   val_has exact h w r f d (tree.number_of (tree.of_object ref)) le k =
       then (meets_has exact h w r f d ref le k) (λ z w1 r1 g. Val.number_stops refl g)
-          (λ m w1 r1 k1 g. yield _ k1 (λ o y. Val.number_of_object refl g y))
+      (λ m w1 r1 k1 g. yield _ k1 (λ o y. Val.number_of_object refl g y))
   val_has exact h w r f d (tree.property p ref) le k = then (meets_has exact h w r f d ref le k)
       (λ z w1 r1 g. Val.property_stops refl g) (λ m w1 r1 k1 g. yield _ k1 (λ o y. Val.property refl g y))
   val_has exact h w r f d (tree.run_property p) le k = ok _ k (Val.run_property_read refl refl)
@@ -111,8 +111,8 @@ mutual
   vals_has exact h w r f d tree.none vs le k = ok _ k (Vals.vals_done refl)
   vals_has exact h w r f d (tree.more x xs) vs le k =
       then (val_has exact h w r f d x le k) (λ z w1 r1 g. Vals.vals_stop refl g)
-          (λ v w1 r1 k1 g. same (vals_has exact h w1 r1 f d xs (vs ++ v ∷ []) le k1)
-          (λ o w2 r2 g2. Vals.vals_more refl g g2))
+      (λ v w1 r1 k1 g. same (vals_has exact h w1 r1 f d xs (vs ++ v ∷ []) le k1)
+      (λ o w2 r2 g2. Vals.vals_more refl g g2))
 
   pub chunk_has : {n : ℕ} → AreExact → Level n → (w : History) (r : RunState) (f : Frame) (d : ℕ) (head : tree.Chunk) →
       d ≤ 100 → Underway (suc n) w r → Has (suc n) (ChunkOf w r f d head)
@@ -121,7 +121,7 @@ mutual
   chunk_has exact h w r f d (tree.pieces kind x y) le k =
       then (number_by (val_has exact h w r f d x le k)) (λ z w1 r1 g. ChunkOf.from_stops refl g) (λ u w1 r1 k1 g.
       then (number_by (val_has exact h w1 r1 f d y le k1)) (λ z w2 r2 g2. ChunkOf.to_stops refl g g2)
-          (λ v w2 r2 k2 g2. ok _ k2 (ChunkOf.range refl g g2 refl)))
+      (λ v w2 r2 k2 g2. ok _ k2 (ChunkOf.range refl g g2 refl)))
   chunk_has exact h w r f d (tree.nth_piece od kind) le k = ok _ k (ChunkOf.ordinal refl refl)
 
   pub picks_has : {n : ℕ} → AreExact → Level n → (w : History) (r : RunState) (f : Frame) (d : ℕ) (wh : tree.Which) →
@@ -155,10 +155,10 @@ mutual
   part_has exact h w r f d (tree.part layer kind wh owner) le k =
       then (picks_has exact h w r f d wh le k) (λ z w1 r1 g. PartMet.part_stops refl g) (λ p w1 r1 k1 g.
       then (owns_has exact h w1 r1 f d _ owner le k1) (λ z w2 r2 g2. PartMet.part_owner_stops refl g refl g2)
-          (λ s w2 r2 k2 g2. yield _ k2 (λ o y. PartMet.part_of_owner refl g refl g2 y)))
+      (λ s w2 r2 k2 g2. yield _ k2 (λ o y. PartMet.part_of_owner refl g refl g2 y)))
   part_has exact h w r f d (tree.nth_part od layer kind owner) le k =
       then (owns_has exact h w r f d _ owner le k) (λ z w1 r1 g. PartMet.nth_owner_stops refl refl g)
-          (λ s w1 r1 k1 g. yield _ k1 (λ o y. PartMet.nth_of_owner refl refl g y))
+      (λ s w1 r1 k1 g. yield _ k1 (λ o y. PartMet.nth_of_owner refl refl g y))
 
   pub meets_has : {n : ℕ} → AreExact → Level n → (w : History) (r : RunState) (f : Frame) (d : ℕ) (ref : tree.Ref) →
       d ≤ 100 → Underway (suc n) w r → Has (suc n) (Meets w r f d ref)
@@ -183,7 +183,7 @@ resolves_has exact h w r f d (tree.in_field pa) le k = then (part_has exact h w 
 resolves_has exact h w r f d (tree.in_chunk head ct) le k =
     then (chunk_has exact h w r f d head le k) (λ z w1 r1 g. Resolves.place_chunk_stops refl g) (λ c w1 r1 k1 g.
     then (resolves_has exact h w1 r1 f d ct le k1) (λ z w2 r2 g2. Resolves.place_chunk_of_stops refl g g2)
-        (λ p w2 r2 k2 g2. ok _ k2 (Resolves.place_chunk refl g g2 refl)))
+    (λ p w2 r2 k2 g2. ok _ k2 (Resolves.place_chunk refl g g2 refl)))
 
 pub leads_has : {n : ℕ} → AreExact → Level n → (w : History) (r : RunState) (f : Frame) (d : ℕ) (de : stm.Destination) →
     d ≤ 100 → Underway (suc n) w r → Has (suc n) (Leads w r f d de)

@@ -108,11 +108,11 @@ pub read_or_not : {A : Type 0} (read : List Token → Option A) (IsRead : List T
 read_or_not {A} read IsRead text cuts exact {X} is isnt =
     maybe (spans_of text)
     (λ spans cut. maybe (read (map (token_in text) spans))
-        (λ tree e. is tree (record
-        { spans = spans; cut = (cuts text spans).0 cut; reads = (exact (map (token_in text) spans) tree).0 e }))
+    (λ tree e. is tree (record
+    { spans = spans; cut = (cuts text spans).0 cut; reads = (exact (map (token_in text) spans) tree).0 e }))
     (λ none. isnt (λ tree r. none-some _
-        (sym none ∙ ap (λ ss. read (map (token_in text) ss)) (cut_once spans cut r) ∙
-        (exact (map (token_in text) r.spans) tree).1 r.reads))))
+    (sym none ∙ ap (λ ss. read (map (token_in text) ss)) (cut_once spans cut r) ∙
+    (exact (map (token_in text) r.spans) tree).1 r.reads))))
     (λ none. isnt (λ tree r. none-some _ (sym none ∙ (cuts text r.spans).1 r.cut)))
   where
     cut_once : (spans : List Span) → spans_of text ≡ Some spans → {tree : A} (r : Reads IsRead text tree) →
@@ -124,19 +124,19 @@ pub then_parsed : {A B : Type 0} {n : ℕ} {Q : Result B Stop → History → Ru
     {r : RunState} (read : List Token → Option A) (IsRead : List Token → A → Type 0) (text : List ℕ) →
     CutsExactly spans_of → ReadsExactly read IsRead → Underway n w r
     → ((z : Stop) → Parses IsRead text (Err z) → Q (Err z) w r) →
-        ((tree : A) → Parses IsRead text (Ok tree) → Has n Q) → Has n Q
+    ((tree : A) → Parses IsRead text (Ok tree) → Has n Q) → Has n Q
 then_parsed {w = w} {r} read IsRead text cuts exact k stops goes_on =
     read_or_not read IsRead text cuts exact (λ tree reads. goes_on tree (Parses.parses reads))
-        (λ none. has (Err (Faults Syntax)) w r (λ e. cc) k (stops (Faults Syntax) (Parses.unparsed none)))
+    (λ none. has (Err (Faults Syntax)) w r (λ e. cc) k (stops (Faults Syntax) (Parses.unparsed none)))
 
 pub then_parsed_in : {A B : Type 0} {n : ℕ} {Q : Result B Stop → History → RunState → Frame → Type 0} {w : History}
     {r : RunState} (f : Frame) (read : List Token → Option A) (IsRead : List Token → A → Type 0) (text : List ℕ) →
     CutsExactly spans_of → ReadsExactly read IsRead → Underway n w r
     → ((z : Stop) → Parses IsRead text (Err z) → Q (Err z) w r f) →
-        ((tree : A) → Parses IsRead text (Ok tree) → HasRun n Q) → HasRun n Q
+    ((tree : A) → Parses IsRead text (Ok tree) → HasRun n Q) → HasRun n Q
 then_parsed_in {w = w} {r} f read IsRead text cuts exact k stops goes_on =
     read_or_not read IsRead text cuts exact (λ tree reads. goes_on tree (Parses.parses reads))
-        (λ none. has_run (Err (Faults Syntax)) w r f (λ e. cc) k (stops (Faults Syntax) (Parses.unparsed none)))
+    (λ none. has_run (Err (Faults Syntax)) w r f (λ e. cc) k (stops (Faults Syntax) (Parses.unparsed none)))
 
 -- a place is found, or the fault in its stead
 pub then_field : {A B : Type 0} {n : ℕ} {Q : Result B Stop → History → RunState → Type 0} {w : History} {r : RunState}
@@ -162,14 +162,14 @@ first exact s [] kind n = first_is (Ok None) (First.nothing_left refl refl)
 first exact s (id ∷ rest) kind n =
     let later = first exact s rest kind n in
     read_or_not script ReadsScript (object_script s id) exact.cuts exact.scripts
-        (λ hs reads. first_by s id rest kind n hs reads later (handler_in hs kind n) refl)
-        (λ none. first_is (Err Syntax) (First.no_script refl none refl))
+    (λ hs reads. first_by s id rest kind n hs reads later (handler_in hs kind n) refl)
+    (λ none. first_is (Err Syntax) (First.no_script refl none refl))
 
 -- a handler is looked for
 pub then_found : {B : Type 0} {n : ℕ} {Q : Result B Stop → History → RunState → Type 0} {r : RunState} (w : History)
     (is : List ℕ) (kind : HandlerKind) (name : List ℕ) → AreExact → Underway n w r
     → ((z : Stop) → Finds w.now.stack is kind name (Err z) → Q (Err z) w r) →
-        ((found : Option Found) → Finds w.now.stack is kind name (Ok found) → Has n Q) → Has n Q
+    ((found : Option Found) → Finds w.now.stack is kind name (Ok found) → Has n Q) → Has n Q
 then_found {B} {n} {Q} {r} w is kind name exact k stops goes_on = by_first (first exact w.now.stack is kind name)
   where
     by_first : FirstIs w.now.stack is kind name → Has n Q
@@ -189,7 +189,7 @@ makes w batch c e = record {
   history = refl;
   start =
       subst (λ s. BothOpen s (with_change w batch c).start
-          (λ o p. Rises (replaced_by w.now c) (trail_after (replaced_by w.now c) o.trail) o p)) (sym e)
+      (λ o p. Rises (replaced_by w.now c) (trail_after (replaced_by w.now c) o.trail) o p)) (sym e)
       (record { state = refl; number = refl; undo = omega arith; redo = omega arith; trail = refl });
 }
 
@@ -213,7 +213,7 @@ still w1 k is_open = record { is_open = is_open; left = k.left }
 pub then_ends : {B : Type 0} {n : ℕ} {P : Result (Unit {0}) Stop → History → Type 0}
     {Q : Result B Stop → History → RunState → Type 0} {w : History} {r : RunState} → Underway n w r → Ends P
     → ((z : Stop) (w : History) → P (Err z) w → Q (Err z) w r) →
-        ((w : History) → Underway n w r → P (Ok tt) w → Has n Q) → Has n Q
+    ((w : History) → Underway n w r → P (Ok tt) w → Has n Q) → Has n Q
 then_ends k (ends (Ok u) w1 has_memory is_open h) stops goes_on = goes_on w1 (still w1 k is_open) h
 then_ends {r = r} k (ends (Err z) w1 has_memory is_open h) stops goes_on = has (Err z) w1 r (stops_too has_memory)
     (still w1 k is_open) (stops z w1 h)
@@ -222,7 +222,7 @@ pub then_ends_in : {B : Type 0} {n : ℕ} {P : Result (Unit {0}) Stop → Histor
     {Q : Result B Stop → History → RunState → Frame → Type 0} {w : History} {r : RunState} (f : Frame) →
     Underway n w r → Ends P
     → ((z : Stop) (w : History) → P (Err z) w → Q (Err z) w r f) →
-        ((w : History) → Underway n w r → P (Ok tt) w → HasRun n Q) → HasRun n Q
+    ((w : History) → Underway n w r → P (Ok tt) w → HasRun n Q) → HasRun n Q
 then_ends_in f k (ends (Ok u) w1 has_memory is_open h) stops goes_on = goes_on w1 (still w1 k is_open) h
 then_ends_in {r = r} f k (ends (Err z) w1 has_memory is_open h) stops goes_on = has_run (Err z) w1 r f
     (stops_too has_memory) (still w1 k is_open) (stops z w1 h)
@@ -230,7 +230,7 @@ then_ends_in {r = r} f k (ends (Err z) w1 has_memory is_open h) stops goes_on = 
 pub then_edited : {B : Type 0} {n : ℕ} {P : Result (Unit {0}) Stop → History → Frame → Type 0}
     {Q : Result B Stop → History → RunState → Frame → Type 0} {w : History} {r : RunState} → Underway n w r → EndsIn P
     → ((z : Stop) (w : History) (f : Frame) → P (Err z) w f → Q (Err z) w r f) →
-        ((w : History) (f : Frame) → Underway n w r → P (Ok tt) w f → HasRun n Q) → HasRun n Q
+    ((w : History) (f : Frame) → Underway n w r → P (Ok tt) w f → HasRun n Q) → HasRun n Q
 then_edited k (ends_in (Ok u) w1 f1 has_memory is_open h) stops goes_on = goes_on w1 f1 (still w1 k is_open) h
 then_edited {r = r} k (ends_in (Err z) w1 f1 has_memory is_open h) stops goes_on = has_run (Err z) w1 r f1
     (stops_too has_memory) (still w1 k is_open) (stops z w1 f1 h)
@@ -238,7 +238,7 @@ then_edited {r = r} k (ends_in (Err z) w1 f1 has_memory is_open h) stops goes_on
 pub then_edited_lines : {B : Type 0} {n : ℕ} {P : Result (Unit {0}) Stop → History → Frame → Type 0}
     {Q : Result B Stop → History → RunState → Type 0} {w : History} {r : RunState} → Underway n w r → EndsIn P
     → ((z : Stop) (w : History) (f : Frame) → P (Err z) w f → Q (Err z) w r) →
-        ((w : History) (f : Frame) → Underway n w r → P (Ok tt) w f → Has n Q) → Has n Q
+    ((w : History) (f : Frame) → Underway n w r → P (Ok tt) w f → Has n Q) → Has n Q
 then_edited_lines k (ends_in (Ok u) w1 f1 has_memory is_open h) stops goes_on = goes_on w1 f1 (still w1 k is_open) h
 then_edited_lines {r = r} k (ends_in (Err z) w1 f1 has_memory is_open h) stops goes_on = has (Err z) w1 r
     (stops_too has_memory) (still w1 k is_open) (stops z w1 f1 h)
@@ -288,7 +288,7 @@ declares_all (name ∷ names) w f k = by_value (get w.now.globals (folded name))
         (λ o w1 f2 h. DeclaresAll.declared refl (Declares.has_value is refl) refl h)
     by_value None is later =
         in_same (later (with_change w k.0 (Global (folded name) (Some []))) (_, refl))
-            (λ o w1 f2 h. DeclaresAll.declared refl (Declares.is_new is (makes w k.0 _ k.1) refl) refl h)
+        (λ o w1 f2 h. DeclaresAll.declared refl (Declares.is_new is (makes w k.0 _ k.1) refl) refl h)
 
 -- ---- objects
 

@@ -62,26 +62,26 @@ system_has : {n : ℕ} → Level n → (w : History) (r : RunState) (f : Frame) 
     Underway (suc n) w r → Has (suc n) (System w r f d i mg)
 system_has h w r f d i mg le k =
     choose r.lock_messages (λ locked. ok _ k (System.system_locked locked))
-        (λ free. same (sends_has h w r f d i (message_name mg) [] Command le k)
-        (λ o w1 r1 g. System.system free refl g))
+    (λ free. same (sends_has h w r f d i (message_name mg) [] Command le k)
+    (λ o w1 r1 g. System.system free refl g))
 
 systems_has : {n : ℕ} → Level n → (w : History) (r : RunState) (f : Frame) (d : ℕ) (ms : List SystemMessage) → d ≤ 100 →
     Underway (suc n) w r → Has (suc n) (Systems w r f d ms)
 systems_has h w r f d [] le k = ok _ k (Systems.systems_done refl)
 systems_has h w r f d (mg ∷ ms) le k =
     then (system_has h w r f d w.now.current mg le k) (λ z w1 r1 g. Systems.systems_stop refl refl g)
-        (λ v w1 r1 k1 g. same (systems_has h w1 r1 f d ms le k1) (λ o w2 r2 g2. Systems.systems_more refl refl g g2))
+    (λ v w1 r1 k1 g. same (systems_has h w1 r1 f d ms le k1) (λ o w2 r2 g2. Systems.systems_more refl refl g g2))
 
 pub goes_has : {n : ℕ} → Level n → (w : History) (r : RunState) (f : Frame) (d card : ℕ) → d ≤ 100 →
     Underway (suc n) w r → Has (suc n) (Goes w r f d card)
 goes_has h w r f d card le k =
     choose (nat_eq card w.now.current) (λ here. ok _ k (Goes.go_stays here)) (λ away.
     then (systems_has h w r f d (closing (differ w.now.stack w.now.current w.now.stack card)) le k)
-        (λ z w1 r1 g. Goes.go_close_stops away refl g) (λ v w1 r1 k1 g.
+    (λ z w1 r1 g. Goes.go_close_stops away refl g) (λ v w1 r1 k1 g.
     choose (has_kind is_card w1.now.stack card)
     (λ there. then_made w1 (Current card) k1
-        (λ w2 k2 made. same (systems_has h w2 r1 f d (opening (differ w.now.stack w.now.current w.now.stack card)) le
-        k2) (λ o w3 r2 g2. Goes.go_arrives away refl g there made g2)))
+    (λ w2 k2 made. same (systems_has h w2 r1 f d (opening (differ w.now.stack w.now.current w.now.stack card)) le
+    k2) (λ o w3 r2 g2. Goes.go_arrives away refl g there made g2)))
     (λ gone. fault _ k1 (Goes.go_gone away refl g gone))))
 
 menu_has : {n : ℕ} → Level n → (w : History) (r : RunState) (f : Frame) (d : ℕ) (it : Item) → d ≤ 100 →
@@ -89,20 +89,20 @@ menu_has : {n : ℕ} → Level n → (w : History) (r : RunState) (f : Frame) (d
 menu_has h w r f d NewCardItem le k =
     then (systems_has h w r f d (closing false) le k) (λ z w1 r1 g. Menu.card_close_stops refl g) (λ v w1 r1 k1 g.
     then_ends k1 (adds w1 NewCard k1.is_open) (λ z w2 g2. Menu.card_full refl g g2)
-        (λ w2 k2 g2. same (systems_has h w2 r1 f d new_card_messages le k2)
-        (λ o w3 r2 g3. Menu.new_card refl g g2 g3)))
+    (λ w2 k2 g2. same (systems_has h w2 r1 f d new_card_messages le k2)
+    (λ o w3 r2 g3. Menu.new_card refl g g2 g3)))
 menu_has h w r f d NewBackgroundItem le k =
     then (systems_has h w r f d (closing true) le k) (λ z w1 r1 g. Menu.background_close_stops refl g)
-        (λ v w1 r1 k1 g.
+    (λ v w1 r1 k1 g.
     then_ends k1 (adds w1 NewBackground k1.is_open) (λ z w2 g2. Menu.background_full refl g g2)
-        (λ w2 k2 g2. same (systems_has h w2 r1 f d new_background_messages le k2)
-        (λ o w3 r2 g3. Menu.new_background refl g g2 g3)))
+    (λ w2 k2 g2. same (systems_has h w2 r1 f d new_background_messages le k2)
+    (λ o w3 r2 g3. Menu.new_background refl g g2 g3)))
 menu_has h w r f d (NewPartItem kind) le k = then_ends k (adds w (NewPart (new_layer w.now r) kind) k.is_open)
     (λ z w1 g. Menu.part_full refl refl g) (λ w1 k1 g. ok _ k1 (Menu.new_part refl refl g))
 menu_has h w r f d DeleteCardItem le k =
     choose (may_delete w.now.stack w.now.current) (λ may. then_made w DeleteCard k (λ w1 k1 made.
     same (systems_has h w1 r f d (opening (differ w.now.stack w.now.current w1.now.stack w1.now.current)) le k1)
-        (λ o w2 r1 g. Menu.delete_card refl may made refl g)))
+    (λ o w2 r1 g. Menu.delete_card refl may made refl g)))
     (λ not. fault _ k (Menu.delete_refused refl not))
 
 -- ---- externals
@@ -113,7 +113,7 @@ goes_on_talking : {n : ℕ} → Level n →
     Step r (Ok tt) r1 → TookTurn w w1 e input ask → d ≤ 100 → Underway n w1 r1 → Has n (Talks w r d e input)
 goes_on_talking h w r d e input ask r1 w1 calls st took le k1 =
     then (h.calls_back w1 r1 d ask calls le k1) (λ z w2 r2 g. Talks.talk_stops st took g)
-        (λ answer w2 r2 k2 g. same (h.talks w2 r2 d e answer le k2) (λ o w3 r3 g2. Talks.talk_goes_on st took g g2))
+    (λ answer w2 r2 k2 g. same (h.talks w2 r2 d e answer le k2) (λ o w3 r3 g2. Talks.talk_goes_on st took g g2))
 
 talk_by : {n : ℕ} → Level n →
     (w : History) (r : RunState) (d e : ℕ) (input : Input) (ask : Ask) (r1 : RunState) (w1 : History) →
@@ -133,15 +133,15 @@ pub talks_has : {n : ℕ} → Level n → (w : History) (r : RunState) (d e : �
     Underway (suc n) w r → Has (suc n) (Talks w r d e input)
 talks_has h w r d e input le k =
     then_step w r k (λ z r1 st. Talks.talk_no_step st)
-        (λ r1 k1 st. lift (then_turn w r1 e input k1
-        (λ ask w1 k2 took. talk_by h w r d e input ask r1 w1 st took le k2)))
+    (λ r1 k1 st. lift (then_turn w r1 e input k1
+    (λ ask w1 k2 took. talk_by h w r d e input ask r1 w1 st took le k2)))
 
 converses_has : {n : ℕ} → Level n → (w : History) (r : RunState) (d e : ℕ) (vs : List (List ℕ)) → d ≤ 100 →
     Underway (suc n) w r → Has (suc n) (Converses w r d e vs)
 converses_has h w r d e vs le k =
     choose (nat_lt 16 (length vs)) (λ many. fault _ k (Converses.too_many_arguments (ltb-true 16 (length vs) many)))
     (λ few. deep d le (λ lt. same (talks_has h w r (d + 1) e (Start vs) (nested lt) k)
-        (λ o w1 r1 g. Converses.converses (ltb-false 16 (length vs) few) lt refl g))
+    (λ o w1 r1 g. Converses.converses (ltb-false 16 (length vs) few) lt refl g))
     (λ at. fault _ k (Converses.conversation_too_deep (ltb-false 16 (length vs) few) at)))
 
 pub calls_back_has : {n : ℕ} → AreExact → Level n → (w : History) (r : RunState) (d : ℕ) (ask : Ask) → IsCallBack ask →
@@ -149,23 +149,23 @@ pub calls_back_has : {n : ℕ} → AreExact → Level n → (w : History) (r : R
 calls_back_has exact h w r d (SendCardMessage note t) calls le k =
     then_parsed typed_lines ReadsLines t exact.cuts exact.lines k (λ z p. CallsBack.message_syntax refl p) (λ ss p.
     then_lines (block_has h w r (typed_frame w) d ss le k) (λ z w1 r1 f1 g. CallsBack.message_stops refl p refl g)
-        (λ how w1 r1 f1 k1 g. ok _ k1 (CallsBack.message_runs refl p refl g refl)))
+    (λ how w1 r1 f1 k1 g. ok _ k1 (CallsBack.message_runs refl p refl g refl)))
 calls_back_has exact h w r d (EvalExpr note t) calls le k =
     then_parsed expression ReadsExpr t exact.cuts exact.expressions k (λ z p. CallsBack.eval_syntax refl p) (λ e p.
     then (val_has exact h w r (typed_frame w) d e le k) (λ z w1 r1 g. CallsBack.eval_stops refl p refl g)
-        (λ v w1 r1 k1 g. ok _ k1 (CallsBack.evaluates refl p refl g refl)))
+    (λ v w1 r1 k1 g. ok _ k1 (CallsBack.evaluates refl p refl g refl)))
 calls_back_has exact h w r d (SetGlobal note name v) calls le k =
     choose (is_name name)
-        (λ named. then_edited_lines k
-        (edits w (typed_frame w) r.delimiter (variable_place (typed_frame w).variables name) (Put Into v) k.is_open)
-        (λ z w1 f1 g. CallsBack.global_fails refl named refl g)
+    (λ named. then_edited_lines k
+    (edits w (typed_frame w) r.delimiter (variable_place (typed_frame w).variables name) (Put Into v) k.is_open)
+    (λ z w1 f1 g. CallsBack.global_fails refl named refl g)
     (λ w1 f1 k1 g. ok _ k1 (CallsBack.global_set refl named refl g refl)))
     (λ bad. fault _ k (CallsBack.bad_global refl bad))
 calls_back_has exact h w r d (SetFieldByName note on_card name v) calls le k =
     then_field (field_named_place w.now on_card name) k (λ z y. CallsBack.no_such_field refl y) (λ p y.
     then_edited_lines k (edits w (typed_frame w) r.delimiter p (Put Into v) k.is_open)
-        (λ z w1 f1 g. CallsBack.field_fails refl y refl g)
-        (λ w1 f1 k1 g. ok _ k1 (CallsBack.field_set refl y refl g refl)))
+    (λ z w1 f1 g. CallsBack.field_fails refl y refl g)
+    (λ w1 f1 k1 g. ok _ k1 (CallsBack.field_set refl y refl g refl)))
 calls_back_has exact h w r d (Done v passes) calls le k = absurd calls
 calls_back_has exact h w r d Fail calls le k = absurd calls
 
@@ -177,13 +177,13 @@ built_in_by : {n : ℕ} → AreExact → Level n →
     Has (suc n) (BuiltInGives w r f d name vs kind)
 built_in_by exact h w r f d name vs kind Value is le k =
     maybe (only vs) (λ t one. same (text_val_has exact h w r f d t le k)
-        (λ o w1 r1 g. BuiltInGives.value_call is one g)) (λ none. fault _ k (BuiltInGives.value_arguments is none))
+    (λ o w1 r1 g. BuiltInGives.value_call is one g)) (λ none. fault _ k (BuiltInGives.value_arguments is none))
 built_in_by exact h w r f d name vs kind (BuiltInFunction fu) is le k = yield (built_in fu vs) k
     (λ o y. BuiltInGives.function_call is y)
 built_in_by exact h w r f d name vs kind DoMenu is le k =
     maybe (item_named vs)
-        (λ item named. same (menu_has h w r f d item le k) (λ o w1 r1 g. BuiltInGives.menu_item is named g))
-        (λ none. fault _ k (BuiltInGives.menu_unknown is none))
+    (λ item named. same (menu_has h w r f d item le k) (λ o w1 r1 g. BuiltInGives.menu_item is named g))
+    (λ none. fault _ k (BuiltInGives.menu_unknown is none))
 
 built_in_has : {n : ℕ} → AreExact → Level n →
     (w : History) (r : RunState) (f : Frame) (d : ℕ) (name : List ℕ) (vs : List (List ℕ)) (kind : HandlerKind) →
@@ -191,17 +191,17 @@ built_in_has : {n : ℕ} → AreExact → Level n →
 built_in_has exact h w r f d name vs kind le k =
     maybe (built_in_named kind name) (λ b is. built_in_by exact h w r f d name vs kind b is le k)
     (λ isnt. choose (is_ignored kind name) (λ ignored. ok _ k (BuiltInGives.ignored_message isnt ignored))
-        (λ unknown. fault _ k (BuiltInGives.not_understood isnt unknown)))
+    (λ unknown. fault _ k (BuiltInGives.not_understood isnt unknown)))
 
 outside_has : {n : ℕ} → AreExact → Level n →
     (w : History) (r : RunState) (f : Frame) (d : ℕ) (name : List ℕ) (vs : List (List ℕ)) (kind : HandlerKind) →
     d ≤ 100 → Underway (suc n) w r → Has (suc n) (Outside w r f d name vs kind)
 outside_has exact h w r f d name vs kind le k =
     maybe (external_named w.now.externals (calls_function kind) name)
-        (λ e is. then (converses_has h w r d e vs le k) (λ z w1 r1 g. Outside.external_stops is g) (λ c w1 r1 k1 g.
+    (λ e is. then (converses_has h w r d e vs le k) (λ z w1 r1 g. Outside.external_stops is g) (λ c w1 r1 k1 g.
     choose c.passes (λ passes. same (built_in_has exact h w1 r1 f d name vs kind le k1)
-        (λ o w2 r2 g2. Outside.external_passes is g passes g2))
-        (λ ends. ended kind c.value k1 (λ v r2 gives. Outside.external_ends is g ends gives))))
+    (λ o w2 r2 g2. Outside.external_passes is g passes g2))
+    (λ ends. ended kind c.value k1 (λ v r2 gives. Outside.external_ends is g ends gives))))
     (λ isnt. same (built_in_has exact h w r f d name vs kind le k) (λ o w1 r1 g. Outside.no_external isnt g))
 
 -- how the lines of a handler end, and what becomes of the message: those that pass it have taken a step
@@ -209,12 +209,12 @@ handler_ends : {n : ℕ} → Level n →
     (w : History) (r : RunState) (f : Frame) (d i : ℕ) (is name : List ℕ) (vs : List (List ℕ)) (kind : HandlerKind)
     (found : Found) (how : How) (w1 : History) (r1 : RunState) (f1 : Frame) → d ≤ 100 → Underway (suc n) w1 r1
     → Finds w.now.stack is kind name (Ok (Some found)) → d < 100 →
-        Passes n (Block w r (handler_frame found.object i (parameters_of found.handler) vs) (d + 1)
-        (lines_of found.handler)) (Ok how) w1 r1 f1 → Has (suc n) (Along w r f d i is name vs kind)
+    Passes n (Block w r (handler_frame found.object i (parameters_of found.handler) vs) (d + 1)
+    (lines_of found.handler)) (Ok how) w1 r1 f1 → Has (suc n) (Along w r f d i is name vs kind)
 handler_ends h w r f d i is name vs kind found Pass w1 r1 f1 le k1 g lt b =
     lift (same (h.along w1 r1 f d i (path_after w1.now.stack w1.now.current found.object) name vs kind le
-        (record { is_open = k1.is_open; left = b.fewer refl }))
-        (λ o w2 r2 g2. Along.along_passes g lt refl b.ends refl g2))
+    (record { is_open = k1.is_open; left = b.fewer refl }))
+    (λ o w2 r2 g2. Along.along_passes g lt refl b.ends refl g2))
 handler_ends h w r f d i is name vs kind found Next w1 r1 f1 le k1 g lt b = ok _ k1
     (Along.along_ends g lt refl b.ends refl)
 handler_ends h w r f d i is name vs kind found ExitRepeat w1 r1 f1 le k1 g lt b = ok _ k1
@@ -232,8 +232,8 @@ met_by : {n : ℕ} → AreExact → Level n →
     Has (suc n) (Along w r f d i is name vs kind)
 met_by exact h w r f d i is name vs kind (Some found) g le k =
     deep d le (λ lt. then_lines
-        (block_ends h w r (handler_frame found.object i (parameters_of found.handler) vs) (d + 1)
-        (lines_of found.handler) (nested lt) k) (λ z w1 r1 f1 b. Along.along_stops g lt refl b.ends)
+    (block_ends h w r (handler_frame found.object i (parameters_of found.handler) vs) (d + 1)
+    (lines_of found.handler) (nested lt) k) (λ z w1 r1 f1 b. Along.along_stops g lt refl b.ends)
     (λ how w1 r1 f1 k1 b. handler_ends h w r f d i is name vs kind found how w1 r1 f1 le k1 g lt b))
     (λ at. fault _ k (Along.along_too_deep g at))
 met_by exact h w r f d i is name vs kind None g le k = same (outside_has exact h w r f d name vs kind le k)
@@ -255,4 +255,4 @@ pub sends_text_has : {n : ℕ} → AreExact → Level n → (w : History) (r : R
     d ≤ 100 → Underway (suc n) w r → Has (suc n) (SendsText w r f d i t)
 sends_text_has exact h w r f d i t le k =
     then_parsed sent_message ReadsMessage t exact.cuts exact.messages k (λ z p. SendsText.send_syntax p)
-        (λ message p. called_by exact h w r f d i t message p le k)
+    (λ message p. called_by exact h w r f d i t message p le k)

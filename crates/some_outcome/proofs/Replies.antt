@@ -46,9 +46,17 @@ replies actions s steps does = by_end (actions (opened s) (fresh_run steps) does
         let ending = answered o has in
         inl (
           reply_of r ending.0,
-          (w.now, record { old = opened s; end = w; runs = record
-              { run = r; end = o; means = means; ending = ending.0; ends = ending.1; answer = refl }; here = refl;
-              leaves = refl }),
+          (
+            w.now,
+            record {
+              old = opened s;
+              end = w;
+              runs = record
+                  { run = r; end = o; means = means; ending = ending.0; ends = ending.1; answer = refl };
+              here = refl;
+              leaves = refl;
+            },
+          ),
         )
     by_end (inr locked) = inr
         (record { old = opened s; end = locked.0; run = locked.1.0; meets = locked.1.1; here = refl })

@@ -54,9 +54,11 @@ property_left r EditBkgnd t = truth_left r (λ b. record r { edit_background = b
 goes_after : {n : ℕ} {w : History} {r r2 : RunState} (p : RunProp) (t : List ℕ) → Underway n w r →
     run_property_set r p t ≡ Ok r2 → Underway n w r2
 unfolding left_in
-goes_after {n} {w} {r} {r2} p t k is = record
-    { is_open = k.is_open; left = subst (λ left. left < n) (sym (ap (left_in r) (sym is) ∙ property_left r p t))
-    k.left }
+goes_after {n} {w} {r} {r2} p t k is = record {
+  is_open = k.is_open;
+  left = subst (λ left. left < n) (sym (ap (left_in r) (sym is) ∙ property_left r p t))
+      k.left;
+}
 
 pub alters_has : {n : ℕ} → AreExact → Level n →
     (w : History) (r : RunState) (f : Frame) (d : ℕ) (op : Op) (x : tree.Expr) (ct : tree.Container) → d ≤ 100 →
@@ -65,13 +67,13 @@ alters_has exact h w r f d op x ct le k =
     then_in f (val_has exact h w r f d x le k) (λ z w1 r1 g. Alters.alter_stops g) (λ v w1 r1 k1 g.
     then_in f (resolves_has exact h w1 r1 f d ct le k1) (λ z w2 r2 g2. Alters.alter_nowhere g g2) (λ p w2 r2 k2 g2.
     then_edited k2 (edits w2 f r2.delimiter p (Alter op v) k2.is_open) (λ z w3 f1 g3. Alters.alter_fails g g2 g3)
-        (λ w3 f1 k3 g3. run_ok _ _ k3 (Alters.alter g g2 g3))))
+    (λ w3 f1 k3 g3. run_ok _ _ k3 (Alters.alter g g2 g3))))
 
 pub do_text_has : {n : ℕ} → AreExact → Level n → (w : History) (r : RunState) (f : Frame) (d : ℕ) (t : List ℕ) →
     d ≤ 100 → Underway (suc n) w r → HasRun (suc n) (DoText w r f d t)
 do_text_has exact h w r f d t le k =
     deep d le (λ lt. then_parsed_in f typed_lines ReadsLines t exact.cuts exact.lines k (λ z p. DoText.do_syntax lt p)
-        (λ ss p.
+    (λ ss p.
     same_run (block_has h w r f (d + 1) ss (nested lt) k) (λ o w1 r1 f1 g. DoText.do_lines lt p g)))
     (λ is. run_fault _ _ k (DoText.do_too_deep is))
 
@@ -81,7 +83,7 @@ pub bounds_has : {n : ℕ} → AreExact → Level n →
 bounds_has exact h w r f d x y down le k =
     then (val_has exact h w r f d x le k) (λ z w1 r1 g. Bounds.start_stops g) (λ p w1 r1 k1 g.
     then (val_has exact h w1 r1 f d y le k1) (λ z w2 r2 g2. Bounds.bound_stops g g2)
-        (λ q w2 r2 k2 g2. yield (counter_of p q down) k2 (λ o c. Bounds.bounds g g2 c)))
+    (λ q w2 r2 k2 g2. yield (counter_of p q down) k2 (λ o c. Bounds.bounds g g2 c)))
 
 repeat_has : {n : ℕ} → AreExact → Level n →
     (w : History) (r : RunState) (f : Frame) (d : ℕ) (head : stm.Head) (ss : stm.Stmts) → d ≤ 100 →
@@ -111,20 +113,20 @@ form_has exact h w r f d (stm.put_in place x ct) le k =
     then_in f (val_has exact h w r f d x le k) (λ z w1 r1 g. Form.put_stops refl g) (λ v w1 r1 k1 g.
     then_in f (resolves_has exact h w1 r1 f d ct le k1) (λ z w2 r2 g2. Form.put_nowhere refl g g2) (λ p w2 r2 k2 g2.
     then_edited k2 (edits w2 f r2.delimiter p (Put place v) k2.is_open) (λ z w3 f1 g3. Form.put_fails refl g g2 g3)
-        (λ w3 f1 k3 g3. run_ok _ _ k3 (Form.put refl g g2 g3))))
+    (λ w3 f1 k3 g3. run_ok _ _ k3 (Form.put refl g g2 g3))))
 form_has exact h w r f d (stm.get x) le k =
     then_in f (val_has exact h w r f d x le k) (λ z w1 r1 g. Form.get_stops refl g) (λ v w1 r1 k1 g.
     then_edited k1 (edits w1 f r1.delimiter (variable_place f.variables it_name) (Put Into v) k1.is_open)
-        (λ z w2 f1 g2. Form.get_fails refl g g2) (λ w2 f1 k2 g2. run_ok _ _ k2 (Form.get refl g g2)))
+    (λ z w2 f1 g2. Form.get_fails refl g g2) (λ w2 f1 k2 g2. run_ok _ _ k2 (Form.get refl g g2)))
 form_has exact h w r f d (stm.set p ref x) le k =
     then_in f (val_has exact h w r f d x le k) (λ z w1 r1 g. Form.set_stops refl g) (λ v w1 r1 k1 g.
     then_in f (meets_has exact h w1 r1 f d ref le k1) (λ z w2 r2 g2. Form.set_nowhere refl g g2) (λ m w2 r2 k2 g2.
     then_ends_in f k2 (sets w2 m p v k2.is_open) (λ z w3 g3. Form.set_fails refl g g2 g3)
-        (λ w3 k3 g3. run_ok _ _ k3 (Form.set refl g g2 g3))))
+    (λ w3 k3 g3. run_ok _ _ k3 (Form.set refl g g2 g3))))
 form_has exact h w r f d (stm.set_run p x) le k =
     then_in f (val_has exact h w r f d x le k) (λ z w1 r1 g. Form.set_run_stops refl g) (λ v w1 r1 k1 g.
     computed (run_property_set r1 p v) (λ r2 is. run_ok _ _ (goes_after p v k1 is) (Form.set_run refl g is))
-        (λ n is. run_fault _ _ k1 (Form.set_run_fails refl g is)))
+    (λ n is. run_fault _ _ k1 (Form.set_run_fails refl g is)))
 form_has exact h w r f d (stm.add x ct) le k = same_run (alters_has exact h w r f d Add x ct le k)
     (λ o w1 r1 f1 g. Form.add refl g)
 form_has exact h w r f d (stm.subtract x ct) le k = same_run (alters_has exact h w r f d Subtract x ct le k)
@@ -136,10 +138,10 @@ form_has exact h w r f d (stm.divide ct x) le k = same_run (alters_has exact h w
 form_has exact h w r f d (stm.delete head ct) le k =
     then_in f (chunk_has exact h w r f d head le k) (λ z w1 r1 g. Form.delete_stops refl g) (λ c w1 r1 k1 g.
     then_in f (resolves_has exact h w1 r1 f d ct le k1) (λ z w2 r2 g2. Form.delete_nowhere refl g g2)
-        (λ p w2 r2 k2 g2.
+    (λ p w2 r2 k2 g2.
     then_edited k2 (edits w2 f r2.delimiter (chunk_of_place p c) Delete k2.is_open)
-        (λ z w3 f1 g3. Form.delete_fails refl g g2 refl g3)
-        (λ w3 f1 k3 g3. run_ok _ _ k3 (Form.delete refl g g2 refl g3))))
+    (λ z w3 f1 g3. Form.delete_fails refl g g2 refl g3)
+    (λ w3 f1 k3 g3. run_ok _ _ k3 (Form.delete refl g g2 refl g3))))
 form_has exact h w r f d (stm.do_ x) le k =
     then_in f (val_has exact h w r f d x le k) (λ z w1 r1 g. Form.do_stops refl g) (λ t w1 r1 k1 g.
     same_run (do_text_has exact h w1 r1 f d t le k1) (λ o w2 r2 f1 g2. Form.do_value refl g g2))
@@ -147,11 +149,11 @@ form_has exact h w r f d (stm.send x ref) le k =
     then_in f (val_has exact h w r f d x le k) (λ z w1 r1 g. Form.send_text_stops refl g) (λ t w1 r1 k1 g.
     then_in f (meets_has exact h w1 r1 f d ref le k1) (λ z w2 r2 g2. Form.send_nowhere refl g g2) (λ m w2 r2 k2 g2.
     then_in f (sends_text_has exact h w2 r2 f d m.object t le k2) (λ z w3 r3 g3. Form.send_stops refl g g2 g3)
-        (λ v w3 r3 k3 g3. run_ok _ _ k3 (Form.send refl g g2 g3))))
+    (λ v w3 r3 k3 g3. run_ok _ _ k3 (Form.send refl g g2 g3))))
 form_has exact h w r f d (stm.go de) le k =
     then_in f (leads_has exact h w r f d de le k) (λ z w1 r1 g. Form.go_nowhere refl g) (λ card w1 r1 k1 g.
     then_in f (goes_has h w1 r1 f d card le k1) (λ z w2 r2 g2. Form.go_stops refl g g2)
-        (λ v w2 r2 k2 g2. run_ok _ _ k2 (Form.go refl g g2)))
+    (λ v w2 r2 k2 g2. run_ok _ _ k2 (Form.go refl g g2)))
 form_has exact h w r f d (stm.global names) le k = then_edited k (declares_all names w f k.is_open)
     (λ z w1 f1 g. Form.global_stops refl g) (λ w1 f1 k1 g. run_ok _ _ k1 (Form.global refl g))
 form_has exact h w r f d stm.exit_repeat le k = run_ok _ _ k (Form.exit_repeat refl)
@@ -164,7 +166,7 @@ form_has exact h w r f d (stm.return_value x) le k = then_in f (val_has exact h 
     (λ z w1 r1 g. Form.return_stops refl g) (λ v w1 r1 k1 g. run_ok _ _ k1 (Form.return_value refl g))
 form_has exact h w r f d (stm.command n es) le k =
     then_in f (calls_has exact h w r f d f.me n es Command le k) (λ z w1 r1 g. Form.command_stops refl refl g)
-        (λ v w1 r1 k1 g. run_ok _ _ k1 (Form.command refl refl g))
+    (λ v w1 r1 k1 g. run_ok _ _ k1 (Form.command refl refl g))
 form_has exact h w r f d (stm.when x ss ss2) le k =
     then_in f (truth_by (val_has exact h w r f d x le k)) (λ z w1 r1 g. Form.if_stops refl g) (λ b w1 r1 k1 g.
     choose b (λ is. same_run (block_has h w1 r1 f d ss le k1) (λ o w2 r2 f1 g2. Form.if_true refl g is g2))

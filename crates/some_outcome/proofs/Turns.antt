@@ -82,7 +82,7 @@ keeps sort cells input =
     if_some (Keeps (length cells)) (nat_eq sort 1) _ _ (counters cells input)
     (if_some (Keeps (length cells)) (nat_eq sort 2) _ _ (bins cells input)
     (if_some (Keeps (length cells)) (nat_eq sort 3) _ _ (relays cells input)
-        (if_some (Keeps (length cells)) (nat_eq sort 4) _ _ (gates cells input) tt)))
+    (if_some (Keeps (length cells)) (nat_eq sort 4) _ _ (gates cells input) tt)))
 
 -- ---- a turn of an open history
 
@@ -97,9 +97,10 @@ is_there (s ∷ es) (suc k) input t e = let before = is_there es k input t e in 
 abbrev with_turn : History → Open → ℕ → Turn → History
 with_turn w batch k t = record w {
   now = with_cells_at w.now k t.1;
-  start = Some (record batch
-      { trail = trail_after_turn
-      (replaced_by_turn k (seen_at w.now k).cells (seen_at (with_cells_at w.now k t.1) k).cells) batch.trail });
+  start = Some (record batch {
+    trail = trail_after_turn
+        (replaced_by_turn k (seen_at w.now k).cells (seen_at (with_cells_at w.now k t.1) k).cells) batch.trail;
+  });
   turns = one_more_at w.turns k;
 }
 
@@ -117,7 +118,7 @@ takes w batch k input t e cells answers = record {
       subst
       (λ s. BothOpen s (with_turn w batch k t).start
       (λ o p. let replaced = replaced_by_turn k (seen_at w.now k).cells (seen_at (with_cells_at w.now k t.1) k).cells
-          in Rises replaced (trail_after_turn replaced o.trail) o p))
+      in Rises replaced (trail_after_turn replaced o.trail) o p))
       (sym e) (record { state = refl; number = refl; undo = omega arith; redo = omega arith; trail = refl });
 }
 
@@ -133,14 +134,17 @@ then_turn {B} {n} {Q} w r k input goes goes_on = by_turn
         let t : Turn = (Fail, (seen_at w.now k).cells) in
         goes_on Fail (with_turn w goes.is_open.0 k t) (record { is_open = (_, refl); left = goes.left })
         (takes w goes.is_open.0 k input t goes.is_open.1
-            (ap (λ es. (slice_index_or es k none_seen).cells) (set-get_or w.now.externals k none_seen))
-        (record { count = refl; known = subst
-            (λ o. IfSome o (λ turn. (Fail ≡ turn.0) × ((seen_at w.now k).cells ≡ turn.1))) (sym is) tt }))
+        (ap (λ es. (slice_index_or es k none_seen).cells) (set-get_or w.now.externals k none_seen))
+        (record {
+          count = refl;
+          known = subst
+              (λ o. IfSome o (λ turn. (Fail ≡ turn.0) × ((seen_at w.now k).cells ≡ turn.1))) (sym is) tt;
+        }))
     by_turn (Some t) is =
         goes_on t.0 (with_turn w goes.is_open.0 k t) (record { is_open = (_, refl); left = goes.left })
         (takes w goes.is_open.0 k input t goes.is_open.1
         (ap (λ s. s.cells) (get_or-set_same w.now.externals k (with_cells (seen_at w.now k) t.1) none_seen
-            (is_there w.now.externals k input t is)))
+        (is_there w.now.externals k input t is)))
         (record {
           count = subst (λ o. IfSome o (Keeps (length (seen_at w.now k).cells))) is
               (keeps (seen_at w.now k).sort (seen_at w.now k).cells input);
