@@ -23,7 +23,8 @@ use Rattle.meaning.specs.Places.{field_text, field_place}
 use Rattle.meaning.specs.State.{RunState, typed_frame}
 use Rattle.user_actions.specs.Views.{MeetsLock}
 use Rattle.some_outcome.proofs.Chain.{Underway, Has, has, ok, same, stops_too, choose, computed, lines_end, message_ends, refers_to, then_ended}
-use Rattle.some_outcome.proofs.Leaves.{AreExact, then_edited_lines, edits}
+use Rattle.one_outcome.proofs.Comes.{AreExact}
+use Rattle.some_outcome.proofs.Leaves.{then_edited_lines, edits}
 use Rattle.some_outcome.proofs.Levels.{Level}
 use Rattle.some_outcome.proofs.Expressions.{part_has, sends_has}
 use Rattle.some_outcome.proofs.Blocks.{block_has}

@@ -16,7 +16,8 @@ use Rattle.meaning.specs.declared.frame.Frame.{Frame}
 use Rattle.meaning.specs.Meaning.{Val, Vals, NumberVal, TruthVal, TextVal, ChunkOf, Resolves, Picks, Seeks, Owns, PartMet, Meets, Leads, Calls, Sends}
 use Rattle.meaning.specs.State.{RunState, noted}
 use Rattle.some_outcome.proofs.Chain.{Underway, Has, ok, fault, yield, same, then, maybe, there, deep, nested}
-use Rattle.some_outcome.proofs.Leaves.{AreExact, then_step, lift, then_parsed}
+use Rattle.one_outcome.proofs.Comes.{AreExact}
+use Rattle.some_outcome.proofs.Leaves.{then_step, lift, then_parsed}
 use Rattle.some_outcome.proofs.Levels.{Level}
 
 -- ---- behind a step

@@ -14,11 +14,9 @@ use Rattle.ht_lex.specs.Token.{Token, token_in}
 use Rattle.ht_grammar.specs.declared.vocabulary.HandlerKind.{HandlerKind}
 use Rattle.ht_grammar.specs.Handlers.{handler_in}
 use Rattle.ht_grammar.specs.Laws.{ReadsExactly}
-use Rattle.ht_grammar.specs.Lines.{typed_lines}
-use Rattle.ht_grammar.specs.Reading.{expression}
-use Rattle.ht_grammar.specs.Reads.{Reads, ReadsExpr, ReadsLines, ReadsMessage, ReadsScript}
+use Rattle.ht_grammar.specs.Reads.{Reads, ReadsScript}
 use Rattle.ht_grammar.specs.Statements.{Handler, Handlers}
-use Rattle.ht_grammar.specs.Whole.{script, sent_message}
+use Rattle.ht_grammar.specs.Whole.{script}
 use Rattle.object_table.specs.Content.{Content}
 use Rattle.journal_entries.specs.declared.change.Change.{Change}
 use Rattle.journal_entries.specs.declared.change.Change.TheVariants.{Global, FieldText}
@@ -46,6 +44,7 @@ use Rattle.meaning.specs.Places.{Edits, Assigns, DeclaresAll, Sets, Adds, variab
 use Rattle.meaning.specs.State.{RunState, Step}
 use Rattle.meaning.specs.Values.{Yields, Parses}
 use Rattle.run_laws.specs.Laws.{HasMemory}
+use Rattle.one_outcome.proofs.Comes.{AreExact}
 use Rattle.some_outcome.proofs.Chain.{IsOpen, Underway, Has, has, HasRun, has_run, up, stops_too, maybe}
 
 -- ---- steps
@@ -92,14 +91,6 @@ pub passes : {n : ℕ} {Rule : Result How Stop → History → RunState → Fram
 passes (has_run o w r f has_memory k h) = has_run o w r f has_memory (up k) (record { ends = h; fewer = λ e. k.left })
 
 -- ---- texts
-
--- texts are cut and read exactly
-pub record AreExact : Type 0 where
-  pub cuts : CutsExactly spans_of
-  pub expressions : ReadsExactly expression ReadsExpr
-  pub lines : ReadsExactly typed_lines ReadsLines
-  pub messages : ReadsExactly sent_message ReadsMessage
-  pub scripts : ReadsExactly script ReadsScript
 
 -- a text is read as a tree, or as none
 pub read_or_not : {A : Type 0} (read : List Token → Option A) (IsRead : List Token → A → Type 0) (text : List ℕ) →

@@ -42,7 +42,8 @@ use Rattle.meaning.specs.Repeats.{returned}
 use Rattle.meaning.specs.State.{RunState, Step, typed_frame, handler_frame}
 use Rattle.meaning.specs.Values.{Parses}
 use Rattle.some_outcome.proofs.Chain.{Underway, Has, has, ok, fault, yield, same, then, then_lines, choose, maybe, deep, nested}
-use Rattle.some_outcome.proofs.Leaves.{AreExact, then_step, lift, Passes, then_parsed, then_found, then_field, then_made, then_ends, then_edited_lines, edits, adds}
+use Rattle.one_outcome.proofs.Comes.{AreExact}
+use Rattle.some_outcome.proofs.Leaves.{then_step, lift, Passes, then_parsed, then_found, then_field, then_made, then_ends, then_edited_lines, edits, adds}
 use Rattle.some_outcome.proofs.Turns.{then_turn}
 use Rattle.some_outcome.proofs.Levels.{IsCallBack, Level}
 use Rattle.some_outcome.proofs.Expressions.{sends_has, text_val_has, val_has, calls_has}

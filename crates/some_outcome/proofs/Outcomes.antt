@@ -1,12 +1,6 @@
 -- Each run has an outcome.
 use Rattle.std.specs.Prelude.{IsSome}
 use Rattle.std.proofs.Common.{◌≡◌, Option, Some, None, refl, ℕ, zero, suc, ◌⊎◌, inl, inr, Result, arith}
-use Rattle.ht_lex.specs.Cutting.{spans_of, CutsExactly}
-use Rattle.ht_grammar.specs.Laws.{ReadsExactly}
-use Rattle.ht_grammar.specs.Lines.{typed_lines}
-use Rattle.ht_grammar.specs.Reading.{expression}
-use Rattle.ht_grammar.specs.Reads.{ReadsExpr, ReadsLines, ReadsMessage, ReadsScript}
-use Rattle.ht_grammar.specs.Whole.{script, sent_message}
 use Rattle.change_journal.specs.History.{Open, History}
 use Rattle.meaning.specs.declared.end.Stop.{Stop}
 use Rattle.meaning.specs.Meaning.{Acts}
@@ -14,17 +8,13 @@ use Rattle.meaning.specs.State.{RunState}
 use Rattle.user_actions.specs.Views.{MeetsLock}
 use Rattle.some_outcome.specs.Laws.{HasOutcome, outcome, LinesHaveAnOutcome, MessagesHaveAnOutcome, ActionsHaveAnOutcome, ValuesHaveAnOutcome}
 use Rattle.some_outcome.proofs.Chain.{Underway, Has, has}
-use Rattle.some_outcome.proofs.Leaves.{AreExact}
+use Rattle.one_outcome.proofs.Comes.{AreExact}
 use Rattle.some_outcome.proofs.Levels.{Level}
 use Rattle.some_outcome.proofs.Expressions.{val_has}
 use Rattle.some_outcome.proofs.Blocks.{block_has, endless_has, while_has, counts_has}
 use Rattle.some_outcome.proofs.Messages.{along_has, talks_has, calls_back_has}
 use Rattle.some_outcome.proofs.Statements.{form_has}
 use Rattle.some_outcome.proofs.Commands.{line_has, message_has, acts_has}
-
-pub exactly : CutsExactly spans_of → ReadsExactly expression ReadsExpr → ReadsExactly typed_lines ReadsLines →
-    ReadsExactly script ReadsScript → ReadsExactly sent_message ReadsMessage → AreExact
-exactly c e l s m = record { cuts = c; expressions = e; lines = l; messages = m; scripts = s }
 
 no_fewer : {w : History} {r : RunState} → Underway zero w r → ⊥
 no_fewer k = let fewer = k.left in omega (arith, fewer)

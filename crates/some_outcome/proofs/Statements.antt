@@ -21,7 +21,8 @@ use Rattle.meaning.specs.Places.{variable_place, it_name, chunk_of_place}
 use Rattle.meaning.specs.Repeats.{counter_of, turns}
 use Rattle.meaning.specs.State.{RunState, delimiter_set, run_property_set}
 use Rattle.some_outcome.proofs.Chain.{Underway, Has, HasRun, run_ok, run_fault, run_exited, yield, same_run, then, then_in, choose, computed, deep, nested}
-use Rattle.some_outcome.proofs.Leaves.{AreExact, then_parsed_in, then_ends_in, then_edited, edits, declares_all, sets}
+use Rattle.one_outcome.proofs.Comes.{AreExact}
+use Rattle.some_outcome.proofs.Leaves.{then_parsed_in, then_ends_in, then_edited, edits, declares_all, sets}
 use Rattle.some_outcome.proofs.Levels.{Level}
 use Rattle.some_outcome.proofs.Expressions.{val_has, number_by, truth_by, chunk_has, resolves_has, meets_has, leads_has, calls_has}
 use Rattle.some_outcome.proofs.Blocks.{block_has, endless_has, while_has, counts_has}

@@ -1,5 +1,6 @@
 use Rattle.some_outcome.proofs.law.runs_have_an_outcome.Goals as goal
-use Rattle.some_outcome.proofs.Outcomes.{exactly, lines_have_an_outcome, messages_have_an_outcome, actions_have_an_outcome, values_have_an_outcome}
+use Rattle.one_outcome.proofs.One.{exactly}
+use Rattle.some_outcome.proofs.Outcomes.{lines_have_an_outcome, messages_have_an_outcome, actions_have_an_outcome, values_have_an_outcome}
 
 pub returns-clause-lines : goal.returns-clause-lines
 returns-clause-lines c =
