@@ -36,11 +36,12 @@ use Rattle.session.proofs.LineFeeds.{splits_whole}
 use Rattle.headline.specs.Answers.{answer}
 use Rattle.headline.specs.Answering.{is_quit}
 use Rattle.headline.specs.Headline.{Snapshot, Timeline, followed_by, Commands, at_cursor, cursor_back, cursor_forth, before, last_numbered, cursor_back_to, Does, DoesLine, line_counted, LineMoves}
+use Rattle.headline.specs.InputLines.{all_lines}
 use Rattle.headline.specs.Saving.{Kept, Settles}
 use Rattle.headline.proofs.Sessions.{split_of}
 use Rattle.some_outcome.specs.Replies.{RepliesExist}
 use Rattle.some_outcome.proofs.Leaves.{read_or_not}
-use Rattle.transcripts.specs.Laws.{Succeeds, Transcript, HasPresent, TranscriptsExist}
+use Rattle.transcripts.specs.Laws.{Succeeds, Transcript, HasPresent, TranscriptsExist, OutputsExist}
 
 -- what the laws below give
 pub record Grounds : Type 0 where
@@ -146,7 +147,8 @@ fresh_sound {reply = reply} fresh = record { memory = no NoMemory; kept = no Sav
     no x same = no_refusal fresh.runs.end fresh.runs.ending x fresh.runs.ends
         (sym (ap (λ (r : Reply). r.ending) fresh.runs.answer) ∙ same)
 
-deed : Grounds → (reading : Reading) (text : List ℕ) (state : State) (old : Timeline) (does : Action) → HasPresent old →
+deed : Grounds → (reading : Reading) (text : List ℕ) (state : State) (old : Timeline) (does : Action) →
+    HasPresent old →
     ReadsAction reading text does → Step (Commands reading text state old)
 deed grounds reading text state old does present reads = by_reply (grounds.replies state old.steps does)
   where
@@ -322,3 +324,15 @@ transcript grounds old (line ∷ lines) present = by_line (settles grounds line 
         HasTranscript old (line ∷ lines)
     by_line (settled reply mid taken present) later = and_then line lines old reply mid taken (is_quit reply.ending)
         refl (later mid present)
+
+pub output : Grounds → OutputsExist
+output grounds old read present =
+    let split = split_of read in
+    let lines = all_lines split.0 split.1 in
+    let answers = transcript grounds old lines present in (
+      answers.0,
+      (
+        answers.1.0,
+        (lines, (record { ended = split.0; rest = split.1; splits = split.2; all = refl }, answers.1.1)),
+      ),
+    )

@@ -1,8 +1,7 @@
 -- A line is taken in one way.
-use Rattle.std.proofs.Common.{◌≡◌, ◌≢◌, ◌⊎◌, inl, inr, ℕ, zero, suc, ◌+◌, List, [], ◌∷◌, ◌++◌, Bool, true, false, Option, Some, None, Result, Ok, Err, refl, sym, ap, subst, ◌∙◌, arith}
+use Rattle.std.proofs.Common.{◌≡◌, ◌≢◌, ◌⊎◌, inl, inr, ℕ, zero, suc, ◌+◌, List, [], ◌∷◌, ◌++◌, Bool, true, false, Option, Some, None, Result, Ok, Err, refl, sym, ap, subst, ◌∙◌, arith, append_assoc}
 use Rattle.std.specs.Prelude.{slice_get, MatchBool, length, nat_lt}
 use Rattle.std.specs.List.{AllByRecursion}
-use Rattle.std.proofs.lemmas.List.{append-nil}
 use Rattle.std.proofs.lemmas.Option.{none-some}
 use Rattle.ht_grammar.specs.Laws.{OneTreePerText}
 use Rattle.ht_grammar.specs.Reads.{ReadsLines, ReadsPart, ReadsType}
@@ -37,7 +36,7 @@ use Rattle.session.specs.declared.reply.Refusal.TheVariants.{NoMemory, LineTooLo
 use Rattle.session.specs.declared.reply.Reply.{Reply}
 use Rattle.session.specs.Meaning.{ending_of, Fresh, Locked}
 use Rattle.session.specs.Replies.{Refuses, Obeys, Moves, Looks, ShowsStack, ShowsCells, cells_named}
-use Rattle.session.specs.Splits.{IsLine, ended_lines}
+use Rattle.session.specs.Splits.{IsLine, Splits, ended_lines}
 use Rattle.headline.specs.Headline.{Snapshot, Timeline, IsPresent, followed_by, Replaces, KeepsOut, Commands, Does, DoesLine, line_counted, LineMoves}
 use Rattle.transcripts.specs.Laws.{IsDetermined}
 
@@ -96,27 +95,41 @@ first_line (b ∷ l) (c ∷ m) xs ys p q e =
     let tails : (l ++ 10 ∷ []) ++ xs ≡ (m ++ 10 ∷ []) ++ ys = cc in
     let rest = first_line l m xs ys p.1 q.1 tails in (ap (λ h. h ∷ l) heads ∙ ap (λ t. c ∷ t) rest.0, rest.1)
 
-no_line : (l xs : List ℕ) → [] ≡ (l ++ 10 ∷ []) ++ xs → ⊥
-no_line [] xs e = cc
-no_line (b ∷ l) xs e = cc
+-- a line feed stands in no line
+no_feed : (m xs rest : List ℕ) → IsLine rest → rest ≡ (m ++ 10 ∷ []) ++ xs → ⊥
+no_feed [] xs [] p e = cc
+no_feed [] xs (b ∷ rest) p e = let it : b ≡ 10 = cc in absurd (p.0 it)
+no_feed (c ∷ m) xs [] p e = cc
+no_feed (c ∷ m) xs (b ∷ rest) p e = let tails : rest ≡ (m ++ 10 ∷ []) ++ xs = cc in no_feed m xs rest p.1 tails
 
-one_list_of_lines : (ls ms : List (List ℕ)) → AllByRecursion IsLine ls → AllByRecursion IsLine ms →
-    ended_lines ls ≡ ended_lines ms → ls ≡ ms
-one_list_of_lines [] [] p q e = refl
-one_list_of_lines [] (m ∷ ms) p q e = absurd (no_line m _ e)
-one_list_of_lines (l ∷ ls) [] p q e = absurd (no_line l _ (sym e))
-one_list_of_lines (l ∷ ls) (m ∷ ms) p q e =
-    let both = first_line l m _ _ p.0 q.0 e in ap (λ h. h ∷ ls) both.0 ∙ ap (λ t. m ∷ t)
-    (one_list_of_lines ls ms p.1 q.1 both.1)
+one_list_of_lines : (ls ms : List (List ℕ)) (rest rest2 : List ℕ) → AllByRecursion IsLine ls →
+    AllByRecursion IsLine ms → IsLine rest → IsLine rest2 → ended_lines ls ++ rest ≡ ended_lines ms ++ rest2 →
+    (ls ≡ ms) × (rest ≡ rest2)
+one_list_of_lines [] [] rest rest2 p q r t e = (refl, e)
+one_list_of_lines [] (m ∷ ms) rest rest2 p q r t e =
+    absurd (no_feed m _ rest r (e ∙ append_assoc (m ++ 10 ∷ []) (ended_lines ms) rest2))
+one_list_of_lines (l ∷ ls) [] rest rest2 p q r t e =
+    absurd (no_feed l _ rest2 t (sym e ∙ append_assoc (l ++ 10 ∷ []) (ended_lines ls) rest))
+one_list_of_lines (l ∷ ls) (m ∷ ms) rest rest2 p q r t e =
+    let both =
+    first_line l m (ended_lines ls ++ rest) (ended_lines ms ++ rest2) p.0 q.0
+    (sym (append_assoc (l ++ 10 ∷ []) (ended_lines ls) rest) ∙ e ∙ append_assoc (m ++ 10 ∷ []) (ended_lines ms) rest2)
+    in
+    let others = one_list_of_lines ls ms rest rest2 p.1 q.1 r t both.1 in
+    (ap (λ h. h ∷ ls) both.0 ∙ ap (λ t. m ∷ t) others.0, others.1)
+
+-- bytes have one list of lines
+pub one_split : {bytes : List ℕ} {ls ms : List (List ℕ)} {rest rest2 : List ℕ} → Splits bytes ls rest →
+    Splits bytes ms rest2 → (ls ≡ ms) × (rest ≡ rest2)
+one_split {ls = ls} {ms} {rest} {rest2} a b =
+    one_list_of_lines ls ms rest rest2 a.each b.each a.partial b.partial (sym a.whole ∙ b.whole)
 
 one_show : (state : State) {old : Timeline} {reply reply2 : Reply} {new new2 : Timeline} →
     ShowsStack state old reply new → ShowsStack state old reply2 new2 → Same reply new reply2 new2
 one_show state {reply = reply} {reply2 = reply2} a b =
-    let shown : reply.shown ≡ reply2.shown =
-    one_list_of_lines reply.shown reply2.shown a.lines.each b.lines.each
-    (sym (append-nil (ended_lines reply.shown)) ∙ sym a.lines.whole ∙ b.lines.whole ∙ append-nil
-    (ended_lines reply2.shown)) in (
-      a.look.answer ∙ ap (λ lines. record { shown = lines; sent = []; ending = endings.Ok }) shown ∙ sym b.look.answer,
+    let shown : reply.shown ≡ reply2.shown = (one_split a.lines b.lines).0 in (
+      a.look.answer ∙ ap (λ lines. record { shown = lines; sent = []; ending = endings.Ok }) shown ∙ sym
+          b.look.answer,
       a.look.same ∙ sym b.look.same,
     )
 
@@ -262,7 +275,8 @@ one_command laws reading text state old free (Obeys.nothing none refuses) (Obeys
 
 one_dot_line : Laws → (line : List ℕ) (command : Option Command) (state : State) (old : Timeline)
     {reply reply2 : Reply} {new new2 : Timeline} → NoneIsFree (sorts_of state.externals)
-    → Does line command state old reply new → Does line command state old reply2 new2 → HasRoom reply → HasRoom reply2 →
+    → Does line command state old reply new → Does line command state old reply2 new2 → HasRoom reply →
+    HasRoom reply2 →
     Same reply new reply2 new2
 one_dot_line laws line None state old free a b room room2 = one_refusal a b
 one_dot_line laws line (Some (Undo k)) state old free a b room room2 = one_move _ old _ a b

@@ -10,9 +10,10 @@ use Rattle.session.specs.declared.reply.Reply.{Reply}
 use Rattle.headline.specs.Answers.{answer}
 use Rattle.headline.specs.Answering.{is_quit, Session}
 use Rattle.headline.specs.Headline.{Timeline, LineMoves}
+use Rattle.headline.specs.InputLines.{all_lines}
 use Rattle.headline.specs.Saving.{Kept, KeptOrNot, Settles}
-use Rattle.transcripts.specs.Laws.{Succeeds, IsDetermined, TranscriptsAreOne, KitIsFixed}
-use Rattle.transcripts.proofs.Once.{Laws, one_line}
+use Rattle.transcripts.specs.Laws.{Succeeds, IsDetermined, TranscriptsAreOne, OutputsAreOne, KitIsFixed}
+use Rattle.transcripts.proofs.Once.{Laws, one_line, one_split}
 use Rattle.transcripts.proofs.Kept.{line_kept}
 
 -- what a desk does for a line
@@ -43,7 +44,8 @@ room_of (endings.Refused x) old new a room = λ e. room (a.0 ∙ e)
 room_of endings.Quit old new a room = λ e. cc
 
 -- a line beside a desk is taken in one way
-one_step : Laws → (line : List ℕ) (old : Timeline × SeenDesk) {reply reply2 : Reply} {new new2 : Timeline × SeenDesk} →
+one_step : Laws → (line : List ℕ) (old : Timeline × SeenDesk) {reply reply2 : Reply} {new new2 : Timeline × SeenDesk}
+    →
     AllByRecursion IsDetermined old.0.snapshots
     → Succeeds (Settles LineMoves) line old reply new → Succeeds (Settles LineMoves) line old reply2 new2 →
     (reply ≡ reply2) × (new ≡ new2)
@@ -82,6 +84,15 @@ one_transcript laws old (line ∷ lines) text text2 new new2 all (reply, mid, mo
     (subst (λ (r : Reply). MatchBool (is_quit r.ending) ((more2 ≡ []) × (new2 ≡ mid2))
     (Session (Succeeds (Settles LineMoves)) mid2 lines more2 new2)) (sym step.0) rest2) step.1 in
     (is ∙ ap (λ t. answer reply ++ t) later.0 ∙ ap (λ (r : Reply). answer r ++ more2) step.0 ∙ sym is2, later.1)
+
+pub one_output : Laws → OutputsAreOne
+one_output laws old read text text2 new new2 all (lines, (are, transcript)) (lines2, (are2, transcript2)) =
+    let split = one_split are.splits are2.splits in
+    let same : lines2 ≡ lines =
+    are2.all ∙ sym (ap (λ ended. all_lines ended are2.rest) split.0) ∙ sym (ap (all_lines are.ended) split.1) ∙ sym
+    are.all in
+    one_transcript laws old lines text text2 new new2 all transcript
+    (subst (λ ls. Session (Succeeds (Settles LineMoves)) old ls text2 new2) same transcript2)
 
 pub kit_is_fixed : KitIsFixed
 kit_is_fixed = (

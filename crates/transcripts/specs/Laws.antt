@@ -8,6 +8,7 @@ use Rattle.session.specs.declared.reply.Refusal.TheVariants.{NoMemory, SaveFaile
 use Rattle.session.specs.declared.reply.Reply.{Reply}
 use Rattle.headline.specs.Answering.{Session}
 use Rattle.headline.specs.Headline.{Snapshot, Timeline, LineMoves}
+use Rattle.headline.specs.InputLines.{AreLines}
 use Rattle.headline.specs.Saving.{Settles}
 
 -- a line is taken with the memory that it needs, and what it saves is kept
@@ -20,6 +21,10 @@ pub record Succeeds {S : Type 0} (takes : List ℕ → S → Reply → S → Typ
 -- the answers to lines, none of which is refused for memory or for its file
 abbrev pub Transcript : Timeline × SeenDesk → List (List ℕ) → List ℕ → Timeline × SeenDesk → Type 0
 Transcript = Session (Succeeds (Settles LineMoves))
+
+-- the answers to all lines of these bytes
+abbrev pub Output : Timeline × SeenDesk → List ℕ → List ℕ → Timeline × SeenDesk → Type 0
+Output old read text new = (lines : List (List ℕ)) × (AreLines read lines × Transcript old lines text new)
 
 -- the cursor stands on a state
 abbrev pub HasPresent : Timeline → Type 0
@@ -35,11 +40,24 @@ TranscriptsExist =
     (old : Timeline × SeenDesk) (lines : List (List ℕ)) → HasPresent old.0 →
     (text : List ℕ) × ((new : Timeline × SeenDesk) × Transcript old lines text new)
 
--- Where no external of the states is free, it has one.
+-- And so an input has an output.
+abbrev pub OutputsExist : Type 0
+OutputsExist =
+    (old : Timeline × SeenDesk) (read : List ℕ) → HasPresent old.0 →
+    (text : List ℕ) × ((new : Timeline × SeenDesk) × Output old read text new)
+
+-- Where no external of the states is free, lines have one transcript.
 abbrev pub TranscriptsAreOne : Type 0
 TranscriptsAreOne =
     (old : Timeline × SeenDesk) (lines : List (List ℕ)) (text text2 : List ℕ) (new new2 : Timeline × SeenDesk) →
     AllByRecursion IsDetermined old.0.snapshots → Transcript old lines text new → Transcript old lines text2 new2 →
+    (text ≡ text2) × (new ≡ new2)
+
+-- And an input has one output.
+abbrev pub OutputsAreOne : Type 0
+OutputsAreOne =
+    (old : Timeline × SeenDesk) (read text text2 : List ℕ) (new new2 : Timeline × SeenDesk) →
+    AllByRecursion IsDetermined old.0.snapshots → Output old read text new → Output old read text2 new2 →
     (text ≡ text2) × (new ≡ new2)
 
 -- No external of the kit is free.

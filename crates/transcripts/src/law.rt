@@ -1,6 +1,6 @@
 //! Laws of transcripts.
 
-ghost use Rattle.transcripts.specs.Laws.{TranscriptsExist, TranscriptsAreOne, KitIsFixed};
+ghost use Rattle.transcripts.specs.Laws.{TranscriptsExist, OutputsExist, TranscriptsAreOne, OutputsAreOne, KitIsFixed};
 
 use ht_grammar::{
     expressions_are_read_exactly, lines_are_read_exactly, messages_are_read_exactly,
@@ -10,10 +10,11 @@ use ht_lex::texts_are_cut_exactly;
 use one_outcome::replies_are_one;
 use some_outcome::replies_exist;
 
-/// Each list of lines has answers none of which is refused for memory or for its file, from any list of whole states on, if the
+/// Each list of lines, and so each input, has answers none of which is refused for memory or for its file, from any list of whole states on, if the
 /// cursor stands on one of them, and from any desk.
 pub fn transcripts_exist()
-    ensures { TranscriptsExist }
+    ensures lines { TranscriptsExist }
+    ensures input { OutputsExist }
 {
     replies_exist();
     texts_are_cut_exactly();
@@ -26,6 +27,7 @@ pub fn transcripts_exist()
 /// the states is free. None of the kit's four is.
 pub fn transcripts_are_one()
     ensures lines { TranscriptsAreOne }
+    ensures input { OutputsAreOne }
     ensures kit { KitIsFixed }
 {
     replies_are_one();

@@ -1,4 +1,4 @@
-//! A list of lines has a transcript, and where no external is free just one: laws over the headline, each the contract of a
+//! An input has an output, and where no external is free just one: laws over the headline, each the contract of a
 //! function that does nothing.
 #![tactic(auto)]
 
