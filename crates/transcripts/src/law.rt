@@ -10,8 +10,8 @@ use ht_lex::texts_are_cut_exactly;
 use one_outcome::replies_are_one;
 use some_outcome::replies_exist;
 
-/// Each list of lines, and so each input, has answers none of which is refused for memory or for its file, from any list of whole states on, if the
-/// cursor stands on one of them, and from any desk.
+/// Each list of lines, and so each input, has answers none of which is refused for memory or for its file, from any list of
+/// whole states on, if the cursor stands on one of them, and from any desk.
 pub fn transcripts_exist()
     ensures lines { TranscriptsExist }
     ensures input { OutputsExist }
