@@ -36,7 +36,7 @@ use Rattle.session.proofs.LineFeeds.{splits_whole}
 use Rattle.headline.specs.Answers.{answer}
 use Rattle.headline.specs.Answering.{is_quit}
 use Rattle.headline.specs.Headline.{Snapshot, Timeline, followed_by, Commands, at_cursor, cursor_back, cursor_forth, before, last_numbered, cursor_back_to, Does, DoesLine, line_counted, LineMoves}
-use Rattle.headline.specs.InputLines.{all_lines}
+use Rattle.headline.specs.InputLines.{AreLines, all_lines}
 use Rattle.headline.specs.Saving.{Kept, Settles}
 use Rattle.headline.proofs.Sessions.{split_of}
 use Rattle.some_outcome.specs.Replies.{RepliesExist}
@@ -325,14 +325,9 @@ transcript grounds old (line ∷ lines) present = by_line (settles grounds line 
     by_line (settled reply mid taken present) later = and_then line lines old reply mid taken (is_quit reply.ending)
         refl (later mid present)
 
-pub output : Grounds → OutputsExist
-output grounds old read present =
+pub output : TranscriptsExist → OutputsExist
+output exist old read present =
     let split = split_of read in
     let lines = all_lines split.0 split.1 in
-    let answers = transcript grounds old lines present in (
-      answers.0,
-      (
-        answers.1.0,
-        (lines, (record { ended = split.0; rest = split.1; splits = split.2; all = refl }, answers.1.1)),
-      ),
-    )
+    let are : AreLines read lines = record { ended = split.0; rest = split.1; splits = split.2; all = refl } in
+    let answers = exist old lines present in (answers.0, (answers.1.0, (lines, (are, answers.1.1))))

@@ -18,6 +18,7 @@ use Rattle.session.specs.declared.reply.Refusal.TheVariants.{LineTooLong}
 use Rattle.session.specs.declared.reply.Reply.{Reply}
 use Rattle.session.specs.Meaning.{Fresh}
 use Rattle.session.specs.Replies.{Refuses, Obeys, Moves, ShowsCells, cells_named}
+use Rattle.session.proofs.LineFeeds.{all-append}
 use Rattle.headline.specs.Headline.{Snapshot, Timeline, Commands, at_cursor, cursor_back, cursor_forth, cursor_back_to, Does, DoesLine, line_counted, LineMoves}
 use Rattle.transcripts.specs.Laws.{IsDetermined}
 use Rattle.transcripts.proofs.Once.{answered, of_each}
@@ -38,11 +39,6 @@ all_of_rest : {X : Type 0} (P : X → Type 0) (n : ℕ) (xs : List X) → AllByR
 all_of_rest P zero xs all = all
 all_of_rest P (suc n) [] all = tt
 all_of_rest P (suc n) (x ∷ xs) all = all_of_rest P n xs all.1
-
-all_and : {X : Type 0} (P : X → Type 0) (xs : List X) (y : X) → AllByRecursion P xs → P y →
-    AllByRecursion P (xs ++ y ∷ [])
-all_and P [] y all p = (p, tt)
-all_and P (x ∷ xs) y all p = (all.0, all_and P xs y all.1 p)
 
 -- ---- a line
 
@@ -75,8 +71,8 @@ command_kept reading text state old free all (Obeys.obeys {does = does} reads (i
     let last : Snapshot = record { state = a.after; number = old.lines } in
     subst AreKept (sym a.list)
     (all_of_rest IsDetermined (old.cursor + 1 - old.depth) (front ++ last ∷ [])
-    (all_and IsDetermined front last (all_of_front IsDetermined (old.cursor + 1) old.snapshots all)
-    (fresh_kept does free a.allowed)))
+    (all-append IsDetermined front (last ∷ []) (all_of_front IsDetermined (old.cursor + 1) old.snapshots all)
+    (fresh_kept does free a.allowed, tt)))
 command_kept reading text state old free all (Obeys.obeys reads (inr a)) = same_kept all a.refuses.same
 command_kept reading text state old free all (Obeys.nothing none refuses) = same_kept all refuses.same
 command_kept reading text state old free all (Obeys.given_up refuses) = same_kept all refuses.same

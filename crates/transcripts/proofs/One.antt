@@ -85,13 +85,14 @@ one_transcript laws old (line ∷ lines) text text2 new new2 all (reply, mid, mo
     (Session (Succeeds (Settles LineMoves)) mid2 lines more2 new2)) (sym step.0) rest2) step.1 in
     (is ∙ ap (λ t. answer reply ++ t) later.0 ∙ ap (λ (r : Reply). answer r ++ more2) step.0 ∙ sym is2, later.1)
 
-pub one_output : Laws → OutputsAreOne
-one_output laws old read text text2 new new2 all (lines, (are, transcript)) (lines2, (are2, transcript2)) =
+-- the bytes of an input have one list of lines
+pub one_output : TranscriptsAreOne → OutputsAreOne
+one_output one old read text text2 new new2 all (lines, (are, transcript)) (lines2, (are2, transcript2)) =
     let split = one_split are.splits are2.splits in
     let same : lines2 ≡ lines =
-    are2.all ∙ sym (ap (λ ended. all_lines ended are2.rest) split.0) ∙ sym (ap (all_lines are.ended) split.1) ∙ sym
-    are.all in
-    one_transcript laws old lines text text2 new new2 all transcript
+    are2.all ∙ sym (ap (λ ended. all_lines ended are2.rest) split.0) ∙ sym (ap (all_lines are.ended) split.1)
+    ∙ sym are.all in
+    one old lines text text2 new new2 all transcript
     (subst (λ ls. Session (Succeeds (Settles LineMoves)) old ls text2 new2) same transcript2)
 
 pub kit_is_fixed : KitIsFixed

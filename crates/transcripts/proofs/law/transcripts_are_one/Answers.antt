@@ -19,20 +19,7 @@ returns-clause-lines c =
     })
 
 pub returns-clause-input : goal.returns-clause-input
-returns-clause-input c =
-    one_output
-    (record {
-      texts = record {
-        exact =
-            exactly c.texts_are_cut_exactly.ensures c.expressions_are_read_exactly.ensures.exact
-            c.lines_are_read_exactly.ensures.exact c.scripts_are_read_exactly.ensures.exact
-            c.messages_are_read_exactly.ensures.exact;
-        lines = c.lines_are_read_exactly.ensures.text;
-        parts = c.parts_are_read_exactly.ensures.text;
-        typing = c.typing_is_read_exactly.ensures.text;
-      };
-      replies = c.replies_are_one.ensures;
-    })
+returns-clause-input c = one_output (returns-clause-lines c)
 
 pub returns-clause-kit : goal.returns-clause-kit
 returns-clause-kit c = kit_is_fixed

@@ -13,12 +13,4 @@ returns-clause-lines c =
     })
 
 pub returns-clause-input : goal.returns-clause-input
-returns-clause-input c =
-    output
-    (record {
-      replies = c.replies_exist.ensures;
-      cuts = c.texts_are_cut_exactly.ensures;
-      lines = c.lines_are_read_exactly.ensures.exact;
-      parts = c.parts_are_read_exactly.ensures.exact;
-      typing = c.typing_is_read_exactly.ensures.exact;
-    })
+returns-clause-input c = output (returns-clause-lines c)
