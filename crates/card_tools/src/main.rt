@@ -4,7 +4,7 @@
 use command_line::{CliFault, MOST_OF_STACK, Options, cut, options_of, play};
 use devices::{Watched, bytes_of};
 use externals::External;
-use file_desk::{FileDesk, Plain};
+use file_desk::{FileDesk, FileState, Plain};
 use log::{LevelFilter, Logged};
 use std::env;
 use std::fs::File;
@@ -26,6 +26,10 @@ fn perform(rt: &HostRuntime) -> Result<(), CliFault> {
     let Ok(file) = File::open(rt, options.stack.as_str()) else {
         return Err(CliFault::CannotRead);
     };
+    let Ok(metadata) = file.metadata() else {
+        return Err(CliFault::CannotRead);
+    };
+    let state = FileState::new(metadata);
     let bytes = bytes_of(rt.alloc(), &mut Watched::new(file), MOST_OF_STACK)?;
     let replace = Replace::new(rt.alloc(), cut(rt.alloc(), b"Replace")?)?;
     let table = Table::new(rt.alloc(), cut(rt.alloc(), b"Table")?)?;
@@ -34,8 +38,8 @@ fn perform(rt: &HostRuntime) -> Result<(), CliFault> {
     externals.push(Box::new(rt.alloc(), table)?)?;
     let mut reader = Watched::new(rt.stdin().lock());
     let mut writer = Watched::new(rt.stdout().lock());
-    let logger = Logged::new(rt, LevelFilter::Off, Plain(rt));
-    let mut desk = FileDesk::new(&logger, options.stack.as_str());
+    let logger = Logged::new(rt, LevelFilter::Warn, Plain(rt));
+    let mut desk = FileDesk::new(&logger, "card_tools", options.stack.as_str(), state);
     play(
         rt.alloc(),
         &options,

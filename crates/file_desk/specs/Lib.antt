@@ -1,1 +1,2 @@
 pub mod FileDesks
+pub mod FileStates

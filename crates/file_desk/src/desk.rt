@@ -3,93 +3,100 @@
 ghost use Rattle.std.specs.Prelude.{◌≡◌};
 ghost use Rattle.file_desk.specs.FileDesks.{failures_of, seen_file};
 
+use crate::saving::{Saved, save};
+use crate::state::FileState;
 use bstr::BStr;
-use devices::{Desk, Watched, write_to};
+use devices::Desk;
 use ht_values::Text;
-use log::{Log, info};
+use log::{Log, info, warn};
 use object_table::Id;
-use std::fs::{File, OpenFile};
-use std::io::{Error, ErrorKind};
-use std::path::PathBuf;
+use std::fs::File;
 use std::rt::Files;
-use std::{fs, io};
 
-/// Keeps the last text that is saved in the file of this path, and logs each message, as `mouseUp 5`.
+/// Keeps the last text that is saved in the file of this path, and logs each message, as `mouseUp 5`, and, as
+/// warnings, why a text isn't saved, and why a line faulted or was refused where it is to.
 ///
-/// A text is written to a file beside it, with `.new` behind its name, which is synced to the disk and renamed. So the
-/// file has the old text or the new one, whole; where any step fails it has the old one, and nothing stays beside it.
-/// Where the path is a symbolic link, this is done to the file that it leads to. What stands under the other name before
-/// is removed. The permissions of the file are those it had.
+/// A text is written to a new file beside it, with `.new` behind its name, which is synced to the disk and renamed; then
+/// the folder is synced. So the file has the old text or the new one, whole; where any step fails it has the old one, and
+/// nothing stays beside it. Where the path is a symbolic link, this is done to the file that it leads to. Nothing is saved
+/// where the file isn't the one that was read or last saved, by its identity, its size and the time when it was written,
+/// where it may not be written, and where what was read or what is there is no plain file. What has the name of the new
+/// file stays as it is, and the next name is taken. The permissions and the group of the file are those it had; its owner
+/// is who saves, and for the administrator the one it had. Access lists and other attributes can't be kept, and other
+/// names of the file keep the old text.
 #[derive(Drop)]
 pub struct FileDesk<'a, R> {
     rt: &'a R,
+    program: &'a str,
     path: &'a str,
+    last: FileState,
+    explains: bool,
     failures: u64,
 }
 
 impl<'a, R> FileDesk<'a, R> {
-    /// The desk over a file, which need not be there. It takes no memory.
-    pub fn new(rt: &'a R, path: &'a str) -> FileDesk<'a, R>
+    /// The desk over a file, for the program of this name. The state is that of the file as it was opened to be read. It
+    /// takes no memory.
+    pub fn new(rt: &'a R, program: &'a str, path: &'a str, read: FileState) -> FileDesk<'a, R>
         ensures { failures_of result ≡ 0 }
     {
         FileDesk {
             rt,
+            program,
             path,
+            last: read,
+            explains: false,
             failures: 0,
         }
     }
-}
 
-/// The path of the file that a path leads to, where it is a symbolic link.
-fn led_to<R: Files + AllocGlobal>(rt: &R, path: &str) -> io::Result<Option<PathBuf>> {
-    match fs::symlink_metadata(rt, path) {
-        Ok(metadata) if metadata.is_symlink() => Ok(Some(rt.canonicalize(rt.alloc(), path)?)),
-        _ => Ok(None),
+    /// The same desk, which hears why lines faulted or were refused, and logs it, or doesn't.
+    pub fn explaining(self, explains: bool) -> FileDesk<'a, R>
+        ensures { failures_of result ≡ failures_of self.entry }
+    {
+        FileDesk { explains, ..self }
     }
 }
 
-/// Writes a text to a new file, with the permissions of another one where that is there, and syncs it.
-fn write_new<R: Files>(rt: &R, path: &str, like: &str, text: &[u8]) -> io::Result<()> {
-    let mut file = File::create_new(rt, path)?;
-    if let Ok(metadata) = fs::metadata(rt, like) {
-        file.set_permissions(metadata.permissions())?;
+/// Tells what a save left undone.
+fn tell<R: Log>(rt: &R, program: &str, saved: &Saved) {
+    if !saved.has_group {
+        warn!(rt; "{program}: saved, but the file couldn't keep its group");
     }
-    if write_to(text, &mut Watched::new(&mut file)).is_err() {
-        return Err(Error::from(ErrorKind::WriteZero));
+    if !saved.is_synced {
+        warn!(rt; "{program}: saved, but the folder couldn't be synced to the disk");
     }
-    file.sync_all()
 }
 
-/// Puts a text in the place of a file, by a file beside it.
-fn replace<R: Files + AllocGlobal>(rt: &R, path: &str, text: &[u8]) -> io::Result<()> {
-    let mut beside = String::from_str(rt.alloc(), path)?;
-    beside.push_str(".new")?;
-    let _ = fs::remove_file(rt, beside.as_str());
-    let written = write_new(rt, beside.as_str(), path, text);
-    let replaced = written.and_then(|()| fs::rename(rt, beside.as_str(), path));
-    if replaced.is_err() {
-        let _ = fs::remove_file(rt, beside.as_str());
-    }
-    replaced
-}
-
-impl<R: Files + Log + AllocGlobal> Desk for FileDesk<'_, R> {
+impl<R: Files<File = File> + Log + AllocGlobal> Desk for FileDesk<'_, R> {
     ghost seen = { seen_file };
 
     fn keep(&mut self, text: &[u8]) -> bool {
-        let kept = match led_to(self.rt, self.path) {
-            Ok(Some(path)) => replace(self.rt, path.as_str(), text).is_ok(),
-            Ok(None) => replace(self.rt, self.path, text).is_ok(),
-            Err(_) => false,
-        };
-        if !kept {
-            self.failures = self.failures.saturating_add(1);
+        match save(self.rt, self.path, &self.last, text) {
+            Ok(saved) => {
+                tell(self.rt, self.program, &saved);
+                self.last = saved.state;
+                true
+            }
+            Err(reason) => {
+                let program = self.program;
+                warn!(self.rt; "{program}: not saved: {reason}");
+                self.failures = self.failures.saturating_add(1);
+                false
+            }
         }
-        kept
     }
 
     fn sent(&mut self, name: &Text, object: Id) {
         info!(self.rt; "{} {}", BStr::new(name.as_slice()), object);
+    }
+
+    fn explains(&self) -> bool {
+        self.explains
+    }
+
+    fn explain(&mut self, text: &[u8]) {
+        warn!(self.rt; "{}", BStr::new(text));
     }
 
     fn failures(&self) -> u64 {
