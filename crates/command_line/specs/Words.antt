@@ -10,18 +10,18 @@ use Rattle.session.specs.declared.limits.TheConstants.{MOST_STEPS}
 use Rattle.command_line.specs.declared.options.Options.{Options}
 use Rattle.command_line.specs.declared.words.TheConstants.{DEFAULT_STEPS}
 
--- STACK has to be there; --steps and --depth have a number in their range, and --watch stands alone
+-- STACK has to be there; --steps and --depth have a number in their range, and --watch, --explain and --check stand alone
 abbrev pub stack_rule : Rule
 stack_rule = record (new_rule (codes "STACK")) { required = true; action = Some Set }
 
 abbrev pub number_rule : Text → ℕ → Rule
 number_rule name most = record (new_rule name) { long = Some name; action = Some Set; parser = Some (Unsigned 1 most) }
 
-abbrev pub watch_rule : Rule
-watch_rule = record (new_rule (codes "watch")) { long = Some (codes "watch"); action = Some SetTrue }
+abbrev pub flag_rule : Text → Rule
+flag_rule name = record (new_rule name) { long = Some name; action = Some SetTrue }
 
 abbrev pub program : App
-program = with_rule (with_rule (with_rule (with_rule (new_app (codes "card_cli")) stack_rule) (number_rule (codes "steps") MOST_STEPS)) (number_rule (codes "depth") MOST_DEPTH)) watch_rule
+program = with_rule (with_rule (with_rule (with_rule (with_rule (with_rule (new_app (codes "card_cli")) stack_rule) (number_rule (codes "steps") MOST_STEPS)) (number_rule (codes "depth") MOST_DEPTH)) (flag_rule (codes "watch"))) (flag_rule (codes "explain"))) (flag_rule (codes "check"))
 
 -- whether a text is a number that a word can hold
 abbrev pub Reads : Text → Type 0
@@ -45,3 +45,5 @@ pub record Says (rows : List Row) (w : Options) : Type 0 where
   pub steps : IsNumber (one_of (codes "steps") rows) DEFAULT_STEPS MOST_STEPS w.steps
   pub depth : IsNumber (one_of (codes "depth") rows) MOST_DEPTH MOST_DEPTH w.depth
   pub watch : IsFlag (one_of (codes "watch") rows) w.watch
+  pub explain : IsFlag (one_of (codes "explain") rows) w.explain
+  pub check : IsFlag (one_of (codes "check") rows) w.check

@@ -10,8 +10,9 @@ ghost use Rattle.command_line.specs.Plays.{Plays, Ends};
 
 use crate::fault::{CliFault, cut};
 use crate::options::Options;
-use crate::runs::play;
+use crate::runs::{play, stack_of};
 use devices::{Desk, Watched};
+use explain::{Checked, check};
 use externals::External;
 use headline::Ran;
 use std::alloc::{AllocError, Global};
@@ -103,6 +104,28 @@ fn kit_listed<E: External>(
 {
     let externals = listed(alloc, first, second, third, fourth)?;
     Ok(externals)
+}
+
+/// The four externals of the kit, in boxes of one type.
+fn boxed(alloc: Global) -> Result<Vec<Box<dyn External>>, AllocError> {
+    let kit = kit_of(alloc)?;
+    let mut externals = Vec::new(alloc);
+    let count: Box<dyn External> = kit.count;
+    externals.push(count)?;
+    let bins: Box<dyn External> = kit.bins;
+    externals.push(bins)?;
+    let relay: Box<dyn External> = kit.relay;
+    externals.push(relay)?;
+    let gate: Box<dyn External> = kit.gate;
+    externals.push(gate)?;
+    Ok(externals)
+}
+
+/// Looks at the scripts of a stack text and runs nothing, as `check` of `explain` does, beside the four externals of the kit.
+/// `Refused` where the bytes are no stack text, `Memory` where a growth was refused.
+pub fn check_with_kit(alloc: Global, bytes: &[u8]) -> Result<Checked, CliFault> {
+    let stack = stack_of(alloc, bytes)?;
+    Ok(check(alloc, &stack, &boxed(alloc)?)?)
 }
 
 /// Runs as `play` does, with the four externals of the kit under their names: `Count`, which begins at 0, `Bins`, `Relay`

@@ -7,8 +7,9 @@ mod options;
 mod runs;
 mod words;
 
+pub use explain::{Checked, Page, file_fault_words, write_line};
 pub use fault::{CliFault, cut, verdict};
-pub use kit::play_with_kit;
+pub use kit::{check_with_kit, play_with_kit};
 pub use options::Options;
 pub use runs::{MOST_OF_STACK, play};
 pub use words::options_of;

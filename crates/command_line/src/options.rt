@@ -4,7 +4,7 @@ ghost use Rattle.std.specs.Prelude.{◌≤◌};
 ghost use Rattle.change_journal.specs.declared.world.TheConstants.{MOST_DEPTH};
 ghost use Rattle.session.specs.declared.limits.TheConstants.{MOST_STEPS};
 
-/// What the words of the program say: `STACK [--steps N] [--depth D] [--watch]`.
+/// What the words of the program say: `STACK [--steps N] [--depth D] [--watch] [--explain] [--check]`.
 #[derive(Debug, Drop)]
 pub struct Options {
     /// The path of the stack.
@@ -15,6 +15,10 @@ pub struct Options {
     pub depth: u32,
     /// Whether the messages that are sent are shown.
     pub watch: bool,
+    /// Whether it is told why lines fault or are refused.
+    pub explain: bool,
+    /// Whether the scripts are looked at, and nothing is run.
+    pub check: bool,
     ghost some_steps: { 1 ≤ steps },
     ghost few_steps: { steps ≤ MOST_STEPS },
     ghost some_depth: { 1 ≤ depth },

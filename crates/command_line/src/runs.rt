@@ -23,7 +23,7 @@ use std::io::{Read, Write};
 pub const MOST_OF_STACK: usize = 4_000_000_000;
 
 /// The stack of a text, or the fault of the program.
-fn stack_of(alloc: Global, bytes: &[u8]) -> Result<Stack, CliFault>
+pub(crate) fn stack_of(alloc: Global, bytes: &[u8]) -> Result<Stack, CliFault>
     ensures ok { IfOk result (λ s. Spells bytes.now s.content) }
     ensures err { IfErr result (λ fault. IsRefusal bytes.now fault) }
 {

@@ -4,7 +4,7 @@ ghost use Rattle.std.specs.Prelude.{◌≡◌, ◌≤◌, ◌↔◌, [], map, fa
 ghost use Rattle.std.specs.String.{string_bytes};
 ghost use Rattle.clap.specs.Words.{app_of, fault_of, kind_of, found_of, rows_of, rule_of, matches_of, one_of};
 ghost use Rattle.command_line.specs.Verdicts.{IsFaultOfWords};
-ghost use Rattle.command_line.specs.Words.{program as program_by, stack_rule, number_rule, watch_rule, IsNumber, Says};
+ghost use Rattle.command_line.specs.Words.{program as program_by, stack_rule, number_rule, flag_rule, IsNumber, Says};
 
 use crate::fault::{CliFault, cut};
 use crate::options::Options;
@@ -40,16 +40,31 @@ fn stack_word<'a>(alloc: Global) -> Arg<'a>
         .help("The file of the stack")
 }
 
-/// The flag that shows messages.
-fn watch_flag<'a>(alloc: Global) -> Arg<'a>
-    ensures rule { rule_of result ≡ watch_rule }
+/// A flag that stands alone.
+fn flag<'a>(alloc: Global, name: &'a str, help: &'a str) -> Arg<'a>
+    ensures rule { rule_of result ≡ flag_rule name.entry.now }
     ensures local { result.global ≡ false }
 {
-    Arg::new(alloc, "watch")
-        .long("watch")
+    Arg::new(alloc, name)
+        .long(name)
         .action(ArgAction::SetTrue)
-        .help("Show the messages that are sent")
+        .help(help)
 }
+
+/// What `--help` says behind the options: a line for each dot line.
+const DOT_LINES: &str = "Lines of the session:
+  HyperTalk                 runs it; a return (byte 13) ends a line of a message of several lines
+  .open                     sends openStack, openBackground and openCard
+  .click PART               sends mouseDown and mouseUp to a button or a field
+  .type \"TEXT\" into FIELD  puts a text into a field, as if it was typed
+  .undo [K], .redo [K]      goes back or forth by one command, or K
+  .undo to N                goes back to the state after line N of the session
+  .show                     shows the stack's text
+  .globals, .where          shows the globals, and the id of the current card
+  .cells NAME               shows the cells of an external
+  .history                  shows how many commands can be undone and redone
+  .save                     keeps the stack's text in its file
+  .quit                     ends the run";
 
 /// The program as `clap` knows it, with what `--help` says of it.
 fn program<'a>(alloc: Global) -> Result<Command<'a>, AllocError>
@@ -59,6 +74,7 @@ fn program<'a>(alloc: Global) -> Result<Command<'a>, AllocError>
         .about(
             "Opens a stack of cards and answers each line of standard input: HyperTalk, or a command that begins with a dot",
         )
+        .after_help(DOT_LINES)
         .arg(stack_word(alloc))?
         .arg(number_option(
             alloc,
@@ -72,7 +88,21 @@ fn program<'a>(alloc: Global) -> Result<Command<'a>, AllocError>
             MOST_DEPTH,
             "How many commands the history keeps; 1000000 unless it is given",
         ))?
-        .arg(watch_flag(alloc))
+        .arg(flag(
+            alloc,
+            "watch",
+            "Show the messages that are sent, on standard error",
+        ))?
+        .arg(flag(
+            alloc,
+            "explain",
+            "Say on standard error why lines fault or are refused, and where",
+        ))?
+        .arg(flag(
+            alloc,
+            "check",
+            "Run nothing: list the scripts that aren't in the grammar, and messages that nothing handles",
+        ))
 }
 
 /// A number that `clap` let through, from 1 to the most, or this one where none was given.
@@ -98,6 +128,8 @@ fn options_in(alloc: Global, matches: &ArgMatches<'_>) -> Result<Options, AllocE
         steps: number(matches, "steps", DEFAULT_STEPS, MOST_STEPS),
         depth: number(matches, "depth", MOST_DEPTH, MOST_DEPTH),
         watch: matches.get_flag("watch"),
+        explain: matches.get_flag("explain"),
+        check: matches.get_flag("check"),
     })
 }
 

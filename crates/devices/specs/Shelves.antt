@@ -11,6 +11,10 @@ text_on s = s.text.items
 abbrev pub messages_on : Shelf → List HeardMessage
 messages_on s = s.messages.items
 
+-- what it heard of why lines faulted or were refused
+abbrev pub explained_on : Shelf → List ℕ
+explained_on s = s.explained.items
+
 -- how many times it was asked to keep a text
 abbrev pub calls_on : Shelf → ℕ
 calls_on s = s.calls

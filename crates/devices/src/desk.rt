@@ -7,7 +7,8 @@ ghost use Rattle.devices.specs.Watching.{counted};
 use ht_values::Text;
 use object_table::Id;
 
-/// Keeps the last text that was saved, and hears of each message that was sent.
+/// Keeps the last text that was saved, and hears of each message that was sent, and, if it wants to, why lines faulted or were
+/// refused.
 ///
 /// A desk may tell what it keeps, as one in memory does; one that keeps it in a file doesn't.
 pub trait Desk {
@@ -23,6 +24,16 @@ pub trait Desk {
     /// make use of a message lets it go.
     fn sent(&mut self, name: &Text, object: Id)
         ensures { seen self.new ≡ seen self.old };
+
+    /// Whether it wants to hear why a line faulted or was refused.
+    fn explains(&self) -> bool {
+        false
+    }
+
+    /// Hears why a line faulted or was refused: lines of text, without an end of the last. It can't fail.
+    fn explain(&mut self, _text: &[u8])
+        ensures { seen self.new ≡ seen self.old }
+    {}
 
     /// How many calls of `keep` failed. At its greatest value the count stays.
     fn failures(&self) -> u64

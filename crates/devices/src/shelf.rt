@@ -1,7 +1,7 @@
 //! A desk in memory.
 
 ghost use Rattle.std.specs.Prelude.{◌≡◌, ◌⊎◌, [], ◌∷◌, ◌++◌, Some, None, IfSome, IsNone, IsTrue, true, not};
-ghost use Rattle.devices.specs.Shelves.{text_on, messages_on, calls_on, fails_at as call_of_failure, failures_on};
+ghost use Rattle.devices.specs.Shelves.{text_on, messages_on, explained_on, calls_on, fails_at as call_of_failure, failures_on};
 ghost use Rattle.devices.specs.Desks.{kept_after};
 ghost use Rattle.devices.specs.Watching.{counted};
 
@@ -23,6 +23,8 @@ pub struct Shelf {
     alloc: Global,
     text: Vec<u8>,
     messages: Vec<HeardMessage>,
+    explains: bool,
+    explained: Vec<u8>,
     calls: u64,
     fails_at: Option<u64>,
     failures: u64,
@@ -41,6 +43,8 @@ impl Shelf {
             alloc,
             text: Vec::new(alloc),
             messages: Vec::new(alloc),
+            explains: false,
+            explained: Vec::new(alloc),
             calls: 0,
             fails_at: None,
             failures: 0,
@@ -55,6 +59,24 @@ impl Shelf {
             fails_at: Some(call),
             ..self
         }
+    }
+
+    /// The same shelf, which wants to hear why lines faulted or were refused.
+    pub fn explaining(self) -> Shelf
+        ensures { result ≡ record self { explains = true } }
+    {
+        Shelf {
+            explains: true,
+            ..self
+        }
+    }
+
+    /// What it heard of lines that faulted or were refused, each with a line feed behind it, but for those for which it was out
+    /// of memory.
+    pub fn explained(&self) -> &[u8]
+        ensures { result.now ≡ explained_on self.now }
+    {
+        &self.explained
     }
 
     /// The text that it keeps.
@@ -123,6 +145,26 @@ impl Desk for Shelf {
     {
         if let Ok(name) = name.try_clone(self.alloc) {
             let _ = self.messages.push(HeardMessage { name, object });
+        }
+    }
+
+    fn explains(&self) -> bool {
+        self.explains
+    }
+
+    /// It remembers the text, but where it is out of memory.
+    fn explain(&mut self, text: &[u8])
+        ensures remembered { (explained_on self.new ≡ explained_on self.old)
+            ⊎ (explained_on self.new ≡ explained_on self.old ++ text.now ++ 10 ∷ []) }
+        ensures text { text_on self.new ≡ text_on self.old }
+        ensures messages { messages_on self.new ≡ messages_on self.old }
+        ensures failures { failures_on self.new ≡ failures_on self.old }
+        ensures calls { calls_on self.new ≡ calls_on self.old }
+        ensures due { call_of_failure self.new ≡ call_of_failure self.old }
+    {
+        if self.explained.reserve(text.len().saturating_add(1)).is_ok() {
+            let _ = self.explained.extend_from_slice(text);
+            let _ = self.explained.push(b'\n');
         }
     }
 

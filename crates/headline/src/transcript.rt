@@ -21,6 +21,7 @@ ghost use Rattle.session.specs.declared.reply.Reply.{Reply};
 use crate::answer::answer_of;
 use crate::limits::{MOST_BYTES, MOST_LINES};
 use devices::{Desk, Watched, write_to};
+use explain::explain;
 use externals::External;
 use session::{Ending, LONGEST_LINE, Refusal, Reply, Sent, Session};
 use std::alloc::{AllocError, Global};
@@ -80,8 +81,32 @@ fn settle<D: Desk>(desk: &mut D, ending: Ending) -> Ending
     }
 }
 
-/// Takes a line, and has the desk hear of its messages and keep what it saves.
-fn take_line<E: External, D: Desk>(session: &mut Session<E>, line: &[u8], desk: &mut D) -> Reply
+/// Tells the desk why a line faulted or was refused, if it wants to hear it.
+fn tell_why<E: External, D: Desk>(
+    session: &Session<E>,
+    alloc: Global,
+    line: &[u8],
+    reply: &Reply,
+    desk: &mut D,
+)
+    ensures { D.seen desk.new ≡ D.seen desk.old }
+{
+    if !desk.explains() {
+        return;
+    }
+    let page = explain(alloc, session, line, reply);
+    if !page.as_slice().is_empty() {
+        desk.explain(page.as_slice());
+    }
+}
+
+/// Takes a line, and has the desk hear of its messages and of why it faulted or was refused, and keep what it saves.
+fn take_line<E: External, D: Desk>(
+    session: &mut Session<E>,
+    alloc: Global,
+    line: &[u8],
+    desk: &mut D,
+) -> Reply
     ensures { Takes line.now (session.old, D.seen desk.old) result
         (session.new, D.seen desk.new) }
 {
@@ -92,11 +117,13 @@ fn take_line<E: External, D: Desk>(session: &mut Session<E>, line: &[u8], desk: 
     } = session.line(line);
     tell(desk, &sent);
     let ending = settle(desk, ending);
-    Reply {
+    let reply = Reply {
         shown,
         sent,
         ending,
-    }
+    };
+    tell_why(session, alloc, line, &reply, desk);
+    reply
 }
 
 /// Answers a line, and says whether it quits.
@@ -120,7 +147,7 @@ fn answer_line<E: External, W: Write, D: Desk>(
     ensures sound { ¬ IsErrOf result RunFault.Write
         → failures_of writer.new ≡ failures_of writer.old }
 {
-    let reply = take_line(session, line, desk);
+    let reply = take_line(session, alloc, line, desk);
     let quits = matches!(reply.ending, Ending::Quit);
     let Ok(bytes) = answer_of(alloc, &reply) else {
         return Err(RunFault::Memory);
@@ -295,7 +322,8 @@ const BLOCK: usize = 4_096;
 /// answer to a line is written whole before the next line is done; input is read in blocks of at most
 /// 4,096 bytes.
 ///
-/// The desk hears of each message that a line sent, in their order, once the line is done. The text of
+/// The desk hears of each message that a line sent, in their order, once the line is done, and then, if it wants to, why the
+/// line faulted or was refused. The text of
 /// a line that saves is handed to it then: the answer is `ok` where it keeps the text. Where it
 /// doesn't, its `failures` rose, what it kept before stands, and the answer is `refused 7`. Both come
 /// before the answer is written.

@@ -129,6 +129,7 @@ impl Simple {
         Simple {
             alloc: self.alloc,
             depth: self.depth - 1,
+            place: tokens.place(),
         }
         .statement(tokens, context)
     }
@@ -219,6 +220,7 @@ fn statement(
     let rules = Simple {
         alloc,
         depth: depth - 1,
+        place: tokens.place(),
     };
     match tokens.peek() {
         Some(TokenKind::Key(Key::If)) => {
@@ -389,6 +391,7 @@ fn else_if(
     let rules = Simple {
         alloc,
         depth: depth - 1,
+        place: tokens.place(),
     };
     let condition = rules.expr(tokens)?;
     if !expect_then(tokens) {

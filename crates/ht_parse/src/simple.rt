@@ -53,11 +53,12 @@ fn run_prop_front(tokens: &Cursor<'_>) -> Option<RunProp>
     }
 }
 
-/// The rules of statements whose parts have at most `depth` levels.
+/// The rules of statements whose parts have at most `depth` levels, for one that begins at a place of the text.
 #[derive(Clone, Copy)]
 pub(crate) struct Simple {
     pub alloc: Global,
     pub depth: usize,
+    pub place: usize,
 }
 
 impl Simple {
@@ -80,7 +81,7 @@ impl Simple {
         requires { stmt_depth (stmt_of kind) ≤ max_depth }
         ensures { Gives (stmt_of kind) result }
     {
-        Ok(Stmt::new(self.alloc, kind)?)
+        Ok(Stmt::new(self.alloc, kind, self.place)?)
     }
 
     /// After the value of `put`.

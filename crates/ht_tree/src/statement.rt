@@ -60,18 +60,23 @@ impl Drop for Head {
     }
 }
 
-/// A statement, at most 100 levels deep.
+/// A statement, at most 100 levels deep. It remembers where it stands in its text, which contracts don't see.
 #[cycle(statement)]
 pub struct Stmt {
     kind: Box<StmtKind>,
     depth: usize,
+    place: usize,
 }
 
 /// Written here and not derived, so that no crate above proves anew how a tree is dropped.
 impl Drop for Stmt {
     #[cycle(statement)]
     fn drop(self) {
-        let Stmt { kind: _, depth: _ } = self;
+        let Stmt {
+            kind: _,
+            depth: _,
+            place: _,
+        } = self;
     }
 }
 
@@ -196,14 +201,14 @@ impl Head {
 }
 
 impl Stmt {
-    /// The statement of a kind, which is at most 100 levels deep.
-    pub fn new(alloc: Global, kind: StmtKind) -> Result<Stmt, AllocError>
+    /// The statement of a kind, which is at most 100 levels deep, and where it begins, in bytes from the beginning of its text.
+    pub fn new(alloc: Global, kind: StmtKind, place: usize) -> Result<Stmt, AllocError>
         requires { stmt_depth (stmt_of kind) ≤ max_depth }
         ensures { IfOk result (λ made. made ≡ stmt_of kind) }
     {
         let depth = kind.depth();
         let kind = Box::new(alloc, kind)?;
-        Ok(Stmt { kind, depth })
+        Ok(Stmt { kind, depth, place })
     }
 
     /// Its kind, with its parts.
@@ -219,6 +224,11 @@ impl Stmt {
         ensures limit { result ≤ max_depth }
     {
         self.depth
+    }
+
+    /// Where it begins, in bytes from the beginning of its text, as it was told when it was made. No clause says so.
+    pub fn place(&self) -> usize {
+        self.place
     }
 }
 

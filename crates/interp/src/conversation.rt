@@ -11,11 +11,11 @@ use crate::stmt::run_block;
 use change_journal::World;
 use externals::{Ask, External, Input};
 use ht_values::{Fault, Text};
-use meaning::{Budget, Conversed, Frame, Stop};
+use meaning::{Budget, Conversed, Frame, Stop, TextUse};
 use primitives::arguments::Arguments;
 use primitives::messages::{start, take_turn};
 use primitives::places::{set_field, set_global};
-use primitives::values::{expression, lines};
+use primitives::values::{expression, leaving_text, lines};
 
 /// A conversation with an external: its arguments are counted, then the depth is tested. Its turns are one level deeper, with a
 /// step before each.
@@ -68,18 +68,22 @@ pub(crate) fn call_back<E: External>(
 {
     match ask {
         Ask::SendCardMessage(note, text) => {
-            let lines = lines(run, &text)?;
+            let lines = lines(run, TextUse::CallBack, &text)?;
             let mut frame = Frame::typed(run.alloc(), world.current());
             let _depth = lines.depth();
-            let _ = run_block(world, run, &mut frame, nested, &lines.items)?;
-            Ok(Input::Answer(note, Text::new(run.alloc())))
+            match run_block(world, run, &mut frame, nested, &lines.items) {
+                Ok(_) => Ok(Input::Answer(note, Text::new(run.alloc()))),
+                Err(stop) => Err(leaving_text(run, TextUse::CallBack, &text, stop)),
+            }
         }
         Ask::EvalExpr(note, text) => {
-            let e = expression(run, &text)?;
+            let e = expression(run, TextUse::CallBack, &text)?;
             let frame = Frame::typed(run.alloc(), world.current());
             let _depth = e.depth();
-            let value = eval_text(world, run, &frame, nested, &e)?;
-            Ok(Input::Answer(note, value))
+            match eval_text(world, run, &frame, nested, &e) {
+                Ok(value) => Ok(Input::Answer(note, value)),
+                Err(stop) => Err(leaving_text(run, TextUse::CallBack, &text, stop)),
+            }
         }
         Ask::SetGlobal(note, name, value) => set_global(world, run, nested, note, name, value),
         Ask::SetFieldByName(note, on_card, name, value) => {

@@ -17,7 +17,7 @@ use externals::External;
 use ht_grammar::{FunctionWord, HandlerKind};
 use ht_tree::{Chunk, Count, Expr, ExprKind};
 use ht_values::{Fault, Op, Prop, Text, UnOp, Value};
-use meaning::{Budget, Frame, Stop};
+use meaning::{Budget, Frame, Stop, TextUse};
 use primitives::arguments::Arguments;
 use primitives::atoms::{atom, object_count};
 use primitives::objects::property;
@@ -25,7 +25,9 @@ use primitives::operands::{
     Operand, call_of_operand, operand_count, operand_into_text, operand_part,
 };
 use primitives::places::field_text;
-use primitives::values::{apply, apply_one, expression, function_named, number, there, truth};
+use primitives::values::{
+    apply, apply_one, expression, function_named, leaving_text, number, there, truth,
+};
 
 /// The value of an expression.
 #[cycle(run)]
@@ -62,7 +64,7 @@ pub(crate) fn eval<E: External>(
         ExprKind::Unary(op, operand) => unary(world, run, frame, nested, *op, operand),
         ExprKind::ThereIs(is_no, reference) => {
             let met = meet(world, run, frame, nested, reference);
-            there(*is_no, met)
+            there(run, *is_no, met)
         }
         ExprKind::Chunk(chunk, text) => chunk_of(world, run, frame, nested, chunk, text),
         ExprKind::Field(part) => {
@@ -144,7 +146,7 @@ pub(crate) fn unary<E: External>(
     ensures keeps { Keeps world.old.history run.old world.new.history run.new }
 {
     let x = eval(world, run, frame, nested, operand)?;
-    apply_one(op, &x)
+    apply_one(run, op, &x)
 }
 
 /// An operand whose text is read next: what a name or a field reads isn't copied.
@@ -298,7 +300,7 @@ pub(crate) fn number_value<E: External>(
     ensures keeps { Keeps world.old.history run.old world.new.history run.new }
 {
     let value = eval(world, run, frame, nested, e)?;
-    number(&value)
+    number(run, &value)
 }
 
 /// A condition.
@@ -318,7 +320,7 @@ pub(crate) fn truth_value<E: External>(
     ensures keeps { Keeps world.old.history run.old world.new.history run.new }
 {
     let value = eval(world, run, frame, nested, e)?;
-    truth(&value)
+    truth(run, &value)
 }
 
 /// The value of a text that is an expression: a step, and one level deeper.
@@ -340,7 +342,10 @@ pub(crate) fn text_value<E: External>(
     if nested == 100 {
         return Err(Stop::Fault(Fault::TooDeep));
     }
-    let e = expression(run, text)?;
+    let e = expression(run, TextUse::Value, text)?;
     let _depth = e.depth();
-    eval(world, run, frame, nested + 1, &e)
+    match eval(world, run, frame, nested + 1, &e) {
+        Ok(value) => Ok(value),
+        Err(stop) => Err(leaving_text(run, TextUse::Value, text, stop)),
+    }
 }

@@ -21,7 +21,8 @@ use msg_path::{BuiltIn, MessagePath, path, path_after};
 use object_table::Id;
 use primitives::arguments::Arguments;
 use primitives::messages::{
-    external, find, handler_frame, is_ignored, item_named, only_text, outcome, returned,
+    external, find, handler_frame, is_ignored, item_named, leaving, not_understood, only_text,
+    outcome, returned,
 };
 use primitives::values::{call_function, empty};
 
@@ -101,13 +102,17 @@ pub(crate) fn along<E: External>(
                 }
                 let mut inner = handler_frame(run, &found, object, values)?;
                 let _depth = found.handler().lines.depth();
-                let how = run_block(
+                let ended = run_block(
                     world,
                     run,
                     &mut inner,
                     nested + 1,
                     &found.handler().lines.items,
-                )?;
+                );
+                let how = match ended {
+                    Ok(how) => how,
+                    Err(stop) => return Err(leaving(world, run, &found, stop)),
+                };
                 match outcome(run, kind, how) {
                     Some(value) => return Ok(value),
                     None => rest = path_after(world.stack(), world.current(), found.object()),
@@ -175,6 +180,6 @@ pub(crate) fn answer<E: External>(
             None => Err(Stop::Fault(Fault::BadArgument)),
         },
         None if is_ignored(kind, name) => Ok(empty(run)),
-        None => Err(Stop::Fault(Fault::CantUnderstand)),
+        None => Err(not_understood(run, name)),
     }
 }

@@ -95,11 +95,11 @@ pub(crate) fn scope<E: External>(
         Owner::NoOwner => Ok(scope_here(world, layer)),
         Owner::OnCard(card) => {
             let card = seek(world, run, frame, nested, card)?;
-            card_scope(world, layer, &card)
+            card_scope(world, run, layer, &card)
         }
         Owner::OnBackground(background) => {
             let background = seek(world, run, frame, nested, background)?;
-            background_scope(world, layer, &background)
+            background_scope(world, run, layer, &background)
         }
     }
 }
@@ -124,11 +124,11 @@ pub(crate) fn meet_part<E: External>(
         Part::Plain(layer, kind, which, owner) => {
             let pick = pick(world, run, frame, nested, which)?;
             let scope = scope(world, run, frame, nested, layer_meant(*layer, *kind), owner)?;
-            part_in(world, *kind, scope, &pick)
+            part_in(world, run, *kind, scope, &pick)
         }
         Part::Nth(ordinal, layer, kind, owner) => {
             let scope = scope(world, run, frame, nested, layer_meant(*layer, *kind), owner)?;
-            part_in(world, *kind, scope, &Pick::Nth(*ordinal))
+            part_in(world, run, *kind, scope, &Pick::Nth(*ordinal))
         }
     }
 }
@@ -155,11 +155,11 @@ pub(crate) fn meet<E: External>(
         Ref::ThisStack => Ok(met_here(world.current(), 0)),
         Ref::Card(selector) => {
             let sought = seek(world, run, frame, nested, selector)?;
-            card_there(world, &sought)
+            card_there(world, run, &sought)
         }
         Ref::Background(selector) => {
             let sought = seek(world, run, frame, nested, selector)?;
-            background_there(world, &sought)
+            background_there(world, run, &sought)
         }
         Ref::Part(part) => meet_part(world, run, frame, nested, part),
     }
@@ -184,11 +184,11 @@ pub(crate) fn lead<E: External>(
     match destination {
         Destination::ToCard(selector) => {
             let sought = seek(world, run, frame, nested, selector)?;
-            card_to(world, &sought)
+            card_to(world, run, &sought)
         }
         Destination::ToBackground(selector) => {
             let sought = seek(world, run, frame, nested, selector)?;
-            background_to(world, &sought)
+            background_to(world, run, &sought)
         }
     }
 }

@@ -85,7 +85,7 @@ pub(crate) fn bounds<E: External>(
 {
     let first = eval(world, run, frame, nested, from)?;
     let last = eval(world, run, frame, nested, to)?;
-    counter(&first, &last, is_down)
+    counter(run, &first, &last, is_down)
 }
 
 /// A repeat without a condition.

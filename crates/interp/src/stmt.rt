@@ -21,9 +21,9 @@ use externals::External;
 use ht_grammar::{HandlerKind, RunProp};
 use ht_tree::{Chunk, Container, Destination, Expr, Ref, Stmt, StmtKind};
 use ht_values::{Fault, Op, Prop, Where};
-use meaning::{Budget, Frame, How, Stop};
+use meaning::{Budget, Frame, How, Stop, TextUse};
 use primitives::places::{declare_globals, edit, put_into_it, set_property};
-use primitives::values::{empty, lines, message};
+use primitives::values::{empty, leaving_text, lines, message, stopping};
 
 /// How statements end, a step before each.
 #[cycle(run)]
@@ -43,8 +43,15 @@ pub(crate) fn run_block<E: External>(
     ensures keeps { Keeps world.old.history run.old world.new.history run.new }
 {
     for stmt in lines {
-        run.step()?;
-        match run_stmt(world, run, frame, nested, stmt)? {
+        match run.step() {
+            Ok(()) => {}
+            Err(stop) => return Err(stopping(run, stmt, stop)),
+        }
+        let how = match run_stmt(world, run, frame, nested, stmt) {
+            Ok(how) => how,
+            Err(stop) => return Err(stopping(run, stmt, stop)),
+        };
+        match how {
             How::Next => {}
             how => return Ok(how),
         }
@@ -352,9 +359,12 @@ pub(crate) fn run_do<E: External>(
     if nested == 100 {
         return Err(Stop::Fault(Fault::TooDeep));
     }
-    let lines = lines(run, &text)?;
+    let lines = lines(run, TextUse::Do, &text)?;
     let _depth = lines.depth();
-    run_block(world, run, frame, nested + 1, &lines.items)
+    match run_block(world, run, frame, nested + 1, &lines.items) {
+        Ok(how) => Ok(how),
+        Err(stop) => Err(leaving_text(run, TextUse::Do, &text, stop)),
+    }
 }
 
 /// `send`: the text, then the object, then the message.

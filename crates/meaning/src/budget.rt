@@ -7,6 +7,7 @@ ghost use Rattle.meaning.specs.State.{Step, delimiter_set, fresh_run, noted, run
 
 use crate::end::Stop;
 use crate::sent::{Line, Sent, SentMessage, Shown};
+use crate::trace::Trace;
 use ht_grammar::RunProp;
 use ht_values::{Failure, Fault, Text, Value, in_word, truth_of};
 use object_table::Id;
@@ -129,6 +130,11 @@ impl Budget {
         ensures { result.now ≡ self.now.sent }
     {
         &self.sent
+    }
+
+    /// What is remembered of where the run stops.
+    pub fn trace(&self) -> &Trace {
+        self.sent.trace()
     }
 
     /// The lines shown and the messages sent, where the command has ended.

@@ -8,6 +8,7 @@ mod frame;
 mod item;
 mod sent;
 mod system;
+mod trace;
 
 pub use budget::Budget;
 pub use counter::Counter;
@@ -16,3 +17,4 @@ pub use frame::Frame;
 pub use item::Item;
 pub use sent::{Line, Sent, SentMessage, Shown};
 pub use system::SystemMessage;
+pub use trace::{OpenCall, Stopped, TextUse, Trace, Unread};

@@ -2,6 +2,7 @@
 
 ghost use Rattle.std.specs.Prelude.{◌≡◌, ◌<◌, ◌==◌, [], ◌∷◌, ◌++◌, length, OnOk, OnErr, Some, slice_get};
 
+use crate::trace::Trace;
 use ht_values::Text;
 use object_table::Id;
 use std::alloc::{AllocError, Global};
@@ -107,10 +108,11 @@ pub struct SentMessage {
     pub object: Id,
 }
 
-/// Messages that were sent, in their order.
+/// Messages that were sent, in their order. Beside them, where contracts don't see it, stands where their run stopped.
 #[derive(Drop)]
 pub struct Sent {
     messages: Vec<SentMessage>,
+    trace: Trace,
 }
 
 impl Model for Sent {
@@ -129,7 +131,13 @@ impl Sent {
     {
         Sent {
             messages: Vec::new(alloc),
+            trace: Trace::new(alloc),
         }
+    }
+
+    /// Where the run stopped that sent them.
+    pub fn trace(&self) -> &Trace {
+        &self.trace
     }
 
     /// How many messages there are.

@@ -3,6 +3,8 @@
 ghost use Rattle.std.specs.Prelude.{◌≡◌, ◌<◌, Some, length};
 ghost use Rattle.ht_tree.specs.ScriptView.{handler_of, handler_at};
 
+use change_journal::World;
+use externals::External;
 use ht_tree::{Handler, Script};
 use object_table::Id;
 use std::marker::Model;
@@ -62,6 +64,14 @@ impl FoundHandler {
         ensures { result ≡ self.now.object }
     {
         self.object
+    }
+
+    /// Whether its object still has the script in which it stands. No clause says so: the same tree may have been read anew.
+    pub fn is_current<E: External>(&self, world: &World<E>) -> bool {
+        match world.script_tree(self.object) {
+            Some(tree) => Rc::ptr_eq(tree, &self.script),
+            None => false,
+        }
     }
 
     /// The handler.

@@ -41,9 +41,40 @@ pub fn find<E: External>(
 {
     match first_handler(run.alloc(), world, path, kind, name) {
         Ok(found) => Ok(found),
-        Err(Failure::Fault(fault)) => Err(Stop::Fault(fault)),
+        Err(Failure::Fault(fault)) => {
+            run.trace().unread_script(path);
+            Err(Stop::Fault(fault))
+        }
         Err(Failure::Memory) => Err(Stop::Memory),
     }
+}
+
+/// The same stop, which is remembered to leave a handler.
+#[inline(never)]
+pub fn leaving<E: External>(
+    world: &World<E>,
+    run: &Budget,
+    found: &FoundHandler,
+    stop: Stop,
+) -> Stop
+    ensures { result ≡ stop }
+{
+    let handler = found.handler();
+    run.trace().leave_handler(
+        found.object(),
+        handler.kind,
+        &handler.name,
+        found.is_current(world),
+    );
+    stop
+}
+
+/// The stop of a message of this name that nobody understands.
+pub fn not_understood(run: &Budget, name: &Text) -> Stop
+    ensures { result ≡ Stop.Fault Fault.CantUnderstand }
+{
+    run.trace().mean_text(name);
+    Stop::Fault(Fault::CantUnderstand)
 }
 
 /// The frame of a handler, in which its parameters have the arguments.

@@ -73,6 +73,22 @@ pub(crate) fn parts_here<E: External>(
     part_count(world.stack(), scope.layer, kind)
 }
 
+/// Remembers what a pick meant.
+fn mean_pick(run: &Budget, pick: &Pick) {
+    match pick {
+        Pick::ById(text) | Pick::ByText(text) => run.trace().mean_text(text),
+        Pick::Nth(_) => {}
+    }
+}
+
+/// Remembers what was sought.
+fn mean_sought(run: &Budget, sought: &Sought) {
+    match sought {
+        Sought::Picked(pick) => mean_pick(run, pick),
+        Sought::This | Sought::Next | Sought::Previous => {}
+    }
+}
+
 /// Where a part without an owner is looked for.
 pub fn scope_here<E: External>(world: &World<E>, layer: Layer) -> PartScope
     ensures { result ≡ references.scope_by world.now.history.now.stack layer world.now.history.now.current }
@@ -84,6 +100,7 @@ pub fn scope_here<E: External>(world: &World<E>, layer: Layer) -> PartScope
 #[tactic(auto, using(meaning::proofs::Rules::yields_rules))]
 pub fn card_scope<E: External>(
     world: &World<E>,
+    run: &Budget,
     layer: Layer,
     card: &Sought,
 ) -> Result<PartScope, Stop>
@@ -91,7 +108,10 @@ pub fn card_scope<E: External>(
 {
     match scope_of_card(world.stack(), world.current(), layer, card) {
         Ok(scope) => Ok(scope),
-        Err(fault) => Err(Stop::Fault(fault)),
+        Err(fault) => {
+            mean_sought(run, card);
+            Err(Stop::Fault(fault))
+        }
     }
 }
 
@@ -99,6 +119,7 @@ pub fn card_scope<E: External>(
 #[tactic(auto, using(meaning::proofs::Rules::yields_rules))]
 pub fn background_scope<E: External>(
     world: &World<E>,
+    run: &Budget,
     layer: Layer,
     background: &Sought,
 ) -> Result<PartScope, Stop>
@@ -106,7 +127,10 @@ pub fn background_scope<E: External>(
 {
     match scope_of_background(world.stack(), world.current(), layer, background) {
         Ok(scope) => Ok(scope),
-        Err(fault) => Err(Stop::Fault(fault)),
+        Err(fault) => {
+            mean_sought(run, background);
+            Err(Stop::Fault(fault))
+        }
     }
 }
 
@@ -114,6 +138,7 @@ pub fn background_scope<E: External>(
 #[tactic(auto, using(meaning::proofs::Rules::yields_rules))]
 pub fn part_in<E: External>(
     world: &World<E>,
+    run: &Budget,
     kind: PartKind,
     scope: PartScope,
     pick: &Pick,
@@ -122,7 +147,10 @@ pub fn part_in<E: External>(
 {
     match part_met(world.stack(), kind, scope, pick) {
         Ok(part) => Ok(part),
-        Err(fault) => Err(Stop::Fault(fault)),
+        Err(fault) => {
+            mean_pick(run, pick);
+            Err(Stop::Fault(fault))
+        }
     }
 }
 
@@ -139,12 +167,19 @@ pub fn object_there<E: External>(world: &World<E>, object: Id) -> Result<Referen
 
 /// The card that is looked for.
 #[tactic(auto, using(meaning::proofs::Rules::yields_rules))]
-pub fn card_there<E: External>(world: &World<E>, card: &Sought) -> Result<Referent, Stop>
+pub fn card_there<E: External>(
+    world: &World<E>,
+    run: &Budget,
+    card: &Sought,
+) -> Result<Referent, Stop>
     ensures { Yields (references.card_met world.now.history.now.stack world.now.history.now.current card.now) result }
 {
     match card_met(world.stack(), world.current(), card) {
         Ok(card) => Ok(card),
-        Err(fault) => Err(Stop::Fault(fault)),
+        Err(fault) => {
+            mean_sought(run, card);
+            Err(Stop::Fault(fault))
+        }
     }
 }
 
@@ -152,35 +187,49 @@ pub fn card_there<E: External>(world: &World<E>, card: &Sought) -> Result<Refere
 #[tactic(auto, using(meaning::proofs::Rules::yields_rules))]
 pub fn background_there<E: External>(
     world: &World<E>,
+    run: &Budget,
     background: &Sought,
 ) -> Result<Referent, Stop>
     ensures { Yields (references.background_met world.now.history.now.stack world.now.history.now.current background.now) result }
 {
     match background_met(world.stack(), world.current(), background) {
         Ok(background) => Ok(background),
-        Err(fault) => Err(Stop::Fault(fault)),
+        Err(fault) => {
+            mean_sought(run, background);
+            Err(Stop::Fault(fault))
+        }
     }
 }
 
 /// The card to go to.
 #[tactic(auto, using(meaning::proofs::Rules::yields_rules))]
-pub fn card_to<E: External>(world: &World<E>, card: &Sought) -> Result<Id, Stop>
+pub fn card_to<E: External>(world: &World<E>, run: &Budget, card: &Sought) -> Result<Id, Stop>
     ensures { Yields (references.card_found world.now.history.now.stack world.now.history.now.current card.now) result }
 {
     match card_found(world.stack(), world.current(), card) {
         Ok(card) => Ok(card),
-        Err(fault) => Err(Stop::Fault(fault)),
+        Err(fault) => {
+            mean_sought(run, card);
+            Err(Stop::Fault(fault))
+        }
     }
 }
 
 /// The first card of the background to go to.
 #[tactic(auto, using(meaning::proofs::Rules::yields_rules))]
-pub fn background_to<E: External>(world: &World<E>, background: &Sought) -> Result<Id, Stop>
+pub fn background_to<E: External>(
+    world: &World<E>,
+    run: &Budget,
+    background: &Sought,
+) -> Result<Id, Stop>
     ensures { Yields (references.first_card_found world.now.history.now.stack world.now.history.now.current background.now) result }
 {
     match first_card_found(world.stack(), world.current(), background) {
         Ok(card) => Ok(card),
-        Err(fault) => Err(Stop::Fault(fault)),
+        Err(fault) => {
+            mean_sought(run, background);
+            Err(Stop::Fault(fault))
+        }
     }
 }
 

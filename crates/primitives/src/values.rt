@@ -24,10 +24,10 @@ use crate::arguments::Arguments;
 use ht_grammar::{FunctionWord, RunProp};
 use ht_lex::Constant;
 use ht_parse::{ParseError, parse_expr, parse_lines, parse_message};
-use ht_tree::{Expr, Message, Stmts};
+use ht_tree::{Expr, Message, Stmt, Stmts};
 use ht_values::{Failure, Fault, Func, Op, Text, UnOp, Value, binary, built_in, unary};
 use itoa::Buffer;
-use meaning::{Budget, Counter, How, Stop};
+use meaning::{Budget, Counter, How, Stop, TextUse};
 use object_references::Referent;
 use std::alloc::{AllocError, Global};
 
@@ -38,19 +38,26 @@ pub fn apply(run: &Budget, op: Op, left: &Value, right: &Value) -> Result<Value,
 {
     match binary(run.alloc(), op, left, right) {
         Ok(value) => Ok(value),
-        Err(Failure::Fault(fault)) => Err(Stop::Fault(fault)),
+        Err(Failure::Fault(fault)) => {
+            run.trace().mean(left);
+            run.trace().mean(right);
+            Err(Stop::Fault(fault))
+        }
         Err(Failure::Memory) => Err(Stop::Memory),
     }
 }
 
 /// What an operator gives of one operand, or its fault. It takes no memory.
 #[tactic(auto, using(meaning::proofs::Rules::yields_rules))]
-pub fn apply_one(op: UnOp, operand: &Value) -> Result<Value, Stop>
+pub fn apply_one(run: &Budget, op: UnOp, operand: &Value) -> Result<Value, Stop>
     ensures { Yields (unary_of op operand.now) result }
 {
     match unary(op, operand) {
         Ok(value) => Ok(value),
-        Err(fault) => Err(Stop::Fault(fault)),
+        Err(fault) => {
+            run.trace().mean(operand);
+            Err(Stop::Fault(fault))
+        }
     }
 }
 
@@ -61,8 +68,18 @@ pub fn call_function(run: &Budget, function: Func, values: &Arguments) -> Result
 {
     match built_in(run.alloc(), function, values.as_slice()) {
         Ok(value) => Ok(value),
-        Err(Failure::Fault(fault)) => Err(Stop::Fault(fault)),
+        Err(Failure::Fault(fault)) => {
+            mean_all(run, values);
+            Err(Stop::Fault(fault))
+        }
         Err(Failure::Memory) => Err(Stop::Memory),
+    }
+}
+
+/// Remembers that these values were meant.
+fn mean_all(run: &Budget, values: &Arguments) {
+    for value in values.as_slice() {
+        run.trace().mean(value);
     }
 }
 
@@ -84,23 +101,29 @@ pub fn function_named(word: FunctionWord) -> Option<Func>
 
 /// The number that a value means, or the fault that it means none. It takes no memory.
 #[tactic(auto, using(meaning::proofs::Rules::yields_rules))]
-pub fn number(value: &Value) -> Result<i64, Stop>
+pub fn number(run: &Budget, value: &Value) -> Result<i64, Stop>
     ensures { Yields (number_of_text value.now) result }
 {
     match value.number() {
         Ok(number) => Ok(number),
-        Err(fault) => Err(Stop::Fault(fault)),
+        Err(fault) => {
+            run.trace().mean(value);
+            Err(Stop::Fault(fault))
+        }
     }
 }
 
 /// The truth value that a value means, or the fault that it means none. It takes no memory.
 #[tactic(auto, using(meaning::proofs::Rules::yields_rules))]
-pub fn truth(value: &Value) -> Result<bool, Stop>
+pub fn truth(run: &Budget, value: &Value) -> Result<bool, Stop>
     ensures { Yields (truth_of_text value.now) result }
 {
     match value.truth() {
         Ok(truth) => Ok(truth),
-        Err(fault) => Err(Stop::Fault(fault)),
+        Err(fault) => {
+            run.trace().mean(value);
+            Err(Stop::Fault(fault))
+        }
     }
 }
 
@@ -147,12 +170,15 @@ pub fn empty(run: &Budget) -> Value
 
 /// What `there is` says of an object that was looked for. That there is none is an answer, any other stop isn't.
 #[tactic(auto, using(meaning::proofs::Rules::val_there_is_rules))]
-pub fn there(is_no: bool, met: Result<Referent, Stop>) -> Result<Value, Stop>
+pub fn there(run: &Budget, is_no: bool, met: Result<Referent, Stop>) -> Result<Value, Stop>
     ensures { (w w1 : History) (r r1 : RunState) (f : Frame) (d : ℕ) (sought : tree.Ref) → Meets w r f d sought met w1 r1 → Val w r f d (tree.there_is is_no sought) result w1 r1 }
 {
     match met {
         Ok(_) => Ok(Value::of_truth(!is_no)),
-        Err(Stop::Fault(Fault::NoSuchObject)) => Ok(Value::of_truth(is_no)),
+        Err(Stop::Fault(Fault::NoSuchObject)) => {
+            run.trace().forget();
+            Ok(Value::of_truth(is_no))
+        }
         Err(stop) => Err(stop),
     }
 }
@@ -191,36 +217,66 @@ pub fn leaves_repeat(how: How) -> Option<How>
 
 /// The numbers from one value to another, up or down; the fault of the first that means no number. It takes no memory.
 #[tactic(auto, using(meaning::proofs::Rules::yields_rules))]
-pub fn counter(from: &Value, to: &Value, is_down: bool) -> Result<Counter, Stop>
+pub fn counter(run: &Budget, from: &Value, to: &Value, is_down: bool) -> Result<Counter, Stop>
     ensures { Yields (counter_of from.now to.now is_down) result }
 {
     match (from.number(), to.number()) {
         (Ok(at), Ok(bound)) => Ok(Counter::new(at, bound, is_down)),
-        (Err(fault), _) => Err(Stop::Fault(fault)),
-        (Ok(_), Err(fault)) => Err(Stop::Fault(fault)),
+        (Err(fault), _) => {
+            run.trace().mean(from);
+            Err(Stop::Fault(fault))
+        }
+        (Ok(_), Err(fault)) => {
+            run.trace().mean(to);
+            Err(Stop::Fault(fault))
+        }
     }
+}
+
+/// The same stop, which is remembered to come in a statement.
+#[inline(never)]
+pub fn stopping(run: &Budget, stmt: &Stmt, stop: Stop) -> Stop
+    ensures { result ≡ stop }
+{
+    run.trace().reach(stmt.place());
+    stop
+}
+
+/// The same stop, which is remembered to leave a text that is run.
+#[inline(never)]
+pub fn leaving_text(run: &Budget, text_use: TextUse, text: &Text, stop: Stop) -> Stop
+    ensures { result ≡ stop }
+{
+    run.trace().leave_text(text_use, text);
+    stop
 }
 
 /// The expression that a text is, or the fault of syntax.
 #[tactic(auto, using(meaning::proofs::Rules::parses_rules))]
-pub fn expression(run: &Budget, text: &Text) -> Result<Expr, Stop>
+pub fn expression(run: &Budget, text_use: TextUse, text: &Text) -> Result<Expr, Stop>
     ensures { Parses ReadsExpr text.now result }
 {
     match parse_expr(run.alloc(), text) {
         Ok(e) => Ok(e),
-        Err(ParseError::Syntax(_)) => Err(Stop::Fault(Fault::Syntax)),
+        Err(ParseError::Syntax(place)) => {
+            run.trace().unread_text(text_use, text, place);
+            Err(Stop::Fault(Fault::Syntax))
+        }
         Err(ParseError::Memory) => Err(Stop::Memory),
     }
 }
 
 /// The lines that a text is, or the fault of syntax.
 #[tactic(auto, using(meaning::proofs::Rules::parses_rules))]
-pub fn lines(run: &Budget, text: &Text) -> Result<Stmts, Stop>
+pub fn lines(run: &Budget, text_use: TextUse, text: &Text) -> Result<Stmts, Stop>
     ensures { Parses ReadsLines text.now (read_as (λ x. stmts_of x.items.items) result) }
 {
     match parse_lines(run.alloc(), text) {
         Ok(lines) => Ok(lines),
-        Err(ParseError::Syntax(_)) => Err(Stop::Fault(Fault::Syntax)),
+        Err(ParseError::Syntax(place)) => {
+            run.trace().unread_text(text_use, text, place);
+            Err(Stop::Fault(Fault::Syntax))
+        }
         Err(ParseError::Memory) => Err(Stop::Memory),
     }
 }
@@ -232,7 +288,10 @@ pub fn message(run: &Budget, text: &Text) -> Result<Message, Stop>
 {
     match parse_message(run.alloc(), text) {
         Ok(message) => Ok(message),
-        Err(ParseError::Syntax(_)) => Err(Stop::Fault(Fault::Syntax)),
+        Err(ParseError::Syntax(place)) => {
+            run.trace().unread_text(TextUse::Send, text, place);
+            Err(Stop::Fault(Fault::Syntax))
+        }
         Err(ParseError::Memory) => Err(Stop::Memory),
     }
 }

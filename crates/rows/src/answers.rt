@@ -216,6 +216,25 @@ impl<'a> Comparison<'a> {
     }
 }
 
+/// The first line `? TEXT` of a row that isn't the next line of what was explained, or none. Where a row has such lines, they are
+/// all that was explained.
+pub fn first_unexplained<'a>(body: &'a str, explained: &str) -> Option<&'a str> {
+    let mut rest = explained.lines();
+    let mut has_any = false;
+    for line in body.lines() {
+        if let Some(wanted) = line.strip_prefix("? ") {
+            has_any = true;
+            if rest.next() != Some(wanted) {
+                return Some(line);
+            }
+        }
+    }
+    if has_any && rest.next().is_some() {
+        return Some("no more explained");
+    }
+    None
+}
+
 /// The first line of a row that its answers and messages don't meet, or none; the stack as it is shown at first.
 pub fn first_unmet<'a, 'b>(
     alloc: Global,

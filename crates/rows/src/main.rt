@@ -10,7 +10,7 @@ mod answers;
 mod row;
 mod trees;
 
-use crate::answers::first_unmet;
+use crate::answers::{first_unexplained, first_unmet};
 use crate::row::{Row, edited, input_of, row_of};
 use crate::trees::tree_of;
 use command_line::{CliFault, Options, cut, options_of, play_with_kit, verdict};
@@ -65,6 +65,16 @@ fn desk_of(alloc: Global, fails_at: &str) -> Shelf {
     match fails_at.parse() {
         Ok(call) => desk.failing_at(call),
         Err(_) => desk,
+    }
+}
+
+/// A run that begins at a desk.
+fn begun(alloc: Global, desk: Shelf) -> Ended {
+    Ended {
+        answers: Vec::new(alloc),
+        desk,
+        status: 0,
+        stderr: Text::new(alloc),
     }
 }
 
@@ -141,6 +151,30 @@ fn wrong_answer<'a>(
     }
 }
 
+/// What is wrong with a run whose desk hears why lines fault or are refused, beside one whose desk doesn't, if anything: it has
+/// other answers, or other lines are explained than the row has.
+fn wrong_explained<'a>(row: &Row<'a>, ended: &Ended, heard: &Ended) -> Option<Wrong<'a>> {
+    if heard.status != ended.status || heard.answers.as_slice() != ended.answers.as_slice() {
+        return Some(Wrong::Text("with explanations it differs"));
+    }
+    match str::from_utf8(heard.desk.explained()) {
+        Ok(explained) => first_unexplained(row.body, explained).map(Wrong::Text),
+        Err(_) => Some(Wrong::Text("other bytes are explained")),
+    }
+}
+
+/// Runs a row once more, at a desk that hears why lines fault or are refused, and tells what is wrong with that, or none.
+fn unexplained_on<'a>(
+    alloc: Global,
+    row: &Row<'a>,
+    stack: &str,
+    ended: &Ended,
+) -> Result<Option<Wrong<'a>>, AllocError> {
+    let mut heard = begun(alloc, desk_of(alloc, row.desk).explaining());
+    perform(alloc, row, stack, &mut heard)?;
+    Ok(wrong_explained(row, ended, &heard))
+}
+
 /// Runs a row on a stack, and tells what it wants and didn't get, or none.
 fn unmet_after<'a>(
     alloc: Global,
@@ -152,7 +186,10 @@ fn unmet_after<'a>(
     perform(alloc, row, stack, ended)?;
     match wrong_end(row, ended) {
         Some(wrong) => Ok(Some(wrong)),
-        None => wrong_answer(alloc, row, ended, shown),
+        None => match wrong_answer(alloc, row, ended, shown)? {
+            Some(wrong) => Ok(Some(wrong)),
+            None => unexplained_on(alloc, row, stack, ended),
+        },
     }
 }
 
@@ -163,12 +200,7 @@ fn unmet_on<'a>(
     stack: &str,
     shown: &str,
 ) -> Result<Option<Wrong<'a>>, AllocError> {
-    let mut ended = Ended {
-        answers: Vec::new(alloc),
-        desk: desk_of(alloc, row.desk),
-        status: 0,
-        stderr: Text::new(alloc),
-    };
+    let mut ended = begun(alloc, desk_of(alloc, row.desk));
     unmet_after(alloc, row, stack, shown, &mut ended)
 }
 

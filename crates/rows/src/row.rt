@@ -18,7 +18,8 @@ pub struct Row<'a> {
     /// The line that is wanted on standard error; `*` is any line.
     pub stderr: &'a str,
     /// The lines of the row: what is typed (`< LINE`), each line of the answer (`= LINE`), what a shown stack text has to be
-    /// (`~ CHECK`), and each message that the run sends, in their order, with the id of its object (`! NAME ID`).
+    /// (`~ CHECK`), each message that the run sends, in their order, with the id of its object (`! NAME ID`), and each line that
+    /// says why a line faulted or was refused (`? LINE`).
     pub body: &'a str,
 }
 

@@ -88,6 +88,14 @@ command_in line = command_by (words line)
 abbrev pub behind_name : List ℕ → List ℕ
 behind_name line = drop (position_or_len (λ b. b == 32) line) line
 
+-- the text of a line that says what a user does, and how it is read
+abbrev pub acted_behind : List ℕ → Option Command → Option (Reading × List ℕ)
+acted_behind line (Some (Act reading)) = Some (reading, behind_name line)
+acted_behind line _ = None
+
+abbrev pub acted_in : List ℕ → Option (Reading × List ℕ)
+acted_in line = if is_dot_line line then acted_behind line (command_in line) else Some (Lines, line)
+
 -- the word behind the name
 abbrev pub second : List (List ℕ) → List ℕ
 second (name ∷ word ∷ rest) = word

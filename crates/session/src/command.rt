@@ -1,9 +1,9 @@
 //! What a dot line says.
 
-ghost use Rattle.std.specs.Prelude.{◌≡◌, ◌<◌, ◌≤◌, ◌==◌, ℕ, List, [], ◌∷◌, length};
+ghost use Rattle.std.specs.Prelude.{◌≡◌, ◌<◌, ◌≤◌, ◌==◌, ℕ, List, [], ◌∷◌, length, option_map};
 ghost use Rattle.std.specs.List.{position, position_or_len};
 ghost use Rattle.session.specs.Commands as commands;
-ghost use Rattle.session.specs.Commands.{after_spaces as from_first_word, behind_name as from_first_space, is as is_word, is_dot_line as begins_with_dot, second, words, word_and_rest, places, named, counted, to_line, worded};
+ghost use Rattle.session.specs.Commands.{after_spaces as from_first_word, behind_name as from_first_space, is as is_word, is_dot_line as begins_with_dot, second, words, word_and_rest, places, named, counted, to_line, worded, acted_in as acted_by};
 
 use stack_file::number_at;
 
@@ -183,6 +183,20 @@ pub fn behind_name(line: &[u8]) -> &[u8]
     ensures short { length result.now ≤ length line.now }
 {
     &line[word_length(line)..]
+}
+
+/// The text of a line that says what a user does, and how it is read: a line without a dot whole, of `.click` and `.type` what
+/// stands behind the name, of `.open` nothing that is read. `None` for every other dot line.
+pub fn acted_in(line: &[u8]) -> Option<(Reading, &[u8])>
+    ensures { option_map (λ read. (read.0, read.1.now)) result ≡ acted_by line.now }
+{
+    if !is_dot_line(line) {
+        return Some((Reading::Lines, line));
+    }
+    match command_in(line) {
+        Some(Command::Act(reading)) => Some((reading, behind_name(line))),
+        _ => None,
+    }
 }
 
 /// The word behind the name of a dot line; empty where there is none.

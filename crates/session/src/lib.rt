@@ -11,6 +11,7 @@ mod running;
 mod session;
 
 pub use change_journal::{MOST_DEPTH, PlugError};
+pub use command::{Reading, acted_in};
 pub use fault::OpenError;
 pub use limits::{LAST_NUMBER, LONGEST_LINE, MOST_STEPS};
 pub use meaning::{Line, Sent, SentMessage, Shown};

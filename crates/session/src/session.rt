@@ -27,7 +27,7 @@ use change_journal::{MOST_DEPTH, PlugError, World};
 use externals::External;
 use ht_values::Text;
 use meaning::{Sent, Shown};
-use object_table::Stack;
+use object_table::{Id, Stack};
 use stack_file::write;
 use std::alloc::{AllocError, Global};
 use std::marker::Model;
@@ -204,6 +204,20 @@ impl<E: External> Session<E> {
             }),
             Err((_, stack, externals)) => Err((OpenError::DuplicateName, stack, externals)),
         }
+    }
+
+    /// The stack at the cursor.
+    pub fn stack(&self) -> &Stack
+        ensures { result.now.content ≡ self.now.history.now.stack }
+    {
+        self.world.stack()
+    }
+
+    /// The card that is current at the cursor.
+    pub fn current(&self) -> Id
+        ensures { result ≡ self.now.history.now.current }
+    {
+        self.world.current()
     }
 
     /// The spelling of the stack at the cursor.

@@ -55,16 +55,15 @@ expr::chunk_of-returns-in_err-pieces-clause-meaning g t c =
     let p = err_from_is_err_and c.from_residual.result c.from_residual.ensures.1 in
     rw (p.1, p.2) (Val.chunk_stops refl c.in_err-pieces.ensures.meaning)
 
-pub message::along-returns-in_err-how-in-Some-clause-meaning : goal.message::along-returns-in_err-how-in-Some-clause-meaning
-message::along-returns-in_err-how-in-Some-clause-meaning g t c =
-    let p = err_from_is_err_and c.from_residual-in_err-how-in-Some.result c.from_residual-in_err-how-in-Some.ensures.1 in
+pub message::along-returns-in-Err-clause-meaning : goal.message::along-returns-in-Err-clause-meaning
+message::along-returns-in-Err-clause-meaning g t c =
     let q = ap stmts_of c.deref.ensures.value ∙ ap lines_of c.handler-in-Some.ensures in
-    rw (p.1, p.2) (c.loop-world.invariant.rest _ _ _ (Along.along_stops {fd = c.in-Some.found} (search rules) (first_of (search rules, grind (arith, common_steps))) c.in_ok-inner-in-Some.ensures (rw (q, c.find.ensures.world) at c.in_err-how-in-Some.ensures.meaning)))
+    rw c.leaving.ensures (c.loop-world.invariant.rest _ _ _ (Along.along_stops {fd = c.in-Some.found} (search rules) (first_of (search rules, grind (arith, common_steps))) c.in_ok-inner-in-Some.ensures (rw (c.in-Err.is, q, c.find.ensures.world) at c.run_block-ended.ensures.meaning)))
 
 pub message::along-returns-in-Some-outcome-clause-meaning : goal.message::along-returns-in-Some-outcome-clause-meaning
 message::along-returns-in-Some-outcome-clause-meaning g t c =
     let q = ap stmts_of c.deref.ensures.value ∙ ap lines_of c.handler-in-Some.ensures in
-    c.loop-world.invariant.rest _ _ _ (Along.along_ends {fd = c.in-Some.found} (search rules) (first_of (search rules, grind (arith, common_steps))) c.in_ok-inner-in-Some.ensures (rw (q, c.find.ensures.world) at c.in_ok-how-in-Some.ensures.meaning) c.in-Some-outcome.ensures.ended)
+    c.loop-world.invariant.rest _ _ _ (Along.along_ends {fd = c.in-Some.found} (search rules) (first_of (search rules, grind (arith, common_steps))) c.in_ok-inner-in-Some.ensures (rw (c.in-Ok.is, q, c.find.ensures.world) at c.run_block-ended.ensures.meaning) c.in-Some-outcome.ensures.ended)
 
 pub message::along-loop-world-preserved : goal.message::along-loop-world-preserved
 message::along-loop-world-preserved g t c =
@@ -72,9 +71,9 @@ message::along-loop-world-preserved g t c =
     let passes = c.outcome.ensures.passed c.in-None-outcome.is in
     let same = c.outcome.ensures.same c.in-None-outcome.is in
     record {
-      fewer = omega (arith, c.outcome.ensures.left, c.run_block.ensures.keeps.1, c.loop-world.invariant.fewer);
-      base = (rw (c.find.ensures.world) at c.run_block.ensures.keeps.0) ∙ c.loop-world.invariant.base;
-      rest = λ o w r h. c.loop-world.invariant.rest _ _ _ (Along.along_passes {fd = c.in-Some.found} (search rules) (first_of (search rules, grind (arith, common_steps))) c.in_ok-inner-in-Some.ensures (rw (q, passes, c.find.ensures.world) at c.in_ok-how-in-Some.ensures.meaning) (rw (c.stack.ensures.content, c.current.ensures.value, c.object.ensures) at c.path_after-rest.ensures) (rw same at h));
+      fewer = omega (arith, c.outcome.ensures.left, c.run_block-ended.ensures.keeps.1, c.loop-world.invariant.fewer);
+      base = (rw (c.find.ensures.world) at c.run_block-ended.ensures.keeps.0) ∙ c.loop-world.invariant.base;
+      rest = λ o w r h. c.loop-world.invariant.rest _ _ _ (Along.along_passes {fd = c.in-Some.found} (search rules) (first_of (search rules, grind (arith, common_steps))) c.in_ok-inner-in-Some.ensures (rw (c.in-Ok.is, q, passes, c.find.ensures.world) at c.run_block-ended.ensures.meaning) (rw (c.stack.ensures.content, c.current.ensures.value, c.object.ensures) at c.path_after-rest.ensures) (rw same at h));
     }
 
 pub pieces::resolve-returns-in_err-pieces-in-Chunk-clause-meaning : goal.pieces::resolve-returns-in_err-pieces-in-Chunk-clause-meaning
@@ -90,19 +89,17 @@ stmt::run_block-run_stmt-requires g t c κs within =
     let h = deep_stmt c.args.lines.now c.loop-stmt.stmt-index c.stmt-item.result c.loop-stmt-test.true c.stmt-item.is in
     first_of (search rules, grind (arith, common_steps))
 
-pub stmt::run_block-returns-in_err-step-clause-meaning : goal.stmt::run_block-returns-in_err-step-clause-meaning
-stmt::run_block-returns-in_err-step-clause-meaning g t c =
-    let p = err_from_is_err_and c.from_residual.result c.from_residual.ensures.1 in
-    rw (p.1, p.2) (c.loop-stmt.invariant.rest _ _ _ _ (Block.block_no_step (cut_stmts c.args.lines.now c.loop-stmt.stmt-index c.stmt-item.result c.loop-stmt-test.true c.stmt-item.is) c.in_err-step.ensures.meaning))
+pub stmt::run_block-returns-in-Err-clause-meaning : goal.stmt::run_block-returns-in-Err-clause-meaning
+stmt::run_block-returns-in-Err-clause-meaning g t c =
+    rw c.stopping.ensures (c.loop-stmt.invariant.rest _ _ _ _ (Block.block_no_step (cut_stmts c.args.lines.now c.loop-stmt.stmt-index c.stmt-item.result c.loop-stmt-test.true c.stmt-item.is) (rw c.in-Err.is at c.step.ensures.meaning)))
 
-pub stmt::run_block-returns-in_err-how-clause-meaning : goal.stmt::run_block-returns-in_err-how-clause-meaning
-stmt::run_block-returns-in_err-how-clause-meaning g t c =
-    let p = err_from_is_err_and c.from_residual-in_err-how.result c.from_residual-in_err-how.ensures.1 in
-    rw (p.1, p.2) (c.loop-stmt.invariant.rest _ _ _ _ (Block.block_stops (cut_stmts c.args.lines.now c.loop-stmt.stmt-index c.stmt-item.result c.loop-stmt-test.true c.stmt-item.is) c.in_ok-step.ensures.meaning c.in_err-how.ensures.meaning))
+pub stmt::run_block-returns-in-Err-run_stmt-clause-meaning : goal.stmt::run_block-returns-in-Err-run_stmt-clause-meaning
+stmt::run_block-returns-in-Err-run_stmt-clause-meaning g t c =
+    rw c.stopping-in-Err-run_stmt.ensures (c.loop-stmt.invariant.rest _ _ _ _ (Block.block_stops (cut_stmts c.args.lines.now c.loop-stmt.stmt-index c.stmt-item.result c.loop-stmt-test.true c.stmt-item.is) (rw c.in-Ok.is at c.step.ensures.meaning) (rw c.in-Err-run_stmt.is at c.run_stmt.ensures.meaning)))
 
 pub stmt::run_block-returns-in_default : goal.stmt::run_block-returns-in_default
 stmt::run_block-returns-in_default g t c = record {
-  meaning = c.loop-stmt.invariant.rest _ _ _ _ (Block.block_leaves (cut_stmts c.args.lines.now c.loop-stmt.stmt-index c.stmt-item.result c.loop-stmt-test.true c.stmt-item.is) c.in_ok-step.ensures.meaning c.in_ok-how.ensures.meaning c.in_default.not-Next);
+  meaning = c.loop-stmt.invariant.rest _ _ _ _ (Block.block_leaves (cut_stmts c.args.lines.now c.loop-stmt.stmt-index c.stmt-item.result c.loop-stmt-test.true c.stmt-item.is) (rw c.in-Ok.is at c.step.ensures.meaning) (rw c.in-Ok-run_stmt.is at c.run_stmt.ensures.meaning) c.in_default.not-Next);
   passes = search rules;
   keeps = search rules;
 }
@@ -111,7 +108,7 @@ pub stmt::run_block-loop-stmt-preserved : goal.stmt::run_block-loop-stmt-preserv
 stmt::run_block-loop-stmt-preserved g t c = record {
   fewer = search rules;
   base = search rules;
-  rest = λ o w r f h. c.loop-stmt.invariant.rest _ _ _ _ (Block.block_goes_on (cut_stmts c.args.lines.now c.loop-stmt.stmt-index c.stmt-item.result c.loop-stmt-test.true c.stmt-item.is) c.in_ok-step.ensures.meaning (rw c.in-Next.is at c.in_ok-how.ensures.meaning) h);
+  rest = λ o w r f h. c.loop-stmt.invariant.rest _ _ _ _ (Block.block_goes_on (cut_stmts c.args.lines.now c.loop-stmt.stmt-index c.stmt-item.result c.loop-stmt-test.true c.stmt-item.is) (rw c.in-Ok.is at c.step.ensures.meaning) (rw (c.in-Ok-run_stmt.is, c.in-Next.is) at c.run_stmt.ensures.meaning) h);
 }
 
 pub stmt::run_block-returns-clause-meaning : goal.stmt::run_block-returns-clause-meaning

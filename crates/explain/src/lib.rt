@@ -1,0 +1,17 @@
+//! Why a line faulted or was refused, and where, in words; and what of a stack's scripts isn't in the grammar. It promises
+//! nothing but that it returns: no answer, state or saved text depends on what it writes, and rows try what that is.
+#![tactic(auto)]
+
+mod hint;
+mod object;
+mod page;
+mod place;
+mod stop;
+mod survey;
+mod typed;
+mod words;
+
+pub use page::Page;
+pub use stop::explain;
+pub use survey::{Checked, check};
+pub use words::{file_fault_words, write_line};
