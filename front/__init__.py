@@ -1,0 +1,1 @@
+"""What stands between people and the program: its runs, its answers, and the texts of its stacks."""

@@ -1,0 +1,89 @@
+#!/usr/bin/env python3
+"""The terminal: `front/terminal.py STACK [--steps N] [--depth D] [--watch] [--quiet] [--mac-roman]`.
+
+It opens a stack by the program, and takes lines as that does, with a prompt, line editing, completion, a history that
+is kept, handlers of several lines, an editor for scripts, and faults in words. `.help` lists what can be typed.
+
+`--quiet` leaves out the words of faults. With `--mac-roman` the bytes 128 to 255 are characters of Mac Roman, else they
+are read and shown as UTF-8. All other words are the program's; where they are wrong, and where standard input or output
+is no terminal, the program itself takes the place of this.
+
+The status is the program's: 0; 2 where the words or the stack are wrong; 1 where anything else stops it.
+"""
+
+import os
+import sys
+from dataclasses import dataclass
+from typing import List, Optional
+
+HERE = os.path.dirname(os.path.dirname(os.path.realpath(__file__)))
+# The folder of this file isn't to hide modules of Python's own behind those of the front.
+sys.path[:] = [HERE] + [path for path in sys.path if os.path.realpath(path or ".") != os.path.join(HERE, "front")]
+
+from front import program  # noqa: E402
+from front.running import Garbled  # noqa: E402
+from front.session import Ended, Session  # noqa: E402
+from front.terminal_loop import Terminal  # noqa: E402
+from front.terminal_text import Coding  # noqa: E402
+
+OWN = ("--mac-roman", "--quiet", "--plain")
+JOINED = ("--steps=", "--depth=")
+WRONG = 2
+
+
+@dataclass
+class Options:
+    """What the words say."""
+
+    stack: str = ""
+    steps: Optional[int] = None
+    depth: Optional[int] = None
+    watch: bool = False
+    explain: bool = True
+    coding: Coding = Coding.UTF_8
+
+
+def options_of(words: List[str]) -> Optional[Options]:
+    """The options; None where the words are wrong, or ask for what isn't a session."""
+    found = Options()
+    rest = [part for word in words for part in (word.split("=", 1) if word.startswith(JOINED) else [word])]
+    while rest:
+        word = rest.pop(0)
+        if word in ("--steps", "--depth"):
+            number = rest.pop(0) if rest else ""
+            if not (number.isascii() and number.isdigit()):
+                return None
+            setattr(found, word[2:], int(number))
+        elif word == "--watch":
+            found.watch = True
+        elif word == "--mac-roman":
+            found.coding = Coding.MAC_ROMAN
+        elif word == "--quiet":
+            found.explain = False
+        elif word != "--explain":
+            if word.startswith("--") or found.stack:
+                return None
+            found.stack = word
+    return found if found.stack else None
+
+
+def main(words: List[str]) -> int:
+    """Runs the terminal with the words of the command line, and gives its status."""
+    options = options_of(words)
+    try:
+        if options is None or not (sys.stdin.isatty() and sys.stdout.isatty()):
+            path = program.path()
+            os.execv(path, [path] + [word for word in words if word not in OWN])
+        session = Session(options.stack, options.steps, options.depth, explain=options.explain)
+    except Ended as ended:
+        print(*(ended.said or [str(ended)]), sep="\n", file=sys.stderr)
+        return ended.status if ended.status > 0 else 1
+    except (program.ProgramMissing, OSError, Garbled) as error:
+        print("terminal: %s" % error, file=sys.stderr)
+        return WRONG
+    with session:
+        return Terminal(options.stack, session, options.coding, options.watch).run()
+
+
+if __name__ == "__main__":
+    sys.exit(main(sys.argv[1:]))

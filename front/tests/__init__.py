@@ -1,0 +1,1 @@
+"""Tests of the front: python3 -m front.tests."""
