@@ -62,14 +62,15 @@ def stack_path(named: Optional[str]) -> str:
 
 
 class Interrupts:
-    """Control-C ends; the first one only asks, where changes aren't saved."""
+    """Control-C ends; where changes aren't saved it asks first, once for the stack as it is then."""
 
     def __init__(self, play: Play, end: threading.Event) -> None:
-        self._play, self._end, self._asked = play, end, False
+        self._play, self._end, self._asked = play, end, b""
 
     def __call__(self, number: int, frame: Optional[FrameType]) -> None:
-        if number == signal.SIGINT and self._play.unsaved and not self._asked:
-            self._asked = True
+        text = self._play.known.text
+        if number == signal.SIGINT and self._play.unsaved and self._asked != text:
+            self._asked = text
             say("there are changes that aren't saved. Save them on the page, or press Control-C again to end without "
                 "them")
             return

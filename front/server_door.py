@@ -162,18 +162,22 @@ class Guard(BaseHTTPRequestHandler):
         try:
             name = self._name_let_in()
             body = self._body(name) if posted else self._no_body()
-            reply = self.server.desk.answer(Asked(name, self._query(), body, posted))
+            reply = self._answered(Asked(name, self._query(), body, posted))
         except TurnedAway as away:
             self._turn_away(away)
             return
-        except OSError:
+        self._send(reply)
+
+    def _answered(self, asked: Asked) -> Reply:
+        """What the desk answers. An error of its own is told too, and stands on standard error."""
+        try:
+            return self.server.desk.answer(asked)
+        except TurnedAway:
             raise
         except Exception as error:
             traceback.print_exc()
             words = "the page's server met an error of its own: %s: %s" % (type(error).__name__, error)
-            self._turn_away(TurnedAway(HTTPStatus.INTERNAL_SERVER_ERROR, words))
-            return
-        self._send(reply)
+            raise TurnedAway(HTTPStatus.INTERNAL_SERVER_ERROR, words) from None
 
     def _name_let_in(self) -> str:
         """What stands behind the key in the path. Raises TurnedAway where the request isn't let in."""

@@ -11,6 +11,8 @@ from typing import List, Optional
 
 # Dot lines that add a place; every other dot line looks, saves or moves.
 COMMANDS = (b".open", b".click", b".type")
+# What is told of a place whose line isn't known.
+UNKNOWN = b"(a line that isn't known)"
 
 
 @dataclass
@@ -48,22 +50,19 @@ class Places:
         self.cursor += 1
 
     def counted(self, undoable: int, redoable: int) -> None:
-        """What the program answers to `.history` now. Raises Astray where the list doesn't hold so many places."""
+        """What the program answers to `.history` now. Where it has more places than the list, the first ones are of lines
+        that aren't known."""
         surplus = len(self.made) - (undoable + redoable)
-        if surplus < 0:
-            raise Astray("the program has %d places, the page knows of %d" % (undoable + redoable, len(self.made)))
-        if surplus:
+        if surplus > 0:
             del self.made[:surplus]
             self.dropped += surplus
+        self.made[:0] = [Place(UNKNOWN, 0, "ok")] * -surplus
         self.cursor = undoable
 
 
-class Astray(Exception):
-    """The list of places and the program's counts don't agree."""
-
-
 def adds_place(line: bytes) -> bool:
-    """Whether a line is a command, which adds a place unless it is refused."""
+    """Whether a line is a command, which adds a place unless it is refused. The program drops a return at its end."""
+    line = line[:-1] if line.endswith(b"\r") else line
     return not line.startswith(b".") or any(line == word or line.startswith(word + b" ") for word in COMMANDS)
 
 

@@ -83,7 +83,7 @@ class Play:
         self._turn = threading.Lock()
         self._stopping = threading.Lock()
         self._astray = False
-        self._in_work = False
+        self._in_work, self._sent_so_far = False, 0
         self._home: Optional[int] = None
         self._begin(Session(path, options.steps, options.depth), path, None, 1)
 
@@ -208,12 +208,11 @@ class Play:
                 self._learn()
         except Interrupted:
             self._restarted(None)
-            raise NotDone("stopped: all is as it was before the command" if self._in_work else
-                          "the command had ended before it could be stopped") from None
+            raise NotDone("stopped: " + self._what_stands()) from None
         except BROKEN as error:
             self._restarted(error)
-            raise NotDone("the program had ended (%s) and was started again: all is as it was before your last act, "
-                          "which you may do again" % words_of(error)) from None
+            raise NotDone("the program had ended (%s) and was started again: %s" % (words_of(error), self._what_stands())
+                          ) from None
         except MemoryError as error:
             self._astray = True
             raise NotDone(str(error)) from None
@@ -222,8 +221,17 @@ class Play:
             self._turn.release()
             self._changed()
 
+    def _what_stands(self) -> str:
+        """What became of an act that was broken off, whose lines were answered as far as they were counted."""
+        if not self._in_work and self._sent_so_far:
+            return "the command had ended before that, and stands"
+        if self._sent_so_far:
+            return "the last line is as if it had not been sent; what was sent before it for this act stands"
+        return "all is as it was before the command"
+
     def _ready(self, seen: Optional[int]) -> None:
         """Whether an act may begin. Where the program wasn't there after the last act, it is started first."""
+        self._in_work, self._sent_so_far = False, 0
         if self.ended:
             raise NotDone("the session has ended")
         if self._astray:
@@ -278,6 +286,7 @@ class Play:
         self.ended = line.rstrip(b" \r") == QUIT
         entry = self._answered(line, own)
         self._in_work = False
+        self._sent_so_far += not own
         self.places.answered(line, len(self.session.lines), entry.answer.verdict)
         if line.rstrip(b" \r") == SAVE and entry.answer.ending == OK:
             self.saved = self.session.text()

@@ -44,6 +44,14 @@ function link(text, run, properties = {}) {
   return button(text, run, { className: "link", ...properties });
 }
 
+// Puts other children into an element. Whoever had the focus in it has it in what bears the same id.
+function refill(holder, ...children) {
+  const active = document.activeElement;
+  const id = active && holder.contains(active) ? active.id : "";
+  holder.replaceChildren(...children);
+  if (id && byId(id)) byId(id).focus();
+}
+
 function plural(count, word) {
   return `${count.toLocaleString("en")} ${word}${count === 1 ? "" : "s"}`;
 }
@@ -82,8 +90,8 @@ function send(name, type, body) {
   return asked(fetch(name, { method: "POST", headers: { "Content-Type": type }, body }));
 }
 
-// Acts are done one after the other. Each says which revision this page has seen. A body that is a function is made when
-// its turn comes.
+// Acts are done one after the other. Each says which revision this page has seen. A body that is a function is made
+// when its turn comes.
 let lastAct = Promise.resolve();
 
 function act(name, body = {}) {
@@ -579,11 +587,11 @@ async function renderPlaces() {
   const rows = found.rows.map((row) => {
     const name = row.place === 0 ? firstPlace() : row.line || "an empty line";
     const bad = row.ending === "ok" ? "" : `  (${row.ending})`;
-    const made = link(`${row.place}  ${name}${bad}`, () => goToPlace(row.place));
+    const made = link(`${row.place}  ${name}${bad}`, () => goToPlace(row.place), { id: `place-${row.place}` });
     if (row.place === found.cursor) made.setAttribute("aria-current", "true");
     return element("li", {}, made);
   });
-  byId("places").replaceChildren(...rows.reverse());
+  refill(byId("places"), ...rows.reverse());
   byId("diff-from").max = byId("diff-to").max = found.last;
   byId("diff-from").value = Math.max(0, found.cursor - 1);
   byId("diff-to").value = found.cursor;
@@ -673,12 +681,13 @@ async function renderList(name) {
   }
   const rows = found.rows.map((row) => {
     const title = row.name ? `${row.number}  ${row.name}` : `${row.number}  id ${row.id}`;
-    const go = link(title, () => tryAct("go", { id: row.id }));
+    const go = link(title, () => tryAct("go", { id: row.id }), { id: `go-${row.id}` });
     if (row.here) go.setAttribute("aria-current", "true");
-    const more = link("\u22ef", () => openObject(row.id), { "aria-label": `Properties of ${title}` });
+    const names = { id: `more-${row.id}`, "aria-label": `Properties of ${title}` };
+    const more = link("\u22ef", () => openObject(row.id), names);
     return element("li", {}, go, row.here ? " (current) " : " ", more);
   });
-  byId(name).replaceChildren(...rows);
+  refill(byId(name), ...rows);
   const end = found.start + found.rows.length;
   const all = found.all.toLocaleString("en");
   byId(`${name}-shown`).textContent = found.all ? `${found.start + 1} to ${end} of ${all}` : "none";
@@ -712,19 +721,19 @@ function fillChoice() {
 async function renderObject() {
   if (!page.object) page.object = { id: page.state.card.id };
   const id = page.object.id;
-  const found = await look("object", { id }).catch(() => null);
-  if (!found) {
+  const found = await latest("object", look("object", { id }).catch(() => ({ gone: true })));
+  if (!found || !page.object || page.object.id !== id) return;
+  if (found.gone) {
     page.object = null;
     byId("object").replaceChildren(element("p", { textContent: `There is no object with the id ${id} any more.` }));
     fillChoice();
     return;
   }
-  if (!page.object || page.object.id !== id) return;
   const typing = document.activeElement && document.activeElement.id === "object-name";
   page.object = found;
   fillChoice();
   if (typing) return;
-  byId("object").replaceChildren(propertiesOf(found), scriptLine(found));
+  refill(byId("object"), propertiesOf(found), scriptLine(found));
 }
 
 function propertiesOf(found) {
@@ -754,10 +763,11 @@ function scriptLine(found) {
   row.append(button(`Script (${plural(lines, "line")})`, () => openScript(found.id), { id: "edit-script" }));
   const isPart = found.kind.includes(" ");
   if (isPart && found.here) {
-    row.append(button("Click", () => clickPart(found.id), { "aria-label": `Click ${found.title}` }));
+    const names = { id: "click-object", "aria-label": `Click ${found.title}` };
+    row.append(button("Click", () => clickPart(found.id), names));
   }
   if (found.kind === "card" || found.kind === "background") {
-    row.append(button("Go there", () => tryAct("go", { id: found.id })));
+    row.append(button("Go there", () => tryAct("go", { id: found.id }), { id: "go-to-object" }));
   }
   return row;
 }

@@ -217,6 +217,30 @@ class TestEveryone(PageTest):
             self.assertEqual(browser.run("return document.activeElement.id"), "tab-" + name)
             self.assertTrue(browser.has("#panel-" + name))
 
+    def test_the_focus_stays(self) -> None:
+        """What is done by a key leaves the focus where it is, also where the page draws anew."""
+        self.open_stack("quiz")
+        browser, focus = self.browser, "return document.activeElement.id"
+        self.until("the cards", lambda: browser.has("#go-11"))
+        browser.run("document.querySelector('#go-11').focus()")
+        browser.keys(ENTER)
+        self.until("the card", lambda: "Sea" in browser.text("#card-title"))
+        self.rest()
+        self.until("the mark", lambda: browser.attribute("#go-11", "aria-current") == "true")
+        self.assertEqual(browser.run(focus), "go-11")
+        browser.click("#part-6 .more")
+        self.until("the inspector", lambda: browser.has("#object-hilite"))
+        for value in ("true", "false"):
+            browser.run("document.querySelector('#object-hilite').focus()")
+            browser.keys(" ")
+            self.until("the hilite", lambda: browser.attribute("#button-6", "aria-pressed") == value)
+            self.rest()
+            self.assertEqual(browser.run(focus), "object-hilite")
+        browser.type("#line", "put 1" + ENTER)
+        self.until("the answer", lambda: browser.text("#answer") == "1")
+        self.rest()
+        self.assertEqual(browser.run(focus), "line")
+
     def test_everything_has_a_name(self) -> None:
         for name in ("quiz", "address_book"):
             self.open_stack(name)

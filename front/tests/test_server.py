@@ -8,84 +8,14 @@ import socket
 import threading
 import time
 import unittest
-from typing import Any, Dict, Optional, Tuple
+from typing import Any, Tuple
 
-from front.server_desk import PageDesk
-from front.server_door import HOST, MOST_CONNECTIONS, Door
-from front.server_play import Options, Play
+from front.server_door import HOST, MOST_CONNECTIONS
 from front.stack_text import read
-from front.tests.support import FolderTest, bytes_of, there
+from front.tests.serving import KEY, ServerTest
+from front.tests.support import bytes_of, there
 
-KEY = "the-key-of-this-test"
 ENDLESS = "repeat forever\nget 1\nend repeat"
-MOST_STEPS = 10_000_000
-
-
-class ServerTest(FolderTest):
-    """A server on a copy of the to-do stack."""
-
-    stack = "stacks/to_do.stack"
-
-    def setUp(self) -> None:
-        super().setUp()
-        self.path = self.put("to_do.stack", self.first_text())
-        self.play = Play(self.path, Options(steps=MOST_STEPS))
-        self.addCleanup(self.play.close)
-        self.door = Door(PageDesk(self.play), KEY)
-        self.addCleanup(self.door.server_close)
-        threading.Thread(target=self.door.serve_forever, kwargs={"poll_interval": 0.01}, daemon=True).start()
-        self.addCleanup(self.door.shutdown)
-        self.port = self.door.server_address[1]
-
-    def first_text(self) -> bytes:
-        return bytes_of(there(self.stack))
-
-    def request(self, method: str, path: str, body: Optional[bytes] = None,
-                headers: Optional[Dict[str, str]] = None) -> Tuple[int, bytes, http.client.HTTPMessage]:
-        """Sends a request as a browser would, and gives the status, the body and the headers of the answer."""
-        connection = http.client.HTTPConnection(HOST, self.port, timeout=20)
-        self.addCleanup(connection.close)
-        connection.request(method, path, body, headers or {})
-        reply = connection.getresponse()
-        return reply.status, reply.read(), reply.headers
-
-    def get(self, name: str, headers: Optional[Dict[str, str]] = None) -> Tuple[int, Any]:
-        status, body, _ = self.request("GET", "/%s/%s" % (KEY, name), headers=headers)
-        return status, json.loads(body)
-
-    def post(self, name: str, **values: object) -> Tuple[int, Any]:
-        """Posts values as the page does."""
-        sent = {"Content-Type": "application/json", "Origin": "http://%s:%d" % (HOST, self.port)}
-        status, body, _ = self.request("POST", "/%s/%s" % (KEY, name), json.dumps(values).encode(), sent)
-        return status, json.loads(body)
-
-    def say(self, line: str) -> Any:
-        """Sends a line from a page that has seen the last revision."""
-        status, answer = self.post("line", seen=self.state()["revision"], line=line)
-        self.assertEqual(status, 200, answer)
-        return answer
-
-    def state(self) -> Any:
-        return self.get("state")[1]
-
-    def raw(self, sent: bytes) -> bytes:
-        """All that is answered to these bytes, up to the end of the connection."""
-        with socket.create_connection((HOST, self.port), timeout=20) as connection:
-            connection.sendall(sent)
-            connection.shutdown(socket.SHUT_WR)
-            answer = b""
-            while True:
-                block = connection.recv(65536)
-                if not block:
-                    return answer
-                answer += block
-
-    def pid(self) -> int:
-        return self.play.session.pid
-
-    def assert_turned_away(self, reply: Tuple[int, bytes, http.client.HTTPMessage], status: int, words: str) -> None:
-        self.assertEqual(reply[0], status, reply[1])
-        self.assertIn(words, json.loads(reply[1])["error"])
 
 
 class TestDoor(ServerTest):
@@ -299,6 +229,37 @@ class TestAlone(ServerTest):
         self.assertIn("all is as it was before", answers[0][1]["error"])
         self.assert_same(before, self.state())
 
+    def test_program_is_killed_after_its_answer(self) -> None:
+        """The command was done, and isn't to be done again."""
+        ask = self.play.session.text
+
+        def text() -> bytes:
+            self.play.session.text = ask  # type: ignore[method-assign]
+            os.kill(self.pid(), signal.SIGKILL)
+            return ask()
+
+        self.play.session.text = text  # type: ignore[method-assign]
+        status, answer = self.post("menu", seen=self.state()["revision"], item="New Card")
+        self.assertEqual(status, 409)
+        self.assertIn("the command had ended before that, and stands", answer["error"])
+        self.assertEqual(self.state()["stack"]["cards"], 3)
+
+    def test_program_is_gone(self) -> None:
+        """It can't be started again for a while: the text can be had, and the next act after that goes on."""
+        self.say('doMenu "New Card"')
+        before, named = self.play.known.text, self.play.session._program
+        self.play.session._program = os.path.join(self.folder, "gone")
+        os.kill(self.pid(), signal.SIGKILL)
+        for _ in range(2):
+            status, answer = self.post("line", seen=self.state()["revision"], line="put 1")
+            self.assertEqual(status, 409)
+            self.assertIn("couldn't be started again", answer["error"])
+            self.assertEqual(self.request("GET", "/%s/stack" % KEY)[1], before)
+        self.play.session._program = named
+        self.assertEqual(self.post("line", seen=self.state()["revision"], line="put 1")[1].get("stale"), True)
+        self.say("put 1")
+        self.assertEqual(self.play.known.text, before)
+
     def test_program_is_killed_on_a_way_there_and_back(self) -> None:
         for item in ("New Card", "New Button"):
             self.say('doMenu "%s"' % item)
@@ -330,7 +291,7 @@ class TestAlone(ServerTest):
         self.assertEqual(self.post("stop"), (200, {"stopped": True}))
         act.join()
         self.assertLess(time.monotonic() - start, 10)
-        self.assertEqual((answers[0][0], answers[0][1]["error"]), (409, "stopped: all is as it was before the command"))
+        self.assertEqual(answers[0], (409, {"error": "stopped: all is as it was before the command"}))
         self.assert_same(before, self.state())
         self.say("put 1")
 

@@ -7,7 +7,7 @@ from front import server_acts as acts
 from front.answers import Answer
 from front.server_desk import LONGEST_NAME, file_name
 from front.server_objects import Objects, reference, title
-from front.server_places import Astray, Places, move
+from front.server_places import UNKNOWN, Places, move
 from front.server_play import Known, NotDone, coding_of
 from front.server_told import entry_view, log_of, users_line
 from front.server_view import MOST_CARDS, MOST_PARTS, card_view, cards_view, object_view, part_view
@@ -83,8 +83,10 @@ class TestPlaces(unittest.TestCase):
         self.assertEqual((places.cursor, places.dropped), (2, 2))
         self.assertIsNone(places.at(0))
         self.assertIsNone(places.at(3))
-        with self.assertRaises(Astray):
-            places.counted(3, 0)
+        places.answered(b".open\r", 10, "ok")
+        places.counted(3, 1)
+        self.assertEqual([place.line for place in places.made], [UNKNOWN, b"put 2", b"put 9", b".open\r"])
+        self.assertEqual(places.cursor, 3)
 
     def test_moves(self) -> None:
         self.assertEqual([move(3, place) for place in (1, 3, 7)], [b".undo 2", None, b".redo 4"])

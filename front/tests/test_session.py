@@ -18,6 +18,8 @@ from front.stack_text import Background, Card, Part, Stack, read, write
 from front.tests.support import DEMO, FolderTest, bytes_of, there
 
 MOST_STEPS = 10_000_000
+# A break takes a fraction of a second; beside other work, on a slow machine, it may take longer.
+MOST_SECONDS = 5.0
 ENDLESS = b"repeat\rput 1 into g\rend repeat"
 NEW_BUTTON = b'doMenu "New Button"'
 
@@ -193,7 +195,7 @@ class BrokenOff(SessionTest):
         for line in (NEW_BUTTON, b"go next", b"put 7 into g", b"put 1 div 0", b"go next", b".undo", b"put ("):
             session.send(line)
         text, lines = session.text(), list(session.lines)
-        self.assertLess(self.interrupted(session), 1.0)
+        self.assertLess(self.interrupted(session), MOST_SECONDS)
         self.assertEqual(session.lines, lines)
         self.assertEqual((session.text(), session.where(), session.history()), (text, 4, (4, 1)))
         self.says(session, b".globals", "> g 7", "ok")
@@ -433,7 +435,7 @@ class Files(SessionTest):
         session = self.opened(path)
         start = time.monotonic()
         self.assertEqual(session.text(), bytes_of(path))
-        self.assertLess(time.monotonic() - start, 2.0)
+        self.assertLess(time.monotonic() - start, MOST_SECONDS)
 
 
 if __name__ == "__main__":

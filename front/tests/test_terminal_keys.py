@@ -151,7 +151,8 @@ class Control(AtATerminal):
         start = time.monotonic()
         screen.interrupt()
         screen.wait("Broken off. All is as before that line.\r\nA> ")
-        self.assertLess(time.monotonic() - start, 1.3)
+        # It takes a fraction of a second; beside other work, on a slow machine, it may take longer.
+        self.assertLess(time.monotonic() - start, 5.0)
         screen.enter("put field 1 && n")
         screen.wait("\r\n> kept 5\r\nok")
         screen.enter(".history")
