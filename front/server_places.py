@@ -50,8 +50,8 @@ class Places:
         self.cursor += 1
 
     def counted(self, undoable: int, redoable: int) -> None:
-        """What the program answers to `.history` now. Where it has more places than the list, the first ones are of lines
-        that aren't known."""
+        """What the program answers to `.history` now. Where it has more places than the list, the first ones are of
+        lines that aren't known."""
         surplus = len(self.made) - (undoable + redoable)
         if surplus > 0:
             del self.made[:surplus]

@@ -211,8 +211,8 @@ class Play:
             raise NotDone("stopped: " + self._what_stands()) from None
         except BROKEN as error:
             self._restarted(error)
-            raise NotDone("the program had ended (%s) and was started again: %s" % (words_of(error), self._what_stands())
-                          ) from None
+            how = words_of(error)
+            raise NotDone("the program had ended (%s) and was started again: %s" % (how, self._what_stands())) from None
         except MemoryError as error:
             self._astray = True
             raise NotDone(str(error)) from None
@@ -293,7 +293,8 @@ class Play:
         return entry
 
     def _answered(self, line: bytes, own: bool) -> Entry:
-        """Sends a line. The program may be gone before its answer to `.quit` is read; its status says that all is well."""
+        """Sends a line. The program may be gone before its answer to `.quit` is read; its status says that all is
+        well."""
         try:
             self.session.send(line, own)
         except Ended as error:

@@ -19,10 +19,10 @@ MOST_LINES = 100
 LONGEST_LINE = 2_000
 MOST_ENTRIES = 100
 
-# A line of an explanation that names a line of a script: the line, the column, and the id of the object.
 UNDO_TO = re.compile(rb"\.undo to ([0-9]+)")
-PLACE = re.compile(r"\s+(?:at|called from) line ([0-9]+)(?:, column ([0-9]+))? of the script of .*"
-                   r"\(id ([0-9]+)\)(?:, in (?:on|function) [A-Za-z0-9_]+)?:")
+# A line of an explanation that names a script: the line in it and the column, where they are told, and the object's id.
+PLACE = re.compile(r"\s+(?:at|called from) (?:line ([0-9]+)(?:, column ([0-9]+))? of )?the script of .*"
+                   r"\(id ([0-9]+)\)(?:, in (?:on|function) [A-Za-z0-9_]+)?(?::|;.*)?")
 
 
 def entry_view(number: int, line: bytes, answer: Answer, own: bool, objects: Optional[Objects],
@@ -51,12 +51,12 @@ def texts_view(entry: Entry, coding: Coding) -> List[Json]:
 
 
 def explained_view(line: str) -> Dict[str, Json]:
-    """A line of an explanation; where it names a place in a script, with the object's id, the line and the column."""
+    """A line of an explanation; where it names a script, with the object's id, and the line and the column if any."""
     found = PLACE.fullmatch(line)
     if not found:
         return {"text": line}
     at, column, number = found.groups()
-    return {"text": line, "id": int(number), "line": int(at), "column": int(column) if column else None}
+    return {"text": line, "id": int(number), "line": int(at) if at else None, "column": int(column) if column else None}
 
 
 def messages_view(watched: Sequence[Tuple[str, int]], objects: Optional[Objects], coding: Coding) -> List[Json]:

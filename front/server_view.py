@@ -4,7 +4,7 @@ Only what is looked at is told, in windows: at most so many parts or cards at on
 characters of texts. Each function gives what JSON can hold.
 """
 
-from typing import Dict, List, Sequence, Union
+from typing import Dict, Iterable, List, Sequence, Union
 
 from front.server_objects import ATTRIBUTES, FLAGS, Found, Json, Objects, title
 from front.server_words import shown
@@ -24,7 +24,7 @@ def card_view(objects: Objects, start: int, coding: Coding) -> Dict[str, Json]:
     card, background = objects.card, objects.background
     everything = background.parts + card.parts
     start = max(0, min(start, (len(everything) - 1) // MOST_PARTS * MOST_PARTS))
-    parts = _window([part_view(objects, part, coding) for part in everything[start:start + MOST_PARTS]])
+    parts = _window(part_view(objects, part, coding) for part in everything[start:start + MOST_PARTS])
     here, below = objects.found[card.id], objects.found[background.id]
     return {
         "id": card.id, "name": shown(card.name, coding), "title": title(here, coding), "number": here.number,
@@ -46,8 +46,8 @@ def part_view(objects: Objects, part: Part, coding: Coding) -> Dict[str, Json]:
     return {**told, "hilite": objects.hilite(part)}
 
 
-def _window(views: List[Dict[str, Json]]) -> List[Json]:
-    """As many of the views as stay within the characters, the first one always."""
+def _window(views: Iterable[Dict[str, Json]]) -> List[Json]:
+    """As many of the first views as stay within the characters, and one always. At most one beyond them is made."""
     kept: List[Json] = []
     used = 0
     for view in views:

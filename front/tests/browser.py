@@ -59,7 +59,7 @@ class Browser:
         log = open(os.path.join(self._folder, "driver.log"), "wb")
         with log:
             self._driver = subprocess.Popen([programs[1], "--port=%d" % port], stdout=log, stderr=log,
-                                            stdin=subprocess.DEVNULL)
+                                            stdin=subprocess.DEVNULL, env={**os.environ, "TMPDIR": self._folder})
         self._session = ""
         try:
             self._wait_for_driver()

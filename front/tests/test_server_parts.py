@@ -32,8 +32,8 @@ class TestWords(unittest.TestCase):
 
     def test_texts_by_chance_come_back(self) -> None:
         chance = random.Random(7)
-        pieces = ["\u240a".encode(), "\u2421".encode(), "é漢😀".encode(), b"\xed\xa0\x80", b"\xc3", b"\r", b"\n", b"\t",
-                  b"a", b"\x8e"]
+        pieces = ["\u240a".encode(), "\u2421".encode(), "é漢😀".encode(), b"\xed\xa0\x80", b"\xc3", b"\r", b"\n",
+                  b"\t", b"a", b"\x8e"]
         for _ in range(3_000):
             text = b"".join(chance.choice(pieces) for _ in range(chance.randrange(8)))
             for coding in Coding:
@@ -188,10 +188,12 @@ class TestTold(unittest.TestCase):
                 '  at line 2 of the script of card button "at line 9 (id 3)" (id 7), in on mouseUp:', "    put 1 + x",
                 '  at line 3, column 14 of the script of stack "Home" (id 0):', "    put (", "         ^",
                 '  called from line 12 of the script of bkgnd field "a\\0db" (id 12), in function f:',
-                "  at line 1, column 3 of the typed line:", "  called from the typed line:"]
+                '  called from the script of card "A" (id 5), in on x; that script was replaced meanwhile',
+                "  at line 1, column 3 of the typed line:", "  called from the typed line:",
+                '    put "the script of card (id 5):"', '  meant: "at line 1 of the script of x (id 5):"']
         view = entry_view(1, b"x", Answer([], "fault", 4, said), False, None, UTF)
         found = [(each["id"], each["line"], each["column"]) for each in view["explained"] if "id" in each]
-        self.assertEqual(found, [(7, 2, None), (0, 3, 14), (12, 12, None)])
+        self.assertEqual(found, [(7, 2, None), (0, 3, 14), (12, 12, None), (5, None, None)])
 
     def test_long_answers_are_cut(self) -> None:
         answer = Answer([b"x" * 9_000] + [b"y"] * 999, "ok", 0, [], [("mouseUp", 4)] * 500)
@@ -221,7 +223,8 @@ class TestActs(unittest.TestCase):
         self.assertEqual(acts.type_into(*field, "London", "London", UTF), [])
         lines = acts.type_into(*field, 'a "b"\nc', "London", UTF)
         self.assertEqual(lines, [
-            b'send "openField" to bkgnd field id 6\rput "a " & quote & "b" & quote & return & "c" into bkgnd field id 6\r'
+            b'send "openField" to bkgnd field id 6\r'
+            b'put "a " & quote & "b" & quote & return & "c" into bkgnd field id 6\r'
             b'send "closeField" to bkgnd field id 6'])
         self.assertGreater(len(acts.type_into(*field, "\n" * 9_000, "London", UTF)), 2)
         for wrong in (("x", "Rome"), ("x" * 30_001, "London")):
