@@ -62,7 +62,8 @@ def type_lines(field: bytes, text: bytes, changed: bool, variable: bytes = BUILT
     Where the line `.type` can hold the text, that is the line. It can't hold a quote, a return or a line feed: then
     the messages that it sends are sent by a line of HyperTalk, openField before the text is put into the field, and
     after it closeField, or exitField where `changed` says that the text is the one that stood there. That line writes
-    into a locked field too, so ask before whether the field is locked.
+    into a locked field too, so ask before whether the field is locked; and where a handler of openField goes to another
+    card, the text goes there, while `.type` stays on the card where it began.
 
     Raises ValueError for a text of more than 30,000 bytes."""
     typed = b'.type "' + text + b'" into ' + field

@@ -20,7 +20,7 @@ class Ended(Exception):
     def __init__(self, status: int, said: List[str]) -> None:
         self.status, self.said = status, said
         how = "with status %d" % status if status >= 0 else "by signal %d, %s" % (-status, _signal_name(-status))
-        super().__init__(": ".join(["the program ended " + how, *said[-1:]]))
+        super().__init__(": ".join(["the program ended " + how, *_last_of(said)]))
 
 
 class Garbled(Exception):
@@ -32,6 +32,12 @@ class Heard(NamedTuple):
 
     answer: List[bytes]
     told: List[str]
+
+
+def _last_of(said: List[str]) -> List[str]:
+    """The last line of standard error, with the lines behind it that say more of it, which are indented."""
+    starts = [at for at, line in enumerate(said) if line and not line.startswith(" ")]
+    return [line.strip() for line in said[starts[-1] if starts else len(said):]]
 
 
 def _signal_name(number: int) -> str:

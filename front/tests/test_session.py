@@ -271,8 +271,8 @@ class Ends(SessionTest):
     def test_a_stack_that_is_refused(self) -> None:
         with self.assertRaises(Ended) as raised:
             Session(self.put("bad.stack", b"htstack 2\nnext 2\n"))
-        self.assertEqual((raised.exception.status, raised.exception.said),
-                         (2, ["card_cli: stack refused 1 at line 2"]))
+        self.assertEqual((raised.exception.status, raised.exception.said[0], raised.exception.said[2:]),
+                         (2, "card_cli: stack refused 1 at line 2", ["    next 2"]))
 
     def test_words_that_are_wrong(self) -> None:
         with self.assertRaises(Ended) as raised:

@@ -16,7 +16,8 @@ from front.tests.support import Chance, FolderTest, bytes_of, texts, there
 
 # The whole text that is written, or the number and the line of the fault.
 Verdict = Union[bytes, Tuple[int, Optional[int]]]
-REFUSED = re.compile(rb"card_cli: stack refused ([1-4])(?: at line ([0-9]+))?\n")
+# The line of a refusal; behind it stand its words, and the line of the text.
+REFUSED = re.compile(rb"card_cli: stack refused ([1-4])(?: at line ([0-9]+))?\n(?:  .*\n)*")
 SMALLEST = b"""htstack 2
 next 3
 name |

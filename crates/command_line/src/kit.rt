@@ -106,26 +106,17 @@ fn kit_listed<E: External>(
     Ok(externals)
 }
 
-/// The four externals of the kit, in boxes of one type.
-fn boxed(alloc: Global) -> Result<Vec<Box<dyn External>>, AllocError> {
-    let kit = kit_of(alloc)?;
-    let mut externals = Vec::new(alloc);
-    let count: Box<dyn External> = kit.count;
-    externals.push(count)?;
-    let bins: Box<dyn External> = kit.bins;
-    externals.push(bins)?;
-    let relay: Box<dyn External> = kit.relay;
-    externals.push(relay)?;
-    let gate: Box<dyn External> = kit.gate;
-    externals.push(gate)?;
-    Ok(externals)
-}
-
 /// Looks at the scripts of a stack text and runs nothing, as `check` of `explain` does, beside the four externals of the kit.
 /// `Refused` where the bytes are no stack text, `Memory` where a growth was refused.
 pub fn check_with_kit(alloc: Global, bytes: &[u8]) -> Result<Checked, CliFault> {
     let stack = stack_of(alloc, bytes)?;
-    Ok(check(alloc, &stack, &boxed(alloc)?)?)
+    let kit = kit_of(alloc)?;
+    let count: Box<dyn External> = kit.count;
+    let bins: Box<dyn External> = kit.bins;
+    let relay: Box<dyn External> = kit.relay;
+    let gate: Box<dyn External> = kit.gate;
+    let externals = listed(alloc, count, bins, relay, gate)?;
+    Ok(check(alloc, &stack, &externals)?)
 }
 
 /// Runs as `play` does, with the four externals of the kit under their names: `Count`, which begins at 0, `Bins`, `Relay`

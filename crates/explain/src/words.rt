@@ -27,7 +27,7 @@ fn words_of_fault(fault: Fault) -> Words {
         },
         Fault::NoSuchObject => Words {
             name: "NoSuchObject",
-            when: "there is no such card, background, button or field; or the field or the hilite keeps nothing for the card that is meant",
+            when: "there is no such card, background, button or field; or the text or the hilite of a background's part is asked of a card of another background, which has none for it",
         },
         Fault::NotANumber => Words {
             name: "NotANumber",

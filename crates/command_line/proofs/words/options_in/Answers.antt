@@ -20,4 +20,14 @@ returns c =
         yes = λ e. c.get_flag.ensures.value (one_text-rows f (codes "watch") ∙ e);
         no = λ e. c.get_flag.ensures.other (one_text-rows f (codes "watch") ∙ e);
       };
+      explain = record {
+        none = λ e. c.get_flag-2.ensures.none (one_text-rows f (codes "explain") ∙ e);
+        yes = λ e. c.get_flag-2.ensures.value (one_text-rows f (codes "explain") ∙ e);
+        no = λ e. c.get_flag-2.ensures.other (one_text-rows f (codes "explain") ∙ e);
+      };
+      check = record {
+        none = λ e. c.get_flag-3.ensures.none (one_text-rows f (codes "check") ∙ e);
+        yes = λ e. c.get_flag-3.ensures.value (one_text-rows f (codes "check") ∙ e);
+        no = λ e. c.get_flag-3.ensures.other (one_text-rows f (codes "check") ∙ e);
+      };
     }
