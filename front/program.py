@@ -1,7 +1,6 @@
 """Where the program is, and how it is started."""
 
 import contextlib
-import functools
 import os
 import resource
 import subprocess
@@ -60,12 +59,6 @@ def deep_stack() -> Iterator[None]:
             yield
         finally:
             resource.setrlimit(resource.RLIMIT_STACK, (soft, hard))
-
-
-@functools.lru_cache(maxsize=None)
-def explains(program: str) -> bool:
-    """Whether a program knows --explain, --check and --version. One of an earlier date doesn't."""
-    return run(["--version"], program=program).returncode == 0
 
 
 def words(stack: str, steps: Optional[int] = None, depth: Optional[int] = None, watch: bool = False,

@@ -59,13 +59,13 @@ class Session:
                  explain: bool = True, program: Optional[str] = None) -> None:
         """Opens the stack, and sees that the program runs, by a line of its own, `.where`.
 
-        `steps` and `depth` are the program's options. `program` is a path in place of the one of `program.path()`. A
-        program that can't explain isn't asked to. Raises OSError where the file can't be read, ProgramMissing where
-        there is no program, and Ended where the program refuses the words or the stack: `said` has its reason.
+        `steps` and `depth` are the program's options. `program` is a path in place of the one of `program.path()`.
+        Raises OSError where the file can't be read, ProgramMissing where there is no program, and Ended where the
+        program refuses the words or the stack: `said` has its reason.
         """
         self.lines: List[Entry] = []
         self._program = program or programs.path()
-        self._options = (steps, depth, watch, explain and programs.explains(self._program))
+        self._options = (steps, depth, watch, explain)
         self._lock = threading.RLock()
         self._stopping = threading.Event()
         self._unsure = self._saving = False

@@ -114,8 +114,7 @@ def answers_to(lines: Sequence[bytes], stack: str, options: Options) -> List[Ans
     with tempfile.TemporaryDirectory(prefix="yarvekko-") as folder:
         copy = os.path.join(folder, os.path.basename(stack))
         shutil.copy(stack, copy)
-        explain = program.explains(program.path())
-        running = Running(program.start(program.words(copy, options.steps, options.depth, explain=explain)))
+        running = Running(program.start(program.words(copy, options.steps, options.depth, explain=True)))
         try:
             answers = [ask(running, line) for line in lines]
         except KeyboardInterrupt:

@@ -7,7 +7,6 @@ Where no browser with a driver is here, one line says so, and each test is told 
 import os
 import unittest
 
-from front import program
 from front.stack_text import BUTTON, Background, Card, Part, Stack, write
 from front.tests.browser import DOWN, ENTER, ESCAPE, LEFT, RIGHT, TAB, UP
 from front.tests.page import PageTest
@@ -230,12 +229,7 @@ def faulty_stack() -> bytes:
 class TestFaults(PageTest):
     """Where a fault was, and what isn't in the grammar."""
 
-    def needs_explanations(self) -> None:
-        if not program.explains(program.path()):
-            self.skipTest("the program is of an earlier date: it can't explain")
-
     def test_link_to_the_line(self) -> None:
-        self.needs_explanations()
         self.open(faulty_stack())
         browser = self.browser
         browser.click("#button-3")
@@ -249,7 +243,6 @@ class TestFaults(PageTest):
         self.assertIn("line 3", browser.text("#script-place"))
 
     def test_errors_stand_at_their_place(self) -> None:
-        self.needs_explanations()
         self.open(faulty_stack())
         browser = self.browser
         browser.click("#part-3 .more")

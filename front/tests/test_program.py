@@ -64,9 +64,3 @@ class Starts(FolderTest):
         self.assertEqual(program.words("--watch"), [os.path.abspath("--watch")])
         self.assertEqual(program.words("/a", 5, 6, True, True),
                          ["/a", "--steps", "5", "--depth", "6", "--watch", "--explain"])
-
-    def test_an_older_program_is_not_asked_to_explain(self) -> None:
-        for status in (0, 2):
-            path = self.put("program%d" % status, b"#!/bin/sh\nexit %d\n" % status)
-            os.chmod(path, 0o755)
-            self.assertEqual(program.explains(path), status == 0)
