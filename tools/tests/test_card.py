@@ -131,6 +131,13 @@ class Cards(ReleasedTest):
         self.assertEqual(self.at_terminal("--quiet", "x.stack"), [front + " x.stack --quiet"])
         self.assertEqual(self.at_terminal("--mac-roman"), [front + " demo.stack --mac-roman"])
 
+    def test_strict(self) -> None:
+        self.put("front/strict.py", self.text("front/terminal.py").replace("os.environ['CARD_CLI']", "'strict'"))
+        strict = "front strict " + self.at(RELEASED)
+        self.assertEqual(self.card("--strict", "x.stack", "--steps", "5"), (strict + " x.stack --steps 5", ""))
+        self.assertEqual(self.at_terminal("x.stack", "--strict"), [strict + " x.stack"])
+        self.assertEqual(self.card("--strict", "x.stack", "--check"), (self.program("x.stack", "--check"), ""))
+
     def test_plain_at_a_terminal(self) -> None:
         self.assertEqual(self.at_terminal("--plain", "x.stack")[0], self.program("x.stack"))
         self.assertEqual(self.at_terminal("--plain", "x.stack", errors_too=True)[0],

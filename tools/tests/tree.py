@@ -11,7 +11,10 @@ from typing import Dict, List, Optional, Sequence
 HERE = os.path.dirname(os.path.dirname(os.path.dirname(os.path.realpath(__file__))))
 KIT = "pretended-kit 1"
 # The tests that need no program are left out of the copy of ./test: it would run these tests themselves.
-CHECKS = ("dependencies", "definitions", "pages", "meaning/gen.py", "meaning/laws.py", "meaning/outcomes.py")
+CHECKS = ("dependencies", "definitions", "pages", "faults", "meaning/gen.py", "meaning/laws.py", "meaning/outcomes.py")
+# The steps of the gate that need the program, beside the comparison: commands, and the tests of two folders.
+TRIALS = ("trial", "stress", "session")
+LATER = len(TRIALS) + 2
 
 # It tells its calls in $CALLS. A program that it builds is of its sources, and prints its words.
 RT = r"""#!/bin/sh
@@ -117,12 +120,17 @@ class TreeTest(unittest.TestCase):
         with open(self.calls, encoding="utf-8") as file:
             return [line.strip() for line in file if not line.endswith(" version\n")]
 
+    def put_gate(self) -> None:
+        """Puts the gate into the tree, with steps that pass."""
+        self.put("test", self.own("test"), 0o755)
+        for step in [*("tools/" + tool for tool in CHECKS), *TRIALS]:
+            self.put(step, "#!/bin/sh\nexit 0\n", 0o755)
+        self.put("front/tests/__main__.py", "")
+        self.put("tools/tests/test_none.py", NONE)
+
     def prove(self) -> None:
         """Does what the gate does: builds the program, and writes its record."""
-        self.put("test", self.own("test"), 0o755)
-        for tool in CHECKS:
-            self.put("tools/" + tool, "#!/bin/sh\nexit 0\n", 0o755)
-        self.put("tools/tests/test_none.py", NONE)
+        self.put_gate()
         self.run_in(["./test"])
 
     def release(self) -> None:
