@@ -207,7 +207,7 @@ class Page(Judged):
 
     def test_scripts_of_the_page_run(self) -> None:
         page = bytes_of(there("docs/STACK_TEXT.md")).decode()
-        making, showing = re.findall(r"^```python\n(.*?)^```$", page, re.MULTILINE | re.DOTALL)
+        making, showing, mending = re.findall(r"^```python\n(.*?)^```$", page, re.MULTILINE | re.DOTALL)
         text = self.python(making, "Ada\tLondon\t10 \\ Dec\nZoë\n\t\n".encode())
         self.assertEqual(self.agrees(text), text)
         self.assertEqual([(card.name, card.texts[2]) for card in read(text).cards],
@@ -215,6 +215,10 @@ class Page(Judged):
         self.put("people.stack", text)
         shown = self.python(showing, b"").decode().splitlines()
         self.assertEqual(shown, ["Ada ['London', '10 \\\\ Dec']", "Zoë ['']", " ['']"])
+        path = self.put("people.stack", text.replace(b"\n", b"\r\n"))
+        self.assertEqual(self.agrees(bytes_of(path)), (1, 1))
+        self.python(mending, b"")
+        self.assertEqual(bytes_of(path), text)
 
     def python(self, script: str, given: bytes) -> bytes:
         """What a script writes that runs in the test's folder."""
