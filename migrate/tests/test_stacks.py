@@ -1,6 +1,7 @@
 """Each stack of the folder stacks at a size of 1,000: what is done with it ends well, with the steps of a command."""
 
 import os
+import re
 from typing import List
 
 from front.program import HERE
@@ -8,6 +9,8 @@ from front.stack_text import BUTTON, Card, Part, Stack, read, write
 from migrate.tests.helpers import Folder
 
 SIZE = 1000
+# A line of an answer in a stored session.
+ANSWER = re.compile(r"> |>$|ok$|(fault|refused) \d+$")
 
 
 def stack_of(name: str) -> Stack:
@@ -101,6 +104,18 @@ class Sizes(Folder):
         lines = ['.type "2" into card field "Entry"', *[".click button \"+\""] * SIZE,
                  'put card field "Total" && the number of lines of card field "Tape"']
         self.assertEqual(self.answers(stack, lines)[-2:], ["> 2000 1001", "ok"])
+
+    def test_stored_sessions_among_a_thousand_cards(self) -> None:
+        for name in ("calculator", "to_do"):
+            with self.subTest(name=name):
+                stack = stack_of(name)
+                while len(stack.cards) < SIZE:
+                    stack.cards.append(Card(stack.next_id, stack.backgrounds[0].id, b"More %d" % stack.next_id))
+                    stack.next_id += 1
+                with open(os.path.join(HERE, "stacks", name + ".session"), encoding="utf-8") as file:
+                    stored = file.read().splitlines()
+                wanted = [line for line in stored if ANSWER.match(line)]
+                self.assertEqual(self.answers(stack, [line for line in stored if not ANSWER.match(line)]), wanted)
 
     def test_compat(self) -> None:
         stack = stack_of("compat")
