@@ -208,8 +208,9 @@ class PageDesk:
     def _done(self, entries: List[Entry]) -> Reply:
         """What was answered, and whether all was `ok`."""
         play = self.play
-        told = [{**entry_view(0, entry.line, entry.answer, entry.own, play.known.objects, play.coding),
-                 "texts": texts_view(entry, play.coding)} for entry in entries]
+        told: List[Dict[str, Json]] = [
+            {**entry_view(0, entry.line, entry.answer, entry.own, play.known.objects, play.coding),
+             "texts": texts_view(entry, play.coding)} for entry in entries]
         ok = all(entry.answer.verdict == "ok" for entry in entries)
         return json_reply({"done": told, "ok": ok, "ended": play.ended})
 

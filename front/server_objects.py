@@ -12,12 +12,12 @@ from front.server_words import shown
 from front.stack_text import BUTTON, FIELD, Background, Card, Part, Stack
 from front.terminal_text import Coding
 
-Json = Union[None, bool, int, float, str, List["Json"], Dict[str, "Json"]]  # type: ignore[misc]
+Json = Union[None, bool, int, float, str, List["Json"], Dict[str, "Json"]]
 Thing = Union[Stack, Background, Card, Part]
 
 STACK_ID = 0
 # The properties of each kind of object that an inspector shows beside name, id, number and script.
-FLAGS = {
+FLAGS: Dict[str, List[str]] = {
     "stack": [],
     "background": ["cantDelete"],
     "card": ["cantDelete"],

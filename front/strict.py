@@ -10,7 +10,7 @@ import os
 import re
 import subprocess
 import sys
-from typing import BinaryIO, List
+from typing import IO, List
 
 BLOCK = 1 << 16
 FAULTED = 3
@@ -18,7 +18,7 @@ FAULTED = 3
 WRONG = re.compile(rb"^(?:fault|refused) [0-9]+$", re.MULTILINE)
 
 
-def passed_on(written: BinaryIO, to: BinaryIO) -> bool:
+def passed_on(written: IO[bytes], to: IO[bytes]) -> bool:
     """Passes on what the program writes as it comes, and tells whether a line faulted or was refused."""
     has_wrong, rest = False, b""
     while True:

@@ -5,6 +5,7 @@ import shlex
 import shutil
 import subprocess
 import tempfile
+from typing import List
 
 from front.terminal_reader import Reader
 from front.terminal_text import Coding, to_bytes
@@ -37,7 +38,7 @@ def edited(script: bytes, reader: Reader, coding: Coding) -> bytes:
             return _back(file.read(), script, coding)
 
 
-def _editor() -> "list[str]":
+def _editor() -> List[str]:
     """The command of the editor."""
     said = os.environ.get("VISUAL") or os.environ.get("EDITOR")
     if said:

@@ -35,7 +35,7 @@ def tokens(line: bytes) -> List[bytes]:
 
 def handler_name(line: bytes) -> bytes:
     """The name of the handler that begins in this line, as it is written there; empty where none begins."""
-    found = [token for token in TOKEN.findall(line) if not token.startswith(b"--")]
+    found: List[bytes] = [token for token in TOKEN.findall(line) if not token.startswith(b"--")]
     begins = len(found) > 1 and found[0].lower() in HEADS and (found[1][:1].isalpha() or found[1][:1] == b"_")
     return found[1] if begins else b""
 

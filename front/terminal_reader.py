@@ -1,11 +1,12 @@
 """Lines from a person at a terminal: editing, completion, a history that is kept, and questions."""
 
+import io
 import locale
 import os
 import select
 import sys
 from contextlib import contextmanager
-from typing import Callable, Iterator, List, Optional
+from typing import Callable, Iterator, List, Optional, cast
 
 from front.terminal_mode import Interrupts, Mode
 
@@ -72,8 +73,8 @@ class Reader:
 
     def __enter__(self) -> "Reader":
         leave_simplest_locale()
-        sys.stdin.reconfigure(errors="surrogateescape")  # type: ignore[union-attr]
-        sys.stdout.reconfigure(errors="backslashreplace")  # type: ignore[union-attr]
+        cast(io.TextIOWrapper, sys.stdin).reconfigure(errors="surrogateescape")
+        cast(io.TextIOWrapper, sys.stdout).reconfigure(errors="backslashreplace")
         self.interrupts.__enter__()
         if readline:
             self._mode.take_keys()

@@ -4,7 +4,7 @@ A script is checked by the program before it is set, on a copy of the stack. It 
 shown, so it is a command like any other, and is undone like any other.
 """
 
-from typing import Callable, List, Optional
+from typing import Callable, List, Optional, Tuple
 
 from front.answers import OK, Answer
 from front.checks import NotChecked, Remark, check
@@ -128,7 +128,7 @@ class Scripts:
             if choice in ("e", "d") or (choice == "s" and can_be_set):
                 return choice
 
-    def _remarks(self, found: Found, script: bytes) -> "tuple[List[Remark], bool]":
+    def _remarks(self, found: Found, script: bytes) -> Tuple[List[Remark], bool]:
         """What there is to say of a script, and whether it is wrong. Where it can't be checked it isn't wrong."""
         if len(script) > TEXT_LIMIT:
             self._say("The script has %d bytes; %d is the most." % (len(script), TEXT_LIMIT))

@@ -110,4 +110,4 @@ def title(found: Found, coding: Coding) -> str:
     kind = "bkgnd" if found.kind == "background" else found.kind
     if found.thing.name or isinstance(found.thing, Stack):
         return '%s "%s"' % (kind, shown(spell(found.thing.name), coding))
-    return "%s id %d" % (kind, found.thing.id)
+    return "%s id %d" % (kind, found.id)

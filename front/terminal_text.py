@@ -9,7 +9,7 @@ backslash and all other control bytes stay spelled always, so what is shown can'
 import re
 import unicodedata
 from enum import Enum
-from typing import List
+from typing import List, Tuple
 
 SPELLED = re.compile(rb"(?:\\[89a-f][0-9a-f])+")
 CARET = re.compile(r" *\^")
@@ -75,7 +75,7 @@ def _characters(spelled: bytes, coding: Coding) -> bytes:
     return "".join(found).encode("utf-8")
 
 
-def _first(raw: bytes, coding: Coding) -> "tuple[int, str]":
+def _first(raw: bytes, coding: Coding) -> Tuple[int, str]:
     """How many bytes the first character takes, and what is shown for it."""
     for size in range(1, 5 if coding is Coding.UTF_8 else 2):
         try:

@@ -7,7 +7,7 @@ free. `Converted` says what became of each id.
 
 from dataclasses import dataclass, field
 from itertools import count
-from typing import Dict, Iterator, List, Set, Tuple, Union
+from typing import Dict, Iterator, List, Sequence, Set, Tuple, Union
 
 from front.stack_lines import MOST_OBJECTS
 from front.stack_text import BUTTON, FIELD, Background, Card, Part, Stack
@@ -75,7 +75,8 @@ def called(kind: str, name: bytes, number: int) -> str:
 
 def _check_ids(old: OldStack) -> None:
     """Sees that ids are used once in their lists, that cards have backgrounds, and that all fit."""
-    for kind, layers in (("background", old.backgrounds), ("card", old.cards)):
+    kinds: List[Tuple[str, Sequence[OldLayer]]] = [("background", old.backgrounds), ("card", old.cards)]
+    for kind, layers in kinds:
         seen: Set[int] = set()
         for layer in layers:
             if layer.id in seen:
@@ -119,8 +120,10 @@ def _all_different(ids: List[int]) -> bool:
 def _number(converted: Converted) -> Iterator[int]:
     """Gives cards and backgrounds their new ids, and answers the numbers that are free."""
     old = converted.old
+    kinds: List[Tuple[str, Sequence[OldLayer], Dict[int, int]]] = [
+        ("card", old.cards, converted.cards), ("background", old.backgrounds, converted.backgrounds)]
     taken: Set[int] = set()
-    for layers, new in ((old.cards, converted.cards), (old.backgrounds, converted.backgrounds)):
+    for _, layers, new in kinds:
         for layer in layers:
             if 1 <= layer.id <= MOST_KEPT_ID and layer.id not in taken:
                 new[layer.id] = layer.id
@@ -129,8 +132,7 @@ def _number(converted: Converted) -> Iterator[int]:
     if _all_different([*taken, *own]) and len(taken) == len(old.cards) + len(old.backgrounds):
         return iter(own)
     free = (number for number in count(1) if number not in taken)
-    for kind, layers, new in (("card", old.cards, converted.cards),
-                              ("background", old.backgrounds, converted.backgrounds)):
+    for kind, layers, new in kinds:
         for layer in layers:
             if layer.id not in new:
                 new[layer.id] = next(free)

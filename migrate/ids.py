@@ -2,10 +2,12 @@
 
 import re
 from dataclasses import dataclass
-from typing import Dict, Iterator, List, Optional, Tuple
+from typing import Dict, Iterator, List, Optional, Tuple, Union
 
+from front.stack_text import Background, Card
 from migrate.convert import Converted
 from migrate.hyper_text import bare
+from migrate.old import OldLayer
 from migrate.reading import holders
 
 _REFERENCE = re.compile(
@@ -31,8 +33,9 @@ def _scripts(converted: Converted) -> Iterator[Tuple[int, bytes, str, Optional[i
     backgrounds that are meant in it."""
     stack = converted.stack
     yield 0, stack.script, "stack", None, [each.id for each in converted.old.backgrounds]
-    pairs = [("background", zip(converted.old.backgrounds, stack.backgrounds)),
-             ("card", zip(converted.old.cards, stack.cards))]
+    pairs: List[Tuple[str, Iterator[Tuple[OldLayer, Union[Background, Card]]]]] = [
+        ("background", zip(converted.old.backgrounds, stack.backgrounds)),
+        ("card", zip(converted.old.cards, stack.cards))]
     for kind, layers in pairs:
         for old, new in layers:
             behind = [old.id] if kind == "background" else [getattr(old, "background")]
@@ -91,5 +94,6 @@ def rewrite(converted: Converted, found: List[Reference]) -> List[Reference]:
         by_holder.setdefault(each.holder, []).append(each)
     for holder, object_ in holders(converted.stack):
         for each in reversed(by_holder.get(holder, [])):
+            assert each.new is not None
             object_.script = object_.script[: each.start] + b"%d" % each.new + object_.script[each.end :]
     return done

@@ -217,7 +217,7 @@ def is_taken(node: If) -> bool:
 
 def _is_block(els: Optional[List[Node]]) -> bool:
     """Whether the `if` of an `else if` has lines, as those that go before it."""
-    return bool(els) and isinstance(els[0], If) and not els[0].then_inline and is_taken(els[0])
+    return bool(els and isinstance(els[0], If) and not els[0].then_inline and is_taken(els[0]))
 
 
 def is_changed(nodes: List[Node]) -> bool:

@@ -50,7 +50,7 @@ class _JsonReader:
 
     def objects(self, thing: Dict[str, Any], key: str, where: str) -> List[Dict[str, Any]]:
         """A list of objects."""
-        found = self.get(thing, key, list, [], where)
+        found: List[Dict[str, Any]] = self.get(thing, key, list, [], where)
         for number, each in enumerate(found, 1):
             if type(each) is not dict:
                 raise BadSource("%s: number %d of \"%s\" isn't an object" % (where, number, key))

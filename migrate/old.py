@@ -4,9 +4,9 @@ All texts are bytes of Mac Roman with returns (byte 13) between their lines. Par
 HyperCard each card and each background counts its own parts.
 """
 
-from collections import Counter
+import collections
 from dataclasses import dataclass, field
-from typing import Dict, List, Optional, Tuple
+from typing import Counter, Dict, List, Optional, Tuple
 
 
 class BadSource(Exception):
@@ -86,13 +86,13 @@ class OldStack:
     script: bytes = b""
     backgrounds: List[OldBackground] = field(default_factory=list)
     cards: List[OldCard] = field(default_factory=list)
-    dropped: Dict[str, Counter] = field(default_factory=dict)
+    dropped: Dict[str, Counter[str]] = field(default_factory=dict)
     unknown: Dict[str, List[str]] = field(default_factory=dict)
     notes: List[Tuple[str, str]] = field(default_factory=list)
 
     def drop(self, where: str, kind: str, count: int = 1) -> None:
         """Counts something of this kind that has no place here."""
-        self.dropped.setdefault(where, Counter())[kind] += count
+        self.dropped.setdefault(where, collections.Counter())[kind] += count
 
     def dont_know(self, what: str, where: str) -> None:
         """Keeps the name of an element or a key that the reader doesn't know."""

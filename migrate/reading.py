@@ -69,7 +69,8 @@ class Reading:
 def holders(stack: Stack) -> Iterator[Tuple[int, Holder]]:
     """All that has a script, with its id; that of the stack is 0."""
     yield STACK_ID, stack
-    for layer in [*stack.backgrounds, *stack.cards]:
+    layers: List[Union[Background, Card]] = [*stack.backgrounds, *stack.cards]
+    for layer in layers:
         yield layer.id, layer
         for part in layer.parts:
             yield part.id, part

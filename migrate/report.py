@@ -3,13 +3,13 @@
 It is made of sections, each a heading, a sentence and a table; `text` writes them as text and `page` as HTML.
 """
 
+import collections
 import html
-from collections import Counter
 from dataclasses import dataclass, field
-from typing import Dict, List, Optional, Tuple
+from typing import Counter, Dict, List, Optional, Tuple, Union
 
 from front.handlers import handlers
-from front.stack_text import BUTTON, FIELD
+from front.stack_text import BUTTON, FIELD, Background, Card
 from migrate.convert import Converted
 from migrate.hyper_words import COMMANDS, FUNCTIONS, NEVER_SENT
 from migrate.ids import Reference
@@ -52,7 +52,8 @@ class Done:
 
 def _summary(done: Done) -> Section:
     stack = done.converted.stack
-    parts = [part for layer in [*stack.backgrounds, *stack.cards] for part in layer.parts]
+    layers: List[Union[Background, Card]] = [*stack.backgrounds, *stack.cards]
+    parts = [part for layer in layers for part in layer.parts]
     rows = [["read", done.converted.old.source],
             ["objects", ", ".join((counted(len(stack.backgrounds), "background"), counted(len(stack.cards), "card"),
                                    counted(sum(part.kind == BUTTON for part in parts), "button"),
@@ -60,7 +61,7 @@ def _summary(done: Done) -> Section:
     if done.reading is None:
         return Section("Summary", done.unchecked, [], rows + [["scripts", "not checked"]])
     reading = done.reading
-    blocking = Counter(each.construct.name for each in reading.blockers)
+    blocking = collections.Counter(each.construct.name for each in reading.blockers)
     rows += [["scripts that read", "%d of %d" % (len(reading.scripts) - len(reading.unread), len(reading.scripts))],
              ["handlers that would run", "%d of %d" % (reading.running, reading.handlers)],
              ["what blocks most", ", ".join("%s (%d)" % each for each in blocking.most_common(MOST_NAMED))
@@ -75,7 +76,7 @@ def _dropped(done: Done) -> Section:
     old, places = done.converted.old, done.converted.places
     rows = [[places.get(where, where), ", ".join("%s %d" % each for each in sorted(kinds.items()))]
             for where, kinds in old.dropped.items()]
-    whole: Counter = sum(old.dropped.values(), Counter())
+    whole: Counter[str] = sum(old.dropped.values(), collections.Counter())
     said = ", ".join("%s %d" % each for each in whole.most_common()) or "Nothing was left out that the source names."
     return Section("What has no place here", said, ["where", "how many"] if rows else [], rows)
 

@@ -17,6 +17,8 @@ MOST_FILES = 20_000
 MOST_BYTES_IN_ALL = 256_000_000
 _TRUE = ("true", "1", "yes")
 _FALSE = ("false", "0", "no", "")
+# Cards or backgrounds by id: the element of each, and its file.
+_Found = Dict[str, Tuple[Element, str]]
 
 
 class _XmlReader:
@@ -90,7 +92,8 @@ class _XmlReader:
         """A button or a field."""
         number = self.number(element.first("id"), None, "%s, line %d" % (owner, element.line), "id")
         where = "%s, part %d" % (owner, number)
-        kind = (element.first("type").text.strip().lower() if element.first("type") else "")
+        said = element.first("type")
+        kind = said.text.strip().lower() if said else ""
         if kind not in ("button", "field"):
             raise BadSource("%s: <type> is neither button nor field" % where)
         self.look_over(element, xml_words.PART, where)
@@ -216,12 +219,12 @@ def _listed(elements: List[Tuple[str, Element]], tag: str) -> Dict[str, Element]
             for _, element in elements for child in element.children if child.tag == tag and "id" in child.attributes}
 
 
-def _whole(elements: List[Tuple[str, Element]], roots: List[Tuple[str, Element]], tag: str) -> Dict[str, Tuple]:
+def _whole(elements: List[Tuple[str, Element]], roots: List[Tuple[str, Element]], tag: str) -> _Found:
     """Each card or background, by id: its element and its file. It is a file of its own, or stands whole within the
     stack file."""
     inside = [("%s, %s of line %d" % (name, tag, child.line), child) for name, element in elements
               for child in element.children if child.tag == tag and child.first("id") is not None]
-    found: Dict[str, Tuple] = {}
+    found: _Found = {}
     for name, element in [(name, root) for name, root in roots if root.tag == tag] + inside:
         number = element.first("id")
         key = number.text.strip() if number else ""
@@ -231,7 +234,7 @@ def _whole(elements: List[Tuple[str, Element]], roots: List[Tuple[str, Element]]
     return found
 
 
-def _in_order(reader: _XmlReader, listed: Dict[str, Element], found: Dict[str, Tuple], tag: str) -> List[str]:
+def _in_order(reader: _XmlReader, listed: Dict[str, Element], found: _Found, tag: str) -> List[str]:
     """The ids in the order of the stack file; what it doesn't list comes behind, and is told."""
     missing = [key for key in listed if key not in found]
     if missing:

@@ -33,9 +33,9 @@ def copy_of(root: str, top: str) -> None:
         for part in (*sums.PARTS, "data"):
             if os.path.isdir(os.path.join(root, folder, part)):
                 shutil.copytree(os.path.join(root, folder, part), os.path.join(top, folder, part))
-        for file in GIVEN:
-            if os.path.isfile(os.path.join(root, folder, file)):
-                shutil.copy(os.path.join(root, folder, file), os.path.join(top, folder, file))
+        for name in GIVEN:
+            if os.path.isfile(os.path.join(root, folder, name)):
+                shutil.copy(os.path.join(root, folder, name), os.path.join(top, folder, name))
     shutil.copy(os.path.join(root, "HANDLES"), top)
     listed = sums.listed(root)
     with open(os.path.join(top, "crates.txt"), "w", encoding="utf-8") as file:
