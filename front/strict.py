@@ -1,5 +1,5 @@
 #!/usr/bin/env python3
-"""Runs the program as it stands in a pipe, and tells by the status whether each line ended well: strict.py PROGRAM WORDS
+"""Runs the program as in a pipe, and tells by the status whether each line ended well: strict.py PROGRAM WORDS
 
 Standard input, output and error are the program's own, to the byte. Where the program ends with 0, the status is 3 if a
 line faulted or was refused, and else 0; where it ends otherwise, the status is the program's, or 128 and the number of
