@@ -194,9 +194,14 @@ nothing_is_first run text e =
     finds_first_place (folded text) (folded run) (Some 0) (record { low = omega arith; high = omega arith; before = λ k low high o. omega arith }, record { fits = omega (arith, none); reads = λ j l. absurd (omega (arith, none, l)) })
 
 -- what stands nowhere before a place, and not there, stands nowhere before the next
-pub one_further : (P : ℕ → Type 0) (n : ℕ) → Nowhere P 0 n → (P n → ⊥) → Nowhere P 0 (n + 1)
+one_further : (P : ℕ → Type 0) (n : ℕ) → Nowhere P 0 n → (P n → ⊥) → Nowhere P 0 (n + 1)
 one_further P n before away k low high p = by_cases (cases_lt k n)
   where
     by_cases : (k < n) ⊎ (n ≤ k) → ⊥
     by_cases (inl l) = before k low l p
     by_cases (inr l) = let e : k ≡ n = omega (arith, l, high) in away (subst P e p)
+
+-- where a run doesn't stand at the next place of its first byte, it stands nowhere up to there
+pub nowhere_further : (run text : List ℕ) (from place : ℕ) → 0 < length run → Nowhere (OccursAt (folded text) (folded run)) 0 from → Nowhere (Passes (is_same_byte (get_or run 0 0)) text) from place → (OccursAt (folded text) (folded run) place → ⊥) → Nowhere (OccursAt (folded text) (folded run)) 0 (place + 1)
+nowhere_further run text from place some before after away =
+    one_further (OccursAt (folded text) (folded run)) place (nowhere_before run text from place some before after) away

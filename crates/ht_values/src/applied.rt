@@ -69,7 +69,7 @@ fn contains(alloc: Global, text: &Value, run: &Value) -> Result<bool, AllocError
 {
     let text = text.spelled(alloc)?;
     let run = run.spelled(alloc)?;
-    Ok(is_in(run.text(), text.text()))
+    Ok(is_in(alloc, run.text(), text.text()))
 }
 
 /// Two values, one after another, with bytes between.

@@ -74,13 +74,13 @@ fn character(alloc: Global, number: i64) -> Result<Value, Failure>
 }
 
 /// The first place, counted from 1, at which a run of the text is the same as the other; 0 for none, and for an empty run.
-fn place_number(run: &Text, text: &Text) -> i64
+fn place_number(alloc: Global, run: &Text, text: &Text) -> i64
     ensures { result ≡ pos (offset_of run.now text.now) }
 {
     if run.len() == 0 {
         return 0;
     }
-    match place_of(run, text) {
+    match place_of(alloc, run, text) {
         Some(place) => place as i64 + 1,
         None => 0,
     }
@@ -91,7 +91,7 @@ fn offset(alloc: Global, run: &Value, text: &Value) -> Result<i64, AllocError>
 {
     let run = run.spelled(alloc)?;
     let text = text.spelled(alloc)?;
-    Ok(place_number(run.text(), text.text()))
+    Ok(place_number(alloc, run.text(), text.text()))
 }
 
 /// What a function gives of its arguments: its value, a fault of the command, or `Memory` where a growth was refused.
