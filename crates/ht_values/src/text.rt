@@ -133,7 +133,7 @@ impl Text {
     pub fn same(&self, other: &Text) -> bool
         ensures { IsTrue result ↔ Same self.now other.now }
     {
-        self.bytes.eq_ignore_ascii_case(&other.bytes)
+        self.bytes == other.bytes || self.bytes.eq_ignore_ascii_case(&other.bytes)
     }
 }
 
