@@ -8,4 +8,6 @@ mod cases;
 #[cfg(test)]
 mod places;
 #[cfg(test)]
+mod searches;
+#[cfg(test)]
 mod unseen;
