@@ -17,6 +17,10 @@ pub const LIMIT: usize = 30_000;
 // Contracts name the limit, so the number is said a second time: another one is refused here.
 const _: () = prove!(LIMIT == 30_000);
 
+/// The bytes of a short text. Short texts are mostly names that differ, and one pass tells that soonest. Longer ones are
+/// first compared as they stand: where they are equal, that takes a twentieth of the time.
+const SHORT: usize = 32;
+
 /// A value of HyperTalk, which contracts see as its list of bytes.
 #[derive(Drop)]
 pub struct Text {
@@ -133,7 +137,8 @@ impl Text {
     pub fn same(&self, other: &Text) -> bool
         ensures { IsTrue result ↔ Same self.now other.now }
     {
-        self.bytes == other.bytes || self.bytes.eq_ignore_ascii_case(&other.bytes)
+        let is_long = SHORT < self.bytes.len();
+        (is_long && self.bytes == other.bytes) || self.bytes.eq_ignore_ascii_case(&other.bytes)
     }
 }
 
