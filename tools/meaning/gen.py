@@ -59,7 +59,8 @@ def rulesets(table):
 
 def main():
     table = families()
-    write("meaning", {"specs/Meaning.antt": meaning(table), "proofs/Rules.antt": rulesets(table)}, "gen.py")
+    write("meaning", {"specs/Meaning.antt": meaning(table)}, "gen.py", "meaning.rules and meaning.head")
+    write("meaning", {"proofs/Rules.antt": rulesets(table)}, "gen.py", "meaning.rules, rules.head and rules.leaves")
     print("%d families, %d rules" % (len(table), sum(len(family["rules"]) for family in table)))
 
 

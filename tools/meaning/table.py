@@ -33,6 +33,8 @@ TYPES = {
 }
 VARIABLE = re.compile(r"(?<![.\w])([a-z]+)(\d*)(?![\w(])")
 USE = re.compile(r"use (\S+?)(?:\.\{(.*)\}| as \w+)$")
+# The first line of what is written; tools/definitions leaves it out.
+WRITTEN = "-- Written by tools/meaning/%s from tools/meaning/%s.\n"
 
 
 def read(name):
@@ -120,11 +122,13 @@ def imports(uses, text, more=()):
     return "".join("use %s\n" % (module if names is None else "%s.{%s}" % (module, ", ".join(names))) for module, names in modules.items())
 
 
-def write(crate, texts, writer):
-    """Writes the files of a crate, or with --check sees that they are so, and ends with 1 where one isn't."""
+def write(crate, texts, writer, sources="meaning.rules"):
+    """Writes the files of a crate, each with a first line that says by what and from what, or with --check sees that they
+    are so, and ends with 1 where one isn't.
+    """
     is_check, is_stale = "--check" in sys.argv[1:], False
     for path, text in texts.items():
-        path = os.path.join(CRATES, crate, path)
+        path, text = os.path.join(CRATES, crate, path), WRITTEN % (writer, sources) + text
         if is_check:
             with open(path, encoding="utf-8") as file:
                 is_stale |= file.read() != text

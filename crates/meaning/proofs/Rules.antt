@@ -1,3 +1,4 @@
+-- Written by tools/meaning/gen.py from tools/meaning/meaning.rules, rules.head and rules.leaves.
 -- The rules of the meaning, for `search`.
 use Rattle.meaning.specs.State.{Step}
 use Rattle.meaning.specs.Values.{Yields, Parses}

@@ -1,3 +1,4 @@
+-- Written by tools/meaning/gen.py from tools/meaning/meaning.rules and meaning.head.
 -- What HyperTalk means: a rule for each form of the language and each way in which it ends.
 --
 -- A rule reads: where the premises hold, so does the conclusion, which stands last. Premises stand in the order of time.

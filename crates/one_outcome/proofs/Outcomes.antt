@@ -1,3 +1,4 @@
+-- Written by tools/meaning/outcomes.py from tools/meaning/meaning.rules.
 -- What the rules allow is what the meanings come to.
 use Rattle.std.proofs.Common.{◌≡◌, refl, sym, subst}
 use Rattle.run_laws.specs.Laws.{HasMemory}

@@ -1,3 +1,4 @@
+-- Written by tools/meaning/outcomes.py from tools/meaning/meaning.rules.
 -- What each family of rules comes to, computed: from a state, a run, a frame and a tree.
 use Rattle.one_outcome.specs.Told.{Present, Told, Ran}
 use Rattle.std.specs.Prelude.{ℕ, ℤ, List, Bool, Option}

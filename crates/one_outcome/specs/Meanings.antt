@@ -1,3 +1,4 @@
+-- Written by tools/meaning/outcomes.py from tools/meaning/meaning.rules.
 -- The meaning of HyperTalk as a function with fuel.
 use Rattle.std.specs.Prelude.{ℕ, zero, suc}
 use Rattle.one_outcome.specs.Told.{unknown, unknown_run}

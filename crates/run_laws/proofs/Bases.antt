@@ -1,3 +1,4 @@
+-- Written by tools/meaning/laws.py from tools/meaning/meaning.rules.
 -- The history round the open batch is kept.
 use Rattle.std.proofs.Common.{◌≡◌, refl, ◌∙◌}
 use Rattle.containers.specs.Base.{base}

@@ -1,3 +1,4 @@
+-- Written by tools/meaning/laws.py from tools/meaning/meaning.rules.
 -- What is open rises by what is replaced.
 use Rattle.std.proofs.Common.{refl}
 use Rattle.run_laws.specs.Laws.{HasMemory}

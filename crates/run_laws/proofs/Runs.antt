@@ -1,3 +1,4 @@
+-- Written by tools/meaning/laws.py from tools/meaning/meaning.rules.
 -- A run goes on: no step comes back, and what is shown and sent only grows.
 use Rattle.std.proofs.Common.{refl}
 use Rattle.run_laws.specs.Laws.{HasMemory, GoesOn}

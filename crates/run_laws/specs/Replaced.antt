@@ -1,3 +1,4 @@
+-- Written by tools/meaning/laws.py from tools/meaning/meaning.rules.
 -- What a run replaces, in order: its derivation says it.
 pub use Rattle.run_laws.specs.Rising.{RisesBy}
 use Rattle.std.specs.Prelude.{List, [], ◌++◌, ℕ, ℤ, Bool, Option, Result}
