@@ -4,14 +4,11 @@ rulesets for proofs, proofs/Rules.antt. With --check it writes nothing, and ends
 write.
 """
 
-import re
 import sys
 
 sys.dont_write_bytecode = True
 
-from table import TYPES, binders, families, letters, read, write
-
-FORM = re.compile(r"\w+ ≡ (?:(?:tree|stm)\.)?([A-Za-z_]+)(?: \((?:tree|stm)\.(\w+)| (?:tree|stm)\.(\w+))?")
+from table import TYPES, binders, families, forms, letters, read, write
 
 
 def meaning(table):
@@ -27,18 +24,6 @@ def meaning(table):
             text += "    %s : %s →\n        %s\n" % (name, binders(parts), " →\n        ".join(parts))
         text += "\n"
     return text.rstrip() + "\n"
-
-
-def forms(family):
-    """The rules of each form, the first premise tells it, and those that have no form."""
-    found, rest = {}, []
-    for name, premises, _ in family["rules"]:
-        match = FORM.match(premises[0]) if premises else None
-        if match:
-            found.setdefault("_".join(part.strip("_") for part in match.groups() if part), []).append(name)
-        else:
-            rest.append(name)
-    return found, rest
 
 
 def rulesets(table):
@@ -64,4 +49,5 @@ def main():
     print("%d families, %d rules" % (len(table), sum(len(family["rules"]) for family in table)))
 
 
-main()
+if __name__ == "__main__":
+    main()

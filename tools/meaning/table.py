@@ -32,6 +32,7 @@ TYPES = {
     "ac": "Action",
 }
 VARIABLE = re.compile(r"(?<![.\w])([a-z]+)(\d*)(?![\w(])")
+FORM = re.compile(r"\w+ ≡ (?:(?:tree|stm)\.)?([A-Za-z_]+)(?: \((?:tree|stm)\.(\w+)| (?:tree|stm)\.(\w+))?")
 USE = re.compile(r"use (\S+?)(?:\.\{(.*)\}| as \w+)$")
 # The first line of what is written; tools/definitions leaves it out.
 WRITTEN = "-- Written by tools/meaning/%s from tools/meaning/%s.\n"
@@ -75,6 +76,18 @@ def families():
     if len(set(names)) < len(names):
         sys.exit("two rules of one name: " + ", ".join(sorted(n for n in set(names) if names.count(n) > 1)))
     return table
+
+
+def forms(family):
+    """The rules of each form, the first premise tells it, and those that have no form."""
+    found, rest = {}, []
+    for name, premises, _ in family["rules"]:
+        match = FORM.match(premises[0]) if premises else None
+        if match:
+            found.setdefault("_".join(part.strip("_") for part in match.groups() if part), []).append(name)
+        else:
+            rest.append(name)
+    return found, rest
 
 
 def binders(parts):
