@@ -1,0 +1,104 @@
+"""The cases of ./trial that are large: long lines and texts, many answers, many places, and stacks of megabytes."""
+
+import sys
+from typing import Callable, List
+
+from .place import HERE, OLD, Pairs, Place, put_text, text_of
+
+sys.path.insert(0, HERE)
+
+from front import stack_text  # noqa: E402
+
+MOST_TEXT = 30_000  # bytes of a line and of a text
+CARDS = 50
+EVERY_BYTE = bytes(range(256))
+# Each byte, and then as often as a text has room for it.
+MANY_BYTES = ["repeat with i = 0 to 255\rput numToChar(i) after u\rend repeat", "repeat 117\rput u after t\rend repeat"]
+MORE_CARDS = 'repeat with i = 1 to %d\rdoMenu "New Card"\rput i & t into field 1\rend repeat' % CARDS
+TWENTY = "\r".join(["repeat with i = 1 to 5", "go next", 'send "mouseUp" to field 1', "get abs(i)", "end repeat"])
+
+
+def many_answers_to_a_line(place: Place) -> Pairs:
+    count = 5_000
+    answers, status, told = place.run(["repeat with i = 1 to %d\rput i\rend repeat" % count])
+    yield (answers, status, told), (["> %d" % at for at in range(1, count + 1)] + ["ok"], 0, "")
+
+
+def many_messages_of_a_line(place: Place) -> Pairs:
+    """Each is watched once, in its order."""
+    sent = []
+    for here, there in ((2, 4), (4, 2), (2, 4), (4, 2), (2, 4)):
+        sent += ["closeCard %d" % here, "openCard %d" % there, "mouseUp 3", "abs 2"]
+    answers, status, told = place.run([TWENTY, ".undo", ".redo"], ["--watch"])
+    yield (answers, status, told.split("\n")), (["ok"] * 3, 0, sent + [""])
+
+
+def long_lines(place: Place) -> Pairs:
+    """A line that types is as long as may be, and then too long by a byte."""
+    ends = '.type "', '" into field 1'
+    text = "y" * (MOST_TEXT - sum(map(len, ends)))
+    lines = [text.join(ends), "put the length of field 1", (text + "y").join(ends), "put last char of field 1", ".undo",
+             "put the length of field 1"]
+    answers = ["ok", "> %d" % len(text), "ok", "refused 5", "> y", "ok", "ok", "> %d" % len(text), "ok"]
+    yield place.run(lines), (answers, 0, "")
+
+
+def long_typed_text(place: Place) -> Pairs:
+    """What a user's line can't hold comes into a field by an edit: 30,000 bytes that are typed, and no more."""
+    half = "y" * (MOST_TEXT // 2)
+    lines = ['put "%s" into field 1' % half, 'put "%s" after field 1' % half, 'put "y" after field 1',
+             "put the length of field 1"]
+    yield place.run(lines), (["ok", "ok", "fault 8", "> %d" % MOST_TEXT, "ok"], 0, "")
+
+
+def many_places(place: Place) -> Pairs:
+    """Ten thousand commands are undone, redone, and gone back to."""
+    count = 10_000
+    lines = ["put %d into g" % at for at in range(1, count + 1)]
+    asked = [".history", ".undo %d" % count, ".globals", ".history", ".redo %d" % (count // 2), ".globals",
+             ".undo to %d" % (count // 4), ".globals", ".redo %d" % count, ".redo %d" % (count - count // 4), ".globals",
+             ".history"]
+    answers = ["> %d 0" % count, "ok", "ok", "ok", "> 0 %d" % count, "ok", "ok", "> g %d" % (count // 2), "ok",
+               "ok", "> g %d" % (count // 4), "ok", "refused 2", "ok", "> g %d" % count, "ok", "> %d 0" % count, "ok"]
+    yield place.run(lines + asked), (["ok"] * count + answers, 0, "")
+
+
+def large_stack_that_is_saved(place: Place) -> Pairs:
+    """A stack of more than 3 MB is what the second run shows, and what the other reader reads."""
+    yield place.run([*MANY_BYTES, MORE_CARDS, ".save"])[:2], (["ok"] * 4, 0)
+    kept = text_of(place.stack)
+    yield len(kept) > 3_000_000, True
+    answers, status, told = place.run([".show"])
+    yield (status, told, answers == ["> " + line for line in kept.split("\n")[:-1]] + ["ok"]), (0, "", True)
+    stack = stack_text.read(kept.encode("latin-1"))
+    yield [card.texts[3] for card in stack.cards] == wanted_texts(), True
+    yield stack_text.write(stack) == kept.encode("latin-1"), True
+
+
+def wanted_texts() -> List[bytes]:
+    """The texts of the cards of the large stack, in their order: each new card stands after the one before it."""
+    made = [b"%d" % at + EVERY_BYTE * 117 for at in range(1, CARDS + 1)]
+    return [b"", *made, b""]
+
+
+def large_stack_of_another_writer(place: Place) -> Pairs:
+    """A stack of a megabyte that the other writer spelled is shown as it stands, and saved so."""
+    stack = stack_text.read(OLD.encode("latin-1"))
+    stack.script = b"\r".join([b"on big", b"put 7", b"end big", b"-- " + b"s" * (MOST_TEXT - 24)])
+    for at in range(CARDS):
+        text = (b"%d\r" % at + EVERY_BYTE * 117)[:MOST_TEXT // 2]
+        stack.cards.append(stack_text.Card(stack.next_id + at, 1, b"card %d" % at, texts={3: text}))
+    stack.next_id += CARDS
+    spelled = stack_text.write(stack).decode("latin-1")
+    yield len(spelled) > 1_000_000, True
+    put_text(place.stack, spelled)
+    answers, status, told = place.run([".show", "big", ".save"])
+    wanted = ["> " + line for line in spelled.split("\n")[:-1]] + ["ok", "> 7", "ok", "ok"]
+    yield (status, told, answers == wanted), (0, "", True)
+    yield text_of(place.stack) == spelled, True
+
+
+CASES: List[Callable[[Place], Pairs]] = [
+    many_answers_to_a_line, many_messages_of_a_line, long_lines, long_typed_text, many_places,
+    large_stack_that_is_saved, large_stack_of_another_writer,
+]
