@@ -1,0 +1,99 @@
+"""The table of ./speed: its stacks, its figures, and the program that it asks."""
+
+import os
+import sys
+import tempfile
+import unittest
+
+from tree import HERE
+
+sys.path[:0] = [HERE, os.path.join(HERE, "tools")]
+from front import stack_text  # noqa: E402
+from timing import slow  # noqa: E402
+from timing.asked import Asked, Broken, is_end  # noqa: E402
+
+# It answers each line with itself, and `ok`, but for a few.
+PROGRAM = """#!/usr/bin/env python3
+import sys
+for line in sys.stdin:
+    if line == "end\\n":
+        break
+    if line == "work\\n":
+        sum(range(3_000_000))
+    print("fault 3" if line == "bad\\n" else "> " + line + "ok", flush=True)
+"""
+
+
+class Stacks(unittest.TestCase):
+    """The stacks and the lines before a measure."""
+
+    def test_each_small_stack_is_one(self) -> None:
+        for stack in (slow.with_hear(), slow.with_variables(), slow.with_parameters(), slow.with_buttons(), slow.with_cards(),
+                      slow.with_fields()):
+            self.assertLessEqual(len(stack.script), slow.MOST_BYTES)
+            self.assertTrue(stack_text.write(stack))
+
+    def test_parameters_have_names_of_their_own(self) -> None:
+        names = slow.with_parameters().script.split(b"\r")[0][len(b"on hear "):].split(b",")
+        self.assertEqual((len(names), len(set(names))), (slow.PARAMETERS, slow.PARAMETERS))
+
+    def test_a_long_text(self) -> None:
+        texts = [line[len('put "'):-len('" after g')] for line in slow.long_text("a", 30_000, "g")[1:]]
+        self.assertEqual("".join(texts), "a" * 30_000)
+        self.assertEqual(slow.long_text("a", 0, "g"), ["put empty into g"])
+
+    def test_a_full_statement(self) -> None:
+        count = slow.most_in_a_statement("abc")
+        length = len("hear " + ",".join(["abc"] * count))
+        self.assertTrue(length <= slow.MOST_BYTES < length + len(",abc"))
+
+
+class Tables(unittest.TestCase):
+    """What a row says."""
+
+    def test_stars(self) -> None:
+        self.assertEqual(slow.starred(2.0, 2.0, "%.1f"), "2.0  ")
+        self.assertEqual(slow.starred(2.1, 2.0, "%.1f"), "2.1 *")
+        self.assertEqual(slow.starred(None, 2.0, "%.1f"), "-  ")
+
+    def test_a_row(self) -> None:
+        self.assertEqual(slow.row("x", slow.Figures(0.5, None, 30.0)).split(), ["x", "0.5000", "-", "30.00", "*"])
+
+
+class Programs(unittest.TestCase):
+    """A program that is asked, which only pretends."""
+
+    def setUp(self) -> None:
+        folder = tempfile.TemporaryDirectory()
+        self.addCleanup(folder.cleanup)
+        self.path = os.path.join(folder.name, "program")
+        with open(self.path, "w", encoding="utf-8") as file:
+            file.write(PROGRAM)
+        os.chmod(self.path, 0o755)
+
+    def test_answers_and_seconds(self) -> None:
+        with Asked(self.path, "stack") as asked:
+            self.assertEqual(asked.ask("one").answer, ["> one", "ok"])
+            self.assertLess(asked.seconds("one"), asked.seconds("work"))
+            with self.assertRaises(Broken):
+                asked.seconds("bad")
+            self.assertGreaterEqual(asked.seconds("bad", "fault 3"), 0.0)
+            with self.assertRaises(Broken):
+                asked.ask("end")
+
+    def test_figures(self) -> None:
+        operation = slow.Operation("x", slow.with_hear, ["one"], "work", 2, "work", turns=4)
+        with Asked(self.path, "stack") as asked:
+            asked.seconds = lambda line, wanted="ok": 0.8  # type: ignore
+            found = slow.figures(asked, operation)
+        self.assertAlmostEqual(found.milliseconds, 200.0)
+        self.assertAlmostEqual(found.statement or 0.0, 0.2 * 5_999)
+        self.assertAlmostEqual(found.all_steps, 10_000.0)
+
+    def test_ends(self) -> None:
+        self.assertTrue(all(map(is_end, ("ok", "fault 12", "refused 3"))))
+        self.assertFalse(is_end("> ok"))
+
+
+if __name__ == "__main__":
+    unittest.main()

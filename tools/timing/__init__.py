@@ -1,0 +1,1 @@
+"""What ./speed times beside other languages: operations of the language on what is largest."""

@@ -1,0 +1,204 @@
+"""Operations that one step can make slow, each on what is largest for it: how long one takes, a statement that is full of
+them, and a command that does nothing else until no step is left.
+
+None should take more than 2 milliseconds, no statement more than 3 seconds, and no 100,000 steps more than 20.
+"""
+
+import itertools
+import os
+import tempfile
+from typing import Callable, List, NamedTuple, Optional, Sequence
+
+from front import stack_text
+from front.stack_text import BUTTON, FIELD, Background, Card, Part, Stack
+
+from .asked import Asked, Broken
+
+MOST_MILLISECONDS, MOST_OF_A_STATEMENT, MOST_OF_ALL_STEPS = 2.0, 3.0, 20.0
+ALL_STEPS = 100_000
+MOST_BYTES = 30_000
+# The least that a measure takes, in processor seconds, unless it is told how often to do what it measures.
+LEAST = 0.3
+NAMES, PARTS, CARDS, FIELDS, PARAMETERS, ARGUMENTS = 3_000, 9_990, 9_990, 9_900, 7_400, 14_900
+RESERVED = ("bgs",)
+# How many cards may be made beside the fields.
+TURNS_OF_CARDS = 50
+
+
+class Operation(NamedTuple):
+    """An operation: a stack and lines before it, the statement that does it, and how many steps a turn of a repeat with
+    that takes, its test too."""
+
+    name: str
+    stack: Callable[[], Stack]
+    before: Sequence[str]
+    statement: str
+    steps: int
+    # The expression of it, where it is one: a statement can be full of these.
+    expression: str = ""
+    # How many turns are measured, where not as many as are wanted can be done; else 0.
+    turns: int = 0
+
+
+class Figures(NamedTuple):
+    """The milliseconds of one operation, the seconds of a statement that is full of them, and those of all steps."""
+
+    milliseconds: float
+    statement: Optional[float]
+    all_steps: float
+
+
+def stack_of(script: str = "", cards: Sequence[Card] = (), parts: Sequence[Part] = ()) -> Stack:
+    """A stack with a background of these parts, a first card, and these cards behind it."""
+    ids = [part.id for card in cards for part in [card, *card.parts]] + [part.id for part in parts]
+    return Stack(max([2, *ids]) + 1, b"Large", script.encode(), [Background(1, parts=list(parts))], [Card(2, 1), *cards])
+
+
+def with_names() -> Stack:
+    """Cards whose names are as long as may be, and differ in their last bytes."""
+    names = (b"n" * (MOST_BYTES - 4) + b"%04d" % at for at in range(NAMES))
+    return stack_of(cards=[Card(3 + at, 1, name) for at, name in enumerate(names)])
+
+
+def with_buttons() -> Stack:
+    """A card with buttons, the second one."""
+    return stack_of(cards=[Card(3, 1, parts=[Part(BUTTON, 4 + at) for at in range(PARTS)])])
+
+
+def with_cards() -> Stack:
+    """Cards without a name."""
+    return stack_of(cards=[Card(3 + at, 1) for at in range(CARDS)])
+
+
+def with_fields() -> Stack:
+    """A background with fields."""
+    return stack_of(parts=[Part(FIELD, 3 + at) for at in range(FIELDS)])
+
+
+def with_parameters() -> Stack:
+    """A handler with parameters, each by a name of its own."""
+    letters = "bcghjklmnpqrsvwxyz"
+    words = map("".join, itertools.product(letters + "aeiou", letters, letters))
+    names = itertools.islice((word for word in words if word not in RESERVED), PARAMETERS)
+    return stack_of("on hear %s\rend hear" % ",".join(names))
+
+
+def with_hear() -> Stack:
+    """A handler that does nothing."""
+    return stack_of("on hear\rend hear")
+
+
+def with_variables() -> Stack:
+    """A handler that makes variables as long as there is a step."""
+    return stack_of("on measure\rput 0 into i\rrepeat forever\radd 1 to i\rdo \"put 1 into v\" & i\rend repeat\rend measure")
+
+
+def long_text(byte: str, count: int, name: str) -> List[str]:
+    """The lines that put a text of as many bytes into a global."""
+    half = byte * (MOST_BYTES // 2 - 100)
+    lines, left = ["put empty into " + name], count
+    while left > 0:
+        lines.append('put "%s" after %s' % (half[:left], name))
+        left -= len(half)
+    return lines
+
+
+def repeated(piece: str, count: int, name: str) -> List[str]:
+    """The lines that put a piece as often after what stands in a global."""
+    return ['repeat %d\rput "%s" after %s\rend repeat' % (count, piece, name)]
+
+
+OPERATIONS: Sequence[Operation] = (
+    Operation("15,000 bytes in 30,000: contains", with_hear,
+              [*long_text("a", MOST_BYTES, "g"), *long_text("a", MOST_BYTES // 2 - 1, "h"), 'put "b" after h'],
+              "get g contains h", 2, "g contains h"),
+    Operation("the same, in the middle another", with_hear,
+              [*long_text("a", MOST_BYTES, "g"), *long_text("a", MOST_BYTES // 2, "h"), 'put "b" into char 7500 of h'],
+              "get g contains h", 2, "g contains h"),
+    Operation("a name of 30,000 among 3,000", with_names,
+              ["put the short name of card 2 into g", 'put "none" into char 29997 to 30000 of g'],
+              "get there is a cd g", 2, "there is a cd g"),
+    Operation("a message with 7,400 parameters", with_parameters, [], "hear", 3),
+    Operation("the number of last btn of 9,990", with_buttons, ["go card 2"], "get the number of last btn", 2,
+              "the number of last btn"),
+    Operation("a name among 9,990 cards", with_cards, [], 'get there is a cd "x"', 2, 'there is a cd "x"'),
+    Operation("New Card with 9,900 fields", with_fields, [], 'doMenu "New Card"', 6, turns=TURNS_OF_CARDS),
+    Operation("Delete Card with 9,900 fields", with_fields, ['repeat %d\rdoMenu "New Card"\rend repeat' % TURNS_OF_CARDS],
+              'doMenu "Delete Card"', 4, turns=TURNS_OF_CARDS),
+    Operation("value of 28,000 bytes", with_hear, ['put "max(1" into t', *repeated(",1", 13_995, "t"), 'put ")" after t'],
+              "get value(t)", 5, "value(t)"),
+    Operation("send with 14,900 arguments", with_hear, ['put "hear 1" into t', *repeated(",1", ARGUMENTS - 1, "t")],
+              "send t to this stack", 3),
+)
+
+
+def turns(count: int, statement: str) -> str:
+    """A line that does a statement as often."""
+    return "repeat %d\r%s\rend repeat" % (count, statement)
+
+
+def most_in_a_statement(expression: str) -> int:
+    """How many of an expression a statement can hold, as long as a line may be."""
+    return (MOST_BYTES - len("hear ")) // (len(expression) + 1)
+
+
+def one(program: Asked, operation: Operation) -> float:
+    """The seconds of one: of so many turns that they take long enough."""
+    if operation.turns:
+        return program.seconds(turns(operation.turns, operation.statement)) / operation.turns
+    count, taken = 1, program.seconds(operation.statement)
+    while taken < LEAST and count < 1_000_000:
+        count = max(2 * count, min(1_000_000, int(1.2 * LEAST * count / max(taken, 1e-5))))
+        taken = program.seconds(turns(count, operation.statement))
+    return taken / count
+
+
+def figures(program: Asked, operation: Operation) -> Figures:
+    """The figures of an operation on a program that is ready for it."""
+    for line in operation.before:
+        program.seconds(line)
+    each = one(program, operation)
+    full = each * most_in_a_statement(operation.expression) if operation.expression else None
+    return Figures(1000 * each, full, each * ALL_STEPS / operation.steps)
+
+
+def starred(figure: Optional[float], most: float, spelled: str) -> str:
+    """A figure with a star where it is past its bound."""
+    return "-  " if figure is None else spelled % figure + (" *" if figure > most else "  ")
+
+
+def row(name: str, found: Figures) -> str:
+    """A row of the table."""
+    return "%-34s%12s%12s%12s" % (name, starred(found.milliseconds, MOST_MILLISECONDS, "%.4f"),
+                                  starred(found.statement, MOST_OF_A_STATEMENT, "%.2f"),
+                                  starred(found.all_steps, MOST_OF_ALL_STEPS, "%.2f"))
+
+
+def of_variables(program: str, path: str) -> Figures:
+    """A handler that makes variables by `do` until no step is left: for one, and for all."""
+    with Asked(program, path, ALL_STEPS) as asked:
+        taken = asked.seconds("measure", "fault 11")
+    # A turn has two statements, and `do` runs a third.
+    return Figures(1000 * taken / (ALL_STEPS / 3), None, taken)
+
+
+def written(stack: Stack, path: str) -> None:
+    """Writes a stack."""
+    with open(path, "wb") as file:
+        file.write(stack_text.write(stack))
+
+
+def table(program: str) -> None:
+    """Prints the table."""
+    print("%-34s%12s%12s%12s" % ("processor time", "ms for one  ", "s, if full  ", "s for all  "))
+    with tempfile.TemporaryDirectory() as folder:
+        path = os.path.join(folder, "large.stack")
+        for operation in OPERATIONS:
+            written(operation.stack(), path)
+            try:
+                with Asked(program, path) as asked:
+                    print(row(operation.name, figures(asked, operation)), flush=True)
+            except Broken as broken:
+                print("%-34s %s *" % (operation.name, broken), flush=True)
+        written(with_variables(), path)
+        print(row("variables made by do", of_variables(program, path)), flush=True)
