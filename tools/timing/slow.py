@@ -139,7 +139,7 @@ def turns(count: int, statement: str) -> str:
 
 def most_in_a_statement(expression: str) -> int:
     """How many of an expression a statement can hold, as long as a line may be."""
-    return (MOST_BYTES - len("hear ")) // (len(expression) + 1)
+    return (MOST_BYTES - len("hear ") + 1) // (len(expression) + 1)
 
 
 def one(program: Asked, operation: Operation) -> float:
