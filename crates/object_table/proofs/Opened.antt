@@ -4,20 +4,24 @@ use Rattle.std.proofs.lemmas.Bool.{false≢true}
 use Rattle.std.specs.List.{list_any}
 use Rattle.std.specs.Map.{lookup}
 use Rattle.std.specs.Cmp.{IsTotalOrder, Equal-is, tied_itself}
-use Rattle.std.specs.Ordering.{eq_by_cmp}
+use Rattle.std.specs.Ordering.{eq_by_cmp, is_eq, ordering_reverse}
 use Rattle.std.specs.declared.cmp.Ordering.{Ordering}
+use Rattle.std.specs.declared.cmp.Ordering.TheVariants.{Less, Equal, Greater}
 use Rattle.std.specs.FinMap.{IsAntisymmetric, get, get-empty, same_map}
 use Rattle.std.specs.FinSet as set
 use Rattle.object_table.specs.Maps.{put_option}
 use Rattle.object_table.specs.Opened.{map_of, keys_of}
 use Rattle.object_table.proofs.Maps.{get-put_option, put_option_same}
 
--- keys in a total order, which a test tells apart
-pub record AreKeys {K : Type 0} (R : K → K → Ordering) (same : K → K → Bool) : Type 0 where
+-- keys in a total order, which tells them apart
+pub record AreKeys {K : Type 0} (R : K → K → Ordering) : Type 0 where
   pub total : IsTotalOrder R
   pub apart : IsAntisymmetric R
-  pub tied : (p q : K) → eq_by_cmp R p q ≡ same p q
-  pub turned : (p q : K) → same p q ≡ same q p
+
+reversed : (o : Ordering) → is_eq (ordering_reverse o) ≡ is_eq o
+reversed Less = refl
+reversed Equal = refl
+reversed Greater = refl
 
 chosen : {X : Type 0} (b : Bool) (v : Option X) (o : Option (Option X)) → option_and_then (λ x. x) (cond b (Some v) o) ≡ cond b v (option_and_then (λ x. x) o)
 chosen true v o = refl
@@ -27,54 +31,54 @@ found : {X : Type 0} (b : Bool) (v : X) (o : Option X) → is_some (cond b (Some
 found true v o = refl
 found false v o = refl
 
-module _ {K : Type 0} {R : K → K → Ordering} {same : K → K → Bool} (are : AreKeys R same) where
-  tied_to : (k q : K) → same k q ≡ eq_by_cmp R q k
-  tied_to k q = are.turned k q ∙ sym (are.tied q k)
+module _ {K : Type 0} {R : K → K → Ordering} (are : AreKeys R) where
+  turned : (k q : K) → eq_by_cmp R k q ≡ eq_by_cmp R q k
+  turned k q = ap is_eq (are.total.antisymm k q) ∙ reversed (R q k)
 
   module _ {X : Type 0} where
     -- what is kept at a key, by its entry
-    pub get-map_of : (es : List (K × Option X)) (q : K) → get (map_of {R = R} es) q ≡ option_and_then (λ x. x) (lookup (same q) es)
+    pub get-map_of : (es : List (K × Option X)) (q : K) → get (map_of {R = R} es) q ≡ option_and_then (λ x. x) (lookup (eq_by_cmp R q) es)
     get-map_of [] q = get-empty R q
     get-map_of (e ∷ es) q =
         get-put_option are.total are.apart (map_of es) e.0 e.1 q
-        ∙ (λ i. cond (are.tied q e.0 i) e.1 (get-map_of es q i))
-        ∙ sym (chosen (same q e.0) e.1 (lookup (same q) es))
+        ∙ ap (cond (eq_by_cmp R q e.0) e.1) (get-map_of es q)
+        ∙ sym (chosen (eq_by_cmp R q e.0) e.1 (lookup (eq_by_cmp R q) es))
 
-    among : (es : List (K × X)) (q : K) → list_any (eq_by_cmp R q) (map (λ e. e.0) es) ≡ is_some (lookup (same q) es)
+    among : (es : List (K × X)) (q : K) → list_any (eq_by_cmp R q) (map (λ e. e.0) es) ≡ is_some (lookup (eq_by_cmp R q) es)
     among [] q = refl
-    among (e ∷ es) q = (λ i. are.tied q e.0 i || among es q i) ∙ sym (found (same q e.0) e.1 (lookup (same q) es))
+    among (e ∷ es) q = ap (λ b. eq_by_cmp R q e.0 || b) (among es q) ∙ sym (found (eq_by_cmp R q e.0) e.1 (lookup (eq_by_cmp R q) es))
 
     -- whether a key is open, by its entry
-    pub contains-keys_of : (es : List (K × X)) (q : K) → set.contains (keys_of {R = R} es) q ≡ is_some (lookup (same q) es)
+    pub contains-keys_of : (es : List (K × X)) (q : K) → set.contains (keys_of {R = R} es) q ≡ is_some (lookup (eq_by_cmp R q) es)
     contains-keys_of es q = set.contains-from_list are.total (map (λ e. e.0) es) q ∙ among es q
 
     -- an entry is written; its key is open then
-    pub keys_of-updated : (es fs : List (K × X)) (k : K) (w : X) → ((q : K) → lookup (same q) fs ≡ cond (same k q) (Some w) (lookup (same q) es)) → keys_of {R = R} fs ≡ set.insert (keys_of es) k
+    pub keys_of-updated : (es fs : List (K × X)) (k : K) (w : X) → ((q : K) → lookup (eq_by_cmp R q) fs ≡ cond (eq_by_cmp R k q) (Some w) (lookup (eq_by_cmp R q) es)) → keys_of {R = R} fs ≡ set.insert (keys_of es) k
     keys_of-updated es fs k w updates =
         set.same_set are.total are.apart _ _ (λ q.
         contains-keys_of fs q
         ∙ ap is_some (updates q)
-        ∙ found (same k q) w (lookup (same q) es)
-        ∙ (λ i. tied_to k q i || sym (contains-keys_of es q) i)
+        ∙ found (eq_by_cmp R k q) w (lookup (eq_by_cmp R q) es)
+        ∙ (λ i. turned k q i || sym (contains-keys_of es q) i)
         ∙ sym (set.contains-insert are.total (keys_of es) k q))
 
-    module _ (es fs : List (K × Option X)) (k : K) (w : Option X) (updates : (q : K) → lookup (same q) fs ≡ cond (same k q) (Some w) (lookup (same q) es)) where
+    module _ (es fs : List (K × Option X)) (k : K) (w : Option X) (updates : (q : K) → lookup (eq_by_cmp R q) fs ≡ cond (eq_by_cmp R k q) (Some w) (lookup (eq_by_cmp R q) es)) where
       -- a value is put at a key
       pub map_of-updated : map_of {R = R} fs ≡ put_option (map_of es) k w
       map_of-updated =
           same_map are.total are.apart _ _ (λ q.
           get-map_of fs q
           ∙ ap (option_and_then (λ x. x)) (updates q)
-          ∙ chosen (same k q) w (lookup (same q) es)
-          ∙ (λ i. cond (tied_to k q i) w (sym (get-map_of es q) i))
+          ∙ chosen (eq_by_cmp R k q) w (lookup (eq_by_cmp R q) es)
+          ∙ (λ i. cond (turned k q i) w (sym (get-map_of es q) i))
           ∙ sym (get-put_option are.total are.apart (map_of es) k w q))
 
       -- a value that is there already
-      pub map_of-same : w ≡ option_and_then (λ x. x) (lookup (same k) es) → map_of {R = R} fs ≡ map_of es
+      pub map_of-same : w ≡ option_and_then (λ x. x) (lookup (eq_by_cmp R k) es) → map_of {R = R} fs ≡ map_of es
       map_of-same is = map_of-updated ∙ ap (put_option (map_of es) k) (is ∙ sym (get-map_of es k)) ∙ put_option_same are.total are.apart (map_of es) k
 
       -- nothing is kept at a key that is opened
-      pub map_of-opened : w ≡ None → lookup (same k) es ≡ None → map_of {R = R} fs ≡ map_of es
+      pub map_of-opened : w ≡ None → lookup (eq_by_cmp R k) es ≡ None → map_of {R = R} fs ≡ map_of es
       map_of-opened none absent = map_of-same (none ∙ sym (ap (option_and_then (λ x. x)) absent))
 
   -- a key that is in a set stays

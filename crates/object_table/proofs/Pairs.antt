@@ -1,11 +1,10 @@
 -- Pairs of ids by their order.
-use Rattle.std.proofs.Common.{◌≡◌, ℕ, Bool, ◌&&◌, nat_eq, refl, sym, ◌∙◌, arith}
+use Rattle.std.proofs.Common.{◌≡◌, ℕ, Bool, ◌&&◌, nat_eq, refl, sym, ◌∙◌}
 use Rattle.std.specs.Ordering.{nat_cmp, eq_by_cmp, ordering_then}
 use Rattle.std.specs.declared.cmp.Ordering.{Ordering}
 use Rattle.std.specs.declared.cmp.Ordering.TheVariants.{Less, Equal, Greater}
 use Rattle.std.specs.Cmp.{IsTotalOrder, nat_cmp_total, on_total, then_total, tied_then, unsigned_tied}
 use Rattle.std.specs.FinMap.{IsAntisymmetric, nat_cmp-IsAntisymmetric}
-use Rattle.std.proofs.lemmas.Bool.Decides.{nat_tests}
 use Rattle.object_table.specs.Pairs.{Pair, pair_cmp}
 use Rattle.object_table.proofs.Opened.{AreKeys}
 
@@ -30,11 +29,5 @@ pair_cmp-IsAntisymmetric p q e =
 pub pair_tied : (p q : Pair) → eq_by_cmp pair_cmp p q ≡ same_pair p q
 pair_tied p q = sym (tied_then (nat_cmp p.0 q.0) (nat_cmp p.1 q.1)) ∙ (λ i. unsigned_tied p.0 q.0 i && unsigned_tied p.1 q.1 i)
 
-nat_eq_sym : (a b : ℕ) → nat_eq a b ≡ nat_eq b a
-nat_eq_sym a b = grind (arith, nat_tests)
-
-same_pair_sym : (p q : Pair) → same_pair p q ≡ same_pair q p
-same_pair_sym p q = λ i. nat_eq_sym p.0 q.0 i && nat_eq_sym p.1 q.1 i
-
-pub pairs : AreKeys pair_cmp same_pair
-pairs = record { total = pair_cmp_total; apart = pair_cmp-IsAntisymmetric; tied = pair_tied; turned = same_pair_sym }
+pub pairs : AreKeys pair_cmp
+pairs = record { total = pair_cmp_total; apart = pair_cmp-IsAntisymmetric }

@@ -8,14 +8,14 @@ ghost use Rattle.object_table.specs.Opened.{values_in, open_in};
 
 use crate::ids::Id;
 use std::alloc::{AllocError, Global};
-use std::collections::HashMap;
+use std::collections::BTreeMap;
 use std::mem;
 
 /// The values that stand at pairs of the ids of a part and a card. A pair has to be open to have one, and an open
 /// pair may have none.
 #[derive(Drop)]
 pub(crate) struct PairTable<X> {
-    places: HashMap<(Id, Id), Option<X>>,
+    places: BTreeMap<(Id, Id), Option<X>>,
 }
 
 impl<X: Drop> PairTable<X> {
@@ -24,7 +24,7 @@ impl<X: Drop> PairTable<X> {
         ensures room { open_in result.places.entries ≡ set.empty }
     {
         PairTable {
-            places: HashMap::new(alloc),
+            places: BTreeMap::new(alloc),
         }
     }
 

@@ -11,7 +11,7 @@ use crate::ids::{Id, IdList};
 use crate::object::Object;
 use crate::property::PropValue;
 use std::alloc::{AllocError, Global};
-use std::collections::HashMap;
+use std::collections::BTreeMap;
 use std::marker::Model;
 use std::mem;
 
@@ -22,11 +22,11 @@ pub(crate) struct Slot {
     pub(crate) parts: Option<IdList>,
 }
 
-/// A slot for each id that is open, and how many objects live besides the stack. So an id costs the same wherever it
-/// lies, and one that isn't open costs nothing.
+/// A slot for each id that is open, in the order of the ids, and how many objects live besides the stack. So an id
+/// costs the same wherever it lies, whichever others are open, and one that isn't open costs nothing.
 #[derive(Drop)]
 pub(crate) struct SlotTable {
-    slots: HashMap<Id, Slot>,
+    slots: BTreeMap<Id, Slot>,
     live: usize,
 }
 
@@ -50,7 +50,7 @@ impl SlotTable {
         ensures { result ≡ slots_of [] }
     {
         SlotTable {
-            slots: HashMap::new(alloc),
+            slots: BTreeMap::new(alloc),
             live: 0,
         }
     }

@@ -1,7 +1,8 @@
-use Rattle.std.proofs.Common.{◌≡◌, ℕ, List, Some, None, cond, sym, ap, ◌∙◌, option_and_then, nat_eq}
+use Rattle.std.proofs.Common.{◌≡◌, ℕ, List, Some, None, cond, sym, ap, ◌∙◌, option_and_then}
 use Rattle.std.specs.FinMap.{len, remove}
 use Rattle.std.specs.FinSet as set
 use Rattle.std.specs.Map.{lookup}
+use Rattle.std.specs.Ordering.{eq_by_cmp, nat_cmp}
 use Rattle.object_table.specs.Slots.{Slots, slots_of, empty_slot}
 use Rattle.object_table.specs.declared.slot_table.Slot.{Slot}
 use Rattle.object_table.proofs.Opened.{contains-keys_of, contains-inserted, inserted_again, keys_of-updated, none_found}
@@ -9,7 +10,7 @@ use Rattle.object_table.proofs.Slots.{ids, read-same}
 use Rattle.object_table.proofs.slot_table.SlotTable.open.Goals as goal
 
 -- an empty slot is added
-added : (es fs : List (ℕ × Slot)) (k : ℕ) → ((q : ℕ) → lookup (nat_eq q) fs ≡ cond (nat_eq k q) (Some empty_slot) (lookup (nat_eq q) es)) → lookup (nat_eq k) es ≡ None → slots_of fs ≡ record (slots_of es) { ids = set.insert (slots_of es).ids k }
+added : (es fs : List (ℕ × Slot)) (k : ℕ) → ((q : ℕ) → lookup (eq_by_cmp nat_cmp q) fs ≡ cond (eq_by_cmp nat_cmp k q) (Some empty_slot) (lookup (eq_by_cmp nat_cmp q) es)) → lookup (eq_by_cmp nat_cmp k) es ≡ None → slots_of fs ≡ record (slots_of es) { ids = set.insert (slots_of es).ids k }
 added es fs k updates absent =
     let objects = read-same (λ s. s.object) es fs k empty_slot updates (sym (ap (option_and_then (λ s. s.object)) absent)) in
     let parts = read-same (λ s. s.parts) es fs k empty_slot updates (sym (ap (option_and_then (λ s. s.parts)) absent)) in
