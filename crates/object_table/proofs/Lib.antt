@@ -5,6 +5,7 @@ pub mod Live
 pub mod Maps
 pub mod Numbered
 pub mod Opened
+pub mod Paged
 pub mod Pairs
 pub mod Rewritten
 pub mod Slots

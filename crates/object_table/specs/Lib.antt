@@ -7,6 +7,7 @@ pub mod Maps
 pub mod Numbers
 pub mod Objects
 pub mod Opened
+pub mod Pages
 pub mod Pairs
 pub mod References
 pub mod Setting

@@ -1,11 +1,12 @@
 -- Slots of ids: an object, and a list of parts.
-use Rattle.std.specs.Prelude.{ℕ, List, map, None, refl}
-use Rattle.std.specs.Ordering.{nat_cmp}
+use Rattle.std.specs.Prelude.{◌≡◌, ℕ, zero, suc, List, [], ◌∷◌, map, slice_get, Option, None, option_map, refl, if◌then◌else◌}
+use Rattle.std.specs.Ordering.{nat_cmp, eq_by_cmp}
 use Rattle.std.specs.FinMap.{FinMap, code as map_code}
 use Rattle.std.specs.FinSet.{FinSet, code as set_code}
 use Rattle.std.specs.Coded.{Coded, code_by, coded×, coded_ℕ, coded_list}
 use Rattle.object_table.specs.Content.{coded_object}
 use Rattle.object_table.specs.Opened.{map_of, keys_of}
+use Rattle.object_table.specs.Pages.{number_at}
 use Rattle.object_table.specs.declared.object.Object.{Object}
 use Rattle.object_table.specs.declared.slot_table.Slot.{Slot}
 
@@ -24,6 +25,25 @@ objects_in es = map_of (map (λ e. (e.0, e.1.object)) es)
 
 abbrev pub parts_in : List (ℕ × Slot) → FinMap nat_cmp (List ℕ)
 parts_in es = map_of (map (λ e. (e.0, e.1.parts)) es)
+
+-- the number after this one, where 0 is none
+abbrev pub following : ℕ → ℕ
+following zero = 0
+following (suc n) = suc (suc n)
+
+-- the number of the first slot of an id, counted from 1; 0 where it has none
+abbrev pub slot_number : List (ℕ × Slot) → ℕ → ℕ
+slot_number [] id = 0
+slot_number (e ∷ es) id = if eq_by_cmp nat_cmp id e.0 then 1 else following (slot_number es id)
+
+-- the slot with a number
+abbrev pub slot_at : List (ℕ × Slot) → ℕ → Option Slot
+slot_at es zero = None
+slot_at es (suc n) = option_map (λ e. e.1) (slice_get es n)
+
+-- the pages have the number of each id's slot
+abbrev pub AreNumbered : List (List ℕ) → List (ℕ × Slot) → Type 0
+AreNumbered pages es = (id : ℕ) → number_at pages id ≡ slot_number es id
 
 -- slots by their entries
 abbrev pub slots_of : List (ℕ × Slot) → Slots

@@ -4,6 +4,7 @@
 mod ids;
 mod number;
 mod object;
+mod pages;
 mod pair_table;
 mod property;
 mod reference;

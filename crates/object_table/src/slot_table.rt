@@ -5,13 +5,13 @@ ghost use Rattle.std.specs.FinMap as map;
 ghost use Rattle.std.specs.FinSet as set;
 ghost use Rattle.object_table.specs.Maps.{put_option};
 ghost use Rattle.object_table.specs.Setting.{value_in, with_value};
-ghost use Rattle.object_table.specs.Slots.{slots_of};
+ghost use Rattle.object_table.specs.Slots.{slots_of, slot_at};
 
 use crate::ids::{Id, IdList};
 use crate::object::Object;
+use crate::pages::Pages;
 use crate::property::PropValue;
 use std::alloc::{AllocError, Global};
-use std::collections::BTreeMap;
 use std::marker::Model;
 use std::mem;
 
@@ -22,26 +22,35 @@ pub(crate) struct Slot {
     pub(crate) parts: Option<IdList>,
 }
 
-/// A slot for each id that is open, in the order of the ids, and how many objects live besides the stack. So an id
-/// costs the same wherever it lies, whichever others are open, and one that isn't open costs nothing.
+/// A slot for each id that is open, in the order in which they were opened, with the number of each id's slot, counted
+/// from 1, and how many objects live besides the stack. So an id is found in a few steps, whichever others are open.
 #[derive(Drop)]
 pub(crate) struct SlotTable {
-    slots: BTreeMap<Id, Slot>,
+    slots: Vec<(Id, Slot)>,
+    numbers: Pages,
     live: usize,
 }
 
 impl Model for SlotTable {
     ghost use Rattle.std.specs.Prelude.{◌≡◌};
     ghost use Rattle.std.specs.FinMap.{len, remove};
-    ghost use Rattle.object_table.specs.Slots.{Slots, coded_slots, slots_of, objects_in};
+    ghost use Rattle.object_table.specs.Slots.{Slots, coded_slots, slots_of, objects_in, AreNumbered};
 
     ghost Value = { Slots };
 
     ghost coded = { coded_slots };
 
-    ghost view = { λ t. slots_of t.slots.entries };
+    ghost view = { λ t. slots_of t.slots.items };
 
-    ghost invariant = { λ t. t.live ≡ len (remove (objects_in t.slots.entries) 0) };
+    ghost invariant = { λ t. (t.live ≡ len (remove (objects_in t.slots.items) 0)) × AreNumbered t.numbers.pages.items t.slots.items };
+}
+
+/// The slot with a number.
+fn slot_with(slots: &[(Id, Slot)], number: u32) -> Option<&Slot>
+    ensures { option_copied result ≡ slot_at slots.now number }
+{
+    let place = (number as usize).checked_sub(1)?;
+    Some(&slots.get(place)?.1)
 }
 
 impl SlotTable {
@@ -50,7 +59,8 @@ impl SlotTable {
         ensures { result ≡ slots_of [] }
     {
         SlotTable {
-            slots: BTreeMap::new(alloc),
+            slots: Vec::new(alloc),
+            numbers: Pages::new(alloc),
             live: 0,
         }
     }
@@ -59,13 +69,15 @@ impl SlotTable {
         ensures value { option_copied result ≡ map.get self.now.objects id }
         ensures room { OnSome result (set.contains self.now.ids id ≡ true) }
     {
-        self.slots.get(&id)?.object.as_ref()
+        slot_with(&self.slots, self.numbers.get(id))?
+            .object
+            .as_ref()
     }
 
     pub(crate) fn parts(&self, id: Id) -> Option<&IdList>
         ensures { option_copied result ≡ map.get self.now.parts id }
     {
-        self.slots.get(&id)?.parts.as_ref()
+        slot_with(&self.slots, self.numbers.get(id))?.parts.as_ref()
     }
 
     /// How many objects live besides the stack.
@@ -81,14 +93,19 @@ impl SlotTable {
         ensures inside { OnOk result (set.contains self.new.ids id ≡ true) }
         ensures err { OnErr result (self.new ≡ self.old) }
     {
-        if self.slots.contains_key(&id) {
+        if self.numbers.get(id) > 0 {
             return Ok(());
         }
+        self.slots.reserve(1)?;
+        let Ok(number) = u32::try_from(self.slots.len() + 1) else {
+            return Err(AllocError);
+        };
+        self.numbers.set(id, number)?;
         let slot = Slot {
             object: None,
             parts: None,
         };
-        self.slots.insert(id, slot)?;
+        self.slots.push_reserved((id, slot));
         Ok(())
     }
 
@@ -98,10 +115,8 @@ impl SlotTable {
         ensures slots { self.new ≡ record self.old { objects = put_option self.old.objects id object.old } }
     {
         let added = object.is_some();
-        match self.slots.get_mut(&id) {
-            Some(slot) => mem::swap(&mut slot.object, object),
-            None => unreachable!(),
-        }
+        let place = self.numbers.get(id) as usize - 1;
+        mem::swap(&mut self.slots[place].1.object, object);
         if id != 0 {
             let others = self.live - usize::from(object.is_some());
             // What is added fits: no more objects live than slots are open.
@@ -116,11 +131,9 @@ impl SlotTable {
         ensures value { option_and_then (value_in value.old) (map.get self.old.objects id) ≡ Some value.new }
         ensures slots { self.new ≡ record self.old { objects = put_option self.old.objects id (option_map (with_value value.old) (map.get self.old.objects id)) } }
     {
-        match self.slots.get_mut(&id) {
-            Some(slot) => match &mut slot.object {
-                Some(object) => object.swap_value(value),
-                None => unreachable!(),
-            },
+        let place = self.numbers.get(id) as usize - 1;
+        match &mut self.slots[place].1.object {
+            Some(object) => object.swap_value(value),
             None => unreachable!(),
         }
     }
@@ -130,9 +143,7 @@ impl SlotTable {
         ensures value { parts.new ≡ map.get self.old.parts id }
         ensures slots { self.new ≡ record self.old { parts = put_option self.old.parts id parts.old } }
     {
-        match self.slots.get_mut(&id) {
-            Some(slot) => mem::swap(&mut slot.parts, parts),
-            None => unreachable!(),
-        }
+        let place = self.numbers.get(id) as usize - 1;
+        mem::swap(&mut self.slots[place].1.parts, parts);
     }
 }

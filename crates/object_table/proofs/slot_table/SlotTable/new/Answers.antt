@@ -1,4 +1,4 @@
-use Rattle.std.proofs.Common.{[], arith}
+use Rattle.std.proofs.Common.{[], refl, arith}
 use Rattle.std.specs.Ordering.{nat_cmp}
 use Rattle.std.specs.FinMap.{len-empty}
 use Rattle.object_table.specs.Slots.{objects_in}
@@ -8,4 +8,4 @@ use Rattle.object_table.proofs.slot_table.SlotTable.new.Goals as goal
 
 pub invariant_of-result : goal.invariant_of-result
 invariant_of-result c =
-    rw (c.new.ensures.empty) (omega (arith, len-others (objects_in []), len-empty nat_cmp Object))
+    rw (c.new.ensures.items, c.new-2.ensures) (omega (arith, len-others (objects_in []), len-empty nat_cmp Object), λ id. refl)
