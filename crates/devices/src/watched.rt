@@ -29,6 +29,13 @@ impl<D> Watched<D> {
         }
     }
 
+    /// The device.
+    pub fn into_inner(self) -> D
+        ensures { result ≡ device_of self }
+    {
+        self.device
+    }
+
     /// How many calls failed: those that answered an error, and writes of some bytes that took
     /// none. At its greatest value the count stays, and a call that leaves it there counts as a
     /// failed one.
