@@ -1,5 +1,5 @@
 -- A run with the externals of the kit, by what is known of each.
-use Rattle.std.proofs.Common.{◌≡◌, ℕ, List, [], ◌∷◌, Bool, true, Option, Result, Err, IfOk, IfErr, map, inl, refl, sym, ap, subst, ◌∙◌}
+use Rattle.std.proofs.Common.{◌≡◌, ℕ, List, [], ◌∷◌, Bool, true, Option, Result, Err, IfOk, IfErr, map, refl, sym, ap, subst, ◌∙◌}
 use Rattle.std.proofs.KnownBytes.{Appends-nil, Consumes-nil}
 use Rattle.std.specs.Io.KnownBytes.{Appends, Consumes}
 use Rattle.devices.specs.Desks.{SeenDesk}
@@ -45,4 +45,4 @@ pub idles : (result : Result Ran CliFault) (ends : Type 0) (bytes : List ℕ) (f
     → IfErr result (λ fault. (read : List ℕ) × (written : List ℕ) × Consumes a a read × Appends c c written × Ends ends fault bytes first desk read written desk)
 idles result ends bytes first desk a c is =
     subst (λ x. IfErr x (λ fault. (read : List ℕ) × (written : List ℕ) × Consumes a a read × Appends c c written × Ends ends fault bytes first desk read written desk)) (sym is)
-    ([], [], Consumes-nil a, Appends-nil c, inl (record { unread = refl; unwritten = refl; same = refl }))
+    ([], [], Consumes-nil a, Appends-nil c, record { unread = refl; unwritten = refl; same = refl })

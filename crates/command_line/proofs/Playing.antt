@@ -1,5 +1,5 @@
 -- From a session that ran to the whole run.
-use Rattle.std.proofs.Common.{◌≡◌, ℕ, List, Option, Err, IsErrOf, inr, refl, subst}
+use Rattle.std.proofs.Common.{◌≡◌, ℕ, List, Option, Err, IsErrOf, refl, ap, subst}
 use Rattle.std.specs.Io.KnownBytes.{IsAtEnd}
 use Rattle.devices.specs.Desks.{SeenDesk}
 use Rattle.externals.specs.Cells.{Seen}
@@ -31,7 +31,7 @@ module _ (bytes : List ℕ) (stack : Content) (externals : List Seen) (turns : L
       record { stack = stack; spelled = spelled; last = timeline_of last.0; stopped = law left fault (opened stack externals turns steps depth, desk) read written last first }
 
   pub ends : (fault : RunFault) → StopsFollow → Stopped Takes (IsAtEnd left) fault (old, desk) read written last → Ends (IsAtEnd left) (fault_of_run fault) bytes (λ s. beginning s externals steps depth) desk read written last.1
-  ends runs.Memory law e = inr (stops runs.Memory law e)
+  ends runs.Memory law e = record { unread = e.unread; unwritten = e.unwritten; same = ap (λ (s : Standing × SeenDesk). s.1) e.same }
   ends runs.Read law e = stops runs.Read law e
   ends runs.Write law e = stops runs.Write law e
   ends runs.TooManyLines law e = stops runs.TooManyLines law e

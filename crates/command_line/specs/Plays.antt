@@ -1,5 +1,5 @@
 -- A whole run of the program, from the bytes of a stack.
-use Rattle.std.specs.Prelude.{◌≡◌, ◌⊎◌, ℕ, List, [], Err}
+use Rattle.std.specs.Prelude.{◌≡◌, ℕ, List, [], Err}
 use Rattle.devices.specs.Desks.{SeenDesk}
 use Rattle.object_table.specs.Content.{Content}
 use Rattle.stack_text.specs.Laws.{Spells}
@@ -58,4 +58,4 @@ Ends ends (Refused error) bytes beginning old read written new = (document_at by
 Ends ends Read bytes beginning old read written new = Stops ends runs.Read bytes beginning old read written new
 Ends ends Write bytes beginning old read written new = Stops ends runs.Write bytes beginning old read written new
 Ends ends TooManyLines bytes beginning old read written new = Stops ends runs.TooManyLines bytes beginning old read written new
-Ends ends Memory bytes beginning old read written new = Idles old read written new ⊎ Stops ends runs.Memory bytes beginning old read written new
+Ends ends Memory bytes beginning old read written new = Idles old read written new

@@ -51,7 +51,8 @@ fn fault_of(fault: RunFault) -> CliFault
 ///
 /// What is written is the answers to the lines that are read, those of a list of whole states with a cursor.
 /// `Refused` where the bytes are no stack text, and `Read`, `Write` and `TooManyLines` as `run` has them; `Memory`
-/// where a growth was refused. A device is blamed where it failed, and nowhere else.
+/// only where a growth was refused before the first line was read, so that nothing is read, written or kept. A device is
+/// blamed where it failed, and nowhere else.
 pub fn play<E: External, R: Read, W: Write, D: Desk>(
     alloc: Global,
     options: &Options,

@@ -15,11 +15,11 @@ use Rattle.session.specs.Splits.{IsLine, ended_lines, Splits}
 use Rattle.headline.specs.InputLines.{without_return, last_line}
 use Rattle.headline.specs.Saving.{Takes}
 use Rattle.session.specs.Standing.{Standing}
-use Rattle.headline.specs.Answering.{is_quit, Answered, OneMore, IsCut, Finishes, Quits, Breaks, Exceeds}
+use Rattle.headline.specs.Answering.{is_quit, Answered, OneMore, Finishes, Quits, Breaks, Exceeds}
 use Rattle.headline.specs.Intake.{Reached, Broken}
+use Rattle.headline.specs.Writing.{IsCut}
 use Rattle.session.proofs.LineFeeds.{all-append, ended_lines-snoc}
 use Rattle.headline.proofs.Sessions.{mapped-snoc, last_line-some, Answered-snoc}
-use Rattle.headline.specs.declared.transcript.RunFault.{RunFault}
 use Rattle.session.specs.declared.reply.Reply.{Reply}
 
 pub Appends-nothing : (a : Option (List ℕ)) → Appends a a []
@@ -156,9 +156,9 @@ module _ (old : Standing × SeenDesk) (read written : List ℕ) (now : Standing 
       let o = ended_one reply new few short s in (record { text = written; reply = reply; taken = o.0; quits = q; sent = refl }, o.1)
 
   -- a line feed, and an answer of which a part is written
-  pub reached_break : (fault : RunFault) (reply : Reply) (sent : List ℕ) (new : Standing × SeenDesk) → lines < MOST_LINES → bytes < MOST_BYTES → Takes (without_return pending) now reply new → IsCut fault (answer reply) sent
-      → Broken 0 fault old (read ++ 10 ∷ []) (written ++ sent) new
-  reached_break fault reply sent new few short s cut =
+  pub reached_break : (reply : Reply) (sent : List ℕ) (new : Standing × SeenDesk) → lines < MOST_LINES → bytes < MOST_BYTES → Takes (without_return pending) now reply new → IsCut (answer reply) sent
+      → Broken 0 old (read ++ 10 ∷ []) (written ++ sent) new
+  reached_break reply sent new few short s cut =
       let o = ended_one reply new few short s in (record { text = written; reply = reply; taken = o.0; sent = sent; cut = cut; went = refl }, o.1)
 
   -- as much is read as may be, and a byte follows
@@ -213,9 +213,9 @@ module _ (old : Standing × SeenDesk) (read written : List ℕ) (now : Standing 
   pub last_quits : (reply : Reply) (new : Standing × SeenDesk) → 0 < length pending → bytes ≤ MOST_BYTES → Takes pending now reply new → is_quit reply.ending ≡ true → Quits Takes (Unit {0}) old read (written ++ answer reply) new
   last_quits reply new some short s q = record { text = written; reply = reply; taken = last_one reply new some short s; quits = q; sent = refl }
 
-  pub last_breaks : (fault : RunFault) (reply : Reply) (sent : List ℕ) (new : Standing × SeenDesk) → 0 < length pending → bytes ≤ MOST_BYTES → Takes pending now reply new → IsCut fault (answer reply) sent
-      → Breaks Takes (Unit {0}) fault old read (written ++ sent) new
-  last_breaks fault reply sent new some short s cut = record { text = written; reply = reply; taken = last_one reply new some short s; sent = sent; cut = cut; went = refl }
+  pub last_breaks : (reply : Reply) (sent : List ℕ) (new : Standing × SeenDesk) → 0 < length pending → bytes ≤ MOST_BYTES → Takes pending now reply new → IsCut (answer reply) sent
+      → Breaks Takes (Unit {0}) old read (written ++ sent) new
+  last_breaks reply sent new some short s cut = record { text = written; reply = reply; taken = last_one reply new some short s; sent = sent; cut = cut; went = refl }
 
   pub last_finishes : (reply : Reply) (new : Standing × SeenDesk) → 0 < length pending → bytes ≤ MOST_BYTES → Takes pending now reply new → is_quit reply.ending ≡ false → Finishes Takes old read (written ++ answer reply) new
   last_finishes reply new some short s q =
@@ -270,8 +270,8 @@ one_more_behind old read text reply new more o none close =
       omega (arith, size),
     )
 
-pub Breaks-more : (fault : RunFault) (old : Standing × SeenDesk) (read written : List ℕ) (new : Standing × SeenDesk) (more : List ℕ) → length more < BLOCK → Broken 0 fault old read written new → Breaks Takes ⊥ fault old (read ++ more) written new
-Breaks-more fault old read written new more close (b, none) =
+pub Breaks-more : (old : Standing × SeenDesk) (read written : List ℕ) (new : Standing × SeenDesk) (more : List ℕ) → length more < BLOCK → Broken 0 old read written new → Breaks Takes ⊥ old (read ++ more) written new
+Breaks-more old read written new more close (b, none) =
     record { text = b.text; reply = b.reply; taken = (one_more_behind old read b.text b.reply new more b.taken none close).0; sent = b.sent; cut = b.cut; went = b.went }
 
 pub Quits-more : (old : Standing × SeenDesk) (read written : List ℕ) (new : Standing × SeenDesk) (more : List ℕ) → length more < BLOCK → (q : Quits Takes ⊥ old read written new) × (length q.taken.ahead ≤ 0)

@@ -2,3 +2,4 @@ pub mod Following
 pub mod Intake
 pub mod Saved
 pub mod Sessions
+pub mod Writing

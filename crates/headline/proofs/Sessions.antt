@@ -114,20 +114,13 @@ module _ {S : Type 0} (takes : List ℕ → S → Reply → S → Type 0) where
   Ended-by runs.EndOfInput old read written new f e = (e.0, f e.1)
   Ended-by runs.Quit old read written new f q = Quits-by old read written new f q
 
-  pub Breaks-by : {P Q : Type 0} (fault : RunFault) (old : S) (read written : List ℕ) (new : S) → (P → Q) → Breaks takes P fault old read written new → Breaks takes Q fault old read written new
-  Breaks-by fault old read written new f b = record { text = b.text; reply = b.reply; taken = OneMore-by old read b.text b.reply new f b.taken; sent = b.sent; cut = b.cut; went = b.went }
-
-  pub Stopped-Breaks : (ends : Type 0) (e : RunFault) (old : S) (read written : List ℕ) (new : S) → Breaks takes ends e old read written new → Stopped takes ends e old read written new
-  Stopped-Breaks ends faults.Memory old read written new b = inr b
-  Stopped-Breaks ends faults.Write old read written new b = b
-  Stopped-Breaks ends faults.Read old read written new b = absurd b.cut
-  Stopped-Breaks ends faults.TooManyLines old read written new b = absurd b.cut
+  pub Breaks-by : {P Q : Type 0} (old : S) (read written : List ℕ) (new : S) → (P → Q) → Breaks takes P old read written new → Breaks takes Q old read written new
+  Breaks-by old read written new f b = record { text = b.text; reply = b.reply; taken = OneMore-by old read b.text b.reply new f b.taken; sent = b.sent; cut = b.cut; went = b.went }
 
   -- what stopped before the input ended stopped so too whatever its end means
   pub Stopped-by : (ends : Type 0) (e : RunFault) (old : S) (read written : List ℕ) (new : S) → Stopped takes ⊥ e old read written new → Stopped takes ends e old read written new
-  Stopped-by ends faults.Memory old read written new (inl never) = inl never
-  Stopped-by ends faults.Memory old read written new (inr b) = inr (Breaks-by faults.Memory old read written new (λ no. absurd no) b)
-  Stopped-by ends faults.Write old read written new b = Breaks-by faults.Write old read written new (λ no. absurd no) b
+  Stopped-by ends faults.Memory old read written new never = never
+  Stopped-by ends faults.Write old read written new b = Breaks-by old read written new (λ no. absurd no) b
   Stopped-by ends faults.Read old read written new s = s
   Stopped-by ends faults.TooManyLines old read written new s = s
 
@@ -230,14 +223,13 @@ module _ {S U : Type 0} (takes : List ℕ → S → Reply → S → Type 0) (oth
   stands : (old : S) (read written : List ℕ) (new : S) → Stands takes old read written new → Stands other (f old) read written (f new)
   stands old read written new s = record { lines = s.lines; rest = s.rest; splits = s.splits; answers = answered old (map without_return s.lines) written new s.answers }
 
-  breaks : (ends : Type 0) (fault : RunFault) (old : S) (read written : List ℕ) (new : S) → Breaks takes ends fault old read written new → Breaks other ends fault (f old) read written (f new)
-  breaks ends fault old read written new b = record { text = b.text; reply = b.reply; taken = one_more ends old read b.text b.reply new b.taken; sent = b.sent; cut = b.cut; went = b.went }
+  breaks : (ends : Type 0) (old : S) (read written : List ℕ) (new : S) → Breaks takes ends old read written new → Breaks other ends (f old) read written (f new)
+  breaks ends old read written new b = record { text = b.text; reply = b.reply; taken = one_more ends old read b.text b.reply new b.taken; sent = b.sent; cut = b.cut; went = b.went }
 
   pub stopped_follows : (ends : Type 0) (fault : RunFault) (old : S) (read written : List ℕ) (new : S) → Stopped takes ends fault old read written new → Stopped other ends fault (f old) read written (f new)
   unfolding stands
-  stopped_follows ends faults.Memory old read written new (inl never) = inl (record { unread = never.unread; unwritten = never.unwritten; same = ap f never.same })
-  stopped_follows ends faults.Memory old read written new (inr b) = inr (breaks ends faults.Memory old read written new b)
-  stopped_follows ends faults.Write old read written new b = breaks ends faults.Write old read written new b
+  stopped_follows ends faults.Memory old read written new never = record { unread = never.unread; unwritten = never.unwritten; same = ap f never.same }
+  stopped_follows ends faults.Write old read written new b = breaks ends old read written new b
   stopped_follows ends faults.Read old read written new s = stands old read written new s
   stopped_follows ends faults.TooManyLines old read written new e =
       record { front = e.front; byte = e.byte; ahead = e.ahead; whole = e.whole; stands = stands old e.front written new e.stands; most = e.most; close = e.close }

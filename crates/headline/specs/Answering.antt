@@ -5,9 +5,8 @@ use Rattle.std.specs.List.{AllByRecursion}
 use Rattle.headline.specs.Answers.{answer}
 use Rattle.session.specs.Splits.{Splits, IsLine, ended_lines}
 use Rattle.headline.specs.InputLines.{without_return, all_lines}
+use Rattle.headline.specs.Writing.{IsCut}
 use Rattle.headline.specs.declared.transcript.TheConstants.{BLOCK}
-use Rattle.headline.specs.declared.transcript.RunFault.{RunFault}
-use Rattle.headline.specs.declared.transcript.RunFault.TheVariants as faults
 use Rattle.headline.specs.declared.limits.TheConstants.{MOST_BYTES, MOST_LINES}
 use Rattle.session.specs.declared.reply.Ending.{Ending}
 use Rattle.session.specs.declared.reply.Ending.TheVariants.{Quit}
@@ -87,20 +86,13 @@ pub record Quits {S : Type 0} (takes : List ℕ → S → Reply → S → Type 0
   pub quits : is_quit reply.ending ≡ true
   pub sent : written ≡ text ++ answer reply
 
--- What went out of an answer: nothing where it was out of memory, and where the writer failed not all of it.
-abbrev pub IsCut : RunFault → List ℕ → List ℕ → Type 0
-IsCut faults.Memory whole sent = sent ≡ []
-IsCut faults.Write whole sent = (unsent : List ℕ) × (unsent ≢ []) × (whole ≡ sent ++ unsent)
-IsCut faults.Read whole sent = ⊥
-IsCut faults.TooManyLines whole sent = ⊥
-
 -- One line more is done, and its answer is cut. What is written is all answers before it, and what went out of its own.
-pub record Breaks {S : Type 0} (takes : List ℕ → S → Reply → S → Type 0) (ends : Type 0) (fault : RunFault) (old : S) (read written : List ℕ) (new : S) : Type 0 where
+pub record Breaks {S : Type 0} (takes : List ℕ → S → Reply → S → Type 0) (ends : Type 0) (old : S) (read written : List ℕ) (new : S) : Type 0 where
   pub text : List ℕ
   pub reply : Reply
   pub taken : OneMore takes ends old read text reply new
   pub sent : List ℕ
-  pub cut : IsCut fault (answer reply) sent
+  pub cut : IsCut (answer reply) sent
   pub went : written ≡ text ++ sent
 
 -- nothing was read, and nothing is done

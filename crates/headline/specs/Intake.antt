@@ -7,7 +7,6 @@ use Rattle.session.specs.Splits.{Splits}
 use Rattle.headline.specs.InputLines.{without_return}
 use Rattle.session.specs.Standing.{Standing}
 use Rattle.headline.specs.declared.transcript.TheConstants.{KEPT}
-use Rattle.headline.specs.declared.transcript.RunFault.{RunFault}
 use Rattle.headline.specs.declared.limits.TheConstants.{MOST_LINES}
 
 -- After these bytes this text is written, and this much is kept of the line that isn't ended. Such a line begins only
@@ -27,5 +26,5 @@ abbrev pub Onward : ℕ → Bool → Standing × SeenDesk → List ℕ → List 
 Onward most quits old read written now pending line_count byte_count = MatchBool quits ((q : Quits Takes ⊥ old read written now) × (length q.taken.ahead ≤ most)) (Reached old read written now pending line_count byte_count)
 
 -- an answer was cut, with so many bytes behind its line at most
-abbrev pub Broken : ℕ → RunFault → Standing × SeenDesk → List ℕ → List ℕ → Standing × SeenDesk → Type 0
-Broken most fault old read written new = (b : Breaks Takes ⊥ fault old read written new) × (length b.taken.ahead ≤ most)
+abbrev pub Broken : ℕ → Standing × SeenDesk → List ℕ → List ℕ → Standing × SeenDesk → Type 0
+Broken most old read written new = (b : Breaks Takes ⊥ old read written new) × (length b.taken.ahead ≤ most)

@@ -6,3 +6,4 @@ pub mod Intake
 pub mod Saving
 pub mod Stops
 pub mod Unzipped
+pub mod Writing

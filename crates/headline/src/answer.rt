@@ -1,43 +1,87 @@
-//! The bytes of an answer.
+//! The bytes of an answer, and how they go out.
 
-ghost use Rattle.std.specs.Prelude.{◌≡◌, ◌++◌, OnOk, IfOk};
+ghost use Rattle.std.specs.Prelude.{◌≡◌, ◌++◌, IfSome};
 ghost use Rattle.headline.specs.Answers.{answer, ending_line, numbered_line};
+ghost use Rattle.headline.specs.Writing.{WritesOut};
 
+use devices::{Watched, write_to};
 use itoa::Buffer;
 use session::{Ending, Reply};
-use std::alloc::{AllocError, Global};
+use std::alloc::Global;
+use std::io::Write;
+
+/// The writer failed, and not all of what was to be written went out.
+#[derive(Clone, Copy)]
+pub struct Cut;
+
+fn write_piece<W: Write>(bytes: &[u8], out: &mut Watched<W>) -> Result<(), Cut>
+    ensures { WritesOut W.contents bytes.now out.old result out.new }
+{
+    match write_to(bytes, out) {
+        Ok(()) => Ok(()),
+        Err(_) => Err(Cut),
+    }
+}
+
+/// Writes three pieces, one after another.
+fn write_three<W: Write>(
+    first: &[u8],
+    second: &[u8],
+    third: &[u8],
+    out: &mut Watched<W>,
+) -> Result<(), Cut>
+    ensures { WritesOut W.contents (first.now ++ second.now ++ third.now) out.old result out.new }
+{
+    write_piece(first, out)?;
+    write_piece(second, out)?;
+    write_piece(third, out)
+}
 
 /// Writes a word, a number and the end of the line.
-fn write_numbered(out: &mut Vec<u8>, word: &[u8], number: u8) -> Result<(), AllocError>
-    ensures { OnOk result (out.new.items ≡ out.old.items ++ numbered_line word.now number) }
+fn write_numbered<W: Write>(word: &[u8], number: u8, out: &mut Watched<W>) -> Result<(), Cut>
+    ensures { WritesOut W.contents (numbered_line word.now number) out.old result out.new }
 {
     let mut digits = Buffer::new();
-    out.extend_from_slice(word)?;
-    out.extend_from_slice(digits.format(number).as_bytes())?;
-    out.push(b'\n')?;
-    Ok(())
+    write_three(word, digits.format(number).as_bytes(), b"\n", out)
 }
 
-fn write_ending(out: &mut Vec<u8>, ending: &Ending) -> Result<(), AllocError>
-    ensures { OnOk result (out.new.items ≡ out.old.items ++ ending_line ending.now) }
+fn write_ending<W: Write>(ending: &Ending, out: &mut Watched<W>) -> Result<(), Cut>
+    ensures { WritesOut W.contents (ending_line ending.now) out.old result out.new }
 {
     match ending {
-        Ending::Ok | Ending::Save(_) | Ending::Quit => out.extend_from_slice(b"ok\n"),
-        Ending::Fault(fault) => write_numbered(out, b"fault ", fault.number()),
-        Ending::Refused(refusal) => write_numbered(out, b"refused ", refusal.number()),
+        Ending::Ok | Ending::Save(_) | Ending::Quit => write_piece(b"ok\n", out),
+        Ending::Fault(fault) => write_numbered(b"fault ", fault.number(), out),
+        Ending::Refused(refusal) => write_numbered(b"refused ", refusal.number(), out),
     }
 }
 
-/// The bytes of an answer.
-pub fn answer_of(alloc: Global, reply: &Reply) -> Result<Vec<u8>, AllocError>
-    ensures { IfOk result (λ bytes. bytes.items ≡ answer reply.now) }
+/// Writes an answer piece by piece. It takes no memory of its own.
+fn write_piecewise<W: Write>(reply: &Reply, out: &mut Watched<W>) -> Result<(), Cut>
+    ensures { WritesOut W.contents (answer reply.now) out.old result out.new }
 {
-    let mut out = Vec::new(alloc);
     for line in reply.shown.as_slice() {
-        out.extend_from_slice(b"> ")?;
-        out.extend_from_slice(line.as_slice())?;
-        out.push(b'\n')?;
+        write_three(b"> ", line.as_slice(), b"\n", out)?;
     }
-    write_ending(&mut out, &reply.ending)?;
-    Ok(out)
+    write_ending(&reply.ending, out)
+}
+
+/// A copy of an answer, or none where it is refused memory.
+fn copy_of(alloc: Global, reply: &Reply) -> Option<Vec<u8>>
+    ensures { IfSome result (λ copy. copy.items ≡ answer reply.now) }
+{
+    let mut copy = Watched::new(Vec::new(alloc));
+    match write_piecewise(reply, &mut copy) {
+        Ok(()) => Some(copy.into_inner()),
+        Err(_) => None,
+    }
+}
+
+/// Writes an answer: by one write of a copy, where there is memory for one, and else piece by piece.
+pub fn write_answer<W: Write>(alloc: Global, reply: &Reply, out: &mut Watched<W>) -> Result<(), Cut>
+    ensures { WritesOut W.contents (answer reply.now) out.old result out.new }
+{
+    match copy_of(alloc, reply) {
+        Some(copy) => write_piece(&copy, out),
+        None => write_piecewise(reply, out),
+    }
 }

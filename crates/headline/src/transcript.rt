@@ -9,7 +9,8 @@ ghost use Rattle.headline.specs.Answers.{answer};
 ghost use Rattle.headline.specs.Saving.{KeptOrNot, Takes};
 ghost use Rattle.session.specs.Standing.{Standing};
 ghost use Rattle.headline.specs.InputLines.{without_return as line_of_ended, AreLines};
-ghost use Rattle.headline.specs.Answering.{is_quit, IsCut, Breaks, Finishes};
+ghost use Rattle.headline.specs.Answering.{is_quit, Breaks, Finishes};
+ghost use Rattle.headline.specs.Writing.{IsCut};
 ghost use Rattle.headline.specs.Intake.{Reached, Onward, Broken};
 ghost use Rattle.headline.specs.Stops.{Ended, Stopped};
 ghost use Rattle.headline.specs.Headline.{Headline};
@@ -18,9 +19,9 @@ ghost use Rattle.headline.specs.declared.transcript.TheConstants.{BLOCK, KEPT};
 ghost use Rattle.headline.specs.declared.limits.TheConstants.{MOST_BYTES, MOST_LINES};
 ghost use Rattle.session.specs.declared.reply.Reply.{Reply};
 
-use crate::answer::answer_of;
+use crate::answer::{Cut, write_answer};
 use crate::limits::{MOST_BYTES, MOST_LINES};
-use devices::{Desk, Watched, write_to};
+use devices::{Desk, Watched};
 use explain::explain;
 use externals::External;
 use session::{Ending, LONGEST_LINE, Refusal, Reply, Sent, Session};
@@ -41,6 +42,16 @@ pub enum RunFault {
     Read,
     Write,
     TooManyLines,
+}
+
+impl From<Cut> for RunFault {
+    ghost use Rattle.headline.specs.declared.transcript.RunFault.TheVariants.{Write};
+
+    ghost from_gives = { λ _ fault. fault ≡ Write };
+
+    fn from(_cut: Cut) -> RunFault {
+        RunFault::Write
+    }
 }
 
 fn without_return(line: &[u8]) -> &[u8]
@@ -133,29 +144,20 @@ fn answer_line<E: External, W: Write, D: Desk>(
     line: &[u8],
     writer: &mut Watched<W>,
     desk: &mut D,
-) -> Result<bool, RunFault>
+) -> Result<bool, Cut>
     ensures ok { IfOk result (λ quits. (reply : Reply)
         × Takes line.now (session.old, D.seen desk.old) reply (session.new, D.seen desk.new) × (is_quit reply.ending ≡ quits)
         × Appends (W.contents (device_of writer.old)) (W.contents (device_of writer.new))
         (answer reply)) }
-    ensures err { IfErr result (λ e. (reply : Reply) × (sent : List ℕ)
-        × Takes line.now (session.old, D.seen desk.old) reply (session.new, D.seen desk.new) × IsCut e (answer reply) sent
+    ensures err { OnErr result ((reply : Reply) × (sent : List ℕ)
+        × Takes line.now (session.old, D.seen desk.old) reply (session.new, D.seen desk.new) × IsCut (answer reply) sent
         × Appends (W.contents (device_of writer.old)) (W.contents (device_of writer.new)) sent) }
-    ensures which { IfErr result (λ e. (e ≢ RunFault.Read) × (e ≢ RunFault.TooManyLines)) }
-    ensures failed { IsErrOf result RunFault.Write
-        → Rose (failures_of writer.old) (failures_of writer.new) }
-    ensures sound { ¬ IsErrOf result RunFault.Write
-        → failures_of writer.new ≡ failures_of writer.old }
+    ensures failed { OnErr result (Rose (failures_of writer.old) (failures_of writer.new)) }
+    ensures sound { OnOk result (failures_of writer.new ≡ failures_of writer.old) }
 {
     let reply = take_line(session, alloc, line, desk);
-    let quits = matches!(reply.ending, Ending::Quit);
-    let Ok(bytes) = answer_of(alloc, &reply) else {
-        return Err(RunFault::Memory);
-    };
-    match write_to(&bytes, writer) {
-        Ok(()) => Ok(quits),
-        Err(_) => Err(RunFault::Write),
-    }
+    write_answer(alloc, &reply, writer)?;
+    Ok(matches!(reply.ending, Ending::Quit))
 }
 
 /// The longest line with its carriage return, and one byte more, which shows that it is too long.
@@ -198,7 +200,7 @@ fn take_byte<E: External, W: Write, D: Desk>(
     byte: u8,
     writer: &mut Watched<W>,
     desk: &mut D,
-) -> Result<bool, RunFault>
+) -> Result<bool, Cut>
     requires lines { intake.old.lines < MOST_LINES }
     requires bytes { intake.old.bytes < MOST_BYTES }
     ensures ok { IfOk result (λ quits. (text : List ℕ)
@@ -208,17 +210,14 @@ fn take_byte<E: External, W: Write, D: Desk>(
         intake.old.pending.items intake.old.lines intake.old.bytes
         → Onward 0 quits start (read ++ byte ∷ []) (written ++ text) (session.new, D.seen desk.new)
         intake.new.pending.items intake.new.lines intake.new.bytes)) }
-    ensures err { IfErr result (λ e. (text : List ℕ)
+    ensures err { OnErr result ((text : List ℕ)
         × Appends (W.contents (device_of writer.old)) (W.contents (device_of writer.new)) text
         × ((start : Standing × SeenDesk) (read written : List ℕ)
         → Reached start read written (session.old, D.seen desk.old)
         intake.old.pending.items intake.old.lines intake.old.bytes
-        → Broken 0 e start (read ++ byte ∷ []) (written ++ text) (session.new, D.seen desk.new))) }
-    ensures which { IfErr result (λ e. (e ≢ RunFault.Read) × (e ≢ RunFault.TooManyLines)) }
-    ensures failed { IsErrOf result RunFault.Write
-        → Rose (failures_of writer.old) (failures_of writer.new) }
-    ensures sound { ¬ IsErrOf result RunFault.Write
-        → failures_of writer.new ≡ failures_of writer.old }
+        → Broken 0 start (read ++ byte ∷ []) (written ++ text) (session.new, D.seen desk.new))) }
+    ensures failed { OnErr result (Rose (failures_of writer.old) (failures_of writer.new)) }
+    ensures sound { OnOk result (failures_of writer.new ≡ failures_of writer.old) }
 {
     intake.bytes += 1;
     if byte == b'\n' {
@@ -262,7 +261,7 @@ fn take_block<E: External, W: Write, D: Desk>(
         → Reached start read written (session.old, D.seen desk.old)
         intake.old.pending.items intake.old.lines intake.old.bytes
         → Stopped Takes ⊥ e start (read ++ block.now) (written ++ text) (session.new, D.seen desk.new))) }
-    ensures which { IfErr result (λ e. e ≢ RunFault.Read) }
+    ensures which { IfErr result (λ e. (e ≢ RunFault.Read) × (e ≢ RunFault.Memory)) }
     ensures failed { IsErrOf result RunFault.Write
         → Rose (failures_of writer.old) (failures_of writer.new) }
     ensures sound { ¬ IsErrOf result RunFault.Write
@@ -286,24 +285,21 @@ fn take_last<E: External, W: Write, D: Desk>(
     intake: &Intake,
     writer: &mut Watched<W>,
     desk: &mut D,
-) -> Result<Ran, RunFault>
+) -> Result<Ran, Cut>
     ensures ok { IfOk result (λ ran. (text : List ℕ)
         × Appends (W.contents (device_of writer.old)) (W.contents (device_of writer.new)) text
         × ((start : Standing × SeenDesk) (read written : List ℕ)
         → Reached start read written (session.old, D.seen desk.old)
         intake.now.pending.items intake.now.lines intake.now.bytes
         → Ended Takes (Unit {0}) ran start read (written ++ text) (session.new, D.seen desk.new))) }
-    ensures err { IfErr result (λ e. (text : List ℕ)
+    ensures err { OnErr result ((text : List ℕ)
         × Appends (W.contents (device_of writer.old)) (W.contents (device_of writer.new)) text
         × ((start : Standing × SeenDesk) (read written : List ℕ)
         → Reached start read written (session.old, D.seen desk.old)
         intake.now.pending.items intake.now.lines intake.now.bytes
-        → Breaks Takes (Unit {0}) e start read (written ++ text) (session.new, D.seen desk.new))) }
-    ensures which { IfErr result (λ e. (e ≢ RunFault.Read) × (e ≢ RunFault.TooManyLines)) }
-    ensures failed { IsErrOf result RunFault.Write
-        → Rose (failures_of writer.old) (failures_of writer.new) }
-    ensures sound { ¬ IsErrOf result RunFault.Write
-        → failures_of writer.new ≡ failures_of writer.old }
+        → Breaks Takes (Unit {0}) start read (written ++ text) (session.new, D.seen desk.new))) }
+    ensures failed { OnErr result (Rose (failures_of writer.old) (failures_of writer.new)) }
+    ensures sound { OnOk result (failures_of writer.new ≡ failures_of writer.old) }
 {
     if intake.pending.is_empty() {
         return Ok(Ran::EndOfInput);
@@ -319,8 +315,9 @@ const BLOCK: usize = 4_096;
 
 /// Answers each line of the input, up to the first that quits. A line ends with a line feed, and one
 /// carriage return before it is dropped; a last line that nothing ends counts if it isn't empty. The
-/// answer to a line is written whole before the next line is done; input is read in blocks of at most
-/// 4,096 bytes.
+/// answer to a line is written whole before the next line is done, by one call of the writer if it takes
+/// all, and where there is memory for a copy of the answer; an answer needs none. Input is read in blocks
+/// of at most 4,096 bytes.
 ///
 /// The desk hears of each message that a line sent, in their order, once the line is done, and then, if it wants to, why the
 /// line faulted or was refused. The text of
@@ -329,8 +326,8 @@ const BLOCK: usize = 4_096;
 /// before the answer is written.
 ///
 /// `TooManyLines` where a byte comes after 1,000,000 lines or 1,000,000,000 bytes; `Read` and `Write`
-/// only where the device failed, and then no line is done further; `Memory` where none was there to
-/// begin, or for the answer to the last line that was done.
+/// only where the device failed, and then no line is done further; `Memory` only where none was there to
+/// begin, and then nothing is read, done or written.
 pub fn run<E: External, R: Read, W: Write, D: Desk>(
     session: &mut Session<E>,
     alloc: Global,

@@ -1,18 +1,18 @@
-use Rattle.std.proofs.Common.{◌≢◌, ◌+◌, ◌≤◌, [], ◌++◌, length, take, ◌∙◌, arith, refl, length-append, length-take, inl}
+use Rattle.std.proofs.Common.{◌≢◌, ◌+◌, ◌≤◌, [], ◌++◌, length, take, ◌∙◌, arith, refl, length-append, length-take}
 use Rattle.std.proofs.lemmas.List.{append-nil}
 use Rattle.std.proofs.lemmas.Result.{err_from_is_err_and}
 use Rattle.devices.proofs.Known.{Appends-Appends, Consumes-Consumes}
 use Rattle.devices.specs.Desks.{SeenDesk}
 use Rattle.headline.specs.Saving.{Takes}
 use Rattle.session.specs.Standing.{Standing}
-use Rattle.headline.proofs.Sessions.{Breaks-by, Quits-by, Ended-by, Stopped-Breaks, Stopped-by}
+use Rattle.headline.proofs.Sessions.{Breaks-by, Quits-by, Ended-by, Stopped-by}
 use Rattle.headline.specs.declared.transcript.Ran.TheVariants.{Quit}
 use Rattle.headline.proofs.Intake.{Appends-nothing, Consumes-nothing}
 use Rattle.headline.proofs.Following.{runs_follow}
 use Rattle.headline.proofs.transcript.run.Goals as goal
 
 pub returns-in-Err-clause-err : goal.returns-in-Err-clause-err
-returns-in-Err-clause-err g c = ([], [], Consumes-nothing _, Appends-nothing _, inl (record { unread = refl; unwritten = refl; same = refl }))
+returns-in-Err-clause-err g c = ([], [], Consumes-nothing _, Appends-nothing _, record { unread = refl; unwritten = refl; same = refl })
 
 pub returns-in_err-ran-clause-err : goal.returns-in_err-ran-clause-err
 returns-in_err-ran-clause-err g c =
@@ -22,9 +22,8 @@ returns-in_err-ran-clause-err g c =
     let read_on = rw append-nil at (Consumes-Consumes _ _ _ inv.0 [] inv.2 nothing.0) in
     let p = err_from_is_err_and c.from_residual.result c.from_residual.ensures.1 in
     let new : Standing × SeenDesk = (c.take_last.new.session, g.D.Desk.seen c.take_last.new.desk) in
-    let fault = c.in_err-ran.field-0.0 in
-    let broken = Breaks-by Takes fault (c.args.session.now, g.D.Desk.seen c.args.desk.now) inv.0 (inv.1 ++ h.0) new (λ t. nothing.1 refl (omega arith)) (h.2 (c.args.session.now, g.D.Desk.seen c.args.desk.now) inv.0 inv.1 inv.4) in
-    rw (p.1, p.2) (inv.0, inv.1 ++ h.0, read_on, Appends-Appends _ _ _ inv.1 h.0 inv.3 h.1, Stopped-Breaks Takes _ fault (c.args.session.now, g.D.Desk.seen c.args.desk.now) inv.0 (inv.1 ++ h.0) new broken)
+    let broken = Breaks-by Takes (c.args.session.now, g.D.Desk.seen c.args.desk.now) inv.0 (inv.1 ++ h.0) new (λ t. nothing.1 refl (omega arith)) (h.2 (c.args.session.now, g.D.Desk.seen c.args.desk.now) inv.0 inv.1 inv.4) in
+    rw (p.1, p.2) (inv.0, inv.1 ++ h.0, read_on, Appends-Appends _ _ _ inv.1 h.0 inv.3 h.1, broken)
 
 pub returns-then-count-eq0-clause-ok : goal.returns-then-count-eq0-clause-ok
 returns-then-count-eq0-clause-ok g c =

@@ -8,7 +8,6 @@ use Rattle.headline.specs.Answering.{Breaks, Quits}
 use Rattle.headline.specs.Intake.{Reached}
 use Rattle.headline.specs.Saving.{Takes}
 use Rattle.session.specs.Standing.{Standing}
-use Rattle.headline.proofs.Sessions.{Stopped-Breaks}
 use Rattle.headline.proofs.Intake.{Breaks-more, Quits-more, reached_full, block_parts, block_more}
 use Rattle.headline.proofs.transcript.take_block.Goals as goal
 
@@ -50,10 +49,9 @@ returns-in_err-take_byte-clause-err g c =
       inv.0 ++ h.0,
       Appends-Appends _ _ _ inv.0 h.0 inv.1 h.1,
       λ start read written r.
-          Stopped-Breaks Takes ⊥ c.in_err-take_byte.field-0.0 start (read ++ block) (written ++ (inv.0 ++ h.0)) new
-          (parted (λ (t u : List ℕ). Breaks Takes ⊥ c.in_err-take_byte.field-0.0 start t u new) read block i written inv.0 h.0 lt
-          (Breaks-more c.in_err-take_byte.field-0.0 start ((read ++ take i block) ++ (get_or block i 0 ∷ [])) ((written ++ inv.0) ++ h.0) new (drop (i + 1) block) (behind i block c.requires lt)
-          (h.2 start (read ++ take i block) (written ++ inv.0) (inv.2 start read written r)))),
+          parted (λ (t u : List ℕ). Breaks Takes ⊥ start t u new) read block i written inv.0 h.0 lt
+          (Breaks-more start ((read ++ take i block) ++ (get_or block i 0 ∷ [])) ((written ++ inv.0) ++ h.0) new (drop (i + 1) block) (behind i block c.requires lt)
+          (h.2 start (read ++ take i block) (written ++ inv.0) (inv.2 start read written r))),
     )
 
 pub returns-then-branch-clause-ok : goal.returns-then-branch-clause-ok
@@ -90,5 +88,5 @@ loop-byte-preserved g c =
             subst (λ (u : List ℕ). P (read ++ take (i + 1) block) u) (append_assoc written inv.0 h.0)
             (subst (λ (t : List ℕ). P t ((written ++ inv.0) ++ h.0)) (block_more read block i lt) (h.2 start (read ++ take i block) (written ++ inv.0) (inv.2 start read written r)))),
       );
-      sound = c.in_ok-take_byte.ensures.sound (λ e. cc) ∙ c.loop-byte.invariant.sound;
+      sound = c.in_ok-take_byte.ensures.sound ∙ c.loop-byte.invariant.sound;
     }

@@ -22,12 +22,12 @@ returns-in_err-quits-clause-err g c =
     let line_is : c.without_return.result.now ≡ without_return old.pending.items = c.without_return.ensures ∙ ap without_return c.deref.ensures.value in
     let kept : Takes (without_return old.pending.items) (c.args.session.now, g.D.Desk.seen c.args.desk.now) h.0 (c.answer_line.new.session, g.D.Desk.seen c.answer_line.new.desk) = as_kept _ old.pending.items _ _ _ line_is h.2 in
     let p = err_from_is_err_and c.from_residual.result c.from_residual.ensures.1 in
-    rw (p.1, p.2) (
+    rw p.1 (
       h.1,
       h.4,
       λ start read written r.
           rw c.if-byte-eq10.true
-          (reached_break start read written (c.args.session.now, g.D.Desk.seen c.args.desk.now) old.pending.items old.lines old.bytes r _ h.0 h.1 (c.answer_line.new.session, g.D.Desk.seen c.answer_line.new.desk) c.requires.lines c.requires.bytes kept h.3),
+          (reached_break start read written (c.args.session.now, g.D.Desk.seen c.args.desk.now) old.pending.items old.lines old.bytes r h.0 h.1 (c.answer_line.new.session, g.D.Desk.seen c.answer_line.new.desk) c.requires.lines c.requires.bytes kept h.3),
     )
 
 pub returns-then-byte-eq10-clause-ok : goal.returns-then-byte-eq10-clause-ok

@@ -29,8 +29,8 @@ returns-in_err-answer_line-clause-err g c =
     let some : 0 < length old.pending.items = grind (arith, common_steps, nat_tests) in
     let short : old.bytes ≤ MOST_BYTES = omega arith in
     let p = err_from_is_err_and c.from_residual.result c.from_residual.ensures.1 in
-    rw (p.1, p.2)
-    (h.1, h.4, λ start read written r. last_breaks start read written (c.args.session.now, g.D.Desk.seen c.args.desk.now) old.pending.items old.lines old.bytes r c.in_err-answer_line.field-0.0 h.0 h.1 (c.answer_line.new.session, g.D.Desk.seen c.answer_line.new.desk) some short kept h.3)
+    rw p.1
+    (h.1, h.4, λ start read written r. last_breaks start read written (c.args.session.now, g.D.Desk.seen c.args.desk.now) old.pending.items old.lines old.bytes r h.0 h.1 (c.answer_line.new.session, g.D.Desk.seen c.answer_line.new.desk) some short kept h.3)
 
 pub returns-then-branch-clause-ok : goal.returns-then-branch-clause-ok
 returns-then-branch-clause-ok g c =
