@@ -3,6 +3,7 @@
 from typing import Sequence
 
 from .nests import Wrap, nested
+from .shape import SET
 
 # Helpers that a nest may call.
 SAME = "function same n\rreturn n\rend same"
@@ -10,7 +11,7 @@ HEAR = "on hear\rend hear"
 HELPERS = "\r".join((SAME, HEAR, ""))
 # `c` is true and `d` is false in each handler, and `x` has one char.
 BEGUN = "global k, t, u, v\rsubtract 1 from k\r"
-LOCALS = "put true into c\rput false into d\rput 1 into x\r"
+LOCALS = "".join(line + "\r" for line in SET)
 
 
 def command(name: str, lines: str) -> str:

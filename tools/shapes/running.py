@@ -13,7 +13,7 @@ BOUNDS = (8192, 4096)
 # The bound under which the first shape that doesn't fit is told.
 TOLD = 1024
 MOST_SECONDS = 20.0
-STEPS = "10000000"
+WORDS = ("--steps", "10000000", "--watch", "--explain")
 
 
 class Ended(NamedTuple):
@@ -48,8 +48,8 @@ class Runner:
         with open(self.stack, "w", encoding="ascii", newline="") as file:
             file.write(stack)
         try:
-            done = subprocess.run([self.program, self.stack, "--steps", STEPS], input="".join(line + "\n" for line in lines),
-                                  stdout=subprocess.PIPE, stderr=subprocess.PIPE, universal_newlines=True,
+            done = subprocess.run([self.program, self.stack, *WORDS], input="".join(line + "\n" for line in lines),
+                                  stdout=subprocess.PIPE, stderr=subprocess.DEVNULL, universal_newlines=True,
                                   timeout=MOST_SECONDS, preexec_fn=bounding(kib), check=False)
         except subprocess.TimeoutExpired:
             return Ended(-1, ["no answer in %d seconds" % MOST_SECONDS])

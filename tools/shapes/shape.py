@@ -13,6 +13,8 @@ from .stack import Scripts, stack_text
 MOST_CALLS = 100
 # The globals into which the texts of a shape are put first.
 TEXTS = ("t", "u", "v")
+# What each handler sets for its nest, and lines for theirs, whose variables are globals.
+SET = ("put true into c", "put false into d", "put 1 into x")
 
 Lines = List[str]
 
@@ -31,6 +33,7 @@ class Shape(NamedTuple):
     # The scripts and the texts, by the depths of their trees.
     scripts: Callable[[int], Scripts]
     texts: Callable[[int], Sequence[str]]
+    # The line that begins; its tree is as deep as may be too, and counts no call.
     start: str
     shown: Tuple[str, ...]
     # How many handlers may be nested.
@@ -42,8 +45,9 @@ class Shape(NamedTuple):
         return stack_text(self.scripts(depths.scripts), self.texts(depths.texts), self.cards)
 
     def prepared(self) -> Lines:
-        """The lines that read the texts, each of which answers `ok`."""
-        return ["put card field %d into %s" % (2 + at, TEXTS[at]) for at in range(len(self.texts(DEEPEST)))]
+        """The lines that read the texts, and set what a nest in a line asks; each answers `ok`."""
+        texts = ["put card field %d into %s" % (2 + at, TEXTS[at]) for at in range(len(self.texts(DEEPEST)))]
+        return texts + list(SET)
 
     def lines(self) -> Lines:
         """The lines: as many calls as may be nested, and one more."""
@@ -74,9 +78,10 @@ def no_texts(_: int) -> Sequence[str]:
     return ()
 
 
-def most_of(costs: Sequence[int]) -> int:
-    """How many handlers may be nested, where these are in turn the levels that the next one needs."""
-    level, count = 1, 0
+def most_of(costs: Sequence[int], first: int = 1) -> int:
+    """How many handlers may be nested, where the first one is on this level, and these are in turn the levels that the
+    next one needs."""
+    level, count = first, 0
     while level <= MOST_CALLS:
         level += costs[count % len(costs)]
         count += 1

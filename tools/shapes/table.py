@@ -4,13 +4,14 @@ from typing import Callable, Sequence, Tuple
 
 from . import nests
 from .handlers import HELPERS, command, function, under
-from .nests import BLOCKS, LEAVES_ONE, OF_TEXTS, PAREN, Wrap, else_ifs, nested
+from .nests import BLOCKS, DEEPEST, LEAVES_ONE, OF_TEXTS, PAREN, Wrap, else_ifs, nested
 from .shape import Shape, most_of, no_texts
 from .stack import Scripts
 
 # Blocks that ask no variable: in call-backs every variable is a global.
 PLAIN_BLOCKS = (nests.FOREVER, nests.TIMES, nests.UP, nests.DOWN)
 CHUNKS = tuple(Wrap("%s 1 of " % kind, "") for kind in ("char", "word", "item", "line"))
+TO_THE_BUTTON = 'send "g" to card button 1'
 INDEX = Wrap("char ", ' of "1"')
 MANY = 13_000  # parameters
 REPEATS = 96
@@ -18,47 +19,64 @@ REPEATS = 96
 
 def of_blocks(name: str, *blocks: Wrap) -> Shape:
     """A command that calls itself under blocks."""
-    return Shape(name, lambda deep: Scripts(command("g", under(blocks, deep, "g", 1))), no_texts, "g", ())
+    def lines(deep: int) -> str:
+        return under(blocks, deep, "g", 1)
+    return Shape(name, lambda deep: Scripts(command("g", lines(deep))), no_texts, lines(DEEPEST), ())
 
 
 def of_values(name: str, *wraps: Wrap, base: str = "1") -> Shape:
     """A function that calls itself in an expression, which is its value."""
-    def scripts(deep: int) -> Scripts:
-        return Scripts(HELPERS + function("return " + nested(wraps, deep - 2, "f()"), base))
-    return Shape(name, scripts, no_texts, "put f()", (base.strip('"'),))
+    def value(deep: int) -> str:
+        return nested(wraps, deep - 2, "f()")
+    return Shape(name, lambda deep: Scripts(HELPERS + function("return " + value(deep), base)), no_texts,
+                 "put " + value(DEEPEST), (base,))
 
 
-def of_statement(name: str, statement: str, nodes: int, base: str = "1", wraps: Sequence[Wrap] = (PAREN,)) -> Shape:
+def of_statement(name: str, statement: str, nodes: int, wraps: Sequence[Wrap] = (PAREN,)) -> Shape:
     """A function that calls itself in an expression of a statement, which stands below as many nodes."""
-    def scripts(deep: int) -> Scripts:
-        return Scripts(HELPERS + function(statement % nested(wraps, deep - nodes - 1, "f()"), base))
-    return Shape(name, scripts, no_texts, "put f()", (base.strip('"'),))
+    def lines(deep: int) -> str:
+        return statement % nested(wraps, deep - nodes - 1, "f()")
+    return Shape(name, lambda deep: Scripts(HELPERS + function(lines(deep))), no_texts, lines(DEEPEST), ())
 
 
 def of_container(name: str, statement: str) -> Shape:
     """A function that calls itself in the index of the chunk nearest to a variable."""
+    def lines(deep: int) -> str:
+        return statement % nested(CHUNKS, deep - 3, "char f() of x")
+    return Shape(name, lambda deep: Scripts(function(lines(deep))), no_texts, lines(DEEPEST), ())
+
+
+def of_message(name: str, handler: str, statement: str, nodes: int, cards: int = 2) -> Shape:
+    """A handler in which a statement has the system send the next message, under blocks."""
+    def lines(deep: int) -> str:
+        return under(BLOCKS, deep, statement, nodes)
+    return Shape(name, lambda deep: Scripts(command(handler, lines(deep))), no_texts, lines(DEEPEST), (), cards=cards)
+
+
+def of_text(name: str, text: Callable[[int], str], statement: str, nodes: int, levels: int,
+            blocks: Sequence[Wrap] = BLOCKS) -> Shape:
+    """Handlers in which a statement under blocks runs the text `t`, which calls the next one so many levels below."""
+    def lines(deep: int) -> str:
+        return under(blocks, deep, statement, nodes)
+
     def scripts(deep: int) -> Scripts:
-        return Scripts(function(statement % nested(CHUNKS, deep - 3, "char f() of x")))
-    return Shape(name, scripts, no_texts, "put f()", ("1",))
-
-
-def of_message(name: str, handler: str, statement: str, nodes: int, start: str = "", cards: int = 2) -> Shape:
-    """A handler below which a statement sends the next message, under blocks."""
-    def scripts(deep: int) -> Scripts:
-        return Scripts(command(handler, under(BLOCKS, deep, statement, nodes)))
-    return Shape(name, scripts, no_texts, start or statement, (), cards=cards)
-
-
-def of_text(name: str, text: Callable[[int], str], handlers: Callable[[int], str], start: str, levels: int) -> Shape:
-    """Handlers that run a text, which calls the next one so many levels below."""
-    shown = ("1",) if start == "put f()" else ()
-    return Shape(name, lambda deep: Scripts(HELPERS + handlers(deep)), lambda deep: (text(deep),), start, shown,
-                 most_of((levels,)))
+        return Scripts(HELPERS + command("g", lines(deep)) + "\r" + function(lines(deep)))
+    return Shape(name, scripts, lambda deep: (text(deep),), lines(DEEPEST), (), most_of((levels,), levels))
 
 
 def calling_f(deep: int) -> str:
     """An expression as deep that calls `f`."""
     return nested(LEAVES_ONE, deep - 1, "f()")
+
+
+def sending_f(deep: int) -> str:
+    """A message whose argument, a tree as deep, calls `f`."""
+    return "hear " + calling_f(deep)
+
+
+def sending_by_index(deep: int) -> str:
+    """The same, with the call in an index of an index."""
+    return "hear " + nested((INDEX,), deep - 1, "f()")
 
 
 def calling_g(deep: int) -> str:
@@ -75,7 +93,7 @@ def passing_scripts(deep: int) -> Scripts:
     """Handlers of the button, its card and the background, each of which passes the message on under blocks; that of the
     stack sends it to the button again."""
     passing = "on g\rput true into c\rput false into d\r%s\rend g" % under(BLOCKS, deep, "pass g", 1)
-    last = command("g", under(BLOCKS, deep, 'send "g" to card button 1', 3))
+    last = command("g", under(BLOCKS, deep, TO_THE_BUTTON, 3))
     return Scripts(last, passing, passing, passing)
 
 
@@ -108,7 +126,7 @@ def mixed(name: str, statement: str) -> Shape:
     def texts(deep: int) -> Sequence[str]:
         return (under(BLOCKS, deep, "put f() into x", 2), nested(OF_TEXTS, deep - 1, "m()"),
                 under(PLAIN_BLOCKS, deep, statement, 2))
-    return Shape(name, mixed_scripts, texts, "g", (), most_of((1, 1, 2, 2, 2, 1)))
+    return Shape(name, mixed_scripts, texts, under(BLOCKS, DEEPEST, "g", 1), (), most_of((1, 1, 2, 2, 2, 1)))
 
 
 BLOCK_SHAPES = (
@@ -120,7 +138,7 @@ BLOCK_SHAPES = (
     of_blocks("repeat with, down", nests.DOWN),
     of_blocks("if", nests.IF),
     of_blocks("else", nests.ELSE),
-    Shape("else if", else_if_scripts, no_texts, "g", ()),
+    Shape("else if", else_if_scripts, no_texts, else_ifs(DEEPEST - 1, "g"), ()),
     of_blocks("mixed blocks", *BLOCKS),
 )
 VALUE_SHAPES = (
@@ -156,6 +174,7 @@ VALUE_SHAPES = (
 )
 STATEMENT_SHAPES = (
     of_container("put", "put 1 into %s"),
+    of_statement("put into a field", "put 1 into card field (%s)", 3),
     of_container("delete", "delete %s"),
     of_container("add", "add 0 to %s"),
     of_statement("set", "set the name of card field (%s) to empty", 3),
@@ -164,24 +183,22 @@ STATEMENT_SHAPES = (
     of_statement("arguments of a command", "hear %s", 1),
 )
 MESSAGE_SHAPES = (
-    of_text("do", calling_g, lambda deep: command("g", under(BLOCKS, deep, "do t", 2)), "g", 2),
-    of_text("value with text", calling_f, lambda deep: function(under(BLOCKS, deep, "put value(t) into x", 3)), "put f()", 2),
-    of_text("send with arguments", lambda deep: "hear " + calling_f(deep),
-            lambda deep: function(under(BLOCKS, deep, "send t to me", 2)), "put f()", 1),
-    of_text("send with an index", lambda deep: "hear " + nested((INDEX,), deep - 1, "f()"),
-            lambda deep: function(under((nests.WHILE,), deep, "send t to me", 2)), "put f()", 1),
+    of_text("do", calling_g, "do t", 2, 2),
+    of_text("value with text", calling_f, "put value(t) into x", 3, 2),
+    of_text("send with arguments", sending_f, "send t to me", 2, 1),
+    of_text("send with an index", sending_by_index, "send t to me", 2, 1, (nests.WHILE,)),
     of_message("go under closeCard", "closeCard", "go next", 2),
     of_message("doMenu under closeCard", "closeCard", 'doMenu "New Card"', 2),
     of_message("doMenu under openCard", "openCard", 'doMenu "Delete Card"', 2, cards=220),
-    of_text("message of an external", calling_g, lambda deep: command("g", under(BLOCKS, deep, "Relay y, Note, 0, t", 2)),
-            "g", 2),
-    of_text("expression of an external", calling_f,
-            lambda deep: function(under(BLOCKS, deep, "Relay y, Note, t, empty", 2)), "put f()", 2),
-    Shape("pass", passing_scripts, no_texts, 'send "g" to card button 1', ()),
-    Shape("click", clicked_scripts, no_texts, ".click card button 1", (), most_of((1,)) - 1),
+    of_text("message of an external", calling_g, "Relay y, Note, 0, t", 2, 2),
+    of_text("expression of an external", calling_f, "Relay y, Note, t, empty", 2, 2),
+    Shape("pass", passing_scripts, no_texts, under(BLOCKS, DEEPEST, TO_THE_BUTTON, 3), ()),
+    Shape("click", clicked_scripts, no_texts, ".click card button 1", (), most_of((1,), 2)),
+    Shape("reference of a dot line", lambda deep: Scripts(HELPERS + function("return " + nested(LEAVES_ONE, deep - 2, "f()"))),
+          no_texts, ".click card button (%s)" % nested(LEAVES_ONE, DEEPEST - 3, "f()"), ()),
     mixed("mixed messages, go", "go next"),
     mixed("mixed messages, doMenu", 'doMenu "New Card"'),
 )
 # Its tree is less deep than the grammar allows.
-MANY_PARAMETERS = Shape("many parameters", parameter_scripts, no_texts, "g", ())
+MANY_PARAMETERS = Shape("many parameters", parameter_scripts, no_texts, under((nests.TIMES,), DEEPEST, "g", 1), ())
 SHAPES: Tuple[Shape, ...] = BLOCK_SHAPES + VALUE_SHAPES + STATEMENT_SHAPES + MESSAGE_SHAPES

@@ -13,7 +13,7 @@ sys.path[:0] = [HERE, os.path.join(HERE, "tools")]
 from front import stack_text as reader  # noqa: E402
 from shapes import nests, running  # noqa: E402
 from shapes.nests import IF, PAREN, UP, Wrap, else_ifs, nested  # noqa: E402
-from shapes.shape import Depths, Shape, most_of, no_texts  # noqa: E402
+from shapes.shape import SET, Depths, Shape, most_of, no_texts  # noqa: E402
 from shapes.stack import Scripts, stack_text  # noqa: E402
 from shapes.table import MANY_PARAMETERS, SHAPES  # noqa: E402
 
@@ -68,6 +68,7 @@ class Stacks(unittest.TestCase):
                     stack = reader.read(shape.stack(depths).encode("ascii"))
                     texts = [part.text for part in stack.cards[0].parts]
                     self.assertLessEqual(max(map(len, [stack.script, *texts])), MOST_BYTES)
+                    self.assertLessEqual(max(map(len, shape.lines())), MOST_BYTES)
 
     def test_each_shape_has_a_name_of_its_own(self) -> None:
         names = [shape.name for shape in SHAPES]
@@ -87,19 +88,21 @@ class Answers(unittest.TestCase):
         self.assertEqual(most_of((2,)), 50)
         # The levels 1, 2, 4, 5, .. 97, 98, 100 are those of handlers.
         self.assertEqual(most_of((1, 2)), 67)
+        # The levels 2, 4, .. 100, and 3, .. 99.
+        self.assertEqual((most_of((2,), 2), most_of((2,), 3)), (50, 49))
 
     def test_lines_and_answers(self) -> None:
         shape = Shape("s", lambda deep: Scripts("x" * deep), lambda deep: ("y" * deep,), "put f()", ("1",), 50)
-        self.assertEqual(shape.lines(), ["put card field 2 into t", "put 50 into k", "put f()", "put k", "put 51 into k",
-                                         "put f()", "put k"])
-        self.assertEqual(shape.answers(), ["ok", "ok", "> 1", "ok", "> 0", "ok", "ok", "fault 12", "> 1", "ok"])
+        prepared = ["put card field 2 into t", *SET]
+        self.assertEqual(shape.lines(), prepared + ["put 50 into k", "put f()", "put k", "put 51 into k", "put f()", "put k"])
+        self.assertEqual(shape.answers(), ["ok"] * 5 + ["> 1", "ok", "> 0", "ok", "ok", "fault 12", "> 1", "ok"])
         self.assertEqual(shape.deeper(), [Depths(101, 100), Depths(100, 101)])
-        self.assertEqual(shape.answers_of_deeper(), ["ok", "ok", "fault 1"])
+        self.assertEqual(shape.answers_of_deeper(), ["ok"] * 5 + ["fault 1"])
 
     def test_without_texts(self) -> None:
         shape = Shape("s", lambda _: Scripts(""), no_texts, "g", ())
         self.assertEqual(shape.deeper(), [Depths(101, 100)])
-        self.assertEqual(shape.answers()[:2], ["ok", "ok"])
+        self.assertEqual(shape.prepared(), list(SET))
 
 
 class Runs(unittest.TestCase):

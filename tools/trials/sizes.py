@@ -43,8 +43,8 @@ def long_lines(place: Place) -> Pairs:
     yield place.run(lines), (answers, 0, "")
 
 
-def long_typed_text(place: Place) -> Pairs:
-    """What a user's line can't hold comes into a field by an edit: 30,000 bytes that are typed, and no more."""
+def longest_text_of_two_lines(place: Place) -> Pairs:
+    """A text of 30,000 bytes comes into a field by two lines, since one has no room for its words too."""
     half = "y" * (MOST_TEXT // 2)
     lines = ['put "%s" into field 1' % half, 'put "%s" after field 1' % half, 'put "y" after field 1',
              "put the length of field 1"]
@@ -99,6 +99,6 @@ def large_stack_of_another_writer(place: Place) -> Pairs:
 
 
 CASES: List[Callable[[Place], Pairs]] = [
-    many_answers_to_a_line, many_messages_of_a_line, long_lines, long_typed_text, many_places,
+    many_answers_to_a_line, many_messages_of_a_line, long_lines, longest_text_of_two_lines, many_places,
     large_stack_that_is_saved, large_stack_of_another_writer,
 ]
