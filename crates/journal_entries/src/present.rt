@@ -1,6 +1,6 @@
 //! The present state: the stack, the globals, the current card and the externals.
 
-ghost use Rattle.std.specs.Prelude.{◌≡◌, ℕ, ◌<◌, List, [], ◌∷◌, ◌++◌, length, ◌+◌, true, take, drop, IfOk, IfErr, IfSome, OnErr, OnOk, slice_index_or, option_copied, option_map, map, slice_get, Some};
+ghost use Rattle.std.specs.Prelude.{◌≡◌, ℕ, ◌<◌, ◌≤◌, List, [], ◌∷◌, ◌++◌, length, ◌+◌, true, take, drop, IfOk, IfErr, IfSome, OnErr, OnOk, slice_index_or, option_copied, option_map, map, slice_get, Some};
 ghost use Rattle.std.specs.FinMap as finite;
 ghost use Rattle.ht_grammar.specs.Reads.{Reads, ReadsScript};
 ghost use Rattle.ht_tree.specs.ScriptView.{script_of};
@@ -9,6 +9,7 @@ ghost use Rattle.stack_places.specs.Exchange as places;
 ghost use Rattle.journal_entries.specs.State.{IsState, seen_by, seen_at, first_state, titles_of, has_name as has_title, index_of as index_of_title};
 ghost use Rattle.journal_entries.specs.Named.{listed, numbered, Lists};
 ghost use Rattle.journal_entries.specs.ScriptTrees.{object_script};
+ghost use Rattle.journal_entries.specs.declared.script_trees.TheConstants.{MOST_KEPT_BYTES};
 ghost use Rattle.journal_entries.specs.Changes.{fits};
 ghost use Rattle.journal_entries.specs.declared.change.Change.TheVariants as made_change;
 ghost use Rattle.journal_entries.specs.Exchange.{exchanged, taken, back, back_taken, forth, forth_taken, shape_of, IsReady, AreReady};
@@ -60,7 +61,7 @@ impl<E: External> Model for Present<E> {
     ghost use Rattle.std.specs.Prelude.{map};
     ghost use Rattle.journal_entries.specs.State.{seen_by};
     ghost use Rattle.journal_entries.specs.Exchange.{PresentView, coded_present_view};
-    ghost use Rattle.journal_entries.specs.ScriptTrees.{AreTrees, trees_in};
+    ghost use Rattle.journal_entries.specs.ScriptTrees.{AreTrees, IsCounted, trees_in};
 
     ghost Value = { PresentView };
 
@@ -78,7 +79,7 @@ impl<E: External> Model for Present<E> {
       room = p.stack.room;
     } };
 
-    ghost invariant = { λ p. AreTrees p.stack.content (trees_in p.trees) };
+    ghost invariant = { λ p. AreTrees p.stack.content (trees_in p.trees) × IsCounted p.trees };
 }
 
 impl<E: External> Present<E> {
@@ -308,12 +309,20 @@ impl<E: External> Present<E> {
         self.trees.get(id)
     }
 
-    /// Keeps the tree of an object's script until that script changes. It shows nowhere but in time.
+    /// The number of the first reading of an object's script, if its tree was kept. It stays while the script does, also
+    /// where the tree goes; no other script gets it.
+    pub fn script_reading(&self, id: Id) -> Option<u64> {
+        self.trees.first_reading(id)
+    }
+
+    /// Keeps the tree of an object's script until that script changes, or until the trees that are kept after it take up the
+    /// room. It shows nowhere but in time.
     pub fn keep_script_tree(&mut self, id: Id, tree: Rc<Script>) -> Result<(), AllocError>
         requires { Reads ReadsScript (object_script self.old.state.stack id) (script_of tree.value) }
         ensures { self.new ≡ self.old }
     {
-        self.trees.keep(id, tree)
+        let bytes = script_length(&self.stack, id);
+        self.trees.keep(id, tree, bytes)
     }
 
     /// The stack.
@@ -457,6 +466,17 @@ impl<E: External> Present<E> {
             externals,
         } = self;
         externals
+    }
+}
+
+/// How many bytes the script of an object has, which is empty where there is no such object.
+fn script_length(stack: &Stack, id: Id) -> usize
+    ensures value { result ≡ length (object_script stack.now.content id) }
+    ensures few { result ≤ MOST_KEPT_BYTES }
+{
+    match stack.object(id) {
+        Some(object) => object.script.len(),
+        None => 0,
     }
 }
 
