@@ -130,7 +130,14 @@ impl<E: External> World<E> {
         self.present.script_tree(id)
     }
 
-    /// Keeps the tree of an object's script until that script changes. It shows nowhere but in time.
+    /// The number of the first reading of an object's script, if its tree was kept. It stays while the script does, also
+    /// where the tree goes; no other script gets it. No clause says so, since the history has no readings.
+    pub fn script_reading(&self, id: Id) -> Option<u64> {
+        self.present.script_reading(id)
+    }
+
+    /// Keeps the tree of an object's script until that script changes, or until those that are kept after it take its room.
+    /// It shows nowhere but in time.
     pub fn keep_script_tree(&mut self, id: Id, tree: Rc<Script>) -> Result<(), AllocError>
         requires { Reads ReadsScript (object_script self.old.history.now.stack id) (script_of tree.value) }
         ensures { self.new ≡ self.old }
