@@ -16,6 +16,8 @@ pub struct FoundHandler {
     object: Id,
     script: Rc<Script>,
     place: usize,
+    /// The first reading of that script.
+    reading: Option<u64>,
 }
 
 /// Written here and not derived, so that no crate above proves anew how it is dropped.
@@ -25,6 +27,7 @@ impl Drop for FoundHandler {
             object: _,
             script: _,
             place: _,
+            reading: _,
         } = self;
     }
 }
@@ -46,8 +49,13 @@ impl Model for FoundHandler {
 }
 
 impl FoundHandler {
-    /// The handler at a place of a script, which is that of this object.
-    pub(crate) fn new(object: Id, script: Rc<Script>, place: usize) -> FoundHandler
+    /// The handler at a place of a script, which is that of this object, with the number of its first reading.
+    pub(crate) fn new(
+        object: Id,
+        script: Rc<Script>,
+        place: usize,
+        reading: Option<u64>,
+    ) -> FoundHandler
         requires { place < length script.value.handlers.items }
         ensures object { result.object ≡ object }
         ensures handler { handler_at script.value place ≡ Some result.handler }
@@ -56,6 +64,7 @@ impl FoundHandler {
             object,
             script,
             place,
+            reading,
         }
     }
 
@@ -66,10 +75,11 @@ impl FoundHandler {
         self.object
     }
 
-    /// Whether its object still has the script in which it stands. No clause says so: the same tree may have been read anew.
+    /// Whether its object still has the script in which it stands, also where the world doesn't keep the tree any more. A
+    /// script that went and came back is another one. No clause says so, since no model has the readings of scripts.
     pub fn is_current<E: External>(&self, world: &World<E>) -> bool {
-        match world.script_tree(self.object) {
-            Some(tree) => Rc::ptr_eq(tree, &self.script),
+        match self.reading {
+            Some(reading) => world.script_reading(self.object) == Some(reading),
             None => false,
         }
     }

@@ -54,7 +54,8 @@ fn handler_here<E: External>(
     let Some(place) = script.first(kind, name) else {
         return Ok(None);
     };
-    Ok(Some(FoundHandler::new(id, script, place)))
+    let reading = world.script_reading(id);
+    Ok(Some(FoundHandler::new(id, script, place, reading)))
 }
 
 /// The first handler of a kind and a name on a path; `None` where no script on it has one. Scripts are parsed one after
