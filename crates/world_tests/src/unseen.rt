@@ -117,11 +117,37 @@ fn meets_foo(alloc: Global, world: &mut PlainWorld) -> Option<bool>
     Some(meets(alloc, world, &name))
 }
 
+/// Makes a card with a script of 30,000 bytes, which is read as a message comes along.
+fn add_read_script(alloc: Global, world: &mut PlainWorld, script: &[u8]) -> Option<()>
+    requires { IsSome world.old.history.start }
+    ensures { IfSome result (λ _. IsSome world.new.history.start) }
+{
+    make(world, Change::NewCard)?;
+    let card = world.current();
+    set_script(alloc, world, card, script)?;
+    let name = text(alloc, b"foo")?;
+    next_handler(alloc, world, &[card], HandlerKind::Command, &name).ok()?;
+    Some(())
+}
+
+/// Makes so many cards with scripts of 30,000 bytes, which are comments.
+fn add_read_scripts(alloc: Global, world: &mut PlainWorld, count: u32) -> Option<()>
+    requires { IsSome world.old.history.start }
+{
+    let script = vec![in alloc; b'-'; 30_000].ok()?;
+    for _ in 0..count {
+        add_read_script(alloc, world, &script)?;
+    }
+    Some(())
+}
+
 /// What changes beside a script that was parsed.
 #[derive(Clone, Copy)]
 enum Beside {
     Name,
     ScriptOf(Id),
+    /// So many other scripts are read, of 30,000 bytes each.
+    Reading(u32),
 }
 
 /// Whether the tree of card 2's script, once parsed, is kept over a change.
@@ -133,6 +159,7 @@ fn is_kept_over(alloc: Global, world: &mut PlainWorld, beside: Beside) -> Option
     match beside {
         Beside::Name => set_name(alloc, world, b"a")?,
         Beside::ScriptOf(id) => set_script(alloc, world, id, FOO)?,
+        Beside::Reading(count) => add_read_scripts(alloc, world, count)?,
     }
     Some(is_met && world.script_tree(2).is_some())
 }
@@ -143,10 +170,12 @@ fn keeps(alloc: Global, beside: Beside) -> Option<bool> {
 }
 
 #[test]
-fn a_tree_is_kept_until_its_script_changes(rt: HostRuntime) {
+fn a_tree_is_kept_until_its_script_changes_or_many_are_read(rt: HostRuntime) {
     assert!(rt; keeps(rt.alloc(), Beside::Name) == Some(true));
     assert!(rt; keeps(rt.alloc(), Beside::ScriptOf(1)) == Some(true));
     assert!(rt; keeps(rt.alloc(), Beside::ScriptOf(2)) == Some(false));
+    assert!(rt; keeps(rt.alloc(), Beside::Reading(33)) == Some(true));
+    assert!(rt; keeps(rt.alloc(), Beside::Reading(34)) == Some(false));
 }
 
 /// Whether `foo` is met while card 2 has another script, which is then given up.
