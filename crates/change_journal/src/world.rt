@@ -35,6 +35,9 @@ use std::rc::Rc;
 /// The most states that can stand before the present one.
 pub const MOST_DEPTH: u32 = 1_000_000;
 
+// Clauses name this constant and not its value, so the value is proved here.
+const _: () = prove!(MOST_DEPTH == 1_000_000);
+
 /// The present state of a stack, its globals, its current card and its externals, with the history of states
 /// round it. Nothing else writes: a change or a turn of an external is made in an open batch, which `commit`
 /// makes a state of the history and `roll_back` gives up.
