@@ -5,7 +5,7 @@ use command_line::{
     Checked, CliFault, MOST_OF_STACK, Options, Page, check_with_kit, cut, file_fault_words,
     options_of, play_with_kit, verdict, write_line,
 };
-use devices::{Watched, bytes_of};
+use devices::{Patient, Watched, bytes_of};
 use file_desk::{FileDesk, FileState, Plain};
 use log::{LevelFilter, Logged};
 use stack_file::FileError;
@@ -166,8 +166,8 @@ fn run(
     bytes: &[u8],
     state: FileState,
 ) -> Result<ExitCode, CliFault> {
-    let mut reader = Watched::new(rt.stdin().lock());
-    let mut writer = Watched::new(rt.stdout().lock());
+    let mut reader = Watched::new(Patient::new(rt, rt.stdin().lock()));
+    let mut writer = Watched::new(Patient::new(rt, rt.stdout().lock()));
     let level = if options.watch {
         LevelFilter::Info
     } else {

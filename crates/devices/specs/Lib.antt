@@ -1,4 +1,5 @@
 pub mod AllBytes
 pub mod Desks
 pub mod Shelves
+pub mod Waiting
 pub mod Watching
