@@ -15,12 +15,15 @@ use externals::External;
 use headline::{Ran, RunFault, run, runs_follow, stops_follow};
 use object_table::Stack;
 use session::Session;
-use stack_file::{ReadError, read};
+use stack_file::{ReadError, read, write};
 use std::alloc::Global;
 use std::io::{Read, Write};
 
 /// The most bytes of a stack's file.
 pub const MOST_OF_STACK: usize = 4_000_000_000;
+
+// Whoever opens a stack's file takes the limit from here, and no clause names it, so its value is proved here.
+const _: () = prove!(MOST_OF_STACK == 4_000_000_000);
 
 /// The stack of a text, or the fault of the program.
 pub(crate) fn stack_of(alloc: Global, bytes: &[u8]) -> Result<Stack, CliFault>
@@ -46,8 +49,33 @@ fn fault_of(fault: RunFault) -> CliFault
     }
 }
 
+/// Whether a text of a stack is the one that was read, in whichever version that was; also where there is no memory to
+/// see it.
+fn is_as_read(alloc: Global, given: &[u8], text: &[u8]) -> bool {
+    if given == text {
+        return true;
+    }
+    match stack_of(alloc, given) {
+        Ok(stack) => match write(alloc, &stack) {
+            Ok(again) => again.as_slice() == text,
+            Err(_) => true,
+        },
+        Err(_) => true,
+    }
+}
+
+/// Tells the desk with which text the session ends, where there is memory for it.
+fn leave<E: External, D: Desk>(session: &Session<E>, alloc: Global, given: &[u8], desk: &mut D)
+    ensures { D.seen desk.new ≡ D.seen desk.old }
+{
+    if let Ok(text) = session.saved() {
+        desk.leave(text.as_slice(), is_as_read(alloc, given, text.as_slice()));
+    }
+}
+
 /// Reads the stack text, opens a session with these externals as the options say, and runs the reader to the
-/// writer, up to `.quit` or the end of the input, which it tells. The desk keeps what is saved, and hears of each message.
+/// writer, up to `.quit` or the end of the input, which it tells. The desk keeps what is saved, hears of each message, and
+/// hears at the end, however the run ended, with which text of the stack the session ends.
 ///
 /// What is written is the answers to the lines that are read, those of a list of whole states with a cursor.
 /// `Refused` where the bytes are no stack text, and `Read`, `Write` and `TooManyLines` as `run` has them; `Memory`
@@ -84,7 +112,13 @@ pub fn play<E: External, R: Read, W: Write, D: Desk>(
     runs_follow();
     stops_follow();
     match run(&mut session, alloc, reader, writer, desk) {
-        Ok(ran) => Ok(ran),
-        Err(fault) => Err(fault_of(fault)),
+        Ok(ran) => {
+            leave(&session, alloc, bytes, desk);
+            Ok(ran)
+        }
+        Err(fault) => {
+            leave(&session, alloc, bytes, desk);
+            Err(fault_of(fault))
+        }
     }
 }

@@ -7,8 +7,8 @@ ghost use Rattle.devices.specs.Watching.{counted};
 use ht_values::Text;
 use object_table::Id;
 
-/// Keeps the last text that was saved, and hears of each message that was sent, and, if it wants to, why lines faulted or were
-/// refused.
+/// Keeps the last text that was saved, and hears of each message that was sent, of the text with which a session ends, and,
+/// if it wants to, why lines faulted or were refused.
 ///
 /// A desk may tell what it keeps, as one in memory does; one that keeps it in a file doesn't.
 pub trait Desk {
@@ -32,6 +32,12 @@ pub trait Desk {
 
     /// Hears why a line faulted or was refused: lines of text, without an end of the last. It can't fail.
     fn explain(&mut self, _text: &[u8])
+        ensures { seen self.new ≡ seen self.old }
+    {}
+
+    /// Hears with which text of the stack a session ends, and whether that is the text that was read at its beginning. It
+    /// can't fail.
+    fn leave(&mut self, _text: &[u8], _is_as_read: bool)
         ensures { seen self.new ≡ seen self.old }
     {}
 

@@ -6,7 +6,7 @@ ghost use Rattle.file_desk.specs.FileDesks.{failures_of, seen_file};
 use crate::saving::{Saved, save};
 use crate::state::FileState;
 use bstr::BStr;
-use devices::Desk;
+use devices::{BytesFault, Desk, Watched, bytes_of};
 use ht_values::Text;
 use log::{Log, info, warn};
 use object_table::Id;
@@ -14,7 +14,8 @@ use std::fs::File;
 use std::rt::Files;
 
 /// Keeps the last text that is saved in the file of this path, and logs each message, as `mouseUp 5`, and, as
-/// warnings, why a text isn't saved, and why a line faulted or was refused where it is to.
+/// warnings, why a text isn't saved, why a line faulted or was refused where it is to, and that a session ends with changes
+/// that weren't saved.
 ///
 /// A text is written to a new file beside it, with `.new` behind its name, which is synced to the disk and renamed; then
 /// the folder is synced. So the file has the old text or the new one, whole; where any step fails it has the old one, and
@@ -30,6 +31,7 @@ pub struct FileDesk<'a, R> {
     program: &'a str,
     path: &'a str,
     last: FileState,
+    has_saved: bool,
     explains: bool,
     failures: u64,
 }
@@ -45,6 +47,7 @@ impl<'a, R> FileDesk<'a, R> {
             program,
             path,
             last: read,
+            has_saved: false,
             explains: false,
             failures: 0,
         }
@@ -68,6 +71,18 @@ fn tell<R: Log>(rt: &R, program: &str, saved: &Saved) {
     }
 }
 
+/// Whether a file holds this text; also where there is no memory to see it.
+fn holds<R: Files<File = File> + AllocGlobal>(rt: &R, path: &str, text: &[u8]) -> bool {
+    let Ok(file) = File::open(rt, path) else {
+        return false;
+    };
+    match bytes_of(rt.alloc(), &mut Watched::new(file), text.len()) {
+        Ok(bytes) => bytes.as_slice() == text,
+        Err(BytesFault::Memory) => true,
+        Err(BytesFault::TooMany | BytesFault::Device) => false,
+    }
+}
+
 impl<R: Files<File = File> + Log + AllocGlobal> Desk for FileDesk<'_, R> {
     ghost seen = { seen_file };
 
@@ -76,6 +91,7 @@ impl<R: Files<File = File> + Log + AllocGlobal> Desk for FileDesk<'_, R> {
             Ok(saved) => {
                 tell(self.rt, self.program, &saved);
                 self.last = saved.state;
+                self.has_saved = true;
                 true
             }
             Err(reason) => {
@@ -97,6 +113,19 @@ impl<R: Files<File = File> + Log + AllocGlobal> Desk for FileDesk<'_, R> {
 
     fn explain(&mut self, text: &[u8]) {
         warn!(self.rt; "{}", BStr::new(text));
+    }
+
+    /// It says where the text is neither the one that was read nor the one in the file, to which it was saved.
+    fn leave(&mut self, text: &[u8], is_as_read: bool) {
+        let is_kept = if self.has_saved {
+            holds(self.rt, self.path, text)
+        } else {
+            is_as_read
+        };
+        if !is_kept {
+            let program = self.program;
+            warn!(self.rt; "{program}: changes weren't saved");
+        }
     }
 
     fn failures(&self) -> u64 {
