@@ -3,11 +3,12 @@
 ghost use Rattle.std.specs.Prelude.{◌≡◌, ◌≤◌, ◌==◌, ◌&&◌, ◌⊎◌, [], ◌∷◌, nat_le, length, true, OnOk, OnErr, IfOk, IfErr, IsErr, IsErrOf, IsOk, MatchBool, Some, None, map, option_map, slice_index_or};
 ghost use Rattle.object_table.specs.WellFormed.{IsWellFormed};
 ghost use Rattle.journal_entries.specs.State.{seen_by, seen_at, titles_of, has_name, index_of};
-ghost use Rattle.change_journal.specs.History.{plugged, unplugged};
+ghost use Rattle.change_journal.specs.History.{IsHistory, plugged, unplugged};
 ghost use Rattle.session.specs.Moves.{MovesTo, undone, redone, undone_to};
 ghost use Rattle.session.specs.Opening.{open_fault, opened};
 ghost use Rattle.session.specs.Stamped.{numbers_of, DescendFrom};
 ghost use Rattle.stack_text.specs.declared.sheets.Version.TheVariants.{Second as second};
+ghost use Rattle.stack_text.specs.Laws.{Spells};
 ghost use Rattle.stack_text.specs.Listing.{spelling};
 ghost use Rattle.session.specs.TakesLine.{TakesLine, Performs, LineMayRunOut};
 ghost use Rattle.session.specs.Commands.{command_in as command_by};
@@ -120,7 +121,8 @@ fn saving(alloc: Global, outcome: Result<Bytes, AllocError>) -> Reply
 
 /// The spelling of the stack that is present.
 fn stack_text<E: External>(alloc: Global, world: &World<E>) -> Result<Bytes, AllocError>
-    ensures { IfOk result (λ bytes. bytes ≡ spelling second world.now.history.now.stack) }
+    ensures text { IfOk result (λ bytes. bytes ≡ spelling second world.now.history.now.stack) }
+    ensures spells { IfOk result (λ bytes. Spells bytes world.now.history.now.stack) }
 {
     Ok(Bytes::new(write(alloc, world.stack())?))
 }
@@ -220,11 +222,20 @@ impl<E: External> Session<E> {
         self.world.current()
     }
 
-    /// The spelling of the stack at the cursor.
+    /// The spelling of the stack at the cursor, from which that stack is read back.
     pub fn saved(&self) -> Result<Bytes, AllocError>
-        ensures { IfOk result (λ bytes. bytes ≡ spelling second self.now.history.now.stack) }
+        ensures text { IfOk result (λ bytes. bytes ≡ spelling second self.now.history.now.stack) }
+        ensures spells { IfOk result (λ bytes. Spells bytes self.now.history.now.stack) }
     {
         stack_text(self.alloc, &self.world)
+    }
+
+    /// What holds of every state of the list, at any time: the stack is well formed, the globals have folded names and texts,
+    /// the current card is one of the stack's, and each external is as its kind has it. It does nothing.
+    pub fn law_of_states(&self)
+        ensures { IsHistory self.now.history }
+    {
+        self.world.law_of_states();
     }
 
     /// Adds an external, with its cells of now, to every place of the history. `DuplicateName` where
