@@ -61,6 +61,9 @@ impl From<BytesFault> for CliFault {
 /// How much of the name of a stack is shown, in bytes.
 const MOST_OF_NAME: usize = 4_096;
 
+// Clauses name this constant and not its value, so the value is proved here.
+const _: () = prove!(MOST_OF_NAME == 4_096);
+
 /// The first bytes, or all where there are fewer.
 fn first(bytes: &[u8], most: usize) -> &[u8]
     ensures bytes { result.now ≡ take most bytes.now }

@@ -17,6 +17,9 @@ use std::alloc::{AllocError, Global};
 /// How many steps a command may take unless the words say so. The history is as deep as it can be unless they say so.
 const DEFAULT_STEPS: u32 = 100_000;
 
+// Clauses name this constant and not its value, so the value is proved here.
+const _: () = prove!(DEFAULT_STEPS == 100_000);
+
 /// An option with a number from 1 to the most.
 fn number_option<'a>(alloc: Global, name: &'a str, most: u32, help: &'a str) -> Arg<'a>
     ensures rule { rule_of result ≡ number_rule name.entry.now most }
