@@ -44,6 +44,15 @@ def not_saved(reason: str) -> str:
 
 
 CHANGED = not_saved("another program changed the file")
+# What a session says at its end that has changes which weren't saved.
+UNSAVED = "card_cli: changes weren't saved\n"
+
+
+def before_end(told: str) -> str:
+    """What came on standard error before the session's end: the cases of endings.py alone look at what it says there."""
+    return told[:-len(UNSAVED)] if told.endswith(UNSAVED) else told
+
+
 OLD = text_of(DEMO)
 # A save writes version 2.
 NEW = OLD.replace("htstack 1\n", "htstack 2\n", 1).replace("\nname |A\n", "\nname |Renamed\n", 1)
@@ -128,7 +137,7 @@ class Talk:
         """The status and standard error, once its input has ended."""
         _, told = self.program.communicate()
         self.timer.cancel()
-        return self.program.returncode, told
+        return self.program.returncode, before_end(told)
 
     def kill(self) -> None:
         """Ends it, wherever it is."""
@@ -164,7 +173,7 @@ class Place:
         """The answers to lines, the status, and standard error."""
         done = subprocess.run([PROGRAM, self.stack, *words], input="".join(line + "\n" for line in lines), text=True,
                               capture_output=True, preexec_fn=before, restore_signals=False, env=env)
-        return done.stdout.split("\n")[:-1], done.returncode, done.stderr
+        return done.stdout.split("\n")[:-1], done.returncode, before_end(done.stderr)
 
     def talk(self, before: Callable[[], None] = as_nobody, env: Optional[Dict[str, str]] = None) -> Talk:
         """A program on the stack, which is renamed there and not saved."""

@@ -4,7 +4,7 @@ import os
 import subprocess
 from typing import IO, Callable, Dict, List, Optional, Sequence, Tuple, Union
 
-from .place import OLD, PROGRAM, Pairs, Place, as_nobody, built, put_text
+from .place import OLD, PROGRAM, Pairs, Place, as_nobody, before_end, built, put_text
 
 # The status, standard output, and standard error.
 Ended = Tuple[int, str, str]
@@ -45,7 +45,7 @@ def ended(words: Sequence[str], text: Stream = subprocess.DEVNULL, out: Stream =
     """How a run with these words ends; what it writes elsewhere counts as nothing."""
     done = subprocess.run([PROGRAM, *words], stdin=text, stdout=out, stderr=subprocess.PIPE, preexec_fn=before,
                           restore_signals=False, env=env, check=False)
-    return done.returncode, (done.stdout or b"").decode("latin-1"), done.stderr.decode("latin-1")
+    return done.returncode, (done.stdout or b"").decode("latin-1"), before_end(done.stderr.decode("latin-1"))
 
 
 def first_line(found: Ended) -> Ended:
