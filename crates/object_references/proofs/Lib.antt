@@ -1,4 +1,5 @@
 pub mod Examples
 pub mod Fitting
 pub mod Handed
+pub mod Last
 pub mod Preceding

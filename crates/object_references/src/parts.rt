@@ -69,7 +69,7 @@ pub fn scope_of_background(
 }
 
 /// The parts of a layer in their order, none where there is no such layer.
-fn parts(stack: &Stack, layer: LayerId) -> &[Id]
+pub(crate) fn parts_of(stack: &Stack, layer: LayerId) -> &[Id]
     ensures { result.now ≡ unwrap_or (layer_parts stack.now.content layer) [] }
 {
     match stack.parts(layer) {
@@ -82,7 +82,7 @@ fn parts(stack: &Stack, layer: LayerId) -> &[Id]
 pub fn part_count(stack: &Stack, layer: LayerId, kind: PartKind) -> usize
     ensures { result ≡ length (references.parts_on stack.now.content layer kind) }
 {
-    count_among(stack, parts(stack, layer), kind)
+    count_among(stack, parts_of(stack, layer), kind)
 }
 
 fn count_among(stack: &Stack, parts: &[Id], kind: PartKind) -> usize

@@ -1,34 +1,42 @@
 //! One of several objects in their order.
 
-ghost use Rattle.std.specs.Prelude.{◌≡◌, List, ℕ, length, option_and_then};
+ghost use Rattle.std.specs.Prelude.{◌≡◌, List, ℕ, length, option_and_then, unwrap_or};
 ghost use Rattle.object_table.specs.Content.{Content};
+ghost use Rattle.object_table.specs.Numbers.{at_number, of_kind};
 ghost use Rattle.object_table.specs.References.{pick as pick_of};
 ghost use Rattle.object_references.specs.References as references;
 ghost use Rattle.object_references.specs.declared.referent.Pick.TheVariants as variants;
 
-use crate::parts::part_count;
+use crate::parts::parts_of;
 use crate::referent::Pick;
 use ht_lex::Ordinal;
 use ht_values::{PartKind, Text, numeral};
 use object_table::{Id, IdList, LayerId, Stack, Which};
 
+/// The number of an ordinal, however many they are. `None` of the last, which has the number that they count.
+fn number_from_first(ordinal: Ordinal) -> Option<usize>
+    ensures { (count : ℕ) → unwrap_or result count ≡ references.ordinal_number ordinal count }
+{
+    match ordinal {
+        Ordinal::First => Some(1),
+        Ordinal::Second => Some(2),
+        Ordinal::Third => Some(3),
+        Ordinal::Fourth => Some(4),
+        Ordinal::Fifth => Some(5),
+        Ordinal::Sixth => Some(6),
+        Ordinal::Seventh => Some(7),
+        Ordinal::Eighth => Some(8),
+        Ordinal::Ninth => Some(9),
+        Ordinal::Tenth => Some(10),
+        Ordinal::Last => None,
+    }
+}
+
 /// The number of an ordinal among so many: the last has the number that they count.
 pub fn ordinal_number(ordinal: Ordinal, count: usize) -> usize
     ensures { result ≡ references.ordinal_number ordinal count }
 {
-    match ordinal {
-        Ordinal::First => 1,
-        Ordinal::Second => 2,
-        Ordinal::Third => 3,
-        Ordinal::Fourth => 4,
-        Ordinal::Fifth => 5,
-        Ordinal::Sixth => 6,
-        Ordinal::Seventh => 7,
-        Ordinal::Eighth => 8,
-        Ordinal::Ninth => 9,
-        Ordinal::Tenth => 10,
-        Ordinal::Last => count,
-    }
+    number_from_first(ordinal).unwrap_or(count)
 }
 
 fn by_id(text: &Text) -> Option<Which<'_>>
@@ -67,9 +75,35 @@ pub(crate) fn picked(stack: &Stack, order: &IdList, pick: &Pick) -> Option<Id>
     stack.pick(order, which(pick, order.len())?)
 }
 
-/// One of the parts of a kind on a layer.
+/// One of the parts of a kind on a layer. They are walked once.
 pub(crate) fn picked_part(stack: &Stack, layer: LayerId, kind: PartKind, pick: &Pick) -> Option<Id>
     ensures { result ≡ references.picked stack.now.content (references.parts_on stack.now.content layer kind) pick.now }
 {
-    stack.find_part(layer, kind, which(pick, part_count(stack, layer, kind))?)
+    match pick {
+        Pick::Nth(ordinal) => nth_part(stack, layer, kind, *ordinal),
+        Pick::ById(text) => stack.find_part(layer, kind, by_id(text)?),
+        Pick::ByText(text) => stack.find_part(layer, kind, by_text(text)?),
+    }
+}
+
+fn nth_part(stack: &Stack, layer: LayerId, kind: PartKind, ordinal: Ordinal) -> Option<Id>
+    ensures { result ≡ references.picked stack.now.content (references.parts_on stack.now.content layer kind) (variants.Nth ordinal) }
+{
+    match number_from_first(ordinal) {
+        Some(number) => stack.find_part(layer, kind, Which::Number(number)),
+        None => last_part(stack, parts_of(stack, layer), kind),
+    }
+}
+
+/// The last of these parts that is of a kind.
+fn last_part(stack: &Stack, parts: &[Id], kind: PartKind) -> Option<Id>
+    ensures { result ≡ at_number (of_kind stack.now.content kind parts.now) (length (of_kind stack.now.content kind parts.now)) }
+{
+    let mut last = None;
+    for part in parts {
+        if stack.is_part(*part, kind) {
+            last = Some(*part);
+        }
+    }
+    last
 }
