@@ -47,13 +47,20 @@ class Asked:
     def ask(self, line: str) -> Answered:
         """What a line is answered, and what that took. Broken where the program ends first."""
         before = time.clock_gettime(self.clock)
-        self.process.stdin.write(line.encode("latin-1") + b"\n")
+        self.tell(line)
         answer: List[str] = []
         for found in self.answers:
             answer.append(found.rstrip("\n"))
             if is_end(answer[-1]):
                 return Answered(answer, time.clock_gettime(self.clock) - before)
         raise Broken("the program ended at %s" % line[:60])
+
+    def tell(self, line: str) -> None:
+        """Hands a line over. Broken where nobody takes it."""
+        try:
+            self.process.stdin.write(line.encode("latin-1") + b"\n")
+        except OSError as error:
+            raise Broken("the program ended before %s" % line[:60]) from error
 
     def seconds(self, line: str, wanted: str = "ok") -> float:
         """What a line took whose last answer is this one. Broken where it is another."""

@@ -4,6 +4,7 @@ them, and a command that does nothing else until no step is left.
 None should take more than 2 milliseconds, no statement more than 3 seconds, and no 100,000 steps more than 20.
 """
 
+import functools
 import itertools
 import os
 import tempfile
@@ -174,8 +175,16 @@ def row(name: str, found: Figures) -> str:
                                   starred(found.all_steps, MOST_OF_ALL_STEPS, "%.2f"))
 
 
+def measured(program: str, path: str, operation: Operation) -> Figures:
+    """The figures of an operation."""
+    written(operation.stack(), path)
+    with Asked(program, path) as asked:
+        return figures(asked, operation)
+
+
 def of_variables(program: str, path: str) -> Figures:
     """A handler that makes variables by `do` until no step is left: for one, and for all."""
+    written(with_variables(), path)
     with Asked(program, path, ALL_STEPS) as asked:
         taken = asked.seconds("measure", "fault 11")
     # A turn has two statements, and `do` runs a third.
@@ -188,17 +197,19 @@ def written(stack: Stack, path: str) -> None:
         file.write(stack_text.write(stack))
 
 
+def tell(name: str, measure: Callable[[], Figures]) -> None:
+    """Prints a row; one that can't be measured has a star and says why."""
+    try:
+        print(row(name, measure()), flush=True)
+    except Broken as broken:
+        print("%-34s %s *" % (name, broken), flush=True)
+
+
 def table(program: str) -> None:
     """Prints the table."""
     print("%-34s%12s%12s%12s" % ("processor time", "ms for one  ", "s, if full  ", "s for all  "))
     with tempfile.TemporaryDirectory() as folder:
         path = os.path.join(folder, "large.stack")
         for operation in OPERATIONS:
-            written(operation.stack(), path)
-            try:
-                with Asked(program, path) as asked:
-                    print(row(operation.name, figures(asked, operation)), flush=True)
-            except Broken as broken:
-                print("%-34s %s *" % (operation.name, broken), flush=True)
-        written(with_variables(), path)
-        print(row("variables made by do", of_variables(program, path)), flush=True)
+            tell(operation.name, functools.partial(measured, program, path, operation))
+        tell("variables made by do", functools.partial(of_variables, program, path))
