@@ -106,4 +106,11 @@ impl<'a> Place<'a> {
         self.chunks.push(chunk)?;
         Ok(self)
     }
+
+    /// Its chunks, the nearest to the container first.
+    pub fn chunks(&self) -> &[Chunk]
+        ensures { result.now ≡ self.now.chunks }
+    {
+        &self.chunks
+    }
 }

@@ -128,22 +128,22 @@ pub fn write<W: Store>(
     alloc: Global,
     world: &mut W,
     variables: &mut Variables,
-    place: Place<'_>,
+    place: &Place<'_>,
     edit: Edit,
     delimiter: u8,
 ) -> Result<(), Failure>
     requires { IsSome (base (W.history world.old)).start }
-    ensures ok { OnOk result (Writes (W.history world.old) variables.old place.entry.storage (due (W.history world.old).now variables.old delimiter place.entry edit) (W.history world.new) variables.new) }
-    ensures fault { IfErr result (λ e. Gives {A = Option (List ℕ)} (Err e) (due (W.history world.old).now variables.old delimiter place.entry edit)) }
+    ensures ok { OnOk result (Writes (W.history world.old) variables.old place.now.storage (due (W.history world.old).now variables.old delimiter place.now edit) (W.history world.new) variables.new) }
+    ensures fault { IfErr result (λ e. Gives {A = Option (List ℕ)} (Err e) (due (W.history world.old).now variables.old delimiter place.now edit)) }
     ensures err { OnErr result ((W.history world.new ≡ W.history world.old) × (variables.new ≡ variables.old)) }
     ensures base { base (W.history world.new) ≡ base (W.history world.old) }
 {
-    let Place { storage, chunks } = place;
-    match storage {
-        Storage::Own(name) => variables.edit(alloc, name.text(), edit, &chunks, delimiter),
-        Storage::Global(name) => edit_global(alloc, world, name, edit, &chunks, delimiter),
+    let chunks = &place.chunks;
+    match place.storage {
+        Storage::Own(name) => variables.edit(alloc, name.text(), edit, chunks, delimiter),
+        Storage::Global(name) => edit_global(alloc, world, name, edit, chunks, delimiter),
         Storage::Field(field, card) => {
-            match field_edited(alloc, world, field, card, edit, &chunks, delimiter)? {
+            match field_edited(alloc, world, field, card, edit, chunks, delimiter)? {
                 Some(value) => Ok(put_into_field(alloc, world, field, card, value)?),
                 None => Ok(()),
             }
