@@ -4,7 +4,7 @@ use ht_grammar::HandlerKind;
 use ht_values::{Text, Value};
 use object_table::Id;
 use std::alloc::Global;
-use std::cell::{Ref, RefCell};
+use std::cell::{OnceCell, Ref, RefCell, RefMut};
 
 /// How many of the innermost calls are kept, beside the outermost.
 const MOST_CALLS: usize = 16;
@@ -71,11 +71,21 @@ pub struct Stopped {
     pub meant: Vec<Text>,
 }
 
-/// Remembers why and where a run stops, from the inside outwards. It never fails: what there is no memory for is left out.
-#[derive(Drop)]
+/// Remembers why and where a run stops, from the inside outwards. What is remembered stands in a box, which the first note makes,
+/// so that a run in which nothing is noted takes no memory for it. It never fails: what there is no memory for is left out.
 pub struct Trace {
     alloc: Global,
-    stopped: RefCell<Stopped>,
+    stopped: OnceCell<Box<RefCell<Stopped>>>,
+}
+
+/// Written here and not derived, so that no crate above proves anew how it is dropped.
+impl Drop for Trace {
+    fn drop(self) {
+        let Trace {
+            alloc: _,
+            stopped: _,
+        } = self;
+    }
 }
 
 fn nothing(alloc: Global) -> Stopped {
@@ -93,23 +103,35 @@ impl Trace {
     pub fn new(alloc: Global) -> Trace {
         Trace {
             alloc,
-            stopped: RefCell::new(nothing(alloc)),
+            stopped: OnceCell::new(),
         }
     }
 
-    /// What is remembered; `None` while it is being written.
+    /// What is remembered; `None` where nothing was noted, and while it is being written.
     pub fn stopped(&self) -> Option<Ref<'_, Stopped>> {
-        self.stopped.try_borrow().ok()
+        self.stopped.get()?.try_borrow().ok()
     }
 
     /// The run goes on: what was remembered is forgotten.
     pub fn forget(&self) {
-        let _ = self.stopped.try_replace(nothing(self.alloc));
+        if let Some(stopped) = self.stopped.get() {
+            let _ = stopped.try_replace(nothing(self.alloc));
+        }
+    }
+
+    /// What is remembered, to be added to; `None` where there is no memory for its box.
+    #[inline(never)]
+    fn noted(&self) -> Option<RefMut<'_, Stopped>> {
+        if self.stopped.get().is_none() {
+            let stopped = Box::new(self.alloc, RefCell::new(nothing(self.alloc))).ok()?;
+            let _ = self.stopped.set(stopped);
+        }
+        self.stopped.get()?.try_borrow_mut().ok()
     }
 
     /// A statement that begins at this place doesn't end. The innermost one of what is run is kept.
     pub fn reach(&self, place: usize) {
-        if let Ok(mut stopped) = self.stopped.try_borrow_mut() {
+        if let Some(mut stopped) = self.noted() {
             if stopped.place.is_none() {
                 stopped.place = Some(place);
             }
@@ -179,20 +201,20 @@ impl Trace {
     }
 
     fn add_meant(&self, text: Text) {
-        if let Ok(mut stopped) = self.stopped.try_borrow_mut() {
+        if let Some(mut stopped) = self.noted() {
             let _ = stopped.meant.push(text);
         }
     }
 
     fn read_not(&self, unread: Unread) {
-        if let Ok(mut stopped) = self.stopped.try_borrow_mut() {
+        if let Some(mut stopped) = self.noted() {
             stopped.unread = Some(unread);
         }
     }
 
     /// The place of the statement in what is left now.
     fn left(&self) -> Option<usize> {
-        let mut stopped = self.stopped.try_borrow_mut().ok()?;
+        let mut stopped = self.noted()?;
         let place = stopped.place;
         stopped.place = None;
         place
@@ -200,7 +222,7 @@ impl Trace {
 
     /// Adds a call. Past the sixteenth the last one is the outermost so far.
     fn leave(&self, call: OpenCall) {
-        if let Ok(mut stopped) = self.stopped.try_borrow_mut() {
+        if let Some(mut stopped) = self.noted() {
             if stopped.calls.len() > MOST_CALLS {
                 let _ = stopped.calls.pop();
                 stopped.left_out = stopped.left_out.saturating_add(1);
