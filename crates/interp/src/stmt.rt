@@ -23,7 +23,7 @@ use ht_tree::{Chunk, Container, Destination, Expr, Ref, Stmt, StmtKind};
 use ht_values::{Fault, Op, Prop, Where};
 use meaning::{Budget, Frame, How, Stop, TextUse};
 use primitives::places::{declare_globals, edit, put_into_it, set_property};
-use primitives::values::{empty, leaving_text, lines, message, stopping};
+use primitives::values::{empty, leaving_text, lines, message, set_run_property, stopping};
 
 /// How statements end, a step before each.
 #[cycle(run)]
@@ -258,7 +258,7 @@ pub(crate) fn set<E: External>(
 {
     let value = eval_text(world, run, frame, nested, value)?;
     let referent = meet(world, run, frame, nested, reference)?;
-    set_property(world, referent, property, value)?;
+    set_property(world, run, referent, property, value)?;
     Ok(How::Next)
 }
 
@@ -281,7 +281,7 @@ pub(crate) fn set_run<E: External>(
     ensures keeps { Keeps world.old.history run.old world.new.history run.new }
 {
     let value = eval_text(world, run, frame, nested, value)?;
-    match run.set_property(property, &value) {
+    match set_run_property(run, property, &value) {
         Ok(()) => Ok(How::Next),
         Err(fault) => Err(Stop::Fault(fault)),
     }

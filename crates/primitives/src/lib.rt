@@ -4,6 +4,7 @@
 
 pub mod arguments;
 pub mod atoms;
+mod meant;
 pub mod messages;
 pub mod objects;
 pub mod operands;

@@ -1,6 +1,6 @@
 //! Messages, handlers and externals, as the rules find and end them.
 
-ghost use Rattle.std.specs.Prelude.{◌≡◌, ◌<◌, [], ◌∷◌, ◌++◌, length, true, IsSome, IfOk, IfSome, IfErr, OnOk, None, Some};
+ghost use Rattle.std.specs.Prelude.{◌≡◌, ◌<◌, [], ◌∷◌, ◌++◌, length, get_or, drop, true, IsSome, IfOk, IfSome, IfErr, OnOk, None, Some};
 ghost use Rattle.externals.specs.declared.external.Ask.TheVariants as ask;
 ghost use Rattle.externals.specs.declared.external.Input.TheVariants as input;
 ghost use Rattle.journal_entries.specs.State.{titles_of};
@@ -100,19 +100,32 @@ pub fn handler_frame(
 fn bind(run: &Budget, frame: &mut Frame, names: &[Name], values: &[Value]) -> Result<(), AllocError>
     ensures { OnOk result (frame.new ≡ record frame.old { variables = bound_to names.now values.now frame.old.variables }) }
 {
-    match (names, values) {
-        ([], _) => Ok(()),
-        ([name, names @ ..], []) => {
-            frame
-                .variables
-                .set(run.alloc(), name.text(), Some(empty(run)))?;
-            bind(run, frame, names, &[])
-        }
-        ([name, names @ ..], [value, values @ ..]) => {
-            let value = value.try_clone(run.alloc())?;
-            frame.variables.set(run.alloc(), name.text(), Some(value))?;
-            bind(run, frame, names, values)
-        }
+    let mut left = values;
+    for name in names {
+        let value = first_or_empty(run, left)?;
+        frame.variables.set(run.alloc(), name.text(), Some(value))?;
+        left = behind_first(left);
+    }
+    Ok(())
+}
+
+/// A copy of the first value; where there is none, the empty one.
+fn first_or_empty(run: &Budget, values: &[Value]) -> Result<Value, AllocError>
+    ensures { IfOk result (λ v. v ≡ get_or values.now 0 []) }
+{
+    match values {
+        [first, ..] => first.try_clone(run.alloc()),
+        [] => Ok(empty(run)),
+    }
+}
+
+/// The values behind the first.
+fn behind_first(values: &[Value]) -> &[Value]
+    ensures { result.now ≡ drop 1 values.now }
+{
+    match values {
+        [_, behind @ ..] => behind,
+        [] => values,
     }
 }
 

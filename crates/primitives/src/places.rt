@@ -16,6 +16,7 @@ ghost use Rattle.meaning.specs.Meaning.{CallsBack, Form};
 ghost use Rattle.meaning.specs.Repeats.{is_over};
 ghost use Rattle.meaning.specs.Values.{Yields};
 
+use crate::meant::{mean_edit, mean_edit_of_variable, mean_untrue, operand_of, untrue_text};
 use crate::objects::make;
 use crate::values::short_text;
 use change_journal::{Change, World};
@@ -162,16 +163,20 @@ pub fn edit<E: External>(
     ensures meaning { Edits world.old.history frame.old run.now.delimiter place.entry edit result world.new.history frame.new }
     ensures base { base world.new.history ≡ base world.old.history }
 {
+    let operand = operand_of(run, &edit);
     match write(
         run.alloc(),
         world,
         &mut frame.variables,
-        place,
+        &place,
         edit,
         run.delimiter(),
     ) {
         Ok(()) => Ok(()),
-        Err(Failure::Fault(fault)) => Err(Stop::Fault(fault)),
+        Err(Failure::Fault(fault)) => {
+            mean_edit(world, run, frame, &place, operand, fault);
+            Err(Stop::Fault(fault))
+        }
         Err(Failure::Memory) => Err(Stop::Memory),
     }
 }
@@ -189,6 +194,7 @@ pub fn edit_variable<E: External>(
     ensures meaning { Edits world.old.history frame.old run.now.delimiter (place_of_variable frame.old.variables name.now) edit result world.new.history frame.new }
     ensures base { base world.new.history ≡ base world.old.history }
 {
+    let operand = operand_of(run, &edit);
     match containers::edit_variable(
         run.alloc(),
         world,
@@ -198,7 +204,10 @@ pub fn edit_variable<E: External>(
         run.delimiter(),
     ) {
         Ok(()) => Ok(()),
-        Err(Failure::Fault(fault)) => Err(Stop::Fault(fault)),
+        Err(Failure::Fault(fault)) => {
+            mean_edit_of_variable(world, run, frame, name, operand, fault);
+            Err(Stop::Fault(fault))
+        }
         Err(Failure::Memory) => Err(Stop::Memory),
     }
 }
@@ -328,6 +337,7 @@ fn setting<E: External>(
 #[tactic(auto, using(meaning::proofs::Rules::sets_rules))]
 pub fn set_property<E: External>(
     world: &mut World<E>,
+    run: &Budget,
     object: Referent,
     property: Prop,
     text: Text,
@@ -336,12 +346,16 @@ pub fn set_property<E: External>(
     ensures meaning { Sets world.old.history object property text result world.new.history }
     ensures base { base world.new.history ≡ base world.old.history }
 {
+    let untrue = untrue_text(run, property, &text);
     match setting(world, object, property, text) {
         Ok(change) => {
             make(world, change)?;
             Ok(())
         }
-        Err(fault) => Err(Stop::Fault(fault)),
+        Err(fault) => {
+            mean_untrue(run, untrue, fault);
+            Err(Stop::Fault(fault))
+        }
     }
 }
 

@@ -1,6 +1,6 @@
 //! Values and parsing. A call that computes or parses may also be out of memory, which is `Stop::Memory`.
 
-ghost use Rattle.std.specs.Prelude.{◌≡◌, ℕ, ℤ, pos, [], ◌∷◌, List, IfOk, length, ◌≤◌};
+ghost use Rattle.std.specs.Prelude.{◌≡◌, ℕ, ℤ, pos, [], ◌∷◌, List, Ok, Err, IfOk, IfErr, OnOk, OnErr, length, ◌≤◌};
 ghost use Rattle.ht_values.specs.Functions.{built_in as built_in_of};
 ghost use Rattle.ht_values.specs.Number.{number_of as number_of_text};
 ghost use Rattle.ht_values.specs.Operators.{binary as binary_of, unary as unary_of, truth_of as truth_of_text};
@@ -15,7 +15,7 @@ ghost use Rattle.ht_tree.specs.StatementView.{stmts_of};
 ghost use Rattle.change_journal.specs.History.{History};
 ghost use Rattle.meaning.specs.declared.frame.Frame.{Frame};
 ghost use Rattle.meaning.specs.Meaning.{Meets, Val};
-ghost use Rattle.meaning.specs.State.{RunState, run_property as run_property_of};
+ghost use Rattle.meaning.specs.State.{RunState, run_property as run_property_of, run_property_set};
 ghost use Rattle.meaning.specs.Repeats.{counter_of, goes_on as goes_on_of, leaves_repeat as leaves_repeat_of};
 ghost use Rattle.meaning.specs.Values.{Parses, Yields};
 ghost use Rattle.primitives.specs.Views.{read_as};
@@ -147,6 +147,22 @@ pub(crate) fn run_property(run: &Budget, property: RunProp) -> Result<Value, All
         Ok(text) => Ok(Value::of_text(text)),
         Err(Failure::Memory) => Err(AllocError),
         Err(Failure::Fault(_)) => unreachable!(),
+    }
+}
+
+/// Sets a property of the run. `BadArgument` where the delimiter isn't one byte, `NotLogical` where another property isn't
+/// `true` or `false`; then nothing changes. It takes no memory.
+pub fn set_run_property(run: &mut Budget, property: RunProp, text: &Text) -> Result<(), Fault>
+    ensures ok { OnOk result (run_property_set run.old property text.now ≡ Ok run.new) }
+    ensures fault { IfErr result (λ e. run_property_set run.old property text.now ≡ Err e) }
+    ensures err { OnErr result (run.new ≡ run.old) }
+{
+    match run.set_property(property, text) {
+        Ok(()) => Ok(()),
+        Err(fault) => {
+            run.trace().mean_text(text);
+            Err(fault)
+        }
     }
 }
 
