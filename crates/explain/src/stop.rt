@@ -260,8 +260,9 @@ fn fault_explained<E: External>(
         stack: session.stack(),
         card: session.current(),
     };
-    if let Some(stopped) = reply.sent.trace().stopped() {
-        write_stopped(page, view, line, fault, &stopped);
+    match reply.sent.trace().stopped() {
+        Some(stopped) => write_stopped(page, view, line, fault, &stopped),
+        None => write_typed(page, line, None, true),
     }
 }
 
