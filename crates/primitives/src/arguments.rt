@@ -1,6 +1,6 @@
 //! The values of arguments.
 
-ghost use Rattle.std.specs.Prelude.{◌≡◌, [], ◌∷◌, ◌++◌, IfOk, length, option_copied};
+ghost use Rattle.std.specs.Prelude.{◌≡◌, [], ◌∷◌, ◌++◌, IfOk, OnOk, length, option_copied};
 ghost use Rattle.meaning.specs.Messages.{only as only_of};
 
 use ht_values::Value;
@@ -29,6 +29,15 @@ impl Arguments {
         Arguments {
             items: Vec::new(alloc),
         }
+    }
+
+    /// Adds another at their end.
+    #[inline(never)]
+    pub fn push(&mut self, value: Value) -> Result<(), AllocError>
+        ensures { OnOk result (self.new ≡ self.old ++ value ∷ []) }
+    {
+        self.items.push(value)?;
+        Ok(())
     }
 
     /// The arguments with another at their end.

@@ -18,6 +18,7 @@ use meaning::{Budget, Frame, Stop};
 
 /// The value of an expression that has no other one, and no reference, in it; fault 3 where it is `the target`, which is gone.
 #[tactic(auto, using(meaning::proofs::Rules::val_rules))]
+#[inline(never)]
 pub fn atom<E: External>(
     world: &World<E>,
     run: &Budget,
@@ -41,6 +42,7 @@ pub fn atom<E: External>(
 
 /// How many cards, backgrounds or parts there are.
 #[tactic(auto, using(meaning::proofs::Rules::val_number_of_cards_rules, meaning::proofs::Rules::val_number_of_backgrounds_rules, meaning::proofs::Rules::val_number_of_parts_rules))]
+#[inline(never)]
 pub fn object_count<E: External>(
     world: &World<E>,
     run: &Budget,

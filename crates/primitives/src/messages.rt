@@ -29,6 +29,7 @@ use std::alloc::AllocError;
 /// The first handler of a kind and a name on a path; `None` where there is none. A script on the way that isn't in the grammar
 /// is the fault of syntax.
 #[tactic(auto, using(meaning::proofs::Rules::finds_rules))]
+#[inline(never)]
 pub fn find<E: External>(
     world: &mut World<E>,
     run: &Budget,
@@ -70,6 +71,7 @@ pub fn leaving<E: External>(
 }
 
 /// The stop of a message of this name that nobody understands.
+#[inline(never)]
 pub fn not_understood(run: &Budget, name: &Text) -> Stop
     ensures { result ≡ Stop.Fault Fault.CantUnderstand }
 {
@@ -78,6 +80,7 @@ pub fn not_understood(run: &Budget, name: &Text) -> Stop
 }
 
 /// The frame of a handler, in which its parameters have the arguments.
+#[inline(never)]
 pub fn handler_frame(
     run: &Budget,
     found: &FoundHandler,
@@ -130,6 +133,7 @@ fn behind_first(values: &[Value]) -> &[Value]
 }
 
 /// What a value is that a handler or an external returns: that of a function, or `the result` of a command.
+#[inline(never)]
 pub fn returned(run: &mut Budget, kind: HandlerKind, value: Value) -> Value
     ensures meaning { returned_by kind value run.old ≡ record { value = result; run = run.new } }
     ensures left { run.new.left ≡ run.old.left }
@@ -144,6 +148,7 @@ pub fn returned(run: &mut Budget, kind: HandlerKind, value: Value) -> Value
 }
 
 /// What a handler gives by the end of its lines; `None` where it passes the message.
+#[inline(never)]
 pub fn outcome(run: &mut Budget, kind: HandlerKind, how: How) -> Option<Value>
     ensures passed { result ≡ None → how ≡ How.Pass }
     ensures ended { IfSome result (λ v. ends kind how run.old ≡ Some (record { value = v; run = run.new })) }
@@ -181,6 +186,7 @@ pub fn is_ignored(kind: HandlerKind, name: &Text) -> bool
 }
 
 /// The item of the menu that the arguments of `doMenu` name, in any case; `None` where they don't name just one.
+#[inline(never)]
 pub fn item_named(run: &Budget, values: &Arguments) -> Result<Option<Item>, AllocError>
     ensures { IfOk result (λ i. i ≡ item_by_name values.now) }
 {
@@ -194,6 +200,7 @@ pub fn item_named(run: &Budget, values: &Arguments) -> Result<Option<Item>, Allo
 }
 
 /// The text of the one argument, where there is just one.
+#[inline(never)]
 pub fn only_text(run: &Budget, values: &Arguments) -> Result<Option<Text>, AllocError>
     ensures { IfOk result (λ t. t ≡ only_of values.now) }
 {
@@ -230,6 +237,7 @@ fn item(name: &[u8]) -> Option<Item>
 }
 
 /// What an external is told as a conversation begins.
+#[inline(never)]
 pub fn start(run: &Budget, values: &Arguments) -> Result<Input, AllocError>
     ensures { IfOk result (λ i. i ≡ input.Start values.now) }
 {
@@ -251,6 +259,7 @@ fn push(texts: &mut Texts, text: Text) -> Result<(), AllocError>
 
 /// A turn of an external, in the open batch. Where it is out of memory, the state at the start of the batch is kept all the same.
 #[tactic(auto, using(containers::proofs::Bases::took_keeps, containers::proofs::Bases::is_open, crate::proofs::Turns::is_there, crate::proofs::Turns::refused_keeps))]
+#[inline(never)]
 pub fn take_turn<E: External>(
     world: &mut World<E>,
     number: usize,

@@ -46,6 +46,7 @@ pub(crate) fn target_name<E: External>(
 
 /// A property of an object, or the fault in its place.
 #[tactic(auto, using(meaning::proofs::Rules::yields_rules))]
+#[inline(never)]
 pub fn property<E: External>(
     world: &World<E>,
     run: &Budget,
@@ -98,6 +99,7 @@ pub fn scope_here<E: External>(world: &World<E>, layer: Layer) -> PartScope
 
 /// Where a part of a card is looked for.
 #[tactic(auto, using(meaning::proofs::Rules::yields_rules))]
+#[inline(never)]
 pub fn card_scope<E: External>(
     world: &World<E>,
     run: &Budget,
@@ -117,6 +119,7 @@ pub fn card_scope<E: External>(
 
 /// Where a part of a background is looked for.
 #[tactic(auto, using(meaning::proofs::Rules::yields_rules))]
+#[inline(never)]
 pub fn background_scope<E: External>(
     world: &World<E>,
     run: &Budget,
@@ -136,6 +139,7 @@ pub fn background_scope<E: External>(
 
 /// The part that is looked for.
 #[tactic(auto, using(meaning::proofs::Rules::yields_rules))]
+#[inline(never)]
 pub fn part_in<E: External>(
     world: &World<E>,
     run: &Budget,
@@ -156,6 +160,7 @@ pub fn part_in<E: External>(
 
 /// An object that may have been deleted.
 #[tactic(auto, using(meaning::proofs::Rules::yields_rules))]
+#[inline(never)]
 pub fn object_there<E: External>(world: &World<E>, object: Id) -> Result<Referent, Stop>
     ensures { Yields (references.met_if_there world.now.history.now.stack world.now.history.now.current object) result }
 {
@@ -167,6 +172,7 @@ pub fn object_there<E: External>(world: &World<E>, object: Id) -> Result<Referen
 
 /// The card that is looked for.
 #[tactic(auto, using(meaning::proofs::Rules::yields_rules))]
+#[inline(never)]
 pub fn card_there<E: External>(
     world: &World<E>,
     run: &Budget,
@@ -185,6 +191,7 @@ pub fn card_there<E: External>(
 
 /// The background that is looked for.
 #[tactic(auto, using(meaning::proofs::Rules::yields_rules))]
+#[inline(never)]
 pub fn background_there<E: External>(
     world: &World<E>,
     run: &Budget,
@@ -203,6 +210,7 @@ pub fn background_there<E: External>(
 
 /// The card to go to.
 #[tactic(auto, using(meaning::proofs::Rules::yields_rules))]
+#[inline(never)]
 pub fn card_to<E: External>(world: &World<E>, run: &Budget, card: &Sought) -> Result<Id, Stop>
     ensures { Yields (references.card_found world.now.history.now.stack world.now.history.now.current card.now) result }
 {
@@ -217,6 +225,7 @@ pub fn card_to<E: External>(world: &World<E>, run: &Budget, card: &Sought) -> Re
 
 /// The first card of the background to go to.
 #[tactic(auto, using(meaning::proofs::Rules::yields_rules))]
+#[inline(never)]
 pub fn background_to<E: External>(
     world: &World<E>,
     run: &Budget,

@@ -115,6 +115,7 @@ pub fn operand_into_text<E: External>(
 
 /// Pieces of an operand, which is lent; fault 3 where it is a field that keeps no text for its card.
 #[tactic(auto, using(meaning::proofs::Rules::yields_rules))]
+#[inline(never)]
 pub fn operand_part<E: External>(
     world: &World<E>,
     run: &Budget,
@@ -130,8 +131,18 @@ pub fn operand_part<E: External>(
     }
 }
 
+/// Pieces of a value that was computed.
+#[tactic(auto, using(meaning::proofs::Rules::yields_rules))]
+#[inline(never)]
+pub fn value_part(run: &Budget, value: &Value, pieces: &Chunk) -> Result<Value, Stop>
+    ensures { Yields (Ok (read_pieces run.now.delimiter pieces.now value.now)) result }
+{
+    Ok(Standing::Value(value).part(run.alloc(), pieces, run.delimiter())?)
+}
+
 /// How many pieces of a kind an operand has, which is lent; fault 3 where it is a field that keeps no text for its card.
 #[tactic(auto, using(meaning::proofs::Rules::yields_rules))]
+#[inline(never)]
 pub fn operand_count<E: External>(
     world: &World<E>,
     run: &Budget,
@@ -150,6 +161,7 @@ pub fn operand_count<E: External>(
 /// What a function gives of one operand, or its first fault; fault 3 where the operand is a field that keeps no text for its
 /// card. For its length an operand is lent.
 #[tactic(auto, using(meaning::proofs::Rules::yields_rules))]
+#[inline(never)]
 pub fn call_of_operand<E: External>(
     world: &World<E>,
     run: &Budget,

@@ -78,6 +78,7 @@ pub(crate) fn variable<E: External>(
 }
 
 /// The place of a variable.
+#[inline(never)]
 pub fn variable_place<'a, E: External>(
     world: &World<E>,
     run: &Budget,
@@ -100,6 +101,7 @@ pub fn variable_place<'a, E: External>(
 /// The place of a field's text, for the card with which it was met; fault 3 where it keeps no text for that card. It takes no
 /// memory.
 #[tactic(auto, using(meaning::proofs::Rules::yields_rules))]
+#[inline(never)]
 pub fn field_place<'a, E: External>(
     world: &World<E>,
     run: &Budget,
@@ -121,6 +123,7 @@ pub fn field_place<'a, E: External>(
 
 /// The text of a field for the card with which it was met; fault 3 where it keeps none.
 #[tactic(auto, using(meaning::proofs::Rules::yields_rules))]
+#[inline(never)]
 pub fn field_text<E: External>(
     world: &World<E>,
     run: &Budget,
@@ -152,6 +155,7 @@ pub fn field_text<E: External>(
 
 /// Edits a container in the open batch. After a fault nothing has changed.
 #[tactic(auto, using(meaning::proofs::Rules::edits_rules))]
+#[inline(never)]
 pub fn edit<E: External>(
     world: &mut World<E>,
     run: &Budget,
@@ -183,6 +187,7 @@ pub fn edit<E: External>(
 
 /// Edits a variable in the open batch. After a fault nothing has changed.
 #[tactic(auto, using(meaning::proofs::Rules::edits_rules))]
+#[inline(never)]
 pub fn edit_variable<E: External>(
     world: &mut World<E>,
     run: &Budget,
@@ -237,6 +242,7 @@ fn it(alloc: Global) -> Result<Name, AllocError>
 
 /// Puts a value into `it`, in the open batch.
 #[tactic(auto, using(meaning::proofs::Rules::edits_rules))]
+#[inline(never)]
 pub fn put_into_it<E: External>(
     world: &mut World<E>,
     run: &Budget,
@@ -253,6 +259,7 @@ pub fn put_into_it<E: External>(
 
 /// Puts the number of a turn into the variable of a repeat, where it has one, in the open batch.
 #[tactic(auto, using(meaning::proofs::Rules::assigns_rules))]
+#[inline(never)]
 pub fn assign<E: External>(
     world: &mut World<E>,
     run: &Budget,
@@ -306,6 +313,7 @@ fn declare_all<E: External>(
 
 /// `global`: names mean globals from here on in this handler.
 #[tactic(auto, using(meaning::proofs::Rules::form_global_rules))]
+#[inline(never)]
 pub fn declare_globals<E: External>(
     world: &mut World<E>,
     run: &Budget,
@@ -335,6 +343,7 @@ fn setting<E: External>(
 
 /// Sets a property of an object, in the open batch, or is the first fault of the property and its value.
 #[tactic(auto, using(meaning::proofs::Rules::sets_rules))]
+#[inline(never)]
 pub fn set_property<E: External>(
     world: &mut World<E>,
     run: &Budget,
@@ -361,6 +370,7 @@ pub fn set_property<E: External>(
 
 /// Sets a global for an external, in the open batch. A name that can't be a variable's is the fault of a bad argument.
 #[tactic(auto, using(meaning::proofs::Rules::callsback_setglobal_rules))]
+#[inline(never)]
 pub fn set_global<E: External>(
     world: &mut World<E>,
     run: &Budget,
@@ -406,6 +416,7 @@ fn field_named_place<'a, E: External>(
 
 /// Sets the first field of a name for an external, in the open batch; fault 3 where there is none.
 #[tactic(auto, using(meaning::proofs::Rules::callsback_setfieldbyname_rules))]
+#[inline(never)]
 pub fn set_field<E: External>(
     world: &mut World<E>,
     run: &Budget,

@@ -33,6 +33,7 @@ use std::alloc::{AllocError, Global};
 
 /// What an operator gives of two operands, or its first fault.
 #[tactic(auto, using(meaning::proofs::Rules::yields_rules))]
+#[inline(never)]
 pub fn apply(run: &Budget, op: Op, left: &Value, right: &Value) -> Result<Value, Stop>
     ensures { Yields (binary_of op left.now right.now) result }
 {
@@ -49,6 +50,7 @@ pub fn apply(run: &Budget, op: Op, left: &Value, right: &Value) -> Result<Value,
 
 /// What an operator gives of one operand, or its fault. It takes no memory.
 #[tactic(auto, using(meaning::proofs::Rules::yields_rules))]
+#[inline(never)]
 pub fn apply_one(run: &Budget, op: UnOp, operand: &Value) -> Result<Value, Stop>
     ensures { Yields (unary_of op operand.now) result }
 {
@@ -63,6 +65,7 @@ pub fn apply_one(run: &Budget, op: UnOp, operand: &Value) -> Result<Value, Stop>
 
 /// What a function gives of its arguments, or its first fault.
 #[tactic(auto, using(meaning::proofs::Rules::yields_rules))]
+#[inline(never)]
 pub fn call_function(run: &Budget, function: Func, values: &Arguments) -> Result<Value, Stop>
     ensures { Yields (built_in_of function values.now) result }
 {
@@ -101,6 +104,7 @@ pub fn function_named(word: FunctionWord) -> Option<Func>
 
 /// The number that a value means, or the fault that it means none. It takes no memory.
 #[tactic(auto, using(meaning::proofs::Rules::yields_rules))]
+#[inline(never)]
 pub fn number(run: &Budget, value: &Value) -> Result<i64, Stop>
     ensures { Yields (number_of_text value.now) result }
 {
@@ -115,6 +119,7 @@ pub fn number(run: &Budget, value: &Value) -> Result<i64, Stop>
 
 /// The truth value that a value means, or the fault that it means none. It takes no memory.
 #[tactic(auto, using(meaning::proofs::Rules::yields_rules))]
+#[inline(never)]
 pub fn truth(run: &Budget, value: &Value) -> Result<bool, Stop>
     ensures { Yields (truth_of_text value.now) result }
 {
@@ -186,6 +191,7 @@ pub fn empty(run: &Budget) -> Value
 
 /// What `there is` says of an object that was looked for. That there is none is an answer, any other stop isn't.
 #[tactic(auto, using(meaning::proofs::Rules::val_there_is_rules))]
+#[inline(never)]
 pub fn there(run: &Budget, is_no: bool, met: Result<Referent, Stop>) -> Result<Value, Stop>
     ensures { (w w1 : History) (r r1 : RunState) (f : Frame) (d : ℕ) (sought : tree.Ref) → Meets w r f d sought met w1 r1 → Val w r f d (tree.there_is is_no sought) result w1 r1 }
 {
@@ -221,6 +227,7 @@ pub fn goes_on(wanted: bool, truth: bool) -> bool
 }
 
 /// How a repeat ends by the end of its lines; `None` where it goes on with its next turn.
+#[inline(never)]
 pub fn leaves_repeat(how: How) -> Option<How>
     ensures { result ≡ leaves_repeat_of how }
 {
@@ -233,6 +240,7 @@ pub fn leaves_repeat(how: How) -> Option<How>
 
 /// The numbers from one value to another, up or down; the fault of the first that means no number. It takes no memory.
 #[tactic(auto, using(meaning::proofs::Rules::yields_rules))]
+#[inline(never)]
 pub fn counter(run: &Budget, from: &Value, to: &Value, is_down: bool) -> Result<Counter, Stop>
     ensures { Yields (counter_of from.now to.now is_down) result }
 {
@@ -269,6 +277,7 @@ pub fn leaving_text(run: &Budget, text_use: TextUse, text: &Text, stop: Stop) ->
 
 /// The expression that a text is, or the fault of syntax.
 #[tactic(auto, using(meaning::proofs::Rules::parses_rules))]
+#[inline(never)]
 pub fn expression(run: &Budget, text_use: TextUse, text: &Text) -> Result<Expr, Stop>
     ensures { Parses ReadsExpr text.now result }
 {
@@ -284,6 +293,7 @@ pub fn expression(run: &Budget, text_use: TextUse, text: &Text) -> Result<Expr, 
 
 /// The lines that a text is, or the fault of syntax.
 #[tactic(auto, using(meaning::proofs::Rules::parses_rules))]
+#[inline(never)]
 pub fn lines(run: &Budget, text_use: TextUse, text: &Text) -> Result<Stmts, Stop>
     ensures { Parses ReadsLines text.now (read_as (λ x. stmts_of x.items.items) result) }
 {
@@ -299,6 +309,7 @@ pub fn lines(run: &Budget, text_use: TextUse, text: &Text) -> Result<Stmts, Stop
 
 /// The message that a text is, or the fault of syntax.
 #[tactic(auto, using(meaning::proofs::Rules::parses_rules))]
+#[inline(never)]
 pub fn message(run: &Budget, text: &Text) -> Result<Message, Stop>
     ensures { Parses ReadsMessage text.now (read_as message_of result) }
 {
