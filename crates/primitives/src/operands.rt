@@ -158,6 +158,18 @@ pub fn operand_count<E: External>(
     }
 }
 
+/// What a function gives of a value that was computed, or its first fault.
+#[tactic(auto, using(meaning::proofs::Rules::yields_rules))]
+#[inline(never)]
+pub fn call_of_value(run: &Budget, function: Func, value: Value) -> Result<Value, Stop>
+    ensures { Yields (built_in_of function (value ∷ [])) result }
+{
+    match function {
+        Func::Length => Ok(length_of(run, Standing::Value(&value))?),
+        _ => call_of_one(run, function, value),
+    }
+}
+
 /// What a function gives of one operand, or its first fault; fault 3 where the operand is a field that keeps no text for its
 /// card. For its length an operand is lent.
 #[tactic(auto, using(meaning::proofs::Rules::yields_rules))]
