@@ -227,7 +227,6 @@ pub fn goes_on(wanted: bool, truth: bool) -> bool
 }
 
 /// How a repeat ends by the end of its lines; `None` where it goes on with its next turn.
-#[inline(never)]
 pub fn leaves_repeat(how: How) -> Option<How>
     ensures { result ≡ leaves_repeat_of how }
 {
