@@ -1,3 +1,4 @@
 pub mod Edits
 pub mod Loops
 pub mod Operands
+pub mod Picks

@@ -1,5 +1,5 @@
 -- What an expression makes of an operand's text, once the operand is met.
-use Rattle.std.proofs.Common.{◌≡◌, ℕ, pos, List, [], ◌∷◌, Some, Result, Ok, Err, refl, sym, ap, subst}
+use Rattle.std.proofs.Common.{◌≡◌, ℕ, ℤ, pos, List, [], ◌∷◌, Some, Result, Ok, Err, refl, sym, ap, subst}
 use Rattle.std.specs.Prelude.{IfOk}
 use Rattle.std.proofs.lemmas.Result.{IfOk-at_ok}
 use Rattle.ht_values.specs.declared.fault.Fault.{Fault}
@@ -8,6 +8,7 @@ use Rattle.ht_values.specs.declared.word.ChunkKind.{ChunkKind}
 use Rattle.ht_values.specs.Functions.{built_in}
 use Rattle.ht_values.specs.Outcome.{and_then}
 use Rattle.ht_values.specs.Text.{numeral}
+use Rattle.ht_lex.specs.declared.key.Ordinal.{Ordinal}
 use Rattle.chunks.specs.declared.chunk.Chunk.{Chunk}
 use Rattle.chunks.specs.Pieces.{count, read}
 use Rattle.ht_grammar.specs.declared.vocabulary.FunctionWord.{FunctionWord}
@@ -18,12 +19,13 @@ use Rattle.containers.specs.Places.{read_name}
 use Rattle.meaning.specs.declared.end.Stop.{Stop}
 use Rattle.meaning.specs.declared.end.Stop.TheVariants as stop
 use Rattle.meaning.specs.declared.frame.Frame.{Frame}
-use Rattle.meaning.specs.Meaning.{Val, ChunkOf}
+use Rattle.meaning.specs.Meaning.{Val, ChunkOf, NumberVal}
+use Rattle.meaning.specs.Places.{pieces_at, nth_piece}
 use Rattle.meaning.specs.State.{RunState}
 use Rattle.meaning.specs.Values.{Yields}
 use Rattle.primitives.specs.declared.operands.Operand.{Operand}
 use Rattle.primitives.specs.Operands.{operand_text}
-use Rattle.interp.specs.Operands.{MeetsOperand}
+use Rattle.interp.specs.Operands.{MeetsOperand, TakesPart}
 
 -- A computation with a second part: it goes on with the value of the first, or the fault of the first is its own.
 data Steps {A B : Type 0} (c : Result A Fault) (g : A → Result B Fault) : Result B Stop → Type 0 where
@@ -87,6 +89,46 @@ module _ {w w1 : History} {r r1 : RunState} {f : Frame} {d : ℕ} {x : tree.Expr
       of_steps found (went_on is (Yields.yields value)) = Val.chunk refl found (met _ (Yields.yields is)) (same_value _ refl value)
       of_steps found (went_on is (Yields.faults fault)) = cc
 
+  pub nth_taken : {od : Ordinal} {kd : ChunkKind} {pieces : Chunk} {o : Result (List ℕ) Stop} → pieces ≡ nth_piece od kd → Yields (and_then (operand_text w1.now f.variables r1.delimiter operand) (λ t. Ok (read r1.delimiter pieces t))) o → Val w r f d (tree.chunk (tree.nth_piece od kd) x) o w1 r1
+  nth_taken is h = taken (ChunkOf.ordinal refl is) h
+
+  pub taken_part : {kd : ChunkKind} {from to : ℤ} {pieces : Chunk} {o : Result (List ℕ) Stop} → pieces ≡ pieces_at kd from to → Yields (and_then (operand_text w1.now f.variables r1.delimiter operand) (λ t. Ok (read r1.delimiter pieces t))) o → TakesPart w r f d (pieces_at kd from to) x o w1 r1
+  taken_part is h = TakesPart.takes_part (λ w0 r0 hd found. taken (rw (← is) at found) h)
+
+-- how the rest of a chunk ends
+module _ {w w1 : History} {r r1 : RunState} {f : Frame} {d : ℕ} {x : tree.Expr} {c : Chunk} where
+  pub part_memory : TakesPart w r f d c x (Err stop.Memory) w1 r1
+  part_memory = TakesPart.takes_part (λ w0 r0 hd found. Val.memory)
+
+  pub part_stops : {z : Stop} → Val w r f d x (Err z) w1 r1 → TakesPart w r f d c x (Err z) w1 r1
+  part_stops h = TakesPart.takes_part (λ w0 r0 hd found. Val.chunk_of_stops refl found h)
+
+  pub part_read : {v : List ℕ} {o : Result (List ℕ) Stop} → Val w r f d x (Ok v) w1 r1 → Yields (Ok (read r1.delimiter c v)) o → TakesPart w r f d c x o w1 r1
+  part_read h Yields.yields_memory = part_memory
+  part_read h (Yields.yields value) = TakesPart.takes_part (λ w0 r0 hd found. Val.chunk refl found h (same_value _ refl value))
+  part_read h (Yields.faults fault) = cc
+
+  pub of_part : {w0 : History} {r0 : RunState} {hd : tree.Chunk} {o : Result (List ℕ) Stop} → ChunkOf w0 r0 f d hd (Ok c) w r → TakesPart w r f d c x o w1 r1 → Val w0 r0 f d (tree.chunk hd x) o w1 r1
+  of_part found (TakesPart.takes_part rest) = rest _ _ _ found
+
+-- a chunk by its numbers, and what it reads of a text
+module _ {w w1 : History} {r r1 : RunState} {f : Frame} {d : ℕ} {kd : ChunkKind} {x y : tree.Expr} where
+  pub piece_stops : {z : Stop} → NumberVal w r f d x (Err z) w1 r1 → Val w r f d (tree.chunk (tree.piece kd x) y) (Err z) w1 r1
+  piece_stops h = Val.chunk_stops refl (ChunkOf.one_stops refl h)
+
+  pub piece_taken : {w2 : History} {r2 : RunState} {u : ℤ} {o : Result (List ℕ) Stop} → NumberVal w r f d x (Ok u) w1 r1 → TakesPart w1 r1 f d (pieces_at kd u u) y o w2 r2 → Val w r f d (tree.chunk (tree.piece kd x) y) o w2 r2
+  piece_taken h part = of_part (ChunkOf.one refl h refl) part
+
+module _ {w w1 : History} {r r1 : RunState} {f : Frame} {d : ℕ} {kd : ChunkKind} {x x1 y : tree.Expr} where
+  pub from_stops : {z : Stop} → NumberVal w r f d x (Err z) w1 r1 → Val w r f d (tree.chunk (tree.pieces kd x x1) y) (Err z) w1 r1
+  from_stops h = Val.chunk_stops refl (ChunkOf.from_stops refl h)
+
+  pub to_stops : {w2 : History} {r2 : RunState} {u : ℤ} {z : Stop} → NumberVal w r f d x (Ok u) w1 r1 → NumberVal w1 r1 f d x1 (Err z) w2 r2 → Val w r f d (tree.chunk (tree.pieces kd x x1) y) (Err z) w2 r2
+  to_stops h h1 = Val.chunk_stops refl (ChunkOf.to_stops refl h h1)
+
+  pub pieces_taken : {w2 w3 : History} {r2 r3 : RunState} {u u1 : ℤ} {o : Result (List ℕ) Stop} → NumberVal w r f d x (Ok u) w1 r1 → NumberVal w1 r1 f d x1 (Ok u1) w2 r2 → TakesPart w2 r2 f d (pieces_at kd u u1) y o w3 r3 → Val w r f d (tree.chunk (tree.pieces kd x x1) y) o w3 r3
+  pieces_taken h h1 part = of_part (ChunkOf.range refl h h1 refl) part
+
 pub ruleset text_rules = (Val.memory, computed_met)
 
 pub ruleset met_rules = (Val.memory, name_met, computed_met, Val.field_stops, Val.field)
@@ -95,4 +137,9 @@ pub ruleset count_rules = (Val.memory, Val.pieces_stop)
 
 pub ruleset function_rules = (Val.memory, Val.the_stops, Val.the_value)
 
-pub ruleset chunk_rules = (Val.memory, Val.chunk_stops, Val.chunk_of_stops)
+pub nth_stops : {w w1 : History} {r r1 : RunState} {f : Frame} {d : ℕ} {od : Ordinal} {kd : ChunkKind} {y : tree.Expr} {z : Stop} → Val w r f d y (Err z) w1 r1 → Val w r f d (tree.chunk (tree.nth_piece od kd) y) (Err z) w1 r1
+nth_stops h = Val.chunk_of_stops refl (ChunkOf.ordinal refl refl) h
+
+pub ruleset chunk_rules = (Val.memory, piece_stops, piece_taken, from_stops, to_stops, pieces_taken, nth_stops)
+
+pub ruleset part_rules = (part_memory, part_stops, part_read, taken_part)

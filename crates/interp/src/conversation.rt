@@ -21,6 +21,7 @@ use primitives::values::{expression, leaving_text, lines};
 /// step before each.
 #[cycle(run)]
 #[tactic(auto, using(meaning::proofs::Rules::converses_rules, meaning::proofs::Rules::talks_rules))]
+#[inline(never)]
 pub(crate) fn converse<E: External>(
     world: &mut World<E>,
     run: &mut Budget,
@@ -54,6 +55,7 @@ pub(crate) fn converse<E: External>(
 /// A call-back, and the answer that is handed in at the next turn.
 #[cycle(run)]
 #[tactic(auto, using(meaning::proofs::Rules::callsback_rules))]
+#[inline(never)]
 pub(crate) fn call_back<E: External>(
     world: &mut World<E>,
     run: &mut Budget,

@@ -1,37 +1,47 @@
 //! The values of expressions.
 
-ghost use Rattle.std.specs.Prelude.{◌≡◌, ◌≤◌, ◌<◌, [], IsSome};
+ghost use Rattle.std.specs.Prelude.{◌≡◌, ◌≤◌, ◌<◌, ℕ, IsSome, IfOk, Ok};
 ghost use Rattle.ht_grammar.specs.Trees as tree;
-ghost use Rattle.ht_grammar.specs.Depth.{depth, depths, chunk_depth, count_depth, max_depth};
-ghost use Rattle.ht_tree.specs.View.{chunk_of as chunk_of_tree, count_of, exprs_of};
+ghost use Rattle.ht_grammar.specs.Depth.{depth, depths, part_depth, ref_depth, max_depth};
+ghost use Rattle.ht_tree.specs.View.{exprs_of, part_of as part_of_tree, ref_of};
+ghost use Rattle.change_journal.specs.History.{History};
 ghost use Rattle.containers.specs.Base.{base};
+ghost use Rattle.meaning.specs.declared.frame.Frame.{Frame};
+ghost use Rattle.meaning.specs.State.{RunState};
 ghost use Rattle.meaning.specs.Meaning.{NumberVal, TextVal, TruthVal, Val, Vals};
-ghost use Rattle.interp.specs.Operands.{MeetsOperand};
+ghost use Rattle.chunks.specs.Pieces.{read as read_pieces};
+ghost use Rattle.meaning.specs.Places.{pieces_at as pieces_at_numbers};
+ghost use Rattle.meaning.specs.Values.{Yields};
+ghost use Rattle.interp.specs.Operands.{MeetsOperand, TakesPart};
 ghost use Rattle.interp.specs.Keeps.{Keeps};
+ghost use Rattle.interp.specs.Lists.{listed};
 
 use crate::message::calls;
-use crate::pieces::pieces;
 use crate::reference::{meet, meet_part};
 use change_journal::World;
 use externals::External;
 use ht_grammar::{FunctionWord, HandlerKind};
-use ht_tree::{Chunk, Count, Expr, ExprKind};
-use ht_values::{Fault, Op, Prop, Text, UnOp, Value};
+use ht_lex::Ordinal;
+use ht_tree::{Chunk, Count, Expr, ExprKind, Part, Ref};
+use ht_values::{ChunkKind, Fault, Op, Prop, Text, UnOp, Value};
 use meaning::{Budget, Frame, Stop, TextUse};
 use primitives::arguments::Arguments;
 use primitives::atoms::{atom, object_count};
 use primitives::objects::property;
 use primitives::operands::{
-    Operand, call_of_operand, operand_count, operand_into_text, operand_part,
+    Operand, call_of_operand, call_of_value, operand_count, operand_into_text, operand_part,
+    value_part,
 };
-use primitives::places::field_text;
+use primitives::places::{field_text, nth_piece, pieces_at};
 use primitives::values::{
     apply, apply_one, expression, function_named, leaving_text, number, there, truth,
 };
+use std::alloc::AllocError;
 
 /// The value of an expression.
 #[cycle(run)]
 #[tactic(auto, using(meaning::proofs::Rules::val_rules))]
+#[inline(never)]
 pub(crate) fn eval<E: External>(
     world: &mut World<E>,
     run: &mut Budget,
@@ -63,18 +73,27 @@ pub(crate) fn eval<E: External>(
         ExprKind::Binary(op, left, right) => binary(world, run, frame, nested, *op, left, right),
         ExprKind::Unary(op, operand) => unary(world, run, frame, nested, *op, operand),
         ExprKind::ThereIs(is_no, reference) => {
-            let met = meet(world, run, frame, nested, reference);
-            there(run, *is_no, met)
+            there_is(world, run, frame, nested, *is_no, reference)
         }
-        ExprKind::Chunk(chunk, text) => chunk_of(world, run, frame, nested, chunk, text),
-        ExprKind::Field(part) => {
-            let referent = meet_part(world, run, frame, nested, part)?;
-            field_text(world, run, frame, referent)
+        ExprKind::Chunk(Chunk::Piece(kind, index), text) => {
+            piece_of(world, run, frame, nested, *kind, index, text)
         }
-        ExprKind::NumberOf(count) => number_of(world, run, frame, nested, count),
+        ExprKind::Chunk(Chunk::Pieces(kind, first, last), text) => {
+            pieces_of(world, run, frame, nested, *kind, first, last, text)
+        }
+        ExprKind::Chunk(Chunk::NthPiece(ordinal, kind), text) => {
+            nth_piece_of(world, run, frame, nested, *ordinal, *kind, text)
+        }
+        ExprKind::Field(part) => field_of(world, run, frame, nested, part),
+        ExprKind::NumberOf(Count::PiecesOf(kind, text)) => {
+            count_of_pieces(world, run, frame, nested, *kind, text)
+        }
+        ExprKind::NumberOf(Count::OfObject(reference)) => {
+            number_of_object(world, run, frame, nested, reference)
+        }
+        ExprKind::NumberOf(count) => object_count(world, run, count),
         ExprKind::Property(name, reference) => {
-            let referent = meet(world, run, frame, nested, reference)?;
-            property(world, run, referent, *name)
+            property_of(world, run, frame, nested, *name, reference)
         }
         ExprKind::Function(word, operand) => function_of(world, run, frame, nested, *word, operand),
         _ => atom(world, run, frame, e),
@@ -84,7 +103,7 @@ pub(crate) fn eval<E: External>(
 /// The value of an expression, as a text of its own.
 #[cycle(run)]
 #[tactic(auto, using(crate::proofs::Operands::text_rules))]
-#[inline]
+#[inline(always)]
 pub(crate) fn eval_text<E: External>(
     world: &mut World<E>,
     run: &mut Budget,
@@ -99,7 +118,80 @@ pub(crate) fn eval_text<E: External>(
     ensures keeps { Keeps world.old.history run.old world.new.history run.new }
 {
     let value = eval(world, run, frame, nested, e)?;
-    Ok(value.into_text(run.alloc())?)
+    Ok(text_of(run, value)?)
+}
+
+/// A value as a text of its own.
+#[inline(never)]
+fn text_of(run: &Budget, value: Value) -> Result<Text, AllocError>
+    ensures { IfOk result (λ t. t ≡ value) }
+{
+    value.into_text(run.alloc())
+}
+
+/// `there is`.
+#[cycle(run)]
+#[tactic(auto, using(meaning::proofs::Rules::val_there_is_rules))]
+#[inline(never)]
+pub(crate) fn there_is<E: External>(
+    world: &mut World<E>,
+    run: &mut Budget,
+    frame: &Frame,
+    nested: u32,
+    is_no: bool,
+    reference: &Ref,
+) -> Result<Value, Stop>
+    requires nested { nested ≤ 100 }
+    requires deep { ref_depth (ref_of reference.now) < max_depth }
+    requires open { IsSome (base world.old.history).start }
+    ensures meaning { Val world.old.history run.old frame.now nested (tree.there_is is_no (ref_of reference.now)) result world.new.history run.new }
+    ensures keeps { Keeps world.old.history run.old world.new.history run.new }
+{
+    let met = meet(world, run, frame, nested, reference);
+    there(run, is_no, met)
+}
+
+/// The text of a field.
+#[cycle(run)]
+#[tactic(auto, using(meaning::proofs::Rules::val_field_rules))]
+#[inline(never)]
+pub(crate) fn field_of<E: External>(
+    world: &mut World<E>,
+    run: &mut Budget,
+    frame: &Frame,
+    nested: u32,
+    part: &Part,
+) -> Result<Value, Stop>
+    requires nested { nested ≤ 100 }
+    requires deep { part_depth (part_of_tree part.now) ≤ max_depth }
+    requires open { IsSome (base world.old.history).start }
+    ensures meaning { Val world.old.history run.old frame.now nested (tree.field (part_of_tree part.now)) result world.new.history run.new }
+    ensures keeps { Keeps world.old.history run.old world.new.history run.new }
+{
+    let referent = meet_part(world, run, frame, nested, part)?;
+    field_text(world, run, frame, referent)
+}
+
+/// A property of an object.
+#[cycle(run)]
+#[tactic(auto, using(meaning::proofs::Rules::val_property_rules))]
+#[inline(never)]
+pub(crate) fn property_of<E: External>(
+    world: &mut World<E>,
+    run: &mut Budget,
+    frame: &Frame,
+    nested: u32,
+    name: Prop,
+    reference: &Ref,
+) -> Result<Value, Stop>
+    requires nested { nested ≤ 100 }
+    requires deep { ref_depth (ref_of reference.now) < max_depth }
+    requires open { IsSome (base world.old.history).start }
+    ensures meaning { Val world.old.history run.old frame.now nested (tree.property name (ref_of reference.now)) result world.new.history run.new }
+    ensures keeps { Keeps world.old.history run.old world.new.history run.new }
+{
+    let referent = meet(world, run, frame, nested, reference)?;
+    property(world, run, referent, name)
 }
 
 /// Two operands from left to right, and what the operator gives.
@@ -152,7 +244,7 @@ pub(crate) fn unary<E: External>(
 /// An operand whose text is read next: what a name or a field reads isn't copied.
 #[cycle(run)]
 #[tactic(auto, using(crate::proofs::Operands::met_rules))]
-#[inline(never)]
+#[inline(always)]
 pub(crate) fn meet_operand<'a, E: External>(
     world: &mut World<E>,
     run: &mut Budget,
@@ -176,65 +268,220 @@ pub(crate) fn meet_operand<'a, E: External>(
     }
 }
 
-/// Pieces of a text: the pieces are computed before the text, which is lent where it can be.
+/// A piece of a text by its number.
 #[cycle(run)]
 #[tactic(auto, using(crate::proofs::Operands::chunk_rules))]
 #[inline(never)]
-pub(crate) fn chunk_of<E: External>(
+pub(crate) fn piece_of<E: External>(
     world: &mut World<E>,
     run: &mut Budget,
     frame: &Frame,
     nested: u32,
-    chunk: &Chunk,
+    kind: ChunkKind,
+    index: &Expr,
     text: &Expr,
 ) -> Result<Value, Stop>
     requires nested { nested ≤ 100 }
-    requires chunk { chunk_depth (chunk_of_tree chunk.now) < max_depth }
+    requires index { depth index.now < max_depth }
     requires text { depth text.now < max_depth }
     requires open { IsSome (base world.old.history).start }
-    ensures meaning { Val world.old.history run.old frame.now nested (tree.chunk (chunk_of_tree chunk.now) text.now) result world.new.history run.new }
+    ensures meaning { Val world.old.history run.old frame.now nested (tree.chunk (tree.piece kind index.now) text.now) result world.new.history run.new }
     ensures keeps { Keeps world.old.history run.old world.new.history run.new }
 {
-    let pieces = pieces(world, run, frame, nested, chunk)?;
-    let text = meet_operand(world, run, frame, nested, text)?;
-    operand_part(world, run, frame, &text, &pieces)
+    let at = number_value(world, run, frame, nested, index)?;
+    part_of(world, run, frame, nested, kind, at, at, text)
 }
 
-/// `the number of` pieces, of cards, backgrounds or parts, or of an object.
+/// Pieces of a text, from one number to another.
 #[cycle(run)]
-#[tactic(auto, using(crate::proofs::Operands::count_rules, meaning::proofs::Rules::val_number_of_of_object_rules))]
+#[tactic(auto, using(crate::proofs::Operands::chunk_rules))]
 #[inline(never)]
-pub(crate) fn number_of<E: External>(
+pub(crate) fn pieces_of<E: External>(
     world: &mut World<E>,
     run: &mut Budget,
     frame: &Frame,
     nested: u32,
-    count: &Count,
+    kind: ChunkKind,
+    first: &Expr,
+    last: &Expr,
+    text: &Expr,
 ) -> Result<Value, Stop>
     requires nested { nested ≤ 100 }
-    requires deep { count_depth (count_of count.now) < max_depth }
+    requires first { depth first.now < max_depth }
+    requires last { depth last.now < max_depth }
+    requires text { depth text.now < max_depth }
     requires open { IsSome (base world.old.history).start }
-    ensures meaning { Val world.old.history run.old frame.now nested (tree.number_of (count_of count.now)) result world.new.history run.new }
+    ensures meaning { Val world.old.history run.old frame.now nested (tree.chunk (tree.pieces kind first.now last.now) text.now) result world.new.history run.new }
     ensures keeps { Keeps world.old.history run.old world.new.history run.new }
 {
-    match count {
-        Count::PiecesOf(kind, text) => {
-            let text = meet_operand(world, run, frame, nested, text)?;
-            operand_count(world, run, frame, &text, *kind)
+    let from = number_value(world, run, frame, nested, first)?;
+    let to = number_value(world, run, frame, nested, last)?;
+    part_of(world, run, frame, nested, kind, from, to, text)
+}
+
+/// A piece of a text by its ordinal.
+#[cycle(run)]
+#[tactic(auto, using(crate::proofs::Operands::chunk_rules))]
+#[inline(never)]
+pub(crate) fn nth_piece_of<E: External>(
+    world: &mut World<E>,
+    run: &mut Budget,
+    frame: &Frame,
+    nested: u32,
+    ordinal: Ordinal,
+    kind: ChunkKind,
+    text: &Expr,
+) -> Result<Value, Stop>
+    requires nested { nested ≤ 100 }
+    requires text { depth text.now < max_depth }
+    requires open { IsSome (base world.old.history).start }
+    ensures meaning { Val world.old.history run.old frame.now nested (tree.chunk (tree.nth_piece ordinal kind) text.now) result world.new.history run.new }
+    ensures keeps { Keeps world.old.history run.old world.new.history run.new }
+{
+    let text = meet_operand(world, run, frame, nested, text)?;
+    operand_part(world, run, frame, &text, &nth_piece(ordinal, kind))
+}
+
+/// Pieces, which are computed, of a text, which isn't. What a name or a field reads is lent.
+#[cycle(run)]
+#[tactic(auto, using(crate::proofs::Operands::part_rules))]
+#[inline(always)]
+pub(crate) fn part_of<E: External>(
+    world: &mut World<E>,
+    run: &mut Budget,
+    frame: &Frame,
+    nested: u32,
+    kind: ChunkKind,
+    from: i64,
+    to: i64,
+    text: &Expr,
+) -> Result<Value, Stop>
+    requires nested { nested ≤ 100 }
+    requires deep { depth text.now < max_depth }
+    requires open { IsSome (base world.old.history).start }
+    ensures meaning { TakesPart world.old.history run.old frame.now nested (pieces_at_numbers kind from to) text.now result world.new.history run.new }
+    ensures keeps { Keeps world.old.history run.old world.new.history run.new }
+{
+    match text.kind() {
+        ExprKind::Name(_) | ExprKind::Field(_) => {
+            lent_part(world, run, frame, nested, kind, from, to, text)
         }
-        Count::OfObject(reference) => {
-            let referent = meet(world, run, frame, nested, reference)?;
-            property(world, run, referent, Prop::Number)
+        _ => {
+            let value = eval(world, run, frame, nested, text)?;
+            part_at(run, &value, kind, from, to)
         }
-        _ => object_count(world, run, count),
     }
+}
+
+/// Pieces of a value, from one number to another.
+#[inline(never)]
+fn part_at(run: &Budget, value: &Value, kind: ChunkKind, from: i64, to: i64) -> Result<Value, Stop>
+    ensures { Yields (Ok (read_pieces run.now.delimiter (pieces_at_numbers kind from to) value.now)) result }
+{
+    value_part(run, value, &pieces_at(kind, from, to))
+}
+
+/// Pieces of an operand, which is met now.
+#[cycle(run)]
+#[tactic(auto, using(crate::proofs::Operands::part_rules))]
+#[inline(never)]
+pub(crate) fn lent_part<E: External>(
+    world: &mut World<E>,
+    run: &mut Budget,
+    frame: &Frame,
+    nested: u32,
+    kind: ChunkKind,
+    from: i64,
+    to: i64,
+    text: &Expr,
+) -> Result<Value, Stop>
+    requires nested { nested ≤ 100 }
+    requires deep { depth text.now < max_depth }
+    requires open { IsSome (base world.old.history).start }
+    ensures meaning { TakesPart world.old.history run.old frame.now nested (pieces_at_numbers kind from to) text.now result world.new.history run.new }
+    ensures keeps { Keeps world.old.history run.old world.new.history run.new }
+{
+    let text = meet_operand(world, run, frame, nested, text)?;
+    operand_part(world, run, frame, &text, &pieces_at(kind, from, to))
+}
+
+/// `the number of` pieces of a text.
+#[cycle(run)]
+#[tactic(auto, using(crate::proofs::Operands::count_rules))]
+#[inline(never)]
+pub(crate) fn count_of_pieces<E: External>(
+    world: &mut World<E>,
+    run: &mut Budget,
+    frame: &Frame,
+    nested: u32,
+    kind: ChunkKind,
+    text: &Expr,
+) -> Result<Value, Stop>
+    requires nested { nested ≤ 100 }
+    requires deep { depth text.now < max_depth }
+    requires open { IsSome (base world.old.history).start }
+    ensures meaning { Val world.old.history run.old frame.now nested (tree.number_of (tree.pieces_of kind text.now)) result world.new.history run.new }
+    ensures keeps { Keeps world.old.history run.old world.new.history run.new }
+{
+    let text = meet_operand(world, run, frame, nested, text)?;
+    operand_count(world, run, frame, &text, kind)
+}
+
+/// `the number of` an object.
+#[cycle(run)]
+#[tactic(auto, using(meaning::proofs::Rules::val_number_of_of_object_rules))]
+#[inline(never)]
+pub(crate) fn number_of_object<E: External>(
+    world: &mut World<E>,
+    run: &mut Budget,
+    frame: &Frame,
+    nested: u32,
+    reference: &Ref,
+) -> Result<Value, Stop>
+    requires nested { nested ≤ 100 }
+    requires deep { ref_depth (ref_of reference.now) < max_depth }
+    requires open { IsSome (base world.old.history).start }
+    ensures meaning { Val world.old.history run.old frame.now nested (tree.number_of (tree.of_object (ref_of reference.now))) result world.new.history run.new }
+    ensures keeps { Keeps world.old.history run.old world.new.history run.new }
+{
+    let referent = meet(world, run, frame, nested, reference)?;
+    property(world, run, referent, Prop::Number)
 }
 
 /// `the length of` and the like, and `the value of`.
 #[cycle(run)]
-#[tactic(auto, using(crate::proofs::Operands::function_rules))]
+#[tactic(auto, using(meaning::proofs::Rules::val_function_rules))]
 #[inline(never)]
 pub(crate) fn function_of<E: External>(
+    world: &mut World<E>,
+    run: &mut Budget,
+    frame: &Frame,
+    nested: u32,
+    word: FunctionWord,
+    operand: &Expr,
+) -> Result<Value, Stop>
+    requires nested { nested ≤ 100 }
+    requires deep { depth operand.now < max_depth }
+    requires open { IsSome (base world.old.history).start }
+    ensures meaning { Val world.old.history run.old frame.now nested (tree.function word operand.now) result world.new.history run.new }
+    ensures keeps { Keeps world.old.history run.old world.new.history run.new }
+{
+    match operand.kind() {
+        ExprKind::Name(_) | ExprKind::Field(_) => {
+            lent_function(world, run, frame, nested, word, operand)
+        }
+        _ => {
+            let met = eval(world, run, frame, nested, operand);
+            function_met(world, run, frame, nested, word, met)
+        }
+    }
+}
+
+/// A function of an operand, which is met now.
+#[cycle(run)]
+#[tactic(auto, using(crate::proofs::Operands::function_rules))]
+#[inline(never)]
+pub(crate) fn lent_function<E: External>(
     world: &mut World<E>,
     run: &mut Budget,
     frame: &Frame,
@@ -258,34 +505,62 @@ pub(crate) fn function_of<E: External>(
     }
 }
 
-/// The values of expressions from left to right.
+/// A function of a value that was computed, if it was.
+#[cycle(run)]
+#[tactic(auto, using(meaning::proofs::Rules::val_function_rules))]
+#[inline(never)]
+pub(crate) fn function_met<E: External>(
+    world: &mut World<E>,
+    run: &mut Budget,
+    frame: &Frame,
+    nested: u32,
+    word: FunctionWord,
+    met: Result<Value, Stop>,
+) -> Result<Value, Stop>
+    requires nested { nested ≤ 100 }
+    requires open { IsSome (base world.old.history).start }
+    ensures meaning { (w : History) (r : RunState) (x : tree.Expr) → Val w r frame.now nested x met world.old.history run.old → Val w r frame.now nested (tree.function word x) result world.new.history run.new }
+    ensures keeps { Keeps world.old.history run.old world.new.history run.new }
+{
+    let value = met?;
+    match function_named(word) {
+        Some(function) => call_of_value(run, function, value),
+        None => {
+            let text = text_of(run, value)?;
+            text_value(world, run, frame, nested, &text)
+        }
+    }
+}
+
+/// The values of expressions from left to right, after those that are there.
 #[cycle(run)]
 #[tactic(auto, using(meaning::proofs::Rules::vals_rules))]
-#[inline(never)]
+#[inline(always)]
 pub(crate) fn arguments<E: External>(
     world: &mut World<E>,
     run: &mut Budget,
     frame: &Frame,
     nested: u32,
     list: &[Expr],
-) -> Result<Arguments, Stop>
+    values: &mut Arguments,
+) -> Result<(), Stop>
     requires nested { nested ≤ 100 }
     requires deep { depths (exprs_of list.now) ≤ max_depth }
     requires open { IsSome (base world.old.history).start }
-    ensures meaning { Vals world.old.history run.old frame.now nested (exprs_of list.now) [] result world.new.history run.new }
+    ensures meaning { Vals world.old.history run.old frame.now nested (exprs_of list.now) values.old (listed result values.new) world.new.history run.new }
     ensures keeps { Keeps world.old.history run.old world.new.history run.new }
 {
-    let mut values = Arguments::new(run.alloc());
     for e in list {
         let value = eval(world, run, frame, nested, e)?;
-        values = values.with(value)?;
+        values.push(value)?;
     }
-    Ok(values)
+    Ok(())
 }
 
 /// An expression that is converted to a number.
 #[cycle(run)]
 #[tactic(auto, using(meaning::proofs::Rules::numberval_rules))]
+#[inline(never)]
 pub(crate) fn number_value<E: External>(
     world: &mut World<E>,
     run: &mut Budget,
@@ -306,6 +581,7 @@ pub(crate) fn number_value<E: External>(
 /// A condition.
 #[cycle(run)]
 #[tactic(auto, using(meaning::proofs::Rules::truthval_rules))]
+#[inline(never)]
 pub(crate) fn truth_value<E: External>(
     world: &mut World<E>,
     run: &mut Budget,
@@ -326,6 +602,7 @@ pub(crate) fn truth_value<E: External>(
 /// The value of a text that is an expression: a step, and one level deeper.
 #[cycle(run)]
 #[tactic(auto, using(meaning::proofs::Rules::textval_rules))]
+#[inline(never)]
 pub(crate) fn text_value<E: External>(
     world: &mut World<E>,
     run: &mut Budget,

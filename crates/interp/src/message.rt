@@ -29,6 +29,7 @@ use primitives::values::{call_function, empty};
 /// The arguments are computed, then the message is sent to an object.
 #[cycle(run)]
 #[tactic(auto, using(meaning::proofs::Rules::calls_rules))]
+#[inline(never)]
 pub(crate) fn calls<E: External>(
     world: &mut World<E>,
     run: &mut Budget,
@@ -45,13 +46,15 @@ pub(crate) fn calls<E: External>(
     ensures meaning { Calls world.old.history run.old frame.now nested object name.now (exprs_of list.now) kind result world.new.history run.new }
     ensures keeps { Keeps world.old.history run.old world.new.history run.new }
 {
-    let values = arguments(world, run, frame, nested, list)?;
+    let mut values = Arguments::new(run.alloc());
+    arguments(world, run, frame, nested, list, &mut values)?;
     send(world, run, frame, nested, object, name, &values, kind)
 }
 
 /// Sends a message to an object: a step, then along its path.
 #[cycle(run)]
 #[tactic(auto, using(meaning::proofs::Rules::sends_rules))]
+#[inline(never)]
 pub(crate) fn send<E: External>(
     world: &mut World<E>,
     run: &mut Budget,
@@ -125,6 +128,7 @@ pub(crate) fn along<E: External>(
 /// A message that no script handles: an external of that name, then what is built in.
 #[cycle(run)]
 #[tactic(auto, using(meaning::proofs::Rules::outside_rules))]
+#[inline(never)]
 pub(crate) fn outside<E: External>(
     world: &mut World<E>,
     run: &mut Budget,
@@ -155,6 +159,7 @@ pub(crate) fn outside<E: External>(
 /// What is built in, what is ignored, and what nobody understands.
 #[cycle(run)]
 #[tactic(auto, using(meaning::proofs::Rules::builtingives_rules))]
+#[inline(never)]
 pub(crate) fn answer<E: External>(
     world: &mut World<E>,
     run: &mut Budget,

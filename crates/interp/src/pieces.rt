@@ -20,6 +20,7 @@ use primitives::places::{edit, edit_variable, field_place, nth_piece, pieces_at,
 /// Which pieces are meant: each index is converted as soon as it is computed.
 #[cycle(run)]
 #[tactic(auto, using(meaning::proofs::Rules::chunkof_rules))]
+#[inline(never)]
 pub(crate) fn pieces<E: External>(
     world: &mut World<E>,
     run: &mut Budget,
@@ -50,6 +51,7 @@ pub(crate) fn pieces<E: External>(
 /// The place of a container.
 #[cycle(run)]
 #[tactic(auto, using(meaning::proofs::Rules::resolves_rules))]
+#[inline(never)]
 pub(crate) fn resolve<'a, E: External>(
     world: &mut World<E>,
     run: &mut Budget,
@@ -80,6 +82,7 @@ pub(crate) fn resolve<'a, E: External>(
 /// Edits a container in the open batch. No place is made for a variable.
 #[cycle(run)]
 #[tactic(auto, using(crate::proofs::Edits::edit_rules))]
+#[inline(never)]
 pub(crate) fn edit_container<E: External>(
     world: &mut World<E>,
     run: &mut Budget,

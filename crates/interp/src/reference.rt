@@ -1,18 +1,25 @@
 //! References to objects.
 
-ghost use Rattle.std.specs.Prelude.{◌≡◌, ◌≤◌, ◌<◌, IsSome};
-ghost use Rattle.ht_grammar.specs.Depth.{destination_depth, owner_depth, part_depth, ref_depth, selector_depth, which_depth, max_depth};
+ghost use Rattle.std.specs.Prelude.{◌≡◌, ◌≤◌, ◌<◌, ℕ, IsSome};
+ghost use Rattle.ht_grammar.specs.Depth.{depth, destination_depth, owner_depth, part_depth, ref_depth, selector_depth, which_depth, max_depth};
 ghost use Rattle.ht_tree.specs.StatementView.{destination_of};
 ghost use Rattle.ht_tree.specs.View.{owner_of, part_of, ref_of, selector_of, which_of};
 ghost use Rattle.containers.specs.Base.{base};
-ghost use Rattle.meaning.specs.Meaning.{Leads, Meets, Owns, PartMet, Picks, Seeks};
+ghost use Rattle.meaning.specs.Meaning.{Leads, Meets, Owns, PartMet, Picks, Seeks, Val};
+ghost use Rattle.meaning.specs.declared.frame.Frame.{Frame};
+ghost use Rattle.meaning.specs.State.{RunState};
+ghost use Rattle.change_journal.specs.History.{History};
+ghost use Rattle.ht_grammar.specs.Trees as tree;
 ghost use Rattle.interp.specs.Keeps.{Keeps};
+ghost use Rattle.interp.specs.Picks.{expr_in};
 
-use crate::expr::eval_text;
+use crate::expr::eval;
 use change_journal::World;
 use externals::External;
 use ht_grammar::Layer;
-use ht_tree::{Destination, Owner, Part, Ref, Selector, Which};
+use ht_lex::Ordinal;
+use ht_tree::{Destination, Expr, Owner, Part, Ref, Selector, Which};
+use ht_values::{PartKind, Value};
 use meaning::{Budget, Frame, Stop};
 use object_references::{PartScope, Pick, Referent, Sought, layer_meant, met_here};
 use object_table::Id;
@@ -21,37 +28,10 @@ use primitives::objects::{
     object_there, part_in, scope_here,
 };
 
-/// Which of several is meant.
-#[cycle(run)]
-#[tactic(auto, using(meaning::proofs::Rules::picks_rules))]
-pub(crate) fn pick<E: External>(
-    world: &mut World<E>,
-    run: &mut Budget,
-    frame: &Frame,
-    nested: u32,
-    which: &Which,
-) -> Result<Pick, Stop>
-    requires nested { nested ≤ 100 }
-    requires deep { which_depth (which_of which.now) < max_depth }
-    requires open { IsSome (base world.old.history).start }
-    ensures meaning { Picks world.old.history run.old frame.now nested (which_of which.now) result world.new.history run.new }
-    ensures keeps { Keeps world.old.history run.old world.new.history run.new }
-{
-    match which {
-        Which::ById(id) => {
-            let id = eval_text(world, run, frame, nested, id)?;
-            Ok(Pick::ById(id))
-        }
-        Which::ByText(text) => {
-            let text = eval_text(world, run, frame, nested, text)?;
-            Ok(Pick::ByText(text))
-        }
-    }
-}
-
 /// What a reference to a card or a background looks for.
 #[cycle(run)]
 #[tactic(auto, using(meaning::proofs::Rules::seeks_rules))]
+#[inline(never)]
 pub(crate) fn seek<E: External>(
     world: &mut World<E>,
     run: &mut Budget,
@@ -70,13 +50,17 @@ pub(crate) fn seek<E: External>(
         Selector::Next => Ok(Sought::Next),
         Selector::Previous => Ok(Sought::Previous),
         Selector::Nth(ordinal) => Ok(Sought::Picked(Pick::Nth(*ordinal))),
-        Selector::Which(which) => Ok(Sought::Picked(pick(world, run, frame, nested, which)?)),
+        Selector::Which(which) => {
+            let met = eval(world, run, frame, nested, expr_of(which));
+            sought(run, which, met)
+        }
     }
 }
 
 /// Where a part is looked for: on a layer of the owner, or of the current card.
 #[cycle(run)]
 #[tactic(auto, using(meaning::proofs::Rules::owns_rules))]
+#[inline(never)]
 pub(crate) fn scope<E: External>(
     world: &mut World<E>,
     run: &mut Budget,
@@ -94,19 +78,83 @@ pub(crate) fn scope<E: External>(
     match owner {
         Owner::NoOwner => Ok(scope_here(world, layer)),
         Owner::OnCard(card) => {
-            let card = seek(world, run, frame, nested, card)?;
-            card_scope(world, run, layer, &card)
+            let card = seek(world, run, frame, nested, card);
+            on_card(world, run, layer, card)
         }
         Owner::OnBackground(background) => {
-            let background = seek(world, run, frame, nested, background)?;
-            background_scope(world, run, layer, &background)
+            let background = seek(world, run, frame, nested, background);
+            on_background(world, run, layer, background)
         }
     }
+}
+
+/// The expression that says which of several is meant.
+fn expr_of(which: &Which) -> &Expr
+    ensures value { result.now ≡ expr_in (which_of which.now) }
+    ensures depth { depth result.now ≡ which_depth (which_of which.now) }
+{
+    match which {
+        Which::ById(id) => id,
+        Which::ByText(text) => text,
+    }
+}
+
+/// The one of several that a value picks which was computed, if it was.
+#[tactic(auto, using(crate::proofs::Picks::pick_rules))]
+fn picked(run: &Budget, which: &Which, met: Result<Value, Stop>) -> Result<Pick, Stop>
+    ensures { (w w1 : History) (r : RunState) (f : Frame) (d : ℕ) → Val w r f d (expr_in (which_of which.now)) met w1 run.now → Picks w r f d (which_of which.now) result w1 run.now }
+{
+    let text = met?.into_text(run.alloc())?;
+    match which {
+        Which::ById(_) => Ok(Pick::ById(text)),
+        Which::ByText(_) => Ok(Pick::ByText(text)),
+    }
+}
+
+/// What a value means that says which card or background is sought, if it was computed.
+#[tactic(auto, using(meaning::proofs::Rules::seeks_which_rules))]
+#[inline(never)]
+fn sought(run: &Budget, which: &Which, met: Result<Value, Stop>) -> Result<Sought, Stop>
+    ensures { (w w1 : History) (r : RunState) (f : Frame) (d : ℕ) → Val w r f d (expr_in (which_of which.now)) met w1 run.now → Seeks w r f d (tree.which (which_of which.now)) result w1 run.now }
+{
+    let pick = picked(run, which, met)?;
+    Ok(Sought::Picked(pick))
+}
+
+/// Where a part of a card that was sought is looked for, if it was.
+#[tactic(auto, using(meaning::proofs::Rules::owns_rules))]
+#[inline(never)]
+fn on_card<E: External>(
+    world: &World<E>,
+    run: &Budget,
+    layer: Layer,
+    card: Result<Sought, Stop>,
+) -> Result<PartScope, Stop>
+    ensures { (w : History) (r : RunState) (f : Frame) (d : ℕ) (sl : tree.Selector) → Seeks w r f d sl card world.now.history run.now → Owns w r f d layer (tree.on_card sl) result world.now.history run.now }
+{
+    let card = card?;
+    card_scope(world, run, layer, &card)
+}
+
+/// Where a part of a background that was sought is looked for, if it was.
+#[tactic(auto, using(meaning::proofs::Rules::owns_rules))]
+#[inline(never)]
+fn on_background<E: External>(
+    world: &World<E>,
+    run: &Budget,
+    layer: Layer,
+    background: Result<Sought, Stop>,
+) -> Result<PartScope, Stop>
+    ensures { (w : History) (r : RunState) (f : Frame) (d : ℕ) (sl : tree.Selector) → Seeks w r f d sl background world.now.history run.now → Owns w r f d layer (tree.on_background sl) result world.now.history run.now }
+{
+    let background = background?;
+    background_scope(world, run, layer, &background)
 }
 
 /// A button or a field: what is looked for, then its owner, then the part.
 #[cycle(run)]
 #[tactic(auto, using(meaning::proofs::Rules::partmet_rules))]
+#[inline(never)]
 pub(crate) fn meet_part<E: External>(
     world: &mut World<E>,
     run: &mut Budget,
@@ -122,20 +170,69 @@ pub(crate) fn meet_part<E: External>(
 {
     match part {
         Part::Plain(layer, kind, which, owner) => {
-            let pick = pick(world, run, frame, nested, which)?;
-            let scope = scope(world, run, frame, nested, layer_meant(*layer, *kind), owner)?;
-            part_in(world, run, *kind, scope, &pick)
+            let met = eval(world, run, frame, nested, expr_of(which));
+            plain_part(world, run, frame, nested, *layer, *kind, which, owner, met)
         }
         Part::Nth(ordinal, layer, kind, owner) => {
-            let scope = scope(world, run, frame, nested, layer_meant(*layer, *kind), owner)?;
-            part_in(world, run, *kind, scope, &Pick::Nth(*ordinal))
+            nth_part(world, run, frame, nested, *ordinal, *layer, *kind, owner)
         }
     }
+}
+
+/// A part that a value picks which was computed, if it was: its owner is looked for, then the part.
+#[cycle(run)]
+#[tactic(auto, using(meaning::proofs::Rules::partmet_rules))]
+#[inline(never)]
+pub(crate) fn plain_part<E: External>(
+    world: &mut World<E>,
+    run: &mut Budget,
+    frame: &Frame,
+    nested: u32,
+    layer: Option<Layer>,
+    kind: PartKind,
+    which: &Which,
+    owner: &Owner,
+    met: Result<Value, Stop>,
+) -> Result<Referent, Stop>
+    requires nested { nested ≤ 100 }
+    requires deep { owner_depth (owner_of owner.now) < max_depth }
+    requires open { IsSome (base world.old.history).start }
+    ensures meaning { (w : History) (r : RunState) → Val w r frame.now nested (expr_in (which_of which.now)) met world.old.history run.old → PartMet w r frame.now nested (tree.part layer kind (which_of which.now) (owner_of owner.now)) result world.new.history run.new }
+    ensures keeps { Keeps world.old.history run.old world.new.history run.new }
+{
+    let pick = picked(run, which, met)?;
+    let scope = scope(world, run, frame, nested, layer_meant(layer, kind), owner)?;
+    part_in(world, run, kind, scope, &pick)
+}
+
+/// A part by its ordinal: its owner is looked for, then the part.
+#[cycle(run)]
+#[tactic(auto, using(meaning::proofs::Rules::partmet_rules))]
+#[inline(never)]
+pub(crate) fn nth_part<E: External>(
+    world: &mut World<E>,
+    run: &mut Budget,
+    frame: &Frame,
+    nested: u32,
+    ordinal: Ordinal,
+    layer: Option<Layer>,
+    kind: PartKind,
+    owner: &Owner,
+) -> Result<Referent, Stop>
+    requires nested { nested ≤ 100 }
+    requires deep { owner_depth (owner_of owner.now) < max_depth }
+    requires open { IsSome (base world.old.history).start }
+    ensures meaning { PartMet world.old.history run.old frame.now nested (tree.nth_part ordinal layer kind (owner_of owner.now)) result world.new.history run.new }
+    ensures keeps { Keeps world.old.history run.old world.new.history run.new }
+{
+    let scope = scope(world, run, frame, nested, layer_meant(layer, kind), owner)?;
+    part_in(world, run, kind, scope, &Pick::Nth(ordinal))
 }
 
 /// The object of a reference, and the card that is meant with it.
 #[cycle(run)]
 #[tactic(auto, using(meaning::proofs::Rules::meets_rules))]
+#[inline(never)]
 pub(crate) fn meet<E: External>(
     world: &mut World<E>,
     run: &mut Budget,
@@ -168,6 +265,7 @@ pub(crate) fn meet<E: External>(
 /// The card that `go` leads to.
 #[cycle(run)]
 #[tactic(auto, using(meaning::proofs::Rules::leads_rules))]
+#[inline(never)]
 pub(crate) fn lead<E: External>(
     world: &mut World<E>,
     run: &mut Budget,

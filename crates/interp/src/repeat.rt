@@ -2,71 +2,78 @@
 
 ghost use Rattle.std.specs.Prelude.{◌≡◌, ◌≤◌, ◌<◌, IsSome, option_copied};
 ghost use Rattle.ht_grammar.specs.Statements as stm;
-ghost use Rattle.ht_grammar.specs.Depth.{depth, head_depth, stmts_depth, max_depth};
-ghost use Rattle.ht_tree.specs.StatementView.{head_of, stmts_of};
+ghost use Rattle.ht_grammar.specs.Depth.{depth, stmts_depth, max_depth};
+ghost use Rattle.ht_tree.specs.StatementView.{stmts_of};
 ghost use Rattle.containers.specs.Base.{base};
 ghost use Rattle.meaning.specs.Meaning.{Bounds, Counts, Endless, Form, While};
+ghost use Rattle.interp.specs.Heads.{counted};
 ghost use Rattle.interp.specs.Keeps.{Keeps};
 
 use crate::expr::{eval, number_value, truth_value};
 use crate::stmt::run_block;
 use change_journal::World;
 use externals::External;
-use ht_tree::{Expr, Head, Stmt};
+use ht_tree::{Expr, Stmt, Stmts};
 use ht_values::Name;
 use meaning::{Budget, Counter, Frame, How, Stop};
 use primitives::places::assign;
 use primitives::values::{counter, goes_on, leaves_repeat};
 
-/// `repeat`, by its head.
+/// A repeat as often as a number says.
 #[cycle(run)]
-#[tactic(auto, using(meaning::proofs::Rules::form_repeat_forever_rules, meaning::proofs::Rules::form_repeat_times_rules, meaning::proofs::Rules::form_repeat_while_rules, meaning::proofs::Rules::form_repeat_until_rules, meaning::proofs::Rules::form_repeat_counted_up_rules, meaning::proofs::Rules::form_repeat_counted_down_rules))]
+#[tactic(auto, using(meaning::proofs::Rules::form_repeat_times_rules))]
 #[inline(never)]
-pub(crate) fn repeat<E: External>(
+pub(crate) fn repeat_times<E: External>(
     world: &mut World<E>,
     run: &mut Budget,
     frame: &mut Frame,
     nested: u32,
-    head: &Head,
+    times: &Expr,
     lines: &[Stmt],
 ) -> Result<How, Stop>
     requires nested { nested ≤ 100 }
-    requires head { head_depth (head_of head.now) < max_depth }
+    requires times { depth times.now < max_depth }
     requires lines { stmts_depth (stmts_of lines.now) < max_depth }
     requires open { IsSome (base world.old.history).start }
-    ensures meaning { Form world.old.history run.old frame.old nested (stm.repeat (head_of head.now) (stmts_of lines.now)) result world.new.history run.new frame.new }
+    ensures meaning { Form world.old.history run.old frame.old nested (stm.repeat (stm.times times.now) (stmts_of lines.now)) result world.new.history run.new frame.new }
     ensures keeps { Keeps world.old.history run.old world.new.history run.new }
 {
-    match head {
-        Head::Forever => repeat_forever(world, run, frame, nested, lines),
-        Head::Times(times) => {
-            let times = number_value(world, run, frame, nested, times)?;
-            turns(
-                world,
-                run,
-                frame,
-                nested,
-                None,
-                Counter::new(1, times, false),
-                lines,
-            )
-        }
-        Head::While(condition) => repeat_while(world, run, frame, nested, true, condition, lines),
-        Head::Until(condition) => repeat_while(world, run, frame, nested, false, condition, lines),
-        Head::CountedUp(name, from, to) => {
-            let counter = bounds(world, run, frame, nested, from, to, false)?;
-            turns(world, run, frame, nested, Some(name), counter, lines)
-        }
-        Head::CountedDown(name, from, to) => {
-            let counter = bounds(world, run, frame, nested, from, to, true)?;
-            turns(world, run, frame, nested, Some(name), counter, lines)
-        }
-    }
+    let times = number_value(world, run, frame, nested, times)?;
+    let counter = Counter::new(1, times, false);
+    turns(world, run, frame, nested, None, counter, lines)
+}
+
+/// A repeat from a number up or down to another.
+#[cycle(run)]
+#[tactic(auto, using(meaning::proofs::Rules::form_repeat_counted_up_rules, meaning::proofs::Rules::form_repeat_counted_down_rules))]
+#[inline(never)]
+pub(crate) fn repeat_counted<E: External>(
+    world: &mut World<E>,
+    run: &mut Budget,
+    frame: &mut Frame,
+    nested: u32,
+    name: &Name,
+    from: &Expr,
+    to: &Expr,
+    is_down: bool,
+    lines: &Stmts,
+) -> Result<How, Stop>
+    requires nested { nested ≤ 100 }
+    requires from { depth from.now < max_depth }
+    requires to { depth to.now < max_depth }
+    requires lines { stmts_depth (stmts_of lines.now.items.items) < max_depth }
+    requires open { IsSome (base world.old.history).start }
+    ensures meaning { Form world.old.history run.old frame.old nested (stm.repeat (counted is_down name.now from.now to.now) (stmts_of lines.now.items.items)) result world.new.history run.new frame.new }
+    ensures keeps { Keeps world.old.history run.old world.new.history run.new }
+{
+    let counter = bounds(world, run, frame, nested, from, to, is_down)?;
+    turns(world, run, frame, nested, Some(name), counter, &lines.items)
 }
 
 /// The bounds of a repeat with a variable: both are computed, then both are converted.
 #[cycle(run)]
 #[tactic(auto, using(meaning::proofs::Rules::bounds_rules))]
+#[inline(never)]
 pub(crate) fn bounds<E: External>(
     world: &mut World<E>,
     run: &mut Budget,
@@ -150,7 +157,7 @@ pub(crate) fn repeat_while<E: External>(
 /// A repeat over numbers, with a variable or without one.
 #[cycle(run)]
 #[tactic(auto, using(meaning::proofs::Rules::counts_rules))]
-#[inline(never)]
+#[inline(always)]
 pub(crate) fn turns<E: External>(
     world: &mut World<E>,
     run: &mut Budget,

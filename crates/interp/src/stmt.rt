@@ -2,9 +2,9 @@
 
 ghost use Rattle.std.specs.Prelude.{◌≡◌, ◌≤◌, ◌<◌, IsSome, IfOk};
 ghost use Rattle.ht_grammar.specs.Statements as stm;
-ghost use Rattle.ht_grammar.specs.Depth.{chunk_depth, container_depth, depth, destination_depth, ref_depth, stmt_depth, stmts_depth, max_depth};
+ghost use Rattle.ht_grammar.specs.Depth.{chunk_depth, container_depth, depth, depths, destination_depth, ref_depth, stmt_depth, stmts_depth, max_depth};
 ghost use Rattle.ht_tree.specs.StatementView.{destination_of, stmts_of};
-ghost use Rattle.ht_tree.specs.View.{chunk_of, ref_of};
+ghost use Rattle.ht_tree.specs.View.{chunk_of, exprs_of, ref_of};
 ghost use Rattle.containers.specs.Base.{base};
 ghost use Rattle.meaning.specs.Meaning.{Alters, Block, Form};
 ghost use Rattle.interp.specs.Keeps.{Keeps};
@@ -13,14 +13,14 @@ use crate::expr::{eval, eval_text, truth_value};
 use crate::message::calls;
 use crate::pieces::{edit_container, pieces, resolve};
 use crate::reference::{lead, meet};
-use crate::repeat::repeat;
+use crate::repeat::{repeat_counted, repeat_forever, repeat_times, repeat_while};
 use crate::system::go;
 use change_journal::World;
 use containers::Edit;
 use externals::External;
 use ht_grammar::{HandlerKind, RunProp};
-use ht_tree::{Chunk, Container, Destination, Expr, Ref, Stmt, StmtKind};
-use ht_values::{Fault, Op, Prop, Where};
+use ht_tree::{Chunk, Container, Destination, Expr, Head, Ref, Stmt, StmtKind};
+use ht_values::{Fault, Op, Prop, Text, Where};
 use meaning::{Budget, Frame, How, Stop, TextUse};
 use primitives::places::{declare_globals, edit, put_into_it, set_property};
 use primitives::values::{empty, leaving_text, lines, message, set_run_property, stopping};
@@ -133,24 +133,8 @@ pub(crate) fn run_stmt<E: External>(
         StmtKind::Exit(_) => Ok(How::Exit),
         StmtKind::Pass(_) => Ok(How::Pass),
         StmtKind::ReturnNothing => Ok(How::Returns(empty(run))),
-        StmtKind::ReturnValue(value) => {
-            let value = eval(world, run, frame, nested, value)?;
-            Ok(How::Returns(value))
-        }
-        StmtKind::Command(name, list) => {
-            let command = HandlerKind::Command;
-            let _ = calls(
-                world,
-                run,
-                frame,
-                nested,
-                frame.me,
-                name,
-                &list.items,
-                command,
-            )?;
-            Ok(How::Next)
-        }
+        StmtKind::ReturnValue(value) => return_value(world, run, frame, nested, value),
+        StmtKind::Command(name, list) => command(world, run, frame, nested, name, &list.items),
         StmtKind::When(condition, lines, otherwise) => {
             when(
                 world,
@@ -162,8 +146,69 @@ pub(crate) fn run_stmt<E: External>(
                 &otherwise.items,
             )
         }
-        StmtKind::Repeat(head, lines) => repeat(world, run, frame, nested, head, &lines.items),
+        StmtKind::Repeat(Head::Forever, lines) => {
+            repeat_forever(world, run, frame, nested, &lines.items)
+        }
+        StmtKind::Repeat(Head::Times(times), lines) => {
+            repeat_times(world, run, frame, nested, times, &lines.items)
+        }
+        StmtKind::Repeat(Head::While(condition), lines) => {
+            repeat_while(world, run, frame, nested, true, condition, &lines.items)
+        }
+        StmtKind::Repeat(Head::Until(condition), lines) => {
+            repeat_while(world, run, frame, nested, false, condition, &lines.items)
+        }
+        StmtKind::Repeat(Head::CountedUp(name, from, to), lines) => {
+            repeat_counted(world, run, frame, nested, name, from, to, false, lines)
+        }
+        StmtKind::Repeat(Head::CountedDown(name, from, to), lines) => {
+            repeat_counted(world, run, frame, nested, name, from, to, true, lines)
+        }
     }
+}
+
+/// `return` with a value.
+#[cycle(run)]
+#[tactic(auto, using(meaning::proofs::Rules::form_return_value_rules))]
+#[inline(never)]
+pub(crate) fn return_value<E: External>(
+    world: &mut World<E>,
+    run: &mut Budget,
+    frame: &mut Frame,
+    nested: u32,
+    value: &Expr,
+) -> Result<How, Stop>
+    requires nested { nested ≤ 100 }
+    requires deep { depth value.now < max_depth }
+    requires open { IsSome (base world.old.history).start }
+    ensures meaning { Form world.old.history run.old frame.old nested (stm.return_value value.now) result world.new.history run.new frame.new }
+    ensures keeps { Keeps world.old.history run.old world.new.history run.new }
+{
+    let value = eval(world, run, frame, nested, value)?;
+    Ok(How::Returns(value))
+}
+
+/// A command: a message to the object whose handler runs.
+#[cycle(run)]
+#[tactic(auto, using(meaning::proofs::Rules::form_command_rules))]
+#[inline(never)]
+pub(crate) fn command<E: External>(
+    world: &mut World<E>,
+    run: &mut Budget,
+    frame: &mut Frame,
+    nested: u32,
+    name: &Text,
+    list: &[Expr],
+) -> Result<How, Stop>
+    requires nested { nested ≤ 100 }
+    requires deep { depths (exprs_of list.now) < max_depth }
+    requires open { IsSome (base world.old.history).start }
+    ensures meaning { Form world.old.history run.old frame.old nested (stm.command name.now (exprs_of list.now)) result world.new.history run.new frame.new }
+    ensures keeps { Keeps world.old.history run.old world.new.history run.new }
+{
+    let kind = HandlerKind::Command;
+    let _ = calls(world, run, frame, nested, frame.me, name, list, kind)?;
+    Ok(How::Next)
 }
 
 /// `put` alone: a line is shown.
@@ -428,6 +473,7 @@ pub(crate) fn run_go<E: External>(
 /// `if`.
 #[cycle(run)]
 #[tactic(auto, using(meaning::proofs::Rules::form_when_rules))]
+#[inline(never)]
 pub(crate) fn when<E: External>(
     world: &mut World<E>,
     run: &mut Budget,

@@ -24,6 +24,7 @@ use structural_changes::home_of;
 /// A message of the system to an object; none while lockMessages is true.
 #[cycle(run)]
 #[tactic(auto, using(meaning::proofs::Rules::system_rules))]
+#[inline(never)]
 pub(crate) fn system<E: External>(
     world: &mut World<E>,
     run: &mut Budget,
@@ -78,6 +79,7 @@ pub(crate) fn systems<E: External>(
 /// `go` to a card.
 #[cycle(run)]
 #[tactic(auto, using(meaning::proofs::Rules::goes_rules))]
+#[inline(never)]
 pub(crate) fn go<E: External>(
     world: &mut World<E>,
     run: &mut Budget,
@@ -105,6 +107,7 @@ pub(crate) fn go<E: External>(
 /// The items of `doMenu`.
 #[cycle(run)]
 #[tactic(auto, using(meaning::proofs::Rules::menu_rules))]
+#[inline(never)]
 pub(crate) fn menu<E: External>(
     world: &mut World<E>,
     run: &mut Budget,

@@ -1,15 +1,14 @@
-use Rattle.std.proofs.Common.{rules, arith, refl, sym, ap, ◌∙◌, drop_of_length-le}
+use Rattle.std.proofs.Common.{rules, arith, refl, sym, ap, ◌∙◌, drop_of_length-le, SFits, w64}
 use Rattle.std.proofs.lemmas.Grind.{common_steps}
+use Rattle.std.proofs.lemmas.Int.{to_z-of_z}
 use Rattle.std.proofs.lemmas.Result.{err_from_is_err_and}
-use Rattle.ht_grammar.specs.Trees as tree
 use Rattle.ht_tree.specs.ContainerView.{container_of}
 use Rattle.ht_tree.specs.StatementView.{stmts_of}
-use Rattle.ht_tree.specs.View.{count_of, part_of}
 use Rattle.meaning.specs.Messages.{lines_of}
-use Rattle.meaning.specs.Meaning.{Val, Vals, Form, Block, Resolves, PartMet, Along, Talks, Systems}
+use Rattle.meaning.specs.Meaning.{Vals, Form, Block, Resolves, Along, Talks, Systems}
 use Rattle.primitives.proofs.Lists.{cut_at}
 use Rattle.interp.proofs.Loops.{cut_exprs, no_exprs, deep_expr, cut_stmts, no_stmts, deep_stmt}
-use Rattle.interp.proofs.Operands.{computed, counted, taken}
+use Rattle.interp.proofs.Operands.{computed, counted, nth_taken, taken_part}
 use Rattle.interp.proofs.+run.Goals as goal
 
 pub conversation::converse-returns-in-Fail-clause-meaning : goal.conversation::converse-returns-in-Fail-clause-meaning
@@ -44,16 +43,11 @@ pub expr::arguments-loop-e-preserved : goal.expr::arguments-loop-e-preserved
 expr::arguments-loop-e-preserved g t c = record {
   fewer = search rules;
   base = search rules;
-  rest = λ o w r h. c.loop-e.invariant.rest _ _ _ (Vals.vals_more (cut_exprs c.args.list.now c.loop-e.e-index c.e-item.result c.loop-e-test.true c.e-item.is) c.in_ok-value.ensures.meaning (rw c.in_ok-values.ensures at h));
+  rest = λ o w r h. c.loop-e.invariant.rest _ _ _ (Vals.vals_more (cut_exprs c.args.list.now c.loop-e.e-index c.e-item.result c.loop-e-test.true c.e-item.is) c.in_ok-value.ensures.meaning (rw c.in_ok-push.ensures at h));
 }
 
 pub expr::arguments-returns-clause-meaning : goal.expr::arguments-returns-clause-meaning
 expr::arguments-returns-clause-meaning g t c = c.loop-e.invariant.rest _ _ _ (Vals.vals_done (no_exprs c.args.list.now c.loop-e.e-index c.loop-e-test.false))
-
-pub expr::chunk_of-returns-in_err-pieces-clause-meaning : goal.expr::chunk_of-returns-in_err-pieces-clause-meaning
-expr::chunk_of-returns-in_err-pieces-clause-meaning g t c =
-    let p = err_from_is_err_and c.from_residual.result c.from_residual.ensures.1 in
-    rw (p.1, p.2) (Val.chunk_stops refl c.in_err-pieces.ensures.meaning)
 
 pub message::along-returns-in-Err-clause-meaning : goal.message::along-returns-in-Err-clause-meaning
 message::along-returns-in-Err-clause-meaning g t c =
@@ -80,9 +74,6 @@ pub pieces::resolve-returns-in_err-pieces-in-Chunk-clause-meaning : goal.pieces:
 pieces::resolve-returns-in_err-pieces-in-Chunk-clause-meaning g t c =
     let p = err_from_is_err_and c.from_residual-in_err-pieces-in-Chunk.result c.from_residual-in_err-pieces-in-Chunk.ensures.1 in
     rw (p.1, p.2) (Resolves.place_chunk_stops (sym c.kind.ensures ∙ ap container_of c.in-Chunk.is) c.in_err-pieces-in-Chunk.ensures.meaning)
-
-pub reference::meet_part-returns-in_ok-scope-in-Plain-clause-meaning : goal.reference::meet_part-returns-in_ok-scope-in-Plain-clause-meaning
-reference::meet_part-returns-in_ok-scope-in-Plain-clause-meaning g t c = PartMet.part_of_owner (ap part_of c.in-Plain.is) c.in_ok-pick-in-Plain.ensures.meaning c.layer_meant.ensures c.in_ok-scope-in-Plain.ensures.meaning c.part_in.ensures
 
 pub stmt::run_block-run_stmt-requires : goal.stmt::run_block-run_stmt-requires
 stmt::run_block-run_stmt-requires g t c κs within =
@@ -135,15 +126,19 @@ system::systems-loop-message-preserved g t c = record {
 pub system::systems-returns-clause-meaning : goal.system::systems-returns-clause-meaning
 system::systems-returns-clause-meaning g t c = rw c.empty.ensures (c.loop-message.invariant.rest _ _ _ (Systems.systems_done (drop_of_length-le c.args.messages.now c.loop-message-test.false)))
 
-pub expr::chunk_of-returns-clause-meaning : goal.expr::chunk_of-returns-clause-meaning
-expr::chunk_of-returns-clause-meaning g t c = taken c.in_ok-text.text c.in_ok-text.ensures.meaning c.in_ok-pieces.ensures.meaning c.operand_part.ensures
+pub expr::count_of_pieces-returns-clause-meaning : goal.expr::count_of_pieces-returns-clause-meaning
+expr::count_of_pieces-returns-clause-meaning g t c = counted c.in_ok-text.text c.in_ok-text.ensures.meaning refl c.operand_count.ensures
 
-pub expr::number_of-returns-in_ok-text-in-PiecesOf-clause-meaning : goal.expr::number_of-returns-in_ok-text-in-PiecesOf-clause-meaning
-expr::number_of-returns-in_ok-text-in-PiecesOf-clause-meaning g t c =
-    let form = ap (λ count. tree.number_of (count_of count)) c.in-PiecesOf.is in
-    counted c.in_ok-text-in-PiecesOf.text c.in_ok-text-in-PiecesOf.ensures.meaning form c.operand_count.ensures
-
-pub expr::function_of-returns-in-Some-clause-meaning : goal.expr::function_of-returns-in-Some-clause-meaning
-expr::function_of-returns-in-Some-clause-meaning g t c =
+pub expr::lent_function-returns-in-Some-clause-meaning : goal.expr::lent_function-returns-in-Some-clause-meaning
+expr::lent_function-returns-in-Some-clause-meaning g t c =
     let named = sym c.function_named.ensures ∙ c.in-Some.is in
     computed c.in_ok-x.x c.in_ok-x.ensures.meaning named c.call_of_operand.ensures
+
+pub expr::nth_piece_of-returns-clause-meaning : goal.expr::nth_piece_of-returns-clause-meaning
+expr::nth_piece_of-returns-clause-meaning g t c = nth_taken c.in_ok-text.text c.in_ok-text.ensures.meaning c.nth_piece.ensures c.operand_part.ensures
+
+pub expr::lent_part-returns-clause-meaning : goal.expr::lent_part-returns-clause-meaning
+expr::lent_part-returns-clause-meaning g t c =
+    let from : SFits w64 c.args.from = search rules in
+    let to : SFits w64 c.args.to = search rules in
+    rw (to_z-of_z w64 c.args.from from, to_z-of_z w64 c.args.to to) at (taken_part c.in_ok-text.text c.in_ok-text.ensures.meaning c.pieces_at.ensures c.operand_part.ensures)

@@ -1,9 +1,9 @@
 -- What falls in each call of the cycle, and what its loops keep. A message, a turn of an external and `value` take a step;
 -- `do` and what they run goes one level deeper; all else goes into a part of a tree.
-use Rattle.std.proofs.Common.{◌≡◌, ◌≤◌, ℕ, List, [], drop, ◌+◌, ◌-◌, ◌*◌, max, Result, option_copied}
-use Rattle.ht_grammar.specs.Depth.{depth, depths, chunk_depth, container_depth, count_depth, destination_depth, head_depth, owner_depth, part_depth, ref_depth, selector_depth, stmt_depth, stmts_depth, which_depth}
-use Rattle.ht_tree.specs.View.{chunk_of, count_of, exprs_of, owner_of, part_of, ref_of, selector_of, which_of}
-use Rattle.ht_tree.specs.StatementView.{destination_of, head_of, stmts_of}
+use Rattle.std.proofs.Common.{◌≡◌, ◌≤◌, ℕ, List, drop, ◌+◌, ◌-◌, ◌*◌, max, Result, option_copied}
+use Rattle.ht_grammar.specs.Depth.{depth, depths, chunk_depth, container_depth, destination_depth, owner_depth, part_depth, ref_depth, selector_depth, stmt_depth, stmts_depth}
+use Rattle.ht_tree.specs.View.{chunk_of, exprs_of, owner_of, part_of, ref_of, selector_of}
+use Rattle.ht_tree.specs.StatementView.{destination_of, stmts_of}
 use Rattle.change_journal.specs.History.{History}
 use Rattle.containers.specs.Base.{base}
 use Rattle.meaning.specs.declared.end.Conversed.{Conversed}
@@ -29,8 +29,41 @@ decreases-expr::unary g l = 1000000 * l.run.now.left + 4000 * (100 - l.nested) +
 abbrev pub decreases-expr::meet_operand : goal.decreases-expr::meet_operand
 decreases-expr::meet_operand g l = 1000000 * l.run.now.left + 4000 * (100 - l.nested) + 8 * depth l.e.now + 103
 
-abbrev pub decreases-expr::chunk_of : goal.decreases-expr::chunk_of
-decreases-expr::chunk_of g l = 1000000 * l.run.now.left + 4000 * (100 - l.nested) + 8 * max (chunk_depth (chunk_of l.chunk.now)) (depth l.text.now) + 107
+abbrev pub decreases-expr::there_is : goal.decreases-expr::there_is
+decreases-expr::there_is g l = 1000000 * l.run.now.left + 4000 * (100 - l.nested) + 8 * ref_depth (ref_of l.reference.now) + 103
+
+abbrev pub decreases-expr::field_of : goal.decreases-expr::field_of
+decreases-expr::field_of g l = 1000000 * l.run.now.left + 4000 * (100 - l.nested) + 8 * part_depth (part_of l.part.now) + 101
+
+abbrev pub decreases-expr::property_of : goal.decreases-expr::property_of
+decreases-expr::property_of g l = 1000000 * l.run.now.left + 4000 * (100 - l.nested) + 8 * ref_depth (ref_of l.reference.now) + 103
+
+abbrev pub decreases-expr::count_of_pieces : goal.decreases-expr::count_of_pieces
+decreases-expr::count_of_pieces g l = 1000000 * l.run.now.left + 4000 * (100 - l.nested) + 8 * depth l.text.now + 104
+
+abbrev pub decreases-expr::number_of_object : goal.decreases-expr::number_of_object
+decreases-expr::number_of_object g l = 1000000 * l.run.now.left + 4000 * (100 - l.nested) + 8 * ref_depth (ref_of l.reference.now) + 104
+
+abbrev pub decreases-expr::lent_function : goal.decreases-expr::lent_function
+decreases-expr::lent_function g l = 1000000 * l.run.now.left + 4000 * (100 - l.nested) + 8 * depth l.operand.now + 104
+
+abbrev pub decreases-expr::function_met : goal.decreases-expr::function_met
+decreases-expr::function_met g l = 1000000 * l.run.now.left + 4000 * (100 - l.nested) + 2
+
+abbrev pub decreases-expr::piece_of : goal.decreases-expr::piece_of
+decreases-expr::piece_of g l = 1000000 * l.run.now.left + 4000 * (100 - l.nested) + 8 * max (depth l.index.now) (depth l.text.now) + 106
+
+abbrev pub decreases-expr::pieces_of : goal.decreases-expr::pieces_of
+decreases-expr::pieces_of g l = 1000000 * l.run.now.left + 4000 * (100 - l.nested) + 8 * max (max (depth l.first.now) (depth l.last.now)) (depth l.text.now) + 106
+
+abbrev pub decreases-expr::nth_piece_of : goal.decreases-expr::nth_piece_of
+decreases-expr::nth_piece_of g l = 1000000 * l.run.now.left + 4000 * (100 - l.nested) + 8 * depth l.text.now + 106
+
+abbrev pub decreases-expr::part_of : goal.decreases-expr::part_of
+decreases-expr::part_of g l = 1000000 * l.run.now.left + 4000 * (100 - l.nested) + 8 * depth l.text.now + 105
+
+abbrev pub decreases-expr::lent_part : goal.decreases-expr::lent_part
+decreases-expr::lent_part g l = 1000000 * l.run.now.left + 4000 * (100 - l.nested) + 8 * depth l.text.now + 104
 
 abbrev pub decreases-pieces::pieces : goal.decreases-pieces::pieces
 decreases-pieces::pieces g l = 1000000 * l.run.now.left + 4000 * (100 - l.nested) + 8 * chunk_depth (chunk_of l.chunk.now) + 105
@@ -50,20 +83,20 @@ decreases-reference::meet g l = 1000000 * l.run.now.left + 4000 * (100 - l.neste
 abbrev pub decreases-reference::scope : goal.decreases-reference::scope
 decreases-reference::scope g l = 1000000 * l.run.now.left + 4000 * (100 - l.nested) + 8 * owner_depth (owner_of l.owner.now) + 100
 
+abbrev pub decreases-reference::plain_part : goal.decreases-reference::plain_part
+decreases-reference::plain_part g l = 1000000 * l.run.now.left + 4000 * (100 - l.nested) + 8 * owner_depth (owner_of l.owner.now) + 101
+
+abbrev pub decreases-reference::nth_part : goal.decreases-reference::nth_part
+decreases-reference::nth_part g l = 1000000 * l.run.now.left + 4000 * (100 - l.nested) + 8 * owner_depth (owner_of l.owner.now) + 101
+
 abbrev pub decreases-reference::seek : goal.decreases-reference::seek
 decreases-reference::seek g l = 1000000 * l.run.now.left + 4000 * (100 - l.nested) + 8 * selector_depth (selector_of l.selector.now) + 105
-
-abbrev pub decreases-reference::pick : goal.decreases-reference::pick
-decreases-reference::pick g l = 1000000 * l.run.now.left + 4000 * (100 - l.nested) + 8 * which_depth (which_of l.which.now) + 104
 
 abbrev pub decreases-reference::lead : goal.decreases-reference::lead
 decreases-reference::lead g l = 1000000 * l.run.now.left + 4000 * (100 - l.nested) + 8 * destination_depth (destination_of l.destination.now) + 100
 
-abbrev pub decreases-expr::number_of : goal.decreases-expr::number_of
-decreases-expr::number_of g l = 1000000 * l.run.now.left + 4000 * (100 - l.nested) + 8 * count_depth (count_of l.count.now) + 104
-
 abbrev pub decreases-expr::function_of : goal.decreases-expr::function_of
-decreases-expr::function_of g l = 1000000 * l.run.now.left + 4000 * (100 - l.nested) + 8 * depth l.operand.now + 104
+decreases-expr::function_of g l = 1000000 * l.run.now.left + 4000 * (100 - l.nested) + 8 * depth l.operand.now + 105
 
 abbrev pub decreases-expr::text_value : goal.decreases-expr::text_value
 decreases-expr::text_value g l = 1000000 * l.run.now.left + 4000 * (100 - l.nested) + 1
@@ -113,6 +146,12 @@ decreases-stmt::run_block g l = 1000000 * l.run.now.left + 4000 * (100 - l.neste
 abbrev pub decreases-stmt::run_stmt : goal.decreases-stmt::run_stmt
 decreases-stmt::run_stmt g l = 1000000 * l.run.now.left + 4000 * (100 - l.nested) + 8 * stmt_depth l.stmt.now + 2002
 
+abbrev pub decreases-stmt::return_value : goal.decreases-stmt::return_value
+decreases-stmt::return_value g l = 1000000 * l.run.now.left + 4000 * (100 - l.nested) + 8 * depth l.value.now + 2003
+
+abbrev pub decreases-stmt::command : goal.decreases-stmt::command
+decreases-stmt::command g l = 1000000 * l.run.now.left + 4000 * (100 - l.nested) + 8 * depths (exprs_of l.list.now) + 2003
+
 abbrev pub decreases-stmt::show : goal.decreases-stmt::show
 decreases-stmt::show g l = 1000000 * l.run.now.left + 4000 * (100 - l.nested) + 8 * depth l.value.now + 2003
 
@@ -149,8 +188,11 @@ decreases-stmt::run_go g l = 1000000 * l.run.now.left + 4000 * (100 - l.nested) 
 abbrev pub decreases-stmt::when : goal.decreases-stmt::when
 decreases-stmt::when g l = 1000000 * l.run.now.left + 4000 * (100 - l.nested) + 8 * max (depth l.condition.now) (max (stmts_depth (stmts_of l.lines.now)) (stmts_depth (stmts_of l.otherwise.now))) + 2005
 
-abbrev pub decreases-repeat::repeat : goal.decreases-repeat::repeat
-decreases-repeat::repeat g l = 1000000 * l.run.now.left + 4000 * (100 - l.nested) + 8 * max (head_depth (head_of l.head.now)) (stmts_depth (stmts_of l.lines.now)) + 2006
+abbrev pub decreases-repeat::repeat_times : goal.decreases-repeat::repeat_times
+decreases-repeat::repeat_times g l = 1000000 * l.run.now.left + 4000 * (100 - l.nested) + 8 * max (depth l.times.now) (stmts_depth (stmts_of l.lines.now)) + 2006
+
+abbrev pub decreases-repeat::repeat_counted : goal.decreases-repeat::repeat_counted
+decreases-repeat::repeat_counted g l = 1000000 * l.run.now.left + 4000 * (100 - l.nested) + 8 * max (max (depth l.from.now) (depth l.to.now)) (stmts_depth (stmts_of l.lines.now.items.items)) + 2006
 
 abbrev pub decreases-repeat::bounds : goal.decreases-repeat::bounds
 decreases-repeat::bounds g l = 1000000 * l.run.now.left + 4000 * (100 - l.nested) + 8 * max (depth l.from.now) (depth l.to.now) + 103
@@ -170,7 +212,7 @@ invariant-expr::arguments-loop-e g l = record {
   base : base l.world.history ≡ base l.fn.world.history;
   rest : (o : Result (List (List ℕ)) Stop) (w : History) (r : RunState) →
       Vals l.world.history l.run l.frame l.nested (exprs_of (drop l.e-index l.list)) l.values o w r →
-      Vals l.fn.world.history l.fn.run l.frame l.nested (exprs_of l.list) [] o w r;
+      Vals l.fn.world.history l.fn.run l.frame l.nested (exprs_of l.list) l.fn.values o w r;
 }
 
 abbrev pub invariant-stmt::run_block-loop-stmt : goal.invariant-stmt::run_block-loop-stmt
