@@ -141,6 +141,14 @@ class Runs(unittest.TestCase):
         self.assertIsNone(runner.need(shape, most=4096))
         self.assertEqual((runner.fits(shape, 5000), runner.fits(shape, 4096)), (True, False))
 
+    def test_which_shapes_are_due(self) -> None:
+        plain = Shape("plain", lambda _: Scripts(""), no_texts, "g", ())
+        self.assertEqual([running.is_due(plain, kib) for kib in (*running.BOUNDS, 10240)], [True, True, False])
+        named = {shape.name: shape for shape in SHAPES}
+        for name, least in running.NEED_MORE.items():
+            due = [kib for kib in (4096, 8192, 10240) if running.is_due(named[name], kib)]
+            self.assertEqual(due, [8192] if least == 8192 else [10240])
+
 
 if __name__ == "__main__":
     unittest.main()
