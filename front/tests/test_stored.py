@@ -111,11 +111,17 @@ class Differing(StoredTest):
         self.assertEqual(bytes_of(os.path.join(self.folder, "demo.stack")), bytes_of(there(DEMO)))
 
 
+def heeding_interrupts() -> None:
+    """A shell has what it starts in the background ignore interrupts; what is started from there doesn't."""
+    signal.signal(signal.SIGINT, signal.SIG_DFL)
+
+
 class Broken(StoredTest):
     def test_it_can_be_interrupted(self) -> None:
         self.put_session(b"repeat\rput 1 into g\rend repeat\n" * 100)
         words = [sys.executable, "-u", there("session"), "--steps", "10000000", "none.session", "demo.session"]
-        with subprocess.Popen(words, cwd=self.folder, stdout=subprocess.PIPE, stderr=subprocess.PIPE) as process:
+        with subprocess.Popen(words, cwd=self.folder, stdout=subprocess.PIPE, stderr=subprocess.PIPE,
+                              preexec_fn=heeding_interrupts) as process:
             assert process.stdout is not None
             self.assertIn(b"none.session", process.stdout.readline())
             time.sleep(0.2)
