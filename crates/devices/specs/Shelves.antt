@@ -1,6 +1,6 @@
 -- A desk in memory, as its calls show it.
-use Rattle.std.specs.Prelude.{ℕ, List, Option}
-use Rattle.devices.specs.declared.shelf.HeardMessage.{HeardMessage}
+use Rattle.std.specs.Prelude.{ℕ, Bool, List, Option, Some, None, if◌then◌else◌}
+use Rattle.devices.specs.declared.desk.HeardMessage.{HeardMessage}
 use Rattle.devices.specs.declared.shelf.Shelf.{Shelf}
 
 -- the text that it keeps
@@ -10,6 +10,14 @@ text_on s = s.text.items
 -- the messages that it remembers
 abbrev pub messages_on : Shelf → List HeardMessage
 messages_on s = s.messages.items
+
+-- it was out of memory for a message
+abbrev pub has_forgotten : Shelf → Bool
+has_forgotten s = s.forgets
+
+-- the messages that it heard of, where it remembers all of them
+abbrev pub heard_on : Shelf → Option (List HeardMessage)
+heard_on s = if has_forgotten s then None else Some (messages_on s)
 
 -- what it heard of why lines faulted or were refused
 abbrev pub explained_on : Shelf → List ℕ

@@ -1,16 +1,24 @@
 //! Where a stack's text is kept, and who hears of the messages that are sent.
 
-ghost use Rattle.std.specs.Prelude.{◌≡◌, not};
-ghost use Rattle.devices.specs.Desks.{SeenDesk, kept_after};
+ghost use Rattle.std.specs.Prelude.{◌≡◌, [], ◌∷◌, not};
+ghost use Rattle.devices.specs.Desks.{SeenDesk, kept_after, HearsOrForgets};
 ghost use Rattle.devices.specs.Watching.{counted};
 
 use ht_values::Text;
 use object_table::Id;
 
+/// A message that a desk heard of, and the id of the object that it was sent to.
+#[derive(Drop)]
+pub struct HeardMessage {
+    pub name: Text,
+    pub object: Id,
+}
+
 /// Keeps the last text that was saved, and hears of each message that was sent, of the text with which a session ends, and,
 /// if it wants to, why lines faulted or were refused.
 ///
-/// A desk may tell what it keeps, as one in memory does; one that keeps it in a file doesn't.
+/// A desk may tell what it keeps and what it heard, as one in memory does; one that keeps it in a file doesn't. One that is
+/// out of memory for a message doesn't tell any more of what it heard.
 pub trait Desk {
     ghost seen: { Self → SeenDesk };
 
@@ -21,9 +29,10 @@ pub trait Desk {
         ensures failures { (seen self.new).failures ≡ counted (not result) (seen self.old).failures };
 
     /// Hears of a message, by its name and the id of the object that it was sent to. It can't fail: a desk that can't
-    /// make use of a message lets it go.
+    /// make use of a message lets it go. Where it tells what it heard, the message stands last.
     fn sent(&mut self, name: &Text, object: Id)
-        ensures { seen self.new ≡ seen self.old };
+        ensures { HearsOrForgets (record { name = name.now; object = object } ∷ [])
+            (seen self.old) (seen self.new) };
 
     /// Whether it wants to hear why a line faulted or was refused.
     fn explains(&self) -> bool {

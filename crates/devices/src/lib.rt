@@ -9,7 +9,7 @@ mod shelf;
 mod watched;
 
 pub use all_bytes::{BytesFault, bytes_of};
-pub use desk::Desk;
+pub use desk::{Desk, HeardMessage};
 pub use patient::Patient;
-pub use shelf::{HeardMessage, Shelf};
+pub use shelf::Shelf;
 pub use watched::{Watched, WriteFault, write_to};

@@ -1,21 +1,15 @@
 //! A desk in memory.
 
-ghost use Rattle.std.specs.Prelude.{◌≡◌, ◌⊎◌, [], ◌∷◌, ◌++◌, Some, None, IfSome, IsNone, IsTrue, true, not};
-ghost use Rattle.devices.specs.Shelves.{text_on, messages_on, explained_on, calls_on, fails_at as call_of_failure, failures_on};
+ghost use Rattle.std.specs.Prelude.{◌≡◌, ◌⊎◌, [], ◌∷◌, ◌++◌, Some, None, IfSome, IsNone, IsTrue, true, false, not};
+ghost use Rattle.devices.specs.Shelves.{text_on, messages_on, has_forgotten, heard_on, explained_on, calls_on};
+ghost use Rattle.devices.specs.Shelves.{fails_at as call_of_failure, failures_on};
 ghost use Rattle.devices.specs.Desks.{kept_after};
 ghost use Rattle.devices.specs.Watching.{counted};
 
-use crate::desk::Desk;
+use crate::desk::{Desk, HeardMessage};
 use ht_values::Text;
 use object_table::Id;
 use std::alloc::Global;
-
-/// A message that the desk heard of, and the id of the object that it was sent to.
-#[derive(Drop)]
-pub struct HeardMessage {
-    pub name: Text,
-    pub object: Id,
-}
 
 /// A desk in memory: it keeps the last text, remembers the messages, and may be told to fail at one call.
 #[derive(Drop)]
@@ -23,6 +17,7 @@ pub struct Shelf {
     alloc: Global,
     text: Vec<u8>,
     messages: Vec<HeardMessage>,
+    forgets: bool,
     explains: bool,
     explained: Vec<u8>,
     calls: u64,
@@ -35,6 +30,7 @@ impl Shelf {
     pub fn new(alloc: Global) -> Shelf
         ensures text { text_on result ≡ [] }
         ensures messages { messages_on result ≡ [] }
+        ensures heard { has_forgotten result ≡ false }
         ensures calls { calls_on result ≡ 0 }
         ensures never { call_of_failure result ≡ None }
         ensures failures { failures_on result ≡ 0 }
@@ -43,6 +39,7 @@ impl Shelf {
             alloc,
             text: Vec::new(alloc),
             messages: Vec::new(alloc),
+            forgets: false,
             explains: false,
             explained: Vec::new(alloc),
             calls: 0,
@@ -93,6 +90,13 @@ impl Shelf {
         &self.messages
     }
 
+    /// Whether it was out of memory for a message.
+    pub fn has_forgotten(&self) -> bool
+        ensures { result ≡ has_forgotten self.now }
+    {
+        self.forgets
+    }
+
     /// A copy of a text, or none where this call is to fail, or is out of memory.
     fn copied(&self, text: &[u8]) -> Option<Vec<u8>>
         ensures copy { IfSome result (λ copy. copy.items ≡ text.now) }
@@ -108,7 +112,7 @@ impl Shelf {
 }
 
 impl Desk for Shelf {
-    ghost seen = { λ s. record { kept = Some (text_on s); failures = failures_on s } };
+    ghost seen = { λ s. record { kept = Some (text_on s); heard = heard_on s; failures = failures_on s } };
 
     /// It fails at the call that it was told, and where it is out of memory.
     fn keep(&mut self, text: &[u8]) -> bool
@@ -119,6 +123,7 @@ impl Desk for Shelf {
         ensures calls { calls_on self.new ≡ counted true (calls_on self.old) }
         ensures at { call_of_failure self.new ≡ call_of_failure self.old }
         ensures messages { messages_on self.new ≡ messages_on self.old }
+        ensures heard { has_forgotten self.new ≡ has_forgotten self.old }
     {
         self.calls = self.calls.saturating_add(1);
         match self.copied(text) {
@@ -133,18 +138,22 @@ impl Desk for Shelf {
         }
     }
 
-    /// It remembers the message, but where it is out of memory.
+    /// It remembers the message, and where it is out of memory, that it has forgotten one.
     fn sent(&mut self, name: &Text, object: Id)
-        ensures remembered { (messages_on self.new ≡ messages_on self.old)
-            ⊎ (messages_on self.new
-            ≡ messages_on self.old ++ record { name = name.now; object = object } ∷ []) }
+        ensures remembered { ((messages_on self.new ≡ messages_on self.old) × (has_forgotten self.new ≡ true))
+            ⊎ ((messages_on self.new ≡ messages_on self.old ++ record { name = name.now; object = object } ∷ [])
+            × (has_forgotten self.new ≡ has_forgotten self.old)) }
         ensures text { text_on self.new ≡ text_on self.old }
         ensures failures { failures_on self.new ≡ failures_on self.old }
         ensures calls { calls_on self.new ≡ calls_on self.old }
         ensures due { call_of_failure self.new ≡ call_of_failure self.old }
     {
-        if let Ok(name) = name.try_clone(self.alloc) {
-            let _ = self.messages.push(HeardMessage { name, object });
+        let is_heard = match name.try_clone(self.alloc) {
+            Ok(name) => self.messages.push(HeardMessage { name, object }).is_ok(),
+            Err(_) => false,
+        };
+        if !is_heard {
+            self.forgets = true;
         }
     }
 
@@ -158,6 +167,7 @@ impl Desk for Shelf {
             ⊎ (explained_on self.new ≡ explained_on self.old ++ text.now ++ 10 ∷ []) }
         ensures text { text_on self.new ≡ text_on self.old }
         ensures messages { messages_on self.new ≡ messages_on self.old }
+        ensures heard { has_forgotten self.new ≡ has_forgotten self.old }
         ensures failures { failures_on self.new ≡ failures_on self.old }
         ensures calls { calls_on self.new ≡ calls_on self.old }
         ensures due { call_of_failure self.new ≡ call_of_failure self.old }
