@@ -1,1 +1,2 @@
+pub mod Hearing
 pub mod Known

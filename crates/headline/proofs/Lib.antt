@@ -1,4 +1,5 @@
 pub mod Following
+pub mod Heard
 pub mod Intake
 pub mod Saved
 pub mod Sessions

@@ -2,11 +2,12 @@
 use Rattle.std.proofs.Common.{◌≡◌, ℕ, ◌-◌, ◌≤◌, ◌^◌, ◌⊎◌, inl, inr, true, false, List, [], ◌∷◌, sym, ◌∙◌, ap, subst, arith}
 use Rattle.std.specs.Prelude.{MatchBool}
 use Rattle.std.proofs.lemmas.Bool.{cases_lt}
-use Rattle.devices.specs.Desks.{SeenDesk}
+use Rattle.devices.specs.Desks.{SeenDesk, HearsOrForgets}
 use Rattle.devices.specs.Watching.{counted, Rose}
 use Rattle.headline.specs.Answering.{is_quit, Session}
 use Rattle.headline.specs.Headline.{LineMoves}
-use Rattle.headline.specs.Saving.{Kept, Unkept, Beside, Settles}
+use Rattle.devices.specs.declared.desk.HeardMessage.{HeardMessage}
+use Rattle.headline.specs.Saving.{Kept, Unkept, Beside, Settles, as_heard}
 use Rattle.headline.specs.Unzipped.{SavesFollow}
 use Rattle.session.specs.declared.reply.Ending.{Ending}
 use Rattle.session.specs.declared.reply.Ending.TheVariants as endings
@@ -46,6 +47,12 @@ unkept_counted (endings.Refused r) old told new u = absurd u
 unkept_counted (endings.Save t) old told new u = ap (λ (d : SeenDesk). d.failures) u.1
 unkept_counted endings.Quit old told new u = absurd u
 
+-- hearing of messages is no failure
+heard_same : (messages : List HeardMessage) (old new : SeenDesk) → HearsOrForgets messages old new →
+    new.failures ≡ old.failures
+heard_same messages old new (inl h) = ap (λ (d : SeenDesk). d.failures) h
+heard_same messages old new (inr f) = ap (λ (d : SeenDesk). d.failures) f
+
 -- what the rest says, after a line that was kept or not
 joined : {P Q : Type 0} (a b c : SeenDesk) → a.failures ≤ most → (P × (b.failures ≡ a.failures)) ⊎ (b.failures ≡ counted true a.failures) → (b.failures ≤ most → Outcome Q b c) → Outcome (P × Q) a c
 joined a b c le (inl k) rest =
@@ -63,19 +70,23 @@ joined a b c le (inr u) rest =
 
 module _ {S : Type 0} (takes : List ℕ → S → Reply → S → Type 0) where
   one : (line : List ℕ) (old : S × SeenDesk) (reply : Reply) (new : S × SeenDesk) → Settles takes line old reply new
-      → (Beside Kept takes line old reply new × (new.1.failures ≡ old.1.failures)) ⊎ (new.1.failures ≡ counted true old.1.failures)
+      → (Beside HearsOrForgets Kept takes line old reply new × (new.1.failures ≡ old.1.failures)) ⊎ (new.1.failures ≡ counted true old.1.failures)
   one line old reply new s =
+      let same = heard_same (as_heard reply.sent) old.1 s.told s.heard in
       elim s.kept [
-        | inl k ↦ inl (record { ending = s.ending; taken = s.taken; kept = k }, kept_same s.ending old.1 reply.ending new.1 k)
-        | inr u ↦ inr (unkept_counted s.ending old.1 reply.ending new.1 u)
+        | inl k ↦ inl (
+          record { ending = s.ending; told = s.told; taken = s.taken; heard = s.heard; kept = k },
+          kept_same s.ending s.told reply.ending new.1 k ∙ same,
+        )
+        | inr u ↦ inr (unkept_counted s.ending s.told reply.ending new.1 u ∙ ap (counted true) same)
       ]
 
   pub saved : (old : S × SeenDesk) (lines : List (List ℕ)) (text : List ℕ) (new : S × SeenDesk) → old.1.failures ≤ most → Session (Settles takes) old lines text new
-      → Outcome (Session (Beside Kept takes) old lines text new) old.1 new.1
+      → Outcome (Session (Beside HearsOrForgets Kept takes) old lines text new) old.1 new.1
   saved old [] text new le s = inl (s, ap (λ (p : S × SeenDesk). p.1.failures) s.1)
   saved old (line ∷ lines) text new le (reply, mid, more, step, is, rest) =
-      let behind : mid.1.failures ≤ most → Outcome (MatchBool (is_quit reply.ending) ((more ≡ []) × (new ≡ mid)) (Session (Beside Kept takes) mid lines more new)) mid.1 new.1 = λ few.
-      elim (is_quit reply.ending) as (λ b. MatchBool b ((more ≡ []) × (new ≡ mid)) (Session (Settles takes) mid lines more new) → Outcome (MatchBool b ((more ≡ []) × (new ≡ mid)) (Session (Beside Kept takes) mid lines more new)) mid.1 new.1) [
+      let behind : mid.1.failures ≤ most → Outcome (MatchBool (is_quit reply.ending) ((more ≡ []) × (new ≡ mid)) (Session (Beside HearsOrForgets Kept takes) mid lines more new)) mid.1 new.1 = λ few.
+      elim (is_quit reply.ending) as (λ b. MatchBool b ((more ≡ []) × (new ≡ mid)) (Session (Settles takes) mid lines more new) → Outcome (MatchBool b ((more ≡ []) × (new ≡ mid)) (Session (Beside HearsOrForgets Kept takes) mid lines more new)) mid.1 new.1) [
         | true ↦ λ last. inl (last, ap (λ (p : S × SeenDesk). p.1.failures) last.1)
         | false ↦ λ more_lines. saved mid lines more new few more_lines
       ] rest in

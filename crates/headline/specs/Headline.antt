@@ -166,6 +166,7 @@ without_plugged i t = record t { snapshots = map (without_one i) (take 1 (drop t
 -- are those of a list of whole states with a cursor: a fresh command, however it ended, replaces all after the cursor
 -- by a state that the written meaning of HyperTalk allows; undo and redo only move the cursor; a command refused for
 -- memory changes nothing.
--- Beside it stands a desk: a line that saves is answered by whether the desk kept its text.
+-- Beside it stands a desk: it hears of each message that a line sent, and a line that saves is answered by whether the
+-- desk kept its text.
 abbrev pub Headline : Timeline × SeenDesk → List (List ℕ) → List ℕ → Timeline × SeenDesk → Type 0
 Headline old lines text new = Session (Settles LineMoves) old lines text new

@@ -1,7 +1,9 @@
--- A line beside a desk, which keeps what is saved.
-use Rattle.std.specs.Prelude.{◌≡◌, ◌⊎◌, ℕ, true, List, option_map}
-use Rattle.devices.specs.Desks.{SeenDesk}
+-- A line beside a desk, which hears of its messages and keeps what is saved.
+use Rattle.std.specs.Prelude.{◌≡◌, ◌⊎◌, ℕ, true, List, map, option_map}
+use Rattle.devices.specs.Desks.{SeenDesk, HearsOrForgets}
 use Rattle.devices.specs.Watching.{counted}
+use Rattle.devices.specs.declared.desk.HeardMessage.{HeardMessage}
+use Rattle.meaning.specs.declared.sent.SentMessage.{SentMessage}
 use Rattle.session.specs.Standing.{Standing}
 use Rattle.session.specs.TakesLine.{TakesLine}
 use Rattle.session.specs.declared.reply.Ending.{Ending}
@@ -22,14 +24,23 @@ Unkept ending old told new = ⊥
 abbrev pub KeptOrNot : Ending → SeenDesk → Ending → SeenDesk → Type 0
 KeptOrNot ending old told new = Kept ending old told new ⊎ Unkept ending old told new
 
--- A line is taken, and the desk does what it asks. The answer is that of the line, but for how it ends.
-pub record Beside {S : Type 0} (keeps : Ending → SeenDesk → Ending → SeenDesk → Type 0) (takes : List ℕ → S → Reply → S → Type 0) (line : List ℕ) (old : S × SeenDesk) (reply : Reply) (new : S × SeenDesk) : Type 0 where
+-- messages, as a desk hears of them
+abbrev pub as_heard : List SentMessage → List HeardMessage
+as_heard = map (λ message. record { name = message.name; object = message.object })
+
+-- A line is taken, the desk hears of the messages that it sent, and then does what it asks. The answer is that of the
+-- line, but for how it ends.
+pub record Beside {S : Type 0} (hears : List HeardMessage → SeenDesk → SeenDesk → Type 0)
+    (keeps : Ending → SeenDesk → Ending → SeenDesk → Type 0) (takes : List ℕ → S → Reply → S → Type 0)
+    (line : List ℕ) (old : S × SeenDesk) (reply : Reply) (new : S × SeenDesk) : Type 0 where
   pub ending : Ending
+  pub told : SeenDesk
   pub taken : takes line old.0 (record reply { ending = ending }) new.0
-  pub kept : keeps ending old.1 reply.ending new.1
+  pub heard : hears (as_heard reply.sent) old.1 told
+  pub kept : keeps ending told reply.ending new.1
 
 abbrev pub Settles : {S : Type 0} → (List ℕ → S → Reply → S → Type 0) → List ℕ → S × SeenDesk → Reply → S × SeenDesk → Type 0
-Settles takes = Beside KeptOrNot takes
+Settles takes = Beside HearsOrForgets KeptOrNot takes
 
 -- a session beside a desk takes a line
 abbrev pub Takes : List ℕ → Standing × SeenDesk → Reply → Standing × SeenDesk → Type 0

@@ -1,8 +1,8 @@
 -- Where a session stands, as a list of whole states with a cursor; and the laws that each line, each call and each run
 -- does to it what the headline says.
-use Rattle.std.specs.Prelude.{◌≡◌, ◌⊎◌, ◌≤◌, ◌-◌, ◌^◌, ℕ, List, ◌∷◌, ◌++◌, length, map, reverse, Option, Some, None, Result, IsErrOf, ◌==◌, MatchBool}
+use Rattle.std.specs.Prelude.{◌≡◌, ◌≢◌, ◌⊎◌, ◌≤◌, ◌-◌, ◌^◌, ℕ, List, ◌∷◌, ◌++◌, length, map, reverse, Option, Some, None, Result, IsErrOf, ◌==◌, MatchBool}
 use Rattle.std.specs.Io.KnownBytes.{IsAtEnd}
-use Rattle.devices.specs.Desks.{SeenDesk}
+use Rattle.devices.specs.Desks.{SeenDesk, Hears, HearsOrForgets}
 use Rattle.devices.specs.Watching.{Rose}
 use Rattle.externals.specs.Cells.{Seen}
 use Rattle.object_table.specs.Content.{Content}
@@ -12,7 +12,7 @@ use Rattle.headline.specs.Answering.{Session}
 use Rattle.headline.specs.Headline.{Snapshot, Timeline, LineMoves, Headline, Undoes, Redoes, UndoesTo, beginning, with_plugged, without_plugged}
 use Rattle.session.specs.Moves.{MovesTo, undone, redone, undone_to}
 use Rattle.session.specs.Opening.{opened}
-use Rattle.headline.specs.Saving.{Kept, Beside, Settles, Takes}
+use Rattle.headline.specs.Saving.{Kept, KeptOrNot, Beside, Settles, Takes}
 use Rattle.headline.specs.InputLines.{AreLines}
 use Rattle.session.specs.Standing.{Standing}
 use Rattle.headline.specs.Stops.{Ended, Stopped}
@@ -82,4 +82,11 @@ StopsFollow = (left : Option (List ℕ)) (fault : RunFault) (old : Standing × S
 -- the desk has its text until another line saves.
 abbrev pub SavesFollow : Type 0
 SavesFollow = (old : Timeline × SeenDesk) (lines : List (List ℕ)) (text : List ℕ) (new : Timeline × SeenDesk) → old.1.failures ≤ 2 ^ 64 - 1 → Headline old lines text new
-    → Session (Beside Kept LineMoves) old lines text new ⊎ Rose old.1.failures new.1.failures
+    → Session (Beside HearsOrForgets Kept LineMoves) old lines text new ⊎ Rose old.1.failures new.1.failures
+
+-- A desk that tells in the end what it heard has heard of each message of each line, in their order, once, and of no
+-- others.
+abbrev pub MessagesFollow : Type 0
+MessagesFollow = (old : Timeline × SeenDesk) (lines : List (List ℕ)) (text : List ℕ) (new : Timeline × SeenDesk)
+    → new.1.heard ≢ None → Headline old lines text new
+    → Session (Beside Hears KeptOrNot LineMoves) old lines text new

@@ -1,6 +1,6 @@
 //! What lines, calls and runs do to the list of whole states: the headline as laws over the definitions.
 
-ghost use Rattle.headline.specs.Unzipped.{LinesFollow, MovesFollow, PlugsFollow, OpensFollow, RunsFollow, StopsFollow, SavesFollow};
+ghost use Rattle.headline.specs.Unzipped.{LinesFollow, MovesFollow, PlugsFollow, OpensFollow, RunsFollow, StopsFollow, SavesFollow, MessagesFollow};
 
 /// A fresh command, however it ended, replaces all after the cursor by a state that its meaning allows,
 /// undo and redo only move the cursor, and a line refused for memory changes nothing but its number.
@@ -36,4 +36,9 @@ pub fn stops_follow()
 /// Beside a desk whose count of failures didn't rise all that was saved is kept.
 pub fn saves_follow()
     ensures { SavesFollow }
+{}
+
+/// A desk that tells in the end what it heard has heard of each message of each line, in their order, once.
+pub fn messages_follow()
+    ensures { MessagesFollow }
 {}

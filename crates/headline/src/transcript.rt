@@ -3,10 +3,10 @@
 ghost use Rattle.std.specs.Prelude.{◌≡◌, ◌+◌, ◌-◌, ◌<◌, ◌≤◌, ◌≢◌, ◌↔◌, ◌⊎◌, ℕ, IsTrue, List, [], ◌∷◌, ◌++◌, length, take, IfOk, IfErr, OnOk, OnErr, IsErrOf, Ok, true, false};
 ghost use Rattle.std.specs.Vec.{vec_capacity};
 ghost use Rattle.std.specs.Io.KnownBytes.{Appends, Consumes, IsAtEnd};
-ghost use Rattle.devices.specs.Desks.{SeenDesk};
+ghost use Rattle.devices.specs.Desks.{SeenDesk, HearsOrForgets};
 ghost use Rattle.devices.specs.Watching.{device_of, failures_of, Rose};
 ghost use Rattle.headline.specs.Answers.{answer};
-ghost use Rattle.headline.specs.Saving.{KeptOrNot, Takes};
+ghost use Rattle.headline.specs.Saving.{KeptOrNot, Takes, as_heard};
 ghost use Rattle.session.specs.Standing.{Standing};
 ghost use Rattle.headline.specs.InputLines.{without_return as line_of_ended, AreLines};
 ghost use Rattle.headline.specs.Answering.{is_quit, Breaks, Finishes};
@@ -65,7 +65,7 @@ fn without_return(line: &[u8]) -> &[u8]
 
 /// Tells the desk of the messages that were sent, in their order.
 fn tell<D: Desk>(desk: &mut D, sent: &Sent)
-    ensures { D.seen desk.new ≡ D.seen desk.old }
+    ensures { HearsOrForgets (as_heard sent.now) (D.seen desk.old) (D.seen desk.new) }
 {
     for i in 0..sent.len() {
         let message = sent.at(i);

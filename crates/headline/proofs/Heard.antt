@@ -1,0 +1,101 @@
+-- What a desk heard over many lines.
+use Rattle.std.proofs.Common.{◌≡◌, ◌≢◌, ℕ, inl, inr, Bool, true, false, List, [], ◌∷◌, refl, ap, ◌∙◌}
+use Rattle.std.specs.Prelude.{MatchBool, None, option_map}
+use Rattle.devices.specs.Desks.{SeenDesk, Hears, HearsOrForgets}
+use Rattle.devices.specs.declared.desk.HeardMessage.{HeardMessage}
+use Rattle.headline.specs.Answering.{is_quit, Session}
+use Rattle.headline.specs.Headline.{LineMoves}
+use Rattle.headline.specs.Saving.{Kept, Unkept, KeptOrNot, Beside, Settles, as_heard}
+use Rattle.headline.specs.Unzipped.{MessagesFollow}
+use Rattle.session.specs.declared.reply.Ending.{Ending}
+use Rattle.session.specs.declared.reply.Ending.TheVariants as endings
+use Rattle.session.specs.declared.reply.Reply.{Reply}
+
+-- keeping a text changes nothing of what is heard
+kept_same : (ending : Ending) (old : SeenDesk) (told : Ending) (new : SeenDesk) → Kept ending old told new →
+    new.heard ≡ old.heard
+kept_same endings.Ok old told new k = ap (λ (d : SeenDesk). d.heard) k.1
+kept_same (endings.Fault f) old told new k = ap (λ (d : SeenDesk). d.heard) k.1
+kept_same (endings.Refused r) old told new k = ap (λ (d : SeenDesk). d.heard) k.1
+kept_same (endings.Save t) old told new k = ap (λ (d : SeenDesk). d.heard) k.1
+kept_same endings.Quit old told new k = ap (λ (d : SeenDesk). d.heard) k.1
+
+unkept_same : (ending : Ending) (old : SeenDesk) (told : Ending) (new : SeenDesk) → Unkept ending old told new →
+    new.heard ≡ old.heard
+unkept_same endings.Ok old told new u = absurd u
+unkept_same (endings.Fault f) old told new u = absurd u
+unkept_same (endings.Refused r) old told new u = absurd u
+unkept_same (endings.Save t) old told new u = ap (λ (d : SeenDesk). d.heard) u.1
+unkept_same endings.Quit old told new u = absurd u
+
+asked_same : (ending : Ending) (old : SeenDesk) (told : Ending) (new : SeenDesk) → KeptOrNot ending old told new →
+    new.heard ≡ old.heard
+asked_same ending old told new (inl k) = kept_same ending old told new k
+asked_same ending old told new (inr u) = unkept_same ending old told new u
+
+-- a desk that doesn't tell what it heard doesn't tell later
+none_more : (messages : List HeardMessage) (old new : SeenDesk) → HearsOrForgets messages old new → old.heard ≡ None →
+    new.heard ≡ None
+none_more messages old new (inl h) none = ap (λ (d : SeenDesk). d.heard) h ∙ ap (option_map _) none
+none_more messages old new (inr f) none = ap (λ (d : SeenDesk). d.heard) f
+
+-- one that tells afterwards has heard of these messages
+all_heard : (messages : List HeardMessage) (old new : SeenDesk) → new.heard ≢ None → HearsOrForgets messages old new →
+    Hears messages old new
+all_heard messages old new tells (inl h) = h
+all_heard messages old new tells (inr f) = absurd (tells (ap (λ (d : SeenDesk). d.heard) f))
+
+module _ {S : Type 0} (takes : List ℕ → S → Reply → S → Type 0) where
+  none_after : (line : List ℕ) (old : S × SeenDesk) (reply : Reply) (new : S × SeenDesk) →
+      Settles takes line old reply new → old.1.heard ≡ None → new.1.heard ≡ None
+  none_after line old reply new s none =
+      asked_same s.ending s.told reply.ending new.1 s.kept
+      ∙ none_more (as_heard reply.sent) old.1 s.told s.heard none
+
+  none_in_the_end : (old : S × SeenDesk) (lines : List (List ℕ)) (text : List ℕ) (new : S × SeenDesk) →
+      Session (Settles takes) old lines text new → old.1.heard ≡ None → new.1.heard ≡ None
+  none_in_the_end old [] text new s none = ap (λ (p : S × SeenDesk). p.1.heard) s.1 ∙ none
+  none_in_the_end old (line ∷ lines) text new (reply, mid, more, step, is, rest) none =
+      elim (is_quit reply.ending) as (λ b. MatchBool b ((more ≡ []) × (new ≡ mid)) (Session (Settles takes) mid lines more new) → new.1.heard ≡ None) [
+        | true ↦ λ last. ap (λ (p : S × SeenDesk). p.1.heard) last.1 ∙ none_after line old reply mid step none
+        | false ↦ λ more_lines.
+            none_in_the_end mid lines more new more_lines (none_after line old reply mid step none)
+      ] rest
+
+  one : (line : List ℕ) (old : S × SeenDesk) (reply : Reply) (new : S × SeenDesk) → new.1.heard ≢ None →
+      Settles takes line old reply new → Beside Hears KeptOrNot takes line old reply new
+  one line old reply new tells s =
+      let before : s.told.heard ≢ None = λ none. tells (asked_same s.ending s.told reply.ending new.1 s.kept ∙ none) in
+      record {
+        ending = s.ending;
+        told = s.told;
+        taken = s.taken;
+        heard = all_heard (as_heard reply.sent) old.1 s.told before s.heard;
+        kept = s.kept;
+      }
+
+  pub heard : (old : S × SeenDesk) (lines : List (List ℕ)) (text : List ℕ) (new : S × SeenDesk) → new.1.heard ≢ None →
+      Session (Settles takes) old lines text new → Session (Beside Hears KeptOrNot takes) old lines text new
+  heard old [] text new tells s = s
+  heard old (line ∷ lines) text new tells (reply, mid, more, step, is, rest) =
+      elim (is_quit reply.ending) as (λ b. is_quit reply.ending ≡ b → MatchBool b ((more ≡ []) × (new ≡ mid)) (Session (Settles takes) mid lines more new) → Session (Beside Hears KeptOrNot takes) old (line ∷ lines) text new) [
+        | true ↦ λ quits last. (
+          reply,
+          mid,
+          more,
+          one line old reply mid (λ none. tells (ap (λ (p : S × SeenDesk). p.1.heard) last.1 ∙ none)) step,
+          is,
+          rw quits last,
+        )
+        | false ↦ λ goes_on more_lines. (
+          reply,
+          mid,
+          more,
+          one line old reply mid (λ none. tells (none_in_the_end mid lines more new more_lines none)) step,
+          is,
+          rw goes_on (heard mid lines more new tells more_lines),
+        )
+      ] refl rest
+
+pub messages_follow : MessagesFollow
+messages_follow old lines text new tells s = heard LineMoves old lines text new tells s
