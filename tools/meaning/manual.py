@@ -5,10 +5,11 @@ manual.md. With --check it writes nothing, and ends with 1 where the page is sta
 In manual.md a line of one of these kinds is replaced; all else stands as it is written:
 
     @ contents                     links to the parts of the page
-    @ letters, @ letter a b: W     the legend: the letters of variables, their types, and the words W
+    @ letters                      the legend: the letters of variables, their types, and what they stand for
     @ leaves                       what rules name that is no family of the table
     @ family F                     the line of a family whose forms stand apart
-    @ grammar LINE                 a line of the printed grammar, which tools/grammar.md has to have
+    @ grammar                      the lines of the grammar that the table has for the heading above; tools/grammar.md
+                                   has to have them
     @ rules F: FORM ..             the rules of these forms of a family; without forms, all of its rules
     @ row NAME | TEXT              a row of crates/rows/data, which has to have this text
     @ word NAME: W                 the words of a definition that has none where it stands
@@ -27,7 +28,8 @@ from typing import Any, Dict, Iterable, List, NamedTuple, Optional, Sequence, Se
 
 sys.dont_write_bytecode = True
 
-from table import TYPES, USE, families, forms, letters, read, variables, words  # noqa: E402
+from rules import Rule, Table  # noqa: E402
+from table import TYPES, USE, forms, letters, read, table, variables, words  # noqa: E402
 
 TOP = os.path.join(os.path.dirname(os.path.abspath(__file__)), "..", "..")
 PAGE = os.path.join(TOP, "docs", "MEANING.md")
@@ -49,17 +51,10 @@ def text_of(path: str) -> str:
         return file.read()
 
 
-class Rule(NamedTuple):
-    """A rule of the table."""
-
-    name: str
-    premises: List[str]
-    conclusion: str
-
-    def text(self) -> str:
-        """The rule as the page has it."""
-        return "".join("%s\n" % line for line in [self.name, *("    " + premise for premise in self.premises),
-                                                  "  => " + self.conclusion])
+def shown(rule: Rule) -> str:
+    """A rule as the page has it."""
+    return "".join("%s\n" % line for line in [rule.name, *("    " + premise for premise in rule.premises),
+                                              "  => " + rule.conclusion])
 
 
 class Family(NamedTuple):
@@ -82,13 +77,10 @@ class Family(NamedTuple):
         return [rule for rule in self.rules if rule.name in names]
 
 
-def table() -> Dict[str, Family]:
+def by_name(found: Table) -> Dict[str, Family]:
     """The families by their names."""
-    found = {}
-    for family in families():
-        rules = [Rule(*rule) for rule in family["rules"]]
-        found[family["name"]] = Family(family["name"], family["indices"], family["words"], rules, forms(family)[0])
-    return found
+    return {each.name: Family(each.name, each.indices, each.words, each.rules, forms({"rules": each.rules})[0])
+            for each in found.families}
 
 
 # ---- what is folded
@@ -185,10 +177,12 @@ def printed() -> Set[str]:
 class Manual:
     """The page as it is written: what each line of manual.md becomes."""
 
-    def __init__(self, text: str) -> None:
-        self.text, self.families, self.said, self.grammar = text, table(), said(), printed()
+    def __init__(self, text: str, rules: Table) -> None:
+        self.text, self.table, self.said, self.printed = text, rules, said(), printed()
+        self.families = by_name(self.table)
         self.shown: List[str] = []
-        self.here = ""
+        self.here, self.heading = "", ""
+        self.left = dict(self.table.grammar)
         self.legend: Dict[str, str] = {}
         self.anchors: Dict[str, str] = {}
         self.more = dict(re.findall(r"^@ word (\w+): (.+)$", text, re.MULTILINE))
@@ -216,12 +210,13 @@ class Manual:
     def line(self, line: str) -> Optional[str]:
         """What a line becomes; none where it isn't shown."""
         heading = HEADING.match(line)
-        self.here = anchor(heading.group(2)) if heading else self.here
+        if heading:
+            self.here, self.heading = anchor(heading.group(2)), heading.group(2)
         if not line.startswith("@ "):
             return line
         kind, _, rest = line[2:].partition(" ")
-        kinds = {"contents": self.contents, "letters": self.letters, "letter": self.letter, "leaves": self.leaves,
-                 "family": self.family, "grammar": self.grammar_line, "rules": self.rules, "row": self.row}
+        kinds = {"contents": self.contents, "letters": self.letters, "leaves": self.leaves, "family": self.family,
+                 "grammar": self.grammar, "rules": self.rules, "row": self.row}
         if kind == "word":
             return None
         if kind not in kinds:
@@ -240,12 +235,12 @@ class Manual:
         return "\n".join("- %s%s" % (part, ": " + ", ".join(rest) if rest else "") for part, rest in found)
 
     def letters(self, _: str) -> str:
-        """The head of the legend."""
-        return "| Letter | Type | What it is |\n|---|---|---|"
+        """The legend."""
+        return "\n".join(["| Letter | Type | What it is |", "|---|---|---|",
+                          *(self.letter(named, told) for named, told in self.table.letters)])
 
-    def letter(self, rest: str) -> str:
+    def letter(self, named: str, told: str) -> str:
         """A line of the legend."""
-        named, told = rest.split(": ", 1)
         for each in named.split() + re.findall(r"`(o\w+)`", told):
             if each not in TYPES:
                 raise Wrong("no variable is called %s" % each)
@@ -274,11 +269,15 @@ class Manual:
         self.shown.extend(names)
         return " Folded: %s." % ", ".join("`%s`" % name for name in names) if names else ""
 
-    def grammar_line(self, rest: str) -> str:
-        """A line of the grammar."""
-        if rest not in self.grammar:
-            raise Wrong("tools/grammar.md has no line %s" % rest)
-        return "`%s`\n" % rest
+    def grammar(self, _: str) -> str:
+        """The lines of the grammar that the table has for the heading."""
+        lines = self.left.pop(self.heading, [])
+        if not lines:
+            raise Wrong("the table has no line of the grammar for %s" % self.heading)
+        for line in lines:
+            if line not in self.printed:
+                raise Wrong("tools/grammar.md has no line %s" % line)
+        return "\n".join("`%s`\n" % line for line in lines)
 
     def rules(self, rest: str) -> str:
         """Rules in full, or named."""
@@ -290,7 +289,7 @@ class Manual:
         self.shown.extend(rule.name for rule in full)
         told = "".join("%s\n\n" % each for each in (self.parts(full), self.named(full)) if each)
         folded = self.folded([rule.name for rule in rules if rule not in full]).strip()
-        return "%s\n```text\n%s```\n\n%s%s\n" % (line, "\n".join(rule.text() for rule in full), told, folded)
+        return "%s\n```text\n%s```\n\n%s%s\n" % (line, "\n".join(shown(rule) for rule in full), told, folded)
 
     def parts(self, rules: Sequence[Rule]) -> str:
         """Links to the families that rules name."""
@@ -326,6 +325,8 @@ class Manual:
         for rule in every:
             if self.shown.count(rule.name) != 1:
                 raise Wrong("the rule %s is told %d times" % (rule.name, self.shown.count(rule.name)))
+        if self.left:
+            raise Wrong("no heading has the lines of the grammar for %s" % ", ".join(self.left))
         text = " ".join(part for rule in every for part in [*rule.premises, rule.conclusion])
         missing = {letters(variable) for variable in variables(text)} - set(self.legend)
         if missing:
@@ -349,7 +350,7 @@ def lost_links(page: str) -> List[str]:
 def main(arguments: List[str]) -> int:
     """Writes the page, or with --check sees that it is fresh, and gives the status."""
     try:
-        page = Manual(read("manual.md")).page()
+        page = Manual(read("manual.md"), table()).page()
         lost = lost_links(page)
         if lost:
             raise Wrong("docs/LANGUAGE.md leads to what the page hasn't: " + ", ".join(lost))

@@ -1,13 +1,13 @@
-"""Reads the table of the rules of the language, meaning.rules.
+"""What is written from the table of the rules of the language, meaning.rules, whose head says how it is written.
 
-In the table a line `= TITLE` begins a section, `== TITLE` one on which no family before it stands, `# Family indices | words`
-a family, and `name: premise ; .. => conclusion` is a rule. The letters of a variable tell its type (TYPES); digits may
-follow.
+The letters of a variable tell its type (TYPES); digits may follow.
 """
 
 import os
 import re
 import sys
+
+from rules import BadTable, Reader, words  # noqa: F401
 
 HERE = os.path.dirname(os.path.abspath(__file__))
 CRATES = os.path.join(HERE, "..", "..", "crates")
@@ -53,29 +53,17 @@ def variables(text):
     return [m.group(0) for m in found if m.group(1) in TYPES and not text[m.end():].startswith(" = ")]
 
 
+def table():
+    """The table, with its rules written out."""
+    try:
+        return Reader(TYPES, variables).read(read("meaning.rules"))
+    except BadTable as wrong:
+        sys.exit(str(wrong))
+
+
 def families():
     """The families of the table, each with its rules."""
-    table, section, block = [], None, 0
-    for line in read("meaning.rules").splitlines():
-        if line.startswith(("= ", "== ")):
-            block += line.startswith("==")
-            section = line.split(" ", 1)[1]
-        elif line.startswith("# "):
-            head, words = line[2:].split(" | ")
-            name, *indices = head.split()
-            table.append({"name": name, "indices": indices, "words": words, "section": section, "block": block, "rules": []})
-            section = None
-        elif line.strip():
-            name, rule = line.split(": ", 1)
-            premises, conclusion = rule.split("=> ")
-            premises = [premise.strip() for premise in premises.split(" ; ") if premise.strip()]
-            if conclusion.split()[0] != table[-1]["name"]:
-                sys.exit("another family: " + line)
-            table[-1]["rules"].append((name, premises, conclusion))
-    names = [rule[0] for family in table for rule in family["rules"]]
-    if len(set(names)) < len(names):
-        sys.exit("two rules of one name: " + ", ".join(sorted(n for n in set(names) if names.count(n) > 1)))
-    return table
+    return [dict(family._asdict(), section=family.section or None) for family in table().families]
 
 
 def forms(family):
@@ -103,18 +91,6 @@ def binders(parts):
 
 def snake(name):
     return re.sub(r"(?<!^)([A-Z])", r"_\1", name).lower()
-
-
-def words(text):
-    """The words of a premise or a conclusion; what stands in brackets is one."""
-    found, depth = [""], 0
-    for letter in text:
-        depth += (letter in "([{") - (letter in ")]}")
-        if letter == " " and depth == 0:
-            found.append("")
-        else:
-            found[-1] += letter
-    return found
 
 
 def imports(uses, text, more=()):

@@ -10,9 +10,11 @@ from tree import HERE
 sys.path.insert(0, os.path.join(HERE, "tools", "meaning"))
 
 import manual  # noqa: E402
-from table import read  # noqa: E402
+from rules import Reader  # noqa: E402
+from table import TYPES, read, table, variables  # noqa: E402
 
 ALL = read("manual.md")
+RULES = read("meaning.rules")
 
 
 class Folded(unittest.TestCase):
@@ -20,7 +22,7 @@ class Folded(unittest.TestCase):
 
     @classmethod
     def setUpClass(cls) -> None:
-        cls.folded = {rule.name: manual.is_folded(rule, family) for family in manual.table().values()
+        cls.folded = {rule.name: manual.is_folded(rule, family) for family in manual.by_name(table()).values()
                       for rule in family.rules}
 
     def test_out_of_memory(self) -> None:
@@ -55,18 +57,25 @@ class Pages(unittest.TestCase):
         """What is wrong with the page where its words are changed so."""
         self.assertIn(old, ALL)
         with self.assertRaises(manual.Wrong) as wrong:
-            manual.Manual(ALL.replace(old, new, 1)).page()
+            manual.Manual(ALL.replace(old, new, 1), table()).page()
+        return str(wrong.exception)
+
+    def refused_by_rules(self, old: str, new: str) -> str:
+        """What is wrong with the page where the table of rules is changed so."""
+        self.assertIn(old, RULES)
+        with self.assertRaises(manual.Wrong) as wrong:
+            manual.Manual(ALL, Reader(TYPES, variables).read(RULES.replace(old, new, 1))).page()
         return str(wrong.exception)
 
     def test_a_form_has_all_of_its_parts(self) -> None:
-        page = manual.Manual(ALL).page()
+        page = manual.Manual(ALL, table()).page()
         part = page[page.index("### repeat with\n"):page.index("### exit repeat")]
         for each in ("`with NAME = Expr [down] to Expr`", "Bounds w r f d e e1 false (Ok co) w1 r1",
                      "Folded: `up_stops`, `down_stops`.", "`stepped`: ", "Row: [numbers_of_repeats](../crates/rows/data/numbers_of_repeats.row)"):
             self.assertIn(each, part)
 
     def test_each_link_leads_somewhere(self) -> None:
-        page = manual.Manual(ALL).page()
+        page = manual.Manual(ALL, table()).page()
         anchors = [manual.anchor(heading) for _, heading in manual.HEADING.findall(page)]
         self.assertEqual(len(set(anchors)), len(anchors))
         self.assertLessEqual(set(re.findall(r"\(#([^)]*)\)", page)), set(anchors))
@@ -87,14 +96,16 @@ class Pages(unittest.TestCase):
     def test_what_is_named_has_to_be_there(self) -> None:
         self.assertIn("no row nowhere", self.refused("@ row numbers_of_repeats ", "@ row nowhere "))
         self.assertIn("hasn't the text", self.refused("| get say(6)", "| get say(66)"))
-        self.assertIn("no line get Exp", self.refused("@ grammar get Expr", "@ grammar get Exp"))
+        self.assertIn("no line get Exp", self.refused_by_rules("> get: get Expr", "> get: get Exp"))
+        self.assertIn("no line of the grammar for get", self.refused_by_rules("> get: ", "> gets: "))
+        self.assertIn("no heading has the lines of the grammar for get", self.refused("### get\n\n@ grammar\n", "### get\n\n"))
         self.assertIn("has no form gets", self.refused("@ rules Form: get", "@ rules Form: gets"))
         self.assertIn("missing: Bound, Bounds", self.refused("@ rules Bounds", "@ rules Bound"))
         self.assertIn("no lines of the kind row_", self.refused("@ row constants", "@ row_ constants"))
 
     def test_the_legend_is_whole(self) -> None:
-        self.assertIn("the legend lacks d", self.refused("@ letter d: ", "The depth: "))
-        self.assertIn("no variable is called dd", self.refused("@ letter d: ", "@ letter d dd: "))
+        self.assertIn("the legend lacks d", self.refused_by_rules("@ d: ", "@ k: "))
+        self.assertIn("no variable is called dd", self.refused_by_rules("@ d: ", "@ d dd: "))
         self.assertIn("words are wanted of stepped", self.refused("@ word stepped: ", "Stepped: "))
 
 
