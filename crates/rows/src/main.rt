@@ -1,9 +1,8 @@
 //! The trees of a table of texts, then the worked rows and those of the pages, each run as the program would, over memory.
 //!
 //! Each line of standard input is a text, whose tree is printed, or `syntax`; the trees that are wanted were written by
-//! hand. `rows.txt` lists each row with `passes`, or with `waits` where it needs what isn't built yet. A line for each says
-//! whether it passed. A row that waits and passes all the same is told, so that it can't be left in the list. The rows of
-//! the pages are their sessions; `tools/pages` writes them.
+//! hand. `rows.txt` lists the rows. A line for each says whether it passed. The rows of the pages are their sessions;
+//! `tools/pages` writes them.
 #![tactic(auto)]
 
 mod answers;
@@ -225,41 +224,19 @@ fn print_wrong(rt: &HostRuntime, name: &str, wrong: Wrong<'_>) -> io::Result<()>
     }
 }
 
-/// How a row went that has all that it wants, or that waits.
-fn how(is_met: bool, waits: bool) -> &'static str {
-    if !is_met {
-        "waits"
-    } else if waits {
-        "passed, and is listed as waiting"
-    } else {
-        "passed"
-    }
-}
-
-/// Prints how a row of the list went.
-fn print_outcome(
-    rt: &HostRuntime,
-    name: &str,
-    unmet: Option<Wrong<'_>>,
-    waits: bool,
-) -> io::Result<()> {
-    match unmet {
-        Some(wrong) if !waits => print_wrong(rt, name, wrong),
-        _ => println!(rt; "{} {}", name, how(unmet.is_none(), waits)),
-    }
-}
-
 /// Runs a row, and prints how it went.
-fn report_row(rt: &HostRuntime, name: &str, row: &Row<'_>, waits: bool) -> io::Result<()> {
+fn report_row(rt: &HostRuntime, name: &str, row: &Row<'_>) -> io::Result<()> {
     let base = fs::read_to_string(rt, row.stack)?;
-    let unmet = unmet(rt.alloc(), row, base.as_str())?;
-    print_outcome(rt, name, unmet, waits)
+    match unmet(rt.alloc(), row, base.as_str())? {
+        Some(wrong) => print_wrong(rt, name, wrong),
+        None => println!(rt; "{} passed", name),
+    }
 }
 
 /// Runs a row of the list, and prints how it went.
-fn report(rt: &HostRuntime, name: &str, waits: bool) -> io::Result<()> {
+fn report(rt: &HostRuntime, name: &str) -> io::Result<()> {
     let text = text_of(rt, name)?;
-    report_row(rt, name, &row_of(text.as_str()), waits)
+    report_row(rt, name, &row_of(text.as_str()))
 }
 
 /// Prints the tree of a text.
@@ -279,10 +256,8 @@ fn print_trees(rt: &HostRuntime) -> anyhow::Result<()> {
 
 /// Runs the rows of a list.
 fn report_all(rt: &HostRuntime, list: &str) -> io::Result<()> {
-    for line in list.lines() {
-        if let Some((name, state)) = line.split_once(" ") {
-            report(rt, name, state == "waits")?;
-        }
+    for name in list.lines() {
+        report(rt, name)?;
     }
     Ok(())
 }
