@@ -2,6 +2,7 @@ mod Digits
 mod Divisions
 pub mod Folding
 mod Numerals
+mod OnNumbers
 mod Orders
 mod Powers
 mod ReadBack

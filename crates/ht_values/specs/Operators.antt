@@ -1,6 +1,7 @@
 -- What each operator gives: the exact whole number first, then its range.
-use Rattle.std.specs.Prelude.{ℕ, Bool, true, false, not, ◌&&◌, ◌||◌, List, ◌∷◌, ◌++◌, codes, ℤ, pos, negsuc, ◌+ℤ◌, ◌-ℤ◌, ◌*ℤ◌, neg_ℤ, int_div, int_rem, if◌then◌else◌, is_some, Ok, Err, Result}
+use Rattle.std.specs.Prelude.{ℕ, Bool, true, false, not, ◌&&◌, ◌||◌, List, ◌∷◌, ◌++◌, codes, ℤ, pos, negsuc, ◌+ℤ◌, ◌-ℤ◌, ◌*ℤ◌, neg_ℤ, int_div, int_rem, if◌then◌else◌, is_some, Option, Some, None, Ok, Err, Result}
 use Rattle.std.specs.Int.{int_pow}
+use Rattle.std.specs.Result.{result_ok}
 use Rattle.std.specs.Cmp.Lexicographic.{slice_cmp}
 use Rattle.std.specs.Ordering.{nat_cmp, int_cmp, int_eq, is_lt, is_le, is_gt, is_ge}
 use Rattle.std.specs.declared.cmp.Ordering.{Ordering}
@@ -109,6 +110,25 @@ binary op.Divide a b = in_numerals (on_numbers exact_quotient a b)
 binary op.Div a b = in_numerals (on_numbers cut_quotient a b)
 binary op.Mod a b = in_numerals (on_numbers remainder a b)
 binary op.Power a b = in_numerals (on_numbers power a b)
+
+-- the number that these operators give of two numbers; none of the others, nor where it isn't in range or a divisor is 0
+abbrev pub number_by : Op → ℤ → ℤ → Option ℤ
+number_by op.Add x y = result_ok (ranged (x +ℤ y))
+number_by op.Subtract x y = result_ok (ranged (x -ℤ y))
+number_by op.Multiply x y = result_ok (ranged (x *ℤ y))
+number_by op.Div x y = result_ok (cut_quotient x y)
+number_by op.Mod x y = result_ok (remainder x y)
+number_by _ x y = None
+
+-- the truth value that a comparison gives of two numbers; none of the other operators
+abbrev pub truth_by : Op → ℤ → ℤ → Option Bool
+truth_by op.Equal x y = Some (int_eq x y)
+truth_by op.NotEqual x y = Some (not (int_eq x y))
+truth_by op.Less x y = Some (is_lt (int_cmp x y))
+truth_by op.Greater x y = Some (is_gt (int_cmp x y))
+truth_by op.LessOrEqual x y = Some (is_le (int_cmp x y))
+truth_by op.GreaterOrEqual x y = Some (is_ge (int_cmp x y))
+truth_by _ x y = None
 
 -- what an operator of one operand gives
 unfoldable pub unary : UnOp → List ℕ → Result (List ℕ) Fault

@@ -45,7 +45,7 @@ pub(crate) fn product(left: &Value, right: &Value) -> Result<i64, Fault>
 }
 
 /// What is left of a division of two numbers. It never overflows: the least number by -1 leaves 0.
-fn rest_of(x: i64, y: i64) -> Result<i64, Fault>
+pub(crate) fn rest_of(x: i64, y: i64) -> Result<i64, Fault>
     ensures { result ≡ remainder_of x y }
 {
     match y {
@@ -56,7 +56,7 @@ fn rest_of(x: i64, y: i64) -> Result<i64, Fault>
 }
 
 /// A quotient, cut toward zero.
-fn cut(x: i64, y: i64) -> Result<i64, Fault>
+pub(crate) fn cut(x: i64, y: i64) -> Result<i64, Fault>
     ensures { result ≡ cut_quotient_of x y }
 {
     if y == 0 {

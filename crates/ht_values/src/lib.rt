@@ -12,6 +12,7 @@ mod law;
 mod logic;
 mod name;
 mod number;
+mod on_numbers;
 mod operator;
 mod search;
 mod text;
@@ -28,7 +29,8 @@ pub use law::{
 };
 pub use logic::{in_word, truth_of};
 pub use name::Name;
-pub use number::{number_of, numeral, without_front_spaces};
+pub use number::{number_of, numeral, plain_number, without_front_spaces};
+pub use on_numbers::{number_by, truth_by};
 pub use operator::{Func, Op, UnOp, ValueType};
 pub use text::{LIMIT, Text, law_of_text, text_of};
 pub use value::{Spelling, Value, law_of_value};

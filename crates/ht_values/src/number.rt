@@ -104,6 +104,7 @@ fn spelled(text: &[u8]) -> Result<i64, Fault>
 /// number is `OutOfRange` where that does not fit 64 bits, and any other text is `NotANumber`. It takes no memory. Whole
 /// numbers of 64 bits are this project's profile.
 #[tactic(auto, unfolding(crate::specs::Number::number_of))]
+#[inline(never)]
 pub fn number_of(text: &Text) -> Result<i64, Fault>
     ensures { result ≡ number_of_text text.now }
 {
@@ -117,14 +118,15 @@ pub fn number_of(text: &Text) -> Result<i64, Fault>
 
 /// The number of a numeral: an optional `-` and digits between spaces, in range. No other text has one.
 #[tactic(auto, using(crate::proofs::Numerals::numeral_spelled))]
+#[inline(never)]
 pub fn numeral(text: &Text) -> Option<i64>
     ensures { SomeIff result (IsTrue (is_numeral text.now)) (value_of text.now) }
 {
     spelled(trimmed(text.as_slice())).ok()
 }
 
-/// The number whose numeral the text is, where that has no sign and at most 18 digits.
-pub(crate) fn plain_number(text: &[u8]) -> Option<i64>
+/// The number whose numeral these bytes are, where that has no sign and at most 18 digits. It takes no memory.
+pub fn plain_number(text: &[u8]) -> Option<i64>
     ensures { IfSome result (λ n. numeral_text n ≡ text.now) }
 {
     if text.is_empty() || 18 < text.len() {

@@ -17,8 +17,7 @@ pub const LIMIT: usize = 30_000;
 // Contracts name the limit, so the number is said a second time: another one is refused here.
 const _: () = prove!(LIMIT == 30_000);
 
-/// The bytes of a short text. Short texts are mostly names that differ, and one pass tells that soonest. Longer ones are
-/// first compared as they stand: where they are equal, that takes a twentieth of the time.
+/// The bytes of a short text. Short texts are mostly names that differ, and one pass tells that soonest.
 const SHORT: usize = 32;
 
 /// A value of HyperTalk, which contracts see as its list of bytes.
@@ -134,12 +133,24 @@ impl Text {
     }
 
     /// Whether two texts are equal after A-Z is folded to a-z.
+    #[inline]
     pub fn same(&self, other: &Text) -> bool
         ensures { IsTrue result ↔ Same self.now other.now }
     {
-        let is_long = SHORT < self.bytes.len();
-        (is_long && self.bytes == other.bytes) || self.bytes.eq_ignore_ascii_case(&other.bytes)
+        if SHORT < self.bytes.len() {
+            return are_same_long(&self.bytes, &other.bytes);
+        }
+        self.bytes.eq_ignore_ascii_case(&other.bytes)
     }
+}
+
+/// Whether two long texts are equal after A-Z is folded to a-z. They are first compared as they stand: where they are equal,
+/// that takes a twentieth of the time. Not inlined, so that `same` stays small.
+#[inline(never)]
+fn are_same_long(left: &[u8], right: &[u8]) -> bool
+    ensures { IsTrue result ↔ Same left.now right.now }
+{
+    left == right || left.eq_ignore_ascii_case(right)
 }
 
 /// A copy of bytes with A-Z folded to a-z, and nothing else.

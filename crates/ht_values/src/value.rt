@@ -1,6 +1,6 @@
 //! Values as they are computed: a number or a truth value in place of its spelling, or a text.
 
-ghost use Rattle.std.specs.Prelude.{◌≡◌, ◌≤◌, ◌++◌, ℕ, List, length, IfOk, IfErr, OnOk, OnErr, Ok, Err, IsTrue};
+ghost use Rattle.std.specs.Prelude.{◌≡◌, ◌≤◌, ◌++◌, ℕ, List, length, IfOk, IfErr, IfSome, OnOk, OnErr, Ok, Err, IsTrue};
 ghost use Rattle.std.specs.Option.{SomeIff};
 ghost use Rattle.ht_values.specs.Number.{is_numeral, number_of as number_of_text, value_of};
 ghost use Rattle.ht_values.specs.Operators.{truth_of as truth_of_text, word_of};
@@ -142,7 +142,19 @@ impl Value {
         Ok(())
     }
 
+    /// The number as which the value is kept, if it is kept so: nothing is read. It takes no memory.
+    #[inline]
+    pub fn kept_number(&self) -> Option<i64>
+        ensures { IfSome result (λ n. self.now ≡ numeral_of n) }
+    {
+        match &self.form {
+            Form::Number(number) => Some(*number),
+            Form::Truth(_) | Form::Spelled(_) => None,
+        }
+    }
+
     /// The number that the value means, or the fault that it means none, as `number_of` says it of a text. It takes no memory.
+    #[inline]
     #[tactic(auto, using(crate::proofs::Spellings::numeral_is_read, crate::proofs::Spellings::word_is_no_number))]
     pub fn number(&self) -> Result<i64, Fault>
         ensures { result ≡ number_of_text self.now }
@@ -155,6 +167,7 @@ impl Value {
     }
 
     /// The number of a numeral, as `numeral` says it of a text.
+    #[inline]
     #[tactic(auto, using(crate::proofs::Spellings::numeral_is_one, crate::proofs::Spellings::word_is_no_numeral))]
     pub(crate) fn numeral(&self) -> Option<i64>
         ensures { SomeIff result (IsTrue (is_numeral self.now)) (value_of self.now) }
