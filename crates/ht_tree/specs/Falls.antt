@@ -67,7 +67,7 @@ count_falls count.Backgrounds = omega arith
 count_falls (count.Parts l k) = omega arith
 count_falls (count.OfObject r) = omega (arith, ref_falls r)
 
-pub expr_falls : (x : ExprKind) → max (deep-ExprKind x) 0 ≤ depth (expr_of x)
+pub expr_falls : (x : ExprKind) → max (max (deep-ExprKind x) 0) 0 ≤ depth (expr_of x)
 expr_falls (e.Number w) = omega arith
 expr_falls (e.Quoted w) = omega arith
 expr_falls (e.Constant c) = omega arith

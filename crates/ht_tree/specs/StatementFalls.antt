@@ -13,7 +13,7 @@ stmts_fall : (xs : List s.Stmt) → most (λ x. stmt_depth x + 1) xs ≤ stmts_d
 stmts_fall [] = omega arith
 stmts_fall (x ∷ xs) = omega (arith, stmts_fall xs)
 
-pub stmt_falls : (x : StmtKind) → max (deep-StmtKind x) 0 ≤ stmt_depth (stmt_of x)
+pub stmt_falls : (x : StmtKind) → max (max (deep-StmtKind x) 0) 0 ≤ stmt_depth (stmt_of x)
 stmt_falls (stmt.Put e) = omega arith
 stmt_falls (stmt.PutIn w e c) = omega arith
 stmt_falls (stmt.Get e) = omega arith

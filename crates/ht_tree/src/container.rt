@@ -12,7 +12,14 @@ use std::marker::Model;
 /// Where a text is put, at most 100 levels deep.
 #[cycle(container)]
 pub struct Container {
-    kind: Box<ContainerKind>,
+    node: Box<ContainerNode>,
+}
+
+/// A container's kind and its depth, in one box.
+#[cycle(container)]
+#[derive(Drop)]
+struct ContainerNode {
+    kind: ContainerKind,
     depth: usize,
 }
 
@@ -20,7 +27,7 @@ pub struct Container {
 impl Drop for Container {
     #[cycle(container)]
     fn drop(self) {
-        let Container { kind: _, depth: _ } = self;
+        let Container { node: _ } = self;
     }
 }
 
@@ -50,15 +57,15 @@ impl Model for Container {
     ghost use Rattle.ht_grammar.specs.Depth.{container_depth, max_depth};
     ghost use Rattle.ht_tree.specs.ContainerView.{container_of};
 
-    ghost view = { λ c. container_of c.kind.value };
+    ghost view = { λ c. container_of c.node.value.kind };
 
-    ghost invariant = { λ c. (c.depth ≡ container_depth (container_of c.kind.value)) × (c.depth ≤ max_depth) };
+    ghost invariant = { λ c. (c.node.value.depth ≡ container_depth (container_of c.node.value.kind)) × (c.node.value.depth ≤ max_depth) };
 
     ghost size = { container_depth };
 
     ghost use Rattle.ht_tree.specs.ContainerFalls.{container_falls};
 
-    ghost size_decreases = { λ c h. container_falls c.kind.value };
+    ghost size_decreases = { λ c h. container_falls c.node.value.kind };
 }
 
 impl Container {
@@ -68,23 +75,24 @@ impl Container {
         ensures { IfOk result (λ made. made ≡ container_of kind) }
     {
         let depth = kind.depth();
-        let kind = Box::new(alloc, kind)?;
-        Ok(Container { kind, depth })
+        let node = Box::new(alloc, ContainerNode { kind, depth })?;
+        Ok(Container { node })
     }
 
     /// Its kind, with its parts.
     pub fn kind(&self) -> &ContainerKind
         ensures { container_of result.now ≡ self.now }
     {
-        &self.kind
+        &self.node.kind
     }
 
     /// The kind alone, with its parts.
     pub fn into_kind(self) -> ContainerKind
         ensures { container_of result ≡ self }
     {
-        let Container { kind, depth: _ } = self;
-        Box::into_inner(kind)
+        let Container { node } = self;
+        let ContainerNode { kind, depth: _ } = Box::into_inner(node);
+        kind
     }
 
     /// The greatest number of nodes on a way down, at most 100.
@@ -92,7 +100,7 @@ impl Container {
         ensures value { result ≡ container_depth self.now }
         ensures limit { result ≤ max_depth }
     {
-        self.depth
+        self.node.depth
     }
 }
 

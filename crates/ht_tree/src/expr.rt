@@ -8,14 +8,21 @@ ghost use Rattle.ht_tree.specs.View.{expr_of, exprs_of, chunk_of, which_of, sele
 
 use ht_grammar::{FunctionWord, Layer, RunProp};
 use ht_lex::{Constant, Ordinal};
-use ht_values::{ChunkKind, Name, Op, PartKind, Prop, Text, UnOp};
+use ht_values::{ChunkKind, Name, Op, PartKind, Prop, Text, UnOp, Value};
 use std::alloc::{AllocError, Global};
 use std::marker::Model;
 
 /// An expression, at most 100 levels deep.
 #[cycle(tree)]
 pub struct Expr {
-    kind: Box<ExprKind>,
+    node: Box<ExprNode>,
+}
+
+/// An expression's kind and its depth, in one box.
+#[cycle(tree)]
+#[derive(Drop)]
+struct ExprNode {
+    kind: ExprKind,
     depth: usize,
 }
 
@@ -23,7 +30,7 @@ pub struct Expr {
 impl Drop for Expr {
     #[cycle(tree)]
     fn drop(self) {
-        let Expr { kind: _, depth: _ } = self;
+        let Expr { node: _ } = self;
     }
 }
 
@@ -31,7 +38,8 @@ impl Drop for Expr {
 #[cycle(tree)]
 #[derive(Drop)]
 pub enum ExprKind {
-    Number(Text),
+    /// Digits, as the value that they are.
+    Number(Value),
     Quoted(Text),
     Constant(Constant),
     /// The constant `return`.
@@ -229,15 +237,15 @@ impl Model for Expr {
     ghost use Rattle.ht_grammar.specs.Depth as d;
     ghost use Rattle.ht_tree.specs.View.{expr_of};
 
-    ghost view = { λ e. expr_of e.kind.value };
+    ghost view = { λ e. expr_of e.node.value.kind };
 
-    ghost invariant = { λ e. (e.depth ≡ d.depth (expr_of e.kind.value)) × (e.depth ≤ d.max_depth) };
+    ghost invariant = { λ e. (e.node.value.depth ≡ d.depth (expr_of e.node.value.kind)) × (e.node.value.depth ≤ d.max_depth) };
 
     ghost size = { d.depth };
 
     ghost use Rattle.ht_tree.specs.Falls.{expr_falls};
 
-    ghost size_decreases = { λ e h. expr_falls e.kind.value };
+    ghost size_decreases = { λ e h. expr_falls e.node.value.kind };
 }
 
 impl Expr {
@@ -247,15 +255,15 @@ impl Expr {
         ensures { IfOk result (λ e. e ≡ expr_of kind) }
     {
         let depth = kind.depth();
-        let kind = Box::new(alloc, kind)?;
-        Ok(Expr { kind, depth })
+        let node = Box::new(alloc, ExprNode { kind, depth })?;
+        Ok(Expr { node })
     }
 
     /// Its kind, with its parts.
     pub fn kind(&self) -> &ExprKind
         ensures { expr_of result.now ≡ self.now }
     {
-        &self.kind
+        &self.node.kind
     }
 
     /// The greatest number of nodes on a way down, at most 100.
@@ -263,7 +271,7 @@ impl Expr {
         ensures value { result ≡ depth self.now }
         ensures limit { result ≤ max_depth }
     {
-        self.depth
+        self.node.depth
     }
 }
 
@@ -311,6 +319,14 @@ impl Exprs {
     {
         self.items.push(expr)?;
         Ok(self)
+    }
+
+    /// The same list, in no more memory than it needs.
+    pub fn fitted(mut self) -> Exprs
+        ensures { result.items.items ≡ self.items.items }
+    {
+        self.items.shrink_to_fit();
+        self
     }
 
     /// The depth of the deepest, 0 where there is none.

@@ -63,20 +63,23 @@ impl Drop for Head {
 /// A statement, at most 100 levels deep. It remembers where it stands in its text, which contracts don't see.
 #[cycle(statement)]
 pub struct Stmt {
-    kind: Box<StmtKind>,
-    depth: usize,
-    place: usize,
+    node: Box<StmtNode>,
+}
+
+/// A statement's kind, its depth and its place, in one box.
+#[cycle(statement)]
+#[derive(Drop)]
+struct StmtNode {
+    kind: StmtKind,
+    depth: u8,
+    place: u32,
 }
 
 /// Written here and not derived, so that no crate above proves anew how a tree is dropped.
 impl Drop for Stmt {
     #[cycle(statement)]
     fn drop(self) {
-        let Stmt {
-            kind: _,
-            depth: _,
-            place: _,
-        } = self;
+        let Stmt { node: _ } = self;
     }
 }
 
@@ -140,15 +143,15 @@ impl Model for Stmt {
     ghost use Rattle.ht_grammar.specs.Depth.{stmt_depth, max_depth};
     ghost use Rattle.ht_tree.specs.StatementView.{stmt_of};
 
-    ghost view = { λ x. stmt_of x.kind.value };
+    ghost view = { λ x. stmt_of x.node.value.kind };
 
-    ghost invariant = { λ x. (x.depth ≡ stmt_depth (stmt_of x.kind.value)) × (x.depth ≤ max_depth) };
+    ghost invariant = { λ x. (x.node.value.depth ≡ stmt_depth (stmt_of x.node.value.kind)) × (x.node.value.depth ≤ max_depth) };
 
     ghost size = { stmt_depth };
 
     ghost use Rattle.ht_tree.specs.StatementFalls.{stmt_falls};
 
-    ghost size_decreases = { λ x h. stmt_falls x.kind.value };
+    ghost size_decreases = { λ x h. stmt_falls x.node.value.kind };
 }
 
 impl Names {
@@ -167,6 +170,14 @@ impl Names {
     {
         self.items.push(name)?;
         Ok(self)
+    }
+
+    /// The same names, in no more memory than they need.
+    pub fn fitted(mut self) -> Names
+        ensures { result.items.items ≡ self.items.items }
+    {
+        self.items.shrink_to_fit();
+        self
     }
 }
 
@@ -206,16 +217,17 @@ impl Stmt {
         requires { stmt_depth (stmt_of kind) ≤ max_depth }
         ensures { IfOk result (λ made. made ≡ stmt_of kind) }
     {
-        let depth = kind.depth();
-        let kind = Box::new(alloc, kind)?;
-        Ok(Stmt { kind, depth, place })
+        let depth = kind.depth() as u8;
+        let place = u32::try_from(place).unwrap_or(u32::MAX);
+        let node = Box::new(alloc, StmtNode { kind, depth, place })?;
+        Ok(Stmt { node })
     }
 
     /// Its kind, with its parts.
     pub fn kind(&self) -> &StmtKind
         ensures { stmt_of result.now ≡ self.now }
     {
-        &self.kind
+        &self.node.kind
     }
 
     /// The greatest number of nodes on a way down, at most 100.
@@ -223,12 +235,12 @@ impl Stmt {
         ensures value { result ≡ stmt_depth self.now }
         ensures limit { result ≤ max_depth }
     {
-        self.depth
+        self.node.depth as usize
     }
 
     /// Where it begins, in bytes from the beginning of its text, as it was told when it was made. No clause says so.
     pub fn place(&self) -> usize {
-        self.place
+        self.node.place as usize
     }
 }
 
@@ -285,6 +297,14 @@ impl Stmts {
     {
         self.items.push(stmt)?;
         Ok(self)
+    }
+
+    /// The same statements, in no more memory than they need.
+    pub fn fitted(mut self) -> Stmts
+        ensures { result.items.items ≡ self.items.items }
+    {
+        self.items.shrink_to_fit();
+        self
     }
 
     /// The depth of the deepest, 0 where there is none.
