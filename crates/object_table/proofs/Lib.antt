@@ -1,5 +1,6 @@
 pub mod Counting
 pub mod Empty
+pub mod Keys
 pub mod Listed
 pub mod Live
 pub mod Maps

@@ -2,6 +2,7 @@ pub mod Content
 pub mod Empty
 pub mod Flags
 pub mod PartContents
+pub mod Keys
 pub mod Layers
 pub mod Maps
 pub mod Numbers

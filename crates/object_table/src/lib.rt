@@ -2,6 +2,7 @@
 #![tactic(auto)]
 
 mod ids;
+mod name;
 mod number;
 mod object;
 mod pages;
@@ -13,6 +14,7 @@ mod stack;
 
 pub use ht_values::{PartKind, Prop};
 pub use ids::{Id, IdList};
+pub use name::ObjectName;
 pub use object::{Kind, LayerId, Object};
 pub use property::PropValue;
 pub use reference::Which;

@@ -7,6 +7,7 @@ ghost use Rattle.object_table.specs.Objects.{is_of};
 ghost use Rattle.object_table.specs.Setting.{value_in, with_value};
 
 use crate::ids::Id;
+use crate::name::ObjectName;
 use crate::property::PropValue;
 use ht_values::{PartKind, Text};
 use std::alloc::Global;
@@ -44,7 +45,7 @@ pub enum Kind {
 
 /// An object: its name, its script, and its kind with its flags.
 pub struct Object {
-    pub name: Text,
+    pub name: ObjectName,
     pub script: Text,
     pub kind: Kind,
 }
@@ -66,7 +67,7 @@ impl Object {
         ensures { result ≡ record { name = []; script = []; kind = kind } }
     {
         Object {
-            name: Text::new(alloc),
+            name: ObjectName::new(Text::new(alloc)),
             script: Text::new(alloc),
             kind,
         }
@@ -96,7 +97,7 @@ impl Object {
         ensures object { self.new ≡ with_value value.old self.old }
     {
         match value {
-            PropValue::NameIs(name) => mem::swap(&mut self.name, name),
+            PropValue::NameIs(name) => self.name.swap_text(name),
             PropValue::ScriptIs(script) => mem::swap(&mut self.script, script),
             PropValue::VisibleIs(flag) => self.kind.swap_visible(flag),
             PropValue::HiliteIs(flag) => self.kind.swap_hilite(flag),

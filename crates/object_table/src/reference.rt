@@ -6,6 +6,7 @@ ghost use Rattle.object_table.specs.Objects.{has_kind, is_of};
 ghost use Rattle.object_table.specs.References.{is_named, part_found, pick as picked};
 
 use crate::ids::{Id, IdList};
+use crate::name::SoughtName;
 use crate::object::LayerId;
 use crate::stack::Stack;
 use ht_values::{PartKind, Text};
@@ -36,7 +37,8 @@ impl Stack {
     fn named_in(&self, ids: &[Id], name: &Text) -> Option<Id>
         ensures { result ≡ find (is_named self.now.content name.now) ids.now }
     {
-        ids.iter().copied().find(|id| self.is_named(*id, name))
+        let sought = SoughtName::new(name);
+        ids.iter().copied().find(|id| self.is_named(*id, &sought))
     }
 
     /// The part of this kind on a layer that is meant. `None` where there is no such layer or no such part
@@ -80,19 +82,19 @@ impl Stack {
     fn named_among(&self, parts: &[Id], kind: PartKind, name: &Text) -> Option<Id>
         ensures { result ≡ find (is_named self.now.content name.now) (of_kind self.now.content kind parts.now) }
     {
+        let sought = SoughtName::new(name);
         parts
             .iter()
             .copied()
             .filter(|part| self.is_part(*part, kind))
-            .find(|part| self.is_named(*part, name))
+            .find(|part| self.is_named(*part, &sought))
     }
 
-    /// Whether an object is there and its name is the same.
-    pub fn is_named(&self, id: Id, name: &Text) -> bool
-        ensures { result ≡ is_named self.now.content name.now id }
+    fn is_named(&self, id: Id, sought: &SoughtName<'_>) -> bool
+        ensures { result ≡ is_named self.now.content sought.now id }
     {
         match self.object(id) {
-            Some(object) => object.name.same(name),
+            Some(object) => object.name.same(sought),
             None => false,
         }
     }
