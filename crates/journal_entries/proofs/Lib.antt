@@ -14,5 +14,6 @@ pub mod Marks
 pub mod Several
 mod Listing
 pub mod Keys
+pub mod PlaceSets
 pub mod Indexing
 pub mod ScriptTrees

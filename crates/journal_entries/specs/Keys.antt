@@ -1,18 +1,18 @@
 -- Places as keys.
 use Rattle.std.specs.Prelude.{Option, Some, None}
-use Rattle.ht_values.specs.declared.word.Prop.{Prop}
-use Rattle.ht_values.specs.declared.word.Prop.TheVariants as props
 use Rattle.object_table.specs.declared.property.PropValue.{PropValue}
 use Rattle.object_table.specs.declared.property.PropValue.TheVariants as settings
 use Rattle.stack_places.specs.declared.entry.StackEntry.{StackEntry}
 use Rattle.stack_places.specs.declared.entry.StackEntry.TheVariants as stack_entries
 use Rattle.journal_entries.specs.declared.entry.Entry.{Entry}
 use Rattle.journal_entries.specs.declared.entry.Entry.TheVariants as entries
+use Rattle.journal_entries.specs.declared.place_key.PropertyKey.{PropertyKey}
+use Rattle.journal_entries.specs.declared.place_key.PropertyKey.TheVariants as props
 use Rattle.journal_entries.specs.declared.place_key.PlaceKey.{PlaceKey}
 use Rattle.journal_entries.specs.declared.place_key.PlaceKey.TheVariants as keys
 
 -- the property that a value is for
-abbrev pub property_of : PropValue → Prop
+abbrev pub property_of : PropValue → PropertyKey
 property_of (settings.NameIs t) = props.Name
 property_of (settings.ScriptIs t) = props.Script
 property_of (settings.VisibleIs b) = props.Visible

@@ -9,6 +9,7 @@ pub mod Keys
 pub mod Turning
 pub mod Changing
 pub mod SameKey
+pub mod PlaceSets
 pub mod Indexed
 pub mod BatchEntries
 pub mod ScriptTrees

@@ -9,6 +9,7 @@ mod laws;
 mod names;
 mod open_batch;
 mod place_key;
+mod place_set;
 mod present;
 mod script_trees;
 

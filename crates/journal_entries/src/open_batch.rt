@@ -1,7 +1,6 @@
 //! The batch of the line that runs.
 
 ghost use Rattle.std.specs.Prelude.{◌≡◌, ℕ, ◌<◌, ◌≤◌, ◌+◌, max, vec_len, vec_capacity, true, false, List, [], ◌∷◌, ◌++◌, length, IfOk, OnErr, OnOk};
-ghost use Rattle.std.specs.HashMap.{get_by, spare};
 ghost use Rattle.externals.specs.Cells.{IsPatch, Changes};
 ghost use Rattle.journal_entries.specs.State.{IsState, seen_at};
 ghost use Rattle.journal_entries.specs.Changes.{fits};
@@ -9,34 +8,28 @@ ghost use Rattle.journal_entries.specs.declared.change.Change.TheVariants as mad
 ghost use Rattle.journal_entries.specs.Changing.{Makes, holds_one, kept, kept_in_turn, kept_turn};
 ghost use Rattle.journal_entries.specs.Indexed.{IsIndexed, is_held as is_held_in};
 ghost use Rattle.journal_entries.specs.Keys.{key_of as key_of_entry};
-ghost use Rattle.journal_entries.specs.SameKey.{same_key};
+ghost use Rattle.journal_entries.specs.PlaceSets.{has_place, IsBounded};
+ghost use Rattle.journal_entries.specs.declared.place_key.PlaceKey.{PlaceKey};
 ghost use Rattle.journal_entries.specs.Turning.{Grows, Turns, TurnsAtMostOnce, one_more_at};
 ghost use Rattle.journal_entries.specs.Exchange.{back, forth, exchanged, of_one_place, taken, shape_of, AreReady, IsReady};
 
 use crate::batch::Batch;
 use crate::change::Change;
 use crate::entry::{Entry, Prepared, is_structural_entry};
-use crate::place_key::{PlaceKey, key_of};
+use crate::place_key::key_of;
+use crate::place_set::PlaceSet;
 use crate::present::Present;
 use externals::{Ask, External, Input, Patch};
 use ht_values::Text;
 use std::alloc::{AllocError, Global};
-use std::collections::HashMap;
 use std::marker::Model;
 
-/// Where the latest entry of each place stands, and how many entries stand up to and with the latest structural one.
-#[derive(Drop)]
-struct Index {
-    latest: HashMap<PlaceKey, usize>,
-    closed: usize,
-}
-
-/// A batch that grows. Beside its entries stands an index by place, so that it is known at once whether the segment since
-/// the latest structural entry has an entry of a place.
+/// A batch that grows. Beside its entries stands the set of the places that the segment since the latest structural entry
+/// has, so that it is known at once whether it has an entry of a place.
 pub struct OpenBatch {
     number: u32,
     entries: Vec<Entry>,
-    index: Index,
+    places: PlaceSet,
 }
 
 /// Written here and not derived, so that no crate above proves anew how it is dropped.
@@ -45,22 +38,20 @@ impl Drop for OpenBatch {
         let OpenBatch {
             number: _,
             entries: _,
-            index: _,
+            places: _,
         } = self;
     }
 }
 
 impl Model for OpenBatch {
-    ghost use Rattle.std.specs.HashMap.{get_by};
     ghost use Rattle.journal_entries.specs.Exchange.{BatchView};
     ghost use Rattle.journal_entries.specs.Indexed.{IsIndexed};
-    ghost use Rattle.journal_entries.specs.SameKey.{same_key};
 
     ghost Value = { BatchView };
 
     ghost view = { λ b. record { number = b.number; entries = b.entries.items } };
 
-    ghost invariant = { λ b. IsIndexed b.entries.items b.index.closed (λ key. get_by (same_key key) b.index.latest) };
+    ghost invariant = { λ b. IsIndexed b.entries.items b.places };
 }
 
 impl OpenBatch {
@@ -71,10 +62,7 @@ impl OpenBatch {
         OpenBatch {
             number,
             entries: Vec::new(alloc),
-            index: Index {
-                latest: HashMap::new(alloc),
-                closed: 0,
-            },
+            places: PlaceSet::new(alloc),
         }
     }
 
@@ -92,7 +80,7 @@ impl OpenBatch {
         let OpenBatch {
             number,
             entries,
-            index: _,
+            places: _,
         } = self;
         Batch::of(number, entries)
     }
@@ -105,7 +93,7 @@ impl OpenBatch {
         let OpenBatch {
             number: _,
             mut entries,
-            index: _,
+            places: _,
         } = self;
         present.go_back(&mut entries);
     }
@@ -122,9 +110,9 @@ impl OpenBatch {
         ensures state_err { OnErr result (present.new ≡ present.old) }
         ensures entries_err { OnErr result (self.new ≡ self.old) }
     {
-        match make_room(&mut self.entries, &mut self.index, &entry) {
-            Ok(()) => {
-                write_reserved(&mut self.entries, &mut self.index, present, entry);
+        match make_room(&mut self.entries, &mut self.places, &entry) {
+            Ok(held) => {
+                write_reserved(&mut self.entries, &mut self.places, present, entry, held);
                 Ok(())
             }
             Err(refused) => {
@@ -147,9 +135,11 @@ impl OpenBatch {
         ensures entries_err { OnErr result (self.new ≡ self.old) }
     {
         reserve(&mut self.entries, entries.len())?;
-        self.index.latest.reserve(entries.len())?;
+        self.places.sort()?;
+        self.places.reserve(entries.len())?;
         for entry in entries {
-            write_reserved(&mut self.entries, &mut self.index, present, entry);
+            let held = is_held(&self.entries, &self.places, &entry);
+            write_reserved(&mut self.entries, &mut self.places, present, entry, held);
         }
         Ok(())
     }
@@ -206,7 +196,7 @@ impl OpenBatch {
         reserve(&mut self.entries, 1)?;
         let (ask, patch) = present.turn(i, alloc, input)?;
         if patch.len() > 0 {
-            keep_turn(&mut self.entries, &self.index, i, patch);
+            keep_turn(&mut self.entries, &self.places, i, patch);
         }
         Ok(ask)
     }
@@ -226,30 +216,57 @@ fn reserve(entries: &mut Vec<Entry>, more: usize) -> Result<(), AllocError>
     }
 }
 
-/// Makes room for an entry, unless its place has one already.
-fn make_room(entries: &mut Vec<Entry>, index: &mut Index, entry: &Entry) -> Result<(), AllocError>
-    requires indexed { IsIndexed entries.old.items index.old.closed (λ key. get_by (same_key key) index.old.latest) }
+/// Makes room for an entry, unless its place has one already, which comes out.
+fn make_room(
+    entries: &mut Vec<Entry>,
+    places: &mut PlaceSet,
+    entry: &Entry,
+) -> Result<bool, AllocError>
+    requires indexed { IsIndexed entries.old.items places.old }
+    ensures held { IfOk result (λ held. held ≡ holds_one entry.now entries.old.items) }
     ensures items { entries.new.items ≡ entries.old.items }
-    ensures indexed { IsIndexed entries.new.items index.new.closed (λ key. get_by (same_key key) index.new.latest) }
-    ensures place { OnOk result (holds_one entry.now entries.old.items ≡ false → vec_len entries.new < vec_capacity entries.new) }
-    ensures room { OnOk result (holds_one entry.now entries.old.items ≡ false → 0 < spare index.new.latest) }
+    ensures indexed { IsIndexed entries.new.items places.new }
+    ensures place { IfOk result (λ held. held ≡ false → vec_len entries.new < vec_capacity entries.new) }
+    ensures room { IfOk result (λ held. held ≡ false → vec_len places.new.waiting < vec_capacity places.new.waiting) }
 {
-    if !is_held(entries, index, entry) {
-        reserve(entries, 1)?;
-        index.latest.reserve(1)?;
+    if is_last(entries, entry) {
+        return Ok(true);
+    }
+    sort_for(places, entry)?;
+    if is_found(places, entry) {
+        return Ok(true);
+    }
+    reserve(entries, 1)?;
+    places.reserve(1)?;
+    Ok(false)
+}
+
+/// Sorts the places where else each would be looked at to find that of an entry.
+fn sort_for(places: &mut PlaceSet, entry: &Entry) -> Result<(), AllocError>
+    ensures has { (q : PlaceKey) → has_place places.new q ≡ has_place places.old q }
+    ensures greatest { places.new.greatest ≡ places.old.greatest }
+{
+    match key_of(entry) {
+        Some(key) => {
+            if places.may_have(&key) {
+                places.sort()?;
+            }
+        }
+        None => {}
     }
     Ok(())
 }
 
 /// Whether the segment since the latest structural entry has an entry of this one's place.
-fn is_held(entries: &[Entry], index: &Index, entry: &Entry) -> bool
-    requires indexed { IsIndexed entries.now index.now.closed (λ key. get_by (same_key key) index.now.latest) }
+fn is_held(entries: &[Entry], places: &PlaceSet, entry: &Entry) -> bool
+    requires indexed { IsIndexed entries.now places.now }
     ensures { result ≡ holds_one entry.now entries.now }
 {
-    is_last(entries, entry) || is_found(index, entry)
+    let _ = entries;
+    is_found(places, entry)
 }
 
-/// Whether the latest entry is of the same global, as it is where a loop changes one. Then the index needn't be asked.
+/// Whether the latest entry is of the same global, as it is where a loop changes one. Then the places needn't be asked.
 fn is_last(entries: &[Entry], entry: &Entry) -> bool
     ensures { result ≡ true → holds_one entry.now entries.now ≡ true }
 {
@@ -269,38 +286,34 @@ fn are_one_global(entry: &Entry, other: &Entry) -> bool
     }
 }
 
-/// Whether the index tells that the segment since the latest structural entry has an entry of this one's place.
-fn is_found(index: &Index, entry: &Entry) -> bool
-    ensures { result ≡ is_held_in index.now.closed (λ key. get_by (same_key key) index.now.latest) (key_of_entry entry.now) }
+/// Whether the place of an entry is here, if it has one.
+fn is_found(places: &PlaceSet, entry: &Entry) -> bool
+    requires { IsBounded places.now }
+    ensures { result ≡ is_held_in (has_place places.now) (key_of_entry entry.now) }
 {
     match key_of(entry) {
-        Some(key) => match index.latest.get(&key) {
-            Some(i) => index.closed <= *i,
-            None => false,
-        },
+        Some(key) => places.has(&key),
         None => false,
     }
 }
 
 /// Adds an entry. There is room for it.
-fn keep(entries: &mut Vec<Entry>, index: &mut Index, entry: Entry)
+fn keep(entries: &mut Vec<Entry>, places: &mut PlaceSet, entry: Entry)
     requires place { vec_len entries.old < vec_capacity entries.old }
-    requires room { 0 < spare index.old.latest }
-    requires indexed { IsIndexed entries.old.items index.old.closed (λ key. get_by (same_key key) index.old.latest) }
+    requires room { vec_len places.old.waiting < vec_capacity places.old.waiting }
+    requires indexed { IsIndexed entries.old.items places.old }
     ensures items { entries.new.items ≡ entries.old.items ++ entry ∷ [] }
-    ensures indexed { IsIndexed entries.new.items index.new.closed (λ key. get_by (same_key key) index.new.latest) }
+    ensures indexed { IsIndexed entries.new.items places.new }
     ensures len { vec_len entries.new ≡ vec_len entries.old + 1 }
     ensures capacity { vec_capacity entries.new ≡ vec_capacity entries.old }
-    ensures spare { spare index.old.latest ≤ spare index.new.latest + 1 }
+    ensures waiting { vec_len places.new.waiting ≤ vec_len places.old.waiting + 1 }
+    ensures room { vec_capacity places.new.waiting ≡ vec_capacity places.old.waiting }
 {
     match key_of(&entry) {
-        Some(key) => match index.latest.insert(key, entries.len()) {
-            Ok(_) => {}
-            Err(_) => unreachable!(),
-        },
+        Some(key) => places.add(key),
         None => {
             if is_structural_entry(&entry) {
-                index.closed = entries.len() + 1;
+                places.clear();
             }
         }
     }
@@ -310,36 +323,38 @@ fn keep(entries: &mut Vec<Entry>, index: &mut Index, entry: Entry)
 /// Makes an exchange and keeps what comes out, unless the place has its entry already. Where it has none, there is room.
 fn write_reserved<E: External>(
     entries: &mut Vec<Entry>,
-    index: &mut Index,
+    places: &mut PlaceSet,
     present: &mut Present<E>,
     mut entry: Entry,
+    held: bool,
 )
     requires ready { IsReady (shape_of present.old) entry }
-    requires place { holds_one entry entries.old.items ≡ false → vec_len entries.old < vec_capacity entries.old }
-    requires room { holds_one entry entries.old.items ≡ false → 0 < spare index.old.latest }
-    requires indexed { IsIndexed entries.old.items index.old.closed (λ key. get_by (same_key key) index.old.latest) }
+    requires held { held ≡ holds_one entry entries.old.items }
+    requires place { held ≡ false → vec_len entries.old < vec_capacity entries.old }
+    requires room { held ≡ false → vec_len places.old.waiting < vec_capacity places.old.waiting }
+    requires indexed { IsIndexed entries.old.items places.old }
     ensures state { present.new ≡ record present.old { state = exchanged present.old.names present.old.state entry } }
     ensures items { entries.new.items ≡ kept entries.old.items entry (taken present.old.names present.old.state entry) }
-    ensures indexed { IsIndexed entries.new.items index.new.closed (λ key. get_by (same_key key) index.new.latest) }
+    ensures indexed { IsIndexed entries.new.items places.new }
     ensures len { vec_len entries.new ≤ vec_len entries.old + 1 }
     ensures capacity { vec_capacity entries.new ≡ vec_capacity entries.old }
-    ensures spare { spare index.old.latest ≤ spare index.new.latest + 1 }
+    ensures waiting { vec_len places.new.waiting ≤ vec_len places.old.waiting + 1 }
+    ensures room { vec_capacity places.new.waiting ≡ vec_capacity places.old.waiting }
 {
-    let held = is_held(entries, index, &entry);
     present.exchange(&mut entry);
     if held {
         return;
     }
-    keep(entries, index, entry);
+    keep(entries, places, entry);
 }
 
 /// Adds the patch of an external's turn, which has no place.
-fn keep_turn(entries: &mut Vec<Entry>, index: &Index, i: usize, patch: Patch)
+fn keep_turn(entries: &mut Vec<Entry>, places: &PlaceSet, i: usize, patch: Patch)
     requires place { vec_len entries.old < vec_capacity entries.old }
-    requires indexed { IsIndexed entries.old.items index.now.closed (λ key. get_by (same_key key) index.now.latest) }
+    requires indexed { IsIndexed entries.old.items places.now }
     ensures items { entries.new.items ≡ entries.old.items ++ Entry.External i patch ∷ [] }
-    ensures indexed { IsIndexed entries.new.items index.now.closed (λ key. get_by (same_key key) index.now.latest) }
+    ensures indexed { IsIndexed entries.new.items places.now }
 {
-    let _ = index;
+    let _ = places;
     entries.push_reserved(Entry::External(i, patch));
 }

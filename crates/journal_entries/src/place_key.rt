@@ -1,29 +1,42 @@
-//! Places as keys of a table.
+//! Places as keys, in an order.
 
 ghost use Rattle.std.specs.Prelude.{◌≡◌};
 ghost use Rattle.journal_entries.specs.Keys.{key_of as key_of_entry, stack_key, property_of as property_by};
 
 use crate::entry::Entry;
-use ht_values::Prop;
 use object_table::{Id, PropValue};
 use stack_places::StackEntry;
 
-/// The place that an entry replaces, where it neither makes or removes an object nor belongs to an external.
-#[derive(Clone, Copy, Eq, Hash, PartialEq)]
+/// The properties that may be set, in an order.
+#[derive(Clone, Copy, Eq, Ord, PartialEq, PartialOrd)]
+pub(crate) enum PropertyKey {
+    Name,
+    Script,
+    Visible,
+    Hilite,
+    SharedHilite,
+    LockText,
+    SharedText,
+    CantDelete,
+}
+
+/// The place that an entry replaces, where it neither makes or removes an object nor belongs to an external. The order is
+/// that in which most changes write their places.
+#[derive(Clone, Copy, Eq, Ord, PartialEq, PartialOrd)]
 pub(crate) enum PlaceKey {
-    /// The number of a global's name.
-    Global(usize),
-    CurrentCard,
+    NextId,
+    CardOrder,
+    BackgroundOrder,
+    Parts(Id),
     /// A property of an object.
-    Property(Id, Prop),
+    Property(Id, PropertyKey),
     /// A field and a card, or 0.
     FieldText(Id, Id),
     /// A button and a card, or 0.
     CardHilite(Id, Id),
-    CardOrder,
-    BackgroundOrder,
-    Parts(Id),
-    NextId,
+    CurrentCard,
+    /// The number of a global's name.
+    Global(usize),
 }
 
 /// The place of an entry, if it has one.
@@ -54,17 +67,17 @@ fn stack_key_of(entry: &StackEntry) -> Option<PlaceKey>
 }
 
 /// The property that a value is for.
-fn property_of(value: &PropValue) -> Prop
+fn property_of(value: &PropValue) -> PropertyKey
     ensures { result ≡ property_by value.now }
 {
     match value {
-        PropValue::NameIs(_) => Prop::Name,
-        PropValue::ScriptIs(_) => Prop::Script,
-        PropValue::VisibleIs(_) => Prop::Visible,
-        PropValue::HiliteIs(_) => Prop::Hilite,
-        PropValue::SharedHiliteIs(_) => Prop::SharedHilite,
-        PropValue::LockTextIs(_) => Prop::LockText,
-        PropValue::SharedTextIs(_) => Prop::SharedText,
-        PropValue::CantDeleteIs(_) => Prop::CantDelete,
+        PropValue::NameIs(_) => PropertyKey::Name,
+        PropValue::ScriptIs(_) => PropertyKey::Script,
+        PropValue::VisibleIs(_) => PropertyKey::Visible,
+        PropValue::HiliteIs(_) => PropertyKey::Hilite,
+        PropValue::SharedHiliteIs(_) => PropertyKey::SharedHilite,
+        PropValue::LockTextIs(_) => PropertyKey::LockText,
+        PropValue::SharedTextIs(_) => PropertyKey::SharedText,
+        PropValue::CantDeleteIs(_) => PropertyKey::CantDelete,
     }
 }

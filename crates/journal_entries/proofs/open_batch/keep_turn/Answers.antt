@@ -1,6 +1,4 @@
 use Rattle.std.proofs.Common.{refl}
-use Rattle.std.specs.HashMap.{get_by}
-use Rattle.journal_entries.specs.SameKey.{same_key}
 use Rattle.journal_entries.specs.Exchange.{is_structural}
 use Rattle.journal_entries.specs.declared.entry.Entry.TheVariants.{External}
 use Rattle.journal_entries.proofs.Indexing.{indexed-turned}
@@ -9,4 +7,4 @@ use Rattle.journal_entries.proofs.open_batch.keep_turn.Goals as goal
 pub returns-clause-indexed : goal.returns-clause-indexed
 unfolding is_structural
 returns-clause-indexed c =
-    rw c.push_reserved.ensures.items (indexed-turned c.args.entries.now.items (External c.args.i c.args.patch) c.args.index.now.closed (λ q. get_by (same_key q) c.args.index.now.latest) refl refl c.requires.indexed)
+    rw c.push_reserved.ensures.items (indexed-turned c.args.entries.now.items (External c.args.i c.args.patch) c.args.places.now refl refl c.requires.indexed)

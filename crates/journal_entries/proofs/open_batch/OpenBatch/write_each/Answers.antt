@@ -1,7 +1,5 @@
 use Rattle.std.proofs.Common.{rules, ◌≡◌, ◌∷◌, length, sym, subst, ap, ◌∙◌, arith}
-use Rattle.std.specs.HashMap.{get_by}
 use Rattle.std.specs.Vec.Iter.{into_iter_items}
-use Rattle.journal_entries.specs.SameKey.{same_key}
 use Rattle.journal_entries.proofs.Indexing.{indexed-same}
 use Rattle.journal_entries.specs.Changing.{kept_in_turn}
 use Rattle.journal_entries.specs.Exchange.{forth, shape_of, AreReady}
@@ -30,7 +28,7 @@ loop-entry-preserved g c =
       state = ap (forth s.names s.state) (sym steps) ∙ v.state;
       entries = ap (kept_in_turn s.names s.state es) (sym steps) ∙ v.entries;
       indexed = rw h.items at h.indexed;
-      free = omega (arith, h.spare, v.free, short);
+      free = omega (arith, h.waiting, h.room, v.free, short);
       place = omega (arith, h.len, h.capacity, v.place, short);
     })
 
@@ -46,7 +44,7 @@ loop-entry-init g c =
       ready = search rules;
       state = search rules;
       entries = search rules;
-      indexed = rw c.reserve.ensures.items (indexed-same w.entries.items w.index.closed (λ q. get_by (same_key q) w.index.latest) (λ q. get_by (same_key q) c.reserve-2.new.self) c.reserve-2.ensures.entries.2 c.self.invariant);
+      indexed = rw c.reserve.ensures.items (indexed-same w.entries.items w.places c.reserve-2.new.self (λ q. c.reserve-2.ensures.has q ∙ c.sort.ensures.has q) (c.reserve-2.ensures.greatest ∙ c.sort.ensures.greatest) c.self.invariant);
       free = search rules;
       place = search rules;
     }

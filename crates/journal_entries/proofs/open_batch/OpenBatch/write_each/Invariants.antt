@@ -1,9 +1,7 @@
 use Rattle.std.proofs.Common.{◌≡◌, ◌+◌, ◌≤◌, length, vec_len, vec_capacity}
 use Rattle.std.specs.Vec.Iter.{into_iter_items, into_iter_len}
 use Rattle.journal_entries.specs.Changing.{kept_in_turn}
-use Rattle.std.specs.HashMap.{get_by, spare}
 use Rattle.journal_entries.specs.Indexed.{IsIndexed}
-use Rattle.journal_entries.specs.SameKey.{same_key}
 use Rattle.journal_entries.specs.Exchange.{forth, shape_of, AreReady}
 use Rattle.journal_entries.proofs.open_batch.OpenBatch.write_each.Given as goal
 
@@ -18,7 +16,7 @@ invariant-loop-entry g l = record {
   ready : AreReady (shape_of l.present) (into_iter_items l.entry-iterator);
   state : forth l.present.names l.present.state (into_iter_items l.entry-iterator) ≡ forth l.initial.present.names l.initial.present.state (into_iter_items l.initial.entry-iterator);
   entries : kept_in_turn l.present.names l.present.state l.self-inside.entries.items (into_iter_items l.entry-iterator) ≡ kept_in_turn l.initial.present.names l.initial.present.state l.initial.self-inside.entries.items (into_iter_items l.initial.entry-iterator);
-  indexed : IsIndexed l.self-inside.entries.items l.self-inside.index.closed (λ key. get_by (same_key key) l.self-inside.index.latest);
-  free : length (into_iter_items l.entry-iterator) ≤ spare l.self-inside.index.latest;
+  indexed : IsIndexed l.self-inside.entries.items l.self-inside.places;
+  free : vec_len l.self-inside.places.waiting + length (into_iter_items l.entry-iterator) ≤ vec_capacity l.self-inside.places.waiting;
   place : vec_len l.self-inside.entries + length (into_iter_items l.entry-iterator) ≤ vec_capacity l.self-inside.entries;
 }
