@@ -1,7 +1,7 @@
 #!/usr/bin/env python3
 """Writes what runs replace, specs/Replaced.antt of the crate run_laws, and the proofs of its laws, each an induction over
-the rules of the table meaning.rules: proofs/Bases.antt, proofs/Rises.antt and proofs/Runs.antt. With --check it writes
-nothing, and ends with 1 where a file isn't what it would write.
+the rules of the table meaning.rules: proofs/Bases.antt, proofs/Rises.antt, proofs/Runs.antt and proofs/Wholes.antt. With
+--check it writes nothing, and ends with 1 where a file isn't what it would write.
 
 A law gives each family of rules a function over derivations, and each rule a clause, which puts together what the law
 says of the rule's parts: of its derivations, and of what else it makes (LEAVES, and Runs.LEAVES).
@@ -69,13 +69,17 @@ class Law:
 
     is_proof = True
 
-    def call(self, premise, place, whole):
+    def call(self, premise, place, whole, premises):
         """What the law says of a premise, the variable of which is given, or None."""
         head = words(premise)[0]
         if head not in FAMILIES and head not in LEAVES:
             return None
         memory = [memory_of(premise, whole)] if self.is_proof and end_of(premise) else []
-        return " ".join(["%s_%s" % (self.prefix, label(head)), place, *memory])
+        return " ".join(["%s_%s" % (self.prefix, label(head)), *self.before(premise, premises), place, *memory])
+
+    def before(self, premise, premises):
+        """What a lemma on a premise is given before it."""
+        return []
 
     def named(self, premises):
         """The variables of a rule that its clause names."""
@@ -95,9 +99,11 @@ class Law:
 
     def clause(self, family, rule):
         name, premises, conclusion = rule
-        calls = [self.call(premise, "p%d" % at, conclusion) for at, premise in enumerate(premises, 1)]
-        places = ["p%d" % at if call else "_" for at, call in enumerate(calls, 1)]
-        named = ["{%s = %s}" % (variable, variable) for variable in self.named(premises)]
+        calls = [self.call(premise, "p%d" % at, conclusion, premises) for at, premise in enumerate(premises, 1)]
+        used = set(re.findall(r"\bp\d+\b", " ".join(call for call in calls if call)))
+        places = ["p%d" % at if "p%d" % at in used else "_" for at in range(1, len(premises) + 1)]
+        order = re.findall(r"\w+", binders([*premises, conclusion]))
+        named = ["{%s = %s}" % (variable, variable) for variable in sorted(self.named(premises), key=order.index)]
         pattern = " ".join(["%s.%s" % (family["name"], name), *named, *places])
         is_memory = self.is_proof and end_of(conclusion)[0] == "(Err Memory)"
         body = "absurd (has refl)" if is_memory else self.whole([call for call in calls if call])
@@ -180,9 +186,9 @@ use Rattle.run_laws.proofs.Going.{goes_nowhere, goes_trans, goes_by_step, goes_b
         found = ((lemma, re.match(form, premise)) for lemma, form in self.LEAVES.items())
         return next(((lemma, match.groups()) for lemma, match in found if match), None)
 
-    def call(self, premise, place, whole):
+    def call(self, premise, place, whole, premises):
         if words(premise)[0] in FAMILIES:
-            return super().call(premise, place, whole)
+            return super().call(premise, place, whole, premises)
         leaf = self.leaf(premise)
         return leaf and " ".join([leaf[0], *leaf[1], place])
 
@@ -190,8 +196,63 @@ use Rattle.run_laws.proofs.Going.{goes_nowhere, goes_trans, goes_by_step, goes_b
         return [each.split(".")[0] for leaf in map(self.leaf, premises) if leaf for each in leaf[1]]
 
 
+class Wholes(Law):
+    prefix, path = "whole", "proofs/Wholes.antt"
+    title = "-- Whole states lead to whole ones.\n"
+    uses = """use Rattle.std.proofs.Common.{refl}
+use Rattle.run_laws.specs.Laws.{HasMemory}
+use Rattle.run_laws.specs.Whole.{KeepsWhole}
+use Rattle.run_laws.specs.Replaced.{%s}
+use Rattle.run_laws.proofs.Ends.{given, stopped, faulted, exited}
+use Rattle.meaning.specs.Places.{it_name}
+use Rattle.run_laws.proofs.Placed.{placed_variable, placed, placed_at, placed_by_name, placed_part}
+use Rattle.run_laws.proofs.StaysWhole.{whole_nothing, whole_trans, may_go, whole_made, whole_turn, whole_edits, whole_assigns, whole_declares_all, whole_sets, whole_adds}""" % ", ".join("replaced_" + snake(name) for name in FAMILIES)
+    says = "{binders} (v : {derivation}) → HasMemory {end} → KeepsWhole (replaced_{name} v) w w2"
+    nothing, join = "whole_nothing", "whole_trans ({part}) ({rest})"
+    # What tells of a place that a global there is named by a folded name, and of a change that it fits: a premise, or the
+    # place itself; the variables that the term names are its groups. P is the premise, INNER is told of another place.
+    PLACES = (
+        (r"\(variable_place (f\d*)\.variables (\w+)\)$", "(placed_variable {0}.variables {1})"),
+        (r"Resolves .* \(Ok PLACE\) \S+ \S+$", "(placed P)"),
+        (r"field_place (w\d*)\.now (m\d*) ≡ Ok PLACE$", "(placed_at {0}.now {1} P)"),
+        (r"Yields \(field_named_place (w\d*)\.now (b\d*) (n\d*)\) \(Ok PLACE\)$", "(placed_by_name {0}.now {1} {2} P)"),
+        (r"PLACE ≡ chunk_of_place (pl\d*) (c\d*)$", "(placed_part {0} {1} P INNER)"),
+    )
+    CHANGES = {
+        "(Current i)": ((r"has_kind is_card (w\d*)\.now\.stack i ≡ true$", "P"),),
+        "DeleteCard": ((r"may_delete (w\d*)\.now\.stack \S+ ≡ true$", "(may_go {0}.now P)"),),
+    }
+
+    def told(self, place, forms, premises):
+        """The term that tells this of a place or a change, and the variables that it names."""
+        for at, each in enumerate([place, *premises]):
+            for form, term in forms:
+                match = re.match(form.replace("PLACE", re.escape(place)), each)
+                if not match:
+                    continue
+                term, named = term.replace("P", "p%d" % at), match.groups() if "{0}" in term else ()
+                inner, more = self.told(match.group(1), forms, premises) if "INNER" in term else ("", ())
+                return term.replace("INNER", inner).format(*match.groups()), (*named, *more)
+        sys.exit("nothing tells of %s in %s" % (place, " ; ".join(premises)))
+
+    def evidence(self, premise, premises):
+        """What is told of an edit or a change before it, and the variables that this names."""
+        head, *rest = words(premise)
+        if head == "Edits":
+            return self.told(rest[3], self.PLACES, premises)
+        return self.told(rest[2], self.CHANGES[rest[2]], premises) if head == "Made" else None
+
+    def before(self, premise, premises):
+        found = self.evidence(premise, premises)
+        return [found[0]] if found else []
+
+    def named(self, premises):
+        found = [each for each in (self.evidence(premise, premises) for premise in premises) if each]
+        return [name for name in dict.fromkeys(name for _, names in found for name in names) if name.isalnum()]
+
+
 def main():
-    laws = [Replaced(), Bases(), Rises(), Runs()]
+    laws = [Replaced(), Bases(), Rises(), Runs(), Wholes()]
     write("run_laws", {law.path: law.file() for law in laws}, "laws.py")
     print("%d laws over %d families" % (len(laws), len(TABLE)))
 

@@ -1,4 +1,5 @@
 pub mod Rising
 pub mod Changes
 pub mod Replaced
+pub mod Whole
 pub mod Laws

@@ -3,4 +3,4 @@
 
 mod law;
 
-pub use law::{batches_are_short, runs_go_on, runs_keep_bases, runs_rise};
+pub use law::{batches_are_short, runs_go_on, runs_keep_bases, runs_keep_states_whole, runs_rise};
