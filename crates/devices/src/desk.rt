@@ -26,6 +26,7 @@ pub trait Desk {
     /// what was kept before stands.
     fn keep(&mut self, text: &[u8]) -> bool
         ensures kept { (seen self.new).kept ≡ kept_after result text.now (seen self.old).kept }
+        ensures heard { (seen self.new).heard ≡ (seen self.old).heard }
         ensures failures { (seen self.new).failures ≡ counted (not result) (seen self.old).failures };
 
     /// Hears of a message, by its name and the id of the object that it was sent to. It can't fail: a desk that can't

@@ -1,6 +1,11 @@
 -- What a desk heard over many lines.
-use Rattle.std.proofs.Common.{◌≡◌, ◌≢◌, ℕ, inl, inr, Bool, true, false, List, [], ◌∷◌, refl, ap, ◌∙◌}
-use Rattle.std.specs.Prelude.{MatchBool, None, option_map}
+use Rattle.std.proofs.Common.{◌≡◌, ◌≢◌, ℕ, zero, suc, ◌+◌, inl, inr, Bool, true, false, List, [], ◌∷◌, ◌++◌, take, refl, sym}
+use Rattle.std.proofs.Common.{ap, subst, ◌∙◌, add-one}
+use Rattle.std.specs.Prelude.{MatchBool, Some, None, option_map, slice_get}
+use Rattle.std.proofs.lemmas.List.{map-append}
+use Rattle.std.proofs.lemmas.Option.{none-some}
+use Rattle.meaning.specs.declared.sent.SentMessage.{SentMessage}
+use Rattle.devices.proofs.Hearing.{hears_on}
 use Rattle.devices.specs.Desks.{SeenDesk, Hears, HearsOrForgets}
 use Rattle.devices.specs.declared.desk.HeardMessage.{HeardMessage}
 use Rattle.headline.specs.Answering.{is_quit, Session}
@@ -32,6 +37,24 @@ asked_same : (ending : Ending) (old : SeenDesk) (told : Ending) (new : SeenDesk)
     new.heard ≡ old.heard
 asked_same ending old told new (inl k) = kept_same ending old told new k
 asked_same ending old told new (inr u) = unkept_same ending old told new u
+
+take_next : (messages : List SentMessage) (i : ℕ) (next : SentMessage) → slice_get messages i ≡ Some next →
+    take (suc i) messages ≡ take i messages ++ next ∷ []
+take_next [] zero next is = absurd (none-some next is)
+take_next [] (suc i) next is = absurd (none-some next is)
+take_next (m ∷ ms) zero next is = ap (λ (t : SentMessage). t ∷ []) (let same : m ≡ next = cc in same)
+take_next (m ∷ ms) (suc i) next is = ap (λ (t : List SentMessage). m ∷ t) (take_next ms i next is)
+
+-- a desk hears one message after the other
+pub heard_more : (messages : List SentMessage) (i : ℕ) (next : SentMessage) (old mid new : SeenDesk) →
+    slice_get messages i ≡ Some next → HearsOrForgets (as_heard (take i messages)) old mid →
+    HearsOrForgets (as_heard (next ∷ [])) mid new → HearsOrForgets (as_heard (take (i + 1) messages)) old new
+heard_more messages i next old mid new is before then =
+    let taken : take (i + 1) messages ≡ take i messages ++ next ∷ [] = rw add-one (take_next messages i next is) in
+    let whole : as_heard (take (i + 1) messages) ≡ as_heard (take i messages) ++ as_heard (next ∷ []) =
+    ap as_heard taken ∙ map-append _ (take i messages) (next ∷ []) in
+    subst (λ (heard : List HeardMessage). HearsOrForgets heard old new) (sym whole)
+    (hears_on (as_heard (take i messages)) (as_heard (next ∷ [])) old mid new before then)
 
 -- a desk that doesn't tell what it heard doesn't tell later
 none_more : (messages : List HeardMessage) (old new : SeenDesk) → HearsOrForgets messages old new → old.heard ≡ None →
