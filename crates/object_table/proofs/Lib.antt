@@ -9,4 +9,5 @@ pub mod Opened
 pub mod Paged
 pub mod Pairs
 pub mod Rewritten
+pub mod Rows
 pub mod Slots

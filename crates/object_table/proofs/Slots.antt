@@ -72,12 +72,13 @@ module _ {X : Type 0} (f : Slot → Option X) where
 
 -- ---- exchanges in the slot of an id
 
-module _ (es fs : List (ℕ × Slot)) (k : ℕ) (now : Slot) where
-  abbrev IsWritten : Slot → Type 0
-  IsWritten s = ((q : ℕ) → lookup (at_id q) fs ≡ cond (at_id k q) (Some s) (lookup (at_id q) es)) × (map (λ e. e.0) fs ≡ map (λ e. e.0) es)
+-- a value is written at an id; the ids stay
+abbrev pub IsWritten : {V : Type 0} → List (ℕ × V) → List (ℕ × V) → ℕ → V → Type 0
+IsWritten es fs k s = ((q : ℕ) → lookup (at_id q) fs ≡ cond (at_id k q) (Some s) (lookup (at_id q) es)) × (map (λ e. e.0) fs ≡ map (λ e. e.0) es)
 
+module _ (es fs : List (ℕ × Slot)) (k : ℕ) (now : Slot) where
   -- an object is put there
-  pub object_put : (o : Option Object) → Some now ≡ lookup (at_id k) es → IsWritten (record { object = o; parts = now.parts }) → slots_of fs ≡ record (slots_of es) { objects = put_option (objects_in es) k o }
+  pub object_put : (o : Option Object) → Some now ≡ lookup (at_id k) es → IsWritten es fs k (record { object = o; parts = now.parts }) → slots_of fs ≡ record (slots_of es) { objects = put_option (objects_in es) k o }
   object_put o there written =
       let s : Slot = record { object = o; parts = now.parts } in
       let objects = read-updated (λ t. t.object) es fs k s written.0 in
@@ -85,7 +86,7 @@ module _ (es fs : List (ℕ × Slot)) (k : ℕ) (now : Slot) where
       λ i. record { objects = objects i; parts = parts i; ids = from_list (written.1 i) }
 
   -- a list of parts is put there
-  pub parts_put : (l : Option (List ℕ)) → Some now ≡ lookup (at_id k) es → IsWritten (record { object = now.object; parts = l }) → slots_of fs ≡ record (slots_of es) { parts = put_option (parts_in es) k l }
+  pub parts_put : (l : Option (List ℕ)) → Some now ≡ lookup (at_id k) es → IsWritten es fs k (record { object = now.object; parts = l }) → slots_of fs ≡ record (slots_of es) { parts = put_option (parts_in es) k l }
   parts_put l there written =
       let s : Slot = record { object = now.object; parts = l } in
       let objects = read-same (λ t. t.object) es fs k s written.0 (ap (option_and_then (λ t. t.object)) there) in
@@ -94,45 +95,9 @@ module _ (es fs : List (ℕ × Slot)) (k : ℕ) (now : Slot) where
 
 -- ---- slots by their numbers
 
-other_slot : (e : ℕ × Slot) (es : List (ℕ × Slot)) (n : ℕ) → slot_at es n ≡ slot_at (e ∷ es) (following n)
-other_slot e es zero = refl
-other_slot e es (suc n) = refl
-
--- the slot of an id has its number
-pub lookup-number : (es : List (ℕ × Slot)) (q : ℕ) → lookup (at_id q) es ≡ slot_at es (slot_number es q)
-lookup-number [] q = refl
-lookup-number (e ∷ es) q = by (at_id q e.0) (lookup-number es q ∙ other_slot e es (slot_number es q))
-  where
-    by : (b : Bool) → lookup (at_id q) es ≡ slot_at (e ∷ es) (following (slot_number es q)) → cond b (Some e.1) (lookup (at_id q) es) ≡ slot_at (e ∷ es) (cond b 1 (following (slot_number es q)))
-    by true h = refl
-    by false h = h
-
 following_small : (n m : ℕ) → n ≤ m → following n ≤ suc m
 following_small zero m h = omega arith
 following_small (suc n) m h = omega arith
-
-pub number-small : (es : List (ℕ × Slot)) (q : ℕ) → slot_number es q ≤ length es
-number-small [] q = omega arith
-number-small (e ∷ es) q = by (at_id q e.0) (following_small (slot_number es q) (length es) (number-small es q))
-  where
-    by : (b : Bool) → following (slot_number es q) ≤ suc (length es) → cond b 1 (following (slot_number es q)) ≤ suc (length es)
-    by true h = omega arith
-    by false h = h
-
-some_slot : (es : List (ℕ × Slot)) (n : ℕ) → is_some (slot_at es n) ≡ true → 1 ≤ n
-some_slot es zero h = absurd (false≢true h)
-some_slot es (suc n) h = omega arith
-
--- what stands at the number that the pages have
-pub slot-numbered : (pages : List (List ℕ)) (es : List (ℕ × Slot)) (q n : ℕ) → AreNumbered pages es → n ≡ number_at pages q → slot_at es n ≡ lookup (at_id q) es
-slot-numbered pages es q n are is = ap (slot_at es) (is ∙ are q) ∙ sym (lookup-number es q)
-
--- an id that is open has a number, and one that isn't has none
-pub has_number : (es : List (ℕ × Slot)) (q : ℕ) → is_some (lookup (at_id q) es) ≡ true → 1 ≤ slot_number es q
-has_number es q h = some_slot es (slot_number es q) (sym (ap (λ o. is_some o) (lookup-number es q)) ∙ h)
-
-pub none_numbered : (es : List (ℕ × Slot)) (q : ℕ) → slot_number es q ≡ 0 → lookup (at_id q) es ≡ None
-none_numbered es q z = lookup-number es q ∙ ap (slot_at es) z
 
 some_within : {X : Type 0} (es : List X) (n : ℕ) → n < length es → is_some (slice_get es n) ≡ true
 some_within [] n h = absurd (omega arith)
@@ -143,179 +108,219 @@ mapped_some : {X Y : Type 0} (f : X → Y) (o : Option X) → is_some (option_ma
 mapped_some f None = refl
 mapped_some f (Some x) = refl
 
-slot_within : (es : List (ℕ × Slot)) (n : ℕ) → 1 ≤ n → n ≤ length es → is_some (slot_at es n) ≡ true
-slot_within es zero low high = absurd (omega arith)
-slot_within es (suc n) low high = mapped_some (λ e. e.1) (slice_get es n) ∙ some_within es n (omega arith)
-
--- an id that has a number is open
-pub open_numbered : (es : List (ℕ × Slot)) (q : ℕ) → 1 ≤ slot_number es q → contains (keys_of {R = nat_cmp} es) q ≡ true
-open_numbered es q h = contains-keys_of ids es q ∙ ap (λ o. is_some o) (lookup-number es q) ∙ slot_within es (slot_number es q) h (number-small es q)
-
-pub number_open : (es : List (ℕ × Slot)) (q : ℕ) → contains (keys_of {R = nat_cmp} es) q ≡ true → 1 ≤ slot_number es q
-number_open es q h = has_number es q (sym (contains-keys_of ids es q) ∙ h)
-
--- ---- a slot is added
-
 abbrev joined_number : ℕ → ℕ → ℕ
 joined_number zero m = m
 joined_number (suc n) m = suc n
 
-number-added : (k : ℕ) (s : Slot) (es : List (ℕ × Slot)) (q : ℕ) → slot_number (es ++ (k, s) ∷ []) q ≡ joined_number (slot_number es q) (cond (at_id q k) (suc (length es)) 0)
-number-added k s [] q = by (at_id q k)
-  where
-    by : (b : Bool) → cond b 1 0 ≡ cond b (suc 0) 0
-    by true = refl
-    by false = refl
-number-added k s (e ∷ es) q = by (at_id q e.0) (ap following (number-added k s es q) ∙ later (slot_number es q) (at_id q k))
-  where
-    later : (n : ℕ) (b : Bool) → following (joined_number n (cond b (suc (length es)) 0)) ≡ joined_number (following n) (cond b (suc (suc (length es))) 0)
-    later zero true = refl
-    later zero false = refl
-    later (suc n) b = refl
-
-    by : (b : Bool) → following (slot_number (es ++ (k, s) ∷ []) q) ≡ joined_number (following (slot_number es q)) (cond (at_id q k) (suc (suc (length es))) 0) → cond b 1 (following (slot_number (es ++ (k, s) ∷ []) q)) ≡ joined_number (cond b 1 (following (slot_number es q))) (cond (at_id q k) (suc (suc (length es))) 0)
-    by true h = refl
-    by false h = h
-
 tied_again : (q k : ℕ) → at_id q k ≡ (q == k)
 tied_again q k = unsigned_tied q k
 
--- the pages have the numbers again, once the one of the added slot is set
-pub numbered-added : (pages news : List (List ℕ)) (es : List (ℕ × Slot)) (k n : ℕ) (s : Slot) → AreNumbered pages es → number_at pages k ≡ 0 → n ≡ length es + 1 → ((q : ℕ) → number_at news q ≡ (if q == k then n else number_at pages q)) → AreNumbered news (es ++ (k, s) ∷ [])
-numbered-added pages news es k n s are none is written q =
-    written q
-    ∙ by (q == k) refl
-    ∙ ap (λ b. joined_number (slot_number es q) (cond b (suc (length es)) 0)) (sym (tied_again q k))
-    ∙ sym (number-added k s es q)
-  where
-    same_key : (q == k) ≡ true → q ≡ k
-    same_key e = grind (arith, nat_tests)
+module _ {V : Type 0} where
+  other_slot : (e : ℕ × V) (es : List (ℕ × V)) (n : ℕ) → slot_at es n ≡ slot_at (e ∷ es) (following n)
+  other_slot e es zero = refl
+  other_slot e es (suc n) = refl
 
-    by : (b : Bool) → (q == k) ≡ b → cond b n (number_at pages q) ≡ joined_number (slot_number es q) (cond b (suc (length es)) 0)
-    by true e =
-        let last : n ≡ suc (length es) = omega arith in
-        last ∙ sym (ap (λ m. joined_number m (suc (length es))) (sym (are q) ∙ ap (number_at pages) (same_key e) ∙ none))
-    by false e = are q ∙ kept (slot_number es q)
+  -- the slot of an id has its number
+  pub lookup-number : (es : List (ℕ × V)) (q : ℕ) → lookup (at_id q) es ≡ slot_at es (slot_number es q)
+  lookup-number [] q = refl
+  lookup-number (e ∷ es) q = by (at_id q e.0) (lookup-number es q ∙ other_slot e es (slot_number es q))
+    where
+      by : (b : Bool) → lookup (at_id q) es ≡ slot_at (e ∷ es) (following (slot_number es q)) → cond b (Some e.1) (lookup (at_id q) es) ≡ slot_at (e ∷ es) (cond b 1 (following (slot_number es q)))
+      by true h = refl
+      by false h = h
+
+  pub number-small : (es : List (ℕ × V)) (q : ℕ) → slot_number es q ≤ length es
+  number-small [] q = omega arith
+  number-small (e ∷ es) q = by (at_id q e.0) (following_small (slot_number es q) (length es) (number-small es q))
+    where
+      by : (b : Bool) → following (slot_number es q) ≤ suc (length es) → cond b 1 (following (slot_number es q)) ≤ suc (length es)
+      by true h = omega arith
+      by false h = h
+
+  some_slot : (es : List (ℕ × V)) (n : ℕ) → is_some (slot_at es n) ≡ true → 1 ≤ n
+  some_slot es zero h = absurd (false≢true h)
+  some_slot es (suc n) h = omega arith
+
+  -- what stands at the number that the pages have
+  pub slot-numbered : (pages : List (List ℕ)) (es : List (ℕ × V)) (q n : ℕ) → AreNumbered pages es → n ≡ number_at pages q → slot_at es n ≡ lookup (at_id q) es
+  slot-numbered pages es q n are is = ap (slot_at es) (is ∙ are q) ∙ sym (lookup-number es q)
+
+  -- an id that is open has a number, and one that isn't has none
+  pub has_number : (es : List (ℕ × V)) (q : ℕ) → is_some (lookup (at_id q) es) ≡ true → 1 ≤ slot_number es q
+  has_number es q h = some_slot es (slot_number es q) (sym (ap (λ o. is_some o) (lookup-number es q)) ∙ h)
+
+  pub none_numbered : (es : List (ℕ × V)) (q : ℕ) → slot_number es q ≡ 0 → lookup (at_id q) es ≡ None
+  none_numbered es q z = lookup-number es q ∙ ap (slot_at es) z
+
+  slot_within : (es : List (ℕ × V)) (n : ℕ) → 1 ≤ n → n ≤ length es → is_some (slot_at es n) ≡ true
+  slot_within es zero low high = absurd (omega arith)
+  slot_within es (suc n) low high = mapped_some (λ e. e.1) (slice_get es n) ∙ some_within es n (omega arith)
+
+  -- an id that has a number is open
+  pub numbered_there : (es : List (ℕ × V)) (q : ℕ) → 1 ≤ slot_number es q → is_some (lookup (at_id q) es) ≡ true
+  numbered_there es q h = ap (λ o. is_some o) (lookup-number es q) ∙ slot_within es (slot_number es q) h (number-small es q)
+
+  pub open_numbered : (es : List (ℕ × V)) (q : ℕ) → 1 ≤ slot_number es q → contains (keys_of {R = nat_cmp} es) q ≡ true
+  open_numbered es q h = contains-keys_of ids es q ∙ numbered_there es q h
+
+  pub number_open : (es : List (ℕ × V)) (q : ℕ) → contains (keys_of {R = nat_cmp} es) q ≡ true → 1 ≤ slot_number es q
+  number_open es q h = has_number es q (sym (contains-keys_of ids es q) ∙ h)
+
+  -- ---- a slot is added
+
+  number-added : (k : ℕ) (s : V) (es : List (ℕ × V)) (q : ℕ) → slot_number (es ++ (k, s) ∷ []) q ≡ joined_number (slot_number es q) (cond (at_id q k) (suc (length es)) 0)
+  number-added k s [] q = by (at_id q k)
+    where
+      by : (b : Bool) → cond b 1 0 ≡ cond b (suc 0) 0
+      by true = refl
+      by false = refl
+  number-added k s (e ∷ es) q = by (at_id q e.0) (ap following (number-added k s es q) ∙ later (slot_number es q) (at_id q k))
+    where
+      later : (n : ℕ) (b : Bool) → following (joined_number n (cond b (suc (length es)) 0)) ≡ joined_number (following n) (cond b (suc (suc (length es))) 0)
+      later zero true = refl
+      later zero false = refl
+      later (suc n) b = refl
+
+      by : (b : Bool) → following (slot_number (es ++ (k, s) ∷ []) q) ≡ joined_number (following (slot_number es q)) (cond (at_id q k) (suc (suc (length es))) 0) → cond b 1 (following (slot_number (es ++ (k, s) ∷ []) q)) ≡ joined_number (cond b 1 (following (slot_number es q))) (cond (at_id q k) (suc (suc (length es))) 0)
+      by true h = refl
+      by false h = h
+
+  -- the pages have the numbers again, once the one of the added slot is set
+  pub numbered-added : (pages news : List (List ℕ)) (es : List (ℕ × V)) (k n : ℕ) (s : V) → AreNumbered pages es → number_at pages k ≡ 0 → n ≡ length es + 1 → ((q : ℕ) → number_at news q ≡ (if q == k then n else number_at pages q)) → AreNumbered news (es ++ (k, s) ∷ [])
+  numbered-added pages news es k n s are none is written q =
+      written q
+      ∙ by (q == k) refl
+      ∙ ap (λ b. joined_number (slot_number es q) (cond b (suc (length es)) 0)) (sym (tied_again q k))
+      ∙ sym (number-added k s es q)
+    where
+      same_key : (q == k) ≡ true → q ≡ k
+      same_key e = grind (arith, nat_tests)
+
+      by : (b : Bool) → (q == k) ≡ b → cond b n (number_at pages q) ≡ joined_number (slot_number es q) (cond b (suc (length es)) 0)
+      by true e =
+          let last : n ≡ suc (length es) = omega arith in
+          last ∙ sym (ap (λ m. joined_number m (suc (length es))) (sym (are q) ∙ ap (number_at pages) (same_key e) ∙ none))
+      by false e = are q ∙ kept (slot_number es q)
+        where
+          kept : (m : ℕ) → m ≡ joined_number m 0
+          kept zero = refl
+          kept (suc m) = refl
+
+  appended : (k : ℕ) (s : V) (q : ℕ) (es : List (ℕ × V)) → lookup (at_id q) (es ++ (k, s) ∷ []) ≡ option_or (lookup (at_id q) es) (cond (at_id q k) (Some s) None)
+  appended k s q [] = refl
+  appended k s q (e ∷ es) = each (at_id q e.0) (appended k s q es)
+    where
+      each : (b : Bool) → lookup (at_id q) (es ++ (k, s) ∷ []) ≡ option_or (lookup (at_id q) es) (cond (at_id q k) (Some s) None) → cond b (Some e.1) (lookup (at_id q) (es ++ (k, s) ∷ [])) ≡ option_or (cond b (Some e.1) (lookup (at_id q) es)) (cond (at_id q k) (Some s) None)
+      each true h = refl
+      each false h = h
+
+  pub added-updates : (es : List (ℕ × V)) (k : ℕ) (s : V) → lookup (at_id k) es ≡ None → (q : ℕ) → lookup (at_id q) (es ++ (k, s) ∷ []) ≡ cond (at_id k q) (Some s) (lookup (at_id q) es)
+  added-updates es k s none q = appended k s q es ∙ by (at_id q k) refl
+    where
+      turned : at_id k q ≡ at_id q k
+      turned = unsigned_tied k q ∙ nat_eq_sym k q ∙ sym (unsigned_tied q k)
+
+      kept : (o : Option V) → option_or o None ≡ o
+      kept None = refl
+      kept (Some x) = refl
+
+      by : (b : Bool) → at_id q k ≡ b → option_or (lookup (at_id q) es) (cond b (Some s) None) ≡ cond (at_id k q) (Some s) (lookup (at_id q) es)
+      by true e =
+          let same : q ≡ k = nat_cmp-IsAntisymmetric q k ((Equal-is (nat_cmp q k)).0 e) in
+          ap (λ o. option_or o (Some s)) (ap (λ j. lookup (at_id j) es) same ∙ none) ∙ sym (ap (λ b. cond b (Some s) (lookup (at_id q) es)) (turned ∙ e))
+      by false e = kept (lookup (at_id q) es) ∙ sym (ap (λ b. cond b (Some s) (lookup (at_id q) es)) (turned ∙ e))
+
+  -- ---- a slot is written
+
+  keys-written : (d : ℕ × V) (s : V) (es : List (ℕ × V)) (p : ℕ) → map (λ e. e.0) (set es p ((get_or es p d).0, s)) ≡ map (λ e. e.0) es
+  keys-written d s [] p = refl
+  keys-written d s (e ∷ es) zero = refl
+  keys-written d s (e ∷ es) (suc p) = ap (λ ks. e.0 ∷ ks) (keys-written d s es p)
+
+  numbers-kept : (d : ℕ × V) (s : V) (es : List (ℕ × V)) (p q : ℕ) → slot_number (set es p ((get_or es p d).0, s)) q ≡ slot_number es q
+  numbers-kept d s [] p q = refl
+  numbers-kept d s (e ∷ es) zero q = refl
+  numbers-kept d s (e ∷ es) (suc p) q = ap (λ n. cond (at_id q e.0) 1 (following n)) (numbers-kept d s es p q)
+
+  module _ (k q : ℕ) (d : ℕ × V) (s : V) where
+    over : (b : Bool) (x : V) (o : Option V) → cond b (Some s) o ≡ cond b (Some s) (cond b (Some x) o)
+    over true x o = refl
+    over false x o = refl
+
+    apart : (x : ℕ) (b c : Bool) → at_id q x ≡ b → at_id k q ≡ c → at_id k x ≡ false → (y : V) (o : Option V) → cond b (Some y) (cond c (Some s) o) ≡ cond c (Some s) (cond b (Some y) o)
+    apart x true true e f differs y o =
+        let same : k ≡ q = nat_cmp-IsAntisymmetric k q ((Equal-is (nat_cmp k q)).0 f) in
+        absurd (false≢true (sym differs ∙ ap (λ j. at_id j x) same ∙ e))
+    apart x true false e f differs y o = refl
+    apart x false true e f differs y o = refl
+    apart x false false e f differs y o = refl
+
+    not_first : (m : ℕ) → following m ≡ 1 → ⊥
+    not_first zero e = omega arith
+    not_first (suc m) e = omega arith
+
+    not_next : (m p : ℕ) → following m ≡ suc (suc p) → m ≡ suc p
+    not_next zero p e = absurd (omega arith)
+    not_next (suc m) p e = omega arith
+
+    updates-written : (es : List (ℕ × V)) (p : ℕ) → slot_number es k ≡ suc p → lookup (at_id q) (set es p ((get_or es p d).0, s)) ≡ cond (at_id k q) (Some s) (lookup (at_id q) es)
+    updates-written [] p n = absurd (omega arith)
+    updates-written (e ∷ es) zero n = by (at_id k e.0) refl n
       where
-        kept : (m : ℕ) → m ≡ joined_number m 0
-        kept zero = refl
-        kept (suc m) = refl
+        by : (b : Bool) → at_id k e.0 ≡ b → cond b 1 (following (slot_number es k)) ≡ 1 → cond (at_id q e.0) (Some s) (lookup (at_id q) es) ≡ cond (at_id k q) (Some s) (cond (at_id q e.0) (Some e.1) (lookup (at_id q) es))
+        by true f m =
+            let same : k ≡ e.0 = nat_cmp-IsAntisymmetric k e.0 ((Equal-is (nat_cmp k e.0)).0 f) in
+            let turned : at_id q e.0 ≡ at_id k q = ap (λ j. at_id q j) (sym same) ∙ unsigned_tied q k ∙ nat_eq_sym q k ∙ sym (unsigned_tied k q) in
+            over (at_id q e.0) e.1 (lookup (at_id q) es) ∙ ap (λ b. cond b (Some s) (cond (at_id q e.0) (Some e.1) (lookup (at_id q) es))) turned
+        by false f m = absurd (not_first (slot_number es k) m)
+    updates-written (e ∷ es) (suc p) n = by (at_id k e.0) refl n (updates-written es p)
+      where
+        by : (b : Bool) → at_id k e.0 ≡ b → cond b 1 (following (slot_number es k)) ≡ suc (suc p)
+            → (slot_number es k ≡ suc p → lookup (at_id q) (set es p ((get_or es p d).0, s)) ≡ cond (at_id k q) (Some s) (lookup (at_id q) es))
+            → cond (at_id q e.0) (Some e.1) (lookup (at_id q) (set es p ((get_or es p d).0, s))) ≡ cond (at_id k q) (Some s) (cond (at_id q e.0) (Some e.1) (lookup (at_id q) es))
+        by true f m later = absurd (omega arith)
+        by false f m later =
+            ap (λ o. cond (at_id q e.0) (Some e.1) o) (later (not_next (slot_number es k) p m))
+            ∙ apart e.0 (at_id q e.0) (at_id k q) refl refl f e.1 (lookup (at_id q) es)
 
-appended : (k : ℕ) (s : Slot) (q : ℕ) (es : List (ℕ × Slot)) → lookup (at_id q) (es ++ (k, s) ∷ []) ≡ option_or (lookup (at_id q) es) (cond (at_id q k) (Some s) None)
-appended k s q [] = refl
-appended k s q (e ∷ es) = each (at_id q e.0) (appended k s q es)
-  where
-    each : (b : Bool) → lookup (at_id q) (es ++ (k, s) ∷ []) ≡ option_or (lookup (at_id q) es) (cond (at_id q k) (Some s) None) → cond b (Some e.1) (lookup (at_id q) (es ++ (k, s) ∷ [])) ≡ option_or (cond b (Some e.1) (lookup (at_id q) es)) (cond (at_id q k) (Some s) None)
-    each true h = refl
-    each false h = h
+  -- the slot of an id, at its place
+  pub record IsSlotOf (k p : ℕ) (e : ℕ × V) (es : List (ℕ × V)) : Type 0 where
+    pub number : slot_number es k ≡ suc p
+    pub is : e ≡ get_or es p e
 
-pub added-updates : (es : List (ℕ × Slot)) (k : ℕ) (s : Slot) → lookup (at_id k) es ≡ None → (q : ℕ) → lookup (at_id q) (es ++ (k, s) ∷ []) ≡ cond (at_id k q) (Some s) (lookup (at_id q) es)
-added-updates es k s none q = appended k s q es ∙ by (at_id q k) refl
-  where
-    turned : at_id k q ≡ at_id q k
-    turned = unsigned_tied k q ∙ nat_eq_sym k q ∙ sym (unsigned_tied q k)
+  module _ (k p : ℕ) (e : ℕ × V) (es : List (ℕ × V)) (at : IsSlotOf k p e es) where
+    slice_some : (xs : List (ℕ × V)) (n : ℕ) → n < length xs → slice_get xs n ≡ Some (get_or xs n e)
+    slice_some [] n h = absurd (omega arith)
+    slice_some (x ∷ xs) zero h = refl
+    slice_some (x ∷ xs) (suc n) h = slice_some xs n (omega arith)
 
-    kept : (o : Option Slot) → option_or o None ≡ o
-    kept None = refl
-    kept (Some x) = refl
+    pub slot_found : Some e.1 ≡ lookup (at_id k) es
+    slot_found =
+        let within : p < length es = let few = number-small es k in let n = at.number in omega arith in
+        sym (lookup-number es k ∙ ap (slot_at es) at.number ∙ ap (λ o. option_map (λ x. x.1) o) (slice_some es p within ∙ ap (λ x. Some x) (sym at.is)))
 
-    by : (b : Bool) → at_id q k ≡ b → option_or (lookup (at_id q) es) (cond b (Some s) None) ≡ cond (at_id k q) (Some s) (lookup (at_id q) es)
-    by true e =
-        let same : q ≡ k = nat_cmp-IsAntisymmetric q k ((Equal-is (nat_cmp q k)).0 e) in
-        ap (λ o. option_or o (Some s)) (ap (λ j. lookup (at_id j) es) same ∙ none) ∙ sym (ap (λ b. cond b (Some s) (lookup (at_id q) es)) (turned ∙ e))
-    by false e = kept (lookup (at_id q) es) ∙ sym (ap (λ b. cond b (Some s) (lookup (at_id q) es)) (turned ∙ e))
+    pub slot_written : (s : V) → IsWritten es (set es p (e.0, s)) k s
+    slot_written s = subst (λ x. IsWritten es (set es p (x.0, s)) k s) (sym at.is) ((λ q. updates-written k q e s es p at.number), keys-written e s es p)
 
--- ---- a slot is written
+    pub still_numbered : (pages : List (List ℕ)) (s : V) → AreNumbered pages es → AreNumbered pages (set es p (e.0, s))
+    still_numbered pages s are = subst (λ x. AreNumbered pages (set es p (x.0, s))) (sym at.is) (λ q. are q ∙ sym (numbers-kept e s es p q))
 
-keys-written : (d : ℕ × Slot) (s : Slot) (es : List (ℕ × Slot)) (p : ℕ) → map (λ e. e.0) (set es p ((get_or es p d).0, s)) ≡ map (λ e. e.0) es
-keys-written d s [] p = refl
-keys-written d s (e ∷ es) zero = refl
-keys-written d s (e ∷ es) (suc p) = ap (λ ks. e.0 ∷ ks) (keys-written d s es p)
+  -- ---- the place of an open id, by the number that the pages have
 
-numbers-kept : (d : ℕ × Slot) (s : Slot) (es : List (ℕ × Slot)) (p q : ℕ) → slot_number (set es p ((get_or es p d).0, s)) q ≡ slot_number es q
-numbers-kept d s [] p q = refl
-numbers-kept d s (e ∷ es) zero q = refl
-numbers-kept d s (e ∷ es) (suc p) q = ap (λ n. cond (at_id q e.0) 1 (following n)) (numbers-kept d s es p q)
+  module _ (pages : List (List ℕ)) (es : List (ℕ × V)) (k n : ℕ) (are : AreNumbered pages es) (is : n ≡ number_at pages k) (there : contains (keys_of {R = nat_cmp} es) k ≡ true) where
+    counted : n ≡ slot_number es k
+    counted = is ∙ are k
 
-module _ (k q : ℕ) (d : ℕ × Slot) (s : Slot) where
-  over : (b : Bool) (x : Slot) (o : Option Slot) → cond b (Some s) o ≡ cond b (Some s) (cond b (Some x) o)
-  over true x o = refl
-  over false x o = refl
+    pub at_least_one : 1 ≤ n
+    at_least_one = omega (arith, counted, number_open es k there)
 
-  apart : (x : ℕ) (b c : Bool) → at_id q x ≡ b → at_id k q ≡ c → at_id k x ≡ false → (y : Slot) (o : Option Slot) → cond b (Some y) (cond c (Some s) o) ≡ cond c (Some s) (cond b (Some y) o)
-  apart x true true e f differs y o =
-      let same : k ≡ q = nat_cmp-IsAntisymmetric k q ((Equal-is (nat_cmp k q)).0 f) in
-      absurd (false≢true (sym differs ∙ ap (λ j. at_id j x) same ∙ e))
-  apart x true false e f differs y o = refl
-  apart x false true e f differs y o = refl
-  apart x false false e f differs y o = refl
+    pub place_within : n - 1 < length es
+    place_within = omega (arith, at_least_one, counted, number-small es k)
 
-  not_first : (m : ℕ) → following m ≡ 1 → ⊥
-  not_first zero e = omega arith
-  not_first (suc m) e = omega arith
-
-  not_next : (m p : ℕ) → following m ≡ suc (suc p) → m ≡ suc p
-  not_next zero p e = absurd (omega arith)
-  not_next (suc m) p e = omega arith
-
-  updates-written : (es : List (ℕ × Slot)) (p : ℕ) → slot_number es k ≡ suc p → lookup (at_id q) (set es p ((get_or es p d).0, s)) ≡ cond (at_id k q) (Some s) (lookup (at_id q) es)
-  updates-written [] p n = absurd (omega arith)
-  updates-written (e ∷ es) zero n = by (at_id k e.0) refl n
-    where
-      by : (b : Bool) → at_id k e.0 ≡ b → cond b 1 (following (slot_number es k)) ≡ 1 → cond (at_id q e.0) (Some s) (lookup (at_id q) es) ≡ cond (at_id k q) (Some s) (cond (at_id q e.0) (Some e.1) (lookup (at_id q) es))
-      by true f m =
-          let same : k ≡ e.0 = nat_cmp-IsAntisymmetric k e.0 ((Equal-is (nat_cmp k e.0)).0 f) in
-          let turned : at_id q e.0 ≡ at_id k q = ap (λ j. at_id q j) (sym same) ∙ unsigned_tied q k ∙ nat_eq_sym q k ∙ sym (unsigned_tied k q) in
-          over (at_id q e.0) e.1 (lookup (at_id q) es) ∙ ap (λ b. cond b (Some s) (cond (at_id q e.0) (Some e.1) (lookup (at_id q) es))) turned
-      by false f m = absurd (not_first (slot_number es k) m)
-  updates-written (e ∷ es) (suc p) n = by (at_id k e.0) refl n (updates-written es p)
-    where
-      by : (b : Bool) → at_id k e.0 ≡ b → cond b 1 (following (slot_number es k)) ≡ suc (suc p)
-          → (slot_number es k ≡ suc p → lookup (at_id q) (set es p ((get_or es p d).0, s)) ≡ cond (at_id k q) (Some s) (lookup (at_id q) es))
-          → cond (at_id q e.0) (Some e.1) (lookup (at_id q) (set es p ((get_or es p d).0, s))) ≡ cond (at_id k q) (Some s) (cond (at_id q e.0) (Some e.1) (lookup (at_id q) es))
-      by true f m later = absurd (omega arith)
-      by false f m later =
-          ap (λ o. cond (at_id q e.0) (Some e.1) o) (later (not_next (slot_number es k) p m))
-          ∙ apart e.0 (at_id q e.0) (at_id k q) refl refl f e.1 (lookup (at_id q) es)
-
--- the slot of an id, at its place
-pub record IsSlotOf (k p : ℕ) (e : ℕ × Slot) (es : List (ℕ × Slot)) : Type 0 where
-  pub number : slot_number es k ≡ suc p
-  pub is : e ≡ get_or es p e
-
-module _ (k p : ℕ) (e : ℕ × Slot) (es : List (ℕ × Slot)) (at : IsSlotOf k p e es) where
-  slice_some : (xs : List (ℕ × Slot)) (n : ℕ) → n < length xs → slice_get xs n ≡ Some (get_or xs n e)
-  slice_some [] n h = absurd (omega arith)
-  slice_some (x ∷ xs) zero h = refl
-  slice_some (x ∷ xs) (suc n) h = slice_some xs n (omega arith)
-
-  pub slot_found : Some e.1 ≡ lookup (at_id k) es
-  slot_found =
-      let within : p < length es = let few = number-small es k in let n = at.number in omega arith in
-      sym (lookup-number es k ∙ ap (slot_at es) at.number ∙ ap (λ o. option_map (λ x. x.1) o) (slice_some es p within ∙ ap (λ x. Some x) (sym at.is)))
-
-  pub slot_written : (s : Slot) → IsWritten es (set es p (e.0, s)) k e.1 s
-  slot_written s = subst (λ x. IsWritten es (set es p (x.0, s)) k e.1 s) (sym at.is) ((λ q. updates-written k q e s es p at.number), keys-written e s es p)
-
-  pub still_numbered : (pages : List (List ℕ)) (s : Slot) → AreNumbered pages es → AreNumbered pages (set es p (e.0, s))
-  still_numbered pages s are = subst (λ x. AreNumbered pages (set es p (x.0, s))) (sym at.is) (λ q. are q ∙ sym (numbers-kept e s es p q))
-
--- ---- the place of an open id, by the number that the pages have
-
-module _ (pages : List (List ℕ)) (es : List (ℕ × Slot)) (k n : ℕ) (are : AreNumbered pages es) (is : n ≡ number_at pages k) (there : contains (keys_of {R = nat_cmp} es) k ≡ true) where
-  counted : n ≡ slot_number es k
-  counted = is ∙ are k
-
-  pub at_least_one : 1 ≤ n
-  at_least_one = omega (arith, counted, number_open es k there)
-
-  pub place_within : n - 1 < length es
-  place_within = omega (arith, at_least_one, counted, number-small es k)
-
-  pub stands_at : (e : ℕ × Slot) → e ≡ get_or es (n - 1) e → IsSlotOf k (n - 1) e es
-  stands_at e read =
-      let next : slot_number es k ≡ suc (n - 1) = omega (arith, at_least_one, counted) in
-      record { number = next; is = read }
+    pub stands_at : (e : ℕ × V) → e ≡ get_or es (n - 1) e → IsSlotOf k (n - 1) e es
+    stands_at e read =
+        let next : slot_number es k ≡ suc (n - 1) = omega (arith, at_least_one, counted) in
+        record { number = next; is = read }
 
 -- an id that has an object is open
 pub object_open : (es : List (ℕ × Slot)) (k : ℕ) → is_some (get (objects_in es) k) ≡ true → contains (keys_of {R = nat_cmp} es) k ≡ true

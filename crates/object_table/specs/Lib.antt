@@ -11,6 +11,7 @@ pub mod Opened
 pub mod Pages
 pub mod Pairs
 pub mod References
+pub mod Rows
 pub mod Setting
 pub mod Slots
 pub mod Table

@@ -32,17 +32,17 @@ following zero = 0
 following (suc n) = suc (suc n)
 
 -- the number of the first slot of an id, counted from 1; 0 where it has none
-abbrev pub slot_number : List (ℕ × Slot) → ℕ → ℕ
+abbrev pub slot_number : {V : Type 0} → List (ℕ × V) → ℕ → ℕ
 slot_number [] id = 0
 slot_number (e ∷ es) id = if eq_by_cmp nat_cmp id e.0 then 1 else following (slot_number es id)
 
 -- the slot with a number
-abbrev pub slot_at : List (ℕ × Slot) → ℕ → Option Slot
+abbrev pub slot_at : {V : Type 0} → List (ℕ × V) → ℕ → Option V
 slot_at es zero = None
 slot_at es (suc n) = option_map (λ e. e.1) (slice_get es n)
 
 -- the pages have the number of each id's slot
-abbrev pub AreNumbered : List (List ℕ) → List (ℕ × Slot) → Type 0
+abbrev pub AreNumbered : {V : Type 0} → List (List ℕ) → List (ℕ × V) → Type 0
 AreNumbered pages es = (id : ℕ) → number_at pages id ≡ slot_number es id
 
 -- slots by their entries

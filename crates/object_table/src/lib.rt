@@ -9,6 +9,7 @@ mod pages;
 mod pair_table;
 mod property;
 mod reference;
+mod row;
 mod slot_table;
 mod stack;
 

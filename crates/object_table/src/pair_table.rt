@@ -1,61 +1,103 @@
 //! Values at pairs of a part and a card.
 
-ghost use Rattle.std.specs.Prelude.{◌≡◌, true, OnOk, OnErr, OnSome, option_copied};
+ghost use Rattle.std.specs.Prelude.{◌≡◌, [], true, OnOk, OnErr, OnSome, is_some, option_copied};
 ghost use Rattle.std.specs.FinMap as map;
 ghost use Rattle.std.specs.FinSet as set;
 ghost use Rattle.object_table.specs.Maps.{put_option};
 ghost use Rattle.object_table.specs.Opened.{values_in, open_in};
+ghost use Rattle.object_table.specs.Rows.{entry_at, entries_of};
+ghost use Rattle.object_table.specs.Slots.{slot_at};
 
 use crate::ids::Id;
+use crate::pages::Pages;
+use crate::row::Row;
 use std::alloc::{AllocError, Global};
-use std::collections::BTreeMap;
-use std::mem;
+use std::marker::Model;
 
 /// The values that stand at pairs of the ids of a part and a card. A pair has to be open to have one, and an open
-/// pair may have none.
+/// pair may have none. Each part with an open pair has a row; so a pair is found in a few steps, whichever ids others have.
 #[derive(Drop)]
 pub(crate) struct PairTable<X> {
-    places: BTreeMap<(Id, Id), Option<X>>,
+    rows: Vec<(Id, Row<X>)>,
+    numbers: Pages,
+}
+
+impl<X> Model for PairTable<X> {
+    ghost use Rattle.std.specs.Prelude.{ℕ, List, Option};
+    ghost use Rattle.object_table.specs.Rows.{ids_in, AreApart};
+    ghost use Rattle.object_table.specs.Slots.{AreNumbered};
+
+    ghost Value = { List (ℕ × List (ℕ × Option X)) };
+
+    ghost view = { λ t. t.rows.items };
+
+    ghost invariant = { λ t. AreNumbered t.numbers.pages.items t.rows.items × AreApart (ids_in t.rows.items) };
+}
+
+/// The row with a number.
+fn row_with<X>(rows: &[(Id, Row<X>)], number: u32) -> Option<&Row<X>>
+    ensures { option_copied result ≡ slot_at rows.now number }
+{
+    let place = (number as usize).checked_sub(1)?;
+    Some(&rows.get(place)?.1)
 }
 
 impl<X: Drop> PairTable<X> {
+    /// The table of no pairs. It takes no memory.
     pub(crate) fn new(alloc: Global) -> PairTable<X>
-        ensures values { values_in result.places.entries ≡ map.empty }
-        ensures room { open_in result.places.entries ≡ set.empty }
+        ensures values { values_in (entries_of result) ≡ map.empty }
+        ensures room { open_in (entries_of result) ≡ set.empty }
     {
         PairTable {
-            places: BTreeMap::new(alloc),
+            rows: Vec::new(alloc),
+            numbers: Pages::new(alloc),
         }
     }
 
     pub(crate) fn get(&self, part: Id, card: Id) -> Option<&X>
-        ensures value { option_copied result ≡ map.get (values_in self.now.places.entries) (part, card) }
-        ensures room { OnSome result (set.contains (open_in self.now.places.entries) (part, card) ≡ true) }
+        ensures value { option_copied result ≡ map.get (values_in (entries_of self.now)) (part, card) }
+        ensures room { OnSome result (set.contains (open_in (entries_of self.now)) (part, card) ≡ true) }
     {
-        self.places.get(&(part, card))?.as_ref()
+        row_with(&self.rows, self.numbers.get(part))?.get(card)
+    }
+
+    /// Has a row for a part.
+    fn reach(&mut self, part: Id) -> Result<(), AllocError>
+        ensures entries { entries_of self.new ≡ entries_of self.old }
+        ensures ok { OnOk result (is_some (entry_at self.new part) ≡ true) }
+    {
+        if self.numbers.get(part) > 0 {
+            return Ok(());
+        }
+        let alloc = *self.rows.allocator();
+        self.rows.reserve(1)?;
+        let Ok(number) = u32::try_from(self.rows.len() + 1) else {
+            return Err(AllocError);
+        };
+        self.numbers.set(part, number)?;
+        self.rows.push_reserved((part, Row::new(alloc)));
+        Ok(())
     }
 
     pub(crate) fn open(&mut self, part: Id, card: Id) -> Result<(), AllocError>
-        ensures values { values_in self.new.places.entries ≡ values_in self.old.places.entries }
-        ensures room { OnOk result (open_in self.new.places.entries ≡ set.insert (open_in self.old.places.entries) (part, card)) }
-        ensures inside { OnOk result (set.contains (open_in self.new.places.entries) (part, card) ≡ true) }
-        ensures err { OnErr result (open_in self.new.places.entries ≡ open_in self.old.places.entries) }
+        ensures values { values_in (entries_of self.new) ≡ values_in (entries_of self.old) }
+        ensures room { OnOk result (open_in (entries_of self.new) ≡ set.insert (open_in (entries_of self.old)) (part, card)) }
+        ensures inside { OnOk result (set.contains (open_in (entries_of self.new)) (part, card) ≡ true) }
+        ensures err { OnErr result (open_in (entries_of self.new) ≡ open_in (entries_of self.old)) }
     {
-        if !self.places.contains_key(&(part, card)) {
-            self.places.insert((part, card), None)?;
-        }
+        self.reach(part)?;
+        let place = self.numbers.get(part) as usize - 1;
+        self.rows[place].1.open(card)?;
         Ok(())
     }
 
     pub(crate) fn swap(&mut self, part: Id, card: Id, value: &mut Option<X>)
-        requires { set.contains (open_in self.old.places.entries) (part, card) ≡ true }
-        ensures value { value.new ≡ map.get (values_in self.old.places.entries) (part, card) }
-        ensures values { values_in self.new.places.entries ≡ put_option (values_in self.old.places.entries) (part, card) value.old }
-        ensures room { open_in self.new.places.entries ≡ open_in self.old.places.entries }
+        requires { set.contains (open_in (entries_of self.old)) (part, card) ≡ true }
+        ensures value { value.new ≡ map.get (values_in (entries_of self.old)) (part, card) }
+        ensures values { values_in (entries_of self.new) ≡ put_option (values_in (entries_of self.old)) (part, card) value.old }
+        ensures room { open_in (entries_of self.new) ≡ open_in (entries_of self.old) }
     {
-        match self.places.get_mut(&(part, card)) {
-            Some(place) => mem::swap(place, value),
-            None => unreachable!(),
-        }
+        let place = self.numbers.get(part) as usize - 1;
+        self.rows[place].1.swap(card, value);
     }
 }

@@ -59,6 +59,7 @@ impl Drop for Stack {
 
 impl Model for Stack {
     ghost use Rattle.object_table.specs.Opened.{values_in, open_in};
+    ghost use Rattle.object_table.specs.Rows.{entries_of};
     ghost use Rattle.object_table.specs.Table.{Table, coded_table};
 
     ghost Value = { Table };
@@ -71,14 +72,14 @@ impl Model for Stack {
         backgrounds = s.backgrounds;
         cards = s.cards;
         parts = s.slots.parts;
-        texts = values_in s.texts.places.entries;
-        hilites = values_in s.hilites.places.entries;
+        texts = values_in (entries_of s.texts);
+        hilites = values_in (entries_of s.hilites);
         next = s.next;
       };
       room = record {
         slots = s.slots.ids;
-        texts = open_in s.texts.places.entries;
-        hilites = open_in s.hilites.places.entries;
+        texts = open_in (entries_of s.texts);
+        hilites = open_in (entries_of s.hilites);
       };
     } };
 }

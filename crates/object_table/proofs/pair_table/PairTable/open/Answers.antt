@@ -1,29 +1,49 @@
-use Rattle.std.proofs.Common.{sym, ap, ◌∙◌, refl}
-use Rattle.std.specs.FinSet as set
-use Rattle.object_table.specs.Opened.{open_in}
+use Rattle.std.proofs.Common.{◌≡◌, ◌-◌, set, true, sym, ap, ◌∙◌, arith, option_and_then, is_some}
+use Rattle.std.specs.FinSet as sets
+use Rattle.object_table.specs.Opened.{values_in, open_in}
 use Rattle.object_table.specs.Pairs.{Pair}
-use Rattle.object_table.proofs.Opened.{map_of-opened, keys_of-updated, inserted_again, contains-keys_of, none_found, contains-inserted}
+use Rattle.object_table.specs.Rows.{entry_at, entries_of}
+use Rattle.object_table.proofs.Opened.{map_of-same, keys_of-updated, contains-inserted}
 use Rattle.object_table.proofs.Pairs.{pairs}
+use Rattle.object_table.proofs.Rows.{row-counted, row-within, rows-kept, pair-found, pair-written}
 use Rattle.object_table.proofs.pair_table.PairTable.open.Goals as goal
 
-pub returns-in_ok-insert-clause-values : goal.returns-in_ok-insert-clause-values
-returns-in_ok-insert-clause-values g c =
-    map_of-opened pairs c.args.self.now.places.entries c.insert.new.self.entries (c.args.part, c.args.card) _ c.in_ok-insert.ensures.updates.0 refl (none_found _ (sym (c.if-not-contains_key.ensures)))
+pub overflow_sub-place : goal.overflow_sub-place
+overflow_sub-place g c = row-counted c.self.inside.numbers.pages.items c.self.inside.rows.items c.args.part c.get.result c.self.invariant.0 c.get.ensures (rw c.self.view_is c.in_ok-reach.ensures.ok)
 
-pub returns-in_ok-insert-clause-room : goal.returns-in_ok-insert-clause-room
-returns-in_ok-insert-clause-room g c =
-    keys_of-updated pairs c.args.self.now.places.entries c.insert.new.self.entries (c.args.part, c.args.card) _ c.in_ok-insert.ensures.updates.0
+pub index_mut-requires : goal.index_mut-requires
+index_mut-requires g c =
+    let es = c.self.inside.rows.items in
+    let there : is_some (entry_at es c.args.part) ≡ true = rw c.self.view_is c.in_ok-reach.ensures.ok in
+    omega (arith, row-within c.self.inside.numbers.pages.items es c.args.part c.get.result c.self.invariant.0 c.get.ensures there, c.self.inside.rows.ok.0)
 
-pub returns-else-not-contains_key-clause-room : goal.returns-else-not-contains_key-clause-room
-returns-else-not-contains_key-clause-room g c =
-    inserted_again pairs (open_in c.args.self.now.places.entries) (c.args.part, c.args.card) (contains-keys_of pairs c.args.self.now.places.entries (c.args.part, c.args.card) ∙ sym c.if-not-contains_key.ensures)
+pub invariant_of-self-2 : goal.invariant_of-self-2
+invariant_of-self-2 g c =
+    let es = c.self.inside.rows.items in
+    let there : is_some (entry_at es c.args.part) ≡ true = rw c.self.view_is c.in_ok-reach.ensures.ok in
+    rows-kept c.self.inside.numbers.pages.items es c.args.part c.get.result c.self.invariant.0 c.get.ensures there c.self.invariant.1 c.index_mut.result.now c.index_mut.ensures.value c.open.new.self
 
-pub returns-in_ok-insert-clause-inside : goal.returns-in_ok-insert-clause-inside
-returns-in_ok-insert-clause-inside g c =
+pub returns-clause-values : goal.returns-clause-values
+returns-clause-values g c =
+    let es = c.self.inside.rows.items in
+    let e = c.index_mut.result.now in
+    let pages = c.self.inside.numbers.pages.items in
+    let there : is_some (entry_at es c.args.part) ≡ true = rw c.self.view_is c.in_ok-reach.ensures.ok in
+    let written = pair-written pages es c.args.part c.get.result c.self.invariant.0 c.get.ensures there c.self.invariant.1 e c.index_mut.ensures.value c.open.new.self c.args.card _ c.in_ok-open.ensures.ok in
+    let found = pair-found pages es c.args.part c.get.result c.self.invariant.0 c.get.ensures there c.self.invariant.1 e c.index_mut.ensures.value c.args.card in
+    map_of-same pairs (entries_of es) _ (c.args.part, c.args.card) _ written (ap (option_and_then (λ v. v)) (sym found))
+    ∙ ap (λ rs. values_in (entries_of rs)) c.self.view_is
+    ∙ ap values_in c.in_ok-reach.ensures.entries
+
+pub returns-clause-room : goal.returns-clause-room
+returns-clause-room g c =
+    let es = c.self.inside.rows.items in
+    let there : is_some (entry_at es c.args.part) ≡ true = rw c.self.view_is c.in_ok-reach.ensures.ok in
+    let written = pair-written c.self.inside.numbers.pages.items es c.args.part c.get.result c.self.invariant.0 c.get.ensures there c.self.invariant.1 c.index_mut.result.now c.index_mut.ensures.value c.open.new.self c.args.card _ c.in_ok-open.ensures.ok in
+    keys_of-updated pairs (entries_of es) _ (c.args.part, c.args.card) _ written
+    ∙ ap (λ es. sets.insert (open_in es) (c.args.part, c.args.card)) (ap entries_of c.self.view_is ∙ c.in_ok-reach.ensures.entries)
+
+pub returns-clause-inside : goal.returns-clause-inside
+returns-clause-inside g c =
     let pair : Pair = (c.args.part, c.args.card) in
-    ap (λ s. set.contains s pair) (keys_of-updated pairs c.args.self.now.places.entries c.insert.new.self.entries pair _ c.in_ok-insert.ensures.updates.0)
-    ∙ contains-inserted pairs (open_in c.args.self.now.places.entries) pair
-
-pub returns-else-not-contains_key-clause-inside : goal.returns-else-not-contains_key-clause-inside
-returns-else-not-contains_key-clause-inside g c =
-    contains-keys_of pairs c.args.self.now.places.entries (c.args.part, c.args.card) ∙ sym c.if-not-contains_key.ensures
+    ap (λ s. sets.contains s pair) (returns-clause-room g c) ∙ contains-inserted pairs (open_in (entries_of c.args.self.now)) pair
