@@ -2,6 +2,7 @@
 #![tactic(auto)]
 
 mod edit;
+mod folded_name;
 mod law;
 mod place;
 mod reading;
