@@ -199,7 +199,7 @@ impl Variables {
 
     /// Puts a number into a variable of the handler's own that has a value, and says whether there is one; else nothing changes.
     /// It takes no memory.
-    pub fn put_number(&mut self, name: &Name, number: i64) -> bool
+    pub(crate) fn put_number(&mut self, name: &Name, number: i64) -> bool
         ensures put { result ≡ true → (is_global self.old name.now ≡ false) × (self.new ≡ with_local self.old name.now (Some (numeral_of number))) }
         ensures not { result ≡ false → self.new ≡ self.old }
     {

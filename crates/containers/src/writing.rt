@@ -1,17 +1,19 @@
 //! Writing containers.
 
-ghost use Rattle.std.specs.Prelude.{◌≡◌, List, ℕ, [], Option, Some, IsSome, IfSome, unwrap_or, OnOk, OnErr, IfErr, Ok, Err};
+ghost use Rattle.std.specs.Prelude.{◌≡◌, List, ℕ, [], true, false, Option, Some, IsSome, IfSome, unwrap_or, OnOk, OnErr, IfErr, Ok, Err};
 ghost use Rattle.std.specs.FinMap as finite;
 ghost use Rattle.std.specs.Option.{ok_or};
 ghost use Rattle.ht_values.specs.declared.fault.Fault.TheVariants.{NoSuchObject};
+ghost use Rattle.ht_values.specs.declared.word.Where.TheVariants.{Into};
 ghost use Rattle.ht_values.specs.Outcome.{Gives, and_then};
 ghost use Rattle.ht_values.specs.Operators.{binary as binary_of};
 ghost use Rattle.ht_values.specs.Text.{folded, numeral as numeral_of};
 ghost use Rattle.object_table.specs.PartContents.{text_at};
 ghost use Rattle.journal_entries.specs.declared.change.Change.TheVariants as made_change;
+ghost use Rattle.change_journal.specs.History.{History};
 ghost use Rattle.change_journal.specs.Rising.{Made};
 ghost use Rattle.containers.specs.Base.{base};
-ghost use Rattle.containers.specs.declared.edit.Edit.TheVariants.{Alter};
+ghost use Rattle.containers.specs.declared.edit.Edit.TheVariants.{Alter, Put};
 ghost use Rattle.containers.specs.Edits.{due, edited as edited_text};
 ghost use Rattle.containers.specs.Places.{global, named};
 ghost use Rattle.containers.specs.Variables.{VariablesView};
@@ -186,6 +188,18 @@ pub fn write<W: Store>(
             }
         }
     }
+}
+
+/// Puts a number into a variable of the handler's own that has a value, as `edit_variable` does, and says whether there is one;
+/// else nothing changes. It takes no memory.
+#[tactic(auto, using(crate::proofs::Rules::writes_rules))]
+#[inline]
+pub fn put_number(variables: &mut Variables, name: &Name, number: i64) -> bool
+    ensures put { result ≡ true → (h : History) (d : ℕ) → Writes h variables.old (named variables.old name.now) (due h.now variables.old d (record { storage = named variables.old name.now; chunks = [] }) (Put Into (numeral_of number))) h variables.new }
+    ensures not { result ≡ false → variables.new ≡ variables.old }
+{
+    law_of_value(&Value::of_number(number));
+    variables.put_number(name, number)
 }
 
 /// Puts a value into a variable, whatever stands there.
