@@ -2,6 +2,7 @@
 #![tactic(auto)]
 
 mod edit;
+mod folded_name;
 mod law;
 mod place;
 mod reading;
@@ -17,4 +18,4 @@ pub use reading::{read, read_name, standing_in};
 pub use standing::Standing;
 pub use store::Store;
 pub use variables::Variables;
-pub use writing::{declare, edit_variable, write};
+pub use writing::{declare, edit_variable, put_number, write};

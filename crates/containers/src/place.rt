@@ -58,7 +58,7 @@ pub fn resolve<'a, W: Store>(
     ensures { result ≡ place_of (W.history world.now).now.stack variables.now container.entry }
 {
     let storage = match container {
-        Container::Variable(name) if variables.is_global(name.text()) => Storage::Global(name),
+        Container::Variable(name) if variables.is_global(name) => Storage::Global(name),
         Container::Variable(name) => Storage::Own(name),
         Container::Field(field, card) => {
             Storage::Field(field, card_of_text(world.stack(), field, card)?)

@@ -23,7 +23,7 @@ pub fn read_name<'a, W: Store>(
 ) -> Standing<'a>
     ensures { standing_text result ≡ read_name_of (W.history world.now).now variables.now name.now }
 {
-    match variables.meaning_of(name.text()) {
+    match variables.meaning_of(name) {
         NameMeaning::Own(value) => Standing::Value(value),
         NameMeaning::Unknown => Standing::Text(name.text()),
         NameMeaning::Global => match world.global(name.folded()) {
@@ -43,7 +43,7 @@ pub fn standing_in<'a, W: Store>(
 {
     match &place.storage {
         Storage::Global(name) => Some(Standing::Text(world.global(name.folded())?)),
-        Storage::Own(name) => Some(Standing::Value(variables.own_value(name.text())?)),
+        Storage::Own(name) => Some(Standing::Value(variables.own_value(name)?)),
         Storage::Field(field, card) => Some(Standing::Text(world.stack().text(*field, *card)?)),
     }
 }

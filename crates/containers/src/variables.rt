@@ -1,10 +1,11 @@
 //! The variables of a handler that runs, or of a typed line.
 
-ghost use Rattle.std.specs.Prelude.{◌≡◌, ◌<◌, ◌++◌, ℕ, Ok, List, [], true, false, length, Err, IfErr, IfOk, OnOk, OnErr, IfNone, IfSome, Option, option_copied, find, position, slice_index_or, slice_set, unwrap_or, Some, None};
+ghost use Rattle.std.specs.Prelude.{◌≡◌, ◌<◌, ◌++◌, ℕ, Ok, List, [], true, false, length, Err, IfErr, IfOk, OnOk, OnErr, IfNone, IfSome, Option, option_copied, find, position, slice_index_or, slice_set, unwrap_or, is_none, Some, None};
 ghost use Rattle.ht_values.specs.Outcome.{Gives, within_limit};
 ghost use Rattle.ht_values.specs.declared.word.Where.TheVariants.{After};
 ghost use Rattle.containers.specs.declared.edit.Edit.TheVariants.{Put};
-ghost use Rattle.ht_values.specs.Text.{same};
+ghost use Rattle.ht_values.specs.Operators.{binary as binary_of};
+ghost use Rattle.ht_values.specs.Text.{numeral as numeral_of, same};
 ghost use Rattle.change_journal.specs.History.{History};
 ghost use Rattle.containers.specs.Edits.{edited};
 ghost use Rattle.containers.specs.Places.{own};
@@ -13,24 +14,52 @@ ghost use Rattle.containers.specs.Writes.{Writes};
 ghost use Rattle.containers.specs.Standing.{IsMeaning};
 
 use crate::edit::Edit;
+use crate::folded_name::FoldedName;
 use crate::standing::Standing;
 use chunks::Chunk;
-use ht_values::{Failure, Text, Value, Where, law_of_value};
+use ht_values::{Failure, Name, Op, Text, Value, Where, law_of_value, number_by};
 use std::alloc::{AllocError, Global};
 use std::marker::Model;
 
 /// A name that a handler has met: with a value a variable of its own, without one a global.
 #[derive(Drop)]
 pub(crate) struct Local {
-    pub name: Text,
+    pub name: FoldedName,
     pub value: Option<Value>,
 }
 
 impl Local {
-    fn is_named(&self, name: &Text) -> bool
-        ensures { result ≡ same self.now.name name.now }
+    /// Puts a number in the place of the value, if there is one, and says whether there is.
+    fn put_number(&mut self, number: i64) -> bool
+        ensures put { result ≡ true → (is_none self.old.value ≡ false) × (self.new ≡ record self.old { value = Some (numeral_of number) }) }
+        ensures not { result ≡ false → self.new ≡ self.old }
     {
-        self.name.same(name)
+        match &mut self.value {
+            Some(value) => {
+                *value = Value::of_number(number);
+                true
+            }
+            None => false,
+        }
+    }
+
+    /// Computes with the number as which the value is kept, if it and the operand are kept so, in its place. Says which number
+    /// stands there then; else nothing changes.
+    fn compute(&mut self, op: Op, operand: &Value) -> Option<i64>
+        ensures number { IfSome result (λ n. (is_none self.old.value ≡ false) × (binary_of op (unwrap_or self.old.value []) operand.now ≡ Ok (numeral_of n)) × (self.new ≡ record self.old { value = Some (numeral_of n) })) }
+        ensures none { IfNone result (self.new ≡ self.old) }
+    {
+        let number = self.computed(op, operand)?;
+        self.value = Some(Value::of_number(number));
+        Some(number)
+    }
+
+    /// The number that an operator gives of the value and of an operand, where both are kept as numbers.
+    fn computed(&self, op: Op, operand: &Value) -> Option<i64>
+        ensures { IfSome result (λ n. (is_none self.now.value ≡ false) × (binary_of op (unwrap_or self.now.value []) operand.now ≡ Ok (numeral_of n))) }
+    {
+        let number = self.value.as_ref()?.kept_number()?;
+        number_by(op, number, operand.kept_number()?)
     }
 
     /// Adds a value at the end of the one that the name has, which is empty where it has none.
@@ -94,14 +123,15 @@ impl Variables {
     }
 
     /// What is known of a name.
-    fn local(&self, name: &Text) -> Option<&Local>
+    #[inline]
+    fn local(&self, name: &Name) -> Option<&Local>
         ensures { option_copied result ≡ local_of self.now name.now }
     {
-        self.locals.iter().find(|local| local.is_named(name))
+        self.locals.iter().find(|local| local.name.is_of(name))
     }
 
     /// Whether a name means a global.
-    pub fn is_global(&self, name: &Text) -> bool
+    pub fn is_global(&self, name: &Name) -> bool
         ensures { result ≡ is_global self.now name.now }
     {
         self.all_global
@@ -112,7 +142,7 @@ impl Variables {
     }
 
     /// What a name means, found by one look over the names.
-    pub(crate) fn meaning_of(&self, name: &Text) -> NameMeaning<'_>
+    pub(crate) fn meaning_of(&self, name: &Name) -> NameMeaning<'_>
         ensures { IsMeaning self.now name.now result }
     {
         if self.all_global {
@@ -128,7 +158,7 @@ impl Variables {
     }
 
     /// The value of a variable of the handler's own, if it has one.
-    pub(crate) fn own_value(&self, name: &Text) -> Option<&Value>
+    pub(crate) fn own_value(&self, name: &Name) -> Option<&Value>
         ensures { option_copied result ≡ own_value self.now name.now }
     {
         self.local(name)?.value.as_ref()
@@ -139,7 +169,7 @@ impl Variables {
     pub fn set(
         &mut self,
         alloc: Global,
-        name: &Text,
+        name: &Name,
         value: Option<Value>,
     ) -> Result<(), AllocError>
         ensures ok { OnOk result (self.new ≡ with_local self.old name.now value) }
@@ -148,11 +178,53 @@ impl Variables {
         match number_of(&self.locals, name) {
             Some(i) => set_value(&mut self.locals, i, value),
             None => {
-                let name = name.folded(alloc)?;
+                let name = FoldedName::of(alloc, name)?;
                 self.locals.push(Local { name, value })?;
             }
         }
         Ok(())
+    }
+
+    /// The number as which a variable of the handler's own is kept, found by one look over the names; `None` where the name
+    /// means a global, or its value is kept as something else. It takes no memory.
+    #[inline]
+    pub fn number(&self, name: &Name) -> Option<i64>
+        ensures { IfSome result (λ n. (is_global self.now name.now ≡ false) × (own_value self.now name.now ≡ Some (numeral_of n))) }
+    {
+        match self.meaning_of(name) {
+            NameMeaning::Own(value) => value.kept_number(),
+            NameMeaning::Global | NameMeaning::Unknown => None,
+        }
+    }
+
+    /// Puts a number into a variable of the handler's own that has a value, and says whether there is one; else nothing changes.
+    /// It takes no memory.
+    pub(crate) fn put_number(&mut self, name: &Name, number: i64) -> bool
+        ensures put { result ≡ true → (is_global self.old name.now ≡ false) × (self.new ≡ with_local self.old name.now (Some (numeral_of number))) }
+        ensures not { result ≡ false → self.new ≡ self.old }
+    {
+        if self.all_global {
+            return false;
+        }
+        match number_of(&self.locals, name) {
+            Some(i) => put_number_at(&mut self.locals, i, number),
+            None => false,
+        }
+    }
+
+    /// Computes with a variable of the handler's own that is kept as a number, in its place, where the operand is kept so as well.
+    /// Says which number stands there then; else nothing changes. It takes no memory.
+    pub(crate) fn compute(&mut self, name: &Name, op: Op, operand: &Value) -> Option<i64>
+        ensures number { IfSome result (λ n. (is_global self.old name.now ≡ false) × (binary_of op (own_text self.old name.now) operand.now ≡ Ok (numeral_of n)) × (self.new ≡ with_local self.old name.now (Some (numeral_of n)))) }
+        ensures none { IfNone result (self.new ≡ self.old) }
+    {
+        if self.all_global {
+            return None;
+        }
+        match number_of(&self.locals, name) {
+            Some(i) => compute_at(&mut self.locals, i, op, operand),
+            None => None,
+        }
     }
 
     /// Puts a value into a variable of the handler's own, which is looked for once. Where the name means a global the value comes back.
@@ -160,7 +232,7 @@ impl Variables {
     pub(crate) fn put(
         &mut self,
         alloc: Global,
-        name: &Text,
+        name: &Name,
         value: Value,
     ) -> Result<Option<Value>, AllocError>
         ensures own { IfOk result (λ back. IfNone back ((is_global self.old name.now ≡ false) × (self.new ≡ with_local self.old name.now (Some value)))) }
@@ -188,7 +260,7 @@ impl Variables {
     pub(crate) fn edit(
         &mut self,
         alloc: Global,
-        name: &Text,
+        name: &Name,
         edit: Edit,
         chunks: &[Chunk],
         delimiter: u8,
@@ -218,7 +290,7 @@ impl Variables {
 
     /// Adds a value at the end of a variable of the handler's own, in its place where it stands as a text; one without a value is
     /// empty. After a fault, and where it is out of memory, nothing has changed.
-    fn append(&mut self, alloc: Global, name: &Text, new: Value) -> Result<(), Failure>
+    fn append(&mut self, alloc: Global, name: &Name, new: Value) -> Result<(), Failure>
         ensures ok { OnOk result ((h : History) (d : ℕ) → Writes h self.old (own name.now) (edited d [] (Put After new) (own_text self.old name.now)) h self.new) }
         ensures fault { (d : ℕ) → IfErr result (λ e. Gives {A = Option (List ℕ)} (Err e) (edited d [] (Put After new) (own_text self.old name.now))) }
         ensures err { OnErr result (self.new ≡ self.old) }
@@ -236,7 +308,7 @@ impl Variables {
     pub(crate) fn edit_whole(
         &mut self,
         alloc: Global,
-        name: &Text,
+        name: &Name,
         edit: Edit,
         delimiter: u8,
     ) -> Result<(), Failure>
@@ -251,7 +323,7 @@ impl Variables {
     }
 
     /// A name means a global from here on. Where memory was refused nothing changes.
-    pub(crate) fn declare(&mut self, alloc: Global, name: &Text) -> Result<(), AllocError>
+    pub(crate) fn declare(&mut self, alloc: Global, name: &Name) -> Result<(), AllocError>
         ensures ok { OnOk result (self.new ≡ declared self.old name.now) }
         ensures err { OnErr result (self.new ≡ self.old) }
     {
@@ -263,11 +335,11 @@ impl Variables {
 }
 
 /// The place in the order of the name that is the same.
-fn number_of(locals: &[Local], name: &Text) -> Option<usize>
+fn number_of(locals: &[Local], name: &Name) -> Option<usize>
     ensures value { result ≡ position (λ l. same l.name name.now) locals.now }
     ensures within { IfSome result (λ i. i < length locals.now) }
 {
-    locals.iter().position(|local| local.is_named(name))
+    locals.iter().position(|local| local.name.is_of(name))
 }
 
 fn set_value(locals: &mut Vec<Local>, i: usize, value: Option<Value>)
@@ -287,6 +359,26 @@ fn append_at(alloc: Global, locals: &mut Vec<Local>, i: usize, new: Value) -> Re
 {
     let local = &mut locals[i];
     local.append(alloc, new)
+}
+
+/// Puts a number in the place of the value at a place, if there is one, and says whether there is.
+fn put_number_at(locals: &mut Vec<Local>, i: usize, number: i64) -> bool
+    requires { i < length locals.old.items }
+    ensures put { result ≡ true → (other : Local) → (is_none (slice_index_or locals.old.items i other).value ≡ false) × (locals.new.items ≡ slice_set locals.old.items i (record (slice_index_or locals.old.items i other) { value = Some (numeral_of number) })) }
+    ensures not { result ≡ false → locals.new.items ≡ locals.old.items }
+{
+    let local = &mut locals[i];
+    local.put_number(number)
+}
+
+/// Computes with the number at a place, if it and the operand are kept so. Says which number stands there then.
+fn compute_at(locals: &mut Vec<Local>, i: usize, op: Op, operand: &Value) -> Option<i64>
+    requires { i < length locals.old.items }
+    ensures number { IfSome result (λ n. (other : Local) → (is_none (slice_index_or locals.old.items i other).value ≡ false) × (binary_of op (unwrap_or (slice_index_or locals.old.items i other).value []) operand.now ≡ Ok (numeral_of n)) × (locals.new.items ≡ slice_set locals.old.items i (record (slice_index_or locals.old.items i other) { value = Some (numeral_of n) }))) }
+    ensures none { IfNone result (locals.new.items ≡ locals.old.items) }
+{
+    let local = &mut locals[i];
+    local.compute(op, operand)
 }
 
 /// What an edit makes of the value at a place; of one that isn't there, as of an empty one.

@@ -1,15 +1,19 @@
 //! Writing containers.
 
-ghost use Rattle.std.specs.Prelude.{◌≡◌, List, ℕ, [], Option, Some, IsSome, unwrap_or, OnOk, OnErr, IfErr, Ok, Err};
+ghost use Rattle.std.specs.Prelude.{◌≡◌, List, ℕ, [], true, false, Option, Some, IsSome, IfSome, unwrap_or, OnOk, OnErr, IfErr, Ok, Err};
 ghost use Rattle.std.specs.FinMap as finite;
 ghost use Rattle.std.specs.Option.{ok_or};
 ghost use Rattle.ht_values.specs.declared.fault.Fault.TheVariants.{NoSuchObject};
+ghost use Rattle.ht_values.specs.declared.word.Where.TheVariants.{Into};
 ghost use Rattle.ht_values.specs.Outcome.{Gives, and_then};
-ghost use Rattle.ht_values.specs.Text.{folded};
+ghost use Rattle.ht_values.specs.Operators.{binary as binary_of};
+ghost use Rattle.ht_values.specs.Text.{folded, numeral as numeral_of};
 ghost use Rattle.object_table.specs.PartContents.{text_at};
 ghost use Rattle.journal_entries.specs.declared.change.Change.TheVariants as made_change;
+ghost use Rattle.change_journal.specs.History.{History};
 ghost use Rattle.change_journal.specs.Rising.{Made};
 ghost use Rattle.containers.specs.Base.{base};
+ghost use Rattle.containers.specs.declared.edit.Edit.TheVariants.{Alter, Put};
 ghost use Rattle.containers.specs.Edits.{due, edited as edited_text};
 ghost use Rattle.containers.specs.Places.{global, named};
 ghost use Rattle.containers.specs.Variables.{VariablesView};
@@ -22,7 +26,9 @@ use crate::store::Store;
 use crate::variables::Variables;
 use change_journal::Change;
 use chunks::Chunk;
-use ht_values::{Failure, Fault, Name, Text, Value, Where, law_of_value};
+use ht_values::{
+    Failure, Fault, Name, Op, Text, Value, Where, law_of_value, number_by, plain_number,
+};
 use object_table::Id;
 use std::alloc::{AllocError, Global};
 
@@ -101,6 +107,39 @@ fn edit_global<W: Store>(
     }
 }
 
+/// The number that an operator gives of a global and of an operand, where the one is a numeral without a sign and the other is
+/// kept as a number.
+fn global_computed<W: Store>(world: &W, name: &Name, op: Op, operand: &Value) -> Option<i64>
+    ensures { IfSome result (λ n. binary_of op (unwrap_or (finite.get (W.history world.now).now.globals (folded name.now)) []) operand.now ≡ Ok (numeral_of n)) }
+{
+    let number = plain_number(world.global(name.folded())?.as_slice())?;
+    number_by(op, number, operand.kept_number()?)
+}
+
+/// Computes with a global. Two numbers are computed with as such.
+#[tactic(auto, using(crate::proofs::Rules::writes_rules))]
+fn alter_global<W: Store>(
+    alloc: Global,
+    world: &mut W,
+    name: &Name,
+    op: Op,
+    operand: Value,
+    delimiter: u8,
+) -> Result<(), Failure>
+    requires { IsSome (base (W.history world.old)).start }
+    ensures ok { OnOk result ((v : VariablesView) → Writes (W.history world.old) v (global (folded name.now)) (edited_text delimiter [] (Alter op operand) (unwrap_or (finite.get (W.history world.old).now.globals (folded name.now)) [])) (W.history world.new) v) }
+    ensures fault { IfErr result (λ e. Gives {A = Option (List ℕ)} (Err e) (edited_text delimiter [] (Alter op operand) (unwrap_or (finite.get (W.history world.old).now.globals (folded name.now)) []))) }
+    ensures err { OnErr result (W.history world.new ≡ W.history world.old) }
+    ensures base { base (W.history world.new) ≡ base (W.history world.old) }
+{
+    if let Some(number) = global_computed(world, name, op, &operand) {
+        let value = Value::of_number(number);
+        law_of_value(&value);
+        return Ok(put_into_global(alloc, world, name, value)?);
+    }
+    edit_global(alloc, world, name, Edit::Alter(op, operand), &[], delimiter)
+}
+
 /// Puts a value into a text of a field.
 #[tactic(auto, using(crate::proofs::Bases::made_keeps, crate::proofs::Bases::is_open))]
 fn put_into_field<W: Store>(
@@ -140,7 +179,7 @@ pub fn write<W: Store>(
 {
     let chunks = &place.chunks;
     match place.storage {
-        Storage::Own(name) => variables.edit(alloc, name.text(), edit, chunks, delimiter),
+        Storage::Own(name) => variables.edit(alloc, name, edit, chunks, delimiter),
         Storage::Global(name) => edit_global(alloc, world, name, edit, chunks, delimiter),
         Storage::Field(field, card) => {
             match field_edited(alloc, world, field, card, edit, chunks, delimiter)? {
@@ -149,6 +188,18 @@ pub fn write<W: Store>(
             }
         }
     }
+}
+
+/// Puts a number into a variable of the handler's own that has a value, as `edit_variable` does, and says whether there is one;
+/// else nothing changes. It takes no memory.
+#[tactic(auto, using(crate::proofs::Rules::writes_rules))]
+#[inline]
+pub fn put_number(variables: &mut Variables, name: &Name, number: i64) -> bool
+    ensures put { result ≡ true → (h : History) (d : ℕ) → Writes h variables.old (named variables.old name.now) (due h.now variables.old d (record { storage = named variables.old name.now; chunks = [] }) (Put Into (numeral_of number))) h variables.new }
+    ensures not { result ≡ false → variables.new ≡ variables.old }
+{
+    law_of_value(&Value::of_number(number));
+    variables.put_number(name, number)
 }
 
 /// Puts a value into a variable, whatever stands there.
@@ -165,7 +216,7 @@ fn put_variable<W: Store>(
     ensures err { OnErr result ((W.history world.new ≡ W.history world.old) × (variables.new ≡ variables.old)) }
     ensures base { base (W.history world.new) ≡ base (W.history world.old) }
 {
-    match variables.put(alloc, name.text(), value)? {
+    match variables.put(alloc, name, value)? {
         Some(value) => put_into_global(alloc, world, name, value),
         None => Ok(()),
     }
@@ -193,13 +244,62 @@ pub fn edit_variable<W: Store>(
             law_of_value(&value);
             Ok(put_variable(alloc, world, variables, name, value)?)
         }
-        edit => {
-            if variables.is_global(name.text()) {
-                edit_global(alloc, world, name, edit, &[], delimiter)
-            } else {
-                variables.edit_whole(alloc, name.text(), edit, delimiter)
-            }
+        Edit::Alter(op, operand) => {
+            alter_variable(alloc, world, variables, name, op, operand, delimiter)
         }
+        edit => edit_named(alloc, world, variables, name, edit, delimiter),
+    }
+}
+
+/// Edits a variable by the text that stands there.
+#[tactic(auto, using(crate::proofs::Rules::writes_rules))]
+#[inline(never)]
+fn edit_named<W: Store>(
+    alloc: Global,
+    world: &mut W,
+    variables: &mut Variables,
+    name: &Name,
+    edit: Edit,
+    delimiter: u8,
+) -> Result<(), Failure>
+    requires { IsSome (base (W.history world.old)).start }
+    ensures ok { OnOk result (Writes (W.history world.old) variables.old (named variables.old name.now) (due (W.history world.old).now variables.old delimiter (record { storage = named variables.old name.now; chunks = [] }) edit) (W.history world.new) variables.new) }
+    ensures fault { IfErr result (λ e. Gives {A = Option (List ℕ)} (Err e) (due (W.history world.old).now variables.old delimiter (record { storage = named variables.old name.now; chunks = [] }) edit)) }
+    ensures err { OnErr result ((W.history world.new ≡ W.history world.old) × (variables.new ≡ variables.old)) }
+    ensures base { base (W.history world.new) ≡ base (W.history world.old) }
+{
+    if variables.is_global(name) {
+        edit_global(alloc, world, name, edit, &[], delimiter)
+    } else {
+        variables.edit_whole(alloc, name, edit, delimiter)
+    }
+}
+
+/// Computes with a variable: in its place where it is the handler's own and kept as a number, as its operand is.
+#[tactic(auto, using(crate::proofs::Rules::writes_rules))]
+fn alter_variable<W: Store>(
+    alloc: Global,
+    world: &mut W,
+    variables: &mut Variables,
+    name: &Name,
+    op: Op,
+    operand: Value,
+    delimiter: u8,
+) -> Result<(), Failure>
+    requires { IsSome (base (W.history world.old)).start }
+    ensures ok { OnOk result (Writes (W.history world.old) variables.old (named variables.old name.now) (due (W.history world.old).now variables.old delimiter (record { storage = named variables.old name.now; chunks = [] }) (Alter op operand)) (W.history world.new) variables.new) }
+    ensures fault { IfErr result (λ e. Gives {A = Option (List ℕ)} (Err e) (due (W.history world.old).now variables.old delimiter (record { storage = named variables.old name.now; chunks = [] }) (Alter op operand))) }
+    ensures err { OnErr result ((W.history world.new ≡ W.history world.old) × (variables.new ≡ variables.old)) }
+    ensures base { base (W.history world.new) ≡ base (W.history world.old) }
+{
+    if let Some(number) = variables.compute(name, op, &operand) {
+        law_of_value(&Value::of_number(number));
+        return Ok(());
+    }
+    if variables.is_global(name) {
+        alter_global(alloc, world, name, op, operand, delimiter)
+    } else {
+        variables.edit_whole(alloc, name, Edit::Alter(op, operand), delimiter)
     }
 }
 
@@ -217,7 +317,7 @@ pub fn declare<W: Store>(
     ensures err { OnErr result (W.history world.new ≡ W.history world.old) }
     ensures base { base (W.history world.new) ≡ base (W.history world.old) }
 {
-    variables.declare(alloc, name.text())?;
+    variables.declare(alloc, name)?;
     match world.global(name.folded()) {
         Some(_) => Ok(()),
         None => world.put_global(name.folded(), Some(Text::new(alloc))),

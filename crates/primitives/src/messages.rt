@@ -106,7 +106,7 @@ fn bind(run: &Budget, frame: &mut Frame, names: &[Name], values: &[Value]) -> Re
     let mut left = values;
     for name in names {
         let value = first_or_empty(run, left)?;
-        frame.variables.set(run.alloc(), name.text(), Some(value))?;
+        frame.variables.set(run.alloc(), name, Some(value))?;
         left = behind_first(left);
     }
     Ok(())

@@ -1,6 +1,6 @@
 //! Variables, fields and containers, as the rules read and write them.
 
-ghost use Rattle.std.specs.Prelude.{◌≡◌, ◌++◌, ◌∷◌, ℕ, [], IsSome, IfOk, OnOk, option_copied, false, true};
+ghost use Rattle.std.specs.Prelude.{◌≡◌, ◌++◌, ◌∷◌, ℕ, [], IsSome, IfOk, OnOk, Ok, tt, option_copied, false, true};
 ghost use Rattle.ht_values.specs.Text.{numeral as numeral_of};
 ghost use Rattle.ht_values.specs.declared.word.Where.TheVariants.{Into};
 ghost use Rattle.journal_entries.specs.Changes.{fits as fits_state};
@@ -10,6 +10,7 @@ ghost use Rattle.containers.specs.declared.edit.Edit.TheVariants.{Put};
 ghost use Rattle.containers.specs.Places.{read_name as read_name_of};
 ghost use Rattle.meaning.specs.Places.{Assigns, DeclaresAll, Edits, Sets, field_named_place as place_of_field_named, field_place as place_of_field, field_text as text_of_field, it_name, nth_piece as nth_piece_of, pieces_at as pieces_at_numbers, variable_place as place_of_variable};
 ghost use Rattle.containers.specs.Writes.{Declares};
+ghost use Rattle.change_journal.specs.History.{History};
 ghost use Rattle.externals.specs.declared.external.Ask.TheVariants as ask;
 ghost use Rattle.ht_grammar.specs.Statements as stm;
 ghost use Rattle.meaning.specs.Meaning.{CallsBack, Form};
@@ -21,7 +22,9 @@ use crate::objects::make;
 use crate::values::short_text;
 use change_journal::{Change, World};
 use chunks::{Chunk, Index};
-use containers::{Container, Edit, Place, declare, read, read_name, resolve, write};
+use containers::{
+    Container, Edit, Place, Standing, declare, put_number, read, read_name, resolve, write,
+};
 use externals::{External, Input, Texts};
 use ht_grammar::Layer;
 use ht_lex::{Ordinal, is_name};
@@ -74,7 +77,21 @@ pub(crate) fn variable<E: External>(
 ) -> Result<Value, AllocError>
     ensures { IfOk result (λ t. t ≡ read_name_of world.now.history.now frame.now.variables name.now) }
 {
-    read_name(world, &frame.variables, name).copied(run.alloc())
+    match read_name(world, &frame.variables, name) {
+        Standing::Value(value) => copied(run, value),
+        Standing::Text(text) => Value::copied(run.alloc(), text),
+    }
+}
+
+/// An equal value. One that is kept as a number is most often read.
+#[inline]
+fn copied(run: &Budget, value: &Value) -> Result<Value, AllocError>
+    ensures { IfOk result (λ v. v ≡ value.now) }
+{
+    match value.kept_number() {
+        Some(number) => Ok(Value::of_number(number)),
+        None => value.try_clone(run.alloc()),
+    }
 }
 
 /// The place of a variable.
@@ -199,6 +216,26 @@ pub fn edit_variable<E: External>(
     ensures meaning { Edits world.old.history frame.old run.now.delimiter (place_of_variable frame.old.variables name.now) edit result world.new.history frame.new }
     ensures base { base world.new.history ≡ base world.old.history }
 {
+    match edit {
+        Edit::Put(Where::Into, value) => put_into(world, run, frame, name, value),
+        edit => edit_named(world, run, frame, name, edit),
+    }
+}
+
+/// Edits a variable by what stands there.
+#[tactic(auto, using(meaning::proofs::Rules::edits_rules))]
+#[inline(never)]
+fn edit_named<E: External>(
+    world: &mut World<E>,
+    run: &Budget,
+    frame: &mut Frame,
+    name: &Name,
+    edit: Edit,
+) -> Result<(), Stop>
+    requires open { IsSome (base world.old.history).start }
+    ensures meaning { Edits world.old.history frame.old run.now.delimiter (place_of_variable frame.old.variables name.now) edit result world.new.history frame.new }
+    ensures base { base world.new.history ≡ base world.old.history }
+{
     let operand = operand_of(run, &edit);
     match containers::edit_variable(
         run.alloc(),
@@ -217,7 +254,19 @@ pub fn edit_variable<E: External>(
     }
 }
 
-/// Puts a value into a variable.
+/// Puts a number into a variable of the handler's own that has a value, and says whether there is one.
+#[tactic(auto, using(meaning::proofs::Rules::edits_rules))]
+fn put_kept(frame: &mut Frame, name: &Name, new: &Value) -> bool
+    ensures put { result ≡ true → (w : History) (d : ℕ) → Edits w frame.old d (place_of_variable frame.old.variables name.now) (Put Into new.now) (Ok tt) w frame.new }
+    ensures not { result ≡ false → frame.new ≡ frame.old }
+{
+    match new.kept_number() {
+        Some(number) => put_number(&mut frame.variables, name, number),
+        None => false,
+    }
+}
+
+/// Puts a value into a variable. A number goes into its place, without an edit.
 #[tactic(auto, using(meaning::proofs::Rules::edits_rules))]
 fn put_into<E: External>(
     world: &mut World<E>,
@@ -230,7 +279,10 @@ fn put_into<E: External>(
     ensures meaning { Edits world.old.history frame.old run.now.delimiter (place_of_variable frame.old.variables name.now) (Put Into new) result world.new.history frame.new }
     ensures base { base world.new.history ≡ base world.old.history }
 {
-    edit_variable(world, run, frame, name, Edit::Put(Where::Into, new))
+    if put_kept(frame, name, &new) {
+        return Ok(());
+    }
+    edit_named(world, run, frame, name, Edit::Put(Where::Into, new))
 }
 
 /// `it`.

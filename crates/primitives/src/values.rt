@@ -1,6 +1,6 @@
 //! Values and parsing. A call that computes or parses may also be out of memory, which is `Stop::Memory`.
 
-ghost use Rattle.std.specs.Prelude.{◌≡◌, ℕ, ℤ, pos, [], ◌∷◌, List, Ok, Err, IfOk, IfErr, OnOk, OnErr, length, ◌≤◌};
+ghost use Rattle.std.specs.Prelude.{◌≡◌, ℕ, ℤ, pos, [], ◌∷◌, List, Ok, Err, IfOk, IfErr, IfSome, OnOk, OnErr, length, ◌≤◌};
 ghost use Rattle.ht_values.specs.Functions.{built_in as built_in_of};
 ghost use Rattle.ht_values.specs.Number.{number_of as number_of_text};
 ghost use Rattle.ht_values.specs.Operators.{binary as binary_of, unary as unary_of, truth_of as truth_of_text};
@@ -25,16 +25,43 @@ use ht_grammar::{FunctionWord, RunProp};
 use ht_lex::Constant;
 use ht_parse::{ParseError, parse_expr, parse_lines, parse_message};
 use ht_tree::{Expr, Message, Stmt, Stmts};
-use ht_values::{Failure, Fault, Func, Op, Text, UnOp, Value, binary, built_in, unary};
+use ht_values::{
+    Failure, Fault, Func, Op, Text, UnOp, Value, binary, built_in, number_by, truth_by, unary,
+};
 use itoa::Buffer;
 use meaning::{Budget, Counter, How, Stop, TextUse};
 use object_references::Referent;
 use std::alloc::{AllocError, Global};
 
-/// What an operator gives of two operands, or its first fault.
+/// What an operator gives of two operands that are kept as numbers, where that is a number or a truth value.
+#[inline]
+fn of_numbers(op: Op, left: &Value, right: &Value) -> Option<Value>
+    ensures { IfSome result (λ v. binary_of op left.now right.now ≡ Ok v) }
+{
+    let x = left.kept_number()?;
+    let y = right.kept_number()?;
+    match number_by(op, x, y) {
+        Some(number) => Some(Value::of_number(number)),
+        None => Some(Value::of_truth(truth_by(op, x, y)?)),
+    }
+}
+
+/// What an operator gives of two operands, or its first fault. Two numbers are computed with as such.
 #[tactic(auto, using(meaning::proofs::Rules::yields_rules))]
 #[inline(never)]
 pub fn apply(run: &Budget, op: Op, left: &Value, right: &Value) -> Result<Value, Stop>
+    ensures { Yields (binary_of op left.now right.now) result }
+{
+    match of_numbers(op, left, right) {
+        Some(value) => Ok(value),
+        None => applied(run, op, left, right),
+    }
+}
+
+/// What an operator gives of two operands, whatever they are.
+#[tactic(auto, using(meaning::proofs::Rules::yields_rules))]
+#[inline(never)]
+fn applied(run: &Budget, op: Op, left: &Value, right: &Value) -> Result<Value, Stop>
     ensures { Yields (binary_of op left.now right.now) result }
 {
     match binary(run.alloc(), op, left, right) {

@@ -219,7 +219,7 @@ fn sum_read(alloc: Global, world: &PlainWorld, variables: &Variables) -> Option<
 
 /// Declares `SUM` in a handler, where the global has no value.
 fn declare_sum(alloc: Global, variables: &mut Variables) -> Option<()> {
-    let declared = text(alloc, b"SUM")?;
+    let declared = Name::new(alloc, text(alloc, b"SUM")?).ok()?;
     variables.set(alloc, &declared, None).ok()
 }
 
