@@ -6,6 +6,7 @@ use Rattle.ht_values.specs.declared.fault.Fault.{Fault}
 use Rattle.ht_values.specs.declared.operator.Func.{Func}
 use Rattle.ht_values.specs.declared.word.ChunkKind.{ChunkKind}
 use Rattle.ht_values.specs.Functions.{built_in}
+use Rattle.ht_values.specs.Number.{number_of}
 use Rattle.ht_values.specs.Outcome.{and_then}
 use Rattle.ht_values.specs.Text.{numeral}
 use Rattle.ht_lex.specs.declared.key.Ordinal.{Ordinal}
@@ -25,7 +26,7 @@ use Rattle.meaning.specs.State.{RunState}
 use Rattle.meaning.specs.Values.{Yields}
 use Rattle.primitives.specs.declared.operands.Operand.{Operand}
 use Rattle.primitives.specs.Operands.{operand_text}
-use Rattle.interp.specs.Operands.{MeetsOperand, TakesPart}
+use Rattle.interp.specs.Operands.{MeetsOperand, TakesNumber, TakesPart}
 
 -- A computation with a second part: it goes on with the value of the first, or the fault of the first is its own.
 data Steps {A B : Type 0} (c : Result A Fault) (g : A → Result B Fault) : Result B Stop → Type 0 where
@@ -129,6 +130,38 @@ module _ {w w1 : History} {r r1 : RunState} {f : Frame} {d : ℕ} {kd : ChunkKin
   pub pieces_taken : {w2 w3 : History} {r2 r3 : RunState} {u u1 : ℤ} {o : Result (List ℕ) Stop} → NumberVal w r f d x (Ok u) w1 r1 → NumberVal w1 r1 f d x1 (Ok u1) w2 r2 → TakesPart w2 r2 f d (pieces_at kd u u1) y o w3 r3 → Val w r f d (tree.chunk (tree.pieces kd x x1) y) o w3 r3
   pieces_taken h h1 part = of_part (ChunkOf.range refl h h1 refl) part
 
+-- how the rest of a chunk ends that is converted to a number
+module _ {w w1 : History} {r r1 : RunState} {f : Frame} {d : ℕ} {x : tree.Expr} {c : Chunk} where
+  pub number_memory : TakesNumber w r f d c x (Err stop.Memory) w1 r1
+  number_memory = TakesNumber.takes_number (λ w0 r0 hd found. NumberVal.number_memory)
+
+  pub number_stops : {z : Stop} → TakesPart w r f d c x (Err z) w1 r1 → TakesNumber w r f d c x (Err z) w1 r1
+  number_stops (TakesPart.takes_part rest) = TakesNumber.takes_number (λ w0 r0 hd found. NumberVal.no_number (rest w0 r0 hd found))
+
+  pub number_read : {v : List ℕ} {ou : Result ℤ Stop} → TakesPart w r f d c x (Ok v) w1 r1 → Yields (number_of v) ou → TakesNumber w r f d c x ou w1 r1
+  number_read (TakesPart.takes_part rest) is = TakesNumber.takes_number (λ w0 r0 hd found. NumberVal.a_number (rest w0 r0 hd found) is)
+
+  pub of_number : {w0 : History} {r0 : RunState} {hd : tree.Chunk} {ou : Result ℤ Stop} → ChunkOf w0 r0 f d hd (Ok c) w r → TakesNumber w r f d c x ou w1 r1 → NumberVal w0 r0 f d (tree.chunk hd x) ou w1 r1
+  of_number found (TakesNumber.takes_number rest) = rest _ _ _ found
+
+-- a chunk by its numbers that is converted to a number
+module _ {w w1 : History} {r r1 : RunState} {f : Frame} {d : ℕ} {kd : ChunkKind} {x y : tree.Expr} where
+  pub piece_no_number : {z : Stop} → NumberVal w r f d x (Err z) w1 r1 → NumberVal w r f d (tree.chunk (tree.piece kd x) y) (Err z) w1 r1
+  piece_no_number h = NumberVal.no_number (piece_stops h)
+
+  pub piece_number : {w2 : History} {r2 : RunState} {u : ℤ} {ou : Result ℤ Stop} → NumberVal w r f d x (Ok u) w1 r1 → TakesNumber w1 r1 f d (pieces_at kd u u) y ou w2 r2 → NumberVal w r f d (tree.chunk (tree.piece kd x) y) ou w2 r2
+  piece_number h part = of_number (ChunkOf.one refl h refl) part
+
+module _ {w w1 : History} {r r1 : RunState} {f : Frame} {d : ℕ} {kd : ChunkKind} {x x1 y : tree.Expr} where
+  pub from_no_number : {z : Stop} → NumberVal w r f d x (Err z) w1 r1 → NumberVal w r f d (tree.chunk (tree.pieces kd x x1) y) (Err z) w1 r1
+  from_no_number h = NumberVal.no_number (from_stops h)
+
+  pub to_no_number : {w2 : History} {r2 : RunState} {u : ℤ} {z : Stop} → NumberVal w r f d x (Ok u) w1 r1 → NumberVal w1 r1 f d x1 (Err z) w2 r2 → NumberVal w r f d (tree.chunk (tree.pieces kd x x1) y) (Err z) w2 r2
+  to_no_number h h1 = NumberVal.no_number (to_stops h h1)
+
+  pub pieces_number : {w2 w3 : History} {r2 r3 : RunState} {u u1 : ℤ} {ou : Result ℤ Stop} → NumberVal w r f d x (Ok u) w1 r1 → NumberVal w1 r1 f d x1 (Ok u1) w2 r2 → TakesNumber w2 r2 f d (pieces_at kd u u1) y ou w3 r3 → NumberVal w r f d (tree.chunk (tree.pieces kd x x1) y) ou w3 r3
+  pieces_number h h1 part = of_number (ChunkOf.range refl h h1 refl) part
+
 pub ruleset text_rules = (Val.memory, computed_met)
 
 pub ruleset met_rules = (Val.memory, name_met, computed_met, Val.field_stops, Val.field)
@@ -143,3 +176,7 @@ nth_stops h = Val.chunk_of_stops refl (ChunkOf.ordinal refl refl) h
 pub ruleset chunk_rules = (Val.memory, piece_stops, piece_taken, from_stops, to_stops, pieces_taken, nth_stops)
 
 pub ruleset part_rules = (part_memory, part_stops, part_read, taken_part)
+
+pub ruleset part_number_rules = (number_memory, number_stops, number_read)
+
+pub ruleset chunk_number_rules = (NumberVal.number_memory, piece_no_number, piece_number, from_no_number, to_no_number, pieces_number)

@@ -12,7 +12,7 @@ ghost use Rattle.meaning.specs.Meaning.{NumberVal, TextVal, TruthVal, Val, Vals}
 ghost use Rattle.chunks.specs.Pieces.{read as read_pieces};
 ghost use Rattle.meaning.specs.Places.{pieces_at as pieces_at_numbers};
 ghost use Rattle.meaning.specs.Values.{Yields};
-ghost use Rattle.interp.specs.Operands.{MeetsOperand, TakesPart};
+ghost use Rattle.interp.specs.Operands.{MeetsOperand, TakesNumber, TakesPart};
 ghost use Rattle.interp.specs.Keeps.{Keeps};
 ghost use Rattle.interp.specs.Lists.{listed};
 
@@ -59,16 +59,7 @@ pub(crate) fn eval<E: External>(
         ExprKind::Paren(inner) => eval(world, run, frame, nested, inner),
         ExprKind::Call(name, list) => {
             let function = HandlerKind::Function;
-            calls(
-                world,
-                run,
-                frame,
-                nested,
-                frame.me,
-                name,
-                &list.items,
-                function,
-            )
+            calls(world, run, frame, nested, frame.me, name, list, function)
         }
         ExprKind::Binary(op, left, right) => binary(world, run, frame, nested, *op, left, right),
         ExprKind::Unary(op, operand) => unary(world, run, frame, nested, *op, operand),
@@ -367,10 +358,26 @@ pub(crate) fn part_of<E: External>(
             lent_part(world, run, frame, nested, kind, from, to, text)
         }
         _ => {
-            let value = eval(world, run, frame, nested, text)?;
-            part_at(run, &value, kind, from, to)
+            let met = eval(world, run, frame, nested, text);
+            part_met(run, met, kind, from, to)
         }
     }
+}
+
+/// Pieces of a value that was computed, if it was.
+#[tactic(auto, using(crate::proofs::Operands::part_rules))]
+#[inline(never)]
+fn part_met(
+    run: &Budget,
+    met: Result<Value, Stop>,
+    kind: ChunkKind,
+    from: i64,
+    to: i64,
+) -> Result<Value, Stop>
+    ensures { (w w1 : History) (r : RunState) (f : Frame) (d : ℕ) (x : tree.Expr) → Val w r f d x met w1 run.now → TakesPart w r f d (pieces_at_numbers kind from to) x result w1 run.now }
+{
+    let value = met?;
+    part_at(run, &value, kind, from, to)
 }
 
 /// Pieces of a value, from one number to another.
@@ -557,7 +564,8 @@ pub(crate) fn arguments<E: External>(
     Ok(())
 }
 
-/// An expression that is converted to a number.
+/// An expression that is converted to a number. A chunk isn't computed as a value first, so an index in an index takes one
+/// frame of this function, and none of `eval`.
 #[cycle(run)]
 #[tactic(auto, using(meaning::proofs::Rules::numberval_rules))]
 #[inline(never)]
@@ -574,7 +582,110 @@ pub(crate) fn number_value<E: External>(
     ensures meaning { NumberVal world.old.history run.old frame.now nested e.now result world.new.history run.new }
     ensures keeps { Keeps world.old.history run.old world.new.history run.new }
 {
+    match e.kind() {
+        ExprKind::Chunk(Chunk::Piece(kind, index), text) => {
+            piece_number(world, run, frame, nested, *kind, index, text)
+        }
+        ExprKind::Chunk(Chunk::Pieces(kind, first, last), text) => {
+            pieces_number(world, run, frame, nested, *kind, first, last, text)
+        }
+        _ => plain_number(world, run, frame, nested, e),
+    }
+}
+
+/// An expression that is computed as a value, and then converted to a number.
+#[cycle(run)]
+#[tactic(auto, using(meaning::proofs::Rules::numberval_rules))]
+#[inline(never)]
+pub(crate) fn plain_number<E: External>(
+    world: &mut World<E>,
+    run: &mut Budget,
+    frame: &Frame,
+    nested: u32,
+    e: &Expr,
+) -> Result<i64, Stop>
+    requires nested { nested ≤ 100 }
+    requires deep { depth e.now < max_depth }
+    requires open { IsSome (base world.old.history).start }
+    ensures meaning { NumberVal world.old.history run.old frame.now nested e.now result world.new.history run.new }
+    ensures keeps { Keeps world.old.history run.old world.new.history run.new }
+{
     let value = eval(world, run, frame, nested, e)?;
+    number(run, &value)
+}
+
+/// A piece of a text by its number, which is converted to a number.
+#[cycle(run)]
+#[tactic(auto, using(crate::proofs::Operands::chunk_number_rules))]
+#[inline(always)]
+pub(crate) fn piece_number<E: External>(
+    world: &mut World<E>,
+    run: &mut Budget,
+    frame: &Frame,
+    nested: u32,
+    kind: ChunkKind,
+    index: &Expr,
+    text: &Expr,
+) -> Result<i64, Stop>
+    requires nested { nested ≤ 100 }
+    requires index { depth index.now < max_depth }
+    requires text { depth text.now < max_depth }
+    requires open { IsSome (base world.old.history).start }
+    ensures meaning { NumberVal world.old.history run.old frame.now nested (tree.chunk (tree.piece kind index.now) text.now) result world.new.history run.new }
+    ensures keeps { Keeps world.old.history run.old world.new.history run.new }
+{
+    let at = number_value(world, run, frame, nested, index)?;
+    part_number(world, run, frame, nested, kind, at, at, text)
+}
+
+/// Pieces of a text, from one number to another, which are converted to a number.
+#[cycle(run)]
+#[tactic(auto, using(crate::proofs::Operands::chunk_number_rules))]
+#[inline(never)]
+pub(crate) fn pieces_number<E: External>(
+    world: &mut World<E>,
+    run: &mut Budget,
+    frame: &Frame,
+    nested: u32,
+    kind: ChunkKind,
+    first: &Expr,
+    last: &Expr,
+    text: &Expr,
+) -> Result<i64, Stop>
+    requires nested { nested ≤ 100 }
+    requires first { depth first.now < max_depth }
+    requires last { depth last.now < max_depth }
+    requires text { depth text.now < max_depth }
+    requires open { IsSome (base world.old.history).start }
+    ensures meaning { NumberVal world.old.history run.old frame.now nested (tree.chunk (tree.pieces kind first.now last.now) text.now) result world.new.history run.new }
+    ensures keeps { Keeps world.old.history run.old world.new.history run.new }
+{
+    let from = number_value(world, run, frame, nested, first)?;
+    let to = number_value(world, run, frame, nested, last)?;
+    part_number(world, run, frame, nested, kind, from, to, text)
+}
+
+/// Pieces, which are computed, of a text, which isn't, converted to a number.
+#[cycle(run)]
+#[tactic(auto, using(crate::proofs::Operands::part_number_rules))]
+#[inline(never)]
+pub(crate) fn part_number<E: External>(
+    world: &mut World<E>,
+    run: &mut Budget,
+    frame: &Frame,
+    nested: u32,
+    kind: ChunkKind,
+    from: i64,
+    to: i64,
+    text: &Expr,
+) -> Result<i64, Stop>
+    requires nested { nested ≤ 100 }
+    requires deep { depth text.now < max_depth }
+    requires open { IsSome (base world.old.history).start }
+    ensures meaning { TakesNumber world.old.history run.old frame.now nested (pieces_at_numbers kind from to) text.now result world.new.history run.new }
+    ensures keeps { Keeps world.old.history run.old world.new.history run.new }
+{
+    let value = part_of(world, run, frame, nested, kind, from, to, text)?;
     number(run, &value)
 }
 

@@ -14,7 +14,7 @@ use crate::system::menu;
 use change_journal::World;
 use externals::External;
 use ht_grammar::HandlerKind;
-use ht_tree::Expr;
+use ht_tree::Exprs;
 use ht_values::{Fault, Text, Value};
 use meaning::{Budget, Frame, Stop};
 use msg_path::{BuiltIn, MessagePath, path, path_after};
@@ -37,17 +37,17 @@ pub(crate) fn calls<E: External>(
     nested: u32,
     object: Id,
     name: &Text,
-    list: &[Expr],
+    list: &Exprs,
     kind: HandlerKind,
 ) -> Result<Value, Stop>
     requires nested { nested ≤ 100 }
-    requires deep { depths (exprs_of list.now) ≤ max_depth }
+    requires deep { depths (exprs_of list.now.items.items) ≤ max_depth }
     requires open { IsSome (base world.old.history).start }
-    ensures meaning { Calls world.old.history run.old frame.now nested object name.now (exprs_of list.now) kind result world.new.history run.new }
+    ensures meaning { Calls world.old.history run.old frame.now nested object name.now (exprs_of list.now.items.items) kind result world.new.history run.new }
     ensures keeps { Keeps world.old.history run.old world.new.history run.new }
 {
     let mut values = Arguments::new(run.alloc());
-    arguments(world, run, frame, nested, list, &mut values)?;
+    arguments(world, run, frame, nested, &list.items, &mut values)?;
     send(world, run, frame, nested, object, name, &values, kind)
 }
 

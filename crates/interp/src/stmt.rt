@@ -1,12 +1,13 @@
 //! Statements.
 
-ghost use Rattle.std.specs.Prelude.{◌≡◌, ◌≤◌, ◌<◌, IsSome, IfOk};
+ghost use Rattle.std.specs.Prelude.{◌≡◌, ◌≤◌, ◌<◌, IsSome, IfOk, true};
 ghost use Rattle.ht_grammar.specs.Statements as stm;
 ghost use Rattle.ht_grammar.specs.Depth.{chunk_depth, container_depth, depth, depths, destination_depth, ref_depth, stmt_depth, stmts_depth, max_depth};
 ghost use Rattle.ht_tree.specs.StatementView.{destination_of, stmts_of};
 ghost use Rattle.ht_tree.specs.View.{chunk_of, exprs_of, ref_of};
 ghost use Rattle.containers.specs.Base.{base};
 ghost use Rattle.meaning.specs.Meaning.{Alters, Block, Form};
+ghost use Rattle.interp.specs.Heads.{is_plain};
 ghost use Rattle.interp.specs.Keeps.{Keeps};
 
 use crate::expr::{eval, eval_text, truth_value};
@@ -19,7 +20,7 @@ use change_journal::World;
 use containers::Edit;
 use externals::External;
 use ht_grammar::{HandlerKind, RunProp};
-use ht_tree::{Chunk, Container, Destination, Expr, Head, Ref, Stmt, StmtKind};
+use ht_tree::{Chunk, Container, Destination, Expr, Exprs, Head, Ref, Stmt, StmtKind};
 use ht_values::{Fault, Op, Prop, Text, Where};
 use meaning::{Budget, Frame, How, Stop, TextUse};
 use primitives::places::{declare_globals, edit, put_into_it, set_property};
@@ -28,6 +29,7 @@ use primitives::values::{empty, leaving_text, lines, message, set_run_property, 
 /// How statements end, a step before each.
 #[cycle(run)]
 #[tactic(auto, using(meaning::proofs::Rules::block_rules))]
+#[inline(always)]
 pub(crate) fn run_block<E: External>(
     world: &mut World<E>,
     run: &mut Budget,
@@ -59,10 +61,11 @@ pub(crate) fn run_block<E: External>(
     Ok(How::Next)
 }
 
-/// How a statement ends, whose step was taken.
+/// How a statement ends, whose step was taken. This is joined with the block in which the statement stands, so that a block
+/// in a block takes no frame of the choice among all others.
 #[cycle(run)]
 #[tactic(auto, using(meaning::proofs::Rules::form_rules))]
-#[inline(never)]
+#[inline(always)]
 pub(crate) fn run_stmt<E: External>(
     world: &mut World<E>,
     run: &mut Budget,
@@ -71,6 +74,58 @@ pub(crate) fn run_stmt<E: External>(
     stmt: &Stmt,
 ) -> Result<How, Stop>
     requires nested { nested ≤ 100 }
+    requires deep { stmt_depth stmt.now ≤ max_depth }
+    requires open { IsSome (base world.old.history).start }
+    ensures meaning { Form world.old.history run.old frame.old nested stmt.now result world.new.history run.new frame.new }
+    ensures keeps { Keeps world.old.history run.old world.new.history run.new }
+{
+    match stmt.kind() {
+        StmtKind::When(condition, lines, otherwise) => {
+            when(
+                world,
+                run,
+                frame,
+                nested,
+                condition,
+                &lines.items,
+                &otherwise.items,
+            )
+        }
+        StmtKind::Repeat(Head::Forever, lines) => {
+            repeat_forever(world, run, frame, nested, &lines.items)
+        }
+        StmtKind::Repeat(Head::Times(times), lines) => {
+            repeat_times(world, run, frame, nested, times, &lines.items)
+        }
+        StmtKind::Repeat(Head::While(condition), lines) => {
+            repeat_while(world, run, frame, nested, true, condition, &lines.items)
+        }
+        StmtKind::Repeat(Head::Until(condition), lines) => {
+            repeat_while(world, run, frame, nested, false, condition, &lines.items)
+        }
+        StmtKind::Repeat(Head::CountedUp(name, from, to), lines) => {
+            repeat_counted(world, run, frame, nested, name, from, to, false, lines)
+        }
+        StmtKind::Repeat(Head::CountedDown(name, from, to), lines) => {
+            repeat_counted(world, run, frame, nested, name, from, to, true, lines)
+        }
+        _ => run_plain(world, run, frame, nested, stmt),
+    }
+}
+
+/// How a statement ends that is no block.
+#[cycle(run)]
+#[tactic(auto, using(meaning::proofs::Rules::form_rules))]
+#[inline(never)]
+pub(crate) fn run_plain<E: External>(
+    world: &mut World<E>,
+    run: &mut Budget,
+    frame: &mut Frame,
+    nested: u32,
+    stmt: &Stmt,
+) -> Result<How, Stop>
+    requires nested { nested ≤ 100 }
+    requires plain { is_plain stmt.now ≡ true }
     requires deep { stmt_depth stmt.now ≤ max_depth }
     requires open { IsSome (base world.old.history).start }
     ensures meaning { Form world.old.history run.old frame.old nested stmt.now result world.new.history run.new frame.new }
@@ -134,36 +189,8 @@ pub(crate) fn run_stmt<E: External>(
         StmtKind::Pass(_) => Ok(How::Pass),
         StmtKind::ReturnNothing => Ok(How::Returns(empty(run))),
         StmtKind::ReturnValue(value) => return_value(world, run, frame, nested, value),
-        StmtKind::Command(name, list) => command(world, run, frame, nested, name, &list.items),
-        StmtKind::When(condition, lines, otherwise) => {
-            when(
-                world,
-                run,
-                frame,
-                nested,
-                condition,
-                &lines.items,
-                &otherwise.items,
-            )
-        }
-        StmtKind::Repeat(Head::Forever, lines) => {
-            repeat_forever(world, run, frame, nested, &lines.items)
-        }
-        StmtKind::Repeat(Head::Times(times), lines) => {
-            repeat_times(world, run, frame, nested, times, &lines.items)
-        }
-        StmtKind::Repeat(Head::While(condition), lines) => {
-            repeat_while(world, run, frame, nested, true, condition, &lines.items)
-        }
-        StmtKind::Repeat(Head::Until(condition), lines) => {
-            repeat_while(world, run, frame, nested, false, condition, &lines.items)
-        }
-        StmtKind::Repeat(Head::CountedUp(name, from, to), lines) => {
-            repeat_counted(world, run, frame, nested, name, from, to, false, lines)
-        }
-        StmtKind::Repeat(Head::CountedDown(name, from, to), lines) => {
-            repeat_counted(world, run, frame, nested, name, from, to, true, lines)
-        }
+        StmtKind::Command(name, list) => command(world, run, frame, nested, name, list),
+        StmtKind::When(_, _, _) | StmtKind::Repeat(_, _) => unreachable!(),
     }
 }
 
@@ -198,12 +225,12 @@ pub(crate) fn command<E: External>(
     frame: &mut Frame,
     nested: u32,
     name: &Text,
-    list: &[Expr],
+    list: &Exprs,
 ) -> Result<How, Stop>
     requires nested { nested ≤ 100 }
-    requires deep { depths (exprs_of list.now) < max_depth }
+    requires deep { depths (exprs_of list.now.items.items) < max_depth }
     requires open { IsSome (base world.old.history).start }
-    ensures meaning { Form world.old.history run.old frame.old nested (stm.command name.now (exprs_of list.now)) result world.new.history run.new frame.new }
+    ensures meaning { Form world.old.history run.old frame.old nested (stm.command name.now (exprs_of list.now.items.items)) result world.new.history run.new frame.new }
     ensures keeps { Keeps world.old.history run.old world.new.history run.new }
 {
     let kind = HandlerKind::Command;
@@ -442,7 +469,7 @@ pub(crate) fn run_send<E: External>(
         nested,
         referent.object,
         &message.name,
-        &message.arguments.items,
+        &message.arguments,
         HandlerKind::Command,
     )?;
     Ok(How::Next)

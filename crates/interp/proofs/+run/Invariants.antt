@@ -69,7 +69,19 @@ abbrev pub decreases-pieces::pieces : goal.decreases-pieces::pieces
 decreases-pieces::pieces g l = 1000000 * l.run.now.left + 4000 * (100 - l.nested) + 8 * chunk_depth (chunk_of l.chunk.now) + 105
 
 abbrev pub decreases-expr::number_value : goal.decreases-expr::number_value
-decreases-expr::number_value g l = 1000000 * l.run.now.left + 4000 * (100 - l.nested) + 8 * depth l.e.now + 103
+decreases-expr::number_value g l = 1000000 * l.run.now.left + 4000 * (100 - l.nested) + 8 * depth l.e.now + 104
+
+abbrev pub decreases-expr::plain_number : goal.decreases-expr::plain_number
+decreases-expr::plain_number g l = 1000000 * l.run.now.left + 4000 * (100 - l.nested) + 8 * depth l.e.now + 103
+
+abbrev pub decreases-expr::piece_number : goal.decreases-expr::piece_number
+decreases-expr::piece_number g l = 1000000 * l.run.now.left + 4000 * (100 - l.nested) + 8 * max (depth l.index.now) (depth l.text.now) + 107
+
+abbrev pub decreases-expr::pieces_number : goal.decreases-expr::pieces_number
+decreases-expr::pieces_number g l = 1000000 * l.run.now.left + 4000 * (100 - l.nested) + 8 * max (max (depth l.first.now) (depth l.last.now)) (depth l.text.now) + 107
+
+abbrev pub decreases-expr::part_number : goal.decreases-expr::part_number
+decreases-expr::part_number g l = 1000000 * l.run.now.left + 4000 * (100 - l.nested) + 8 * depth l.text.now + 106
 
 abbrev pub decreases-expr::truth_value : goal.decreases-expr::truth_value
 decreases-expr::truth_value g l = 1000000 * l.run.now.left + 4000 * (100 - l.nested) + 8 * depth l.e.now + 103
@@ -102,7 +114,7 @@ abbrev pub decreases-expr::text_value : goal.decreases-expr::text_value
 decreases-expr::text_value g l = 1000000 * l.run.now.left + 4000 * (100 - l.nested) + 1
 
 abbrev pub decreases-message::calls : goal.decreases-message::calls
-decreases-message::calls g l = 1000000 * l.run.now.left + 4000 * (100 - l.nested) + 8 * depths (exprs_of l.list.now) + 105
+decreases-message::calls g l = 1000000 * l.run.now.left + 4000 * (100 - l.nested) + 8 * depths (exprs_of l.list.now.items.items) + 105
 
 abbrev pub decreases-expr::arguments : goal.decreases-expr::arguments
 decreases-expr::arguments g l = 1000000 * l.run.now.left + 4000 * (100 - l.nested) + 8 * depths (exprs_of l.list.now) + 103
@@ -146,11 +158,14 @@ decreases-stmt::run_block g l = 1000000 * l.run.now.left + 4000 * (100 - l.neste
 abbrev pub decreases-stmt::run_stmt : goal.decreases-stmt::run_stmt
 decreases-stmt::run_stmt g l = 1000000 * l.run.now.left + 4000 * (100 - l.nested) + 8 * stmt_depth l.stmt.now + 2002
 
+abbrev pub decreases-stmt::run_plain : goal.decreases-stmt::run_plain
+decreases-stmt::run_plain g l = 1000000 * l.run.now.left + 4000 * (100 - l.nested) + 8 * stmt_depth l.stmt.now + 2001
+
 abbrev pub decreases-stmt::return_value : goal.decreases-stmt::return_value
 decreases-stmt::return_value g l = 1000000 * l.run.now.left + 4000 * (100 - l.nested) + 8 * depth l.value.now + 2003
 
 abbrev pub decreases-stmt::command : goal.decreases-stmt::command
-decreases-stmt::command g l = 1000000 * l.run.now.left + 4000 * (100 - l.nested) + 8 * depths (exprs_of l.list.now) + 2003
+decreases-stmt::command g l = 1000000 * l.run.now.left + 4000 * (100 - l.nested) + 8 * depths (exprs_of l.list.now.items.items) + 2003
 
 abbrev pub decreases-stmt::show : goal.decreases-stmt::show
 decreases-stmt::show g l = 1000000 * l.run.now.left + 4000 * (100 - l.nested) + 8 * depth l.value.now + 2003
