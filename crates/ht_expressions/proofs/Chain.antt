@@ -11,7 +11,7 @@ use Rattle.ht_grammar.specs.Reading.{read, and_then, join_at, asked_at, turn, ch
 same_rank : (r n : ℕ) → r ≡ n + 1 → nat_eq r (suc n) ≡ true
 same_rank r n e = grind (arith, nat_tests)
 
-other_rank : (r n : ℕ) → r ≢ n + 1 → nat_eq r (suc n) ≡ false
+pub other_rank : (r n : ℕ) → r ≢ n + 1 → nat_eq r (suc n) ≡ false
 other_rank r n e = grind (arith, nat_tests)
 
 module _ (d n : ℕ) (x : Expr) (ts : List Token) where

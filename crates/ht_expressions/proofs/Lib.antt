@@ -2,3 +2,4 @@ pub mod Peeks
 pub mod Deeper
 pub mod Chain
 pub mod Lists
+pub mod Ranks

@@ -1,5 +1,5 @@
 -- What stands in front, as the grammar sees it.
-use Rattle.std.specs.Prelude.{List, Option}
+use Rattle.std.specs.Prelude.{ℕ, List, Option}
 use Rattle.ht_lex.specs.Token.{Token}
 use Rattle.ht_values.specs.declared.word.PartKind.{PartKind}
 use Rattle.ht_grammar.specs.declared.vocabulary.Layer.{Layer}
@@ -16,3 +16,9 @@ abbrev pub operator_view : LeadingOperator → List Token → f.LeadingOperator
 operator_view (Infix rank op) ts = f.infix_at rank op ts
 operator_view (Test op) ts = f.test_at op ts
 operator_view Neither ts = f.neither
+
+-- the rank of an operator, and 8 where there is none
+abbrev pub rank_of : f.LeadingOperator → ℕ
+rank_of (f.infix_at rank op ts) = rank
+rank_of (f.test_at op ts) = f.equality
+rank_of f.neither = 8

@@ -13,11 +13,20 @@ ghost use Rattle.ht_expressions.specs.Answer.{Reads, ReadsExpr};
 ghost use Rattle.ht_expressions.specs.Nests.{Nests};
 
 use crate::grammar::{Grammar, Level, WHOLE, to_expr};
-use crate::operator::{EQUALITY, LeadingOperator, take_operator};
+use crate::operator::{EQUALITY, LeadingOperator, leading_rank, take_operator};
 use ht_lex::{Cursor, Key, Stop, TokenKind, to_name, to_text};
 use ht_tree::{Expr, ExprKind, Exprs};
-use ht_values::{Op, Text, UnOp};
+use ht_values::{Op, Text, UnOp, Value};
 use std::alloc::Global;
+
+/// The value of these digits, unless memory is refused.
+fn to_value(alloc: Global, digits: &[u8]) -> Result<Value, Stop>
+    requires { length digits.now ≤ LIMIT }
+    ensures { Gives digits.now result }
+{
+    let text = to_text(alloc, digits)?;
+    Ok(Value::copied(alloc, &text)?)
+}
 
 /// An expression, where `)` follows.
 #[tactic(auto, unfolding(ht_grammar::specs::Reading::closed))]
@@ -50,7 +59,7 @@ impl<F: Fn(Global, &mut Cursor<'_>, Level, usize) -> Result<Expr, Stop>> Grammar
             found = found.with(expr)?;
             match tokens.peek() {
                 Some(TokenKind::Key(Key::CommaSign)) => tokens.skip(),
-                _ => return Ok(found),
+                _ => return Ok(found.fitted()),
             }
         }
         Err(Stop::Syntax)
@@ -104,7 +113,7 @@ impl<F: Fn(Global, &mut Cursor<'_>, Level, usize) -> Result<Expr, Stop>> Grammar
     {
         match tokens.peek() {
             Some(TokenKind::Number) => {
-                let digits = to_text(self.alloc, tokens.take())?;
+                let digits = to_value(self.alloc, tokens.take())?;
                 to_expr(self.alloc, ExprKind::Number(digits))
             }
             Some(TokenKind::Quoted) => {
@@ -236,18 +245,24 @@ impl<F: Fn(Global, &mut Cursor<'_>, Level, usize) -> Result<Expr, Stop>> Grammar
         Err(Stop::Syntax)
     }
 
-    /// Operators up to this rank.
-    #[tactic(auto, using(crate::proofs::Deeper::rank_zero, crate::proofs::Deeper::rank_up))]
+    /// Operators up to this rank. A rank is joined only where an operator of it comes, since most expressions have few or none.
     pub(crate) fn rank(&self, tokens: &mut Cursor<'_>, rank: u8) -> Result<Expr, Stop>
         requires nests { Nests self.now.depth (F.pre self.now.read) (F.post self.now.read) }
         requires shallow { self.now.depth < max_depth }
         requires ranked { rank ≤ 7 }
         ensures { ReadsExpr (self.now.depth + 1) (spec.rank_at (spec.read self.now.depth) self.now.depth rank tokens.old) result tokens.new }
     {
-        if rank == 0 {
-            return self.power(tokens);
+        let mut left = self.power(tokens)?;
+        let mut next = leading_rank(tokens);
+        if rank < next {
+            return Ok(left);
         }
-        let first = self.rank(tokens, rank - 1)?;
-        self.chain(tokens, rank - 1, first)
+        for below in 0..rank {
+            if next == below + 1 {
+                left = self.chain(tokens, below, left)?;
+                next = leading_rank(tokens);
+            }
+        }
+        Ok(left)
     }
 }

@@ -2,7 +2,7 @@
 
 ghost use Rattle.std.specs.Prelude.{◌≡◌};
 ghost use Rattle.ht_grammar.specs.Fronts as f;
-ghost use Rattle.ht_expressions.specs.Fronts.{operator_view};
+ghost use Rattle.ht_expressions.specs.Fronts.{operator_view, rank_of};
 
 use crate::contextual_keywords::asked_type;
 use ht_lex::{Cursor, Key, TokenKind};
@@ -19,6 +19,9 @@ pub(crate) enum LeadingOperator {
 
 /// `=`, `<>` and `is` are of one rank.
 pub(crate) const EQUALITY: u8 = 5;
+
+/// A rank above those of all operators.
+const NO_RANK: u8 = 8;
 
 /// Goes on after `is not`.
 #[tactic(auto, unfolding(ht_grammar::specs::Fronts::operator_after_is_not))]
@@ -93,5 +96,17 @@ pub(crate) fn take_operator(tokens: &mut Cursor<'_>) -> LeadingOperator
         Some(TokenKind::Key(Key::Div)) => LeadingOperator::Infix(1, Op::Div),
         Some(TokenKind::Key(Key::Mod)) => LeadingOperator::Infix(1, Op::Mod),
         _ => LeadingOperator::Neither,
+    }
+}
+
+/// The rank of the operator that the tokens begin with, and 8 where there is none.
+pub(crate) fn leading_rank(tokens: &Cursor<'_>) -> u8
+    ensures { result ≡ rank_of (f.leading_operator tokens.now) }
+{
+    let mut ahead = tokens.mark();
+    match take_operator(&mut ahead) {
+        LeadingOperator::Infix(rank, _) => rank,
+        LeadingOperator::Test(_) => EQUALITY,
+        LeadingOperator::Neither => NO_RANK,
     }
 }

@@ -15,6 +15,7 @@ returns-in_err-expr g c =
 pub returns-in_default : goal.returns-in_default
 unfolding list_at
 returns-in_default g c =
+    let s = c.fitted.ensures in
     let e = one_more (λ n. list_at (read c.args.self.now.depth) c.args.self.now.depth n (exprs_of c.loop-turn.found.items.items) c.loop-turn.tokens) _ c.loop-turn._turn c.loop-turn-test.true c.loop-turn.invariant.same in
     let x = c.read.ensures in let w = c.with.ensures in
     let fits = snoc_fits (exprs_of c.loop-turn.found.items.items) c.in_ok-expr.expr c.loop-turn.invariant.fits in
