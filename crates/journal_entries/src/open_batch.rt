@@ -202,14 +202,14 @@ impl OpenBatch {
     }
 }
 
-/// Makes room for more entries. The first ones get theirs exactly, since most batches get no others.
+/// Makes room for more entries. The first two times they get theirs exactly, since most batches have one entry or two.
 fn reserve(entries: &mut Vec<Entry>, more: usize) -> Result<(), AllocError>
     ensures items { entries.new.items ≡ entries.old.items }
     ensures len { vec_len entries.new ≡ vec_len entries.old }
     ensures room { OnOk result (vec_len entries.old + more ≤ vec_capacity entries.new) }
-    ensures exact { vec_len entries.old ≡ 0 → OnOk result (vec_capacity entries.new ≡ max (vec_capacity entries.old) more) }
+    ensures exact { vec_len entries.old < 2 → OnOk result (vec_capacity entries.new ≡ max (vec_capacity entries.old) (vec_len entries.old + more)) }
 {
-    if entries.is_empty() {
+    if entries.len() < 2 {
         entries.reserve_exact(more)
     } else {
         entries.reserve(more)
