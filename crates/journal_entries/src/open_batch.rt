@@ -122,7 +122,8 @@ impl OpenBatch {
         }
     }
 
-    /// Makes exchanges, from the first to the last, and keeps of what comes out what the places have no entry for.
+    /// Makes exchanges, from the first to the last, and keeps of what comes out what the places have no entry for. Since these
+    /// make or remove an object, after which no place waits, and few come before that, what waits needn't be sorted.
     fn write_each<E: External>(
         &mut self,
         present: &mut Present<E>,
@@ -135,7 +136,6 @@ impl OpenBatch {
         ensures entries_err { OnErr result (self.new ≡ self.old) }
     {
         reserve(&mut self.entries, entries.len())?;
-        self.places.sort()?;
         self.places.reserve(entries.len())?;
         for entry in entries {
             let held = is_held(&self.entries, &self.places, &entry);
