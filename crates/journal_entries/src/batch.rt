@@ -1,8 +1,8 @@
 //! A batch: what goes back over the changes and turns of one command.
 
-ghost use Rattle.std.specs.Prelude.{◌≡◌, [], ◌∷◌};
+ghost use Rattle.std.specs.Prelude.{◌≡◌, [], ◌∷◌, true};
 ghost use Rattle.journal_entries.specs.Exchange.{back, back_taken, exchanged, forth, forth_taken, taken, shape_of, AreReady, IsReady};
-ghost use Rattle.journal_entries.specs.BatchEntries.{entries_in};
+ghost use Rattle.journal_entries.specs.BatchEntries.{entries_in, needs_no_list};
 
 use crate::entry::Entry;
 use crate::present::Present;
@@ -11,12 +11,13 @@ use ht_values::Text;
 use std::marker::Model;
 use std::mem;
 
-/// Most lines that change something write one global: where a `u32` numbers it, its entry needs no list, with a value or
-/// without. `Several` may hold any number of entries.
+/// Most lines that change something write one global or go to a card. Such an entry needs no list: a global's, with a value
+/// or without, where a `u32` numbers it, or that of the current card. `Several` may hold any number of entries.
 #[derive(Drop)]
 enum BatchEntries {
     Value(u32, Text),
     NoValue(u32),
+    Current(u32),
     Several(Vec<Entry>),
 }
 
@@ -76,6 +77,7 @@ impl Batch {
         self.entries = match entries {
             BatchEntries::Value(i, value) => swapped(present, i, Some(value)),
             BatchEntries::NoValue(i) => swapped(present, i, None),
+            BatchEntries::Current(card) => swapped_current(present, card),
             BatchEntries::Several(mut entries) => {
                 present.go_back(&mut entries);
                 BatchEntries::Several(entries)
@@ -93,6 +95,7 @@ impl Batch {
         self.entries = match entries {
             BatchEntries::Value(i, value) => swapped(present, i, Some(value)),
             BatchEntries::NoValue(i) => swapped(present, i, None),
+            BatchEntries::Current(card) => swapped_current(present, card),
             BatchEntries::Several(mut entries) => {
                 present.go_forth(&mut entries);
                 BatchEntries::Several(entries)
@@ -117,14 +120,34 @@ fn batch_entries(mut entries: Vec<Entry>) -> BatchEntries
     ensures { entries_in result ≡ entries.items }
 {
     entries.shrink_to_fit();
-    let [Entry::Global(i, _)] = &entries[..] else {
+    if !is_alone(&entries) {
         return BatchEntries::Several(entries);
-    };
-    let Ok(i) = u32::try_from(*i) else {
-        return BatchEntries::Several(entries);
-    };
+    }
     match entries.pop() {
-        Some(Entry::Global(_, value)) => of_global(i, value),
+        Some(entry) => alone(entry),
+        None => unreachable!(),
+    }
+}
+
+/// Whether these are one entry, which needs no list.
+fn is_alone(entries: &[Entry]) -> bool
+    ensures { result ≡ needs_no_list entries.now }
+{
+    match entries {
+        [Entry::Global(i, _)] => *i <= u32::MAX as usize,
+        [Entry::Current(_)] => true,
+        _ => false,
+    }
+}
+
+/// An entry that needs no list.
+fn alone(entry: Entry) -> BatchEntries
+    requires { needs_no_list (entry ∷ []) ≡ true }
+    ensures { entries_in result ≡ entry ∷ [] }
+{
+    match entry {
+        Entry::Global(i, value) => of_global(i as u32, value),
+        Entry::Current(card) => BatchEntries::Current(card),
         _ => unreachable!(),
     }
 }
@@ -139,4 +162,19 @@ fn swapped<E: External>(present: &mut Present<E>, i: u32, value: Option<Text>) -
     let mut value = value;
     present.swap_global(i as usize, &mut value);
     of_global(i, value)
+}
+
+/// The entry of the current card after its exchange.
+#[tactic(auto, unfolding(crate::specs::Exchange::taken))]
+fn swapped_current<E: External>(present: &mut Present<E>, card: u32) -> BatchEntries
+    requires { IsReady (shape_of present.old) (Entry.Current card) }
+    ensures state { present.new ≡ record present.old { state = exchanged present.old.names present.old.state (Entry.Current card) } }
+    ensures entry { entries_in result ≡ taken present.old.names present.old.state (Entry.Current card) ∷ [] }
+{
+    let mut entry = Entry::Current(card);
+    present.exchange(&mut entry);
+    match entry {
+        Entry::Current(card) => BatchEntries::Current(card),
+        _ => unreachable!(),
+    }
 }

@@ -122,7 +122,8 @@ impl OpenBatch {
         }
     }
 
-    /// Makes exchanges, from the first to the last, and keeps of what comes out what the places have no entry for.
+    /// Makes exchanges, from the first to the last, and keeps of what comes out what the places have no entry for. Since these
+    /// make or remove an object, after which no place waits, and few come before that, what waits needn't be sorted.
     fn write_each<E: External>(
         &mut self,
         present: &mut Present<E>,
@@ -135,7 +136,6 @@ impl OpenBatch {
         ensures entries_err { OnErr result (self.new ≡ self.old) }
     {
         reserve(&mut self.entries, entries.len())?;
-        self.places.sort()?;
         self.places.reserve(entries.len())?;
         for entry in entries {
             let held = is_held(&self.entries, &self.places, &entry);
@@ -202,14 +202,14 @@ impl OpenBatch {
     }
 }
 
-/// Makes room for more entries. The first ones get theirs exactly, since most batches get no others.
+/// Makes room for more entries. The first two times they get theirs exactly, since most batches have one entry or two.
 fn reserve(entries: &mut Vec<Entry>, more: usize) -> Result<(), AllocError>
     ensures items { entries.new.items ≡ entries.old.items }
     ensures len { vec_len entries.new ≡ vec_len entries.old }
     ensures room { OnOk result (vec_len entries.old + more ≤ vec_capacity entries.new) }
-    ensures exact { vec_len entries.old ≡ 0 → OnOk result (vec_capacity entries.new ≡ max (vec_capacity entries.old) more) }
+    ensures exact { vec_len entries.old < 2 → OnOk result (vec_capacity entries.new ≡ max (vec_capacity entries.old) (vec_len entries.old + more)) }
 {
-    if entries.is_empty() {
+    if entries.len() < 2 {
         entries.reserve_exact(more)
     } else {
         entries.reserve(more)

@@ -44,7 +44,7 @@ loop-entry-init g c =
       ready = search rules;
       state = search rules;
       entries = search rules;
-      indexed = rw c.reserve.ensures.items (indexed-same w.entries.items w.places c.reserve-2.new.self (λ q. c.reserve-2.ensures.has q ∙ c.sort.ensures.has q) (c.reserve-2.ensures.greatest ∙ c.sort.ensures.greatest) c.self.invariant);
+      indexed = rw c.reserve.ensures.items (indexed-same w.entries.items w.places c.reserve-2.new.self c.reserve-2.ensures.has c.reserve-2.ensures.greatest c.self.invariant);
       free = search rules;
       place = search rules;
     }
