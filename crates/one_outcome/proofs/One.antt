@@ -7,17 +7,17 @@ use Rattle.ht_grammar.specs.Reading.{expression}
 use Rattle.ht_grammar.specs.Reads.{ReadsExpr, ReadsLines, ReadsMessage, ReadsScript}
 use Rattle.ht_grammar.specs.Whole.{script, sent_message}
 use Rattle.change_journal.specs.History.{History}
-use Rattle.meaning.specs.declared.end.Ended.{Ended}
 use Rattle.meaning.specs.declared.end.Stop.{Stop}
 use Rattle.meaning.specs.State.{RunState}
 use Rattle.one_outcome.specs.Told.{Present, Told, told}
 use Rattle.one_outcome.specs.Families.{Meanings}
 use Rattle.one_outcome.specs.Meanings.{meanings}
 use Rattle.one_outcome.specs.Laws.{sorts_of, sorts, NoneIsFree, LinesAreComputed, MessagesAreComputed}
-use Rattle.one_outcome.specs.Laws.{ActionsAreComputed, ValuesAreComputed, SameOutcome, LinesHaveOneOutcome, MessagesHaveOneOutcome}
-use Rattle.one_outcome.specs.Laws.{ActionsHaveOneOutcome}
+use Rattle.one_outcome.specs.Laws.{ActionsAreComputed, ReferencesAreComputed, ValuesAreComputed, SameOutcome}
+use Rattle.one_outcome.specs.Laws.{LinesHaveOneOutcome, MessagesHaveOneOutcome, ActionsHaveOneOutcome}
+use Rattle.one_outcome.specs.Laws.{ReferencesHaveOneOutcome, ValuesHaveOneOutcome}
 use Rattle.one_outcome.proofs.Comes.{AreExact, Sight, sight, Comes}
-use Rattle.one_outcome.proofs.Outcomes.{val_comes, line_comes, message_comes, acts_comes}
+use Rattle.one_outcome.proofs.Outcomes.{val_comes, line_comes, message_comes, refers_comes, acts_comes}
 
 pub exactly : CutsExactly spans_of → ReadsExactly expression ReadsExpr → ReadsExactly typed_lines ReadsLines →
     ReadsExactly script ReadsScript → ReadsExactly sent_message ReadsMessage → AreExact
@@ -43,14 +43,18 @@ message_is_computed exact w w2 r r2 i n vs o free message has =
 pub action_is_computed : AreExact → ActionsAreComputed
 action_is_computed exact w w2 r r2 ac o free acts has = (acts_comes {g = all_turns} acts has).gives exact free
 
+pub reference_is_computed : AreExact → ReferencesAreComputed
+reference_is_computed exact w w2 r r2 pa o free refers has =
+    (refers_comes {g = all_turns} refers has).gives exact free
+
 pub value_is_computed : AreExact → ValuesAreComputed
 value_is_computed exact w w2 r r2 f d e o free value has = (val_comes {g = all_turns} value has).gives exact free
 
 -- ---- one outcome
 
 -- two runs of one thing, seen so, come to one thing
-one : (g : Sight) (w v w2 v2 : History) {r2 q2 : RunState} {o p : Result Ended Stop}
-    (F : Present → Meanings → Told Ended) → AreExact → sight g v ≡ sight g w → NoneIsFree (sorts w) →
+one : {A : Type 0} (g : Sight) (w v w2 v2 : History) {r2 q2 : RunState} {o p : Result A Stop}
+    (F : Present → Meanings → Told A) → AreExact → sight g v ≡ sight g w → NoneIsFree (sorts w) →
     Comes g w (F (sight g w)) (told o (sight g w2) r2) w2 → Comes g v (F (sight g v)) (told p (sight g v2) q2) v2 →
     told o (sight g w2) r2 ≡ told p (sight g v2) q2
 one g w v w2 v2 F exact same free first second =
@@ -59,7 +63,7 @@ one g w v w2 v2 F exact same free first second =
     let fuel = a.0 + b.0 in
     sym (a.1 fuel (omega arith)) ∙ ap (λ u. F u (meanings fuel)) (sym same) ∙ b.1 fuel (omega arith)
 
-alike : {w v w2 v2 : History} {r2 q2 : RunState} {o p : Result Ended Stop} (F : Present → Meanings → Told Ended) →
+alike : {A : Type 0} {w v w2 v2 : History} {r2 q2 : RunState} {o p : Result A Stop} (F : Present → Meanings → Told A) →
     AreExact → v.now ≡ w.now → NoneIsFree (sorts w) →
     ((g : Sight) → Comes g w (F (sight g w)) (told o (sight g w2) r2) w2) →
     ((g : Sight) → Comes g v (F (sight g v)) (told p (sight g v2) q2) v2) → SameOutcome w v w2 v2 r2 q2 o p
@@ -92,3 +96,11 @@ one_message exact w v w2 v2 r r2 q2 i n vs o p same free first second has had =
 pub one_action : AreExact → ActionsHaveOneOutcome
 one_action exact w v w2 v2 r r2 q2 ac o p same free first second has had =
     alike (λ u parts. parts.acts u r ac) exact same free (λ g. acts_comes first has) (λ g. acts_comes second had)
+
+pub one_reference : AreExact → ReferencesHaveOneOutcome
+one_reference exact w v w2 v2 r r2 q2 pa o p same free first second has had =
+    alike (λ u parts. parts.refers u r pa) exact same free (λ g. refers_comes first has) (λ g. refers_comes second had)
+
+pub one_value : AreExact → ValuesHaveOneOutcome
+one_value exact w v w2 v2 r r2 q2 f d e o p same free first second has had =
+    alike (λ u parts. parts.val u r f d e) exact same free (λ g. val_comes first has) (λ g. val_comes second had)

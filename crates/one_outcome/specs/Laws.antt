@@ -1,5 +1,5 @@
 -- Laws of outcomes.
-use Rattle.std.specs.Prelude.{◌≡◌, ℕ, ◌<◌, ◌≤◌, List, length, map, slice_index_or, Some, Result}
+use Rattle.std.specs.Prelude.{◌≡◌, ℕ, ◌<◌, ◌≤◌, List, length, map, slice_index_or, Option, Some, Result}
 use Rattle.ht_grammar.specs.Statements as stm
 use Rattle.ht_grammar.specs.Trees as tree
 use Rattle.externals.specs.Cells.{Seen}
@@ -10,7 +10,7 @@ use Rattle.meaning.specs.declared.end.Ended.{Ended}
 use Rattle.meaning.specs.declared.end.Stop.{Stop}
 use Rattle.meaning.specs.declared.frame.Frame.{Frame}
 use Rattle.meaning.specs.Actions.{Action}
-use Rattle.meaning.specs.Meaning.{Val, Line, Message, Acts}
+use Rattle.meaning.specs.Meaning.{Val, Line, Message, Refers, Acts}
 use Rattle.meaning.specs.State.{RunState}
 use Rattle.run_laws.specs.Laws.{HasMemory}
 use Rattle.one_outcome.specs.Told.{present, told}
@@ -58,6 +58,13 @@ ActionsAreComputed =
     NoneIsFree (sorts w) → Acts w r ac o w2 r2 → HasMemory o →
     Enough (λ m. m.acts (present w) r ac ≡ told o (present w2) r2)
 
+-- and of the reference of a dot line
+abbrev pub ReferencesAreComputed : Type 0
+ReferencesAreComputed =
+    (w w2 : History) (r r2 : RunState) (pa : tree.Part) (o : Result (Option ℕ) Stop) →
+    NoneIsFree (sorts w) → Refers w r pa o w2 r2 → HasMemory o →
+    Enough (λ m. m.refers (present w) r pa ≡ told o (present w2) r2)
+
 -- and of the value of an expression
 abbrev pub ValuesAreComputed : Type 0
 ValuesAreComputed =
@@ -69,7 +76,7 @@ ValuesAreComputed =
 
 -- Two runs end alike, with the same state and run, and with as many turns of each external where they began with as
 -- many.
-abbrev pub SameOutcome : (w v w2 v2 : History) (r2 q2 : RunState) (o p : Result Ended Stop) → Type 0
+abbrev pub SameOutcome : {A : Type 0} (w v w2 v2 : History) (r2 q2 : RunState) (o p : Result A Stop) → Type 0
 SameOutcome w v w2 v2 r2 q2 o p = (o ≡ p) × (w2.now ≡ v2.now) × (r2 ≡ q2) × (v.turns ≡ w.turns → w2.turns ≡ v2.turns)
 
 -- Two runs of the same lines from the same state, neither of which is out of memory, have one outcome.
@@ -92,3 +99,17 @@ ActionsHaveOneOutcome =
     (w v w2 v2 : History) (r r2 q2 : RunState) (ac : Action) (o p : Result Ended Stop) →
     v.now ≡ w.now → NoneIsFree (sorts w) → Acts w r ac o w2 r2 → Acts v r ac p v2 q2 → HasMemory o → HasMemory p →
     SameOutcome w v w2 v2 r2 q2 o p
+
+-- and two lookups of the same reference
+abbrev pub ReferencesHaveOneOutcome : Type 0
+ReferencesHaveOneOutcome =
+    (w v w2 v2 : History) (r r2 q2 : RunState) (pa : tree.Part) (o p : Result (Option ℕ) Stop) →
+    v.now ≡ w.now → NoneIsFree (sorts w) → Refers w r pa o w2 r2 → Refers v r pa p v2 q2 → HasMemory o → HasMemory p →
+    SameOutcome w v w2 v2 r2 q2 o p
+
+-- and two computations of the same expression
+abbrev pub ValuesHaveOneOutcome : Type 0
+ValuesHaveOneOutcome =
+    (w v w2 v2 : History) (r r2 q2 : RunState) (f : Frame) (d : ℕ) (e : tree.Expr) (o p : Result (List ℕ) Stop) →
+    v.now ≡ w.now → NoneIsFree (sorts w) → Val w r f d e o w2 r2 → Val v r f d e p v2 q2 →
+    HasMemory o → HasMemory p → SameOutcome w v w2 v2 r2 q2 o p

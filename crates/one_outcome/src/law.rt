@@ -1,7 +1,8 @@
 //! Where no external is free, a function computes a run, and a run has one outcome.
 
 ghost use Rattle.one_outcome.specs.Alone.{ExpressionsAreAllowed};
-ghost use Rattle.one_outcome.specs.Laws.{LinesAreComputed, MessagesAreComputed, ActionsAreComputed, ValuesAreComputed, LinesHaveOneOutcome, MessagesHaveOneOutcome, ActionsHaveOneOutcome};
+ghost use Rattle.one_outcome.specs.Laws.{LinesAreComputed, MessagesAreComputed, ActionsAreComputed, ReferencesAreComputed, ValuesAreComputed};
+ghost use Rattle.one_outcome.specs.Laws.{LinesHaveOneOutcome, MessagesHaveOneOutcome, ActionsHaveOneOutcome, ReferencesHaveOneOutcome, ValuesHaveOneOutcome};
 ghost use Rattle.one_outcome.specs.Rows.{Sum, Quotient, NoNumber, FaultAfterLines, Choice, Repeated, Chunks, NoExpression, ExitToHyperCard, Delimiter, GlobalVariable, Repeats, Function, Passed, FaultThreeDeep, Conversation};
 ghost use Rattle.one_outcome.specs.Replies.{RepliesAreOne};
 
@@ -11,12 +12,13 @@ use ht_grammar::{
 };
 use ht_lex::texts_are_cut_exactly;
 
-/// What the rules allow of lines, a message, an action or an expression is what the function gives, with enough fuel,
-/// where no plugged external is free and the run isn't out of memory.
+/// What the rules allow of lines, a message, an action, the reference of a dot line or an expression is what the function
+/// gives, with enough fuel, where no plugged external is free and the run isn't out of memory.
 pub fn runs_are_computed()
     ensures lines { LinesAreComputed }
     ensures messages { MessagesAreComputed }
     ensures actions { ActionsAreComputed }
+    ensures references { ReferencesAreComputed }
     ensures values { ValuesAreComputed }
 {
     texts_are_cut_exactly();
@@ -26,12 +28,14 @@ pub fn runs_are_computed()
     messages_are_read_exactly();
 }
 
-/// Two runs of the same lines, message or action from the same state, neither of which is out of memory, have the same end,
-/// state and run, where no plugged external is free.
+/// Two runs of the same lines, message, action, reference of a dot line or expression from the same state, neither of which
+/// is out of memory, have the same end, state and run, where no plugged external is free.
 pub fn runs_have_one_outcome()
     ensures lines { LinesHaveOneOutcome }
     ensures messages { MessagesHaveOneOutcome }
     ensures actions { ActionsHaveOneOutcome }
+    ensures references { ReferencesHaveOneOutcome }
+    ensures values { ValuesHaveOneOutcome }
 {
     texts_are_cut_exactly();
     expressions_are_read_exactly();

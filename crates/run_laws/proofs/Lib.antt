@@ -7,6 +7,6 @@ pub mod Rises
 mod Going
 pub mod Runs
 pub mod Commands
-mod Placed
-mod StaysWhole
+pub mod Placed
+pub mod StaysWhole
 pub mod Wholes

@@ -44,7 +44,7 @@ message_has h w r i name vs k =
 
 -- ---- dot lines that send messages
 
-refers_has : {n : ℕ} → AreExact → Level n → (w : History) (r : RunState) (pa : tree.Part) → Underway (suc n) w r →
+pub refers_has : {n : ℕ} → AreExact → Level n → (w : History) (r : RunState) (pa : tree.Part) → Underway (suc n) w r →
     Has (suc n) (Refers w r pa)
 refers_has exact h w r pa k =
     refers_to (part_has exact h w r (typed_frame w) 0 pa (omega arith) k) (λ fa w1 r1 g. Refers.refer_faults refl g)

@@ -6,7 +6,7 @@ use Rattle.meaning.specs.declared.end.Stop.{Stop}
 use Rattle.meaning.specs.Meaning.{Acts}
 use Rattle.meaning.specs.State.{RunState}
 use Rattle.user_actions.specs.Views.{MeetsLock}
-use Rattle.some_outcome.specs.Laws.{HasOutcome, outcome, LinesHaveAnOutcome, MessagesHaveAnOutcome, ActionsHaveAnOutcome, ValuesHaveAnOutcome}
+use Rattle.some_outcome.specs.Laws.{HasOutcome, outcome, LinesHaveAnOutcome, MessagesHaveAnOutcome, ActionsHaveAnOutcome, ReferencesHaveAnOutcome, ValuesHaveAnOutcome}
 use Rattle.some_outcome.proofs.Chain.{Underway, Has, has}
 use Rattle.one_outcome.proofs.Comes.{AreExact}
 use Rattle.some_outcome.proofs.Levels.{Level}
@@ -14,7 +14,7 @@ use Rattle.some_outcome.proofs.Expressions.{val_has}
 use Rattle.some_outcome.proofs.Blocks.{block_has, endless_has, while_has, counts_has}
 use Rattle.some_outcome.proofs.Messages.{along_has, talks_has, calls_back_has}
 use Rattle.some_outcome.proofs.Statements.{form_has}
-use Rattle.some_outcome.proofs.Commands.{line_has, message_has, acts_has}
+use Rattle.some_outcome.proofs.Commands.{line_has, message_has, refers_has, acts_has}
 
 no_fewer : {w : History} {r : RunState} → Underway zero w r → ⊥
 no_fewer k = let fewer = k.left in omega (arith, fewer)
@@ -63,6 +63,10 @@ lines_have_an_outcome exact w r ss is_open = known (line_has (level exact r.left
 pub messages_have_an_outcome : AreExact → MessagesHaveAnOutcome
 messages_have_an_outcome exact w r i name vs is_open = known
     (message_has (level exact r.left) w r i name vs (begins r is_open))
+
+pub references_have_an_outcome : AreExact → ReferencesHaveAnOutcome
+references_have_an_outcome exact w r pa is_open = known
+    (refers_has exact (level exact r.left) w r pa (begins r is_open))
 
 pub values_have_an_outcome : AreExact → ValuesHaveAnOutcome
 values_have_an_outcome exact w r f d e is_open le = known

@@ -1,12 +1,12 @@
 -- Laws of outcomes that exist.
-use Rattle.std.specs.Prelude.{◌⊎◌, ℕ, ◌≤◌, List, IsSome, Result}
+use Rattle.std.specs.Prelude.{◌⊎◌, ℕ, ◌≤◌, List, IsSome, Option, Result}
 use Rattle.ht_grammar.specs.Statements as stm
 use Rattle.ht_grammar.specs.Trees as tree
 use Rattle.change_journal.specs.History.{History}
 use Rattle.meaning.specs.declared.end.Stop.{Stop}
 use Rattle.meaning.specs.declared.frame.Frame.{Frame}
 use Rattle.meaning.specs.Actions.{Action}
-use Rattle.meaning.specs.Meaning.{Val, Line, Message, Acts}
+use Rattle.meaning.specs.Meaning.{Val, Line, Message, Refers, Acts}
 use Rattle.meaning.specs.State.{RunState}
 use Rattle.run_laws.specs.Laws.{HasMemory}
 use Rattle.user_actions.specs.Views.{MeetsLock}
@@ -23,6 +23,10 @@ LinesHaveAnOutcome = (w : History) (r : RunState) (ss : stm.Stmts) → IsSome w.
 abbrev pub MessagesHaveAnOutcome : Type 0
 MessagesHaveAnOutcome = (w : History) (r : RunState) (i : ℕ) (n : List ℕ) (vs : List (List ℕ)) → IsSome w.start →
     HasOutcome (Message w r i n vs)
+
+-- and the reference of a dot line
+abbrev pub ReferencesHaveAnOutcome : Type 0
+ReferencesHaveAnOutcome = (w : History) (r : RunState) (pa : tree.Part) → IsSome w.start → HasOutcome (Refers w r pa)
 
 -- and the value of an expression, at most a hundred calls deep
 abbrev pub ValuesHaveAnOutcome : Type 0

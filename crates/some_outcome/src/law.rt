@@ -1,7 +1,7 @@
 //! Laws of outcomes that exist.
 
 ghost use Rattle.some_outcome.specs.Replies.{RepliesExist};
-ghost use Rattle.some_outcome.specs.Laws.{LinesHaveAnOutcome, MessagesHaveAnOutcome, ValuesHaveAnOutcome, ActionsHaveAnOutcome};
+ghost use Rattle.some_outcome.specs.Laws.{LinesHaveAnOutcome, MessagesHaveAnOutcome, ActionsHaveAnOutcome, ReferencesHaveAnOutcome, ValuesHaveAnOutcome};
 
 use ht_grammar::{
     expressions_are_read_exactly, lines_are_read_exactly, messages_are_read_exactly,
@@ -9,12 +9,13 @@ use ht_grammar::{
 };
 use ht_lex::texts_are_cut_exactly;
 
-/// Lines, a message, an action or the value of an expression have an end that the rules allow and that isn't out of memory,
-/// while a batch is open; but for a text that is typed into a locked field.
+/// Lines, a message, an action, the reference of a dot line or the value of an expression have an end that the rules allow
+/// and that isn't out of memory, while a batch is open; but for a text that is typed into a locked field.
 pub fn runs_have_an_outcome()
     ensures lines { LinesHaveAnOutcome }
     ensures messages { MessagesHaveAnOutcome }
     ensures actions { ActionsHaveAnOutcome }
+    ensures references { ReferencesHaveAnOutcome }
     ensures values { ValuesHaveAnOutcome }
 {
     texts_are_cut_exactly();

@@ -1,5 +1,5 @@
 use Rattle.one_outcome.proofs.law.runs_are_computed.Goals as goal
-use Rattle.one_outcome.proofs.One.{exactly, line_is_computed, message_is_computed, action_is_computed, value_is_computed}
+use Rattle.one_outcome.proofs.One.{exactly, line_is_computed, message_is_computed, action_is_computed, reference_is_computed, value_is_computed}
 
 pub returns-clause-lines : goal.returns-clause-lines
 returns-clause-lines c =
@@ -25,6 +25,13 @@ returns-clause-actions c =
 pub returns-clause-values : goal.returns-clause-values
 returns-clause-values c =
     value_is_computed
+    (exactly c.texts_are_cut_exactly.ensures c.expressions_are_read_exactly.ensures.exact
+    c.lines_are_read_exactly.ensures.exact
+    c.scripts_are_read_exactly.ensures.exact c.messages_are_read_exactly.ensures.exact)
+
+pub returns-clause-references : goal.returns-clause-references
+returns-clause-references c =
+    reference_is_computed
     (exactly c.texts_are_cut_exactly.ensures c.expressions_are_read_exactly.ensures.exact
     c.lines_are_read_exactly.ensures.exact
     c.scripts_are_read_exactly.ensures.exact c.messages_are_read_exactly.ensures.exact)

@@ -1,5 +1,5 @@
 use Rattle.one_outcome.proofs.law.runs_have_one_outcome.Goals as goal
-use Rattle.one_outcome.proofs.One.{exactly, one_line, one_message, one_action}
+use Rattle.one_outcome.proofs.One.{exactly, one_line, one_message, one_action, one_reference, one_value}
 
 pub returns-clause-lines : goal.returns-clause-lines
 returns-clause-lines c =
@@ -18,6 +18,20 @@ returns-clause-messages c =
 pub returns-clause-actions : goal.returns-clause-actions
 returns-clause-actions c =
     one_action
+    (exactly c.texts_are_cut_exactly.ensures c.expressions_are_read_exactly.ensures.exact
+    c.lines_are_read_exactly.ensures.exact
+    c.scripts_are_read_exactly.ensures.exact c.messages_are_read_exactly.ensures.exact)
+
+pub returns-clause-references : goal.returns-clause-references
+returns-clause-references c =
+    one_reference
+    (exactly c.texts_are_cut_exactly.ensures c.expressions_are_read_exactly.ensures.exact
+    c.lines_are_read_exactly.ensures.exact
+    c.scripts_are_read_exactly.ensures.exact c.messages_are_read_exactly.ensures.exact)
+
+pub returns-clause-values : goal.returns-clause-values
+returns-clause-values c =
+    one_value
     (exactly c.texts_are_cut_exactly.ensures c.expressions_are_read_exactly.ensures.exact
     c.lines_are_read_exactly.ensures.exact
     c.scripts_are_read_exactly.ensures.exact c.messages_are_read_exactly.ensures.exact)

@@ -1,6 +1,6 @@
 use Rattle.some_outcome.proofs.law.runs_have_an_outcome.Goals as goal
 use Rattle.one_outcome.proofs.One.{exactly}
-use Rattle.some_outcome.proofs.Outcomes.{lines_have_an_outcome, messages_have_an_outcome, actions_have_an_outcome, values_have_an_outcome}
+use Rattle.some_outcome.proofs.Outcomes.{lines_have_an_outcome, messages_have_an_outcome, actions_have_an_outcome, references_have_an_outcome, values_have_an_outcome}
 
 pub returns-clause-lines : goal.returns-clause-lines
 returns-clause-lines c =
@@ -26,6 +26,13 @@ returns-clause-actions c =
 pub returns-clause-values : goal.returns-clause-values
 returns-clause-values c =
     values_have_an_outcome
+    (exactly c.texts_are_cut_exactly.ensures c.expressions_are_read_exactly.ensures.exact
+    c.lines_are_read_exactly.ensures.exact
+    c.scripts_are_read_exactly.ensures.exact c.messages_are_read_exactly.ensures.exact)
+
+pub returns-clause-references : goal.returns-clause-references
+returns-clause-references c =
+    references_have_an_outcome
     (exactly c.texts_are_cut_exactly.ensures c.expressions_are_read_exactly.ensures.exact
     c.lines_are_read_exactly.ensures.exact
     c.scripts_are_read_exactly.ensures.exact c.messages_are_read_exactly.ensures.exact)

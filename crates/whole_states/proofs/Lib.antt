@@ -1,0 +1,6 @@
+pub mod TreeTexts
+pub mod ValueTexts
+pub mod Turns
+pub mod StateTexts
+pub mod Leaves
+pub mod Sound
