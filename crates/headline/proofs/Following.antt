@@ -397,7 +397,7 @@ opens_follow stack externals turns steps depth = refl
 -- ---- runs
 
 settles_follow : (line : List ℕ) (old : Standing × SeenDesk) (reply : Reply) (new : Standing × SeenDesk) → Takes line old reply new → Settles LineMoves line (timeline_beside old) reply (timeline_beside new)
-settles_follow line old reply new s = record { ending = s.ending; taken = lines_follow line old.0 (record reply { ending = s.ending }) new.0 s.taken; kept = s.kept }
+settles_follow line old reply new s = record { ending = s.ending; taken = lines_follow line old.0 (record reply { ending = s.ending }) new.0 s.taken.takes; kept = s.kept }
 
 pub runs_follow : RunsFollow
 runs_follow left ran old read written new e =

@@ -3,3 +3,4 @@ pub mod Intake
 pub mod Saved
 pub mod Sessions
 pub mod Writing
+pub mod Whole

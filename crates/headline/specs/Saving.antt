@@ -2,6 +2,7 @@
 use Rattle.std.specs.Prelude.{◌≡◌, ◌⊎◌, ℕ, true, List, option_map}
 use Rattle.devices.specs.Desks.{SeenDesk}
 use Rattle.devices.specs.Watching.{counted}
+use Rattle.change_journal.specs.History.{IsHistory}
 use Rattle.session.specs.Standing.{Standing}
 use Rattle.session.specs.TakesLine.{TakesLine}
 use Rattle.session.specs.declared.reply.Ending.{Ending}
@@ -31,6 +32,12 @@ pub record Beside {S : Type 0} (keeps : Ending → SeenDesk → Ending → SeenD
 abbrev pub Settles : {S : Type 0} → (List ℕ → S → Reply → S → Type 0) → List ℕ → S × SeenDesk → Reply → S × SeenDesk → Type 0
 Settles takes = Beside KeptOrNot takes
 
+-- a session takes a line, and each state of its list is whole before the line and after it
+pub record TakesWhole (line : List ℕ) (old : Standing) (reply : Reply) (new : Standing) : Type 0 where
+  pub takes : TakesLine line old reply new
+  pub before : IsHistory old.history
+  pub after : IsHistory new.history
+
 -- a session beside a desk takes a line
 abbrev pub Takes : List ℕ → Standing × SeenDesk → Reply → Standing × SeenDesk → Type 0
-Takes = Settles TakesLine
+Takes = Settles TakesWhole
