@@ -400,7 +400,7 @@ settles_follow : (line : List ℕ) (old : Standing × SeenDesk) (reply : Reply) 
 settles_follow line old reply new s = record {
   ending = s.ending;
   told = s.told;
-  taken = lines_follow line old.0 (record reply { ending = s.ending }) new.0 s.taken;
+  taken = lines_follow line old.0 (record reply { ending = s.ending }) new.0 s.taken.takes;
   heard = s.heard;
   kept = s.kept;
 }

@@ -75,13 +75,15 @@ TakesLine-long a b old reply new p q s =
     record { number = s.number; steps = s.steps; performed = rw (lt-ltb LONGEST_LINE (length b) q) done }
 
 Takes-long : (a b : List ℕ) (old : Standing × SeenDesk) (reply : Reply) (new : Standing × SeenDesk) → LONGEST_LINE < length a → LONGEST_LINE < length b → Takes a old reply new → Takes b old reply new
-Takes-long a b old reply new p q s = record {
-  ending = s.ending;
-  told = s.told;
-  taken = TakesLine-long a b old.0 (record reply { ending = s.ending }) new.0 p q s.taken;
-  heard = s.heard;
-  kept = s.kept;
-}
+Takes-long a b old reply new p q s =
+    let taken = TakesLine-long a b old.0 (record reply { ending = s.ending }) new.0 p q s.taken.takes in
+    record {
+      ending = s.ending;
+      told = s.told;
+      taken = record { takes = taken; before = s.taken.before; after = s.taken.after };
+      heard = s.heard;
+      kept = s.kept;
+    }
 
 -- the part that is kept of a line is answered as the line
 kept_line : (f : List ℕ → List ℕ) → ((line : List ℕ) → length line ≤ length (f line) + 1) → (k : ℕ) → 30001 < k → (pending rest : List ℕ) → pending ≡ take k rest

@@ -4,3 +4,4 @@ pub mod Intake
 pub mod Saved
 pub mod Sessions
 pub mod Writing
+pub mod Whole

@@ -6,4 +6,5 @@ pub mod Intake
 pub mod Saving
 pub mod Stops
 pub mod Unzipped
+pub mod Whole
 pub mod Writing

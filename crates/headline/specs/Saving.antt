@@ -2,6 +2,7 @@
 use Rattle.std.specs.Prelude.{◌≡◌, ◌⊎◌, ℕ, true, List, map, option_map}
 use Rattle.devices.specs.Desks.{SeenDesk, HearsOrForgets}
 use Rattle.devices.specs.Watching.{counted}
+use Rattle.change_journal.specs.History.{IsHistory}
 use Rattle.devices.specs.declared.desk.HeardMessage.{HeardMessage}
 use Rattle.meaning.specs.declared.sent.SentMessage.{SentMessage}
 use Rattle.session.specs.Standing.{Standing}
@@ -42,6 +43,12 @@ pub record Beside {S : Type 0} (hears : List HeardMessage → SeenDesk → SeenD
 abbrev pub Settles : {S : Type 0} → (List ℕ → S → Reply → S → Type 0) → List ℕ → S × SeenDesk → Reply → S × SeenDesk → Type 0
 Settles takes = Beside HearsOrForgets KeptOrNot takes
 
+-- a session takes a line, and each state of its list is whole before the line and after it
+pub record TakesWhole (line : List ℕ) (old : Standing) (reply : Reply) (new : Standing) : Type 0 where
+  pub takes : TakesLine line old reply new
+  pub before : IsHistory old.history
+  pub after : IsHistory new.history
+
 -- a session beside a desk takes a line
 abbrev pub Takes : List ℕ → Standing × SeenDesk → Reply → Standing × SeenDesk → Type 0
-Takes = Settles TakesLine
+Takes = Settles TakesWhole

@@ -1,6 +1,9 @@
 //! What lines, calls and runs do to the list of whole states: the headline as laws over the definitions.
 
 ghost use Rattle.headline.specs.Unzipped.{LinesFollow, MovesFollow, PlugsFollow, OpensFollow, RunsFollow, StopsFollow, SavesFollow, MessagesFollow};
+ghost use Rattle.headline.specs.Whole.{RunsStayWhole, StopsStayWhole, SavesSpell};
+
+use stack_text::law::written_is_read;
 
 /// A fresh command, however it ended, replaces all after the cursor by a state that its meaning allows,
 /// undo and redo only move the cursor, and a line refused for memory changes nothing but its number.
@@ -42,3 +45,16 @@ pub fn saves_follow()
 pub fn messages_follow()
     ensures { MessagesFollow }
 {}
+
+/// Along a run, however it ended, each state of the list is whole, before each line and after it.
+pub fn runs_stay_whole()
+    ensures ended { RunsStayWhole }
+    ensures stopped { StopsStayWhole }
+{}
+
+/// What a line saves of a whole state spells its stack, and is read back as it.
+pub fn saves_spell()
+    ensures { SavesSpell }
+{
+    written_is_read();
+}

@@ -7,7 +7,8 @@ mod limits;
 mod transcript;
 
 pub use law::{
-    lines_follow, moves_follow, opens_follow, plugs_follow, runs_follow, saves_follow, stops_follow,
+    lines_follow, messages_follow, moves_follow, opens_follow, plugs_follow, runs_follow,
+    runs_stay_whole, saves_follow, saves_spell, stops_follow,
 };
 pub use limits::{MOST_BYTES, MOST_LINES};
 pub use transcript::{Ran, RunFault, run};

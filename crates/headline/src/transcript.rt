@@ -121,11 +121,13 @@ fn take_line<E: External, D: Desk>(
     ensures { Takes line.now (session.old, D.seen desk.old) result
         (session.new, D.seen desk.new) }
 {
+    session.law_of_states();
     let Reply {
         shown,
         sent,
         ending,
     } = session.line(line);
+    session.law_of_states();
     tell(desk, &sent);
     let ending = settle(desk, ending);
     let reply = Reply {
