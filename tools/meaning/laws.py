@@ -1,5 +1,5 @@
 #!/usr/bin/env python3
-"""Writes what runs replace, specs/Replaced.antt of the crate run_laws, and the proofs of its laws, each an induction over
+"""Writes what runs replace, specs/Replaced.antt of the crate preservation, and the proofs of its laws, each an induction over
 the rules of the table meaning.rules: proofs/Bases.antt, proofs/Rises.antt, proofs/Runs.antt and proofs/Wholes.antt. With
 --check it writes nothing, and ends with 1 where a file isn't what it would write.
 
@@ -125,10 +125,10 @@ class Law:
 
 class Replaced(Law):
     prefix, path, is_proof = "replaced", "specs/Replaced.antt", False
-    title = "-- What a run replaces, in order: its derivation says it.\npub use Rattle.run_laws.specs.Rising.{RisesBy}\n"
+    title = "-- What a run replaces, in order: its derivation says it.\npub use Rattle.preservation.specs.Rising.{RisesBy}\n"
     uses = """use Rattle.std.specs.Prelude.{List, [], ◌++◌}
 use Rattle.journal_entries.specs.Replaced.{Replacement}
-use Rattle.run_laws.specs.Changes.{replaced_made, replaced_turn, replaced_edits, replaced_assigns, replaced_declares_all, replaced_sets, replaced_adds}"""
+use Rattle.preservation.specs.Changes.{replaced_made, replaced_turn, replaced_edits, replaced_assigns, replaced_declares_all, replaced_sets, replaced_adds}"""
     says = "{binders} → {derivation} → List Replacement"
     nothing = "[]"
 
@@ -142,9 +142,9 @@ class Bases(Law):
     uses = """use Rattle.std.proofs.Common.{◌≡◌, refl, ◌∙◌}
 use Rattle.containers.specs.Base.{base}
 use Rattle.containers.proofs.Bases.{made_keeps as base_made, took_keeps as base_turn}
-use Rattle.run_laws.specs.Laws.{HasMemory}
-use Rattle.run_laws.proofs.Ends.{given, stopped, faulted, exited}
-use Rattle.run_laws.proofs.Kept.{base_edits, base_assigns, base_declares_all, base_sets, base_adds}"""
+use Rattle.preservation.specs.Laws.{HasMemory}
+use Rattle.preservation.proofs.Ends.{given, stopped, faulted, exited}
+use Rattle.preservation.proofs.Kept.{base_edits, base_assigns, base_declares_all, base_sets, base_adds}"""
     says = "{binders} → {derivation} → HasMemory {end} → base w2 ≡ base w"
     nothing, join = "refl", "{rest} ∙ {part}"
 
@@ -153,11 +153,11 @@ class Rises(Law):
     prefix, path = "rises", "proofs/Rises.antt"
     title = "-- What is open rises by what is replaced.\n"
     uses = """use Rattle.std.proofs.Common.{refl}
-use Rattle.run_laws.specs.Laws.{HasMemory}
-use Rattle.run_laws.specs.Rising.{RisesBy}
-use Rattle.run_laws.specs.Replaced.{%s}
-use Rattle.run_laws.proofs.Ends.{given, stopped, faulted, exited}
-use Rattle.run_laws.proofs.Risen.{rises_nothing, rises_trans, rises_made, rises_turn, rises_edits, rises_assigns, rises_declares_all, rises_sets, rises_adds}""" % ", ".join("replaced_" + snake(name) for name in FAMILIES)
+use Rattle.preservation.specs.Laws.{HasMemory}
+use Rattle.preservation.specs.Rising.{RisesBy}
+use Rattle.preservation.specs.Replaced.{%s}
+use Rattle.preservation.proofs.Ends.{given, stopped, faulted, exited}
+use Rattle.preservation.proofs.Risen.{rises_nothing, rises_trans, rises_made, rises_turn, rises_edits, rises_assigns, rises_declares_all, rises_sets, rises_adds}""" % ", ".join("replaced_" + snake(name) for name in FAMILIES)
     says = "{binders} (v : {derivation}) → HasMemory {end} → RisesBy (replaced_{name} v) w.start w2.start"
     nothing, join = "rises_nothing", "rises_trans ({part}) ({rest})"
 
@@ -166,9 +166,9 @@ class Runs(Law):
     prefix, path = "goes", "proofs/Runs.antt"
     title = "-- A run goes on: no step comes back, and what is shown and sent only grows.\n"
     uses = """use Rattle.std.proofs.Common.{refl}
-use Rattle.run_laws.specs.Laws.{HasMemory, GoesOn}
-use Rattle.run_laws.proofs.Ends.{given, stopped, faulted, exited}
-use Rattle.run_laws.proofs.Going.{goes_nowhere, goes_trans, goes_by_step, goes_by_shows, goes_by_noted, goes_by_property, goes_by_ends, goes_by_returned}"""
+use Rattle.preservation.specs.Laws.{HasMemory, GoesOn}
+use Rattle.preservation.proofs.Ends.{given, stopped, faulted, exited}
+use Rattle.preservation.proofs.Going.{goes_nowhere, goes_trans, goes_by_step, goes_by_shows, goes_by_noted, goes_by_property, goes_by_ends, goes_by_returned}"""
     says = "{binders} → {derivation} → HasMemory {end} → GoesOn r r2"
     nothing, join = "goes_nowhere", "goes_trans ({part}) ({rest})"
     # What makes another run of one, beside derivations, and what it is made by.
@@ -200,13 +200,13 @@ class Wholes(Law):
     prefix, path = "whole", "proofs/Wholes.antt"
     title = "-- Whole states lead to whole ones.\n"
     uses = """use Rattle.std.proofs.Common.{refl}
-use Rattle.run_laws.specs.Laws.{HasMemory}
-use Rattle.run_laws.specs.Whole.{KeepsWhole}
-use Rattle.run_laws.specs.Replaced.{%s}
-use Rattle.run_laws.proofs.Ends.{given, stopped, faulted, exited}
+use Rattle.preservation.specs.Laws.{HasMemory}
+use Rattle.preservation.specs.Whole.{KeepsWhole}
+use Rattle.preservation.specs.Replaced.{%s}
+use Rattle.preservation.proofs.Ends.{given, stopped, faulted, exited}
 use Rattle.meaning.specs.Places.{it_name}
-use Rattle.run_laws.proofs.Placed.{placed_variable, placed, placed_at, placed_by_name, placed_part}
-use Rattle.run_laws.proofs.StaysWhole.{whole_nothing, whole_trans, may_go, whole_made, whole_turn, whole_edits, whole_assigns, whole_declares_all, whole_sets, whole_adds}""" % ", ".join("replaced_" + snake(name) for name in FAMILIES)
+use Rattle.preservation.proofs.Placed.{placed_variable, placed, placed_at, placed_by_name, placed_part}
+use Rattle.preservation.proofs.StaysWhole.{whole_nothing, whole_trans, may_go, whole_made, whole_turn, whole_edits, whole_assigns, whole_declares_all, whole_sets, whole_adds}""" % ", ".join("replaced_" + snake(name) for name in FAMILIES)
     says = "{binders} (v : {derivation}) → HasMemory {end} → KeepsWhole (replaced_{name} v) w w2"
     nothing, join = "whole_nothing", "whole_trans ({part}) ({rest})"
     # What tells of a place that a global there is named by a folded name, and of a change that it fits: a premise, or the
@@ -253,7 +253,7 @@ use Rattle.run_laws.proofs.StaysWhole.{whole_nothing, whole_trans, may_go, whole
 
 def main():
     laws = [Replaced(), Bases(), Rises(), Runs(), Wholes()]
-    write("run_laws", {law.path: law.file() for law in laws}, "laws.py")
+    write("preservation", {law.path: law.file() for law in laws}, "laws.py")
     print("%d laws over %d families" % (len(laws), len(TABLE)))
 
 

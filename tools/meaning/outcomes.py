@@ -1,6 +1,6 @@
 #!/usr/bin/env python3
 """Writes the meanings of the families of rules with fuel, specs/Families.antt and specs/Meanings.antt of the crate
-one_outcome, and the proof that they are what the rules allow, proofs/Outcomes.antt: an induction over the rules of the
+definitional_interpreter, and the proof that they are what the rules allow, proofs/Outcomes.antt: an induction over the rules of the
 table meaning.rules. With --check it writes nothing, and ends with 1 where a file isn't what it would write.
 """
 
@@ -41,7 +41,7 @@ def computed_type(family):
 def families_file():
     text = "pub record Meanings : Type 0 where\n"
     text += "".join("  pub %s : %s\n" % (snake(family["name"]), computed_type(family)) for family in TABLE)
-    uses = "use Rattle.one_outcome.specs.Told.{Present, Told, Ran}"
+    uses = "use Rattle.definitional_interpreter.specs.Told.{Present, Told, Ran}"
     return "-- What each family of rules comes to, computed: from a state, a run, a frame and a tree.\n" + imports(uses, text) + "\n" + text
 
 
@@ -73,8 +73,8 @@ def meanings_file():
     text = "-- without fuel nothing is known\nabbrev pub nothing : Meanings\nnothing = %s\n" % nothing
     text += "\n-- each part from the meanings of its parts\nabbrev pub one_more : Meanings → Meanings\none_more m = %s\n" % step
     text += "\n-- the meanings that so many nested parts can tell\nunfoldable pub meanings : ℕ → Meanings\nmeanings zero = nothing\nmeanings (suc parts) = one_more (meanings parts)\n"
-    uses = "use Rattle.std.specs.Prelude.{ℕ, zero, suc}\nuse Rattle.one_outcome.specs.Told.{unknown, unknown_run}\nuse Rattle.one_outcome.specs.Families.{Meanings}\n"
-    uses += "\n".join(use("Rattle.one_outcome.specs." + name, [snake(f) + "_of" for f in named.split()]) for name, named in FILES.items())
+    uses = "use Rattle.std.specs.Prelude.{ℕ, zero, suc}\nuse Rattle.definitional_interpreter.specs.Told.{unknown, unknown_run}\nuse Rattle.definitional_interpreter.specs.Families.{Meanings}\n"
+    uses += "\n".join(use("Rattle.definitional_interpreter.specs." + name, [snake(f) + "_of" for f in named.split()]) for name, named in FILES.items())
     return "-- The meaning of HyperTalk as a function with fuel.\n" + uses + "\n\n" + text
 
 
@@ -325,20 +325,20 @@ def outcomes_file():
 use Rattle.ht_grammar.specs.Lines.{typed_lines}
 use Rattle.ht_grammar.specs.Reading.{expression}
 use Rattle.ht_grammar.specs.Whole.{sent_message}
-use Rattle.run_laws.specs.Laws.{HasMemory}
-use Rattle.run_laws.proofs.Ends.{given, stopped, faulted, exited}
-use Rattle.one_outcome.specs.Told.{told, ran}
-use Rattle.one_outcome.specs.Changes.{yielded, step, make, edit, assign, declare_all, set_property, add_objects, turn}
-use Rattle.one_outcome.specs.Texts.{parsed, first_found}
-use Rattle.one_outcome.proofs.Comes.{Sight, sight, Comes}
-use Rattle.one_outcome.proofs.Chain.{done, later, after_ok, after_stop, after_in_ok, after_in_stop, after_run_ok, after_run_stop, after_lines_ok, after_lines_stop, after_next_ok, after_next_stop, after_next_leaves, choose_true, choose_false, maybe_some, maybe_none, computed_ok, computed_err, below, at_least, at_limit, gives_outcome, there_ok, there_none, there_stop, ends_lines, ends_message, refers_to}
-use Rattle.one_outcome.proofs.Leaves.{yields, parses_expression, parses_typed_lines, parses_sent_message, steps, finds, makes, takes_turn, sets, adds, edits, assigns, declares_all, HasExternal, named_there, there_after, asks_back, talk_back}
+use Rattle.preservation.specs.Laws.{HasMemory}
+use Rattle.preservation.proofs.Ends.{given, stopped, faulted, exited}
+use Rattle.definitional_interpreter.specs.Told.{told, ran}
+use Rattle.definitional_interpreter.specs.Changes.{yielded, step, make, edit, assign, declare_all, set_property, add_objects, turn}
+use Rattle.definitional_interpreter.specs.Texts.{parsed, first_found}
+use Rattle.definitional_interpreter.proofs.Comes.{Sight, sight, Comes}
+use Rattle.definitional_interpreter.proofs.Chain.{done, later, after_ok, after_stop, after_in_ok, after_in_stop, after_run_ok, after_run_stop, after_lines_ok, after_lines_stop, after_next_ok, after_next_stop, after_next_leaves, choose_true, choose_false, maybe_some, maybe_none, computed_ok, computed_err, below, at_least, at_limit, gives_outcome, there_ok, there_none, there_stop, ends_lines, ends_message, refers_to}
+use Rattle.definitional_interpreter.proofs.Leaves.{yields, parses_expression, parses_typed_lines, parses_sent_message, steps, finds, makes, takes_turn, sets, adds, edits, assigns, declares_all, HasExternal, named_there, there_after, asks_back, talk_back}
 use Rattle.meaning.specs.Meaning.{%s}""" % ", ".join(FAMILIES)
     return "-- What the rules allow is what the meanings come to.\n" + imports(uses, text) + text
 
 
 def main():
-    write("one_outcome", {"specs/Families.antt": families_file(), "specs/Meanings.antt": meanings_file(), "proofs/Outcomes.antt": outcomes_file()}, "outcomes.py")
+    write("definitional_interpreter", {"specs/Families.antt": families_file(), "specs/Meanings.antt": meanings_file(), "proofs/Outcomes.antt": outcomes_file()}, "outcomes.py")
     print("one outcome over %d families" % len(TABLE))
 
 

@@ -10,9 +10,9 @@ from tree import HERE
 
 WRITTEN = re.compile(r"(?:-- |<!-- )Written by (tools/\S+) from (\S+?)[.,]?\s")
 PAGES = ("DEFINITIONS", "INVARIANTS", "MEANING")
-RULES = ("meaning/specs/Meaning", "meaning/proofs/Rules", "run_laws/specs/Replaced", "run_laws/proofs/Bases",
-         "run_laws/proofs/Rises", "run_laws/proofs/Runs", "one_outcome/specs/Families", "one_outcome/specs/Meanings",
-         "one_outcome/proofs/Outcomes")
+RULES = ("meaning/specs/Meaning", "meaning/proofs/Rules", "preservation/specs/Replaced", "preservation/proofs/Bases",
+         "preservation/proofs/Rises", "preservation/proofs/Runs", "definitional_interpreter/specs/Families", "definitional_interpreter/specs/Meanings",
+         "definitional_interpreter/proofs/Outcomes")
 
 
 def first_line(path: str) -> str:

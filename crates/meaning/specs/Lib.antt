@@ -6,3 +6,4 @@ pub mod Menu
 pub mod Messages
 pub mod Actions
 pub mod Meaning
+pub mod Locked

@@ -11,11 +11,11 @@ use Rattle.meaning.specs.Actions.{Action}
 use Rattle.meaning.specs.Meaning.{Acts}
 use Rattle.meaning.specs.declared.end.Ended.{Ended}
 use Rattle.meaning.specs.declared.end.Stop.{Stop}
-use Rattle.run_laws.specs.Laws.{HasMemory}
-use Rattle.run_laws.specs.Replaced.{replaced_acts}
-use Rattle.run_laws.proofs.Commands.{risen}
-use Rattle.run_laws.proofs.Rises.{rises_acts}
-use Rattle.run_laws.proofs.Trails.{short_after}
+use Rattle.preservation.specs.Laws.{HasMemory}
+use Rattle.preservation.specs.Replaced.{replaced_acts}
+use Rattle.preservation.proofs.Commands.{risen}
+use Rattle.preservation.proofs.Rises.{rises_acts}
+use Rattle.preservation.proofs.Trails.{short_after}
 use Rattle.session.specs.Meaning.{ending_of, reply_of}
 use Rattle.session.specs.Replies.{refused}
 use Rattle.session.specs.TakesLine.{Adds, Does}

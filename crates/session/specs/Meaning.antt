@@ -11,7 +11,7 @@ use Rattle.meaning.specs.declared.end.Stop.TheVariants as stop
 use Rattle.session.specs.declared.reply.Ending.{Ending}
 use Rattle.session.specs.declared.reply.Ending.TheVariants as endings
 use Rattle.session.specs.declared.reply.Reply.{Reply}
-use Rattle.user_actions.specs.Views.{MeetsLock}
+use Rattle.meaning.specs.Locked.{MeetsLock}
 
 -- How a command is answered that ended so: `exit to HyperCard` is no fault. One that is out of memory isn't a fresh command.
 abbrev pub ending_of : Result Ended Stop → Option Ending

@@ -5,8 +5,8 @@ use Rattle.journal_entries.specs.Trails.{IsOnce, IsShort, different}
 use Rattle.change_journal.specs.History.{History, Open, begun, committed}
 use Rattle.meaning.specs.Actions.{Action}
 use Rattle.meaning.specs.State.{RunState, fresh_run}
-use Rattle.run_laws.specs.Replaced.{replaced_acts}
-use Rattle.run_laws.specs.Rising.{TrailAfter}
+use Rattle.preservation.specs.Replaced.{replaced_acts}
+use Rattle.preservation.specs.Rising.{TrailAfter}
 use Rattle.session.specs.Commands.{is_dot_line, command_in, behind_name, second, words, ReadsAction}
 use Rattle.session.specs.Meaning.{Runs}
 use Rattle.session.specs.Moves.{undone, redone, undone_to}
@@ -21,7 +21,7 @@ use Rattle.session.specs.declared.limits.TheConstants.{LONGEST_LINE}
 use Rattle.session.specs.declared.reply.Refusal.TheVariants.{NothingToUndo, NothingToRedo, BadCommand, NoMemory, LineTooLong, FieldLocked}
 use Rattle.session.specs.declared.reply.Ending.TheVariants as endings
 use Rattle.session.specs.declared.reply.Reply.{Reply}
-use Rattle.user_actions.specs.Views.{MeetsLock}
+use Rattle.meaning.specs.Locked.{MeetsLock}
 
 -- A fresh command adds the state that it leaves, in place of all after the cursor. The step to it weighs no more
 -- than what the command replaced, and has each place once between what is made, removed or an external's: so with t turns

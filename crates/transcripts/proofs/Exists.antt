@@ -39,8 +39,8 @@ use Rattle.headline.specs.Headline.{Snapshot, Timeline, followed_by, Commands, a
 use Rattle.headline.specs.InputLines.{AreLines, all_lines}
 use Rattle.headline.specs.Saving.{Kept, Settles}
 use Rattle.headline.proofs.Sessions.{split_of}
-use Rattle.some_outcome.specs.Replies.{RepliesExist}
-use Rattle.some_outcome.proofs.Leaves.{read_or_not}
+use Rattle.transcripts.specs.Replies.{RepliesExist}
+use Rattle.totality.proofs.Leaves.{read_or_not}
 use Rattle.transcripts.specs.Laws.{Succeeds, Transcript, HasPresent, TranscriptsExist, OutputsExist}
 
 -- what the laws below give

@@ -4,9 +4,9 @@ use Rattle.std.specs.Prelude.{take, drop, MatchBool, nat_lt, length, option_map}
 use Rattle.std.specs.List.{AllByRecursion}
 use Rattle.journal_entries.specs.State.{State}
 use Rattle.meaning.specs.Actions.{Action}
-use Rattle.one_outcome.specs.Laws.{sorts_of, sorts, NoneIsFree}
-use Rattle.one_outcome.proofs.Comes.{Sight}
-use Rattle.one_outcome.proofs.Outcomes.{acts_comes}
+use Rattle.definitional_interpreter.specs.Laws.{sorts_of, sorts, NoneIsFree}
+use Rattle.definitional_interpreter.proofs.Comes.{Sight}
+use Rattle.definitional_interpreter.proofs.Outcomes.{acts_comes}
 use Rattle.session.specs.Commands.{is_dot_line, command_in, behind_name, second as second_word, words}
 use Rattle.session.specs.declared.command.Command.{Command}
 use Rattle.session.specs.declared.command.Command.TheVariants.{Undo, Redo, UndoTo, Show, Globals, Where, Cells, History as HistoryCommand, Save, Act, Quit}

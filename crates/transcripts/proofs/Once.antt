@@ -15,14 +15,14 @@ use Rattle.meaning.specs.Actions as act
 use Rattle.meaning.specs.Actions.{Action, locks_text}
 use Rattle.meaning.specs.Meaning.{Refers, TypesInto, Acts}
 use Rattle.meaning.specs.State.{RunState}
-use Rattle.run_laws.specs.Laws.{HasMemory}
-use Rattle.user_actions.specs.Views.{MeetsLock}
-use Rattle.one_outcome.specs.Laws.{sorts_of, sorts, NoneIsFree}
-use Rattle.one_outcome.specs.Meanings.{meanings}
-use Rattle.one_outcome.specs.Replies.{RepliesAreOne}
-use Rattle.one_outcome.specs.Told.{told}
-use Rattle.one_outcome.proofs.Comes.{AreExact, Sight, sight}
-use Rattle.one_outcome.proofs.Outcomes.{refers_comes}
+use Rattle.preservation.specs.Laws.{HasMemory}
+use Rattle.meaning.specs.Locked.{MeetsLock}
+use Rattle.definitional_interpreter.specs.Laws.{sorts_of, sorts, NoneIsFree}
+use Rattle.definitional_interpreter.specs.Meanings.{meanings}
+use Rattle.transcripts.specs.Replies.{RepliesAreOne}
+use Rattle.definitional_interpreter.specs.Told.{told}
+use Rattle.definitional_interpreter.proofs.Comes.{AreExact, Sight, sight}
+use Rattle.definitional_interpreter.proofs.Outcomes.{refers_comes}
 use Rattle.session.specs.Commands.{ReadsAction, typing, is_dot_line, command_in, behind_name, second as second_word, words}
 use Rattle.session.specs.declared.command.Command.{Command}
 use Rattle.session.specs.declared.command.Command.TheVariants.{Undo, Redo, UndoTo, Show, Globals, Where, Cells, History as HistoryCommand, Save, Act, Quit}

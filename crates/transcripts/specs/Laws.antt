@@ -2,7 +2,7 @@
 use Rattle.std.specs.Prelude.{◌≡◌, ◌≢◌, ℕ, ◌<◌, List, length}
 use Rattle.std.specs.List.{AllByRecursion}
 use Rattle.devices.specs.Desks.{SeenDesk}
-use Rattle.one_outcome.specs.Laws.{IsFixed, sorts_of, NoneIsFree}
+use Rattle.definitional_interpreter.specs.Laws.{IsFixed, sorts_of, NoneIsFree}
 use Rattle.session.specs.declared.reply.Ending.TheVariants.{Refused}
 use Rattle.session.specs.declared.reply.Refusal.TheVariants.{NoMemory, SaveFailed}
 use Rattle.session.specs.declared.reply.Reply.{Reply}

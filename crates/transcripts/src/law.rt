@@ -1,14 +1,31 @@
 //! Laws of transcripts.
 
-ghost use Rattle.transcripts.specs.Laws.{TranscriptsExist, OutputsExist, TranscriptsAreOne, OutputsAreOne, KitIsFixed};
+ghost use Rattle.transcripts.specs.Laws.{TranscriptsExist, OutputsExist, TranscriptsAreOne, OutputsAreOne};
+ghost use Rattle.transcripts.specs.Laws.{KitIsFixed};
+ghost use Rattle.transcripts.specs.Replies.{RepliesAreOne, RepliesExist};
 
+use determinism::runs_have_one_outcome;
 use ht_grammar::{
     expressions_are_read_exactly, lines_are_read_exactly, messages_are_read_exactly,
     parts_are_read_exactly, scripts_are_read_exactly, typing_is_read_exactly,
 };
 use ht_lex::texts_are_cut_exactly;
-use one_outcome::replies_are_one;
-use some_outcome::replies_exist;
+use totality::runs_have_an_outcome;
+
+/// Two replies to one fresh command, in one state where no external is free, are the same, and so are the states after it.
+pub fn replies_are_one()
+    ensures { RepliesAreOne }
+{
+    runs_have_one_outcome();
+}
+
+/// Each fresh command has a reply, with a state after it, in any state and with any number of steps; but for a text that is
+/// typed into a locked field.
+pub fn replies_exist()
+    ensures { RepliesExist }
+{
+    runs_have_an_outcome();
+}
 
 /// Each list of lines, and so each input, has answers none of which is refused for memory or for its file, from any list of
 /// whole states on, if the cursor stands on one of them, and from any desk.

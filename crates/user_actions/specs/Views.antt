@@ -1,5 +1,5 @@
 -- What a user does, and how it ends.
-use Rattle.std.specs.Prelude.{◌≡◌, ℕ, ◌≤◌, List, true, Option, Some, None, Result, Ok, Err}
+use Rattle.std.specs.Prelude.{ℕ, ◌≤◌, List, Option, Some, None, Result, Ok, Err}
 use Rattle.ht_grammar.specs.Depth.{max_depth, part_depth}
 use Rattle.ht_grammar.specs.Trees.{Part}
 use Rattle.ht_tree.specs.StatementView.{stmts_of}
@@ -8,8 +8,8 @@ use Rattle.change_journal.specs.History.{History}
 use Rattle.meaning.specs.declared.end.Ended.{Ended}
 use Rattle.meaning.specs.declared.end.Stop.{Stop}
 use Rattle.meaning.specs.Actions as act
-use Rattle.meaning.specs.Actions.{locks_text}
-use Rattle.meaning.specs.Meaning.{Acts, Refers, TypesInto}
+use Rattle.meaning.specs.Meaning.{Acts, TypesInto}
+use Rattle.meaning.specs.Locked.{IsLocked, MeetsLock}
 use Rattle.meaning.specs.State.{RunState}
 use Rattle.user_actions.specs.declared.action.Action.{Action}
 use Rattle.user_actions.specs.declared.action.Action.TheVariants.{RunLines, OpenStack, Click, TypeText}
@@ -26,20 +26,11 @@ Fits (act.click reference) = part_depth reference ≤ max_depth
 Fits (act.type_text text reference) = part_depth reference ≤ max_depth
 Fits _ = Unit {0}
 
--- the reference leads to a field whose text is locked
-abbrev pub IsLocked : History → RunState → Part → History → RunState → Type 0
-IsLocked w r reference w2 r2 = (field : ℕ) × Refers w r reference (Ok (Some field)) w2 r2 × (locks_text w2.now.stack field ≡ true)
-
 -- typing ends so, or doesn't begin, as the field is locked
 abbrev pub TypingEnds : History → RunState → List ℕ → Part → Result (Option Ended) Stop → History → RunState → Type 0
 TypingEnds w r text reference (Ok (Some ended)) w2 r2 = TypesInto w r text reference (Ok ended) w2 r2
 TypingEnds w r text reference (Ok None) w2 r2 = IsLocked w r reference w2 r2
 TypingEnds w r text reference (Err stop) w2 r2 = TypesInto w r text reference (Err stop) w2 r2
-
--- an action is refused that types into a locked field
-abbrev pub MeetsLock : History → RunState → act.Action → History → RunState → Type 0
-MeetsLock w r (act.type_text text reference) w2 r2 = IsLocked w r reference w2 r2
-MeetsLock w r _ w2 r2 = ⊥
 
 -- an action ends so, or is refused for a locked field
 abbrev pub ActionEnds : History → RunState → act.Action → Result (Option Ended) Stop → History → RunState → Type 0

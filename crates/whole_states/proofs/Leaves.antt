@@ -62,7 +62,7 @@ use Rattle.meaning.specs.Places.{Edits, Assigns, DeclaresAll, Sets, Adds, field_
 use Rattle.meaning.specs.Repeats.{Outcome, returned, ends, leaves_repeat}
 use Rattle.meaning.specs.State.{RunState, Step, shows, noted, run_property_set, run_property, bound, handler_frame}
 use Rattle.meaning.specs.Values.{Yields, Parses}
-use Rattle.run_laws.specs.Laws.{HasMemory}
+use Rattle.preservation.specs.Laws.{HasMemory}
 use Rattle.whole_states.specs.Texts.{RunTexts, LocalsTexts, FrameTexts, StorageTexts, HowTexts, InputTexts, AskTexts, IsFixed, sorts_of, IsWhole, HandlerTexts, HandlersTexts, StmtsTexts, TreesHaveTexts}
 use Rattle.whole_states.proofs.TreeTexts.{scripts_have_texts}
 use Rattle.whole_states.proofs.ValueTexts.{given_text, empty_text, word_text, byte_text, EditTexts}

@@ -6,11 +6,11 @@ use Rattle.ht_values.specs.Text.{IsText}
 use Rattle.chunks.specs.Laws.{PartsCut}
 use Rattle.meaning.specs.Places.{it_name}
 use Rattle.meaning.specs.Messages.{parameters_of}
-use Rattle.run_laws.specs.Laws.{HasMemory}
-use Rattle.run_laws.proofs.Bases.{base_calls_back}
+use Rattle.preservation.specs.Laws.{HasMemory}
+use Rattle.preservation.proofs.Bases.{base_calls_back}
 use Rattle.containers.proofs.Bases.{took_keeps as base_turn}
-use Rattle.run_laws.proofs.Ends.{given, stopped, faulted, exited}
-use Rattle.run_laws.proofs.StaysWhole.{may_go}
+use Rattle.preservation.proofs.Ends.{given, stopped, faulted, exited}
+use Rattle.preservation.proofs.StaysWhole.{may_go}
 use Rattle.whole_states.specs.Texts.{IsWhole, RunTexts, FrameTexts, StorageTexts, HowTexts, InputTexts, AskTexts, ActionTexts, ExprTexts, ExprsTexts, ChunkTexts, ContainerTexts, WhichTexts, SelectorTexts, OwnerTexts, PartTexts, RefTexts, StmtTexts, StmtsTexts, DestinationTexts, MessageTexts}
 use Rattle.whole_states.proofs.TreeTexts.{expressions_have_texts, lines_have_texts, messages_have_texts}
 use Rattle.whole_states.proofs.ValueTexts.{empty_text, word_text, constant_is, numeral_text, binary_text, unary_text, built_in_text, read_text}

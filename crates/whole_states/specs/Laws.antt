@@ -11,7 +11,7 @@ use Rattle.meaning.specs.State.{RunState}
 use Rattle.meaning.specs.declared.end.Ended.{Ended}
 use Rattle.meaning.specs.declared.end.Stop.{Stop}
 use Rattle.meaning.specs.declared.frame.Frame.{Frame}
-use Rattle.run_laws.specs.Laws.{HasMemory}
+use Rattle.preservation.specs.Laws.{HasMemory}
 use Rattle.whole_states.specs.Texts.{IsWhole, RunTexts, FrameTexts, ExprTexts, PartTexts, StmtsTexts, ActionTexts}
 
 -- The lines of a command, whatever the handlers and externals that they reach: each state of the history after them is whole.

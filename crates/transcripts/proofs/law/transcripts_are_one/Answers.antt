@@ -1,4 +1,4 @@
-use Rattle.one_outcome.proofs.One.{exactly}
+use Rattle.definitional_interpreter.proofs.Computed.{exactly}
 use Rattle.transcripts.proofs.One.{one_transcript, one_output, kit_is_fixed}
 use Rattle.transcripts.proofs.law.transcripts_are_one.Goals as goal
 

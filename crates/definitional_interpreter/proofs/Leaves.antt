@@ -1,0 +1,438 @@
+-- What a rule makes beside its parts has one outcome: texts, steps, edits, objects and turns.
+use Rattle.std.proofs.Common.{◌≡◌, ℕ, zero, suc, ◌+◌, ◌-◌, ◌<◌, List, [], ◌∷◌, ◌++◌, length, map, Bool, true, false}
+use Rattle.std.proofs.Common.{Option, Some, None, Result, Ok, Err, refl, sym, ap, subst, ◌∙◌, arith}
+use Rattle.std.specs.Prelude.{slice_index_or, slice_set, option_map, IfSome, if◌then◌else◌}
+use Rattle.ht_values.specs.declared.fault.Fault.{Fault}
+use Rattle.ht_values.specs.declared.fault.Fault.TheVariants.{StepLimit, TooMany, Syntax}
+use Rattle.ht_values.specs.Text.{folded}
+use Rattle.std.specs.FinMap.{get}
+use Rattle.ht_values.specs.declared.word.Prop.{Prop}
+use Rattle.externals.specs.declared.external.Ask.{Ask}
+use Rattle.externals.specs.declared.external.Ask.TheVariants.{SendCardMessage, EvalExpr, SetGlobal, SetFieldByName}
+use Rattle.externals.specs.declared.external.Ask.TheVariants.{Done, Fail}
+use Rattle.externals.specs.declared.external.Input.{Input}
+use Rattle.journal_entries.specs.declared.change.Change.{Change}
+use Rattle.journal_entries.specs.declared.change.Change.TheVariants as changes
+use Rattle.stack_places.specs.Places.{number}
+use Rattle.structural_changes.specs.Writes.{StackWrite, following, writes_of_new_part, writes_of_new_card}
+use Rattle.structural_changes.specs.Writes.{writes_of_new_background, writes_of_deletion}
+use Rattle.journal_entries.specs.Changes.{changed, makes_current}
+use Rattle.journal_entries.specs.Places.{Write, put, put_all, in_stack, current_card, in_the_stack}
+use Rattle.journal_entries.specs.State.{State, seen_at}
+use Rattle.journal_entries.specs.Exchange.{with_cells}
+use Rattle.journal_entries.specs.Turning.{with_cells_at, one_more_at}
+use Rattle.change_journal.specs.History.{History}
+use Rattle.change_journal.specs.Rising.{Made, TookTurn}
+use Rattle.containers.specs.declared.edit.Edit.{Edit}
+use Rattle.containers.specs.Places.{StorageView, PlaceView}
+use Rattle.containers.specs.Variables.{VariablesView, declared}
+use Rattle.containers.specs.Writes.{Writes, Declares}
+use Rattle.object_references.specs.declared.referent.Referent.{Referent}
+use Rattle.meaning.specs.declared.end.Stop.{Stop}
+use Rattle.meaning.specs.declared.end.Stop.TheVariants.{Fault as Faults}
+use Rattle.meaning.specs.declared.frame.Frame.{Frame}
+use Rattle.meaning.specs.Places.{Edits, Assigns, DeclaresAll, Sets, Adds}
+use Rattle.meaning.specs.State.{RunState, Step}
+use Rattle.meaning.specs.Values.{Yields}
+use Rattle.preservation.specs.Laws.{HasMemory}
+use Rattle.definitional_interpreter.specs.Told.{Present, Told, told, ran, after, maybe, computed, choose}
+use Rattle.definitional_interpreter.specs.Changes.{with_global, yielded, step_by, step, made, make, with_variables, written, edit_by}
+use Rattle.definitional_interpreter.specs.Changes.{edit, assign, declare_all, set_property, add_objects, turn_by, turn}
+use Rattle.definitional_interpreter.specs.Families.{Meanings}
+use Rattle.definitional_interpreter.specs.Laws.{sorts_of, sorts, IsFixed, NoneIsFree}
+use Rattle.definitional_interpreter.proofs.Comes.{AreExact, Sight, sight, Comes}
+use Rattle.ht_lex.specs.declared.tokens.Span.{Span}
+use Rattle.ht_lex.specs.Cutting.{spans_of, CutsExactly}
+use Rattle.ht_lex.specs.Token.{Token, token_in}
+use Rattle.ht_grammar.specs.declared.vocabulary.HandlerKind.{HandlerKind}
+use Rattle.ht_grammar.specs.Handlers.{handler_in}
+use Rattle.ht_grammar.specs.Laws.{ReadsExactly}
+use Rattle.ht_grammar.specs.Lines.{typed_lines}
+use Rattle.ht_grammar.specs.Reading.{expression}
+use Rattle.ht_grammar.specs.Reads.{Reads, ReadsExpr, ReadsLines, ReadsMessage, ReadsScript}
+use Rattle.ht_grammar.specs.Statements.{Stmts, Message}
+use Rattle.ht_grammar.specs.Trees.{Expr}
+use Rattle.ht_grammar.specs.Whole.{script, sent_message}
+use Rattle.object_table.specs.Content.{Content}
+use Rattle.externals.specs.Cells.{Seen, none_seen}
+use Rattle.msg_path.specs.BuiltIns.{external_named, answers}
+use Rattle.journal_entries.specs.ScriptTrees.{object_script}
+use Rattle.msg_path.specs.Handlers.{Found, First}
+use Rattle.meaning.specs.declared.end.Conversed.{Conversed}
+use Rattle.meaning.specs.Meaning.{CallsBack}
+use Rattle.meaning.specs.Messages.{Finds}
+use Rattle.meaning.specs.Values.{Parses}
+use Rattle.definitional_interpreter.specs.Texts.{read_by, or_syntax, parsed, handled, first_found}
+use Rattle.definitional_interpreter.specs.Messages.{talk_by}
+use Rattle.definitional_interpreter.proofs.Chain.{done}
+
+-- the outcome as it is said, of the one that is computed
+said : {g : Sight} {X : Type 0} {w w2 : History} {F : Meanings → X} {x y : X} → x
+    ≡ y → Comes g w F x w2 → Comes g w F y w2
+said {g} {w = w} {w2 = w2} {F = F} is h = subst (λ x. Comes g w F x w2) is h
+
+pub yields : {g : Sight} {A : Type 0} {c : Result A Fault} {o : Result A Stop} {w : History} {r : RunState} →
+    Yields c o → HasMemory o → Comes g w (λ parts. told (yielded c) (sight g w) r) (told o (sight g w) r) w
+yields Yields.yields_memory has = absurd (has refl)
+yields {g} {w = w} {r = r} (Yields.yields is) has = said (ap (λ c. told (yielded c) (sight g w) r) is) done
+yields {g} {w = w} {r = r} (Yields.faults is) has = said (ap (λ c. told (yielded c) (sight g w) r) is) done
+
+step_is : (n : ℕ) (w : Present) (r : RunState) → 0 < n → step_by n w r ≡ told (Ok tt) w (record r { left = r.left - 1 })
+step_is zero w r is = absurd (omega (arith, is))
+step_is (suc n) w r is = refl
+
+pub steps : {g : Sight} {r r1 : RunState} {o : Result (Unit {0}) Stop} {w : History} → Step r o r1 → HasMemory o →
+    Comes g w (λ parts. step (sight g w) r) (told o (sight g w) r1) w
+steps {g} {r} {r1} {w = w} (Step.taken some is) has =
+    said (ap (told (Ok tt) (sight g w)) (sym is))
+    (subst (λ t. Comes g w (λ parts. t) (told (Ok tt) (sight g w) (record r { left = r.left - 1 })) w)
+    (sym (step_is r.left (sight g w) r some)) done)
+steps {g} {r} {w = w} (Step.none_left is) has =
+    subst (λ n. Comes g w (λ parts. step_by n (sight g w) r) (told (Err (Faults StepLimit)) (sight g w) r) w)
+    (sym is) done
+
+-- ---- changes keep the externals
+
+externals-put : (s : State) (ws : List StackWrite) (more : List Write) →
+    ((t : State) → (put_all t more).externals ≡ t.externals) → (put_all s (map in_the_stack ws ++ more)).externals
+    ≡ s.externals
+unfolding put
+externals-put s [] more rest = rest s
+externals-put s (w ∷ ws) more rest = externals-put (put s (in_stack w.place) w.value) ws more rest
+
+externals-stack : (s : State) (ws : List StackWrite) → (put_all s (map in_the_stack ws)).externals ≡ s.externals
+unfolding put
+externals-stack s [] = refl
+externals-stack s (w ∷ ws) = externals-stack (put s (in_stack w.place) w.value) ws
+
+current-put : (card : ℕ) (t : State) → (put_all t (makes_current card ∷ [])).externals ≡ t.externals
+unfolding put
+current-put card t = refl
+
+externals-changed : (s : State) (c : Change) → (changed s c).externals ≡ s.externals
+unfolding put
+externals-changed s (changes.Global name v) = refl
+externals-changed s (changes.FieldText field card t) = refl
+externals-changed s (changes.Hilite button card b) = refl
+externals-changed s (changes.Prop id v) = refl
+externals-changed s (changes.Current card) = refl
+externals-changed s changes.NewCard =
+    externals-put s (writes_of_new_card s.stack s.current) (makes_current s.stack.next ∷ []) (current-put s.stack.next)
+externals-changed s changes.NewBackground =
+    externals-put s (writes_of_new_background s.stack s.current) (makes_current (s.stack.next + 1) ∷ [])
+    (current-put (s.stack.next + 1))
+externals-changed s (changes.NewPart layer kind) = externals-stack s (writes_of_new_part s.stack layer kind)
+externals-changed s changes.DeleteCard =
+    externals-stack (put s current_card (Some (number (following s.current s.stack.cards))))
+    (writes_of_deletion s.stack s.current)
+
+sorts_made : {w w1 : History} {c : Change} → Made w w1 c → sorts w1 ≡ sorts w
+sorts_made {w} {w1} {c} m = ap sorts m.history ∙ ap sorts_of (externals-changed w.now c)
+
+present_made : (g : Sight) {w w1 : History} {c : Change} → Made w w1 c → made (sight g w) c ≡ sight g w1
+present_made g m = sym (ap (sight g) m.history)
+
+-- an outcome that is the same whatever the parts mean
+leaf : {g : Sight} {X : Type 0} {w w1 : History} {x y : X} → sorts w1 ≡ sorts w → x ≡ y → Comes g w (λ parts. x) y w1
+leaf kept is = record { kept = kept; gives = λ exact free. (0, λ fuel le. is) }
+
+pub makes : {g : Sight} {w w1 : History} {c : Change} {r : RunState} → Made w w1 c →
+    Comes g w (λ parts. make (sight g w) r c) (told (Ok tt) (sight g w1) r) w1
+unfolding make
+makes {g} {r = r} m = leaf (sorts_made m) (ap (λ w. told (Ok tt) w r) (present_made g m))
+
+writes : (g : Sight) {w w1 : History} {v : VariablesView} {p : StorageView} {d : Result (Option (List ℕ)) Fault}
+    {r : RunState} {f : Frame} → Writes w f.variables p d w1 v →
+    (sorts w1 ≡ sorts w) × (edit_by (sight g w) r f p d ≡ ran (Ok tt) (sight g w1) r (with_variables f v))
+writes g {w} {p = p} {r = r} {f = f} (Writes.nothing_due is) = (refl, ap (edit_by (sight g w) r f p) is)
+writes g {w} {p = p} {r = r} {f = f} (Writes.to_global {name = name} {t = t} at is m) = (
+  sorts_made m,
+  ap (edit_by (sight g w) r f p) is ∙ ap (λ p. written (sight g w) r f p t) at
+      ∙ ap (λ w. ran (Ok tt) w r f) (present_made g m),
+)
+writes g {w} {p = p} {r = r} {f = f} (Writes.to_own {name = name} {t = t} at is new) = (
+  refl,
+  ap (edit_by (sight g w) r f p) is ∙ ap (λ p. written (sight g w) r f p t) at
+      ∙ ap (λ v. ran (Ok tt) (sight g w) r (with_variables f v)) (sym new),
+)
+writes g {w} {p = p} {r = r} {f = f} (Writes.to_field {t = t} at is m) = (
+  sorts_made m,
+  ap (edit_by (sight g w) r f p) is ∙ ap (λ p. written (sight g w) r f p t) at
+      ∙ ap (λ w. ran (Ok tt) w r f) (present_made g m),
+)
+
+pub edits : {g : Sight} {w w1 : History} {f f1 : Frame} {r : RunState} {p : PlaceView} {e : Edit}
+    {o : Result (Unit {0}) Stop} → Edits w f r.delimiter p e o w1 f1 → HasMemory o →
+    Comes g w (λ parts. edit (sight g w) r f p e) (ran o (sight g w1) r f1) w1
+edits {w} {w1} {f} {f1} {r} {p} {e} Edits.edit_memory has = absurd (has refl)
+edits {g} {w} {w1} {f} {f1} {r} {p} {e} (Edits.edit_faults {n = n} is same frame) has =
+    leaf (ap sorts same)
+    (ap (edit_by (sight g w) r f p.storage) is ∙ ap (λ (v : History). ran (Err (Faults n)) (sight g v) r f) (sym same)
+    ∙ ap (ran (Err (Faults n)) (sight g w1) r) (sym frame))
+edits {g} {w} {w1} {f} {f1} {r} {p} {e} (Edits.edited done_by frame) has =
+    let both = writes g {r = r} {f = f} done_by in leaf both.0 (both.1 ∙ ap (ran (Ok tt) (sight g w1) r) (sym frame))
+
+pub assigns : {g : Sight} {w w1 : History} {f f1 : Frame} {r : RunState} {name : Option (List ℕ)} {v : List ℕ}
+    {o : Result (Unit {0}) Stop} → Assigns w f r.delimiter name v o w1 f1 → HasMemory o →
+    Comes g w (λ parts. assign (sight g w) r f name v) (ran o (sight g w1) r f1) w1
+assigns Assigns.assign_memory has = absurd (has refl)
+assigns {g} {w} {f = f} {r = r} {v = v} (Assigns.no_variable is) has =
+    leaf refl (ap (λ name. assign (sight g w) r f name v) is)
+assigns {g} {w} {w1} {f} {f1} {r} {v = v} {o = o} (Assigns.assigns is e) has =
+    subst (λ name. Comes g w (λ parts. assign (sight g w) r f name v) (ran o (sight g w1) r f1) w1) (sym is)
+    (edits e has)
+
+declares : (g : Sight) {w w1 : History} {v v1 : VariablesView} {name : List ℕ} → Declares w v name w1 v1 →
+    (sorts w1 ≡ sorts w) × (with_global (sight g w) name (get w.now.globals (folded name))
+    ≡ sight g w1) × (declared v name ≡ v1)
+declares g {w} {name = name} (Declares.has_value is new) = (refl, ap (with_global (sight g w) name) is, sym new)
+declares g {w} {name = name} (Declares.is_new is m new) =
+    (sorts_made m, ap (with_global (sight g w) name) is ∙ present_made g m, sym new)
+
+moved : {g : Sight} {X : Type 0} {w w1 w2 : History} {F : Meanings → X} {x : X} → sorts w1
+    ≡ sorts w → Comes g w1 F x w2 → Comes g w F x w2
+moved kept h = record { kept = h.kept ∙ kept; gives = λ exact free. h.gives exact (subst NoneIsFree (sym kept) free) }
+
+pub declares_all : {g : Sight} {w w1 : History} {f f1 : Frame} {r : RunState} {names : List (List ℕ)}
+    {o : Result (Unit {0}) Stop} → DeclaresAll w f names o w1 f1 → HasMemory o →
+    Comes g w (λ parts. declare_all (sight g w) r f names) (ran o (sight g w1) r f1) w1
+declares_all DeclaresAll.declare_memory has = absurd (has refl)
+declares_all {g} {w} {f = f} {r = r} (DeclaresAll.none_declared is) has =
+    leaf refl (ap (declare_all (sight g w) r f) is)
+declares_all {g} {w} {w1 = w2} {f} {f1 = f2} {r} {o = o}
+    (DeclaresAll.declared {w1 = w1} {f1 = f1} {names1 = names} {name = name} {v = v} is d frame rest) has =
+    let all = declares g d in
+    let f_is : f1 ≡ with_variables f (declared f.variables name) = frame ∙ ap (with_variables f) (sym all.2) in
+    let h = moved all.0 (declares_all {r = r} rest has) in
+    subst (λ ns. Comes g w (λ parts. declare_all (sight g w) r f ns) (ran o (sight g w2) r f2) w2) (sym is)
+    (subst
+    (λ f1. Comes g w
+    (λ parts. declare_all (with_global (sight g w) name (get w.now.globals (folded name))) r f1 names)
+    (ran o (sight g w2) r f2) w2) f_is
+    (subst (λ u. Comes g w (λ parts. declare_all u r f1 names) (ran o (sight g w2) r f2) w2) (sym all.1) h))
+
+pub sets : {g : Sight} {w w1 : History} {m : Referent} {p : Prop} {t : List ℕ} {o : Result (Unit {0}) Stop}
+    {r : RunState} → Sets w m p t o w1 → HasMemory o →
+    Comes g w (λ parts. set_property (sight g w) r m p t) (told o (sight g w1) r) w1
+unfolding make
+sets Sets.set_memory has = absurd (has refl)
+sets {g} {w} {r = r} (Sets.set_faults {n = n} is same) has =
+    leaf (ap sorts same)
+    (ap (λ c. computed c (λ c. make (sight g w) r c) (λ n. told (Err (Faults n)) (sight g w) r)) is
+    ∙ ap (λ (v : History). told (Err (Faults n)) (sight g v) r) (sym same))
+sets {g} {w} {r = r} (Sets.set_made is m) has =
+    leaf (sorts_made m)
+    (ap (λ c. computed c (λ c. make (sight g w) r c) (λ n. told (Err (Faults n)) (sight g w) r)) is
+    ∙ ap (λ w. told (Ok tt) w r) (present_made g m))
+
+pub adds : {g : Sight} {w w1 : History} {c : Change} {o : Result (Unit {0}) Stop} {r : RunState} → Adds w c o w1 →
+    HasMemory o → Comes g w (λ parts. add_objects (sight g w) r c) (told o (sight g w1) r) w1
+unfolding make
+adds Adds.add_memory has = absurd (has refl)
+adds {g} {w} {c = c} {r = r} (Adds.too_many is) has =
+    leaf refl (ap (λ b. choose b (λ _. make (sight g w) r c) (λ _. told (Err (Faults TooMany)) (sight g w) r)) is)
+adds {g} {w} {c = c} {r = r} (Adds.adds is m) has =
+    leaf (sorts_made m)
+    (ap (λ b. choose b (λ _. make (sight g w) r c) (λ _. told (Err (Faults TooMany)) (sight g w) r)) is
+    ∙ ap (λ w. told (Ok tt) w r) (present_made g m))
+
+-- ---- externals
+
+pub record HasExternal (w : History) (k : ℕ) : Type 0 where
+  pub there : k < length (sorts w)
+
+-- an external that a message names is there
+named_later : (rest : List ℕ) (found : Option ℕ) (k : ℕ) → ((j : ℕ) → found ≡ Some j → j < length rest) →
+    option_map suc found ≡ Some k → k < suc (length rest)
+named_later rest None k earlier is = cc
+named_later rest (Some j) k earlier is = let before : j < length rest = earlier j refl in let same : suc j
+    ≡ k = cc in omega (arith, before, same)
+
+named_by : (rest : List ℕ) (b : Bool) (found : Option ℕ) (k : ℕ) → ((j : ℕ) → found ≡ Some j → j < length rest) →
+    (if b then Some 0 else option_map suc found) ≡ Some k → k < suc (length rest)
+named_by rest true found k earlier is = let same : 0 ≡ k = cc in omega (arith, same)
+named_by rest false found k earlier is = named_later rest found k earlier is
+
+within : (es : List Seen) (is_function : Bool) (name : List ℕ) (k : ℕ) → external_named es is_function name
+    ≡ Some k → k < length (sorts_of es)
+within [] is_function name k is = cc
+within (e ∷ es) is_function name k is =
+    named_by (sorts_of es) (answers is_function name e) (external_named es is_function name) k
+    (λ j. within es is_function name j) is
+
+pub named_there : (w : History) (is_function : Bool) (name : List ℕ) {k : ℕ} →
+    external_named w.now.externals is_function name ≡ Some k → HasExternal w k
+named_there w is_function name {k} is = record { there = within w.now.externals is_function name k is }
+
+sort_at : (es : List Seen) (k : ℕ) → slice_index_or (sorts_of es) k 0 ≡ (slice_index_or es k none_seen).sort
+sort_at [] k = refl
+sort_at (e ∷ es) zero = refl
+sort_at (e ∷ es) (suc k) = sort_at es k
+
+sorts-turned : (es : List Seen) (k : ℕ) (cells : List (List ℕ)) →
+    sorts_of (slice_set es k (with_cells (slice_index_or es k none_seen) cells)) ≡ sorts_of es
+sorts-turned [] k cells = refl
+sorts-turned (e ∷ es) zero cells = refl
+sorts-turned (e ∷ es) (suc k) cells = ap (λ ks. e.sort ∷ ks) (sorts-turned es k cells)
+
+sorts_took : {w w1 : History} {k : ℕ} {input : Input} {ask : Ask} → TookTurn w w1 k input ask → sorts w1 ≡ sorts w
+sorts_took {w} {w1} {k} t = ap (λ s. sorts_of s.externals) t.turn.state
+    ∙ sorts-turned w.now.externals k (seen_at w1.now k).cells
+
+pub there_after : {w w1 w2 : History} {k j : ℕ} {input : Input} {ask : Ask} → HasExternal w k →
+    TookTurn w w1 j input ask → sorts w2 ≡ sorts w1 → HasExternal w2 k
+there_after {k = k} h took kept = record { there = subst (λ ks. k < length ks) (sym (kept ∙ sorts_took took)) h.there }
+
+pub takes_turn : {g : Sight} {w w1 : History} {k : ℕ} {input : Input} {ask : Ask} {r : RunState} →
+    TookTurn w w1 k input ask → HasExternal w k →
+    Comes g w (λ parts. turn (sight g w) r k input) (told (Ok ask) (sight g w1) r) w1
+takes_turn {g} {w} {w1} {k} {input} {ask} {r} t h =
+    record { kept = sorts_took t; gives = λ exact free. (0, λ fuel le. is (free k h.there)) }
+  where
+    seen : Seen
+    seen = seen_at w.now k
+
+    is : IsFixed (slice_index_or (sorts w) k 0) → turn (sight g w) r k input ≡ told (Ok ask) (sight g w1) r
+    is fixed =
+        let given = subst IsFixed (sort_at w.now.externals k) fixed seen.cells input in
+        let known =
+        subst
+        (λ o. IfSome o (λ turn. (ask ≡ turn.0) × ((seen_at w1.now k).cells ≡ turn.1))) given.1
+        t.turn.answers.known in
+        let now_is : with_cells_at w.now k given.0.1 ≡ w1.now = ap (with_cells_at w.now k) (sym known.1)
+        ∙ sym t.turn.state in
+        ap (turn_by (sight g w) r k) given.1
+        ∙ ap (λ a. told (Ok a)
+        (record { now = with_cells_at w.now k given.0.1; turns = one_more_at (g.of_turns w.turns) k }) r)
+        (sym known.0)
+        ∙ ap (λ s. told (Ok ask) (record { now = s; turns = one_more_at (g.of_turns w.turns) k }) r) now_is
+        ∙ ap (λ turns. told (Ok ask) (record { now = w1.now; turns = turns }) r) (sym (g.counts w.turns k))
+        ∙ ap (λ u. told (Ok ask) u r) (sym (ap (sight g) t.history))
+
+-- Done and Fail are no call-backs
+abbrev pub IsCall : Ask → Type 0
+IsCall (Done v passes) = ⊥
+IsCall Fail = ⊥
+IsCall _ = Unit {0}
+
+pub asks_back : {w w1 : History} {r r1 : RunState} {d : ℕ} {ask : Ask} {o : Result Input Stop} →
+    CallsBack w r d ask o w1 r1 → HasMemory o → IsCall ask
+asks_back CallsBack.call_back_memory has = absurd (has refl)
+asks_back (CallsBack.message_syntax p _) has = subst IsCall (sym p) tt
+asks_back (CallsBack.message_stops p _ _ _) has = subst IsCall (sym p) tt
+asks_back (CallsBack.message_runs p _ _ _ _) has = subst IsCall (sym p) tt
+asks_back (CallsBack.eval_syntax p _) has = subst IsCall (sym p) tt
+asks_back (CallsBack.eval_stops p _ _ _) has = subst IsCall (sym p) tt
+asks_back (CallsBack.evaluates p _ _ _ _) has = subst IsCall (sym p) tt
+asks_back (CallsBack.bad_global p _) has = subst IsCall (sym p) tt
+asks_back (CallsBack.global_fails p _ _ _) has = subst IsCall (sym p) tt
+asks_back (CallsBack.global_set p _ _ _ _) has = subst IsCall (sym p) tt
+asks_back (CallsBack.no_such_field p _) has = subst IsCall (sym p) tt
+asks_back (CallsBack.field_fails p _ _ _) has = subst IsCall (sym p) tt
+asks_back (CallsBack.field_set p _ _ _ _) has = subst IsCall (sym p) tt
+
+pub talk_back : {g : Sight} {w w2 : History} {r : RunState} {d k : ℕ} {ask : Ask} {x : Told Conversed} → IsCall ask →
+    Comes g w (λ parts. after (parts.calls_back (sight g w) r d ask) (λ input w r. parts.talks w r d k input)) x w2 →
+    Comes g w (λ parts. talk_by parts (sight g w) r d k ask) x w2
+talk_back {ask = Done v passes} call h = absurd call
+talk_back {ask = Fail} call h = absurd call
+talk_back {ask = SendCardMessage note t} call h = h
+talk_back {ask = EvalExpr note t} call h = h
+talk_back {ask = SetGlobal note n v} call h = h
+talk_back {ask = SetFieldByName note on_card n v} call h = h
+
+-- ---- texts
+
+is_read : {A : Type 0} {read : List Token → Option A} {IsRead : List Token → A → Type 0} {text : List ℕ} {tree : A} →
+    CutsExactly spans_of → ReadsExactly read IsRead → Reads IsRead text tree → read_by read text ≡ Some tree
+is_read {read = read} {text = text} {tree = tree} cuts exact r =
+    ap (λ c. maybe c (λ spans. read (map (token_in text) spans)) (λ _. None)) ((cuts text r.spans).1 r.cut)
+    ∙ (exact (map (token_in text) r.spans) tree).1 r.reads
+
+is_unread : {A : Type 0} (read : List Token → Option A) (IsRead : List Token → A → Type 0) (text : List ℕ) →
+    CutsExactly spans_of → ReadsExactly read IsRead → ((tree : A) → Reads IsRead text tree → ⊥) → read_by read text
+    ≡ None
+is_unread {A} read IsRead text cuts exact none = by_spans (spans_of text) refl
+  where
+    by_tree : (spans : List Span) (tree : Option A) → spans_of text ≡ Some spans →
+        read (map (token_in text) spans) ≡ tree → tree ≡ None
+    by_tree spans None e f = refl
+    by_tree spans (Some tree) e f =
+        absurd (none tree
+        (record { spans = spans; cut = (cuts text spans).0 e; reads = (exact (map (token_in text) spans) tree).0 f }))
+
+    by_spans : (found : Option (List Span)) → spans_of text ≡ found →
+        maybe found (λ spans. read (map (token_in text) spans)) (λ _. None) ≡ None
+    by_spans None e = refl
+    by_spans (Some spans) e = by_tree spans (read (map (token_in text) spans)) e refl
+
+parses : {g : Sight} {A : Type 0} (read : List Token → Option A) (IsRead : List Token → A → Type 0) →
+    (AreExact → ReadsExactly read IsRead) → {t : List ℕ} {o : Result A Stop} {w : History} {r : RunState} →
+    Parses IsRead t o → HasMemory o →
+    Comes g w (λ parts. told (parsed read t) (sight g w) r) (told o (sight g w) r) w
+parses read IsRead exactly Parses.parse_memory has = absurd (has refl)
+parses {g} read IsRead exactly {t = t} {w = w} {r = r} (Parses.parses p) has = record {
+  kept = refl;
+  gives =
+      λ exact free. (0, λ fuel le. ap (λ x. told (or_syntax x) (sight g w) r) (is_read exact.cuts (exactly exact) p));
+}
+parses {g} read IsRead exactly {t = t} {w = w} {r = r} (Parses.unparsed none) has = record {
+  kept = refl;
+  gives =
+      λ exact free. (
+        0,
+        λ fuel le. ap (λ x. told (or_syntax x) (sight g w) r)
+            (is_unread read IsRead t exact.cuts (exactly exact) none),
+      );
+}
+
+pub parses_expression : {g : Sight} {t : List ℕ} {o : Result Expr Stop} {w : History} {r : RunState} →
+    Parses ReadsExpr t o → HasMemory o →
+    Comes g w (λ parts. told (parsed expression t) (sight g w) r) (told o (sight g w) r) w
+parses_expression p has = parses expression ReadsExpr (λ e. e.expressions) p has
+
+pub parses_typed_lines : {g : Sight} {t : List ℕ} {o : Result Stmts Stop} {w : History} {r : RunState} →
+    Parses ReadsLines t o → HasMemory o →
+    Comes g w (λ parts. told (parsed typed_lines t) (sight g w) r) (told o (sight g w) r) w
+parses_typed_lines p has = parses typed_lines ReadsLines (λ e. e.lines) p has
+
+pub parses_sent_message : {g : Sight} {t : List ℕ} {o : Result Message Stop} {w : History} {r : RunState} →
+    Parses ReadsMessage t o → HasMemory o →
+    Comes g w (λ parts. told (parsed sent_message t) (sight g w) r) (told o (sight g w) r) w
+parses_sent_message p has = parses sent_message ReadsMessage (λ e. e.messages) p has
+
+first_is : {s : Content} {path name : List ℕ} {kind : HandlerKind} {out : Result (Option Found) Fault} → AreExact →
+    First s path kind name out → first_found s path kind name ≡ yielded out
+first_is {s} {path} {name} {kind} exact (First.nothing_left e a) = ap (λ p. first_found s p kind name) e
+    ∙ ap yielded (sym a)
+first_is {s} {path} {name} {kind} exact (First.here {rest = rest} {id = id} e r h a) =
+    ap (λ p. first_found s p kind name) e
+    ∙ ap (λ x. maybe x (λ hs. handled id (handler_in hs kind name) (λ _. first_found s rest kind name))
+    (λ _. Err (Faults Syntax))) (is_read exact.cuts exact.scripts r)
+    ∙ ap (λ x. handled id x (λ _. first_found s rest kind name)) h ∙ ap yielded (sym a)
+first_is {s} {path} {name} {kind} exact (First.further_on {rest = rest} {id = id} e r h p) =
+    ap (λ p. first_found s p kind name) e
+    ∙ ap (λ x. maybe x (λ hs. handled id (handler_in hs kind name) (λ _. first_found s rest kind name))
+    (λ _. Err (Faults Syntax))) (is_read exact.cuts exact.scripts r)
+    ∙ ap (λ x. handled id x (λ _. first_found s rest kind name)) h ∙ first_is exact p
+first_is {s} {path} {name} {kind} exact (First.no_script {rest = rest} {id = id} e none a) =
+    ap (λ p. first_found s p kind name) e
+    ∙ ap (λ x. maybe x (λ hs. handled id (handler_in hs kind name) (λ _. first_found s rest kind name))
+    (λ _. Err (Faults Syntax))) (is_unread script ReadsScript (object_script s id) exact.cuts exact.scripts none)
+    ∙ ap yielded (sym a)
+
+found_first : {g : Sight} {path name : List ℕ} {kind : HandlerKind} {out : Result (Option Found) Fault} {w : History}
+    {r : RunState} → First w.now.stack path kind name out →
+    Comes g w (λ parts. told (first_found w.now.stack path kind name) (sight g w) r)
+    (told (yielded out) (sight g w) r) w
+found_first {g} {path} {name} {kind} {w = w} {r = r} first = record {
+  kept = refl;
+  gives = λ exact free. (0, λ fuel le. ap (λ x. told x (sight g w) r) (first_is exact first));
+}
+
+pub finds : {g : Sight} {path name : List ℕ} {kind : HandlerKind} {o : Result (Option Found) Stop} {w : History}
+    {r : RunState} → Finds w.now.stack path kind name o → HasMemory o →
+    Comes g w (λ parts. told (first_found w.now.stack path kind name) (sight g w) r) (told o (sight g w) r) w
+finds Finds.find_memory has = absurd (has refl)
+finds (Finds.finds first) has = found_first first
+finds (Finds.find_fails first) has = found_first first

@@ -1,0 +1,105 @@
+-- What an edit, a declaration, a property, new objects and a turn make of a state.
+use Rattle.std.specs.Prelude.{ℕ, zero, suc, ◌-◌, List, [], ◌∷◌, Option, Some, None, Result, Ok, Err}
+use Rattle.std.specs.FinMap.{get}
+use Rattle.ht_values.specs.declared.fault.Fault.{Fault}
+use Rattle.ht_values.specs.declared.fault.Fault.TheVariants.{StepLimit, TooMany}
+use Rattle.ht_values.specs.declared.word.Prop.{Prop}
+use Rattle.ht_values.specs.declared.word.Where.TheVariants.{Into}
+use Rattle.ht_values.specs.Text.{folded}
+use Rattle.externals.specs.declared.external.Ask.{Ask}
+use Rattle.externals.specs.declared.external.Input.{Input}
+use Rattle.externals.specs.Table.{Turn, turn_of}
+use Rattle.journal_entries.specs.State.{seen_at}
+use Rattle.journal_entries.specs.Changes.{changed, fits}
+use Rattle.journal_entries.specs.Turning.{with_cells_at, one_more_at}
+use Rattle.journal_entries.specs.declared.change.Change.{Change}
+use Rattle.journal_entries.specs.declared.change.Change.TheVariants.{Global, FieldText}
+use Rattle.object_references.specs.declared.referent.Referent.{Referent}
+use Rattle.object_references.specs.Settings.{setting}
+use Rattle.containers.specs.declared.edit.Edit.{Edit}
+use Rattle.containers.specs.declared.edit.Edit.TheVariants.{Put}
+use Rattle.containers.specs.Edits.{due}
+use Rattle.containers.specs.Places.{StorageView, PlaceView, global, own, field_text}
+use Rattle.containers.specs.Variables.{VariablesView, declared, with_local}
+use Rattle.meaning.specs.declared.end.Stop.{Stop}
+use Rattle.meaning.specs.declared.end.Stop.TheVariants.{Fault as Faults}
+use Rattle.meaning.specs.declared.frame.Frame.{Frame}
+use Rattle.meaning.specs.Places.{variable_place}
+use Rattle.meaning.specs.State.{RunState}
+use Rattle.definitional_interpreter.specs.Told.{Present, Told, unknown, told, Ran, ran, choose, computed}
+
+-- a computed value, or its fault
+abbrev pub yielded : {A : Type 0} → Result A Fault → Result A Stop
+yielded (Ok a) = Ok a
+yielded (Err n) = Err (Faults n)
+
+-- a step is taken, where one is left
+abbrev pub step_by : ℕ → Present → RunState → Told (Unit {0})
+step_by zero w r = told (Err (Faults StepLimit)) w r
+step_by (suc n) w r = told (Ok tt) w (record r { left = r.left - 1 })
+
+abbrev pub step : Present → RunState → Told (Unit {0})
+step w r = step_by r.left w r
+
+-- a change of the state
+abbrev pub made : Present → Change → Present
+made w c = record w { now = changed w.now c }
+
+unfoldable pub make : Present → RunState → Change → Told (Unit {0})
+make w r c = told (Ok tt) (made w c) r
+
+-- ---- containers
+
+abbrev pub with_variables : Frame → VariablesView → Frame
+with_variables f v = record f { variables = v }
+
+-- a text is written to its place
+abbrev pub written : Present → RunState → Frame → StorageView → List ℕ → Ran (Unit {0})
+written w r f (global name) t = ran (Ok tt) (made w (Global name (Some t))) r f
+written w r f (own name) t = ran (Ok tt) w r (with_variables f (with_local f.variables name (Some t)))
+written w r f (field_text field card) t = ran (Ok tt) (made w (FieldText field card t)) r f
+
+abbrev pub edit_by : Present → RunState → Frame → StorageView → Result (Option (List ℕ)) Fault → Ran (Unit {0})
+edit_by w r f storage (Ok (Some t)) = written w r f storage t
+edit_by w r f storage (Ok None) = ran (Ok tt) w r f
+edit_by w r f storage (Err n) = ran (Err (Faults n)) w r f
+
+-- a container is edited
+abbrev pub edit : Present → RunState → Frame → PlaceView → Edit → Ran (Unit {0})
+edit w r f p e = edit_by w r f p.storage (due w.now f.variables r.delimiter p e)
+
+-- the number of a turn is put into the variable of a repeat
+abbrev pub assign : Present → RunState → Frame → Option (List ℕ) → List ℕ → Ran (Unit {0})
+assign w r f None v = ran (Ok tt) w r f
+assign w r f (Some name) v = edit w r f (variable_place f.variables name) (Put Into v)
+
+-- a name means a global from here on, which has a value
+abbrev pub with_global : Present → List ℕ → Option (List ℕ) → Present
+with_global w name (Some t) = w
+with_global w name None = made w (Global (folded name) (Some []))
+
+abbrev pub declare_all : Present → RunState → Frame → List (List ℕ) → Ran (Unit {0})
+declare_all w r f [] = ran (Ok tt) w r f
+declare_all w r f (name ∷ names) =
+    declare_all (with_global w name (get w.now.globals (folded name))) r
+    (with_variables f (declared f.variables name)) names
+
+-- ---- objects
+
+-- a property of an object is set
+abbrev pub set_property : Present → RunState → Referent → Prop → List ℕ → Told (Unit {0})
+set_property w r m prop t = computed (setting w.now.stack m prop t) (λ c. make w r c) (λ n. told (Err (Faults n)) w r)
+
+-- objects are made, where they fit
+abbrev pub add_objects : Present → RunState → Change → Told (Unit {0})
+add_objects w r c = choose (fits w.now c) (λ _. make w r c) (λ _. told (Err (Faults TooMany)) w r)
+
+-- ---- externals
+
+-- a turn of the i-th external: what it asks; it is unknown of a free kind
+abbrev pub turn_by : Present → RunState → ℕ → Option Turn → Told Ask
+turn_by w r i (Some t) = told (Ok t.0) (record { now = with_cells_at w.now i t.1; turns = one_more_at w.turns i }) r
+turn_by w r i None = unknown
+
+abbrev pub turn : Present → RunState → ℕ → Input → Told Ask
+turn w r i input = turn_by w r i (turn_of (seen_at w.now i).sort (seen_at w.now i).cells input)

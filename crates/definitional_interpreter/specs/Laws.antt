@@ -1,0 +1,73 @@
+-- What the function gives is what the rules allow.
+use Rattle.std.specs.Prelude.{◌≡◌, ℕ, ◌<◌, ◌≤◌, List, length, map, slice_index_or, Option, Some, Result}
+use Rattle.ht_grammar.specs.Statements as stm
+use Rattle.ht_grammar.specs.Trees as tree
+use Rattle.externals.specs.Cells.{Seen}
+use Rattle.externals.specs.Table.{Turn, turn_of}
+use Rattle.externals.specs.declared.external.Input.{Input}
+use Rattle.change_journal.specs.History.{History}
+use Rattle.meaning.specs.declared.end.Ended.{Ended}
+use Rattle.meaning.specs.declared.end.Stop.{Stop}
+use Rattle.meaning.specs.declared.frame.Frame.{Frame}
+use Rattle.meaning.specs.Actions.{Action}
+use Rattle.meaning.specs.Meaning.{Val, Line, Message, Refers, Acts}
+use Rattle.meaning.specs.State.{RunState}
+use Rattle.preservation.specs.Laws.{HasMemory}
+use Rattle.definitional_interpreter.specs.Told.{present, told}
+use Rattle.definitional_interpreter.specs.Families.{Meanings}
+use Rattle.definitional_interpreter.specs.Meanings.{meanings}
+
+-- a kind that isn't free: each of its turns is that of the table
+abbrev pub IsFixed : ℕ → Type 0
+IsFixed sort = (cells : List (List ℕ)) (input : Input) → (turn : Turn) × (turn_of sort cells input ≡ Some turn)
+
+abbrev pub sorts_of : List Seen → List ℕ
+sorts_of = map (λ e. e.sort)
+
+abbrev pub sorts : History → List ℕ
+sorts w = sorts_of w.now.externals
+
+-- no external is free
+abbrev pub NoneIsFree : List ℕ → Type 0
+NoneIsFree kinds = (i : ℕ) → i < length kinds → IsFixed (slice_index_or kinds i 0)
+
+-- ---- the function gives what the rules allow
+
+-- with so many nested parts, and with more
+abbrev pub Enough : (Meanings → Type 0) → Type 0
+Enough Holds = (least : ℕ) × ((parts : ℕ) → least ≤ parts → Holds (meanings parts))
+
+-- Where no external is free, and lines don't end out of memory, the function gives their end, state and run.
+abbrev pub LinesAreComputed : Type 0
+LinesAreComputed =
+    (w w2 : History) (r r2 : RunState) (ss : stm.Stmts) (o : Result Ended Stop) →
+    NoneIsFree (sorts w) → Line w r ss o w2 r2 → HasMemory o →
+    Enough (λ m. m.line (present w) r ss ≡ told o (present w2) r2)
+
+-- and so it does of a message
+abbrev pub MessagesAreComputed : Type 0
+MessagesAreComputed =
+    (w w2 : History) (r r2 : RunState) (i : ℕ) (n : List ℕ) (vs : List (List ℕ)) (o : Result Ended Stop) →
+    NoneIsFree (sorts w) → Message w r i n vs o w2 r2 → HasMemory o →
+    Enough (λ m. m.message (present w) r i n vs ≡ told o (present w2) r2)
+
+-- and of an action
+abbrev pub ActionsAreComputed : Type 0
+ActionsAreComputed =
+    (w w2 : History) (r r2 : RunState) (ac : Action) (o : Result Ended Stop) →
+    NoneIsFree (sorts w) → Acts w r ac o w2 r2 → HasMemory o →
+    Enough (λ m. m.acts (present w) r ac ≡ told o (present w2) r2)
+
+-- and of the reference of a dot line
+abbrev pub ReferencesAreComputed : Type 0
+ReferencesAreComputed =
+    (w w2 : History) (r r2 : RunState) (pa : tree.Part) (o : Result (Option ℕ) Stop) →
+    NoneIsFree (sorts w) → Refers w r pa o w2 r2 → HasMemory o →
+    Enough (λ m. m.refers (present w) r pa ≡ told o (present w2) r2)
+
+-- and of the value of an expression
+abbrev pub ValuesAreComputed : Type 0
+ValuesAreComputed =
+    (w w2 : History) (r r2 : RunState) (f : Frame) (d : ℕ) (e : tree.Expr) (o : Result (List ℕ) Stop) →
+    NoneIsFree (sorts w) → Val w r f d e o w2 r2 → HasMemory o →
+    Enough (λ m. m.val (present w) r f d e ≡ told o (present w2) r2)

@@ -1,0 +1,56 @@
+//! Where no external is free, a function computes a run.
+
+ghost use Rattle.definitional_interpreter.specs.Alone.{ExpressionsAreAllowed};
+ghost use Rattle.definitional_interpreter.specs.Laws.{LinesAreComputed, MessagesAreComputed, ActionsAreComputed};
+ghost use Rattle.definitional_interpreter.specs.Laws.{ReferencesAreComputed, ValuesAreComputed};
+ghost use Rattle.definitional_interpreter.specs.Rows.{Sum, Quotient, NoNumber, FaultAfterLines, Choice, Repeated};
+ghost use Rattle.definitional_interpreter.specs.Rows.{Chunks, NoExpression, ExitToHyperCard, Delimiter};
+ghost use Rattle.definitional_interpreter.specs.Rows.{GlobalVariable, Repeats, Function, Passed, FaultThreeDeep};
+ghost use Rattle.definitional_interpreter.specs.Rows.{Conversation};
+
+use ht_grammar::{
+    expressions_are_read_exactly, lines_are_read_exactly, messages_are_read_exactly,
+    scripts_are_read_exactly,
+};
+use ht_lex::texts_are_cut_exactly;
+
+/// What the rules allow of lines, a message, an action, the reference of a dot line or an expression is what the function
+/// gives, with enough fuel, where no plugged external is free and the run isn't out of memory.
+pub fn runs_are_computed()
+    ensures lines { LinesAreComputed }
+    ensures messages { MessagesAreComputed }
+    ensures actions { ActionsAreComputed }
+    ensures references { ReferencesAreComputed }
+    ensures values { ValuesAreComputed }
+{
+    texts_are_cut_exactly();
+    expressions_are_read_exactly();
+    lines_are_read_exactly();
+    scripts_are_read_exactly();
+    messages_are_read_exactly();
+}
+
+/// What an expression that sends no message comes to by the function, the rules allow, and nothing changes.
+pub fn expressions_are_allowed()
+    ensures { ExpressionsAreAllowed }
+{}
+
+/// Rows of the language that were worked by hand: the function gives the answers that they say.
+pub fn worked_rows_are_computed()
+    ensures sum { Sum }
+    ensures quotient { Quotient }
+    ensures no_number { NoNumber }
+    ensures fault_after_lines { FaultAfterLines }
+    ensures choice { Choice }
+    ensures repeated { Repeated }
+    ensures chunk { Chunks }
+    ensures no_expression { NoExpression }
+    ensures exit_to_hypercard { ExitToHyperCard }
+    ensures delimiter { Delimiter }
+    ensures global_variable { GlobalVariable }
+    ensures repeats { Repeats }
+    ensures function { Function }
+    ensures passed { Passed }
+    ensures fault_three_deep { FaultThreeDeep }
+    ensures conversation { Conversation }
+{}

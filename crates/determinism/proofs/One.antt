@@ -1,0 +1,72 @@
+-- Two runs of one thing have one outcome.
+use Rattle.std.proofs.Common.{◌≡◌, ◌+◌, [], Result, refl, sym, ap, subst, ◌∙◌, arith}
+use Rattle.change_journal.specs.History.{History}
+use Rattle.meaning.specs.declared.end.Stop.{Stop}
+use Rattle.meaning.specs.State.{RunState}
+use Rattle.definitional_interpreter.specs.Told.{Present, Told, told}
+use Rattle.definitional_interpreter.specs.Families.{Meanings}
+use Rattle.definitional_interpreter.specs.Meanings.{meanings}
+use Rattle.definitional_interpreter.specs.Laws.{sorts_of, sorts, NoneIsFree}
+use Rattle.determinism.specs.Laws.{SameOutcome}
+use Rattle.determinism.specs.Laws.{LinesHaveOneOutcome, MessagesHaveOneOutcome, ActionsHaveOneOutcome}
+use Rattle.determinism.specs.Laws.{ReferencesHaveOneOutcome, ValuesHaveOneOutcome}
+use Rattle.definitional_interpreter.proofs.Comes.{AreExact, Sight, sight, Comes}
+use Rattle.definitional_interpreter.proofs.Outcomes.{val_comes, line_comes, message_comes, refers_comes, acts_comes}
+use Rattle.definitional_interpreter.proofs.Computed.{all_turns}
+
+-- the turns not at all
+abbrev no_turns : Sight
+no_turns = record { of_turns = λ turns. []; counts = λ turns i. refl }
+
+-- two runs of one thing, seen so, come to one thing
+one : {A : Type 0} (g : Sight) (w v w2 v2 : History) {r2 q2 : RunState} {o p : Result A Stop}
+    (F : Present → Meanings → Told A) → AreExact → sight g v ≡ sight g w → NoneIsFree (sorts w) →
+    Comes g w (F (sight g w)) (told o (sight g w2) r2) w2 → Comes g v (F (sight g v)) (told p (sight g v2) q2) v2 →
+    told o (sight g w2) r2 ≡ told p (sight g v2) q2
+one g w v w2 v2 F exact same free first second =
+    let a = first.gives exact free in
+    let b = second.gives exact (subst (λ u. NoneIsFree (sorts_of u.now.externals)) (sym same) free) in
+    let fuel = a.0 + b.0 in
+    sym (a.1 fuel (omega arith)) ∙ ap (λ u. F u (meanings fuel)) (sym same) ∙ b.1 fuel (omega arith)
+
+alike : {A : Type 0} {w v w2 v2 : History} {r2 q2 : RunState} {o p : Result A Stop} (F : Present → Meanings → Told A) →
+    AreExact → v.now ≡ w.now → NoneIsFree (sorts w) →
+    ((g : Sight) → Comes g w (F (sight g w)) (told o (sight g w2) r2) w2) →
+    ((g : Sight) → Comes g v (F (sight g v)) (told p (sight g v2) q2) v2) → SameOutcome w v w2 v2 r2 q2 o p
+alike {w} {v} {w2} {v2} {r2} {q2} {o} {p} F exact same free first second = (ends.0, ends.1, ends.2, turns)
+  where
+    parts_of : (g : Sight) → told o (sight g w2) r2 ≡ told p (sight g v2) q2 →
+        (o ≡ p) × (w2.now ≡ v2.now) × (r2 ≡ q2) × (g.of_turns w2.turns ≡ g.of_turns v2.turns)
+    parts_of g is = let there : sight g w2 ≡ sight g v2 = cc in (cc, ap (λ u. u.now) there, cc, ap (λ u. u.turns) there)
+
+    begins : sight no_turns v ≡ sight no_turns w
+    begins = ap (λ s. record { now = s; turns = [] }) same
+
+    ends : (o ≡ p) × (w2.now ≡ v2.now) × (r2 ≡ q2) × (no_turns.of_turns w2.turns ≡ no_turns.of_turns v2.turns)
+    ends = parts_of no_turns (one no_turns w v w2 v2 F exact begins free (first no_turns) (second no_turns))
+
+    turns : v.turns ≡ w.turns → w2.turns ≡ v2.turns
+    turns is =
+        let seen : sight all_turns v ≡ sight all_turns w = cc in
+        (parts_of all_turns (one all_turns w v w2 v2 F exact seen free (first all_turns) (second all_turns))).3
+
+pub one_line : AreExact → LinesHaveOneOutcome
+one_line exact w v w2 v2 r r2 q2 ss o p same free first second has had =
+    alike (λ u parts. parts.line u r ss) exact same free (λ g. line_comes first has) (λ g. line_comes second had)
+
+pub one_message : AreExact → MessagesHaveOneOutcome
+one_message exact w v w2 v2 r r2 q2 i n vs o p same free first second has had =
+    alike (λ u parts. parts.message u r i n vs) exact same free (λ g. message_comes first has)
+    (λ g. message_comes second had)
+
+pub one_action : AreExact → ActionsHaveOneOutcome
+one_action exact w v w2 v2 r r2 q2 ac o p same free first second has had =
+    alike (λ u parts. parts.acts u r ac) exact same free (λ g. acts_comes first has) (λ g. acts_comes second had)
+
+pub one_reference : AreExact → ReferencesHaveOneOutcome
+one_reference exact w v w2 v2 r r2 q2 pa o p same free first second has had =
+    alike (λ u parts. parts.refers u r pa) exact same free (λ g. refers_comes first has) (λ g. refers_comes second had)
+
+pub one_value : AreExact → ValuesHaveOneOutcome
+one_value exact w v w2 v2 r r2 q2 f d e o p same free first second has had =
+    alike (λ u parts. parts.val u r f d e) exact same free (λ g. val_comes first has) (λ g. val_comes second had)

@@ -1,9 +1,0 @@
-pub mod Comes
-pub mod Chain
-pub mod Leaves
-pub mod Outcomes
-pub mod One
-pub mod Allowed
-pub mod Steps
-pub mod Rows
-pub mod Replies

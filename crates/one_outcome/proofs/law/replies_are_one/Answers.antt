@@ -1,5 +1,0 @@
-use Rattle.one_outcome.proofs.law.replies_are_one.Goals as goal
-use Rattle.one_outcome.proofs.Replies.{one_reply}
-
-pub returns : goal.returns
-returns c = one_reply c.runs_have_one_outcome.ensures.actions

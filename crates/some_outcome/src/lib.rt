@@ -1,7 +1,0 @@
-//! Each run of HyperTalk has an outcome, whatever its lines, handlers and externals: laws over the rules, each the contract of a
-//! function that does nothing.
-#![tactic(auto)]
-
-mod law;
-
-pub use law::{replies_exist, runs_have_an_outcome};

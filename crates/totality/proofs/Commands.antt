@@ -1,0 +1,130 @@
+-- Typed commands and dot lines have an outcome.
+use Rattle.std.proofs.Common.{◌≡◌, ◌⊎◌, inl, inr, ℕ, suc, List, [], ◌∷◌, Some, None, Ok, Err, refl, sym, ap, ◌∙◌, arith}
+use Rattle.std.specs.Prelude.{is_some}
+use Rattle.ht_values.specs.declared.fault.Fault.{Fault}
+use Rattle.ht_values.specs.declared.word.Where.TheVariants.{Into}
+use Rattle.ht_values.specs.Outcome.{and_then}
+use Rattle.ht_grammar.specs.declared.vocabulary.HandlerKind.TheVariants.{Command}
+use Rattle.ht_grammar.specs.Statements as stm
+use Rattle.ht_grammar.specs.Trees as tree
+use Rattle.object_table.specs.Objects.{object_at}
+use Rattle.change_journal.specs.History.{History}
+use Rattle.containers.specs.declared.edit.Edit.TheVariants.{Put}
+use Rattle.containers.specs.Edits.{read_at}
+use Rattle.object_references.specs.declared.referent.Referent.{Referent}
+use Rattle.object_references.specs.References.{met_here}
+use Rattle.meaning.specs.Actions as act
+use Rattle.meaning.specs.Actions.{Action, opening_stack, locks_text, leaving_message}
+use Rattle.meaning.specs.declared.system.SystemMessage.{SystemMessage}
+use Rattle.meaning.specs.declared.system.SystemMessage.TheVariants.{MouseDown, MouseUp, OpenField}
+use Rattle.meaning.specs.Meaning.{Line, Message, Refers, Tells, TellsAll, Clicks, TypesOver, TypesInto, Acts}
+use Rattle.meaning.specs.Menu.{message_name}
+use Rattle.meaning.specs.Places.{field_text, field_place}
+use Rattle.meaning.specs.State.{RunState, typed_frame}
+use Rattle.meaning.specs.Locked.{MeetsLock}
+use Rattle.totality.proofs.Chain.{Underway, Has, has, ok, same, stops_too, choose, computed, lines_end, message_ends, refers_to, then_ended}
+use Rattle.definitional_interpreter.proofs.Comes.{AreExact}
+use Rattle.totality.proofs.Leaves.{then_edited_lines, edits}
+use Rattle.totality.proofs.Levels.{Level}
+use Rattle.totality.proofs.Expressions.{part_has, sends_has}
+use Rattle.totality.proofs.Blocks.{block_has}
+
+pub line_has : {n : ℕ} → Level n → (w : History) (r : RunState) (ss : stm.Stmts) → Underway (suc n) w r →
+    Has (suc n) (Line w r ss)
+line_has h w r ss k = lines_end (block_has h w r (typed_frame w) 0 ss (omega arith) k)
+    (λ fa w1 r1 f1 g. Line.line_faults refl g) (λ w1 r1 f1 g. Line.line_exits refl g)
+    (λ how w1 r1 f1 g. Line.line_ends refl g)
+
+pub message_has : {n : ℕ} → Level n → (w : History) (r : RunState) (i : ℕ) (name : List ℕ) (vs : List (List ℕ)) →
+    Underway (suc n) w r → Has (suc n) (Message w r i name vs)
+message_has h w r i name vs k =
+    message_ends (sends_has h w r (typed_frame w) 0 i name vs Command (omega arith) k)
+    (λ fa w1 r1 g. Message.message_faults refl g) (λ w1 r1 g. Message.message_exits refl g)
+    (λ v w1 r1 g. Message.message_ends refl g)
+
+-- ---- dot lines that send messages
+
+pub refers_has : {n : ℕ} → AreExact → Level n → (w : History) (r : RunState) (pa : tree.Part) → Underway (suc n) w r →
+    Has (suc n) (Refers w r pa)
+refers_has exact h w r pa k =
+    refers_to (part_has exact h w r (typed_frame w) 0 pa (omega arith) k) (λ fa w1 r1 g. Refers.refer_faults refl g)
+    (λ w1 r1 g. Refers.refer_exits refl g) (λ met w1 r1 g. Refers.refers refl g refl)
+
+tells_has : {n : ℕ} → Level n → (w : History) (r : RunState) (i : ℕ) (mg : SystemMessage) → Underway (suc n) w r →
+    Has (suc n) (Tells w r i mg)
+tells_has h w r i mg k =
+    choose r.lock_messages (λ locked. ok _ k (Tells.tells_nothing locked))
+    (λ free. same (message_has h w r i (message_name mg) [] k) (λ o w1 r1 g. Tells.tells free refl g))
+
+tells_all_has : {n : ℕ} → Level n → (w : History) (r : RunState) (ms : List SystemMessage) → Underway (suc n) w r →
+    Has (suc n) (TellsAll w r ms)
+tells_all_has h w r [] k = ok _ k (TellsAll.none_to_tell refl)
+tells_all_has h w r (mg ∷ ms) k =
+    then_ended (tells_has h w r w.now.current mg k) (λ z w1 r1 g. TellsAll.tell_stops refl g)
+    (λ w1 r1 g. TellsAll.tell_exits refl g)
+    (λ w1 r1 k1 g. same (tells_all_has h w1 r1 ms k1) (λ o w2 r2 g2. TellsAll.tells_on refl g g2))
+
+clicks_has : {n : ℕ} → AreExact → Level n → (w : History) (r : RunState) (pa : tree.Part) → Underway (suc n) w r →
+    Has (suc n) (Clicks w r pa)
+clicks_has {n} exact h w r pa k = by_part (refers_has exact h w r pa k)
+  where
+    by_part : Has (suc n) (Refers w r pa) → Has (suc n) (Clicks w r pa)
+    by_part (has (Err z) w1 r1 has_memory k1 g) = has (Err z) w1 r1 (stops_too has_memory) k1 (Clicks.click_misses g)
+    by_part (has (Ok None) w1 r1 has_memory k1 g) = ok _ k1 (Clicks.click_exits g)
+    by_part (has (Ok (Some i)) w1 r1 has_memory k1 g) =
+        then_ended (tells_has h w1 r1 i MouseDown k1) (λ z w2 r2 g2. Clicks.press_stops g g2)
+        (λ w2 r2 g2. Clicks.press_exits g g2) (λ w2 r2 k2 g2.
+        choose (is_some (object_at w2.now.stack i))
+        (λ there. same (tells_has h w2 r2 i MouseUp k2) (λ o w3 r3 g3. Clicks.clicks g g2 there g3))
+        (λ gone. ok _ k2 (Clicks.part_goes g g2 gone)))
+
+no_value : {A : Type 0} {fa : Fault} {a : A} → Err fa ≡ Ok a → ⊥
+no_value e = cc
+
+types_over_has : {n : ℕ} → Level n → (w : History) (r : RunState) (o : Referent) (t : List ℕ) → Underway (suc n) w r →
+    Has (suc n) (TypesOver w r o t)
+types_over_has h w r o t k =
+    computed (field_text w.now (typed_frame w).variables r.delimiter o)
+    (λ old is. computed (field_place w.now o) (λ p at.
+    then_edited_lines k (edits w (typed_frame w) r.delimiter p (Put Into t) k.is_open)
+    (λ z w1 f1 g. TypesOver.type_over_stops refl is at g) (λ w1 f1 k1 g.
+    same (tells_has h w1 r o.object (leaving_message old t) k1)
+    (λ o w2 r1 g2. TypesOver.types_over refl is at g refl refl g2)))
+    (λ fa at. absurd (no_value
+    (sym (ap (λ c. and_then c (λ p. read_at w.now (typed_frame w).variables r.delimiter p)) at) ∙ is))))
+    (λ fa gone. ok _ k (TypesOver.typed_field_goes refl gone))
+
+-- a text is typed, unless the field is locked
+types_into_has : {n : ℕ} → AreExact → Level n → (w : History) (r : RunState) (t : List ℕ) (pa : tree.Part) →
+    Underway (suc n) w r → Has (suc n) (TypesInto w r t pa) ⊎
+    ((w2 : History) × ((r2 : RunState) × MeetsLock w r (act.type_text t pa) w2 r2))
+types_into_has {n} exact h w r t pa k = by_part (refers_has exact h w r pa k)
+  where
+    by_part : Has (suc n) (Refers w r pa) →
+        Has (suc n) (TypesInto w r t pa) ⊎
+        ((w2 : History) × ((r2 : RunState) × MeetsLock w r (act.type_text t pa) w2 r2))
+    by_part (has (Err z) w1 r1 has_memory k1 g) = inl
+        (has (Err z) w1 r1 (stops_too has_memory) k1 (TypesInto.type_misses g))
+    by_part (has (Ok None) w1 r1 has_memory k1 g) = inl (ok _ k1 (TypesInto.type_exits g))
+    by_part (has (Ok (Some i)) w1 r1 has_memory k1 g) =
+        choose (locks_text w1.now.stack i) (λ locked. inr (w1, (r1, (i, g, locked)))) (λ free. inl
+        (then_ended (tells_has h w1 r1 i OpenField k1) (λ z w2 r2 g2. TypesInto.field_open_stops g free g2)
+        (λ w2 r2 g2. TypesInto.field_open_exits g free g2) (λ w2 r2 k2 g2.
+        same (types_over_has h w2 r2 (met_here w1.now.current i) t k2)
+        (λ o w3 r3 g3. TypesInto.types_into g free refl g2 g3))))
+
+pub acts_has : {n : ℕ} → AreExact → Level n → (w : History) (r : RunState) (ac : Action) → Underway (suc n) w r →
+    Has (suc n) (Acts w r ac) ⊎ ((w2 : History) × ((r2 : RunState) × MeetsLock w r ac w2 r2))
+acts_has exact h w r (act.run_lines ss) k = inl (same (line_has h w r ss k) (λ o w1 r1 g. Acts.acts_by_lines refl g))
+acts_has exact h w r act.open_stack k = inl
+    (same (tells_all_has h w r opening_stack k) (λ o w1 r1 g. Acts.acts_by_opening refl g))
+acts_has exact h w r (act.click pa) k = inl
+    (same (clicks_has exact h w r pa k) (λ o w1 r1 g. Acts.acts_by_click refl g))
+acts_has {n} exact h w r (act.type_text t pa) k = by_typing (types_into_has exact h w r t pa k)
+  where
+    by_typing : Has (suc n) (TypesInto w r t pa) ⊎
+        ((w2 : History) × ((r2 : RunState) × MeetsLock w r (act.type_text t pa) w2 r2)) →
+        Has (suc n) (Acts w r (act.type_text t pa)) ⊎
+        ((w2 : History) × ((r2 : RunState) × MeetsLock w r (act.type_text t pa) w2 r2))
+    by_typing (inl typed) = inl (same typed (λ o w1 r1 g. Acts.acts_by_typing refl g))
+    by_typing (inr locked) = inr locked

@@ -1,0 +1,26 @@
+//! Laws of outcomes that exist.
+
+ghost use Rattle.totality.specs.Laws.{LinesHaveAnOutcome, MessagesHaveAnOutcome, ActionsHaveAnOutcome};
+ghost use Rattle.totality.specs.Laws.{ReferencesHaveAnOutcome, ValuesHaveAnOutcome};
+
+use ht_grammar::{
+    expressions_are_read_exactly, lines_are_read_exactly, messages_are_read_exactly,
+    scripts_are_read_exactly,
+};
+use ht_lex::texts_are_cut_exactly;
+
+/// Lines, a message, an action, the reference of a dot line or the value of an expression have an end that the rules allow
+/// and that isn't out of memory, while a batch is open; but for a text that is typed into a locked field.
+pub fn runs_have_an_outcome()
+    ensures lines { LinesHaveAnOutcome }
+    ensures messages { MessagesHaveAnOutcome }
+    ensures actions { ActionsHaveAnOutcome }
+    ensures references { ReferencesHaveAnOutcome }
+    ensures values { ValuesHaveAnOutcome }
+{
+    texts_are_cut_exactly();
+    expressions_are_read_exactly();
+    lines_are_read_exactly();
+    scripts_are_read_exactly();
+    messages_are_read_exactly();
+}

@@ -1,0 +1,7 @@
+//! Totality: each run of HyperTalk has an outcome, whatever its lines, handlers and externals. These are laws over the rules,
+//! each the contract of a function that does nothing.
+#![tactic(auto)]
+
+mod law;
+
+pub use law::runs_have_an_outcome;
