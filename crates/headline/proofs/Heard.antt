@@ -10,7 +10,7 @@ use Rattle.devices.specs.Desks.{SeenDesk, Hears, HearsOrForgets}
 use Rattle.devices.specs.declared.desk.HeardMessage.{HeardMessage}
 use Rattle.headline.specs.Answering.{is_quit, Session}
 use Rattle.headline.specs.Headline.{LineMoves}
-use Rattle.headline.specs.Saving.{Kept, Unkept, KeptOrNot, Beside, Settles, as_heard}
+use Rattle.headline.specs.Saving.{Kept, Unkept, KeptOrNot, Settles, SettlesHeard, as_heard}
 use Rattle.headline.specs.Unzipped.{MessagesFollow}
 use Rattle.session.specs.declared.reply.Ending.{Ending}
 use Rattle.session.specs.declared.reply.Ending.TheVariants as endings
@@ -86,7 +86,7 @@ module _ {S : Type 0} (takes : List ℕ → S → Reply → S → Type 0) where
       ] rest
 
   one : (line : List ℕ) (old : S × SeenDesk) (reply : Reply) (new : S × SeenDesk) → new.1.heard ≢ None →
-      Settles takes line old reply new → Beside Hears KeptOrNot takes line old reply new
+      Settles takes line old reply new → SettlesHeard takes line old reply new
   one line old reply new tells s =
       let before : s.told.heard ≢ None = λ none. tells (asked_same s.ending s.told reply.ending new.1 s.kept ∙ none) in
       record {
@@ -98,10 +98,10 @@ module _ {S : Type 0} (takes : List ℕ → S → Reply → S → Type 0) where
       }
 
   pub heard : (old : S × SeenDesk) (lines : List (List ℕ)) (text : List ℕ) (new : S × SeenDesk) → new.1.heard ≢ None →
-      Session (Settles takes) old lines text new → Session (Beside Hears KeptOrNot takes) old lines text new
+      Session (Settles takes) old lines text new → Session (SettlesHeard takes) old lines text new
   heard old [] text new tells s = s
   heard old (line ∷ lines) text new tells (reply, mid, more, step, is, rest) =
-      elim (is_quit reply.ending) as (λ b. is_quit reply.ending ≡ b → MatchBool b ((more ≡ []) × (new ≡ mid)) (Session (Settles takes) mid lines more new) → Session (Beside Hears KeptOrNot takes) old (line ∷ lines) text new) [
+      elim (is_quit reply.ending) as (λ b. is_quit reply.ending ≡ b → MatchBool b ((more ≡ []) × (new ≡ mid)) (Session (Settles takes) mid lines more new) → Session (SettlesHeard takes) old (line ∷ lines) text new) [
         | true ↦ λ quits last. (
           reply,
           mid,

@@ -1,6 +1,6 @@
 -- A line beside a desk, which hears of its messages and keeps what is saved.
 use Rattle.std.specs.Prelude.{◌≡◌, ◌⊎◌, ℕ, true, List, map, option_map}
-use Rattle.devices.specs.Desks.{SeenDesk, HearsOrForgets}
+use Rattle.devices.specs.Desks.{SeenDesk, Hears, HearsOrForgets}
 use Rattle.devices.specs.Watching.{counted}
 use Rattle.change_journal.specs.History.{IsHistory}
 use Rattle.devices.specs.declared.desk.HeardMessage.{HeardMessage}
@@ -42,6 +42,11 @@ pub record Beside {S : Type 0} (hears : List HeardMessage → SeenDesk → SeenD
 
 abbrev pub Settles : {S : Type 0} → (List ℕ → S → Reply → S → Type 0) → List ℕ → S × SeenDesk → Reply → S × SeenDesk → Type 0
 Settles takes = Beside HearsOrForgets KeptOrNot takes
+
+-- beside a desk that goes on telling what it hears
+abbrev pub SettlesHeard : {S : Type 0} → (List ℕ → S → Reply → S → Type 0) → List ℕ → S × SeenDesk → Reply → S × SeenDesk
+    → Type 0
+SettlesHeard takes = Beside Hears KeptOrNot takes
 
 -- a session takes a line, and each state of its list is whole before the line and after it
 pub record TakesWhole (line : List ℕ) (old : Standing) (reply : Reply) (new : Standing) : Type 0 where

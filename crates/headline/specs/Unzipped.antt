@@ -2,7 +2,7 @@
 -- does to it what the headline says.
 use Rattle.std.specs.Prelude.{◌≡◌, ◌≢◌, ◌⊎◌, ◌≤◌, ◌-◌, ◌^◌, ℕ, List, ◌∷◌, ◌++◌, length, map, reverse, Option, Some, None, Result, IsErrOf, ◌==◌, MatchBool}
 use Rattle.std.specs.Io.KnownBytes.{IsAtEnd}
-use Rattle.devices.specs.Desks.{SeenDesk, Hears, HearsOrForgets}
+use Rattle.devices.specs.Desks.{SeenDesk, HearsOrForgets}
 use Rattle.devices.specs.Watching.{Rose}
 use Rattle.externals.specs.Cells.{Seen}
 use Rattle.object_table.specs.Content.{Content}
@@ -12,7 +12,7 @@ use Rattle.headline.specs.Answering.{Session}
 use Rattle.headline.specs.Headline.{Snapshot, Timeline, LineMoves, Headline, Undoes, Redoes, UndoesTo, beginning, with_plugged, without_plugged}
 use Rattle.session.specs.Moves.{MovesTo, undone, redone, undone_to}
 use Rattle.session.specs.Opening.{opened}
-use Rattle.headline.specs.Saving.{Kept, KeptOrNot, Beside, Settles, Takes}
+use Rattle.headline.specs.Saving.{Kept, Beside, Settles, SettlesHeard, Takes}
 use Rattle.headline.specs.InputLines.{AreLines}
 use Rattle.session.specs.Standing.{Standing}
 use Rattle.headline.specs.Stops.{Ended, Stopped}
@@ -89,4 +89,4 @@ SavesFollow = (old : Timeline × SeenDesk) (lines : List (List ℕ)) (text : Lis
 abbrev pub MessagesFollow : Type 0
 MessagesFollow = (old : Timeline × SeenDesk) (lines : List (List ℕ)) (text : List ℕ) (new : Timeline × SeenDesk)
     → new.1.heard ≢ None → Headline old lines text new
-    → Session (Beside Hears KeptOrNot LineMoves) old lines text new
+    → Session (SettlesHeard LineMoves) old lines text new

@@ -13,6 +13,7 @@ use Rattle.ht_grammar.specs.Whole.{clicked_part, typed_text}
 use Rattle.journal_entries.specs.State.{State}
 use Rattle.meaning.specs.declared.end.Ended.{Ended}
 use Rattle.meaning.specs.declared.end.Stop.{Stop}
+use Rattle.meaning.specs.declared.sent.SentMessage.{SentMessage}
 use Rattle.meaning.specs.declared.end.Stop.TheVariants.{Fault as Faults, Exited, Memory}
 use Rattle.meaning.specs.Actions as act
 use Rattle.meaning.specs.Actions.{Action}
@@ -37,7 +38,7 @@ use Rattle.headline.specs.Answers.{answer}
 use Rattle.headline.specs.Answering.{is_quit}
 use Rattle.headline.specs.Headline.{Snapshot, Timeline, followed_by, Commands, at_cursor, cursor_back, cursor_forth, before, last_numbered, cursor_back_to, Does, DoesLine, line_counted, LineMoves}
 use Rattle.headline.specs.InputLines.{AreLines, all_lines}
-use Rattle.headline.specs.Saving.{Kept, Settles}
+use Rattle.headline.specs.Saving.{Kept, SettlesHeard, as_heard}
 use Rattle.headline.proofs.Sessions.{split_of}
 use Rattle.transcripts.specs.Replies.{RepliesExist}
 use Rattle.totality.proofs.Leaves.{read_or_not}
@@ -239,7 +240,7 @@ line_moves grounds line old present =
 -- ---- a desk, and all lines
 
 data Settled (line : List ℕ) (old : Timeline × SeenDesk) : Type 0 where
-  settled : (reply : Reply) (new : Timeline × SeenDesk) → Succeeds (Settles LineMoves) line old reply new →
+  settled : (reply : Reply) (new : Timeline × SeenDesk) → Succeeds (SettlesHeard LineMoves) line old reply new →
       HasPresent new.0 → Settled line old
 
 -- how a line ends, told beside the desk
@@ -256,15 +257,25 @@ tell (endings.Fault fa) old memory kept = told (endings.Fault fa) old (refl, ref
 tell (endings.Refused x) old memory kept = told (endings.Refused x) old (refl, refl) memory kept
 tell endings.Quit old memory kept = told endings.Quit old (refl, refl) memory kept
 
+-- a desk that has heard of these messages
+abbrev pub after_hearing : List SentMessage → SeenDesk → SeenDesk
+after_hearing sent desk = record desk { heard = option_map (λ before. before ++ as_heard sent) desk.heard }
+
 settles : Grounds → (line : List ℕ) (old : Timeline × SeenDesk) → HasPresent old.0 → Settled line old
 settles grounds line old present = by_step (line_moves grounds line old.0 present)
   where
     by_end : (reply : Reply) (new : Timeline) → LineMoves line old.0 reply new → HasPresent new →
-        Told reply.ending old.1 → Settled line old
+        Told reply.ending (after_hearing reply.sent old.1) → Settled line old
     by_end reply new moves present (told end desk kept memory saved) =
         settled (record reply { ending = end }) (new, desk)
         (record {
-          taken = record { ending = reply.ending; taken = moves; kept = inl kept };
+          taken = record {
+            ending = reply.ending;
+            told = after_hearing reply.sent old.1;
+            taken = moves;
+            heard = refl;
+            kept = inl kept;
+          };
           memory = memory;
           kept
               = saved;
@@ -272,14 +283,14 @@ settles grounds line old present = by_step (line_moves grounds line old.0 presen
 
     by_step : Step (LineMoves line old.0) → Settled line old
     by_step (step reply new moves sound present) = by_end reply new moves present
-        (tell reply.ending old.1 sound.memory sound.kept)
+        (tell reply.ending (after_hearing reply.sent old.1) sound.memory sound.kept)
 
 abbrev HasTranscript : Timeline × SeenDesk → List (List ℕ) → Type 0
 HasTranscript old lines = (text : List ℕ) × ((new : Timeline × SeenDesk) × Transcript old lines text new)
 
 -- a line, and those behind it unless it quits
 and_then : (line : List ℕ) (lines : List (List ℕ)) (old : Timeline × SeenDesk) (reply : Reply)
-    (mid : Timeline × SeenDesk) → Succeeds (Settles LineMoves) line old reply mid → (quits : Bool) →
+    (mid : Timeline × SeenDesk) → Succeeds (SettlesHeard LineMoves) line old reply mid → (quits : Bool) →
     is_quit reply.ending ≡ quits → HasTranscript mid lines
     → HasTranscript old (line ∷ lines)
 and_then line lines old reply mid taken true q rest = (

@@ -9,7 +9,7 @@ use Rattle.session.specs.declared.reply.Reply.{Reply}
 use Rattle.headline.specs.Answering.{Session}
 use Rattle.headline.specs.Headline.{Snapshot, Timeline, LineMoves}
 use Rattle.headline.specs.InputLines.{AreLines}
-use Rattle.headline.specs.Saving.{Settles}
+use Rattle.headline.specs.Saving.{SettlesHeard}
 
 -- a line is taken with the memory that it needs, and what it saves is kept
 pub record Succeeds {S : Type 0} (takes : List ℕ → S → Reply → S → Type 0) (line : List ℕ) (old : S) (reply : Reply)
@@ -18,9 +18,10 @@ pub record Succeeds {S : Type 0} (takes : List ℕ → S → Reply → S → Typ
   pub memory : reply.ending ≢ Refused NoMemory
   pub kept : reply.ending ≢ Refused SaveFailed
 
--- the answers to lines, none of which is refused for memory or for its file
+-- the answers to lines, none of which is refused for memory or for its file, beside a desk that goes on telling what it
+-- hears
 abbrev pub Transcript : Timeline × SeenDesk → List (List ℕ) → List ℕ → Timeline × SeenDesk → Type 0
-Transcript = Session (Succeeds (Settles LineMoves))
+Transcript = Session (Succeeds (SettlesHeard LineMoves))
 
 -- the answers to all lines of these bytes
 abbrev pub Output : Timeline × SeenDesk → List ℕ → List ℕ → Timeline × SeenDesk → Type 0
