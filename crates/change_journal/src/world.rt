@@ -38,6 +38,9 @@ pub const MOST_DEPTH: u32 = 1_000_000;
 // Clauses name this constant and not its value, so the value is proved here.
 const _: () = prove!(MOST_DEPTH == 1_000_000);
 
+/// The room for as many batches is never given back, so that a short history isn't moved again and again.
+const FEW_BATCHES: usize = 1_000;
+
 /// The present state of a stack, its globals, its current card and its externals, with the history of states
 /// round it. Nothing else writes: a change or a turn of an external is made in an open batch, which `commit`
 /// makes a state of the history and `roll_back` gives up.
@@ -387,6 +390,7 @@ impl<E: External> World<E> {
         let i = self.present.external_number(name)?;
         self.oldest = self.stamp(0);
         self.batches.clear();
+        self.batches.shrink_to_fit();
         self.cursor = 0;
         Some(self.present.unplug(i))
     }
@@ -424,11 +428,22 @@ fn keep(batches: &mut VecDeque<Batch>, oldest: u32, depth: u32, batch: Batch) ->
     ensures oldest { result ≡ oldest_of depth oldest (batches.old.items ++ batch ∷ []) }
 {
     batches.push_back_reserved(batch);
+    give_back(batches);
     if batches.len() <= depth as usize {
         return oldest;
     }
     match batches.pop_front() {
         Some(first) => first.number(),
         None => unreachable!(),
+    }
+}
+
+/// Gives back most of the room where many batches went and less than a quarter of it is filled.
+fn give_back(batches: &mut VecDeque<Batch>)
+    ensures items { batches.new.items ≡ batches.old.items }
+    ensures len { deque_len batches.new ≡ deque_len batches.old }
+{
+    if batches.capacity() > FEW_BATCHES && batches.len() < batches.capacity() / 4 {
+        batches.shrink_to(batches.len().saturating_mul(2));
     }
 }

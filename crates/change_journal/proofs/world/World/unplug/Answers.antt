@@ -17,4 +17,4 @@ invariant_of-self g c =
     let w = c.self.inside in
     let b = journal w.present w.oldest w.depth w.batches.items w.cursor in
     let none = closed b w.«open» (ap (λ j. j.history.start) c.self.view_is ∙ c.requires) in
-    rw (c.unplug.ensures.present, c.clear.ensures.items, none) (IsSound-unplugged b _ _ _ c.in_ok-i.i (rw none at c.self.invariant))
+    rw (c.unplug.ensures.present, c.shrink_to_fit.ensures.items, c.clear.ensures.items, none) (IsSound-unplugged b _ _ _ c.in_ok-i.i (rw none at c.self.invariant))
