@@ -101,7 +101,7 @@ pub(crate) fn names(alloc: Global, tokens: &mut Cursor<'_>, turns: usize) -> Res
         }
         match tokens.peek() {
             Some(TokenKind::Key(Key::CommaSign)) => tokens.skip(),
-            _ => return Ok(found),
+            _ => return Ok(found.fitted()),
         }
     }
     Err(Stop::Syntax)

@@ -138,7 +138,7 @@ impl Simple {
     fn one(&self, stmt: Stmt) -> Result<Stmts, Stop>
         ensures { GivesLines (s.also stmt s.stop) result }
     {
-        Ok(Stmts::new(self.alloc).with(stmt)?)
+        Ok(Stmts::new(self.alloc).with(stmt)?.fitted())
     }
 
     /// An `else` after a statement on the line of `then`, where a statement stands on its line.
@@ -191,7 +191,7 @@ pub(crate) fn lines(
     let mut found = Stmts::new(alloc);
     for _turn in 0..tokens.left() + 1 {
         if !begins_statement(tokens.peek()) {
-            return Ok(found);
+            return Ok(found.fitted());
         }
         let stmt = statement(alloc, tokens, context, depth)?;
         if !eat_ends(tokens) {
@@ -355,7 +355,7 @@ fn else_part(
         Some(TokenKind::Key(Key::If)) => {
             tokens.skip();
             let stmt = else_if(alloc, tokens, context, depth)?;
-            Ok(Stmts::new(alloc).with(stmt)?)
+            Ok(Stmts::new(alloc).with(stmt)?.fitted())
         }
         _ => {
             if !eat_ends(tokens) {

@@ -29,7 +29,8 @@ pub fn atom<E: External>(
     ensures { (d : ℕ) → Val world.now.history run.now frame.now d e.now result world.now.history run.now }
 {
     match e.kind() {
-        ExprKind::Number(text) | ExprKind::Quoted(text) => Ok(Value::copied(run.alloc(), text)?),
+        ExprKind::Number(value) => Ok(value.try_clone(run.alloc())?),
+        ExprKind::Quoted(text) => Ok(Value::copied(run.alloc(), text)?),
         ExprKind::Constant(constant) => Ok(constant_value(run, *constant)?),
         ExprKind::Return => Ok(return_sign(run)?),
         ExprKind::Name(name) => Ok(variable(world, run, frame, name)?),

@@ -9,7 +9,7 @@ use ht_values::Text;
 #[cycle(print)]
 pub fn print_expr(out: &mut Printed, expr: &Expr) {
     match expr.kind() {
-        ExprKind::Number(digits) => out.text(digits),
+        ExprKind::Number(digits) => out.value(digits),
         ExprKind::Quoted(text) => print_quoted(out, text),
         ExprKind::Constant(constant) => out.named("", constant, ""),
         ExprKind::Return => out.word("Return"),

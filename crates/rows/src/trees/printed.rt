@@ -1,6 +1,6 @@
 //! What is printed of a tree.
 
-use ht_values::Text;
+use ht_values::{Text, Value};
 use std::alloc::{AllocError, Global};
 use std::fmt::Debug;
 use std::io::Write;
@@ -8,6 +8,7 @@ use std::io::Write;
 /// The bytes that were printed, and whether some are lost for want of memory. So what prints can't fail at each word.
 #[derive(Drop)]
 pub struct Printed {
+    alloc: Global,
     bytes: Vec<u8>,
     is_cut: bool,
 }
@@ -16,6 +17,7 @@ impl Printed {
     /// Nothing is printed yet.
     pub fn new(alloc: Global) -> Printed {
         Printed {
+            alloc,
             bytes: Vec::new(alloc),
             is_cut: false,
         }
@@ -35,6 +37,14 @@ impl Printed {
     /// Prints the bytes of a text as they are.
     pub fn text(&mut self, text: &Text) {
         self.push(text.as_slice());
+    }
+
+    /// Prints the text of a value.
+    pub fn value(&mut self, value: &Value) {
+        match value.spelled(self.alloc) {
+            Ok(spelling) => self.text(spelling.text()),
+            Err(_) => self.is_cut = true,
+        }
     }
 
     /// Prints the name that a thing of the grammar has, between two words.

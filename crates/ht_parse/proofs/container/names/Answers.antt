@@ -15,6 +15,7 @@ returns-in_default c =
 pub returns-in_default-peek : goal.returns-in_default-peek
 unfolding names_at
 returns-in_default-peek c =
+    let f = c.fitted.ensures in
     let e = one_more (λ n. made (λ ws. c.loop-turn.found.items.items ++ ws) (names_at n c.loop-turn.tokens)) _ c.loop-turn._turn c.loop-turn-test.true c.loop-turn.invariant in
     first_of (search rules, grind (arith, common_steps))
 

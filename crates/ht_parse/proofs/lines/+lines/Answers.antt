@@ -20,6 +20,7 @@ lines-loop-turn-init t c =
 pub lines-returns-then-not-begins_statement : goal.lines-returns-then-not-begins_statement
 unfolding lines_at
 lines-returns-then-not-begins_statement t c =
+    let f = c.fitted.ensures in
     let e = one_more (λ n. made (append (stmts_of c.loop-turn.found.items.items)) (lines_at (statement_of c.args.depth) (else_if_of c.args.depth) n (context_of c.args.context) c.loop-turn.tokens)) _ c.loop-turn._turn c.loop-turn-test.true c.loop-turn.invariant.same in
     let s = append_stop (stmts_of c.loop-turn.found.items.items) in
     first_of (search rules, grind (arith, common_steps))
