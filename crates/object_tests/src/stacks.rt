@@ -2,7 +2,7 @@
 
 use crate::plain_texts::{Bytes, is_text_or_none, text};
 use ht_values::{PartKind, Text};
-use object_table::{Id, IdList, Kind, LayerId, Object, PropValue, Stack, Which};
+use object_table::{Id, IdList, Kind, LayerId, Object, ObjectName, PropValue, Stack, Which};
 use std::alloc::Global;
 
 /// What holds of a stack.
@@ -49,7 +49,8 @@ pub(crate) enum Setting {
 
 fn is_object(object: Option<&Object>, name: &[u8], script: &[u8]) -> bool {
     match object {
-        Some(object) => object.name.as_slice() == name && object.script.as_slice() == script,
+        Some(object) => object.name.as_text().as_slice() == name
+            && object.script.as_slice() == script,
         None => false,
     }
 }
@@ -185,7 +186,7 @@ pub(crate) enum Step {
 fn is_named(object: &Option<Object>, due: Option<&[u8]>) -> bool {
     match object {
         Some(object) => match due {
-            Some(name) => object.name.as_slice() == name && object.script.len() == 0,
+            Some(name) => object.name.as_text().as_slice() == name && object.script.len() == 0,
             None => false,
         },
         None => due.is_none(),
@@ -193,9 +194,8 @@ fn is_named(object: &Option<Object>, due: Option<&[u8]>) -> bool {
 }
 
 fn object(alloc: Global, name: &[u8], kind: Kind) -> Option<Object> {
-    let mut name = text(alloc, name)?;
     let mut object = Object::empty(alloc, kind);
-    std::mem::swap(&mut object.name, &mut name);
+    object.name = ObjectName::new(text(alloc, name)?);
     Some(object)
 }
 

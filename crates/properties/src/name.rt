@@ -33,7 +33,7 @@ fn is_nameless(object: &Object) -> bool
         | Kind::CardButton { .. }
         | Kind::BackgroundButton { .. }
         | Kind::CardField { .. }
-        | Kind::BackgroundField { .. } => object.name.len() == 0,
+        | Kind::BackgroundField { .. } => object.name.as_text().len() == 0,
     }
 }
 
@@ -62,7 +62,7 @@ pub(crate) fn full_name(alloc: Global, id: Id, object: &Object) -> Result<Text, 
     if is_nameless(object) {
         by_id(alloc, object.kind, id)
     } else {
-        by_name(alloc, object.kind, &object.name)
+        by_name(alloc, object.kind, object.name.as_text())
     }
 }
 
@@ -73,7 +73,7 @@ pub(crate) fn short_name(alloc: Global, id: Id, object: &Object) -> Result<Text,
     if is_nameless(object) {
         by_id(alloc, object.kind, id)
     } else {
-        Ok(object.name.try_clone(alloc)?)
+        Ok(object.name.as_text().try_clone(alloc)?)
     }
 }
 

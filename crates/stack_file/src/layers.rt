@@ -10,13 +10,13 @@ use crate::lines::Lines;
 use crate::parts::{Owner, parts};
 use crate::sheets::SheetLines;
 use ht_values::Text;
-use object_table::{Id, Kind, Object};
+use object_table::{Id, Kind, Object, ObjectName};
 use stack_text::{Keeping, Part, PartContent, ReadError, Version};
 use std::alloc::Global;
 
 /// The name of a background or a card, whether it can't be deleted, and its script.
 #[tactic(auto, unfolding(stack_text::specs::Reading::layer_at))]
-fn layer(lines: &mut Lines, alloc: Global) -> Result<(Text, bool, Text), ReadError>
+fn layer(lines: &mut Lines, alloc: Global) -> Result<(ObjectName, bool, Text), ReadError>
     ensures { Gives (λ x. (x, lines.new)) result (layer_at lines.old) }
 {
     let name = lines.name(alloc)?;

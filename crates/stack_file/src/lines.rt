@@ -12,6 +12,7 @@ use crate::forms::{
 };
 use crate::placed::PlacedIds;
 use ht_values::{PartKind, Text};
+use object_table::ObjectName;
 use stack_text::{FileError, ReadError, Version};
 use std::alloc::Global;
 use std::marker::Model;
@@ -144,11 +145,12 @@ impl<'a> Lines<'a> {
     }
 
     #[tactic(auto, unfolding(stack_text::specs::Reading::name_at))]
-    pub(crate) fn name(&mut self, alloc: Global) -> Result<Text, ReadError>
+    pub(crate) fn name(&mut self, alloc: Global) -> Result<ObjectName, ReadError>
         ensures { Gives (λ x. (x, self.new)) result (name_at self.old) }
     {
         let line = self.next_line()?;
-        self.or_bad_line(name_in(alloc, line)?)
+        let name = self.or_bad_line(name_in(alloc, line)?)?;
+        Ok(ObjectName::new(name))
     }
 
     /// How many pieces a text has.

@@ -5,25 +5,26 @@ ghost use Rattle.stack_text.specs.Document.{contains_id};
 
 use object_table::Id;
 use std::alloc::{AllocError, Global};
-use std::collections::HashMap;
+use std::collections::BTreeMap;
 use std::marker::Model;
 
-/// Ids in the order in which they came. Where one came first is told at once.
+/// Ids in the order in which they came. Where one came first is told in a few steps, whichever ids came.
 #[derive(Drop)]
 pub(crate) struct PlacedIds {
     ids: Vec<Id>,
-    places: HashMap<Id, usize>,
+    places: BTreeMap<Id, usize>,
 }
 
 impl Model for PlacedIds {
-    ghost use Rattle.std.specs.Prelude.{◌≡◌, ◌==◌, ℕ, List, nat_eq, position};
+    ghost use Rattle.std.specs.Prelude.{◌≡◌, ◌==◌, ℕ, List, position};
     ghost use Rattle.std.specs.Map.{lookup};
+    ghost use Rattle.std.specs.Ordering.{nat_cmp, eq_by_cmp};
 
     ghost Value = { List ℕ };
 
     ghost view = { λ p. p.ids.items };
 
-    ghost invariant = { λ p. (id : ℕ) → lookup (nat_eq id) p.places.entries ≡ position (λ x. x == id) p.ids.items };
+    ghost invariant = { λ p. (id : ℕ) → lookup (eq_by_cmp nat_cmp id) p.places.entries ≡ position (λ x. x == id) p.ids.items };
 }
 
 impl PlacedIds {
@@ -32,7 +33,7 @@ impl PlacedIds {
     {
         PlacedIds {
             ids: Vec::new(alloc),
-            places: HashMap::new(alloc),
+            places: BTreeMap::new(alloc),
         }
     }
 

@@ -171,7 +171,7 @@ fn cant_delete_of(kind: Kind) -> bool
 pub(crate) fn layer(out: &mut Vec<u8>, object: &Object) -> Result<(), AllocError>
     ensures { OnOk result (out.new.items ≡ with_lines out.old.items (layer_lines object.now.name object.now.script (cant_delete_in object.now.kind))) }
 {
-    name_line(out, object.name.as_slice())?;
+    name_line(out, object.name.as_text().as_slice())?;
     flag_line(out, b"cantDelete", cant_delete_of(object.kind))?;
     block(out, b"script", object.script.as_slice())
 }

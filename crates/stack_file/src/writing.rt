@@ -48,7 +48,7 @@ fn card_button(
     ensures { OnOk result (out.new.items ≡ with_lines out.old.items (lines_by second id object.now.name object.now.script Nothing (CardButton visible lit))) }
 {
     number_line(out, b"button", id as usize)?;
-    name_line(out, object.name.as_slice())?;
+    name_line(out, object.name.as_text().as_slice())?;
     flag_line(out, b"visible", visible)?;
     flag_line(out, b"hilite", lit)?;
     block(out, b"script", object.script.as_slice())
@@ -65,7 +65,7 @@ fn background_button(
 {
     let (visible, shared_hilite) = flags;
     number_line(out, b"button", id as usize)?;
-    name_line(out, object.name.as_slice())?;
+    name_line(out, object.name.as_text().as_slice())?;
     flag_line(out, b"visible", visible)?;
     flag_line(out, b"sharedHilite", shared_hilite)?;
     flag_line(out, b"hilite", lit)?;
@@ -84,7 +84,7 @@ fn card_field(
 {
     let (visible, lock_text) = flags;
     number_line(out, b"field", id as usize)?;
-    name_line(out, object.name.as_slice())?;
+    name_line(out, object.name.as_text().as_slice())?;
     flag_line(out, b"visible", visible)?;
     flag_line(out, b"lockText", lock_text)?;
     block(out, b"script", object.script.as_slice())?;
@@ -103,7 +103,7 @@ fn background_field(
 {
     let (visible, lock_text, shared_text) = flags;
     number_line(out, b"field", id as usize)?;
-    name_line(out, object.name.as_slice())?;
+    name_line(out, object.name.as_text().as_slice())?;
     flag_line(out, b"visible", visible)?;
     flag_line(out, b"lockText", lock_text)?;
     flag_line(out, b"sharedText", shared_text)?;
@@ -270,7 +270,7 @@ fn put_head(out: &mut Vec<u8>, stack: &Stack) -> Result<(), AllocError>
     };
     put_line(out, b"htstack 2")?;
     number_line(out, b"next", stack.next_id() as usize)?;
-    name_line(out, object.name.as_slice())?;
+    name_line(out, object.name.as_text().as_slice())?;
     block(out, b"script", object.script.as_slice())
 }
 

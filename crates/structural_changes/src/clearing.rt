@@ -20,6 +20,7 @@ pub(crate) fn clear_objects(
     ensures adds { OnOk result (Adds stack.old stack.new entries.old.items entries.new.items (map (λ id. clear (whole id)) ids.now)) }
     ensures opens { Opens stack.old stack.new }
 {
+    entries.reserve(ids.len())?;
     for id in ids {
         let gone = BoxedObject::new(alloc, None)?;
         add_entry(stack, entries, StackEntry::Object(*id, gone))?;
@@ -52,6 +53,7 @@ pub(crate) fn clear_texts(
     ensures adds { OnOk result (Adds stack.old stack.new entries.old.items entries.new.items (map (λ p. clear (field_text p.0 p.1)) texts.now)) }
     ensures opens { Opens stack.old stack.new }
 {
+    entries.reserve(texts.len())?;
     for text in texts {
         let gone = BoxedText::new(alloc, None)?;
         add_entry(stack, entries, StackEntry::FieldText(text.0, text.1, gone))?;
@@ -68,6 +70,7 @@ pub(crate) fn clear_hilites(
     ensures adds { OnOk result (Adds stack.old stack.new entries.old.items entries.new.items (map (λ p. clear (button_hilite p.0 p.1)) hilites.now)) }
     ensures opens { Opens stack.old stack.new }
 {
+    entries.reserve(hilites.len())?;
     for hilite in hilites {
         add_entry(stack, entries, StackEntry::Hilite(hilite.0, hilite.1, None))?;
     }

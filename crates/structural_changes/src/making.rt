@@ -13,7 +13,7 @@ use crate::preparing::{
     add_entry, add_hilites, add_hilites_of, add_texts, add_texts_of, cards_of, parts_of,
 };
 use ht_values::{PartKind, Text};
-use object_table::{Id, IdList, Kind, LayerId, Object, Stack};
+use object_table::{Id, IdList, Kind, LayerId, Object, ObjectName, Stack};
 use stack_places::{BoxedObject, StackEntry};
 use std::alloc::{AllocError, Global};
 
@@ -74,7 +74,7 @@ fn part_of(alloc: Global, layer: LayerId, kind: PartKind) -> Result<Object, Allo
         },
     };
     Ok(Object {
-        name,
+        name: ObjectName::new(name),
         script: Text::new(alloc),
         kind,
     })

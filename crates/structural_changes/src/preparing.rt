@@ -70,6 +70,7 @@ pub(crate) fn add_texts(
     ensures adds { OnOk result (Adds stack.old stack.new entries.old.items entries.new.items (empty_texts field cards.now)) }
     ensures opens { Opens stack.old stack.new }
 {
+    entries.reserve(cards.len())?;
     for card in cards {
         add_text(alloc, stack, entries, field, *card)?;
     }
@@ -86,6 +87,7 @@ pub(crate) fn add_hilites(
     ensures adds { OnOk result (Adds stack.old stack.new entries.old.items entries.new.items (false_hilites button cards.now)) }
     ensures opens { Opens stack.old stack.new }
 {
+    entries.reserve(cards.len())?;
     for card in cards {
         add_entry(
             stack,
@@ -179,6 +181,7 @@ pub(crate) fn add_texts_of(
     ensures adds { OnOk result (Adds stack.old stack.new entries.old.items entries.new.items (texts_of fields.now card)) }
     ensures opens { Opens stack.old stack.new }
 {
+    entries.reserve(fields.len())?;
     for field in fields {
         add_text(alloc, stack, entries, *field, card)?;
     }
@@ -195,6 +198,7 @@ pub(crate) fn add_hilites_of(
     ensures adds { OnOk result (Adds stack.old stack.new entries.old.items entries.new.items (hilites_of buttons.now card)) }
     ensures opens { Opens stack.old stack.new }
 {
+    entries.reserve(buttons.len())?;
     for button in buttons {
         add_entry(
             stack,
