@@ -1,5 +1,6 @@
 -- A chunk of one piece.
-use Rattle.std.proofs.Common.{◌≡◌, refl, sym, ◌∙◌, ap, ℕ, zero, suc, ◌-◌, ◌<◌, ◌≤◌, List, true, false, length, min, max, nat_le, ◌⊎◌, inl, inr, Some, None, ℤ, pos, negsuc, arith}
+use Rattle.std.proofs.Common.{◌≡◌, refl, sym, ◌∙◌, ap, ℕ, zero, suc, ◌-◌, ◌<◌, ◌≤◌, List, true, false, length, min}
+use Rattle.std.proofs.Common.{max, nat_le, ◌⊎◌, inl, inr, Some, None, ℤ, pos, negsuc, arith}
 use Rattle.std.specs.Prelude.{◌<ℤ◌, get_or, if◌then◌else◌, slice_get}
 use Rattle.std.proofs.lemmas.Int.{ints}
 use Rattle.std.proofs.lemmas.Option.{slice_get_cases}
@@ -20,7 +21,10 @@ module _ (d : ℕ) (k : ChunkKind) (t : List ℕ) where
   single_none (pos (suc n)) low = absurd (omega (arith, ints))
   single_none (negsuc n) low = refl
 
-  single_by : (n : ℕ) → 0 < n → ((s : Span) × (n - 1 < length (spans d k t)) × (slice_get (spans d k t) (n - 1) ≡ Some s) × (get_or (spans d k t) (n - 1) s ≡ s)) ⊎ ((length (spans d k t) ≤ n - 1) × (slice_get (spans d k t) (n - 1) ≡ None)) → stretch (spans d k t) (max n 1) (min n (length (pieces d k t))) ≡ slice_get (spans d k t) (n - 1)
+  single_by : (n : ℕ) → 0 < n → ((s : Span) × (n - 1 < length (spans d k t))
+      × (slice_get (spans d k t) (n - 1) ≡ Some s) × (get_or (spans d k t) (n - 1) s ≡ s))
+      ⊎ ((length (spans d k t) ≤ n - 1) × (slice_get (spans d k t) (n - 1) ≡ None))
+      → stretch (spans d k t) (max n 1) (min n (length (pieces d k t))) ≡ slice_get (spans d k t) (n - 1)
   single_by n some (inl r) =
       let first : max n 1 ≡ n = omega arith in
       let last : min n (length (pieces d k t)) ≡ n = omega (arith, r.1, count_spans d k t) in
@@ -33,8 +37,11 @@ module _ (d : ℕ) (k : ChunkKind) (t : List ℕ) where
   single_by n some (inr r) =
       let many : ℕ = length (pieces d k t) in
       let past : nat_le (max n 1) (min n many) ≡ false = grind (arith, r.0, count_spans d k t) in
-      ap (λ v. if v then across (slice_get (spans d k t) (max n 1 - 1)) (slice_get (spans d k t) (min n many - 1)) else None) past ∙ sym r.1
+      ap (λ v. if v then across (slice_get (spans d k t) (max n 1 - 1)) (slice_get (spans d k t) (min n many - 1)) else
+      None) past ∙ sym r.1
 
-  pub single_there : (z : ℤ) (n : ℕ) → z ≡ pos n → 0 < n → found d (record { kind = k; from = index.At z; to = index.At z }) t ≡ slice_get (spans d k t) (n - 1)
+  pub single_there : (z : ℤ) (n : ℕ) → z ≡ pos n → 0 < n
+      → found d (record { kind = k; from = index.At z; to = index.At z }) t ≡ slice_get (spans d k t) (n - 1)
   unfolding found count
-  single_there z n e some = ap (λ y. found d (at_number k y) t) e ∙ single_by n some (slice_get_cases (spans d k t) (n - 1)).1
+  single_there z n e some =
+      ap (λ y. found d (at_number k y) t) e ∙ single_by n some (slice_get_cases (spans d k t) (n - 1)).1

@@ -1,5 +1,6 @@
 -- What a text becomes where another is put at one of its chunks, or a chunk is deleted.
-use Rattle.std.specs.Prelude.{ℕ, ◌-◌, ◌||◌, List, [], ◌∷◌, ◌++◌, length, take, replicate, min, max, pos, int_lt, unsigned_abs, if◌then◌else◌, Option, Some, None, Err, Result}
+use Rattle.std.specs.Prelude.{ℕ, ◌-◌, ◌||◌, List, [], ◌∷◌, ◌++◌, length, take, replicate, min, max, pos, int_lt}
+use Rattle.std.specs.Prelude.{unsigned_abs, if◌then◌else◌, Option, Some, None, Err, Result}
 use Rattle.std.specs.Option.{option_map, unwrap_or}
 use Rattle.ht_values.specs.declared.fault.Fault.{Fault}
 use Rattle.ht_values.specs.declared.fault.Fault.TheVariants.{BadArgument}

@@ -1,5 +1,6 @@
 -- What the definitions of pieces promise.
-use Rattle.std.specs.Prelude.{◌≡◌, ℕ, ◌+◌, ◌-◌, ◌<◌, ◌≤◌, Bool, false, List, [], ◌∷◌, ◌++◌, map, length, replicate, nat_lt, slice_set, ◌==◌, if◌then◌else◌, ⊤, ◌↔◌, pos, Some, None, Ok}
+use Rattle.std.specs.Prelude.{◌≡◌, ℕ, ◌+◌, ◌-◌, ◌<◌, ◌≤◌, Bool, false, List, [], ◌∷◌, ◌++◌, map, length, replicate}
+use Rattle.std.specs.Prelude.{nat_lt, slice_set, ◌==◌, if◌then◌else◌, ⊤, ◌↔◌, pos, Some, None, Ok}
 use Rattle.std.specs.List.{join_with_byte}
 use Rattle.chunks.specs.declared.chunk.Chunk.{Chunk}
 use Rattle.chunks.specs.declared.chunk.Index.TheVariants as index
@@ -77,7 +78,9 @@ one k n = record { kind = k; from = index.At (pos (n + 1)); to = index.At (pos (
 -- a piece that is put into one piece stands there, and the other pieces are as they were
 abbrev pub PieceIsPut : Type 0
 PieceIsPut =
-    (delimiter : ℕ) (k : ChunkKind) (n : ℕ) (p t u : List ℕ) → IsPiece delimiter k p → put delimiter (one k n) place.Into p t ≡ Ok u → 0 < length u → pieces delimiter k u ≡ with_piece k n p (pieces delimiter k t)
+    (delimiter : ℕ) (k : ChunkKind) (n : ℕ) (p t u : List ℕ) → IsPiece delimiter k p
+    → put delimiter (one k n) place.Into p t ≡ Ok u → 0 < length u
+    → pieces delimiter k u ≡ with_piece k n p (pieces delimiter k t)
 
 -- whether a piece put at this number is read at the same number: a char or a word past the end stands just past the last
 abbrev pub IsReached : ℕ → ChunkKind → ℕ → List ℕ → Type 0
@@ -89,4 +92,5 @@ IsReached delimiter kind.Line n t = ⊤
 -- what is put into one piece is read there
 abbrev pub PutReadsBack : Type 0
 PutReadsBack =
-    (delimiter : ℕ) (k : ChunkKind) (n : ℕ) (p t u : List ℕ) → IsPiece delimiter k p → IsReached delimiter k n t → put delimiter (one k n) place.Into p t ≡ Ok u → read delimiter (one k n) u ≡ p
+    (delimiter : ℕ) (k : ChunkKind) (n : ℕ) (p t u : List ℕ) → IsPiece delimiter k p → IsReached delimiter k n t
+    → put delimiter (one k n) place.Into p t ≡ Ok u → read delimiter (one k n) u ≡ p

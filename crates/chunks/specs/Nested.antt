@@ -28,7 +28,8 @@ put_changed delimiter c t (Some part) = and_then (put delimiter c place.Into par
 -- the text after the innermost chunk is deleted; nothing where it isn't found, and then nothing changes at all
 abbrev pub removed_within : ℕ → Chunk → List Chunk → List ℕ → Result (Option (List ℕ)) Fault
 removed_within delimiter c [] t = Ok (removed delimiter c t)
-removed_within delimiter c (d ∷ cs) t = and_then (removed_within delimiter d cs (read delimiter c t)) (λ part. put_changed delimiter c t part)
+removed_within delimiter c (d ∷ cs) t =
+    and_then (removed_within delimiter d cs (read delimiter c t)) (λ part. put_changed delimiter c t part)
 
 -- the same of any list of chunks; no chunk finds nothing
 abbrev pub deleted_within : ℕ → List Chunk → List ℕ → Result (Option (List ℕ)) Fault

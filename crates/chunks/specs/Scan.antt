@@ -12,9 +12,11 @@ all_kept s = true
 
 -- the part up to a place, if it is a piece, before those that follow
 abbrev pub kept : (Span → Bool) → ℕ → ℕ → List Span → List Span
-kept keep start at later = if keep (record { start = start; after = at }) then record { start = start; after = at } ∷ later else later
+kept keep start at later =
+    if keep (record { start = start; after = at }) then record { start = start; after = at } ∷ later else later
 
 -- the pieces from a place on, where a part has begun
 unfoldable pub scan : (ℕ → Bool) → (Span → Bool) → ℕ → ℕ → List ℕ → List Span
 scan cut keep start at [] = kept keep start at []
-scan cut keep start at (b ∷ bs) = if cut b then kept keep start at (scan cut keep (at + 1) (at + 1) bs) else scan cut keep start (at + 1) bs
+scan cut keep start at (b ∷ bs) =
+    if cut b then kept keep start at (scan cut keep (at + 1) (at + 1) bs) else scan cut keep start (at + 1) bs

@@ -98,7 +98,9 @@ fn changed(
     new: &[u8],
 ) -> Result<Text, Failure>
     requires { IsCutBy text.now span }
-    ensures { Gives result (within_limit (pieces.left text.now span ++ change.placed place new.now (pieces.middle text.now span) ++ pieces.right text.now span)) }
+    ensures { Gives result (within_limit
+        (pieces.left text.now span ++ change.placed place new.now (pieces.middle text.now span)
+        ++ pieces.right text.now span)) }
 {
     match place {
         Where::Into => joined(alloc, &text[..span.start], new, &text[span.after..]),

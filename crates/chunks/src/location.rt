@@ -3,7 +3,8 @@
 ghost use Rattle.std.specs.Prelude.{◌≡◌, ◌≤◌, ◌<◌, ◌+◌, ◌^◌, length, IfSome};
 ghost use Rattle.chunks.specs.declared.chunk.Index.TheVariants as index;
 ghost use Rattle.chunks.specs.Laws.{IsCutBy};
-ghost use Rattle.chunks.specs.Pieces.{count as count_of, first_from, found, last_to, number_at as number_at_of, read, spans, stretch as stretch_of};
+ghost use Rattle.chunks.specs.Pieces.{count as count_of, first_from, found, last_to, number_at as number_at_of, read};
+ghost use Rattle.chunks.specs.Pieces.{spans, stretch as stretch_of};
 
 use crate::chunk::{Chunk, Index, Span};
 use crate::piece;

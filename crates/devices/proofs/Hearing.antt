@@ -22,7 +22,8 @@ pub hears_nothing : (desk : SeenDesk) → HearsOrForgets [] desk desk
 hears_nothing desk = inl (ap (with_heard desk) (nothing_more desk.heard))
 
 -- what was heard before, and what is heard then
-pub hears_on : (a b : List HeardMessage) (old mid new : SeenDesk) → HearsOrForgets a old mid → HearsOrForgets b mid new →
+pub hears_on : (a b : List HeardMessage) (old mid new : SeenDesk) → HearsOrForgets a old mid → HearsOrForgets b mid new
+    →
     HearsOrForgets (a ++ b) old new
 hears_on a b old mid new (inl first) (inl then) =
     inl (then ∙ ap (λ (d : SeenDesk). with_heard d (option_map (λ before. before ++ b) d.heard)) first

@@ -8,7 +8,8 @@ Appends-Appends (Some xs) None c x y p q = absurd p
 Appends-Appends (Some xs) (Some ys) None x y p q = absurd q
 Appends-Appends (Some xs) (Some ys) (Some zs) x y p q = rw (q, p) (append_assoc xs x y)
 
-pub Consumes-Consumes : (a b c : Option (List ℕ)) (x y : List ℕ) → Consumes a b x → Consumes b c y → Consumes a c (x ++ y)
+pub Consumes-Consumes : (a b c : Option (List ℕ)) (x y : List ℕ) → Consumes a b x → Consumes b c y
+    → Consumes a c (x ++ y)
 Consumes-Consumes None b c x y p q = tt
 Consumes-Consumes (Some xs) None c x y p q = absurd p
 Consumes-Consumes (Some xs) (Some ys) None x y p q = absurd q
@@ -38,10 +39,12 @@ Keeps-Appends (Some xs) None c x p q = absurd p
 Keeps-Appends (Some xs) (Some ys) None x p q = absurd q
 Keeps-Appends (Some xs) (Some ys) (Some zs) x p q = q ∙ ap (λ zs. zs ++ x) p
 
-pub Keeps-Reads : {E : Type 0} (a b c : Option (List ℕ)) (r : Result ℕ E) (buf : List ℕ) → Keeps a b → ReadConsumes b c r buf → ReadConsumes a c r buf
+pub Keeps-Reads : {E : Type 0} (a b c : Option (List ℕ)) (r : Result ℕ E) (buf : List ℕ) → Keeps a b
+    → ReadConsumes b c r buf → ReadConsumes a c r buf
 Keeps-Reads a b c (Ok n) buf p q = (Keeps-Consumes a b c _ p q.0, q.1)
 Keeps-Reads a b c (Err e) buf p q = Keeps-Keeps a b c p q
 
-pub Keeps-Writes : {E : Type 0} (a b c : Option (List ℕ)) (r : Result ℕ E) (buf : List ℕ) → Keeps a b → WriteAppends b c r buf → WriteAppends a c r buf
+pub Keeps-Writes : {E : Type 0} (a b c : Option (List ℕ)) (r : Result ℕ E) (buf : List ℕ) → Keeps a b
+    → WriteAppends b c r buf → WriteAppends a c r buf
 Keeps-Writes a b c (Ok n) buf p q = Keeps-Appends a b c _ p q
 Keeps-Writes a b c (Err e) buf p q = Keeps-Keeps a b c p q

@@ -10,4 +10,5 @@ ReadsAll limit old new bytes = (length bytes ≤ limit) × Consumes old new byte
 
 -- what is gone where reading stopped: at most one byte past the limit, and exactly so many where there are too many
 abbrev pub StopsAfter : ℕ → Option (List ℕ) → Option (List ℕ) → BytesFault → Type 0
-StopsAfter limit old new fault = (gone : List ℕ) × Consumes old new gone × (length gone ≤ limit + 1) × (fault ≡ TooMany → length gone ≡ limit + 1)
+StopsAfter limit old new fault =
+    (gone : List ℕ) × Consumes old new gone × (length gone ≤ limit + 1) × (fault ≡ TooMany → length gone ≡ limit + 1)

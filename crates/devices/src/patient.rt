@@ -44,7 +44,8 @@ impl<C: Clock, R: Read> Read for Patient<'_, C, R> {
 
     fn read(&mut self, buf: &mut [u8]) -> io::Result<usize>
         ensures bound { ReadsAtMost result buf.new }
-        ensures bytes { ReadConsumes (R.remaining (waited_for self.old)) (R.remaining (waited_for self.new)) result buf.new }
+        ensures bytes { ReadConsumes (R.remaining (waited_for self.old)) (R.remaining (waited_for self.new)) result
+            buf.new }
     {
         for _ in 0..u64::MAX {
             match self.device.read(buf) {
@@ -61,7 +62,8 @@ impl<C: Clock, W: Write> Write for Patient<'_, C, W> {
 
     fn write(&mut self, buf: &[u8]) -> io::Result<usize>
         ensures bound { WritesAtMost result buf.now }
-        ensures bytes { WriteAppends (W.contents (waited_for self.old)) (W.contents (waited_for self.new)) result buf.now }
+        ensures bytes { WriteAppends (W.contents (waited_for self.old)) (W.contents (waited_for self.new)) result
+            buf.now }
     {
         for _ in 0..u64::MAX {
             match self.device.write(buf) {

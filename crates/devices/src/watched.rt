@@ -52,7 +52,8 @@ impl<R: Read> Read for Watched<R> {
 
     fn read(&mut self, buf: &mut [u8]) -> io::Result<usize>
         ensures bound { ReadsAtMost result buf.new }
-        ensures bytes { ReadConsumes (R.remaining (device_of self.old)) (R.remaining (device_of self.new)) result buf.new }
+        ensures bytes { ReadConsumes (R.remaining (device_of self.old)) (R.remaining (device_of self.new)) result
+            buf.new }
         ensures failures { failures_of self.new ≡ counted (is_err result) (failures_of self.old) }
     {
         let result = self.device.read(buf);

@@ -1,6 +1,7 @@
 -- Cells of an external, patches of them, and their flips.
 use Rattle.std.specs.Coded.{Coded, code_by, coded×, coded_ℕ, coded_bool, coded_list}
-use Rattle.std.specs.Prelude.{refl, true, false, Bool, ◌≡◌, ◌≢◌, ℕ, ◌+◌, ◌-◌, ◌<◌, ◌^◌, min, List, [], ◌∷◌, length, All, slice_set, slice_index_or, slice_get, Some}
+use Rattle.std.specs.Prelude.{refl, true, false, Bool, ◌≡◌, ◌≢◌, ℕ, ◌+◌, ◌-◌, ◌<◌, ◌^◌, min, List, [], ◌∷◌, length}
+use Rattle.std.specs.Prelude.{All, slice_set, slice_index_or, slice_get, Some}
 use Rattle.ht_values.specs.Text.{IsText}
 
 -- numbers of cells with texts
@@ -64,7 +65,10 @@ pub record Seen : Type 0 where
   pub cells : List (List ℕ)
 
 abbrev pub coded_seen : Coded Seen
-coded_seen = code_by (List ℕ × (ℕ × (Bool × List (List ℕ)))) (coded× (coded_list coded_ℕ) (coded× coded_ℕ (coded× coded_bool (coded_list (coded_list coded_ℕ))))) (λ e. (e.title, (e.sort, (e.answers_calls, e.cells)))) (λ p. record { title = p.0; sort = p.1.0; answers_calls = p.1.1.0; cells = p.1.1.1 }) (λ _. refl)
+coded_seen = code_by (List ℕ × (ℕ × (Bool × List (List ℕ))))
+    (coded× (coded_list coded_ℕ) (coded× coded_ℕ (coded× coded_bool (coded_list (coded_list coded_ℕ)))))
+    (λ e. (e.title, (e.sort, (e.answers_calls, e.cells))))
+    (λ p. record { title = p.0; sort = p.1.0; answers_calls = p.1.1.0; cells = p.1.1.1 }) (λ _. refl)
 
 -- what stands past the end of a list of externals
 abbrev pub none_seen : Seen

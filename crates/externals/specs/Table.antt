@@ -1,11 +1,14 @@
 -- What externals of the known kinds answer.
-use Rattle.std.specs.Prelude.{◌≡◌, ℕ, suc, ◌+◌, ℤ, pos, negsuc, ◌+ℤ◌, ◌^◌, Bool, true, false, bytes_eq, codes, nat_eq, nat_lt, if◌then◌else◌, List, [], ◌∷◌, length, slice_index_or, slice_set, Option, Some, None, IfSome}
+use Rattle.std.specs.Prelude.{◌≡◌, ℕ, suc, ◌+◌, ℤ, pos, negsuc, ◌+ℤ◌, ◌^◌, Bool, true, false, bytes_eq, codes, nat_eq}
+use Rattle.std.specs.Prelude.{nat_lt, if◌then◌else◌, List, [], ◌∷◌, length, slice_index_or, slice_set, Option, Some}
+use Rattle.std.specs.Prelude.{None, IfSome}
 use Rattle.ht_values.specs.Text.{numeral}
 use Rattle.externals.specs.Number.{number_in}
 use Rattle.externals.specs.declared.external.Input.{Input}
 use Rattle.externals.specs.declared.external.Input.TheVariants.{Start, Answer}
 use Rattle.externals.specs.declared.external.Ask.{Ask}
-use Rattle.externals.specs.declared.external.Ask.TheVariants.{SendCardMessage, EvalExpr, SetGlobal, SetFieldByName, Done, Fail}
+use Rattle.externals.specs.declared.external.Ask.TheVariants.{SendCardMessage, EvalExpr, SetGlobal, SetFieldByName}
+use Rattle.externals.specs.declared.external.Ask.TheVariants.{Done, Fail}
 
 -- what is asked, and the cells after it
 abbrev pub Turn : Type 0
@@ -26,7 +29,8 @@ may_count (negsuc n) = true
 -- Kind 1 counts its one cell up at each start, and tells the count.
 abbrev pub counted : List (List ℕ) → Option ℤ → Turn
 counted cells None = fails cells
-counted cells (Some n) = if may_count n then (let more = numeral (n +ℤ pos 1) in (Done more false, slice_set cells 0 more)) else fails cells
+counted cells (Some n) =
+    if may_count n then (let more = numeral (n +ℤ pos 1) in (Done more false, slice_set cells 0 more)) else fails cells
 
 abbrev pub counter_turn : List (List ℕ) → Input → Turn
 counter_turn cells (Start args) = counted cells (number_in (cell cells 0))
@@ -34,7 +38,8 @@ counter_turn cells (Answer note value) = fails cells
 
 -- Kind 2 keeps a text in one of its cells 1 to 16, and tells the old one.
 abbrev pub stored : List (List ℕ) → Option ℤ → List ℕ → Turn
-stored cells (Some (pos (suc i))) text = if nat_lt i 16 then (Done (cell cells i) false, slice_set cells i text) else fails cells
+stored cells (Some (pos (suc i))) text =
+    if nat_lt i 16 then (Done (cell cells i) false, slice_set cells i text) else fails cells
 stored cells _ text = fails cells
 
 abbrev pub bins_turn : List (List ℕ) → Input → Turn
@@ -47,12 +52,15 @@ abbrev pub is_stage : List ℕ → List ℕ → Bool
 is_stage stage text = bytes_eq stage text
 
 abbrev pub relay_start : List (List ℕ) → List (List ℕ) → Turn
-relay_start cells (global ∷ field ∷ expression ∷ message ∷ []) = (SetGlobal (codes "1" ∷ field ∷ expression ∷ message ∷ []) global (codes "relay"), slice_set cells 0 global)
+relay_start cells (global ∷ field ∷ expression ∷ message ∷ []) =
+    (SetGlobal (codes "1" ∷ field ∷ expression ∷ message ∷ []) global (codes "relay"), slice_set cells 0 global)
 relay_start cells _ = fails cells
 
 abbrev pub relay_answer : List (List ℕ) → List (List ℕ) → List ℕ → Turn
-relay_answer cells (stage ∷ field ∷ expression ∷ message ∷ []) value = if is_stage stage (codes "1") then (SetFieldByName (codes "2" ∷ expression ∷ message ∷ []) false field (cell cells 0), cells) else fails cells
-relay_answer cells (stage ∷ expression ∷ message ∷ []) value = if is_stage stage (codes "2") then (EvalExpr (codes "3" ∷ message ∷ []) expression, cells) else fails cells
+relay_answer cells (stage ∷ field ∷ expression ∷ message ∷ []) value = if is_stage stage (codes "1") then
+    (SetFieldByName (codes "2" ∷ expression ∷ message ∷ []) false field (cell cells 0), cells) else fails cells
+relay_answer cells (stage ∷ expression ∷ message ∷ []) value =
+    if is_stage stage (codes "2") then (EvalExpr (codes "3" ∷ message ∷ []) expression, cells) else fails cells
 relay_answer cells (stage ∷ text ∷ []) value =
     if is_stage stage (codes "3") then (SendCardMessage (codes "4" ∷ value ∷ []) text, slice_set cells 1 value)
     else if is_stage stage (codes "4") then (Done text false, cells)

@@ -9,8 +9,10 @@ use ht_values::law_of_text;
 /// A flip of what came out takes a flip back, and the patch after it is the first one again. The patch of a
 /// turn flips the new cells to the old ones.
 pub fn laws_of_flips()
-    ensures back { (cells : List (List ℕ)) (p : Changes) → IsProper (length cells) p → flipped (flipped cells p) (taken_out cells p) ≡ cells }
-    ensures again { (cells : List (List ℕ)) (p : Changes) → IsProper (length cells) p → taken_out (flipped cells p) (taken_out cells p) ≡ p }
+    ensures back { (cells : List (List ℕ)) (p : Changes) → IsProper (length cells) p
+        → flipped (flipped cells p) (taken_out cells p) ≡ cells }
+    ensures again { (cells : List (List ℕ)) (p : Changes) → IsProper (length cells) p
+        → taken_out (flipped cells p) (taken_out cells p) ≡ p }
     ensures proper { (n : ℕ) (cells : List (List ℕ)) (p : Changes) → IsProper n p → IsProper n (taken_out cells p) }
     ensures turn { (old new : List (List ℕ)) (p : Changes) → IsPatch old new p → flipped new p ≡ old }
 {}
@@ -18,7 +20,14 @@ pub fn laws_of_flips()
 /// What an external is by its types. A text is known to be one as its bytes are read, so this reads the name and
 /// all cells; nothing is done with them.
 pub fn law_of_external<E: External>(external: &E)
-    ensures { IsExternal (record { title = E.title external.now; sort = E.sort external.now; answers_calls = E.answers_calls external.now; cells = E.cells external.now }) }
+    ensures { IsExternal
+        (record {
+          title = E.title external.now;
+          sort = E.sort external.now;
+          answers_calls = E.answers_calls
+              external.now;
+          cells = E.cells external.now;
+        }) }
 {
     law_of_text(external.name());
     let _kind = external.kind();

@@ -31,7 +31,8 @@ impl FileState {
 
     /// Whether both are one plain file, of one size, last written at one time.
     pub fn is_same(&self, other: &FileState) -> bool
-        ensures plain { IsTrue result → IsFile (file_type (metadata_of self.now)) × IsFile (file_type (metadata_of other.now)) }
+        ensures plain { IsTrue result → IsFile (file_type (metadata_of self.now))
+            × IsFile (file_type (metadata_of other.now)) }
         ensures size { IsTrue result → metadata_len (metadata_of self.now) ≡ metadata_len (metadata_of other.now) }
     {
         let (mine, its) = (&self.metadata, &other.metadata);

@@ -19,8 +19,10 @@ unfolding rank_at
 rank_zero d zero ts e = refl
 rank_zero d (suc r) ts e = absurd (omega arith)
 
-pub rank_up : (d r : ℕ) (ts : List Token) → 0 < r → rank_at (read d) d r ts ≡ and_then (rank_at (read d) d (r - 1) ts) (chain_at (read d) d (r - 1) (d + 2))
+pub rank_up : (d r : ℕ) (ts : List Token) → 0 < r
+    → rank_at (read d) d r ts ≡ and_then (rank_at (read d) d (r - 1) ts) (chain_at (read d) d (r - 1) (d + 2))
 unfolding rank_at
 rank_up d zero ts e = absurd (omega arith)
 rank_up d (suc r) ts e = let n : r ≡ suc r - 1 = omega arith in let k : suc (suc d) ≡ d + 2 = omega arith in
-    ap (λ n. and_then (rank_at (read d) d n ts) (chain_at (read d) d n (suc (suc d)))) n ∙ ap (λ k. and_then (rank_at (read d) d (suc r - 1) ts) (chain_at (read d) d (suc r - 1) k)) k
+    ap (λ n. and_then (rank_at (read d) d n ts) (chain_at (read d) d n (suc (suc d)))) n
+    ∙ ap (λ k. and_then (rank_at (read d) d (suc r - 1) ts) (chain_at (read d) d (suc r - 1) k)) k

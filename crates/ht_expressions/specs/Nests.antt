@@ -32,5 +32,6 @@ pub record Nests (d : ℕ) (pre : Global → MutBor (List Token) → Level → �
     (post : Global → MutBor (List Token) → Level → ℕ → Result Expr Stop → MutBor (List Token) → Type 0) : Type 0 where
   pub shallow : d ≤ max_depth
   pub callable : (alloc : Global) (old : MutBor (List Token)) (l : Level) → IsRanked l → pre alloc old l d
-  pub reads : (alloc : Global) (old new : MutBor (List Token)) (l : Level) (r : Result Expr Stop) → post alloc old l d r new
+  pub reads : (alloc : Global) (old new : MutBor (List Token)) (l : Level) (r : Result Expr Stop)
+      → post alloc old l d r new
       → ReadsExpr d (read d (level_of l) old.now) r new.now

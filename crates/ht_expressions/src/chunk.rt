@@ -23,7 +23,8 @@ use std::alloc::Global;
 
 /// A piece by an ordinal, after it.
 fn nth_chunk(tokens: &mut Cursor<'_>, ordinal: Ordinal) -> Result<Chunk, Stop>
-    ensures { Reads chunk_of chunk_depth 0 (spec.nth_by (spec.read 0) 0 (first_kind tokens.old) ordinal tokens.old) result tokens.new }
+    ensures { Reads chunk_of chunk_depth 0 (spec.nth_by (spec.read 0) 0 (first_kind tokens.old) ordinal tokens.old)
+        result tokens.new }
 {
     match tokens.peek() {
         Some(TokenKind::Key(Key::Piece(piece))) => {
@@ -36,7 +37,8 @@ fn nth_chunk(tokens: &mut Cursor<'_>, ordinal: Ordinal) -> Result<Chunk, Stop>
 
 /// A piece by an ordinal.
 fn ordinal_chunk(tokens: &mut Cursor<'_>) -> Result<Chunk, Stop>
-    ensures { Reads chunk_of chunk_depth 0 (spec.ordinal_by (spec.read 0) 0 (first_kind tokens.old) tokens.old) result tokens.new }
+    ensures { Reads chunk_of chunk_depth 0 (spec.ordinal_by (spec.read 0) 0 (first_kind tokens.old) tokens.old) result
+        tokens.new }
 {
     match tokens.peek() {
         Some(TokenKind::Key(Key::Ordinal(ordinal))) => {
@@ -51,7 +53,9 @@ impl<F: Fn(Global, &mut Cursor<'_>, Level, usize) -> Result<Expr, Stop>> Grammar
     /// The pieces by their first index, and their last one after `to`.
     fn chunk_from(&self, tokens: &mut Cursor<'_>, piece: ChunkKind) -> Result<Chunk, Stop>
         requires { Nests self.now.depth (F.pre self.now.read) (F.post self.now.read) }
-        ensures { Reads chunk_of chunk_depth self.now.depth (spec.and_then (spec.read self.now.depth e.whole tokens.old) (λ i r. spec.piece_by (spec.read self.now.depth) self.now.depth (first_kind r) piece i r)) result tokens.new }
+        ensures { Reads chunk_of chunk_depth self.now.depth
+            (spec.and_then (spec.read self.now.depth e.whole tokens.old)
+            (λ i r. spec.piece_by (spec.read self.now.depth) self.now.depth (first_kind r) piece i r)) result tokens.new }
     {
         let first = self.read(tokens, WHOLE)?;
         match tokens.peek() {
@@ -68,7 +72,8 @@ impl<F: Fn(Global, &mut Cursor<'_>, Level, usize) -> Result<Expr, Stop>> Grammar
     #[tactic(auto, unfolding(ht_grammar::specs::Reading::chunk_at))]
     pub(crate) fn chunk_head(&self, tokens: &mut Cursor<'_>) -> Result<Chunk, Stop>
         requires { Nests self.now.depth (F.pre self.now.read) (F.post self.now.read) }
-        ensures { Reads chunk_of chunk_depth self.now.depth (spec.chunk_at (spec.read self.now.depth) self.now.depth tokens.old) result tokens.new }
+        ensures { Reads chunk_of chunk_depth self.now.depth
+            (spec.chunk_at (spec.read self.now.depth) self.now.depth tokens.old) result tokens.new }
     {
         match tokens.peek() {
             Some(TokenKind::Key(Key::Piece(piece))) => {
@@ -86,7 +91,9 @@ impl<F: Fn(Global, &mut Cursor<'_>, Level, usize) -> Result<Expr, Stop>> Grammar
     /// `of` or `in`, and a factor.
     fn factor_of(&self, tokens: &mut Cursor<'_>) -> Result<Expr, Stop>
         requires { Nests self.now.depth (F.pre self.now.read) (F.post self.now.read) }
-        ensures { ReadsExpr self.now.depth (spec.of_part (spec.read self.now.depth) self.now.depth (spec.read self.now.depth e.factor) (f.after_of tokens.old)) result tokens.new }
+        ensures { ReadsExpr self.now.depth
+            (spec.of_part (spec.read self.now.depth) self.now.depth (spec.read self.now.depth e.factor)
+            (f.after_of tokens.old)) result tokens.new }
     {
         if !eat_of(tokens) {
             return Err(Stop::Syntax);
@@ -99,7 +106,8 @@ impl<F: Fn(Global, &mut Cursor<'_>, Level, usize) -> Result<Expr, Stop>> Grammar
     fn chunk_form(&self, tokens: &mut Cursor<'_>) -> Result<Expr, Stop>
         requires nests { Nests self.now.depth (F.pre self.now.read) (F.post self.now.read) }
         requires shallow { self.now.depth < max_depth }
-        ensures { ReadsExpr (self.now.depth + 1) (spec.chunk_form (spec.read self.now.depth) self.now.depth tokens.old) result tokens.new }
+        ensures { ReadsExpr (self.now.depth + 1) (spec.chunk_form (spec.read self.now.depth) self.now.depth tokens.old)
+            result tokens.new }
     {
         let chunk = self.chunk_head(tokens)?;
         let text = self.factor_of(tokens)?;
@@ -109,7 +117,9 @@ impl<F: Fn(Global, &mut Cursor<'_>, Level, usize) -> Result<Expr, Stop>> Grammar
     /// An object whose number is asked.
     fn object_asked(&self, tokens: &mut Cursor<'_>) -> Result<Count, Stop>
         requires { Nests self.now.depth (F.pre self.now.read) (F.post self.now.read) }
-        ensures { Reads count_of count_depth self.now.depth (spec.made t.of_object (spec.inner_ref (spec.read self.now.depth) self.now.depth tokens.old)) result tokens.new }
+        ensures { Reads count_of count_depth self.now.depth
+            (spec.made t.of_object (spec.inner_ref (spec.read self.now.depth) self.now.depth tokens.old)) result
+            tokens.new }
     {
         Ok(Count::OfObject(self.inner_reference(tokens)?))
     }
@@ -117,7 +127,9 @@ impl<F: Fn(Global, &mut Cursor<'_>, Level, usize) -> Result<Expr, Stop>> Grammar
     /// Parts of a layer, or an object, at the layer's word.
     fn layered_count(&self, tokens: &mut Cursor<'_>, layer: Layer) -> Result<Count, Stop>
         requires { Nests self.now.depth (F.pre self.now.read) (F.post self.now.read) }
-        ensures { Reads count_of count_depth self.now.depth (spec.layered_count (spec.read self.now.depth) self.now.depth (first_kind (later tokens.old)) layer tokens.old) result tokens.new }
+        ensures { Reads count_of count_depth self.now.depth
+            (spec.layered_count (spec.read self.now.depth) self.now.depth (first_kind (later tokens.old)) layer
+            tokens.old) result tokens.new }
     {
         match tokens.second() {
             Some(TokenKind::Key(Key::Parts(kind))) => {
@@ -132,7 +144,9 @@ impl<F: Fn(Global, &mut Cursor<'_>, Level, usize) -> Result<Expr, Stop>> Grammar
     /// Pieces whose number is asked, after their word.
     fn counted_pieces(&self, tokens: &mut Cursor<'_>, piece: ChunkKind) -> Result<Count, Stop>
         requires { Nests self.now.depth (F.pre self.now.read) (F.post self.now.read) }
-        ensures { Reads count_of count_depth self.now.depth (spec.made (t.pieces_of piece) (spec.of_part (spec.read self.now.depth) self.now.depth (spec.read self.now.depth e.factor) (f.after_of tokens.old))) result tokens.new }
+        ensures { Reads count_of count_depth self.now.depth
+            (spec.made (t.pieces_of piece) (spec.of_part (spec.read self.now.depth) self.now.depth
+            (spec.read self.now.depth e.factor) (f.after_of tokens.old))) result tokens.new }
     {
         let text = self.factor_of(tokens)?;
         Ok(Count::PiecesOf(piece, text))
@@ -142,7 +156,8 @@ impl<F: Fn(Global, &mut Cursor<'_>, Level, usize) -> Result<Expr, Stop>> Grammar
     #[tactic(auto, unfolding(ht_grammar::specs::Reading::count_at))]
     fn count(&self, tokens: &mut Cursor<'_>) -> Result<Count, Stop>
         requires { Nests self.now.depth (F.pre self.now.read) (F.post self.now.read) }
-        ensures { Reads count_of count_depth self.now.depth (spec.count_at (spec.read self.now.depth) self.now.depth tokens.old) result tokens.new }
+        ensures { Reads count_of count_depth self.now.depth
+            (spec.count_at (spec.read self.now.depth) self.now.depth tokens.old) result tokens.new }
     {
         match tokens.peek() {
             Some(TokenKind::Key(Key::Pieces(piece))) => {
@@ -172,7 +187,8 @@ impl<F: Fn(Global, &mut Cursor<'_>, Level, usize) -> Result<Expr, Stop>> Grammar
     fn number_form(&self, tokens: &mut Cursor<'_>) -> Result<Expr, Stop>
         requires nests { Nests self.now.depth (F.pre self.now.read) (F.post self.now.read) }
         requires shallow { self.now.depth < max_depth }
-        ensures { ReadsExpr (self.now.depth + 1) (spec.number_form (spec.read self.now.depth) self.now.depth tokens.old) result tokens.new }
+        ensures { ReadsExpr (self.now.depth + 1) (spec.number_form (spec.read self.now.depth) self.now.depth tokens.old)
+            result tokens.new }
     {
         if !eat_of(tokens) {
             return Err(Stop::Syntax);
@@ -185,7 +201,8 @@ impl<F: Fn(Global, &mut Cursor<'_>, Level, usize) -> Result<Expr, Stop>> Grammar
     fn property(&self, tokens: &mut Cursor<'_>, prop: Option<Prop>) -> Result<Expr, Stop>
         requires nests { Nests self.now.depth (F.pre self.now.read) (F.post self.now.read) }
         requires shallow { self.now.depth < max_depth }
-        ensures { ReadsExpr (self.now.depth + 1) (spec.property_by (spec.read self.now.depth) self.now.depth prop tokens.old) result tokens.new }
+        ensures { ReadsExpr (self.now.depth + 1)
+            (spec.property_by (spec.read self.now.depth) self.now.depth prop tokens.old) result tokens.new }
     {
         let Some(prop) = prop else {
             return Err(Stop::Syntax);
@@ -202,7 +219,8 @@ impl<F: Fn(Global, &mut Cursor<'_>, Level, usize) -> Result<Expr, Stop>> Grammar
     fn short_property(&self, tokens: &mut Cursor<'_>, prop: Option<Prop>) -> Result<Expr, Stop>
         requires nests { Nests self.now.depth (F.pre self.now.read) (F.post self.now.read) }
         requires shallow { self.now.depth < max_depth }
-        ensures { ReadsExpr (self.now.depth + 1) (spec.short_by (spec.read self.now.depth) self.now.depth prop tokens.old) result tokens.new }
+        ensures { ReadsExpr (self.now.depth + 1)
+            (spec.short_by (spec.read self.now.depth) self.now.depth prop tokens.old) result tokens.new }
     {
         match prop {
             None => Err(Stop::Syntax),
@@ -218,7 +236,8 @@ impl<F: Fn(Global, &mut Cursor<'_>, Level, usize) -> Result<Expr, Stop>> Grammar
     ) -> Result<Expr, Stop>
         requires nests { Nests self.now.depth (F.pre self.now.read) (F.post self.now.read) }
         requires shallow { self.now.depth < max_depth }
-        ensures { ReadsExpr (self.now.depth + 1) (spec.function_by (spec.read self.now.depth) self.now.depth function tokens.old) result tokens.new }
+        ensures { ReadsExpr (self.now.depth + 1)
+            (spec.function_by (spec.read self.now.depth) self.now.depth function tokens.old) result tokens.new }
     {
         let Some(function) = function else {
             return Err(Stop::Syntax);
@@ -232,7 +251,9 @@ impl<F: Fn(Global, &mut Cursor<'_>, Level, usize) -> Result<Expr, Stop>> Grammar
     fn named_form(&self, tokens: &mut Cursor<'_>) -> Result<Expr, Stop>
         requires nests { Nests self.now.depth (F.pre self.now.read) (F.post self.now.read) }
         requires shallow { self.now.depth < max_depth }
-        ensures { ReadsExpr (self.now.depth + 1) (spec.prop_or (spec.read self.now.depth) self.now.depth (f.prop_front tokens.old) (first_text tokens.old) tokens.old) result tokens.new }
+        ensures { ReadsExpr (self.now.depth + 1)
+            (spec.prop_or (spec.read self.now.depth) self.now.depth (f.prop_front tokens.old) (first_text tokens.old)
+            tokens.old) result tokens.new }
     {
         let prop = prop_front(tokens);
         if prop.is_some() {
@@ -254,7 +275,9 @@ impl<F: Fn(Global, &mut Cursor<'_>, Level, usize) -> Result<Expr, Stop>> Grammar
     fn the_name(&self, tokens: &mut Cursor<'_>) -> Result<Expr, Stop>
         requires nests { Nests self.now.depth (F.pre self.now.read) (F.post self.now.read) }
         requires shallow { self.now.depth < max_depth }
-        ensures { ReadsExpr (self.now.depth + 1) (spec.the_name (spec.read self.now.depth) self.now.depth (first_text tokens.old) tokens.old) result tokens.new }
+        ensures { ReadsExpr (self.now.depth + 1)
+            (spec.the_name (spec.read self.now.depth) self.now.depth (first_text tokens.old) tokens.old) result
+            tokens.new }
     {
         let name = tokens.text();
         if is_same(name, b"result") {
@@ -276,7 +299,9 @@ impl<F: Fn(Global, &mut Cursor<'_>, Level, usize) -> Result<Expr, Stop>> Grammar
     fn the_form(&self, tokens: &mut Cursor<'_>) -> Result<Expr, Stop>
         requires nests { Nests self.now.depth (F.pre self.now.read) (F.post self.now.read) }
         requires shallow { self.now.depth < max_depth }
-        ensures { ReadsExpr (self.now.depth + 1) (spec.the_by (spec.read self.now.depth) self.now.depth (first_kind (later tokens.old)) tokens.old (later tokens.old)) result tokens.new }
+        ensures { ReadsExpr (self.now.depth + 1)
+            (spec.the_by (spec.read self.now.depth) self.now.depth (first_kind (later tokens.old)) tokens.old
+            (later tokens.old)) result tokens.new }
     {
         match tokens.second() {
             Some(TokenKind::Key(Key::Number)) => {
@@ -301,7 +326,8 @@ impl<F: Fn(Global, &mut Cursor<'_>, Level, usize) -> Result<Expr, Stop>> Grammar
     fn field_form(&self, tokens: &mut Cursor<'_>) -> Result<Expr, Stop>
         requires nests { Nests self.now.depth (F.pre self.now.read) (F.post self.now.read) }
         requires shallow { self.now.depth < max_depth }
-        ensures { ReadsExpr (self.now.depth + 1) (spec.made t.field (spec.field_at (spec.read self.now.depth) self.now.depth tokens.old)) result tokens.new }
+        ensures { ReadsExpr (self.now.depth + 1)
+            (spec.made t.field (spec.field_at (spec.read self.now.depth) self.now.depth tokens.old)) result tokens.new }
     {
         let field = self.field(tokens)?;
         to_expr(self.alloc, ExprKind::Field(field))
@@ -311,7 +337,9 @@ impl<F: Fn(Global, &mut Cursor<'_>, Level, usize) -> Result<Expr, Stop>> Grammar
     fn ordinal_form(&self, tokens: &mut Cursor<'_>) -> Result<Expr, Stop>
         requires nests { Nests self.now.depth (F.pre self.now.read) (F.post self.now.read) }
         requires shallow { self.now.depth < max_depth }
-        ensures { ReadsExpr (self.now.depth + 1) (spec.ordinal_form (spec.read self.now.depth) self.now.depth (first_kind (later tokens.old)) tokens.old) result tokens.new }
+        ensures { ReadsExpr (self.now.depth + 1)
+            (spec.ordinal_form (spec.read self.now.depth) self.now.depth (first_kind (later tokens.old)) tokens.old)
+            result tokens.new }
     {
         match tokens.second() {
             Some(TokenKind::Key(Key::Piece(_))) => self.chunk_form(tokens),
@@ -324,7 +352,8 @@ impl<F: Fn(Global, &mut Cursor<'_>, Level, usize) -> Result<Expr, Stop>> Grammar
     pub(crate) fn factor(&self, tokens: &mut Cursor<'_>) -> Result<Expr, Stop>
         requires nests { Nests self.now.depth (F.pre self.now.read) (F.post self.now.read) }
         requires shallow { self.now.depth < max_depth }
-        ensures { ReadsExpr (self.now.depth + 1) (spec.factor_at (spec.read self.now.depth) self.now.depth tokens.old) result tokens.new }
+        ensures { ReadsExpr (self.now.depth + 1) (spec.factor_at (spec.read self.now.depth) self.now.depth tokens.old)
+            result tokens.new }
     {
         match tokens.peek() {
             Some(TokenKind::Key(Key::Piece(_))) => self.chunk_form(tokens),
@@ -345,7 +374,9 @@ impl<F: Fn(Global, &mut Cursor<'_>, Level, usize) -> Result<Expr, Stop>> Grammar
     fn there(&self, tokens: &mut Cursor<'_>) -> Result<Expr, Stop>
         requires nests { Nests self.now.depth (F.pre self.now.read) (F.post self.now.read) }
         requires shallow { self.now.depth < max_depth }
-        ensures { ReadsExpr (self.now.depth + 1) (spec.there_by (spec.read self.now.depth) self.now.depth (first_kind tokens.old) tokens.old) result tokens.new }
+        ensures { ReadsExpr (self.now.depth + 1)
+            (spec.there_by (spec.read self.now.depth) self.now.depth (first_kind tokens.old) tokens.old) result
+            tokens.new }
     {
         match tokens.peek() {
             Some(TokenKind::Key(Key::Is)) => {
@@ -365,7 +396,8 @@ impl<F: Fn(Global, &mut Cursor<'_>, Level, usize) -> Result<Expr, Stop>> Grammar
     pub(crate) fn prefixed(&self, tokens: &mut Cursor<'_>) -> Result<Expr, Stop>
         requires nests { Nests self.now.depth (F.pre self.now.read) (F.post self.now.read) }
         requires shallow { self.now.depth < max_depth }
-        ensures { ReadsExpr (self.now.depth + 1) (spec.prefixed_at (spec.read self.now.depth) self.now.depth tokens.old) result tokens.new }
+        ensures { ReadsExpr (self.now.depth + 1) (spec.prefixed_at (spec.read self.now.depth) self.now.depth tokens.old)
+            result tokens.new }
     {
         match tokens.peek() {
             Some(TokenKind::Key(Key::Minus)) => {

@@ -51,7 +51,8 @@ impl<F: Fn(Global, &mut Cursor<'_>, Level, usize) -> Result<Expr, Stop>> Grammar
     /// Expressions with commas between, at most so many.
     pub(crate) fn list(&self, tokens: &mut Cursor<'_>, turns: usize) -> Result<Exprs, Stop>
         requires { Nests self.now.depth (F.pre self.now.read) (F.post self.now.read) }
-        ensures { Reads (λ xs. exprs_of xs.items.items) depths self.now.depth (spec.list_at (spec.read self.now.depth) self.now.depth turns t.none tokens.old) result tokens.new }
+        ensures { Reads (λ xs. exprs_of xs.items.items) depths self.now.depth
+            (spec.list_at (spec.read self.now.depth) self.now.depth turns t.none tokens.old) result tokens.new }
     {
         let mut found = Exprs::new(self.alloc);
         for _turn in 0..turns {
@@ -69,7 +70,9 @@ impl<F: Fn(Global, &mut Cursor<'_>, Level, usize) -> Result<Expr, Stop>> Grammar
     fn call(&self, tokens: &mut Cursor<'_>, name: Text) -> Result<Expr, Stop>
         requires nests { Nests self.now.depth (F.pre self.now.read) (F.post self.now.read) }
         requires shallow { self.now.depth < max_depth }
-        ensures { ReadsExpr (self.now.depth + 1) (spec.call_by (spec.read self.now.depth) self.now.depth (first_kind tokens.old) name tokens.old) result tokens.new }
+        ensures { ReadsExpr (self.now.depth + 1)
+            (spec.call_by (spec.read self.now.depth) self.now.depth (first_kind tokens.old) name tokens.old) result
+            tokens.new }
     {
         match tokens.peek() {
             Some(TokenKind::Key(Key::RightParen)) => {
@@ -89,7 +92,9 @@ impl<F: Fn(Global, &mut Cursor<'_>, Level, usize) -> Result<Expr, Stop>> Grammar
         requires nests { Nests self.now.depth (F.pre self.now.read) (F.post self.now.read) }
         requires shallow { self.now.depth < max_depth }
         requires short { length name.now ≤ LIMIT }
-        ensures { ReadsExpr (self.now.depth + 1) (spec.named_by (spec.read self.now.depth) self.now.depth (first_kind tokens.old) name.now tokens.old) result tokens.new }
+        ensures { ReadsExpr (self.now.depth + 1)
+            (spec.named_by (spec.read self.now.depth) self.now.depth (first_kind tokens.old) name.now tokens.old) result
+            tokens.new }
     {
         match tokens.peek() {
             Some(TokenKind::Key(Key::LeftParen)) => {
@@ -109,7 +114,8 @@ impl<F: Fn(Global, &mut Cursor<'_>, Level, usize) -> Result<Expr, Stop>> Grammar
     pub(crate) fn primary(&self, tokens: &mut Cursor<'_>) -> Result<Expr, Stop>
         requires nests { Nests self.now.depth (F.pre self.now.read) (F.post self.now.read) }
         requires shallow { self.now.depth < max_depth }
-        ensures { ReadsExpr (self.now.depth + 1) (spec.primary_at (spec.read self.now.depth) self.now.depth tokens.old) result tokens.new }
+        ensures { ReadsExpr (self.now.depth + 1) (spec.primary_at (spec.read self.now.depth) self.now.depth tokens.old)
+            result tokens.new }
     {
         match tokens.peek() {
             Some(TokenKind::Number) => {
@@ -145,7 +151,8 @@ impl<F: Fn(Global, &mut Cursor<'_>, Level, usize) -> Result<Expr, Stop>> Grammar
     pub(crate) fn unary(&self, tokens: &mut Cursor<'_>, op: UnOp) -> Result<Expr, Stop>
         requires nests { Nests self.now.depth (F.pre self.now.read) (F.post self.now.read) }
         requires shallow { self.now.depth < max_depth }
-        ensures { ReadsExpr (self.now.depth + 1) (spec.made (t.unary op) (spec.read self.now.depth e.prefixed tokens.old)) result tokens.new }
+        ensures { ReadsExpr (self.now.depth + 1)
+            (spec.made (t.unary op) (spec.read self.now.depth e.prefixed tokens.old)) result tokens.new }
     {
         let operand = self.read(tokens, Level::Prefixed)?;
         to_expr(self.alloc, ExprKind::Unary(op, operand))
@@ -157,7 +164,8 @@ impl<F: Fn(Global, &mut Cursor<'_>, Level, usize) -> Result<Expr, Stop>> Grammar
         requires nests { Nests self.now.depth (F.pre self.now.read) (F.post self.now.read) }
         requires shallow { self.now.depth < max_depth }
         requires fits { depth base ≤ self.now.depth + 1 }
-        ensures { ReadsExpr (self.now.depth + 1) (spec.power_end (spec.read self.now.depth) self.now.depth base tokens.old) result tokens.new }
+        ensures { ReadsExpr (self.now.depth + 1)
+            (spec.power_end (spec.read self.now.depth) self.now.depth base tokens.old) result tokens.new }
     {
         match tokens.peek() {
             Some(TokenKind::Key(Key::Caret)) => {
@@ -185,7 +193,8 @@ impl<F: Fn(Global, &mut Cursor<'_>, Level, usize) -> Result<Expr, Stop>> Grammar
     pub(crate) fn power(&self, tokens: &mut Cursor<'_>) -> Result<Expr, Stop>
         requires nests { Nests self.now.depth (F.pre self.now.read) (F.post self.now.read) }
         requires shallow { self.now.depth < max_depth }
-        ensures { ReadsExpr (self.now.depth + 1) (spec.power_at (spec.read self.now.depth) self.now.depth tokens.old) result tokens.new }
+        ensures { ReadsExpr (self.now.depth + 1) (spec.power_at (spec.read self.now.depth) self.now.depth tokens.old)
+            result tokens.new }
     {
         let base = self.prefixed(tokens)?;
         self.power_end(tokens, base)
@@ -197,7 +206,8 @@ impl<F: Fn(Global, &mut Cursor<'_>, Level, usize) -> Result<Expr, Stop>> Grammar
         requires nests { Nests self.now.depth (F.pre self.now.read) (F.post self.now.read) }
         requires shallow { self.now.depth < max_depth }
         requires ranked { below < 7 }
-        ensures { ReadsExpr (self.now.depth + 1) (spec.join_at (spec.read self.now.depth) self.now.depth below op left tokens.old) result tokens.new }
+        ensures { ReadsExpr (self.now.depth + 1)
+            (spec.join_at (spec.read self.now.depth) self.now.depth below op left tokens.old) result tokens.new }
     {
         if left.depth() > self.depth {
             return Err(Stop::Syntax);
@@ -210,7 +220,8 @@ impl<F: Fn(Global, &mut Cursor<'_>, Level, usize) -> Result<Expr, Stop>> Grammar
     #[tactic(auto, unfolding(ht_grammar::specs::Reading::asked_at))]
     fn asked(&self, tokens: &Cursor<'_>, op: UnOp, left: Expr) -> Result<Expr, Stop>
         requires { self.now.depth < max_depth }
-        ensures { ReadsExpr (self.now.depth + 1) (spec.asked_at (spec.read self.now.depth) self.now.depth op left tokens.now) result tokens.now }
+        ensures { ReadsExpr (self.now.depth + 1)
+            (spec.asked_at (spec.read self.now.depth) self.now.depth op left tokens.now) result tokens.now }
     {
         if left.depth() > self.depth {
             return Err(Stop::Syntax);
@@ -224,7 +235,9 @@ impl<F: Fn(Global, &mut Cursor<'_>, Level, usize) -> Result<Expr, Stop>> Grammar
         requires shallow { self.now.depth < max_depth }
         requires ranked { below < 7 }
         requires fits { depth first ≤ self.now.depth + 1 }
-        ensures { ReadsExpr (self.now.depth + 1) (spec.chain_at (spec.read self.now.depth) self.now.depth below (self.now.depth + 2) first tokens.old) result tokens.new }
+        ensures { ReadsExpr (self.now.depth + 1)
+            (spec.chain_at (spec.read self.now.depth) self.now.depth below (self.now.depth + 2) first tokens.old) result
+            tokens.new }
     {
         let mut left = first;
         for _turn in 0..self.depth + 2 {
@@ -250,7 +263,8 @@ impl<F: Fn(Global, &mut Cursor<'_>, Level, usize) -> Result<Expr, Stop>> Grammar
         requires nests { Nests self.now.depth (F.pre self.now.read) (F.post self.now.read) }
         requires shallow { self.now.depth < max_depth }
         requires ranked { rank ≤ 7 }
-        ensures { ReadsExpr (self.now.depth + 1) (spec.rank_at (spec.read self.now.depth) self.now.depth rank tokens.old) result tokens.new }
+        ensures { ReadsExpr (self.now.depth + 1)
+            (spec.rank_at (spec.read self.now.depth) self.now.depth rank tokens.old) result tokens.new }
     {
         let mut left = self.power(tokens)?;
         let mut next = leading_rank(tokens);

@@ -102,7 +102,8 @@ pub fn referenced_layer(tokens: &Cursor<'_>) -> Option<Layer>
 
 /// Goes past the kind of a part, after its layer.
 fn part_front_on(tokens: &mut Cursor<'_>, layer: Option<Layer>) -> Option<PartFront>
-    ensures { Takes front_view (spec.layered_by (spec.part_kind_by (first_kind tokens.old)) layer tokens.old) result tokens.new }
+    ensures { Takes front_view (spec.layered_by (spec.part_kind_by (first_kind tokens.old)) layer tokens.old) result
+        tokens.new }
 {
     match part_kind_of(tokens.peek()) {
         Some(kind) => {
@@ -152,7 +153,8 @@ pub(crate) fn article(tokens: &mut Cursor<'_>) -> Option<bool>
 }
 
 fn article_after_not(tokens: &mut Cursor<'_>) -> Option<bool>
-    ensures { Takes (λ b. b) (spec.article_not (first_kind tokens.old) (first_text tokens.old) (later tokens.old)) result tokens.new }
+    ensures { Takes (λ b. b) (spec.article_not (first_kind tokens.old) (first_text tokens.old) (later tokens.old))
+        result tokens.new }
 {
     match tokens.peek() {
         Some(TokenKind::Name) => {

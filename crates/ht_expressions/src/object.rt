@@ -23,7 +23,8 @@ impl<F: Fn(Global, &mut Cursor<'_>, Level, usize) -> Result<Expr, Stop>> Grammar
     #[tactic(auto, unfolding(ht_grammar::specs::Reading::which_at))]
     fn which(&self, tokens: &mut Cursor<'_>) -> Result<Which, Stop>
         requires { Nests self.now.depth (F.pre self.now.read) (F.post self.now.read) }
-        ensures { Reads which_of which_depth self.now.depth (spec.which_at (spec.read self.now.depth) self.now.depth tokens.old) result tokens.new }
+        ensures { Reads which_of which_depth self.now.depth
+            (spec.which_at (spec.read self.now.depth) self.now.depth tokens.old) result tokens.new }
     {
         match tokens.peek() {
             Some(TokenKind::Key(Key::Id)) => {
@@ -42,7 +43,8 @@ impl<F: Fn(Global, &mut Cursor<'_>, Level, usize) -> Result<Expr, Stop>> Grammar
     #[tactic(auto, unfolding(ht_grammar::specs::Reading::selector_at))]
     pub(crate) fn selector(&self, tokens: &mut Cursor<'_>) -> Result<Selector, Stop>
         requires { Nests self.now.depth (F.pre self.now.read) (F.post self.now.read) }
-        ensures { Reads selector_of selector_depth self.now.depth (spec.selector_at (spec.read self.now.depth) self.now.depth tokens.old) result tokens.new }
+        ensures { Reads selector_of selector_depth self.now.depth
+            (spec.selector_at (spec.read self.now.depth) self.now.depth tokens.old) result tokens.new }
     {
         let kind = tokens.peek();
         tokens.skip();
@@ -70,7 +72,9 @@ impl<F: Fn(Global, &mut Cursor<'_>, Level, usize) -> Result<Expr, Stop>> Grammar
     /// A card or a background that a part stands on.
     fn owning_selector(&self, tokens: &mut Cursor<'_>) -> Result<Selector, Stop>
         requires { Nests self.now.depth (F.pre self.now.read) (F.post self.now.read) }
-        ensures { Reads selector_of (λ p. suc (selector_depth p)) self.now.depth (spec.fitting (spec.read self.now.depth) self.now.depth (λ p. suc (selector_depth p)) (spec.selector_at (spec.read self.now.depth) self.now.depth tokens.old)) result tokens.new }
+        ensures { Reads selector_of (λ p. suc (selector_depth p)) self.now.depth
+            (spec.fitting (spec.read self.now.depth) self.now.depth (λ p. suc (selector_depth p))
+            (spec.selector_at (spec.read self.now.depth) self.now.depth tokens.old)) result tokens.new }
     {
         let selector = self.selector(tokens)?;
         let fits = selector.depth() < self.depth;
@@ -81,7 +85,8 @@ impl<F: Fn(Global, &mut Cursor<'_>, Level, usize) -> Result<Expr, Stop>> Grammar
     #[tactic(auto, unfolding(ht_grammar::specs::Reading::owner_at))]
     fn owner(&self, tokens: &mut Cursor<'_>) -> Result<Owner, Stop>
         requires { Nests self.now.depth (F.pre self.now.read) (F.post self.now.read) }
-        ensures { Reads owner_of owner_depth self.now.depth (spec.owner_at (spec.read self.now.depth) self.now.depth tokens.old) result tokens.new }
+        ensures { Reads owner_of owner_depth self.now.depth
+            (spec.owner_at (spec.read self.now.depth) self.now.depth tokens.old) result tokens.new }
     {
         let before = tokens.mark();
         if !eat_of(tokens) {
@@ -106,7 +111,8 @@ impl<F: Fn(Global, &mut Cursor<'_>, Level, usize) -> Result<Expr, Stop>> Grammar
     #[tactic(auto, unfolding(ht_grammar::specs::Reading::part_end))]
     fn part_end(&self, tokens: &mut Cursor<'_>, front: PartFront) -> Result<Part, Stop>
         requires { Nests self.now.depth (F.pre self.now.read) (F.post self.now.read) }
-        ensures { Reads part_of part_depth (self.now.depth + 1) (spec.part_end (spec.read self.now.depth) self.now.depth (front_view front) tokens.old) result tokens.new }
+        ensures { Reads part_of part_depth (self.now.depth + 1)
+            (spec.part_end (spec.read self.now.depth) self.now.depth (front_view front) tokens.old) result tokens.new }
     {
         let which = self.which(tokens)?;
         let owner = self.owner(tokens)?;
@@ -122,7 +128,9 @@ impl<F: Fn(Global, &mut Cursor<'_>, Level, usize) -> Result<Expr, Stop>> Grammar
         front: PartFront,
     ) -> Result<Part, Stop>
         requires { Nests self.now.depth (F.pre self.now.read) (F.post self.now.read) }
-        ensures { Reads part_of part_depth (self.now.depth + 1) (spec.nth_end (spec.read self.now.depth) self.now.depth ordinal (front_view front) tokens.old) result tokens.new }
+        ensures { Reads part_of part_depth (self.now.depth + 1)
+            (spec.nth_end (spec.read self.now.depth) self.now.depth ordinal (front_view front) tokens.old) result
+            tokens.new }
     {
         let owner = self.owner(tokens)?;
         Ok(Part::Nth(ordinal, front.layer, front.kind, owner))
@@ -132,7 +140,8 @@ impl<F: Fn(Global, &mut Cursor<'_>, Level, usize) -> Result<Expr, Stop>> Grammar
     #[tactic(auto, unfolding(ht_grammar::specs::Reading::part_at))]
     pub(crate) fn part(&self, tokens: &mut Cursor<'_>) -> Result<Part, Stop>
         requires { Nests self.now.depth (F.pre self.now.read) (F.post self.now.read) }
-        ensures { Reads part_of part_depth (self.now.depth + 1) (spec.part_at (spec.read self.now.depth) self.now.depth tokens.old) result tokens.new }
+        ensures { Reads part_of part_depth (self.now.depth + 1)
+            (spec.part_at (spec.read self.now.depth) self.now.depth tokens.old) result tokens.new }
     {
         match tokens.peek() {
             Some(TokenKind::Key(Key::Ordinal(ordinal))) => {
@@ -153,7 +162,8 @@ impl<F: Fn(Global, &mut Cursor<'_>, Level, usize) -> Result<Expr, Stop>> Grammar
     #[tactic(auto, unfolding(ht_grammar::specs::Reading::field_at))]
     pub(crate) fn field(&self, tokens: &mut Cursor<'_>) -> Result<Part, Stop>
         requires { Nests self.now.depth (F.pre self.now.read) (F.post self.now.read) }
-        ensures { Reads part_of part_depth (self.now.depth + 1) (spec.field_at (spec.read self.now.depth) self.now.depth tokens.old) result tokens.new }
+        ensures { Reads part_of part_depth (self.now.depth + 1)
+            (spec.field_at (spec.read self.now.depth) self.now.depth tokens.old) result tokens.new }
     {
         let part = self.part(tokens)?;
         let is_field = matches!(part.kind(), PartKind::Field);
@@ -163,7 +173,8 @@ impl<F: Fn(Global, &mut Cursor<'_>, Level, usize) -> Result<Expr, Stop>> Grammar
     /// A card, a background or a part, by its layer's word in front.
     fn reference_on(&self, tokens: &mut Cursor<'_>, layer: Option<Layer>) -> Result<Ref, Stop>
         requires { Nests self.now.depth (F.pre self.now.read) (F.post self.now.read) }
-        ensures { Reads ref_of ref_depth (self.now.depth + 1) (spec.ref_of_layer (spec.read self.now.depth) self.now.depth layer tokens.old) result tokens.new }
+        ensures { Reads ref_of ref_depth (self.now.depth + 1)
+            (spec.ref_of_layer (spec.read self.now.depth) self.now.depth layer tokens.old) result tokens.new }
     {
         match layer {
             Some(layer) => {
@@ -181,7 +192,8 @@ impl<F: Fn(Global, &mut Cursor<'_>, Level, usize) -> Result<Expr, Stop>> Grammar
     #[tactic(auto, unfolding(ht_grammar::specs::Reading::ref_at))]
     fn reference(&self, tokens: &mut Cursor<'_>) -> Result<Ref, Stop>
         requires { Nests self.now.depth (F.pre self.now.read) (F.post self.now.read) }
-        ensures { Reads ref_of ref_depth (self.now.depth + 1) (spec.ref_at (spec.read self.now.depth) self.now.depth tokens.old) result tokens.new }
+        ensures { Reads ref_of ref_depth (self.now.depth + 1)
+            (spec.ref_at (spec.read self.now.depth) self.now.depth tokens.old) result tokens.new }
     {
         match tokens.peek() {
             Some(TokenKind::Key(Key::Me)) => {
@@ -203,7 +215,9 @@ impl<F: Fn(Global, &mut Cursor<'_>, Level, usize) -> Result<Expr, Stop>> Grammar
     /// A reference at `this`.
     fn this(&self, tokens: &mut Cursor<'_>) -> Result<Ref, Stop>
         requires { Nests self.now.depth (F.pre self.now.read) (F.post self.now.read) }
-        ensures { Reads ref_of ref_depth (self.now.depth + 1) (spec.this_by (spec.read self.now.depth) self.now.depth (first_kind (later tokens.old)) tokens.old) result tokens.new }
+        ensures { Reads ref_of ref_depth (self.now.depth + 1)
+            (spec.this_by (spec.read self.now.depth) self.now.depth (first_kind (later tokens.old)) tokens.old) result
+            tokens.new }
     {
         match tokens.second() {
             Some(TokenKind::Key(Key::Stack)) => {
@@ -222,7 +236,8 @@ impl<F: Fn(Global, &mut Cursor<'_>, Level, usize) -> Result<Expr, Stop>> Grammar
     #[tactic(auto, unfolding(ht_grammar::specs::Reading::inner_ref))]
     pub(crate) fn inner_reference(&self, tokens: &mut Cursor<'_>) -> Result<Ref, Stop>
         requires { Nests self.now.depth (F.pre self.now.read) (F.post self.now.read) }
-        ensures { Reads ref_of ref_depth self.now.depth (spec.inner_ref (spec.read self.now.depth) self.now.depth tokens.old) result tokens.new }
+        ensures { Reads ref_of ref_depth self.now.depth
+            (spec.inner_ref (spec.read self.now.depth) self.now.depth tokens.old) result tokens.new }
     {
         let reference = self.reference(tokens)?;
         let fits = reference.depth() <= self.depth;
@@ -232,7 +247,8 @@ impl<F: Fn(Global, &mut Cursor<'_>, Level, usize) -> Result<Expr, Stop>> Grammar
 
 /// `target`, after `the`.
 fn target(tokens: &mut Cursor<'_>) -> Result<Ref, Stop>
-    ensures { Reads ref_of ref_depth 1 (spec.target_by (spec.read 0) 0 (first_kind tokens.old) tokens.old) result tokens.new }
+    ensures { Reads ref_of ref_depth 1 (spec.target_by (spec.read 0) 0 (first_kind tokens.old) tokens.old) result
+        tokens.new }
 {
     match tokens.peek() {
         Some(TokenKind::Name) => {

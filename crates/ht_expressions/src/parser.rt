@@ -51,7 +51,8 @@ pub fn arguments(
     depth: usize,
 ) -> Result<Exprs, Stop>
     requires { depth ≤ max_depth }
-    ensures { Reads (λ xs. exprs_of xs.items.items) depths depth (spec.list_at (spec.read depth) depth turns t.none tokens.old) result tokens.new }
+    ensures { Reads (λ xs. exprs_of xs.items.items) depths depth
+        (spec.list_at (spec.read depth) depth turns t.none tokens.old) result tokens.new }
 {
     Grammar { alloc, depth, read }.list(tokens, turns)
 }
@@ -91,7 +92,8 @@ pub fn reference(alloc: Global, tokens: &mut Cursor<'_>, depth: usize) -> Result
 /// A card or a background, whose word is the second token or the first.
 pub fn selector(alloc: Global, tokens: &mut Cursor<'_>, depth: usize) -> Result<Selector, Stop>
     requires { depth ≤ max_depth }
-    ensures { Reads selector_of selector_depth depth (spec.selector_at (spec.read depth) depth tokens.old) result tokens.new }
+    ensures { Reads selector_of selector_depth depth (spec.selector_at (spec.read depth) depth tokens.old) result
+        tokens.new }
 {
     Grammar { alloc, depth, read }.selector(tokens)
 }

@@ -13,7 +13,8 @@ use Rattle.ht_grammar.specs.Grammar.{Context, DerivesSimple}
 use Rattle.ht_grammar.specs.Grammar as g
 use Rattle.ht_grammar.specs.Lines.{begins_expr, begins_simple}
 
-past_begins : (a m : List Token) (h : Key) → past_the a ≡ key h ∷ m → begins_expr (Some (kind.Key h)) ≡ true → begins_expr (first_kind a) ≡ true
+past_begins : (a m : List Token) (h : Key) → past_the a ≡ key h ∷ m → begins_expr (Some (kind.Key h)) ≡ true
+    → begins_expr (first_kind a) ≡ true
 past_begins (key k.The ∷ ts) m h same b = refl
 past_begins a m h same b = subst (λ v. begins_expr (first_kind v) ≡ true) (sym same) b
 
@@ -59,7 +60,8 @@ mutual
   part_begins (e.part e.on_background f h) = refl
   part_begins (e.nth_part f h) = refl
 
-pub simple_begins : {x : Context} {a c : List Token} {s : Stmt} → DerivesSimple x a s c → begins_simple (first_kind a) ≡ true
+pub simple_begins : {x : Context} {a c : List Token} {s : Stmt} → DerivesSimple x a s c
+    → begins_simple (first_kind a) ≡ true
 simple_begins (g.put f) = refl
 simple_begins (g.put_in f g h) = refl
 simple_begins (g.get f) = refl

@@ -1,5 +1,6 @@
 -- What may stand after a part of an expression.
-use Rattle.std.proofs.Common.{◌≡◌, ℕ, ◌+◌, ◌<◌, ◌⊎◌, inl, inr, List, [], ◌∷◌, Option, Some, None, refl, sym, ap, ◌∙◌, subst, arith}
+use Rattle.std.proofs.Common.{◌≡◌, ℕ, ◌+◌, ◌<◌, ◌⊎◌, inl, inr, List, [], ◌∷◌, Option, Some, None, refl, sym, ap, ◌∙◌}
+use Rattle.std.proofs.Common.{subst, arith}
 use Rattle.ht_lex.specs.declared.key.Key.TheVariants as k
 use Rattle.ht_lex.specs.declared.key.TokenKind.{TokenKind}
 use Rattle.ht_lex.specs.declared.key.TokenKind.TheVariants as kind
@@ -11,7 +12,8 @@ use Rattle.ht_grammar.specs.Trees.{Expr, Part}
 use Rattle.ht_grammar.specs.Trees as t
 use Rattle.ht_grammar.specs.Depth.{depth, part_depth}
 use Rattle.ht_grammar.specs.Fronts.{LeadingOperator, infix_at, test_at, neither, leading_operator, after_of, past_the}
-use Rattle.ht_grammar.specs.Expressions.{Derives, DerivesChunk, DerivesPart, Level, rank, power, prefixed, factor, primary}
+use Rattle.ht_grammar.specs.Expressions.{Derives, DerivesChunk, DerivesPart, Level, rank, power, prefixed, factor}
+use Rattle.ht_grammar.specs.Expressions.{primary}
 use Rattle.ht_grammar.specs.Expressions as e
 use Rattle.ht_grammar.specs.Reading.{referenced_layer, part_kind_by, unless_part}
 
@@ -47,7 +49,8 @@ bound prefixed = 1
 bound factor = 1
 bound primary = 0
 
-pub tie_infix : (m : List Token) {r : ℕ} {op : Op} {b : List Token} → leading_operator m ≡ infix_at r op b → tie m ≡ r + 2
+pub tie_infix : (m : List Token) {r : ℕ} {op : Op} {b : List Token} → leading_operator m ≡ infix_at r op b
+    → tie m ≡ r + 2
 unfolding tie leading_operator
 tie_infix [] e = cc
 tie_infix (key k.Of ∷ ts) e = cc
@@ -84,11 +87,14 @@ tie_no_part (t ∷ ts) h = refl
 
 pub tie_of : (m : List Token) {b : List Token} → after_of m ≡ Some b → referenced_layer b ≡ None → tie m ≡ 10
 unfolding tie leading_operator
-tie_of (key k.Of ∷ ts) {b} e h = let same : ts ≡ b = cc in ap (λ t. owner_tie (key k.Of ∷ ts) (referenced_layer t)) same ∙ ap (owner_tie (key k.Of ∷ ts)) h
-tie_of (key k.In ∷ ts) {b} e h = let same : ts ≡ b = cc in ap (λ t. owner_tie (key k.In ∷ ts) (referenced_layer t)) same ∙ ap (owner_tie (key k.In ∷ ts)) h
+tie_of (key k.Of ∷ ts) {b} e h = let same : ts ≡ b = cc in ap (λ t. owner_tie (key k.Of ∷ ts) (referenced_layer t)) same
+    ∙ ap (owner_tie (key k.Of ∷ ts)) h
+tie_of (key k.In ∷ ts) {b} e h = let same : ts ≡ b = cc in ap (λ t. owner_tie (key k.In ∷ ts) (referenced_layer t)) same
+    ∙ ap (owner_tie (key k.In ∷ ts)) h
 tie_of _ e h = cc
 
-pub tie_owner : (m : List Token) {b : List Token} {l : Layer} → after_of m ≡ Some b → referenced_layer b ≡ Some l → tie m ≡ 1
+pub tie_owner : (m : List Token) {b : List Token} {l : Layer} → after_of m ≡ Some b → referenced_layer b ≡ Some l
+    → tie m ≡ 1
 unfolding tie
 tie_owner m {b} {l} e h = ap (λ o. owner_tie m (layer_after o)) e ∙ ap (owner_tie m) h
 

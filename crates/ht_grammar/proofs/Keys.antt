@@ -58,10 +58,13 @@ equal_key (key k.Equal ∷ ts) e = refl
 equal_key ts e = absurd (false≢true e)
 
 -- What came after a key.
-pub keyed : {A : Type 0} {h : Key} → Recognizes h → (f : Parser A) (ts : List Token) {q : A × List Token} (P : Type 0) → after_key h f ts ≡ Some q → ((c : List Token) → ts ≡ key h ∷ c → f c ≡ Some q → P) → P
-keyed {h = h} knows f ts {q} P same go = chosen (is_key h (first_kind ts)) P same (λ b same. go (later ts) (knows ts b) same) (λ b same. cc)
+pub keyed : {A : Type 0} {h : Key} → Recognizes h → (f : Parser A) (ts : List Token) {q : A × List Token} (P : Type 0)
+    → after_key h f ts ≡ Some q → ((c : List Token) → ts ≡ key h ∷ c → f c ≡ Some q → P) → P
+keyed {h = h} knows f ts {q} P same go =
+    chosen (is_key h (first_kind ts)) P same (λ b same. go (later ts) (knows ts b) same) (λ b same. cc)
 
 -- What came after the ends of lines.
-pub past_end : {A : Type 0} (o : Option (List Token)) (f : Parser A) {q : A × List Token} (P : Type 0) → ended_then o f ≡ Some q → ((l : List Token) → o ≡ Some l → f l ≡ Some q → P) → P
+pub past_end : {A : Type 0} (o : Option (List Token)) (f : Parser A) {q : A × List Token} (P : Type 0)
+    → ended_then o f ≡ Some q → ((l : List Token) → o ≡ Some l → f l ≡ Some q → P) → P
 past_end None f P same go = cc
 past_end (Some l) f P same go = go l refl same

@@ -8,7 +8,8 @@ use Rattle.ht_values.specs.declared.word.Prop.{Prop}
 use Rattle.ht_grammar.specs.declared.vocabulary.RunProp.{RunProp}
 use Rattle.ht_grammar.specs.declared.vocabulary.FunctionWord.{FunctionWord}
 use Rattle.ht_values.specs.Text.{entry}
-use Rattle.ht_grammar.specs.Fronts.{same_name, prop_names, run_prop_names, function_names, prop_front, run_prop, function_of}
+use Rattle.ht_grammar.specs.Fronts.{same_name, prop_names, run_prop_names, function_names, prop_front, run_prop}
+use Rattle.ht_grammar.specs.Fronts.{function_of}
 
 folds_alike : (u w : List ℕ) → same_name u w ≡ true → str_to_ascii_lowercase u ≡ str_to_ascii_lowercase w
 folds_alike u w e = (bytes_eq-Decides (str_to_ascii_lowercase u) (str_to_ascii_lowercase w)).0 e
@@ -32,19 +33,23 @@ abbrev AreApartFrom : {A : Type 0} → List ℕ → List (List ℕ × A) → Typ
 AreApartFrom v [] = Unit {0}
 AreApartFrom v (row ∷ rows) = (same_name v row.0 ≡ false) × AreApartFrom v rows
 
-entry_apart : {A : Type 0} (rows : List (List ℕ × A)) (w v : List ℕ) (x : A) → AreApart rows v → entry rows w ≡ Some x → same_name w v ≡ false
+entry_apart : {A : Type 0} (rows : List (List ℕ × A)) (w v : List ℕ) (x : A) → AreApart rows v → entry rows w ≡ Some x
+    → same_name w v ≡ false
 entry_apart [] w v x f e = cc
 entry_apart {A} (row ∷ rows) w v x f e = go (same_name row.0 w) refl e (entry_apart rows w v x f.1)
   where
-    go : (b : Bool) → same_name row.0 w ≡ b → cond b (Some row.1) (entry rows w) ≡ Some x → (entry rows w ≡ Some x → same_name w v ≡ false) → same_name w v ≡ false
+    go : (b : Bool) → same_name row.0 w ≡ b → cond b (Some row.1) (entry rows w) ≡ Some x
+        → (entry rows w ≡ Some x → same_name w v ≡ false) → same_name w v ≡ false
     go true is e later = row_apart row.0 w v is f.0
     go false is e later = later e
 
-entry_apart_from : {A : Type 0} (rows : List (List ℕ × A)) (w v : List ℕ) (x : A) → AreApartFrom v rows → entry rows w ≡ Some x → same_name v w ≡ false
+entry_apart_from : {A : Type 0} (rows : List (List ℕ × A)) (w v : List ℕ) (x : A) → AreApartFrom v rows
+    → entry rows w ≡ Some x → same_name v w ≡ false
 entry_apart_from [] w v x f e = cc
 entry_apart_from {A} (row ∷ rows) w v x f e = go (same_name row.0 w) refl e (entry_apart_from rows w v x f.1)
   where
-    go : (b : Bool) → same_name row.0 w ≡ b → cond b (Some row.1) (entry rows w) ≡ Some x → (entry rows w ≡ Some x → same_name v w ≡ false) → same_name v w ≡ false
+    go : (b : Bool) → same_name row.0 w ≡ b → cond b (Some row.1) (entry rows w) ≡ Some x
+        → (entry rows w ≡ Some x → same_name v w ≡ false) → same_name v w ≡ false
     go true is e later = row_apart_from row.0 w v is f.0
     go false is e later = later e
 
@@ -53,10 +58,12 @@ abbrev TablesApart : {A B : Type 0} → List (List ℕ × A) → List (List ℕ 
 TablesApart rows [] = Unit {0}
 TablesApart rows (other ∷ others) = AreApartFrom other.0 rows × TablesApart rows others
 
-entry_none : {A B : Type 0} (rows : List (List ℕ × A)) (others : List (List ℕ × B)) (w : List ℕ) (x : A) → TablesApart rows others → entry rows w ≡ Some x → entry others w ≡ None
+entry_none : {A B : Type 0} (rows : List (List ℕ × A)) (others : List (List ℕ × B)) (w : List ℕ) (x : A)
+    → TablesApart rows others → entry rows w ≡ Some x → entry others w ≡ None
 entry_none rows [] w x f e = refl
 entry_none {A} {B} rows (other ∷ others) w x f e =
-    ap (λ b. cond b (Some other.1) (entry others w)) (entry_apart_from rows w other.0 x f.0 e) ∙ entry_none rows others w x f.1 e
+    ap (λ b. cond b (Some other.1) (entry others w)) (entry_apart_from rows w other.0 x f.0 e)
+    ∙ entry_none rows others w x f.1 e
 
 -- A property's name is none of the other words after `the`, and likewise for the other tables.
 pub record IsPlain (w : List ℕ) : Type 0 where
@@ -67,9 +74,12 @@ pub record IsPlain (w : List ℕ) : Type 0 where
 pub prop_plain : (w : List ℕ) (ts : List Token) (p : Prop) → prop_front (token.name w ∷ ts) ≡ Some p → IsPlain w
 unfolding prop_front
 prop_plain w ts p e = record {
-  result = entry_apart prop_names w (codes "result") p (refl, (refl, (refl, (refl, (refl, (refl, (refl, (refl, tt)))))))) e;
-  target = entry_apart prop_names w (codes "target") p (refl, (refl, (refl, (refl, (refl, (refl, (refl, (refl, tt)))))))) e;
-  short = entry_apart prop_names w (codes "short") p (refl, (refl, (refl, (refl, (refl, (refl, (refl, (refl, tt)))))))) e;
+  result = entry_apart prop_names w (codes "result") p
+      (refl, (refl, (refl, (refl, (refl, (refl, (refl, (refl, tt)))))))) e;
+  target = entry_apart prop_names w (codes "target") p
+      (refl, (refl, (refl, (refl, (refl, (refl, (refl, (refl, tt)))))))) e;
+  short = entry_apart prop_names w (codes "short") p (refl, (refl, (refl, (refl, (refl, (refl, (refl, (refl, tt))))))))
+      e;
 }
 
 pub run_plain : (w : List ℕ) (p : RunProp) → run_prop w ≡ Some p → IsPlain w
@@ -88,14 +98,55 @@ function_plain w f e = record {
   short = entry_apart function_names w (codes "short") f (refl, (refl, (refl, (refl, (refl, tt))))) e;
 }
 
-pub run_no_prop : (w : List ℕ) (ts : List Token) (p : RunProp) → run_prop w ≡ Some p → prop_front (token.name w ∷ ts) ≡ None
+pub run_no_prop : (w : List ℕ) (ts : List Token) (p : RunProp) → run_prop w ≡ Some p
+    → prop_front (token.name w ∷ ts) ≡ None
 unfolding run_prop prop_front
-run_no_prop w ts p e = entry_none run_prop_names prop_names w p ((refl, (refl, (refl, tt))), ((refl, (refl, (refl, tt))), ((refl, (refl, (refl, tt))), ((refl, (refl, (refl, tt))), ((refl, (refl, (refl, tt))), ((refl, (refl, (refl, tt))), ((refl, (refl, (refl, tt))), ((refl, (refl, (refl, tt))), tt)))))))) e
+run_no_prop w ts p e = entry_none run_prop_names prop_names w p (
+  (refl, (refl, (refl, tt))),
+  (
+    (refl, (refl, (refl, tt))),
+    (
+      (refl, (refl, (refl, tt))),
+      (
+        (refl, (refl, (refl, tt))),
+        (
+          (refl, (refl, (refl, tt))),
+          (
+            (refl, (refl, (refl, tt))),
+            ((refl, (refl, (refl, tt))), ((refl, (refl, (refl, tt))), tt)),
+          ),
+        ),
+      ),
+    ),
+  ),
+) e
 
-pub function_no_prop : (w : List ℕ) (ts : List Token) (f : FunctionWord) → function_of w ≡ Some f → prop_front (token.name w ∷ ts) ≡ None
+pub function_no_prop : (w : List ℕ) (ts : List Token) (f : FunctionWord) → function_of w ≡ Some f
+    → prop_front (token.name w ∷ ts) ≡ None
 unfolding function_of prop_front
-function_no_prop w ts f e = entry_none function_names prop_names w f ((refl, (refl, (refl, (refl, (refl, tt))))), ((refl, (refl, (refl, (refl, (refl, tt))))), ((refl, (refl, (refl, (refl, (refl, tt))))), ((refl, (refl, (refl, (refl, (refl, tt))))), ((refl, (refl, (refl, (refl, (refl, tt))))), ((refl, (refl, (refl, (refl, (refl, tt))))), ((refl, (refl, (refl, (refl, (refl, tt))))), ((refl, (refl, (refl, (refl, (refl, tt))))), tt)))))))) e
+function_no_prop w ts f e = entry_none function_names prop_names w f (
+  (refl, (refl, (refl, (refl, (refl, tt))))),
+  (
+    (refl, (refl, (refl, (refl, (refl, tt))))),
+    (
+      (refl, (refl, (refl, (refl, (refl, tt))))),
+      (
+        (refl, (refl, (refl, (refl, (refl, tt))))),
+        (
+          (refl, (refl, (refl, (refl, (refl, tt))))),
+          (
+            (refl, (refl, (refl, (refl, (refl, tt))))),
+            ((refl, (refl, (refl, (refl, (refl, tt))))), ((refl, (refl, (refl, (refl, (refl, tt))))), tt)),
+          ),
+        ),
+      ),
+    ),
+  ),
+) e
 
 pub function_no_run : (w : List ℕ) (f : FunctionWord) → function_of w ≡ Some f → run_prop w ≡ None
 unfolding function_of run_prop
-function_no_run w f e = entry_none function_names run_prop_names w f ((refl, (refl, (refl, (refl, (refl, tt))))), ((refl, (refl, (refl, (refl, (refl, tt))))), ((refl, (refl, (refl, (refl, (refl, tt))))), tt))) e
+function_no_run w f e = entry_none function_names run_prop_names w f (
+  (refl, (refl, (refl, (refl, (refl, tt))))),
+  ((refl, (refl, (refl, (refl, (refl, tt))))), ((refl, (refl, (refl, (refl, (refl, tt))))), tt)),
+) e

@@ -10,8 +10,11 @@ use Rattle.ht_values.specs.declared.operator.UnOp.TheVariants as un
 use Rattle.ht_values.specs.declared.operator.ValueType.{ValueType}
 use Rattle.ht_grammar.specs.declared.vocabulary.Layer.{Layer}
 use Rattle.ht_grammar.specs.Trees.{Expr, Exprs, Chunk, Which, Selector, Owner, Part, Ref, Count}
-use Rattle.ht_grammar.specs.Fronts.{LeadingOperator, infix_at, test_at, neither, leading_operator, operator_after_is, operator_after_is_not, asked_type, test_or, after_of, past_the}
-use Rattle.ht_grammar.specs.Expressions.{Derives, DerivesList, DerivesLayer, DerivesArticle, DerivesChunk, DerivesCount, DerivesRef, DerivesSelector, DerivesWhich, DerivesPart, DerivesOwner, DerivesContainer, Level}
+use Rattle.ht_grammar.specs.Fronts.{LeadingOperator, infix_at, test_at, neither, leading_operator, operator_after_is}
+use Rattle.ht_grammar.specs.Fronts.{operator_after_is_not, asked_type, test_or, after_of, past_the}
+use Rattle.ht_grammar.specs.Expressions.{Derives, DerivesList, DerivesLayer, DerivesArticle, DerivesChunk}
+use Rattle.ht_grammar.specs.Expressions.{DerivesCount, DerivesRef, DerivesSelector, DerivesWhich, DerivesPart}
+use Rattle.ht_grammar.specs.Expressions.{DerivesOwner, DerivesContainer, Level}
 use Rattle.ht_grammar.specs.Expressions as e
 
 pub shorter_later : (ts : List Token) → length (later ts) ≤ length ts
@@ -33,7 +36,8 @@ operator_rest (infix_at r op b) = b
 operator_rest (test_at op c) = c
 operator_rest neither = []
 
-typed_rest : (ts : List Token) (test : ValueType → UnOp) (op : Op) (asked : Option ValueType) → length (operator_rest (test_or test op ts asked)) ≤ length ts
+typed_rest : (ts : List Token) (test : ValueType → UnOp) (op : Op) (asked : Option ValueType)
+    → length (operator_rest (test_or test op ts asked)) ≤ length ts
 typed_rest ts test op None = omega arith
 typed_rest ts test op (Some v) = omega (arith, shorter_later ts, shorter_later (later ts))
 
@@ -56,7 +60,8 @@ rest_shorter [] = omega arith
 rest_shorter (key k.Is ∷ ts) = omega (arith, is_rest ts)
 rest_shorter (t ∷ ts) = omega arith
 
-after_infix : (m : List Token) {r : ℕ} {op : Op} {b : List Token} → leading_operator m ≡ infix_at r op b → length b ≤ length m
+after_infix : (m : List Token) {r : ℕ} {op : Op} {b : List Token} → leading_operator m ≡ infix_at r op b
+    → length b ≤ length m
 after_infix m e = omega (arith, rest_shorter m, ap (λ f. length (operator_rest f)) e)
 
 after_test : (m : List Token) {op : UnOp} {c : List Token} → leading_operator m ≡ test_at op c → length c ≤ length m
@@ -89,7 +94,8 @@ mutual
   shorter (e.field h f) = shorter_part h
   shorter (e.result f) = omega arith
   shorter (e.target f) = omega arith
-  shorter (e.number_of {a = a} {m = m} f o h) = omega (arith, ap (length {A = Token}) f, shorter_the a, shorter_of m o, shorter_count h)
+  shorter (e.number_of {a = a} {m = m} f o h) =
+      omega (arith, ap (length {A = Token}) f, shorter_the a, shorter_of m o, shorter_count h)
   shorter (e.property {m = m} f o h) = omega (arith, shorter_later m, shorter_of (later m) o, shorter_ref h)
   shorter (e.short_property {m = m} f g i o h) = omega (arith, shorter_later m, shorter_of (later m) o, shorter_ref h)
   shorter (e.run_property f) = omega arith

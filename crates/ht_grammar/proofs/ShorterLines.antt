@@ -10,9 +10,11 @@ use Rattle.ht_grammar.specs.Fronts.{past_the, same_name}
 use Rattle.ht_grammar.specs.Ends.{past_ends, ended, past_for, past_to, past_times}
 use Rattle.ht_grammar.specs.Expressions.{DerivesContainer}
 use Rattle.ht_grammar.specs.Expressions as e
-use Rattle.ht_grammar.specs.Grammar.{Context, DerivesNames, DerivesDestination, DerivesSimple, DerivesHead, DerivesStmt, DerivesLines, DerivesElse, DerivesParams, DerivesHandler}
+use Rattle.ht_grammar.specs.Grammar.{Context, DerivesNames, DerivesDestination, DerivesSimple, DerivesHead}
+use Rattle.ht_grammar.specs.Grammar.{DerivesStmt, DerivesLines, DerivesElse, DerivesParams, DerivesHandler}
 use Rattle.ht_grammar.specs.Grammar as g
-use Rattle.ht_grammar.proofs.Shorter.{shorter, shorter_list, shorter_chunk, shorter_ref, shorter_selector, shorter_part, shorter_of, shorter_the, shorter_later}
+use Rattle.ht_grammar.proofs.Shorter.{shorter, shorter_list, shorter_chunk, shorter_ref, shorter_selector}
+use Rattle.ht_grammar.proofs.Shorter.{shorter_part, shorter_of, shorter_the, shorter_later}
 
 pub shorter_ends : (ts : List Token) → length (past_ends ts) ≤ length ts
 shorter_ends [] = omega arith
@@ -22,7 +24,8 @@ shorter_ends (t ∷ ts) = omega arith
 pub shorter_ended : (m : List Token) {b : List Token} → ended m ≡ Some b → length b ≤ length m
 unfolding ended
 shorter_ended [] {b} f = let same : [] ≡ b = cc in omega (arith, ap (length {A = Token}) same)
-shorter_ended (eol ∷ ts) {b} f = let same : past_ends ts ≡ b = cc in omega (arith, ap (length {A = Token}) same, shorter_ends ts)
+shorter_ended (eol ∷ ts) {b} f =
+    let same : past_ends ts ≡ b = cc in omega (arith, ap (length {A = Token}) same, shorter_ends ts)
 shorter_ended m f = cc
 
 shorter_for : (ts : List Token) → length (past_for ts) ≤ length ts
@@ -66,7 +69,8 @@ pub shorter_simple : {x : Context} {a c : List Token} {v : Stmt} → DerivesSimp
 shorter_simple (g.put h) = omega (arith, shorter h)
 shorter_simple (g.put_in h f i) = omega (arith, shorter h, shorter_container i)
 shorter_simple (g.get h) = omega (arith, shorter h)
-shorter_simple (g.set {a = a} f o h i) = omega (arith, shorter_the a, shorter_later (past_the a), shorter_of (later (past_the a)) o, shorter_ref h, shorter i)
+shorter_simple (g.set {a = a} f o h i) = omega
+    (arith, shorter_the a, shorter_later (past_the a), shorter_of (later (past_the a)) o, shorter_ref h, shorter i)
 shorter_simple (g.set_run {a = a} f o h) = omega (arith, shorter_the a, ap (length {A = Token}) f, shorter h)
 shorter_simple (g.add h i) = omega (arith, shorter h, shorter_container i)
 shorter_simple (g.subtract h i) = omega (arith, shorter h, shorter_container i)
@@ -99,9 +103,21 @@ shorter_head (g.counted_down h f i) = omega (arith, shorter h, shorter i)
 mutual
   pub shorter_stmt : {x : Context} {a c : List Token} {v : Stmt} → DerivesStmt x a v c → length c < length a
   shorter_stmt (g.simple h) = shorter_simple h
-  shorter_stmt (g.short {m = m} h f i) = omega (arith, shorter h, shorter_ends m, ap (length {A = Token}) f, shorter_simple i)
-  shorter_stmt (g.short_else {m = m} {n = n} h f i j l) = omega (arith, shorter h, shorter_ends m, ap (length {A = Token}) f, shorter_simple i, shorter_ends n, ap (length {A = Token}) j, shorter_simple l)
-  shorter_stmt (g.long {b = b} {m = m} h f i j l) = omega (arith, shorter h, shorter_ends m, ap (length {A = Token}) f, shorter_ended b i, shorter_lines j, shorter_else l)
+  shorter_stmt (g.short {m = m} h f i) =
+      omega (arith, shorter h, shorter_ends m, ap (length {A = Token}) f, shorter_simple i)
+  shorter_stmt (g.short_else {m = m} {n = n} h f i j l) = omega (
+    arith,
+    shorter h,
+    shorter_ends m,
+    ap (length {A = Token}) f,
+    shorter_simple i,
+    shorter_ends n,
+    ap
+        (length {A = Token}) j,
+    shorter_simple l,
+  )
+  shorter_stmt (g.long {b = b} {m = m} h f i j l) = omega
+      (arith, shorter h, shorter_ends m, ap (length {A = Token}) f, shorter_ended b i, shorter_lines j, shorter_else l)
   shorter_stmt (g.repeat {m = m} h f i) = omega (arith, shorter_head h, shorter_ended m f, shorter_lines i)
 
   pub shorter_lines : {x : Context} {a c : List Token} {v : Stmts} → DerivesLines x a v c → length c ≤ length a
@@ -111,11 +127,13 @@ mutual
   pub shorter_else : {x : Context} {a c : List Token} {v : Stmts} → DerivesElse x a v c → length c < length a
   shorter_else g.end_if = omega arith
   shorter_else (g.else_lines {a = a} f h) = omega (arith, shorter_ended a f, shorter_lines h)
-  shorter_else (g.else_if {b = b} {m = m} h f i j l) = omega (arith, shorter h, shorter_ends m, ap (length {A = Token}) f, shorter_ended b i, shorter_lines j, shorter_else l)
+  shorter_else (g.else_if {b = b} {m = m} h f i j l) = omega
+      (arith, shorter h, shorter_ends m, ap (length {A = Token}) f, shorter_ended b i, shorter_lines j, shorter_else l)
 
 shorter_params : {a c : List Token} {ws : List (List ℕ)} → DerivesParams a ws c → length c ≤ length a
 shorter_params g.no_params = omega arith
 shorter_params (g.params h) = omega (arith, shorter_names h)
 
 pub shorter_handler : {a c : List Token} {h : Handler} → DerivesHandler a h c → length c < length a
-shorter_handler (g.handler {m = m} {n = n} f h i j l o) = omega (arith, shorter_params h, shorter_ended m i, shorter_lines j, shorter_ended n o)
+shorter_handler (g.handler {m = m} {n = n} f h i j l o) =
+    omega (arith, shorter_params h, shorter_ended m i, shorter_lines j, shorter_ended n o)

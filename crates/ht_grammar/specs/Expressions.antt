@@ -18,9 +18,11 @@ use Rattle.ht_grammar.specs.declared.vocabulary.RunProp.{RunProp}
 use Rattle.ht_grammar.specs.declared.vocabulary.FunctionWord.{FunctionWord}
 use Rattle.ht_grammar.specs.declared.vocabulary.Layer.{Layer}
 use Rattle.ht_grammar.specs.declared.vocabulary.Layer.TheVariants as layer
-use Rattle.ht_grammar.specs.Trees.{Expr, Exprs, Chunk, Which, Selector, Owner, Part, Ref, Count, Container, none, more, kind_of_part}
+use Rattle.ht_grammar.specs.Trees.{Expr, Exprs, Chunk, Which, Selector, Owner, Part, Ref, Count, Container, none, more}
+use Rattle.ht_grammar.specs.Trees.{kind_of_part}
 use Rattle.ht_grammar.specs.Trees as tree
-use Rattle.ht_grammar.specs.Fronts.{infix_at, test_at, leading_operator, equality, after_of, past_the, same_name, is_article, prop_front, short_of, run_prop, function_of}
+use Rattle.ht_grammar.specs.Fronts.{infix_at, test_at, leading_operator, equality, after_of, past_the, same_name}
+use Rattle.ht_grammar.specs.Fronts.{is_article, prop_front, short_of, run_prop, function_of}
 
 -- Parts of the grammar that are read as expressions.
 pub data Level : Type 0 where
@@ -51,9 +53,11 @@ mutual
   pub data Derives : Level → List Token → Expr → List Token → Type 0 where
     -- Operators of one rank are joined from the left.
     join : {n : ℕ} {a b c m : List Token} {op : Op} {x y : Expr} → Derives (rank (suc n)) a x m
-        → leading_operator m ≡ infix_at (suc n) op b → Derives (rank n) b y c → Derives (rank (suc n)) a (tree.binary op x y) c
+        → leading_operator m ≡ infix_at (suc n) op b → Derives (rank n) b y c
+        → Derives (rank (suc n)) a (tree.binary op x y) c
     -- `is a number`, and the like
-    is_a : {a c m : List Token} {op : UnOp} {x : Expr} → Derives (rank equality) a x m → leading_operator m ≡ test_at op c
+    is_a : {a c m : List Token} {op : UnOp} {x : Expr} → Derives (rank equality) a x m
+        → leading_operator m ≡ test_at op c
         → Derives (rank equality) a (tree.unary op x) c
     tighter : {n : ℕ} {a c : List Token} {x : Expr} → Derives (rank n) a x c → Derives (rank (suc n)) a x c
     tightest : {a c : List Token} {x : Expr} → Derives power a x c → Derives (rank 0) a x c
@@ -63,12 +67,14 @@ mutual
     not_raised : {a c : List Token} {x : Expr} → Derives prefixed a x c → Derives power a x c
     minus : {a c : List Token} {x : Expr} → Derives prefixed a x c
         → Derives prefixed (key k.Minus ∷ a) (tree.unary un.Minus x) c
-    not_ : {a c : List Token} {x : Expr} → Derives prefixed a x c → Derives prefixed (key k.Not ∷ a) (tree.unary un.Not x) c
+    not_ : {a c : List Token} {x : Expr} → Derives prefixed a x c
+        → Derives prefixed (key k.Not ∷ a) (tree.unary un.Not x) c
     there_is : {a b c : List Token} {n : Bool} {r : Ref} → DerivesArticle a n b → DerivesRef b r c
         → Derives prefixed (key k.There ∷ key k.Is ∷ a) (tree.there_is n r) c
     no_prefix : {a c : List Token} {x : Expr} → Derives factor a x c → Derives prefixed a x c
     no_form : {a c : List Token} {x : Expr} → Derives primary a x c → Derives factor a x c
-    chunk : {a b c m : List Token} {h : Chunk} {x : Expr} → DerivesChunk a h m → after_of m ≡ Some b → Derives factor b x c
+    chunk : {a b c m : List Token} {h : Chunk} {x : Expr} → DerivesChunk a h m → after_of m ≡ Some b
+        → Derives factor b x c
         → Derives factor a (tree.chunk h x) c
     field : {a c : List Token} {p : Part} → DerivesPart a p c → kind_of_part p ≡ part_kind.Field
         → Derives factor a (tree.field p) c
@@ -76,7 +82,8 @@ mutual
         → Derives factor (key k.The ∷ token.name w ∷ c) tree.result c
     target : {w : List ℕ} {c : List Token} → same_name w (codes "target") ≡ true
         → Derives factor (key k.The ∷ token.name w ∷ c) tree.target c
-    number_of : {a b c m : List Token} {n : Count} → past_the a ≡ key k.Number ∷ m → after_of m ≡ Some b → DerivesCount b n c
+    number_of : {a b c m : List Token} {n : Count} → past_the a ≡ key k.Number ∷ m → after_of m ≡ Some b
+        → DerivesCount b n c
         → Derives factor a (tree.number_of n) c
     property : {b c m : List Token} {p : Prop} {r : Ref} → prop_front m ≡ Some p → after_of (later m) ≡ Some b
         → DerivesRef b r c → Derives factor (key k.The ∷ m) (tree.property p r) c
@@ -85,7 +92,8 @@ mutual
         → Derives factor (key k.The ∷ token.name w ∷ m) (tree.property q r) c
     run_property : {w : List ℕ} {c : List Token} {p : RunProp} → run_prop w ≡ Some p
         → Derives factor (key k.The ∷ token.name w ∷ c) (tree.run_property p) c
-    function : {w : List ℕ} {b c m : List Token} {f : FunctionWord} {x : Expr} → function_of w ≡ Some f → after_of m ≡ Some b
+    function : {w : List ℕ} {b c m : List Token} {f : FunctionWord} {x : Expr} → function_of w ≡ Some f
+        → after_of m ≡ Some b
         → Derives factor b x c → Derives factor (key k.The ∷ token.name w ∷ m) (tree.function f x) c
     number : {w : List ℕ} {c : List Token} → Derives primary (token.number w ∷ c) (tree.number w) c
     quoted : {w : List ℕ} {c : List Token} → Derives primary (token.quoted w ∷ c) (tree.quoted w) c
@@ -102,7 +110,8 @@ mutual
   -- One expression or more, with commas between.
   pub data DerivesList : List Token → Exprs → List Token → Type 0 where
     alone : {a c : List Token} {x : Expr} → Derives whole a x c → DerivesList a (more x none) c
-    followed : {a b c : List Token} {x : Expr} {xs : Exprs} → Derives whole a x (key k.CommaSign ∷ b) → DerivesList b xs c
+    followed : {a b c : List Token} {x : Expr} {xs : Exprs} → Derives whole a x (key k.CommaSign ∷ b)
+        → DerivesList b xs c
         → DerivesList a (more x xs) c
 
   -- The head of a chunk, up to its `of`.
@@ -129,7 +138,8 @@ mutual
         → DerivesRef (key k.The ∷ token.name w ∷ c) tree.the_target c
     this_stack : {c : List Token} → DerivesRef (key k.This ∷ key k.Stack ∷ c) tree.this_stack c
     card : {a c : List Token} {p : Selector} → DerivesSelector k.Card a p c → DerivesRef a (tree.card p) c
-    background : {a c : List Token} {p : Selector} → DerivesSelector k.Background a p c → DerivesRef a (tree.background p) c
+    background : {a c : List Token} {p : Selector} → DerivesSelector k.Background a p c
+        → DerivesRef a (tree.background p) c
     a_part : {a c : List Token} {p : Part} → DerivesPart a p c → DerivesRef a (tree.a_part p) c
 
   -- A card, or a background, as the key says.
@@ -138,7 +148,8 @@ mutual
     next : {h : Key} {c : List Token} → DerivesSelector h (key k.Next ∷ key h ∷ c) tree.next c
     previous : {h : Key} {c : List Token} → DerivesSelector h (key k.Previous ∷ key h ∷ c) tree.previous c
     nth : {h : Key} {n : Ordinal} {c : List Token} → DerivesSelector h (key (k.Ordinal n) ∷ key h ∷ c) (tree.nth n) c
-    which : {h : Key} {a c : List Token} {w : Which} → DerivesWhich a w c → DerivesSelector h (key h ∷ a) (tree.which w) c
+    which : {h : Key} {a c : List Token} {w : Which} → DerivesWhich a w c
+        → DerivesSelector h (key h ∷ a) (tree.which w) c
 
   pub data DerivesWhich : List Token → Which → List Token → Type 0 where
     by_id : {a c : List Token} {x : Expr} → Derives primary a x c → DerivesWhich (key k.Id ∷ a) (tree.by_id x) c
@@ -146,7 +157,8 @@ mutual
 
   pub data DerivesPart : List Token → Part → List Token → Type 0 where
     part : {p : PartKind} {a b c m : List Token} {l : Option Layer} {w : Which} {o : Owner}
-        → DerivesLayer a l (key (k.Part p) ∷ b) → DerivesWhich b w m → DerivesOwner m o c → DerivesPart a (tree.part l p w o) c
+        → DerivesLayer a l (key (k.Part p) ∷ b) → DerivesWhich b w m → DerivesOwner m o c
+        → DerivesPart a (tree.part l p w o) c
     nth_part : {n : Ordinal} {p : PartKind} {a c m : List Token} {l : Option Layer} {o : Owner}
         → DerivesLayer a l (key (k.Part p) ∷ m) → DerivesOwner m o c
         → DerivesPart (key (k.Ordinal n) ∷ a) (tree.nth_part n l p o) c

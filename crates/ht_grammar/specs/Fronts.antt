@@ -25,15 +25,19 @@ same_name = same
 -- the properties of objects whose names aren't reserved
 abbrev pub prop_names : List (List ℕ × Prop)
 prop_names =
-    (codes "name", prop.Name) ∷ (codes "script", prop.Script) ∷ (codes "visible", prop.Visible) ∷ (codes "hilite", prop.Hilite) ∷ (codes "sharedHilite", prop.SharedHilite)
-    ∷ (codes "lockText", prop.LockText) ∷ (codes "sharedText", prop.SharedText) ∷ (codes "cantDelete", prop.CantDelete) ∷ []
+    (codes "name", prop.Name) ∷ (codes "script", prop.Script) ∷ (codes "visible", prop.Visible)
+    ∷ (codes "hilite", prop.Hilite) ∷ (codes "sharedHilite", prop.SharedHilite)
+    ∷ (codes "lockText", prop.LockText) ∷ (codes "sharedText", prop.SharedText) ∷ (codes "cantDelete", prop.CantDelete)
+    ∷ []
 
 abbrev pub run_prop_names : List (List ℕ × RunProp)
-run_prop_names = (codes "itemDelimiter", run.ItemDelimiter) ∷ (codes "lockMessages", run.LockMessages) ∷ (codes "editBkgnd", run.EditBkgnd) ∷ []
+run_prop_names = (codes "itemDelimiter", run.ItemDelimiter) ∷ (codes "lockMessages", run.LockMessages)
+    ∷ (codes "editBkgnd", run.EditBkgnd) ∷ []
 
 abbrev pub function_names : List (List ℕ × FunctionWord)
 function_names =
-    (codes "abs", func.Abs) ∷ (codes "charToNum", func.CharToNum) ∷ (codes "numToChar", func.NumToChar) ∷ (codes "length", func.Length) ∷ (codes "value", func.Value) ∷ []
+    (codes "abs", func.Abs) ∷ (codes "charToNum", func.CharToNum) ∷ (codes "numToChar", func.NumToChar)
+    ∷ (codes "length", func.Length) ∷ (codes "value", func.Value) ∷ []
 
 abbrev pub prop_by : Option TokenKind → List ℕ → Option Prop
 prop_by (Some (kind.Key k.Id)) w = Some prop.Id
@@ -62,7 +66,8 @@ is_article w = same_name w (codes "a") || same_name w (codes "an")
 
 abbrev pub type_by : Option TokenKind → List ℕ → Option ValueType
 type_by (Some (kind.Key k.Number)) w = Some type.Number
-type_by (Some kind.Name) w = if same_name w (codes "integer") then Some type.Integer else if same_name w (codes "logical") then Some type.Logical else None
+type_by (Some kind.Name) w = if same_name w (codes "integer") then Some type.Integer else if same_name w
+    (codes "logical") then Some type.Logical else None
 type_by _ w = None
 
 -- The type that the first token names.

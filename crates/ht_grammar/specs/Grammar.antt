@@ -17,7 +17,8 @@ use Rattle.ht_grammar.specs.Statements.{Destination, Head, Stmt, Stmts, Handler,
 use Rattle.ht_grammar.specs.Statements as s
 use Rattle.ht_grammar.specs.Fronts.{after_of, past_the, same_name, prop_front, run_prop}
 use Rattle.ht_grammar.specs.Ends.{past_ends, ended, past_for, past_to, past_times}
-use Rattle.ht_grammar.specs.Expressions.{Derives, DerivesList, DerivesChunk, DerivesRef, DerivesSelector, DerivesContainer, whole}
+use Rattle.ht_grammar.specs.Expressions.{Derives, DerivesList, DerivesChunk, DerivesRef, DerivesSelector}
+use Rattle.ht_grammar.specs.Expressions.{DerivesContainer, whole}
 
 -- Where a statement stands: inside a repeat or not, and in the handler of which name, if in one.
 pub record Context : Type 0 where
@@ -58,8 +59,10 @@ pub data DerivesNames : List Token → List (List ℕ) → List Token → Type 0
 
 -- where `go` goes; without a word it is a card
 pub data DerivesDestination : List Token → Destination → List Token → Type 0 where
-  destination_card : {a c : List Token} {p : Selector} → DerivesSelector k.Card a p c → DerivesDestination a (s.to_card p) c
-  destination_background : {a c : List Token} {p : Selector} → DerivesSelector k.Background a p c → DerivesDestination a (s.to_background p) c
+  destination_card : {a c : List Token} {p : Selector} → DerivesSelector k.Card a p c
+      → DerivesDestination a (s.to_card p) c
+  destination_background : {a c : List Token} {p : Selector} → DerivesSelector k.Background a p c
+      → DerivesDestination a (s.to_background p) c
   this_alone : {c : List Token} → DerivesDestination (key k.This ∷ c) (s.to_card tree.this) c
   next_alone : {c : List Token} → DerivesDestination (key k.Next ∷ c) (s.to_card tree.next) c
   previous_alone : {c : List Token} → DerivesDestination (key k.Previous ∷ c) (s.to_card tree.previous) c
@@ -67,13 +70,15 @@ pub data DerivesDestination : List Token → Destination → List Token → Type
 
 pub data DerivesSimple : Context → List Token → Stmt → List Token → Type 0 where
   put : {x : Context} {a c : List Token} {e : Expr} → Derives whole a e c → DerivesSimple x (key k.Put ∷ a) (s.put e) c
-  put_in : {x : Context} {h : Key} {a b c : List Token} {w : Where} {e : Expr} {t : Container} → Derives whole a e (key h ∷ b)
+  put_in : {x : Context} {h : Key} {a b c : List Token} {w : Where} {e : Expr} {t : Container}
+      → Derives whole a e (key h ∷ b)
       → place_of h ≡ Some w → DerivesContainer b t c → DerivesSimple x (key k.Put ∷ a) (s.put_in w e t) c
   get : {x : Context} {a c : List Token} {e : Expr} → Derives whole a e c → DerivesSimple x (key k.Get ∷ a) (s.get e) c
   set : {x : Context} {a b c m : List Token} {p : Prop} {r : Ref} {e : Expr} → prop_front (past_the a) ≡ Some p
       → after_of (later (past_the a)) ≡ Some b → DerivesRef b r (key k.To ∷ m) → Derives whole m e c
       → DerivesSimple x (key k.Set ∷ a) (s.set p r e) c
-  set_run : {x : Context} {w : List ℕ} {a c m : List Token} {p : RunProp} {e : Expr} → past_the a ≡ token.name w ∷ key k.To ∷ m
+  set_run : {x : Context} {w : List ℕ} {a c m : List Token} {p : RunProp} {e : Expr}
+      → past_the a ≡ token.name w ∷ key k.To ∷ m
       → run_prop w ≡ Some p → Derives whole m e c → DerivesSimple x (key k.Set ∷ a) (s.set_run p e) c
   add : {x : Context} {a b c : List Token} {e : Expr} {t : Container} → Derives whole a e (key k.To ∷ b)
       → DerivesContainer b t c → DerivesSimple x (key k.Add ∷ a) (s.add e t) c
@@ -88,7 +93,8 @@ pub data DerivesSimple : Context → List Token → Stmt → List Token → Type
   do_ : {x : Context} {a c : List Token} {e : Expr} → Derives whole a e c → DerivesSimple x (key k.Do ∷ a) (s.do_ e) c
   send : {x : Context} {a b c : List Token} {e : Expr} {r : Ref} → Derives whole a e (key k.To ∷ b) → DerivesRef b r c
       → DerivesSimple x (key k.Send ∷ a) (s.send e r) c
-  go : {x : Context} {a c : List Token} {g : Destination} → DerivesDestination (past_to a) g c → DerivesSimple x (key k.Go ∷ a) (s.go g) c
+  go : {x : Context} {a c : List Token} {g : Destination} → DerivesDestination (past_to a) g c
+      → DerivesSimple x (key k.Go ∷ a) (s.go g) c
   global : {x : Context} {a c : List Token} {ws : List (List ℕ)} → DerivesNames a ws c
       → DerivesSimple x (key k.Global ∷ a) (s.global ws) c
   exit_repeat : {x : Context} {c : List Token} → x.in_repeat ≡ true
@@ -126,7 +132,8 @@ mutual
   pub data DerivesStmt : Context → List Token → Stmt → List Token → Type 0 where
     simple : {x : Context} {a c : List Token} {t : Stmt} → DerivesSimple x a t c → DerivesStmt x a t c
     -- A statement stands on the line of `then`; an `else` after it, on a later line too, belongs to it where a statement stands on its line.
-    short : {x : Context} {a b c m : List Token} {e : Expr} {t : Stmt} → Derives whole a e m → past_ends m ≡ key k.Then ∷ b
+    short : {x : Context} {a b c m : List Token} {e : Expr} {t : Stmt} → Derives whole a e m
+        → past_ends m ≡ key k.Then ∷ b
         → DerivesSimple x b t c → DerivesStmt x (key k.If ∷ a) (s.when e (also t stop) stop) c
     short_else : {x : Context} {a b c d m n : List Token} {e : Expr} {t u : Stmt} → Derives whole a e m
         → past_ends m ≡ key k.Then ∷ b → DerivesSimple x b t n → past_ends n ≡ key k.Else ∷ d → DerivesSimple x d u c

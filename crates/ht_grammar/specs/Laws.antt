@@ -13,4 +13,5 @@ OneTree {A} IsRead = (ts : List Token) (tree other : A) → IsRead ts tree → I
 
 -- No text is read as two trees.
 abbrev pub OneTreePerText : {A : Type 0} → (List Token → A → Type 0) → Type 0
-OneTreePerText {A} IsRead = (text : List ℕ) (tree other : A) → Reads IsRead text tree → Reads IsRead text other → tree ≡ other
+OneTreePerText {A} IsRead =
+    (text : List ℕ) (tree other : A) → Reads IsRead text tree → Reads IsRead text other → tree ≡ other

@@ -1,5 +1,6 @@
 -- Reading statements, as a function on lists of tokens. The laws tie it to the rules.
-use Rattle.std.specs.Prelude.{ℕ, zero, suc, List, [], ◌∷◌, length, Bool, true, false, Option, Some, None, is_some, if◌then◌else◌, ◌&&◌, codes}
+use Rattle.std.specs.Prelude.{ℕ, zero, suc, List, [], ◌∷◌, length, Bool, true, false, Option, Some, None, is_some}
+use Rattle.std.specs.Prelude.{if◌then◌else◌, ◌&&◌, codes}
 use Rattle.ht_lex.specs.declared.key.Key.{Key}
 use Rattle.ht_lex.specs.declared.key.Key.TheVariants as k
 use Rattle.ht_lex.specs.declared.key.TokenKind.{TokenKind}
@@ -18,7 +19,8 @@ use Rattle.ht_grammar.specs.Depth.{destination_depth, stmts_depth, max_depth}
 use Rattle.ht_grammar.specs.Fronts.{after_of, past_the, same_name, prop_front, run_prop}
 use Rattle.ht_grammar.specs.Ends.{past_ends, ended, past_for, past_to, past_times}
 use Rattle.ht_grammar.specs.Expressions.{whole}
-use Rattle.ht_grammar.specs.Reading.{Outcome, Parser, and_then, made, all_of, not_too_deep, read, list_at, chunk_at, field_at, inner_ref, referenced_layer, selector_at, fitting}
+use Rattle.ht_grammar.specs.Reading.{Outcome, Parser, and_then, made, all_of, not_too_deep, read, list_at, chunk_at}
+use Rattle.ht_grammar.specs.Reading.{field_at, inner_ref, referenced_layer, selector_at, fitting}
 use Rattle.ht_grammar.specs.Reading as reading
 use Rattle.ht_grammar.specs.Grammar.{Context, at_large, inside_repeat, names_handler, place_of}
 
@@ -74,7 +76,8 @@ begins_expr _ = false
 
 -- a chunk of a container
 abbrev pub chunk_container : (Parser Container) → ℕ → Parser Container
-chunk_container again d ts = and_then (chunk_at (read d) d ts) (λ h r. made (t.in_chunk h) (reading.of_part (read d) d again (after_of r)))
+chunk_container again d ts =
+    and_then (chunk_at (read d) d ts) (λ h r. made (t.in_chunk h) (reading.of_part (read d) d again (after_of r)))
 
 abbrev pub ordinal_container : (Parser Container) → ℕ → Option TokenKind → Parser Container
 ordinal_container again d (Some (kind.Key (k.Piece p))) ts = chunk_container again d ts
@@ -98,7 +101,8 @@ names_more again (Some (kind.Key k.CommaSign)) ts = again (later ts)
 names_more again _ ts = Some ([], ts)
 
 abbrev pub names_by : Parser (List (List ℕ)) → Option TokenKind → Parser (List (List ℕ))
-names_by again (Some kind.Name) ts = made (λ ws. first_text ts ∷ ws) (names_more again (first_kind (later ts)) (later ts))
+names_by again (Some kind.Name) ts =
+    made (λ ws. first_text ts ∷ ws) (names_more again (first_kind (later ts)) (later ts))
 names_by again _ ts = None
 
 -- One name or more. The number bounds the turns.
@@ -137,7 +141,8 @@ module _ (d : ℕ) (x : Context) where
   set_run_by None ts = None
 
   abbrev pub set_by : Option Prop → Parser Stmt
-  set_by (Some p) ts = and_then (reading.of_part (read d) d (inner_ref (read d) d) (after_of (later ts))) (λ r. after_key k.To (λ m. made (s.set p r) (deeper m)))
+  set_by (Some p) ts = and_then (reading.of_part (read d) d (inner_ref (read d) d) (after_of (later ts)))
+      (λ r. after_key k.To (λ m. made (s.set p r) (deeper m)))
   set_by None ts = set_run_by (run_prop_front ts) ts
 
   abbrev pub bare_destination : Option TokenKind → Parser Destination
@@ -156,38 +161,49 @@ module _ (d : ℕ) (x : Context) where
   destination_at ts = fitting (read d) d destination_depth (destination_by (referenced_layer ts) ts)
 
   abbrev pub hypercard_by : Option TokenKind → Parser Stmt
-  hypercard_by (Some kind.Name) ts = if same_name (first_text ts) (codes "HyperCard") then Some (s.exit_to_hypercard, later ts) else None
+  hypercard_by (Some kind.Name) ts =
+      if same_name (first_text ts) (codes "HyperCard") then Some (s.exit_to_hypercard, later ts) else None
   hypercard_by _ ts = None
 
   abbrev pub exit_by : Option TokenKind → Parser Stmt
   exit_by (Some (kind.Key k.Repeat)) ts = if x.in_repeat then Some (s.exit_repeat, later ts) else None
   exit_by (Some (kind.Key k.To)) ts = hypercard_by (first_kind (later ts)) (later ts)
-  exit_by (Some kind.Name) ts = if names_handler x.handler (first_text ts) then Some (s.exit (first_text ts), later ts) else None
+  exit_by (Some kind.Name) ts =
+      if names_handler x.handler (first_text ts) then Some (s.exit (first_text ts), later ts) else None
   exit_by _ ts = None
 
   abbrev pub pass_by : Option TokenKind → Parser Stmt
-  pass_by (Some kind.Name) ts = if names_handler x.handler (first_text ts) then Some (s.pass (first_text ts), later ts) else None
+  pass_by (Some kind.Name) ts =
+      if names_handler x.handler (first_text ts) then Some (s.pass (first_text ts), later ts) else None
   pass_by _ ts = None
 
   abbrev pub simple_by : Option TokenKind → Parser Stmt
-  simple_by (Some kind.Name) ts = if begins_expr (first_kind (later ts)) then made (s.command (first_text ts)) (list_at (read d) d (length ts) none (later ts)) else Some (s.command (first_text ts) none, later ts)
+  simple_by (Some kind.Name) ts = if begins_expr (first_kind (later ts)) then made (s.command (first_text ts))
+      (list_at (read d) d (length ts) none (later ts)) else Some (s.command (first_text ts) none, later ts)
   simple_by (Some (kind.Key k.Put)) ts = and_then (deeper (later ts)) (λ e r. put_by (place_front (first_kind r)) e r)
   simple_by (Some (kind.Key k.Get)) ts = made s.get (deeper (later ts))
   simple_by (Some (kind.Key k.Set)) ts = set_by (prop_front (past_the (later ts))) (past_the (later ts))
-  simple_by (Some (kind.Key k.Add)) ts = and_then (deeper (later ts)) (λ e. after_key k.To (λ m. made (s.add e) (container d m)))
-  simple_by (Some (kind.Key k.Subtract)) ts = and_then (deeper (later ts)) (λ e. after_key k.From (λ m. made (s.subtract e) (container d m)))
-  simple_by (Some (kind.Key k.Multiply)) ts = and_then (container d (later ts)) (λ c. after_key k.By (λ m. made (s.multiply c) (deeper m)))
-  simple_by (Some (kind.Key k.Divide)) ts = and_then (container d (later ts)) (λ c. after_key k.By (λ m. made (s.divide c) (deeper m)))
+  simple_by (Some (kind.Key k.Add)) ts =
+      and_then (deeper (later ts)) (λ e. after_key k.To (λ m. made (s.add e) (container d m)))
+  simple_by (Some (kind.Key k.Subtract)) ts =
+      and_then (deeper (later ts)) (λ e. after_key k.From (λ m. made (s.subtract e) (container d m)))
+  simple_by (Some (kind.Key k.Multiply)) ts =
+      and_then (container d (later ts)) (λ c. after_key k.By (λ m. made (s.multiply c) (deeper m)))
+  simple_by (Some (kind.Key k.Divide)) ts =
+      and_then (container d (later ts)) (λ c. after_key k.By (λ m. made (s.divide c) (deeper m)))
   simple_by (Some (kind.Key k.Delete)) ts = and_then (container d (later ts)) deleted
   simple_by (Some (kind.Key k.Do)) ts = made s.do_ (deeper (later ts))
-  simple_by (Some (kind.Key k.Send)) ts = and_then (deeper (later ts)) (λ e. after_key k.To (λ m. made (s.send e) (inner_ref (read d) d m)))
+  simple_by (Some (kind.Key k.Send)) ts =
+      and_then (deeper (later ts)) (λ e. after_key k.To (λ m. made (s.send e) (inner_ref (read d) d m)))
   simple_by (Some (kind.Key k.Go)) ts = made s.go (destination_at (past_to (later ts)))
   simple_by (Some (kind.Key k.Global)) ts = made s.global (names_at (length ts) (later ts))
   simple_by (Some (kind.Key k.Exit)) ts = exit_by (first_kind (later ts)) (later ts)
-  simple_by (Some (kind.Key k.Next)) ts = after_key k.Repeat (λ r. if x.in_repeat then Some (s.next_repeat, r) else None) (later ts)
+  simple_by (Some (kind.Key k.Next)) ts =
+      after_key k.Repeat (λ r. if x.in_repeat then Some (s.next_repeat, r) else None) (later ts)
   simple_by (Some (kind.Key k.Pass)) ts = pass_by (first_kind (later ts)) (later ts)
   simple_by (Some (kind.Key k.Return)) ts =
-      if is_some x.handler then (if begins_expr (first_kind (later ts)) then made s.return_value (deeper (later ts)) else Some (s.return_nothing, later ts)) else None
+      if is_some x.handler then (if begins_expr (first_kind (later ts)) then made s.return_value (deeper (later ts))
+      else Some (s.return_nothing, later ts)) else None
   simple_by _ ts = None
 
   -- a statement that needs no end, with at most d + 1 levels
@@ -196,11 +212,13 @@ module _ (d : ℕ) (x : Context) where
 
   abbrev pub bound_by : List ℕ → Expr → Option TokenKind → Parser Head
   bound_by w e (Some (kind.Key k.To)) ts = made (s.counted_up w e) (deeper (later ts))
-  bound_by w e (Some kind.Name) ts = if same_name (first_text ts) (codes "down") then after_key k.To (λ m. made (s.counted_down w e) (deeper m)) (later ts) else None
+  bound_by w e (Some kind.Name) ts = if same_name (first_text ts) (codes "down") then after_key k.To
+      (λ m. made (s.counted_down w e) (deeper m)) (later ts) else None
   bound_by w e _ ts = None
 
   abbrev pub with_by : Option TokenKind → Parser Head
-  with_by (Some kind.Name) ts = after_key k.Equal (λ m. and_then (deeper m) (λ e r. bound_by (first_text ts) e (first_kind r) r)) (later ts)
+  with_by (Some kind.Name) ts =
+      after_key k.Equal (λ m. and_then (deeper m) (λ e r. bound_by (first_text ts) e (first_kind r) r)) (later ts)
   with_by _ ts = None
 
   abbrev pub times_at : Parser Head
@@ -239,7 +257,8 @@ then_at f ts = after_key k.Then f (past_ends ts)
 -- with the trees of blocks of at most d levels
 module _ (blocks : Block → Context → Parser Stmts) (d : ℕ) (x : Context) where
   abbrev pub long_at : Expr → Parser Stmt
-  long_at e ts = ended_then (ended ts) (λ l. and_then (blocks lines x l) (λ ss r. made (s.when e ss) (blocks otherwise x r)))
+  long_at e ts =
+      ended_then (ended ts) (λ l. and_then (blocks lines x l) (λ ss r. made (s.when e ss) (blocks otherwise x r)))
 
   -- An `else` belongs here where a statement stands on its line.
   abbrev pub short_end : Expr → Stmt → Parser Stmt
@@ -258,8 +277,11 @@ module _ (blocks : Block → Context → Parser Stmts) (d : ℕ) (x : Context) w
   else_if_at ts = and_then (read d whole ts) (λ e. then_at (long_at e))
 
   abbrev pub stmt_by : Option TokenKind → Parser Stmt
-  stmt_by (Some (kind.Key k.If)) ts = and_then (read d whole (later ts)) (λ e. then_at (λ r. then_by (first_kind r) e r))
-  stmt_by (Some (kind.Key k.Repeat)) ts = and_then (head_at d x (later ts)) (λ h r. ended_then (ended r) (λ l. and_then (blocks lines (inside_repeat x) l) (λ ss. after_key k.End (after_key k.Repeat (λ c. Some (s.repeat h ss, c))))))
+  stmt_by (Some (kind.Key k.If)) ts =
+      and_then (read d whole (later ts)) (λ e. then_at (λ r. then_by (first_kind r) e r))
+  stmt_by (Some (kind.Key k.Repeat)) ts = and_then (head_at d x (later ts))
+      (λ h r. ended_then (ended r) (λ l. and_then (blocks lines (inside_repeat x) l)
+      (λ ss. after_key k.End (after_key k.Repeat (λ c. Some (s.repeat h ss, c))))))
   stmt_by _ ts = simple_at d x ts
 
   unfoldable pub stmt_at : Parser Stmt
@@ -269,11 +291,13 @@ module _ (statement : Context → Parser Stmt) (else_if : Context → Parser Stm
   -- The number bounds the turns.
   unfoldable pub lines_at : ℕ → Context → Parser Stmts
   lines_at zero x ts = None
-  lines_at (suc n) x ts = if begins_statement (first_kind ts) then and_then (statement x ts) (λ t r. ended_then (ended r) (λ b. made (also t) (lines_at n x b))) else Some (stop, ts)
+  lines_at (suc n) x ts = if begins_statement (first_kind ts) then and_then (statement x ts)
+      (λ t r. ended_then (ended r) (λ b. made (also t) (lines_at n x b))) else Some (stop, ts)
 
   abbrev pub else_by : Option TokenKind → Context → Parser Stmts
   else_by (Some (kind.Key k.If)) x ts = made (λ t. also t stop) (else_if x (later ts))
-  else_by _ x ts = ended_then (ended ts) (λ l. and_then (lines_at (suc (length l)) x l) (λ ss. after_key k.End (after_key k.If (λ c. Some (ss, c)))))
+  else_by _ x ts = ended_then (ended ts)
+      (λ l. and_then (lines_at (suc (length l)) x l) (λ ss. after_key k.End (after_key k.If (λ c. Some (ss, c)))))
 
   abbrev pub otherwise_by : Option TokenKind → Context → Parser Stmts
   otherwise_by (Some (kind.Key k.End)) x ts = after_key k.If (λ c. Some (stop, c)) (later ts)

@@ -1,5 +1,6 @@
 -- Reading expressions and references, as a function on lists of tokens: a tree and the tokens after it. The laws tie it to the rules.
-use Rattle.std.specs.Prelude.{ℕ, zero, suc, List, [], ◌∷◌, length, Bool, true, false, Option, Some, None, if◌then◌else◌, nat_eq, nat_le, codes}
+use Rattle.std.specs.Prelude.{ℕ, zero, suc, List, [], ◌∷◌, length, Bool, true, false, Option, Some, None}
+use Rattle.std.specs.Prelude.{if◌then◌else◌, nat_eq, nat_le, codes}
 use Rattle.ht_lex.specs.declared.key.Key.TheVariants as k
 use Rattle.ht_lex.specs.declared.key.TokenKind.{TokenKind}
 use Rattle.ht_lex.specs.declared.key.TokenKind.TheVariants as kind
@@ -20,7 +21,8 @@ use Rattle.ht_grammar.specs.declared.vocabulary.Layer.TheVariants as layer
 use Rattle.ht_grammar.specs.Trees.{Expr, Exprs, Chunk, Which, Selector, Owner, Part, Ref, Count, none, more}
 use Rattle.ht_grammar.specs.Trees as t
 use Rattle.ht_grammar.specs.Depth.{depth, selector_depth, ref_depth, max_depth}
-use Rattle.ht_grammar.specs.Fronts.{LeadingOperator, infix_at, test_at, neither, leading_operator, equality, after_of, same_name, is_article, prop_front, short_of, run_prop, function_of}
+use Rattle.ht_grammar.specs.Fronts.{LeadingOperator, infix_at, test_at, neither, leading_operator, equality, after_of}
+use Rattle.ht_grammar.specs.Fronts.{same_name, is_article, prop_front, short_of, run_prop, function_of}
 use Rattle.ht_grammar.specs.Expressions.{Level, rank, power, prefixed, factor, primary, whole}
 
 abbrev pub Outcome : Type 0 → Type 0
@@ -95,7 +97,8 @@ article_not (Some kind.Name) w ts = if is_article w then Some (true, ts) else No
 article_not _ w ts = None
 
 abbrev pub article_by : Option TokenKind → List ℕ → List Token → Outcome Bool
-article_by (Some kind.Name) w ts = if is_article w then Some (false, ts) else if same_name w (codes "no") then Some (true, ts) else None
+article_by (Some kind.Name) w ts =
+    if is_article w then Some (false, ts) else if same_name w (codes "no") then Some (true, ts) else None
 article_by (Some (kind.Key k.Not)) w ts = article_not (first_kind ts) (first_text ts) (later ts)
 article_by _ w ts = None
 
@@ -170,7 +173,8 @@ module _ (deeper : Level → Parser Expr) (d : ℕ) where
   abbrev pub owner_of_layer : Option Layer → List Token → Parser Owner
   owner_of_layer None before ts = Some (t.no_owner, before)
   owner_of_layer (Some layer.Card) before ts = made t.on_card (fitting (λ p. suc (selector_depth p)) (selector_at ts))
-  owner_of_layer (Some layer.Background) before ts = made t.on_background (fitting (λ p. suc (selector_depth p)) (selector_at ts))
+  owner_of_layer (Some layer.Background) before ts =
+      made t.on_background (fitting (λ p. suc (selector_depth p)) (selector_at ts))
 
   abbrev pub owner_by : Option (List Token) → Parser Owner
   owner_by None before = Some (t.no_owner, before)
@@ -203,7 +207,8 @@ module _ (deeper : Level → Parser Expr) (d : ℕ) where
   ref_of_layer None ts = made t.a_part (part_at ts)
 
   abbrev pub target_by : Option TokenKind → List Token → Outcome Ref
-  target_by (Some kind.Name) ts = if same_name (first_text ts) (codes "target") then Some (t.the_target, later ts) else None
+  target_by (Some kind.Name) ts =
+      if same_name (first_text ts) (codes "target") then Some (t.the_target, later ts) else None
   target_by _ ts = None
 
   abbrev pub this_by : Option TokenKind → Parser Ref
@@ -333,7 +338,8 @@ module _ (deeper : Level → Parser Expr) (d : ℕ) where
   prefixed_at ts = prefixed_by (first_kind ts) ts
 
   abbrev pub power_by : Option TokenKind → Expr → Parser Expr
-  power_by (Some (kind.Key k.Caret)) x ts = if nat_le (depth x) d then made (t.binary o.Power x) (deeper power (later ts)) else None
+  power_by (Some (kind.Key k.Caret)) x ts =
+      if nat_le (depth x) d then made (t.binary o.Power x) (deeper power (later ts)) else None
   power_by _ x ts = Some (x, ts)
 
   unfoldable pub power_end : Expr → Parser Expr

@@ -42,7 +42,8 @@ pub record ReadsPart (ts : List Token) (p : Part) : Type 0 where
 
 -- A text in quotes and the field that it is typed into, without an owner.
 pub data ReadsType : List Token → Typed → Type 0 where
-  reads_type : {w : List ℕ} {a : List Token} {p : Part} → ReadsPart a p → kind_of_part p ≡ part_kind.Field → ReadsType (token.quoted w ∷ key k.Into ∷ a) (typed w p)
+  reads_type : {w : List ℕ} {a : List Token} {p : Part} → ReadsPart a p → kind_of_part p ≡ part_kind.Field
+      → ReadsType (token.quoted w ∷ key k.Into ∷ a) (typed w p)
 
 -- The text has tokens, which are read as this tree.
 pub record Reads {A : Type 0} (ReadsTokens : List Token → A → Type 0) (text : List ℕ) (tree : A) : Type 0 where

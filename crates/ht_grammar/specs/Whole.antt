@@ -9,7 +9,8 @@ use Rattle.ht_lex.specs.Token.{Token, first_kind, first_text, later}
 use Rattle.ht_grammar.specs.declared.vocabulary.HandlerKind.{HandlerKind}
 use Rattle.ht_grammar.specs.declared.vocabulary.HandlerKind.TheVariants as handler_kind
 use Rattle.ht_grammar.specs.Trees.{Part, Owner, none, owner_of, kind_of_part, no_owner, on_card, on_background}
-use Rattle.ht_grammar.specs.Statements.{Handler, handler, Handlers, no_handlers, and_handler, Message, message, Typed, typed}
+use Rattle.ht_grammar.specs.Statements.{Handler, handler, Handlers, no_handlers, and_handler, Message, message, Typed}
+use Rattle.ht_grammar.specs.Statements.{typed}
 use Rattle.ht_grammar.specs.Depth.{part_depth, handlers_depth, message_depth, max_depth}
 use Rattle.ht_grammar.specs.Fronts.{same_name}
 use Rattle.ht_grammar.specs.Ends.{past_ends, ended}
@@ -19,18 +20,22 @@ use Rattle.ht_grammar.specs.Lines.{blocks, lines, names_at, after_key, ended_the
 
 -- after `end`
 abbrev pub name_by : Option TokenKind → List ℕ → Handler → Parser Handler
-name_by (Some kind.Name) w h ts = if same_name w (first_text ts) then ended_then (ended (later ts)) (λ c. Some (h, c)) else None
+name_by (Some kind.Name) w h ts =
+    if same_name w (first_text ts) then ended_then (ended (later ts)) (λ c. Some (h, c)) else None
 name_by _ w h ts = None
 
 abbrev pub body_at : HandlerKind → List ℕ → List (List ℕ) → Parser Handler
-body_at f w ps ts = ended_then (ended ts) (λ l. and_then (blocks max_depth lines (in_handler w) l) (λ ss. after_key k.End (λ r. name_by (first_kind r) w (handler f w ps ss) r)))
+body_at f w ps ts = ended_then (ended ts)
+    (λ l. and_then (blocks max_depth lines (in_handler w) l)
+    (λ ss. after_key k.End (λ r. name_by (first_kind r) w (handler f w ps ss) r)))
 
 abbrev pub params_by : Option TokenKind → Parser (List (List ℕ))
 params_by (Some kind.Name) ts = names_at (length ts) ts
 params_by _ ts = Some ([], ts)
 
 abbrev pub named_by : Option TokenKind → HandlerKind → Parser Handler
-named_by (Some kind.Name) f ts = and_then (params_by (first_kind (later ts)) (later ts)) (λ ps. body_at f (first_text ts) ps)
+named_by (Some kind.Name) f ts =
+    and_then (params_by (first_kind (later ts)) (later ts)) (λ ps. body_at f (first_text ts) ps)
 named_by _ f ts = None
 
 abbrev pub handler_by : Option TokenKind → Parser Handler
@@ -42,7 +47,8 @@ handler_by _ ts = None
 unfoldable pub handlers_at : ℕ → Parser Handlers
 handlers_at zero ts = None
 handlers_at (suc n) [] = Some (no_handlers, [])
-handlers_at (suc n) (t ∷ ts) = and_then (handler_by (first_kind (t ∷ ts)) (t ∷ ts)) (λ h r. made (and_handler h) (handlers_at n r))
+handlers_at (suc n) (t ∷ ts) =
+    and_then (handler_by (first_kind (t ∷ ts)) (t ∷ ts)) (λ h r. made (and_handler h) (handlers_at n r))
 
 -- the script that the tokens are, all of them
 abbrev pub script : List Token → Option Handlers

@@ -1,5 +1,7 @@
 -- What a text begins with is the longest token or gap.
-use Rattle.std.proofs.Common.{◌≡◌, ℕ, zero, suc, ◌+◌, ◌<◌, ◌≤◌, inl, inr, List, [], ◌∷◌, ◌++◌, Bool, true, false, length, take, drop, cond, Option, Some, None, refl, sym, ap, ◌∙◌, subst, arith, codes, rules, length-append, zero-add}
+use Rattle.std.proofs.Common.{◌≡◌, ℕ, zero, suc, ◌+◌, ◌<◌, ◌≤◌, inl, inr, List, [], ◌∷◌, ◌++◌, Bool, true, false}
+use Rattle.std.proofs.Common.{length, take, drop, cond, Option, Some, None, refl, sym, ap, ◌∙◌, subst, arith, codes}
+use Rattle.std.proofs.Common.{rules, length-append, zero-add}
 use Rattle.std.specs.Prelude.{slice_index, nat_eq, ◌==◌}
 use Rattle.std.specs.Char.{is_ascii_digit}
 use Rattle.std.specs.List.{list_all, prefix_len, starts_with}
@@ -18,19 +20,25 @@ use Rattle.ht_lex.specs.declared.lexeme.Class.TheVariants as class
 use Rattle.ht_lex.specs.declared.lexeme.Lexeme.{Lexeme}
 use Rattle.ht_lex.specs.declared.lexeme.Lexeme.TheVariants.{Gap, Token, Nothing}
 use Rattle.ht_lex.specs.Words.{begins_word, goes_on_word, is_word, kind_of_word, symbols}
-use Rattle.ht_lex.specs.Lexemes.{is_in, past, word_lexeme, quoted_lexeme, continued_lexeme, symbol_among, symbol_lexeme, first_lexeme, IsLongest}
-use Rattle.ht_lex.specs.Pieces.{is_blank, is_return, is_quote, Among, Spells, NoLonger, Longest, word, digits, quoted, symbol, return, blanks, continued, comment}
+use Rattle.ht_lex.specs.Lexemes.{is_in, past, word_lexeme, quoted_lexeme, continued_lexeme, symbol_among}
+use Rattle.ht_lex.specs.Lexemes.{symbol_lexeme, first_lexeme, IsLongest}
+use Rattle.ht_lex.specs.Pieces.{is_blank, is_return, is_quote, Among, Spells, NoLonger, Longest, word, digits, quoted}
+use Rattle.ht_lex.specs.Pieces.{symbol, return, blanks, continued, comment}
 use mathlib.Core.Bool.{true≢false}
 use Rattle.std.specs.Cmp.{first_so, second_so}
 use Rattle.std.specs.Cmp.Derive.{both_true}
-use Rattle.ht_lex.proofs.Runs.{passing_le, run_passes, run_begins, run_within, closed_len, closed_at, closed_take, closed_within}
+use Rattle.ht_lex.proofs.Runs.{passing_le, run_passes, run_begins, run_within, closed_len, closed_at, closed_take}
+use Rattle.ht_lex.proofs.Runs.{closed_within}
 
 -- What a first byte begins: blanks, a return, digits, a word, a text in quotes, a continued line, or else a comment or a symbol.
 abbrev rank : ℕ → ℕ
-rank b = cond (is_blank b) 0 (cond (is_return b) 1 (cond (is_ascii_digit b) 2 (cond (begins_word b) 3 (cond (is_quote b) 4 (cond (b == 0xC2) 5 6)))))
+rank b = cond (is_blank b) 0 (cond (is_return b) 1
+    (cond (is_ascii_digit b) 2 (cond (begins_word b) 3 (cond (is_quote b) 4 (cond (b == 0xC2) 5 6)))))
 
 blank_rank : (b : ℕ) → is_blank b ≡ true → rank b ≡ 0
-blank_rank b e = ap (λ v. cond v 0 (cond (is_return b) 1 (cond (is_ascii_digit b) 2 (cond (begins_word b) 3 (cond (is_quote b) 4 (cond (b == 0xC2) 5 6)))))) e
+blank_rank b e = ap (λ v. cond v 0
+    (cond (is_return b) 1 (cond (is_ascii_digit b) 2
+    (cond (begins_word b) 3 (cond (is_quote b) 4 (cond (b == 0xC2) 5 6)))))) e
 
 left_of : {A : Type 0} (b : Bool) (x y : A) → b ≡ false → cond b x y ≡ y
 left_of b x y e = ap (λ v. cond v x y) e
@@ -54,10 +62,12 @@ word_no_digit : (b : ℕ) → begins_word b ≡ true → is_ascii_digit b ≡ fa
 word_no_digit b e = grind (arith, nat_tests)
 
 digit_rank : (b : ℕ) → is_ascii_digit b ≡ true → rank b ≡ 2
-digit_rank b e = left_of (is_blank b) _ _ (digit_no_blank b e) ∙ left_of (is_return b) _ _ (digit_no_return b e) ∙ taken_of (is_ascii_digit b) _ _ e
+digit_rank b e = left_of (is_blank b) _ _ (digit_no_blank b e) ∙ left_of (is_return b) _ _ (digit_no_return b e)
+    ∙ taken_of (is_ascii_digit b) _ _ e
 
 word_rank : (b : ℕ) → begins_word b ≡ true → rank b ≡ 3
-word_rank b e = left_of (is_blank b) _ _ (word_no_blank b e) ∙ left_of (is_return b) _ _ (word_no_return b e) ∙ left_of (is_ascii_digit b) _ _ (word_no_digit b e) ∙ taken_of (begins_word b) _ _ e
+word_rank b e = left_of (is_blank b) _ _ (word_no_blank b e) ∙ left_of (is_return b) _ _ (word_no_return b e)
+    ∙ left_of (is_ascii_digit b) _ _ (word_no_digit b e) ∙ taken_of (begins_word b) _ _ e
 
 -- The rank of what a kind of piece begins with.
 abbrev rank_of : {what : Option TokenKind} {w : List ℕ} → Spells what w → ℕ
@@ -75,12 +85,16 @@ abbrev AreSymbols : List (List ℕ × Key) → Type 0
 AreSymbols [] = Unit {0}
 AreSymbols (row ∷ rows) = (rank (slice_index row.0 0) ≡ 6) × (0 < length row.0) × (length row.0 ≤ 2) × AreSymbols rows
 
-among_symbols : (rows : List (List ℕ × Key)) (row : List ℕ × Key) → AreSymbols rows → Among row rows → (rank (slice_index row.0 0) ≡ 6) × (0 < length row.0) × (length row.0 ≤ 2)
+among_symbols : (rows : List (List ℕ × Key)) (row : List ℕ × Key) → AreSymbols rows → Among row rows
+    → (rank (slice_index row.0 0) ≡ 6) × (0 < length row.0) × (length row.0 ≤ 2)
 among_symbols [] row h m = absurd m
 among_symbols (r ∷ rows) row h m = go m (among_symbols rows row h.3)
   where
-    go : Among row (r ∷ rows) → (Among row rows → (rank (slice_index row.0 0) ≡ 6) × (0 < length row.0) × (length row.0 ≤ 2)) → (rank (slice_index row.0 0) ≡ 6) × (0 < length row.0) × (length row.0 ≤ 2)
-    go (inl e) later = subst (λ (r : List ℕ × Key). (rank (slice_index r.0 0) ≡ 6) × (0 < length r.0) × (length r.0 ≤ 2)) e (h.0, h.1, h.2)
+    go : Among row (r ∷ rows) → (Among row rows
+        → (rank (slice_index row.0 0) ≡ 6) × (0 < length row.0) × (length row.0 ≤ 2))
+        → (rank (slice_index row.0 0) ≡ 6) × (0 < length row.0) × (length row.0 ≤ 2)
+    go (inl e) later = subst (λ (r : List ℕ × Key). (rank (slice_index r.0 0) ≡ 6) × (0 < length r.0)
+        × (length r.0 ≤ 2)) e (h.0, h.1, h.2)
     go (inr m) later = later m
 
 are_symbols : AreSymbols symbols
@@ -95,7 +109,8 @@ begins_hyphen : (w : List ℕ) → starts_with nat_eq w (codes "--") ≡ true �
 begins_hyphen w e = (starts_is Decides-eqb w (codes "--") (starts_with nat_eq w (codes "--")) refl).0 e
 
 spelled_rank : {what : Option TokenKind} {w : List ℕ} → (h : Spells what w) → rank (slice_index w 0) ≡ rank_of h
-spelled_rank (word {w} e) = word_rank (slice_index w 0) (first_so (begins_word (slice_index w 0)) (list_all goes_on_word w) e)
+spelled_rank (word {w} e) =
+    word_rank (slice_index w 0) (first_so (begins_word (slice_index w 0)) (list_all goes_on_word w) e)
 spelled_rank (digits {w} f e) = digit_rank (slice_index w 0) (first_passes is_ascii_digit w f e)
 spelled_rank (quoted w e) = refl
 spelled_rank (symbol row e) = (among_symbols symbols row are_symbols e).0
@@ -105,24 +120,28 @@ spelled_rank (continued w e) = refl
 spelled_rank (comment {w} e f) = ap (λ v. rank (slice_index v 0)) (begins_hyphen w e)
 
 -- a piece begins as its text does
-first_of : (piece rest text : List ℕ) → piece ++ rest ≡ text → 0 < length piece → slice_index piece 0 ≡ slice_index text 0
+first_of : (piece rest text : List ℕ) → piece ++ rest ≡ text → 0 < length piece
+    → slice_index piece 0 ≡ slice_index text 0
 first_of [] rest text e f = absurd (omega arith)
 first_of (x ∷ piece) rest text e f = ap (λ l. slice_index l 0) e
 
 -- The rank of a piece is that of the text.
-same_rank : {what : Option TokenKind} (text piece rest : List ℕ) (n r : ℕ) → rank (slice_index text 0) ≡ r → piece ++ rest ≡ text → n < length piece → (h : Spells what piece) → rank_of h ≡ r
+same_rank : {what : Option TokenKind} (text piece rest : List ℕ) (n r : ℕ) → rank (slice_index text 0) ≡ r
+    → piece ++ rest ≡ text → n < length piece → (h : Spells what piece) → rank_of h ≡ r
 same_rank text piece rest n r e f le h = sym (spelled_rank h) ∙ ap rank (first_of piece rest text f (omega arith)) ∙ e
 
 past_zero : (c : Class) (text : List ℕ) → past c text 0 ≡ prefix_len (is_in c) text
 past_zero c text = zero-add (prefix_len (is_in c) text)
 
 -- What passes isn't longer than the run.
-run_bound : (p : ℕ → Bool) (text piece rest : List ℕ) → piece ++ rest ≡ text → list_all p piece ≡ true → prefix_len p text < length piece → ⊥
+run_bound : (p : ℕ → Bool) (text piece rest : List ℕ) → piece ++ rest ≡ text → list_all p piece ≡ true
+    → prefix_len p text < length piece → ⊥
 run_bound p text piece rest f e le = absurd (omega (arith, passing_le p piece rest e, ap (prefix_len p) f))
 
 no_blank : (text : List ℕ) → rank (slice_index text 0) ≡ 0 → NoLonger text (prefix_len is_blank text)
 no_blank text e what piece rest f le (blanks {w} g p) = run_bound is_blank text w rest f p le
-no_blank text e what piece rest f le h = absurd (omega (arith, same_rank text piece rest (prefix_len is_blank text) 0 e f le h))
+no_blank text e what piece rest f le h =
+    absurd (omega (arith, same_rank text piece rest (prefix_len is_blank text) 0 e f le h))
 
 no_return : (text : List ℕ) → rank (slice_index text 0) ≡ 1 → NoLonger text 1
 no_return text e what piece rest f le return = absurd (omega arith)
@@ -130,14 +149,18 @@ no_return text e what piece rest f le h = absurd (omega (arith, same_rank text p
 
 no_digits : (text : List ℕ) → rank (slice_index text 0) ≡ 2 → NoLonger text (prefix_len is_ascii_digit text)
 no_digits text e what piece rest f le (digits {w} g p) = run_bound is_ascii_digit text w rest f p le
-no_digits text e what piece rest f le h = absurd (omega (arith, same_rank text piece rest (prefix_len is_ascii_digit text) 2 e f le h))
+no_digits text e what piece rest f le h =
+    absurd (omega (arith, same_rank text piece rest (prefix_len is_ascii_digit text) 2 e f le h))
 
 no_word : (text : List ℕ) → rank (slice_index text 0) ≡ 3 → NoLonger text (prefix_len goes_on_word text)
-no_word text e what piece rest f le (word {w} p) = run_bound goes_on_word text w rest f (second_so (begins_word (slice_index w 0)) (list_all goes_on_word w) p) le
-no_word text e what piece rest f le h = absurd (omega (arith, same_rank text piece rest (prefix_len goes_on_word text) 3 e f le h))
+no_word text e what piece rest f le (word {w} p) =
+    run_bound goes_on_word text w rest f (second_so (begins_word (slice_index w 0)) (list_all goes_on_word w) p) le
+no_word text e what piece rest f le h =
+    absurd (omega (arith, same_rank text piece rest (prefix_len goes_on_word text) 3 e f le h))
 
 -- the length of a run, and of what it takes
-taken_len : (p : ℕ → Bool) (text : List ℕ) → p 0 ≡ false → p (slice_index text 0) ≡ true → 0 < length (take (prefix_len p text) text)
+taken_len : (p : ℕ → Bool) (text : List ℕ) → p 0 ≡ false → p (slice_index text 0) ≡ true
+    → 0 < length (take (prefix_len p text) text)
 taken_len p text e f = omega (arith, run_begins p text e f, length-prefix_len p text)
 
 take_first : (k : ℕ) (text : List ℕ) → 0 < k → slice_index (take k text) 0 ≡ slice_index text 0
@@ -152,7 +175,8 @@ blank_longest text e = subst (λ n. Longest None text n) (sym (past_zero class.B
   longest = no_blank text (blank_rank (slice_index text 0) e);
 })
 
-digits_longest : (text : List ℕ) → is_ascii_digit (slice_index text 0) ≡ true → IsLongest text (Token kind.Number (past class.Digit text 0))
+digits_longest : (text : List ℕ) → is_ascii_digit (slice_index text 0) ≡ true
+    → IsLongest text (Token kind.Number (past class.Digit text 0))
 digits_longest text e = subst (λ n. Longest (Some kind.Number) text n) (sym (past_zero class.Digit text)) (record {
   spelled = digits (taken_len is_ascii_digit text refl e) (run_passes is_ascii_digit text);
   within = run_within is_ascii_digit text;
@@ -196,39 +220,51 @@ shut_len : (o c : ℕ) (w : List ℕ) → length (o ∷ (w ++ c ∷ [])) ≡ suc
 shut_len o c w = omega (arith, length-append w (c ∷ []))
 
 -- The run between the two bytes is as long as what stands there.
-shut_run : (p : ℕ → Bool) (o c : ℕ) (w rest xs : List ℕ) → list_all p w ≡ true → p c ≡ false → (o ∷ (w ++ c ∷ [])) ++ rest ≡ o ∷ xs → prefix_len p xs ≡ length w
-shut_run p o c w rest xs e f same = ap (prefix_len p) (sym (cons_same o o ((w ++ c ∷ []) ++ rest) xs same)) ∙ closed_len p w rest c e f
+shut_run : (p : ℕ → Bool) (o c : ℕ) (w rest xs : List ℕ) → list_all p w ≡ true → p c ≡ false
+    → (o ∷ (w ++ c ∷ [])) ++ rest ≡ o ∷ xs → prefix_len p xs ≡ length w
+shut_run p o c w rest xs e f same =
+    ap (prefix_len p) (sym (cons_same o o ((w ++ c ∷ []) ++ rest) xs same)) ∙ closed_len p w rest c e f
 
-shut_at : (p : ℕ → Bool) (o c : ℕ) (w rest xs : List ℕ) → list_all p w ≡ true → p c ≡ false → (o ∷ (w ++ c ∷ [])) ++ rest ≡ o ∷ xs → slice_index xs (prefix_len p xs) ≡ c
+shut_at : (p : ℕ → Bool) (o c : ℕ) (w rest xs : List ℕ) → list_all p w ≡ true → p c ≡ false
+    → (o ∷ (w ++ c ∷ [])) ++ rest ≡ o ∷ xs → slice_index xs (prefix_len p xs) ≡ c
 shut_at p o c w rest xs e f same =
-    ap (slice_index xs) (shut_run p o c w rest xs e f same) ∙ ap (λ l. slice_index l (length w)) (sym (cons_same o o ((w ++ c ∷ []) ++ rest) xs same)) ∙ closed_at w rest c
+    ap (slice_index xs) (shut_run p o c w rest xs e f same)
+    ∙ ap (λ l. slice_index l (length w)) (sym (cons_same o o ((w ++ c ∷ []) ++ rest) xs same)) ∙ closed_at w rest c
 
 quoted_longest : (xs : List ℕ) → IsLongest (34 ∷ xs) (quoted_lexeme (34 ∷ xs))
 quoted_longest xs =
     let q = is_in class.Quotable in
     let k = prefix_len q xs in
     let one : 1 + k ≡ suc k = omega arith in
-    subst (λ n. IsLongest (34 ∷ xs) (cond (is_quote (slice_index (34 ∷ xs) n)) (Token kind.Quoted (n + 1)) Nothing)) (sym one)
-    (by_test (is_quote (slice_index xs k)) (Token kind.Quoted (suc k + 1)) Nothing (IsLongest (34 ∷ xs)) closes unclosed)
+    subst (λ n. IsLongest (34 ∷ xs) (cond (is_quote (slice_index (34 ∷ xs) n)) (Token kind.Quoted (n + 1)) Nothing))
+    (sym one)
+    (by_test (is_quote (slice_index xs k)) (Token kind.Quoted (suc k + 1)) Nothing (IsLongest (34 ∷ xs)) closes
+    unclosed)
   where
-    closes : is_quote (slice_index xs (prefix_len (is_in class.Quotable) xs)) ≡ true → IsLongest (34 ∷ xs) (Token kind.Quoted (suc (prefix_len (is_in class.Quotable) xs) + 1))
+    closes : is_quote (slice_index xs (prefix_len (is_in class.Quotable) xs)) ≡ true
+        → IsLongest (34 ∷ xs) (Token kind.Quoted (suc (prefix_len (is_in class.Quotable) xs) + 1))
     closes e =
         let q = is_in class.Quotable in
         let k = prefix_len q xs in
         let at : slice_index xs k ≡ 34 = eqb-true (slice_index xs k) 34 e in
         let two : suc k + 1 ≡ suc (suc k) = omega arith in
         subst (λ n. Longest (Some kind.Quoted) (34 ∷ xs) n) (sym two) (record {
-          spelled = subst (λ v. Spells (Some kind.Quoted) (34 ∷ v)) (sym (closed_take k xs 34 at (omega arith))) (quoted (take k xs) (run_passes q xs));
+          spelled = subst (λ v. Spells (Some kind.Quoted) (34 ∷ v)) (sym (closed_take k xs 34 at (omega arith)))
+              (quoted (take k xs) (run_passes q xs));
           within = omega (arith, closed_within k xs (omega (arith, at)));
           longest = no_quoted k refl;
         })
       where
         no_quoted : (k : ℕ) → k ≡ prefix_len (is_in class.Quotable) xs → NoLonger (34 ∷ xs) (suc (suc k))
-        no_quoted k is what piece rest f le (quoted w p) = absurd (omega (arith, shut_len 34 34 w, shut_run (is_in class.Quotable) 34 34 w rest xs p refl f))
-        no_quoted k is what piece rest f le h = absurd (omega (arith, same_rank (34 ∷ xs) piece rest (suc (suc k)) 4 refl f le h))
+        no_quoted k is what piece rest f le (quoted w p) =
+            absurd (omega (arith, shut_len 34 34 w, shut_run (is_in class.Quotable) 34 34 w rest xs p refl f))
+        no_quoted k is what piece rest f le h =
+            absurd (omega (arith, same_rank (34 ∷ xs) piece rest (suc (suc k)) 4 refl f le h))
 
     unclosed : is_quote (slice_index xs (prefix_len (is_in class.Quotable) xs)) ≡ false → NoLonger (34 ∷ xs) 0
-    unclosed e what piece rest f le (quoted w p) = let at : is_quote (slice_index xs (prefix_len (is_in class.Quotable) xs)) ≡ true = ap is_quote (shut_at (is_in class.Quotable) 34 34 w rest xs p refl f) in cc
+    unclosed e what piece rest f le (quoted w p) = let at : is_quote
+        (slice_index xs (prefix_len (is_in class.Quotable) xs)) ≡ true =
+        ap is_quote (shut_at (is_in class.Quotable) 34 34 w rest xs p refl f) in cc
     unclosed e what piece rest f le h = absurd (omega (arith, same_rank (34 ∷ xs) piece rest 0 4 refl f le h))
 
 continued_longest : (xs : List ℕ) → IsLongest (0xC2 ∷ xs) (continued_lexeme (0xC2 ∷ xs))
@@ -238,28 +274,35 @@ continued_longest xs =
     subst (λ n. IsLongest (0xC2 ∷ xs) (cond (is_return (slice_index (0xC2 ∷ xs) n)) (Gap (n + 1)) Nothing)) (sym one)
     (by_test (is_return (slice_index xs k)) (Gap (suc k + 1)) Nothing (IsLongest (0xC2 ∷ xs)) closes unclosed)
   where
-    closes : is_return (slice_index xs (prefix_len is_blank xs)) ≡ true → IsLongest (0xC2 ∷ xs) (Gap (suc (prefix_len is_blank xs) + 1))
+    closes : is_return (slice_index xs (prefix_len is_blank xs)) ≡ true
+        → IsLongest (0xC2 ∷ xs) (Gap (suc (prefix_len is_blank xs) + 1))
     closes e =
         let k = prefix_len is_blank xs in
         let at : slice_index xs k ≡ 13 = eqb-true (slice_index xs k) 13 e in
         let two : suc k + 1 ≡ suc (suc k) = omega arith in
         subst (λ n. Longest None (0xC2 ∷ xs) n) (sym two) (record {
-          spelled = subst (λ v. Spells None (0xC2 ∷ v)) (sym (closed_take k xs 13 at (omega arith))) (continued (take k xs) (run_passes is_blank xs));
+          spelled = subst (λ v. Spells None (0xC2 ∷ v)) (sym (closed_take k xs 13 at (omega arith)))
+              (continued (take k xs) (run_passes is_blank xs));
           within = omega (arith, closed_within k xs (omega (arith, at)));
           longest = no_continued k refl;
         })
       where
         no_continued : (k : ℕ) → k ≡ prefix_len is_blank xs → NoLonger (0xC2 ∷ xs) (suc (suc k))
-        no_continued k is what piece rest f le (continued w p) = absurd (omega (arith, shut_len 0xC2 13 w, shut_run is_blank 0xC2 13 w rest xs p refl f))
-        no_continued k is what piece rest f le h = absurd (omega (arith, same_rank (0xC2 ∷ xs) piece rest (suc (suc k)) 5 refl f le h))
+        no_continued k is what piece rest f le (continued w p) =
+            absurd (omega (arith, shut_len 0xC2 13 w, shut_run is_blank 0xC2 13 w rest xs p refl f))
+        no_continued k is what piece rest f le h =
+            absurd (omega (arith, same_rank (0xC2 ∷ xs) piece rest (suc (suc k)) 5 refl f le h))
 
     unclosed : is_return (slice_index xs (prefix_len is_blank xs)) ≡ false → NoLonger (0xC2 ∷ xs) 0
-    unclosed e what piece rest f le (continued w p) = let at : is_return (slice_index xs (prefix_len is_blank xs)) ≡ true = ap is_return (shut_at is_blank 0xC2 13 w rest xs p refl f) in cc
+    unclosed e what piece rest f le (continued w p) = let at : is_return (slice_index xs (prefix_len is_blank xs))
+        ≡ true = ap is_return (shut_at is_blank 0xC2 13 w rest xs p refl f) in cc
     unclosed e what piece rest f le h = absurd (omega (arith, same_rank (0xC2 ∷ xs) piece rest 0 5 refl f le h))
 
 -- two hyphens
-hyphens_longest : (text : List ℕ) → starts_with nat_eq text (codes "--") ≡ true → IsLongest text (Gap (past class.Commented text 0))
-hyphens_longest text e = subst (λ t. IsLongest t (Gap (past class.Commented t 0))) (sym (begins_hyphen text e)) (go (drop 2 text))
+hyphens_longest : (text : List ℕ) → starts_with nat_eq text (codes "--") ≡ true
+    → IsLongest text (Gap (past class.Commented text 0))
+hyphens_longest text e =
+    subst (λ t. IsLongest t (Gap (past class.Commented t 0))) (sym (begins_hyphen text e)) (go (drop 2 text))
   where
     go : (xs : List ℕ) → IsLongest (45 ∷ 45 ∷ xs) (Gap (past class.Commented (45 ∷ 45 ∷ xs) 0))
     go xs = subst (λ n. Longest None (45 ∷ 45 ∷ xs) n) (sym (past_zero class.Commented (45 ∷ 45 ∷ xs) ∙ two)) (record {
@@ -272,9 +315,12 @@ hyphens_longest text e = subst (λ t. IsLongest t (Gap (past class.Commented t 0
         two = omega arith
 
         no_comment : (k : ℕ) → k ≡ prefix_len (is_in class.Commented) xs → NoLonger (45 ∷ 45 ∷ xs) (suc (suc k))
-        no_comment k is what piece rest f le (comment {w} g p) = run_bound (is_in class.Commented) (45 ∷ 45 ∷ xs) w rest f p (omega (arith, two))
-        no_comment k is what piece rest f le (symbol row p) = absurd (omega (arith, (among_symbols symbols row are_symbols p).2))
-        no_comment k is what piece rest f le h = absurd (omega (arith, same_rank (45 ∷ 45 ∷ xs) piece rest (suc (suc k)) 6 refl f le h))
+        no_comment k is what piece rest f le (comment {w} g p) =
+            run_bound (is_in class.Commented) (45 ∷ 45 ∷ xs) w rest f p (omega (arith, two))
+        no_comment k is what piece rest f le (symbol row p) =
+            absurd (omega (arith, (among_symbols symbols row are_symbols p).2))
+        no_comment k is what piece rest f le h =
+            absurd (omega (arith, same_rank (45 ∷ 45 ∷ xs) piece rest (suc (suc k)) 6 refl f le h))
 
 -- Each symbol of a table is at least as long as those after it.
 abbrev NoneLonger : List ℕ × Key → List (List ℕ × Key) → Type 0
@@ -289,7 +335,8 @@ symbols_longest_first : LongestFirst symbols
 unfolding symbols
 symbols_longest_first = search rules
 
-later_shorter : (row other : List ℕ × Key) (rows : List (List ℕ × Key)) → NoneLonger row rows → Among other rows → length other.0 ≤ length row.0
+later_shorter : (row other : List ℕ × Key) (rows : List (List ℕ × Key)) → NoneLonger row rows → Among other rows
+    → length other.0 ≤ length row.0
 later_shorter row other [] h m = absurd m
 later_shorter row other (r ∷ rows) h m = go m (later_shorter row other rows h.1)
   where
@@ -314,26 +361,38 @@ Chosen rows text Nothing = NoRow rows text 0
 Chosen rows text (Token k n) = TheRow rows text k n
 Chosen rows text (Gap n) = ⊥
 
-no_row_here : (row other : List ℕ × Key) (text rest : List ℕ) → row ≡ other → starts_with nat_eq text row.0 ≡ false → other.0 ++ rest ≡ text → ⊥
+no_row_here : (row other : List ℕ × Key) (text rest : List ℕ) → row ≡ other → starts_with nat_eq text row.0 ≡ false
+    → other.0 ++ rest ≡ text → ⊥
 no_row_here row other text rest e f g =
     let at : text ≡ row.0 ++ rest = sym g ∙ ap (λ (v : List ℕ × Key). v.0 ++ rest) (sym e) in
-    let yes : starts_with nat_eq text row.0 ≡ true = (starts_is Decides-eqb text row.0 (starts_with nat_eq text row.0) refl).1 rest at in
+    let yes : starts_with nat_eq text row.0 ≡ true =
+    (starts_is Decides-eqb text row.0 (starts_with nat_eq text row.0) refl).1 rest at in
     absurd (true≢false (sym yes ∙ f))
 
-passed_over : (row : List ℕ × Key) (rows : List (List ℕ × Key)) (text : List ℕ) (v : Lexeme) → starts_with nat_eq text row.0 ≡ false → Chosen rows text v → Chosen (row ∷ rows) text v
+passed_over : (row : List ℕ × Key) (rows : List (List ℕ × Key)) (text : List ℕ) (v : Lexeme)
+    → starts_with nat_eq text row.0 ≡ false → Chosen rows text v → Chosen (row ∷ rows) text v
 passed_over row rows text Nothing f h = λ other rest m g le. go other rest m g le
   where
     go : NoRow (row ∷ rows) text 0
     go other rest (inl e) g le = no_row_here row other text rest e f g
     go other rest (inr m) g le = h other rest m g le
-passed_over row rows text (Token k n) f h = record { row = h.row; among = inr h.among; kind_is = h.kind_is; size_is = h.size_is; begins = h.begins; longest = go }
+passed_over row rows text (Token k n) f
+    h = record {
+      row = h.row;
+      among = inr h.among;
+      kind_is = h.kind_is;
+      size_is = h.size_is;
+      begins = h.begins;
+      longest = go;
+    }
   where
     go : NoRow (row ∷ rows) text n
     go other rest (inl e) g le = no_row_here row other text rest e f g
     go other rest (inr m) g le = h.longest other rest m g le
 passed_over row rows text (Gap n) f h = h
 
-among_chosen : (rows : List (List ℕ × Key)) (text : List ℕ) → LongestFirst rows → Chosen rows text (symbol_among rows text)
+among_chosen : (rows : List (List ℕ × Key)) (text : List ℕ) → LongestFirst rows
+    → Chosen rows text (symbol_among rows text)
 among_chosen [] text h = λ row rest m g le. m
 among_chosen (row ∷ rows) text h = by_test_rows (starts_with nat_eq text row.0) refl (among_chosen rows text h.1)
   where
@@ -341,17 +400,23 @@ among_chosen (row ∷ rows) text h = by_test_rows (starts_with nat_eq text row.0
     first f other rest (inl e) g le = absurd (omega (arith, ap (λ (v : List ℕ × Key). length v.0) e))
     first f other rest (inr m) g le = absurd (omega (arith, later_shorter row other rows h.0 m))
 
-    by_test_rows : (b : Bool) → starts_with nat_eq text row.0 ≡ b → Chosen rows text (symbol_among rows text) → Chosen (row ∷ rows) text (cond b (Token (kind.Key row.1) (length row.0)) (symbol_among rows text))
-    by_test_rows true f later = record { row = row; among = inl refl; kind_is = refl; size_is = refl; begins = f; longest = first f }
+    by_test_rows : (b : Bool) → starts_with nat_eq text row.0 ≡ b → Chosen rows text (symbol_among rows text)
+        → Chosen (row ∷ rows) text (cond b (Token (kind.Key row.1) (length row.0)) (symbol_among rows text))
+    by_test_rows true f later =
+        record { row = row; among = inl refl; kind_is = refl; size_is = refl; begins = f; longest = first f }
     by_test_rows false f later = passed_over row rows text (symbol_among rows text) f later
 
-no_hyphens : (text piece rest : List ℕ) → starts_with nat_eq text (codes "--") ≡ false → piece ++ rest ≡ text → starts_with nat_eq piece (codes "--") ≡ true → ⊥
+no_hyphens : (text piece rest : List ℕ) → starts_with nat_eq text (codes "--") ≡ false → piece ++ rest ≡ text
+    → starts_with nat_eq piece (codes "--") ≡ true → ⊥
 no_hyphens text piece rest f g e =
     let at : text ≡ codes "--" ++ (drop 2 piece ++ rest) = sym g ∙ ap (λ l. l ++ rest) (begins_hyphen piece e) in
-    let yes : starts_with nat_eq text (codes "--") ≡ true = (starts_is Decides-eqb text (codes "--") (starts_with nat_eq text (codes "--")) refl).1 (drop 2 piece ++ rest) at in
+    let yes : starts_with nat_eq text (codes "--")
+    ≡ true = (starts_is Decides-eqb text (codes "--") (starts_with nat_eq text (codes "--")) refl).1
+    (drop 2 piece ++ rest) at in
     absurd (true≢false (sym yes ∙ f))
 
-chosen_longest : (text : List ℕ) (v : Lexeme) → rank (slice_index text 0) ≡ 6 → starts_with nat_eq text (codes "--") ≡ false → Chosen symbols text v → IsLongest text v
+chosen_longest : (text : List ℕ) (v : Lexeme) → rank (slice_index text 0) ≡ 6
+    → starts_with nat_eq text (codes "--") ≡ false → Chosen symbols text v → IsLongest text v
 chosen_longest text Nothing r f h = go
   where
     go : NoLonger text 0
@@ -359,8 +424,10 @@ chosen_longest text Nothing r f h = go
     go what piece rest g le (comment {w} p q) = no_hyphens text w rest f g p
     go what piece rest g le s = absurd (omega (arith, same_rank text piece rest 0 6 r g le s))
 chosen_longest text (Token k n) r f h =
-    let there : text ≡ h.row.0 ++ drop (length h.row.0) text = (starts_is Decides-eqb text h.row.0 (starts_with nat_eq text h.row.0) refl).0 h.begins in
-    let taken : take n text ≡ h.row.0 = ap (λ v. take v text) (sym h.size_is) ∙ ap (take (length h.row.0)) there ∙ take-append_seam h.row.0 (drop (length h.row.0) text) in
+    let there : text ≡ h.row.0 ++ drop (length h.row.0) text =
+    (starts_is Decides-eqb text h.row.0 (starts_with nat_eq text h.row.0) refl).0 h.begins in
+    let taken : take n text ≡ h.row.0 = ap (λ v. take v text) (sym h.size_is) ∙ ap (take (length h.row.0)) there
+    ∙ take-append_seam h.row.0 (drop (length h.row.0) text) in
     let spelling : Spells (Some (kind.Key h.row.1)) h.row.0 = symbol h.row h.among in
     record {
       spelled = subst (λ v. Spells (Some k) v) (sym taken) (subst (λ v. Spells (Some v) h.row.0) h.kind_is spelling);
@@ -374,11 +441,14 @@ chosen_longest text (Token k n) r f h =
     go what piece rest g le s = absurd (omega (arith, same_rank text piece rest n 6 r g le s))
 chosen_longest text (Gap n) r f h = absurd h
 
-symbol_longest : (text : List ℕ) → rank (slice_index text 0) ≡ 6 → starts_with nat_eq text (codes "--") ≡ false → IsLongest text (symbol_lexeme text)
+symbol_longest : (text : List ℕ) → rank (slice_index text 0) ≡ 6 → starts_with nat_eq text (codes "--") ≡ false
+    → IsLongest text (symbol_lexeme text)
 unfolding symbol_lexeme
-symbol_longest text r f = chosen_longest text (symbol_among symbols text) r f (among_chosen symbols text symbols_longest_first)
+symbol_longest text r f =
+    chosen_longest text (symbol_among symbols text) r f (among_chosen symbols text symbols_longest_first)
 
-opened : (o : ℕ) (text : List ℕ) (front : List ℕ → Lexeme) → 0 < o → ((xs : List ℕ) → IsLongest (o ∷ xs) (front (o ∷ xs))) → slice_index text 0 ≡ o → IsLongest text (front text)
+opened : (o : ℕ) (text : List ℕ) (front : List ℕ → Lexeme) → 0 < o
+    → ((xs : List ℕ) → IsLongest (o ∷ xs) (front (o ∷ xs))) → slice_index text 0 ≡ o → IsLongest text (front text)
 opened o [] front f h e = absurd (omega arith)
 opened o (x ∷ xs) front f h e = subst (λ v. IsLongest (v ∷ xs) (front (v ∷ xs))) (sym e) (h xs)
 
@@ -391,10 +461,14 @@ longest_is_taken text =
     by_test (is_return b) _ _ (IsLongest text) (return_longest text) (λ no_return.
     by_test (is_ascii_digit b) _ _ (IsLongest text) (digits_longest text) (λ no_digit.
     by_test (begins_word b) _ _ (IsLongest text) (word_longest text) (λ no_word.
-    by_test (is_quote b) _ _ (IsLongest text) (λ e. opened 34 text quoted_lexeme (omega arith) quoted_longest (eqb-true b 34 e)) (λ no_quote.
-    by_test (b == 0xC2) _ _ (IsLongest text) (λ e. opened 0xC2 text continued_lexeme (omega arith) continued_longest (eqb-true b 0xC2 e)) (λ no_more.
+    by_test (is_quote b) _ _ (IsLongest text)
+    (λ e. opened 34 text quoted_lexeme (omega arith) quoted_longest (eqb-true b 34 e)) (λ no_quote.
+    by_test (b == 0xC2) _ _ (IsLongest text)
+    (λ e. opened 0xC2 text continued_lexeme (omega arith) continued_longest (eqb-true b 0xC2 e)) (λ no_more.
     by_test (starts_with nat_eq text (codes "--")) _ _ (IsLongest text) (hyphens_longest text) (symbol_longest text
-    (left_of (is_blank b) _ _ no_blank ∙ left_of (is_return b) _ _ no_return ∙ left_of (is_ascii_digit b) _ _ no_digit ∙ left_of (begins_word b) _ _ no_word ∙ left_of (is_quote b) _ _ no_quote ∙ left_of (b == 0xC2) _ _ no_more))))))))
+    (left_of (is_blank b) _ _ no_blank ∙ left_of (is_return b) _ _ no_return ∙ left_of (is_ascii_digit b) _ _ no_digit
+    ∙ left_of (begins_word b) _ _ no_word ∙ left_of (is_quote b) _ _ no_quote
+    ∙ left_of (b == 0xC2) _ _ no_more))))))))
 
 -- no two symbols are spelled alike
 abbrev NoneAlike : List ℕ × Key → List (List ℕ × Key) → Type 0
@@ -409,19 +483,23 @@ symbols_differ : AllDiffer symbols
 unfolding symbols
 symbols_differ = search rules
 
-none_alike : (row other : List ℕ × Key) (rows : List (List ℕ × Key)) → NoneAlike row rows → Among other rows → row.0 ≡ other.0 → ⊥
+none_alike : (row other : List ℕ × Key) (rows : List (List ℕ × Key)) → NoneAlike row rows → Among other rows
+    → row.0 ≡ other.0 → ⊥
 none_alike row other [] h m e = m
 none_alike row other (r ∷ rows) h m e = go m (none_alike row other rows h.1)
   where
     go : Among other (r ∷ rows) → (Among other rows → row.0 ≡ other.0 → ⊥) → ⊥
-    go (inl same) later = let yes : bytes_eq row.0 r.0 ≡ true = (bytes_eq-Decides row.0 r.0).1 (e ∙ ap (λ (v : List ℕ × Key). v.0) (sym same)) in cc
+    go (inl same) later = let yes : bytes_eq row.0 r.0
+        ≡ true = (bytes_eq-Decides row.0 r.0).1 (e ∙ ap (λ (v : List ℕ × Key). v.0) (sym same)) in cc
     go (inr m) later = later m e
 
-key_once : (rows : List (List ℕ × Key)) (row other : List ℕ × Key) → AllDiffer rows → Among row rows → Among other rows → row.0 ≡ other.0 → row.1 ≡ other.1
+key_once : (rows : List (List ℕ × Key)) (row other : List ℕ × Key) → AllDiffer rows → Among row rows → Among other rows
+    → row.0 ≡ other.0 → row.1 ≡ other.1
 key_once [] row other h m n e = absurd m
 key_once (r ∷ rows) row other h m n e = go m n (key_once rows row other h.1)
   where
-    go : Among row (r ∷ rows) → Among other (r ∷ rows) → (Among row rows → Among other rows → row.0 ≡ other.0 → row.1 ≡ other.1) → row.1 ≡ other.1
+    go : Among row (r ∷ rows) → Among other (r ∷ rows)
+        → (Among row rows → Among other rows → row.0 ≡ other.0 → row.1 ≡ other.1) → row.1 ≡ other.1
     go (inl f) (inl g) later = ap (λ (v : List ℕ × Key). v.1) (sym f ∙ g)
     go (inl f) (inr n) later = absurd (none_alike r other rows h.0 n (ap (λ (v : List ℕ × Key). v.0) f ∙ e))
     go (inr m) (inl g) later = absurd (none_alike r row rows h.0 m (ap (λ (v : List ℕ × Key). v.0) g ∙ sym e))
@@ -436,23 +514,29 @@ symbols_no_hyphens : NoHyphens symbols
 unfolding symbols
 symbols_no_hyphens = search rules
 
-row_no_hyphens : (rows : List (List ℕ × Key)) (row : List ℕ × Key) → NoHyphens rows → Among row rows → starts_with nat_eq row.0 (codes "--") ≡ false
+row_no_hyphens : (rows : List (List ℕ × Key)) (row : List ℕ × Key) → NoHyphens rows → Among row rows
+    → starts_with nat_eq row.0 (codes "--") ≡ false
 row_no_hyphens [] row h m = absurd m
 row_no_hyphens (r ∷ rows) row h m = go m (row_no_hyphens rows row h.1)
   where
-    go : Among row (r ∷ rows) → (Among row rows → starts_with nat_eq row.0 (codes "--") ≡ false) → starts_with nat_eq row.0 (codes "--") ≡ false
+    go : Among row (r ∷ rows) → (Among row rows → starts_with nat_eq row.0 (codes "--") ≡ false)
+        → starts_with nat_eq row.0 (codes "--") ≡ false
     go (inl e) later = ap (λ (v : List ℕ × Key). starts_with nat_eq v.0 (codes "--")) (sym e) ∙ h.0
     go (inr m) later = later m
 
-comment_no_symbol : (w : List ℕ) (row : List ℕ × Key) → starts_with nat_eq w (codes "--") ≡ true → Among row symbols → w ≡ row.0 → ⊥
-comment_no_symbol w row e m same = let no : starts_with nat_eq w (codes "--") ≡ false = ap (λ v. starts_with nat_eq v (codes "--")) same ∙ row_no_hyphens symbols row symbols_no_hyphens m in cc
+comment_no_symbol : (w : List ℕ) (row : List ℕ × Key) → starts_with nat_eq w (codes "--") ≡ true → Among row symbols
+    → w ≡ row.0 → ⊥
+comment_no_symbol w row e m same = let no : starts_with nat_eq w (codes "--")
+    ≡ false = ap (λ v. starts_with nat_eq v (codes "--")) same ∙ row_no_hyphens symbols row symbols_no_hyphens m in cc
 
 -- What is spelled alike is the same.
-pub spelled_once : {what other : Option TokenKind} {w v : List ℕ} → Spells what w → Spells other v → w ≡ v → what ≡ other
+pub spelled_once : {what other : Option TokenKind} {w v : List ℕ} → Spells what w → Spells other v → w ≡ v
+    → what ≡ other
 spelled_once (word e) (word f) same = ap (λ w. Some (kind_of_word w)) same
 spelled_once (digits g e) (digits h f) same = refl
 spelled_once (quoted w e) (quoted v f) same = refl
-spelled_once (symbol row m) (symbol other n) same = ap (λ k. Some (kind.Key k)) (key_once symbols row other symbols_differ m n same)
+spelled_once (symbol row m) (symbol other n) same =
+    ap (λ k. Some (kind.Key k)) (key_once symbols row other symbols_differ m n same)
 spelled_once (symbol row m) (comment {w} e f) same = absurd (comment_no_symbol w row e m (sym same))
 spelled_once return return same = refl
 spelled_once (blanks g e) (blanks h f) same = refl
@@ -462,11 +546,13 @@ spelled_once (comment {w} e f) (symbol row m) same = absurd (comment_no_symbol w
 spelled_once g h same = absurd (omega (arith, spelled_rank g, spelled_rank h, ap (λ v. rank (slice_index v 0)) same))
 
 -- A text has one longest piece at its front.
-pub longest_once : {what other : Option TokenKind} {text : List ℕ} {m n : ℕ} → Longest what text m → Longest other text n → (what ≡ other) × (m ≡ n)
+pub longest_once : {what other : Option TokenKind} {text : List ℕ} {m n : ℕ} → Longest what text m
+    → Longest other text n → (what ≡ other) × (m ≡ n)
 longest_once {what} {other} {text} {m} {n} g h = (spelled_once g.spelled h.spelled (ap (λ k. take k text) same), same)
   where
     not_less : {what other : Option TokenKind} {m n : ℕ} → Longest what text m → Longest other text n → m < n → ⊥
-    not_less {what} {other} {m} {n} g h le = g.longest other (take n text) (drop n text) (take-append-drop n text) (omega (arith, length-take-le n text h.within)) h.spelled
+    not_less {what} {other} {m} {n} g h le = g.longest other (take n text) (drop n text) (take-append-drop n text)
+        (omega (arith, length-take-le n text h.within)) h.spelled
 
     same : m ≡ n
     same = squeezed (not_less g h) (not_less h g)
@@ -494,7 +580,8 @@ spelled_some (comment {w} e f) = hyphens_some w e
 
 -- Where nothing begins no piece does.
 pub nothing_longer : {what : Option TokenKind} {text : List ℕ} {n : ℕ} → NoLonger text 0 → Longest what text n → ⊥
-nothing_longer {what} {text} {n} f h = f what (take n text) (drop n text) (take-append-drop n text) (spelled_some h.spelled) h.spelled
+nothing_longer {what} {text} {n} f h =
+    f what (take n text) (drop n text) (take-append-drop n text) (spelled_some h.spelled) h.spelled
 
 pub end_begins : NoLonger [] 0
 end_begins what piece rest f le h = absurd (omega (arith, ap (length {A = ℕ}) f, length-append piece rest))

@@ -6,7 +6,8 @@ use Rattle.ht_lex.specs.Tokens.{InOrder}
 use Rattle.ht_lex.specs.Place.{IsWithin}
 use Rattle.ht_lex.proofs.Spans.{order_le}
 
-pub spans_placed : (text : List ℕ) (place : ℕ) (spans : List Span) → InOrder place spans (length text) → AllByRecursion (IsWithin text) spans
+pub spans_placed : (text : List ℕ) (place : ℕ) (spans : List Span) → InOrder place spans (length text)
+    → AllByRecursion (IsWithin text) spans
 spans_placed text place [] h = tt
 spans_placed text place (s ∷ ss) h =
     (record { some = h.1; inside = order_le ss s.stop (length text) h.2 }, spans_placed text s.stop ss h.2)

@@ -1,5 +1,6 @@
 -- The code's table has the reserved words by their first letters, and a word's key is found under its own first letter.
-use Rattle.std.proofs.Common.{◌≡◌, ℕ, ◌-◌, ◌<◌, ◌≤◌, List, [], ◌∷◌, Bool, true, false, cond, length, map, None, Some, slice_index, Bor, refl, ap, sym, ◌∙◌, arith, rules, tests}
+use Rattle.std.proofs.Common.{◌≡◌, ℕ, ◌-◌, ◌<◌, ◌≤◌, List, [], ◌∷◌, Bool, true, false, cond, length, map, None, Some}
+use Rattle.std.proofs.Common.{slice_index, Bor, refl, ap, sym, ◌∙◌, arith, rules, tests}
 use Rattle.std.specs.Prelude.{◌==◌}
 use mathlib.Core.Bool.{true≢false}
 use Rattle.std.specs.Cmp.{first_so, second_so}
@@ -33,7 +34,8 @@ pub among_under : (rows : Rows) (w : List ℕ) → entry (under (initial w) rows
 among_under [] w = refl
 among_under (row ∷ rows) w = go (initial row.0 == initial w) refl (among_under rows w)
   where
-    other : (s : Bool) → same row.0 w ≡ s → (initial row.0 == initial w) ≡ false → entry rows w ≡ cond s (Some row.1) (entry rows w)
+    other : (s : Bool) → same row.0 w ≡ s → (initial row.0 == initial w) ≡ false
+        → entry rows w ≡ cond s (Some row.1) (entry rows w)
     other false f e = refl
     other true f e = absurd (true≢false (sym (same_initial row.0 w f) ∙ e))
 
@@ -42,14 +44,19 @@ among_under (row ∷ rows) w = go (initial row.0 == initial w) refl (among_under
     go true e later = ap (λ k. cond (same row.0 w) (Some row.1) k) later
     go false e later = later ∙ other (same row.0 w) refl e
 
-none_under : (rows : Rows) (n : ℕ) → list_all (λ row. is_ascii_lowercase (initial row.0)) rows ≡ true → is_ascii_lowercase n ≡ false → under n rows ≡ []
+none_under : (rows : Rows) (n : ℕ) → list_all (λ row. is_ascii_lowercase (initial row.0)) rows ≡ true
+    → is_ascii_lowercase n ≡ false → under n rows ≡ []
 none_under [] n h f = refl
-none_under (row ∷ rows) n h f = go (initial row.0 == n) refl (none_under rows n (second_so (is_ascii_lowercase (initial row.0)) (list_all (λ row. is_ascii_lowercase (initial row.0)) rows) h) f)
+none_under (row ∷ rows) n h f = go (initial row.0 == n) refl
+    (none_under rows n (second_so (is_ascii_lowercase (initial row.0))
+    (list_all (λ row. is_ascii_lowercase (initial row.0)) rows) h) f)
   where
     go : (b : Bool) → (initial row.0 == n) ≡ b → under n rows ≡ [] → cond b (row ∷ under n rows) (under n rows) ≡ []
     go true e later =
         let same : initial row.0 ≡ n = search (rules, tests, e) in
-        let lower : is_ascii_lowercase (initial row.0) ≡ true = first_so (is_ascii_lowercase (initial row.0)) (list_all (λ row. is_ascii_lowercase (initial row.0)) rows) h in
+        let lower : is_ascii_lowercase (initial row.0)
+        ≡ true = first_so (is_ascii_lowercase (initial row.0))
+        (list_all (λ row. is_ascii_lowercase (initial row.0)) rows) h in
         absurd (true≢false (sym lower ∙ ap is_ascii_lowercase same ∙ f))
     go false e later = later
 
@@ -61,11 +68,14 @@ letters = refl
 abbrev pub plain : Bor (List (Bor (List ℕ) × Key)) → Rows
 plain rows = map (λ row. (row.0.now, row.1)) rows.now
 
-pub plain_at : (table : List (Bor (List (Bor (List ℕ) × Key)))) (place : ℕ) (d : Bor (List (Bor (List ℕ) × Key))) → place < length table
-    → map (λ row. (row.0.now, row.1)) (get_or table place d).now ≡ get_or (map {B = Rows} (λ rows. map (λ row. (row.0.now, row.1)) rows.now) table) place []
+pub plain_at : (table : List (Bor (List (Bor (List ℕ) × Key)))) (place : ℕ) (d : Bor (List (Bor (List ℕ) × Key)))
+    → place < length table
+    → map (λ row. (row.0.now, row.1)) (get_or table place d).now
+    ≡ get_or (map {B = Rows} (λ rows. map (λ row. (row.0.now, row.1)) rows.now) table) place []
 plain_at table place d low = sym (get_or-map plain table place d [] low)
 
-pub rows_by_letter : map (λ rows. map (λ row. (row.0.now, row.1)) rows.now) RESERVED ≡ map (λ n. under n reserved_words) (range_with_len 97 26)
+pub rows_by_letter : map (λ rows. map (λ row. (row.0.now, row.1)) rows.now) RESERVED
+    ≡ map (λ n. under n reserved_words) (range_with_len 97 26)
 unfolding reserved_words
 rows_by_letter = refl
 
@@ -73,9 +83,12 @@ pub found_under : (w : List ℕ) (first : ℕ) → first ≡ initial w → 97 �
     → entry (get_or (map (λ n. under n reserved_words) (range_with_len 97 26)) (first - 97) []) w ≡ key_of w
 unfolding key_of
 found_under w first e low high =
-    ap (λ rows. entry rows w) (get_or-map-range_with_len (λ n. under n reserved_words) 97 26 (first - 97) (initial w) [] (omega arith) (omega (arith, e))) ∙ among_under reserved_words w
+    ap (λ rows. entry rows w) (get_or-map-range_with_len (λ n. under n reserved_words) 97 26 (first - 97) (initial w) []
+    (omega arith) (omega (arith, e))) ∙ among_under reserved_words w
 
 pub none_found : (w : List ℕ) (first : ℕ) → first ≡ initial w → is_ascii_lowercase first ≡ false → key_of w ≡ None
 unfolding key_of
 none_found w first e none =
-    sym (among_under reserved_words w) ∙ ap (λ rows. entry rows w) (none_under reserved_words (initial w) letters (ap is_ascii_lowercase (sym e) ∙ none))
+    sym (among_under reserved_words w)
+    ∙ ap (λ rows. entry rows w) (none_under reserved_words (initial w) letters
+    (ap is_ascii_lowercase (sym e) ∙ none))

@@ -1,12 +1,14 @@
 -- Runs of bytes that pass a test.
-use Rattle.std.proofs.Common.{◌≡◌, ℕ, zero, suc, ◌+◌, ◌<◌, ◌≤◌, List, [], ◌∷◌, ◌++◌, Bool, true, false, length, take, cond, refl, sym, ap, ◌∙◌, subst, arith}
+use Rattle.std.proofs.Common.{◌≡◌, ℕ, zero, suc, ◌+◌, ◌<◌, ◌≤◌, List, [], ◌∷◌, ◌++◌, Bool, true, false, length, take}
+use Rattle.std.proofs.Common.{cond, refl, sym, ap, ◌∙◌, subst, arith}
 use Rattle.std.specs.Cmp.{first_so, second_so}
 use Rattle.std.specs.Cmp.Derive.{both_true}
 use Rattle.std.specs.Prelude.{slice_index}
 use Rattle.std.specs.List.{list_all, prefix_len}
 
 run_on : (p : ℕ → Bool) (x : ℕ) (xs : List ℕ) → p x ≡ true → prefix_len p (x ∷ xs) ≡ suc (prefix_len p xs)
-run_on p x xs e = let n : 1 + prefix_len p xs ≡ suc (prefix_len p xs) = omega arith in ap (λ b. cond b (1 + prefix_len p xs) 0) e ∙ n
+run_on p x xs e =
+    let n : 1 + prefix_len p xs ≡ suc (prefix_len p xs) = omega arith in ap (λ b. cond b (1 + prefix_len p xs) 0) e ∙ n
 
 run_off : (p : ℕ → Bool) (x : ℕ) (xs : List ℕ) → p x ≡ false → prefix_len p (x ∷ xs) ≡ 0
 run_off p x xs e = ap (λ b. cond b (1 + prefix_len p xs) 0) e
@@ -14,13 +16,15 @@ run_off p x xs e = ap (λ b. cond b (1 + prefix_len p xs) 0) e
 -- What begins a text and passes is no longer than the run.
 pub passing_le : (p : ℕ → Bool) (q r : List ℕ) → list_all p q ≡ true → length q ≤ prefix_len p (q ++ r)
 passing_le p [] r e = omega arith
-passing_le p (x ∷ q) r e = omega (arith, run_on p x (q ++ r) (first_so (p x) (list_all p q) e), passing_le p q r (second_so (p x) (list_all p q) e))
+passing_le p (x ∷ q) r e = omega
+    (arith, run_on p x (q ++ r) (first_so (p x) (list_all p q) e), passing_le p q r (second_so (p x) (list_all p q) e))
 
 pub run_passes : (p : ℕ → Bool) (xs : List ℕ) → list_all p (take (prefix_len p xs) xs) ≡ true
 run_passes p [] = refl
 run_passes p (x ∷ xs) = go (p x) refl (run_passes p xs)
   where
-    go : (b : Bool) → p x ≡ b → list_all p (take (prefix_len p xs) xs) ≡ true → list_all p (take (prefix_len p (x ∷ xs)) (x ∷ xs)) ≡ true
+    go : (b : Bool) → p x ≡ b → list_all p (take (prefix_len p xs) xs) ≡ true
+        → list_all p (take (prefix_len p (x ∷ xs)) (x ∷ xs)) ≡ true
     go true e h = subst (λ n. list_all p (take n (x ∷ xs)) ≡ true) (sym (run_on p x xs e)) (both_true e h)
     go false e h = subst (λ n. list_all p (take n (x ∷ xs)) ≡ true) (sym (run_off p x xs e)) refl
 
@@ -37,9 +41,11 @@ run_within p (x ∷ xs) = go (p x) refl (run_within p xs)
     go false e h = omega (arith, run_off p x xs e)
 
 -- A run that a byte closes.
-pub closed_len : (p : ℕ → Bool) (w r : List ℕ) (c : ℕ) → list_all p w ≡ true → p c ≡ false → prefix_len p ((w ++ c ∷ []) ++ r) ≡ length w
+pub closed_len : (p : ℕ → Bool) (w r : List ℕ) (c : ℕ) → list_all p w ≡ true → p c ≡ false
+    → prefix_len p ((w ++ c ∷ []) ++ r) ≡ length w
 closed_len p [] r c e f = run_off p c r f
-closed_len p (x ∷ w) r c e f = run_on p x ((w ++ c ∷ []) ++ r) (first_so (p x) (list_all p w) e) ∙ ap suc (closed_len p w r c (second_so (p x) (list_all p w) e) f)
+closed_len p (x ∷ w) r c e f = run_on p x ((w ++ c ∷ []) ++ r) (first_so (p x) (list_all p w) e)
+    ∙ ap suc (closed_len p w r c (second_so (p x) (list_all p w) e) f)
 
 pub closed_at : (w r : List ℕ) (c : ℕ) → slice_index ((w ++ c ∷ []) ++ r) (length w) ≡ c
 closed_at [] r c = refl

@@ -1,5 +1,6 @@
 -- How a text is cut into tokens, as a function.
-use Rattle.std.specs.Prelude.{◌≡◌, ◌↔◌, ℕ, zero, suc, ◌+◌, if◌then◌else◌, ◌==◌, List, [], ◌∷◌, drop, length, Option, Some, None}
+use Rattle.std.specs.Prelude.{◌≡◌, ◌↔◌, ℕ, zero, suc, ◌+◌, if◌then◌else◌, ◌==◌, List, [], ◌∷◌, drop, length, Option}
+use Rattle.std.specs.Prelude.{Some, None}
 use Rattle.ht_lex.specs.declared.lexeme.Lexeme.{Lexeme}
 use Rattle.ht_lex.specs.declared.lexeme.Lexeme.TheVariants.{Gap, Token, Nothing}
 use Rattle.ht_lex.specs.declared.tokens.Span.{Span}

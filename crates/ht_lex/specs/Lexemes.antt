@@ -1,5 +1,6 @@
 -- Not for belief: what a text begins with, as the code finds it.
-use Rattle.std.specs.Prelude.{ℕ, ◌+◌, ◌≤◌, Bool, if◌then◌else◌, ◌==◌, List, [], ◌∷◌, drop, take, length, slice_index, Some, None, nat_eq, codes}
+use Rattle.std.specs.Prelude.{ℕ, ◌+◌, ◌≤◌, Bool, if◌then◌else◌, ◌==◌, List, [], ◌∷◌, drop, take, length, slice_index}
+use Rattle.std.specs.Prelude.{Some, None, nat_eq, codes}
 use Rattle.std.specs.Char.{is_ascii_digit}
 use Rattle.std.specs.List.{prefix_len, starts_with}
 use Rattle.ht_lex.specs.declared.key.Key.{Key}
@@ -28,16 +29,19 @@ word_lexeme text = let end = past class.Word text 0 in Token (kind_of_word (take
 
 -- A text in quotes, which has no return.
 abbrev pub quoted_lexeme : List ℕ → Lexeme
-quoted_lexeme text = let end = past class.Quotable text 1 in if is_quote (slice_index text end) then Token kind.Quoted (end + 1) else Nothing
+quoted_lexeme text = let end = past class.Quotable text 1 in if is_quote (slice_index text end) then Token kind.Quoted
+    (end + 1) else Nothing
 
 -- The byte 0xC2, blanks and a return: the line goes on.
 abbrev pub continued_lexeme : List ℕ → Lexeme
-continued_lexeme text = let end = past class.Blank text 1 in if is_return (slice_index text end) then Gap (end + 1) else Nothing
+continued_lexeme text =
+    let end = past class.Blank text 1 in if is_return (slice_index text end) then Gap (end + 1) else Nothing
 
 -- The first symbol of a table that the text begins with.
 abbrev pub symbol_among : List (List ℕ × Key) → List ℕ → Lexeme
 symbol_among [] text = Nothing
-symbol_among (row ∷ rows) text = if starts_with nat_eq text row.0 then Token (kind.Key row.1) (length row.0) else symbol_among rows text
+symbol_among (row ∷ rows) text =
+    if starts_with nat_eq text row.0 then Token (kind.Key row.1) (length row.0) else symbol_among rows text
 
 unfoldable pub symbol_lexeme : List ℕ → Lexeme
 symbol_lexeme text = symbol_among symbols text

@@ -1,5 +1,6 @@
 -- What tokens, and what stands between them, are spelled like; and which of them a text begins with: the longest.
-use Rattle.std.specs.Prelude.{◌≡◌, ℕ, ◌<◌, ◌≤◌, ◌⊎◌, Bool, true, not, ◌&&◌, ◌||◌, ◌==◌, List, [], ◌∷◌, ◌++◌, length, take, Option, Some, None, nat_eq, codes}
+use Rattle.std.specs.Prelude.{◌≡◌, ℕ, ◌<◌, ◌≤◌, ◌⊎◌, Bool, true, not, ◌&&◌, ◌||◌, ◌==◌, List, [], ◌∷◌, ◌++◌, length}
+use Rattle.std.specs.Prelude.{take, Option, Some, None, nat_eq, codes}
 use Rattle.std.specs.Char.{is_ascii_digit}
 use Rattle.std.specs.List.{list_all, starts_with}
 use Rattle.ht_lex.specs.declared.key.Key.{Key}
@@ -46,7 +47,8 @@ pub data Spells : Option TokenKind → List ℕ → Type 0 where
 
 -- The text begins with no token and no gap that is longer than this.
 abbrev pub NoLonger : List ℕ → ℕ → Type 0
-NoLonger text size = (what : Option TokenKind) (piece rest : List ℕ) → piece ++ rest ≡ text → size < length piece → Spells what piece → ⊥
+NoLonger text size = (what : Option TokenKind) (piece rest : List ℕ) → piece ++ rest ≡ text → size < length piece
+    → Spells what piece → ⊥
 
 -- The text begins with this token or gap, and with no longer one.
 pub record Longest (what : Option TokenKind) (text : List ℕ) (size : ℕ) : Type 0 where

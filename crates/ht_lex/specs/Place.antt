@@ -15,4 +15,5 @@ pub record IsWithin (text : List ℕ) (s : Span) : Type 0 where
 
 -- Each token stands in the text, which isn't longer than a text may be, and neither are the tokens more.
 abbrev pub IsPlaced : Inside → Type 0
-IsPlaced c = AllByRecursion (IsWithin c.text.now) c.spans.now × (length c.text.now ≤ LIMIT) × (length c.spans.now ≤ LIMIT)
+IsPlaced c =
+    AllByRecursion (IsWithin c.text.now) c.spans.now × (length c.text.now ≤ LIMIT) × (length c.spans.now ≤ LIMIT)

@@ -10,7 +10,8 @@ use Rattle.ht_lex.specs.Token.{token_in}
 pub data Cuts (text : List ℕ) : ℕ → List Span → ℕ → Type 0 where
   -- the text ends, or no token begins
   halt : {place : ℕ} → NoLonger (drop place text) 0 → Cuts text place [] place
-  gap : {place size stop : ℕ} {spans : List Span} → Longest None (drop place text) size → Cuts text (place + size) spans stop
+  gap : {place size stop : ℕ} {spans : List Span} → Longest None (drop place text) size
+      → Cuts text (place + size) spans stop
       → Cuts text place spans stop
   token : {place size stop : ℕ} {kind : TokenKind} {spans : List Span} → Longest (Some kind) (drop place text) size
       → Cuts text (place + size) spans stop

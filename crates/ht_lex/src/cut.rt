@@ -17,7 +17,8 @@ pub fn lex(alloc: Global, text: &Text) -> Result<Tokens<'_>, LexError>
     ensures source { IfOk result (λ tokens. tokens.text ≡ text.now) }
     ensures ordered { IfOk result (λ tokens. InOrder 0 tokens.spans (length text.now)) }
     ensures stuck { IfErr result (λ error. Fails text.now error) }
-    ensures only { (spans : List Span) (stop : ℕ) → Cuts text.now 0 spans stop → Answers (λ tokens. tokens.spans) text.now spans stop result }
+    ensures only { (spans : List Span) (stop : ℕ) → Cuts text.now 0 spans stop
+        → Answers (λ tokens. tokens.spans) text.now spans stop result }
 {
     let text = text.as_slice();
     let mut spans = Vec::new(alloc);

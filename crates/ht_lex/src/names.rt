@@ -185,7 +185,8 @@ fn key_among(mut rows: &[(&[u8], Key)], word: &[u8]) -> Option<Key>
 #[tactic(auto, using(crate::proofs::Reserved::plain_at))]
 fn rows_at<'a>(table: &[&'a [(&'a [u8], Key)]], place: usize) -> &'a [(&'a [u8], Key)]
     requires { place < length table.now }
-    ensures { map (λ row. (row.0.now, row.1)) result.now ≡ slice_index_or (map {B = words.Rows} (λ rows. map (λ row. (row.0.now, row.1)) rows.now) table.now) place [] }
+    ensures { map (λ row. (row.0.now, row.1)) result.now
+        ≡ slice_index_or (map {B = words.Rows} (λ rows. map (λ row. (row.0.now, row.1)) rows.now) table.now) place [] }
 {
     table[place]
 }

@@ -90,7 +90,8 @@ impl<'a> Tokens<'a> {
         requires { place < length self.now.spans }
         ensures kind { HoldsAt (λ span. result.kind ≡ span.kind) self.now.spans place }
         ensures start { HoldsAt (λ span. result.start ≡ span.start) self.now.spans place }
-        ensures text { HoldsAt (λ span. result.text.now ≡ slice_range self.now.text span.start span.stop) self.now.spans place }
+        ensures text { HoldsAt (λ span. result.text.now ≡ slice_range self.now.text span.start span.stop) self.now.spans
+            place }
     {
         let span = self.spans[place];
         Token {

@@ -16,6 +16,7 @@ pub stmts_with : (xs : List s.Stmt) (x : s.Stmt) → stmts_of (xs ++ x ∷ []) �
 stmts_with [] x = refl
 stmts_with (y ∷ ys) x = ap (s.also y) (stmts_with ys x)
 
-pub handlers_with : (hs : List Handler) (h : Handler) → handlers_of (hs ++ h ∷ []) ≡ with_handler (handlers_of hs) (handler_of h)
+pub handlers_with : (hs : List Handler) (h : Handler)
+    → handlers_of (hs ++ h ∷ []) ≡ with_handler (handlers_of hs) (handler_of h)
 handlers_with [] h = refl
 handlers_with (g ∷ gs) h = ap (s.and_handler (handler_of g)) (handlers_with gs h)

@@ -2,7 +2,8 @@
 use Rattle.std.specs.Prelude.{◌+◌, ◌≤◌, max, List, [], ◌∷◌}
 use Rattle.std.proofs.Common.{arith}
 use denote.Param.Weighed.{most}
-use Rattle.ht_tree.specs.declared.expr.Expr.TheDeep.{deep-ExprKind, deep-Chunk, deep-Which, deep-Selector, deep-Owner, deep-Part, deep-Ref, deep-Count}
+use Rattle.ht_tree.specs.declared.expr.Expr.TheDeep.{deep-ExprKind, deep-Chunk, deep-Which, deep-Selector, deep-Owner}
+use Rattle.ht_tree.specs.declared.expr.Expr.TheDeep.{deep-Part, deep-Ref, deep-Count}
 use Rattle.ht_tree.specs.declared.expr.ExprKind.{ExprKind}
 use Rattle.ht_tree.specs.declared.expr.ExprKind.TheVariants as e
 use Rattle.ht_tree.specs.declared.expr.Chunk.{Chunk}
@@ -20,7 +21,8 @@ use Rattle.ht_tree.specs.declared.expr.Ref.TheVariants as ref
 use Rattle.ht_tree.specs.declared.expr.Count.{Count}
 use Rattle.ht_tree.specs.declared.expr.Count.TheVariants as count
 use Rattle.ht_grammar.specs.Trees as t
-use Rattle.ht_grammar.specs.Depth.{depth, depths, chunk_depth, which_depth, selector_depth, owner_depth, part_depth, ref_depth, count_depth}
+use Rattle.ht_grammar.specs.Depth.{depth, depths, chunk_depth, which_depth, selector_depth, owner_depth, part_depth}
+use Rattle.ht_grammar.specs.Depth.{ref_depth, count_depth}
 use Rattle.ht_tree.specs.View.{exprs_of, chunk_of, which_of, selector_of, owner_of, part_of, ref_of, count_of, expr_of}
 
 exprs_fall : (xs : List t.Expr) → most (λ x. depth x + 1) xs ≤ depths (exprs_of xs) + 1

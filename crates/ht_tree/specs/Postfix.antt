@@ -178,10 +178,12 @@ mutual
   expr_back (t.name w) ms ts = refl
   expr_back (t.paren x) ms ts = expr_back x (paren ∷ ms) ts
   expr_back (t.call w xs) ms ts = exprs_back xs (call w ∷ ms) ts
-  expr_back (t.binary op x y) ms ts = expr_back x (expr_marks y (binary op ∷ ms)) ts ∙ expr_back y (binary op ∷ ms) (an_expr x ∷ ts)
+  expr_back (t.binary op x y) ms ts =
+      expr_back x (expr_marks y (binary op ∷ ms)) ts ∙ expr_back y (binary op ∷ ms) (an_expr x ∷ ts)
   expr_back (t.unary op x) ms ts = expr_back x (unary op ∷ ms) ts
   expr_back (t.there_is b r) ms ts = ref_back r (there_is b ∷ ms) ts
-  expr_back (t.chunk h x) ms ts = chunk_back h (expr_marks x (chunk ∷ ms)) ts ∙ expr_back x (chunk ∷ ms) (a_chunk h ∷ ts)
+  expr_back (t.chunk h x) ms ts =
+      chunk_back h (expr_marks x (chunk ∷ ms)) ts ∙ expr_back x (chunk ∷ ms) (a_chunk h ∷ ts)
   expr_back (t.field p) ms ts = part_back p (field ∷ ms) ts
   expr_back t.result ms ts = refl
   expr_back t.target ms ts = refl
@@ -190,20 +192,24 @@ mutual
   expr_back (t.run_property p) ms ts = refl
   expr_back (t.function f x) ms ts = expr_back x (function f ∷ ms) ts
 
-  pub exprs_back : (x : Exprs) (ms : List Mark) (ts : List Item) → run (exprs_marks x ms) ts ≡ run ms (some_exprs x ∷ ts)
+  pub exprs_back : (x : Exprs) (ms : List Mark) (ts : List Item)
+      → run (exprs_marks x ms) ts ≡ run ms (some_exprs x ∷ ts)
   exprs_back t.none ms ts = refl
-  exprs_back (t.more x xs) ms ts = expr_back x (exprs_marks xs (more ∷ ms)) ts ∙ exprs_back xs (more ∷ ms) (an_expr x ∷ ts)
+  exprs_back (t.more x xs) ms ts =
+      expr_back x (exprs_marks xs (more ∷ ms)) ts ∙ exprs_back xs (more ∷ ms) (an_expr x ∷ ts)
 
   pub chunk_back : (x : Chunk) (ms : List Mark) (ts : List Item) → run (chunk_marks x ms) ts ≡ run ms (a_chunk x ∷ ts)
   chunk_back (t.piece k x) ms ts = expr_back x (piece k ∷ ms) ts
-  chunk_back (t.pieces k x y) ms ts = expr_back x (expr_marks y (pieces k ∷ ms)) ts ∙ expr_back y (pieces k ∷ ms) (an_expr x ∷ ts)
+  chunk_back (t.pieces k x y) ms ts =
+      expr_back x (expr_marks y (pieces k ∷ ms)) ts ∙ expr_back y (pieces k ∷ ms) (an_expr x ∷ ts)
   chunk_back (t.nth_piece n k) ms ts = refl
 
   which_back : (x : Which) (ms : List Mark) (ts : List Item) → run (which_marks x ms) ts ≡ run ms (a_which x ∷ ts)
   which_back (t.by_id x) ms ts = expr_back x (by_id ∷ ms) ts
   which_back (t.by_text x) ms ts = expr_back x (by_text ∷ ms) ts
 
-  pub selector_back : (x : Selector) (ms : List Mark) (ts : List Item) → run (selector_marks x ms) ts ≡ run ms (a_selector x ∷ ts)
+  pub selector_back : (x : Selector) (ms : List Mark) (ts : List Item)
+      → run (selector_marks x ms) ts ≡ run ms (a_selector x ∷ ts)
   selector_back t.this ms ts = refl
   selector_back t.next ms ts = refl
   selector_back t.previous ms ts = refl
@@ -216,7 +222,8 @@ mutual
   owner_back (t.on_background p) ms ts = selector_back p (on_background ∷ ms) ts
 
   pub part_back : (x : Part) (ms : List Mark) (ts : List Item) → run (part_marks x ms) ts ≡ run ms (a_part_item x ∷ ts)
-  part_back (t.part l k w o) ms ts = which_back w (owner_marks o (part l k ∷ ms)) ts ∙ owner_back o (part l k ∷ ms) (a_which w ∷ ts)
+  part_back (t.part l k w o) ms ts =
+      which_back w (owner_marks o (part l k ∷ ms)) ts ∙ owner_back o (part l k ∷ ms) (a_which w ∷ ts)
   part_back (t.nth_part n l k o) ms ts = owner_back o (nth_part n l k ∷ ms) ts
 
   pub ref_back : (x : Ref) (ms : List Mark) (ts : List Item) → run (ref_marks x ms) ts ≡ run ms (a_ref x ∷ ts)

@@ -122,9 +122,11 @@ mutual
   stmt_back s.return_nothing ms ts = refl
   stmt_back (s.return_value e) ms ts = refl
   stmt_back (s.command w es) ms ts = refl
-  stmt_back (s.when e ss os) ms ts = stmts_back ss (stmts_marks os (when e ∷ ms)) ts ∙ stmts_back os (when e ∷ ms) (some_stmts ss ∷ ts)
+  stmt_back (s.when e ss os) ms ts =
+      stmts_back ss (stmts_marks os (when e ∷ ms)) ts ∙ stmts_back os (when e ∷ ms) (some_stmts ss ∷ ts)
   stmt_back (s.repeat h ss) ms ts = stmts_back ss (repeat h ∷ ms) ts
 
   stmts_back : (x : Stmts) (ms : List Mark) (ts : List Item) → run (stmts_marks x ms) ts ≡ run ms (some_stmts x ∷ ts)
   stmts_back s.stop ms ts = refl
-  stmts_back (s.also x xs) ms ts = stmt_back x (stmts_marks xs (also ∷ ms)) ts ∙ stmts_back xs (also ∷ ms) (a_stmt x ∷ ts)
+  stmts_back (s.also x xs) ms ts =
+      stmt_back x (stmts_marks xs (also ∷ ms)) ts ∙ stmts_back xs (also ∷ ms) (a_stmt x ∷ ts)

@@ -52,14 +52,17 @@ impl Model for Container {
     ghost use Rattle.ht_tree.specs.Codes.{coded_chunk, coded_part};
     ghost use Rattle.ht_tree.specs.ContainerCode.{Mark, container_marks, container_at, container_back};
 
-    ghost coded = { code_by (List Mark) (Prim.hlevel (codes, coded_chunk (Prim.hlevel codes), coded_part (Prim.hlevel codes))) container_marks container_at container_back };
+    ghost coded = { code_by (List Mark)
+        (Prim.hlevel (codes, coded_chunk (Prim.hlevel codes), coded_part (Prim.hlevel codes))) container_marks
+        container_at container_back };
 
     ghost use Rattle.ht_grammar.specs.Depth.{container_depth, max_depth};
     ghost use Rattle.ht_tree.specs.ContainerView.{container_of};
 
     ghost view = { λ c. container_of c.node.value.kind };
 
-    ghost invariant = { λ c. (c.node.value.depth ≡ container_depth (container_of c.node.value.kind)) × (c.node.value.depth ≤ max_depth) };
+    ghost invariant = { λ c. (c.node.value.depth ≡ container_depth (container_of c.node.value.kind))
+        × (c.node.value.depth ≤ max_depth) };
 
     ghost size = { container_depth };
 

@@ -2,9 +2,11 @@
 
 ghost use Rattle.std.specs.Prelude.{◌≡◌, ◌+◌, ◌≤◌, IfOk};
 ghost use Rattle.ht_grammar.specs.Trees as t;
-ghost use Rattle.ht_grammar.specs.Depth.{depth, depths, chunk_depth, which_depth, selector_depth, owner_depth, part_depth, ref_depth, count_depth, max_depth};
+ghost use Rattle.ht_grammar.specs.Depth.{depth, depths, chunk_depth, which_depth, selector_depth, owner_depth};
+ghost use Rattle.ht_grammar.specs.Depth.{part_depth, ref_depth, count_depth, max_depth};
 ghost use Rattle.ht_grammar.specs.Reading.{snoc};
-ghost use Rattle.ht_tree.specs.View.{expr_of, exprs_of, chunk_of, which_of, selector_of, owner_of, part_of, ref_of, count_of};
+ghost use Rattle.ht_tree.specs.View.{expr_of, exprs_of, chunk_of, which_of, selector_of, owner_of, part_of, ref_of};
+ghost use Rattle.ht_tree.specs.View.{count_of};
 
 use ht_grammar::{FunctionWord, Layer, RunProp};
 use ht_lex::{Constant, Ordinal};
@@ -232,7 +234,8 @@ impl Model for Expr {
     ghost use Rattle.ht_tree.specs.Postfix.{Mark, run, expr_on, expr_marks, expr_back};
     ghost use Rattle.std.proofs.Common.{ap};
 
-    ghost coded = { code_by (List Mark) (Prim.hlevel codes) (λ x. expr_marks x []) (λ ms. expr_on (run ms [])) (λ x. ap expr_on (expr_back x [] [])) };
+    ghost coded = { code_by (List Mark) (Prim.hlevel codes) (λ x. expr_marks x []) (λ ms. expr_on (run ms []))
+        (λ x. ap expr_on (expr_back x [] [])) };
 
     ghost use Rattle.ht_grammar.specs.Depth as d;
     ghost use Rattle.ht_tree.specs.View.{expr_of};

@@ -138,7 +138,18 @@ impl Model for Stmt {
     ghost use Rattle.ht_tree.specs.Codes.{coded_exprs, coded_chunk, coded_selector, coded_ref};
     ghost use Rattle.ht_tree.specs.StatementCode.{Mark, run, stmt_on, stmt_marks, stmt_back};
 
-    ghost coded = { code_by (List Mark) (Prim.hlevel (codes, expr.the_row.coded, container.the_row.coded, coded_exprs (Prim.hlevel codes), coded_chunk (Prim.hlevel codes), coded_selector (Prim.hlevel codes), coded_ref (Prim.hlevel codes))) (λ x. stmt_marks x []) (λ ms. stmt_on (run ms [])) (λ x. ap stmt_on (stmt_back x [] [])) };
+    ghost coded = { code_by (List Mark)
+        (Prim.hlevel (
+          codes,
+          expr.the_row.coded,
+          container.the_row.coded,
+          coded_exprs (Prim.hlevel codes),
+          coded_chunk
+              (Prim.hlevel codes),
+          coded_selector (Prim.hlevel codes),
+          coded_ref (Prim.hlevel codes),
+        )) (λ x. stmt_marks x [])
+        (λ ms. stmt_on (run ms [])) (λ x. ap stmt_on (stmt_back x [] [])) };
 
     ghost use Rattle.ht_grammar.specs.Depth.{stmt_depth, max_depth};
     ghost use Rattle.ht_tree.specs.StatementView.{stmt_of};

@@ -7,7 +7,8 @@ use Rattle.ht_values.specs.declared.fault.Fault.{Fault}
 use Rattle.ht_values.specs.declared.operator.Op.{Op}
 use Rattle.ht_values.specs.declared.operator.Op.TheVariants as op
 use Rattle.ht_values.specs.Number.{ranged}
-use Rattle.ht_values.specs.Operators.{are_equal, binary, cut_quotient, in_numerals, number_by, on_numbers, order_of, remainder, truth_by, word_of}
+use Rattle.ht_values.specs.Operators.{are_equal, binary, cut_quotient, in_numerals, number_by, on_numbers, order_of}
+use Rattle.ht_values.specs.Operators.{remainder, truth_by, word_of}
 use Rattle.ht_values.specs.Text.{numeral}
 use Rattle.ht_values.proofs.Spellings.{numeral_is_one, numeral_is_read}
 use Rattle.std.specs.Ordering.{int_cmp, int_eq}
@@ -16,10 +17,12 @@ computed : (r : Result ℤ Fault) → IfSome (result_ok r) (λ n. in_numerals r 
 computed (Ok n) = refl
 computed (Err e) = tt
 
-of_numerals : (f : ℤ → ℤ → Result ℤ Fault) (x y : ℤ) → SFits w64 x → SFits w64 y → IfSome (result_ok (f x y)) (λ n. in_numerals (on_numbers f (numeral x) (numeral y)) ≡ Ok (numeral n))
+of_numerals : (f : ℤ → ℤ → Result ℤ Fault) (x y : ℤ) → SFits w64 x → SFits w64 y
+    → IfSome (result_ok (f x y)) (λ n. in_numerals (on_numbers f (numeral x) (numeral y)) ≡ Ok (numeral n))
 of_numerals f x y p q = rw (numeral_is_read x p, numeral_is_read y q) (computed (f x y))
 
-pub number_meant : (o : Op) (x y : ℤ) → SFits w64 x → SFits w64 y → IfSome (number_by o x y) (λ n. binary o (numeral x) (numeral y) ≡ Ok (numeral n))
+pub number_meant : (o : Op) (x y : ℤ) → SFits w64 x → SFits w64 y
+    → IfSome (number_by o x y) (λ n. binary o (numeral x) (numeral y) ≡ Ok (numeral n))
 unfolding binary
 number_meant op.Add x y p q = of_numerals (λ a b. ranged (a +ℤ b)) x y p q
 number_meant op.Subtract x y p q = of_numerals (λ a b. ranged (a -ℤ b)) x y p q
@@ -54,7 +57,8 @@ numerals_in_order x y p q =
     let n = numeral_is_one y q in
     rw (m.0, n.0, sym m.1, sym n.1) refl
 
-pub truth_meant : (o : Op) (x y : ℤ) → SFits w64 x → SFits w64 y → IfSome (truth_by o x y) (λ b. binary o (numeral x) (numeral y) ≡ Ok (word_of b))
+pub truth_meant : (o : Op) (x y : ℤ) → SFits w64 x → SFits w64 y
+    → IfSome (truth_by o x y) (λ b. binary o (numeral x) (numeral y) ≡ Ok (word_of b))
 unfolding binary
 truth_meant op.Equal x y p q = rw (equal_numerals x y p q) refl
 truth_meant op.NotEqual x y p q = rw (equal_numerals x y p q) refl

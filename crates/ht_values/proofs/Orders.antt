@@ -35,11 +35,13 @@ pub texts_are_ordered : TextsAreOrdered
 texts_are_ordered = record { total = texts_total; equal = texts_equal }
 
 module _ (a b : List ℕ) where
-  equal_by : (v : Bool) → cond v (int_eq (value_of a) (value_of b)) (same a b) ≡ is_eq (cond v (int_cmp (value_of a) (value_of b)) (text_order a b))
+  equal_by : (v : Bool) → cond v (int_eq (value_of a) (value_of b)) (same a b)
+      ≡ is_eq (cond v (int_cmp (value_of a) (value_of b)) (text_order a b))
   equal_by true = refl
   equal_by false = sym (is_eq-slice_cmp (folded a) (folded b))
 
-  turned_by : (v w : Bool) → cond (v && w) (int_cmp (value_of a) (value_of b)) (text_order a b) ≡ ordering_reverse (cond (w && v) (int_cmp (value_of b) (value_of a)) (text_order b a))
+  turned_by : (v w : Bool) → cond (v && w) (int_cmp (value_of a) (value_of b)) (text_order a b)
+      ≡ ordering_reverse (cond (w && v) (int_cmp (value_of b) (value_of a)) (text_order b a))
   turned_by true true = int_cmp_total.antisymm (value_of a) (value_of b)
   turned_by true false = texts_total.antisymm a b
   turned_by false true = texts_total.antisymm a b
@@ -57,7 +59,8 @@ module _ (a b c : List ℕ) where
   onward_by true true false e f = absurd (false≢true (sym f))
   onward_by false false true e f = absurd (false≢true f)
 
-  onward : is_numeral a ≡ is_numeral b → is_numeral b ≡ is_numeral c → order_of a b ≡ Less → order_of b c ≡ Less → order_of a c ≡ Less
+  onward : is_numeral a ≡ is_numeral b → is_numeral b ≡ is_numeral c → order_of a b ≡ Less → order_of b c ≡ Less
+      → order_of a c ≡ Less
   onward = onward_by (is_numeral a) (is_numeral b) (is_numeral c)
 
 pub values_are_ordered : ValuesAreOrdered

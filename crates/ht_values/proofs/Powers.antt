@@ -1,5 +1,6 @@
 -- Powers with an exponent so high that only those of -1, 0 and 1 are in range.
-use Rattle.std.proofs.Common.{◌≡◌, ◌≢◌, refl, ◌∙◌, ap, ℕ, zero, suc, ◌*◌, ◌%◌, ◌^◌, ◌<◌, ◌≤◌, Bool, true, false, cond, nat_lt, ◌==◌, Ok, Err, ℤ, pos, negsuc, neg_ℤ, arith}
+use Rattle.std.proofs.Common.{◌≡◌, ◌≢◌, refl, ◌∙◌, ap, ℕ, zero, suc, ◌*◌, ◌%◌, ◌^◌, ◌<◌, ◌≤◌, Bool, true, false, cond}
+use Rattle.std.proofs.Common.{nat_lt, ◌==◌, Ok, Err, ℤ, pos, negsuc, neg_ℤ, arith}
 use Rattle.std.specs.Int.{int_pow}
 use Rattle.std.proofs.Math.Nat.{pow-suc, pow-zero, mul-le-mul}
 use Rattle.std.proofs.Math.Pow.{pow_mono}
@@ -35,14 +36,16 @@ pub far_even : (n : ℕ) → n % 2 ≡ 0 → ranged (int_pow (negsuc 0) n) ≡ O
 far_even n e = let b : (n % 2 == 0) ≡ true = grind arith in ap (λ v. ranged (sign_if v (1 ^ n))) b ∙ far_one n
 
 pub far_odd : (n : ℕ) → n % 2 ≢ 0 → ranged (int_pow (negsuc 0) n) ≡ Ok (negsuc 0)
-far_odd n e = let b : (n % 2 == 0) ≡ false = grind arith in ap (λ v. ranged (sign_if v (1 ^ n))) b ∙ ap (λ m. ranged (neg_ℤ (pos m))) (one_to n)
+far_odd n e = let b : (n % 2 == 0) ≡ false = grind arith in ap (λ v. ranged (sign_if v (1 ^ n))) b
+    ∙ ap (λ m. ranged (neg_ℤ (pos m))) (one_to n)
 
 too_large : (m : ℕ) → 2 ^ 64 ≤ m → ranged (pos m) ≡ Err OutOfRange
 too_large m h = let b : nat_lt m (2 ^ 63) ≡ false = grind arith in ap (λ v. cond v (Ok (pos m)) (Err OutOfRange)) b
 
 too_small : (m : ℕ) → 2 ^ 64 ≤ m → ranged (neg_ℤ (pos m)) ≡ Err OutOfRange
 too_small zero h = absurd (omega arith)
-too_small (suc m) h = let b : nat_lt m (2 ^ 63) ≡ false = grind arith in ap (λ v. cond v (Ok (negsuc m)) (Err OutOfRange)) b
+too_small (suc m) h =
+    let b : nat_lt m (2 ^ 63) ≡ false = grind arith in ap (λ v. cond v (Ok (negsuc m)) (Err OutOfRange)) b
 
 signed_large : (even : Bool) (m : ℕ) → 2 ^ 64 ≤ m → ranged (sign_if even m) ≡ Err OutOfRange
 signed_large true m h = too_large m h
@@ -51,6 +54,8 @@ signed_large false m h = too_small m h
 pub far_other : (z : ℤ) (n : ℕ) → z ≢ pos 0 → z ≢ pos 1 → z ≢ negsuc 0 → 64 ≤ n → ranged (int_pow z n) ≡ Err OutOfRange
 far_other (pos zero) n h i j far = absurd (h refl)
 far_other (pos (suc zero)) n h i j far = absurd (i refl)
-far_other (pos (suc (suc a))) n h i j far = let two : 2 ≤ suc (suc a) = omega arith in too_large (suc (suc a) ^ n) (large (suc (suc a)) n two far)
+far_other (pos (suc (suc a))) n h i j far =
+    let two : 2 ≤ suc (suc a) = omega arith in too_large (suc (suc a) ^ n) (large (suc (suc a)) n two far)
 far_other (negsuc zero) n h i j far = absurd (j refl)
-far_other (negsuc (suc a)) n h i j far = let two : 2 ≤ suc (suc a) = omega arith in signed_large (n % 2 == 0) (suc (suc a) ^ n) (large (suc (suc a)) n two far)
+far_other (negsuc (suc a)) n h i j far = let two : 2
+    ≤ suc (suc a) = omega arith in signed_large (n % 2 == 0) (suc (suc a) ^ n) (large (suc (suc a)) n two far)

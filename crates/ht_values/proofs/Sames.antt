@@ -14,4 +14,5 @@ same_by r a b h = same_from_decides r (same a b) h (bytes_eq-Decides (folded a) 
 
 -- where one isn't a numeral, those that are equal are the same
 pub equal_as_texts : (a b : List ℕ) → ¬ (IsTrue (are_numerals a b)) → are_equal a b ≡ same a b
-equal_as_texts a b none = ap (λ v. cond v (int_eq (value_of a) (value_of b)) (same a b)) (false_from_ne_true (are_numerals a b) none)
+equal_as_texts a b none =
+    ap (λ v. cond v (int_eq (value_of a) (value_of b)) (same a b)) (false_from_ne_true (are_numerals a b) none)

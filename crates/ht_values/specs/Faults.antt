@@ -1,7 +1,10 @@
 -- The numbers of the faults.
 use Rattle.std.specs.Prelude.{ℕ}
 use Rattle.ht_values.specs.declared.fault.Fault.{Fault}
-use Rattle.ht_values.specs.declared.fault.Fault.TheVariants.{Syntax, CantUnderstand, NoSuchObject, NotANumber, OutOfRange, DivideByZero, NotExact, TooLong, NotLogical, NoSuchProperty, StepLimit, TooDeep, ExternalFault, CantDelete, TooMany, BadArgument}
+use Rattle.ht_values.specs.declared.fault.Fault.TheVariants.{Syntax, CantUnderstand, NoSuchObject, NotANumber}
+use Rattle.ht_values.specs.declared.fault.Fault.TheVariants.{OutOfRange, DivideByZero, NotExact, TooLong, NotLogical}
+use Rattle.ht_values.specs.declared.fault.Fault.TheVariants.{NoSuchProperty, StepLimit, TooDeep, ExternalFault}
+use Rattle.ht_values.specs.declared.fault.Fault.TheVariants.{CantDelete, TooMany, BadArgument}
 
 abbrev pub number_of_fault : Fault → ℕ
 number_of_fault Syntax = 1

@@ -1,5 +1,6 @@
 -- What the functions of texts alone give.
-use Rattle.std.specs.Prelude.{ℕ, ◌+◌, List, [], ◌∷◌, codes, length, nat_lt, ℤ, pos, negsuc, unsigned_abs, if◌then◌else◌, Option, Some, None, Ok, Err, Result}
+use Rattle.std.specs.Prelude.{ℕ, ◌+◌, List, [], ◌∷◌, codes, length, nat_lt, ℤ, pos, negsuc, unsigned_abs}
+use Rattle.std.specs.Prelude.{if◌then◌else◌, Option, Some, None, Ok, Err, Result}
 use Rattle.std.specs.Int.{int_max, int_min}
 use Rattle.ht_values.specs.declared.fault.Fault.{Fault}
 use Rattle.ht_values.specs.declared.fault.Fault.TheVariants.{BadArgument}
@@ -43,7 +44,8 @@ offset (b ∷ bs) t = place_number (place_of (b ∷ bs) t)
 -- the functions by their names
 abbrev pub function_names : List (List ℕ × Func)
 function_names =
-    (codes "abs", func.Abs) ∷ (codes "max", func.Max) ∷ (codes "min", func.Min) ∷ (codes "length", func.Length) ∷ (codes "charToNum", func.CharToNum) ∷ (codes "numToChar", func.NumToChar)
+    (codes "abs", func.Abs) ∷ (codes "max", func.Max) ∷ (codes "min", func.Min) ∷ (codes "length", func.Length)
+    ∷ (codes "charToNum", func.CharToNum) ∷ (codes "numToChar", func.NumToChar)
     ∷ (codes "offset", func.Offset) ∷ []
 
 -- the function that a name calls; case is ignored

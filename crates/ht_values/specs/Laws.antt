@@ -34,7 +34,8 @@ pub record TextsAreOrdered : Type 0 where
 pub record ValuesAreOrdered : Type 0 where
   pub equal : (a b : List ℕ) → are_equal a b ≡ is_eq (order_of a b)
   pub turned : (a b : List ℕ) → order_of a b ≡ ordering_reverse (order_of b a)
-  pub onward : (a b c : List ℕ) → is_numeral a ≡ is_numeral b → is_numeral b ≡ is_numeral c → order_of a b ≡ Less → order_of b c ≡ Less → order_of a c ≡ Less
+  pub onward : (a b c : List ℕ) → is_numeral a ≡ is_numeral b → is_numeral b ≡ is_numeral c → order_of a b ≡ Less
+      → order_of b c ≡ Less → order_of a c ≡ Less
 
 -- the place of a run is the first at which its folded bytes stand
 abbrev pub PlacesAreFirst : Type 0

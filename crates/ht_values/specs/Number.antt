@@ -1,5 +1,6 @@
 -- Numbers: whole, of 64 bits with a sign, and spelled as numerals.
-use Rattle.std.specs.Prelude.{ℕ, ◌-◌, ◌^◌, Bool, not, ◌&&◌, List, length, take, drop, nat_lt, ◌==◌, ℤ, pos, negsuc, neg_ℤ, if◌then◌else◌, Ok, Err, Result}
+use Rattle.std.specs.Prelude.{ℕ, ◌-◌, ◌^◌, Bool, not, ◌&&◌, List, length, take, drop, nat_lt, ◌==◌, ℤ, pos, negsuc}
+use Rattle.std.specs.Prelude.{neg_ℤ, if◌then◌else◌, Ok, Err, Result}
 use Rattle.std.specs.List.{list_all, prefix_len, suffix_len}
 use Rattle.std.specs.Char.{is_ascii_digit}
 use Rattle.std.specs.Str.Parse.{starts_with_minus, digits_value}

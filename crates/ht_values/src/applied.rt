@@ -1,7 +1,8 @@
 //! What operators give of values.
 
 ghost use Rattle.std.specs.Prelude.{◌≡◌, ◌++◌, IfOk};
-ghost use Rattle.ht_values.specs.Operators.{binary as binary_of, in_numerals as in_numerals_of, in_words as in_words_of, is_in as is_in_of, unary as unary_of};
+ghost use Rattle.ht_values.specs.Operators.{binary as binary_of, in_numerals as in_numerals_of};
+ghost use Rattle.ht_values.specs.Operators.{in_words as in_words_of, is_in as is_in_of, unary as unary_of};
 ghost use Rattle.ht_values.specs.Outcome.{Gives, within_limit};
 
 use crate::arithmetic::{

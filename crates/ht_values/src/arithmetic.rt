@@ -3,7 +3,9 @@
 ghost use Rattle.std.specs.Prelude.{◌≡◌, ◌≤◌, ◌+ℤ◌, ◌-ℤ◌, ◌*ℤ◌, neg_ℤ, pos};
 ghost use Rattle.std.specs.Int.{int_pow};
 ghost use Rattle.ht_values.specs.Number.{number_of as number_of_text, ranged};
-ghost use Rattle.ht_values.specs.Operators.{on_numbers, exact_quotient as exact_quotient_of, cut_quotient as cut_quotient_of, remainder as remainder_of, power as power_of};
+ghost use Rattle.ht_values.specs.Operators.{on_numbers, exact_quotient as exact_quotient_of};
+ghost use Rattle.ht_values.specs.Operators.{cut_quotient as cut_quotient_of, remainder as remainder_of};
+ghost use Rattle.ht_values.specs.Operators.{power as power_of};
 ghost use Rattle.ht_values.specs.Outcome.{and_then};
 
 use crate::fault::Fault;

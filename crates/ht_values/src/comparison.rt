@@ -2,7 +2,8 @@
 
 ghost use Rattle.std.specs.Prelude.{◌≡◌, IfOk, IsTrue, SomeIff};
 ghost use Rattle.ht_values.specs.Number.{value_of};
-ghost use Rattle.ht_values.specs.Operators.{are_equal as are_equal_of, are_numerals, is_a as is_a_of, order_of as order_of_texts, text_order};
+ghost use Rattle.ht_values.specs.Operators.{are_equal as are_equal_of, are_numerals, is_a as is_a_of};
+ghost use Rattle.ht_values.specs.Operators.{order_of as order_of_texts, text_order};
 ghost use Rattle.ht_values.specs.Text.{same};
 
 use crate::operator::ValueType;

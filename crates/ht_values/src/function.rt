@@ -2,7 +2,8 @@
 
 ghost use Rattle.std.specs.Prelude.{◌≡◌, pos, unsigned_abs, IfOk, length as length_of};
 ghost use Rattle.std.specs.Int.{int_max, int_min};
-ghost use Rattle.ht_values.specs.Functions.{best, built_in as built_in_of, character as character_of, first_byte as first_byte_of, offset as offset_of};
+ghost use Rattle.ht_values.specs.Functions.{best, built_in as built_in_of, character as character_of};
+ghost use Rattle.ht_values.specs.Functions.{first_byte as first_byte_of, offset as offset_of};
 ghost use Rattle.ht_values.specs.Number.{number_of as number_of_text, ranged};
 ghost use Rattle.ht_values.specs.Outcome.{Gives, and_then};
 

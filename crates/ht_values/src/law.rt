@@ -1,6 +1,7 @@
 //! What the definitions of values promise.
 
-ghost use Rattle.ht_values.specs.Laws.{DivAndModDivide, NumeralsReadBack, PlacesAreFirst, TextsAreOrdered, ValuesAreOrdered};
+ghost use Rattle.ht_values.specs.Laws.{DivAndModDivide, NumeralsReadBack, PlacesAreFirst, TextsAreOrdered};
+ghost use Rattle.ht_values.specs.Laws.{ValuesAreOrdered};
 
 /// The number of a number's numeral is that number.
 pub fn numerals_read_back()

@@ -5,7 +5,9 @@ ghost use Rattle.std.specs.List.{list_all, prefix_len, suffix_len};
 ghost use Rattle.std.specs.Char.{is_ascii_digit};
 ghost use Rattle.std.specs.Option.{SomeIff};
 ghost use Rattle.std.specs.Str.Parse.{digits_value};
-ghost use Rattle.ht_values.specs.Number.{is_space, is_numeral, number_of as number_of_text, ranged, spelled as spelled_of, trimmed as trimmed_of, value_of, without_front_spaces as without_front_spaces_of};
+ghost use Rattle.ht_values.specs.Number.{is_space, is_numeral, number_of as number_of_text, ranged};
+ghost use Rattle.ht_values.specs.Number.{spelled as spelled_of, trimmed as trimmed_of, value_of};
+ghost use Rattle.ht_values.specs.Number.{without_front_spaces as without_front_spaces_of};
 ghost use Rattle.ht_values.specs.Text.{numeral as numeral_text};
 
 use crate::fault::Fault;

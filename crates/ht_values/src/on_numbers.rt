@@ -1,7 +1,8 @@
 //! Operators on numbers that aren't made values first.
 
 ghost use Rattle.std.specs.Prelude.{◌≡◌, IfSome, Ok};
-ghost use Rattle.ht_values.specs.Operators.{binary as binary_of, number_by as number_by_of, truth_by as truth_by_of, word_of};
+ghost use Rattle.ht_values.specs.Operators.{binary as binary_of, number_by as number_by_of, truth_by as truth_by_of};
+ghost use Rattle.ht_values.specs.Operators.{word_of};
 ghost use Rattle.ht_values.specs.Text.{numeral as numeral_of};
 
 use crate::arithmetic::{cut, rest_of};

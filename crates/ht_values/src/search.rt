@@ -19,7 +19,8 @@ const MOST_COMPARED: usize = 1_024;
 /// The first place from one on at which a byte of the text is the same as this one.
 fn same_byte_from(byte: u8, text: &[u8], from: usize) -> Option<usize>
     requires { from ≤ length text.now }
-    ensures { IsFirst (Passes (λ b. to_ascii_lowercase b == to_ascii_lowercase byte) text.now) from (length text.now) result }
+    ensures { IsFirst (Passes (λ b. to_ascii_lowercase b == to_ascii_lowercase byte) text.now) from (length text.now)
+        result }
 {
     let spellings = [byte.to_ascii_lowercase(), byte.to_ascii_uppercase()];
     let ahead = &text[from..];

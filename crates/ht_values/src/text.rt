@@ -1,6 +1,7 @@
 //! Texts: at most 30,000 bytes, any bytes, one byte a character.
 
-ghost use Rattle.std.specs.Prelude.{◌≡◌, ◌≤◌, ◌<◌, ◌↔◌, ◌++◌, ℕ, List, [], length, All, IfOk, IfErr, OnOk, OnErr, Ok, Err, IsErrOf, IsTrue};
+ghost use Rattle.std.specs.Prelude.{◌≡◌, ◌≤◌, ◌<◌, ◌↔◌, ◌++◌, ℕ, List, [], length, All, IfOk, IfErr, OnOk, OnErr, Ok};
+ghost use Rattle.std.specs.Prelude.{Err, IsErrOf, IsTrue};
 ghost use Rattle.ht_values.specs.Outcome.{Gives, within_limit};
 ghost use Rattle.ht_values.specs.Text.{Same, IsText, folded as folded_of, is_folded as is_folded_text, numeral, same};
 ghost use Rattle.ht_values.specs.declared.text.TheConstants.{LIMIT};

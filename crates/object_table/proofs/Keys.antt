@@ -8,9 +8,11 @@ use Rattle.object_table.specs.Keys.{with_folded, keyed, key_of}
 
 -- names with other keys are not the same
 pub other_key : (a b : List ℕ) → key_of a ≢ key_of b → same a b ≡ false
-other_key a b apart = false_from_ne_true (same a b) (λ e. apart (ap (fold with_folded 1) ((bytes_eq-Decides (folded a) (folded b)).0 e)))
+other_key a b apart =
+    false_from_ne_true (same a b) (λ e. apart (ap (fold with_folded 1) ((bytes_eq-Decides (folded a) (folded b)).0 e)))
 
-appended : (key : ℕ) (xs : List ℕ) (x : ℕ) → fold with_folded key (folded (xs ++ x ∷ [])) ≡ keyed (fold with_folded key (folded xs)) x
+appended : (key : ℕ) (xs : List ℕ) (x : ℕ)
+    → fold with_folded key (folded (xs ++ x ∷ [])) ≡ keyed (fold with_folded key (folded xs)) x
 appended key [] x = refl
 appended key (y ∷ xs) x = appended (keyed key y) xs x
 

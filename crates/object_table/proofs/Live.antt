@@ -1,8 +1,10 @@
 -- How many objects live, as one after another is exchanged.
-use Rattle.std.proofs.Common.{◌≡◌, ◌≢◌, ℕ, inl, inr, ◌+◌, ◌-◌, ◌≤◌, Bool, true, false, cond, List, [], ◌∷◌, length, refl, ap, ◌∙◌, arith, Option, Some, None, is_some}
+use Rattle.std.proofs.Common.{◌≡◌, ◌≢◌, ℕ, inl, inr, ◌+◌, ◌-◌, ◌≤◌, Bool, true, false, cond, List, [], ◌∷◌, length}
+use Rattle.std.proofs.Common.{refl, ap, ◌∙◌, arith, Option, Some, None, is_some}
 use Rattle.std.specs.Ordering.{nat_cmp}
 use Rattle.std.specs.Cmp.{nat_cmp_total}
-use Rattle.std.specs.FinMap.{FinMap, get, remove, len, get-remove, len-empty, len-insert, len-remove, nat_cmp-IsAntisymmetric}
+use Rattle.std.specs.FinMap.{FinMap, get, remove, len, get-remove, len-empty, len-insert, len-remove}
+use Rattle.std.specs.FinMap.{nat_cmp-IsAntisymmetric}
 use Rattle.std.proofs.lemmas.Bool.{cases_eq}
 use Rattle.object_table.specs.Maps.{put_option}
 use Rattle.object_table.specs.Opened.{map_of}
@@ -22,7 +24,8 @@ module _ {X : Type 0} where
       by true e = not_empty m k e
       by false e = omega arith
 
-  pub len-put_option : (m : FinMap nat_cmp X) (k : ℕ) (v : Option X) → len (put_option m k v) ≡ len m - one (is_some (get m k)) + one (is_some v)
+  pub len-put_option : (m : FinMap nat_cmp X) (k : ℕ) (v : Option X)
+      → len (put_option m k v) ≡ len m - one (is_some (get m k)) + one (is_some v)
   len-put_option m k None = len-remove nat_cmp_total m k ∙ by (is_some (get m k))
     where
       by : (b : Bool) → cond b (len m - 1) (len m) ≡ len m - one b + 0
@@ -50,7 +53,8 @@ module _ {X : Type 0} where
   others m k n = get-remove nat_cmp_total m 0 k ∙ ap (λ b. cond b None (get m k)) (tied_apart k 0 n)
 
   -- another object than the first is exchanged
-  pub count-other : (m : FinMap nat_cmp X) (k : ℕ) (v : Option X) → k ≢ 0 → len (remove (put_option m k v) 0) ≡ len (remove m 0) - one (is_some (get m k)) + one (is_some v)
+  pub count-other : (m : FinMap nat_cmp X) (k : ℕ) (v : Option X) → k ≢ 0
+      → len (remove (put_option m k v) 0) ≡ len (remove m 0) - one (is_some (get m k)) + one (is_some v)
   count-other m k v n =
       ap len (put_option_apart nat_cmp_total nat_cmp-IsAntisymmetric m k 0 v None n)
       ∙ len-put_option (remove m 0) k v
@@ -64,7 +68,8 @@ module _ {X : Type 0} where
   count-first m v = ap len (put_option_again nat_cmp_total nat_cmp-IsAntisymmetric m 0 v None)
 
   -- an object takes the place of another
-  pub count_again : (m : FinMap nat_cmp X) (k : ℕ) (v : X) → is_some (get m k) ≡ true → len (remove (put_option m k (Some v)) 0) ≡ len (remove m 0)
+  pub count_again : (m : FinMap nat_cmp X) (k : ℕ) (v : X) → is_some (get m k) ≡ true
+      → len (remove (put_option m k (Some v)) 0) ≡ len (remove m 0)
   count_again m k v there =
       elim (cases_eq k 0) [
         | inl e ↦ ap (λ x. len (remove (put_option m x (Some v)) 0)) e ∙ count-first m (Some v)

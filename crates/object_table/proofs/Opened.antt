@@ -1,5 +1,6 @@
 -- What is kept at open keys, by the entries of a map.
-use Rattle.std.proofs.Common.{◌≡◌, Bool, true, false, cond, ◌||◌, List, [], ◌∷◌, map, refl, sym, ap, ◌∙◌, Option, Some, None, option_and_then, is_some, OnSome}
+use Rattle.std.proofs.Common.{◌≡◌, Bool, true, false, cond, ◌||◌, List, [], ◌∷◌, map, refl, sym, ap, ◌∙◌, Option, Some}
+use Rattle.std.proofs.Common.{None, option_and_then, is_some, OnSome}
 use Rattle.std.proofs.lemmas.Bool.{false≢true}
 use Rattle.std.specs.List.{list_any}
 use Rattle.std.specs.Map.{lookup}
@@ -23,7 +24,8 @@ reversed Less = refl
 reversed Equal = refl
 reversed Greater = refl
 
-chosen : {X : Type 0} (b : Bool) (v : Option X) (o : Option (Option X)) → option_and_then (λ x. x) (cond b (Some v) o) ≡ cond b v (option_and_then (λ x. x) o)
+chosen : {X : Type 0} (b : Bool) (v : Option X) (o : Option (Option X))
+    → option_and_then (λ x. x) (cond b (Some v) o) ≡ cond b v (option_and_then (λ x. x) o)
 chosen true v o = refl
 chosen false v o = refl
 
@@ -37,23 +39,29 @@ module _ {K : Type 0} {R : K → K → Ordering} (are : AreKeys R) where
 
   module _ {X : Type 0} where
     -- what is kept at a key, by its entry
-    pub get-map_of : (es : List (K × Option X)) (q : K) → get (map_of {R = R} es) q ≡ option_and_then (λ x. x) (lookup (eq_by_cmp R q) es)
+    pub get-map_of : (es : List (K × Option X)) (q : K)
+        → get (map_of {R = R} es) q ≡ option_and_then (λ x. x) (lookup (eq_by_cmp R q) es)
     get-map_of [] q = get-empty R q
     get-map_of (e ∷ es) q =
         get-put_option are.total are.apart (map_of es) e.0 e.1 q
         ∙ ap (cond (eq_by_cmp R q e.0) e.1) (get-map_of es q)
         ∙ sym (chosen (eq_by_cmp R q e.0) e.1 (lookup (eq_by_cmp R q) es))
 
-    among : (es : List (K × X)) (q : K) → list_any (eq_by_cmp R q) (map (λ e. e.0) es) ≡ is_some (lookup (eq_by_cmp R q) es)
+    among : (es : List (K × X)) (q : K)
+        → list_any (eq_by_cmp R q) (map (λ e. e.0) es) ≡ is_some (lookup (eq_by_cmp R q) es)
     among [] q = refl
-    among (e ∷ es) q = ap (λ b. eq_by_cmp R q e.0 || b) (among es q) ∙ sym (found (eq_by_cmp R q e.0) e.1 (lookup (eq_by_cmp R q) es))
+    among (e ∷ es) q =
+        ap (λ b. eq_by_cmp R q e.0 || b) (among es q) ∙ sym (found (eq_by_cmp R q e.0) e.1 (lookup (eq_by_cmp R q) es))
 
     -- whether a key is open, by its entry
-    pub contains-keys_of : (es : List (K × X)) (q : K) → set.contains (keys_of {R = R} es) q ≡ is_some (lookup (eq_by_cmp R q) es)
+    pub contains-keys_of : (es : List (K × X)) (q : K)
+        → set.contains (keys_of {R = R} es) q ≡ is_some (lookup (eq_by_cmp R q) es)
     contains-keys_of es q = set.contains-from_list are.total (map (λ e. e.0) es) q ∙ among es q
 
     -- an entry is written; its key is open then
-    pub keys_of-updated : (es fs : List (K × X)) (k : K) (w : X) → ((q : K) → lookup (eq_by_cmp R q) fs ≡ cond (eq_by_cmp R k q) (Some w) (lookup (eq_by_cmp R q) es)) → keys_of {R = R} fs ≡ set.insert (keys_of es) k
+    pub keys_of-updated : (es fs : List (K × X)) (k : K) (w : X)
+        → ((q : K) → lookup (eq_by_cmp R q) fs ≡ cond (eq_by_cmp R k q) (Some w) (lookup (eq_by_cmp R q) es))
+        → keys_of {R = R} fs ≡ set.insert (keys_of es) k
     keys_of-updated es fs k w updates =
         set.same_set are.total are.apart _ _ (λ q.
         contains-keys_of fs q
@@ -62,24 +70,27 @@ module _ {K : Type 0} {R : K → K → Ordering} (are : AreKeys R) where
         ∙ (λ i. turned k q i || sym (contains-keys_of es q) i)
         ∙ sym (set.contains-insert are.total (keys_of es) k q))
 
-    module _ (es fs : List (K × Option X)) (k : K) (w : Option X) (updates : (q : K) → lookup (eq_by_cmp R q) fs ≡ cond (eq_by_cmp R k q) (Some w) (lookup (eq_by_cmp R q) es)) where
-      -- a value is put at a key
-      pub map_of-updated : map_of {R = R} fs ≡ put_option (map_of es) k w
-      map_of-updated =
-          same_map are.total are.apart _ _ (λ q.
-          get-map_of fs q
-          ∙ ap (option_and_then (λ x. x)) (updates q)
-          ∙ chosen (eq_by_cmp R k q) w (lookup (eq_by_cmp R q) es)
-          ∙ (λ i. cond (turned k q i) w (sym (get-map_of es q) i))
-          ∙ sym (get-put_option are.total are.apart (map_of es) k w q))
+    module _ (es fs : List (K × Option X)) (k : K) (w : Option X)
+        (updates : (q : K) → lookup (eq_by_cmp R q) fs ≡ cond (eq_by_cmp R k q) (Some w) (lookup (eq_by_cmp R q) es))
+      where
+        -- a value is put at a key
+        pub map_of-updated : map_of {R = R} fs ≡ put_option (map_of es) k w
+        map_of-updated =
+            same_map are.total are.apart _ _ (λ q.
+            get-map_of fs q
+            ∙ ap (option_and_then (λ x. x)) (updates q)
+            ∙ chosen (eq_by_cmp R k q) w (lookup (eq_by_cmp R q) es)
+            ∙ (λ i. cond (turned k q i) w (sym (get-map_of es q) i))
+            ∙ sym (get-put_option are.total are.apart (map_of es) k w q))
 
-      -- a value that is there already
-      pub map_of-same : w ≡ option_and_then (λ x. x) (lookup (eq_by_cmp R k) es) → map_of {R = R} fs ≡ map_of es
-      map_of-same is = map_of-updated ∙ ap (put_option (map_of es) k) (is ∙ sym (get-map_of es k)) ∙ put_option_same are.total are.apart (map_of es) k
+        -- a value that is there already
+        pub map_of-same : w ≡ option_and_then (λ x. x) (lookup (eq_by_cmp R k) es) → map_of {R = R} fs ≡ map_of es
+        map_of-same is = map_of-updated ∙ ap (put_option (map_of es) k) (is ∙ sym (get-map_of es k))
+            ∙ put_option_same are.total are.apart (map_of es) k
 
-      -- nothing is kept at a key that is opened
-      pub map_of-opened : w ≡ None → lookup (eq_by_cmp R k) es ≡ None → map_of {R = R} fs ≡ map_of es
-      map_of-opened none absent = map_of-same (none ∙ sym (ap (option_and_then (λ x. x)) absent))
+        -- nothing is kept at a key that is opened
+        pub map_of-opened : w ≡ None → lookup (eq_by_cmp R k) es ≡ None → map_of {R = R} fs ≡ map_of es
+        map_of-opened none absent = map_of-same (none ∙ sym (ap (option_and_then (λ x. x)) absent))
 
   -- a key that is in a set stays
   pub inserted_again : (s : set.FinSet R) (k : K) → set.contains s k ≡ true → s ≡ set.insert s k
@@ -94,7 +105,8 @@ module _ {K : Type 0} {R : K → K → Ordering} (are : AreKeys R) where
 
   -- a key that is put in a set is in it
   pub contains-inserted : (s : set.FinSet R) (k : K) → set.contains (set.insert s k) k ≡ true
-  contains-inserted s k = set.contains-insert are.total s k k ∙ ap (λ b. b || set.contains s k) ((Equal-is (R k k)).1 (tied_itself are.total k))
+  contains-inserted s k = set.contains-insert are.total s k k
+      ∙ ap (λ b. b || set.contains s k) ((Equal-is (R k k)).1 (tied_itself are.total k))
 
 module _ {X : Type 0} where
   pub of_found : {P : Type 0} (o : Option X) → P → OnSome o P

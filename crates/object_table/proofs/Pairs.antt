@@ -27,7 +27,8 @@ pair_cmp-IsAntisymmetric p q e =
 
 -- pairs that the order does not tell apart
 pub pair_tied : (p q : Pair) → eq_by_cmp pair_cmp p q ≡ same_pair p q
-pair_tied p q = sym (tied_then (nat_cmp p.0 q.0) (nat_cmp p.1 q.1)) ∙ (λ i. unsigned_tied p.0 q.0 i && unsigned_tied p.1 q.1 i)
+pair_tied p q =
+    sym (tied_then (nat_cmp p.0 q.0) (nat_cmp p.1 q.1)) ∙ (λ i. unsigned_tied p.0 q.0 i && unsigned_tied p.1 q.1 i)
 
 pub pairs : AreKeys pair_cmp
 pairs = record { total = pair_cmp_total; apart = pair_cmp-IsAntisymmetric }

@@ -1,5 +1,7 @@
 -- Rows of values at ids that rise, and the entries of several rows.
-use Rattle.std.proofs.Common.{◌≡◌, ◌≢◌, ℕ, zero, suc, ◌+◌, ◌-◌, ◌<◌, ◌≤◌, Bool, true, false, cond, ◌&&◌, ◌||◌, List, [], ◌∷◌, ◌++◌, length, set, get_or, map, refl, sym, subst, ap, ◌∙◌, arith, Option, Some, None, is_some, option_and_then, nat_eq, Result, Ok, Err, IfOk, IfErr}
+use Rattle.std.proofs.Common.{◌≡◌, ◌≢◌, ℕ, zero, suc, ◌+◌, ◌-◌, ◌<◌, ◌≤◌, Bool, true, false, cond, ◌&&◌, ◌||◌, List}
+use Rattle.std.proofs.Common.{[], ◌∷◌, ◌++◌, length, set, get_or, map, refl, sym, subst, ap, ◌∙◌, arith, Option, Some}
+use Rattle.std.proofs.Common.{None, is_some, option_and_then, nat_eq, Result, Ok, Err, IfOk, IfErr}
 use Rattle.std.specs.FinSet.{contains}
 use Rattle.std.specs.List.{insert}
 use Rattle.std.specs.Map.{lookup}
@@ -21,7 +23,8 @@ use Rattle.object_table.specs.Pages.{number_at}
 use Rattle.object_table.specs.Slots.{AreNumbered}
 use Rattle.object_table.proofs.Opened.{contains-keys_of}
 use Rattle.object_table.proofs.Pairs.{same_pair, pair_tied}
-use Rattle.object_table.proofs.Slots.{ids, IsWritten, IsSlotOf, at_least_one, place_within, stands_at, slot_found, slot_written, still_numbered}
+use Rattle.object_table.proofs.Slots.{ids, IsWritten, IsSlotOf, at_least_one, place_within, stands_at, slot_found}
+use Rattle.object_table.proofs.Slots.{slot_written, still_numbered}
 
 same_test : (a b : ℕ) → a ≡ b → nat_eq a b ≡ true
 same_test a b e = grind (arith, nat_tests)
@@ -63,10 +66,27 @@ module _ (ids : List ℕ) (id i : ℕ) (gap : IsGapFor ids id i) where
   rising-insert rising j k less within =
       let news = insert ids i id in
       let long = length-insert ids i id gap.within in
-      let below : (n : ℕ) → n < i → get_or news n 0 ≡ get_or ids n 0 = λ n h. get_or-insert_below ids i id 0 n h gap.within in
+      let below : (n : ℕ) → n < i → get_or news n 0 ≡ get_or ids n 0 =
+      λ n h. get_or-insert_below ids i id 0 n h gap.within in
       let here : (n : ℕ) → n ≡ i → get_or news n 0 ≡ id = λ n e. rw e (get_or-insert_at ids i id 0 gap.within) in
-      let above : (n : ℕ) → i < n → get_or news n 0 ≡ get_or ids (n - 1) 0 = λ n h. subst (λ q. get_or news q 0 ≡ get_or ids (n - 1) 0) {x = n - 1 + 1} (omega arith) (get_or-insert_above ids i id 0 (n - 1) (omega arith) gap.within) in
-      grind (arith, below j, here j, above j, below k, here k, above k, rising j k, rising j (k - 1), rising (j - 1) (k - 1), gap.less j, gap.more (k - 1))
+      let above : (n : ℕ) → i < n → get_or news n 0
+      ≡ get_or ids (n - 1) 0 = λ n h. subst (λ q. get_or news q 0 ≡ get_or ids (n - 1) 0) {x = n - 1 + 1}
+      (omega arith) (get_or-insert_above ids i id 0 (n - 1) (omega arith) gap.within) in
+      grind (
+        arith,
+        below j,
+        here j,
+        above j,
+        below k,
+        here k,
+        above k,
+        rising j k,
+        rising j (k - 1),
+        rising (j - 1)
+            (k - 1),
+        gap.less j,
+        gap.more (k - 1),
+      )
 
 -- ---- a row
 
@@ -77,32 +97,51 @@ module _ {Y : Type 0} where
   id-read (e ∷ es) (suc i) d h = id-read es i d (omega arith)
 
   -- the comparisons with an id rise, as a search by halves asks
-  comparisons_rise : (es : List (ℕ × Y)) → AreRising (ids_in es) → (id : ℕ) → (ℕ × Y) → IsNonDecreasingBy (λ e. ordering_index (nat_cmp e.0 id)) es
-  comparisons_rise es rising id d = IsNonDecreasingBy-from_default (λ e. ordering_index (nat_cmp e.0 id)) es d (λ i j le within.
+  comparisons_rise : (es : List (ℕ × Y)) → AreRising (ids_in es) → (id : ℕ) → (ℕ × Y)
+      → IsNonDecreasingBy (λ e. ordering_index (nat_cmp e.0 id)) es
+  comparisons_rise es rising id d =
+      IsNonDecreasingBy-from_default (λ e. ordering_index (nat_cmp e.0 id)) es d (λ i j le within.
       let long : length (ids_in es) ≡ length es = length-map es (λ e. e.0) in
       let one : get_or (ids_in es) i 0 ≡ (get_or es i d).0 = id-read es i d (omega (arith, le, within)) in
       let two : get_or (ids_in es) j 0 ≡ (get_or es j d).0 = id-read es j d within in
-      let rise : (get_or es i d).0 ≤ (get_or es j d).0 = grind (arith, rising i j, λ (same : i ≡ j). ap (λ n. (get_or es n d).0) same) in
+      let rise : (get_or es i d).0 ≤ (get_or es j d).0 =
+      grind (arith, rising i j, λ (same : i ≡ j). ap (λ n. (get_or es n d).0) same) in
       grind (arith, nat_tests))
 
   -- a search by halves ends at the id, or at the gap for it
-  pub searched : (es : List (ℕ × Y)) → AreRising (ids_in es) → (id : ℕ) (r : Result ℕ ℕ) → IsSearchInRange r (length es) → IsBinarySearchResult (λ e. nat_cmp e.0 id) es r
+  pub searched : (es : List (ℕ × Y)) → AreRising (ids_in es) → (id : ℕ) (r : Result ℕ ℕ) → IsSearchInRange r (length es)
+      → IsBinarySearchResult (λ e. nat_cmp e.0 id) es r
       → record { found : IfOk r (IsAt (ids_in es) id); absent : IfErr r (IsGapFor (ids_in es) id) }
   searched [] rising id (Ok i) within equal = absurd (omega arith)
-  searched [] rising id (Err i) within parted = record { found = tt; absent = record { within = within; less = λ j h. absurd (omega arith); more = λ j h l. absurd (omega arith) } }
+  searched [] rising id (Err i) within
+      parted = record {
+        found = tt;
+        absent =
+            record { within = within; less = λ j h. absurd (omega arith); more = λ j h l. absurd (omega arith) };
+      }
   searched (d ∷ es) rising id (Ok i) within equal =
       let long : length (ids_in (d ∷ es)) ≡ length (d ∷ es) = length-map (d ∷ es) (λ e. e.0) in
-      record { found = record { within = omega (arith, within, long); is = id-read (d ∷ es) i d within ∙ ranked _ id _ (sym (equal d)) }; absent = tt }
+      record {
+        found = record {
+          within = omega (arith, within, long);
+          is = id-read (d ∷ es) i d within
+              ∙ ranked _ id _ (sym (equal d));
+        };
+        absent = tt;
+      }
   searched (d ∷ es) rising id (Err i) within parted =
       let long : length (ids_in (d ∷ es)) ≡ length (d ∷ es) = length-map (d ∷ es) (λ e. e.0) in
       let both = parted (comparisons_rise (d ∷ es) rising id d) in
-      let read : (j : ℕ) → j < length (d ∷ es) → get_or (ids_in (d ∷ es)) j 0 ≡ (get_or (d ∷ es) j d).0 = λ j h. id-read (d ∷ es) j d h in
+      let read : (j : ℕ) → j < length (d ∷ es) → get_or (ids_in (d ∷ es)) j 0 ≡ (get_or (d ∷ es) j d).0 =
+      λ j h. id-read (d ∷ es) j d h in
       record {
         found = tt;
         absent = record {
           within = omega (arith, within, long);
-          less = λ j h. subst (λ n. n < id) (sym (read j (omega (arith, h, within)))) (ranked _ id _ (sym (both.0 j d (omega arith) h)));
-          more = λ j h l. subst (λ n. id < n) (sym (read j (omega (arith, l, long)))) (ranked _ id _ (sym (both.1 j d h (omega (arith, l, long)))));
+          less = λ j h. subst (λ n. n < id) (sym (read j (omega (arith, h, within))))
+              (ranked _ id _ (sym (both.0 j d (omega arith) h)));
+          more = λ j h l. subst (λ n. id < n) (sym (read j (omega (arith, l, long))))
+              (ranked _ id _ (sym (both.1 j d h (omega (arith, l, long)))));
         };
       }
 
@@ -110,38 +149,47 @@ module _ {Y : Type 0} where
   pub entry-none : (es : List (ℕ × Y)) (id : ℕ) → NoneBefore (ids_in es) id (length (ids_in es)) → entry_at es id ≡ None
   entry-none [] id none = refl
   entry-none (e ∷ es) id none =
-      ap (λ b. cond b (Some e.1) (entry_at es id)) (apart_test id e.0 (λ s. none 0 (omega arith) (sym s))) ∙ entry-none es id (later e.0 (ids_in es) id (length (ids_in es)) none)
+      ap (λ b. cond b (Some e.1) (entry_at es id)) (apart_test id e.0 (λ s. none 0 (omega arith) (sym s)))
+      ∙ entry-none es id (later e.0 (ids_in es) id (length (ids_in es)) none)
 
   -- the entry at the place of an id
-  pub entry-read : (es : List (ℕ × Y)) (id i : ℕ) (d : ℕ × Y) → IsAt (ids_in es) id i → NoneBefore (ids_in es) id i → entry_at es id ≡ Some (get_or es i d).1
+  pub entry-read : (es : List (ℕ × Y)) (id i : ℕ) (d : ℕ × Y) → IsAt (ids_in es) id i → NoneBefore (ids_in es) id i
+      → entry_at es id ≡ Some (get_or es i d).1
   entry-read [] id i d at none = absurd (omega (arith, at.within))
   entry-read (e ∷ es) id zero d at none = ap (λ b. cond b (Some e.1) (entry_at es id)) (same_test id e.0 (sym at.is))
   entry-read (e ∷ es) id (suc i) d at none =
       ap (λ b. cond b (Some e.1) (entry_at es id)) (apart_test id e.0 (λ s. none 0 (omega arith) (sym s)))
-      ∙ entry-read es id i d (record { within = omega (arith, at.within); is = at.is }) (later e.0 (ids_in es) id i none)
+      ∙ entry-read es id i d (record { within = omega (arith, at.within); is = at.is })
+      (later e.0 (ids_in es) id i none)
 
   over : (b : Bool) (x y : Y) (o : Option Y) → cond b (Some y) o ≡ cond b (Some y) (cond b (Some x) o)
   over true x y o = refl
   over false x y o = refl
 
-  either : (b c : Bool) (x y : Y) (o : Option Y) → (b ≡ true → c ≡ true → ⊥) → cond b (Some x) (cond c (Some y) o) ≡ cond c (Some y) (cond b (Some x) o)
+  either : (b c : Bool) (x y : Y) (o : Option Y) → (b ≡ true → c ≡ true → ⊥)
+      → cond b (Some x) (cond c (Some y) o) ≡ cond c (Some y) (cond b (Some x) o)
   either true true x y o h = absurd (h refl refl)
   either true false x y o h = refl
   either false c x y o h = refl
 
   -- a value is written at the place of an id
-  pub entry-set : (es : List (ℕ × Y)) (id i : ℕ) (y : Y) → IsAt (ids_in es) id i → NoneBefore (ids_in es) id i → (q : ℕ) → entry_at (set es i (id, y)) q ≡ cond (nat_eq id q) (Some y) (entry_at es q)
+  pub entry-set : (es : List (ℕ × Y)) (id i : ℕ) (y : Y) → IsAt (ids_in es) id i → NoneBefore (ids_in es) id i → (q : ℕ)
+      → entry_at (set es i (id, y)) q ≡ cond (nat_eq id q) (Some y) (entry_at es q)
   entry-set [] id i y at none q = absurd (omega (arith, at.within))
   entry-set (e ∷ es) id zero y at none q =
       ap (λ b. cond b (Some y) (entry_at es q)) (turned q id)
       ∙ over (nat_eq id q) e.1 y (entry_at es q)
-      ∙ ap (λ b. cond (nat_eq id q) (Some y) (cond b (Some e.1) (entry_at es q))) (turned id q ∙ ap (nat_eq q) (sym at.is))
+      ∙ ap (λ b. cond (nat_eq id q) (Some y) (cond b (Some e.1) (entry_at es q)))
+      (turned id q ∙ ap (nat_eq q) (sym at.is))
   entry-set (e ∷ es) id (suc i) y at none q =
-      ap (λ o. cond (nat_eq q e.0) (Some e.1) o) (entry-set es id i y (record { within = omega (arith, at.within); is = at.is }) (later e.0 (ids_in es) id i none) q)
+      ap (λ o. cond (nat_eq q e.0) (Some e.1) o)
+      (entry-set es id i y (record { within = omega (arith, at.within); is = at.is })
+      (later e.0 (ids_in es) id i none) q)
       ∙ either (nat_eq q e.0) (nat_eq id q) e.1 y (entry_at es q) (not_both id e.0 q (none 0 (omega arith)))
 
   -- a value is put before the place where an id would stand
-  pub entry-insert : (es : List (ℕ × Y)) (id i : ℕ) (y : Y) → NoneBefore (ids_in es) id i → (q : ℕ) → entry_at (insert es i (id, y)) q ≡ cond (nat_eq id q) (Some y) (entry_at es q)
+  pub entry-insert : (es : List (ℕ × Y)) (id i : ℕ) (y : Y) → NoneBefore (ids_in es) id i → (q : ℕ)
+      → entry_at (insert es i (id, y)) q ≡ cond (nat_eq id q) (Some y) (entry_at es q)
   entry-insert es id zero y none q = ap (λ b. cond b (Some y) (entry_at es q)) (turned q id)
   entry-insert [] id (suc i) y none q = ap (λ b. cond b (Some y) None) (turned q id)
   entry-insert (e ∷ es) id (suc i) y none q =
@@ -151,7 +199,8 @@ module _ {Y : Type 0} where
   pub ids-set : (es : List (ℕ × Y)) (id i : ℕ) (y : Y) → IsAt (ids_in es) id i → ids_in (set es i (id, y)) ≡ ids_in es
   ids-set [] id i y at = refl
   ids-set (e ∷ es) id zero y at = ap (λ n. n ∷ ids_in es) (sym at.is)
-  ids-set (e ∷ es) id (suc i) y at = ap (λ ns. e.0 ∷ ns) (ids-set es id i y (record { within = omega (arith, at.within); is = at.is }))
+  ids-set (e ∷ es) id (suc i) y at =
+      ap (λ ns. e.0 ∷ ns) (ids-set es id i y (record { within = omega (arith, at.within); is = at.is }))
 
   pub ids-insert : (es : List (ℕ × Y)) (id i : ℕ) (y : Y) → ids_in (insert es i (id, y)) ≡ insert (ids_in es) i id
   ids-insert es id zero y = refl
@@ -160,7 +209,9 @@ module _ {Y : Type 0} where
 
   -- an entry has the id of its place
   pub own-id : (es : List (ℕ × Y)) (id i : ℕ) (e : ℕ × Y) → IsAt (ids_in es) id i → e ≡ get_or es i e → e.0 ≡ id
-  own-id es id i e at is = ap (λ x. x.0) is ∙ sym (id-read es i e (let long : length (ids_in es) ≡ length es = length-map es (λ x. x.0) in omega (arith, at.within, long))) ∙ at.is
+  own-id es id i e at is = ap (λ x. x.0) is
+      ∙ sym (id-read es i e (let long : length (ids_in es)
+      ≡ length es = length-map es (λ x. x.0) in omega (arith, at.within, long))) ∙ at.is
 
   pub ids-append : (es : List (ℕ × Y)) (id : ℕ) (y : Y) → ids_in (es ++ (id, y) ∷ []) ≡ ids_in es ++ id ∷ []
   ids-append [] id y = refl
@@ -171,16 +222,19 @@ module _ {Y : Type 0} where
   entry-added [] id y = ap (λ b. is_some (cond b (Some y) None)) (same_test id id refl)
   entry-added (e ∷ es) id y = each (nat_eq id e.0) (entry-added es id y)
     where
-      each : (b : Bool) → is_some (entry_at (es ++ (id, y) ∷ []) id) ≡ true → is_some (cond b (Some e.1) (entry_at (es ++ (id, y) ∷ []) id)) ≡ true
+      each : (b : Bool) → is_some (entry_at (es ++ (id, y) ∷ []) id) ≡ true
+          → is_some (cond b (Some e.1) (entry_at (es ++ (id, y) ∷ []) id)) ≡ true
       each true h = refl
       each false h = h
 
   -- an id has an entry where it is one of them
   pub entry-among : (es : List (ℕ × Y)) (id : ℕ) → is_some (entry_at es id) ≡ contains_id id (ids_in es)
   entry-among [] id = refl
-  entry-among (e ∷ es) id = found (nat_eq id e.0) (entry-among es id) ∙ ap (λ b. b || contains_id id (ids_in es)) (turned id e.0)
+  entry-among (e ∷ es) id =
+      found (nat_eq id e.0) (entry-among es id) ∙ ap (λ b. b || contains_id id (ids_in es)) (turned id e.0)
     where
-      found : (b : Bool) → is_some (entry_at es id) ≡ contains_id id (ids_in es) → is_some (cond b (Some e.1) (entry_at es id)) ≡ (b || contains_id id (ids_in es))
+      found : (b : Bool) → is_some (entry_at es id) ≡ contains_id id (ids_in es)
+          → is_some (cond b (Some e.1) (entry_at es id)) ≡ (b || contains_id id (ids_in es))
       found true h = refl
       found false h = h
 
@@ -207,7 +261,8 @@ apart-append (x ∷ xs) id are none = (
   where
     first : (b : Bool) → (b || contains_id id xs) ≡ false → nat_eq id x ≡ false
     first true n = absurd (false≢true (sym n))
-    first false n = apart_test id x (λ e. false≢true (sym none ∙ ap (λ b. b || contains_id id xs) (same_test x id (sym e))))
+    first false n =
+        apart_test id x (λ e. false≢true (sym none ∙ ap (λ b. b || contains_id id xs) (same_test x id (sym e))))
 
     rest : (b : Bool) → (b || contains_id id xs) ≡ false → contains_id id xs ≡ false
     rest true n = absurd (false≢true (sym n))
@@ -220,12 +275,14 @@ module _ {Y : Type 0} where
   appended p [] ys = refl
   appended p (x ∷ xs) ys = each (p x.0) (appended p xs ys)
     where
-      each : (b : Bool) → lookup p (xs ++ ys) ≡ option_or (lookup p xs) (lookup p ys) → cond b (Some x.1) (lookup p (xs ++ ys)) ≡ option_or (cond b (Some x.1) (lookup p xs)) (lookup p ys)
+      each : (b : Bool) → lookup p (xs ++ ys) ≡ option_or (lookup p xs) (lookup p ys)
+          → cond b (Some x.1) (lookup p (xs ++ ys)) ≡ option_or (cond b (Some x.1) (lookup p xs)) (lookup p ys)
       each true h = refl
       each false h = h
 
   -- a row has the entries of its part alone
-  of_row : (part : ℕ) (row : List (ℕ × Y)) (q : Pair) → lookup (same_pair q) (map (λ e. ((part, e.0), e.1)) row) ≡ cond (nat_eq q.0 part) (entry_at row q.1) None
+  of_row : (part : ℕ) (row : List (ℕ × Y)) (q : Pair)
+      → lookup (same_pair q) (map (λ e. ((part, e.0), e.1)) row) ≡ cond (nat_eq q.0 part) (entry_at row q.1) None
   of_row part [] q = each (nat_eq q.0 part)
     where
       each : (b : Bool) → ◌≡◌ {A = Option Y} None (cond b None None)
@@ -234,18 +291,22 @@ module _ {Y : Type 0} where
   of_row part (e ∷ row) q = each (nat_eq q.0 part) (of_row part row q)
     where
       each : (b : Bool) → lookup (same_pair q) (map (λ e. ((part, e.0), e.1)) row) ≡ cond b (entry_at row q.1) None
-          → cond (b && nat_eq q.1 e.0) (Some e.1) (lookup (same_pair q) (map (λ e. ((part, e.0), e.1)) row)) ≡ cond b (cond (nat_eq q.1 e.0) (Some e.1) (entry_at row q.1)) None
+          → cond (b && nat_eq q.1 e.0) (Some e.1) (lookup (same_pair q) (map (λ e. ((part, e.0), e.1)) row))
+          ≡ cond b (cond (nat_eq q.1 e.0) (Some e.1) (entry_at row q.1)) None
       each true h = ap (λ o. cond (nat_eq q.1 e.0) (Some e.1) o) h
       each false h = h
 
-  none-of : (rs : List (ℕ × List (ℕ × Y))) (q : Pair) → entry_at rs q.0 ≡ None → lookup (same_pair q) (entries_of rs) ≡ None
+  none-of : (rs : List (ℕ × List (ℕ × Y))) (q : Pair) → entry_at rs q.0 ≡ None
+      → lookup (same_pair q) (entries_of rs) ≡ None
   none-of [] q n = refl
   none-of (r ∷ rs) q n =
       appended (same_pair q) _ (entries_of rs)
       ∙ ap (λ o. option_or o (lookup (same_pair q) (entries_of rs))) (of_row r.0 r.1 q)
       ∙ each (nat_eq q.0 r.0) n (none-of rs q)
     where
-      each : (b : Bool) → cond b (Some r.1) (entry_at rs q.0) ≡ None → (entry_at rs q.0 ≡ None → lookup (same_pair q) (entries_of rs) ≡ None) → option_or (cond b (entry_at r.1 q.1) None) (lookup (same_pair q) (entries_of rs)) ≡ None
+      each : (b : Bool) → cond b (Some r.1) (entry_at rs q.0) ≡ None
+          → (entry_at rs q.0 ≡ None → lookup (same_pair q) (entries_of rs) ≡ None)
+          → option_or (cond b (entry_at r.1 q.1) None) (lookup (same_pair q) (entries_of rs)) ≡ None
       each true m others = absurd (false≢true (ap is_some (sym m)))
       each false m others = others m
 
@@ -253,7 +314,8 @@ module _ {Y : Type 0} where
   no_entry None h = refl
   no_entry (Some x) h = absurd (false≢true (sym h))
 
-  of_pair : (rs : List (ℕ × List (ℕ × Y))) (q : Pair) → AreApart (ids_in rs) → lookup (same_pair q) (entries_of rs) ≡ option_and_then (λ row. entry_at row q.1) (entry_at rs q.0)
+  of_pair : (rs : List (ℕ × List (ℕ × Y))) (q : Pair) → AreApart (ids_in rs)
+      → lookup (same_pair q) (entries_of rs) ≡ option_and_then (λ row. entry_at row q.1) (entry_at rs q.0)
   of_pair [] q are = refl
   of_pair (r ∷ rs) q are =
       appended (same_pair q) _ (entries_of rs)
@@ -264,9 +326,13 @@ module _ {Y : Type 0} where
       kept None = refl
       kept (Some y) = refl
 
-      each : (b : Bool) → nat_eq q.0 r.0 ≡ b → lookup (same_pair q) (entries_of rs) ≡ option_and_then (λ row. entry_at row q.1) (entry_at rs q.0) → option_or (cond b (entry_at r.1 q.1) None) (lookup (same_pair q) (entries_of rs)) ≡ option_and_then (λ row. entry_at row q.1) (cond b (Some r.1) (entry_at rs q.0))
+      each : (b : Bool) → nat_eq q.0 r.0 ≡ b
+          → lookup (same_pair q) (entries_of rs) ≡ option_and_then (λ row. entry_at row q.1) (entry_at rs q.0)
+          → option_or (cond b (entry_at r.1 q.1) None) (lookup (same_pair q) (entries_of rs))
+          ≡ option_and_then (λ row. entry_at row q.1) (cond b (Some r.1) (entry_at rs q.0))
       each true e others =
-          let absent : entry_at rs q.0 ≡ None = no_entry _ (entry-among rs q.0 ∙ ap (λ n. contains_id n (ids_in rs)) (by_test q.0 r.0 e) ∙ are.0) in
+          let absent : entry_at rs q.0 ≡ None =
+          no_entry _ (entry-among rs q.0 ∙ ap (λ n. contains_id n (ids_in rs)) (by_test q.0 r.0 e) ∙ are.0) in
           ap (λ o. option_or (entry_at r.1 q.1) o) (none-of rs q absent) ∙ kept (entry_at r.1 q.1)
       each false e others = others
 
@@ -274,7 +340,8 @@ module _ {Y : Type 0} where
   same_lookup q es = ap (λ (p : Pair → Bool). lookup p es) (λ i x. pair_tied q x i)
 
   -- the entry of a pair is the one of its card in the row of its part
-  pub entry-of_pair : (rs : List (ℕ × List (ℕ × Y))) (q : Pair) → AreApart (ids_in rs) → lookup (eq_by_cmp pair_cmp q) (entries_of rs) ≡ option_and_then (λ row. entry_at row q.1) (entry_at rs q.0)
+  pub entry-of_pair : (rs : List (ℕ × List (ℕ × Y))) (q : Pair) → AreApart (ids_in rs)
+      → lookup (eq_by_cmp pair_cmp q) (entries_of rs) ≡ option_and_then (λ row. entry_at row q.1) (entry_at rs q.0)
   entry-of_pair rs q are = same_lookup q (entries_of rs) ∙ of_pair rs q are
 
   -- an empty row adds no entry
@@ -283,18 +350,25 @@ module _ {Y : Type 0} where
   entries-empty_row (r ∷ rs) part = ap (λ es. map (λ e. ((r.0, e.0), e.1)) r.1 ++ es) (entries-empty_row rs part)
 
   -- an entry is written in a row
-  pub entries-written : (rs ss : List (ℕ × List (ℕ × Y))) (part card : ℕ) (row new : List (ℕ × Y)) (y : Y) → AreApart (ids_in rs) → AreApart (ids_in ss) → entry_at rs part ≡ Some row
-      → ((p : ℕ) → entry_at ss p ≡ cond (nat_eq part p) (Some new) (entry_at rs p)) → ((c : ℕ) → entry_at new c ≡ cond (nat_eq card c) (Some y) (entry_at row c))
-      → (q : Pair) → lookup (eq_by_cmp pair_cmp q) (entries_of ss) ≡ cond (eq_by_cmp pair_cmp (part, card) q) (Some y) (lookup (eq_by_cmp pair_cmp q) (entries_of rs))
+  pub entries-written : (rs ss : List (ℕ × List (ℕ × Y))) (part card : ℕ) (row new : List (ℕ × Y)) (y : Y)
+      → AreApart (ids_in rs) → AreApart (ids_in ss) → entry_at rs part ≡ Some row
+      → ((p : ℕ) → entry_at ss p ≡ cond (nat_eq part p) (Some new) (entry_at rs p))
+      → ((c : ℕ) → entry_at new c ≡ cond (nat_eq card c) (Some y) (entry_at row c))
+      → (q : Pair) → lookup (eq_by_cmp pair_cmp q) (entries_of ss)
+      ≡ cond (eq_by_cmp pair_cmp (part, card) q) (Some y) (lookup (eq_by_cmp pair_cmp q) (entries_of rs))
   entries-written rs ss part card row new y are are' is rows cards q =
       entry-of_pair ss q are'
       ∙ ap (option_and_then (λ r. entry_at r q.1)) (rows q.0)
       ∙ each (nat_eq part q.0) refl
-      ∙ ap (λ b. cond b (Some y) (option_and_then (λ r. entry_at r q.1) (entry_at rs q.0))) (sym (pair_tied (part, card) q))
+      ∙ ap (λ b. cond b (Some y) (option_and_then (λ r. entry_at r q.1) (entry_at rs q.0)))
+      (sym (pair_tied (part, card) q))
       ∙ ap (λ o. cond (eq_by_cmp pair_cmp (part, card) q) (Some y) o) (sym (entry-of_pair rs q are))
     where
-      each : (b : Bool) → nat_eq part q.0 ≡ b → option_and_then (λ r. entry_at r q.1) (cond b (Some new) (entry_at rs q.0)) ≡ cond (b && nat_eq card q.1) (Some y) (option_and_then (λ r. entry_at r q.1) (entry_at rs q.0))
-      each true e = cards q.1 ∙ ap (λ o. cond (nat_eq card q.1) (Some y) (option_and_then (λ r. entry_at r q.1) o)) (sym is ∙ ap (entry_at rs) (by_test part q.0 e))
+      each : (b : Bool) → nat_eq part q.0 ≡ b
+          → option_and_then (λ r. entry_at r q.1) (cond b (Some new) (entry_at rs q.0))
+          ≡ cond (b && nat_eq card q.1) (Some y) (option_and_then (λ r. entry_at r q.1) (entry_at rs q.0))
+      each true e = cards q.1 ∙ ap (λ o. cond (nat_eq card q.1) (Some y) (option_and_then (λ r. entry_at r q.1) o))
+          (sym is ∙ ap (entry_at rs) (by_test part q.0 e))
       each false e = refl
 
   -- what stands first at an id, as maps ask for it
@@ -302,25 +376,29 @@ module _ {Y : Type 0} where
   entry-tied es id = ap (λ (p : ℕ → Bool). lookup p es) (λ i x. unsigned_tied id x i)
 
 -- an entry that is there has a value or none
-pub entry-stays : {X : Type 0} (es : List (ℕ × Option X)) (id : ℕ) → is_some (entry_at es id) ≡ true → (q : ℕ) → entry_at es q ≡ cond (nat_eq id q) (Some (option_and_then (λ v. v) (entry_at es id))) (entry_at es q)
+pub entry-stays : {X : Type 0} (es : List (ℕ × Option X)) (id : ℕ) → is_some (entry_at es id) ≡ true → (q : ℕ)
+    → entry_at es q ≡ cond (nat_eq id q) (Some (option_and_then (λ v. v) (entry_at es id))) (entry_at es q)
 entry-stays {X} es id there q = each (nat_eq id q) refl
   where
     again : (o : Option (Option X)) → is_some o ≡ true → o ≡ Some (option_and_then (λ v. v) o)
     again None h = absurd (false≢true h)
     again (Some v) h = refl
 
-    each : (b : Bool) → nat_eq id q ≡ b → entry_at es q ≡ cond b (Some (option_and_then (λ v. v) (entry_at es id))) (entry_at es q)
+    each : (b : Bool) → nat_eq id q ≡ b
+        → entry_at es q ≡ cond b (Some (option_and_then (λ v. v) (entry_at es id))) (entry_at es q)
     each true e = ap (entry_at es) (sym (by_test id q e)) ∙ again (entry_at es id) there
     each false e = refl
 
 -- what is found in something is found in what is there
-pub outer_some : {A B : Type 0} (f : A → Option B) (o : Option A) → is_some (option_and_then f o) ≡ true → is_some o ≡ true
+pub outer_some : {A B : Type 0} (f : A → Option B) (o : Option A) → is_some (option_and_then f o) ≡ true
+    → is_some o ≡ true
 outer_some f None h = absurd (false≢true h)
 outer_some f (Some a) h = refl
 
 -- ---- the row of a part, by the number that the pages have
 
-module _ {Y : Type 0} (pages : List (List ℕ)) (rs : List (ℕ × List (ℕ × Y))) (part n : ℕ) (are : AreNumbered pages rs) (is : n ≡ number_at pages part) (there : is_some (entry_at rs part) ≡ true) where
+module _ {Y : Type 0} (pages : List (List ℕ)) (rs : List (ℕ × List (ℕ × Y))) (part n : ℕ) (are : AreNumbered pages rs)
+    (is : n ≡ number_at pages part) (there : is_some (entry_at rs part) ≡ true) where
   row-open : contains (keys_of {R = nat_cmp} rs) part ≡ true
   row-open = contains-keys_of ids rs part ∙ ap (λ o. is_some o) (entry-tied rs part) ∙ there
 
@@ -349,9 +427,13 @@ module _ {Y : Type 0} (pages : List (List ℕ)) (rs : List (ℕ × List (ℕ × 
       rows-kept = (still_numbered part (n - 1) e rs row-stands pages new are, subst AreApart (sym written.1) apart)
 
       -- a value is written at a card of that row
-      pub pair-written : (card : ℕ) (y : Y) → ((c : ℕ) → entry_at new c ≡ cond (nat_eq card c) (Some y) (entry_at e.1 c))
-          → (q : Pair) → lookup (eq_by_cmp pair_cmp q) (entries_of (set rs (n - 1) (e.0, new))) ≡ cond (eq_by_cmp pair_cmp (part, card) q) (Some y) (lookup (eq_by_cmp pair_cmp q) (entries_of rs))
+      pub pair-written : (card : ℕ) (y : Y)
+          → ((c : ℕ) → entry_at new c ≡ cond (nat_eq card c) (Some y) (entry_at e.1 c))
+          → (q : Pair) → lookup (eq_by_cmp pair_cmp q) (entries_of (set rs (n - 1) (e.0, new)))
+          ≡ cond (eq_by_cmp pair_cmp (part, card) q) (Some y) (lookup (eq_by_cmp pair_cmp q) (entries_of rs))
       pair-written card y cards =
           let ss = set rs (n - 1) (e.0, new) in
-          let rows : (p : ℕ) → entry_at ss p ≡ cond (nat_eq part p) (Some new) (entry_at rs p) = λ p. sym (entry-tied ss p) ∙ written.0 p ∙ (λ i. cond (unsigned_tied part p i) (Some new) (entry-tied rs p i)) in
+          let rows : (p : ℕ) → entry_at ss p
+          ≡ cond (nat_eq part p) (Some new) (entry_at rs p) = λ p. sym (entry-tied ss p) ∙ written.0 p
+          ∙ (λ i. cond (unsigned_tied part p i) (Some new) (entry-tied rs p i)) in
           entries-written rs ss part card e.1 new y apart rows-kept.1 row-found rows cards

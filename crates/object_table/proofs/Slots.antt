@@ -1,5 +1,7 @@
 -- Slots of ids, by the entries of a map.
-use Rattle.std.proofs.Common.{◌≡◌, ◌≢◌, ◌==◌, ℕ, zero, suc, ◌+◌, ◌-◌, ◌<◌, ◌≤◌, if◌then◌else◌, Bool, true, false, cond, List, [], ◌∷◌, ◌++◌, length, set, get_or, slice_get, map, refl, sym, ap, subst, ◌∙◌, arith, Option, Some, None, is_some, option_map, option_and_then, nat_eq}
+use Rattle.std.proofs.Common.{◌≡◌, ◌≢◌, ◌==◌, ℕ, zero, suc, ◌+◌, ◌-◌, ◌<◌, ◌≤◌, if◌then◌else◌, Bool, true, false, cond}
+use Rattle.std.proofs.Common.{List, [], ◌∷◌, ◌++◌, length, set, get_or, slice_get, map, refl, sym, ap, subst, ◌∙◌}
+use Rattle.std.proofs.Common.{arith, Option, Some, None, is_some, option_map, option_and_then, nat_eq}
 use Rattle.std.specs.Option.{option_or}
 use Rattle.std.specs.Map.{lookup}
 use Rattle.std.specs.Ordering.{nat_cmp, eq_by_cmp}
@@ -38,23 +40,28 @@ module _ {X : Type 0} (f : Slot → Option X) where
   abbrev read : List (ℕ × Slot) → List (ℕ × Option X)
   read es = map (λ e. (e.0, f e.1)) es
 
-  mapped : (b : Bool) (s : Slot) (o : Option Slot) → option_map f (cond b (Some s) o) ≡ cond b (Some (f s)) (option_map f o)
+  mapped : (b : Bool) (s : Slot) (o : Option Slot)
+      → option_map f (cond b (Some s) o) ≡ cond b (Some (f s)) (option_map f o)
   mapped true s o = refl
   mapped false s o = refl
 
   lookup-read : (es : List (ℕ × Slot)) (p : ℕ → Bool) → lookup p (read es) ≡ option_map f (lookup p es)
   lookup-read [] p = refl
-  lookup-read (e ∷ es) p = ap (λ o. cond (p e.0) (Some (f e.1)) o) (lookup-read es p) ∙ sym (mapped (p e.0) e.1 (lookup p es))
+  lookup-read (e ∷ es) p =
+      ap (λ o. cond (p e.0) (Some (f e.1)) o) (lookup-read es p) ∙ sym (mapped (p e.0) e.1 (lookup p es))
 
   joined : (o : Option Slot) → option_and_then (λ x. x) (option_map f o) ≡ option_and_then f o
   joined None = refl
   joined (Some s) = refl
 
   -- what is read in the slot of an id
-  pub get-read : (es : List (ℕ × Slot)) (q : ℕ) → get (map_of {R = nat_cmp} (read es)) q ≡ option_and_then f (lookup (at_id q) es)
-  get-read es q = get-map_of ids (read es) q ∙ ap (option_and_then (λ x. x)) (lookup-read es (at_id q)) ∙ joined (lookup (at_id q) es)
+  pub get-read : (es : List (ℕ × Slot)) (q : ℕ)
+      → get (map_of {R = nat_cmp} (read es)) q ≡ option_and_then f (lookup (at_id q) es)
+  get-read es q = get-map_of ids (read es) q ∙ ap (option_and_then (λ x. x)) (lookup-read es (at_id q))
+      ∙ joined (lookup (at_id q) es)
 
-  module _ (es fs : List (ℕ × Slot)) (k : ℕ) (s : Slot) (updates : (q : ℕ) → lookup (at_id q) fs ≡ cond (at_id k q) (Some s) (lookup (at_id q) es)) where
+  module _ (es fs : List (ℕ × Slot)) (k : ℕ) (s : Slot)
+      (updates : (q : ℕ) → lookup (at_id q) fs ≡ cond (at_id k q) (Some s) (lookup (at_id q) es)) where
     updates-read : (q : ℕ) → lookup (at_id q) (read fs) ≡ cond (at_id k q) (Some (f s)) (lookup (at_id q) (read es))
     updates-read q =
         lookup-read fs (at_id q)
@@ -68,17 +75,21 @@ module _ {X : Type 0} (f : Slot → Option X) where
 
     -- and has what it had
     pub read-same : f s ≡ option_and_then f (lookup (at_id k) es) → map_of {R = nat_cmp} (read fs) ≡ map_of (read es)
-    read-same e = map_of-same ids (read es) (read fs) k (f s) updates-read (e ∙ sym (ap (option_and_then (λ x. x)) (lookup-read es (at_id k)) ∙ joined (lookup (at_id k) es)))
+    read-same e = map_of-same ids (read es) (read fs) k (f s) updates-read
+        (e ∙ sym (ap (option_and_then (λ x. x)) (lookup-read es (at_id k)) ∙ joined (lookup (at_id k) es)))
 
 -- ---- exchanges in the slot of an id
 
 -- a value is written at an id; the ids stay
 abbrev pub IsWritten : {V : Type 0} → List (ℕ × V) → List (ℕ × V) → ℕ → V → Type 0
-IsWritten es fs k s = ((q : ℕ) → lookup (at_id q) fs ≡ cond (at_id k q) (Some s) (lookup (at_id q) es)) × (map (λ e. e.0) fs ≡ map (λ e. e.0) es)
+IsWritten es fs k s = ((q : ℕ) → lookup (at_id q) fs ≡ cond (at_id k q) (Some s) (lookup (at_id q) es))
+    × (map (λ e. e.0) fs ≡ map (λ e. e.0) es)
 
 module _ (es fs : List (ℕ × Slot)) (k : ℕ) (now : Slot) where
   -- an object is put there
-  pub object_put : (o : Option Object) → Some now ≡ lookup (at_id k) es → IsWritten es fs k (record { object = o; parts = now.parts }) → slots_of fs ≡ record (slots_of es) { objects = put_option (objects_in es) k o }
+  pub object_put : (o : Option Object) → Some now ≡ lookup (at_id k) es
+      → IsWritten es fs k (record { object = o; parts = now.parts })
+      → slots_of fs ≡ record (slots_of es) { objects = put_option (objects_in es) k o }
   object_put o there written =
       let s : Slot = record { object = o; parts = now.parts } in
       let objects = read-updated (λ t. t.object) es fs k s written.0 in
@@ -86,7 +97,9 @@ module _ (es fs : List (ℕ × Slot)) (k : ℕ) (now : Slot) where
       λ i. record { objects = objects i; parts = parts i; ids = from_list (written.1 i) }
 
   -- a list of parts is put there
-  pub parts_put : (l : Option (List ℕ)) → Some now ≡ lookup (at_id k) es → IsWritten es fs k (record { object = now.object; parts = l }) → slots_of fs ≡ record (slots_of es) { parts = put_option (parts_in es) k l }
+  pub parts_put : (l : Option (List ℕ)) → Some now ≡ lookup (at_id k) es
+      → IsWritten es fs k (record { object = now.object; parts = l })
+      → slots_of fs ≡ record (slots_of es) { parts = put_option (parts_in es) k l }
   parts_put l there written =
       let s : Slot = record { object = now.object; parts = l } in
       let objects = read-same (λ t. t.object) es fs k s written.0 (ap (option_and_then (λ t. t.object)) there) in
@@ -125,7 +138,8 @@ module _ {V : Type 0} where
   lookup-number [] q = refl
   lookup-number (e ∷ es) q = by (at_id q e.0) (lookup-number es q ∙ other_slot e es (slot_number es q))
     where
-      by : (b : Bool) → lookup (at_id q) es ≡ slot_at (e ∷ es) (following (slot_number es q)) → cond b (Some e.1) (lookup (at_id q) es) ≡ slot_at (e ∷ es) (cond b 1 (following (slot_number es q)))
+      by : (b : Bool) → lookup (at_id q) es ≡ slot_at (e ∷ es) (following (slot_number es q))
+          → cond b (Some e.1) (lookup (at_id q) es) ≡ slot_at (e ∷ es) (cond b 1 (following (slot_number es q)))
       by true h = refl
       by false h = h
 
@@ -133,7 +147,8 @@ module _ {V : Type 0} where
   number-small [] q = omega arith
   number-small (e ∷ es) q = by (at_id q e.0) (following_small (slot_number es q) (length es) (number-small es q))
     where
-      by : (b : Bool) → following (slot_number es q) ≤ suc (length es) → cond b 1 (following (slot_number es q)) ≤ suc (length es)
+      by : (b : Bool) → following (slot_number es q) ≤ suc (length es)
+          → cond b 1 (following (slot_number es q)) ≤ suc (length es)
       by true h = omega arith
       by false h = h
 
@@ -142,7 +157,8 @@ module _ {V : Type 0} where
   some_slot es (suc n) h = omega arith
 
   -- what stands at the number that the pages have
-  pub slot-numbered : (pages : List (List ℕ)) (es : List (ℕ × V)) (q n : ℕ) → AreNumbered pages es → n ≡ number_at pages q → slot_at es n ≡ lookup (at_id q) es
+  pub slot-numbered : (pages : List (List ℕ)) (es : List (ℕ × V)) (q n : ℕ) → AreNumbered pages es
+      → n ≡ number_at pages q → slot_at es n ≡ lookup (at_id q) es
   slot-numbered pages es q n are is = ap (slot_at es) (is ∙ are q) ∙ sym (lookup-number es q)
 
   -- an id that is open has a number, and one that isn't has none
@@ -158,7 +174,8 @@ module _ {V : Type 0} where
 
   -- an id that has a number is open
   pub numbered_there : (es : List (ℕ × V)) (q : ℕ) → 1 ≤ slot_number es q → is_some (lookup (at_id q) es) ≡ true
-  numbered_there es q h = ap (λ o. is_some o) (lookup-number es q) ∙ slot_within es (slot_number es q) h (number-small es q)
+  numbered_there es q h =
+      ap (λ o. is_some o) (lookup-number es q) ∙ slot_within es (slot_number es q) h (number-small es q)
 
   pub open_numbered : (es : List (ℕ × V)) (q : ℕ) → 1 ≤ slot_number es q → contains (keys_of {R = nat_cmp} es) q ≡ true
   open_numbered es q h = contains-keys_of ids es q ∙ numbered_there es q h
@@ -168,25 +185,33 @@ module _ {V : Type 0} where
 
   -- ---- a slot is added
 
-  number-added : (k : ℕ) (s : V) (es : List (ℕ × V)) (q : ℕ) → slot_number (es ++ (k, s) ∷ []) q ≡ joined_number (slot_number es q) (cond (at_id q k) (suc (length es)) 0)
+  number-added : (k : ℕ) (s : V) (es : List (ℕ × V)) (q : ℕ)
+      → slot_number (es ++ (k, s) ∷ []) q ≡ joined_number (slot_number es q) (cond (at_id q k) (suc (length es)) 0)
   number-added k s [] q = by (at_id q k)
     where
       by : (b : Bool) → cond b 1 0 ≡ cond b (suc 0) 0
       by true = refl
       by false = refl
-  number-added k s (e ∷ es) q = by (at_id q e.0) (ap following (number-added k s es q) ∙ later (slot_number es q) (at_id q k))
+  number-added k s (e ∷ es) q =
+      by (at_id q e.0) (ap following (number-added k s es q) ∙ later (slot_number es q) (at_id q k))
     where
-      later : (n : ℕ) (b : Bool) → following (joined_number n (cond b (suc (length es)) 0)) ≡ joined_number (following n) (cond b (suc (suc (length es))) 0)
+      later : (n : ℕ) (b : Bool) → following (joined_number n (cond b (suc (length es)) 0))
+          ≡ joined_number (following n) (cond b (suc (suc (length es))) 0)
       later zero true = refl
       later zero false = refl
       later (suc n) b = refl
 
-      by : (b : Bool) → following (slot_number (es ++ (k, s) ∷ []) q) ≡ joined_number (following (slot_number es q)) (cond (at_id q k) (suc (suc (length es))) 0) → cond b 1 (following (slot_number (es ++ (k, s) ∷ []) q)) ≡ joined_number (cond b 1 (following (slot_number es q))) (cond (at_id q k) (suc (suc (length es))) 0)
+      by : (b : Bool) → following (slot_number (es ++ (k, s) ∷ []) q)
+          ≡ joined_number (following (slot_number es q)) (cond (at_id q k) (suc (suc (length es))) 0)
+          → cond b 1 (following (slot_number (es ++ (k, s) ∷ []) q))
+          ≡ joined_number (cond b 1 (following (slot_number es q))) (cond (at_id q k) (suc (suc (length es))) 0)
       by true h = refl
       by false h = h
 
   -- the pages have the numbers again, once the one of the added slot is set
-  pub numbered-added : (pages news : List (List ℕ)) (es : List (ℕ × V)) (k n : ℕ) (s : V) → AreNumbered pages es → number_at pages k ≡ 0 → n ≡ length es + 1 → ((q : ℕ) → number_at news q ≡ (if q == k then n else number_at pages q)) → AreNumbered news (es ++ (k, s) ∷ [])
+  pub numbered-added : (pages news : List (List ℕ)) (es : List (ℕ × V)) (k n : ℕ) (s : V) → AreNumbered pages es
+      → number_at pages k ≡ 0 → n ≡ length es + 1
+      → ((q : ℕ) → number_at news q ≡ (if q == k then n else number_at pages q)) → AreNumbered news (es ++ (k, s) ∷ [])
   numbered-added pages news es k n s are none is written q =
       written q
       ∙ by (q == k) refl
@@ -196,25 +221,32 @@ module _ {V : Type 0} where
       same_key : (q == k) ≡ true → q ≡ k
       same_key e = grind (arith, nat_tests)
 
-      by : (b : Bool) → (q == k) ≡ b → cond b n (number_at pages q) ≡ joined_number (slot_number es q) (cond b (suc (length es)) 0)
+      by : (b : Bool) → (q == k) ≡ b → cond b n (number_at pages q)
+          ≡ joined_number (slot_number es q) (cond b (suc (length es)) 0)
       by true e =
           let last : n ≡ suc (length es) = omega arith in
-          last ∙ sym (ap (λ m. joined_number m (suc (length es))) (sym (are q) ∙ ap (number_at pages) (same_key e) ∙ none))
+          last ∙ sym (ap (λ m. joined_number m (suc (length es)))
+          (sym (are q) ∙ ap (number_at pages) (same_key e) ∙ none))
       by false e = are q ∙ kept (slot_number es q)
         where
           kept : (m : ℕ) → m ≡ joined_number m 0
           kept zero = refl
           kept (suc m) = refl
 
-  appended : (k : ℕ) (s : V) (q : ℕ) (es : List (ℕ × V)) → lookup (at_id q) (es ++ (k, s) ∷ []) ≡ option_or (lookup (at_id q) es) (cond (at_id q k) (Some s) None)
+  appended : (k : ℕ) (s : V) (q : ℕ) (es : List (ℕ × V))
+      → lookup (at_id q) (es ++ (k, s) ∷ []) ≡ option_or (lookup (at_id q) es) (cond (at_id q k) (Some s) None)
   appended k s q [] = refl
   appended k s q (e ∷ es) = each (at_id q e.0) (appended k s q es)
     where
-      each : (b : Bool) → lookup (at_id q) (es ++ (k, s) ∷ []) ≡ option_or (lookup (at_id q) es) (cond (at_id q k) (Some s) None) → cond b (Some e.1) (lookup (at_id q) (es ++ (k, s) ∷ [])) ≡ option_or (cond b (Some e.1) (lookup (at_id q) es)) (cond (at_id q k) (Some s) None)
+      each : (b : Bool) → lookup (at_id q) (es ++ (k, s) ∷ [])
+          ≡ option_or (lookup (at_id q) es) (cond (at_id q k) (Some s) None)
+          → cond b (Some e.1) (lookup (at_id q) (es ++ (k, s) ∷ []))
+          ≡ option_or (cond b (Some e.1) (lookup (at_id q) es)) (cond (at_id q k) (Some s) None)
       each true h = refl
       each false h = h
 
-  pub added-updates : (es : List (ℕ × V)) (k : ℕ) (s : V) → lookup (at_id k) es ≡ None → (q : ℕ) → lookup (at_id q) (es ++ (k, s) ∷ []) ≡ cond (at_id k q) (Some s) (lookup (at_id q) es)
+  pub added-updates : (es : List (ℕ × V)) (k : ℕ) (s : V) → lookup (at_id k) es ≡ None → (q : ℕ)
+      → lookup (at_id q) (es ++ (k, s) ∷ []) ≡ cond (at_id k q) (Some s) (lookup (at_id q) es)
   added-updates es k s none q = appended k s q es ∙ by (at_id q k) refl
     where
       turned : at_id k q ≡ at_id q k
@@ -224,20 +256,24 @@ module _ {V : Type 0} where
       kept None = refl
       kept (Some x) = refl
 
-      by : (b : Bool) → at_id q k ≡ b → option_or (lookup (at_id q) es) (cond b (Some s) None) ≡ cond (at_id k q) (Some s) (lookup (at_id q) es)
+      by : (b : Bool) → at_id q k ≡ b
+          → option_or (lookup (at_id q) es) (cond b (Some s) None) ≡ cond (at_id k q) (Some s) (lookup (at_id q) es)
       by true e =
           let same : q ≡ k = nat_cmp-IsAntisymmetric q k ((Equal-is (nat_cmp q k)).0 e) in
-          ap (λ o. option_or o (Some s)) (ap (λ j. lookup (at_id j) es) same ∙ none) ∙ sym (ap (λ b. cond b (Some s) (lookup (at_id q) es)) (turned ∙ e))
+          ap (λ o. option_or o (Some s)) (ap (λ j. lookup (at_id j) es) same ∙ none)
+          ∙ sym (ap (λ b. cond b (Some s) (lookup (at_id q) es)) (turned ∙ e))
       by false e = kept (lookup (at_id q) es) ∙ sym (ap (λ b. cond b (Some s) (lookup (at_id q) es)) (turned ∙ e))
 
   -- ---- a slot is written
 
-  keys-written : (d : ℕ × V) (s : V) (es : List (ℕ × V)) (p : ℕ) → map (λ e. e.0) (set es p ((get_or es p d).0, s)) ≡ map (λ e. e.0) es
+  keys-written : (d : ℕ × V) (s : V) (es : List (ℕ × V)) (p : ℕ)
+      → map (λ e. e.0) (set es p ((get_or es p d).0, s)) ≡ map (λ e. e.0) es
   keys-written d s [] p = refl
   keys-written d s (e ∷ es) zero = refl
   keys-written d s (e ∷ es) (suc p) = ap (λ ks. e.0 ∷ ks) (keys-written d s es p)
 
-  numbers-kept : (d : ℕ × V) (s : V) (es : List (ℕ × V)) (p q : ℕ) → slot_number (set es p ((get_or es p d).0, s)) q ≡ slot_number es q
+  numbers-kept : (d : ℕ × V) (s : V) (es : List (ℕ × V)) (p q : ℕ)
+      → slot_number (set es p ((get_or es p d).0, s)) q ≡ slot_number es q
   numbers-kept d s [] p q = refl
   numbers-kept d s (e ∷ es) zero q = refl
   numbers-kept d s (e ∷ es) (suc p) q = ap (λ n. cond (at_id q e.0) 1 (following n)) (numbers-kept d s es p q)
@@ -247,7 +283,8 @@ module _ {V : Type 0} where
     over true x o = refl
     over false x o = refl
 
-    apart : (x : ℕ) (b c : Bool) → at_id q x ≡ b → at_id k q ≡ c → at_id k x ≡ false → (y : V) (o : Option V) → cond b (Some y) (cond c (Some s) o) ≡ cond c (Some s) (cond b (Some y) o)
+    apart : (x : ℕ) (b c : Bool) → at_id q x ≡ b → at_id k q ≡ c → at_id k x ≡ false → (y : V) (o : Option V)
+        → cond b (Some y) (cond c (Some s) o) ≡ cond c (Some s) (cond b (Some y) o)
     apart x true true e f differs y o =
         let same : k ≡ q = nat_cmp-IsAntisymmetric k q ((Equal-is (nat_cmp k q)).0 f) in
         absurd (false≢true (sym differs ∙ ap (λ j. at_id j x) same ∙ e))
@@ -263,21 +300,28 @@ module _ {V : Type 0} where
     not_next zero p e = absurd (omega arith)
     not_next (suc m) p e = omega arith
 
-    updates-written : (es : List (ℕ × V)) (p : ℕ) → slot_number es k ≡ suc p → lookup (at_id q) (set es p ((get_or es p d).0, s)) ≡ cond (at_id k q) (Some s) (lookup (at_id q) es)
+    updates-written : (es : List (ℕ × V)) (p : ℕ) → slot_number es k ≡ suc p
+        → lookup (at_id q) (set es p ((get_or es p d).0, s)) ≡ cond (at_id k q) (Some s) (lookup (at_id q) es)
     updates-written [] p n = absurd (omega arith)
     updates-written (e ∷ es) zero n = by (at_id k e.0) refl n
       where
-        by : (b : Bool) → at_id k e.0 ≡ b → cond b 1 (following (slot_number es k)) ≡ 1 → cond (at_id q e.0) (Some s) (lookup (at_id q) es) ≡ cond (at_id k q) (Some s) (cond (at_id q e.0) (Some e.1) (lookup (at_id q) es))
+        by : (b : Bool) → at_id k e.0 ≡ b → cond b 1 (following (slot_number es k)) ≡ 1
+            → cond (at_id q e.0) (Some s) (lookup (at_id q) es)
+            ≡ cond (at_id k q) (Some s) (cond (at_id q e.0) (Some e.1) (lookup (at_id q) es))
         by true f m =
             let same : k ≡ e.0 = nat_cmp-IsAntisymmetric k e.0 ((Equal-is (nat_cmp k e.0)).0 f) in
-            let turned : at_id q e.0 ≡ at_id k q = ap (λ j. at_id q j) (sym same) ∙ unsigned_tied q k ∙ nat_eq_sym q k ∙ sym (unsigned_tied k q) in
-            over (at_id q e.0) e.1 (lookup (at_id q) es) ∙ ap (λ b. cond b (Some s) (cond (at_id q e.0) (Some e.1) (lookup (at_id q) es))) turned
+            let turned : at_id q e.0 ≡ at_id k q =
+            ap (λ j. at_id q j) (sym same) ∙ unsigned_tied q k ∙ nat_eq_sym q k ∙ sym (unsigned_tied k q) in
+            over (at_id q e.0) e.1 (lookup (at_id q) es)
+            ∙ ap (λ b. cond b (Some s) (cond (at_id q e.0) (Some e.1) (lookup (at_id q) es))) turned
         by false f m = absurd (not_first (slot_number es k) m)
     updates-written (e ∷ es) (suc p) n = by (at_id k e.0) refl n (updates-written es p)
       where
         by : (b : Bool) → at_id k e.0 ≡ b → cond b 1 (following (slot_number es k)) ≡ suc (suc p)
-            → (slot_number es k ≡ suc p → lookup (at_id q) (set es p ((get_or es p d).0, s)) ≡ cond (at_id k q) (Some s) (lookup (at_id q) es))
-            → cond (at_id q e.0) (Some e.1) (lookup (at_id q) (set es p ((get_or es p d).0, s))) ≡ cond (at_id k q) (Some s) (cond (at_id q e.0) (Some e.1) (lookup (at_id q) es))
+            → (slot_number es k ≡ suc p → lookup (at_id q) (set es p ((get_or es p d).0, s))
+            ≡ cond (at_id k q) (Some s) (lookup (at_id q) es))
+            → cond (at_id q e.0) (Some e.1) (lookup (at_id q) (set es p ((get_or es p d).0, s)))
+            ≡ cond (at_id k q) (Some s) (cond (at_id q e.0) (Some e.1) (lookup (at_id q) es))
         by true f m later = absurd (omega arith)
         by false f m later =
             ap (λ o. cond (at_id q e.0) (Some e.1) o) (later (not_next (slot_number es k) p m))
@@ -297,17 +341,21 @@ module _ {V : Type 0} where
     pub slot_found : Some e.1 ≡ lookup (at_id k) es
     slot_found =
         let within : p < length es = let few = number-small es k in let n = at.number in omega arith in
-        sym (lookup-number es k ∙ ap (slot_at es) at.number ∙ ap (λ o. option_map (λ x. x.1) o) (slice_some es p within ∙ ap (λ x. Some x) (sym at.is)))
+        sym (lookup-number es k ∙ ap (slot_at es) at.number
+        ∙ ap (λ o. option_map (λ x. x.1) o) (slice_some es p within ∙ ap (λ x. Some x) (sym at.is)))
 
     pub slot_written : (s : V) → IsWritten es (set es p (e.0, s)) k s
-    slot_written s = subst (λ x. IsWritten es (set es p (x.0, s)) k s) (sym at.is) ((λ q. updates-written k q e s es p at.number), keys-written e s es p)
+    slot_written s = subst (λ x. IsWritten es (set es p (x.0, s)) k s) (sym at.is)
+        ((λ q. updates-written k q e s es p at.number), keys-written e s es p)
 
     pub still_numbered : (pages : List (List ℕ)) (s : V) → AreNumbered pages es → AreNumbered pages (set es p (e.0, s))
-    still_numbered pages s are = subst (λ x. AreNumbered pages (set es p (x.0, s))) (sym at.is) (λ q. are q ∙ sym (numbers-kept e s es p q))
+    still_numbered pages s are =
+        subst (λ x. AreNumbered pages (set es p (x.0, s))) (sym at.is) (λ q. are q ∙ sym (numbers-kept e s es p q))
 
   -- ---- the place of an open id, by the number that the pages have
 
-  module _ (pages : List (List ℕ)) (es : List (ℕ × V)) (k n : ℕ) (are : AreNumbered pages es) (is : n ≡ number_at pages k) (there : contains (keys_of {R = nat_cmp} es) k ≡ true) where
+  module _ (pages : List (List ℕ)) (es : List (ℕ × V)) (k n : ℕ) (are : AreNumbered pages es)
+      (is : n ≡ number_at pages k) (there : contains (keys_of {R = nat_cmp} es) k ≡ true) where
     counted : n ≡ slot_number es k
     counted = is ∙ are k
 
@@ -323,8 +371,10 @@ module _ {V : Type 0} where
         record { number = next; is = read }
 
 -- an id that has an object is open
-pub object_open : (es : List (ℕ × Slot)) (k : ℕ) → is_some (get (objects_in es) k) ≡ true → contains (keys_of {R = nat_cmp} es) k ≡ true
-object_open es k h = contains-keys_of ids es k ∙ by (lookup (at_id k) es) (sym (ap (λ o. is_some o) (get-read (λ s. s.object) es k)) ∙ h)
+pub object_open : (es : List (ℕ × Slot)) (k : ℕ) → is_some (get (objects_in es) k) ≡ true
+    → contains (keys_of {R = nat_cmp} es) k ≡ true
+object_open es k h = contains-keys_of ids es k
+    ∙ by (lookup (at_id k) es) (sym (ap (λ o. is_some o) (get-read (λ s. s.object) es k)) ∙ h)
   where
     by : (o : Option Slot) → is_some (option_and_then (λ s. s.object) o) ≡ true → is_some o ≡ true
     by None e = absurd (false≢true e)

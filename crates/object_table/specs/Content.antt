@@ -6,7 +6,8 @@ use Rattle.std.specs.Coded.{Coded, code_by, coded×, coded_ℕ, coded_bool, code
 use Rattle.object_table.specs.Pairs.{PairMap, coded_pair}
 use Rattle.object_table.specs.declared.object.Object.{Object}
 use Rattle.object_table.specs.declared.object.Kind.{Kind}
-use Rattle.object_table.specs.declared.object.Kind.TheVariants.{Stack, Background, Card, CardButton, BackgroundButton, CardField, BackgroundField}
+use Rattle.object_table.specs.declared.object.Kind.TheVariants.{Stack, Background, Card, CardButton, BackgroundButton}
+use Rattle.object_table.specs.declared.object.Kind.TheVariants.{CardField, BackgroundField}
 
 -- The objects by id, where 0 is the stack itself; the two orders; the parts of each layer in theirs; a
 -- field's text and a background button's hilite for each card, 0 standing for the shared one; the next id.
@@ -54,13 +55,30 @@ kind_back (CardField v l) = refl
 kind_back (BackgroundField v l s) = refl
 
 abbrev pub coded_kind : Coded Kind
-coded_kind = code_by (ℕ × (ℕ × Flags)) (coded× coded_ℕ (coded× coded_ℕ coded_flags)) numbered_kind (λ p. kind_numbered p.0 p.1.0 p.1.1.0 p.1.1.1.0 p.1.1.1.1) kind_back
+coded_kind = code_by (ℕ × (ℕ × Flags)) (coded× coded_ℕ (coded× coded_ℕ coded_flags)) numbered_kind
+    (λ p. kind_numbered p.0 p.1.0 p.1.1.0 p.1.1.1.0 p.1.1.1.1) kind_back
 
 abbrev pub coded_text : Coded (List ℕ)
 coded_text = coded_list coded_ℕ
 
 abbrev pub coded_object : Coded Object
-coded_object = code_by (List ℕ × (List ℕ × Kind)) (coded× coded_text (coded× coded_text coded_kind)) (λ o. (o.name, (o.script, o.kind))) (λ p. record { name = p.0; script = p.1.0; kind = p.1.1 }) (λ _. refl)
+coded_object = code_by (List ℕ × (List ℕ × Kind)) (coded× coded_text (coded× coded_text coded_kind))
+    (λ o. (o.name, (o.script, o.kind))) (λ p. record { name = p.0; script = p.1.0; kind = p.1.1 }) (λ _. refl)
 
 abbrev pub coded_content : Coded Content
-coded_content = code_by (FinMap nat_cmp Object × (List ℕ × (List ℕ × (FinMap nat_cmp (List ℕ) × (PairMap (List ℕ) × (PairMap Bool × ℕ)))))) (coded× (map_code coded_ℕ coded_object) (coded× (coded_list coded_ℕ) (coded× (coded_list coded_ℕ) (coded× (map_code coded_ℕ (coded_list coded_ℕ)) (coded× (map_code coded_pair coded_text) (coded× (map_code coded_pair coded_bool) coded_ℕ)))))) (λ c. (c.objects, (c.backgrounds, (c.cards, (c.parts, (c.texts, (c.hilites, c.next))))))) (λ p. record { objects = p.0; backgrounds = p.1.0; cards = p.1.1.0; parts = p.1.1.1.0; texts = p.1.1.1.1.0; hilites = p.1.1.1.1.1.0; next = p.1.1.1.1.1.1 }) (λ _. refl)
+coded_content = code_by (FinMap nat_cmp Object
+    × (List ℕ × (List ℕ × (FinMap nat_cmp (List ℕ) × (PairMap (List ℕ) × (PairMap Bool × ℕ))))))
+    (coded× (map_code coded_ℕ coded_object)
+    (coded× (coded_list coded_ℕ) (coded× (coded_list coded_ℕ)
+    (coded× (map_code coded_ℕ (coded_list coded_ℕ))
+    (coded× (map_code coded_pair coded_text) (coded× (map_code coded_pair coded_bool) coded_ℕ))))))
+    (λ c. (c.objects, (c.backgrounds, (c.cards, (c.parts, (c.texts, (c.hilites, c.next)))))))
+    (λ p. record {
+      objects = p.0;
+      backgrounds = p.1.0;
+      cards = p.1.1.0;
+      parts = p.1.1.1.0;
+      texts = p.1.1.1.1.0;
+      hilites = p.1.1.1.1.1.0;
+      next = p.1.1.1.1.1.1;
+    }) (λ _. refl)

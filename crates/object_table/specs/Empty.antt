@@ -12,7 +12,8 @@ empty_object kind = record { name = []; script = []; kind = kind }
 
 abbrev pub empty_stack : Content
 empty_stack = record {
-  objects = from_entries ((0, empty_object Stack) ∷ (1, empty_object (Background false)) ∷ (2, empty_object (Card 1 false)) ∷ []);
+  objects = from_entries ((0, empty_object Stack) ∷ (1, empty_object (Background false))
+      ∷ (2, empty_object (Card 1 false)) ∷ []);
   backgrounds = 1 ∷ [];
   cards = 2 ∷ [];
   parts = from_entries ((1, []) ∷ (2, []) ∷ []);

@@ -1,7 +1,8 @@
 -- The flags of each kind of object: what they are, and the kind with another.
 use Rattle.std.specs.Prelude.{Bool, Option, Some, None}
 use Rattle.object_table.specs.declared.object.Kind.{Kind}
-use Rattle.object_table.specs.declared.object.Kind.TheVariants.{Background, Card, CardButton, BackgroundButton, CardField, BackgroundField}
+use Rattle.object_table.specs.declared.object.Kind.TheVariants.{Background, Card, CardButton, BackgroundButton}
+use Rattle.object_table.specs.declared.object.Kind.TheVariants.{CardField, BackgroundField}
 
 -- whether a button or a field is visible
 abbrev pub visible_of : Kind → Option Bool

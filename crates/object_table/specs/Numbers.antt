@@ -1,9 +1,11 @@
 -- The numbers of objects, counted from 1.
-use Rattle.std.specs.Prelude.{ℕ, ◌+◌, ◌-◌, List, ◌++◌, slice_get, filter, find, position, Option, None, option_map, option_and_then, ◌==◌, if◌then◌else◌}
+use Rattle.std.specs.Prelude.{ℕ, ◌+◌, ◌-◌, List, ◌++◌, slice_get, filter, find, position, Option, None, option_map}
+use Rattle.std.specs.Prelude.{option_and_then, ◌==◌, if◌then◌else◌}
 use Rattle.object_table.specs.Content.{Content}
 use Rattle.object_table.specs.Objects.{has_kind, is_of, object_at, parts_at, contains_id}
 use Rattle.object_table.specs.declared.object.Kind.{Kind}
-use Rattle.object_table.specs.declared.object.Kind.TheVariants.{Stack, Background, Card, CardButton, BackgroundButton, CardField, BackgroundField}
+use Rattle.object_table.specs.declared.object.Kind.TheVariants.{Stack, Background, Card, CardButton, BackgroundButton}
+use Rattle.object_table.specs.declared.object.Kind.TheVariants.{CardField, BackgroundField}
 use Rattle.ht_values.specs.declared.word.PartKind.{PartKind}
 use Rattle.ht_values.specs.declared.word.PartKind.TheVariants.{Button, Field}
 
@@ -25,7 +27,8 @@ layer_of s part = find (λ layer. contains_id part (parts_at s layer)) (s.backgr
 
 -- buttons and fields are numbered apart, within their layer
 abbrev pub part_number : Content → PartKind → ℕ → Option ℕ
-part_number s kind part = option_and_then (λ layer. number_in part (of_kind s kind (parts_at s layer))) (layer_of s part)
+part_number s kind part =
+    option_and_then (λ layer. number_in part (of_kind s kind (parts_at s layer))) (layer_of s part)
 
 -- a background or a card is numbered in its order
 abbrev pub number_by : Content → ℕ → Kind → Option ℕ

@@ -2,12 +2,16 @@
 use Rattle.std.specs.Prelude.{ℕ, Bool, Option, Some, option_map, option_and_then, is_some}
 use Rattle.ht_values.specs.Text.{IsText}
 use Rattle.object_table.specs.Content.{Content}
-use Rattle.object_table.specs.Flags.{visible_of, hilite_of, shared_hilite_of, lock_text_of, shared_text_of, cant_delete_of, with_visible, with_hilite, with_shared_hilite, with_lock_text, with_shared_text, with_cant_delete}
+use Rattle.object_table.specs.Flags.{visible_of, hilite_of, shared_hilite_of, lock_text_of, shared_text_of}
+use Rattle.object_table.specs.Flags.{cant_delete_of, with_visible, with_hilite, with_shared_hilite, with_lock_text}
+use Rattle.object_table.specs.Flags.{with_shared_text, with_cant_delete}
 use Rattle.object_table.specs.Maps.{put_option}
 use Rattle.object_table.specs.Objects.{object_at}
 use Rattle.object_table.specs.declared.object.Object.{Object}
 use Rattle.object_table.specs.declared.property.PropValue.{PropValue}
-use Rattle.object_table.specs.declared.property.PropValue.TheVariants.{NameIs, ScriptIs, VisibleIs, HiliteIs, SharedHiliteIs, LockTextIs, SharedTextIs, CantDeleteIs}
+use Rattle.object_table.specs.declared.property.PropValue.TheVariants.{NameIs, ScriptIs, VisibleIs, HiliteIs}
+use Rattle.object_table.specs.declared.property.PropValue.TheVariants.{SharedHiliteIs, LockTextIs, SharedTextIs}
+use Rattle.object_table.specs.declared.property.PropValue.TheVariants.{CantDeleteIs}
 
 -- a name and a script are texts
 abbrev pub HasTexts : PropValue → Type 0

@@ -1,5 +1,6 @@
 -- Slots of ids: an object, and a list of parts.
-use Rattle.std.specs.Prelude.{◌≡◌, ℕ, zero, suc, List, [], ◌∷◌, map, slice_get, Option, None, option_map, refl, if◌then◌else◌}
+use Rattle.std.specs.Prelude.{◌≡◌, ℕ, zero, suc, List, [], ◌∷◌, map, slice_get, Option, None, option_map, refl}
+use Rattle.std.specs.Prelude.{if◌then◌else◌}
 use Rattle.std.specs.Ordering.{nat_cmp, eq_by_cmp}
 use Rattle.std.specs.FinMap.{FinMap, code as map_code}
 use Rattle.std.specs.FinSet.{FinSet, code as set_code}
@@ -50,4 +51,6 @@ abbrev pub slots_of : List (ℕ × Slot) → Slots
 slots_of es = record { objects = objects_in es; parts = parts_in es; ids = keys_of es }
 
 abbrev pub coded_slots : Coded Slots
-coded_slots = code_by (FinMap nat_cmp Object × (FinMap nat_cmp (List ℕ) × FinSet nat_cmp)) (coded× (map_code coded_ℕ coded_object) (coded× (map_code coded_ℕ (coded_list coded_ℕ)) (set_code coded_ℕ))) (λ s. (s.objects, (s.parts, s.ids))) (λ p. record { objects = p.0; parts = p.1.0; ids = p.1.1 }) (λ _. refl)
+coded_slots = code_by (FinMap nat_cmp Object × (FinMap nat_cmp (List ℕ) × FinSet nat_cmp))
+    (coded× (map_code coded_ℕ coded_object) (coded× (map_code coded_ℕ (coded_list coded_ℕ)) (set_code coded_ℕ)))
+    (λ s. (s.objects, (s.parts, s.ids))) (λ p. record { objects = p.0; parts = p.1.0; ids = p.1.1 }) (λ _. refl)

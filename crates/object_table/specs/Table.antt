@@ -22,7 +22,10 @@ pub record Table : Type 0 where
   pub room : Room
 
 abbrev pub coded_room : Coded Room
-coded_room = code_by (FinSet nat_cmp × (FinSet pair_cmp × FinSet pair_cmp)) (coded× (set_code coded_ℕ) (coded× (set_code coded_pair) (set_code coded_pair))) (λ r. (r.slots, (r.texts, r.hilites))) (λ p. record { slots = p.0; texts = p.1.0; hilites = p.1.1 }) (λ _. refl)
+coded_room = code_by (FinSet nat_cmp × (FinSet pair_cmp × FinSet pair_cmp))
+    (coded× (set_code coded_ℕ) (coded× (set_code coded_pair) (set_code coded_pair)))
+    (λ r. (r.slots, (r.texts, r.hilites))) (λ p. record { slots = p.0; texts = p.1.0; hilites = p.1.1 }) (λ _. refl)
 
 abbrev pub coded_table : Coded Table
-coded_table = code_by (Content × Room) (coded× coded_content coded_room) (λ t. (t.content, t.room)) (λ p. record { content = p.0; room = p.1 }) (λ _. refl)
+coded_table = code_by (Content × Room) (coded× coded_content coded_room) (λ t. (t.content, t.room))
+    (λ p. record { content = p.0; room = p.1 }) (λ _. refl)

@@ -1,6 +1,7 @@
 //! Ids, and lists of them.
 
-ghost use Rattle.std.specs.Prelude.{◌≡◌, ℕ, ◌<◌, List, [], ◌∷◌, ◌++◌, length, OnOk, OnErr, slice_get, Some, IfSome, position, ◌==◌, ◌^◌};
+ghost use Rattle.std.specs.Prelude.{◌≡◌, ℕ, ◌<◌, List, [], ◌∷◌, ◌++◌, length, OnOk, OnErr, slice_get, Some, IfSome};
+ghost use Rattle.std.specs.Prelude.{position, ◌==◌, ◌^◌};
 ghost use Rattle.object_table.specs.Numbers.{at_number, number_in};
 
 use std::alloc::{AllocError, Global};

@@ -1,7 +1,9 @@
 //! What an object is.
 
 ghost use Rattle.std.specs.Prelude.{◌≡◌, [], IsSome, is_some};
-ghost use Rattle.object_table.specs.Flags.{visible_of, hilite_of, shared_hilite_of, lock_text_of, shared_text_of, cant_delete_of, with_visible, with_hilite, with_shared_hilite, with_lock_text, with_shared_text, with_cant_delete};
+ghost use Rattle.object_table.specs.Flags.{visible_of, hilite_of, shared_hilite_of, lock_text_of, shared_text_of};
+ghost use Rattle.object_table.specs.Flags.{cant_delete_of, with_visible, with_hilite, with_shared_hilite};
+ghost use Rattle.object_table.specs.Flags.{with_lock_text, with_shared_text, with_cant_delete};
 ghost use Rattle.object_table.specs.Layers.{layer_id, is_of_layer};
 ghost use Rattle.object_table.specs.Objects.{is_of};
 ghost use Rattle.object_table.specs.Setting.{value_in, with_value};

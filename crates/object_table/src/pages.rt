@@ -53,7 +53,8 @@ impl Page {
     #[tactic(auto, using(crate::proofs::Paged::written))]
     fn set(&mut self, at: usize, number: u32) -> Result<(), AllocError>
         requires { at < 64 }
-        ensures ok { OnOk result ((q : ℕ) → slice_index_or self.new q 0 ≡ (if q == at then number else slice_index_or self.old q 0)) }
+        ensures ok { OnOk result ((q : ℕ) → slice_index_or self.new q 0
+            ≡ (if q == at then number else slice_index_or self.old q 0)) }
         ensures err { OnErr result ((q : ℕ) → slice_index_or self.new q 0 ≡ slice_index_or self.old q 0) }
     {
         self.fill()?;
@@ -91,7 +92,8 @@ impl Pages {
 
     #[tactic(auto, using(crate::proofs::Paged::number_written, crate::proofs::Paged::number_same))]
     pub(crate) fn set(&mut self, id: Id, number: u32) -> Result<(), AllocError>
-        ensures ok { OnOk result ((q : ℕ) → number_at self.new.pages.items q ≡ (if q == id then number else number_at self.old.pages.items q)) }
+        ensures ok { OnOk result ((q : ℕ) → number_at self.new.pages.items q
+            ≡ (if q == id then number else number_at self.old.pages.items q)) }
         ensures err { OnErr result ((q : ℕ) → number_at self.new.pages.items q ≡ number_at self.old.pages.items q) }
     {
         let id = id as usize;

@@ -94,7 +94,8 @@ impl<X: Drop> PairTable<X> {
     pub(crate) fn swap(&mut self, part: Id, card: Id, value: &mut Option<X>)
         requires { set.contains (open_in (entries_of self.old)) (part, card) ≡ true }
         ensures value { value.new ≡ map.get (values_in (entries_of self.old)) (part, card) }
-        ensures values { values_in (entries_of self.new) ≡ put_option (values_in (entries_of self.old)) (part, card) value.old }
+        ensures values { values_in (entries_of self.new)
+            ≡ put_option (values_in (entries_of self.old)) (part, card) value.old }
         ensures room { open_in (entries_of self.new) ≡ open_in (entries_of self.old) }
     {
         let place = self.numbers.get(part) as usize - 1;

@@ -1,6 +1,7 @@
 //! Values at cards.
 
-ghost use Rattle.std.specs.Prelude.{◌≡◌, ℕ, [], true, cond, nat_eq, OnOk, OnErr, OnSome, IfOk, IfErr, Some, is_some, option_copied, option_and_then};
+ghost use Rattle.std.specs.Prelude.{◌≡◌, ℕ, [], true, cond, nat_eq, OnOk, OnErr, OnSome, IfOk, IfErr, Some, is_some};
+ghost use Rattle.std.specs.Prelude.{option_copied, option_and_then};
 ghost use Rattle.object_table.specs.Rows.{entry_at, ids_in, IsAt, IsGapFor};
 
 use crate::ids::Id;
@@ -47,7 +48,8 @@ impl<X: Drop> Row<X> {
 
     /// Opens a card: a value that stands there stays.
     pub(crate) fn open(&mut self, card: Id) -> Result<(), AllocError>
-        ensures ok { OnOk result ((c : ℕ) → entry_at self.new c ≡ cond (nat_eq card c) (Some (option_and_then (λ v. v) (entry_at self.old card))) (entry_at self.old c)) }
+        ensures ok { OnOk result ((c : ℕ) → entry_at self.new c
+            ≡ cond (nat_eq card c) (Some (option_and_then (λ v. v) (entry_at self.old card))) (entry_at self.old c)) }
         ensures err { OnErr result (self.new ≡ self.old) }
     {
         match self.place_of(card) {

@@ -1,6 +1,7 @@
 //! Slots of the ids that are open.
 
-ghost use Rattle.std.specs.Prelude.{◌≡◌, [], true, OnOk, OnErr, OnSome, Some, is_some, option_copied, option_map, option_and_then};
+ghost use Rattle.std.specs.Prelude.{◌≡◌, [], true, OnOk, OnErr, OnSome, Some, is_some, option_copied, option_map};
+ghost use Rattle.std.specs.Prelude.{option_and_then};
 ghost use Rattle.std.specs.FinMap as map;
 ghost use Rattle.std.specs.FinSet as set;
 ghost use Rattle.object_table.specs.Maps.{put_option};
@@ -42,7 +43,8 @@ impl Model for SlotTable {
 
     ghost view = { λ t. slots_of t.slots.items };
 
-    ghost invariant = { λ t. (t.live ≡ len (remove (objects_in t.slots.items) 0)) × AreNumbered t.numbers.pages.items t.slots.items };
+    ghost invariant = { λ t. (t.live ≡ len (remove (objects_in t.slots.items) 0))
+        × AreNumbered t.numbers.pages.items t.slots.items };
 }
 
 /// The slot with a number.
@@ -129,7 +131,9 @@ impl SlotTable {
     pub(crate) fn swap_value(&mut self, id: Id, value: &mut PropValue)
         requires { is_some (option_and_then (value_in value.old) (map.get self.old.objects id)) ≡ true }
         ensures value { option_and_then (value_in value.old) (map.get self.old.objects id) ≡ Some value.new }
-        ensures slots { self.new ≡ record self.old { objects = put_option self.old.objects id (option_map (with_value value.old) (map.get self.old.objects id)) } }
+        ensures slots { self.new ≡ record self.old {
+          objects = put_option self.old.objects id (option_map (with_value value.old) (map.get self.old.objects id));
+        } }
     {
         let place = self.numbers.get(id) as usize - 1;
         match &mut self.slots[place].1.object {

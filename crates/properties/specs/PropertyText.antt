@@ -5,7 +5,8 @@ use Rattle.ht_values.specs.Outcome.{and_then, within_limit}
 use Rattle.ht_values.specs.declared.fault.Fault.{Fault}
 use Rattle.ht_values.specs.declared.fault.Fault.TheVariants.{NoSuchObject, NoSuchProperty}
 use Rattle.ht_values.specs.declared.word.Prop.{Prop}
-use Rattle.ht_values.specs.declared.word.Prop.TheVariants.{Name, ShortName, Id, ShortId, Number, Script, Visible, Hilite, SharedHilite, LockText, SharedText, CantDelete}
+use Rattle.ht_values.specs.declared.word.Prop.TheVariants.{Name, ShortName, Id, ShortId, Number, Script, Visible}
+use Rattle.ht_values.specs.declared.word.Prop.TheVariants.{Hilite, SharedHilite, LockText, SharedText, CantDelete}
 use Rattle.object_table.specs.Content.{Content}
 use Rattle.object_table.specs.Flags.{visible_of, shared_hilite_of, lock_text_of, shared_text_of, cant_delete_of}
 use Rattle.object_table.specs.PartContents.{hilite_at}

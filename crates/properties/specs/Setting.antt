@@ -5,12 +5,16 @@ use Rattle.ht_values.specs.Outcome.{and_then}
 use Rattle.ht_values.specs.declared.fault.Fault.{Fault}
 use Rattle.ht_values.specs.declared.fault.Fault.TheVariants.{NoSuchProperty}
 use Rattle.ht_values.specs.declared.word.Prop.{Prop}
-use Rattle.ht_values.specs.declared.word.Prop.TheVariants.{Name, ShortName, Id, ShortId, Number, Script, Visible, Hilite, SharedHilite, LockText, SharedText, CantDelete}
+use Rattle.ht_values.specs.declared.word.Prop.TheVariants.{Name, ShortName, Id, ShortId, Number, Script, Visible}
+use Rattle.ht_values.specs.declared.word.Prop.TheVariants.{Hilite, SharedHilite, LockText, SharedText, CantDelete}
 use Rattle.object_table.specs.Content.{Content}
-use Rattle.object_table.specs.Objects.{has_kind, is_background, is_card, is_button, is_field, is_background_button, is_background_field}
+use Rattle.object_table.specs.Objects.{has_kind, is_background, is_card, is_button, is_field, is_background_button}
+use Rattle.object_table.specs.Objects.{is_background_field}
 use Rattle.object_table.specs.declared.object.Kind.{Kind}
 use Rattle.object_table.specs.declared.property.PropValue.{PropValue}
-use Rattle.object_table.specs.declared.property.PropValue.TheVariants.{NameIs, ScriptIs, VisibleIs, HiliteIs, SharedHiliteIs, LockTextIs, SharedTextIs, CantDeleteIs}
+use Rattle.object_table.specs.declared.property.PropValue.TheVariants.{NameIs, ScriptIs, VisibleIs, HiliteIs}
+use Rattle.object_table.specs.declared.property.PropValue.TheVariants.{SharedHiliteIs, LockTextIs, SharedTextIs}
+use Rattle.object_table.specs.declared.property.PropValue.TheVariants.{CantDeleteIs}
 
 -- whether objects of the kind have the property, and it may be set
 abbrev pub may_be_set : Prop → Kind → Bool

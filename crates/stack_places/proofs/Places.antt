@@ -2,7 +2,8 @@
 use Rattle.std.proofs.Common.{◌≡◌, ◌&&◌, ℕ, Bool, true, false, nat_eq, refl, sym, ap, ◌∙◌}
 use Rattle.std.proofs.lemmas.Bool.{eqb-true, eq-eqb, false≢true}
 use Rattle.ht_values.specs.declared.word.Prop.{Prop}
-use Rattle.stack_places.specs.Places.{StackPlace, same_place, same_prop, prop_number, property, field_text, button_hilite, whole, card_order, background_order, layer_parts, next_id}
+use Rattle.stack_places.specs.Places.{StackPlace, same_place, same_prop, prop_number, property, field_text}
+use Rattle.stack_places.specs.Places.{button_hilite, whole, card_order, background_order, layer_parts, next_id}
 use Rattle.stack_places.specs.Codes.{prop_numbered, prop_back}
 
 no : {A : Type 0} → false ≡ true → A
@@ -29,9 +30,12 @@ same_place-same (layer_parts i) = itself i
 same_place-same next_id = refl
 
 pub same_place-equal : (p q : StackPlace) → same_place p q ≡ true → p ≡ q
-same_place-equal (property i p) (property j q) h = let parts = both (nat_eq i j) (same_prop p q) h in λ k. property (eqb-true i j parts.0 k) (same_prop-equal p q parts.1 k)
-same_place-equal (field_text f c) (field_text g d) h = let parts = both (nat_eq f g) (nat_eq c d) h in λ k. field_text (eqb-true f g parts.0 k) (eqb-true c d parts.1 k)
-same_place-equal (button_hilite b c) (button_hilite a d) h = let parts = both (nat_eq b a) (nat_eq c d) h in λ k. button_hilite (eqb-true b a parts.0 k) (eqb-true c d parts.1 k)
+same_place-equal (property i p) (property j q) h = let parts = both (nat_eq i j) (same_prop p q) h in λ k. property
+    (eqb-true i j parts.0 k) (same_prop-equal p q parts.1 k)
+same_place-equal (field_text f c) (field_text g d) h =
+    let parts = both (nat_eq f g) (nat_eq c d) h in λ k. field_text (eqb-true f g parts.0 k) (eqb-true c d parts.1 k)
+same_place-equal (button_hilite b c) (button_hilite a d) h = let parts = both (nat_eq b a) (nat_eq c d) h in λ k.
+    button_hilite (eqb-true b a parts.0 k) (eqb-true c d parts.1 k)
 same_place-equal (whole i) (whole j) h = ap (λ x. whole x) (eqb-true i j h)
 same_place-equal card_order card_order h = refl
 same_place-equal background_order background_order h = refl

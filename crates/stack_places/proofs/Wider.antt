@@ -13,7 +13,8 @@ use Rattle.stack_places.specs.Exchange.{IsWider}
 pub IsWider-same : (r : Room) → IsWider r r
 IsWider-same r = record { slots = λ id h. h; texts = λ p h. h; hilites = λ p h. h }
 
-kept : {K : Type 0} {R : K → K → Ordering} → IsTotalOrder R → (s : FinSet R) (k p : K) → contains s p ≡ true → contains (insert s k) p ≡ true
+kept : {K : Type 0} {R : K → K → Ordering} → IsTotalOrder R → (s : FinSet R) (k p : K) → contains s p ≡ true
+    → contains (insert s k) p ≡ true
 kept {R = R} total s k p h = contains-insert total s k p ∙ or_right (eq_by_cmp R p k) (contains s p) h
 
 pub IsWider-slot : (r : Room) (k : ℕ) → IsWider r (record r { slots = insert r.slots k })
@@ -23,4 +24,5 @@ pub IsWider-text : (r : Room) (k : Pair) → IsWider r (record r { texts = inser
 IsWider-text r k = record { slots = λ id h. h; texts = λ p h. kept pair_cmp_total r.texts k p h; hilites = λ p h. h }
 
 pub IsWider-hilite : (r : Room) (k : Pair) → IsWider r (record r { hilites = insert r.hilites k })
-IsWider-hilite r k = record { slots = λ id h. h; texts = λ p h. h; hilites = λ p h. kept pair_cmp_total r.hilites k p h }
+IsWider-hilite r k =
+    record { slots = λ id h. h; texts = λ p h. h; hilites = λ p h. kept pair_cmp_total r.hilites k p h }

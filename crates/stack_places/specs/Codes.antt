@@ -2,11 +2,14 @@
 use Rattle.std.specs.Prelude.{◌≡◌, ℕ, [], ◌∷◌, slice_index_or, refl}
 use Rattle.ht_values.specs.declared.word.Prop.{Prop}
 use Rattle.ht_values.specs.declared.word.Prop.TheVariants as props
-use Rattle.stack_places.specs.Places.{StackPlace, prop_number, property, field_text, button_hilite, whole, card_order, background_order, layer_parts, next_id}
+use Rattle.stack_places.specs.Places.{StackPlace, prop_number, property, field_text, button_hilite, whole, card_order}
+use Rattle.stack_places.specs.Places.{background_order, layer_parts, next_id}
 
 -- the property with a number
 abbrev pub prop_numbered : ℕ → Prop
-prop_numbered n = slice_index_or (props.Name ∷ props.ShortName ∷ props.Id ∷ props.ShortId ∷ props.Number ∷ props.Script ∷ props.Visible ∷ props.Hilite ∷ props.SharedHilite ∷ props.LockText ∷ props.SharedText ∷ props.CantDelete ∷ []) n props.Name
+prop_numbered n = slice_index_or
+    (props.Name ∷ props.ShortName ∷ props.Id ∷ props.ShortId ∷ props.Number ∷ props.Script ∷ props.Visible
+    ∷ props.Hilite ∷ props.SharedHilite ∷ props.LockText ∷ props.SharedText ∷ props.CantDelete ∷ []) n props.Name
 
 -- a place as a number of its form and two more
 abbrev pub place_code : StackPlace → ℕ × (ℕ × ℕ)
@@ -20,7 +23,9 @@ place_code (layer_parts layer) = (6, (layer, 0))
 place_code next_id = (7, (0, 0))
 
 abbrev pub place_coded : ℕ → ℕ → ℕ → StackPlace
-place_coded n i j = slice_index_or (property i (prop_numbered j) ∷ field_text i j ∷ button_hilite i j ∷ whole i ∷ card_order ∷ background_order ∷ layer_parts i ∷ next_id ∷ []) n next_id
+place_coded n i j = slice_index_or
+    (property i (prop_numbered j) ∷ field_text i j ∷ button_hilite i j ∷ whole i ∷ card_order ∷ background_order
+    ∷ layer_parts i ∷ next_id ∷ []) n next_id
 
 pub prop_back : (p : Prop) → prop_numbered (prop_number p) ≡ p
 prop_back props.Name = refl

@@ -11,9 +11,12 @@ use Rattle.object_table.specs.Setting.{value_at as setting_at, with_value_at}
 use Rattle.object_table.specs.Table.{Room}
 use Rattle.object_table.specs.declared.property.PropValue.{PropValue}
 use Rattle.object_table.specs.declared.property.PropValue.TheVariants as settings
-use Rattle.stack_places.specs.Places.{StackPlace, Value, prop_of, size_of, property, field_text, button_hilite, whole, card_order, background_order, layer_parts, next_id, text, logical, setting, object, ids, number}
+use Rattle.stack_places.specs.Places.{StackPlace, Value, prop_of, size_of, property, field_text, button_hilite, whole}
+use Rattle.stack_places.specs.Places.{card_order, background_order, layer_parts, next_id, text, logical, setting}
+use Rattle.stack_places.specs.Places.{object, ids, number}
 use Rattle.stack_places.specs.declared.entry.StackEntry.{StackEntry}
-use Rattle.stack_places.specs.declared.entry.StackEntry.TheVariants.{Prop, FieldText, Hilite, Object, CardOrder, BackgroundOrder, Parts, NextId}
+use Rattle.stack_places.specs.declared.entry.StackEntry.TheVariants.{Prop, FieldText, Hilite, Object, CardOrder}
+use Rattle.stack_places.specs.declared.entry.StackEntry.TheVariants.{BackgroundOrder, Parts, NextId}
 
 -- the entry's place, and the value that it has
 abbrev pub place_of : StackEntry → StackPlace

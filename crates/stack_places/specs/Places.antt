@@ -1,19 +1,24 @@
 -- The places of a stack, and values put there.
-use Rattle.std.specs.Prelude.{ℕ, ◌+◌, ◌*◌, Bool, true, false, ◌&&◌, nat_eq, List, length, Option, Some, None, option_map, option_and_then, unwrap_or, if◌then◌else◌}
+use Rattle.std.specs.Prelude.{ℕ, ◌+◌, ◌*◌, Bool, true, false, ◌&&◌, nat_eq, List, length, Option, Some, None}
+use Rattle.std.specs.Prelude.{option_map, option_and_then, unwrap_or, if◌then◌else◌}
 use Rattle.std.specs.FinMap.{get}
 use Rattle.ht_values.specs.declared.word.Prop.{Prop}
 use Rattle.ht_values.specs.declared.word.Prop.TheVariants as props
 use Rattle.object_table.specs.Content.{Content}
-use Rattle.object_table.specs.Flags.{visible_of, hilite_of, shared_hilite_of, lock_text_of, shared_text_of, cant_delete_of}
+use Rattle.object_table.specs.Flags.{visible_of, hilite_of, shared_hilite_of, lock_text_of, shared_text_of}
+use Rattle.object_table.specs.Flags.{cant_delete_of}
 use Rattle.object_table.specs.PartContents.{text_at, hilite_at}
 use Rattle.object_table.specs.Maps.{put_option}
 use Rattle.object_table.specs.Objects.{object_at}
 use Rattle.object_table.specs.Setting.{with_value}
 use Rattle.object_table.specs.declared.object.Object.{Object}
 use Rattle.object_table.specs.declared.object.Kind.{Kind}
-use Rattle.object_table.specs.declared.object.Kind.TheVariants.{Stack, Background, Card, CardButton, BackgroundButton, CardField, BackgroundField}
+use Rattle.object_table.specs.declared.object.Kind.TheVariants.{Stack, Background, Card, CardButton, BackgroundButton}
+use Rattle.object_table.specs.declared.object.Kind.TheVariants.{CardField, BackgroundField}
 use Rattle.object_table.specs.declared.property.PropValue.{PropValue}
-use Rattle.object_table.specs.declared.property.PropValue.TheVariants.{NameIs, ScriptIs, VisibleIs, HiliteIs, SharedHiliteIs, LockTextIs, SharedTextIs, CantDeleteIs}
+use Rattle.object_table.specs.declared.property.PropValue.TheVariants.{NameIs, ScriptIs, VisibleIs, HiliteIs}
+use Rattle.object_table.specs.declared.property.PropValue.TheVariants.{SharedHiliteIs, LockTextIs, SharedTextIs}
+use Rattle.object_table.specs.declared.property.PropValue.TheVariants.{CantDeleteIs}
 
 -- A property that may be set, of an object; the text of a field and the hilite of a background's button, for a
 -- card or for 0, which stands for all cards; an object as a whole; the two orders; the parts of a layer; the next
@@ -137,7 +142,8 @@ with_setting (Some v) o = with_value v o
 -- The stack with this value at the place, or with none. A property that is there, the orders and the next id
 -- always have one: none leaves them.
 unfoldable pub put : Content → StackPlace → Option Value → Content
-put s (property id p) v = record s { objects = put_option s.objects id (option_map (with_setting (as_setting p v)) (object_at s id)) }
+put s (property id p) v =
+    record s { objects = put_option s.objects id (option_map (with_setting (as_setting p v)) (object_at s id)) }
 put s (field_text field card) v = record s { texts = put_option s.texts (field, card) (as_text v) }
 put s (button_hilite button card) v = record s { hilites = put_option s.hilites (button, card) (as_logical v) }
 put s (whole id) v = record s { objects = put_option s.objects id (as_object v) }

@@ -13,6 +13,8 @@ pub fn laws_of_exchanges()
     ensures put { (s : Content) (e : StackEntry) → exchanged s e ≡ put s (place_of e) (value_of e) }
     ensures back { (s : Content) (e : StackEntry) → exchanged (exchanged s e) (taken s e) ≡ s }
     ensures again { (s : Content) (e : StackEntry) → taken (exchanged s e) (taken s e) ≡ e }
-    ensures over { (s : Content) (e f : StackEntry) → of_one_place e f ≡ true → exchanged (exchanged s e) f ≡ exchanged s f }
-    ensures apart { (s : Content) (e f : StackEntry) → of_one_place e f ≡ false → is_structural e ≡ false → is_structural f ≡ false → exchanged (exchanged s e) f ≡ exchanged (exchanged s f) e }
+    ensures over { (s : Content) (e f : StackEntry) → of_one_place e f ≡ true
+        → exchanged (exchanged s e) f ≡ exchanged s f }
+    ensures apart { (s : Content) (e f : StackEntry) → of_one_place e f ≡ false → is_structural e ≡ false
+        → is_structural f ≡ false → exchanged (exchanged s e) f ≡ exchanged (exchanged s f) e }
 {}

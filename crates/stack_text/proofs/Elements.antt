@@ -1,5 +1,6 @@
 -- What holds of each element, over the ways in which lists are made.
-use Rattle.std.proofs.Common.{◌≡◌, ℕ, Bool, true, false, true≢false, cond, Some, List, [], ◌∷◌, ◌++◌, map, sym, subst, arith, inl, inr, IsTrue, unwrap_or, option_map, ◌==◌}
+use Rattle.std.proofs.Common.{◌≡◌, ℕ, Bool, true, false, true≢false, cond, Some, List, [], ◌∷◌, ◌++◌, map, sym, subst}
+use Rattle.std.proofs.Common.{arith, inl, inr, IsTrue, unwrap_or, option_map, ◌==◌}
 use Rattle.std.specs.Prelude.{find}
 use Rattle.std.specs.List.{AllByRecursion, flat_map}
 use Rattle.std.proofs.lemmas.Bool.{or_cases}
@@ -7,15 +8,18 @@ use Rattle.std.proofs.lemmas.Bool.Decides.{nat_tests}
 use Rattle.stack_text.specs.declared.sheets.Part.{Part}
 use Rattle.stack_text.specs.Document.{Sheet, contains_id, parts_of}
 
-pub each_so : {X : Type 0} {P Q : X → Type 0} → ((x : X) → P x → Q x) → (xs : List X) → AllByRecursion P xs → AllByRecursion Q xs
+pub each_so : {X : Type 0} {P Q : X → Type 0} → ((x : X) → P x → Q x) → (xs : List X) → AllByRecursion P xs
+    → AllByRecursion Q xs
 each_so f [] h = tt
 each_so f (x ∷ xs) h = (f x h.0, each_so f xs h.1)
 
-pub each_both : {X : Type 0} {P Q R : X → Type 0} → ((x : X) → P x → Q x → R x) → (xs : List X) → AllByRecursion P xs → AllByRecursion Q xs → AllByRecursion R xs
+pub each_both : {X : Type 0} {P Q R : X → Type 0} → ((x : X) → P x → Q x → R x) → (xs : List X) → AllByRecursion P xs
+    → AllByRecursion Q xs → AllByRecursion R xs
 each_both f [] h k = tt
 each_both f (x ∷ xs) h k = (f x h.0 k.0, each_both f xs h.1 k.1)
 
-pub each_parts : {X : Type 0} (P : X → Type 0) (xs ys : List X) → AllByRecursion P (xs ++ ys) → AllByRecursion P xs × AllByRecursion P ys
+pub each_parts : {X : Type 0} (P : X → Type 0) (xs ys : List X) → AllByRecursion P (xs ++ ys)
+    → AllByRecursion P xs × AllByRecursion P ys
 each_parts P [] ys h = (tt, h)
 each_parts P (x ∷ xs) ys h = let p = each_parts P xs ys h.1 in ((h.0, p.0), p.1)
 
@@ -55,10 +59,13 @@ each_at P q (id ∷ ids) h e = elim (or_cases (id == q) (contains_id q ids) e) [
 ]
 
 -- what holds of the parts of each sheet holds of those of the sheet of an id
-pub each_part_of : (P : Part → Type 0) (ss : List Sheet) (id : ℕ) → AllByRecursion (λ (s : Sheet). AllByRecursion P s.parts) ss → AllByRecursion P (parts_of ss id)
+pub each_part_of : (P : Part → Type 0) (ss : List Sheet) (id : ℕ)
+    → AllByRecursion (λ (s : Sheet). AllByRecursion P s.parts) ss → AllByRecursion P (parts_of ss id)
 each_part_of P [] id h = tt
 each_part_of P (s ∷ ss) id h = by (s.id == id) (each_part_of P ss id h.1)
   where
-    by : (t : Bool) → AllByRecursion P (parts_of ss id) → AllByRecursion P (unwrap_or (option_map (λ (x : Sheet). x.parts) (cond t (Some s) (find (λ x. x.id == id) ss))) [])
+    by : (t : Bool) → AllByRecursion P (parts_of ss id)
+        → AllByRecursion P
+        (unwrap_or (option_map (λ (x : Sheet). x.parts) (cond t (Some s) (find (λ x. x.id == id) ss))) [])
     by true k = h.0
     by false k = k

@@ -1,5 +1,6 @@
 -- Ids that are each new in their turn are distinct ids within the limits.
-use Rattle.std.proofs.Common.{◌≡◌, ℕ, suc, ◌+◌, ◌<◌, ◌≤◌, false, eqb, List, [], ◌∷◌, ◌++◌, length, refl, sym, ◌∙◌, arith, nat_eq, ◌||◌}
+use Rattle.std.proofs.Common.{◌≡◌, ℕ, suc, ◌+◌, ◌<◌, ◌≤◌, false, eqb, List, [], ◌∷◌, ◌++◌, length, refl, sym, ◌∙◌}
+use Rattle.std.proofs.Common.{arith, nat_eq, ◌||◌}
 use Rattle.std.specs.Prelude.{◌==◌}
 use Rattle.std.specs.List.{AllByRecursion, IsDistinct}
 use Rattle.std.proofs.lemmas.List.{length-append}
@@ -17,15 +18,18 @@ abbrev pub News : ℕ → List ℕ → List ℕ → Type 0
 News next used [] = Unit {0}
 News next used (id ∷ ids) = IsNew next used id × News next (used ++ id ∷ []) ids
 
-pub News-parts : (next : ℕ) (used a b : List ℕ) → News next used (a ++ b) → News next used a × News next (adding used a) b
+pub News-parts : (next : ℕ) (used a b : List ℕ) → News next used (a ++ b)
+    → News next used a × News next (adding used a) b
 News-parts next used [] b h = (tt, h)
 News-parts next used (i ∷ a) b h = let p = News-parts next (used ++ i ∷ []) a b h.1 in ((h.0, p.0), p.1)
 
-pub News-joined : (next : ℕ) (used a b : List ℕ) → News next used a → News next (adding used a) b → News next used (a ++ b)
+pub News-joined : (next : ℕ) (used a b : List ℕ) → News next used a → News next (adding used a) b
+    → News next used (a ++ b)
 News-joined next used [] b h k = k
 News-joined next used (i ∷ a) b h k = (h.0, News-joined next (used ++ i ∷ []) a b h.1 k)
 
-pub News-room : (next : ℕ) (used ids : List ℕ) → News next used ids → length used ≤ 10000 → length used + length ids ≤ 10000
+pub News-room : (next : ℕ) (used ids : List ℕ) → News next used ids → length used ≤ 10000
+    → length used + length ids ≤ 10000
 News-room next used [] h few = omega arith
 News-room next used (i ∷ ids) h few =
     let one : length (used ++ i ∷ []) ≡ length used + 1 = length-append used (i ∷ []) in
@@ -41,21 +45,31 @@ contains-push : (y x : ℕ) (used : List ℕ) → contains_id y (used ++ x ∷ [
 contains-push y x used = list_any-append (λ z. z == y) used (x ∷ [])
 
 -- none is among those before
-News-apart : (next : ℕ) (used ids : List ℕ) → News next used ids → AllByRecursion (λ id. contains_id id used ≡ false) ids
+News-apart : (next : ℕ) (used ids : List ℕ) → News next used ids
+    → AllByRecursion (λ id. contains_id id used ≡ false) ids
 News-apart next used [] h = tt
-News-apart next used (i ∷ ids) h =
-    (h.0.new, each_so (λ y e. (or_parts _ _ (sym (contains-push y i used) ∙ e)).0) ids (News-apart next (used ++ i ∷ []) ids h.1))
+News-apart next used (i ∷ ids) h = (
+  h.0.new,
+  each_so (λ y e. (or_parts _ _ (sym (contains-push y i used) ∙ e)).0) ids
+      (News-apart next (used ++ i ∷ []) ids h.1),
+)
 
 pub News-once : (next : ℕ) (used ids : List ℕ) → News next used ids → IsDistinct nat_eq ids
 unfolding IsDistinct
 News-once next used [] h = tt
-News-once next used (i ∷ ids) h =
-    (each_so (λ y e. (or_parts _ _ (or_parts _ _ (sym (contains-push y i used) ∙ e)).1).0) ids (News-apart next (used ++ i ∷ []) ids h.1), News-once next (used ++ i ∷ []) ids h.1)
+News-once next used (i ∷ ids) h = (
+  each_so (λ y e. (or_parts _ _ (or_parts _ _ (sym (contains-push y i used) ∙ e)).1).0) ids
+      (News-apart next (used ++ i ∷ []) ids h.1),
+  News-once next (used ++ i ∷ []) ids h.1,
+)
 
-pushed : (i : ℕ) (used : List ℕ) (y : ℕ) → contains_id y used ≡ false → eqb i y ≡ false → contains_id y (used ++ i ∷ []) ≡ false
+pushed : (i : ℕ) (used : List ℕ) (y : ℕ) → contains_id y used ≡ false → eqb i y ≡ false
+    → contains_id y (used ++ i ∷ []) ≡ false
 pushed i used y e f = contains-push y i used ∙ rw (e, f) refl
 
-pub News-from : (next : ℕ) (used ids : List ℕ) → AllByRecursion (λ id. (0 < id) × (id < next)) ids → AllByRecursion (λ id. contains_id id used ≡ false) ids → IsDistinct nat_eq ids → length used + length ids ≤ 10000 → News next used ids
+pub News-from : (next : ℕ) (used ids : List ℕ) → AllByRecursion (λ id. (0 < id) × (id < next)) ids
+    → AllByRecursion (λ id. contains_id id used ≡ false) ids → IsDistinct nat_eq ids → length used + length ids ≤ 10000
+    → News next used ids
 unfolding IsDistinct
 News-from next used [] range apart once few = tt
 News-from next used (i ∷ ids) range apart once few =

@@ -6,7 +6,8 @@ use Rattle.ht_values.specs.Text.{IsText}
 use Rattle.object_table.specs.Objects.{is_background_part, is_card_part, is_background, is_card}
 use Rattle.object_table.specs.declared.object.Object.{Object}
 use Rattle.object_table.specs.declared.object.Kind.{Kind}
-use Rattle.object_table.specs.declared.object.Kind.TheVariants.{CardButton, BackgroundButton, CardField, BackgroundField, Stack}
+use Rattle.object_table.specs.declared.object.Kind.TheVariants.{CardButton, BackgroundButton, CardField}
+use Rattle.object_table.specs.declared.object.Kind.TheVariants.{BackgroundField, Stack}
 use Rattle.stack_text.specs.declared.sheets.PartContent.{PartContent}
 use Rattle.stack_text.specs.declared.sheets.PartContent.TheVariants.{Nothing, Written, Lit}
 use Rattle.stack_text.specs.declared.sheets.Part.{Part}
@@ -14,7 +15,8 @@ use Rattle.stack_text.specs.declared.sheets.Keeping.{Keeping}
 use Rattle.stack_text.specs.Spelling.{Version, first, second}
 use Rattle.stack_text.specs.Laws.{SharesHilite}
 use Rattle.stack_text.specs.Listing.{lit}
-use Rattle.stack_text.specs.Document.{Sheet, Document, contains_id, sheet_ids, part_ids, parts_of, background_or, backgrounds_of, ids_in}
+use Rattle.stack_text.specs.Document.{Sheet, Document, contains_id, sheet_ids, part_ids, parts_of, background_or}
+use Rattle.stack_text.specs.Document.{backgrounds_of, ids_in}
 use Rattle.stack_text.proofs.Forms.{Pairs}
 
 -- a name and a script that are texts

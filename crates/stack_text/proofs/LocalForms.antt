@@ -8,13 +8,22 @@ use Rattle.object_table.specs.declared.object.Kind.TheVariants.{BackgroundButton
 use Rattle.stack_text.specs.declared.sheets.Part.{Part}
 use Rattle.stack_text.specs.Document.{Sheet, contains_id}
 use Rattle.stack_text.specs.Spelling.{Version, first, second}
-use Rattle.stack_text.specs.Reading.{Reader, ◌>>=◌, too_many_if, bad_id_if, take_id, line_after, exactly, name_at, number_after, flag_after, count_after, new_id, pieces_at, text_of_pieces, block_after, script_at, in_second_or, background_button_at, background_field_at, background_part_at, card_button_at, card_field_at, card_part_at, part_at, parts_at, layer_at, background_header_at, background_at, own_text_at, own_hilite_at, keeping_by, card_header_at, card_at, stack_at, backgrounds_at, cards_at}
-use Rattle.stack_text.proofs.Fronts.{IsLocal, then, stays, give-local, or_bad_line-local, bad_line_if-local, bad_id_if-local, too_many_if-local, by_used-local, next_line-local, times-local, for_each-local}
+use Rattle.stack_text.specs.Reading.{Reader, ◌>>=◌, too_many_if, bad_id_if, take_id, line_after, exactly, name_at}
+use Rattle.stack_text.specs.Reading.{number_after, flag_after, count_after, new_id, pieces_at, text_of_pieces}
+use Rattle.stack_text.specs.Reading.{block_after, script_at, in_second_or, background_button_at, background_field_at}
+use Rattle.stack_text.specs.Reading.{background_part_at, card_button_at, card_field_at, card_part_at, part_at}
+use Rattle.stack_text.specs.Reading.{parts_at, layer_at, background_header_at, background_at, own_text_at}
+use Rattle.stack_text.specs.Reading.{own_hilite_at, keeping_by, card_header_at, card_at, stack_at, backgrounds_at}
+use Rattle.stack_text.specs.Reading.{cards_at}
+use Rattle.stack_text.proofs.Fronts.{IsLocal, then, stays, give-local, or_bad_line-local, bad_line_if-local}
+use Rattle.stack_text.proofs.Fronts.{bad_id_if-local, too_many_if-local, by_used-local, next_line-local, times-local}
+use Rattle.stack_text.proofs.Fronts.{for_each-local}
 
 -- ---- lines
 
 -- a line, a test and a value, one after another
-ruleset steps = (then, give-local, next_line-local, or_bad_line-local, bad_line_if-local, bad_id_if-local, too_many_if-local)
+ruleset steps =
+    (then, give-local, next_line-local, or_bad_line-local, bad_line_if-local, bad_id_if-local, too_many_if-local)
 
 pub line_after-local : {A : Type 0} (prefix : List ℕ) (form : List ℕ → Option A) → IsLocal (line_after prefix form)
 line_after-local prefix form = search steps
@@ -29,7 +38,8 @@ take_id-local id = stays tt (λ used. used ++ id ∷ [])
 new_id-local : (next id : ℕ) (right : Bool) → IsLocal (new_id next id right)
 unfolding new_id
 new_id-local next id right = by_used-local
-    (λ used. too_many_if (nat_le 10000 (length used)) >>= λ few. bad_id_if (not right || ((id == 0) || (nat_le next id || contains_id id used))) >>= λ done. take_id id)
+    (λ used. too_many_if (nat_le 10000 (length used)) >>= λ few. bad_id_if
+    (not right || ((id == 0) || (nat_le next id || contains_id id used))) >>= λ done. take_id id)
     (λ used. search (steps, take_id-local))
 
 -- ---- texts of many lines
@@ -60,7 +70,8 @@ unfolding card_part_at card_button_at card_field_at name_at flag_after script_at
 card_part-local (Button, id) = search forms depth 16
 card_part-local (Field, id) = search forms depth 16
 
-parts-local : (next : ℕ) (rest : PartKind × ℕ → Reader Part) → ((head : PartKind × ℕ) → IsLocal (rest head)) → IsLocal (parts_at next rest)
+parts-local : (next : ℕ) (rest : PartKind × ℕ → Reader Part) → ((head : PartKind × ℕ) → IsLocal (rest head))
+    → IsLocal (parts_at next rest)
 unfolding parts_at part_at count_after
 parts-local next rest each = search (forms, times-local) depth 16
 
@@ -82,7 +93,15 @@ keeping-local v id k = give-local _
 
 card-local : (v : Version) (next : ℕ) (bs : List Sheet) → IsLocal (card_at v next bs)
 unfolding card_at card_header_at
-card-local v next bs = search (forms, layer-local, parts-local, card_part-local, for_each-local, λ (part : Part). keeping-local v part.id part.object.kind) depth 16
+card-local v next bs = search (
+  forms,
+  layer-local,
+  parts-local,
+  card_part-local,
+  for_each-local,
+  λ (part : Part).
+      keeping-local v part.id part.object.kind,
+) depth 16
 
 -- ---- the whole, but for the end
 

@@ -1,10 +1,13 @@
 -- Numbers and their one spelling.
-use Rattle.std.proofs.Common.{◌≡◌, Option, None, ◌≢◌, ℕ, zero, suc, ◌+◌, ◌-◌, ◌*◌, ◌^◌, ◌<◌, ◌≤◌, true, false, eqb, ltb, leb, List, [], ◌∷◌, length, get_or, Some, refl, sym, ap, ◌∙◌, arith, rules, lit<, lit≤, inl, inr, ◌||◌, ◌&&◌}
+use Rattle.std.proofs.Common.{◌≡◌, Option, None, ◌≢◌, ℕ, zero, suc, ◌+◌, ◌-◌, ◌*◌, ◌^◌, ◌<◌, ◌≤◌, true, false, eqb}
+use Rattle.std.proofs.Common.{ltb, leb, List, [], ◌∷◌, length, get_or, Some, refl, sym, ap, ◌∙◌, arith, rules, lit<}
+use Rattle.std.proofs.Common.{lit≤, inl, inr, ◌||◌, ◌&&◌}
 use Rattle.std.specs.Prelude.{◌==◌, not, decimal, IfSome, IfNone}
 use Rattle.std.specs.Int.{IsInRange}
 use Rattle.std.specs.Str.{all_ascii_digits}
 use Rattle.std.proofs.lemmas.Bool.Decides.{nat_tests, eqb_tells}
-use Rattle.std.proofs.lemmas.Fmt.{digits_decimal, digits_value-decimal, length-decimal-le, decimal_nonempty, first_decimal, decimal_digit, decimal-digits_value}
+use Rattle.std.proofs.lemmas.Fmt.{digits_decimal, digits_value-decimal, length-decimal-le, decimal_nonempty}
+use Rattle.std.proofs.lemmas.Fmt.{first_decimal, decimal_digit, decimal-digits_value}
 use Rattle.std.proofs.lemmas.List.{get_or_default}
 use Rattle.std.proofs.lemmas.List.Folds.{list_any_none}
 use Rattle.std.proofs.lemmas.Str.Parse.{IsNumeralModel, numerals_by_fold, not_in_digits, digits_value_short}
@@ -20,7 +23,8 @@ read_on n (d ∷ ds) = read_on (n * 10 + (d - 48)) ds
 own : IsNumeralModel (λ ds. all_ascii_digits ds ≡ true) (read_on 0)
 own = numerals_by_fold _ (search rules) read_on (search rules)
 
-digits_after-found : (ds : List ℕ) (n m : ℕ) → digits_after n ds ≡ Some m → (all_ascii_digits ds ≡ true) × (read_on n ds ≡ m)
+digits_after-found : (ds : List ℕ) (n m : ℕ) → digits_after n ds ≡ Some m
+    → (all_ascii_digits ds ≡ true) × (read_on n ds ≡ m)
 digits_after-found [] n m e = (refl, cc)
 digits_after-found (d ∷ ds) n m e =
     let p = then_given (leb 48 d && leb d 57) (digits_after (n * 10 + (d - 48)) ds) m e in
@@ -108,10 +112,12 @@ no_number bytes none n small is =
     let again : number_at bytes ≡ Some n = ap number_at is ∙ number-again n small in
     cc
 
-pub number_known : (bytes : List ℕ) (o : Option ℕ) → o ≡ number_at bytes → IfSome o (λ n. (n < 10 ^ 7) × (bytes ≡ decimal n))
+pub number_known : (bytes : List ℕ) (o : Option ℕ) → o ≡ number_at bytes
+    → IfSome o (λ n. (n < 10 ^ 7) × (bytes ≡ decimal n))
 number_known bytes None is = tt
 number_known bytes (Some n) is = number-found bytes n (sym is)
 
-pub number_unknown : (bytes : List ℕ) (o : Option ℕ) → o ≡ number_at bytes → IfNone o ((n : ℕ) → n < 10 ^ 7 → bytes ≢ decimal n)
+pub number_unknown : (bytes : List ℕ) (o : Option ℕ) → o ≡ number_at bytes
+    → IfNone o ((n : ℕ) → n < 10 ^ 7 → bytes ≢ decimal n)
 number_unknown bytes None is = no_number bytes (sym is)
 number_unknown bytes (Some n) is = tt

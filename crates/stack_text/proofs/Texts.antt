@@ -1,5 +1,7 @@
 -- Texts and their one spelling.
-use Rattle.std.proofs.Common.{◌≡◌, ◌≢◌, All, ℕ, zero, suc, ◌+◌, ◌-◌, ◌*◌, ◌/◌, ◌%◌, ◌<◌, ◌≤◌, Bool, true, false, cond, eqb, ltb, leb, List, [], ◌∷◌, ◌++◌, length, Option, Some, None, refl, sym, ap, subst, ◌∙◌, arith, ◌&&◌, append_assoc, add-one}
+use Rattle.std.proofs.Common.{◌≡◌, ◌≢◌, All, ℕ, zero, suc, ◌+◌, ◌-◌, ◌*◌, ◌/◌, ◌%◌, ◌<◌, ◌≤◌, Bool, true, false, cond}
+use Rattle.std.proofs.Common.{eqb, ltb, leb, List, [], ◌∷◌, ◌++◌, length, Option, Some, None, refl, sym, ap, subst}
+use Rattle.std.proofs.Common.{◌∙◌, arith, ◌&&◌, append_assoc, add-one}
 use Rattle.std.specs.Prelude.{◌==◌, option_map, unwrap_or}
 use Rattle.std.specs.List.{AllByRecursion}
 use Rattle.std.proofs.lemmas.Bool.Decides.{nat_tests}
@@ -8,7 +10,8 @@ use Rattle.std.proofs.lemmas.List.{length-append}
 use Rattle.std.proofs.lemmas.Option.{option_and_then_some}
 use Rattle.std.proofs.lemmas.List.Elements.{All-from_recursion, recursion_from_All}
 use Rattle.ht_values.specs.Text.{IsText}
-use Rattle.stack_text.specs.Words.{hex_digit, hex_value, is_plain, escape_of, spelled_byte, spelled, char_at, unspelled_within, unspelled}
+use Rattle.stack_text.specs.Words.{hex_digit, hex_value, is_plain, escape_of, spelled_byte, spelled, char_at}
+use Rattle.stack_text.specs.Words.{unspelled_within, unspelled}
 use Rattle.stack_text.specs.Reading.{short_text}
 use Rattle.stack_text.proofs.Keyed.{has, has-append, Spelled, then_given, else_given, same_value}
 
@@ -17,7 +20,8 @@ use Rattle.stack_text.proofs.Keyed.{has, has-append, Spelled, then_given, else_g
 digit-found : (c h : ℕ) → hex_value c ≡ Some h → (h < 16) × (hex_digit h ≡ c)
 digit-found c h e = by (leb 48 c && leb c 57) (leb 97 c && leb c 102) refl refl e
   where
-    by : (a b : Bool) → (leb 48 c && leb c 57) ≡ a → (leb 97 c && leb c 102) ≡ b → cond a (Some (c - 48)) (cond b (Some (c - 87)) None) ≡ Some h → (h < 16) × (hex_digit h ≡ c)
+    by : (a b : Bool) → (leb 48 c && leb c 57) ≡ a → (leb 97 c && leb c 102) ≡ b
+        → cond a (Some (c - 48)) (cond b (Some (c - 87)) None) ≡ Some h → (h < 16) × (hex_digit h ≡ c)
     by true b p q is =
         let n : c - 48 ≡ h = cc in
         let low : 48 ≤ c = grind (arith, nat_tests) in
@@ -37,7 +41,9 @@ same_some None h e = absurd (false≢true e)
 same_some (Some n) h e = ap Some (eqb-true n h e)
 
 digit-again : (h : ℕ) → h < 16 → hex_value (hex_digit h) ≡ Some h
-digit-again h lt = same_some (hex_value (hex_digit h)) h (agree_below_at (λ d. unwrap_or (option_map (λ n. n == d) (hex_value (hex_digit d))) false) (λ d. true) 16 h refl lt)
+digit-again h lt = same_some (hex_value (hex_digit h)) h
+    (agree_below_at (λ d. unwrap_or (option_map (λ n. n == d) (hex_value (hex_digit d))) false) (λ d. true) 16 h refl
+    lt)
 
 -- a digit is no control byte
 digit-above : (h : ℕ) → h < 16 → 48 ≤ hex_digit h
@@ -57,7 +63,8 @@ plain-low b e = grind (arith, nat_tests)
 plain-high : (b : ℕ) → is_plain b ≡ true → b ≤ 126
 plain-high b e = grind (arith, nat_tests)
 
-escape-found : (o p : Option ℕ) (b : ℕ) → escape_of o p ≡ Some b → (h : ℕ) × (l : ℕ) × (o ≡ Some h) × (p ≡ Some l) × (is_plain b ≡ false) × (b ≡ h * 16 + l)
+escape-found : (o p : Option ℕ) (b : ℕ) → escape_of o p ≡ Some b
+    → (h : ℕ) × (l : ℕ) × (o ≡ Some h) × (p ≡ Some l) × (is_plain b ≡ false) × (b ≡ h * 16 + l)
 escape-found None p b e = absurd cc
 escape-found (Some h) None b e = absurd cc
 escape-found (Some h) (Some l) b e =
@@ -75,7 +82,8 @@ char b rest = Some (b, rest)
 abbrev before : List ℕ → Option ℕ → Option Char
 before rest o = option_map {U = Char} (λ b. (b, rest)) o
 
-one_char : (x : ℕ) (after : List ℕ) (b : ℕ) (rest : List ℕ) → is_plain x ≡ true → char x after ≡ char b rest → (b < 256) × (x ∷ after ≡ spelled_byte b ++ rest)
+one_char : (x : ℕ) (after : List ℕ) (b : ℕ) (rest : List ℕ) → is_plain x ≡ true → char x after ≡ char b rest
+    → (b < 256) × (x ∷ after ≡ spelled_byte b ++ rest)
 one_char x after b rest plain e =
     let p : ◌≡◌ {A = Char} (x, after) (b, rest) = cc in
     let is : x ≡ b = ap (λ (z : Char). z.0) p in
@@ -83,11 +91,13 @@ one_char x after b rest plain e =
     let fits = plain-high x plain in
     (omega arith, rw (← is, spelled-plain x plain, left) refl)
 
-escaped_char : (x c d : ℕ) (after : List ℕ) (b : ℕ) (rest : List ℕ) → (x == 92) ≡ true → before after (escape_of (hex_value c) (hex_value d)) ≡ char b rest
+escaped_char : (x c d : ℕ) (after : List ℕ) (b : ℕ) (rest : List ℕ) → (x == 92) ≡ true
+    → before after (escape_of (hex_value c) (hex_value d)) ≡ char b rest
     → (b < 256) × (x ∷ c ∷ d ∷ after ≡ spelled_byte b ++ rest)
 escaped_char x c d after b rest is e = by (escape_of (hex_value c) (hex_value d)) refl e
   where
-    by : (o : Option ℕ) → escape_of (hex_value c) (hex_value d) ≡ o → before after o ≡ char b rest → (b < 256) × (x ∷ c ∷ d ∷ after ≡ spelled_byte b ++ rest)
+    by : (o : Option ℕ) → escape_of (hex_value c) (hex_value d) ≡ o → before after o ≡ char b rest
+        → (b < 256) × (x ∷ c ∷ d ∷ after ≡ spelled_byte b ++ rest)
     by None p h = absurd cc
     by (Some y) p h =
         let q : ◌≡◌ {A = Char} (y, after) (b, rest) = cc in
@@ -98,16 +108,22 @@ escaped_char x c d after b rest is e = by (escape_of (hex_value c) (hex_value d)
         let low = digit-found d f.1 f.3 in
         let high-is : b / 16 ≡ f.0 = omega (arith, f.5, high.0, low.0) in
         let low-is : b % 16 ≡ f.1 = omega (arith, f.5, high.0, low.0) in
-        let back : x ≡ 92 = eqb-true x 92 is in
-        (omega (arith, f.5, high.0, low.0), rw (spelled-escaped b (rw (← y-is) f.4), high-is, low-is, high.1, low.1, back, left) refl)
+        let back : x ≡ 92 = eqb-true x 92 is in (
+          omega (arith, f.5, high.0, low.0),
+          rw (spelled-escaped b (rw (← y-is) f.4), high-is, low-is, high.1, low.1, back, left) refl,
+        )
 
-char-found : (bytes : List ℕ) (b : ℕ) (rest : List ℕ) → char_at bytes ≡ Some (b, rest) → (b < 256) × (bytes ≡ spelled_byte b ++ rest)
+char-found : (bytes : List ℕ) (b : ℕ) (rest : List ℕ) → char_at bytes ≡ Some (b, rest)
+    → (b < 256) × (bytes ≡ spelled_byte b ++ rest)
 char-found [] b rest e = absurd cc
 char-found (x ∷ []) b rest e = let p = then_given (is_plain x) (char x []) (b, rest) e in one_char x [] b rest p.0 p.1
-char-found (x ∷ c ∷ []) b rest e = let p = then_given (is_plain x) (char x (c ∷ [])) (b, rest) e in one_char x (c ∷ []) b rest p.0 p.1
+char-found (x ∷ c ∷ []) b rest e =
+    let p = then_given (is_plain x) (char x (c ∷ [])) (b, rest) e in one_char x (c ∷ []) b rest p.0 p.1
 char-found (x ∷ c ∷ d ∷ after) b rest e = by (is_plain x) (eqb x 92) refl refl e
   where
-    by : (t u : Bool) → is_plain x ≡ t → eqb x 92 ≡ u → cond t (char x (c ∷ d ∷ after)) (cond u (before after (escape_of (hex_value c) (hex_value d))) None) ≡ char b rest
+    by : (t u : Bool) → is_plain x ≡ t → eqb x 92 ≡ u
+        → cond t (char x (c ∷ d ∷ after)) (cond u (before after (escape_of (hex_value c) (hex_value d))) None)
+        ≡ char b rest
         → (b < 256) × (x ∷ c ∷ d ∷ after ≡ spelled_byte b ++ rest)
     by true u t is h = one_char x (c ∷ d ∷ after) b rest t h
     by false true t is h = escaped_char x c d after b rest is h
@@ -161,35 +177,43 @@ unspelled-bad n [] some e = absurd (omega arith)
 unspelled-bad zero (b ∷ bs) some e = refl
 unspelled-bad (suc n) (b ∷ bs) some e = rw e refl
 
-step : (m : ℕ) (rest : List ℕ) (b : ℕ) (after : List ℕ) → 0 < length rest → char_at rest ≡ Some (b, after) → unspelled_within (suc m) rest ≡ option_map (λ t. b ∷ t) (unspelled_within m after)
+step : (m : ℕ) (rest : List ℕ) (b : ℕ) (after : List ℕ) → 0 < length rest → char_at rest ≡ Some (b, after)
+    → unspelled_within (suc m) rest ≡ option_map (λ t. b ∷ t) (unspelled_within m after)
 unfolding unspelled_within
 step m [] b after some e = absurd (omega arith)
 step m (x ∷ xs) b after some e = rw e refl
 
-pub unspelled-step : (n m : ℕ) (rest : List ℕ) (b : ℕ) (after : List ℕ) → n ≡ m + 1 → 0 < length rest → char_at rest ≡ Some (b, after) → unspelled_within n rest ≡ option_map (λ t. b ∷ t) (unspelled_within m after)
+pub unspelled-step : (n m : ℕ) (rest : List ℕ) (b : ℕ) (after : List ℕ) → n ≡ m + 1 → 0 < length rest
+    → char_at rest ≡ Some (b, after) → unspelled_within n rest ≡ option_map (λ t. b ∷ t) (unspelled_within m after)
 unspelled-step n m [] b after is some e = absurd (omega arith)
 unspelled-step n m (x ∷ xs) b after is some e = rw (is, add-one) (step m (x ∷ xs) b after some e)
 
-pub onto-text : (text : List ℕ) (b : ℕ) (x : Option (List ℕ)) → option_map (λ t. (text ++ b ∷ []) ++ t) x ≡ option_map (λ t. text ++ t) (option_map (λ t. b ∷ t) x)
+pub onto-text : (text : List ℕ) (b : ℕ) (x : Option (List ℕ))
+    → option_map (λ t. (text ++ b ∷ []) ++ t) x ≡ option_map (λ t. text ++ t) (option_map (λ t. b ∷ t) x)
 onto-text text b None = refl
 onto-text text b (Some t) = ap Some (append_assoc text (b ∷ []) t)
 
-pub text-found : (n : ℕ) (bytes t : List ℕ) → unspelled_within n bytes ≡ Some t → AllByRecursion (λ b. b < 256) t × (bytes ≡ spelled t)
+pub text-found : (n : ℕ) (bytes t : List ℕ) → unspelled_within n bytes ≡ Some t
+    → AllByRecursion (λ b. b < 256) t × (bytes ≡ spelled t)
 unfolding unspelled_within
-text-found n [] t e = let p : [] ≡ t = cc in subst (λ (x : List ℕ). AllByRecursion (λ b. b < 256) x × ([] ≡ spelled x)) p (tt, refl)
+text-found n [] t e =
+    let p : [] ≡ t = cc in subst (λ (x : List ℕ). AllByRecursion (λ b. b < 256) x × ([] ≡ spelled x)) p (tt, refl)
 text-found zero (b ∷ bs) t e = absurd cc
 text-found (suc n) (b ∷ bs) t e =
     option_and_then_some (λ x. option_map (λ r. x.0 ∷ r) (unspelled_within n x.1)) (char_at (b ∷ bs)) t e (λ x is more.
     let c = char-found (b ∷ bs) x.0 x.1 is in
     by x.0 x.1 (unspelled_within n x.1) refl more c (λ r h. text-found n x.1 r h))
   where
-    by : (y : ℕ) (left : List ℕ) (o : Option (List ℕ)) → unspelled_within n left ≡ o → option_map (λ r. y ∷ r) o ≡ Some t → (y < 256) × (b ∷ bs ≡ spelled_byte y ++ left)
-        → ((r : List ℕ) → unspelled_within n left ≡ Some r → AllByRecursion (λ z. z < 256) r × (left ≡ spelled r)) → AllByRecursion (λ z. z < 256) t × (b ∷ bs ≡ spelled t)
+    by : (y : ℕ) (left : List ℕ) (o : Option (List ℕ)) → unspelled_within n left ≡ o
+        → option_map (λ r. y ∷ r) o ≡ Some t → (y < 256) × (b ∷ bs ≡ spelled_byte y ++ left)
+        → ((r : List ℕ) → unspelled_within n left ≡ Some r → AllByRecursion (λ z. z < 256) r × (left ≡ spelled r))
+        → AllByRecursion (λ z. z < 256) t × (b ∷ bs ≡ spelled t)
     by y left None p h c others = absurd cc
     by y left (Some r) p h c others =
         let q : y ∷ r ≡ t = cc in
         let o = others r p in
-        subst (λ (x : List ℕ). AllByRecursion (λ z. z < 256) x × (b ∷ bs ≡ spelled x)) q ((c.0, o.0), c.1 ∙ ap (λ (w : List ℕ). spelled_byte y ++ w) o.1)
+        subst (λ (x : List ℕ). AllByRecursion (λ z. z < 256) x × (b ∷ bs ≡ spelled x)) q
+        ((c.0, o.0), c.1 ∙ ap (λ (w : List ℕ). spelled_byte y ++ w) o.1)
 
 -- a spelling has at least one byte for each
 spelled_byte-some : (b : ℕ) → 0 < length (spelled_byte b)
@@ -203,14 +227,18 @@ starts : (bytes : List ℕ) (b : ℕ) (rest : List ℕ) → char_at bytes ≡ ch
 starts [] b rest e = absurd cc
 starts (x ∷ xs) b rest e = omega arith
 
-pub text-again : (t : List ℕ) (n : ℕ) → AllByRecursion (λ b. b < 256) t → length (spelled t) ≤ n → unspelled_within n (spelled t) ≡ Some t
+pub text-again : (t : List ℕ) (n : ℕ) → AllByRecursion (λ b. b < 256) t → length (spelled t) ≤ n
+    → unspelled_within n (spelled t) ≡ Some t
 text-again [] n fits room = unspelled-nil n [] refl
-text-again (b ∷ t) zero fits room = absurd (omega (arith, spelled_byte-some b, length-append (spelled_byte b) (spelled t)))
+text-again (b ∷ t) zero fits room =
+    absurd (omega (arith, spelled_byte-some b, length-append (spelled_byte b) (spelled t)))
 text-again (b ∷ t) (suc n) fits room =
     let c = char-again b (spelled t) fits.0 in
     let some = starts (spelled_byte b ++ spelled t) b (spelled t) c in
-    let fewer : length (spelled t) ≤ n = omega (arith, spelled_byte-some b, length-append (spelled_byte b) (spelled t)) in
-    unspelled-step (suc n) n (spelled_byte b ++ spelled t) b (spelled t) (omega arith) some c ∙ rw (text-again t n fits.1 fewer) refl
+    let fewer : length (spelled t) ≤ n =
+    omega (arith, spelled_byte-some b, length-append (spelled_byte b) (spelled t)) in
+    unspelled-step (suc n) n (spelled_byte b ++ spelled t) b (spelled t) (omega arith) some c
+    ∙ rw (text-again t n fits.1 fewer) refl
 
 spelled-line : (t : List ℕ) → AllByRecursion (λ b. b < 256) t → has 10 (spelled t) ≡ false
 spelled-line [] fits = refl
@@ -221,7 +249,8 @@ short-found word t e =
     option_and_then_some (λ x. cond (ltb 30000 (length x)) None (Some x)) (unspelled word) t e (λ x is short.
     let p = else_given (ltb 30000 (length x)) (Some x) t short in
     let f = text-found (length word) word x is in
-    subst (λ (y : List ℕ). IsText y × (word ≡ spelled y)) (same_value x t p.1) (record { short = ltb-false _ _ p.0; bytes = All-from_recursion (λ y. y < 256) x f.0 }, f.1))
+    subst (λ (y : List ℕ). IsText y × (word ≡ spelled y)) (same_value x t p.1)
+    (record { short = ltb-false _ _ p.0; bytes = All-from_recursion (λ y. y < 256) x f.0 }, f.1))
 
 text-bytes : (t : List ℕ) → IsText t → AllByRecursion (λ b. b < 256) t
 text-bytes t h = recursion_from_All (λ b. b < 256) t h.bytes
@@ -237,10 +266,16 @@ texts = record { found = short-found; again = short-again; line = λ t h. spelle
 
 -- the same, of any length
 pub long_texts : Spelled unspelled (λ t. AllByRecursion (λ b. b < 256) t) spelled
-long_texts = record { found = λ word t e. text-found (length word) word t e; again = λ t h. text-again t (length (spelled t)) h (omega arith); line = spelled-line }
+long_texts = record {
+  found = λ word t e. text-found (length word) word t e;
+  again = λ t h. text-again t
+      (length (spelled t)) h (omega arith);
+  line = spelled-line;
+}
 
 -- bytes that are read as no text spell none
 pub no_text : (bytes : List ℕ) → unspelled bytes ≡ None → (t : List ℕ) → All (λ b. b < 256) t → bytes ≢ spelled t
 no_text bytes none t fits is =
-    let again : unspelled bytes ≡ Some t = ap unspelled is ∙ text-again t (length (spelled t)) (recursion_from_All (λ b. b < 256) t fits) (omega arith) in
+    let again : unspelled bytes ≡ Some t =
+    ap unspelled is ∙ text-again t (length (spelled t)) (recursion_from_All (λ b. b < 256) t fits) (omega arith) in
     cc

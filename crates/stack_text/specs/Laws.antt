@@ -1,5 +1,6 @@
 -- When bytes are the text of a stack, and what the reading of bytes has to do with it.
-use Rattle.std.specs.Prelude.{◌≡◌, ◌↔◌, ◌⊎◌, ℕ, zero, suc, ◌<◌, true, false, List, [], ◌∷◌, ◌++◌, length, take, Ok, Err, Result, IfSome, ◌==◌, if◌then◌else◌}
+use Rattle.std.specs.Prelude.{◌≡◌, ◌↔◌, ◌⊎◌, ℕ, zero, suc, ◌<◌, true, false, List, [], ◌∷◌, ◌++◌, length, take, Ok}
+use Rattle.std.specs.Prelude.{Err, Result, IfSome, ◌==◌, if◌then◌else◌}
 use Rattle.object_table.specs.Content.{Content}
 use Rattle.object_table.specs.Objects.{object_at}
 use Rattle.object_table.specs.PartContents.{hilite_at}
@@ -59,7 +60,8 @@ IsOfVersion v bytes = take 10 bytes ≡ header v ++ 10 ∷ []
 
 -- what is read of version 2 is written as it was
 abbrev pub ReadIsWritten : Type 0
-ReadIsWritten = (bytes : List ℕ) (s : Content) → IsOfVersion second bytes → stack_in bytes ≡ Ok s → spelling second s ≡ bytes
+ReadIsWritten =
+    (bytes : List ℕ) (s : Content) → IsOfVersion second bytes → stack_in bytes ≡ Ok s → spelling second s ≡ bytes
 
 -- what is read of either version, written in version 2 and read again, is the same stack
 abbrev pub ReadsAgain : Type 0
@@ -88,12 +90,15 @@ pub record HasFaultAt (bytes : List ℕ) (fault : FileError) (n : ℕ) : Type 0 
 
 -- a fault is that of its line, which depends on the lines up to it alone
 abbrev pub FaultIsOfItsLine : Type 0
-FaultIsOfItsLine = (bytes : List ℕ) (fault : FileError) → stack_in bytes ≡ Err fault → ¬ (fault ≡ Truncated) → (n : ℕ) × HasFaultAt bytes fault n
+FaultIsOfItsLine = (bytes : List ℕ) (fault : FileError) → stack_in bytes ≡ Err fault → ¬ (fault ≡ Truncated)
+    → (n : ℕ) × HasFaultAt bytes fault n
 
 -- each proper prefix of a text of a stack is truncated
 abbrev pub PrefixIsTruncated : Type 0
-PrefixIsTruncated = (bytes : List ℕ) (s : Content) → Spells bytes s → (k : ℕ) → k < length bytes → stack_in (take k bytes) ≡ Err Truncated
+PrefixIsTruncated = (bytes : List ℕ) (s : Content) → Spells bytes s → (k : ℕ) → k < length bytes
+    → stack_in (take k bytes) ≡ Err Truncated
 
 -- a text of a stack and then a byte more have a bad line
 abbrev pub MoreIsBadLine : Type 0
-MoreIsBadLine = (bytes : List ℕ) (s : Content) → Spells bytes s → (b : ℕ) (behind : List ℕ) → (n : ℕ) × (stack_in (bytes ++ b ∷ behind) ≡ Err (BadLine n))
+MoreIsBadLine = (bytes : List ℕ) (s : Content) → Spells bytes s → (b : ℕ) (behind : List ℕ)
+    → (n : ℕ) × (stack_in (bytes ++ b ∷ behind) ≡ Err (BadLine n))

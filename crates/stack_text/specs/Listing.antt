@@ -1,5 +1,6 @@
 -- A stack as the document that lists it, and the stack that a document lists.
-use Rattle.std.specs.Prelude.{ℕ, Bool, false, List, [], ◌∷◌, ◌++◌, map, flat_map, filter_map, Option, Some, None, unwrap_or, option_map}
+use Rattle.std.specs.Prelude.{ℕ, Bool, false, List, [], ◌∷◌, ◌++◌, map, flat_map, filter_map, Option, Some, None}
+use Rattle.std.specs.Prelude.{unwrap_or, option_map}
 use Rattle.std.specs.FinMap.{from_entries}
 use Rattle.object_table.specs.Content.{Content}
 use Rattle.object_table.specs.Pairs.{Pair}
@@ -7,7 +8,8 @@ use Rattle.object_table.specs.Objects.{object_at, parts_at}
 use Rattle.object_table.specs.PartContents.{text_at, hilite_at}
 use Rattle.object_table.specs.declared.object.Object.{Object}
 use Rattle.object_table.specs.declared.object.Kind.{Kind}
-use Rattle.object_table.specs.declared.object.Kind.TheVariants.{Stack, Background, Card, CardButton, BackgroundButton, CardField, BackgroundField}
+use Rattle.object_table.specs.declared.object.Kind.TheVariants.{Stack, Background, Card, CardButton, BackgroundButton}
+use Rattle.object_table.specs.declared.object.Kind.TheVariants.{CardField, BackgroundField}
 use Rattle.stack_text.specs.declared.sheets.PartContent.{PartContent}
 use Rattle.stack_text.specs.declared.sheets.PartContent.TheVariants.{Nothing, Written, Lit}
 use Rattle.stack_text.specs.declared.sheets.Part.{Part}
@@ -31,7 +33,8 @@ content_by (Card b c) text lit = Nothing
 
 -- what is kept for a part on a card, or on card 0 what is shared
 abbrev pub content_at : Content → ℕ → ℕ → PartContent
-content_at s card part = content_by (object_or s part).kind (unwrap_or (text_at s part card) []) (unwrap_or (hilite_at s part card) false)
+content_at s card part =
+    content_by (object_or s part).kind (unwrap_or (text_at s part card) []) (unwrap_or (hilite_at s part card) false)
 
 abbrev pub part_of : Content → ℕ → ℕ → Part
 part_of s card id = record { id = id; object = object_or s id; content = content_at s card id }
@@ -40,7 +43,8 @@ abbrev pub keeping_of : Content → ℕ → ℕ → Keeping
 keeping_of s card id = record { part = id; content = content_at s card id }
 
 abbrev pub background_sheet : Content → ℕ → Sheet
-background_sheet s id = record { id = id; object = object_or s id; parts = map (part_of s 0) (parts_at s id); keepings = [] }
+background_sheet s id =
+    record { id = id; object = object_or s id; parts = map (part_of s 0) (parts_at s id); keepings = [] }
 
 abbrev pub card_sheet : Content → ℕ → Sheet
 card_sheet s id = record {
@@ -52,7 +56,12 @@ card_sheet s id = record {
 
 -- the document that lists a stack
 abbrev pub document_of : Content → Document
-document_of s = record { next = s.next; stack = object_or s 0; backgrounds = map (background_sheet s) s.backgrounds; cards = map (card_sheet s) s.cards }
+document_of s = record {
+  next = s.next;
+  stack = object_or s 0;
+  backgrounds = map (background_sheet s) s.backgrounds;
+  cards = map (card_sheet s) s.cards;
+}
 
 -- The way back: the stack that a document lists.
 
@@ -87,7 +96,8 @@ abbrev pub content_entries : {X : Type 0} → (PartContent → Option X) → ℕ
 content_entries pick card contents = filter_map (content_entry pick card) contents
 
 abbrev pub all_contents : {X : Type 0} → (PartContent → Option X) → Document → List (Pair × X)
-all_contents pick d = content_entries pick 0 (flat_map contents_on d.backgrounds) ++ flat_map (λ c. content_entries pick c.id (contents_on c)) d.cards
+all_contents pick d = content_entries pick 0 (flat_map contents_on d.backgrounds)
+    ++ flat_map (λ c. content_entries pick c.id (contents_on c)) d.cards
 
 abbrev pub all_objects : Document → List (ℕ × Object)
 all_objects d = (0, d.stack) ∷ flat_map object_entries d.backgrounds ++ flat_map object_entries d.cards

@@ -1,12 +1,15 @@
 -- Reading line by line, with the first fault that is met.
-use Rattle.std.specs.Prelude.{true, false, ◌≡◌, ℕ, zero, suc, ◌+◌, ◌-◌, ◌&&◌, ◌||◌, not, Bool, List, [], ◌∷◌, ◌++◌, length, take, drop, codes, position, Option, Some, None, Result, Ok, Err, nat_lt, nat_le, nat_eq, ◌==◌, if◌then◌else◌, option_map, option_and_then, refl}
+use Rattle.std.specs.Prelude.{true, false, ◌≡◌, ℕ, zero, suc, ◌+◌, ◌-◌, ◌&&◌, ◌||◌, not, Bool, List, [], ◌∷◌, ◌++◌}
+use Rattle.std.specs.Prelude.{length, take, drop, codes, position, Option, Some, None, Result, Ok, Err, nat_lt, nat_le}
+use Rattle.std.specs.Prelude.{nat_eq, ◌==◌, if◌then◌else◌, option_map, option_and_then, refl}
 use Rattle.std.specs.Coded.{Coded, code_by, coded×, coded_ℕ, coded_list}
 use Rattle.std.specs.List.{list_all, list_any, join_with_byte}
 use Rattle.ht_values.specs.declared.word.PartKind.{PartKind}
 use Rattle.ht_values.specs.declared.word.PartKind.TheVariants.{Button, Field}
 use Rattle.object_table.specs.declared.object.Object.{Object}
 use Rattle.object_table.specs.declared.object.Kind.{Kind}
-use Rattle.object_table.specs.declared.object.Kind.TheVariants.{Stack, Background, Card, CardButton, BackgroundButton, CardField, BackgroundField}
+use Rattle.object_table.specs.declared.object.Kind.TheVariants.{Stack, Background, Card, CardButton, BackgroundButton}
+use Rattle.object_table.specs.declared.object.Kind.TheVariants.{CardField, BackgroundField}
 use Rattle.stack_text.specs.declared.sheets.PartContent.TheVariants.{Nothing, Written, Lit}
 use Rattle.stack_text.specs.declared.sheets.Part.{Part}
 use Rattle.stack_text.specs.declared.sheets.Keeping.{Keeping}
@@ -26,7 +29,8 @@ pub record Position : Type 0 where
   pub used : List ℕ
 
 abbrev pub coded_position : Coded Position
-coded_position = code_by (List ℕ × (ℕ × List ℕ)) (coded× (coded_list coded_ℕ) (coded× coded_ℕ (coded_list coded_ℕ))) (λ s. (s.bytes, (s.number, s.used))) (λ p. record { bytes = p.0; number = p.1.0; used = p.1.1 }) (λ _. refl)
+coded_position = code_by (List ℕ × (ℕ × List ℕ)) (coded× (coded_list coded_ℕ) (coded× coded_ℕ (coded_list coded_ℕ)))
+    (λ s. (s.bytes, (s.number, s.used))) (λ p. record { bytes = p.0; number = p.1.0; used = p.1.1 }) (λ _. refl)
 
 -- a reading of the next lines: a value and what is left, or the first fault
 abbrev pub Reader : Type 0 → Type 0
@@ -46,7 +50,8 @@ give x start = Ok (x, start)
 -- the four faults, in the order in which they count within a line
 abbrev pub cut_at : Position → Option ℕ → Result (List ℕ × Position) FileError
 cut_at start None = Err Truncated
-cut_at start (Some i) = Ok (take i start.bytes, record start { bytes = drop (i + 1) start.bytes; number = start.number + 1 })
+cut_at start (Some i) =
+    Ok (take i start.bytes, record start { bytes = drop (i + 1) start.bytes; number = start.number + 1 })
 
 unfoldable pub next_line : Reader (List ℕ)
 next_line start = cut_at start (position (λ b. b == 10) start.bytes)
@@ -87,7 +92,8 @@ for_each (a ∷ as') r = do
 
 -- what follows a prefix
 abbrev pub after_prefix : List ℕ → List ℕ → Option (List ℕ)
-after_prefix prefix xs = if pointwise nat_eq (take (length prefix) xs) prefix then Some (drop (length prefix) xs) else None
+after_prefix prefix xs =
+    if pointwise nat_eq (take (length prefix) xs) prefix then Some (drop (length prefix) xs) else None
 
 -- the text that is spelled, if it has at most 30,000 bytes
 abbrev pub short_text : List ℕ → Option (List ℕ)
@@ -99,7 +105,8 @@ at_least least line = option_and_then (λ n. if nat_lt n least then None else So
 
 -- the flag that is spelled
 abbrev pub flag_at : List ℕ → Option Bool
-flag_at line = if pointwise nat_eq line (codes "true") then Some true else (if pointwise nat_eq line (codes "false") then Some false else None)
+flag_at line = if pointwise nat_eq line (codes "true") then Some true else
+    (if pointwise nat_eq line (codes "false") then Some false else None)
 
 -- a number of pieces: at most 30,001
 abbrev pub count_at : List ℕ → Option ℕ
@@ -107,7 +114,8 @@ count_at line = option_and_then (λ n. if nat_le n 30001 then Some n else None) 
 
 -- A piece of a text: no return is in it, it is shorter than the room, and it isn't empty where it is alone.
 abbrev pub is_piece : Bool → ℕ → List ℕ → Bool
-is_piece alone room piece = not (list_any (λ b. b == 13) piece) && (nat_lt (length piece) room && not (alone && (length piece == 0)))
+is_piece alone room piece =
+    not (list_any (λ b. b == 13) piece) && (nat_lt (length piece) room && not (alone && (length piece == 0)))
 
 abbrev pub piece_at : Bool → ℕ → List ℕ → Option (List ℕ)
 piece_at alone room line = option_and_then (λ p. if is_piece alone room p then Some p else None) (unspelled line)
@@ -204,7 +212,8 @@ first_of None other = option_map (λ id. (Field, id)) other
 
 -- the kind and the id of a part
 abbrev pub part_header : List ℕ → Option (PartKind × ℕ)
-part_header line = first_of (option_and_then number_at (after_prefix (codes "button ") line)) (option_and_then number_at (after_prefix (codes "field ") line))
+part_header line = first_of (option_and_then number_at (after_prefix (codes "button ") line))
+    (option_and_then number_at (after_prefix (codes "field ") line))
 
 -- version 1 has no such line, and this stands for it
 abbrev pub in_second_or : Version → Bool → Reader Bool → Reader Bool
@@ -219,7 +228,11 @@ background_button_at v id = do
   shared ← in_second_or v true (flag_after (codes "sharedHilite "))
   lit ← flag_after (codes "hilite ")
   script ← script_at
-  give (record { id = id; object = record { name = name; script = script; kind = BackgroundButton visible shared }; content = Lit lit })
+  give (record {
+    id = id;
+    object = record { name = name; script = script; kind = BackgroundButton visible shared };
+    content = Lit lit;
+  })
 
 unfoldable pub background_field_at : ℕ → Reader Part
 background_field_at id = do
@@ -229,7 +242,12 @@ background_field_at id = do
   shared ← flag_after (codes "sharedText ")
   script ← script_at
   text ← block_after (codes "shared ")
-  give (record { id = id; object = record { name = name; script = script; kind = BackgroundField visible locked shared }; content = Written text })
+  give (record {
+    id = id;
+    object =
+        record { name = name; script = script; kind = BackgroundField visible locked shared };
+    content = Written text;
+  })
 
 unfoldable pub background_part_at : Version → PartKind × ℕ → Reader Part
 background_part_at v (Button, id) = background_button_at v id
@@ -242,7 +260,12 @@ card_button_at id = do
   visible ← flag_after (codes "visible ")
   lit ← flag_after (codes "hilite ")
   script ← script_at
-  give (record { id = id; object = record { name = name; script = script; kind = CardButton visible lit }; content = Nothing })
+  give (record {
+    id = id;
+    object = record { name = name; script = script; kind = CardButton visible lit };
+    content =
+        Nothing;
+  })
 
 unfoldable pub card_field_at : ℕ → Reader Part
 card_field_at id = do
@@ -251,7 +274,12 @@ card_field_at id = do
   locked ← flag_after (codes "lockText ")
   script ← script_at
   text ← block_after (codes "text ")
-  give (record { id = id; object = record { name = name; script = script; kind = CardField visible locked }; content = Written text })
+  give (record {
+    id = id;
+    object = record { name = name; script = script; kind = CardField visible locked };
+    content =
+        Written text;
+  })
 
 unfoldable pub card_part_at : PartKind × ℕ → Reader Part
 card_part_at (Button, id) = card_button_at id
@@ -293,7 +321,13 @@ background_at v next = do
   id ← background_header_at next
   layer ← layer_at
   parts ← parts_at next (background_part_at v)
-  give (record { id = id; object = record { name = layer.0; script = layer.2; kind = Background layer.1 }; parts = parts; keepings = [] })
+  give (record {
+    id = id;
+    object = record { name = layer.0; script = layer.2; kind = Background layer.1 };
+    parts =
+        parts;
+    keepings = [];
+  })
 
 -- the text that a card keeps for a field that is due, and the hilite for a button that is due
 unfoldable pub own_text_at : ℕ → Reader Keeping
@@ -333,13 +367,20 @@ card_at v next backgrounds = do
   layer ← layer_at
   parts ← parts_at next card_part_at
   keepings ← for_each (parts_of backgrounds head.1) (keeping_at v)
-  give (record { id = head.0; object = record { name = layer.0; script = layer.2; kind = Card head.1 layer.1 }; parts = parts; keepings = keepings })
+  give (record {
+    id = head.0;
+    object = record { name = layer.0; script = layer.2; kind = Card head.1 layer.1 };
+    parts =
+        parts;
+    keepings = keepings;
+  })
 
 -- ---- the whole
 
 -- one of the versions that are read
 abbrev pub version_at : List ℕ → Option Version
-version_at line = if pointwise nat_eq line (codes "1") then Some first else (if pointwise nat_eq line (codes "2") then Some second else None)
+version_at line = if pointwise nat_eq line (codes "1") then Some first else
+    (if pointwise nat_eq line (codes "2") then Some second else None)
 
 -- the end: each background has a card by then, and nothing stands after it
 abbrev pub nothing_left : Reader (Unit {0})

@@ -1,7 +1,8 @@
 -- The text of a document, in two versions.
 use Rattle.std.specs.Prelude.{ℕ, Bool, false, List, [], ◌∷◌, ◌++◌, length, flat_map, codes}
 use Rattle.object_table.specs.declared.object.Kind.{Kind}
-use Rattle.object_table.specs.declared.object.Kind.TheVariants.{Stack, Background, Card, CardButton, BackgroundButton, CardField, BackgroundField}
+use Rattle.object_table.specs.declared.object.Kind.TheVariants.{Stack, Background, Card, CardButton, BackgroundButton}
+use Rattle.object_table.specs.declared.object.Kind.TheVariants.{CardField, BackgroundField}
 use Rattle.stack_text.specs.declared.sheets.PartContent.{PartContent}
 use Rattle.stack_text.specs.declared.sheets.PartContent.TheVariants.{Nothing, Written, Lit}
 use Rattle.stack_text.specs.declared.sheets.Part.{Part}
@@ -40,10 +41,17 @@ lit_or_not Nothing = false
 
 -- a part by its kind, with its name, its script and what is kept
 abbrev pub lines_by : Version → ℕ → List ℕ → List ℕ → PartContent → Kind → List (List ℕ)
-lines_by v id name script content (CardButton visible lit) = numbered (codes "button") id ∷ name_line name ∷ flagged (codes "visible") visible ∷ flagged (codes "hilite") lit ∷ script_lines script
-lines_by v id name script content (BackgroundButton visible shared) = numbered (codes "button") id ∷ name_line name ∷ flagged (codes "visible") visible ∷ in_second v (flagged (codes "sharedHilite") shared ∷ []) ++ flagged (codes "hilite") (lit_or_not content) ∷ script_lines script
-lines_by v id name script content (CardField visible locked) = numbered (codes "field") id ∷ name_line name ∷ flagged (codes "visible") visible ∷ flagged (codes "lockText") locked ∷ script_lines script ++ block (codes "text") (text_or_none content)
-lines_by v id name script content (BackgroundField visible locked shared) = numbered (codes "field") id ∷ name_line name ∷ flagged (codes "visible") visible ∷ flagged (codes "lockText") locked ∷ flagged (codes "sharedText") shared ∷ script_lines script ++ block (codes "shared") (text_or_none content)
+lines_by v id name script content (CardButton visible lit) = numbered (codes "button") id ∷ name_line name
+    ∷ flagged (codes "visible") visible ∷ flagged (codes "hilite") lit ∷ script_lines script
+lines_by v id name script content (BackgroundButton visible shared) = numbered (codes "button") id ∷ name_line name
+    ∷ flagged (codes "visible") visible ∷ in_second v (flagged (codes "sharedHilite") shared ∷ [])
+    ++ flagged (codes "hilite") (lit_or_not content) ∷ script_lines script
+lines_by v id name script content (CardField visible locked) = numbered (codes "field") id ∷ name_line name
+    ∷ flagged (codes "visible") visible ∷ flagged (codes "lockText") locked ∷ script_lines script
+    ++ block (codes "text") (text_or_none content)
+lines_by v id name script content (BackgroundField visible locked shared) = numbered (codes "field") id ∷ name_line name
+    ∷ flagged (codes "visible") visible ∷ flagged (codes "lockText") locked ∷ flagged (codes "sharedText") shared
+    ∷ script_lines script ++ block (codes "shared") (text_or_none content)
 lines_by v id name script content Stack = []
 lines_by v id name script content (Background c) = []
 lines_by v id name script content (Card b c) = []
@@ -73,17 +81,22 @@ abbrev pub parts_lines : Version → List Part → List (List ℕ)
 parts_lines v parts = numbered (codes "parts") (length parts) ∷ flat_map (part_lines v) parts
 
 abbrev pub background_lines : Version → Sheet → List (List ℕ)
-background_lines v s = numbered (codes "background") s.id ∷ layer_lines s.object.name s.object.script (cant_delete_of s.object.kind) ++ parts_lines v s.parts
+background_lines v s = numbered (codes "background") s.id
+    ∷ layer_lines s.object.name s.object.script (cant_delete_of s.object.kind) ++ parts_lines v s.parts
 
 abbrev pub card_lines : Version → Sheet → List (List ℕ)
-card_lines v s = numbered (numbered (codes "card") s.id) (background_or s.object.kind) ∷ layer_lines s.object.name s.object.script (cant_delete_of s.object.kind) ++ (parts_lines v s.parts ++ flat_map (keeping_lines v) s.keepings)
+card_lines v s = numbered (numbered (codes "card") s.id) (background_or s.object.kind)
+    ∷ layer_lines s.object.name s.object.script (cant_delete_of s.object.kind)
+    ++ (parts_lines v s.parts ++ flat_map (keeping_lines v) s.keepings)
 
 -- so many sheets, and the lines of each
 abbrev pub sheets_lines : List ℕ → (Sheet → List (List ℕ)) → List Sheet → List (List ℕ)
 sheets_lines key lines sheets = numbered key (length sheets) ∷ flat_map lines sheets
 
 abbrev pub document_lines : Version → Document → List (List ℕ)
-document_lines v d = header v ∷ numbered (codes "next") d.next ∷ name_line d.stack.name ∷ script_lines d.stack.script ++ (sheets_lines (codes "backgrounds") (background_lines v) d.backgrounds ++ (sheets_lines (codes "cards") (card_lines v) d.cards ++ codes "end" ∷ []))
+document_lines v d = header v ∷ numbered (codes "next") d.next ∷ name_line d.stack.name ∷ script_lines d.stack.script
+    ++ (sheets_lines (codes "backgrounds") (background_lines v) d.backgrounds
+    ++ (sheets_lines (codes "cards") (card_lines v) d.cards ++ codes "end" ∷ []))
 
 abbrev pub document_text : Version → Document → List ℕ
 document_text v d = ended_lines (document_lines v d)

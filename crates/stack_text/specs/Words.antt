@@ -1,5 +1,7 @@
 -- How texts, numbers and flags are spelled on a line.
-use Rattle.std.specs.Prelude.{ℕ, zero, suc, ◌+◌, ◌*◌, ◌-◌, ◌/◌, ◌%◌, ◌&&◌, ◌||◌, not, Bool, true, false, List, [], ◌∷◌, ◌++◌, length, Option, Some, None, decimal, codes, map, flat_map, nat_lt, nat_le, ◌==◌, if◌then◌else◌}
+use Rattle.std.specs.Prelude.{ℕ, zero, suc, ◌+◌, ◌*◌, ◌-◌, ◌/◌, ◌%◌, ◌&&◌, ◌||◌, not, Bool, true, false, List, [], ◌∷◌}
+use Rattle.std.specs.Prelude.{◌++◌, length, Option, Some, None, decimal, codes, map, flat_map, nat_lt, nat_le, ◌==◌}
+use Rattle.std.specs.Prelude.{if◌then◌else◌}
 use Rattle.std.specs.Option.{option_map, option_and_then}
 use Rattle.ht_values.specs.Delimited.{delimited}
 
@@ -40,7 +42,8 @@ block key text = numbered key (length (delimited 13 text)) ∷ map barred (delim
 
 -- the value of a lower-case hexadecimal digit
 abbrev pub hex_value : ℕ → Option ℕ
-hex_value d = if nat_le 48 d && nat_le d 57 then Some (d - 48) else (if nat_le 97 d && nat_le d 102 then Some (d - 87) else None)
+hex_value d =
+    if nat_le 48 d && nat_le d 57 then Some (d - 48) else (if nat_le 97 d && nat_le d 102 then Some (d - 87) else None)
 
 -- a byte that does not stand for itself, by the values of its two digits
 abbrev pub escape_of : Option ℕ → Option ℕ → Option ℕ
@@ -53,13 +56,15 @@ abbrev pub char_at : List ℕ → Option (ℕ × List ℕ)
 char_at [] = None
 char_at (b ∷ []) = if is_plain b then Some (b, []) else None
 char_at (b ∷ c ∷ []) = if is_plain b then Some (b, c ∷ []) else None
-char_at (b ∷ c ∷ d ∷ rest) = if is_plain b then Some (b, c ∷ d ∷ rest) else (if b == 92 then option_map (λ x. (x, rest)) (escape_of (hex_value c) (hex_value d)) else None)
+char_at (b ∷ c ∷ d ∷ rest) = if is_plain b then Some (b, c ∷ d ∷ rest) else
+    (if b == 92 then option_map (λ x. (x, rest)) (escape_of (hex_value c) (hex_value d)) else None)
 
 -- the text of a spelling, where it has no more than so many bytes
 unfoldable pub unspelled_within : ℕ → List ℕ → Option (List ℕ)
 unspelled_within n [] = Some []
 unspelled_within zero (b ∷ bs) = None
-unspelled_within (suc n) (b ∷ bs) = option_and_then (λ x. option_map (λ t. x.0 ∷ t) (unspelled_within n x.1)) (char_at (b ∷ bs))
+unspelled_within (suc n) (b ∷ bs) =
+    option_and_then (λ x. option_map (λ t. x.0 ∷ t) (unspelled_within n x.1)) (char_at (b ∷ bs))
 
 -- the text that is spelled
 abbrev pub unspelled : List ℕ → Option (List ℕ)

@@ -1,6 +1,7 @@
 //! What the definitions of the stack text promise.
 
-ghost use Rattle.stack_text.specs.Laws.{ReadsEachText, OneStack, WrittenIsRead, ReadIsWritten, ReadsAgain, FaultIsOfItsLine, PrefixIsTruncated, MoreIsBadLine};
+ghost use Rattle.stack_text.specs.Laws.{ReadsEachText, OneStack, WrittenIsRead, ReadIsWritten, ReadsAgain};
+ghost use Rattle.stack_text.specs.Laws.{FaultIsOfItsLine, PrefixIsTruncated, MoreIsBadLine};
 
 /// Bytes are read as a stack exactly where they are a text of it.
 pub fn reads_each_text()

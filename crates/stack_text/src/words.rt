@@ -1,8 +1,11 @@
 //! Texts and numbers as words of a line.
 
-ghost use Rattle.std.specs.Prelude.{◌≡◌, ◌≢◌, ◌<◌, ◌++◌, ◌^◌, ℕ, List, All, decimal, length, OnOk, IfOk, IfSome, IfNone};
+ghost use Rattle.std.specs.Prelude.{◌≡◌, ◌≢◌, ◌<◌, ◌++◌, ◌^◌, ℕ, List, All, decimal, length, OnOk, IfOk, IfSome};
+ghost use Rattle.std.specs.Prelude.{IfNone};
 ghost use Rattle.std.specs.Option.{option_map};
-ghost use Rattle.stack_text.specs.Words.{hex_digit as digit_of, hex_value as value_of, is_plain as is_plain_byte, spelled_byte, spelled, escape_of, char_at, unspelled, number_at as number_spelled};
+ghost use Rattle.stack_text.specs.Words.{hex_digit as digit_of, hex_value as value_of, is_plain as is_plain_byte};
+ghost use Rattle.stack_text.specs.Words.{spelled_byte, spelled, escape_of, char_at, unspelled};
+ghost use Rattle.stack_text.specs.Words.{number_at as number_spelled};
 
 use std::alloc::{AllocError, Global};
 

@@ -1,5 +1,6 @@
 -- What a table of keys and values keeps in its cells, and what a turn of it does.
-use Rattle.std.specs.Prelude.{ℕ, ◌+◌, false, nat_eq, List, [], ◌∷◌, codes, length, take, position, slice_set, if◌then◌else◌, Option, Some, None}
+use Rattle.std.specs.Prelude.{ℕ, ◌+◌, false, nat_eq, List, [], ◌∷◌, codes, length, take, position, slice_set}
+use Rattle.std.specs.Prelude.{if◌then◌else◌, Option, Some, None}
 use Rattle.ht_values.specs.Text.{same}
 use Rattle.externals.specs.Table.{Turn, cell, fails}
 use Rattle.externals.specs.declared.external.Input.{Input}
@@ -42,7 +43,8 @@ delete_turn cells (Some i) = done [] (with_entry cells i [] [])
 delete_turn cells None = done [] cells
 
 abbrev pub table_turn : List (List ℕ) → Input → Turn
-table_turn cells (Start (verb ∷ key ∷ value ∷ [])) = if same verb (codes "put") then put_turn cells key value else fails cells
+table_turn cells (Start (verb ∷ key ∷ value ∷ [])) =
+    if same verb (codes "put") then put_turn cells key value else fails cells
 table_turn cells (Start (verb ∷ key ∷ [])) =
     if same verb (codes "get") then get_turn cells (place_of key cells)
     else if same verb (codes "delete") then delete_turn cells (place_of key cells)

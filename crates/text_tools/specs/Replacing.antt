@@ -1,5 +1,6 @@
 -- What a replacement of each occurrence gives.
-use Rattle.std.specs.Prelude.{ℕ, zero, suc, ◌-◌, false, nat_eq, List, [], ◌∷◌, ◌++◌, length, if◌then◌else◌, Result, Ok, Err}
+use Rattle.std.specs.Prelude.{ℕ, zero, suc, ◌-◌, false, nat_eq, List, [], ◌∷◌, ◌++◌, length, if◌then◌else◌, Result, Ok}
+use Rattle.std.specs.Prelude.{Err}
 use Rattle.std.specs.List.{starts_with}
 use Rattle.ht_values.specs.Outcome.{within_limit}
 use Rattle.ht_values.specs.declared.fault.Fault.{Fault}
@@ -12,7 +13,8 @@ use Rattle.externals.specs.declared.external.Ask.TheVariants.{Done, Fail}
 unfoldable pub replaced_after : List ℕ → List ℕ → ℕ → List ℕ → List ℕ
 replaced_after old new k [] = []
 replaced_after old new (suc k) (b ∷ bs) = replaced_after old new k bs
-replaced_after old new zero (b ∷ bs) = if starts_with nat_eq (b ∷ bs) old then new ++ replaced_after old new (length old - 1) bs else b ∷ replaced_after old new zero bs
+replaced_after old new zero (b ∷ bs) = if starts_with nat_eq (b ∷ bs) old then new
+    ++ replaced_after old new (length old - 1) bs else b ∷ replaced_after old new zero bs
 
 -- an empty run occurs nowhere
 abbrev pub replaced : List ℕ → List ℕ → List ℕ → List ℕ

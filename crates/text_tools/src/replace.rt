@@ -1,6 +1,7 @@
 //! Replace: a function that replaces each occurrence of a run of bytes.
 
-ghost use Rattle.std.specs.Prelude.{◌≡◌, ◌<◌, ◌≤◌, ◌++◌, drop, ℕ, List, [], true, false, length, IfOk, IfErr, OnErr, OnOk, Ok, Err};
+ghost use Rattle.std.specs.Prelude.{◌≡◌, ◌<◌, ◌≤◌, ◌++◌, drop, ℕ, List, [], true, false, length, IfOk, IfErr, OnErr};
+ghost use Rattle.std.specs.Prelude.{OnOk, Ok, Err};
 ghost use Rattle.ht_values.specs.declared.text.TheConstants.{LIMIT};
 ghost use Rattle.ht_values.specs.Outcome.{Gives, within_limit};
 ghost use Rattle.externals.specs.Cells.{IsPatch, one_more_turn};
@@ -139,7 +140,8 @@ fn next_piece<'a>(text: &'a [u8], at: usize, old: &[u8], new: &'a [u8]) -> (&'a 
     requires at { at < length text.now }
     requires old { 0 < length old.now }
     ensures further { at < result.1 }
-    ensures piece { replaced_after old.now new.now 0 (drop at text.now) ≡ result.0.now ++ replaced_after old.now new.now 0 (drop result.1 text.now) }
+    ensures piece { replaced_after old.now new.now 0 (drop at text.now) ≡ result.0.now
+        ++ replaced_after old.now new.now 0 (drop result.1 text.now) }
 {
     if text[at..].starts_with(old) {
         (new, at + old.len())

@@ -5,7 +5,8 @@ ghost use Rattle.ht_values.specs.Text.{same};
 ghost use Rattle.externals.specs.Cells.{IsPatch, one_more_turn};
 ghost use Rattle.externals.specs.Table.{Answers};
 ghost use Rattle.xkit.specs.Steps.{Takes};
-ghost use Rattle.text_tools.specs.Lookup.{delete_turn, done, entered, get_turn, place_of as place_of_key, put_turn, table_turn, with_entry};
+ghost use Rattle.text_tools.specs.Lookup.{delete_turn, done, entered, get_turn, place_of as place_of_key, put_turn};
+ghost use Rattle.text_tools.specs.Lookup.{table_turn, with_entry};
 
 use externals::{Ask, External, Input, Patch, Texts};
 use ht_values::Text;
@@ -181,7 +182,8 @@ fn put(cells: &mut Cells, alloc: Global, key: &Text, value: &Text) -> Step
 /// A new key takes the first free place.
 fn enter(cells: &mut Cells, alloc: Global, key: &Text, value: &Text) -> Step
     requires { length cells.old ≡ 64 }
-    ensures ok { IfOk result (λ r. Takes (entered cells.old key.now value.now (place_of_key [] cells.old)) cells.old cells.new r.0 r.1) }
+    ensures ok { IfOk result (λ r. Takes (entered cells.old key.now value.now (place_of_key [] cells.old)) cells.old cells.new
+        r.0 r.1) }
     ensures err { OnErr result (cells.new ≡ cells.old) }
     ensures count { length cells.new ≡ length cells.old }
 {

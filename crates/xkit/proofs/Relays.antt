@@ -1,5 +1,6 @@
 -- What the notes of a relay lead to.
-use Rattle.std.proofs.Common.{◌≡◌, ℕ, arith, Bool, true, false, ◌&&◌, nat_eq, bytes_eq, length, List, [], ◌∷◌, codes, drop, slice_index_or, refl}
+use Rattle.std.proofs.Common.{◌≡◌, ℕ, arith, Bool, true, false, ◌&&◌, nat_eq, bytes_eq, length, List, [], ◌∷◌, codes}
+use Rattle.std.proofs.Common.{drop, slice_index_or, refl}
 use Rattle.std.proofs.lemmas.Bool.{eqb-true}
 use Rattle.externals.specs.Table.{cell, relay_answer}
 use Rattle.externals.specs.declared.external.Ask.TheVariants.{SetFieldByName}
@@ -10,13 +11,18 @@ first_of_both true b h = refl
 first_of_both false b h = h
 
 length-note : (n : ℕ) (stage : List ℕ) (note : List (List ℕ)) → is_note n stage note ≡ true → length note ≡ n
-length-note n stage note h = eqb-true (length note) n (first_of_both (nat_eq (length note) n) (bytes_eq (slice_index_or note 0 []) stage) h)
+length-note n stage note h =
+    eqb-true (length note) n (first_of_both (nat_eq (length note) n) (bytes_eq (slice_index_or note 0 []) stage) h)
 
 -- the first note, with its four texts
-pub global_was_set : (cells note : List (List ℕ)) (value : List ℕ) → is_note 4 (codes "1") note ≡ true → relay_answer cells note value ≡ (SetFieldByName (codes "2" ∷ drop 2 note) false (slice_index_or note 1 []) (cell cells 0), cells)
+pub global_was_set : (cells note : List (List ℕ)) (value : List ℕ) → is_note 4 (codes "1") note ≡ true
+    → relay_answer cells note value
+    ≡ (SetFieldByName (codes "2" ∷ drop 2 note) false (slice_index_or note 1 []) (cell cells 0), cells)
 global_was_set cells [] value h = let n = length-note 4 (codes "1") [] h in absurd (omega arith)
 global_was_set cells (a ∷ []) value h = let n = length-note 4 (codes "1") (a ∷ []) h in absurd (omega arith)
 global_was_set cells (a ∷ b ∷ []) value h = let n = length-note 4 (codes "1") (a ∷ b ∷ []) h in absurd (omega arith)
-global_was_set cells (a ∷ b ∷ c ∷ []) value h = let n = length-note 4 (codes "1") (a ∷ b ∷ c ∷ []) h in absurd (omega arith)
+global_was_set cells (a ∷ b ∷ c ∷ []) value h =
+    let n = length-note 4 (codes "1") (a ∷ b ∷ c ∷ []) h in absurd (omega arith)
 global_was_set cells (a ∷ b ∷ c ∷ d ∷ []) value h = rw h refl
-global_was_set cells (a ∷ b ∷ c ∷ d ∷ e ∷ note) value h = let n = length-note 4 (codes "1") (a ∷ b ∷ c ∷ d ∷ e ∷ note) h in absurd (omega arith)
+global_was_set cells (a ∷ b ∷ c ∷ d ∷ e ∷ note) value h =
+    let n = length-note 4 (codes "1") (a ∷ b ∷ c ∷ d ∷ e ∷ note) h in absurd (omega arith)

@@ -1,5 +1,6 @@
 -- What one turn of an external does.
-use Rattle.std.specs.Prelude.{◌≡◌, ℕ, suc, ℤ, pos, ◌+ℤ◌, Bool, ◌&&◌, nat_eq, nat_lt, bytes_eq, List, length, slice_index_or, [], if◌then◌else◌, Option, Some, None}
+use Rattle.std.specs.Prelude.{◌≡◌, ℕ, suc, ℤ, pos, ◌+ℤ◌, Bool, ◌&&◌, nat_eq, nat_lt, bytes_eq, List, length}
+use Rattle.std.specs.Prelude.{slice_index_or, [], if◌then◌else◌, Option, Some, None}
 use Rattle.externals.specs.Cells.{Changes, IsPatch}
 use Rattle.externals.specs.Table.{Turn, may_count}
 use Rattle.externals.specs.declared.external.Ask.{Ask}

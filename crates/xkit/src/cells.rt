@@ -1,6 +1,7 @@
 //! The cells of an external: a fixed number of texts, which a plan of new texts changes.
 
-ghost use Rattle.std.specs.Prelude.{◌≡◌, ◌≢◌, ℕ, ◌<◌, List, [], ◌∷◌, ◌++◌, bytes_eq, length, IfOk, OnOk, OnErr, replicate, slice_get, slice_set, Some};
+ghost use Rattle.std.specs.Prelude.{◌≡◌, ◌≢◌, ℕ, ◌<◌, List, [], ◌∷◌, ◌++◌, bytes_eq, length, IfOk, OnOk, OnErr};
+ghost use Rattle.std.specs.Prelude.{replicate, slice_get, slice_set, Some};
 ghost use Rattle.externals.specs.Cells.{Avoids, flipped, taken_out, IsProper, IsPatch};
 ghost use Rattle.externals.specs.Table.{cell};
 ghost use Rattle.xkit.specs.Plans.{IsPlan};

@@ -169,7 +169,8 @@ fn answered(cells: &mut Cells, alloc: Global, note: &Texts, value: &Text) -> Ste
 /// The value of the expression is kept, and the message is sent.
 fn computed(cells: &mut Cells, alloc: Global, message: &Text, value: &Text) -> Step
     requires { length cells.old ≡ 2 }
-    ensures ok { IfOk result (λ r. Takes (relay_answer cells.old (codes "3" ∷ message.now ∷ []) value.now) cells.old cells.new r.0 r.1) }
+    ensures ok { IfOk result (λ r. Takes (relay_answer cells.old (codes "3" ∷ message.now ∷ []) value.now) cells.old cells.new
+        r.0 r.1) }
     ensures err { OnErr result (cells.new ≡ cells.old) }
     ensures count { length cells.new ≡ length cells.old }
 {

@@ -12,7 +12,8 @@ loop-place-preserved-in-Gap c =
     let text = c.as_slice-text.result.now in
     let place = c.loop-place.place in
     record {
-      grown = λ rest stop h. i.grown rest stop (gap (longest_there text place (Gap c.in-Gap.size) c.in-Gap.ensures.value) h);
+      grown = λ rest stop h. i.grown rest stop
+          (gap (longest_there text place (Gap c.in-Gap.size) c.in-Gap.ensures.value) h);
       ordered = order_wider c.loop-place.spans.items 0 place (place + c.in-Gap.size) i.ordered (omega arith);
       within = fits_there text place c.in-Gap.size c.in-Gap.ensures.within.1 i.within;
     }
@@ -27,8 +28,10 @@ loop-place-preserved c =
     let kept : c.push.new.self.items ≡ found ++ span ∷ [] = search rules in
     record {
       grown = λ rest stop h. subst (λ v. Cuts text 0 (v ++ rest) stop) (sym kept)
-          (taken_in found span rest (i.grown (span ∷ rest) stop (token (longest_there text place (Token c.in-Token.kind c.in-Token.size) c.in-Token.ensures.value) h)));
-      ordered = subst (λ v. InOrder 0 v span.stop) (sym kept) (order_snoc found 0 place span i.ordered (omega arith) (omega (arith, c.in-Token.ensures.within.0)));
+          (taken_in found span rest (i.grown (span ∷ rest) stop
+          (token (longest_there text place (Token c.in-Token.kind c.in-Token.size) c.in-Token.ensures.value) h)));
+      ordered = subst (λ v. InOrder 0 v span.stop) (sym kept)
+          (order_snoc found 0 place span i.ordered (omega arith) (omega (arith, c.in-Token.ensures.within.0)));
       within = fits_there text place c.in-Token.size c.in-Token.ensures.within.1 i.within;
     }
 
@@ -55,7 +58,8 @@ returns-clause-found c =
     let found = c.loop-place.spans.items in
     let whole : place ≡ length text = omega arith in
     let cuts = i.grown [] place (end_cut text place c.loop-place-test.false) in
-    let h : IsCut text found = subst (λ v. Cuts text 0 found v) whole (subst (λ v. Cuts text 0 v place) (append-nil found) cuts) in
+    let h : IsCut text found =
+    subst (λ v. Cuts text 0 found v) whole (subst (λ v. Cuts text 0 v place) (append-nil found) cuts) in
     let there = subst (λ v. IsCut v found) c.as_slice-text.ensures.value h in
     subst (λ v. IsCut c.args.text.now v) (sym (ap (λ v. v.spans) c.new.ensures)) there
 

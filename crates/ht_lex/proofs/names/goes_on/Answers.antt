@@ -5,4 +5,5 @@ use Rattle.ht_lex.specs.Words.{goes_on_word}
 use Rattle.ht_lex.proofs.names.goes_on.Goals as goal
 
 pub returns : goal.returns
-returns c = all_from_yields_List goes_on_word _ _ _ c.all.ensures.ran (YieldsList-from_slice c.args.bytes.now (cc)) (λ x b q k. search (rules, tests))
+returns c = all_from_yields_List goes_on_word _ _ _ c.all.ensures.ran (YieldsList-from_slice c.args.bytes.now (cc))
+    (λ x b q k. search (rules, tests))

@@ -7,11 +7,16 @@ use Rattle.ht_lex.proofs.names.key_of.Goals as goal
 
 pub returns-then-not-is_ascii_lowercase : goal.returns-then-not-is_ascii_lowercase
 returns-then-not-is_ascii_lowercase c =
-    sym (none_found c.args.word.now c.to_ascii_lowercase-first.result (c.to_ascii_lowercase-first.ensures.value ∙ ap to_ascii_lowercase c.byte_at.ensures) (sym c.is_ascii_lowercase.ensures.value ∙ c.if-not-is_ascii_lowercase.true))
+    sym (none_found c.args.word.now c.to_ascii_lowercase-first.result
+    (c.to_ascii_lowercase-first.ensures.value ∙ ap to_ascii_lowercase c.byte_at.ensures)
+    (sym c.is_ascii_lowercase.ensures.value ∙ c.if-not-is_ascii_lowercase.true))
 
 pub returns : goal.returns
 returns c =
-    let first : c.to_ascii_lowercase-first.result ≡ initial c.args.word.now = c.to_ascii_lowercase-first.ensures.value ∙ ap to_ascii_lowercase c.byte_at.ensures in
+    let first : c.to_ascii_lowercase-first.result ≡ initial c.args.word.now =
+    c.to_ascii_lowercase-first.ensures.value ∙ ap to_ascii_lowercase c.byte_at.ensures in
     c.key_among.ensures
-    ∙ ap (λ rows. entry rows c.args.word.now) (c.rows_at.ensures ∙ ap (λ table. get_or table (c.to_ascii_lowercase-first.result - 97) []) rows_by_letter)
-    ∙ found_under c.args.word.now c.to_ascii_lowercase-first.result first c.if-not-is_ascii_lowercase.ensures.cases.0 c.if-not-is_ascii_lowercase.ensures.cases.1
+    ∙ ap (λ rows. entry rows c.args.word.now)
+    (c.rows_at.ensures ∙ ap (λ table. get_or table (c.to_ascii_lowercase-first.result - 97) []) rows_by_letter)
+    ∙ found_under c.args.word.now c.to_ascii_lowercase-first.result first c.if-not-is_ascii_lowercase.ensures.cases.0
+    c.if-not-is_ascii_lowercase.ensures.cases.1

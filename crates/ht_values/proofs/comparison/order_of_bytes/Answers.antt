@@ -11,5 +11,7 @@ pub returns : goal.returns
 returns c =
     cmp_from_yields_List (λ x y. y ≡ x) _ nat_cmp _ c.cmp.ensures.ran
     (YieldsList-from_map _ to_ascii_lowercase (YieldsList-from_slice c.args.left.now cc) (cc) (λ x r q k. search rules))
-    (λ it e. YieldsList-from_map _ to_ascii_lowercase (YieldsList-from_slice c.args.right.now (ap (λ m. iter_rest (map_source m)) e ∙ cc)) (ap map_callee e ∙ c.map-2.ensures.closure) (λ x r q k. search rules))
+    (λ it e. YieldsList-from_map _ to_ascii_lowercase
+    (YieldsList-from_slice c.args.right.now (ap (λ m. iter_rest (map_source m)) e ∙ cc))
+    (ap map_callee e ∙ c.map-2.ensures.closure) (λ x r q k. search rules))
     (λ x y. refl)

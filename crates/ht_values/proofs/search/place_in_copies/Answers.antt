@@ -7,4 +7,5 @@ pub returns : goal.returns
 returns c =
     let run = c.deref-2.ensures.value ∙ c.in_ok-run.ensures in
     let text = c.deref.ensures.value ∙ c.in_ok-text.ensures in
-    subst (λ t. FindsNeedle t (folded c.args.run.now) 0 c.find.result) text (subst (λ r. FindsNeedle c.deref.result.now r 0 c.find.result) run c.find.ensures)
+    subst (λ t. FindsNeedle t (folded c.args.run.now) 0 c.find.result) text
+    (subst (λ r. FindsNeedle c.deref.result.now r 0 c.find.result) run c.find.ensures)

@@ -10,10 +10,12 @@ below i k n small h =
 
 pub overflow_mul-number : goal.overflow_mul-number
 overflow_mul-number c =
-    let b : c.loop-byte.number < 10 ^ 6 = below c.loop-byte.byte-index 6 c.loop-byte.number (omega arith) c.loop-byte.invariant.small in
+    let b : c.loop-byte.number < 10 ^ 6 =
+    below c.loop-byte.byte-index 6 c.loop-byte.number (omega arith) c.loop-byte.invariant.small in
     omega (arith, b)
 
 pub overflow_add-number : goal.overflow_add-number
 overflow_add-number c =
-    let b : c.loop-byte.number < 10 ^ 6 = below c.loop-byte.byte-index 6 c.loop-byte.number (omega arith) c.loop-byte.invariant.small in
+    let b : c.loop-byte.number < 10 ^ 6 =
+    below c.loop-byte.byte-index 6 c.loop-byte.number (omega arith) c.loop-byte.invariant.small in
     search (rules, b)

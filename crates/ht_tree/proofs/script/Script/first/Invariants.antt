@@ -4,4 +4,5 @@ use Rattle.ht_tree.specs.ScriptView.{handlers_of}
 use Rattle.ht_tree.proofs.script.Script.first.Given as goal
 
 abbrev pub invariant-loop-place : goal.invariant-loop-place
-invariant-loop-place l = handler_in (handlers_of (drop l.place l.self.handlers.items)) l.kind l.name ≡ handler_in (handlers_of l.self.handlers.items) l.kind l.name
+invariant-loop-place l = handler_in (handlers_of (drop l.place l.self.handlers.items)) l.kind l.name
+    ≡ handler_in (handlers_of l.self.handlers.items) l.kind l.name

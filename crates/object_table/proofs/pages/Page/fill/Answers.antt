@@ -10,5 +10,6 @@ returns-in_ok-resize-clause-same c =
     let few : length numbers ≤ 64 = search rules in
     rw (← c.self.view_is)
     (λ q.
-    ap (λ ns. get_or ns q 0) (c.in_ok-resize.ensures.items ∙ ap (λ ns. ns ++ replicate more 0) (take_all 64 numbers few))
+    ap (λ ns. get_or ns q 0) (c.in_ok-resize.ensures.items
+    ∙ ap (λ ns. ns ++ replicate more 0) (take_all 64 numbers few))
     ∙ filled 0 numbers more q)

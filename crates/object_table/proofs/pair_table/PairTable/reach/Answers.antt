@@ -10,7 +10,8 @@ use Rattle.object_table.proofs.pair_table.PairTable.reach.Goals as goal
 pub returns-then-get-gt0-clause-ok : goal.returns-then-get-gt0-clause-ok
 returns-then-get-gt0-clause-ok g c =
     let es = c.self.inside.rows.items in
-    let some : 1 ≤ slot_number es c.args.part = omega (arith, c.if-get-gt0.true, c.get.ensures, c.self.invariant.0 c.args.part) in
+    let some : 1 ≤ slot_number es c.args.part =
+    omega (arith, c.if-get-gt0.true, c.get.ensures, c.self.invariant.0 c.args.part) in
     rw (← c.self.view_is) (sym (ap (λ o. is_some o) (entry-tied es c.args.part)) ∙ numbered_there es c.args.part some)
 
 pub invariant_of-self-2 : goal.invariant_of-self-2
@@ -30,7 +31,8 @@ invariant_of-self-2 g c =
 pub returns-clause-entries : goal.returns-clause-entries
 returns-clause-entries g c =
     let es = c.self.inside.rows.items in
-    rw (c.push_reserved.ensures.items, c.in_ok-reserve.ensures.items, c.new.ensures, ← c.self.view_is) (entries-empty_row es c.args.part)
+    rw (c.push_reserved.ensures.items, c.in_ok-reserve.ensures.items, c.new.ensures, ← c.self.view_is)
+    (entries-empty_row es c.args.part)
 
 pub returns-clause-ok : goal.returns-clause-ok
 returns-clause-ok g c =

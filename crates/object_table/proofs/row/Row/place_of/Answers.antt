@@ -7,4 +7,5 @@ pub returns : goal.returns
 returns g c =
     let facts = c.binary_search_by_key.ensures in
     let by_key = facts.position (λ place. place.0) (answers_always _ _ _ (λ f a r g called. search rules)) in
-    rw (← c.self.view_is, ← c.deref.ensures.value) (searched _ (rw c.deref.ensures.value c.self.invariant) c.args.card _ facts.bound by_key)
+    rw (← c.self.view_is, ← c.deref.ensures.value)
+    (searched _ (rw c.deref.ensures.value c.self.invariant) c.args.card _ facts.bound by_key)

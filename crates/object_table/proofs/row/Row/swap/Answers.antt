@@ -21,14 +21,16 @@ invariant_of-self g c =
     subst (λ n. AreRising (ids_in (set es c.in-Ok.place (n, c.swap.new.x)))) (sym own) kept
 
 pub unreachable-requires : goal.unreachable-requires
-unreachable-requires g c = false≢true (sym (ap is_some (entry-none _ c.args.card (none_there _ c.args.card _ c.in-Err.ensures.absent))) ∙ c.requires)
+unreachable-requires g c = false≢true
+    (sym (ap is_some (entry-none _ c.args.card (none_there _ c.args.card _ c.in-Err.ensures.absent))) ∙ c.requires)
 
 pub returns-clause-value : goal.returns-clause-value
 returns-clause-value g c =
     let es = c.self.inside.places.items in
     let e = c.index_mut.result.now in
     let at : IsAt (ids_in es) c.args.card c.in-Ok.place = rw c.self.view_is c.in-Ok.ensures.found in
-    let read = entry-read es c.args.card c.in-Ok.place e at (none_before (ids_in es) c.self.invariant c.args.card c.in-Ok.place at) in
+    let read = entry-read es c.args.card c.in-Ok.place e at
+    (none_before (ids_in es) c.self.invariant c.args.card c.in-Ok.place at) in
     let is : e ≡ get_or es c.in-Ok.place e = c.index_mut.ensures.value in
     rw (← c.self.view_is) (ap (λ v. Some v) (c.swap.ensures.y_after ∙ ap (λ x. x.1) is) ∙ sym read)
 

@@ -8,4 +8,5 @@ use Rattle.object_table.proofs.slot_table.SlotTable.new.Goals as goal
 
 pub invariant_of-result : goal.invariant_of-result
 invariant_of-result c =
-    rw (c.new.ensures.items, c.new-2.ensures) (omega (arith, len-others (objects_in []), len-empty nat_cmp Object), λ id. refl)
+    rw (c.new.ensures.items, c.new-2.ensures)
+    (omega (arith, len-others (objects_in []), len-empty nat_cmp Object), λ id. refl)
