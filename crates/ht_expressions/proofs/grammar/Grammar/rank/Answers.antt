@@ -32,4 +32,4 @@ pub loop-below-preserved : goal.loop-below-preserved
 loop-below-preserved g c = elim c.if-next-below.branch [
   | then-next-below+in_ok-left-2 w ↦ (let joined = rank_joined c.args.self.now.depth c.loop-below.left c.loop-below.tokens c.args.tokens.now c.loop-below.below c.loop-below.invariant.same in let new = w.chain.ensures in first_of (search rules, grind (arith, common_steps)))
   | else-next-below w ↦ (let kept = rank_kept c.args.self.now.depth c.loop-below.left c.loop-below.tokens c.args.tokens.now c.loop-below.below c.loop-below.invariant.same (λ same. w.if-next-below.false (c.loop-below.invariant.next ∙ same)) in first_of (search rules, grind (arith, common_steps)))
-  ]
+]
