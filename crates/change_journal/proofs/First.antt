@@ -1,5 +1,6 @@
 -- The first state of a well formed stack.
-use Rattle.std.proofs.Common.{◌≡◌, ℕ, ◌<◌, true, false, ◌||◌, List, [], ◌∷◌, length, get_or, refl, sym, subst, ap, ◌∙◌, arith, Option, Some, None, IfSome, option_map, option_and_then, unwrap_or, eqb}
+use Rattle.std.proofs.Common.{◌≡◌, ℕ, ◌<◌, true, false, ◌||◌, List, [], ◌∷◌, length, get_or, refl, sym, subst, ap, ◌∙◌}
+use Rattle.std.proofs.Common.{arith, Option, Some, None, IfSome, option_map, option_and_then, unwrap_or, eqb}
 use Rattle.std.specs.Ordering.{nat_cmp}
 use Rattle.std.specs.Cmp.Lexicographic.{slice_cmp}
 use Rattle.std.specs.FinMap.{empty, get-empty}
@@ -10,7 +11,8 @@ use Rattle.object_table.specs.Objects.{has_kind, is_card, is_background, contain
 use Rattle.object_table.specs.WellFormed.{IsWellFormed}
 use Rattle.object_table.specs.declared.object.Object.{Object}
 use Rattle.object_table.specs.declared.object.Kind.{Kind}
-use Rattle.object_table.specs.declared.object.Kind.TheVariants.{Stack, Background, Card, CardButton, BackgroundButton, CardField, BackgroundField}
+use Rattle.object_table.specs.declared.object.Kind.TheVariants.{Stack, Background, Card, CardButton, BackgroundButton}
+use Rattle.object_table.specs.declared.object.Kind.TheVariants.{CardField, BackgroundField}
 use Rattle.stack_places.proofs.Exchanging.{false_true}
 use Rattle.journal_entries.specs.State.{IsState, IsGlobal, AreGlobals, titles_of}
 use Rattle.journal_entries.specs.Exchange.{PresentView}
@@ -33,7 +35,8 @@ kind-card (BackgroundButton v h) b e = let none : None ≡ Some b → ⊥ = λ q
 kind-card (CardField v l) b e = let none : None ≡ Some b → ⊥ = λ q. cc in absurd (none e)
 kind-card (BackgroundField v l s) b e = let none : None ≡ Some b → ⊥ = λ q. cc in absurd (none e)
 
-object-card : (o : Option Object) (b : ℕ) → option_and_then (λ x. background_of x.kind) o ≡ Some b → unwrap_or (option_map (λ x. is_card x.kind) o) false ≡ true
+object-card : (o : Option Object) (b : ℕ) → option_and_then (λ x. background_of x.kind) o ≡ Some b
+    → unwrap_or (option_map (λ x. is_card x.kind) o) false ≡ true
 object-card None b e = let none : None ≡ Some b → ⊥ = λ q. cc in absurd (none e)
 object-card (Some o) b e = kind-card o.kind b e
 
@@ -41,7 +44,8 @@ object-card (Some o) b e = kind-card o.kind b e
 pub first-card : (s : Content) → IsWellFormed s → has_kind is_card s (get_or s.cards 0 0) ≡ true
 first-card s w =
     let first = get_or s.backgrounds 0 0 in
-    let background : has_kind is_background s first ≡ true = sym (w.backgrounds.each first) ∙ first-contained s.backgrounds (omega (arith, w.some_background)) in
+    let background : has_kind is_background s first ≡ true =
+    sym (w.backgrounds.each first) ∙ first-contained s.backgrounds (omega (arith, w.some_background)) in
     let some = w.some_card first background in
     let card : has_kind is_card s some.0 ≡ true = object-card (object_at s some.0) first some.1 in
     let there : 0 < length s.cards = some-contained s.cards some.0 (w.cards.each some.0 ∙ card) in
@@ -50,12 +54,19 @@ first-card s w =
 pub no_globals : AreGlobals empty
 no_globals name = subst (λ o. IfSome o (λ value. IsGlobal name value)) (sym (get-empty (slice_cmp nat_cmp) name)) tt
 
-pub IsSound-opened : (h : PresentView) (depth room : ℕ) → 0 < depth → IsState h.state → IsSound (record { present = h; oldest = 0; depth = depth; batches = []; cursor = 0 }) room None
+pub IsSound-opened : (h : PresentView) (depth room : ℕ) → 0 < depth → IsState h.state
+    → IsSound (record { present = h; oldest = 0; depth = depth; batches = []; cursor = 0 }) room None
 IsSound-opened h depth room some state = record {
   within = omega arith;
   few = omega arith;
   some = some;
   ready = tt;
   opened = tt;
-  history = record { titles = titles_of h.state.externals; past = tt; now = record { state = state; titles = refl }; future = tt; start = tt };
+  history = record {
+    titles = titles_of h.state.externals;
+    past = tt;
+    now = record { state = state; titles = refl };
+    future = tt;
+    start = tt;
+  };
 }

@@ -4,4 +4,5 @@ use Rattle.journal_entries.specs.Exchange.{PresentView, BatchView}
 use Rattle.change_journal.specs.Batches.{Journal}
 
 abbrev pub journal : PresentView → ℕ → ℕ → List BatchView → ℕ → Journal
-journal present oldest depth batches cursor = record { present = present; oldest = oldest; depth = depth; batches = batches; cursor = cursor }
+journal present oldest depth batches cursor =
+    record { present = present; oldest = oldest; depth = depth; batches = batches; cursor = cursor }

@@ -1,5 +1,6 @@
 -- A batch that begins and one that is given up.
-use Rattle.std.proofs.Common.{◌≡◌, ◌++◌, ℕ, suc, ◌+◌, ◌<◌, List, [], ◌∷◌, length, take, drop, refl, arith, Option, Some, None, option_map, if◌then◌else◌, true, false}
+use Rattle.std.proofs.Common.{◌≡◌, ◌++◌, ℕ, suc, ◌+◌, ◌<◌, List, [], ◌∷◌, length, take, drop, refl, arith, Option}
+use Rattle.std.proofs.Common.{Some, None, option_map, if◌then◌else◌, true, false}
 use Rattle.journal_entries.specs.State.{index_of}
 use Rattle.ht_values.specs.Text.{same}
 use Rattle.journal_entries.specs.Exchange.{BatchView, back}
@@ -12,23 +13,37 @@ empty_batch number = record { number = number; entries = [] }
 
 -- the state that the open batch leads back to
 abbrev pub gone_back : Journal → BatchView → Journal
-gone_back b batch = record b { present = record b.present { state = back b.present.names b.present.state batch.entries } }
+gone_back b batch =
+    record b { present = record b.present { state = back b.present.names b.present.state batch.entries } }
 
-pub IsSound-rolled_back : (b : Journal) (room : ℕ) (batch : BatchView) → IsSound b room (Some batch) → IsSound (gone_back b batch) room None
+pub IsSound-rolled_back : (b : Journal) (room : ℕ) (batch : BatchView) → IsSound b room (Some batch)
+    → IsSound (gone_back b batch) room None
 IsSound-rolled_back b room batch sound = record {
   within = sound.within;
   few = sound.few;
   some = sound.some;
   ready = rw (shape-back b.present.room b.present.names b.present.state batch.entries) sound.ready;
   opened = tt;
-  history = IsHistory-rolled_back (history_of b (Some batch)) (open_of b.present.names b.present.state batch) refl sound.history;
+  history = IsHistory-rolled_back (history_of b (Some batch)) (open_of b.present.names b.present.state batch) refl
+      sound.history;
 }
 
 -- the present state alone, without an external
 abbrev pub journal_unplugged : Journal → ℕ → ℕ → Journal
-journal_unplugged b oldest i = record b { present = record b.present { state = record b.present.state { externals = take i b.present.state.externals ++ drop (i + 1) b.present.state.externals }; turns = take i b.present.turns ++ drop (i + 1) b.present.turns }; oldest = oldest; batches = []; cursor = 0 }
+journal_unplugged b oldest i = record b {
+  present = record b.present {
+    state = record b.present.state
+        { externals = take i b.present.state.externals ++ drop (i + 1) b.present.state.externals };
+    turns =
+        take i b.present.turns ++ drop (i + 1) b.present.turns;
+  };
+  oldest = oldest;
+  batches = [];
+  cursor = 0;
+}
 
-pub IsSound-unplugged : (b : Journal) (room more oldest i : ℕ) → IsSound b room None → IsSound (journal_unplugged b oldest i) more None
+pub IsSound-unplugged : (b : Journal) (room more oldest i : ℕ) → IsSound b room None
+    → IsSound (journal_unplugged b oldest i) more None
 IsSound-unplugged b room more oldest i sound =
     let alone = IsHistory-unplugged (history_of b None) (Some i) sound.history in
     record {

@@ -1,7 +1,9 @@
 -- The batches that stand for a history.
-use Rattle.std.specs.Prelude.{nat_lt, if◌then◌else◌, ℕ, ◌<◌, ◌≤◌, List, [], ◌∷◌, length, take, drop, reverse, Option, Some, None}
+use Rattle.std.specs.Prelude.{nat_lt, if◌then◌else◌, ℕ, ◌<◌, ◌≤◌, List, [], ◌∷◌, length, take, drop, reverse, Option}
+use Rattle.std.specs.Prelude.{Some, None}
 use Rattle.journal_entries.specs.State.{State}
-use Rattle.journal_entries.specs.Exchange.{PresentView, BatchView, Shape, back, back_taken, forth, forth_taken, weight, trail_of, shape_of, AreReady}
+use Rattle.journal_entries.specs.Exchange.{PresentView, BatchView, Shape, back, back_taken, forth, forth_taken, weight}
+use Rattle.journal_entries.specs.Exchange.{trail_of, shape_of, AreReady}
 use Rattle.change_journal.specs.History.{Step, Open, History, IsHistory}
 
 -- What World holds but for the open batch: the present state, the number of the oldest state, the greatest
@@ -21,12 +23,28 @@ stamp_of oldest (b ∷ bs) = b.number
 -- the states that batches lead back to, the nearest first
 abbrev pub past_steps : List (List ℕ) → ℕ → State → List BatchView → List Step
 past_steps names oldest s [] = []
-past_steps names oldest s (b ∷ bs) = record { state = back names s b.entries; stamp = stamp_of oldest bs; undo = weight b.entries; redo = weight (back_taken names s b.entries); trail = trail_of names b.entries } ∷ past_steps names oldest (back names s b.entries) bs
+past_steps names oldest s (b ∷ bs) = record {
+  state = back names s b.entries;
+  stamp = stamp_of oldest bs;
+  undo = weight
+      b.entries;
+  redo = weight (back_taken names s b.entries);
+  trail = trail_of names b.entries;
+}
+    ∷ past_steps names oldest (back names s b.entries) bs
 
 -- the states that batches lead forth to
 abbrev pub future_steps : List (List ℕ) → State → List BatchView → List Step
 future_steps names s [] = []
-future_steps names s (b ∷ bs) = record { state = forth names s b.entries; stamp = b.number; undo = weight (forth_taken names s b.entries); redo = weight b.entries; trail = trail_of names b.entries } ∷ future_steps names (forth names s b.entries) bs
+future_steps names s (b ∷ bs) = record {
+  state = forth names s b.entries;
+  stamp = b.number;
+  undo = weight
+      (forth_taken names s b.entries);
+  redo =
+      weight b.entries;
+  trail = trail_of names b.entries;
+} ∷ future_steps names (forth names s b.entries) bs
 
 -- the batches that lead back, the nearest first, and those that lead forth
 abbrev pub undoable : Journal → List BatchView
@@ -37,15 +55,33 @@ redoable b = drop b.cursor b.batches
 
 -- the history round this state
 abbrev pub around : Journal → State → Option Open → History
-around b s start = record { past = past_steps b.present.names b.oldest s (undoable b); now = b.present.state; stamp = stamp_of b.oldest (undoable b); future = future_steps b.present.names s (redoable b); start = start; depth = b.depth; turns = b.present.turns }
+around b s start = record {
+  past = past_steps b.present.names b.oldest s (undoable b);
+  now = b.present.state;
+  stamp =
+      stamp_of b.oldest (undoable b);
+  future =
+      future_steps b.present.names s (redoable b);
+  start = start;
+  depth = b.depth;
+  turns = b.present.turns;
+}
 
 -- the open batch, which leads back from this state
 abbrev pub open_of : List (List ℕ) → State → BatchView → Open
-open_of names s b = record { state = back names s b.entries; number = b.number; undo = weight b.entries; redo = weight (back_taken names s b.entries); trail = trail_of names b.entries }
+open_of names s b = record {
+  state = back names s b.entries;
+  number = b.number;
+  undo = weight b.entries;
+  redo = weight
+      (back_taken names s b.entries);
+  trail = trail_of names b.entries;
+}
 
 abbrev pub history_of : Journal → Option BatchView → History
 history_of b None = around b b.present.state None
-history_of b (Some batch) = around b (back b.present.names b.present.state batch.entries) (Some (open_of b.present.names b.present.state batch))
+history_of b (Some batch) = around b (back b.present.names b.present.state batch.entries)
+    (Some (open_of b.present.names b.present.state batch))
 
 -- the batches that stay of these, the oldest first, where at most one is too many
 abbrev pub newest : ℕ → List BatchView → List BatchView

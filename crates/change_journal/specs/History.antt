@@ -1,5 +1,6 @@
 -- A history: whole states with a cursor, and each call's move.
-use Rattle.std.specs.Prelude.{◌≡◌, ℕ, ◌+◌, List, [], ◌∷◌, ◌++◌, map, take, drop, reverse, Option, Some, None, slice_index_or, refl}
+use Rattle.std.specs.Prelude.{◌≡◌, ℕ, ◌+◌, List, [], ◌∷◌, ◌++◌, map, take, drop, reverse, Option, Some, None}
+use Rattle.std.specs.Prelude.{slice_index_or, refl}
 use Rattle.std.specs.Coded.{Coded, code_by, coded×, coded_list, coded_ℕ, coded_option}
 use Rattle.externals.specs.Cells.{Seen}
 use Rattle.journal_entries.specs.State.{State, IsState, coded_state, titles_of, index_of}
@@ -36,13 +37,33 @@ pub record History : Type 0 where
   pub turns : List ℕ
 
 abbrev pub coded_step : Coded Step
-coded_step = code_by (State × (ℕ × (ℕ × (ℕ × List Mark)))) (coded× coded_state (coded× coded_ℕ (coded× coded_ℕ (coded× coded_ℕ coded_trail)))) (λ s. (s.state, (s.stamp, (s.undo, (s.redo, s.trail))))) (λ p. record { state = p.0; stamp = p.1.0; undo = p.1.1.0; redo = p.1.1.1.0; trail = p.1.1.1.1 }) (λ _. refl)
+coded_step = code_by (State × (ℕ × (ℕ × (ℕ × List Mark))))
+    (coded× coded_state (coded× coded_ℕ (coded× coded_ℕ (coded× coded_ℕ coded_trail))))
+    (λ s. (s.state, (s.stamp, (s.undo, (s.redo, s.trail)))))
+    (λ p. record { state = p.0; stamp = p.1.0; undo = p.1.1.0; redo = p.1.1.1.0; trail = p.1.1.1.1 }) (λ _. refl)
 
 abbrev pub coded_open : Coded Open
-coded_open = code_by (State × (ℕ × (ℕ × (ℕ × List Mark)))) (coded× coded_state (coded× coded_ℕ (coded× coded_ℕ (coded× coded_ℕ coded_trail)))) (λ s. (s.state, (s.number, (s.undo, (s.redo, s.trail))))) (λ p. record { state = p.0; number = p.1.0; undo = p.1.1.0; redo = p.1.1.1.0; trail = p.1.1.1.1 }) (λ _. refl)
+coded_open = code_by (State × (ℕ × (ℕ × (ℕ × List Mark))))
+    (coded× coded_state (coded× coded_ℕ (coded× coded_ℕ (coded× coded_ℕ coded_trail))))
+    (λ s. (s.state, (s.number, (s.undo, (s.redo, s.trail)))))
+    (λ p. record { state = p.0; number = p.1.0; undo = p.1.1.0; redo = p.1.1.1.0; trail = p.1.1.1.1 }) (λ _. refl)
 
 abbrev pub coded_history : Coded History
-coded_history = code_by (List Step × (State × (ℕ × (List Step × (Option Open × (ℕ × List ℕ)))))) (coded× (coded_list coded_step) (coded× coded_state (coded× coded_ℕ (coded× (coded_list coded_step) (coded× (coded_option coded_open) (coded× coded_ℕ (coded_list coded_ℕ))))))) (λ h. (h.past, (h.now, (h.stamp, (h.future, (h.start, (h.depth, h.turns))))))) (λ p. record { past = p.0; now = p.1.0; stamp = p.1.1.0; future = p.1.1.1.0; start = p.1.1.1.1.0; depth = p.1.1.1.1.1.0; turns = p.1.1.1.1.1.1 }) (λ _. refl)
+coded_history = code_by (List Step × (State × (ℕ × (List Step × (Option Open × (ℕ × List ℕ))))))
+    (coded× (coded_list coded_step)
+    (coded× coded_state (coded× coded_ℕ
+    (coded× (coded_list coded_step) (coded× (coded_option coded_open) (coded× coded_ℕ (coded_list coded_ℕ)))))))
+    (λ h. (h.past, (h.now, (h.stamp, (h.future, (h.start, (h.depth, h.turns)))))))
+    (λ p. record {
+      past = p.0;
+      now = p.1.0;
+      stamp = p.1.1.0;
+      future = p.1.1.1.0;
+      start = p.1.1.1.1.0;
+      depth =
+          p.1.1.1.1.1.0;
+      turns = p.1.1.1.1.1.1;
+    }) (λ _. refl)
 
 abbrev pub states_of : List Step → List State
 states_of = map (λ step. step.state)
@@ -57,7 +78,8 @@ stamp_at h i = slice_index_or (h.stamp ∷ map (λ step. step.stamp) h.past) i 0
 
 -- a history of one state
 abbrev pub alone : State → ℕ → ℕ → List ℕ → History
-alone s stamp depth turns = record { past = []; now = s; stamp = stamp; future = []; start = None; depth = depth; turns = turns }
+alone s stamp depth turns =
+    record { past = []; now = s; stamp = stamp; future = []; start = None; depth = depth; turns = turns }
 
 -- ---- moves
 
@@ -69,7 +91,13 @@ begun h number = record h { start = Some (record { state = h.now; number = numbe
 -- cursor goes, and so does the oldest state where more than depth would stand before it.
 abbrev pub committed_from : History → Option Open → History
 committed_from h None = h
-committed_from h (Some o) = record h { past = take h.depth (record { state = o.state; stamp = h.stamp; undo = o.undo; redo = o.redo; trail = o.trail } ∷ h.past); stamp = o.number; future = []; start = None }
+committed_from h (Some o) = record h {
+  past = take h.depth (record { state = o.state; stamp = h.stamp; undo = o.undo; redo = o.redo; trail = o.trail }
+      ∷ h.past);
+  stamp = o.number;
+  future = [];
+  start = None;
+}
 
 abbrev pub committed : History → History
 committed h = committed_from h h.start
@@ -85,14 +113,26 @@ rolled_back h = rolled_back_from h h.start
 -- the cursor moves to a neighbour, and the batch between keeps its weights and its trail
 abbrev pub flipped_back_from : History → List Step → History
 flipped_back_from h [] = h
-flipped_back_from h (step ∷ rest) = record h { past = rest; now = step.state; stamp = step.stamp; future = record step { state = h.now; stamp = h.stamp } ∷ h.future }
+flipped_back_from h (step ∷ rest) = record h {
+  past = rest;
+  now = step.state;
+  stamp = step.stamp;
+  future = record step { state = h.now; stamp = h.stamp }
+      ∷ h.future;
+}
 
 abbrev pub flipped_back : History → History
 flipped_back h = flipped_back_from h h.past
 
 abbrev pub flipped_forth_from : History → List Step → History
 flipped_forth_from h [] = h
-flipped_forth_from h (step ∷ rest) = record h { past = record step { state = h.now; stamp = h.stamp } ∷ h.past; now = step.state; stamp = step.stamp; future = rest }
+flipped_forth_from h (step ∷ rest) = record h {
+  past = record step { state = h.now; stamp = h.stamp }
+      ∷ h.past;
+  now = step.state;
+  stamp = step.stamp;
+  future = rest;
+}
 
 abbrev pub flipped_forth : History → History
 flipped_forth h = flipped_forth_from h h.future
@@ -105,7 +145,13 @@ abbrev pub step_with_external : Seen → Step → Step
 step_with_external x step = record step { state = with_external x step.state }
 
 abbrev pub plugged : History → Seen → ℕ → History
-plugged h x turns = record h { past = map (step_with_external x) h.past; now = with_external x h.now; future = map (step_with_external x) h.future; turns = h.turns ++ turns ∷ [] }
+plugged h x turns = record h {
+  past = map (step_with_external x) h.past;
+  now = with_external x h.now;
+  future = map
+      (step_with_external x) h.future;
+  turns = h.turns ++ turns ∷ [];
+}
 
 -- the present state alone, without the external of a name; where none has it nothing changes
 abbrev pub without_at : {A : Type 0} → ℕ → List A → List A
@@ -113,7 +159,8 @@ without_at i xs = take i xs ++ drop (i + 1) xs
 
 abbrev pub unplugged_at : History → Option ℕ → History
 unplugged_at h None = h
-unplugged_at h (Some i) = alone (record h.now { externals = without_at i h.now.externals }) h.stamp h.depth (without_at i h.turns)
+unplugged_at h (Some i) =
+    alone (record h.now { externals = without_at i h.now.externals }) h.stamp h.depth (without_at i h.turns)
 
 abbrev pub unplugged : List ℕ → History → History
 unplugged name h = unplugged_at h (index_of name (titles_of h.now.externals))
@@ -148,4 +195,5 @@ pub record WorldView : Type 0 where
   pub names : List (List ℕ)
 
 abbrev pub coded_world_view : Coded WorldView
-coded_world_view = code_by (History × List (List ℕ)) (coded× coded_history (coded_list (coded_list coded_ℕ))) (λ j. (j.history, j.names)) (λ p. record { history = p.0; names = p.1 }) (λ _. refl)
+coded_world_view = code_by (History × List (List ℕ)) (coded× coded_history (coded_list (coded_list coded_ℕ)))
+    (λ j. (j.history, j.names)) (λ p. record { history = p.0; names = p.1 }) (λ _. refl)

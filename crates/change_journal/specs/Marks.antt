@@ -31,4 +31,6 @@ mark_back (at current_card) = refl
 mark_back (at (cell i c)) = refl
 
 abbrev pub coded_trail : Coded (List Mark)
-coded_trail = coded_list (code_by (ℕ × (List ℕ × (ℕ × (ℕ × ℕ)))) (coded× coded_ℕ (coded× (coded_list coded_ℕ) (coded× coded_ℕ (coded× coded_ℕ coded_ℕ)))) mark_code (λ p. mark_coded p.0 p.1.0 p.1.1.0 p.1.1.1.0 p.1.1.1.1) mark_back)
+coded_trail = coded_list (code_by (ℕ × (List ℕ × (ℕ × (ℕ × ℕ))))
+    (coded× coded_ℕ (coded× (coded_list coded_ℕ) (coded× coded_ℕ (coded× coded_ℕ coded_ℕ)))) mark_code
+    (λ p. mark_coded p.0 p.1.0 p.1.1.0 p.1.1.1.0 p.1.1.1.1) mark_back)

@@ -37,10 +37,13 @@ BothOpen _ _ P = ⊥
 -- a change of the present state in an open batch
 pub record Made (old new : History) (change : Change) : Type 0 where
   pub history : new ≡ record old { now = changed old.now change; start = new.start }
-  pub start : BothOpen old.start new.start (λ o p. Rises (replaced_by old.now change) (trail_after (replaced_by old.now change) o.trail) o p)
+  pub start : BothOpen old.start new.start
+      (λ o p. Rises (replaced_by old.now change) (trail_after (replaced_by old.now change) o.trail) o p)
 
 -- a turn of the i-th external in an open batch
 pub record TookTurn (old new : History) (i : ℕ) (input : Input) (ask : Ask) : Type 0 where
   pub turn : Turns old.now new.now i input ask
   pub history : new ≡ record old { now = new.now; start = new.start; turns = one_more_at old.turns i }
-  pub start : BothOpen old.start new.start (λ o p. let replaced = replaced_by_turn i (seen_at old.now i).cells (seen_at new.now i).cells in Rises replaced (trail_after_turn replaced o.trail) o p)
+  pub start : BothOpen old.start new.start
+      (λ o p. let replaced = replaced_by_turn i (seen_at old.now i).cells (seen_at new.now i).cells in Rises replaced
+      (trail_after_turn replaced o.trail) o p)

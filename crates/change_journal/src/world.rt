@@ -1,19 +1,23 @@
 //! The world: one present state, and the batches that lead back and forth from it.
 
-ghost use Rattle.std.specs.Prelude.{◌≡◌, ◌⊎◌, ℕ, ◌<◌, ◌≤◌, List, [], ◌∷◌, ◌++◌, length, true, IsErr, Some, None, IsSome, IfSome, IsTrue, IfOk, IfErr, OnErr, OnOk, is_ok, map, option_map, option_copied, slice_index_or, slice_get};
+ghost use Rattle.std.specs.Prelude.{◌≡◌, ◌⊎◌, ℕ, ◌<◌, ◌≤◌, List, [], ◌∷◌, ◌++◌, length, true, IsErr, Some, None};
+ghost use Rattle.std.specs.Prelude.{IsSome, IfSome, IsTrue, IfOk, IfErr, OnErr, OnOk, is_ok, map, option_map};
+ghost use Rattle.std.specs.Prelude.{option_copied, slice_index_or, slice_get};
 ghost use Rattle.std.specs.FinMap as finite;
 ghost use Rattle.ht_grammar.specs.Reads.{Reads, ReadsScript};
 ghost use Rattle.ht_tree.specs.ScriptView.{script_of};
 ghost use Rattle.object_table.specs.WellFormed.{IsWellFormed};
 ghost use Rattle.object_table.specs.Objects.{has_kind, is_card};
-ghost use Rattle.journal_entries.specs.State.{seen_by, seen_at, first_state, titles_of, has_name, index_of, are_apart as apart_titles};
+ghost use Rattle.journal_entries.specs.State.{seen_by, seen_at, first_state, titles_of, has_name, index_of};
+ghost use Rattle.journal_entries.specs.State.{are_apart as apart_titles};
 ghost use Rattle.journal_entries.specs.Named.{listed, numbered, Lists};
 ghost use Rattle.journal_entries.specs.Changes.{fits};
 ghost use Rattle.journal_entries.specs.ScriptTrees.{object_script};
 ghost use Rattle.journal_entries.specs.declared.change.Change.TheVariants as made_change;
 ghost use Rattle.journal_entries.specs.Trails.{IsOnce, IsShort, different, places_in};
 ghost use Rattle.journal_entries.specs.Turning.{one_more_at};
-ghost use Rattle.change_journal.specs.History.{IsHistory, alone, begun, committed, rolled_back, flipped_back, flipped_forth, plugged, unplugged, stamp_at};
+ghost use Rattle.change_journal.specs.History.{IsHistory, alone, begun, committed, rolled_back, flipped_back};
+ghost use Rattle.change_journal.specs.History.{flipped_forth, plugged, unplugged, stamp_at};
 ghost use Rattle.std.specs.VecDeque.{deque_len, deque_capacity};
 ghost use Rattle.change_journal.specs.Batches.{newest, oldest_of};
 ghost use Rattle.change_journal.specs.Rising.{Made, TookTurn};
@@ -81,11 +85,26 @@ impl<E: External> Model for World<E> {
     ghost coded = { coded_world_view };
 
     ghost view = { λ w. record {
-      history = history_of (record { present = w.present; oldest = w.oldest; depth = w.depth; batches = w.batches.items; cursor = w.cursor }) w.«open»;
+      history = history_of
+          (record {
+            present = w.present;
+            oldest = w.oldest;
+            depth = w.depth;
+            batches = w.batches.items;
+            cursor =
+                w.cursor;
+          }) w.«open»;
       names = w.present.names;
     } };
 
-    ghost invariant = { λ w. IsSound (record { present = w.present; oldest = w.oldest; depth = w.depth; batches = w.batches.items; cursor = w.cursor }) (deque_capacity w.batches) w.«open» };
+    ghost invariant = { λ w. IsSound
+        (record {
+          present = w.present;
+          oldest = w.oldest;
+          depth = w.depth;
+          batches = w.batches.items;
+          cursor = w.cursor;
+        }) (deque_capacity w.batches) w.«open» };
 }
 
 impl<E: External> World<E> {
@@ -102,7 +121,9 @@ impl<E: External> World<E> {
         requires high { depth ≤ MOST_DEPTH }
         requires stack { IsWellFormed stack.content }
         ensures apart { is_ok result ≡ apart_titles (map E.title externals.items) }
-        ensures ok { IfOk result (λ w. w.history ≡ alone (first_state stack.content (map (seen_by E.title E.sort E.answers_calls E.cells) externals.items)) 0 depth (map E.turn_count externals.items)) }
+        ensures ok { IfOk result (λ w. w.history ≡ alone
+            (first_state stack.content (map (seen_by E.title E.sort E.answers_calls E.cells) externals.items)) 0 depth
+            (map E.turn_count externals.items)) }
         ensures err { IfErr result (λ e. (e.0 ≡ WorldError.DuplicateName) × (e.1 ≡ stack) × (e.2.items ≡ externals.items)) }
     {
         if !are_apart(&externals) {
@@ -131,7 +152,8 @@ impl<E: External> World<E> {
 
     /// The tree of an object's script, if it is kept: that of the script of now.
     pub fn script_tree(&self, id: Id) -> Option<&Rc<Script>>
-        ensures { IfSome result (λ tree. Reads ReadsScript (object_script self.now.history.now.stack id) (script_of tree.now.value)) }
+        ensures { IfSome result (λ tree. Reads ReadsScript (object_script self.now.history.now.stack id)
+            (script_of tree.now.value)) }
     {
         self.present.script_tree(id)
     }
@@ -300,7 +322,8 @@ impl<E: External> World<E> {
         requires open { IsSome self.old.history.start }
         requires there { i < length self.old.history.now.externals }
         ensures ok { IfOk result (λ ask. TookTurn self.old.history self.new.history i input.now ask) }
-        ensures err { OnErr result ((self.new.history ≡ self.old.history) ⊎ (self.new.history ≡ record self.old.history { turns = one_more_at self.old.history.turns i })) }
+        ensures err { OnErr result ((self.new.history ≡ self.old.history)
+            ⊎ (self.new.history ≡ record self.old.history { turns = one_more_at self.old.history.turns i })) }
     {
         let ask = match &mut self.open {
             Some(batch) => batch.turn(&mut self.present, i, self.alloc, input)?,
@@ -363,10 +386,15 @@ impl<E: External> World<E> {
     /// changes.
     pub fn plug(&mut self, external: E) -> Result<(), (PlugError, E)>
         requires { self.old.history.start ≡ None }
-        ensures ok { OnOk result (self.new.history ≡ plugged self.old.history (seen_by E.title E.sort E.answers_calls E.cells external) (E.turn_count external)) }
+        ensures ok { OnOk result (self.new.history
+            ≡ plugged self.old.history (seen_by E.title E.sort E.answers_calls E.cells external)
+            (E.turn_count external)) }
         ensures err { IfErr result (λ e. (e.1 ≡ external) × (self.new.history ≡ self.old.history)) }
-        ensures duplicate { IfErr result (λ e. e.0 ≡ PlugError.DuplicateName → has_name (E.title external) (titles_of self.old.history.now.externals) ≡ true) }
-        ensures apart { has_name (E.title external) (titles_of self.old.history.now.externals) ≡ true → IfErr result (λ e. e.0 ≡ PlugError.DuplicateName) × IsErr result }
+        ensures duplicate { IfErr result
+            (λ e. e.0 ≡ PlugError.DuplicateName
+            → has_name (E.title external) (titles_of self.old.history.now.externals) ≡ true) }
+        ensures apart { has_name (E.title external) (titles_of self.old.history.now.externals) ≡ true
+            → IfErr result (λ e. e.0 ≡ PlugError.DuplicateName) × IsErr result }
     {
         if self.present.has_external(external.name()) {
             return Err((PlugError::DuplicateName, external));
@@ -384,8 +412,11 @@ impl<E: External> World<E> {
     pub fn unplug(&mut self, name: &Text) -> Option<E>
         requires { self.old.history.start ≡ None }
         ensures history { self.new.history ≡ unplugged name.now self.old.history }
-        ensures external { option_map (seen_by E.title E.sort E.answers_calls E.cells) result ≡ option_map (seen_at self.old.history.now) (index_of name.now (titles_of self.old.history.now.externals)) }
-        ensures turns { option_map E.turn_count result ≡ option_map (λ i. slice_index_or self.old.history.turns i 0) (index_of name.now (titles_of self.old.history.now.externals)) }
+        ensures external { option_map (seen_by E.title E.sort E.answers_calls E.cells) result
+            ≡ option_map (seen_at self.old.history.now) (index_of name.now (titles_of self.old.history.now.externals)) }
+        ensures turns { option_map E.turn_count result
+            ≡ option_map (λ i. slice_index_or self.old.history.turns i 0)
+            (index_of name.now (titles_of self.old.history.now.externals)) }
     {
         let i = self.present.external_number(name)?;
         self.oldest = self.stamp(0);

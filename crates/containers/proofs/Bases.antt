@@ -12,7 +12,8 @@ use Rattle.change_journal.specs.Rising.{Made, TookTurn, Rises, BothOpen}
 use Rattle.change_journal.proofs.Making.{titles-changed}
 use Rattle.containers.specs.Base.{base, began}
 
-starts_keep : (rs : List Replacement) (ms : Open → List Mark) (o p : Option Open) → BothOpen o p (λ a b. Rises rs (ms a) a b) → option_map began p ≡ option_map began o
+starts_keep : (rs : List Replacement) (ms : Open → List Mark) (o p : Option Open)
+    → BothOpen o p (λ a b. Rises rs (ms a) a b) → option_map began p ≡ option_map began o
 starts_keep rs ms (Some a) (Some b) r = λ i. Some (r.state i, r.number i)
 starts_keep rs ms (Some a) None r = absurd r
 starts_keep rs ms None (Some b) r = absurd r
@@ -20,11 +21,31 @@ starts_keep rs ms None None r = absurd r
 
 pub made_keeps : {w w2 : History} {c : Change} → Made w w2 c → base w2 ≡ base w
 unfolding base
-made_keeps {w} {w2} {c} m = λ i. record { past = (m.history i).past; stamp = (m.history i).stamp; future = (m.history i).future; start = starts_keep _ _ w.start w2.start m.start i; depth = (m.history i).depth; titles = (ap (λ h. titles_of h.now.externals) m.history ∙ titles-changed w.now c) i }
+made_keeps {w} {w2} {c} m = λ i.
+    record {
+      past = (m.history i).past;
+      stamp = (m.history i).stamp;
+      future = (m.history i).future;
+      start = starts_keep
+          _ _ w.start w2.start m.start i;
+      depth =
+          (m.history i).depth;
+      titles = (ap (λ h. titles_of h.now.externals) m.history ∙ titles-changed w.now c) i;
+    }
 
 pub took_keeps : {w w2 : History} {k : ℕ} {input : Input} {ask : Ask} → TookTurn w w2 k input ask → base w2 ≡ base w
 unfolding base
-took_keeps {w} {w2} {k} t = λ i. record { past = (t.history i).past; stamp = (t.history i).stamp; future = (t.history i).future; start = starts_keep _ _ w.start w2.start t.start i; depth = (t.history i).depth; titles = (ap (λ s. titles_of s.externals) t.turn.state ∙ titles-turned w.now.externals k (seen_at w2.now k).cells) i }
+took_keeps {w} {w2} {k} t = λ i.
+    record {
+      past = (t.history i).past;
+      stamp = (t.history i).stamp;
+      future = (t.history i).future;
+      start = starts_keep
+          _ _ w.start w2.start t.start i;
+      depth = (t.history i).depth;
+      titles = (ap (λ s. titles_of s.externals) t.turn.state ∙ titles-turned w.now.externals k (seen_at w2.now k).cells)
+          i;
+    }
 
 start_is_open : (o : Option Open) → IsSome (option_map began o) → IsSome o
 start_is_open (Some o) h = h

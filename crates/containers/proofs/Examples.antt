@@ -45,7 +45,8 @@ add_to_nothing : edited 44 [] (Alter op.Add (codes "2")) [] ≡ Ok (Some (codes 
 unfolding computing
 add_to_nothing = refl
 
-subtract_from_an_item : edited 44 (one kind.Item 2 ∷ []) (Alter op.Subtract (codes "2")) (codes "1,9") ≡ Ok (Some (codes "1,7"))
+subtract_from_an_item : edited 44 (one kind.Item 2 ∷ []) (Alter op.Subtract (codes "2")) (codes "1,9")
+    ≡ Ok (Some (codes "1,7"))
 unfolding computing
 subtract_from_an_item = refl
 
@@ -70,10 +71,13 @@ name_in_a_typed_line = refl
 name_in_a_handler : named handler (codes "Sum") ≡ own (codes "Sum")
 name_in_a_handler = refl
 
-name_that_is_declared : named (with_local (with_local handler (codes "sum") (Some (codes "1"))) (codes "SUM") None) (codes "Sum") ≡ global (codes "sum")
+name_that_is_declared : named (with_local (with_local handler (codes "sum") (Some (codes "1"))) (codes "SUM") None)
+    (codes "Sum") ≡ global (codes "sum")
 name_that_is_declared = refl
 
-names_that_are_the_same_are_one : own_value (with_local (with_local handler (codes "sum") (Some (codes "1"))) (codes "SUM") (Some (codes "2"))) (codes "Sum") ≡ Some (codes "2")
+names_that_are_the_same_are_one : own_value
+    (with_local (with_local handler (codes "sum") (Some (codes "1"))) (codes "SUM") (Some (codes "2"))) (codes "Sum")
+    ≡ Some (codes "2")
 names_that_are_the_same_are_one = refl
 
 abbrev objects : Bool → List (ℕ × Object)
@@ -93,7 +97,8 @@ with_field shared = record {
   next = 5;
 }
 
-field_found : (shared : Bool) → get (from_sorted {R = nat_cmp} (objects shared)) 3 ≡ Some (empty_object (BackgroundField true false shared))
+field_found : (shared : Bool) → get (from_sorted {R = nat_cmp} (objects shared)) 3
+    ≡ Some (empty_object (BackgroundField true false shared))
 field_found shared = get-from_sorted nat_cmp (objects shared) 3 tt
 
 text_found : (p : Pair) → get (from_sorted {R = pair_cmp} texts) p ≡ find pair_cmp p texts

@@ -17,4 +17,11 @@ abbrev pub began : Open → State × ℕ
 began o = (o.state, o.number)
 
 unfoldable pub base : History → Base
-base h = record { past = h.past; stamp = h.stamp; future = h.future; start = option_map began h.start; depth = h.depth; titles = titles_of h.now.externals }
+base h = record {
+  past = h.past;
+  stamp = h.stamp;
+  future = h.future;
+  start = option_map began h.start;
+  depth = h.depth;
+  titles = titles_of h.now.externals;
+}

@@ -16,7 +16,8 @@ use Rattle.containers.specs.Variables.{VariablesView}
 -- chunks read, and puts the outcome into them.
 abbrev pub edited : ℕ → List Chunk → Edit → List ℕ → Result (Option (List ℕ)) Fault
 edited delimiter chunks (Put place new) t = and_then (put_within delimiter chunks place new t) (λ u. Ok (Some u))
-edited delimiter chunks (Alter op operand) t = and_then (binary op (read_within delimiter chunks t) operand) (λ v. and_then (put_within delimiter chunks Into v t) (λ u. Ok (Some u)))
+edited delimiter chunks (Alter op operand) t = and_then (binary op (read_within delimiter chunks t) operand)
+    (λ v. and_then (put_within delimiter chunks Into v t) (λ u. Ok (Some u)))
 edited delimiter chunks Delete t = deleted_within delimiter chunks t
 
 -- what a container's text becomes; a container that isn't found comes before any fault of the edit

@@ -38,7 +38,8 @@ replaced_by_write s p text = option_map_or (λ c. replaced_by s c) (option_and_t
 pub record IsWritten (h h2 : History) (v v2 : VariablesView) (p : StorageView) (text : Option (List ℕ)) : Type 0 where
   pub state : h2.now ≡ state_after h.now p text
   pub variables : v2 ≡ variables_after v p text
-  pub batch : BothOpen h.start h2.start (λ o q. Rises (replaced_by_write h.now p text) (trail_after (replaced_by_write h.now p text) o.trail) o q)
+  pub batch : BothOpen h.start h2.start
+      (λ o q. Rises (replaced_by_write h.now p text) (trail_after (replaced_by_write h.now p text) o.trail) o q)
 
 -- a write has one outcome: a fault is never written, and a text leads to one state and to one list of variables
 abbrev pub WritesAreDue : Type 0

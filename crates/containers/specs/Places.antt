@@ -1,5 +1,6 @@
 -- Places that hold a text, and the text that stands there.
-use Rattle.std.specs.Prelude.{◌≡◌, ℕ, zero, suc, Bool, false, not, ◌&&◌, ◌==◌, List, [], is_some, Option, unwrap_or, Result, Ok, Err, refl, if◌then◌else◌}
+use Rattle.std.specs.Prelude.{◌≡◌, ℕ, zero, suc, Bool, false, not, ◌&&◌, ◌==◌, List, [], is_some, Option, unwrap_or}
+use Rattle.std.specs.Prelude.{Result, Ok, Err, refl, if◌then◌else◌}
 use Rattle.std.specs.Option.{ok_or}
 use Rattle.std.specs.FinMap.{get}
 use Rattle.ht_values.specs.declared.fault.Fault.{Fault}
@@ -61,7 +62,8 @@ keeps_for s field card = not (card == 0) && is_some (text_at s field card)
 -- Which text of a field is meant that is met with a card: the shared one where the cards share it, else that of the
 -- card. A field that keeps no text for the card isn't found, also where its text is shared.
 abbrev pub text_met : Content → ℕ → ℕ → Result StorageView Fault
-text_met s field card = if keeps_for s field card then Ok (field_text field (if is_shared s field then 0 else card)) else Err NoSuchObject
+text_met s field card =
+    if keeps_for s field card then Ok (field_text field (if is_shared s field then 0 else card)) else Err NoSuchObject
 
 -- what a name means
 abbrev pub named : VariablesView → List ℕ → StorageView

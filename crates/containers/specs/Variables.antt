@@ -1,5 +1,6 @@
 -- What names mean where a handler runs, or a typed line.
-use Rattle.std.specs.Prelude.{ℕ, Bool, false, ◌||◌, List, [], ◌∷◌, find, Option, None, option_map, option_and_then, unwrap_or, is_none, if◌then◌else◌}
+use Rattle.std.specs.Prelude.{ℕ, Bool, false, ◌||◌, List, [], ◌∷◌, find, Option, None, option_map, option_and_then}
+use Rattle.std.specs.Prelude.{unwrap_or, is_none, if◌then◌else◌}
 use Rattle.ht_values.specs.Text.{folded, same}
 use Rattle.containers.specs.declared.variables.Local.{Local}
 
@@ -28,7 +29,8 @@ own_text v name = unwrap_or (own_value v name) []
 -- the names where this one has a value of its own, or without one means a global; a new name stands last, folded
 abbrev pub with_value : List ℕ → Option (List ℕ) → List Local → List Local
 with_value name value [] = record { name = folded name; value = value } ∷ []
-with_value name value (l ∷ ls) = if same l.name name then record l { value = value } ∷ ls else l ∷ with_value name value ls
+with_value name value (l ∷ ls) =
+    if same l.name name then record l { value = value } ∷ ls else l ∷ with_value name value ls
 
 abbrev pub with_local : VariablesView → List ℕ → Option (List ℕ) → VariablesView
 with_local v name value = record v { locals = with_value name value v.locals }

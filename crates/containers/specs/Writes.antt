@@ -11,14 +11,18 @@ use Rattle.containers.specs.Variables.{VariablesView, declared, with_local}
 
 -- A text that is due is written: a global and a text of a field by a change of the history, which says what it replaces,
 -- a handler's own variable among its variables. Where none is due nothing changes, and a fault is never written.
-pub data Writes : History → VariablesView → StorageView → Result (Option (List ℕ)) Fault → History → VariablesView → Type 0 where
+pub data Writes : History → VariablesView → StorageView → Result (Option (List ℕ)) Fault → History → VariablesView
+    → Type 0 where
   nothing_due : {h : History} {v : VariablesView} {p : StorageView} {due : Result (Option (List ℕ)) Fault} →
       due ≡ Ok None → Writes h v p due h v
-  to_global : {h h2 : History} {v : VariablesView} {p : StorageView} {due : Result (Option (List ℕ)) Fault} {name t : List ℕ} →
+  to_global : {h h2 : History} {v : VariablesView} {p : StorageView} {due : Result (Option (List ℕ)) Fault}
+      {name t : List ℕ} →
       p ≡ global name → due ≡ Ok (Some t) → Made h h2 (Global name (Some t)) → Writes h v p due h2 v
-  to_own : {h : History} {v v2 : VariablesView} {p : StorageView} {due : Result (Option (List ℕ)) Fault} {name t : List ℕ} →
+  to_own : {h : History} {v v2 : VariablesView} {p : StorageView} {due : Result (Option (List ℕ)) Fault}
+      {name t : List ℕ} →
       p ≡ own name → due ≡ Ok (Some t) → v2 ≡ with_local v name (Some t) → Writes h v p due h v2
-  to_field : {h h2 : History} {v : VariablesView} {p : StorageView} {due : Result (Option (List ℕ)) Fault} {field card : ℕ} {t : List ℕ} →
+  to_field : {h h2 : History} {v : VariablesView} {p : StorageView} {due : Result (Option (List ℕ)) Fault}
+      {field card : ℕ} {t : List ℕ} →
       p ≡ field_text field card → due ≡ Ok (Some t) → Made h h2 (FieldText field card t) → Writes h v p due h2 v
 
 -- a name means a global from here on, which gets the empty text where it had no value
@@ -26,4 +30,5 @@ pub data Declares : History → VariablesView → List ℕ → History → Varia
   has_value : {h : History} {v v2 : VariablesView} {name t : List ℕ} →
       get h.now.globals (folded name) ≡ Some t → v2 ≡ declared v name → Declares h v name h v2
   is_new : {h h2 : History} {v v2 : VariablesView} {name : List ℕ} →
-      get h.now.globals (folded name) ≡ None → Made h h2 (Global (folded name) (Some [])) → v2 ≡ declared v name → Declares h v name h2 v2
+      get h.now.globals (folded name) ≡ None → Made h h2 (Global (folded name) (Some [])) → v2 ≡ declared v name
+      → Declares h v name h2 v2

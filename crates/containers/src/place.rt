@@ -101,7 +101,8 @@ fn is_shared(stack: &Stack, field: Id) -> bool
 impl<'a> Place<'a> {
     /// A chunk of what the place's chunks read.
     pub fn with(mut self, chunk: Chunk) -> Result<Place<'a>, AllocError>
-        ensures { IfOk result (λ p. p ≡ record { storage = self.entry.storage; chunks = self.entry.chunks ++ chunk ∷ [] }) }
+        ensures { IfOk result (λ p. p ≡
+            record { storage = self.entry.storage; chunks = self.entry.chunks ++ chunk ∷ [] }) }
     {
         self.chunks.push(chunk)?;
         Ok(self)

@@ -39,7 +39,8 @@ pub fn standing_in<'a, W: Store>(
     variables: &'a Variables,
     place: &Place<'_>,
 ) -> Option<Standing<'a>>
-    ensures { MatchOption result (text_in_of (W.history world.now).now variables.now place.now.storage ≡ None) (λ s. text_in_of (W.history world.now).now variables.now place.now.storage ≡ Some (standing_text s)) }
+    ensures { MatchOption result (text_in_of (W.history world.now).now variables.now place.now.storage ≡ None)
+        (λ s. text_in_of (W.history world.now).now variables.now place.now.storage ≡ Some (standing_text s)) }
 {
     match &place.storage {
         Storage::Global(name) => Some(Standing::Text(world.global(name.folded())?)),
@@ -57,7 +58,8 @@ pub(crate) fn whole<'a, W: Store>(
     empty: &'a Text,
 ) -> Result<Standing<'a>, Fault>
     requires { empty.now ≡ [] }
-    ensures { MatchResult result (λ s. whole_of (W.history world.now).now variables.now place.now.storage ≡ Ok (standing_text s)) (λ e. whole_of (W.history world.now).now variables.now place.now.storage ≡ Err e) }
+    ensures { MatchResult result (λ s. whole_of (W.history world.now).now variables.now place.now.storage
+        ≡ Ok (standing_text s)) (λ e. whole_of (W.history world.now).now variables.now place.now.storage ≡ Err e) }
 {
     match (standing_in(world, variables, place), &place.storage) {
         (Some(standing), _) => Ok(standing),

@@ -1,6 +1,8 @@
 //! The variables of a handler that runs, or of a typed line.
 
-ghost use Rattle.std.specs.Prelude.{◌≡◌, ◌<◌, ◌++◌, ℕ, Ok, List, [], true, false, length, Err, IfErr, IfOk, OnOk, OnErr, IfNone, IfSome, Option, option_copied, find, position, slice_index_or, slice_set, unwrap_or, is_none, Some, None};
+ghost use Rattle.std.specs.Prelude.{◌≡◌, ◌<◌, ◌++◌, ℕ, Ok, List, [], true, false, length, Err, IfErr, IfOk, OnOk};
+ghost use Rattle.std.specs.Prelude.{OnErr, IfNone, IfSome, Option, option_copied, find, position, slice_index_or};
+ghost use Rattle.std.specs.Prelude.{slice_set, unwrap_or, is_none, Some, None};
 ghost use Rattle.ht_values.specs.Outcome.{Gives, within_limit};
 ghost use Rattle.ht_values.specs.declared.word.Where.TheVariants.{After};
 ghost use Rattle.containers.specs.declared.edit.Edit.TheVariants.{Put};
@@ -31,7 +33,8 @@ pub(crate) struct Local {
 impl Local {
     /// Puts a number in the place of the value, if there is one, and says whether there is.
     fn put_number(&mut self, number: i64) -> bool
-        ensures put { result ≡ true → (is_none self.old.value ≡ false) × (self.new ≡ record self.old { value = Some (numeral_of number) }) }
+        ensures put { result ≡ true → (is_none self.old.value ≡ false)
+            × (self.new ≡ record self.old { value = Some (numeral_of number) }) }
         ensures not { result ≡ false → self.new ≡ self.old }
     {
         match &mut self.value {
@@ -46,7 +49,9 @@ impl Local {
     /// Computes with the number as which the value is kept, if it and the operand are kept so, in its place. Says which number
     /// stands there then; else nothing changes.
     fn compute(&mut self, op: Op, operand: &Value) -> Option<i64>
-        ensures number { IfSome result (λ n. (is_none self.old.value ≡ false) × (binary_of op (unwrap_or self.old.value []) operand.now ≡ Ok (numeral_of n)) × (self.new ≡ record self.old { value = Some (numeral_of n) })) }
+        ensures number { IfSome result (λ n. (is_none self.old.value ≡ false)
+            × (binary_of op (unwrap_or self.old.value []) operand.now ≡ Ok (numeral_of n))
+            × (self.new ≡ record self.old { value = Some (numeral_of n) })) }
         ensures none { IfNone result (self.new ≡ self.old) }
     {
         let number = self.computed(op, operand)?;
@@ -56,7 +61,8 @@ impl Local {
 
     /// The number that an operator gives of the value and of an operand, where both are kept as numbers.
     fn computed(&self, op: Op, operand: &Value) -> Option<i64>
-        ensures { IfSome result (λ n. (is_none self.now.value ≡ false) × (binary_of op (unwrap_or self.now.value []) operand.now ≡ Ok (numeral_of n))) }
+        ensures { IfSome result (λ n. (is_none self.now.value ≡ false)
+            × (binary_of op (unwrap_or self.now.value []) operand.now ≡ Ok (numeral_of n))) }
     {
         let number = self.value.as_ref()?.kept_number()?;
         number_by(op, number, operand.kept_number()?)
@@ -64,7 +70,8 @@ impl Local {
 
     /// Adds a value at the end of the one that the name has, which is empty where it has none.
     fn append(&mut self, alloc: Global, new: Value) -> Result<(), Failure>
-        ensures ok { OnOk result ((t : List ℕ) × (within_limit (unwrap_or self.old.value [] ++ new) ≡ Ok t) × (self.new ≡ record self.old { value = Some t })) }
+        ensures ok { OnOk result ((t : List ℕ) × (within_limit (unwrap_or self.old.value [] ++ new) ≡ Ok t)
+            × (self.new ≡ record self.old { value = Some t })) }
         ensures fault { IfErr result (λ e. Gives {A = List ℕ} (Err e) (within_limit (unwrap_or self.old.value [] ++ new))) }
         ensures err { OnErr result (self.new ≡ self.old) }
     {
@@ -189,7 +196,8 @@ impl Variables {
     /// means a global, or its value is kept as something else. It takes no memory.
     #[inline]
     pub fn number(&self, name: &Name) -> Option<i64>
-        ensures { IfSome result (λ n. (is_global self.now name.now ≡ false) × (own_value self.now name.now ≡ Some (numeral_of n))) }
+        ensures { IfSome result (λ n. (is_global self.now name.now ≡ false)
+            × (own_value self.now name.now ≡ Some (numeral_of n))) }
     {
         match self.meaning_of(name) {
             NameMeaning::Own(value) => value.kept_number(),
@@ -200,7 +208,8 @@ impl Variables {
     /// Puts a number into a variable of the handler's own that has a value, and says whether there is one; else nothing changes.
     /// It takes no memory.
     pub(crate) fn put_number(&mut self, name: &Name, number: i64) -> bool
-        ensures put { result ≡ true → (is_global self.old name.now ≡ false) × (self.new ≡ with_local self.old name.now (Some (numeral_of number))) }
+        ensures put { result ≡ true → (is_global self.old name.now ≡ false)
+            × (self.new ≡ with_local self.old name.now (Some (numeral_of number))) }
         ensures not { result ≡ false → self.new ≡ self.old }
     {
         if self.all_global {
@@ -215,7 +224,9 @@ impl Variables {
     /// Computes with a variable of the handler's own that is kept as a number, in its place, where the operand is kept so as well.
     /// Says which number stands there then; else nothing changes. It takes no memory.
     pub(crate) fn compute(&mut self, name: &Name, op: Op, operand: &Value) -> Option<i64>
-        ensures number { IfSome result (λ n. (is_global self.old name.now ≡ false) × (binary_of op (own_text self.old name.now) operand.now ≡ Ok (numeral_of n)) × (self.new ≡ with_local self.old name.now (Some (numeral_of n)))) }
+        ensures number { IfSome result (λ n. (is_global self.old name.now ≡ false)
+            × (binary_of op (own_text self.old name.now) operand.now ≡ Ok (numeral_of n))
+            × (self.new ≡ with_local self.old name.now (Some (numeral_of n)))) }
         ensures none { IfNone result (self.new ≡ self.old) }
     {
         if self.all_global {
@@ -235,8 +246,10 @@ impl Variables {
         name: &Name,
         value: Value,
     ) -> Result<Option<Value>, AllocError>
-        ensures own { IfOk result (λ back. IfNone back ((is_global self.old name.now ≡ false) × (self.new ≡ with_local self.old name.now (Some value)))) }
-        ensures global { IfOk result (λ back. IfSome back (λ v. (is_global self.old name.now ≡ true) × (v ≡ value) × (self.new ≡ self.old))) }
+        ensures own { IfOk result (λ back. IfNone back
+            ((is_global self.old name.now ≡ false) × (self.new ≡ with_local self.old name.now (Some value)))) }
+        ensures global { IfOk result (λ back. IfSome back
+            (λ v. (is_global self.old name.now ≡ true) × (v ≡ value) × (self.new ≡ self.old))) }
         ensures err { OnErr result (self.new ≡ self.old) }
     {
         if self.all_global {
@@ -265,8 +278,10 @@ impl Variables {
         chunks: &[Chunk],
         delimiter: u8,
     ) -> Result<(), Failure>
-        ensures ok { OnOk result ((h : History) → Writes h self.old (own name.now) (edited delimiter chunks.now edit (own_text self.old name.now)) h self.new) }
-        ensures fault { IfErr result (λ e. Gives {A = Option (List ℕ)} (Err e) (edited delimiter chunks.now edit (own_text self.old name.now))) }
+        ensures ok { OnOk result ((h : History) → Writes h self.old (own name.now)
+            (edited delimiter chunks.now edit (own_text self.old name.now)) h self.new) }
+        ensures fault { IfErr result (λ e. Gives {A = Option (List ℕ)} (Err e)
+            (edited delimiter chunks.now edit (own_text self.old name.now))) }
         ensures err { OnErr result (self.new ≡ self.old) }
     {
         match number_of(&self.locals, name) {
@@ -291,8 +306,10 @@ impl Variables {
     /// Adds a value at the end of a variable of the handler's own, in its place where it stands as a text; one without a value is
     /// empty. After a fault, and where it is out of memory, nothing has changed.
     fn append(&mut self, alloc: Global, name: &Name, new: Value) -> Result<(), Failure>
-        ensures ok { OnOk result ((h : History) (d : ℕ) → Writes h self.old (own name.now) (edited d [] (Put After new) (own_text self.old name.now)) h self.new) }
-        ensures fault { (d : ℕ) → IfErr result (λ e. Gives {A = Option (List ℕ)} (Err e) (edited d [] (Put After new) (own_text self.old name.now))) }
+        ensures ok { OnOk result ((h : History) (d : ℕ)
+            → Writes h self.old (own name.now) (edited d [] (Put After new) (own_text self.old name.now)) h self.new) }
+        ensures fault { (d : ℕ) → IfErr result
+            (λ e. Gives {A = Option (List ℕ)} (Err e) (edited d [] (Put After new) (own_text self.old name.now))) }
         ensures err { OnErr result (self.new ≡ self.old) }
     {
         match number_of(&self.locals, name) {
@@ -312,8 +329,10 @@ impl Variables {
         edit: Edit,
         delimiter: u8,
     ) -> Result<(), Failure>
-        ensures ok { OnOk result ((h : History) → Writes h self.old (own name.now) (edited delimiter [] edit (own_text self.old name.now)) h self.new) }
-        ensures fault { IfErr result (λ e. Gives {A = Option (List ℕ)} (Err e) (edited delimiter [] edit (own_text self.old name.now))) }
+        ensures ok { OnOk result ((h : History) → Writes h self.old (own name.now)
+            (edited delimiter [] edit (own_text self.old name.now)) h self.new) }
+        ensures fault { IfErr result (λ e. Gives {A = Option (List ℕ)} (Err e)
+            (edited delimiter [] edit (own_text self.old name.now))) }
         ensures err { OnErr result (self.new ≡ self.old) }
     {
         match edit {
@@ -344,7 +363,8 @@ fn number_of(locals: &[Local], name: &Name) -> Option<usize>
 
 fn set_value(locals: &mut Vec<Local>, i: usize, value: Option<Value>)
     requires { i < length locals.old.items }
-    ensures { (other : Local) → locals.new.items ≡ slice_set locals.old.items i (record (slice_index_or locals.old.items i other) { value = value }) }
+    ensures { (other : Local) → locals.new.items
+        ≡ slice_set locals.old.items i (record (slice_index_or locals.old.items i other) { value = value }) }
 {
     let local = &mut locals[i];
     local.value = value;
@@ -353,8 +373,13 @@ fn set_value(locals: &mut Vec<Local>, i: usize, value: Option<Value>)
 /// Adds a value at the end of the one at a place; one that isn't there is empty.
 fn append_at(alloc: Global, locals: &mut Vec<Local>, i: usize, new: Value) -> Result<(), Failure>
     requires { i < length locals.old.items }
-    ensures ok { OnOk result ((other : Local) → (t : List ℕ) × (within_limit (unwrap_or (slice_index_or locals.old.items i other).value [] ++ new) ≡ Ok t) × (locals.new.items ≡ slice_set locals.old.items i (record (slice_index_or locals.old.items i other) { value = Some t }))) }
-    ensures fault { (other : Local) → IfErr result (λ e. Gives {A = List ℕ} (Err e) (within_limit (unwrap_or (slice_index_or locals.old.items i other).value [] ++ new))) }
+    ensures ok { OnOk result ((other : Local) → (t : List ℕ)
+        × (within_limit (unwrap_or (slice_index_or locals.old.items i other).value [] ++ new) ≡ Ok t)
+        × (locals.new.items ≡ slice_set locals.old.items i
+        (record (slice_index_or locals.old.items i other) { value = Some t }))) }
+    ensures fault { (other : Local)
+        → IfErr result (λ e. Gives {A = List ℕ} (Err e)
+        (within_limit (unwrap_or (slice_index_or locals.old.items i other).value [] ++ new))) }
     ensures err { OnErr result (locals.new.items ≡ locals.old.items) }
 {
     let local = &mut locals[i];
@@ -364,7 +389,10 @@ fn append_at(alloc: Global, locals: &mut Vec<Local>, i: usize, new: Value) -> Re
 /// Puts a number in the place of the value at a place, if there is one, and says whether there is.
 fn put_number_at(locals: &mut Vec<Local>, i: usize, number: i64) -> bool
     requires { i < length locals.old.items }
-    ensures put { result ≡ true → (other : Local) → (is_none (slice_index_or locals.old.items i other).value ≡ false) × (locals.new.items ≡ slice_set locals.old.items i (record (slice_index_or locals.old.items i other) { value = Some (numeral_of number) })) }
+    ensures put { result ≡ true → (other : Local)
+        → (is_none (slice_index_or locals.old.items i other).value ≡ false)
+        × (locals.new.items ≡ slice_set locals.old.items i
+        (record (slice_index_or locals.old.items i other) { value = Some (numeral_of number) })) }
     ensures not { result ≡ false → locals.new.items ≡ locals.old.items }
 {
     let local = &mut locals[i];
@@ -374,7 +402,11 @@ fn put_number_at(locals: &mut Vec<Local>, i: usize, number: i64) -> bool
 /// Computes with the number at a place, if it and the operand are kept so. Says which number stands there then.
 fn compute_at(locals: &mut Vec<Local>, i: usize, op: Op, operand: &Value) -> Option<i64>
     requires { i < length locals.old.items }
-    ensures number { IfSome result (λ n. (other : Local) → (is_none (slice_index_or locals.old.items i other).value ≡ false) × (binary_of op (unwrap_or (slice_index_or locals.old.items i other).value []) operand.now ≡ Ok (numeral_of n)) × (locals.new.items ≡ slice_set locals.old.items i (record (slice_index_or locals.old.items i other) { value = Some (numeral_of n) }))) }
+    ensures number { IfSome result (λ n. (other : Local)
+        → (is_none (slice_index_or locals.old.items i other).value ≡ false)
+        × (binary_of op (unwrap_or (slice_index_or locals.old.items i other).value []) operand.now ≡ Ok (numeral_of n))
+        × (locals.new.items ≡ slice_set locals.old.items i
+        (record (slice_index_or locals.old.items i other) { value = Some (numeral_of n) }))) }
     ensures none { IfNone result (locals.new.items ≡ locals.old.items) }
 {
     let local = &mut locals[i];
@@ -391,7 +423,8 @@ fn edited_at(
     delimiter: u8,
 ) -> Result<Option<Value>, Failure>
     requires { i < length locals.now }
-    ensures { (other : Local) → Gives result (edited delimiter chunks.now edit (unwrap_or (slice_index_or locals.now i other).value [])) }
+    ensures { (other : Local) → Gives result
+        (edited delimiter chunks.now edit (unwrap_or (slice_index_or locals.now i other).value [])) }
 {
     match &locals[i].value {
         Some(value) => edit.edited(alloc, Standing::Value(value), chunks, delimiter),

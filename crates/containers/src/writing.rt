@@ -1,6 +1,7 @@
 //! Writing containers.
 
-ghost use Rattle.std.specs.Prelude.{◌≡◌, List, ℕ, [], true, false, Option, Some, IsSome, IfSome, unwrap_or, OnOk, OnErr, IfErr, Ok, Err};
+ghost use Rattle.std.specs.Prelude.{◌≡◌, List, ℕ, [], true, false, Option, Some, IsSome, IfSome, unwrap_or, OnOk};
+ghost use Rattle.std.specs.Prelude.{OnErr, IfErr, Ok, Err};
 ghost use Rattle.std.specs.FinMap as finite;
 ghost use Rattle.std.specs.Option.{ok_or};
 ghost use Rattle.ht_values.specs.declared.fault.Fault.TheVariants.{NoSuchObject};
@@ -41,7 +42,8 @@ fn global_edited<W: Store>(
     chunks: &[Chunk],
     delimiter: u8,
 ) -> Result<Option<Value>, Failure>
-    ensures { Gives result (edited_text delimiter chunks.now edit (unwrap_or (finite.get (W.history world.now).now.globals (folded name.now)) [])) }
+    ensures { Gives result (edited_text delimiter chunks.now edit
+        (unwrap_or (finite.get (W.history world.now).now.globals (folded name.now)) [])) }
 {
     match world.global(name.folded()) {
         Some(text) => edit.edited(alloc, Standing::Text(text), chunks, delimiter),
@@ -59,7 +61,8 @@ fn field_edited<W: Store>(
     chunks: &[Chunk],
     delimiter: u8,
 ) -> Result<Option<Value>, Failure>
-    ensures due { Gives result (and_then (ok_or (text_at (W.history world.now).now.stack field card) NoSuchObject) (λ t. edited_text delimiter chunks.now edit t)) }
+    ensures due { Gives result (and_then (ok_or (text_at (W.history world.now).now.stack field card) NoSuchObject)
+        (λ t. edited_text delimiter chunks.now edit t)) }
     ensures there { OnOk result (IsSome (text_at (W.history world.now).now.stack field card)) }
 {
     match world.stack().text(field, card) {
@@ -77,7 +80,8 @@ fn put_into_global<W: Store>(
     value: Value,
 ) -> Result<(), AllocError>
     requires { IsSome (base (W.history world.old)).start }
-    ensures ok { OnOk result (Made (W.history world.old) (W.history world.new) (made_change.Global (folded name.now) (Some value))) }
+    ensures ok { OnOk result (Made (W.history world.old) (W.history world.new)
+        (made_change.Global (folded name.now) (Some value))) }
     ensures err { OnErr result (W.history world.new ≡ W.history world.old) }
     ensures base { base (W.history world.new) ≡ base (W.history world.old) }
 {
@@ -96,8 +100,13 @@ fn edit_global<W: Store>(
     delimiter: u8,
 ) -> Result<(), Failure>
     requires { IsSome (base (W.history world.old)).start }
-    ensures ok { OnOk result ((v : VariablesView) → Writes (W.history world.old) v (global (folded name.now)) (edited_text delimiter chunks.now edit (unwrap_or (finite.get (W.history world.old).now.globals (folded name.now)) [])) (W.history world.new) v) }
-    ensures fault { IfErr result (λ e. Gives {A = Option (List ℕ)} (Err e) (edited_text delimiter chunks.now edit (unwrap_or (finite.get (W.history world.old).now.globals (folded name.now)) []))) }
+    ensures ok { OnOk result ((v : VariablesView)
+        → Writes (W.history world.old) v (global (folded name.now))
+        (edited_text delimiter chunks.now edit
+        (unwrap_or (finite.get (W.history world.old).now.globals (folded name.now)) [])) (W.history world.new) v) }
+    ensures fault { IfErr result (λ e. Gives {A = Option (List ℕ)} (Err e)
+        (edited_text delimiter chunks.now edit
+        (unwrap_or (finite.get (W.history world.old).now.globals (folded name.now)) []))) }
     ensures err { OnErr result (W.history world.new ≡ W.history world.old) }
     ensures base { base (W.history world.new) ≡ base (W.history world.old) }
 {
@@ -110,7 +119,8 @@ fn edit_global<W: Store>(
 /// The number that an operator gives of a global and of an operand, where the one is a numeral without a sign and the other is
 /// kept as a number.
 fn global_computed<W: Store>(world: &W, name: &Name, op: Op, operand: &Value) -> Option<i64>
-    ensures { IfSome result (λ n. binary_of op (unwrap_or (finite.get (W.history world.now).now.globals (folded name.now)) []) operand.now ≡ Ok (numeral_of n)) }
+    ensures { IfSome result (λ n. binary_of op
+        (unwrap_or (finite.get (W.history world.now).now.globals (folded name.now)) []) operand.now ≡ Ok (numeral_of n)) }
 {
     let number = plain_number(world.global(name.folded())?.as_slice())?;
     number_by(op, number, operand.kept_number()?)
@@ -127,8 +137,13 @@ fn alter_global<W: Store>(
     delimiter: u8,
 ) -> Result<(), Failure>
     requires { IsSome (base (W.history world.old)).start }
-    ensures ok { OnOk result ((v : VariablesView) → Writes (W.history world.old) v (global (folded name.now)) (edited_text delimiter [] (Alter op operand) (unwrap_or (finite.get (W.history world.old).now.globals (folded name.now)) [])) (W.history world.new) v) }
-    ensures fault { IfErr result (λ e. Gives {A = Option (List ℕ)} (Err e) (edited_text delimiter [] (Alter op operand) (unwrap_or (finite.get (W.history world.old).now.globals (folded name.now)) []))) }
+    ensures ok { OnOk result ((v : VariablesView)
+        → Writes (W.history world.old) v (global (folded name.now))
+        (edited_text delimiter [] (Alter op operand)
+        (unwrap_or (finite.get (W.history world.old).now.globals (folded name.now)) [])) (W.history world.new) v) }
+    ensures fault { IfErr result (λ e. Gives {A = Option (List ℕ)} (Err e)
+        (edited_text delimiter [] (Alter op operand)
+        (unwrap_or (finite.get (W.history world.old).now.globals (folded name.now)) []))) }
     ensures err { OnErr result (W.history world.new ≡ W.history world.old) }
     ensures base { base (W.history world.new) ≡ base (W.history world.old) }
 {
@@ -172,8 +187,10 @@ pub fn write<W: Store>(
     delimiter: u8,
 ) -> Result<(), Failure>
     requires { IsSome (base (W.history world.old)).start }
-    ensures ok { OnOk result (Writes (W.history world.old) variables.old place.now.storage (due (W.history world.old).now variables.old delimiter place.now edit) (W.history world.new) variables.new) }
-    ensures fault { IfErr result (λ e. Gives {A = Option (List ℕ)} (Err e) (due (W.history world.old).now variables.old delimiter place.now edit)) }
+    ensures ok { OnOk result (Writes (W.history world.old) variables.old place.now.storage
+        (due (W.history world.old).now variables.old delimiter place.now edit) (W.history world.new) variables.new) }
+    ensures fault { IfErr result (λ e. Gives {A = Option (List ℕ)} (Err e)
+        (due (W.history world.old).now variables.old delimiter place.now edit)) }
     ensures err { OnErr result ((W.history world.new ≡ W.history world.old) × (variables.new ≡ variables.old)) }
     ensures base { base (W.history world.new) ≡ base (W.history world.old) }
 {
@@ -195,7 +212,10 @@ pub fn write<W: Store>(
 #[tactic(auto, using(crate::proofs::Rules::writes_rules))]
 #[inline]
 pub fn put_number(variables: &mut Variables, name: &Name, number: i64) -> bool
-    ensures put { result ≡ true → (h : History) (d : ℕ) → Writes h variables.old (named variables.old name.now) (due h.now variables.old d (record { storage = named variables.old name.now; chunks = [] }) (Put Into (numeral_of number))) h variables.new }
+    ensures put { result ≡ true → (h : History) (d : ℕ)
+        → Writes h variables.old (named variables.old name.now)
+        (due h.now variables.old d (record { storage = named variables.old name.now; chunks = [] })
+        (Put Into (numeral_of number))) h variables.new }
     ensures not { result ≡ false → variables.new ≡ variables.old }
 {
     law_of_value(&Value::of_number(number));
@@ -212,7 +232,8 @@ fn put_variable<W: Store>(
     value: Value,
 ) -> Result<(), AllocError>
     requires { IsSome (base (W.history world.old)).start }
-    ensures ok { OnOk result (Writes (W.history world.old) variables.old (named variables.old name.now) (Ok (Some value)) (W.history world.new) variables.new) }
+    ensures ok { OnOk result (Writes (W.history world.old) variables.old (named variables.old name.now) (Ok (Some value))
+        (W.history world.new) variables.new) }
     ensures err { OnErr result ((W.history world.new ≡ W.history world.old) × (variables.new ≡ variables.old)) }
     ensures base { base (W.history world.new) ≡ base (W.history world.old) }
 {
@@ -234,8 +255,12 @@ pub fn edit_variable<W: Store>(
     delimiter: u8,
 ) -> Result<(), Failure>
     requires { IsSome (base (W.history world.old)).start }
-    ensures ok { OnOk result (Writes (W.history world.old) variables.old (named variables.old name.now) (due (W.history world.old).now variables.old delimiter (record { storage = named variables.old name.now; chunks = [] }) edit) (W.history world.new) variables.new) }
-    ensures fault { IfErr result (λ e. Gives {A = Option (List ℕ)} (Err e) (due (W.history world.old).now variables.old delimiter (record { storage = named variables.old name.now; chunks = [] }) edit)) }
+    ensures ok { OnOk result (Writes (W.history world.old) variables.old (named variables.old name.now)
+        (due (W.history world.old).now variables.old delimiter
+        (record { storage = named variables.old name.now; chunks = [] }) edit) (W.history world.new) variables.new) }
+    ensures fault { IfErr result (λ e. Gives {A = Option (List ℕ)} (Err e)
+        (due (W.history world.old).now variables.old delimiter
+        (record { storage = named variables.old name.now; chunks = [] }) edit)) }
     ensures err { OnErr result ((W.history world.new ≡ W.history world.old) × (variables.new ≡ variables.old)) }
     ensures base { base (W.history world.new) ≡ base (W.history world.old) }
 {
@@ -263,8 +288,12 @@ fn edit_named<W: Store>(
     delimiter: u8,
 ) -> Result<(), Failure>
     requires { IsSome (base (W.history world.old)).start }
-    ensures ok { OnOk result (Writes (W.history world.old) variables.old (named variables.old name.now) (due (W.history world.old).now variables.old delimiter (record { storage = named variables.old name.now; chunks = [] }) edit) (W.history world.new) variables.new) }
-    ensures fault { IfErr result (λ e. Gives {A = Option (List ℕ)} (Err e) (due (W.history world.old).now variables.old delimiter (record { storage = named variables.old name.now; chunks = [] }) edit)) }
+    ensures ok { OnOk result (Writes (W.history world.old) variables.old (named variables.old name.now)
+        (due (W.history world.old).now variables.old delimiter
+        (record { storage = named variables.old name.now; chunks = [] }) edit) (W.history world.new) variables.new) }
+    ensures fault { IfErr result (λ e. Gives {A = Option (List ℕ)} (Err e)
+        (due (W.history world.old).now variables.old delimiter
+        (record { storage = named variables.old name.now; chunks = [] }) edit)) }
     ensures err { OnErr result ((W.history world.new ≡ W.history world.old) × (variables.new ≡ variables.old)) }
     ensures base { base (W.history world.new) ≡ base (W.history world.old) }
 {
@@ -287,8 +316,13 @@ fn alter_variable<W: Store>(
     delimiter: u8,
 ) -> Result<(), Failure>
     requires { IsSome (base (W.history world.old)).start }
-    ensures ok { OnOk result (Writes (W.history world.old) variables.old (named variables.old name.now) (due (W.history world.old).now variables.old delimiter (record { storage = named variables.old name.now; chunks = [] }) (Alter op operand)) (W.history world.new) variables.new) }
-    ensures fault { IfErr result (λ e. Gives {A = Option (List ℕ)} (Err e) (due (W.history world.old).now variables.old delimiter (record { storage = named variables.old name.now; chunks = [] }) (Alter op operand))) }
+    ensures ok { OnOk result (Writes (W.history world.old) variables.old (named variables.old name.now)
+        (due (W.history world.old).now variables.old delimiter
+        (record { storage = named variables.old name.now; chunks = [] }) (Alter op operand)) (W.history world.new)
+        variables.new) }
+    ensures fault { IfErr result (λ e. Gives {A = Option (List ℕ)} (Err e)
+        (due (W.history world.old).now variables.old delimiter
+        (record { storage = named variables.old name.now; chunks = [] }) (Alter op operand))) }
     ensures err { OnErr result ((W.history world.new ≡ W.history world.old) × (variables.new ≡ variables.old)) }
     ensures base { base (W.history world.new) ≡ base (W.history world.old) }
 {

@@ -27,13 +27,16 @@ IsWhole view read (Err stop.Syntax) = read ≡ None
 
 -- The text is read as this tree and as no other; where there is none, it is read as no tree.
 abbrev pub Parses : {C T : Type 0} → (C → T) → (List Token → T → Type 0) → List ℕ → Result C ParseError → Type 0
-Parses {C} {T} view IsRead text (Ok x) = Reads IsRead text (view x) × ((other : T) → Reads IsRead text other → other ≡ view x)
+Parses {C} {T} view IsRead text (Ok x) =
+    Reads IsRead text (view x) × ((other : T) → Reads IsRead text other → other ≡ view x)
 Parses view IsRead text (Err error.Memory) = Unit {0}
-Parses {C} {T} view IsRead text (Err (error.Syntax place)) = (place ≤ length text) × ((tree : T) → Reads IsRead text tree → ⊥)
+Parses {C} {T} view IsRead text (Err (error.Syntax place)) =
+    (place ≤ length text) × ((tree : T) → Reads IsRead text tree → ⊥)
 
 -- the text's tokens, and the only ones, of a text that fits; or a place that is none, where there are no tokens
 abbrev pub Lexes : List ℕ → Result Lexed ParseError → Type 0
-Lexes text (Ok tokens) = (tokens.text ≡ text) × IsCut text tokens.spans × ((spans : List Span) → IsCut text spans → tokens.spans ≡ spans) × (length text ≤ LIMIT)
+Lexes text (Ok tokens) = (tokens.text ≡ text) × IsCut text tokens.spans
+    × ((spans : List Span) → IsCut text spans → tokens.spans ≡ spans) × (length text ≤ LIMIT)
 Lexes text (Err error.Memory) = Unit {0}
 Lexes text (Err (error.Syntax place)) = (place ≤ length text) × ((spans : List Span) → IsCut text spans → ⊥)
 

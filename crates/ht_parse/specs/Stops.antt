@@ -15,4 +15,5 @@ start_or_end end (Some span) = min span.start end
 -- the error of a reader that stopped with so many of the tokens left
 abbrev pub error_at : Lexed → ℕ → Stop → ParseError
 error_at tokens left stop.Memory = error.Memory
-error_at tokens left stop.Syntax = error.Syntax (start_or_end (length tokens.text) (slice_get tokens.spans (length tokens.spans - left)))
+error_at tokens left stop.Syntax =
+    error.Syntax (start_or_end (length tokens.text) (slice_get tokens.spans (length tokens.spans - left)))

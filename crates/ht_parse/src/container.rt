@@ -54,7 +54,8 @@ pub(crate) fn container(
 /// The text of a field.
 fn in_field(alloc: Global, tokens: &mut Cursor<'_>, depth: usize) -> Result<Container, Stop>
     requires { depth < max_depth }
-    ensures { Reads (λ c. c) container_depth (depth + 1) (r.made t.in_field (r.field_at (r.read depth) depth tokens.old)) result tokens.new }
+    ensures { Reads (λ c. c) container_depth (depth + 1)
+        (r.made t.in_field (r.field_at (r.read depth) depth tokens.old)) result tokens.new }
 {
     let field = field(alloc, tokens, depth)?;
     to_container(alloc, ContainerKind::Field(field))
@@ -64,7 +65,9 @@ fn in_field(alloc: Global, tokens: &mut Cursor<'_>, depth: usize) -> Result<Cont
 #[cycle(container)]
 fn at_ordinal(alloc: Global, tokens: &mut Cursor<'_>, depth: usize) -> Result<Container, Stop>
     requires { depth < max_depth }
-    ensures { Reads (λ c. c) container_depth (depth + 1) (spec.ordinal_container (spec.container depth) depth (first_kind (later tokens.old)) tokens.old) result tokens.new }
+    ensures { Reads (λ c. c) container_depth (depth + 1)
+        (spec.ordinal_container (spec.container depth) depth (first_kind (later tokens.old)) tokens.old) result
+        tokens.new }
 {
     match tokens.second() {
         Some(TokenKind::Key(Key::Piece(_))) => in_chunk(alloc, tokens, depth),
@@ -76,7 +79,8 @@ fn at_ordinal(alloc: Global, tokens: &mut Cursor<'_>, depth: usize) -> Result<Co
 #[cycle(container)]
 fn in_chunk(alloc: Global, tokens: &mut Cursor<'_>, depth: usize) -> Result<Container, Stop>
     requires { depth < max_depth }
-    ensures { Reads (λ c. c) container_depth (depth + 1) (spec.chunk_container (spec.container depth) depth tokens.old) result tokens.new }
+    ensures { Reads (λ c. c) container_depth (depth + 1) (spec.chunk_container (spec.container depth) depth tokens.old)
+        result tokens.new }
 {
     let chunk = chunk_head(alloc, tokens, depth)?;
     if !eat_of(tokens) {

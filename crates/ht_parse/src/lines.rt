@@ -31,7 +31,8 @@ impl Simple {
     fn counted_up(&self, tokens: &mut Cursor<'_>, name: Name, from: Expr) -> Result<Head, Stop>
         requires shallow { self.now.depth < max_depth }
         requires fits { depth from ≤ self.now.depth }
-        ensures { Reads head_of head_depth self.now.depth (r.made (s.counted_up name from) (r.read self.now.depth e.whole tokens.old)) result tokens.new }
+        ensures { Reads head_of head_depth self.now.depth
+            (r.made (s.counted_up name from) (r.read self.now.depth e.whole tokens.old)) result tokens.new }
     {
         let to = self.expr(tokens)?;
         Ok(Head::CountedUp(name, from, to))
@@ -41,7 +42,9 @@ impl Simple {
     fn counted_down(&self, tokens: &mut Cursor<'_>, name: Name, from: Expr) -> Result<Head, Stop>
         requires shallow { self.now.depth < max_depth }
         requires fits { depth from ≤ self.now.depth }
-        ensures { Reads head_of head_depth self.now.depth (spec.after_key k.To (λ m. r.made (s.counted_down name from) (r.read self.now.depth e.whole m)) tokens.old) result tokens.new }
+        ensures { Reads head_of head_depth self.now.depth
+            (spec.after_key k.To (λ m. r.made (s.counted_down name from) (r.read self.now.depth e.whole m)) tokens.old)
+            result tokens.new }
     {
         let to = self.value_after(tokens, Key::To)?;
         Ok(Head::CountedDown(name, from, to))
@@ -51,7 +54,8 @@ impl Simple {
     fn bound(&self, tokens: &mut Cursor<'_>, name: Name, from: Expr) -> Result<Head, Stop>
         requires shallow { self.now.depth < max_depth }
         requires fits { depth from ≤ self.now.depth }
-        ensures { Reads head_of head_depth self.now.depth (spec.bound_by self.now.depth at_large name from (first_kind tokens.old) tokens.old) result tokens.new }
+        ensures { Reads head_of head_depth self.now.depth
+            (spec.bound_by self.now.depth at_large name from (first_kind tokens.old) tokens.old) result tokens.new }
     {
         match tokens.peek() {
             Some(TokenKind::Key(Key::To)) => {
@@ -72,7 +76,8 @@ impl Simple {
     /// A counted repeat, after `with`.
     fn counted(&self, tokens: &mut Cursor<'_>) -> Result<Head, Stop>
         requires { self.now.depth < max_depth }
-        ensures { Reads head_of head_depth self.now.depth (spec.with_by self.now.depth at_large (first_kind tokens.old) tokens.old) result tokens.new }
+        ensures { Reads head_of head_depth self.now.depth
+            (spec.with_by self.now.depth at_large (first_kind tokens.old) tokens.old) result tokens.new }
     {
         match tokens.peek() {
             Some(TokenKind::Name) => {
@@ -88,7 +93,8 @@ impl Simple {
     #[tactic(auto, unfolding(ht_grammar::specs::Lines::head_at))]
     fn head(&self, tokens: &mut Cursor<'_>) -> Result<Head, Stop>
         requires { self.now.depth < max_depth }
-        ensures { Reads head_of head_depth self.now.depth (spec.head_at self.now.depth at_large tokens.old) result tokens.new }
+        ensures { Reads head_of head_depth self.now.depth (spec.head_at self.now.depth at_large tokens.old) result
+            tokens.new }
     {
         match tokens.peek() {
             None => Ok(Head::Forever),
@@ -121,7 +127,8 @@ impl Simple {
     /// A statement of at most `depth` levels.
     fn within(&self, tokens: &mut Cursor<'_>, context: Context<'_>) -> Result<Stmt, Stop>
         requires { self.now.depth < max_depth }
-        ensures { Reads (λ x. x) stmt_depth self.now.depth (spec.simple_within self.now.depth (context_of context.entry) tokens.old) result tokens.new }
+        ensures { Reads (λ x. x) stmt_depth self.now.depth
+            (spec.simple_within self.now.depth (context_of context.entry) tokens.old) result tokens.new }
     {
         if self.depth == 0 {
             return Err(Stop::Syntax);
@@ -152,7 +159,9 @@ impl Simple {
         requires shallow { self.now.depth < max_depth }
         requires condition { depth condition ≤ self.now.depth }
         requires stmt { stmt_depth stmt ≤ self.now.depth }
-        ensures { Reads (λ x. x) stmt_depth (self.now.depth + 1) (spec.short_end (spec.blocks self.now.depth) self.now.depth (context_of context.entry) condition stmt tokens.old) result tokens.new }
+        ensures { Reads (λ x. x) stmt_depth (self.now.depth + 1)
+            (spec.short_end (spec.blocks self.now.depth) self.now.depth (context_of context.entry) condition stmt
+            tokens.old) result tokens.new }
     {
         let lines = self.one(stmt)?;
         let before = tokens.mark();
@@ -186,7 +195,8 @@ pub(crate) fn lines(
     depth: usize,
 ) -> Result<Stmts, Stop>
     requires { depth ≤ max_depth }
-    ensures { Reads (λ x. stmts_of x.items.items) stmts_depth depth (spec.blocks depth spec.lines (context_of context.entry) tokens.old) result tokens.new }
+    ensures { Reads (λ x. stmts_of x.items.items) stmts_depth depth
+        (spec.blocks depth spec.lines (context_of context.entry) tokens.old) result tokens.new }
 {
     let mut found = Stmts::new(alloc);
     for _turn in 0..tokens.left() + 1 {
@@ -212,7 +222,8 @@ fn statement(
     depth: usize,
 ) -> Result<Stmt, Stop>
     requires { depth ≤ max_depth }
-    ensures { Reads (λ x. x) stmt_depth depth (statement_of depth (context_of context.entry) tokens.old) result tokens.new }
+    ensures { Reads (λ x. x) stmt_depth depth (statement_of depth (context_of context.entry) tokens.old) result
+        tokens.new }
 {
     if depth == 0 {
         return Err(Stop::Syntax);
@@ -239,7 +250,10 @@ fn statement(
 #[cycle(lines)]
 fn when(rules: Simple, tokens: &mut Cursor<'_>, context: Context<'_>) -> Result<Stmt, Stop>
     requires { rules.depth < max_depth }
-    ensures { Reads (λ x. x) stmt_depth (rules.depth + 1) (r.and_then (r.read rules.depth e.whole tokens.old) (λ c. spec.then_at (λ m. spec.then_by (spec.blocks rules.depth) rules.depth (context_of context.entry) (first_kind m) c m))) result tokens.new }
+    ensures { Reads (λ x. x) stmt_depth (rules.depth + 1)
+        (r.and_then (r.read rules.depth e.whole tokens.old)
+        (λ c. spec.then_at (λ m. spec.then_by (spec.blocks rules.depth) rules.depth (context_of context.entry)
+        (first_kind m) c m))) result tokens.new }
 {
     let condition = rules.expr(tokens)?;
     if !expect_then(tokens) {
@@ -258,7 +272,9 @@ fn then_part(
 ) -> Result<Stmt, Stop>
     requires shallow { rules.depth < max_depth }
     requires fits { depth condition ≤ rules.depth }
-    ensures { Reads (λ x. x) stmt_depth (rules.depth + 1) (spec.then_by (spec.blocks rules.depth) rules.depth (context_of context.entry) (first_kind tokens.old) condition tokens.old) result tokens.new }
+    ensures { Reads (λ x. x) stmt_depth (rules.depth + 1)
+        (spec.then_by (spec.blocks rules.depth) rules.depth (context_of context.entry) (first_kind tokens.old) condition
+        tokens.old) result tokens.new }
 {
     match tokens.peek() {
         None => long(rules, tokens, context, condition),
@@ -280,7 +296,9 @@ fn long(
 ) -> Result<Stmt, Stop>
     requires shallow { rules.depth < max_depth }
     requires fits { depth condition ≤ rules.depth }
-    ensures { Reads (λ x. x) stmt_depth (rules.depth + 1) (spec.long_at (spec.blocks rules.depth) rules.depth (context_of context.entry) condition tokens.old) result tokens.new }
+    ensures { Reads (λ x. x) stmt_depth (rules.depth + 1)
+        (spec.long_at (spec.blocks rules.depth) rules.depth (context_of context.entry) condition tokens.old) result
+        tokens.new }
 {
     if !eat_ends(tokens) {
         return Err(Stop::Syntax);
@@ -295,7 +313,11 @@ fn long(
 #[tactic(auto, unfolding(ht_grammar::specs::Lines::head_at))]
 fn repeat(rules: Simple, tokens: &mut Cursor<'_>, context: Context<'_>) -> Result<Stmt, Stop>
     requires { rules.depth < max_depth }
-    ensures { Reads (λ x. x) stmt_depth (rules.depth + 1) (r.and_then (spec.head_at rules.depth (context_of context.entry) tokens.old) (λ h m. spec.ended_then (ends.ended m) (λ l. r.and_then (spec.blocks rules.depth spec.lines (inside_repeat (context_of context.entry)) l) (λ ss. spec.after_key k.End (spec.after_key k.Repeat (λ c. Some (s.repeat h ss, c))))))) result tokens.new }
+    ensures { Reads (λ x. x) stmt_depth (rules.depth + 1)
+        (r.and_then (spec.head_at rules.depth (context_of context.entry) tokens.old)
+        (λ h m. spec.ended_then (ends.ended m)
+        (λ l. r.and_then (spec.blocks rules.depth spec.lines (inside_repeat (context_of context.entry)) l)
+        (λ ss. spec.after_key k.End (spec.after_key k.Repeat (λ c. Some (s.repeat h ss, c))))))) result tokens.new }
 {
     let head = rules.head(tokens)?;
     if !eat_ends(tokens) {
@@ -321,7 +343,8 @@ fn otherwise(
     depth: usize,
 ) -> Result<Stmts, Stop>
     requires { depth ≤ max_depth }
-    ensures { Reads (λ x. stmts_of x.items.items) stmts_depth depth (spec.blocks depth spec.otherwise (context_of context.entry) tokens.old) result tokens.new }
+    ensures { Reads (λ x. stmts_of x.items.items) stmts_depth depth
+        (spec.blocks depth spec.otherwise (context_of context.entry) tokens.old) result tokens.new }
 {
     match tokens.peek() {
         Some(TokenKind::Key(Key::End)) => {
@@ -349,7 +372,9 @@ fn else_part(
     depth: usize,
 ) -> Result<Stmts, Stop>
     requires { depth ≤ max_depth }
-    ensures { Reads (λ x. stmts_of x.items.items) stmts_depth depth (spec.else_by (statement_of depth) (else_if_of depth) (first_kind tokens.old) (context_of context.entry) tokens.old) result tokens.new }
+    ensures { Reads (λ x. stmts_of x.items.items) stmts_depth depth
+        (spec.else_by (statement_of depth) (else_if_of depth) (first_kind tokens.old) (context_of context.entry)
+        tokens.old) result tokens.new }
 {
     match tokens.peek() {
         Some(TokenKind::Key(Key::If)) => {

@@ -72,7 +72,8 @@ impl Simple {
 
     fn container(&self, tokens: &mut Cursor<'_>) -> Result<Container, Stop>
         requires { self.now.depth ≤ max_depth }
-        ensures { Reads (λ c. c) container_depth self.now.depth (spec.container self.now.depth tokens.old) result tokens.new }
+        ensures { Reads (λ c. c) container_depth self.now.depth (spec.container self.now.depth tokens.old) result
+            tokens.new }
     {
         container(self.alloc, tokens, self.depth)
     }
@@ -88,7 +89,9 @@ impl Simple {
     fn put_end(&self, tokens: &mut Cursor<'_>, value: Expr) -> Result<Stmt, Stop>
         requires shallow { self.now.depth < max_depth }
         requires fits { depth value ≤ self.now.depth }
-        ensures { Reads (λ s. s) stmt_depth (self.now.depth + 1) (spec.put_by self.now.depth at_large (spec.place_front self.now.depth at_large (first_kind tokens.old)) value tokens.old) result tokens.new }
+        ensures { Reads (λ s. s) stmt_depth (self.now.depth + 1)
+            (spec.put_by self.now.depth at_large (spec.place_front self.now.depth at_large (first_kind tokens.old))
+            value tokens.old) result tokens.new }
     {
         match place_of(tokens.peek()) {
             None => self.stmt(StmtKind::Put(value)),
@@ -102,7 +105,10 @@ impl Simple {
 
     fn put(&self, tokens: &mut Cursor<'_>) -> Result<Stmt, Stop>
         requires { self.now.depth < max_depth }
-        ensures { Reads (λ s. s) stmt_depth (self.now.depth + 1) (r.and_then (r.read self.now.depth e.whole tokens.old) (λ v m. spec.put_by self.now.depth at_large (spec.place_front self.now.depth at_large (first_kind m)) v m)) result tokens.new }
+        ensures { Reads (λ s. s) stmt_depth (self.now.depth + 1)
+            (r.and_then (r.read self.now.depth e.whole tokens.old)
+            (λ v m. spec.put_by self.now.depth at_large (spec.place_front self.now.depth at_large (first_kind m)) v m))
+            result tokens.new }
     {
         let value = self.expr(tokens)?;
         self.put_end(tokens, value)
@@ -110,7 +116,8 @@ impl Simple {
 
     fn get(&self, tokens: &mut Cursor<'_>) -> Result<Stmt, Stop>
         requires { self.now.depth < max_depth }
-        ensures { Reads (λ s. s) stmt_depth (self.now.depth + 1) (r.made s.get (r.read self.now.depth e.whole tokens.old)) result tokens.new }
+        ensures { Reads (λ s. s) stmt_depth (self.now.depth + 1)
+            (r.made s.get (r.read self.now.depth e.whole tokens.old)) result tokens.new }
     {
         let value = self.expr(tokens)?;
         self.stmt(StmtKind::Get(value))
@@ -119,7 +126,8 @@ impl Simple {
     /// A value after this key.
     pub(crate) fn value_after(&self, tokens: &mut Cursor<'_>, key: Key) -> Result<Expr, Stop>
         requires { self.now.depth ≤ max_depth }
-        ensures { ReadsExpr self.now.depth (spec.after_key key (r.read self.now.depth e.whole) tokens.old) result tokens.new }
+        ensures { ReadsExpr self.now.depth (spec.after_key key (r.read self.now.depth e.whole) tokens.old) result
+            tokens.new }
     {
         if !tokens.eat(key) {
             return Err(Stop::Syntax);
@@ -130,7 +138,8 @@ impl Simple {
     /// A container after this key.
     fn container_after(&self, tokens: &mut Cursor<'_>, key: Key) -> Result<Container, Stop>
         requires { self.now.depth ≤ max_depth }
-        ensures { Reads (λ c. c) container_depth self.now.depth (spec.after_key key (spec.container self.now.depth) tokens.old) result tokens.new }
+        ensures { Reads (λ c. c) container_depth self.now.depth
+            (spec.after_key key (spec.container self.now.depth) tokens.old) result tokens.new }
     {
         if !tokens.eat(key) {
             return Err(Stop::Syntax);
@@ -142,7 +151,9 @@ impl Simple {
     fn set_to(&self, tokens: &mut Cursor<'_>, prop: Prop, reference: Ref) -> Result<Stmt, Stop>
         requires shallow { self.now.depth < max_depth }
         requires fits { ref_depth (ref_of reference) ≤ self.now.depth }
-        ensures { Reads (λ s. s) stmt_depth (self.now.depth + 1) (spec.after_key k.To (λ m. r.made (s.set prop (ref_of reference)) (r.read self.now.depth e.whole m)) tokens.old) result tokens.new }
+        ensures { Reads (λ s. s) stmt_depth (self.now.depth + 1)
+            (spec.after_key k.To (λ m. r.made (s.set prop (ref_of reference)) (r.read self.now.depth e.whole m))
+            tokens.old) result tokens.new }
     {
         let value = self.value_after(tokens, Key::To)?;
         self.stmt(StmtKind::Set(prop, reference, value))
@@ -151,7 +162,8 @@ impl Simple {
     /// A property of an object, at its name.
     fn set_prop(&self, tokens: &mut Cursor<'_>, prop: Prop) -> Result<Stmt, Stop>
         requires { self.now.depth < max_depth }
-        ensures { Reads (λ s. s) stmt_depth (self.now.depth + 1) (spec.set_by self.now.depth at_large (Some prop) tokens.old) result tokens.new }
+        ensures { Reads (λ s. s) stmt_depth (self.now.depth + 1)
+            (spec.set_by self.now.depth at_large (Some prop) tokens.old) result tokens.new }
     {
         tokens.skip();
         if !eat_of(tokens) {
@@ -164,7 +176,8 @@ impl Simple {
     /// A property of the run, at its name.
     fn set_run(&self, tokens: &mut Cursor<'_>) -> Result<Stmt, Stop>
         requires { self.now.depth < max_depth }
-        ensures { Reads (λ s. s) stmt_depth (self.now.depth + 1) (spec.set_run_by self.now.depth at_large (spec.run_prop_front tokens.old) tokens.old) result tokens.new }
+        ensures { Reads (λ s. s) stmt_depth (self.now.depth + 1)
+            (spec.set_run_by self.now.depth at_large (spec.run_prop_front tokens.old) tokens.old) result tokens.new }
     {
         let Some(prop) = run_prop_front(tokens) else {
             return Err(Stop::Syntax);
@@ -177,7 +190,8 @@ impl Simple {
     /// What is set, after `set` and `the`.
     fn set(&self, tokens: &mut Cursor<'_>) -> Result<Stmt, Stop>
         requires { self.now.depth < max_depth }
-        ensures { Reads (λ s. s) stmt_depth (self.now.depth + 1) (spec.set_by self.now.depth at_large (f.prop_front tokens.old) tokens.old) result tokens.new }
+        ensures { Reads (λ s. s) stmt_depth (self.now.depth + 1)
+            (spec.set_by self.now.depth at_large (f.prop_front tokens.old) tokens.old) result tokens.new }
     {
         match prop_front(tokens) {
             Some(prop) => self.set_prop(tokens, prop),
@@ -187,7 +201,9 @@ impl Simple {
 
     fn add(&self, tokens: &mut Cursor<'_>) -> Result<Stmt, Stop>
         requires { self.now.depth < max_depth }
-        ensures { Reads (λ s. s) stmt_depth (self.now.depth + 1) (r.and_then (r.read self.now.depth e.whole tokens.old) (λ v. spec.after_key k.To (λ m. r.made (s.add v) (spec.container self.now.depth m)))) result tokens.new }
+        ensures { Reads (λ s. s) stmt_depth (self.now.depth + 1)
+            (r.and_then (r.read self.now.depth e.whole tokens.old)
+            (λ v. spec.after_key k.To (λ m. r.made (s.add v) (spec.container self.now.depth m)))) result tokens.new }
     {
         let value = self.expr(tokens)?;
         let container = self.container_after(tokens, Key::To)?;
@@ -196,7 +212,10 @@ impl Simple {
 
     fn subtract(&self, tokens: &mut Cursor<'_>) -> Result<Stmt, Stop>
         requires { self.now.depth < max_depth }
-        ensures { Reads (λ s. s) stmt_depth (self.now.depth + 1) (r.and_then (r.read self.now.depth e.whole tokens.old) (λ v. spec.after_key k.From (λ m. r.made (s.subtract v) (spec.container self.now.depth m)))) result tokens.new }
+        ensures { Reads (λ s. s) stmt_depth (self.now.depth + 1)
+            (r.and_then (r.read self.now.depth e.whole tokens.old)
+            (λ v. spec.after_key k.From (λ m. r.made (s.subtract v) (spec.container self.now.depth m)))) result
+            tokens.new }
     {
         let value = self.expr(tokens)?;
         let container = self.container_after(tokens, Key::From)?;
@@ -205,7 +224,9 @@ impl Simple {
 
     fn multiply(&self, tokens: &mut Cursor<'_>) -> Result<Stmt, Stop>
         requires { self.now.depth < max_depth }
-        ensures { Reads (λ s. s) stmt_depth (self.now.depth + 1) (r.and_then (spec.container self.now.depth tokens.old) (λ c. spec.after_key k.By (λ m. r.made (s.multiply c) (r.read self.now.depth e.whole m)))) result tokens.new }
+        ensures { Reads (λ s. s) stmt_depth (self.now.depth + 1)
+            (r.and_then (spec.container self.now.depth tokens.old)
+            (λ c. spec.after_key k.By (λ m. r.made (s.multiply c) (r.read self.now.depth e.whole m)))) result tokens.new }
     {
         let container = self.container(tokens)?;
         let value = self.value_after(tokens, Key::By)?;
@@ -214,7 +235,9 @@ impl Simple {
 
     fn divide(&self, tokens: &mut Cursor<'_>) -> Result<Stmt, Stop>
         requires { self.now.depth < max_depth }
-        ensures { Reads (λ s. s) stmt_depth (self.now.depth + 1) (r.and_then (spec.container self.now.depth tokens.old) (λ c. spec.after_key k.By (λ m. r.made (s.divide c) (r.read self.now.depth e.whole m)))) result tokens.new }
+        ensures { Reads (λ s. s) stmt_depth (self.now.depth + 1)
+            (r.and_then (spec.container self.now.depth tokens.old)
+            (λ c. spec.after_key k.By (λ m. r.made (s.divide c) (r.read self.now.depth e.whole m)))) result tokens.new }
     {
         let container = self.container(tokens)?;
         let value = self.value_after(tokens, Key::By)?;
@@ -224,7 +247,8 @@ impl Simple {
     /// Only a chunk is deleted.
     fn delete(&self, tokens: &mut Cursor<'_>) -> Result<Stmt, Stop>
         requires { self.now.depth < max_depth }
-        ensures { Reads (λ s. s) stmt_depth (self.now.depth + 1) (r.and_then (spec.container self.now.depth tokens.old) spec.deleted) result tokens.new }
+        ensures { Reads (λ s. s) stmt_depth (self.now.depth + 1)
+            (r.and_then (spec.container self.now.depth tokens.old) spec.deleted) result tokens.new }
     {
         let container = self.container(tokens)?;
         match container.into_kind() {
@@ -236,7 +260,8 @@ impl Simple {
 
     fn do_(&self, tokens: &mut Cursor<'_>) -> Result<Stmt, Stop>
         requires { self.now.depth < max_depth }
-        ensures { Reads (λ s. s) stmt_depth (self.now.depth + 1) (r.made s.do_ (r.read self.now.depth e.whole tokens.old)) result tokens.new }
+        ensures { Reads (λ s. s) stmt_depth (self.now.depth + 1)
+            (r.made s.do_ (r.read self.now.depth e.whole tokens.old)) result tokens.new }
     {
         let text = self.expr(tokens)?;
         self.stmt(StmtKind::Do(text))
@@ -244,7 +269,10 @@ impl Simple {
 
     fn send(&self, tokens: &mut Cursor<'_>) -> Result<Stmt, Stop>
         requires { self.now.depth < max_depth }
-        ensures { Reads (λ s. s) stmt_depth (self.now.depth + 1) (r.and_then (r.read self.now.depth e.whole tokens.old) (λ v. spec.after_key k.To (λ m. r.made (s.send v) (r.inner_ref (r.read self.now.depth) self.now.depth m)))) result tokens.new }
+        ensures { Reads (λ s. s) stmt_depth (self.now.depth + 1)
+            (r.and_then (r.read self.now.depth e.whole tokens.old)
+            (λ v. spec.after_key k.To (λ m. r.made (s.send v) (r.inner_ref (r.read self.now.depth) self.now.depth m))))
+            result tokens.new }
     {
         let text = self.expr(tokens)?;
         if !tokens.eat(Key::To) {
@@ -257,7 +285,8 @@ impl Simple {
     /// A card or a background, by the layer's word in front; without one a card.
     fn destination_on(&self, tokens: &mut Cursor<'_>) -> Result<Destination, Stop>
         requires { self.now.depth < max_depth }
-        ensures { Reads destination_of destination_depth (self.now.depth + 1) (spec.destination_by self.now.depth at_large (r.referenced_layer tokens.old) tokens.old) result tokens.new }
+        ensures { Reads destination_of destination_depth (self.now.depth + 1)
+            (spec.destination_by self.now.depth at_large (r.referenced_layer tokens.old) tokens.old) result tokens.new }
     {
         match referenced_layer(tokens) {
             Some(layer) => {
@@ -274,7 +303,8 @@ impl Simple {
     #[tactic(auto, unfolding(ht_grammar::specs::Lines::destination_at))]
     fn destination(&self, tokens: &mut Cursor<'_>) -> Result<Destination, Stop>
         requires { self.now.depth < max_depth }
-        ensures { Reads destination_of destination_depth self.now.depth (spec.destination_at self.now.depth at_large tokens.old) result tokens.new }
+        ensures { Reads destination_of destination_depth self.now.depth
+            (spec.destination_at self.now.depth at_large tokens.old) result tokens.new }
     {
         let destination = self.destination_on(tokens)?;
         let fits = destination.depth() <= self.depth;
@@ -283,7 +313,8 @@ impl Simple {
 
     fn go(&self, tokens: &mut Cursor<'_>) -> Result<Stmt, Stop>
         requires { self.now.depth < max_depth }
-        ensures { Reads (λ s. s) stmt_depth (self.now.depth + 1) (r.made s.go (spec.destination_at self.now.depth at_large tokens.old)) result tokens.new }
+        ensures { Reads (λ s. s) stmt_depth (self.now.depth + 1)
+            (r.made s.go (spec.destination_at self.now.depth at_large tokens.old)) result tokens.new }
     {
         let destination = self.destination(tokens)?;
         self.stmt(StmtKind::Go(destination))
@@ -292,7 +323,8 @@ impl Simple {
     /// Names, after `global`.
     fn global(&self, tokens: &mut Cursor<'_>, turns: usize) -> Result<Stmt, Stop>
         requires { self.now.depth < max_depth }
-        ensures { Reads (λ s. s) stmt_depth (self.now.depth + 1) (r.made s.global (spec.names_at turns tokens.old)) result tokens.new }
+        ensures { Reads (λ s. s) stmt_depth (self.now.depth + 1) (r.made s.global (spec.names_at turns tokens.old))
+            result tokens.new }
     {
         let names = names(self.alloc, tokens, turns)?;
         self.stmt(StmtKind::Global(names))
@@ -301,7 +333,8 @@ impl Simple {
     /// `HyperCard`, after `exit to`.
     fn exit_to(&self, tokens: &mut Cursor<'_>) -> Result<Stmt, Stop>
         requires { self.now.depth < max_depth }
-        ensures { Reads (λ s. s) stmt_depth (self.now.depth + 1) (spec.hypercard_by self.now.depth at_large (first_kind tokens.old) tokens.old) result tokens.new }
+        ensures { Reads (λ s. s) stmt_depth (self.now.depth + 1)
+            (spec.hypercard_by self.now.depth at_large (first_kind tokens.old) tokens.old) result tokens.new }
     {
         match tokens.peek() {
             Some(TokenKind::Name) => {
@@ -318,7 +351,9 @@ impl Simple {
     /// After `exit`.
     fn exit(&self, tokens: &mut Cursor<'_>, context: Context<'_>) -> Result<Stmt, Stop>
         requires { self.now.depth < max_depth }
-        ensures { Reads (λ s. s) stmt_depth (self.now.depth + 1) (spec.exit_by self.now.depth (context_of context.entry) (first_kind tokens.old) tokens.old) result tokens.new }
+        ensures { Reads (λ s. s) stmt_depth (self.now.depth + 1)
+            (spec.exit_by self.now.depth (context_of context.entry) (first_kind tokens.old) tokens.old) result
+            tokens.new }
     {
         match tokens.peek() {
             Some(TokenKind::Key(Key::Repeat)) => {
@@ -346,7 +381,9 @@ impl Simple {
     /// After `next`.
     fn next(&self, tokens: &mut Cursor<'_>, context: Context<'_>) -> Result<Stmt, Stop>
         requires { self.now.depth < max_depth }
-        ensures { Reads (λ s. s) stmt_depth (self.now.depth + 1) (spec.after_key k.Repeat (λ c. if (context_of context.entry).in_repeat then Some (s.next_repeat, c) else None) tokens.old) result tokens.new }
+        ensures { Reads (λ s. s) stmt_depth (self.now.depth + 1)
+            (spec.after_key k.Repeat (λ c. if (context_of context.entry).in_repeat then Some (s.next_repeat, c) else
+            None) tokens.old) result tokens.new }
     {
         if !tokens.eat(Key::Repeat) {
             return Err(Stop::Syntax);
@@ -360,7 +397,9 @@ impl Simple {
     /// After `pass`.
     fn pass(&self, tokens: &mut Cursor<'_>, context: Context<'_>) -> Result<Stmt, Stop>
         requires { self.now.depth < max_depth }
-        ensures { Reads (λ s. s) stmt_depth (self.now.depth + 1) (spec.pass_by self.now.depth (context_of context.entry) (first_kind tokens.old) tokens.old) result tokens.new }
+        ensures { Reads (λ s. s) stmt_depth (self.now.depth + 1)
+            (spec.pass_by self.now.depth (context_of context.entry) (first_kind tokens.old) tokens.old) result
+            tokens.new }
     {
         match tokens.peek() {
             Some(TokenKind::Name) => {
@@ -377,7 +416,9 @@ impl Simple {
     /// After `return`, in a handler.
     fn return_(&self, tokens: &mut Cursor<'_>) -> Result<Stmt, Stop>
         requires { self.now.depth < max_depth }
-        ensures { Reads (λ s. s) stmt_depth (self.now.depth + 1) (if spec.begins_expr (first_kind tokens.old) then r.made s.return_value (r.read self.now.depth e.whole tokens.old) else Some (s.return_nothing, tokens.old)) result tokens.new }
+        ensures { Reads (λ s. s) stmt_depth (self.now.depth + 1)
+            (if spec.begins_expr (first_kind tokens.old) then r.made s.return_value
+            (r.read self.now.depth e.whole tokens.old) else Some (s.return_nothing, tokens.old)) result tokens.new }
     {
         if begins_expr(tokens.peek()) {
             let value = self.expr(tokens)?;
@@ -390,7 +431,10 @@ impl Simple {
     /// A command, at its name.
     fn command(&self, tokens: &mut Cursor<'_>) -> Result<Stmt, Stop>
         requires { self.now.depth < max_depth }
-        ensures { Reads (λ s. s) stmt_depth (self.now.depth + 1) (if spec.begins_expr (first_kind (later tokens.old)) then r.made (s.command (first_text tokens.old)) (r.list_at (r.read self.now.depth) self.now.depth (length tokens.old) t.none (later tokens.old)) else Some (s.command (first_text tokens.old) t.none, later tokens.old)) result tokens.new }
+        ensures { Reads (λ s. s) stmt_depth (self.now.depth + 1)
+            (if spec.begins_expr (first_kind (later tokens.old)) then r.made (s.command (first_text tokens.old))
+            (r.list_at (r.read self.now.depth) self.now.depth (length tokens.old) t.none (later tokens.old)) else Some
+            (s.command (first_text tokens.old) t.none, later tokens.old)) result tokens.new }
     {
         let turns = tokens.left();
         let name = to_text(self.alloc, tokens.take())?;
@@ -410,7 +454,8 @@ impl Simple {
         context: Context<'_>,
     ) -> Result<Stmt, Stop>
         requires { self.now.depth < max_depth }
-        ensures { Reads (λ s. s) stmt_depth (self.now.depth + 1) (spec.simple_at self.now.depth (context_of context.entry) tokens.old) result tokens.new }
+        ensures { Reads (λ s. s) stmt_depth (self.now.depth + 1)
+            (spec.simple_at self.now.depth (context_of context.entry) tokens.old) result tokens.new }
     {
         let kind = tokens.peek();
         if let Some(TokenKind::Name) = kind {
@@ -453,7 +498,8 @@ impl Simple {
 
 /// A card by its place alone.
 fn bare_destination(tokens: &mut Cursor<'_>) -> Result<Destination, Stop>
-    ensures { Reads destination_of destination_depth 1 (spec.bare_destination 0 at_large (first_kind tokens.old) tokens.old) result tokens.new }
+    ensures { Reads destination_of destination_depth 1
+        (spec.bare_destination 0 at_large (first_kind tokens.old) tokens.old) result tokens.new }
 {
     let kind = tokens.peek();
     tokens.skip();

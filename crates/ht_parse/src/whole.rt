@@ -57,7 +57,8 @@ pub(crate) fn typed_lines(alloc: Global, tokens: &mut Cursor<'_>) -> Result<Stmt
 
 /// The names of parameters, if there are any.
 fn parameters(alloc: Global, tokens: &mut Cursor<'_>) -> Result<Names, Stop>
-    ensures { Reads (λ names. names.items.items) (λ names. 0) 0 (spec.params_by (first_kind tokens.old) tokens.old) result tokens.new }
+    ensures { Reads (λ names. names.items.items) (λ names. 0) 0 (spec.params_by (first_kind tokens.old) tokens.old)
+        result tokens.new }
 {
     match tokens.peek() {
         Some(TokenKind::Name) => {
@@ -71,7 +72,8 @@ fn parameters(alloc: Global, tokens: &mut Cursor<'_>) -> Result<Names, Stop>
 /// The name after `end`, which is the handler's.
 fn end_name(tokens: &mut Cursor<'_>, handler: Handler) -> Result<Handler, Stop>
     requires { handler_depth (handler_of handler) ≤ max_depth }
-    ensures { Reads handler_of handler_depth max_depth (spec.name_by (first_kind tokens.old) handler.name (handler_of handler) tokens.old) result tokens.new }
+    ensures { Reads handler_of handler_depth max_depth
+        (spec.name_by (first_kind tokens.old) handler.name (handler_of handler) tokens.old) result tokens.new }
 {
     match tokens.peek() {
         Some(TokenKind::Name) => {
@@ -95,7 +97,8 @@ fn body(
     name: Text,
     parameters: Names,
 ) -> Result<Handler, Stop>
-    ensures { Reads handler_of handler_depth max_depth (spec.body_at kind name parameters.items.items tokens.old) result tokens.new }
+    ensures { Reads handler_of handler_depth max_depth (spec.body_at kind name parameters.items.items tokens.old) result
+        tokens.new }
 {
     if !eat_ends(tokens) {
         return Err(Stop::Syntax);
@@ -119,7 +122,8 @@ fn body(
 
 /// A handler, after `on` or `function`.
 fn named(alloc: Global, tokens: &mut Cursor<'_>, kind: HandlerKind) -> Result<Handler, Stop>
-    ensures { Reads handler_of handler_depth max_depth (spec.named_by (first_kind tokens.old) kind tokens.old) result tokens.new }
+    ensures { Reads handler_of handler_depth max_depth (spec.named_by (first_kind tokens.old) kind tokens.old) result
+        tokens.new }
 {
     match tokens.peek() {
         Some(TokenKind::Name) => {
@@ -132,7 +136,8 @@ fn named(alloc: Global, tokens: &mut Cursor<'_>, kind: HandlerKind) -> Result<Ha
 }
 
 fn handler(alloc: Global, tokens: &mut Cursor<'_>) -> Result<Handler, Stop>
-    ensures { Reads handler_of handler_depth max_depth (spec.handler_by (first_kind tokens.old) tokens.old) result tokens.new }
+    ensures { Reads handler_of handler_depth max_depth (spec.handler_by (first_kind tokens.old) tokens.old) result
+        tokens.new }
 {
     match tokens.peek() {
         Some(TokenKind::Key(Key::On)) => {
@@ -222,7 +227,8 @@ fn message_with_arguments(
     tokens: &mut Cursor<'_>,
     name: Text,
 ) -> Result<Message, Stop>
-    ensures { IsWhole message_of (r.not_too_deep message_depth (r.all_of (spec.message_by (first_kind tokens.old) name tokens.old))) result }
+    ensures { IsWhole message_of (r.not_too_deep message_depth
+        (r.all_of (spec.message_by (first_kind tokens.old) name tokens.old))) result }
 {
     match tokens.peek() {
         None => Ok(Message {

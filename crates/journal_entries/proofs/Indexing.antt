@@ -1,5 +1,6 @@
 -- Which places a segment has, when one entry is added.
-use Rattle.std.proofs.Common.{◌≡◌, Bool, true, false, not, ◌&&◌, ◌||◌, List, [], ◌∷◌, ◌++◌, Option, Some, None, refl, sym, ap, ◌∙◌}
+use Rattle.std.proofs.Common.{◌≡◌, Bool, true, false, not, ◌&&◌, ◌||◌, List, [], ◌∷◌, ◌++◌, Option, Some, None, refl}
+use Rattle.std.proofs.Common.{sym, ap, ◌∙◌}
 use Rattle.std.specs.List.{list_any}
 use Rattle.std.proofs.Math.Bool.{or-false, or-true}
 use Rattle.std.proofs.lemmas.List.Folds.{list_any-append}
@@ -31,21 +32,24 @@ moved false false true false = refl
 moved false false false true = refl
 moved false false false false = refl
 
-held-plain : (e t : Entry) (es : List Entry) → is_structural t ≡ false → holds_one e (es ++ t ∷ []) ≡ holds_one e es || of_one_place e t
+held-plain : (e t : Entry) (es : List Entry) → is_structural t ≡ false
+    → holds_one e (es ++ t ∷ []) ≡ holds_one e es || of_one_place e t
 held-plain e t [] p = refl
 held-plain e t (f ∷ es) p =
     (λ i. held-plain e t es p i || (not (any i) && of_one_place e f))
     ∙ moved (holds_one e es) (list_any is_structural es) (of_one_place e f) (of_one_place e t)
   where
     any : list_any is_structural (es ++ t ∷ []) ≡ list_any is_structural es
-    any = list_any-append is_structural es (t ∷ []) ∙ ap (λ b. list_any is_structural es || (b || false)) p ∙ or-false (list_any is_structural es)
+    any = list_any-append is_structural es (t ∷ []) ∙ ap (λ b. list_any is_structural es || (b || false)) p
+        ∙ or-false (list_any is_structural es)
 
 held-structural : (e t : Entry) (es : List Entry) → is_structural t ≡ true → holds_one e (es ++ t ∷ []) ≡ false
 held-structural e t [] p = structural_apart e t p
 held-structural e t (f ∷ es) p = λ i. held-structural e t es p i || (not (any i) && of_one_place e f)
   where
     any : list_any is_structural (es ++ t ∷ []) ≡ true
-    any = list_any-append is_structural es (t ∷ []) ∙ ap (λ b. list_any is_structural es || (b || false)) p ∙ or-true (list_any is_structural es)
+    any = list_any-append is_structural es (t ∷ []) ∙ ap (λ b. list_any is_structural es || (b || false)) p
+        ∙ or-true (list_any is_structural es)
 
 -- ---- what is known of the places
 
@@ -67,9 +71,12 @@ keyed (Stack e) key q = of_stack e q
 keyed (External i p) key q = refl
 
 -- an entry of a place
-pub indexed-placed : (es : List Entry) (t : Entry) (key : PlaceKey) (old new : PlaceSet) → key_of t ≡ Some key → ((q : PlaceKey) → has_place new q ≡ has_place old q || same_key key q) → IsBounded new → IsIndexed es old → IsIndexed (es ++ t ∷ []) new
+pub indexed-placed : (es : List Entry) (t : Entry) (key : PlaceKey) (old new : PlaceSet) → key_of t ≡ Some key
+    → ((q : PlaceKey) → has_place new q ≡ has_place old q || same_key key q) → IsBounded new → IsIndexed es old
+    → IsIndexed (es ++ t ∷ []) new
 indexed-placed es t key old new is added bounded h = record {
-  held = λ e. held-plain e t es (keyed t key is) ∙ (λ i. h.held e i || one_place e t i) ∙ ap (λ k. is_held (has_place old) (key_of e) || same_keys k (key_of e)) is ∙ by (key_of e);
+  held = λ e. held-plain e t es (keyed t key is) ∙ (λ i. h.held e i || one_place e t i)
+      ∙ ap (λ k. is_held (has_place old) (key_of e) || same_keys k (key_of e)) is ∙ by (key_of e);
   bounded = bounded;
 }
   where
@@ -78,7 +85,8 @@ indexed-placed es t key old new is added bounded h = record {
     by (Some q) = sym (added q)
 
 -- one that makes or removes an object
-pub indexed-structural : (es : List Entry) (t : Entry) (new : PlaceSet) → is_structural t ≡ true → ((q : PlaceKey) → has_place new q ≡ false) → IsBounded new → IsIndexed (es ++ t ∷ []) new
+pub indexed-structural : (es : List Entry) (t : Entry) (new : PlaceSet) → is_structural t ≡ true
+    → ((q : PlaceKey) → has_place new q ≡ false) → IsBounded new → IsIndexed (es ++ t ∷ []) new
 indexed-structural es t new is cleared bounded = record {
   held = λ e. held-structural e t es is ∙ by (key_of e);
   bounded = bounded;
@@ -89,14 +97,18 @@ indexed-structural es t new is cleared bounded = record {
     by (Some q) = sym (cleared q)
 
 -- one of an external
-pub indexed-turned : (es : List Entry) (t : Entry) (places : PlaceSet) → key_of t ≡ None → is_structural t ≡ false → IsIndexed es places → IsIndexed (es ++ t ∷ []) places
+pub indexed-turned : (es : List Entry) (t : Entry) (places : PlaceSet) → key_of t ≡ None → is_structural t ≡ false
+    → IsIndexed es places → IsIndexed (es ++ t ∷ []) places
 indexed-turned es t places none plain h = record {
-  held = λ e. held-plain e t es plain ∙ (λ i. h.held e i || one_place e t i) ∙ ap (λ k. is_held (has_place places) (key_of e) || same_keys k (key_of e)) none ∙ or-false (is_held (has_place places) (key_of e));
+  held = λ e. held-plain e t es plain ∙ (λ i. h.held e i || one_place e t i)
+      ∙ ap (λ k. is_held (has_place places) (key_of e) || same_keys k (key_of e)) none
+      ∙ or-false (is_held (has_place places) (key_of e));
   bounded = h.bounded;
 }
 
 -- the same places
-pub indexed-same : (es : List Entry) (old new : PlaceSet) → ((q : PlaceKey) → has_place new q ≡ has_place old q) → new.greatest ≡ old.greatest → IsIndexed es old → IsIndexed es new
+pub indexed-same : (es : List Entry) (old new : PlaceSet) → ((q : PlaceKey) → has_place new q ≡ has_place old q)
+    → new.greatest ≡ old.greatest → IsIndexed es old → IsIndexed es new
 indexed-same es old new same greatest h = record {
   held = λ e. h.held e ∙ by (key_of e);
   bounded = bounded_same old new same greatest h.bounded;

@@ -30,7 +30,8 @@ kept i j = λ n. turned i j n && true
 kept_apart : (i j : ℕ) → nat_eq i j && false ≡ nat_eq j i && false
 kept_apart i j = λ n. turned i j n && false
 
-property_place : (i j : ℕ) (v w : PropValue) → nat_eq i j && of_one_property v w ≡ same_key (keys.Property j (property_of w)) (keys.Property i (property_of v))
+property_place : (i j : ℕ) (v w : PropValue)
+    → nat_eq i j && of_one_property v w ≡ same_key (keys.Property j (property_of w)) (keys.Property i (property_of v))
 property_place i j (settings.NameIs t) (settings.NameIs u) = kept i j
 property_place i j (settings.ScriptIs t) (settings.ScriptIs u) = kept i j
 property_place i j (settings.VisibleIs a) (settings.VisibleIs b) = kept i j

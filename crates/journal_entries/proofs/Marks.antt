@@ -3,7 +3,8 @@ use Rattle.std.proofs.Common.{◌≡◌, Bool, true, false, refl}
 use Rattle.stack_places.specs.Places.{StackPlace}
 use Rattle.stack_places.specs.Exchange.{is_structural, place_of}
 use Rattle.stack_places.specs.declared.entry.StackEntry.{StackEntry}
-use Rattle.stack_places.specs.declared.entry.StackEntry.TheVariants.{Prop, FieldText, Hilite, Object, CardOrder, BackgroundOrder, Parts, NextId}
+use Rattle.stack_places.specs.declared.entry.StackEntry.TheVariants.{Prop, FieldText, Hilite, Object, CardOrder}
+use Rattle.stack_places.specs.declared.entry.StackEntry.TheVariants.{BackgroundOrder, Parts, NextId}
 use Rattle.journal_entries.specs.Places.{in_stack}
 use Rattle.journal_entries.specs.Trails.{Mark, at, structural, mark_at}
 

@@ -1,5 +1,7 @@
 -- The number of a name in a set of names.
-use Rattle.std.proofs.Common.{◌≡◌, ◌≢◌, ℕ, suc, ◌+◌, ◌<◌, ◌≤◌, Bool, true, false, cond, not, nat_lt, ◌||◌, bytes_eq, List, [], ◌∷◌, ◌++◌, length, map, get_or, refl, sym, ap, ◌∙◌, arith, Option, Some, None, IfSome, IfNone}
+use Rattle.std.proofs.Common.{◌≡◌, ◌≢◌, ℕ, suc, ◌+◌, ◌<◌, ◌≤◌, Bool, true, false, cond, not, nat_lt, ◌||◌, bytes_eq}
+use Rattle.std.proofs.Common.{List, [], ◌∷◌, ◌++◌, length, map, get_or, refl, sym, ap, ◌∙◌, arith, Option, Some, None}
+use Rattle.std.proofs.Common.{IfSome, IfNone}
 use Rattle.std.specs.List.{position, position_or_len, prefix_len, list_any}
 use Rattle.std.proofs.lemmas.List.Sums.{prefix_len_passes, prefix_len_stops}
 use Rattle.std.proofs.lemmas.Bool.{ltb-true, ltb-false, not-false, not-true}
@@ -14,15 +16,19 @@ is name n = bytes_eq name n
 abbrev first : List ℕ → List (List ℕ) → ℕ
 first name ns = prefix_len (λ n. not (is name n)) ns
 
-first-map : {X : Type 0} (f : X → List ℕ) (name : List ℕ) (ks : List X) → position_or_len (λ k. is name (f k)) ks ≡ first name (map f ks)
+first-map : {X : Type 0} (f : X → List ℕ) (name : List ℕ) (ks : List X)
+    → position_or_len (λ k. is name (f k)) ks ≡ first name (map f ks)
 first-map f name [] = refl
 first-map f name (k ∷ ks) = ap (λ n. cond (not (is name (f k))) (1 + n) 0) (first-map f name ks)
 
 first-here : (name : List ℕ) (ns : List (List ℕ)) → first name ns < length ns → get_or ns (first name ns) [] ≡ name
-first-here name ns h = sym ((bytes_eq-Decides name (get_or ns (first name ns) [])).0 (not-false (is name (get_or ns (first name ns) [])) (prefix_len_stops (λ n. not (is name n)) ns [] h)))
+first-here name ns h = sym ((bytes_eq-Decides name (get_or ns (first name ns) [])).0
+    (not-false (is name (get_or ns (first name ns) [])) (prefix_len_stops (λ n. not (is name n)) ns [] h)))
 
 first-past : (name : List ℕ) (ns : List (List ℕ)) (k : ℕ) → k < first name ns → get_or ns k [] ≢ name
-first-past name ns k h e = false_true (sym (not-true (is name (get_or ns k [])) (prefix_len_passes (λ n. not (is name n)) ns k [] h)) ∙ (bytes_eq-Decides name (get_or ns k [])).1 (sym e))
+first-past name ns k h e = false_true
+    (sym (not-true (is name (get_or ns k [])) (prefix_len_passes (λ n. not (is name n)) ns k [] h))
+    ∙ (bytes_eq-Decides name (get_or ns k [])).1 (sym e))
 
 found : (n m i : ℕ) → cond (nat_lt n m) (Some n) None ≡ Some i → (n < m) × (n ≡ i)
 found n m i h =
@@ -43,7 +49,9 @@ count-map f [] = refl
 count-map f (k ∷ ks) = ap suc (count-map f ks)
 
 -- the place that a set finds has the name
-pub position-there : {X : Type 0} (f : X → List ℕ) (name : List ℕ) (ks : List X) (ns : List (List ℕ)) (r : Option ℕ) → map f ks ≡ ns → position (λ k. bytes_eq name (f k)) ks ≡ r → IfSome r (λ i. (i < length ns) × (get_or ns i [] ≡ name))
+pub position-there : {X : Type 0} (f : X → List ℕ) (name : List ℕ) (ks : List X) (ns : List (List ℕ)) (r : Option ℕ)
+    → map f ks ≡ ns → position (λ k. bytes_eq name (f k)) ks ≡ r
+    → IfSome r (λ i. (i < length ns) × (get_or ns i [] ≡ name))
 position-there f name ks ns None e h = tt
 position-there f name ks ns (Some i) e h =
     let parts = found (position_or_len (λ k. is name (f k)) ks) (length ks) i h in
@@ -52,13 +60,17 @@ position-there f name ks ns (Some i) e h =
     (omega (arith, at, within), ap (λ k. get_or ns k []) at ∙ first-here name ns within)
 
 -- and where it finds none no place has it
-pub position-absent : {X : Type 0} (f : X → List ℕ) (name : List ℕ) (ks : List X) (ns : List (List ℕ)) (r : Option ℕ) → map f ks ≡ ns → position (λ k. bytes_eq name (f k)) ks ≡ r → IfNone r ((k : ℕ) → k < length ns → get_or ns k [] ≢ name)
+pub position-absent : {X : Type 0} (f : X → List ℕ) (name : List ℕ) (ks : List X) (ns : List (List ℕ)) (r : Option ℕ)
+    → map f ks ≡ ns → position (λ k. bytes_eq name (f k)) ks ≡ r
+    → IfNone r ((k : ℕ) → k < length ns → get_or ns k [] ≢ name)
 position-absent f name ks ns (Some i) e h = tt
 position-absent f name ks ns None e h =
     let past = absent (position_or_len (λ x. is name (f x)) ks) (length ks) h in
-    λ k l. first-past name ns k (omega (arith, past, ap (first name) e, first-map f name ks, count-map f ks, ap length e))
+    λ k l. first-past name ns k (omega
+    (arith, past, ap (first name) e, first-map f name ks, count-map f ks, ap length e))
 
-none-of : {X : Type 0} (f : X → List ℕ) (name : List ℕ) (ks : List X) → ((k : ℕ) → k < length (map f ks) → get_or (map f ks) k [] ≢ name) → list_any (λ k. bytes_eq name (f k)) ks ≡ false
+none-of : {X : Type 0} (f : X → List ℕ) (name : List ℕ) (ks : List X)
+    → ((k : ℕ) → k < length (map f ks) → get_or (map f ks) k [] ≢ name) → list_any (λ k. bytes_eq name (f k)) ks ≡ false
 none-of f name [] h = refl
 none-of f name (k ∷ ks) h =
     elim (is name (f k)) as (λ b. is name (f k) ≡ b → (b || list_any (λ x. is name (f x)) ks) ≡ false) [
@@ -67,11 +79,14 @@ none-of f name (k ∷ ks) h =
     ] refl
 
 -- the set lacks it
-pub list_any-absent : {X : Type 0} (f : X → List ℕ) (name : List ℕ) (ks : List X) (ns : List (List ℕ)) → map f ks ≡ ns → ((k : ℕ) → k < length ns → get_or ns k [] ≢ name) → list_any (λ k. bytes_eq name (f k)) ks ≡ false
+pub list_any-absent : {X : Type 0} (f : X → List ℕ) (name : List ℕ) (ks : List X) (ns : List (List ℕ)) → map f ks ≡ ns
+    → ((k : ℕ) → k < length ns → get_or ns k [] ≢ name) → list_any (λ k. bytes_eq name (f k)) ks ≡ false
 list_any-absent f name ks ns e h = none-of f name ks (rw (← e) at h)
 
 -- a name that the set lacks is put at its end
-pub name-pushed : {X : Type 0} (f : X → List ℕ) (ks new : List X) (b : X) (name : List ℕ) → ((k : ℕ) → k < length (map f ks) → get_or (map f ks) k [] ≢ name) → f b ≡ name → new ≡ cond (list_any (λ k. bytes_eq (f b) (f k)) ks) ks (ks ++ b ∷ []) → map f new ≡ map f ks ++ name ∷ []
+pub name-pushed : {X : Type 0} (f : X → List ℕ) (ks new : List X) (b : X) (name : List ℕ)
+    → ((k : ℕ) → k < length (map f ks) → get_or (map f ks) k [] ≢ name) → f b ≡ name
+    → new ≡ cond (list_any (λ k. bytes_eq (f b) (f k)) ks) ks (ks ++ b ∷ []) → map f new ≡ map f ks ++ name ∷ []
 name-pushed f ks new b name new_name is e =
     let lacks = list_any-absent f (f b) ks (map f ks) refl (rw is new_name) in
     ap (map f) (e ∙ ap (λ t. cond t ks (ks ++ b ∷ [])) lacks) ∙ map-append f ks (b ∷ []) ∙ (λ i. map f ks ++ is i ∷ [])

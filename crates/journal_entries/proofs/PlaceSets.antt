@@ -1,5 +1,6 @@
 -- Places in an order.
-use Rattle.std.proofs.Common.{◌≡◌, ℕ, ◌<◌, ◌+◌, Bool, true, false, cond, ◌||◌, List, [], ◌∷◌, ◌++◌, length, take, drop, get_or, Option, Some, None, refl, sym, ap, ◌∙◌}
+use Rattle.std.proofs.Common.{◌≡◌, ℕ, ◌<◌, ◌+◌, Bool, true, false, cond, ◌||◌, List, [], ◌∷◌, ◌++◌, length, take, drop}
+use Rattle.std.proofs.Common.{get_or, Option, Some, None, refl, sym, ap, ◌∙◌}
 use Rattle.std.specs.BTreeMap.{is_at}
 use Rattle.std.specs.BTreeSet.{BTreeSet, contains}
 use Rattle.std.specs.List.{list_any}
@@ -16,7 +17,8 @@ use Rattle.journal_entries.specs.contracts.place_key.PlaceKeyOrd.TheImpl.Laws as
 use Rattle.journal_entries.specs.declared.place_key.PlaceKey.{PlaceKey}
 use Rattle.journal_entries.specs.declared.place_set.PlaceSet.{PlaceSet}
 
-pub bounded_same : (old new : PlaceSet) → ((q : PlaceKey) → has_place new q ≡ has_place old q) → new.greatest ≡ old.greatest → IsBounded old → IsBounded new
+pub bounded_same : (old new : PlaceSet) → ((q : PlaceKey) → has_place new q ≡ has_place old q)
+    → new.greatest ≡ old.greatest → IsBounded old → IsBounded new
 bounded_same old new same greatest b q there = ap (λ g. is_within g q) greatest ∙ b q (sym (same q) ∙ there)
 
 -- ---- sorting
@@ -30,7 +32,10 @@ either false false true = refl
 either false false false = refl
 
 -- the place of this number was sorted
-pub sorted_one : (s n : BTreeSet PlaceKey) (old : Bool) (ws : List PlaceKey) (i : ℕ) (key q : PlaceKey) → i < length ws → key ≡ get_or ws i key → contains key_cmp n q ≡ cond (is_at (key_cmp key) q) true (contains key_cmp s q) → contains key_cmp s q ≡ old || list_any (λ k. same_key k q) (take i ws) → contains key_cmp n q ≡ old || list_any (λ k. same_key k q) (take (i + 1) ws)
+pub sorted_one : (s n : BTreeSet PlaceKey) (old : Bool) (ws : List PlaceKey) (i : ℕ) (key q : PlaceKey) → i < length ws
+    → key ≡ get_or ws i key → contains key_cmp n q ≡ cond (is_at (key_cmp key) q) true (contains key_cmp s q)
+    → contains key_cmp s q ≡ old || list_any (λ k. same_key k q) (take i ws)
+    → contains key_cmp n q ≡ old || list_any (λ k. same_key k q) (take (i + 1) ws)
 sorted_one s n old ws i key q within is added before =
     added
     ∙ (λ j. cond (sym (laws.matches_eq-law key q) j) true (before j))
@@ -44,10 +49,13 @@ twice false true b = refl
 twice false false b = refl
 
 -- what was sorted first still waits
-pub sorted_some : (s n : BTreeSet PlaceKey) (old : Bool) (ws : List PlaceKey) (i : ℕ) (q : PlaceKey) → n.keys ≡ s.keys → contains key_cmp s q ≡ old || list_any (λ k. same_key k q) (take i ws) → contains key_cmp n q || list_any (λ k. same_key k q) ws ≡ old || list_any (λ k. same_key k q) ws
+pub sorted_some : (s n : BTreeSet PlaceKey) (old : Bool) (ws : List PlaceKey) (i : ℕ) (q : PlaceKey) → n.keys ≡ s.keys
+    → contains key_cmp s q ≡ old || list_any (λ k. same_key k q) (take i ws)
+    → contains key_cmp n q || list_any (λ k. same_key k q) ws ≡ old || list_any (λ k. same_key k q) ws
 sorted_some s n old ws i q same before =
     let p : PlaceKey → Bool = λ k. same_key k q in
-    let parts : list_any p ws ≡ list_any p (take i ws) || list_any p (drop i ws) = ap (list_any p) (sym (take-append-drop i ws)) ∙ list_any-append p (take i ws) (drop i ws) in
+    let parts : list_any p ws ≡ list_any p (take i ws) || list_any p (drop i ws) =
+    ap (list_any p) (sym (take-append-drop i ws)) ∙ list_any-append p (take i ws) (drop i ws) in
     (λ j. list_any (is_at (key_cmp q)) (same j) || parts j)
     ∙ ap (λ b. b || (list_any p (take i ws) || list_any p (drop i ws))) before
     ∙ twice old (list_any p (take i ws)) (list_any p (drop i ws))
@@ -62,8 +70,10 @@ joined false false true = refl
 joined false false false = refl
 
 -- a place more that waits
-pub has_more : (a : Bool) (ws : List PlaceKey) (key q : PlaceKey) → a || list_any (λ k. same_key k q) (ws ++ key ∷ []) ≡ (a || list_any (λ k. same_key k q) ws) || same_key key q
-has_more a ws key q = ap (λ b. a || b) (list_any-append (λ k. same_key k q) ws (key ∷ [])) ∙ joined a (list_any (λ k. same_key k q) ws) (same_key key q)
+pub has_more : (a : Bool) (ws : List PlaceKey) (key q : PlaceKey)
+    → a || list_any (λ k. same_key k q) (ws ++ key ∷ []) ≡ (a || list_any (λ k. same_key k q) ws) || same_key key q
+has_more a ws key q = ap (λ b. a || b) (list_any-append (λ k. same_key k q) ws (key ∷ []))
+    ∙ joined a (list_any (λ k. same_key k q) ws) (same_key key q)
 
 le_gt : (o : Ordering) → is_gt o ≡ false → is_le o ≡ true
 le_gt Less h = refl
@@ -91,16 +101,20 @@ same_place key q h = equal (key_cmp key q) (sym (laws.matches_eq-law key q) ∙ 
 
 alike : (g : Option PlaceKey) (key q : PlaceKey) → same_key key q ≡ true → is_within g q ≡ is_within g key
 alike None key q h = refl
-alike (Some greatest) key q h = ap is_le (laws.total-law.congr q key greatest (tied_back laws.total-law key q (same_place key q h)))
+alike (Some greatest) key q h =
+    ap is_le (laws.total-law.congr q key greatest (tied_back laws.total-law key q (same_place key q h)))
 
 -- a place more, which isn't above the greatest one
-pub within_still : (g : Option PlaceKey) (key q : PlaceKey) (old : Bool) → is_within g key ≡ true → (old ≡ true → is_within g q ≡ true) → old || same_key key q ≡ true → is_within g q ≡ true
+pub within_still : (g : Option PlaceKey) (key q : PlaceKey) (old : Bool) → is_within g key ≡ true
+    → (old ≡ true → is_within g q ≡ true) → old || same_key key q ≡ true → is_within g q ≡ true
 within_still g key q true within before h = before refl
 within_still g key q false within before h = alike g key q h ∙ within
 
 -- a place more, which is above it
-pub within_new : (g : Option PlaceKey) (key q : PlaceKey) (old : Bool) → is_within g key ≡ false → (old ≡ true → is_within g q ≡ true) → old || same_key key q ≡ true → is_within (Some key) q ≡ true
+pub within_new : (g : Option PlaceKey) (key q : PlaceKey) (old : Bool) → is_within g key ≡ false
+    → (old ≡ true → is_within g q ≡ true) → old || same_key key q ≡ true → is_within (Some key) q ≡ true
 within_new None key q true above before h = false_true (before refl)
 within_new (Some greatest) key q true above before h =
-    le_gt (key_cmp q key) (upto laws.total-law q greatest key (gt_le (key_cmp q greatest) (before refl)) (turned (key_cmp greatest key) (key_cmp key greatest) (laws.total-law.antisymm greatest key) above))
+    le_gt (key_cmp q key) (upto laws.total-law q greatest key (gt_le (key_cmp q greatest) (before refl))
+    (turned (key_cmp greatest key) (key_cmp key greatest) (laws.total-law.antisymm greatest key) above))
 within_new g key q false above before h = ap is_le (tied_back laws.total-law key q (same_place key q h))

@@ -1,5 +1,6 @@
 -- Turns of the i-th of some externals.
-use Rattle.std.proofs.Common.{take, drop, ◌≡◌, ◌++◌, ℕ, zero, suc, ◌+◌, ◌<◌, List, [], ◌∷◌, length, map, get_or, set, refl, sym, ap, ◌∙◌, arith, length-set, Result, Ok, Err, OnErr, OnOk}
+use Rattle.std.proofs.Common.{take, drop, ◌≡◌, ◌++◌, ℕ, zero, suc, ◌+◌, ◌<◌, List, [], ◌∷◌, length, map, get_or, set}
+use Rattle.std.proofs.Common.{refl, sym, ap, ◌∙◌, arith, length-set, Result, Ok, Err, OnErr, OnOk}
 use Rattle.std.proofs.lemmas.List.{map-set, get_or-map, get_or-set_same, set-get_or}
 use Rattle.externals.specs.Cells.{Seen, none_seen, Changes, IsPatch, flipped}
 use Rattle.externals.specs.Table.{Answers}
@@ -12,35 +13,51 @@ use Rattle.journal_entries.specs.declared.entry.Entry.TheVariants.{External}
 use Rattle.externals.proofs.Flipping.{patch_back, set-set_same}
 use Rattle.journal_entries.proofs.Going.{counts_of-set, get_or-seen, map_seen-set, get_or-counts, length-counts}
 
-pub seen_new : {X : Type 0} (f : X → Seen) (xs : List X) (i : ℕ) (y : X) → i < length xs → get_or (map f (set xs i y)) i none_seen ≡ f y
-seen_new f xs i y h = get_or-map f (set xs i y) i y none_seen (omega (arith, length-set xs i y)) ∙ ap f (get_or-set_same xs i y y h)
+pub seen_new : {X : Type 0} (f : X → Seen) (xs : List X) (i : ℕ) (y : X) → i < length xs
+    → get_or (map f (set xs i y)) i none_seen ≡ f y
+seen_new f xs i y h =
+    get_or-map f (set xs i y) i y none_seen (omega (arith, length-set xs i y)) ∙ ap f (get_or-set_same xs i y y h)
 
-pub turned : {X : Type 0} (f : X → Seen) (xs : List X) (i : ℕ) (x y : X) (s : State) (input : Input) (ask : Ask) → i < length xs → x ≡ get_or xs i x → s.externals ≡ map f xs → f y ≡ with_cells (f x) (f y).cells → Answers (f x).sort (f x).cells input ask (f y).cells → Turns s (record s { externals = map f (set xs i y) }) i input ask
+pub turned : {X : Type 0} (f : X → Seen) (xs : List X) (i : ℕ) (x y : X) (s : State) (input : Input) (ask : Ask)
+    → i < length xs → x ≡ get_or xs i x → s.externals ≡ map f xs → f y ≡ with_cells (f x) (f y).cells
+    → Answers (f x).sort (f x).cells input ask (f y).cells
+    → Turns s (record s { externals = map f (set xs i y) }) i input ask
 turned f xs i x y s input ask h e is same a =
     let new = seen_new f xs i y h in
     let old = ap (λ es. get_or es i none_seen) is ∙ get_or-seen f xs i x h e in
     record {
       answers = rw (new, old) a;
-      state = ap (λ es. record s { externals = es }) (map_seen-set f xs i x y (f y).cells h e same ∙ ap (λ es. set es i (with_cells (get_or es i none_seen) (f y).cells)) (sym is) ∙ ap (λ z. set s.externals i (with_cells (get_or s.externals i none_seen) z.cells)) (sym new));
+      state = ap (λ es. record s { externals = es })
+          (map_seen-set f xs i x y (f y).cells h e same
+          ∙ ap (λ es. set es i (with_cells (get_or es i none_seen) (f y).cells)) (sym is)
+          ∙ ap (λ z. set s.externals i (with_cells (get_or s.externals i none_seen) z.cells)) (sym new));
     }
 
-pub patched : {X : Type 0} (f : X → Seen) (xs : List X) (i : ℕ) (x y : X) (p : Changes) → i < length xs → x ≡ get_or xs i x → IsPatch (f x).cells (f y).cells p → IsPatch (get_or (map f xs) i none_seen).cells (get_or (map f (set xs i y)) i none_seen).cells p
+pub patched : {X : Type 0} (f : X → Seen) (xs : List X) (i : ℕ) (x y : X) (p : Changes) → i < length xs
+    → x ≡ get_or xs i x → IsPatch (f x).cells (f y).cells p
+    → IsPatch (get_or (map f xs) i none_seen).cells (get_or (map f (set xs i y)) i none_seen).cells p
 patched f xs i x y p h e a = rw (seen_new f xs i y h, get_or-seen f xs i x h e) a
 
 -- the cells are as they were
-pub unturned : {X : Type 0} (f : X → Seen) (xs : List X) (i : ℕ) (x y : X) → i < length xs → x ≡ get_or xs i x → f y ≡ f x → map f (set xs i y) ≡ map f xs
-unturned f xs i x y h e same = map-set f xs i y ∙ ap (λ z. set (map f xs) i z) (same ∙ sym (get_or-seen f xs i x h e)) ∙ set-get_or (map f xs) i none_seen
+pub unturned : {X : Type 0} (f : X → Seen) (xs : List X) (i : ℕ) (x y : X) → i < length xs → x ≡ get_or xs i x
+    → f y ≡ f x → map f (set xs i y) ≡ map f xs
+unturned f xs i x y h e same = map-set f xs i y ∙ ap (λ z. set (map f xs) i z) (same ∙ sym (get_or-seen f xs i x h e))
+    ∙ set-get_or (map f xs) i none_seen
 
 -- how many turns
-pub turns_more : {X : Type 0} (n : X → ℕ) (xs : List X) (i : ℕ) (x y : X) (more : ℕ → ℕ) → i < length xs → x ≡ get_or xs i x → n y ≡ more (n x) → map n (set xs i y) ≡ set (map n xs) i (more (get_or (map n xs) i 0))
-turns_more n xs i x y more h e is = map-set n xs i y ∙ ap (λ z. set (map n xs) i z) (is ∙ ap (λ k. more k) (sym (get_or-map n xs i x 0 h ∙ ap n (sym e))))
+pub turns_more : {X : Type 0} (n : X → ℕ) (xs : List X) (i : ℕ) (x y : X) (more : ℕ → ℕ) → i < length xs
+    → x ≡ get_or xs i x → n y ≡ more (n x) → map n (set xs i y) ≡ set (map n xs) i (more (get_or (map n xs) i 0))
+turns_more n xs i x y more h e is = map-set n xs i y
+    ∙ ap (λ z. set (map n xs) i z) (is ∙ ap (λ k. more k) (sym (get_or-map n xs i x 0 h ∙ ap n (sym e))))
 
 pub on_err : {T E P : Type 0} (r : Result T E) → P → OnErr r P
 on_err (Ok x) p = tt
 on_err (Err e) p = p
 
 -- going back over a turn
-pub turned_back : (names : List (List ℕ)) (old new : State) (i : ℕ) (input : Input) (ask : Ask) (p : Changes) → i < length old.externals → Turns old new i input ask → IsPatch (seen_at old i).cells (seen_at new i).cells p → exchanged names new (External i p) ≡ old
+pub turned_back : (names : List (List ℕ)) (old new : State) (i : ℕ) (input : Input) (ask : Ask) (p : Changes)
+    → i < length old.externals → Turns old new i input ask → IsPatch (seen_at old i).cells (seen_at new i).cells p
+    → exchanged names new (External i p) ≡ old
 unfolding exchanged
 turned_back names old new i input ask p h t q =
     let e = seen_at old i in
@@ -56,18 +73,25 @@ turned_back names old new i input ask p h t q =
     ∙ set-get_or old.externals i none_seen))
 
 -- a patch of no cell: nothing changed
-pub unmoved : (names : List (List ℕ)) (old new : State) (i : ℕ) (input : Input) (ask : Ask) → i < length old.externals → Turns old new i input ask → IsPatch (seen_at old i).cells (seen_at new i).cells [] → new ≡ old
+pub unmoved : (names : List (List ℕ)) (old new : State) (i : ℕ) (input : Input) (ask : Ask) → i < length old.externals
+    → Turns old new i input ask → IsPatch (seen_at old i).cells (seen_at new i).cells [] → new ≡ old
 unfolding exchanged
-unmoved names old new i input ask h t q = sym (ap (λ es. record new { externals = es }) (set-get_or new.externals i none_seen)) ∙ turned_back names old new i input ask [] h t q
+unmoved names old new i input ask h t q = sym
+    (ap (λ es. record new { externals = es }) (set-get_or new.externals i none_seen))
+    ∙ turned_back names old new i input ask [] h t q
 
 -- a turn keeps the counts of cells
-pub counts-turned : (old new : State) (i : ℕ) (input : Input) (ask : Ask) → Turns old new i input ask → counts_of new.externals ≡ counts_of old.externals
-counts-turned old new i input ask t = ap (λ s. counts_of s.externals) t.state ∙ counts_of-set old.externals i (seen_at new i).cells t.answers.count
+pub counts-turned : (old new : State) (i : ℕ) (input : Input) (ask : Ask) → Turns old new i input ask
+    → counts_of new.externals ≡ counts_of old.externals
+counts-turned old new i input ask t =
+    ap (λ s. counts_of s.externals) t.state ∙ counts_of-set old.externals i (seen_at new i).cells t.answers.count
 
 -- its patch may be flipped
-pub IsReady-turned : (h : Shape) (old new : State) (i : ℕ) (p : Changes) → h.counts ≡ counts_of old.externals → i < length old.externals → IsPatch (seen_at old i).cells (seen_at new i).cells p → IsReady h (External i p)
+pub IsReady-turned : (h : Shape) (old new : State) (i : ℕ) (p : Changes) → h.counts ≡ counts_of old.externals
+    → i < length old.externals → IsPatch (seen_at old i).cells (seen_at new i).cells p → IsReady h (External i p)
 unfolding IsReady
-IsReady-turned h old new i p is l q = (rw (is, length-counts old.externals) l, rw (is, get_or-counts old.externals i) q.proper)
+IsReady-turned h old new i p is l q =
+    (rw (is, length-counts old.externals) l, rw (is, get_or-counts old.externals i) q.proper)
 
 pub on_ok_both : {T E P Q R : Type 0} (r : Result T E) → (P → Q → R) → OnOk r P → OnOk r Q → OnOk r R
 on_ok_both (Ok x) f p q = f p q
@@ -83,14 +107,17 @@ map-title f [] = refl
 map-title f (x ∷ xs) = ap (λ ts. (f x).title ∷ ts) (map-title f xs)
 
 -- all but one
-pub map-without : {X Y : Type 0} (f : X → Y) (xs : List X) (i : ℕ) → map f (take i xs ++ drop (i + 1) xs) ≡ take i (map f xs) ++ drop (i + 1) (map f xs)
+pub map-without : {X Y : Type 0} (f : X → Y) (xs : List X) (i : ℕ)
+    → map f (take i xs ++ drop (i + 1) xs) ≡ take i (map f xs) ++ drop (i + 1) (map f xs)
 map-without f [] zero = refl
 map-without f [] (suc i) = let m : suc i + 1 ≡ suc (i + 1) = omega arith in rw m refl
 map-without f (x ∷ xs) zero = refl
-map-without f (x ∷ xs) (suc i) = let m : suc i + 1 ≡ suc (i + 1) = omega arith in rw m (ap (λ ys. f x ∷ ys) (map-without f xs i))
+map-without f (x ∷ xs) (suc i) =
+    let m : suc i + 1 ≡ suc (i + 1) = omega arith in rw m (ap (λ ys. f x ∷ ys) (map-without f xs i))
 
 -- a turn keeps the names
-pub titles-turned : (es : List Seen) (i : ℕ) (cells : List (List ℕ)) → map (λ e. e.title) (set es i (with_cells (get_or es i none_seen) cells)) ≡ map (λ e. e.title) es
+pub titles-turned : (es : List Seen) (i : ℕ) (cells : List (List ℕ))
+    → map (λ e. e.title) (set es i (with_cells (get_or es i none_seen) cells)) ≡ map (λ e. e.title) es
 titles-turned [] i cells = refl
 titles-turned (e ∷ es) zero cells = refl
 titles-turned (e ∷ es) (suc i) cells = ap (λ ts. e.title ∷ ts) (titles-turned es i cells)

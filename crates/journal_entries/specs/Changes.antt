@@ -6,10 +6,13 @@ use Rattle.object_table.specs.Objects.{has_kind, is_card}
 use Rattle.object_table.specs.Setting as settings
 use Rattle.stack_places.specs.Places.{prop_of, property, field_text, button_hilite, text, logical, setting, number}
 use Rattle.journal_entries.specs.State.{State}
-use Rattle.structural_changes.specs.Writes.{following, writes_of_new_part, writes_of_new_card, writes_of_new_background, writes_of_deletion, has_room_for, fits_new_part, fits_deletion}
+use Rattle.structural_changes.specs.Writes.{following, writes_of_new_part, writes_of_new_card}
+use Rattle.structural_changes.specs.Writes.{writes_of_new_background, writes_of_deletion, has_room_for, fits_new_part}
+use Rattle.structural_changes.specs.Writes.{fits_deletion}
 use Rattle.journal_entries.specs.Places.{Write, put_all, global, in_stack, current_card, in_the_stack}
 use Rattle.journal_entries.specs.declared.change.Change.{Change}
-use Rattle.journal_entries.specs.declared.change.Change.TheVariants.{Global, FieldText, Hilite, Prop, Current, NewCard, NewBackground, NewPart, DeleteCard}
+use Rattle.journal_entries.specs.declared.change.Change.TheVariants.{Global, FieldText, Hilite, Prop, Current, NewCard}
+use Rattle.journal_entries.specs.declared.change.Change.TheVariants.{NewBackground, NewPart, DeleteCard}
 
 -- a card becomes the current one
 abbrev pub makes_current : ℕ → Write
@@ -19,13 +22,16 @@ makes_current card = record { place = current_card; value = Some (number card) }
 abbrev pub writes_of : State → Change → List Write
 writes_of s (Global name v) = record { place = global name; value = option_map (λ t. text t) v } ∷ []
 writes_of s (FieldText field card t) = record { place = in_stack (field_text field card); value = Some (text t) } ∷ []
-writes_of s (Hilite button card b) = record { place = in_stack (button_hilite button card); value = Some (logical b) } ∷ []
+writes_of s (Hilite button card b) =
+    record { place = in_stack (button_hilite button card); value = Some (logical b) } ∷ []
 writes_of s (Prop id v) = record { place = in_stack (property id (prop_of v)); value = Some (setting v) } ∷ []
 writes_of s (Current card) = makes_current card ∷ []
 writes_of s NewCard = map in_the_stack (writes_of_new_card s.stack s.current) ++ makes_current s.stack.next ∷ []
-writes_of s NewBackground = map in_the_stack (writes_of_new_background s.stack s.current) ++ makes_current (s.stack.next + 1) ∷ []
+writes_of s NewBackground =
+    map in_the_stack (writes_of_new_background s.stack s.current) ++ makes_current (s.stack.next + 1) ∷ []
 writes_of s (NewPart layer kind) = map in_the_stack (writes_of_new_part s.stack layer kind)
-writes_of s DeleteCard = makes_current (following s.current s.stack.cards) ∷ map in_the_stack (writes_of_deletion s.stack s.current)
+writes_of s DeleteCard =
+    makes_current (following s.current s.stack.cards) ∷ map in_the_stack (writes_of_deletion s.stack s.current)
 
 -- the state after a change
 abbrev pub changed : State → Change → State

@@ -1,5 +1,6 @@
 -- Entries of a batch: exchanges of values in a state, and what they weigh.
-use Rattle.std.specs.Prelude.{Bool, true, false, ℕ, ◌+◌, ◌<◌, nat_eq, List, [], ◌∷◌, length, map, sum_by, reverse, option_map, refl, slice_index_or, slice_set}
+use Rattle.std.specs.Prelude.{Bool, true, false, ℕ, ◌+◌, ◌<◌, nat_eq, List, [], ◌∷◌, length, map, sum_by, reverse}
+use Rattle.std.specs.Prelude.{option_map, refl, slice_index_or, slice_set}
 use Rattle.std.specs.FinMap.{get}
 use Rattle.std.specs.Coded.{Coded, code_by, coded×, coded_ℕ, coded_list}
 use Rattle.externals.specs.Cells.{Seen, none_seen, flipped, taken_out, IsProper}
@@ -21,7 +22,10 @@ pub record PresentView : Type 0 where
   pub room : Room
 
 abbrev pub coded_present_view : Coded PresentView
-coded_present_view = code_by (State × (List (List ℕ) × (List ℕ × Room))) (coded× coded_state (coded× (coded_list (coded_list coded_ℕ)) (coded× (coded_list coded_ℕ) coded_room))) (λ h. (h.state, (h.names, (h.turns, h.room)))) (λ p. record { state = p.0; names = p.1.0; turns = p.1.1.0; room = p.1.1.1 }) (λ _. refl)
+coded_present_view = code_by (State × (List (List ℕ) × (List ℕ × Room)))
+    (coded× coded_state (coded× (coded_list (coded_list coded_ℕ)) (coded× (coded_list coded_ℕ) coded_room)))
+    (λ h. (h.state, (h.names, (h.turns, h.room))))
+    (λ p. record { state = p.0; names = p.1.0; turns = p.1.1.0; room = p.1.1.1 }) (λ _. refl)
 
 -- a batch: the number of the line that it belongs to, and its entries
 pub record BatchView : Type 0 where
@@ -41,7 +45,8 @@ unfoldable pub exchanged : List (List ℕ) → State → Entry → State
 exchanged names s (Global i v) = record s { globals = put_option s.globals (name_at names i) v }
 exchanged names s (Current c) = record s { current = c }
 exchanged names s (Stack e) = record s { stack = stack.exchanged s.stack e }
-exchanged names s (External i p) = let e = slice_index_or s.externals i none_seen in record s { externals = slice_set s.externals i (with_cells e (flipped e.cells p)) }
+exchanged names s (External i p) = let e = slice_index_or s.externals i none_seen in record s
+    { externals = slice_set s.externals i (with_cells e (flipped e.cells p)) }
 
 -- the entry after it
 unfoldable pub taken : List (List ℕ) → State → Entry → Entry

@@ -1,5 +1,6 @@
 -- Globals by name, and the names that have numbers.
-use Rattle.std.specs.Prelude.{◌≡◌, ◌≢◌, ℕ, List, [], ◌∷◌, ◌++◌, map, Option, Some, None, option_map, slice_index_or, refl}
+use Rattle.std.specs.Prelude.{◌≡◌, ◌≢◌, ℕ, List, [], ◌∷◌, ◌++◌, map, Option, Some, None, option_map, slice_index_or}
+use Rattle.std.specs.Prelude.{refl}
 use Rattle.std.specs.FinMap.{get, from_entries}
 use Rattle.std.specs.Coded.{Coded, code_by, coded×, coded_ℕ, coded_list}
 use Rattle.journal_entries.specs.State.{Globals, coded_globals}
@@ -10,7 +11,8 @@ pub record Named : Type 0 where
   pub names : List (List ℕ)
 
 abbrev pub coded_named : Coded Named
-coded_named = code_by (Globals × List (List ℕ)) (coded× coded_globals (coded_list (coded_list coded_ℕ))) (λ n. (n.texts, n.names)) (λ p. record { texts = p.0; names = p.1 }) (λ _. refl)
+coded_named = code_by (Globals × List (List ℕ)) (coded× coded_globals (coded_list (coded_list coded_ℕ)))
+    (λ n. (n.texts, n.names)) (λ p. record { texts = p.0; names = p.1 }) (λ _. refl)
 
 -- a name with its value, if it has one
 abbrev pub with_value : List ℕ → Option (List ℕ) → List (List ℕ × List ℕ) → List (List ℕ × List ℕ)

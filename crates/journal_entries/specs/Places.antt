@@ -1,5 +1,6 @@
 -- The places of a state, and values put there.
-use Rattle.std.specs.Prelude.{ℕ, Bool, true, false, ◌&&◌, nat_eq, bytes_eq, List, Option, Some, None, option_map, option_and_then, unwrap_or, slice_get, slice_set, slice_index_or}
+use Rattle.std.specs.Prelude.{ℕ, Bool, true, false, ◌&&◌, nat_eq, bytes_eq, List, Option, Some, None, option_map}
+use Rattle.std.specs.Prelude.{option_and_then, unwrap_or, slice_get, slice_set, slice_index_or}
 use Rattle.stack_places.specs.Places.{StackPlace, Value, as_text, as_number, text, number}
 use Rattle.stack_places.specs.Places as stack
 use Rattle.std.specs.FinMap.{get}
@@ -33,7 +34,8 @@ value_at s (cell i c) = option_map (λ t. text t) (option_and_then (λ e. slice_
 -- the externals with a text in a cell
 abbrev pub with_cell : List Seen → ℕ → ℕ → Option (List ℕ) → List Seen
 with_cell es i c None = es
-with_cell es i c (Some t) = let e = slice_index_or es i none_seen in slice_set es i (record e { cells = slice_set e.cells c t })
+with_cell es i c (Some t) =
+    let e = slice_index_or es i none_seen in slice_set es i (record e { cells = slice_set e.cells c t })
 
 -- The state with this value at the place, or with none. The current card and a cell always have one: none
 -- leaves them.

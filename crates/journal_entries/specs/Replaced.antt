@@ -15,7 +15,8 @@ pub record Replacement : Type 0 where
 -- what writes replace, one after the other; an equal value counts
 abbrev pub replaced_in_turn : State → List Write → List Replacement
 replaced_in_turn s [] = []
-replaced_in_turn s (w ∷ ws) = record { place = w.place; old = value_at s w.place; new = w.value } ∷ replaced_in_turn (put s w.place w.value) ws
+replaced_in_turn s (w ∷ ws) =
+    record { place = w.place; old = value_at s w.place; new = w.value } ∷ replaced_in_turn (put s w.place w.value) ws
 
 -- what a change replaces, one member for each place, in order
 abbrev pub replaced_by : State → Change → List Replacement
@@ -27,7 +28,8 @@ places_of = map (λ r. r.place)
 
 -- a cell whose text differs
 abbrev pub differing : ℕ → ℕ → List ℕ → List ℕ → List Replacement
-differing i c t u = if bytes_eq t u then [] else record { place = cell i c; old = Some (text t); new = Some (text u) } ∷ []
+differing i c t u =
+    if bytes_eq t u then [] else record { place = cell i c; old = Some (text t); new = Some (text u) } ∷ []
 
 -- what a turn of the i-th external replaces, where its cells from the c-th on were these and are those: each
 -- cell that changed, in the order of their numbers

@@ -1,5 +1,6 @@
 -- Trees of scripts that were parsed, by the ids of their objects.
-use Rattle.std.specs.Prelude.{◌≡◌, ℕ, ◌+◌, ◌<◌, ◌≤◌, List, [], length, Option, Some, None, IfSome, option_map, option_and_then, sum_by, unwrap_or}
+use Rattle.std.specs.Prelude.{◌≡◌, ℕ, ◌+◌, ◌<◌, ◌≤◌, List, [], length, Option, Some, None, IfSome, option_map}
+use Rattle.std.specs.Prelude.{option_and_then, sum_by, unwrap_or}
 use Rattle.std.specs.BTreeMap.{get, values, btree_map_len}
 use Rattle.std.specs.Ordering.{nat_cmp}
 use Rattle.ht_grammar.specs.Statements.{Handlers}

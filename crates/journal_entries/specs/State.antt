@@ -1,5 +1,6 @@
 -- A state: the stack, the globals, the current card, and the externals with their cells.
-use Rattle.std.specs.Prelude.{◌≡◌, ℕ, suc, Option, Some, None, IfSome, option_map, if◌then◌else◌, Bool, true, false, not, ◌&&◌, ◌||◌, List, [], ◌∷◌, map, All, refl, slice_index_or}
+use Rattle.std.specs.Prelude.{◌≡◌, ℕ, suc, Option, Some, None, IfSome, option_map, if◌then◌else◌, Bool, true, false}
+use Rattle.std.specs.Prelude.{not, ◌&&◌, ◌||◌, List, [], ◌∷◌, map, All, refl, slice_index_or}
 use Rattle.std.specs.Ordering.{nat_cmp}
 use Rattle.std.specs.Cmp.Lexicographic.{slice_cmp}
 use Rattle.std.specs.FinMap.{FinMap, get, empty, code as map_code}
@@ -24,11 +25,16 @@ pub record State : Type 0 where
   pub externals : List Seen
 
 abbrev pub coded_state : Coded State
-coded_state = code_by (Content × (Globals × (ℕ × List Seen))) (coded× coded_content (coded× coded_globals (coded× coded_ℕ (coded_list coded_seen)))) (λ s. (s.stack, (s.globals, (s.current, s.externals)))) (λ p. record { stack = p.0; globals = p.1.0; current = p.1.1.0; externals = p.1.1.1 }) (λ _. refl)
+coded_state = code_by (Content × (Globals × (ℕ × List Seen)))
+    (coded× coded_content (coded× coded_globals (coded× coded_ℕ (coded_list coded_seen))))
+    (λ s. (s.stack, (s.globals, (s.current, s.externals))))
+    (λ p. record { stack = p.0; globals = p.1.0; current = p.1.1.0; externals = p.1.1.1 }) (λ _. refl)
 
 -- what is seen of an external, by its members
-abbrev pub seen_by : {X : Type 0} (title : X → List ℕ) (sort : X → ℕ) (answers_calls : X → Bool) (cells : X → List (List ℕ)) → X → Seen
-seen_by title sort answers_calls cells x = record { title = title x; sort = sort x; answers_calls = answers_calls x; cells = cells x }
+abbrev pub seen_by : {X : Type 0} (title : X → List ℕ) (sort : X → ℕ) (answers_calls : X → Bool)
+    (cells : X → List (List ℕ)) → X → Seen
+seen_by title sort answers_calls cells x =
+    record { title = title x; sort = sort x; answers_calls = answers_calls x; cells = cells x }
 
 -- what is seen of the i-th external
 abbrev pub seen_at : State → ℕ → Seen
@@ -54,7 +60,8 @@ are_apart (n ∷ ns) = not (has_name n ns) && are_apart ns
 
 -- the first state of a stack: no global, the first card
 abbrev pub first_state : Content → List Seen → State
-first_state stack externals = record { stack = stack; globals = empty; current = slice_index_or stack.cards 0 0; externals = externals }
+first_state stack externals =
+    record { stack = stack; globals = empty; current = slice_index_or stack.cards 0 0; externals = externals }
 
 -- what holds of a global: its name is a folded text, and its value is a text
 pub record IsGlobal (n v : List ℕ) : Type 0 where

@@ -11,7 +11,8 @@ use Rattle.journal_entries.specs.State.{State, seen_at}
 use Rattle.journal_entries.specs.Changes.{writes_of}
 use Rattle.journal_entries.specs.Places.{Write, put, value_at}
 use Rattle.journal_entries.specs.Trails.{mark_at}
-use Rattle.journal_entries.specs.Exchange.{PresentView, name_at, with_cells, AreReady, shape_of, exchanged, taken, entry_weight, mark_of}
+use Rattle.journal_entries.specs.Exchange.{PresentView, name_at, with_cells, AreReady, shape_of, exchanged, taken}
+use Rattle.journal_entries.specs.Exchange.{entry_weight, mark_of}
 use Rattle.journal_entries.specs.declared.entry.Entry.{Entry}
 use Rattle.journal_entries.specs.declared.entry.Entry.TheVariants.{Global, Current, Stack, External}
 use Rattle.journal_entries.specs.declared.entry.Prepared.{Prepared}
@@ -59,7 +60,8 @@ pub record Carries (names : List (List ℕ)) (s : State) (w : Write) (e : Entry)
 -- an entry for each write, in order
 abbrev pub AreCarried : List (List ℕ) → State → List Write → List Entry → Type 0
 AreCarried names s [] [] = Unit {0}
-AreCarried names s (w ∷ ws) (e ∷ es) = IsNumbered names e × Carries names s w e × AreCarried names (put s w.place w.value) ws es
+AreCarried names s (w ∷ ws) (e ∷ es) =
+    IsNumbered names e × Carries names s w e × AreCarried names (put s w.place w.value) ws es
 AreCarried names s _ _ = ⊥
 
 abbrev pub entries_of : Prepared → List Entry

@@ -1,7 +1,8 @@
 //! A batch: what goes back over the changes and turns of one command.
 
 ghost use Rattle.std.specs.Prelude.{◌≡◌, [], ◌∷◌, true};
-ghost use Rattle.journal_entries.specs.Exchange.{back, back_taken, exchanged, forth, forth_taken, taken, shape_of, AreReady, IsReady};
+ghost use Rattle.journal_entries.specs.Exchange.{back, back_taken, exchanged, forth, forth_taken, taken, shape_of};
+ghost use Rattle.journal_entries.specs.Exchange.{AreReady, IsReady};
 ghost use Rattle.journal_entries.specs.BatchEntries.{entries_in, needs_no_list};
 
 use crate::entry::Entry;
@@ -70,8 +71,10 @@ impl Batch {
     /// Goes back over all entries, from the last to the first.
     pub fn go_back<E: External>(&mut self, present: &mut Present<E>)
         requires { AreReady (shape_of present.old) self.old.entries }
-        ensures state { present.new ≡ record present.old { state = back present.old.names present.old.state self.old.entries } }
-        ensures entries { self.new ≡ record self.old { entries = back_taken present.old.names present.old.state self.old.entries } }
+        ensures state { present.new ≡ record present.old
+            { state = back present.old.names present.old.state self.old.entries } }
+        ensures entries { self.new ≡ record self.old
+            { entries = back_taken present.old.names present.old.state self.old.entries } }
     {
         let entries = mem::replace(&mut self.entries, BatchEntries::NoValue(0));
         self.entries = match entries {
@@ -88,8 +91,10 @@ impl Batch {
     /// Goes forth over all entries, from the first to the last.
     pub fn go_forth<E: External>(&mut self, present: &mut Present<E>)
         requires { AreReady (shape_of present.old) self.old.entries }
-        ensures state { present.new ≡ record present.old { state = forth present.old.names present.old.state self.old.entries } }
-        ensures entries { self.new ≡ record self.old { entries = forth_taken present.old.names present.old.state self.old.entries } }
+        ensures state { present.new ≡ record present.old
+            { state = forth present.old.names present.old.state self.old.entries } }
+        ensures entries { self.new ≡ record self.old
+            { entries = forth_taken present.old.names present.old.state self.old.entries } }
     {
         let entries = mem::replace(&mut self.entries, BatchEntries::NoValue(0));
         self.entries = match entries {
@@ -156,7 +161,8 @@ fn alone(entry: Entry) -> BatchEntries
 #[tactic(auto, unfolding(crate::specs::Exchange::IsReady))]
 fn swapped<E: External>(present: &mut Present<E>, i: u32, value: Option<Text>) -> BatchEntries
     requires { IsReady (shape_of present.old) (Entry.Global i value) }
-    ensures state { present.new ≡ record present.old { state = exchanged present.old.names present.old.state (Entry.Global i value) } }
+    ensures state { present.new ≡ record present.old
+        { state = exchanged present.old.names present.old.state (Entry.Global i value) } }
     ensures entry { entries_in result ≡ taken present.old.names present.old.state (Entry.Global i value) ∷ [] }
 {
     let mut value = value;
@@ -168,7 +174,8 @@ fn swapped<E: External>(present: &mut Present<E>, i: u32, value: Option<Text>) -
 #[tactic(auto, unfolding(crate::specs::Exchange::taken))]
 fn swapped_current<E: External>(present: &mut Present<E>, card: u32) -> BatchEntries
     requires { IsReady (shape_of present.old) (Entry.Current card) }
-    ensures state { present.new ≡ record present.old { state = exchanged present.old.names present.old.state (Entry.Current card) } }
+    ensures state { present.new ≡ record present.old
+        { state = exchanged present.old.names present.old.state (Entry.Current card) } }
     ensures entry { entries_in result ≡ taken present.old.names present.old.state (Entry.Current card) ∷ [] }
 {
     let mut entry = Entry::Current(card);

@@ -1,6 +1,7 @@
 //! The globals: their names, numbered in the order in which they come, and their values.
 
-ghost use Rattle.std.specs.Prelude.{◌≡◌, ◌≢◌, ℕ, ◌<◌, [], length, true, IfOk, IfSome, IfNone, slice_index_or, slice_get, Some, option_copied, option_map};
+ghost use Rattle.std.specs.Prelude.{◌≡◌, ◌≢◌, ℕ, ◌<◌, [], length, true, IfOk, IfSome, IfNone, slice_index_or};
+ghost use Rattle.std.specs.Prelude.{slice_get, Some, option_copied, option_map};
 ghost use Rattle.std.specs.FinMap as finite;
 ghost use Rattle.object_table.specs.Maps.{put_option};
 ghost use Rattle.journal_entries.specs.Named.{Named, Extends, Lists, listed, numbered};
@@ -31,9 +32,11 @@ impl Model for Globals {
 
     ghost coded = { coded_named };
 
-    ghost view = { λ g. let names = map (λ k. k.items) g.names.keys in record { texts = finite.from_entries (entries_of names g.values.items); names = names } };
+    ghost view = { λ g. let names = map (λ k. k.items) g.names.keys in
+        record { texts = finite.from_entries (entries_of names g.values.items); names = names } };
 
-    ghost invariant = { λ g. let names = map (λ k. k.items) g.names.keys in (length names ≡ length g.values.items) × AreDistinct names × (g.live ≡ count_by is_some g.values.items) };
+    ghost invariant = { λ g. let names = map (λ k. k.items) g.names.keys in (length names ≡ length g.values.items)
+        × AreDistinct names × (g.live ≡ count_by is_some g.values.items) };
 }
 
 impl Globals {
@@ -76,7 +79,8 @@ impl Globals {
         ensures number { IfOk result (λ i. (i < length self.new.names) × (slice_index_or self.new.names i [] ≡ name.now)) }
         ensures same { self.new.texts ≡ self.old.texts }
         ensures wider { Extends self.old.names self.new.names }
-        ensures only { IfOk result (λ i. (j : ℕ) → j < length self.new.names → slice_index_or self.new.names j [] ≡ slice_index_or self.new.names i [] → j ≡ i) }
+        ensures only { IfOk result (λ i. (j : ℕ) → j < length self.new.names
+            → slice_index_or self.new.names j [] ≡ slice_index_or self.new.names i [] → j ≡ i) }
     {
         match self.number_of(name) {
             Some(i) => return Ok(i),
@@ -94,7 +98,8 @@ impl Globals {
     pub fn swap(&mut self, i: usize, value: &mut Option<Text>)
         requires { i < length self.old.names }
         ensures value { value.new ≡ finite.get self.old.texts (slice_index_or self.old.names i []) }
-        ensures texts { self.new ≡ record self.old { texts = put_option self.old.texts (slice_index_or self.old.names i []) value.old } }
+        ensures texts { self.new ≡ record self.old
+            { texts = put_option self.old.texts (slice_index_or self.old.names i []) value.old } }
     {
         let added = value.is_some();
         mem::swap(&mut self.values[i], value);

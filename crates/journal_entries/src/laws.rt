@@ -11,7 +11,8 @@ use externals::{External, law_of_external};
 /// Where each place stands once between two structural entries, before the first and after the last, and the
 /// entries are of p different places, a batch with s structural entries has at most s + (s + 1) * p entries.
 pub fn law_of_trails()
-    ensures { (trail : List Mark) (places : List Place) → IsOnce trail → AreAmong places trail → IsShort trail (different places) }
+    ensures { (trail : List Mark) (places : List Place) → IsOnce trail → AreAmong places trail
+        → IsShort trail (different places) }
 {}
 
 /// What externals are by their types. It reads their names and cells, and does nothing with them.

@@ -2,7 +2,8 @@
 
 ghost use Rattle.std.specs.Prelude.{◌≡◌, ℕ, List, map};
 ghost use Rattle.ht_values.specs.Text.{same};
-ghost use Rattle.journal_entries.specs.State.{has_name as has_title, index_of as index_of_title, are_apart as apart_titles};
+ghost use Rattle.journal_entries.specs.State.{has_name as has_title, index_of as index_of_title};
+ghost use Rattle.journal_entries.specs.State.{are_apart as apart_titles};
 
 use externals::External;
 use ht_values::Text;

@@ -1,6 +1,7 @@
 //! The batch of the line that runs.
 
-ghost use Rattle.std.specs.Prelude.{◌≡◌, ℕ, ◌<◌, ◌≤◌, ◌+◌, max, vec_len, vec_capacity, true, false, List, [], ◌∷◌, ◌++◌, length, IfOk, OnErr, OnOk};
+ghost use Rattle.std.specs.Prelude.{◌≡◌, ℕ, ◌<◌, ◌≤◌, ◌+◌, max, vec_len, vec_capacity, true, false, List, [], ◌∷◌};
+ghost use Rattle.std.specs.Prelude.{◌++◌, length, IfOk, OnErr, OnOk};
 ghost use Rattle.externals.specs.Cells.{IsPatch, Changes};
 ghost use Rattle.journal_entries.specs.State.{IsState, seen_at};
 ghost use Rattle.journal_entries.specs.Changes.{fits};
@@ -11,7 +12,8 @@ ghost use Rattle.journal_entries.specs.Keys.{key_of as key_of_entry};
 ghost use Rattle.journal_entries.specs.PlaceSets.{has_place, IsBounded};
 ghost use Rattle.journal_entries.specs.declared.place_key.PlaceKey.{PlaceKey};
 ghost use Rattle.journal_entries.specs.Turning.{Grows, Turns, TurnsAtMostOnce, one_more_at};
-ghost use Rattle.journal_entries.specs.Exchange.{back, forth, exchanged, of_one_place, taken, shape_of, AreReady, IsReady};
+ghost use Rattle.journal_entries.specs.Exchange.{back, forth, exchanged, of_one_place, taken, shape_of, AreReady};
+ghost use Rattle.journal_entries.specs.Exchange.{IsReady};
 
 use crate::batch::Batch;
 use crate::change::Change;
@@ -105,8 +107,10 @@ impl OpenBatch {
         entry: Entry,
     ) -> Result<(), AllocError>
         requires { IsReady (shape_of present.old) entry }
-        ensures state { OnOk result (present.new ≡ record present.old { state = exchanged present.old.names present.old.state entry }) }
-        ensures entries { OnOk result (self.new ≡ record self.old { entries = kept self.old.entries entry (taken present.old.names present.old.state entry) }) }
+        ensures state { OnOk result (present.new ≡ record present.old
+            { state = exchanged present.old.names present.old.state entry }) }
+        ensures entries { OnOk result (self.new ≡ record self.old
+            { entries = kept self.old.entries entry (taken present.old.names present.old.state entry) }) }
         ensures state_err { OnErr result (present.new ≡ present.old) }
         ensures entries_err { OnErr result (self.new ≡ self.old) }
     {
@@ -130,8 +134,10 @@ impl OpenBatch {
         entries: Vec<Entry>,
     ) -> Result<(), AllocError>
         requires { AreReady (shape_of present.old) entries.items }
-        ensures state { OnOk result (present.new ≡ record present.old { state = forth present.old.names present.old.state entries.items }) }
-        ensures entries { OnOk result (self.new ≡ record self.old { entries = kept_in_turn present.old.names present.old.state self.old.entries entries.items }) }
+        ensures state { OnOk result (present.new ≡ record present.old
+            { state = forth present.old.names present.old.state entries.items }) }
+        ensures entries { OnOk result (self.new ≡ record self.old
+            { entries = kept_in_turn present.old.names present.old.state self.old.entries entries.items }) }
         ensures state_err { OnErr result (present.new ≡ present.old) }
         ensures entries_err { OnErr result (self.new ≡ self.old) }
     {
@@ -187,9 +193,11 @@ impl OpenBatch {
     ) -> Result<Ask, AllocError>
         requires { i < length present.old.state.externals }
         ensures turn { IfOk result (λ ask. Turns present.old.state present.new.state i input.now ask) }
-        ensures entry { OnOk result ((p : Changes) × IsPatch (seen_at present.old.state i).cells (seen_at present.new.state i).cells p
+        ensures entry { OnOk result ((p : Changes) × IsPatch (seen_at present.old.state i).cells
+            (seen_at present.new.state i).cells p
             × (self.new ≡ record self.old { entries = kept_turn self.old.entries i p })) }
-        ensures present { OnOk result (present.new ≡ record present.old { state = present.new.state; turns = one_more_at present.old.turns i }) }
+        ensures present { OnOk result (present.new ≡ record present.old
+            { state = present.new.state; turns = one_more_at present.old.turns i }) }
         ensures err { OnErr result (self.new ≡ self.old) }
         ensures present_err { OnErr result (TurnsAtMostOnce present.old present.new i) }
     {
@@ -207,7 +215,8 @@ fn reserve(entries: &mut Vec<Entry>, more: usize) -> Result<(), AllocError>
     ensures items { entries.new.items ≡ entries.old.items }
     ensures len { vec_len entries.new ≡ vec_len entries.old }
     ensures room { OnOk result (vec_len entries.old + more ≤ vec_capacity entries.new) }
-    ensures exact { vec_len entries.old < 2 → OnOk result (vec_capacity entries.new ≡ max (vec_capacity entries.old) (vec_len entries.old + more)) }
+    ensures exact { vec_len entries.old < 2
+        → OnOk result (vec_capacity entries.new ≡ max (vec_capacity entries.old) (vec_len entries.old + more)) }
 {
     if entries.len() < 2 {
         entries.reserve_exact(more)

@@ -1,18 +1,22 @@
 //! The present state: the stack, the globals, the current card and the externals.
 
-ghost use Rattle.std.specs.Prelude.{◌≡◌, ℕ, ◌<◌, ◌≤◌, List, [], ◌∷◌, ◌++◌, length, ◌+◌, true, take, drop, IfOk, IfErr, IfSome, OnErr, OnOk, slice_index_or, option_copied, option_map, map, slice_get, Some};
+ghost use Rattle.std.specs.Prelude.{◌≡◌, ℕ, ◌<◌, ◌≤◌, List, [], ◌∷◌, ◌++◌, length, ◌+◌, true, take, drop, IfOk, IfErr};
+ghost use Rattle.std.specs.Prelude.{IfSome, OnErr, OnOk, slice_index_or, option_copied, option_map, map, slice_get};
+ghost use Rattle.std.specs.Prelude.{Some};
 ghost use Rattle.std.specs.FinMap as finite;
 ghost use Rattle.ht_grammar.specs.Reads.{Reads, ReadsScript};
 ghost use Rattle.ht_tree.specs.ScriptView.{script_of};
 ghost use Rattle.externals.specs.Cells.{IsPatch};
 ghost use Rattle.stack_places.specs.Exchange as places;
-ghost use Rattle.journal_entries.specs.State.{IsState, seen_by, seen_at, first_state, titles_of, has_name as has_title, index_of as index_of_title};
+ghost use Rattle.journal_entries.specs.State.{IsState, seen_by, seen_at, first_state, titles_of, has_name as has_title};
+ghost use Rattle.journal_entries.specs.State.{index_of as index_of_title};
 ghost use Rattle.journal_entries.specs.Named.{listed, numbered, Lists};
 ghost use Rattle.journal_entries.specs.ScriptTrees.{object_script};
 ghost use Rattle.journal_entries.specs.declared.script_trees.TheConstants.{MOST_KEPT_BYTES};
 ghost use Rattle.journal_entries.specs.Changes.{fits};
 ghost use Rattle.journal_entries.specs.declared.change.Change.TheVariants as made_change;
-ghost use Rattle.journal_entries.specs.Exchange.{exchanged, taken, back, back_taken, forth, forth_taken, shape_of, IsReady, AreReady};
+ghost use Rattle.journal_entries.specs.Exchange.{exchanged, taken, back, back_taken, forth, forth_taken, shape_of};
+ghost use Rattle.journal_entries.specs.Exchange.{IsReady, AreReady};
 ghost use Rattle.journal_entries.specs.Turning.{Grows, Prepares, Turns, entries_of, one_more_at};
 
 use crate::change::Change;
@@ -86,7 +90,13 @@ impl<E: External> Present<E> {
     /// The state of a stack with no global. It takes no memory.
     pub fn new(alloc: Global, stack: Stack, current: u32, externals: Vec<E>) -> Present<E>
         ensures { result ≡ record {
-          state = record { stack = stack.content; globals = finite.empty; current = current; externals = map (seen_by E.title E.sort E.answers_calls E.cells) externals.items };
+          state = record {
+            stack = stack.content;
+            globals = finite.empty;
+            current = current;
+            externals = map
+                (seen_by E.title E.sort E.answers_calls E.cells) externals.items;
+          };
           names = [];
           turns = map E.turn_count externals.items;
           room = stack.room;
@@ -119,7 +129,8 @@ impl<E: External> Present<E> {
     /// Exchanges the value of one place of the stack. The tree of a script that may change goes.
     fn exchange_in_stack(&mut self, entry: &mut StackEntry)
         requires { places.IsReady self.old.room entry.old }
-        ensures state { self.new ≡ record self.old { state = record self.old.state { stack = places.exchanged self.old.state.stack entry.old } } }
+        ensures state { self.new ≡ record self.old
+            { state = record self.old.state { stack = places.exchanged self.old.state.stack entry.old } } }
         ensures entry { entry.new ≡ places.taken self.old.state.stack entry.old }
     {
         self.trees.forget(entry);
@@ -130,7 +141,8 @@ impl<E: External> Present<E> {
     #[tactic(auto, unfolding(crate::specs::Exchange::exchanged, crate::specs::Exchange::taken))]
     pub(crate) fn swap_global(&mut self, i: usize, value: &mut Option<Text>)
         requires { i < length self.old.names }
-        ensures state { self.new ≡ record self.old { state = exchanged self.old.names self.old.state (Entry.Global i value.old) } }
+        ensures state { self.new ≡ record self.old
+            { state = exchanged self.old.names self.old.state (Entry.Global i value.old) } }
         ensures entry { Entry.Global i value.new ≡ taken self.old.names self.old.state (Entry.Global i value.old) }
     {
         self.globals.swap(i, value);
@@ -304,7 +316,8 @@ impl<E: External> Present<E> {
 
     /// The tree of an object's script, if it is kept: that of the script of now.
     pub fn script_tree(&self, id: Id) -> Option<&Rc<Script>>
-        ensures { IfSome result (λ tree. Reads ReadsScript (object_script self.now.state.stack id) (script_of tree.now.value)) }
+        ensures { IfSome result (λ tree. Reads ReadsScript (object_script self.now.state.stack id)
+            (script_of tree.now.value)) }
     {
         self.trees.get(id)
     }
@@ -429,7 +442,10 @@ impl<E: External> Present<E> {
     /// Adds an external, or hands it back where a growth was refused.
     pub fn plug(&mut self, external: E) -> Result<(), E>
         ensures ok { OnOk result (self.new ≡ record self.old {
-          state = record self.old.state { externals = self.old.state.externals ++ seen_by E.title E.sort E.answers_calls E.cells external ∷ [] };
+          state = record self.old.state {
+            externals = self.old.state.externals
+                ++ seen_by E.title E.sort E.answers_calls E.cells external ∷ [];
+          };
           turns = self.old.turns ++ E.turn_count external ∷ [];
         }) }
         ensures err { IfErr result (λ e. (e ≡ external) × (self.new ≡ self.old)) }
@@ -446,7 +462,10 @@ impl<E: External> Present<E> {
         ensures seen { seen_by E.title E.sort E.answers_calls E.cells result ≡ seen_at self.old.state i }
         ensures turns { E.turn_count result ≡ slice_index_or self.old.turns i 0 }
         ensures present { self.new ≡ record self.old {
-          state = record self.old.state { externals = take i self.old.state.externals ++ drop (i + 1) self.old.state.externals };
+          state = record self.old.state {
+            externals = take i self.old.state.externals
+                ++ drop (i + 1) self.old.state.externals;
+          };
           turns = take i self.old.turns ++ drop (i + 1) self.old.turns;
         } }
     {

@@ -5,7 +5,8 @@ ghost use Rattle.ht_grammar.specs.Reads.{Reads, ReadsScript};
 ghost use Rattle.ht_tree.specs.ScriptView.{script_of};
 ghost use Rattle.object_table.specs.Content.{Content};
 ghost use Rattle.stack_places.specs.Exchange.{exchanged};
-ghost use Rattle.journal_entries.specs.ScriptTrees.{AreTrees, HasRoomFor, IsCounted, IsTreeOf, KeepsFewer, changes_script_of, how_many, kept_of, object_script, trees_in};
+ghost use Rattle.journal_entries.specs.ScriptTrees.{AreTrees, HasRoomFor, IsCounted, IsTreeOf, KeepsFewer};
+ghost use Rattle.journal_entries.specs.ScriptTrees.{changes_script_of, how_many, kept_of, object_script, trees_in};
 ghost use Rattle.journal_entries.specs.declared.script_trees.TheConstants.{MOST_KEPT_BYTES};
 
 use ht_tree::Script;
@@ -15,8 +16,8 @@ use std::alloc::{AllocError, Global};
 use std::collections::BTreeMap;
 use std::rc::Rc;
 
-/// How many bytes the scripts may have together whose trees are kept. A tree takes 80 to 96 times the memory of its script,
-/// so the trees take some 100 MB at most.
+/// How many bytes the scripts may have together whose trees are kept. A tree takes 15 times the memory of an ordinary
+/// script and up to 112 times that of one whose names have one letter, so the trees take some 112 MB at most.
 pub(crate) const MOST_KEPT_BYTES: usize = 1_000_000;
 
 const _: () = prove!(MOST_KEPT_BYTES == 1_000_000);
@@ -62,7 +63,8 @@ impl ScriptTrees {
 
     /// The tree of an object's script, if it is kept.
     pub(crate) fn get(&self, id: Id) -> Option<&Rc<Script>>
-        ensures { (s : Content) → AreTrees s (trees_in self.now) → IfSome result (λ tree. Reads ReadsScript (object_script s id) (script_of tree.now.value)) }
+        ensures { (s : Content) → AreTrees s (trees_in self.now)
+            → IfSome result (λ tree. Reads ReadsScript (object_script s id) (script_of tree.now.value)) }
     {
         let readings = self.readings.get(&id)?;
         let kept = self.trees.get(&readings.last)?;
@@ -82,7 +84,9 @@ impl ScriptTrees {
     pub(crate) fn keep(&mut self, id: Id, tree: Rc<Script>, bytes: usize) -> Result<(), AllocError>
         requires counted { IsCounted self.old }
         requires few { bytes ≤ MOST_KEPT_BYTES }
-        ensures trees { (s : Content) → AreTrees s (trees_in self.old) → Reads ReadsScript (object_script s id) (script_of tree.value) → bytes ≡ length (object_script s id) → AreTrees s (trees_in self.new) }
+        ensures trees { (s : Content) → AreTrees s (trees_in self.old)
+            → Reads ReadsScript (object_script s id) (script_of tree.value) → bytes ≡ length (object_script s id)
+            → AreTrees s (trees_in self.new) }
         ensures counted { IsCounted self.new }
     {
         if self.get(id).is_some() {
@@ -98,7 +102,8 @@ impl ScriptTrees {
     /// Drops the tree of the script that an exchange may change. It takes no memory.
     pub(crate) fn forget(&mut self, entry: &StackEntry)
         requires counted { IsCounted self.old }
-        ensures trees { (s : Content) → AreTrees s (trees_in self.old) → AreTrees (exchanged s entry.now) (trees_in self.new) }
+        ensures trees { (s : Content) → AreTrees s (trees_in self.old)
+            → AreTrees (exchanged s entry.now) (trees_in self.new) }
         ensures counted { IsCounted self.new }
     {
         let Some(id) = changed_script(entry) else {
@@ -114,7 +119,8 @@ impl ScriptTrees {
         requires counted { IsCounted self.old }
         requires room { HasRoomFor kept.bytes self.old }
         requires next { next ≡ self.old.next_reading + 1 }
-        ensures trees { (s : Content) → AreTrees s (trees_in self.old) → IsTreeOf (object_script s id) (kept_of kept) → AreTrees s (trees_in self.new) }
+        ensures trees { (s : Content) → AreTrees s (trees_in self.old) → IsTreeOf (object_script s id) (kept_of kept)
+            → AreTrees s (trees_in self.new) }
         ensures counted { IsCounted self.new }
     {
         let reading = self.next_reading;

@@ -6,4 +6,5 @@ use Rattle.containers.proofs.variables.append_at.Goals as goal
 pub returns-clause-err : goal.returns-clause-err
 returns-clause-err c =
     let ls = c.args.locals.now.items in
-    on_err_weaker c.append.result (λ e. ap (λ l. set ls c.args.i l) (e ∙ c.index_mut-local.ensures.value) ∙ set-get_or ls c.args.i c.index_mut-local.result.now) c.append.ensures.err
+    on_err_weaker c.append.result (λ e. ap (λ l. set ls c.args.i l) (e ∙ c.index_mut-local.ensures.value)
+    ∙ set-get_or ls c.args.i c.index_mut-local.result.now) c.append.ensures.err

@@ -37,6 +37,8 @@ decreases-else_if l = 16 * l.depth + 7
 
 abbrev pub invariant-lines-loop-turn : goal.invariant-lines-loop-turn
 invariant-lines-loop-turn l = record {
-  same : blocks l.depth lines (context_of l.context) l.fn.tokens ≡ made (append (stmts_of l.found.items.items)) (lines_at (statement_of l.depth) (else_if_of l.depth) (l._turn-end - l._turn) (context_of l.context) l.tokens);
+  same : blocks l.depth lines (context_of l.context) l.fn.tokens
+      ≡ made (append (stmts_of l.found.items.items))
+      (lines_at (statement_of l.depth) (else_if_of l.depth) (l._turn-end - l._turn) (context_of l.context) l.tokens);
   fits : stmts_depth (stmts_of l.found.items.items) ≤ l.depth;
 }

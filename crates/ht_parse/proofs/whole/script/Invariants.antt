@@ -9,6 +9,7 @@ use Rattle.ht_parse.proofs.whole.script.Given as goal
 
 abbrev pub invariant-loop-turn : goal.invariant-loop-turn
 invariant-loop-turn l = record {
-  same : handlers_at (length l.fn.tokens + 1) (past_ends l.fn.tokens) ≡ made (append_handlers (script_of l.found)) (handlers_at (l.turns - l._turn) l.tokens);
+  same : handlers_at (length l.fn.tokens + 1) (past_ends l.fn.tokens)
+      ≡ made (append_handlers (script_of l.found)) (handlers_at (l.turns - l._turn) l.tokens);
   fits : handlers_depth (script_of l.found) ≤ max_depth;
 }

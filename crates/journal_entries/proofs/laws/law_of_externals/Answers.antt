@@ -12,10 +12,12 @@ loop-external-preserved g c =
     let xs = c.args.externals.now in
     let i = c.loop-external.external-index in
     let is = get_or-seen f xs i c.external-item.result c.loop-external-test.true c.external-item.is in
-    All-more IsExternal (map f xs) i none_seen (omega (arith, length-map xs f)) c.loop-external.invariant (subst IsExternal (sym is) c.law_of_external.ensures)
+    All-more IsExternal (map f xs) i none_seen (omega (arith, length-map xs f)) c.loop-external.invariant
+    (subst IsExternal (sym is) c.law_of_external.ensures)
 
 pub returns : goal.returns
 returns g c =
     let f = seen_by g.E.External.title g.E.External.sort g.E.External.answers_calls g.E.External.cells in
     let xs = c.args.externals.now in
-    subst (All IsExternal) (take_all c.loop-external.external-index (map f xs) (omega (arith, length-map xs f))) c.loop-external.invariant
+    subst (All IsExternal) (take_all c.loop-external.external-index (map f xs) (omega (arith, length-map xs f)))
+    c.loop-external.invariant

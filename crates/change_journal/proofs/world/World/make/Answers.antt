@@ -21,7 +21,8 @@ returns-clause-ok g c =
     let b = journal w.present w.oldest w.depth w.batches.items w.cursor in
     let sound = rw c.in-Some.is at c.self.invariant in
     rw (← c.self.view_is, c.in-Some.is)
-    (on_ok c.make.result (λ m. made-all b c.make.new.present c.in-Some.batch c.make.new.self c.args.change m sound.ready sound.opened.0) c.make.ensures.ok)
+    (on_ok c.make.result (λ m. made-all b c.make.new.present c.in-Some.batch c.make.new.self c.args.change m sound.ready
+    sound.opened.0) c.make.ensures.ok)
 
 pub returns-clause-err : goal.returns-clause-err
 returns-clause-err g c =
@@ -29,4 +30,5 @@ returns-clause-err g c =
     let b = journal w.present w.oldest w.depth w.batches.items w.cursor in
     let sound = rw c.in-Some.is at c.self.invariant in
     rw (← c.self.view_is, c.in-Some.is)
-    (on_error c.make.result (λ e. rw e.1 (history-grown b c.make.new.present c.in-Some.batch e.0 sound.ready sound.opened.0)) c.make.ensures.err)
+    (on_error c.make.result (λ e. rw e.1
+    (history-grown b c.make.new.present c.in-Some.batch e.0 sound.ready sound.opened.0)) c.make.ensures.err)

@@ -1,4 +1,5 @@
-use Rattle.std.proofs.Common.{◌≡◌, ℕ, List, [], ◌++◌, Some, None, Option, Ok, Err, Result, refl, ap, sym, ◌∙◌, get_or, unwrap_or, position, rules}
+use Rattle.std.proofs.Common.{◌≡◌, ℕ, List, [], ◌++◌, Some, None, Option, Ok, Err, Result, refl, ap, sym, ◌∙◌, get_or}
+use Rattle.std.proofs.Common.{unwrap_or, position, rules}
 use Rattle.std.proofs.lemmas.Result.{on_ok_weaker, IfErr-weaker}
 use Rattle.ht_values.specs.Outcome.{Gives, and_then, within_limit}
 use Rattle.ht_values.specs.Text.{same}
@@ -17,30 +18,42 @@ nobody = record { name = []; value = None }
 abbrev written : Result (List ℕ) Fault → Result (Option (List ℕ)) Fault
 written r = and_then r (λ u. Ok (Some u))
 
-fault_is_written : (e : Failure) (r : Result (List ℕ) Fault) → Gives {A = List ℕ} (Err e) r → Gives {A = Option (List ℕ)} (Err e) (written r)
+fault_is_written : (e : Failure) (r : Result (List ℕ) Fault) → Gives {A = List ℕ} (Err e) r
+    → Gives {A = Option (List ℕ)} (Err e) (written r)
 fault_is_written (failure.Fault f) r h = rw h refl
 fault_is_written failure.Memory r h = h
 
 pub returns-in-Some-clause-ok : goal.returns-in-Some-clause-ok
 returns-in-Some-clause-ok c =
     let ls = c.self.inside.locals.items in
-    let found = sym (ap (λ xs. position (λ l. same l.name c.args.name.now) xs) c.deref.ensures.value) ∙ sym c.number_of.ensures.value ∙ c.in-Some.is in
+    let found = sym (ap (λ xs. position (λ l. same l.name c.args.name.now) xs) c.deref.ensures.value)
+    ∙ sym c.number_of.ensures.value ∙ c.in-Some.is in
     let text : own_text c.args.self.now c.args.name.now ≡ unwrap_or (get_or ls c.in-Some.i nobody).value [] =
-    ap (λ v. own_text v c.args.name.now) (sym c.self.view_is) ∙ text_found c.self.inside.all_global c.args.name.now ls c.in-Some.i nobody found in
-    on_ok_weaker c.append_at.result (λ e h d. let p = e nobody in Writes.to_own refl (ap (λ t. written (within_limit (t ++ c.args.new))) text ∙ ap written p.1) (ap (λ xs. record { all_global = c.self.inside.all_global; locals = xs }) (p.2 ∙ sym (value_set _ _ _ _ nobody found)) ∙ ap (λ v. with_local v c.args.name.now (Some p.0)) c.self.view_is)) c.append_at.ensures.ok
+    ap (λ v. own_text v c.args.name.now) (sym c.self.view_is)
+    ∙ text_found c.self.inside.all_global c.args.name.now ls c.in-Some.i nobody found in
+    on_ok_weaker c.append_at.result
+    (λ e h d. let p = e nobody in Writes.to_own refl
+    (ap (λ t. written (within_limit (t ++ c.args.new))) text ∙ ap written p.1)
+    (ap (λ xs. record { all_global = c.self.inside.all_global; locals = xs })
+    (p.2 ∙ sym (value_set _ _ _ _ nobody found))
+    ∙ ap (λ v. with_local v c.args.name.now (Some p.0)) c.self.view_is)) c.append_at.ensures.ok
 
 pub returns-in-Some-clause-fault : goal.returns-in-Some-clause-fault
 returns-in-Some-clause-fault c d =
     let ls = c.self.inside.locals.items in
-    let found = sym (ap (λ xs. position (λ l. same l.name c.args.name.now) xs) c.deref.ensures.value) ∙ sym c.number_of.ensures.value ∙ c.in-Some.is in
+    let found = sym (ap (λ xs. position (λ l. same l.name c.args.name.now) xs) c.deref.ensures.value)
+    ∙ sym c.number_of.ensures.value ∙ c.in-Some.is in
     let text : own_text c.args.self.now c.args.name.now ≡ unwrap_or (get_or ls c.in-Some.i nobody).value [] =
-    ap (λ v. own_text v c.args.name.now) (sym c.self.view_is) ∙ text_found c.self.inside.all_global c.args.name.now ls c.in-Some.i nobody found in
+    ap (λ v. own_text v c.args.name.now) (sym c.self.view_is)
+    ∙ text_found c.self.inside.all_global c.args.name.now ls c.in-Some.i nobody found in
     rw text (IfErr-weaker c.append_at.result _ _ (λ e h. fault_is_written e _ h) (c.append_at.ensures.fault nobody))
 
 pub returns-in_ok-set-in-None-clause-ok : goal.returns-in_ok-set-in-None-clause-ok
 returns-in_ok-set-in-None-clause-ok c h d =
     let ls = c.self.inside.locals.items in
-    let missing = sym (ap (λ xs. position (λ l. same l.name c.args.name.now) xs) c.deref.ensures.value) ∙ sym c.number_of.ensures.value ∙ c.in-None.is in
-    let text : own_text c.args.self.now c.args.name.now ≡ [] = ap (λ v. own_text v c.args.name.now) (sym c.self.view_is) ∙ text_missing c.self.inside.all_global c.args.name.now ls missing in
+    let missing = sym (ap (λ xs. position (λ l. same l.name c.args.name.now) xs) c.deref.ensures.value)
+    ∙ sym c.number_of.ensures.value ∙ c.in-None.is in
+    let text : own_text c.args.self.now c.args.name.now ≡ [] = ap (λ v. own_text v c.args.name.now) (sym c.self.view_is)
+    ∙ text_missing c.self.inside.all_global c.args.name.now ls missing in
     let fits : within_limit c.args.new ≡ Ok c.args.new = search rules in
     Writes.to_own refl (ap (λ t. written (within_limit (t ++ c.args.new))) text ∙ ap written fits) (search rules)

@@ -14,12 +14,17 @@ pub returns-in-Some-clause-number : goal.returns-in-Some-clause-number
 returns-in-Some-clause-number c =
     let ls = c.self.inside.locals.items in
     let name = c.args.name.now in
-    let found = sym (ap (λ xs. position (λ l. same l.name name) xs) c.deref.ensures.value) ∙ sym c.number_of.ensures.value ∙ c.in-Some.is in
-    let global = ap (λ v. is_global v name) (sym c.self.view_is) ∙ global_found c.self.inside.all_global name ls c.in-Some.i nobody found in
+    let found = sym (ap (λ xs. position (λ l. same l.name name) xs) c.deref.ensures.value)
+    ∙ sym c.number_of.ensures.value ∙ c.in-Some.is in
+    let global = ap (λ v. is_global v name) (sym c.self.view_is)
+    ∙ global_found c.self.inside.all_global name ls c.in-Some.i nobody found in
     let text : own_text c.args.self.now name ≡ unwrap_or (get_or ls c.in-Some.i nobody).value [] =
-    ap (λ v. own_text v name) (sym c.self.view_is) ∙ text_found c.self.inside.all_global name ls c.in-Some.i nobody found in
+    ap (λ v. own_text v name) (sym c.self.view_is)
+    ∙ text_found c.self.inside.all_global name ls c.in-Some.i nobody found in
     IfSome_then c.compute_at.result c.compute_at.ensures.number (λ n h. let p = h nobody in (
       global ∙ (λ k. c.if-self.false k || p.0 k),
       ap (λ t. binary c.args.op t c.args.operand.now) text ∙ p.1,
-      ap (λ xs. record { all_global = c.self.inside.all_global; locals = xs }) (p.2 ∙ sym (value_set name (Some (numeral n)) ls c.in-Some.i nobody found)) ∙ ap (λ v. with_local v name (Some (numeral n))) c.self.view_is,
+      ap (λ xs. record { all_global = c.self.inside.all_global; locals = xs })
+          (p.2 ∙ sym (value_set name (Some (numeral n)) ls c.in-Some.i nobody found))
+          ∙ ap (λ v. with_local v name (Some (numeral n))) c.self.view_is,
     ))

@@ -6,7 +6,10 @@ pub returns-clause-count : goal.returns-clause-count
 returns-clause-count c =
     let s = c.self.inside in
     let ns = map (λ k. k.items) s.names.keys in
-    rw (← c.self.view_is) (c.self.invariant.2 ∙ count_by-entries ns s.values.items c.self.invariant.0 ∙ sym (ap length (listed-entries ns s.values.items c.self.invariant.1 c.self.invariant.0)))
+    rw (← c.self.view_is) (c.self.invariant.2 ∙ count_by-entries ns s.values.items c.self.invariant.0
+    ∙ sym (ap length (listed-entries ns s.values.items c.self.invariant.1 c.self.invariant.0)))
 
 pub returns-clause-each : goal.returns-clause-each
-returns-clause-each c = rw (← c.self.view_is) (Lists-listed (map (λ k. k.items) c.self.inside.names.keys) c.self.inside.values.items c.self.invariant.1 c.self.invariant.0)
+returns-clause-each c = rw (← c.self.view_is)
+    (Lists-listed (map (λ k. k.items) c.self.inside.names.keys) c.self.inside.values.items c.self.invariant.1
+    c.self.invariant.0)

@@ -24,4 +24,5 @@ returns-in-None c =
     let ns = map (λ k. k.items) s.names.keys in
     let names : ns ≡ c.args.self.now.names = ap (λ n. n.names) c.self.view_is in
     let absent : (i : ℕ) → i < length ns → get_or ns i [] ≢ c.args.name.now = rw names c.in-None.ensures.absent in
-    sym (ap (λ n. finite.get n.texts c.args.name.now) (sym c.self.view_is) ∙ get-new c.args.name.now ns s.values.items (IsNew-absent c.args.name.now ns absent))
+    sym (ap (λ n. finite.get n.texts c.args.name.now) (sym c.self.view_is)
+    ∙ get-new c.args.name.now ns s.values.items (IsNew-absent c.args.name.now ns absent))

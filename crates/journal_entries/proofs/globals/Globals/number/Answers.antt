@@ -15,9 +15,12 @@ pub invariant_of-self-2 : goal.invariant_of-self-2
 invariant_of-self-2 c =
     let s = c.self.inside in
     let ns = map (λ k. k.items) s.names.keys in
-    let absent : (k : ℕ) → k < length ns → get_or ns k [] ≢ c.args.name.now = rw (ap (λ n. n.names) c.self.view_is) c.in-None.ensures.absent in
-    let n = name-pushed (λ k. k.items) s.names.keys _ c.in_ok-bytes.bytes c.args.name.now absent (c.in_ok-bytes.ensures.items ∙ c.as_slice.ensures.value) c.in_ok-insert_full.ensures.keys in
-    let v : c.push_reserved.new.self.items ≡ s.values.items ++ None ∷ [] = c.push_reserved.ensures.items ∙ ap (λ xs. xs ++ None ∷ []) c.reserve.ensures.items in (
+    let absent : (k : ℕ) → k < length ns → get_or ns k [] ≢ c.args.name.now =
+    rw (ap (λ n. n.names) c.self.view_is) c.in-None.ensures.absent in
+    let n = name-pushed (λ k. k.items) s.names.keys _ c.in_ok-bytes.bytes c.args.name.now absent
+    (c.in_ok-bytes.ensures.items ∙ c.as_slice.ensures.value) c.in_ok-insert_full.ensures.keys in
+    let v : c.push_reserved.new.self.items ≡ s.values.items ++ None ∷ [] =
+    c.push_reserved.ensures.items ∙ ap (λ xs. xs ++ None ∷ []) c.reserve.ensures.items in (
       rw (n, v, length-append, length-append) (omega (arith, c.self.invariant.0)),
       rw n (AreDistinct-push ns c.args.name.now c.self.invariant.1 absent),
       rw (v, count_by-none) c.self.invariant.2,
@@ -27,8 +30,10 @@ pub returns-clause-number : goal.returns-clause-number
 returns-clause-number c =
     let s = c.self.inside in
     let ns = map (λ k. k.items) s.names.keys in
-    let absent : (k : ℕ) → k < length ns → get_or ns k [] ≢ c.args.name.now = rw (ap (λ n. n.names) c.self.view_is) c.in-None.ensures.absent in
-    let n = name-pushed (λ k. k.items) s.names.keys _ c.in_ok-bytes.bytes c.args.name.now absent (c.in_ok-bytes.ensures.items ∙ c.as_slice.ensures.value) c.in_ok-insert_full.ensures.keys in
+    let absent : (k : ℕ) → k < length ns → get_or ns k [] ≢ c.args.name.now =
+    rw (ap (λ n. n.names) c.self.view_is) c.in-None.ensures.absent in
+    let n = name-pushed (λ k. k.items) s.names.keys _ c.in_ok-bytes.bytes c.args.name.now absent
+    (c.in_ok-bytes.ensures.items ∙ c.as_slice.ensures.value) c.in_ok-insert_full.ensures.keys in
     let i : c.len-i.result ≡ length ns = omega (arith, c.len-i.ensures, s.values.ok.0, c.self.invariant.0) in
     rw (n, i) (omega (arith, length-append ns (c.args.name.now ∷ [])), at_end ns c.args.name.now)
 
@@ -36,26 +41,35 @@ pub returns-clause-same : goal.returns-clause-same
 returns-clause-same c =
     let s = c.self.inside in
     let ns = map (λ k. k.items) s.names.keys in
-    let absent : (k : ℕ) → k < length ns → get_or ns k [] ≢ c.args.name.now = rw (ap (λ n. n.names) c.self.view_is) c.in-None.ensures.absent in
-    let n = name-pushed (λ k. k.items) s.names.keys _ c.in_ok-bytes.bytes c.args.name.now absent (c.in_ok-bytes.ensures.items ∙ c.as_slice.ensures.value) c.in_ok-insert_full.ensures.keys in
-    let v : c.push_reserved.new.self.items ≡ s.values.items ++ None ∷ [] = c.push_reserved.ensures.items ∙ ap (λ xs. xs ++ None ∷ []) c.reserve.ensures.items in
+    let absent : (k : ℕ) → k < length ns → get_or ns k [] ≢ c.args.name.now =
+    rw (ap (λ n. n.names) c.self.view_is) c.in-None.ensures.absent in
+    let n = name-pushed (λ k. k.items) s.names.keys _ c.in_ok-bytes.bytes c.args.name.now absent
+    (c.in_ok-bytes.ensures.items ∙ c.as_slice.ensures.value) c.in_ok-insert_full.ensures.keys in
+    let v : c.push_reserved.new.self.items ≡ s.values.items ++ None ∷ [] =
+    c.push_reserved.ensures.items ∙ ap (λ xs. xs ++ None ∷ []) c.reserve.ensures.items in
     rw (n, v, entries_of-none ns s.values.items c.args.name.now c.self.invariant.0) (ap (λ x. x.texts) c.self.view_is)
 
 pub returns-clause-wider : goal.returns-clause-wider
 returns-clause-wider c =
     let s = c.self.inside in
     let ns = map (λ k. k.items) s.names.keys in
-    let absent : (k : ℕ) → k < length ns → get_or ns k [] ≢ c.args.name.now = rw (ap (λ n. n.names) c.self.view_is) c.in-None.ensures.absent in
-    let n = name-pushed (λ k. k.items) s.names.keys _ c.in_ok-bytes.bytes c.args.name.now absent (c.in_ok-bytes.ensures.items ∙ c.as_slice.ensures.value) c.in_ok-insert_full.ensures.keys in
+    let absent : (k : ℕ) → k < length ns → get_or ns k [] ≢ c.args.name.now =
+    rw (ap (λ n. n.names) c.self.view_is) c.in-None.ensures.absent in
+    let n = name-pushed (λ k. k.items) s.names.keys _ c.in_ok-bytes.bytes c.args.name.now absent
+    (c.in_ok-bytes.ensures.items ∙ c.as_slice.ensures.value) c.in_ok-insert_full.ensures.keys in
     (c.args.name.now ∷ [], rw (← c.self.view_is) n)
 
 pub returns-clause-only : goal.returns-clause-only
 returns-clause-only c =
     let s = c.self.inside in
     let ns = map (λ k. k.items) s.names.keys in
-    let absent : (k : ℕ) → k < length ns → get_or ns k [] ≢ c.args.name.now = rw (ap (λ n. n.names) c.self.view_is) c.in-None.ensures.absent in
-    let n = name-pushed (λ k. k.items) s.names.keys _ c.in_ok-bytes.bytes c.args.name.now absent (c.in_ok-bytes.ensures.items ∙ c.as_slice.ensures.value) c.in_ok-insert_full.ensures.keys in
+    let absent : (k : ℕ) → k < length ns → get_or ns k [] ≢ c.args.name.now =
+    rw (ap (λ n. n.names) c.self.view_is) c.in-None.ensures.absent in
+    let n = name-pushed (λ k. k.items) s.names.keys _ c.in_ok-bytes.bytes c.args.name.now absent
+    (c.in_ok-bytes.ensures.items ∙ c.as_slice.ensures.value) c.in_ok-insert_full.ensures.keys in
     let i : c.len-i.result ≡ length ns = omega (arith, c.len-i.ensures, s.values.ok.0, c.self.invariant.0) in
-    let distinct : AreDistinct (ns ++ c.args.name.now ∷ []) = AreDistinct-push ns c.args.name.now c.self.invariant.1 absent in
-    let last : c.len-i.result < length (ns ++ c.args.name.now ∷ []) = omega (arith, length-append ns (c.args.name.now ∷ [])) in
+    let distinct : AreDistinct (ns ++ c.args.name.now ∷ []) =
+    AreDistinct-push ns c.args.name.now c.self.invariant.1 absent in
+    let last : c.len-i.result < length (ns ++ c.args.name.now ∷ []) =
+    omega (arith, length-append ns (c.args.name.now ∷ [])) in
     rw n (λ j h e. same_number (ns ++ c.args.name.now ∷ []) c.len-i.result j distinct last h e)

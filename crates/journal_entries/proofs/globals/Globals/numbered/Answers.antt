@@ -11,9 +11,13 @@ returns-in-Some c =
     let vs = s.values.items in
     let i = c.args.i in
     let within : i < length ns = omega (arith, ap (λ n. length n.names) c.self.view_is, c.requires) in
-    let value = get-named ns vs i c.self.invariant.1 within c.self.invariant.0 ∙ sym (get_or_read vs i _ (omega (arith, within, c.self.invariant.0)) c.index.ensures None) ∙ c.in-Some.is in
-    let name = get_or_from_slice_get ns i _ [] (slice_get-map (λ k. k.items) s.names.keys i ∙ ap (option_map (λ k. k.items)) c.index-in-Some.ensures) ∙ sym c.as_slice.ensures.value in
-    rw (← c.self.view_is) (sym (ap (option_map (λ v. (get_or ns i [], v))) value ∙ (λ x. Some (name x, c.in-Some.value))))
+    let value = get-named ns vs i c.self.invariant.1 within c.self.invariant.0
+    ∙ sym (get_or_read vs i _ (omega (arith, within, c.self.invariant.0)) c.index.ensures None) ∙ c.in-Some.is in
+    let name = get_or_from_slice_get ns i _ []
+    (slice_get-map (λ k. k.items) s.names.keys i ∙ ap (option_map (λ k. k.items)) c.index-in-Some.ensures)
+    ∙ sym c.as_slice.ensures.value in
+    rw (← c.self.view_is)
+    (sym (ap (option_map (λ v. (get_or ns i [], v))) value ∙ (λ x. Some (name x, c.in-Some.value))))
 
 pub returns-in-None : goal.returns-in-None
 returns-in-None c =
@@ -22,5 +26,6 @@ returns-in-None c =
     let vs = s.values.items in
     let i = c.args.i in
     let within : i < length ns = omega (arith, ap (λ n. length n.names) c.self.view_is, c.requires) in
-    let value = get-named ns vs i c.self.invariant.1 within c.self.invariant.0 ∙ sym (get_or_read vs i _ (omega (arith, within, c.self.invariant.0)) c.index.ensures None) ∙ c.in-None.is in
+    let value = get-named ns vs i c.self.invariant.1 within c.self.invariant.0
+    ∙ sym (get_or_read vs i _ (omega (arith, within, c.self.invariant.0)) c.index.ensures None) ∙ c.in-None.is in
     rw (← c.self.view_is) (sym (ap (option_map (λ v. (get_or ns i [], v))) value))

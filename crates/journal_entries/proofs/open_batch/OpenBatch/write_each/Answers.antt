@@ -13,7 +13,8 @@ loop-entry-preserved g c =
     let es = c.loop-entry.self-inside.entries.items in
     let e = c.in-Some.entry in
     let h = c.write_reserved.ensures in
-    let steps : into_iter_items c.loop-entry.entry-iterator ≡ e ∷ into_iter_items c.next.new.self = c.in-Some.ensures.steps.0 in
+    let steps : into_iter_items c.loop-entry.entry-iterator ≡ e ∷ into_iter_items c.next.new.self =
+    c.in-Some.ensures.steps.0 in
     let gone = c.in-Some.ensures.steps.1 in
     let short = ap length steps in
     let was = v.count in
@@ -44,7 +45,9 @@ loop-entry-init g c =
       ready = search rules;
       state = search rules;
       entries = search rules;
-      indexed = rw c.reserve.ensures.items (indexed-same w.entries.items w.places c.reserve-2.new.self c.reserve-2.ensures.has c.reserve-2.ensures.greatest c.self.invariant);
+      indexed = rw c.reserve.ensures.items
+          (indexed-same w.entries.items w.places c.reserve-2.new.self c.reserve-2.ensures.has
+          c.reserve-2.ensures.greatest c.self.invariant);
       free = search rules;
       place = search rules;
     }

@@ -14,9 +14,14 @@ invariant-loop-entry g l = record {
   turns : l.present.turns ≡ l.initial.present.turns;
   room : l.present.room ≡ l.initial.present.room;
   ready : AreReady (shape_of l.present) (into_iter_items l.entry-iterator);
-  state : forth l.present.names l.present.state (into_iter_items l.entry-iterator) ≡ forth l.initial.present.names l.initial.present.state (into_iter_items l.initial.entry-iterator);
-  entries : kept_in_turn l.present.names l.present.state l.self-inside.entries.items (into_iter_items l.entry-iterator) ≡ kept_in_turn l.initial.present.names l.initial.present.state l.initial.self-inside.entries.items (into_iter_items l.initial.entry-iterator);
+  state : forth l.present.names l.present.state (into_iter_items l.entry-iterator)
+      ≡ forth l.initial.present.names l.initial.present.state (into_iter_items l.initial.entry-iterator);
+  entries : kept_in_turn l.present.names l.present.state l.self-inside.entries.items (into_iter_items l.entry-iterator)
+      ≡ kept_in_turn l.initial.present.names l.initial.present.state l.initial.self-inside.entries.items
+      (into_iter_items l.initial.entry-iterator);
   indexed : IsIndexed l.self-inside.entries.items l.self-inside.places;
-  free : vec_len l.self-inside.places.waiting + length (into_iter_items l.entry-iterator) ≤ vec_capacity l.self-inside.places.waiting;
-  place : vec_len l.self-inside.entries + length (into_iter_items l.entry-iterator) ≤ vec_capacity l.self-inside.entries;
+  free : vec_len l.self-inside.places.waiting + length (into_iter_items l.entry-iterator)
+      ≤ vec_capacity l.self-inside.places.waiting;
+  place : vec_len l.self-inside.entries + length (into_iter_items l.entry-iterator)
+      ≤ vec_capacity l.self-inside.entries;
 }

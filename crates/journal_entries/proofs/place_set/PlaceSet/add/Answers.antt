@@ -12,6 +12,10 @@ returns-clause-bounded c q there =
     let key = c.args.key in
     let more = has_more (contains key_cmp old.sorted q) old.waiting.items key q in
     elim c.if-not-may_have.branch [
-      | then-not-may_have w ↦ rw w.self-is (within_new old.greatest key q (has_place old q) (sym c.may_have.ensures ∙ w.if-not-may_have.true) (c.requires.bounded q) (sym more ∙ rw (c.push_reserved.ensures.items, w.self-is) at there))
-      | else-not-may_have w ↦ rw w.self-is (within_still old.greatest key q (has_place old q) (sym c.may_have.ensures ∙ w.if-not-may_have.false) (c.requires.bounded q) (sym more ∙ rw (c.push_reserved.ensures.items, w.self-is) at there))
+      | then-not-may_have w ↦ rw w.self-is
+          (within_new old.greatest key q (has_place old q) (sym c.may_have.ensures ∙ w.if-not-may_have.true)
+          (c.requires.bounded q) (sym more ∙ rw (c.push_reserved.ensures.items, w.self-is) at there))
+      | else-not-may_have w ↦ rw w.self-is
+          (within_still old.greatest key q (has_place old q) (sym c.may_have.ensures ∙ w.if-not-may_have.false)
+          (c.requires.bounded q) (sym more ∙ rw (c.push_reserved.ensures.items, w.self-is) at there))
     ]

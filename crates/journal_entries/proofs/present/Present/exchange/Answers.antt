@@ -15,7 +15,9 @@ flip-requires g c =
     let i = c.in-External.i in
     let ready = rw (c.in-External.is, ← c.self-in-External.view_is) at c.requires in
     let there : i < length xs = omega (arith, ready.0, length-counts (map f xs), length-map xs f) in
-    let cells : get_or (counts_of (map f xs)) i 0 ≡ length (g.E.External.cells c.index_mut.result.now) = get_or-counts (map f xs) i ∙ ap (λ e. length e.cells) (get_or-seen f xs i c.index_mut.result.now there c.index_mut.ensures.value) in
+    let cells : get_or (counts_of (map f xs)) i 0
+    ≡ length (g.E.External.cells c.index_mut.result.now) = get_or-counts (map f xs) i
+    ∙ ap (λ e. length e.cells) (get_or-seen f xs i c.index_mut.result.now there c.index_mut.ensures.value) in
     subst (λ n. IsProper n c.in-External.patch) cells ready.1
 
 pub returns-in-External-clause-state : goal.returns-in-External-clause-state
@@ -29,8 +31,10 @@ returns-in-External-clause-state g c =
     let ready = rw (c.in-External.is, ← c.self-in-External.view_is) at c.requires in
     let there : i < length xs = omega (arith, ready.0, length-counts (map f xs), length-map xs f) in
     let h = c.flip.ensures in
-    let new : f c.flip.new.self ≡ with_cells (f r) (flipped (f r).cells p) = λ k. record { title = h.title k; sort = h.sort k; answers_calls = h.flag k; cells = h.cells k } in
+    let new : f c.flip.new.self ≡ with_cells (f r) (flipped (f r).cells p) =
+    λ k. record { title = h.title k; sort = h.sort k; answers_calls = h.flag k; cells = h.cells k } in
     let all = map_seen-set f xs i r c.flip.new.self (flipped (f r).cells p) there c.index_mut.ensures.value new in
     let one = get_or-seen f xs i r there c.index_mut.ensures.value in
-    let turns = map-set_same g.E.External.turn_count xs i c.flip.new.self r (h.turns ∙ ap g.E.External.turn_count c.index_mut.ensures.value) in
+    let turns = map-set_same g.E.External.turn_count xs i c.flip.new.self r
+    (h.turns ∙ ap g.E.External.turn_count c.index_mut.ensures.value) in
     rw (c.in-External.is, ← c.self-in-External.view_is, all, turns, one) refl

@@ -9,8 +9,10 @@ invariant-loop-i g l = record {
   room : l.self.room ≡ l.initial.self.room;
   within : l.i ≤ length l.entries;
   ready : AreReady (shape_of l.self) (take l.i l.entries);
-  state : back l.self.names l.self.state (take l.i l.entries) ≡ back l.initial.self.names l.initial.self.state l.initial.entries;
-  entries : back_taken l.self.names l.self.state (take l.i l.entries) ++ drop l.i l.entries ≡ back_taken l.initial.self.names l.initial.self.state l.initial.entries;
+  state : back l.self.names l.self.state (take l.i l.entries)
+      ≡ back l.initial.self.names l.initial.self.state l.initial.entries;
+  entries : back_taken l.self.names l.self.state (take l.i l.entries) ++ drop l.i l.entries
+      ≡ back_taken l.initial.self.names l.initial.self.state l.initial.entries;
 }
 
 abbrev pub decreases-loop-i : goal.decreases-loop-i

@@ -8,6 +8,8 @@ invariant-loop-i g l = record {
   turns : l.self.turns ≡ l.initial.self.turns;
   room : l.self.room ≡ l.initial.self.room;
   ready : AreReady (shape_of l.self) (drop l.i l.entries);
-  state : forth l.self.names l.self.state (drop l.i l.entries) ≡ forth l.initial.self.names l.initial.self.state l.initial.entries;
-  entries : take l.i l.entries ++ forth_taken l.self.names l.self.state (drop l.i l.entries) ≡ forth_taken l.initial.self.names l.initial.self.state l.initial.entries;
+  state : forth l.self.names l.self.state (drop l.i l.entries)
+      ≡ forth l.initial.self.names l.initial.self.state l.initial.entries;
+  entries : take l.i l.entries ++ forth_taken l.self.names l.self.state (drop l.i l.entries)
+      ≡ forth_taken l.initial.self.names l.initial.self.state l.initial.entries;
 }

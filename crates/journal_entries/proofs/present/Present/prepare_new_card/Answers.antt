@@ -13,5 +13,9 @@ returns-clause-entries g c =
     let made = c.in_ok-made.made.items in
     let same = c.prepare_new_card.ensures.opens.content in
     let next = c.next_id-next.ensures ∙ ap (λ s. s.next) (sym same) in
-    let adds = subst (λ s. Adds old new [] made (writes_of_new_card s c.self.inside.current)) (sym same) c.in_ok-made.ensures.entries in
-    IfOk-weaker c.entries_with_current.result _ _ (λ entries is. let all : entries.items ≡ map (λ e. Stack e) made ++ Current new.content.next ∷ [] = is ∙ ap (λ n. map (λ e. Stack e) made ++ Current n ∷ []) next in rw all (prepares_new_card _ old new made refl adds)) c.entries_with_current.ensures
+    let adds = subst (λ s. Adds old new [] made (writes_of_new_card s c.self.inside.current)) (sym same)
+    c.in_ok-made.ensures.entries in
+    IfOk-weaker c.entries_with_current.result _ _
+    (λ entries is. let all : entries.items ≡ map (λ e. Stack e) made ++ Current new.content.next ∷ [] = is
+    ∙ ap (λ n. map (λ e. Stack e) made ++ Current n ∷ []) next in rw all
+    (prepares_new_card _ old new made refl adds)) c.entries_with_current.ensures

@@ -14,23 +14,34 @@ returns-clause-turn g c =
     let y = c.turn.new.self in
     let x = c.index_mut.result.now in
     let h = c.turn.ensures in
-    let there : c.args.i < length xs = omega (arith, c.requires, ap (λ w. length w.state.externals) c.self.view_is, length-map xs f) in
-    let same : f y ≡ with_cells (f x) (f y).cells = λ k. record { title = h.title k; sort = h.sort k; answers_calls = h.flag k; cells = (f y).cells } in
-    rw (← c.self.view_is) (IfOk-weaker c.turn.result _ _ (λ r a. turned f xs c.args.i x y _ c.args.input.now r.0 there c.index_mut.ensures.value refl same a) h.answers)
+    let there : c.args.i < length xs =
+    omega (arith, c.requires, ap (λ w. length w.state.externals) c.self.view_is, length-map xs f) in
+    let same : f y ≡ with_cells (f x) (f y).cells =
+    λ k. record { title = h.title k; sort = h.sort k; answers_calls = h.flag k; cells = (f y).cells } in
+    rw (← c.self.view_is) (IfOk-weaker c.turn.result _ _
+    (λ r a. turned f xs c.args.i x y _ c.args.input.now r.0 there c.index_mut.ensures.value refl same a) h.answers)
 
 pub returns-clause-patch : goal.returns-clause-patch
 returns-clause-patch g c =
     let f = seen_by g.E.External.title g.E.External.sort g.E.External.answers_calls g.E.External.cells in
     let xs = c.self.inside.externals.items in
-    let there : c.args.i < length xs = omega (arith, c.requires, ap (λ w. length w.state.externals) c.self.view_is, length-map xs f) in
-    rw (← c.self.view_is) (IfOk-weaker c.turn.result _ _ (λ r a. patched f xs c.args.i c.index_mut.result.now c.turn.new.self r.1 there c.index_mut.ensures.value a) c.turn.ensures.patch)
+    let there : c.args.i < length xs =
+    omega (arith, c.requires, ap (λ w. length w.state.externals) c.self.view_is, length-map xs f) in
+    rw (← c.self.view_is) (IfOk-weaker c.turn.result _ _
+    (λ r a. patched f xs c.args.i c.index_mut.result.now c.turn.new.self r.1 there c.index_mut.ensures.value a)
+    c.turn.ensures.patch)
 
 pub returns-clause-present : goal.returns-clause-present
 returns-clause-present g c =
     let f = seen_by g.E.External.title g.E.External.sort g.E.External.answers_calls g.E.External.cells in
     let xs = c.self.inside.externals.items in
-    let there : c.args.i < length xs = omega (arith, c.requires, ap (λ w. length w.state.externals) c.self.view_is, length-map xs f) in
-    rw (← c.self.view_is, turns_more g.E.External.turn_count xs c.args.i c.index_mut.result.now c.turn.new.self one_more_turn there c.index_mut.ensures.value c.turn.ensures.turns) refl
+    let there : c.args.i < length xs =
+    omega (arith, c.requires, ap (λ w. length w.state.externals) c.self.view_is, length-map xs f) in
+    rw (
+      ← c.self.view_is,
+      turns_more g.E.External.turn_count xs c.args.i c.index_mut.result.now c.turn.new.self
+          one_more_turn there c.index_mut.ensures.value c.turn.ensures.turns,
+    ) refl
 
 pub returns-clause-err : goal.returns-clause-err
 returns-clause-err g c =
@@ -39,6 +50,9 @@ returns-clause-err g c =
     let y = c.turn.new.self in
     let x = c.index_mut.result.now in
     let h = c.turn.ensures in
-    let there : c.args.i < length xs = omega (arith, c.requires, ap (λ w. length w.state.externals) c.self.view_is, length-map xs f) in
-    rw (← c.self.view_is) (on_err_weaker c.turn.result (λ e. let same : f y ≡ f x = λ k. record { title = h.title k; sort = h.sort k; answers_calls = h.flag k; cells = e k } in
+    let there : c.args.i < length xs =
+    omega (arith, c.requires, ap (λ w. length w.state.externals) c.self.view_is, length-map xs f) in
+    rw (← c.self.view_is) (on_err_weaker c.turn.result
+    (λ e. let same : f y ≡ f x = λ k.
+    record { title = h.title k; sort = h.sort k; answers_calls = h.flag k; cells = e k } in
     rw (unturned f xs c.args.i x y there c.index_mut.ensures.value same) refl) h.err)

@@ -10,4 +10,5 @@ returns c s are =
     let id = c.args.id in
     let read = ap (option_map (λ r. r.last)) (sym c.in_ok-readings.ensures.value) in
     let found = ap (option_map kept_of) (sym c.in_ok-kept.ensures.value) in
-    (found_tree (λ k. IsTreeOf (object_script s id) k) (tree_read trees) (last_reading trees id) c.in_ok-readings.readings.now.last (kept_of c.in_ok-kept.kept.now) read found (are id)).reads
+    (found_tree (λ k. IsTreeOf (object_script s id) k) (tree_read trees) (last_reading trees id)
+    c.in_ok-readings.readings.now.last (kept_of c.in_ok-kept.kept.now) read found (are id)).reads
