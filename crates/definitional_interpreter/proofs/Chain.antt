@@ -13,8 +13,10 @@ use Rattle.meaning.specs.declared.end.Stop.TheVariants.{Fault as Faults, Exited,
 use Rattle.meaning.specs.declared.frame.Frame.{Frame}
 use Rattle.meaning.specs.Repeats.{Outcome}
 use Rattle.meaning.specs.State.{RunState}
-use Rattle.definitional_interpreter.specs.Told.{Present, Told, told, Ran, ran, after, after_in, after_run, after_lines, after_next}
-use Rattle.definitional_interpreter.specs.Told.{choose, maybe, computed, there, ended, ended_lines, ended_message, referred}
+use Rattle.definitional_interpreter.specs.Told.{Present, Told, told, Ran, ran, after, after_in, after_run, after_lines}
+use Rattle.definitional_interpreter.specs.Told.{after_next}
+use Rattle.definitional_interpreter.specs.Told.{choose, maybe, computed, there, ended, ended_lines, ended_message}
+use Rattle.definitional_interpreter.specs.Told.{referred}
 use Rattle.definitional_interpreter.specs.Told.{referred_by, gave}
 use Rattle.definitional_interpreter.specs.Families.{Meanings}
 use Rattle.definitional_interpreter.specs.Meanings.{meanings, one_more}

@@ -36,7 +36,8 @@ use Rattle.meaning.specs.State.{RunState, Step}
 use Rattle.meaning.specs.Values.{Yields}
 use Rattle.preservation.specs.Laws.{HasMemory}
 use Rattle.definitional_interpreter.specs.Told.{Present, Told, told, ran, after, maybe, computed, choose}
-use Rattle.definitional_interpreter.specs.Changes.{with_global, yielded, step_by, step, made, make, with_variables, written, edit_by}
+use Rattle.definitional_interpreter.specs.Changes.{with_global, yielded, step_by, step, made, make, with_variables}
+use Rattle.definitional_interpreter.specs.Changes.{written, edit_by}
 use Rattle.definitional_interpreter.specs.Changes.{edit, assign, declare_all, set_property, add_objects, turn_by, turn}
 use Rattle.definitional_interpreter.specs.Families.{Meanings}
 use Rattle.definitional_interpreter.specs.Laws.{sorts_of, sorts, IsFixed, NoneIsFree}

@@ -21,7 +21,8 @@ use Rattle.meaning.specs.State.{RunState, noted, shows, typed_frame_at, handler_
 use Rattle.msg_path.specs.Path.{path_after}
 use Rattle.externals.specs.Cells.{Seen}
 use Rattle.meaning.specs.declared.end.How.TheVariants.{Next}
-use Rattle.definitional_interpreter.specs.Told.{Present, Told, told, Ran, ran, after_in, after_next, after_lines, maybe, gave}
+use Rattle.definitional_interpreter.specs.Told.{Present, Told, told, Ran, ran, after_in, after_next, after_lines}
+use Rattle.definitional_interpreter.specs.Told.{maybe, gave}
 use Rattle.definitional_interpreter.specs.Told.{ended_lines}
 use Rattle.definitional_interpreter.specs.Changes.{with_variables, with_global}
 use Rattle.definitional_interpreter.specs.Rows as rows
@@ -58,8 +59,10 @@ use Rattle.externals.specs.Number.{number_in}
 use Rattle.journal_entries.specs.Places.{put as put_in_state}
 use Rattle.definitional_interpreter.specs.Changes.{make}
 use Rattle.definitional_interpreter.specs.Meanings.{meanings}
-use Rattle.definitional_interpreter.specs.Rows.{Sum, Quotient, NoNumber, FaultAfterLines, Choice, Repeated, Chunks, NoExpression}
-use Rattle.definitional_interpreter.specs.Rows.{ExitToHyperCard, Delimiter, and_more, answers, answered, two_cards, gate, repeats_script}
+use Rattle.definitional_interpreter.specs.Rows.{Sum, Quotient, NoNumber, FaultAfterLines, Choice, Repeated, Chunks}
+use Rattle.definitional_interpreter.specs.Rows.{NoExpression}
+use Rattle.definitional_interpreter.specs.Rows.{ExitToHyperCard, Delimiter, and_more, answers, answered, two_cards}
+use Rattle.definitional_interpreter.specs.Rows.{gate, repeats_script}
 use Rattle.definitional_interpreter.specs.Rows.{function_script, passing_script, last_script, deep_script, Repeats}
 
 -- `unfolding computing` opens the definitions that a row computes through
@@ -121,12 +124,14 @@ unfolding computing
 repeats_read = refl
 
 repeats_values : (k : ℕ) (w : Present) (r : RunState) (f : Frame) →
-    (meanings (and_more 36 k)).vals w r f 0 (tree.more (tree.number (codes "9")) tree.none) [] ≡ told (Ok (codes "9" ∷ [])) w r
+    (meanings (and_more 36 k)).vals w r f 0 (tree.more (tree.number (codes "9")) tree.none) []
+    ≡ told (Ok (codes "9" ∷ [])) w r
 unfolding computing
 repeats_values k w r f = refl
 
 repeats_end : (k : ℕ) → answered (command_ends k (on_card [] [] repeats_script empty [] [])
-    (by_found (and_more 34 k) (on_card [] [] repeats_script empty [] []) (noted (run_at 999998 [] []) (codes "repeats") 2)
+    (by_found (and_more 34 k) (on_card [] [] repeats_script empty [] [])
+    (noted (run_at 999998 [] []) (codes "repeats") 2)
     (typed_frame_at 2) 0 (codes "repeats") (codes "9" ∷ []) Command
     (found_among ((2, []) ∷ (1, []) ∷ (0, repeats_script) ∷ []) Command (codes "repeats")))) (λ w. [])
     ≡ codes "> 134321xxwwuff" ∷ codes "ok" ∷ []
@@ -156,7 +161,8 @@ by_call k x =
 
 function_calls : (k : ℕ) → answers (and_more 40 k) (on_card function_script [] [] empty [] []) (h_line ∷ [])
     ≡ by_call k
-    ((meanings (and_more 32 k)).sends (on_card function_script [] [] empty [] []) (run_at 999998 [] []) (typed_frame_at 2) 1 2
+    ((meanings (and_more 32 k)).sends (on_card function_script [] [] empty [] []) (run_at 999998 [] [])
+    (typed_frame_at 2) 1 2
     (codes "h") [] Function)
 unfolding computing
 function_calls k = refl
@@ -172,7 +178,8 @@ function_end k = refl
 pub function : rows.Function
 function k = function_calls k
     ∙ ap (by_call k)
-    (sent (and_more 30 k) function_script [] [] empty [] [] (run_at 999998 [] []) (run_at 999997 [] []) (typed_frame_at 2) 1
+    (sent (and_more 30 k) function_script [] [] empty [] [] (run_at 999998 [] []) (run_at 999997 [] [])
+    (typed_frame_at 2) 1
     (codes "h") [] Function refl) ∙ function_end k
 
 -- ---- a message that is passed
@@ -181,11 +188,13 @@ who_read : parsed typed_lines (codes "who") ≡ Ok (stm.also (stm.command (codes
 unfolding computing
 who_read = refl
 
-no_values : (k : ℕ) (w : Present) (r : RunState) (f : Frame) → (meanings (and_more 36 k)).vals w r f 0 tree.none [] ≡ told (Ok []) w r
+no_values : (k : ℕ) (w : Present) (r : RunState) (f : Frame)
+    → (meanings (and_more 36 k)).vals w r f 0 tree.none [] ≡ told (Ok []) w r
 unfolding computing
 no_values k w r f = refl
 
-passes : (k : ℕ) → by_found (and_more 34 k) (on_card [] passing_script last_script empty [] []) (noted (run_at 999998 [] []) (codes "who") 2)
+passes : (k : ℕ) → by_found (and_more 34 k) (on_card [] passing_script last_script empty [] [])
+    (noted (run_at 999998 [] []) (codes "who") 2)
     (typed_frame_at 2) 0 (codes "who") [] Command
     (found_among ((2, []) ∷ (1, passing_script) ∷ (0, last_script) ∷ []) Command (codes "who"))
     ≡ (meanings (and_more 34 k)).along (on_card [] passing_script last_script empty [] [])
@@ -225,7 +234,8 @@ gate_read = refl
 -- the answer of Gate, which no script has, and then the rest
 abbrev by_gate : (k : ℕ) → Seen → ℕ → (Present → List (List ℕ)) → List (List ℕ)
 by_gate k e turns rest = answered (command_ends k (on_card [] [] [] empty (e ∷ []) (turns ∷ []))
-    (by_found (and_more 34 k) (on_card [] [] [] empty (e ∷ []) (turns ∷ [])) (noted (run_at 999998 [] []) (codes "Gate") 2)
+    (by_found (and_more 34 k) (on_card [] [] [] empty (e ∷ []) (turns ∷ []))
+    (noted (run_at 999998 [] []) (codes "Gate") 2)
     (typed_frame_at 2) 0 (codes "Gate") [] Command
     (found_among ((2, []) ∷ (1, []) ∷ (0, []) ∷ []) Command (codes "Gate")))) rest
 
@@ -258,18 +268,22 @@ by_value k c globals name rest v =
     (ended_lines
     (after_next
     (after_in (typed_frame_at 2) (told (Ok (unwrap_or v name)) (on_card c [] [] globals [] []) (run_at 999999 [] []))
-    (λ v w r. ran (Ok Next) w (shows r v) (typed_frame_at 2))) (λ w r f. (meanings (and_more 38 k)).block w r f 0 stm.stop))) rest
+    (λ v w r. ran (Ok Next) w (shows r v) (typed_frame_at 2)))
+    (λ w r f. (meanings (and_more 38 k)).block w r f 0 stm.stop))) rest
 
 abbrev with_abc : Globals
 with_abc = insert empty (codes "abc") (codes "1")
 
-no_value : (k : ℕ) → answers (and_more 40 k) (on_card [] [] [] empty [] []) (codes "put Abc" ∷ codes "put 1 into ABC" ∷ codes "put abc" ∷ [])
-    ≡ (by_value k) [] empty (codes "Abc") (λ w. answers (and_more 40 k) w (codes "put 1 into ABC" ∷ codes "put abc" ∷ []))
+no_value : (k : ℕ) → answers (and_more 40 k) (on_card [] [] [] empty [] [])
+    (codes "put Abc" ∷ codes "put 1 into ABC" ∷ codes "put abc" ∷ [])
+    ≡ (by_value k) [] empty (codes "Abc")
+    (λ w. answers (and_more 40 k) w (codes "put 1 into ABC" ∷ codes "put abc" ∷ []))
     (get {R = slice_cmp nat_cmp} empty (codes "abc"))
 unfolding computing
 no_value k = refl
 
-a_value : (k : ℕ) → by_value k [] empty (codes "Abc") (λ w. answers (and_more 40 k) w (codes "put 1 into ABC" ∷ codes "put abc" ∷ [])) None
+a_value : (k : ℕ) → by_value k [] empty (codes "Abc")
+    (λ w. answers (and_more 40 k) w (codes "put 1 into ABC" ∷ codes "put abc" ∷ [])) None
     ≡ codes "> Abc" ∷ codes "ok" ∷ codes "ok"
     ∷ by_value k [] with_abc (codes "abc") (λ w. []) (get with_abc (codes "abc"))
 unfolding computing
@@ -278,14 +292,16 @@ a_value k = refl
 its_value : get with_abc (codes "abc") ≡ Some (codes "1")
 its_value = get-insert nat_list_cmp_total empty (codes "abc") (codes "1") (codes "abc")
 
-value_shown : (k : ℕ) → by_value k [] with_abc (codes "abc") (λ w. []) (Some (codes "1")) ≡ codes "> 1" ∷ codes "ok" ∷ []
+value_shown : (k : ℕ) → by_value k [] with_abc (codes "abc") (λ w. []) (Some (codes "1")) ≡ codes "> 1" ∷ codes "ok"
+    ∷ []
 unfolding computing
 value_shown k = refl
 
 pub global_variable : rows.GlobalVariable
 global_variable k =
     no_value k
-    ∙ ap (by_value k [] empty (codes "Abc") (λ w. answers (and_more 40 k) w (codes "put 1 into ABC" ∷ codes "put abc" ∷ [])))
+    ∙ ap (by_value k [] empty (codes "Abc")
+    (λ w. answers (and_more 40 k) w (codes "put 1 into ABC" ∷ codes "put abc" ∷ [])))
     (get-empty (slice_cmp nat_cmp) (codes "abc"))
     ∙ a_value k
     ∙ ap (λ v. codes "> Abc" ∷ codes "ok" ∷ codes "ok" ∷ by_value k [] with_abc (codes "abc") (λ w. []) v) its_value
@@ -370,24 +386,28 @@ a_read : parsed typed_lines (codes "a") ≡ Ok (stm.also (stm.command (codes "a"
 unfolding computing
 a_read = refl
 
-a_calls : (k : ℕ) → by_found (and_more 34 k) before_g (noted (run_at 999998 [] []) (codes "a") 2) (typed_frame_at 2) 0 (codes "a") [] Command
+a_calls : (k : ℕ) → by_found (and_more 34 k) before_g (noted (run_at 999998 [] []) (codes "a") 2) (typed_frame_at 2) 0
+    (codes "a") [] Command
     (among Command (codes "a"))
     ≡ in_a k ((meanings (and_more 30 k)).sends before_g (run_a 999996) own_frame 1 2 (codes "b") [] Command)
 unfolding computing
 a_calls k = refl
 
-b_calls : (k : ℕ) → by_found (and_more 28 k) before_g (noted (run_a 999995) (codes "b") 2) own_frame 1 (codes "b") [] Command
+b_calls : (k : ℕ) → by_found (and_more 28 k) before_g (noted (run_a 999995) (codes "b") 2) own_frame 1 (codes "b") []
+    Command
     (among Command (codes "b"))
     ≡ in_b k ((meanings (and_more 24 k)).sends before_g (run_b 999993) own_frame 2 2 (codes "c") [] Command)
 unfolding computing
 b_calls k = refl
 
-c_declares : (k : ℕ) → by_found (and_more 22 k) before_g (noted (run_b 999992) (codes "c") 2) own_frame 2 (codes "c") [] Command
+c_declares : (k : ℕ) → by_found (and_more 22 k) before_g (noted (run_b 999992) (codes "c") 2) own_frame 2 (codes "c") []
+    Command
     (among Command (codes "c")) ≡ declares_g k (get {R = slice_cmp nat_cmp} empty (codes "g"))
 unfolding computing
 c_declares k = refl
 
-c_calls : (k : ℕ) → declares_g k None ≡ in_c k ((meanings (and_more 16 k)).sends after_g (run_c 999989) with_g 3 2 (codes "foo") [] Function)
+c_calls : (k : ℕ) → declares_g k None
+    ≡ in_c k ((meanings (and_more 16 k)).sends after_g (run_c 999989) with_g 3 2 (codes "foo") [] Function)
 unfolding computing
 c_calls k = refl
 
@@ -409,7 +429,8 @@ fault_ends k = refl
 value_of_g : get globals_g (codes "g") ≡ Some (codes "5")
 value_of_g = get-insert nat_list_cmp_total (insert empty (codes "g") []) (codes "g") (codes "5") (codes "g")
 
-g_shown : (k : ℕ) → by_value k deep_script globals_g (codes "g") (λ w. []) (Some (codes "5")) ≡ codes "> 5" ∷ codes "ok" ∷ []
+g_shown : (k : ℕ) → by_value k deep_script globals_g (codes "g") (λ w. []) (Some (codes "5")) ≡ codes "> 5" ∷ codes "ok"
+    ∷ []
 unfolding computing
 g_shown k = refl
 
@@ -420,14 +441,17 @@ fault_three_deep k =
     ∙ ap (by_a k)
     (a_calls k
     ∙ ap (in_a k)
-    (sent (and_more 28 k) deep_script [] [] empty [] [] (run_a 999996) (run_a 999995) own_frame 1 (codes "b") [] Command refl
+    (sent (and_more 28 k) deep_script [] [] empty [] [] (run_a 999996) (run_a 999995) own_frame 1 (codes "b") [] Command
+    refl
     ∙ b_calls k
     ∙ ap (in_b k)
-    (sent (and_more 22 k) deep_script [] [] empty [] [] (run_b 999993) (run_b 999992) own_frame 2 (codes "c") [] Command refl
+    (sent (and_more 22 k) deep_script [] [] empty [] [] (run_b 999993) (run_b 999992) own_frame 2 (codes "c") [] Command
+    refl
     ∙ c_declares k ∙ ap (declares_g k) (get-empty (slice_cmp nat_cmp) (codes "g"))
     ∙ c_calls k
     ∙ ap (in_c k)
-    (sent (and_more 14 k) deep_script [] [] globals_g [] [] (run_c 999989) (run_c 999988) with_g 3 (codes "foo") [] Function refl))))
+    (sent (and_more 14 k) deep_script [] [] globals_g [] [] (run_c 999989) (run_c 999988) with_g 3 (codes "foo") []
+    Function refl))))
     ∙ fault_ends k
     ∙ ap (λ v. codes "> 1" ∷ codes "> 3" ∷ codes "fault 2" ∷ by_value k deep_script globals_g (codes "g") (λ w. []) v)
     value_of_g

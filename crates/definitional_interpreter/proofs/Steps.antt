@@ -27,7 +27,8 @@ use Rattle.meaning.specs.declared.end.Stop.TheVariants.{Fault as Faults}
 use Rattle.meaning.specs.declared.frame.Frame.{Frame}
 use Rattle.meaning.specs.declared.sent.SentMessage.{SentMessage}
 use Rattle.meaning.specs.State.{RunState, fresh_run, noted, typed_frame_at}
-use Rattle.definitional_interpreter.specs.Told.{Present, Told, told, ran, after, after_in, after_next, maybe, ended_lines}
+use Rattle.definitional_interpreter.specs.Told.{Present, Told, told, ran, after, after_in, after_next, maybe}
+use Rattle.definitional_interpreter.specs.Told.{ended_lines}
 use Rattle.definitional_interpreter.specs.Changes.{step}
 use Rattle.definitional_interpreter.specs.Texts.{read_by, parsed, handled, first_found}
 use Rattle.definitional_interpreter.specs.Messages.{met_by}
@@ -136,10 +137,12 @@ command_ends k w x =
     (λ w r f. (meanings (and_more 38 k)).block w r f 0 stm.stop))
 
 -- a command that is typed alone, while the first card is the current one
-pub typed_command : (k : ℕ) (c b s : List ℕ) (globals : Globals) (externals : List Seen) (turns : List ℕ) (line n : List ℕ)
+pub typed_command : (k : ℕ) (c b s : List ℕ) (globals : Globals) (externals : List Seen) (turns : List ℕ)
+    (line n : List ℕ)
     (es : tree.Exprs) (vs : List (List ℕ)) →
     parsed typed_lines line ≡ Ok (stm.also (stm.command n es) stm.stop) →
-    (meanings (and_more 36 k)).vals (on_card c b s globals externals turns) (run_at 999999 [] []) (typed_frame_at 2) 0 es []
+    (meanings (and_more 36 k)).vals (on_card c b s globals externals turns) (run_at 999999 [] []) (typed_frame_at 2) 0
+    es []
     ≡ told (Ok vs) (on_card c b s globals externals turns) (run_at 999999 [] []) →
     typed (and_more 40 k) (on_card c b s globals externals turns) line
     ≡ command_ends k (on_card c b s globals externals turns)
@@ -149,7 +152,8 @@ unfolding meanings
 typed_command k c b s globals externals turns line n es vs read values =
     let w = on_card c b s globals externals turns in
     ap (λ t. after (told t w (fresh_run 1000000)) (λ ss w r. (meanings (and_more 40 k)).line w r ss)) read
-    ∙ ap (λ t. command_ends k w (after t (λ vs w2 r. (meanings (and_more 36 k)).sends w2 r (typed_frame_at 2) 0 2 n vs Command)))
+    ∙ ap (λ t. command_ends k w (after t
+    (λ vs w2 r. (meanings (and_more 36 k)).sends w2 r (typed_frame_at 2) 0 2 n vs Command)))
     values
     ∙ ap (command_ends k w)
     (sent (and_more 34 k) c b s globals externals turns (run_at 999999 [] []) (run_at 999998 [] [])

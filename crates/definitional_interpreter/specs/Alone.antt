@@ -22,5 +22,6 @@ meanings_alone (suc fuel) = without_messages (one_more (meanings_alone fuel))
 -- What such an expression comes to, the rules allow, and nothing changes.
 abbrev pub ExpressionsAreAllowed : Type 0
 ExpressionsAreAllowed =
-    (fuel : ℕ) (w : History) (r q : RunState) (f : Frame) (d : ℕ) (e : tree.Expr) (o : Result (List ℕ) Stop) (v : Present) →
+    (fuel : ℕ) (w : History) (r q : RunState) (f : Frame) (d : ℕ) (e : tree.Expr) (o : Result (List ℕ) Stop)
+    (v : Present) →
     (meanings_alone fuel).val (present w) r f d e ≡ told o v q → Val w r f d e o w r × (v ≡ present w) × (q ≡ r)

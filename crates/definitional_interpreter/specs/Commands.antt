@@ -17,7 +17,8 @@ use Rattle.meaning.specs.Actions.{Action, opening_stack, locks_text, leaving_mes
 use Rattle.meaning.specs.Menu.{message_name}
 use Rattle.meaning.specs.Places.{field_place, field_text}
 use Rattle.meaning.specs.State.{RunState, typed_frame_at}
-use Rattle.definitional_interpreter.specs.Told.{Present, Told, unknown, told, after, after_lines, choose, maybe, computed}
+use Rattle.definitional_interpreter.specs.Told.{Present, Told, unknown, told, after, after_lines, choose, maybe}
+use Rattle.definitional_interpreter.specs.Told.{computed}
 use Rattle.definitional_interpreter.specs.Told.{ended_lines, ended_message, referred, goes_on_after}
 use Rattle.definitional_interpreter.specs.Changes.{edit}
 use Rattle.definitional_interpreter.specs.Families.{Meanings}

@@ -85,7 +85,8 @@ Sum = (k : ℕ) (w : Present) → answers (and_more 20 k) w (codes "put 2 + 3" �
 
 -- the quotient is rounded towards zero
 abbrev pub Quotient : Type 0
-Quotient = (k : ℕ) (w : Present) → answers (and_more 20 k) w (codes "put 7 div -2" ∷ []) ≡ codes "> -3" ∷ codes "ok" ∷ []
+Quotient =
+    (k : ℕ) (w : Present) → answers (and_more 20 k) w (codes "put 7 div -2" ∷ []) ≡ codes "> -3" ∷ codes "ok" ∷ []
 
 abbrev pub NoNumber : Type 0
 NoNumber = (k : ℕ) (w : Present) → answers (and_more 20 k) w (codes "put \"x\" + 1" ∷ []) ≡ codes "fault 4" ∷ []
@@ -93,7 +94,8 @@ NoNumber = (k : ℕ) (w : Present) → answers (and_more 20 k) w (codes "put \"x
 -- a fault ends the command, and what was shown stays shown
 abbrev pub FaultAfterLines : Type 0
 FaultAfterLines =
-    (k : ℕ) (w : Present) → answers (and_more 20 k) w (codes "put 2\rput 3 div 0\rput 4" ∷ []) ≡ codes "> 2" ∷ codes "fault 6" ∷ []
+    (k : ℕ) (w : Present) → answers (and_more 20 k) w (codes "put 2\rput 3 div 0\rput 4" ∷ []) ≡ codes "> 2"
+    ∷ codes "fault 6" ∷ []
 
 abbrev pub Choice : Type 0
 Choice =
@@ -112,11 +114,13 @@ Repeated =
 abbrev pub Chunks : Type 0
 Chunks =
     (k : ℕ) (w : Present) →
-    answers (and_more 20 k) w (codes "put \"[\" & char 4 to 9 of \"hello\" & \"]\" && \"[\" & item 0 of \"a,b\" & \"]\"" ∷ [])
+    answers (and_more 20 k) w (codes "put \"[\" & char 4 to 9 of \"hello\" & \"]\" && \"[\" & item 0 of \"a,b\" & \"]\""
+    ∷ [])
     ≡ codes "> [lo] []" ∷ codes "ok" ∷ []
 
 abbrev pub NoExpression : Type 0
-NoExpression = (k : ℕ) (w : Present) → answers (and_more 20 k) w (codes "put the value of \"1 +\"" ∷ []) ≡ codes "fault 1" ∷ []
+NoExpression =
+    (k : ℕ) (w : Present) → answers (and_more 20 k) w (codes "put the value of \"1 +\"" ∷ []) ≡ codes "fault 1" ∷ []
 
 abbrev pub ExitToHyperCard : Type 0
 ExitToHyperCard =
@@ -128,7 +132,8 @@ ExitToHyperCard =
 abbrev pub Delimiter : Type 0
 Delimiter =
     (k : ℕ) (w : Present) →
-    answers (and_more 20 k) w (codes "set itemDelimiter to \";\"\rput item 1 of \"a;b,c\"" ∷ codes "put item 1 of \"a;b,c\"" ∷ [])
+    answers (and_more 20 k) w (codes "set itemDelimiter to \";\"\rput item 1 of \"a;b,c\""
+    ∷ codes "put item 1 of \"a;b,c\"" ∷ [])
     ≡ codes "> a" ∷ codes "ok" ∷ codes "> a;b" ∷ codes "ok" ∷ []
 
 -- ---- rows of a state
@@ -136,7 +141,8 @@ Delimiter =
 -- a name without a value reads as it is written, and names of globals are folded
 abbrev pub GlobalVariable : Type 0
 GlobalVariable =
-    (k : ℕ) → answers (and_more 40 k) (first_card [] [] [] []) (codes "put Abc" ∷ codes "put 1 into ABC" ∷ codes "put abc" ∷ [])
+    (k : ℕ) → answers (and_more 40 k) (first_card [] [] [] [])
+    (codes "put Abc" ∷ codes "put 1 into ABC" ∷ codes "put abc" ∷ [])
     ≡ codes "> Abc" ∷ codes "ok" ∷ codes "ok" ∷ codes "> 1" ∷ codes "ok" ∷ []
 
 -- the lines of a script, with a return after each
@@ -184,7 +190,8 @@ function_script = script_of (codes "function h" ∷ codes "return 4" ∷ codes "
 -- the value of a function, which leaves no result
 abbrev pub Function : Type 0
 Function =
-    (k : ℕ) → answers (and_more 40 k) (first_card function_script [] [] []) (codes "do \"put h()\" & return & \"put the result\"" ∷ [])
+    (k : ℕ) → answers (and_more 40 k) (first_card function_script [] [] [])
+    (codes "do \"put h()\" & return & \"put the result\"" ∷ [])
     ≡ codes "> 4" ∷ codes "> " ∷ codes "ok" ∷ []
 
 abbrev pub passing_script : List ℕ
@@ -230,4 +237,5 @@ FaultThreeDeep =
 -- conversations with an external, which passes every other message on
 abbrev pub Conversation : Type 0
 Conversation =
-    (k : ℕ) → answers (and_more 40 k) (first_card [] [] [] (gate ∷ [])) (codes "Gate" ∷ codes "Gate" ∷ []) ≡ codes "ok" ∷ codes "fault 2" ∷ []
+    (k : ℕ) → answers (and_more 40 k) (first_card [] [] [] (gate ∷ [])) (codes "Gate" ∷ codes "Gate" ∷ []) ≡ codes "ok"
+    ∷ codes "fault 2" ∷ []

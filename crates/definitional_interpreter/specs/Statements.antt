@@ -17,7 +17,8 @@ use Rattle.meaning.specs.declared.end.Stop.TheVariants.{Fault as Faults, Exited}
 use Rattle.meaning.specs.Places.{variable_place, it_name, chunk_of_place}
 use Rattle.meaning.specs.Repeats.{leaves_repeat, goes_on, CounterState, counter_of, is_over, stepped, turns}
 use Rattle.meaning.specs.State.{RunState, shows, run_property_set}
-use Rattle.definitional_interpreter.specs.Told.{Present, Told, told, Ran, ran, after, after_in, after_run, after_next, choose, maybe}
+use Rattle.definitional_interpreter.specs.Told.{Present, Told, told, Ran, ran, after, after_in, after_run, after_next}
+use Rattle.definitional_interpreter.specs.Told.{choose, maybe}
 use Rattle.definitional_interpreter.specs.Told.{computed}
 use Rattle.definitional_interpreter.specs.Changes.{yielded, step, edit, assign, declare_all, set_property}
 use Rattle.definitional_interpreter.specs.Texts.{parsed}

@@ -1,5 +1,6 @@
 -- What a desk heard over many lines.
-use Rattle.std.proofs.Common.{◌≡◌, ◌≢◌, ℕ, zero, suc, ◌+◌, inl, inr, Bool, true, false, List, [], ◌∷◌, ◌++◌, take, refl, sym}
+use Rattle.std.proofs.Common.{◌≡◌, ◌≢◌, ℕ, zero, suc, ◌+◌, inl, inr, Bool, true, false, List, [], ◌∷◌, ◌++◌, take}
+use Rattle.std.proofs.Common.{refl, sym}
 use Rattle.std.proofs.Common.{ap, subst, ◌∙◌, add-one}
 use Rattle.std.specs.Prelude.{MatchBool, Some, None, option_map, slice_get}
 use Rattle.std.proofs.lemmas.List.{map-append}
@@ -79,7 +80,8 @@ module _ {S : Type 0} (takes : List ℕ → S → Reply → S → Type 0) where
       Session (Settles takes) old lines text new → old.1.heard ≡ None → new.1.heard ≡ None
   none_in_the_end old [] text new s none = ap (λ (p : S × SeenDesk). p.1.heard) s.1 ∙ none
   none_in_the_end old (line ∷ lines) text new (reply, mid, more, step, is, rest) none =
-      elim (is_quit reply.ending) as (λ b. MatchBool b ((more ≡ []) × (new ≡ mid)) (Session (Settles takes) mid lines more new) → new.1.heard ≡ None) [
+      elim (is_quit reply.ending) as (λ b. MatchBool b ((more ≡ []) × (new ≡ mid))
+      (Session (Settles takes) mid lines more new) → new.1.heard ≡ None) [
         | true ↦ λ last. ap (λ (p : S × SeenDesk). p.1.heard) last.1 ∙ none_after line old reply mid step none
         | false ↦ λ more_lines.
             none_in_the_end mid lines more new more_lines (none_after line old reply mid step none)
@@ -101,7 +103,9 @@ module _ {S : Type 0} (takes : List ℕ → S → Reply → S → Type 0) where
       Session (Settles takes) old lines text new → Session (SettlesHeard takes) old lines text new
   heard old [] text new tells s = s
   heard old (line ∷ lines) text new tells (reply, mid, more, step, is, rest) =
-      elim (is_quit reply.ending) as (λ b. is_quit reply.ending ≡ b → MatchBool b ((more ≡ []) × (new ≡ mid)) (Session (Settles takes) mid lines more new) → Session (SettlesHeard takes) old (line ∷ lines) text new) [
+      elim (is_quit reply.ending) as (λ b. is_quit reply.ending ≡ b
+      → MatchBool b ((more ≡ []) × (new ≡ mid)) (Session (Settles takes) mid lines more new)
+      → Session (SettlesHeard takes) old (line ∷ lines) text new) [
         | true ↦ λ quits last. (
           reply,
           mid,

@@ -24,7 +24,8 @@ whole_append (x ∷ xs) ys h k = (h.0, whole_append xs ys h.1 k)
 
 whole_reverse : (xs : List Snapshot) → AreWhole xs → AreWhole (reverse xs)
 whole_reverse [] h = tt
-whole_reverse (x ∷ xs) h = subst AreWhole (sym (reverse-append (x ∷ []) xs)) (whole_append (reverse xs) (x ∷ []) (whole_reverse xs h.1) (h.0, tt))
+whole_reverse (x ∷ xs) h = subst AreWhole (sym (reverse-append (x ∷ []) xs))
+    (whole_append (reverse xs) (x ∷ []) (whole_reverse xs h.1) (h.0, tt))
 
 whole_steps : (titles : List (List ℕ)) (steps : List Step) → AreStates titles steps → AreWhole (snapshots_of steps)
 whole_steps titles [] h = tt
@@ -33,23 +34,44 @@ whole_steps titles (s ∷ ss) h = (h.0.state, whole_steps titles ss h.1)
 whole_list : (h : History) → IsHistory h → AreWhole (all_snapshots h)
 whole_list h q =
     let now : Snapshot = record { state = h.now; number = h.stamp } in
-    whole_append (reverse (snapshots_of h.past)) (now ∷ snapshots_of h.future) (whole_reverse (snapshots_of h.past) (whole_steps q.titles h.past q.past)) (q.now.state, whole_steps q.titles h.future q.future)
+    whole_append (reverse (snapshots_of h.past)) (now ∷ snapshots_of h.future)
+    (whole_reverse (snapshots_of h.past) (whole_steps q.titles h.past q.past))
+    (q.now.state, whole_steps q.titles h.future q.future)
 
-whole_follows : (line : List ℕ) (old : Standing) (reply : Reply) (new : Standing) → TakesWhole line old reply new → MovesWhole line (timeline_of old) reply (timeline_of new)
-whole_follows line old reply new t = record { moves = lines_follow line old reply new t.takes; before = whole_list old.history t.before; after = whole_list new.history t.after }
+whole_follows : (line : List ℕ) (old : Standing) (reply : Reply) (new : Standing) → TakesWhole line old reply new
+    → MovesWhole line (timeline_of old) reply (timeline_of new)
+whole_follows line old reply new
+    t = record {
+      moves = lines_follow line old reply new t.takes;
+      before = whole_list old.history t.before;
+      after =
+          whole_list new.history t.after;
+    }
 
-settles_whole : (line : List ℕ) (old : Standing × SeenDesk) (reply : Reply) (new : Standing × SeenDesk) → Takes line old reply new → Settles MovesWhole line (timeline_beside old) reply (timeline_beside new)
-settles_whole line old reply new s = record { ending = s.ending; taken = whole_follows line old.0 (record reply { ending = s.ending }) new.0 s.taken; kept = s.kept }
+settles_whole : (line : List ℕ) (old : Standing × SeenDesk) (reply : Reply) (new : Standing × SeenDesk)
+    → Takes line old reply new → Settles MovesWhole line (timeline_beside old) reply (timeline_beside new)
+settles_whole line old reply new
+    s = record {
+      ending = s.ending;
+      taken = whole_follows line old.0 (record reply { ending = s.ending }) new.0 s.taken;
+      kept = s.kept;
+    }
 
 pub runs_stay_whole : RunsStayWhole
 runs_stay_whole left ran old read written new e =
-    let followed = ended_follows Takes (Settles MovesWhole) timeline_beside settles_whole (IsAtEnd left) ran old read written new e in
-    (followed, run_lines (Settles MovesWhole) (IsAtEnd left) ran (timeline_beside old) read written (timeline_beside new) followed)
+    let followed = ended_follows Takes (Settles MovesWhole) timeline_beside settles_whole (IsAtEnd left) ran old read
+    written new e in (
+      followed,
+      run_lines (Settles MovesWhole) (IsAtEnd left) ran (timeline_beside old) read written
+          (timeline_beside new) followed,
+    )
 
 pub stops_stay_whole : StopsStayWhole
-stops_stay_whole left fault old read written new s = stopped_follows Takes (Settles MovesWhole) timeline_beside settles_whole (IsAtEnd left) fault old read written new s
+stops_stay_whole left fault old read written new s = stopped_follows Takes (Settles MovesWhole) timeline_beside
+    settles_whole (IsAtEnd left) fault old read written new s
 
 pub saves_spell : WrittenIsRead → SavesSpell
 saves_spell read_back state old reply new is s =
-    let spells : Spells (spelling second state.stack) state.stack = record { well_formed = is.stack; version = second; said = tt; text = refl } in
+    let spells : Spells (spelling second state.stack) state.stack =
+    record { well_formed = is.stack; version = second; said = tt; text = refl } in
     (spelling second state.stack, s.0, spells, read_back state.stack is.stack)

@@ -1,5 +1,7 @@
 -- The headline: a list of whole states with a cursor, and what each line and each call does to it.
-use Rattle.std.specs.Prelude.{◌≡◌, ◌⊎◌, ℕ, suc, ◌+◌, ◌-◌, min, Bool, List, [], ◌∷◌, ◌++◌, length, map, take, drop, decimal, Option, Some, None, option_map, Result, IsOk, IsErrOf, ◌==◌, slice_get, nat_le, nat_lt, if◌then◌else◌, MatchBool}
+use Rattle.std.specs.Prelude.{◌≡◌, ◌⊎◌, ℕ, suc, ◌+◌, ◌-◌, min, Bool, List, [], ◌∷◌, ◌++◌, length, map, take, drop}
+use Rattle.std.specs.Prelude.{decimal, Option, Some, None, option_map, Result, IsOk, IsErrOf, ◌==◌, slice_get, nat_le}
+use Rattle.std.specs.Prelude.{nat_lt, if◌then◌else◌, MatchBool}
 use Rattle.devices.specs.Desks.{SeenDesk}
 use Rattle.externals.specs.Cells.{Seen}
 use Rattle.object_table.specs.Content.{Content}
@@ -9,16 +11,19 @@ use Rattle.meaning.specs.Actions.{Action}
 use Rattle.session.specs.Commands.{is_dot_line, command_in, behind_name, second, words, ReadsAction}
 use Rattle.headline.specs.Answering.{Session}
 use Rattle.session.specs.Meaning.{Fresh, Locked}
-use Rattle.session.specs.Replies.{ended, Refuses, Obeys, Moves, Looks, ShowsStack, ShowsCells, Saves, cells_named, global_lines, history_line}
+use Rattle.session.specs.Replies.{ended, Refuses, Obeys, Moves, Looks, ShowsStack, ShowsCells, Saves, cells_named}
+use Rattle.session.specs.Replies.{global_lines, history_line}
 use Rattle.headline.specs.Saving.{Settles}
 use Rattle.session.specs.Standing.{next_number}
 use Rattle.session.specs.declared.command.Command.{Command}
-use Rattle.session.specs.declared.command.Command.TheVariants.{Undo, Redo, UndoTo, Show, Globals, Where, Cells, History, Save, Act, Quit}
+use Rattle.session.specs.declared.command.Command.TheVariants.{Undo, Redo, UndoTo, Show, Globals, Where, Cells}
+use Rattle.session.specs.declared.command.Command.TheVariants.{History, Save, Act, Quit}
 use Rattle.session.specs.declared.command.Reading.{Reading}
 use Rattle.session.specs.declared.command.Reading.TheVariants.{Lines}
 use Rattle.session.specs.declared.limits.TheConstants.{LONGEST_LINE}
 use Rattle.session.specs.declared.reply.Refusal.{Refusal}
-use Rattle.session.specs.declared.reply.Refusal.TheVariants.{NothingToUndo, NothingToRedo, BadCommand, NoMemory, LineTooLong, FieldLocked}
+use Rattle.session.specs.declared.reply.Refusal.TheVariants.{NothingToUndo, NothingToRedo, BadCommand, NoMemory}
+use Rattle.session.specs.declared.reply.Refusal.TheVariants.{LineTooLong, FieldLocked}
 use Rattle.session.specs.declared.reply.Ending.TheVariants as endings
 use Rattle.session.specs.declared.reply.Reply.{Reply}
 
@@ -46,7 +51,11 @@ IsPresent state t = (number : ℕ) × (slice_get t.snapshots t.cursor ≡ Some (
 -- A state takes the place of all after the cursor, and the cursor stands on it. Where more than depth states would
 -- then stand before the cursor, the oldest falls away.
 abbrev pub followed_by : Timeline → Snapshot → Timeline
-followed_by t after = record t { snapshots = drop (t.cursor + 1 - t.depth) (take (t.cursor + 1) t.snapshots ++ after ∷ []); cursor = min t.depth (t.cursor + 1) }
+followed_by t after = record t {
+  snapshots = drop (t.cursor + 1 - t.depth)
+      (take (t.cursor + 1) t.snapshots ++ after ∷ []);
+  cursor = min t.depth (t.cursor + 1);
+}
 
 -- A fresh command, however it ended, replaces all after the cursor by a state that its meaning allows.
 pub record Replaces (does : Action) (state : State) (old : Timeline) (reply : Reply) (new : Timeline) : Type 0 where
@@ -61,7 +70,9 @@ pub record KeepsOut (does : Action) (state : State) (old : Timeline) (reply : Re
 
 -- what a user does
 abbrev pub Commands : Reading → List ℕ → State → Timeline → Reply → Timeline → Type 0
-Commands reading text state old reply new = Obeys (ReadsAction reading) (λ does. Replaces does state old reply new ⊎ KeepsOut does state old reply new) (Refuses NoMemory old reply new) text old reply new
+Commands reading text state old reply new = Obeys (ReadsAction reading)
+    (λ does. Replaces does state old reply new ⊎ KeepsOut does state old reply new) (Refuses NoMemory old reply new)
+    text old reply new
 
 -- ---- undo and redo
 
@@ -99,13 +110,19 @@ cursor_back_to n t = before t.cursor (last_numbered n (take (t.cursor + 1) t.sna
 -- what a dot line does by what it says, and by the state at the cursor
 abbrev pub Does : List ℕ → Option Command → State → Timeline → Reply → Timeline → Type 0
 Does line None state old reply new = Refuses BadCommand old reply new
-Does line (Some (Undo k)) state old reply new = Moves (option_map (at_cursor old) (cursor_back k old)) NothingToUndo old reply new
-Does line (Some (Redo k)) state old reply new = Moves (option_map (at_cursor old) (cursor_forth k old)) NothingToRedo old reply new
-Does line (Some (UndoTo n)) state old reply new = Moves (option_map (at_cursor old) (cursor_back_to n old)) NothingToUndo old reply new
+Does line (Some (Undo k)) state old reply new =
+    Moves (option_map (at_cursor old) (cursor_back k old)) NothingToUndo old reply new
+Does line (Some (Redo k)) state old reply new =
+    Moves (option_map (at_cursor old) (cursor_forth k old)) NothingToRedo old reply new
+Does line (Some (UndoTo n)) state old reply new =
+    Moves (option_map (at_cursor old) (cursor_back_to n old)) NothingToUndo old reply new
 Does line (Some Show) state old reply new = ShowsStack state old reply new ⊎ Refuses NoMemory old reply new
 Does line (Some Globals) state old reply new = Looks (global_lines state) old reply new ⊎ Refuses NoMemory old reply new
-Does line (Some Where) state old reply new = Looks (decimal state.current ∷ []) old reply new ⊎ Refuses NoMemory old reply new
-Does line (Some History) state old reply new = Looks (history_line old.cursor (length old.snapshots - (old.cursor + 1)) ∷ []) old reply new ⊎ Refuses NoMemory old reply new
+Does line (Some Where) state old reply new =
+    Looks (decimal state.current ∷ []) old reply new ⊎ Refuses NoMemory old reply new
+Does line (Some History) state old reply new = Looks
+    (history_line old.cursor (length old.snapshots - (old.cursor + 1)) ∷ []) old reply new
+    ⊎ Refuses NoMemory old reply new
 Does line (Some Cells) state old reply new = ShowsCells (cells_named state (second (words line))) old reply new
 Does line (Some Save) state old reply new = Saves state old reply new ⊎ Refuses NoMemory old reply new
 Does line (Some (Act reading)) state old reply new = Commands reading (behind_name line) state old reply new
@@ -113,7 +130,8 @@ Does line (Some Quit) state old reply new = (reply ≡ ended endings.Quit) × (n
 
 -- each other line is a fresh command where it is HyperTalk
 abbrev pub DoesLine : List ℕ → State → Timeline → Reply → Timeline → Type 0
-DoesLine line state old reply new = MatchBool (is_dot_line line) (Does line (command_in line) state old reply new) (Commands Lines line state old reply new)
+DoesLine line state old reply new = MatchBool (is_dot_line line) (Does line (command_in line) state old reply new)
+    (Commands Lines line state old reply new)
 
 -- the line is counted
 abbrev pub line_counted : Timeline → Timeline
@@ -123,7 +141,8 @@ line_counted t = record t { lines = next_number t.lines }
 pub record LineMoves (line : List ℕ) (old : Timeline) (reply : Reply) (new : Timeline) : Type 0 where
   pub state : State
   pub present : IsPresent state old
-  pub does : MatchBool (nat_lt LONGEST_LINE (length line)) (Refuses LineTooLong (line_counted old) reply new) (DoesLine line state (line_counted old) reply new)
+  pub does : MatchBool (nat_lt LONGEST_LINE (length line)) (Refuses LineTooLong (line_counted old) reply new)
+      (DoesLine line state (line_counted old) reply new)
 
 -- ---- calls beside lines
 
@@ -134,17 +153,27 @@ Moved None refusal old result new = IsErrOf result refusal × (new ≡ old)
 
 -- no place at all is a bad command
 abbrev pub Undoes : ℕ → Timeline → Result (Unit {0}) Refusal → Timeline → Type 0
-Undoes k old result new = MatchBool (k == 0) (IsErrOf result BadCommand × (new ≡ old)) (Moved (cursor_back k old) NothingToUndo old result new)
+Undoes k old result new = MatchBool (k == 0) (IsErrOf result BadCommand × (new ≡ old))
+    (Moved (cursor_back k old) NothingToUndo old result new)
 
 abbrev pub Redoes : ℕ → Timeline → Result (Unit {0}) Refusal → Timeline → Type 0
-Redoes k old result new = MatchBool (k == 0) (IsErrOf result BadCommand × (new ≡ old)) (Moved (cursor_forth k old) NothingToRedo old result new)
+Redoes k old result new = MatchBool (k == 0) (IsErrOf result BadCommand × (new ≡ old))
+    (Moved (cursor_forth k old) NothingToRedo old result new)
 
 abbrev pub UndoesTo : ℕ → Timeline → Result (Unit {0}) Refusal → Timeline → Type 0
 UndoesTo n old result new = Moved (cursor_back_to n old) NothingToUndo old result new
 
 -- a session begins with one state: the stack, no global, its first card, and the externals with their cells of now
 abbrev pub beginning : Content → List Seen → ℕ → ℕ → Timeline
-beginning stack externals steps depth = record { snapshots = record { state = first_state stack externals; number = 0 } ∷ []; cursor = 0; depth = depth; lines = 0; steps = steps }
+beginning stack externals steps
+    depth = record {
+      snapshots = record { state = first_state stack externals; number = 0 }
+          ∷ [];
+      cursor = 0;
+      depth = depth;
+      lines = 0;
+      steps = steps;
+    }
 
 -- an external that is plugged in joins each state, with its cells of now
 abbrev pub with_one_more : Seen → Snapshot → Snapshot

@@ -19,7 +19,8 @@ Kept ending old told new = (told ≡ ending) × (new ≡ old)
 
 -- how a line that saves is answered where the desk failed: the failure is counted, and what it kept before stands
 abbrev pub Unkept : Ending → SeenDesk → Ending → SeenDesk → Type 0
-Unkept (Save text) old told new = (told ≡ Refused SaveFailed) × (new ≡ record old { failures = counted true old.failures })
+Unkept (Save text) old told new =
+    (told ≡ Refused SaveFailed) × (new ≡ record old { failures = counted true old.failures })
 Unkept ending old told new = ⊥
 
 abbrev pub KeptOrNot : Ending → SeenDesk → Ending → SeenDesk → Type 0
@@ -40,11 +41,13 @@ pub record Beside {S : Type 0} (hears : List HeardMessage → SeenDesk → SeenD
   pub heard : hears (as_heard reply.sent) old.1 told
   pub kept : keeps ending told reply.ending new.1
 
-abbrev pub Settles : {S : Type 0} → (List ℕ → S → Reply → S → Type 0) → List ℕ → S × SeenDesk → Reply → S × SeenDesk → Type 0
+abbrev pub Settles : {S : Type 0} → (List ℕ → S → Reply → S → Type 0) → List ℕ → S × SeenDesk → Reply → S × SeenDesk
+    → Type 0
 Settles takes = Beside HearsOrForgets KeptOrNot takes
 
 -- beside a desk that goes on telling what it hears
-abbrev pub SettlesHeard : {S : Type 0} → (List ℕ → S → Reply → S → Type 0) → List ℕ → S × SeenDesk → Reply → S × SeenDesk
+abbrev pub SettlesHeard : {S : Type 0} → (List ℕ → S → Reply → S → Type 0) → List ℕ → S × SeenDesk → Reply
+    → S × SeenDesk
     → Type 0
 SettlesHeard takes = Beside Hears KeptOrNot takes
 

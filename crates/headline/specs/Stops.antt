@@ -13,7 +13,8 @@ Ended takes ends runs.EndOfInput old read written new = Finishes takes old read 
 Ended takes ends runs.Quit old read written new = Quits takes ends old read written new
 
 -- what is read, what is written, and where things stand, by the fault
-abbrev pub Stopped : {S : Type 0} → (List ℕ → S → Reply → S → Type 0) → Type 0 → RunFault → S → List ℕ → List ℕ → S → Type 0
+abbrev pub Stopped : {S : Type 0} → (List ℕ → S → Reply → S → Type 0) → Type 0 → RunFault → S → List ℕ → List ℕ → S
+    → Type 0
 Stopped takes ends faults.Memory old read written new = NeverBegan old read written new
 Stopped takes ends faults.Write old read written new = Breaks takes ends old read written new
 Stopped takes ends faults.Read old read written new = Stands takes old read written new

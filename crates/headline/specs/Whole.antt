@@ -32,15 +32,18 @@ pub record MovesWhole (line : List ℕ) (old : Timeline) (reply : Reply) (new : 
 -- to the lines that are read, those of such lists.
 abbrev pub RunsStayWhole : Type 0
 RunsStayWhole =
-    (left : Option (List ℕ)) (ran : Ran) (old : Standing × SeenDesk) (read written : List ℕ) (new : Standing × SeenDesk) →
+    (left : Option (List ℕ)) (ran : Ran) (old : Standing × SeenDesk) (read written : List ℕ) (new : Standing × SeenDesk)
+    →
     Ended Takes (IsAtEnd left) ran old read written new →
     Ended (Settles MovesWhole) (IsAtEnd left) ran (timeline_beside old) read written (timeline_beside new) ×
-    ((lines : List (List ℕ)) × AreLines read lines × Session (Settles MovesWhole) (timeline_beside old) lines written (timeline_beside new))
+    ((lines : List (List ℕ)) × AreLines read lines
+    × Session (Settles MovesWhole) (timeline_beside old) lines written (timeline_beside new))
 
 -- and along a run that stopped, as far as it came
 abbrev pub StopsStayWhole : Type 0
 StopsStayWhole =
-    (left : Option (List ℕ)) (fault : RunFault) (old : Standing × SeenDesk) (read written : List ℕ) (new : Standing × SeenDesk) →
+    (left : Option (List ℕ)) (fault : RunFault) (old : Standing × SeenDesk) (read written : List ℕ)
+    (new : Standing × SeenDesk) →
     Stopped Takes (IsAtEnd left) fault old read written new →
     Stopped (Settles MovesWhole) (IsAtEnd left) fault (timeline_beside old) read written (timeline_beside new)
 

@@ -1,6 +1,7 @@
 //! What lines, calls and runs do to the list of whole states: the headline as laws over the definitions.
 
-ghost use Rattle.headline.specs.Unzipped.{LinesFollow, MovesFollow, PlugsFollow, OpensFollow, RunsFollow, StopsFollow, SavesFollow, MessagesFollow};
+ghost use Rattle.headline.specs.Unzipped.{LinesFollow, MovesFollow, PlugsFollow, OpensFollow, RunsFollow, StopsFollow};
+ghost use Rattle.headline.specs.Unzipped.{SavesFollow, MessagesFollow};
 ghost use Rattle.headline.specs.Whole.{RunsStayWhole, StopsStayWhole, SavesSpell};
 
 use stack_text::law::written_is_read;

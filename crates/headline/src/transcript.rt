@@ -1,6 +1,7 @@
 //! A session over a reader, a writer and a desk: the headline.
 
-ghost use Rattle.std.specs.Prelude.{◌≡◌, ◌+◌, ◌-◌, ◌<◌, ◌≤◌, ◌≢◌, ◌↔◌, ◌⊎◌, ℕ, IsTrue, List, [], ◌∷◌, ◌++◌, length, take, IfOk, IfErr, OnOk, OnErr, IsErrOf, Ok, true, false};
+ghost use Rattle.std.specs.Prelude.{◌≡◌, ◌+◌, ◌-◌, ◌<◌, ◌≤◌, ◌≢◌, ◌↔◌, ◌⊎◌, ℕ, IsTrue, List, [], ◌∷◌, ◌++◌, length};
+ghost use Rattle.std.specs.Prelude.{take, IfOk, IfErr, OnOk, OnErr, IsErrOf, Ok, true, false};
 ghost use Rattle.std.specs.Vec.{vec_capacity};
 ghost use Rattle.std.specs.Io.KnownBytes.{Appends, Consumes, IsAtEnd};
 ghost use Rattle.devices.specs.Desks.{SeenDesk, HearsOrForgets};
@@ -148,7 +149,8 @@ fn answer_line<E: External, W: Write, D: Desk>(
     desk: &mut D,
 ) -> Result<bool, Cut>
     ensures ok { IfOk result (λ quits. (reply : Reply)
-        × Takes line.now (session.old, D.seen desk.old) reply (session.new, D.seen desk.new) × (is_quit reply.ending ≡ quits)
+        × Takes line.now (session.old, D.seen desk.old) reply (session.new, D.seen desk.new)
+        × (is_quit reply.ending ≡ quits)
         × Appends (W.contents (device_of writer.old)) (W.contents (device_of writer.new))
         (answer reply)) }
     ensures err { OnErr result ((reply : Reply) × (sent : List ℕ)

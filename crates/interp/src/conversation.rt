@@ -11,7 +11,7 @@ use crate::stmt::run_block;
 use change_journal::World;
 use externals::{Ask, External, Input};
 use ht_values::{Fault, Text};
-use meaning::{Budget, Conversed, Frame, Stop, TextUse};
+use meaning::{Budget, Conversed, Frame, MOST_ARGUMENTS, MOST_NESTED, Stop, TextUse};
 use primitives::arguments::Arguments;
 use primitives::messages::{start, take_turn};
 use primitives::places::{set_field, set_global};
@@ -35,10 +35,10 @@ pub(crate) fn converse<E: External>(
     ensures meaning { Converses world.old.history run.old nested number values.now result world.new.history run.new }
     ensures keeps { Keeps world.old.history run.old world.new.history run.new }
 {
-    if 16 < values.len() {
+    if MOST_ARGUMENTS < values.len() {
         return Err(Stop::Fault(Fault::BadArgument));
     }
-    if nested == 100 {
+    if nested == MOST_NESTED {
         return Err(Stop::Fault(Fault::TooDeep));
     }
     let mut next = start(run, values)?;

@@ -24,7 +24,7 @@ use ht_grammar::{FunctionWord, HandlerKind};
 use ht_lex::Ordinal;
 use ht_tree::{Chunk, Count, Expr, ExprKind, Part, Ref};
 use ht_values::{ChunkKind, Fault, Op, Prop, Text, UnOp, Value};
-use meaning::{Budget, Frame, Stop, TextUse};
+use meaning::{Budget, Frame, MOST_NESTED, Stop, TextUse};
 use primitives::arguments::Arguments;
 use primitives::atoms::{atom, object_count};
 use primitives::objects::property;
@@ -727,7 +727,7 @@ pub(crate) fn text_value<E: External>(
     ensures keeps { Keeps world.old.history run.old world.new.history run.new }
 {
     run.step()?;
-    if nested == 100 {
+    if nested == MOST_NESTED {
         return Err(Stop::Fault(Fault::TooDeep));
     }
     let e = expression(run, TextUse::Value, text)?;

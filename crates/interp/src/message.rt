@@ -16,7 +16,7 @@ use externals::External;
 use ht_grammar::HandlerKind;
 use ht_tree::Exprs;
 use ht_values::{Fault, Text, Value};
-use meaning::{Budget, Frame, Stop};
+use meaning::{Budget, Frame, MOST_NESTED, Stop};
 use msg_path::{BuiltIn, MessagePath, path, path_after};
 use object_table::Id;
 use primitives::arguments::Arguments;
@@ -100,7 +100,7 @@ pub(crate) fn along<E: External>(
         match find(world, run, rest.as_slice(), kind, name)? {
             None => return outside(world, run, frame, nested, name, values, kind),
             Some(found) => {
-                if nested == 100 {
+                if nested == MOST_NESTED {
                     return Err(Stop::Fault(Fault::TooDeep));
                 }
                 let mut inner = handler_frame(run, &found, object, values)?;

@@ -22,7 +22,7 @@ use externals::External;
 use ht_grammar::{HandlerKind, RunProp};
 use ht_tree::{Chunk, Container, Destination, Expr, Exprs, Head, Ref, Stmt, StmtKind};
 use ht_values::{Fault, Op, Prop, Text, Where};
-use meaning::{Budget, Frame, How, Stop, TextUse};
+use meaning::{Budget, Frame, How, MOST_NESTED, Stop, TextUse};
 use primitives::places::{declare_globals, edit, put_into_it, set_property};
 use primitives::values::{empty, leaving_text, lines, message, set_run_property, stopping};
 
@@ -428,7 +428,7 @@ pub(crate) fn run_do<E: External>(
     ensures keeps { Keeps world.old.history run.old world.new.history run.new }
 {
     let text = eval_text(world, run, frame, nested, text)?;
-    if nested == 100 {
+    if nested == MOST_NESTED {
         return Err(Stop::Fault(Fault::TooDeep));
     }
     let lines = lines(run, TextUse::Do, &text)?;

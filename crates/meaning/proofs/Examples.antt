@@ -1,5 +1,6 @@
 -- Worked derivations, which check the rules.
-use Rattle.std.proofs.Common.{◌≡◌, ℕ, ◌-◌, ◌<◌, ℤ, Bool, true, false, List, [], ◌∷◌, codes, Option, Some, None, Result, Ok, Err, refl}
+use Rattle.std.proofs.Common.{◌≡◌, ℕ, ◌-◌, ◌<◌, ℤ, Bool, true, false, List, [], ◌∷◌, codes, Option, Some, None, Result}
+use Rattle.std.proofs.Common.{Ok, Err, refl}
 use Rattle.std.specs.Prelude.{pos}
 use Rattle.std.specs.Fmt.{digits}
 use Rattle.ht_values.specs.declared.fault.Fault.TheVariants.{DivideByZero, NotLogical}
@@ -32,13 +33,16 @@ less r = record r { left = r.left - 1 }
 
 put_shows_a_line : (w : History) (r : RunState) (f : Frame) → 0 < r.left →
     Block w r f 0 (stm.also (stm.put (number (codes "1"))) stm.stop) (Ok Next) w (shows (less r) (codes "1")) f
-put_shows_a_line w r f h = Block.block_goes_on refl (Step.taken h refl) (Form.show refl (Val.number refl) refl) (Block.block_end refl)
+put_shows_a_line w r f h =
+    Block.block_goes_on refl (Step.taken h refl) (Form.show refl (Val.number refl) refl) (Block.block_end refl)
 
 -- `false and (1 div 0)` computes its second operand
 and_computes_both : (w : History) (r : RunState) (f : Frame) →
-    Val w r f 0 (tree.binary And (tree.constant constant.False) (tree.binary Div (number (codes "1")) (number (codes "0")))) (Err (Faults DivideByZero)) w r
+    Val w r f 0 (tree.binary And (tree.constant constant.False)
+    (tree.binary Div (number (codes "1")) (number (codes "0")))) (Err (Faults DivideByZero)) w r
 unfolding computing
-and_computes_both w r f = Val.right_stops refl (Val.constant refl refl) (Val.two_operands refl (Val.number refl) (Val.number refl) (Yields.faults refl))
+and_computes_both w r f = Val.right_stops refl (Val.constant refl refl)
+    (Val.two_operands refl (Val.number refl) (Val.number refl) (Yields.faults refl))
 
 -- `if 1 then` has no logical condition
 condition_has_to_be_logical : (w : History) (r : RunState) (f : Frame) (ss os : stm.Stmts) →
@@ -49,11 +53,13 @@ condition_has_to_be_logical w r f ss os = Form.if_stops refl (TruthVal.a_truth (
 no_turns_take_a_test : (w : History) (r : RunState) (f : Frame) (ss : stm.Stmts) → 0 < r.left →
     Form w r f 0 (stm.repeat (stm.times (number (codes "0"))) ss) (Ok Next) w (less r) f
 unfolding computing
-no_turns_take_a_test w r f ss h = Form.times refl (NumberVal.a_number (Val.number refl) (Yields.yields refl)) refl (Counts.counts_end (Step.taken h refl) refl)
+no_turns_take_a_test w r f ss h = Form.times refl (NumberVal.a_number (Val.number refl) (Yields.yields refl)) refl
+    (Counts.counts_end (Step.taken h refl) refl)
 
 -- `exit to HyperCard` in a repeat ends the line well
 exit_ends_the_line : (w : History) (r : RunState) → 0 < r.left → 0 < (less r).left → 0 < (less (less r)).left →
-    Line w r (stm.also (stm.repeat stm.forever (stm.also stm.exit_to_hypercard stm.stop)) stm.stop) (Ok ExitedEnd) w (less (less (less r)))
+    Line w r (stm.also (stm.repeat stm.forever (stm.also stm.exit_to_hypercard stm.stop)) stm.stop) (Ok ExitedEnd) w
+    (less (less (less r)))
 exit_ends_the_line w r a b c =
     Line.line_exits refl (Block.block_stops refl (Step.taken a refl)
     (Form.forever refl (Endless.endless_stops (Step.taken b refl)

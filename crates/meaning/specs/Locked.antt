@@ -9,7 +9,8 @@ use Rattle.meaning.specs.State.{RunState}
 
 -- the reference leads to a field whose text is locked
 abbrev pub IsLocked : History → RunState → Part → History → RunState → Type 0
-IsLocked w r reference w2 r2 = (field : ℕ) × Refers w r reference (Ok (Some field)) w2 r2 × (locks_text w2.now.stack field ≡ true)
+IsLocked w r reference w2 r2 =
+    (field : ℕ) × Refers w r reference (Ok (Some field)) w2 r2 × (locks_text w2.now.stack field ≡ true)
 
 -- an action is refused that types into a locked field
 abbrev pub MeetsLock : History → RunState → act.Action → History → RunState → Type 0

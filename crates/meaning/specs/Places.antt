@@ -1,5 +1,6 @@
 -- Chunks, containers and fields as the rules use them.
-use Rattle.std.specs.Prelude.{◌≡◌, ℕ, ℤ, pos, Bool, true, false, List, [], ◌∷◌, ◌++◌, codes, Option, Some, None, Result, Ok, Err}
+use Rattle.std.specs.Prelude.{◌≡◌, ℕ, ℤ, pos, Bool, true, false, List, [], ◌∷◌, ◌++◌, codes, Option, Some, None}
+use Rattle.std.specs.Prelude.{Result, Ok, Err}
 use Rattle.ht_values.specs.declared.fault.Fault.{Fault}
 use Rattle.ht_values.specs.declared.fault.Fault.TheVariants.{TooMany}
 use Rattle.ht_values.specs.declared.word.ChunkKind.{ChunkKind}
@@ -74,7 +75,8 @@ layer_of_field false = layer.Background
 
 -- the place of the first field of a name, on the current card or on its background
 abbrev pub field_named_place : State → Bool → List ℕ → Result PlaceView Fault
-field_named_place s on_card name = and_then (field_named s.stack s.current (layer_of_field on_card) name) (field_place s)
+field_named_place s on_card name =
+    and_then (field_named s.stack s.current (layer_of_field on_card) name) (field_place s)
 
 -- a chunk of a place
 abbrev pub chunk_of_place : PlaceView → Chunk → PlaceView
@@ -91,20 +93,24 @@ pub data Edits : History → Frame → ℕ → PlaceView → Edit → Result (Un
       Edits w f delimiter p e (Ok tt) w1 f1
 
 -- the number of a turn is put into the variable of a repeat, where it has one
-pub data Assigns : History → Frame → ℕ → Option (List ℕ) → List ℕ → Result (Unit {0}) Stop → History → Frame → Type 0 where
+pub data Assigns : History → Frame → ℕ → Option (List ℕ) → List ℕ → Result (Unit {0}) Stop → History → Frame
+    → Type 0 where
   assign_memory : {w w1 : History} {f f1 : Frame} {delimiter : ℕ} {variable : Option (List ℕ)} {v : List ℕ} →
       Assigns w f delimiter variable v (Err stop.Memory) w1 f1
   no_variable : {w : History} {f : Frame} {delimiter : ℕ} {variable : Option (List ℕ)} {v : List ℕ} →
       variable ≡ None → Assigns w f delimiter variable v (Ok tt) w f
-  assigns : {w w1 : History} {f f1 : Frame} {delimiter : ℕ} {variable : Option (List ℕ)} {name v : List ℕ} {o : Result (Unit {0}) Stop} →
+  assigns : {w w1 : History} {f f1 : Frame} {delimiter : ℕ} {variable : Option (List ℕ)} {name v : List ℕ}
+      {o : Result (Unit {0}) Stop} →
       variable ≡ Some name → Edits w f delimiter (variable_place f.variables name) (Put Into v) o w1 f1 →
       Assigns w f delimiter variable v o w1 f1
 
 -- names mean globals from here on, from left to right
 pub data DeclaresAll : History → Frame → List (List ℕ) → Result (Unit {0}) Stop → History → Frame → Type 0 where
-  declare_memory : {w w1 : History} {f f1 : Frame} {names : List (List ℕ)} → DeclaresAll w f names (Err stop.Memory) w1 f1
+  declare_memory : {w w1 : History} {f f1 : Frame} {names : List (List ℕ)}
+      → DeclaresAll w f names (Err stop.Memory) w1 f1
   none_declared : {w : History} {f : Frame} {names : List (List ℕ)} → names ≡ [] → DeclaresAll w f names (Ok tt) w f
-  declared : {w w1 w2 : History} {f f1 f2 : Frame} {names names1 : List (List ℕ)} {name : List ℕ} {v : VariablesView} {o : Result (Unit {0}) Stop} →
+  declared : {w w1 w2 : History} {f f1 f2 : Frame} {names names1 : List (List ℕ)} {name : List ℕ} {v : VariablesView}
+      {o : Result (Unit {0}) Stop} →
       names ≡ name ∷ names1 → Declares w f.variables name w1 v → f1 ≡ record f { variables = v } →
       DeclaresAll w1 f1 names1 o w2 f2 → DeclaresAll w f names o w2 f2
 

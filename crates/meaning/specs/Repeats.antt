@@ -1,5 +1,6 @@
 -- How repeats and handlers end.
-use Rattle.std.specs.Prelude.{ℕ, ℤ, pos, ◌+ℤ◌, ◌-ℤ◌, int_lt, List, [], Bool, true, false, not, if◌then◌else◌, Option, Some, None, Result, Ok}
+use Rattle.std.specs.Prelude.{ℕ, ℤ, pos, ◌+ℤ◌, ◌-ℤ◌, int_lt, List, [], Bool, true, false, not, if◌then◌else◌, Option}
+use Rattle.std.specs.Prelude.{Some, None, Result, Ok}
 use Rattle.ht_values.specs.declared.fault.Fault.{Fault}
 use Rattle.ht_values.specs.Number.{number_of}
 use Rattle.ht_values.specs.Outcome.{and_then}
@@ -46,7 +47,8 @@ turns n = record { at = pos 1; bound = n; is_down = false }
 
 -- the numbers from one text to another, both converted, the first one first
 abbrev pub counter_of : List ℕ → List ℕ → Bool → Result CounterState Fault
-counter_of from to down = and_then (number_of from) (λ a. and_then (number_of to) (λ b. Ok (record { at = a; bound = b; is_down = down })))
+counter_of from to down =
+    and_then (number_of from) (λ a. and_then (number_of to) (λ b. Ok (record { at = a; bound = b; is_down = down })))
 
 -- what a handler gives, and the run after it
 pub record Outcome : Type 0 where

@@ -27,7 +27,15 @@ pub record RunState : Type 0 where
 
 -- the run of a typed command as it begins
 abbrev pub fresh_run : ℕ → RunState
-fresh_run steps = record { delimiter = 44; lock_messages = false; edit_background = false; result = []; left = steps; shown = []; sent = [] }
+fresh_run steps = record {
+  delimiter = 44;
+  lock_messages = false;
+  edit_background = false;
+  result = [];
+  left = steps;
+  shown = [];
+  sent = [];
+}
 
 -- one step is taken, or none is left
 pub data Step : RunState → Result (Unit {0}) Stop → RunState → Type 0 where
@@ -80,4 +88,5 @@ bound (name ∷ names) (a ∷ arguments) v = bound names arguments (with_local v
 
 -- the frame of a handler of an object, with its parameters
 abbrev pub handler_frame : ℕ → ℕ → List (List ℕ) → List (List ℕ) → Frame
-handler_frame me target parameters arguments = record { me = me; target = target; variables = bound parameters arguments (frame_of me target).variables }
+handler_frame me target parameters arguments =
+    record { me = me; target = target; variables = bound parameters arguments (frame_of me target).variables }

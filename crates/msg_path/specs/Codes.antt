@@ -36,7 +36,10 @@ handler_back (handler Command n ps ss) = ap (λ xs. handler Command n ps xs) (st
 handler_back (handler Function n ps ss) = ap (λ xs. handler Function n ps xs) (stmts_back ss)
 
 abbrev pub coded_handler : Coded Stmt → Coded Handler
-coded_handler c = code_by Parts (coded× coded_bool (coded× (coded_list coded_ℕ) (coded× (coded_list (coded_list coded_ℕ)) (coded_list c)))) parts_of handler_of_parts handler_back
+coded_handler c = code_by Parts
+    (coded× coded_bool (coded× (coded_list coded_ℕ) (coded× (coded_list (coded_list coded_ℕ)) (coded_list c)))) parts_of
+    handler_of_parts handler_back
 
 abbrev pub coded_found : Coded Stmt → Coded Found
-coded_found c = code_by (ℕ × Handler) (coded× coded_ℕ (coded_handler c)) (λ f. (f.object, f.handler)) (λ p. record { object = p.0; handler = p.1 }) (λ _. refl)
+coded_found c = code_by (ℕ × Handler) (coded× coded_ℕ (coded_handler c)) (λ f. (f.object, f.handler))
+    (λ p. record { object = p.0; handler = p.1 }) (λ _. refl)

@@ -23,12 +23,15 @@ no_handler = handler Command [] [] stop
 pub data First : Content → List ℕ → HandlerKind → List ℕ → Result (Option Found) Fault → Type 0 where
   nothing_left : {s : Content} {path name : List ℕ} {kind : HandlerKind} {outcome : Result (Option Found) Fault} →
       path ≡ [] → outcome ≡ Ok None → First s path kind name outcome
-  here : {s : Content} {path rest name : List ℕ} {id : ℕ} {kind : HandlerKind} {hs : Handlers} {h : Handler} {outcome : Result (Option Found) Fault} →
+  here : {s : Content} {path rest name : List ℕ} {id : ℕ} {kind : HandlerKind} {hs : Handlers} {h : Handler}
+      {outcome : Result (Option Found) Fault} →
       path ≡ id ∷ rest → Reads ReadsScript (object_script s id) hs → handler_in hs kind name ≡ Some h →
       outcome ≡ Ok (Some (record { object = id; handler = h })) → First s path kind name outcome
-  further_on : {s : Content} {path rest name : List ℕ} {id : ℕ} {kind : HandlerKind} {hs : Handlers} {outcome : Result (Option Found) Fault} →
+  further_on : {s : Content} {path rest name : List ℕ} {id : ℕ} {kind : HandlerKind} {hs : Handlers}
+      {outcome : Result (Option Found) Fault} →
       path ≡ id ∷ rest → Reads ReadsScript (object_script s id) hs → handler_in hs kind name ≡ None →
       First s rest kind name outcome → First s path kind name outcome
-  no_script : {s : Content} {path rest name : List ℕ} {id : ℕ} {kind : HandlerKind} {outcome : Result (Option Found) Fault} →
+  no_script : {s : Content} {path rest name : List ℕ} {id : ℕ} {kind : HandlerKind}
+      {outcome : Result (Option Found) Fault} →
       path ≡ id ∷ rest → ((hs : Handlers) → Reads ReadsScript (object_script s id) hs → ⊥) →
       outcome ≡ Err Syntax → First s path kind name outcome

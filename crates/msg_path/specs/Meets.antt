@@ -22,15 +22,21 @@ met_by None None = met.Nobody
 
 -- what a message meets after the stack
 abbrev pub met_after_stack : List Seen → HandlerKind → List ℕ → Found
-met_after_stack externals kind name = met_by (external_named externals (calls_function kind) name) (built_in_named kind name)
+met_after_stack externals kind name =
+    met_by (external_named externals (calls_function kind) name) (built_in_named kind name)
 
 -- What a message of a kind and a name meets first: a handler on the path, or what comes after the stack.
 pub data Meets : State → List ℕ → HandlerKind → List ℕ → Result Found Fault → Type 0 where
-  on_path : {s : State} {path name : List ℕ} {kind : HandlerKind} {first : Result (Option handlers.Found) Fault} {found : handlers.Found} {outcome : Result Found Fault} →
-      First s.stack path kind name first → first ≡ Ok (Some found) → outcome ≡ Ok (met.Handler found) → Meets s path kind name outcome
-  after_stack : {s : State} {path name : List ℕ} {kind : HandlerKind} {first : Result (Option handlers.Found) Fault} {outcome : Result Found Fault} →
-      First s.stack path kind name first → first ≡ Ok None → outcome ≡ Ok (met_after_stack s.externals kind name) → Meets s path kind name outcome
-  stops : {s : State} {path name : List ℕ} {kind : HandlerKind} {first : Result (Option handlers.Found) Fault} {fault : Fault} {outcome : Result Found Fault} →
+  on_path : {s : State} {path name : List ℕ} {kind : HandlerKind} {first : Result (Option handlers.Found) Fault}
+      {found : handlers.Found} {outcome : Result Found Fault} →
+      First s.stack path kind name first → first ≡ Ok (Some found) → outcome ≡ Ok (met.Handler found)
+      → Meets s path kind name outcome
+  after_stack : {s : State} {path name : List ℕ} {kind : HandlerKind} {first : Result (Option handlers.Found) Fault}
+      {outcome : Result Found Fault} →
+      First s.stack path kind name first → first ≡ Ok None → outcome ≡ Ok (met_after_stack s.externals kind name)
+      → Meets s path kind name outcome
+  stops : {s : State} {path name : List ℕ} {kind : HandlerKind} {first : Result (Option handlers.Found) Fault}
+      {fault : Fault} {outcome : Result Found Fault} →
       First s.stack path kind name first → first ≡ Err fault → outcome ≡ Err fault → Meets s path kind name outcome
 
 -- the call answered what is due, or was out of memory
@@ -43,5 +49,6 @@ GivesDue IsDue (Err failure.Memory) = Unit {0}
 -- rest of the path decides
 abbrev pub LeadsOn : Content → ℕ → HandlerKind → List ℕ → Result (Option handlers.Found) Fault → Type 0
 LeadsOn s id kind name (Ok (Some found)) = (rest : List ℕ) → First s (id ∷ rest) kind name (Ok (Some found))
-LeadsOn s id kind name (Ok None) = (rest : List ℕ) (outcome : Result (Option handlers.Found) Fault) → First s rest kind name outcome → First s (id ∷ rest) kind name outcome
+LeadsOn s id kind name (Ok None) = (rest : List ℕ) (outcome : Result (Option handlers.Found) Fault)
+    → First s rest kind name outcome → First s (id ∷ rest) kind name outcome
 LeadsOn s id kind name (Err fault) = (rest : List ℕ) → First s (id ∷ rest) kind name (Err fault)

@@ -3,7 +3,8 @@ use Rattle.std.specs.Prelude.{ℕ, List, [], ◌∷◌, drop, Option, Some, None
 use Rattle.object_table.specs.Content.{Content}
 use Rattle.object_table.specs.Objects.{object_at, background_at}
 use Rattle.object_table.specs.declared.object.Kind.{Kind}
-use Rattle.object_table.specs.declared.object.Kind.TheVariants.{Stack, Background, Card, CardButton, BackgroundButton, CardField, BackgroundField}
+use Rattle.object_table.specs.declared.object.Kind.TheVariants.{Stack, Background, Card, CardButton, BackgroundButton}
+use Rattle.object_table.specs.declared.object.Kind.TheVariants.{CardField, BackgroundField}
 use Rattle.object_table.specs.declared.object.Object.{Object}
 
 -- a card, its background, the stack; of what is no card the stack alone

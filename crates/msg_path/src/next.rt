@@ -3,7 +3,8 @@
 ghost use Rattle.std.specs.Prelude.{◌≡◌, ◌<◌, length, IfSome};
 ghost use Rattle.journal_entries.specs.State.{seen_by};
 ghost use Rattle.msg_path.specs.Handlers.{First};
-ghost use Rattle.msg_path.specs.BuiltIns.{answers as is_answering, calls_function as is_function_call, external_named as external_by_name};
+ghost use Rattle.msg_path.specs.BuiltIns.{answers as is_answering, calls_function as is_function_call};
+ghost use Rattle.msg_path.specs.BuiltIns.{external_named as external_by_name};
 ghost use Rattle.msg_path.specs.Meets.{GivesDue, LeadsOn, Meets};
 
 use crate::built_in::BuiltIn;

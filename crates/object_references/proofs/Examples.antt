@@ -13,7 +13,8 @@ use Rattle.object_table.specs.Empty.{empty_object}
 use Rattle.object_table.specs.declared.object.Kind.TheVariants.{Stack, Background, Card, BackgroundField}
 use Rattle.object_table.specs.declared.object.LayerId.TheVariants.{OfCard, OfBackground}
 use Rattle.object_table.specs.declared.object.Object.{Object}
-use Rattle.object_references.specs.References.{card_found, first_card_found, scope_of_card, scope_of_background, part_met, field_named}
+use Rattle.object_references.specs.References.{card_found, first_card_found, scope_of_card, scope_of_background}
+use Rattle.object_references.specs.References.{part_met, field_named}
 use Rattle.object_references.specs.declared.referent.Pick.TheVariants.{Nth, ById, ByText}
 use Rattle.object_references.specs.declared.referent.Sought.TheVariants.{This, Next, Previous, Picked}
 
@@ -23,7 +24,10 @@ unfolding digits
 computing = tt
 
 abbrev objects : List (ℕ × Object)
-objects = (0, empty_object Stack) ∷ (1, empty_object (Background false)) ∷ (2, record (empty_object (Card 1 false)) { name = codes "A" }) ∷ (3, record (empty_object (BackgroundField true false false)) { name = codes "Note" }) ∷ (4, empty_object (Card 1 false)) ∷ []
+objects = (0, empty_object Stack) ∷ (1, empty_object (Background false))
+    ∷ (2, record (empty_object (Card 1 false)) { name = codes "A" })
+    ∷ (3, record (empty_object (BackgroundField true false false)) { name = codes "Note" })
+    ∷ (4, empty_object (Card 1 false)) ∷ []
 
 abbrev parts : List (ℕ × List ℕ)
 parts = (1, 3 ∷ []) ∷ (2, []) ∷ (4, []) ∷ []
@@ -80,10 +84,12 @@ an_owner_is_met_with_its_part = refl
 no_part_of_a_card_is_on_a_background : scope_of_background two_cards 4 layer.Card This ≡ Err NoSuchObject
 no_part_of_a_card_is_on_a_background = refl
 
-buttons_and_fields_are_numbered_apart : part_met two_cards Field (record { layer = OfBackground 1; card = 4 }) (Nth Last) ≡ Ok (record { object = 3; card = 4 })
+buttons_and_fields_are_numbered_apart : part_met two_cards Field (record { layer = OfBackground 1; card = 4 })
+    (Nth Last) ≡ Ok (record { object = 3; card = 4 })
 buttons_and_fields_are_numbered_apart = simp (found, listed) refl
 
-no_button_is_there : part_met two_cards Button (record { layer = OfBackground 1; card = 4 }) (Nth First) ≡ Err NoSuchObject
+no_button_is_there : part_met two_cards Button (record { layer = OfBackground 1; card = 4 }) (Nth First)
+    ≡ Err NoSuchObject
 no_button_is_there = simp (found, listed) refl
 
 a_field_has_that_name : field_named two_cards 2 layer.Background (codes "note") ≡ Ok (record { object = 3; card = 2 })

@@ -11,6 +11,7 @@ abbrev fault_of : {A : Type 0} → Fault → Result A (List ℕ × Fault) → Fa
 fault_of other (Ok x) = other
 fault_of other (Err p) = p.1
 
-pub handed_err : {A : Type 0} (t u : List ℕ) (r : Result A Fault) (fault : Fault) → Err (u, fault) ≡ handed_back t r → r ≡ Err fault
+pub handed_err : {A : Type 0} (t u : List ℕ) (r : Result A Fault) (fault : Fault) → Err (u, fault) ≡ handed_back t r
+    → r ≡ Err fault
 handed_err t u (Ok x) fault e = cc
 handed_err t u (Err f) fault e = sym (ap (λ r. Err (fault_of fault r)) e)

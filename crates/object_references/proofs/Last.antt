@@ -1,5 +1,6 @@
 -- The last of a list, and parts of a kind.
-use Rattle.std.proofs.Common.{◌≡◌, ℕ, suc, arith, Bool, true, false, cond, List, [], ◌∷◌, length, filter, slice_get, Option, Some, None, option_and_then, unwrap_or, ◌==◌, ◌-◌, refl, sym, ap, ◌∙◌}
+use Rattle.std.proofs.Common.{◌≡◌, ℕ, suc, arith, Bool, true, false, cond, List, [], ◌∷◌, length, filter, slice_get}
+use Rattle.std.proofs.Common.{Option, Some, None, option_and_then, unwrap_or, ◌==◌, ◌-◌, refl, sym, ap, ◌∙◌}
 use Rattle.std.specs.Option.{option_or}
 use Rattle.std.proofs.lemmas.Bool.Decides.{nat_tests}
 use Rattle.ht_values.specs.declared.word.PartKind.{PartKind}
@@ -19,7 +20,8 @@ last_of ids = at_number ids (length ids)
 next : (n : ℕ) (o : ℕ → Option ℕ) → cond (suc n == 0) None (o (suc n - 1)) ≡ o n
 next n o = grind (arith, nat_tests)
 
-there : (id : ℕ) (ids : List ℕ) (o : Option ℕ) → option_or (slice_get (id ∷ ids) (length ids)) o ≡ slice_get (id ∷ ids) (length ids)
+there : (id : ℕ) (ids : List ℕ) (o : Option ℕ)
+    → option_or (slice_get (id ∷ ids) (length ids)) o ≡ slice_get (id ∷ ids) (length ids)
 there id [] o = refl
 there id (x ∷ xs) o = there x xs o
 
@@ -40,11 +42,13 @@ abbrev pub last_passing : (ℕ → Bool) → Option ℕ → List ℕ → Option 
 last_passing p found [] = found
 last_passing p found (x ∷ xs) = last_passing p (cond (p x) (Some x) found) xs
 
-walked : (p : ℕ → Bool) (found : Option ℕ) (ids : List ℕ) → last_passing p found ids ≡ option_or (last_of (filter p ids)) found
+walked : (p : ℕ → Bool) (found : Option ℕ) (ids : List ℕ)
+    → last_passing p found ids ≡ option_or (last_of (filter p ids)) found
 walked p found [] = refl
 walked p found (x ∷ xs) = walked p (cond (p x) (Some x) found) xs ∙ by (p x)
   where
-    by : (b : Bool) → option_or (last_of (filter p xs)) (cond b (Some x) found) ≡ option_or (last_of (cond b (x ∷ filter p xs) (filter p xs))) found
+    by : (b : Bool) → option_or (last_of (filter p xs)) (cond b (Some x) found)
+        ≡ option_or (last_of (cond b (x ∷ filter p xs) (filter p xs))) found
     by true = sym (some_last x (filter p xs) found ∙ before x (filter p xs))
     by false = refl
 
@@ -66,9 +70,11 @@ none_of s (Number number) = by (number == 0)
 none_of s (Id id) = refl
 none_of s (Name name) = refl
 
-pub found_on : (s : Content) (layer : LayerId) (kind : PartKind) (w : Which) → part_found s layer kind w ≡ pick s w (parts_on s layer kind)
+pub found_on : (s : Content) (layer : LayerId) (kind : PartKind) (w : Which)
+    → part_found s layer kind w ≡ pick s w (parts_on s layer kind)
 found_on s layer kind w = by (layer_parts s layer)
   where
-    by : (parts : Option (List ℕ)) → option_and_then (λ ids. pick s w (of_kind s kind ids)) parts ≡ pick s w (of_kind s kind (unwrap_or parts []))
+    by : (parts : Option (List ℕ)) → option_and_then (λ ids. pick s w (of_kind s kind ids)) parts
+        ≡ pick s w (of_kind s kind (unwrap_or parts []))
     by None = none_of s w
     by (Some ids) = refl

@@ -11,4 +11,5 @@ is_kept s id = has_kind (λ kind. unwrap_or (cant_delete_of kind) false) s id
 
 -- whether the current card may go: there is another one, it isn't kept, nor is the background that goes with it
 abbrev pub may_delete : Content → ℕ → Bool
-may_delete s current = fits_deletion s && (not (is_kept s current) && not (is_last_card s current && is_kept s (home s current)))
+may_delete s current =
+    fits_deletion s && (not (is_kept s current) && not (is_last_card s current && is_kept s (home s current)))

@@ -1,5 +1,6 @@
 -- Which object a reference means.
-use Rattle.std.specs.Prelude.{ℕ, ℤ, pos, negsuc, List, [], ◌∷◌, reverse, length, find, is_some, if◌then◌else◌, ◌==◌, Option, Some, None, unwrap_or, Result, Ok, Err}
+use Rattle.std.specs.Prelude.{ℕ, ℤ, pos, negsuc, List, [], ◌∷◌, reverse, length, find, is_some, if◌then◌else◌, ◌==◌}
+use Rattle.std.specs.Prelude.{Option, Some, None, unwrap_or, Result, Ok, Err}
 use Rattle.std.specs.Option.{ok_or}
 use Rattle.ht_values.specs.declared.fault.Fault.{Fault}
 use Rattle.ht_values.specs.declared.fault.Fault.TheVariants.{NoSuchObject}
@@ -124,7 +125,8 @@ scope_of_card s current l k = and_then (card_found s current k) (λ card. Ok (sc
 -- the owner is a background: no part of a card is found there
 abbrev pub scope_of_background : Content → ℕ → Layer → Sought → Result PartScope Fault
 scope_of_background s current layer.Card k = Err NoSuchObject
-scope_of_background s current layer.Background k = and_then (background_found s current k) (λ b. Ok (record { layer = OfBackground b; card = current }))
+scope_of_background s current layer.Background k =
+    and_then (background_found s current k) (λ b. Ok (record { layer = OfBackground b; card = current }))
 
 -- the parts of a kind on a layer, in their order
 abbrev pub parts_on : Content → LayerId → PartKind → List ℕ
@@ -132,8 +134,11 @@ parts_on s l kind = of_kind s kind (unwrap_or (layer_parts s l) [])
 
 -- the part that is picked where it is looked for
 abbrev pub part_met : Content → PartKind → PartScope → Pick → Result Referent Fault
-part_met s kind scope p = and_then (ok_or (picked s (parts_on s scope.layer kind) p) NoSuchObject) (λ id. Ok (record { object = id; card = scope.card }))
+part_met s kind scope p = and_then (ok_or (picked s (parts_on s scope.layer kind) p) NoSuchObject)
+    (λ id. Ok (record { object = id; card = scope.card }))
 
 -- the first field of a name, also of the empty one, on the current card or on its background
 abbrev pub field_named : Content → ℕ → Layer → List ℕ → Result Referent Fault
-field_named s current l name = and_then (ok_or (find (is_named s name) (parts_on s (scope_by s l current).layer Field)) NoSuchObject) (λ id. Ok (met_here current id))
+field_named s current l name = and_then
+    (ok_or (find (is_named s name) (parts_on s (scope_by s l current).layer Field)) NoSuchObject)
+    (λ id. Ok (met_here current id))

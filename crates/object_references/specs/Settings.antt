@@ -1,5 +1,6 @@
 -- Properties of objects that a reference found, as they are read and set.
-use Rattle.std.specs.Prelude.{◌≡◌, ℕ, Bool, true, false, List, Option, is_some, unwrap_or, Result, Ok, Err, if◌then◌else◌}
+use Rattle.std.specs.Prelude.{◌≡◌, ℕ, Bool, true, false, List, Option, is_some, unwrap_or, Result, Ok, Err}
+use Rattle.std.specs.Prelude.{if◌then◌else◌}
 use Rattle.ht_values.specs.declared.fault.Fault.{Fault}
 use Rattle.ht_values.specs.declared.fault.Fault.TheVariants.{NoSuchObject}
 use Rattle.ht_values.specs.declared.word.PartKind.{PartKind}
@@ -48,7 +49,8 @@ background_hilite s m lit =
 
 -- the change that gives an object a value
 abbrev pub change_of : Content → Referent → PropValue → Result Change Fault
-change_of s m (HiliteIs lit) = if has_kind is_background_button s m.object then background_hilite s m lit else Ok (change.Prop m.object (HiliteIs lit))
+change_of s m (HiliteIs lit) = if has_kind is_background_button s m.object then background_hilite s m lit else Ok
+    (change.Prop m.object (HiliteIs lit))
 change_of s m value = Ok (change.Prop m.object value)
 
 -- first whether there is such a property that may be set, then whether the text is of its type, then whether a hilite is there

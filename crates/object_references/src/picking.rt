@@ -40,14 +40,16 @@ pub fn ordinal_number(ordinal: Ordinal, count: usize) -> usize
 }
 
 fn by_id(text: &Text) -> Option<Which<'_>>
-    ensures { (s : Content) (ids : List ℕ) → option_and_then (λ w. pick_of s w ids) result ≡ references.picked s ids (variants.ById text.now) }
+    ensures { (s : Content) (ids : List ℕ)
+        → option_and_then (λ w. pick_of s w ids) result ≡ references.picked s ids (variants.ById text.now) }
 {
     let id = usize::try_from(numeral(text)?).ok()?;
     Some(Which::Id(id))
 }
 
 fn by_text(text: &Text) -> Option<Which<'_>>
-    ensures { (s : Content) (ids : List ℕ) → option_and_then (λ w. pick_of s w ids) result ≡ references.picked s ids (variants.ByText text.now) }
+    ensures { (s : Content) (ids : List ℕ)
+        → option_and_then (λ w. pick_of s w ids) result ≡ references.picked s ids (variants.ByText text.now) }
 {
     match numeral(text) {
         Some(number) => Some(Which::Number(usize::try_from(number).ok()?)),
@@ -59,7 +61,8 @@ fn by_text(text: &Text) -> Option<Which<'_>>
 /// What is meant of a list of so many. `None` where nothing can be: by an id that is no numeral, and by the empty text,
 /// which is no name.
 fn which(pick: &Pick, count: usize) -> Option<Which<'_>>
-    ensures { (s : Content) (ids : List ℕ) → length ids ≡ count → option_and_then (λ w. pick_of s w ids) result ≡ references.picked s ids pick.now }
+    ensures { (s : Content) (ids : List ℕ) → length ids ≡ count
+        → option_and_then (λ w. pick_of s w ids) result ≡ references.picked s ids pick.now }
 {
     match pick {
         Pick::Nth(ordinal) => Some(Which::Number(ordinal_number(*ordinal, count))),
@@ -87,7 +90,8 @@ pub(crate) fn picked_part(stack: &Stack, layer: LayerId, kind: PartKind, pick: &
 }
 
 fn nth_part(stack: &Stack, layer: LayerId, kind: PartKind, ordinal: Ordinal) -> Option<Id>
-    ensures { result ≡ references.picked stack.now.content (references.parts_on stack.now.content layer kind) (variants.Nth ordinal) }
+    ensures { result ≡ references.picked stack.now.content (references.parts_on stack.now.content layer kind)
+        (variants.Nth ordinal) }
 {
     match number_from_first(ordinal) {
         Some(number) => stack.find_part(layer, kind, Which::Number(number)),
@@ -97,7 +101,8 @@ fn nth_part(stack: &Stack, layer: LayerId, kind: PartKind, ordinal: Ordinal) -> 
 
 /// The last of these parts that is of a kind.
 fn last_part(stack: &Stack, parts: &[Id], kind: PartKind) -> Option<Id>
-    ensures { result ≡ at_number (of_kind stack.now.content kind parts.now) (length (of_kind stack.now.content kind parts.now)) }
+    ensures { result ≡ at_number (of_kind stack.now.content kind parts.now)
+        (length (of_kind stack.now.content kind parts.now)) }
 {
     let mut last = None;
     for part in parts {

@@ -1,5 +1,6 @@
 -- What goes on in a rule: steps, lines that are shown, messages that are sent, and results.
-use Rattle.std.proofs.Common.{◌≡◌, ℕ, List, [], ◌∷◌, ◌++◌, Option, Some, None, Result, Ok, Err, Bool, refl, sym, ap, subst, ◌∙◌, append_assoc, append-nil, arith}
+use Rattle.std.proofs.Common.{◌≡◌, ℕ, List, [], ◌∷◌, ◌++◌, Option, Some, None, Result, Ok, Err, Bool, refl, sym, ap}
+use Rattle.std.proofs.Common.{subst, ◌∙◌, append_assoc, append-nil, arith}
 use Rattle.ht_values.specs.declared.fault.Fault.{Fault}
 use Rattle.ht_values.specs.Operators.{truth_of}
 use Rattle.ht_values.specs.Outcome.{and_then}
@@ -38,14 +39,16 @@ goes_to : {r r2 r3 : RunState} → GoesOn r r3 → r2 ≡ r3 → GoesOn r r2
 goes_to {r} goes is = subst (GoesOn r) (sym is) goes
 
 pub goes_by_step : {r r2 : RunState} {o : Result (Unit {0}) Stop} → Step r o r2 → GoesOn r r2
-goes_by_step {r} (Step.taken _ is) = goes_to (record { left = omega arith; shown = whole r.shown; sent = whole r.sent }) is
+goes_by_step {r} (Step.taken _ is) =
+    goes_to (record { left = omega arith; shown = whole r.shown; sent = whole r.sent }) is
 goes_by_step (Step.none_left _) = goes_nowhere
 
 pub goes_by_shows : {r r2 : RunState} (t : List ℕ) → r2 ≡ shows r t → GoesOn r r2
 goes_by_shows {r} t is = goes_to (record { left = omega arith; shown = (spelled t ∷ [], refl); sent = whole r.sent }) is
 
 pub goes_by_noted : {r r2 : RunState} (name : List ℕ) (id : ℕ) → r2 ≡ noted r name id → GoesOn r r2
-goes_by_noted {r} name id is = goes_to (record { left = omega arith; shown = whole r.shown; sent = (record { name = name; object = id } ∷ [], refl) }) is
+goes_by_noted {r} name id is = goes_to
+    (record { left = omega arith; shown = whole r.shown; sent = (record { name = name; object = id } ∷ [], refl) }) is
 
 -- ---- properties of the run
 
@@ -60,12 +63,14 @@ delimiter_goes r [] = goes_nowhere
 delimiter_goes r (b ∷ []) = record { left = omega arith; shown = whole r.shown; sent = whole r.sent }
 delimiter_goes r (b ∷ c ∷ t) = goes_nowhere
 
-lock_goes : (r : RunState) (truth : Result Bool Fault) → GoesOn r (held r (and_then truth (λ b. Ok (record r { lock_messages = b }))))
+lock_goes : (r : RunState) (truth : Result Bool Fault)
+    → GoesOn r (held r (and_then truth (λ b. Ok (record r { lock_messages = b }))))
 unfolding held
 lock_goes r (Ok b) = record { left = omega arith; shown = whole r.shown; sent = whole r.sent }
 lock_goes r (Err fault) = goes_nowhere
 
-edit_goes : (r : RunState) (truth : Result Bool Fault) → GoesOn r (held r (and_then truth (λ b. Ok (record r { edit_background = b }))))
+edit_goes : (r : RunState) (truth : Result Bool Fault)
+    → GoesOn r (held r (and_then truth (λ b. Ok (record r { edit_background = b }))))
 unfolding held
 edit_goes r (Ok b) = record { left = omega arith; shown = whole r.shown; sent = whole r.sent }
 edit_goes r (Err fault) = goes_nowhere
@@ -75,7 +80,8 @@ property_goes r ItemDelimiter t = delimiter_goes r t
 property_goes r LockMessages t = lock_goes r (truth_of t)
 property_goes r EditBkgnd t = edit_goes r (truth_of t)
 
-pub goes_by_property : {r r2 : RunState} (property : RunProp) (t : List ℕ) → run_property_set r property t ≡ Ok r2 → GoesOn r r2
+pub goes_by_property : {r r2 : RunState} (property : RunProp) (t : List ℕ) → run_property_set r property t ≡ Ok r2
+    → GoesOn r r2
 unfolding held
 goes_by_property {r} property t is = subst (λ o. GoesOn r (held r o)) is (property_goes r property t)
 
@@ -85,7 +91,8 @@ returned_goes : (kind : HandlerKind) (v : List ℕ) (r : RunState) → GoesOn r 
 returned_goes Command v r = record { left = omega arith; shown = whole r.shown; sent = whole r.sent }
 returned_goes Function v r = goes_nowhere
 
-pub goes_by_returned : {v2 : List ℕ} {r r2 : RunState} (kind : HandlerKind) (v : List ℕ) → returned kind v r ≡ record { value = v2; run = r2 } → GoesOn r r2
+pub goes_by_returned : {v2 : List ℕ} {r r2 : RunState} (kind : HandlerKind) (v : List ℕ)
+    → returned kind v r ≡ record { value = v2; run = r2 } → GoesOn r r2
 goes_by_returned {v2} {r} kind v is = subst (λ x. GoesOn r x.run) is (returned_goes kind v r)
 
 -- the run of an outcome, if there is one
@@ -102,6 +109,7 @@ ends_go kind Exit r = goes_nowhere
 ends_go kind Pass r = goes_nowhere
 ends_go kind (Returns v) r = returned_goes kind v r
 
-pub goes_by_ends : {v : List ℕ} {r r2 : RunState} (kind : HandlerKind) (h : How) → ends kind h r ≡ Some (record { value = v; run = r2 }) → GoesOn r r2
+pub goes_by_ends : {v : List ℕ} {r r2 : RunState} (kind : HandlerKind) (h : How)
+    → ends kind h r ≡ Some (record { value = v; run = r2 }) → GoesOn r r2
 unfolding run_of
 goes_by_ends {v} {r} kind h is = subst (λ x. GoesOn r (run_of r x)) is (ends_go kind h r)

@@ -16,18 +16,21 @@ use Rattle.meaning.specs.declared.frame.Frame.{Frame}
 use Rattle.meaning.specs.Places.{Edits, Assigns, DeclaresAll, Sets, Adds}
 use Rattle.preservation.specs.Laws.{HasMemory}
 
-base_writes : {w w2 : History} {v v2 : VariablesView} {p : StorageView} {due : Result (Option (List ℕ)) Fault} → Writes w v p due w2 v2 → base w2 ≡ base w
+base_writes : {w w2 : History} {v v2 : VariablesView} {p : StorageView} {due : Result (Option (List ℕ)) Fault}
+    → Writes w v p due w2 v2 → base w2 ≡ base w
 base_writes (Writes.nothing_due _) = refl
 base_writes (Writes.to_global _ _ made) = made_keeps made
 base_writes (Writes.to_own _ _ _) = refl
 base_writes (Writes.to_field _ _ made) = made_keeps made
 
-pub base_edits : {w w2 : History} {f f2 : Frame} {delimiter : ℕ} {p : PlaceView} {e : Edit} {o : Result (Unit {0}) Stop} → Edits w f delimiter p e o w2 f2 → HasMemory o → base w2 ≡ base w
+pub base_edits : {w w2 : History} {f f2 : Frame} {delimiter : ℕ} {p : PlaceView} {e : Edit} {o : Result (Unit {0}) Stop}
+    → Edits w f delimiter p e o w2 f2 → HasMemory o → base w2 ≡ base w
 base_edits Edits.edit_memory has = absurd (has refl)
 base_edits (Edits.edit_faults _ same _) has = ap base same
 base_edits (Edits.edited written _) has = base_writes written
 
-pub base_assigns : {w w2 : History} {f f2 : Frame} {delimiter : ℕ} {variable : Option (List ℕ)} {t : List ℕ} {o : Result (Unit {0}) Stop} → Assigns w f delimiter variable t o w2 f2 → HasMemory o → base w2 ≡ base w
+pub base_assigns : {w w2 : History} {f f2 : Frame} {delimiter : ℕ} {variable : Option (List ℕ)} {t : List ℕ}
+    {o : Result (Unit {0}) Stop} → Assigns w f delimiter variable t o w2 f2 → HasMemory o → base w2 ≡ base w
 base_assigns Assigns.assign_memory has = absurd (has refl)
 base_assigns (Assigns.no_variable _) has = refl
 base_assigns (Assigns.assigns _ edits) has = base_edits edits has
@@ -36,17 +39,20 @@ base_declares : {w w2 : History} {v v2 : VariablesView} {name : List ℕ} → De
 base_declares (Declares.has_value _ _) = refl
 base_declares (Declares.is_new _ made _) = made_keeps made
 
-pub base_declares_all : {w w2 : History} {f f2 : Frame} {names : List (List ℕ)} {o : Result (Unit {0}) Stop} → DeclaresAll w f names o w2 f2 → HasMemory o → base w2 ≡ base w
+pub base_declares_all : {w w2 : History} {f f2 : Frame} {names : List (List ℕ)} {o : Result (Unit {0}) Stop}
+    → DeclaresAll w f names o w2 f2 → HasMemory o → base w2 ≡ base w
 base_declares_all DeclaresAll.declare_memory has = absurd (has refl)
 base_declares_all (DeclaresAll.none_declared _) has = refl
 base_declares_all (DeclaresAll.declared _ declares _ rest) has = base_declares_all rest has ∙ base_declares declares
 
-pub base_sets : {w w2 : History} {m : Referent} {prop : Prop} {t : List ℕ} {o : Result (Unit {0}) Stop} → Sets w m prop t o w2 → HasMemory o → base w2 ≡ base w
+pub base_sets : {w w2 : History} {m : Referent} {prop : Prop} {t : List ℕ} {o : Result (Unit {0}) Stop}
+    → Sets w m prop t o w2 → HasMemory o → base w2 ≡ base w
 base_sets Sets.set_memory has = absurd (has refl)
 base_sets (Sets.set_faults _ same) has = ap base same
 base_sets (Sets.set_made _ made) has = made_keeps made
 
-pub base_adds : {w w2 : History} {c : Change} {o : Result (Unit {0}) Stop} → Adds w c o w2 → HasMemory o → base w2 ≡ base w
+pub base_adds : {w w2 : History} {c : Change} {o : Result (Unit {0}) Stop} → Adds w c o w2 → HasMemory o
+    → base w2 ≡ base w
 base_adds Adds.add_memory has = absurd (has refl)
 base_adds (Adds.too_many _) has = refl
 base_adds (Adds.adds _ made) has = made_keeps made

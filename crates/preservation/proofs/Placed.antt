@@ -37,7 +37,9 @@ placed_variable v name = by (is_global v name)
 placed_field : (s : State) (m : Referent) → IfPlaced (field_place s m)
 placed_field s m = by (keeps_for s.stack m.object m.card)
   where
-    by : (b : Bool) → IfPlaced {E = Fault} (and_then (if b then Ok (field_text m.object (if is_shared s.stack m.object then 0 else m.card)) else Err NoSuchObject) (λ h. Ok (record { storage = h; chunks = [] })))
+    by : (b : Bool) → IfPlaced {E = Fault}
+        (and_then (if b then Ok (field_text m.object (if is_shared s.stack m.object then 0 else m.card)) else Err
+        NoSuchObject) (λ h. Ok (record { storage = h; chunks = [] })))
     by true = tt
     by false = tt
 
@@ -56,15 +58,19 @@ yields_placed h (Yields.faults _) = tt
 pub placed_at : {p : PlaceView} (s : State) (m : Referent) → field_place s m ≡ Ok p → IsPlaced p.storage
 placed_at s m is = subst IfPlaced is (placed_field s m)
 
-pub placed_by_name : {p : PlaceView} (s : State) (b : Bool) (name : List ℕ) → Yields (field_named_place s b name) (Ok p) → IsPlaced p.storage
+pub placed_by_name : {p : PlaceView} (s : State) (b : Bool) (name : List ℕ) → Yields (field_named_place s b name) (Ok p)
+    → IsPlaced p.storage
 placed_by_name s b name found = yields_placed (placed_named s b name) found
 
-pub placed_part : {q : PlaceView} (p : PlaceView) (c : Chunk) → q ≡ chunk_of_place p c → IsPlaced p.storage → IsPlaced q.storage
+pub placed_part : {q : PlaceView} (p : PlaceView) (c : Chunk) → q ≡ chunk_of_place p c → IsPlaced p.storage
+    → IsPlaced q.storage
 placed_part p c is h = subst (λ (x : PlaceView). IsPlaced x.storage) (sym is) h
 
-pub placed : {w w2 : History} {r r2 : RunState} {f : Frame} {d : ℕ} {ct : tree.Container} {o : Result PlaceView Stop} → Resolves w r f d ct o w2 r2 → IfPlaced o
+pub placed : {w w2 : History} {r r2 : RunState} {f : Frame} {d : ℕ} {ct : tree.Container} {o : Result PlaceView Stop}
+    → Resolves w r f d ct o w2 r2 → IfPlaced o
 placed Resolves.place_memory = tt
-placed {f = f} (Resolves.place_variable {n = n} _ is) = subst (λ (x : PlaceView). IsPlaced x.storage) (sym is) (placed_variable f.variables n)
+placed {f = f} (Resolves.place_variable {n = n} _ is) =
+    subst (λ (x : PlaceView). IsPlaced x.storage) (sym is) (placed_variable f.variables n)
 placed (Resolves.place_field_stops _ _) = tt
 placed (Resolves.place_field {w1 = w1} {m = m} _ _ found) = yields_placed (placed_field w1.now m) found
 placed (Resolves.place_chunk_stops _ _) = tt

@@ -1,6 +1,8 @@
 -- What the changes and the turn in a rule keep of whole states.
 use Rattle.std.specs.List.{All, AllByRecursion}
-use Rattle.std.proofs.Common.{◌≡◌, ◌+◌, ◌<◌, ◌≤◌, ◌⊎◌, inl, inr, ℕ, zero, suc, List, [], ◌∷◌, ◌++◌, length, set, Option, Some, None, Result, Ok, IfOk, Bool, true, false, bytes_eq, is_some, if◌then◌else◌, refl, sym, ap, subst, ◌∙◌, arith}
+use Rattle.std.proofs.Common.{◌≡◌, ◌+◌, ◌<◌, ◌≤◌, ◌⊎◌, inl, inr, ℕ, zero, suc, List, [], ◌∷◌, ◌++◌, length, set}
+use Rattle.std.proofs.Common.{Option, Some, None, Result, Ok, IfOk, Bool, true, false, bytes_eq, is_some}
+use Rattle.std.proofs.Common.{if◌then◌else◌, refl, sym, ap, subst, ◌∙◌, arith}
 use Rattle.std.specs.Option.{ok_or}
 use Rattle.std.proofs.lemmas.Bool.{and_parts}
 use Rattle.std.proofs.lemmas.List.{get_or-set_same}
@@ -42,7 +44,8 @@ use Rattle.containers.specs.Writes.{Writes, Declares}
 use Rattle.meaning.specs.declared.end.Stop.{Stop}
 use Rattle.meaning.specs.declared.frame.Frame.{Frame}
 use Rattle.meaning.specs.Places.{Edits, Assigns, DeclaresAll, Sets, Adds}
-use Rattle.preservation.specs.Changes.{replaced_made, replaced_turn, replaced_writes, replaced_edits, replaced_assigns, replaced_declares, replaced_declares_all, replaced_sets, replaced_adds}
+use Rattle.preservation.specs.Changes.{replaced_made, replaced_turn, replaced_writes, replaced_edits, replaced_assigns}
+use Rattle.preservation.specs.Changes.{replaced_declares, replaced_declares_all, replaced_sets, replaced_adds}
 use Rattle.preservation.specs.Laws.{HasMemory}
 use Rattle.preservation.specs.Whole.{AreTexts, KeepsWhole}
 use Rattle.preservation.proofs.Placed.{IsPlaced, placed_variable}
@@ -63,8 +66,10 @@ whole_nothing = record { whole = λ texts q. q }
 whole_same : {w w2 : History} → w2 ≡ w → KeepsWhole [] w w2
 whole_same {w} same = subst (KeepsWhole [] w) (sym same) whole_nothing
 
-pub whole_trans : {rs ss : List Replacement} {w w2 w3 : History} → KeepsWhole rs w w2 → KeepsWhole ss w2 w3 → KeepsWhole (rs ++ ss) w w3
-whole_trans {rs} {ss} h k = record { whole = λ texts q. k.whole (texts_rest rs ss texts) (h.whole (texts_first rs ss texts) q) }
+pub whole_trans : {rs ss : List Replacement} {w w2 w3 : History} → KeepsWhole rs w w2 → KeepsWhole ss w2 w3
+    → KeepsWhole (rs ++ ss) w w3
+whole_trans {rs} {ss} h k =
+    record { whole = λ texts q. k.whole (texts_rest rs ss texts) (h.whole (texts_first rs ss texts) q) }
 
 -- ---- a change
 
@@ -80,8 +85,10 @@ texts_of s change.NewBackground h = tt
 texts_of s (change.NewPart layer kind) h = tt
 texts_of s change.DeleteCard h = tt
 
-pub whole_made : {w w2 : History} {c : Change} → fits w.now c ≡ true → (made : Made w w2 c) → KeepsWhole (replaced_made made) w w2
-whole_made {w} {w2} {c} fit made = record { whole = λ texts q. IsHistory-made w w2 c fit (texts_of w.now c texts) made q }
+pub whole_made : {w w2 : History} {c : Change} → fits w.now c ≡ true → (made : Made w w2 c)
+    → KeepsWhole (replaced_made made) w w2
+whole_made {w} {w2} {c} fit made =
+    record { whole = λ texts q. IsHistory-made w w2 c fit (texts_of w.now c texts) made q }
 
 pub may_go : (s : State) → may_delete s.stack s.current ≡ true → fits_deletion s.stack ≡ true
 may_go s may = (and_parts (fits_deletion s.stack) _ may).0
@@ -91,24 +98,34 @@ may_go s may = (and_parts (fits_deletion s.stack) _ may).0
 abbrev exchanged_cell : ℕ → ℕ → List ℕ → List ℕ → Replacement
 exchanged_cell i c t u = record { place = cell i c; old = Some (text t); new = Some (text u) }
 
-cells_are : (i c : ℕ) (old new : List (List ℕ)) → AllByRecursion IsText old → length new ≡ length old → AreTexts (replaced_from i c old new) → AllByRecursion IsText new
+cells_are : (i c : ℕ) (old new : List (List ℕ)) → AllByRecursion IsText old → length new ≡ length old
+    → AreTexts (replaced_from i c old new) → AllByRecursion IsText new
 cells_are i c [] [] all same h = tt
 cells_are i c [] (u ∷ us) all same h = absurd (omega (arith, same))
 cells_are i c (t ∷ ts) [] all same h = absurd (omega (arith, same))
-cells_are i c (t ∷ ts) (u ∷ us) all same h = by (cells_are i (c + 1) ts us all.1 (omega (arith, same))) (bytes_eq t u) refl h
+cells_are i c (t ∷ ts) (u ∷ us) all same h =
+    by (cells_are i (c + 1) ts us all.1 (omega (arith, same))) (bytes_eq t u) refl h
   where
-    by : (AreTexts (replaced_from i (c + 1) ts us) → AllByRecursion IsText us) → (b : Bool) → bytes_eq t u ≡ b → AreTexts ((if b then [] else exchanged_cell i c t u ∷ []) ++ replaced_from i (c + 1) ts us) → AllByRecursion IsText (u ∷ us)
+    by : (AreTexts (replaced_from i (c + 1) ts us) → AllByRecursion IsText us) → (b : Bool) → bytes_eq t u ≡ b
+        → AreTexts ((if b then [] else exchanged_cell i c t u ∷ []) ++ replaced_from i (c + 1) ts us)
+        → AllByRecursion IsText (u ∷ us)
     by rest true equal k = (subst IsText ((bytes_eq-Decides t u).0 equal) all.0, rest k)
     by rest false differ k = (k.0.1, rest k.1)
 
 -- what is seen of the external after its turn, whose cells are texts
-known_after : (old new : State) (i : ℕ) → i < length old.externals → new ≡ with_cells_at old i (seen_at new i).cells → length (seen_at new i).cells ≡ length (seen_at old i).cells → AreTexts (replaced_by_turn i (seen_at old i).cells (seen_at new i).cells) → All IsExternal old.externals → IsExternal (seen_at new i)
+known_after : (old new : State) (i : ℕ) → i < length old.externals → new ≡ with_cells_at old i (seen_at new i).cells
+    → length (seen_at new i).cells ≡ length (seen_at old i).cells
+    → AreTexts (replaced_by_turn i (seen_at old i).cells (seen_at new i).cells) → All IsExternal old.externals
+    → IsExternal (seen_at new i)
 known_after old new i there is count texts each =
     let was = All-get_or IsExternal old.externals i none_seen there each in
     let cells = (seen_at new i).cells in
-    let found : seen_at new i ≡ with_cells (seen_at old i) cells = ap (λ s. seen_at s i) is ∙ get_or-set_same old.externals i (with_cells (seen_at old i) cells) none_seen there in
+    let found : seen_at new i ≡ with_cells (seen_at old i) cells = ap (λ s. seen_at s i) is
+    ∙ get_or-set_same old.externals i (with_cells (seen_at old i) cells) none_seen there in
     let of_kind = subst (IsKind (seen_at old i).sort (seen_at old i).answers_calls) (sym count) was.form in
-    let all = All-from_recursion IsText cells (cells_are i 0 (seen_at old i).cells cells (recursion_from_All IsText (seen_at old i).cells was.cells) count texts) in
+    let all = All-from_recursion IsText cells
+    (cells_are i 0 (seen_at old i).cells cells (recursion_from_All IsText (seen_at old i).cells was.cells) count
+    texts) in
     subst IsExternal (sym found) (record { title = was.title; cells = all; form = of_kind })
 
 -- past the last external a turn changes no state
@@ -117,7 +134,8 @@ set_past [] i e h = refl
 set_past (x ∷ es) zero e h = absurd (omega (arith, h))
 set_past (x ∷ es) (suc i) e h = ap (λ ys. x ∷ ys) (set_past es i e (omega (arith, h)))
 
-start_after : (ts : List (List ℕ)) (rs : List Replacement) (old new : Option Open) → BothOpen old new (λ o p. Rises rs (trail_after_turn rs o.trail) o p) → IsStart ts old → IsStart ts new
+start_after : (ts : List (List ℕ)) (rs : List Replacement) (old new : Option Open)
+    → BothOpen old new (λ o p. Rises rs (trail_after_turn rs o.trail) o p) → IsStart ts old → IsStart ts new
 start_after ts rs None None up h = absurd up
 start_after ts rs None (Some p) up h = absurd up
 start_after ts rs (Some o) None up h = absurd up
@@ -127,16 +145,20 @@ start_after ts rs (Some o) (Some p) up h = (rw up.state h.0, rw up.trail (once r
     once [] = h.1
     once (r ∷ rs) = h.1
 
-unmoved : {w w2 : History} {k : ℕ} {input : Input} {ask : Ask} → length w.now.externals ≤ k → TookTurn w w2 k input ask → IsHistory w → IsHistory w2
+unmoved : {w w2 : History} {k : ℕ} {input : Input} {ask : Ask} → length w.now.externals ≤ k → TookTurn w w2 k input ask
+    → IsHistory w → IsHistory w2
 unmoved {w} {w2} {k} past took q =
     let cells = (seen_at w2.now k).cells in
-    let same : w2.now ≡ w.now = took.turn.state ∙ ap (λ es. record w.now { externals = es }) (set_past w.now.externals k (with_cells (seen_at w.now k) cells) past) in
+    let same : w2.now ≡ w.now = took.turn.state
+    ∙ ap (λ es. record w.now { externals = es })
+    (set_past w.now.externals k (with_cells (seen_at w.now k) cells) past) in
     rw took.history (record {
       titles = q.titles;
       past = q.past;
       now = rw same q.now;
       future = q.future;
-      start = start_after q.titles (replaced_by_turn k (seen_at w.now k).cells cells) w.start w2.start took.start q.start;
+      start = start_after q.titles (replaced_by_turn k (seen_at w.now k).cells cells) w.start w2.start took.start
+          q.start;
     })
 
 below_or_past : (k n : ℕ) → (k < n) ⊎ (n ≤ k)
@@ -148,58 +170,79 @@ below_or_past (suc k) (suc n) = by (below_or_past k n)
     by (inl h) = inl (omega (arith, h))
     by (inr h) = inr (omega (arith, h))
 
-pub whole_turn : {w w2 : History} {k : ℕ} {input : Input} {ask : Ask} (turn : TookTurn w w2 k input ask) → KeepsWhole (replaced_turn turn) w w2
-whole_turn {w} {w2} {k} {input} {ask} took = record { whole = λ texts q. by texts q (below_or_past k (length w.now.externals)) }
+pub whole_turn : {w w2 : History} {k : ℕ} {input : Input} {ask : Ask} (turn : TookTurn w w2 k input ask)
+    → KeepsWhole (replaced_turn turn) w w2
+whole_turn {w} {w2} {k} {input} {ask} took =
+    record { whole = λ texts q. by texts q (below_or_past k (length w.now.externals)) }
   where
-    by : AreTexts (replaced_by_turn k (seen_at w.now k).cells (seen_at w2.now k).cells) → IsHistory w → (k < length w.now.externals) ⊎ (length w.now.externals ≤ k) → IsHistory w2
-    by texts q (inl there) = IsHistory-turned w w2 k input ask there (known_after w.now w2.now k there took.turn.state took.turn.answers.count texts q.now.state.externals) took q
+    by : AreTexts (replaced_by_turn k (seen_at w.now k).cells (seen_at w2.now k).cells) → IsHistory w
+        → (k < length w.now.externals) ⊎ (length w.now.externals ≤ k) → IsHistory w2
+    by texts q (inl there) = IsHistory-turned w w2 k input ask there
+        (known_after w.now w2.now k there took.turn.state took.turn.answers.count texts q.now.state.externals) took q
     by texts q (inr past) = unmoved past took q
 
 -- ---- what writes, declares, sets and makes
 
 -- a field's text that is written stood there
-stood : {A : Type 0} (t : Option (List ℕ)) (k : List ℕ → Result A Fault) (a : A) → and_then (ok_or t NoSuchObject) k ≡ Ok a → is_some t ≡ true
+stood : {A : Type 0} (t : Option (List ℕ)) (k : List ℕ → Result A Fault) (a : A)
+    → and_then (ok_or t NoSuchObject) k ≡ Ok a → is_some t ≡ true
 stood (Some t) k a is = refl
 stood None k a is = cc
 
-due_stood : (s : State) (v : VariablesView) (delimiter : ℕ) (p : PlaceView) (e : Edit) (t : List ℕ) (field card : ℕ) → p.storage ≡ field_text field card → due s v delimiter p e ≡ Ok (Some t) → is_some (text_at s.stack field card) ≡ true
+due_stood : (s : State) (v : VariablesView) (delimiter : ℕ) (p : PlaceView) (e : Edit) (t : List ℕ) (field card : ℕ)
+    → p.storage ≡ field_text field card → due s v delimiter p e ≡ Ok (Some t)
+    → is_some (text_at s.stack field card) ≡ true
 due_stood s v delimiter p e t field card at is =
     let edit : List ℕ → Result (Option (List ℕ)) Fault = λ u. edited delimiter p.chunks e u in
     stood (text_at s.stack field card) edit (Some t) (subst (λ h. and_then (whole s v h) edit ≡ Ok (Some t)) at is)
 
-whole_writes : {w w2 : History} {v v2 : VariablesView} {h : StorageView} {u : Result (Option (List ℕ)) Fault} → IsPlaced h → ((field card : ℕ) (t : List ℕ) → h ≡ field_text field card → u ≡ Ok (Some t) → is_some (text_at w.now.stack field card) ≡ true) → (written : Writes w v h u w2 v2) → KeepsWhole (replaced_writes written) w w2
+whole_writes : {w w2 : History} {v v2 : VariablesView} {h : StorageView} {u : Result (Option (List ℕ)) Fault}
+    → IsPlaced h → ((field card : ℕ) (t : List ℕ) → h ≡ field_text field card → u ≡ Ok (Some t)
+    → is_some (text_at w.now.stack field card) ≡ true) → (written : Writes w v h u w2 v2)
+    → KeepsWhole (replaced_writes written) w w2
 whole_writes named there (Writes.nothing_due _) = whole_nothing
 whole_writes named there (Writes.to_global at _ made) = whole_made (subst IsPlaced at named) made
 whole_writes named there (Writes.to_own _ _ _) = whole_nothing
-whole_writes named there (Writes.to_field {field = field} {card = card} {t = t} at is made) = whole_made (there field card t at is) made
+whole_writes named there (Writes.to_field {field = field} {card = card} {t = t} at is made) =
+    whole_made (there field card t at is) made
 
-pub whole_edits : {w w2 : History} {f f2 : Frame} {delimiter : ℕ} {p : PlaceView} {e : Edit} {o : Result (Unit {0}) Stop} → IsPlaced p.storage → (edits : Edits w f delimiter p e o w2 f2) → HasMemory o → KeepsWhole (replaced_edits edits) w w2
+pub whole_edits : {w w2 : History} {f f2 : Frame} {delimiter : ℕ} {p : PlaceView} {e : Edit}
+    {o : Result (Unit {0}) Stop} → IsPlaced p.storage → (edits : Edits w f delimiter p e o w2 f2) → HasMemory o
+    → KeepsWhole (replaced_edits edits) w w2
 whole_edits named Edits.edit_memory has = absurd (has refl)
 whole_edits named (Edits.edit_faults _ same _) has = whole_same same
 whole_edits {w} {w2} {f} {f2} {delimiter} {p} {e} named (Edits.edited written _) has =
     whole_writes named (λ field card t at is. due_stood w.now f.variables delimiter p e t field card at is) written
 
-pub whole_assigns : {w w2 : History} {f f2 : Frame} {delimiter : ℕ} {variable : Option (List ℕ)} {t : List ℕ} {o : Result (Unit {0}) Stop} (assigns : Assigns w f delimiter variable t o w2 f2) → HasMemory o → KeepsWhole (replaced_assigns assigns) w w2
+pub whole_assigns : {w w2 : History} {f f2 : Frame} {delimiter : ℕ} {variable : Option (List ℕ)} {t : List ℕ}
+    {o : Result (Unit {0}) Stop} (assigns : Assigns w f delimiter variable t o w2 f2) → HasMemory o
+    → KeepsWhole (replaced_assigns assigns) w w2
 whole_assigns Assigns.assign_memory has = absurd (has refl)
 whole_assigns (Assigns.no_variable _) has = whole_nothing
-whole_assigns {f = f} (Assigns.assigns {name = name} _ edits) has = whole_edits (placed_variable f.variables name) edits has
+whole_assigns {f = f} (Assigns.assigns {name = name} _ edits) has =
+    whole_edits (placed_variable f.variables name) edits has
 
-whole_declares : {w w2 : History} {v v2 : VariablesView} {name : List ℕ} (declares : Declares w v name w2 v2) → KeepsWhole (replaced_declares declares) w w2
+whole_declares : {w w2 : History} {v v2 : VariablesView} {name : List ℕ} (declares : Declares w v name w2 v2)
+    → KeepsWhole (replaced_declares declares) w w2
 whole_declares (Declares.has_value _ _) = whole_nothing
 whole_declares {name = name} (Declares.is_new _ made _) = whole_made (folded_is_folded name) made
 
-pub whole_declares_all : {w w2 : History} {f f2 : Frame} {names : List (List ℕ)} {o : Result (Unit {0}) Stop} (declares : DeclaresAll w f names o w2 f2) → HasMemory o → KeepsWhole (replaced_declares_all declares) w w2
+pub whole_declares_all : {w w2 : History} {f f2 : Frame} {names : List (List ℕ)} {o : Result (Unit {0}) Stop}
+    (declares : DeclaresAll w f names o w2 f2) → HasMemory o → KeepsWhole (replaced_declares_all declares) w w2
 whole_declares_all DeclaresAll.declare_memory has = absurd (has refl)
 whole_declares_all (DeclaresAll.none_declared _) has = whole_nothing
-whole_declares_all (DeclaresAll.declared _ declares _ rest) has = whole_trans (whole_declares declares) (whole_declares_all rest has)
+whole_declares_all (DeclaresAll.declared _ declares _ rest) has =
+    whole_trans (whole_declares declares) (whole_declares_all rest has)
 
-pub whole_sets : {w w2 : History} {m : Referent} {prop : Prop} {t : List ℕ} {o : Result (Unit {0}) Stop} (sets : Sets w m prop t o w2) → HasMemory o → KeepsWhole (replaced_sets sets) w w2
+pub whole_sets : {w w2 : History} {m : Referent} {prop : Prop} {t : List ℕ} {o : Result (Unit {0}) Stop}
+    (sets : Sets w m prop t o w2) → HasMemory o → KeepsWhole (replaced_sets sets) w w2
 whole_sets Sets.set_memory has = absurd (has refl)
 whole_sets (Sets.set_faults _ same) has = whole_same same
 whole_sets {w} {w2} {m} {prop} {t} (Sets.set_made is made) has =
     whole_made (subst (λ x. IfOk x (FitsIn w.now.stack)) is (setting_fits w.now.stack m prop t) w.now refl) made
 
-pub whole_adds : {w w2 : History} {c : Change} {o : Result (Unit {0}) Stop} (adds : Adds w c o w2) → HasMemory o → KeepsWhole (replaced_adds adds) w w2
+pub whole_adds : {w w2 : History} {c : Change} {o : Result (Unit {0}) Stop} (adds : Adds w c o w2) → HasMemory o
+    → KeepsWhole (replaced_adds adds) w w2
 whole_adds Adds.add_memory has = absurd (has refl)
 whole_adds (Adds.too_many _) has = whole_nothing
 whole_adds (Adds.adds fit made) has = whole_made fit made

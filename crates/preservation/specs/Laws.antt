@@ -14,7 +14,8 @@ use Rattle.meaning.specs.State.{RunState}
 use Rattle.meaning.specs.Actions.{Action}
 use Rattle.meaning.specs.Meaning.{Val, Line, Message, Refers, Acts}
 use Rattle.preservation.specs.Rising.{TrailAfter}
-use Rattle.preservation.specs.Replaced.{replaced_val, replaced_line, replaced_message, replaced_refers, replaced_acts, RisesBy}
+use Rattle.preservation.specs.Replaced.{replaced_val, replaced_line, replaced_message, replaced_refers, replaced_acts}
+use Rattle.preservation.specs.Replaced.{RisesBy}
 use Rattle.preservation.specs.Whole.{KeepsWhole}
 
 -- an end other than out of memory
@@ -62,7 +63,8 @@ MessagesKeepBases =
 
 abbrev pub MessagesRise : Type 0
 MessagesRise =
-    (w w2 : History) (r r2 : RunState) (i : ℕ) (n : List ℕ) (vs : List (List ℕ)) (o : Result Ended Stop) (message : Message w r i n vs o w2 r2) →
+    (w w2 : History) (r r2 : RunState) (i : ℕ) (n : List ℕ) (vs : List (List ℕ)) (o : Result Ended Stop)
+    (message : Message w r i n vs o w2 r2) →
     HasMemory o → RisesBy (replaced_message message) w.start w2.start
 
 abbrev pub MessagesGoOn : Type 0
@@ -72,7 +74,8 @@ MessagesGoOn =
 
 abbrev pub MessagesStayWhole : Type 0
 MessagesStayWhole =
-    (w w2 : History) (r r2 : RunState) (i : ℕ) (n : List ℕ) (vs : List (List ℕ)) (o : Result Ended Stop) (message : Message w r i n vs o w2 r2) →
+    (w w2 : History) (r r2 : RunState) (i : ℕ) (n : List ℕ) (vs : List (List ℕ)) (o : Result Ended Stop)
+    (message : Message w r i n vs o w2 r2) →
     HasMemory o → KeepsWhole (replaced_message message) w w2
 
 -- ---- what a user does
@@ -128,7 +131,8 @@ ValuesKeepBases =
 
 abbrev pub ValuesRise : Type 0
 ValuesRise =
-    (w w2 : History) (r r2 : RunState) (f : Frame) (d : ℕ) (e : tree.Expr) (o : Result (List ℕ) Stop) (value : Val w r f d e o w2 r2) →
+    (w w2 : History) (r r2 : RunState) (f : Frame) (d : ℕ) (e : tree.Expr) (o : Result (List ℕ) Stop)
+    (value : Val w r f d e o w2 r2) →
     HasMemory o → RisesBy (replaced_val value) w.start w2.start
 
 abbrev pub ValuesGoOn : Type 0
@@ -138,7 +142,8 @@ ValuesGoOn =
 
 abbrev pub ValuesStayWhole : Type 0
 ValuesStayWhole =
-    (w w2 : History) (r r2 : RunState) (f : Frame) (d : ℕ) (e : tree.Expr) (o : Result (List ℕ) Stop) (value : Val w r f d e o w2 r2) →
+    (w w2 : History) (r r2 : RunState) (f : Frame) (d : ℕ) (e : tree.Expr) (o : Result (List ℕ) Stop)
+    (value : Val w r f d e o w2 r2) →
     HasMemory o → KeepsWhole (replaced_val value) w w2
 
 -- ---- entries

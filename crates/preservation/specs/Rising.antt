@@ -21,7 +21,8 @@ pub data TrailAfter : List Replacement → List Mark → List Mark → Type 0 wh
 
 -- what is open goes on, and nothing is opened
 abbrev pub RisesIn : List Replacement → Option Open → Option Open → Type 0
-RisesIn replaced (Some old) (Some new) = (marks : List Mark) × TrailAfter replaced old.trail marks × Rises replaced marks old new
+RisesIn replaced (Some old) (Some new) =
+    (marks : List Mark) × TrailAfter replaced old.trail marks × Rises replaced marks old new
 RisesIn replaced None None = Unit {0}
 RisesIn replaced _ _ = ⊥
 

@@ -1,10 +1,12 @@
 //! Laws over the rules of HyperTalk. Each holds of lines, of a message, of an action, of the reference of a dot line and
 //! of an expression.
 
-ghost use Rattle.preservation.specs.Laws.{LinesKeepBases, MessagesKeepBases, ActionsKeepBases, ReferencesKeepBases, ValuesKeepBases};
+ghost use Rattle.preservation.specs.Laws.{LinesKeepBases, MessagesKeepBases, ActionsKeepBases, ReferencesKeepBases};
+ghost use Rattle.preservation.specs.Laws.{ValuesKeepBases};
 ghost use Rattle.preservation.specs.Laws.{LinesRise, MessagesRise, ActionsRise, ReferencesRise, ValuesRise};
 ghost use Rattle.preservation.specs.Laws.{LinesGoOn, MessagesGoOn, ActionsGoOn, ReferencesGoOn, ValuesGoOn};
-ghost use Rattle.preservation.specs.Laws.{LinesStayWhole, MessagesStayWhole, ActionsStayWhole, ReferencesStayWhole, ValuesStayWhole};
+ghost use Rattle.preservation.specs.Laws.{LinesStayWhole, MessagesStayWhole, ActionsStayWhole, ReferencesStayWhole};
+ghost use Rattle.preservation.specs.Laws.{ValuesStayWhole};
 ghost use Rattle.preservation.specs.Laws.{BatchesAreShort};
 
 /// A run that doesn't run out of memory leaves what stands round the open batch: the states before and after the cursor,

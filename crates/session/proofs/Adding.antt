@@ -27,7 +27,16 @@ use Rattle.user_actions.specs.Views.{ActionEnds}
 -- what stands round the batch is as before
 kept : (w w2 : History) → base w2 ≡ base w → w2 ≡ record w { now = w2.now; start = w2.start; turns = w2.turns }
 unfolding base
-kept w w2 e = λ i. record { past = (e i).past; now = w2.now; stamp = (e i).stamp; future = (e i).future; start = w2.start; depth = (e i).depth; turns = w2.turns }
+kept w w2 e = λ i. record {
+  past = (e i).past;
+  now = w2.now;
+  stamp = (e i).stamp;
+  future = (e i).future;
+  start =
+      w2.start;
+  depth = (e i).depth;
+  turns = w2.turns;
+}
 
 begin_kept : (w w2 : History) → base w2 ≡ base w → option_map began w2.start ≡ option_map began w.start
 unfolding base
@@ -48,8 +57,10 @@ has_memory : (end : Result Ended Stop) (ending : Ending) → ending_of end ≡ S
 has_memory end ending is = λ out. let none : None ≡ Some ending = sym (ap ending_of out) ∙ is in cc
 
 -- what it adds
-pub adds : (steps number : ℕ) (does : Action) (old w new : History) (run : RunState) (end : Result Ended Stop) (ending : Ending)
-    → Acts (begun old number) (fresh_run steps) does end w run → base w ≡ base (begun old number) → ending_of end ≡ Some ending → IfSome w.start (λ o. IsOnce o.trail) → new ≡ committed w
+pub adds : (steps number : ℕ) (does : Action) (old w new : History) (run : RunState) (end : Result Ended Stop)
+    (ending : Ending)
+    → Acts (begun old number) (fresh_run steps) does end w run → base w ≡ base (begun old number)
+    → ending_of end ≡ Some ending → IfSome w.start (λ o. IsOnce o.trail) → new ≡ committed w
     → Adds steps does number old (reply_of run ending) new
 adds steps number does old w new run end ending means keeps ends once joined =
     let b = risen (rises_acts means (has_memory end ending ends)) in
@@ -65,13 +76,15 @@ adds steps number does old w new run end ending means keeps ends once joined =
       trail = b.2;
       once = is_once;
       few = short_after (replaced_acts means) b.0.trail b.2 is_once;
-      joined = joined ∙ ap committed (kept (begun old number) w keeps ∙ ap (λ (s : Option Open). record old { now = w.now; start = s; turns = w.turns }) b.1);
+      joined = joined ∙ ap committed (kept (begun old number) w keeps
+          ∙ ap (λ (s : Option Open). record old { now = w.now; start = s; turns = w.turns }) b.1);
     }
 
 -- ---- a command that is given up
 
 -- the state with which it began is the present one again
-rolled : (old w : History) (number : ℕ) → base w ≡ base (begun old number) → old.start ≡ None → (start : Option Open) → option_map began start ≡ Some (old.now, number)
+rolled : (old w : History) (number : ℕ) → base w ≡ base (begun old number) → old.start ≡ None → (start : Option Open)
+    → option_map began start ≡ Some (old.now, number)
     → rolled_back_from w start ≡ record old { turns = w.turns }
 rolled old w number keeps closed None is = let no : ⊥ = cc in absurd no
 rolled old w number keeps closed (Some o) is =
@@ -79,9 +92,11 @@ rolled old w number keeps closed (Some o) is =
     ap (λ (h : History). record h { now = o.state; start = None }) (kept (begun old number) w keeps)
     ∙ (λ i. record old { now = here i; start = sym closed i; turns = w.turns })
 
-pub given_back : (old w new : History) (number : ℕ) → base w ≡ base (begun old number) → old.start ≡ None → new ≡ rolled_back w → new ≡ record old { turns = new.turns }
+pub given_back : (old w new : History) (number : ℕ) → base w ≡ base (begun old number) → old.start ≡ None
+    → new ≡ rolled_back w → new ≡ record old { turns = new.turns }
 given_back old w new number keeps closed joined =
-    let is : new ≡ record old { turns = w.turns } = joined ∙ rolled old w number keeps closed w.start (begin_kept (begun old number) w keeps) in
+    let is : new ≡ record old { turns = w.turns } =
+    joined ∙ rolled old w number keeps closed w.start (begin_kept (begun old number) w keeps) in
     is ∙ ap (λ (turns : List ℕ). record old { turns = turns }) (sym (ap (λ (h : History). h.turns) is))
 
 -- ---- what a user does
@@ -91,12 +106,14 @@ abbrev pub some_end : Result Ended Stop → Result (Option Ended) Stop
 some_end (Ok ended) = Ok (Some ended)
 some_end (Err stop) = Err stop
 
-acted : (w r2 : History) (r r3 : RunState) (does : Action) (end : Result Ended Stop) → ActionEnds w r does (some_end end) r2 r3 → Acts w r does end r2 r3
+acted : (w r2 : History) (r r3 : RunState) (does : Action) (end : Result Ended Stop)
+    → ActionEnds w r does (some_end end) r2 r3 → Acts w r does end r2 r3
 acted w r2 r r3 does (Ok ended) means = means
 acted w r2 r r3 does (Err stop) means = means
 
 module _ (steps number : ℕ) (does : Action) (old w0 w : History) (run0 run : RunState) (o : Result (Option Ended) Stop)
-    (begins : w0 ≡ begun old number) (fresh : run0 ≡ fresh_run steps) (keeps : base w ≡ base w0) (means : ActionEnds w0 run0 does o w run) where
+    (begins : w0 ≡ begun old number) (fresh : run0 ≡ fresh_run steps) (keeps : base w ≡ base w0)
+    (means : ActionEnds w0 run0 does o w run) where
   from_here : (p : Result (Option Ended) Stop) → o ≡ p → ActionEnds (begun old number) (fresh_run steps) does p w run
   from_here p is =
       subst (λ (r : RunState). ActionEnds (begun old number) r does p w run) fresh
@@ -106,13 +123,17 @@ module _ (steps number : ℕ) (does : Action) (old w0 w : History) (run0 run : R
   kept_base : base w ≡ base (begun old number)
   kept_base = keeps ∙ ap base begins
 
-  pub finishes : (end : Result Ended Stop) (ending : Ending) (reply : Reply) (new : History) → o ≡ some_end end → ending_of end ≡ Some ending → reply ≡ reply_of run ending
+  pub finishes : (end : Result Ended Stop) (ending : Ending) (reply : Reply) (new : History) → o ≡ some_end end
+      → ending_of end ≡ Some ending → reply ≡ reply_of run ending
       → IfSome w.start (λ o. IsOnce o.trail) → new ≡ committed w → Does steps does number old reply new
   finishes end ending reply new is ends told once joined =
-      let added : Adds steps does number old (reply_of run ending) new = adds steps number does old w new run end ending (acted (begun old number) w (fresh_run steps) run does end (from_here (some_end end) is)) kept_base ends once joined in
+      let added : Adds steps does number old (reply_of run ending) new = adds steps number does old w new run end ending
+      (acted (begun old number) w (fresh_run steps) run does end (from_here (some_end end) is)) kept_base ends once
+      joined in
       inl (subst (λ (r : Reply). Adds steps does number old r new) (sym told) added)
 
-  pub keeps_out : (reply : Reply) (new : History) → o ≡ Ok None → old.start ≡ None → reply ≡ refused FieldLocked → new ≡ rolled_back w → Does steps does number old reply new
+  pub keeps_out : (reply : Reply) (new : History) → o ≡ Ok None → old.start ≡ None → reply ≡ refused FieldLocked
+      → new ≡ rolled_back w → Does steps does number old reply new
   keeps_out reply new is closed told joined = inr (record {
     answer = told;
     end = w;

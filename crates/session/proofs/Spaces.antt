@@ -1,15 +1,20 @@
 -- Words between spaces.
-use Rattle.std.proofs.Common.{◌≡◌, ℕ, suc, ◌+◌, ◌-◌, ◌<◌, ◌≤◌, Bool, true, false, cond, not, List, [], ◌∷◌, length, take, drop, get_or, refl, sym, ◌∙◌, ap, arith, length-drop, add-one, drop-cons, inl, inr, filter}
+use Rattle.std.proofs.Common.{◌≡◌, ℕ, suc, ◌+◌, ◌-◌, ◌<◌, ◌≤◌, Bool, true, false, cond, not, List, [], ◌∷◌, length}
+use Rattle.std.proofs.Common.{take, drop, get_or, refl, sym, ◌∙◌, ap, arith, length-drop, add-one, drop-cons, inl, inr}
+use Rattle.std.proofs.Common.{filter}
 use Rattle.std.specs.Prelude.{◌==◌, Some, None}
 use Rattle.std.specs.List.{slice_split, onto_first, position, position_or_len}
-use Rattle.std.proofs.lemmas.List.Splits.{slice_split-cons_yes, slice_split-cons_no, slice_split_first, slice_split_none}
+use Rattle.std.proofs.lemmas.List.Splits.{slice_split-cons_yes, slice_split-cons_no, slice_split_first}
+use Rattle.std.proofs.lemmas.List.Splits.{slice_split_none}
 use Rattle.std.proofs.lemmas.List.Sums.{passes_at_first, fails_before_first, prefix_len-le-length}
 use Rattle.std.proofs.lemmas.List.{take_all, drop_all}
 use Rattle.std.proofs.lemmas.Bool.{cases_lt, lt-ltb}
 use Rattle.session.specs.Commands.{words, is_run, after_spaces}
 
 -- a first word begins with this byte
-pub words-front : (b : ℕ) (bs : List ℕ) → (b == 32) ≡ false → words (b ∷ bs) ≡ (b ∷ take (position_or_len (λ x. x == 32) bs) bs) ∷ words (drop (position_or_len (λ x. x == 32) bs) bs)
+pub words-front : (b : ℕ) (bs : List ℕ) → (b == 32) ≡ false
+    → words (b ∷ bs) ≡ (b ∷ take (position_or_len (λ x. x == 32) bs) bs)
+    ∷ words (drop (position_or_len (λ x. x == 32) bs) bs)
 words-front b bs ne =
     let p : ℕ → Bool = λ x. x == 32 in
     let e : ℕ = position_or_len p bs in
@@ -17,10 +22,13 @@ words-front b bs ne =
       | inl lt ↦
           let cut : slice_split p bs ≡ take e bs ∷ slice_split p (drop (e + 1) bs) = slice_split_first p bs 0 lt in
           let here : drop e bs ≡ get_or bs e 0 ∷ drop (e + 1) bs = rw add-one (drop-cons bs e 0 lt) in
-          let gone : slice_split p (drop e bs) ≡ [] ∷ slice_split p (drop (e + 1) bs) = rw here (slice_split-cons_yes p (get_or bs e 0) (drop (e + 1) bs) (passes_at_first p bs 0 lt)) in
-          ap (filter is_run) (slice_split-cons_no p b bs ne ∙ ap (onto_first b) cut) ∙ sym (ap (λ parts. (b ∷ take e bs) ∷ filter is_run parts) gone)
+          let gone : slice_split p (drop e bs) ≡ [] ∷ slice_split p (drop (e + 1) bs) =
+          rw here (slice_split-cons_yes p (get_or bs e 0) (drop (e + 1) bs) (passes_at_first p bs 0 lt)) in
+          ap (filter is_run) (slice_split-cons_no p b bs ne ∙ ap (onto_first b) cut)
+          ∙ sym (ap (λ parts. (b ∷ take e bs) ∷ filter is_run parts) gone)
       | inr le ↦
-          let whole : slice_split p bs ≡ bs ∷ [] = slice_split_none p bs (λ k d lt. fails_before_first p bs k d (omega arith)) in
+          let whole : slice_split p bs ≡ bs ∷ [] =
+          slice_split_none p bs (λ k d lt. fails_before_first p bs k d (omega arith)) in
           let none : drop e bs ≡ [] = drop_all e bs le in
           let all : take e bs ≡ bs = take_all e bs le in
           ap (filter is_run) (slice_split-cons_no p b bs ne ∙ ap (onto_first b) whole) ∙ rw (all, none) refl
@@ -28,7 +36,8 @@ words-front b bs ne =
 
 word_first : List ℕ → List (List ℕ)
 word_first [] = []
-word_first (b ∷ bs) = take (position_or_len (λ x. x == 32) (b ∷ bs)) (b ∷ bs) ∷ words (drop (position_or_len (λ x. x == 32) (b ∷ bs)) (b ∷ bs))
+word_first (b ∷ bs) = take (position_or_len (λ x. x == 32) (b ∷ bs)) (b ∷ bs)
+    ∷ words (drop (position_or_len (λ x. x == 32) (b ∷ bs)) (b ∷ bs))
 
 front_is : (b : ℕ) (bs : List ℕ) → (b == 32) ≡ false → words (b ∷ bs) ≡ word_first (b ∷ bs)
 unfolding word_first
@@ -46,7 +55,9 @@ words-after_spaces (b ∷ bs) =
       | false ↦ λ isnt. front_is b bs isnt
     ] refl
 
-word_first-some : (bytes : List ℕ) → 0 < length bytes → word_first bytes ≡ take (position_or_len (λ x. x == 32) bytes) bytes ∷ words (drop (position_or_len (λ x. x == 32) bytes) bytes)
+word_first-some : (bytes : List ℕ) → 0 < length bytes
+    → word_first bytes ≡ take (position_or_len (λ x. x == 32) bytes) bytes
+    ∷ words (drop (position_or_len (λ x. x == 32) bytes) bytes)
 unfolding word_first
 word_first-some [] some = absurd (omega arith)
 word_first-some (b ∷ bs) some = refl
@@ -61,14 +72,17 @@ pub words-none : (line : List ℕ) → length (after_spaces line) ≡ 0 → word
 words-none line none = words-after_spaces line ∙ word_first-none (after_spaces line) none
 
 -- the first word, and the words in what follows it
-pub words-next : (line bytes : List ℕ) (end : ℕ) → bytes ≡ after_spaces line → 0 < length bytes → end ≡ position_or_len (λ x. x == 32) bytes → end ≤ length bytes
+pub words-next : (line bytes : List ℕ) (end : ℕ) → bytes ≡ after_spaces line → 0 < length bytes
+    → end ≡ position_or_len (λ x. x == 32) bytes → end ≤ length bytes
     → words line ≡ take end bytes ∷ words (take (length bytes - end) (drop end bytes))
 words-next line bytes end from some is within =
-    let all : take (length bytes - end) (drop end bytes) ≡ drop end bytes = take_all (length bytes - end) (drop end bytes) (omega (arith, length-drop end bytes)) in
+    let all : take (length bytes - end) (drop end bytes) ≡ drop end bytes =
+    take_all (length bytes - end) (drop end bytes) (omega (arith, length-drop end bytes)) in
     rw (all, is) (words-after_spaces line ∙ ap word_first (sym from) ∙ word_first-some bytes some)
 
 -- where no space stands the word goes on to the end
-pub position-none : (bytes : List ℕ) → position (λ x. x == 32) bytes ≡ None → length bytes ≡ position_or_len (λ x. x == 32) bytes
+pub position-none : (bytes : List ℕ) → position (λ x. x == 32) bytes ≡ None
+    → length bytes ≡ position_or_len (λ x. x == 32) bytes
 position-none bytes none =
     let e : ℕ = position_or_len (λ x. x == 32) bytes in
     elim (cases_lt e (length bytes)) [

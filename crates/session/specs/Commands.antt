@@ -1,5 +1,6 @@
 -- What a dot line says.
-use Rattle.std.specs.Prelude.{◌≡◌, ℕ, Bool, true, false, ◌==◌, nat_eq, List, [], ◌∷◌, drop, filter, codes, Option, Some, None, option_map, option_and_then, if◌then◌else◌, slice_index}
+use Rattle.std.specs.Prelude.{◌≡◌, ℕ, Bool, true, false, ◌==◌, nat_eq, List, [], ◌∷◌, drop, filter, codes, Option}
+use Rattle.std.specs.Prelude.{Some, None, option_map, option_and_then, if◌then◌else◌, slice_index}
 use Rattle.std.specs.Cmp.Lexicographic.{pointwise}
 use Rattle.std.specs.Borrow.{Bor}
 use Rattle.std.specs.List.{slice_split, position_or_len}
@@ -10,7 +11,8 @@ use Rattle.ht_lex.specs.Token.{Token}
 use Rattle.meaning.specs.Actions as act
 use Rattle.meaning.specs.Actions.{Action}
 use Rattle.session.specs.declared.command.Command.{Command}
-use Rattle.session.specs.declared.command.Command.TheVariants.{Undo, Redo, UndoTo, Show, Globals, Where, Cells, History, Save, Act, Quit}
+use Rattle.session.specs.declared.command.Command.TheVariants.{Undo, Redo, UndoTo, Show, Globals, Where, Cells}
+use Rattle.session.specs.declared.command.Command.TheVariants.{History, Save, Act, Quit}
 use Rattle.session.specs.declared.command.Reading.{Reading}
 use Rattle.session.specs.declared.command.Reading.TheVariants.{Lines, Opening, Reference, Typing}
 
@@ -65,7 +67,8 @@ counted name word =
 
 -- `.undo to N`
 abbrev pub to_line : List ℕ → List ℕ → List ℕ → Option Command
-to_line name to word = if is name (codes ".undo") then (if is to (codes "to") then option_map UndoTo (number_at word) else None) else None
+to_line name to word =
+    if is name (codes ".undo") then (if is to (codes "to") then option_map UndoTo (number_at word) else None) else None
 
 abbrev pub worded : List (List ℕ) → Option Command
 worded (name ∷ []) = named name

@@ -1,5 +1,6 @@
 -- Moves of the cursor to other places of a history.
-use Rattle.std.specs.Prelude.{◌≡◌, ℕ, zero, suc, List, ◌∷◌, length, map, Option, Some, None, Result, IsOk, IsErrOf, nat_le, if◌then◌else◌}
+use Rattle.std.specs.Prelude.{◌≡◌, ℕ, zero, suc, List, ◌∷◌, length, map, Option, Some, None, Result, IsOk, IsErrOf}
+use Rattle.std.specs.Prelude.{nat_le, if◌then◌else◌}
 use Rattle.std.specs.List.{position}
 use Rattle.change_journal.specs.History.{History, flipped_back, flipped_forth}
 use Rattle.session.specs.declared.reply.Refusal.{Refusal}

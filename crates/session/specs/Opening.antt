@@ -19,4 +19,5 @@ open_fault steps depth titles =
 
 -- one state: the stack, no global, its first card, and the externals with their cells of now
 abbrev pub opened : Content → List Seen → List ℕ → ℕ → ℕ → Standing
-opened stack externals turns steps depth = record { history = alone (first_state stack externals) 0 depth turns; lines = 0; steps = steps }
+opened stack externals turns steps depth =
+    record { history = alone (first_state stack externals) 0 depth turns; lines = 0; steps = steps }

@@ -1,5 +1,6 @@
 -- Replies, and what they leave of a history or of a list of states.
-use Rattle.std.specs.Prelude.{◌≡◌, ◌⊎◌, ℕ, List, [], ◌∷◌, ◌++◌, map, decimal, Option, Some, None, option_map, Result, Ok, Err, if◌then◌else◌}
+use Rattle.std.specs.Prelude.{◌≡◌, ◌⊎◌, ℕ, List, [], ◌∷◌, ◌++◌, map, decimal, Option, Some, None, option_map, Result}
+use Rattle.std.specs.Prelude.{Ok, Err, if◌then◌else◌}
 use Rattle.std.specs.FinMap.{entries}
 use Rattle.ht_parse.specs.declared.error.ParseError.{ParseError}
 use Rattle.ht_parse.specs.declared.error.ParseError.TheVariants as error
@@ -11,7 +12,8 @@ use Rattle.ht_lex.specs.Words.{is_name}
 use Rattle.journal_entries.specs.State.{State, seen_at, titles_of, index_of}
 use Rattle.session.specs.Splits.{Splits}
 use Rattle.session.specs.declared.reply.Refusal.{Refusal}
-use Rattle.session.specs.declared.reply.Refusal.TheVariants.{NothingToUndo, NothingToRedo, BadCommand, NoMemory, LineTooLong, FieldLocked, SaveFailed}
+use Rattle.session.specs.declared.reply.Refusal.TheVariants.{NothingToUndo, NothingToRedo, BadCommand, NoMemory}
+use Rattle.session.specs.declared.reply.Refusal.TheVariants.{LineTooLong, FieldLocked, SaveFailed}
 use Rattle.session.specs.declared.reply.Ending.{Ending}
 use Rattle.session.specs.declared.reply.Ending.TheVariants as endings
 use Rattle.session.specs.declared.reply.Reply.{Reply}
@@ -62,9 +64,11 @@ pub record Refuses {S : Type 0} (refusal : Refusal) (old : S) (reply : Reply) (n
 
 -- A text is read as what a user does, which is done so; or it is nothing of that kind and is refused. Or it is given up, for
 -- memory.
-pub data Obeys {S : Type 0} (IsRead : List ℕ → Action → Type 0) (IsDone : Action → Type 0) (GivenUp : Type 0) (text : List ℕ) (old : S) (reply : Reply) (new : S) : Type 0 where
+pub data Obeys {S : Type 0} (IsRead : List ℕ → Action → Type 0) (IsDone : Action → Type 0) (GivenUp : Type 0)
+    (text : List ℕ) (old : S) (reply : Reply) (new : S) : Type 0 where
   obeys : {does : Action} → IsRead text does → IsDone does → Obeys IsRead IsDone GivenUp text old reply new
-  nothing : ((does : Action) → IsRead text does → ⊥) → Refuses BadCommand old reply new → Obeys IsRead IsDone GivenUp text old reply new
+  nothing : ((does : Action) → IsRead text does → ⊥) → Refuses BadCommand old reply new
+      → Obeys IsRead IsDone GivenUp text old reply new
   given_up : GivenUp → Obeys IsRead IsDone GivenUp text old reply new
 
 -- the cursor moves to another place, or there is none
@@ -92,7 +96,8 @@ global_lines s = map global_line (entries s.globals)
 
 -- the cells of the external that has this name; none where the name is no word for one, or no external has it
 abbrev pub cells_named : State → List ℕ → Option (List (List ℕ))
-cells_named s name = if is_name name then option_map (λ i. (seen_at s i).cells) (index_of name (titles_of s.externals)) else None
+cells_named s name =
+    if is_name name then option_map (λ i. (seen_at s i).cells) (index_of name (titles_of s.externals)) else None
 
 -- the cells are shown, each spelled as a text; it is no command where there is no such external
 abbrev pub ShowsCells : {S : Type 0} → Option (List (List ℕ)) → S → Reply → S → Type 0

@@ -11,7 +11,8 @@ pub record Standing : Type 0 where
   pub steps : ℕ
 
 abbrev pub coded_standing : Coded Standing
-coded_standing = code_by (History × (ℕ × ℕ)) (coded× coded_history (coded× coded_ℕ coded_ℕ)) (λ s. (s.history, (s.lines, s.steps))) (λ p. record { history = p.0; lines = p.1.0; steps = p.1.1 }) (λ _. refl)
+coded_standing = code_by (History × (ℕ × ℕ)) (coded× coded_history (coded× coded_ℕ coded_ℕ))
+    (λ s. (s.history, (s.lines, s.steps))) (λ p. record { history = p.0; lines = p.1.0; steps = p.1.1 }) (λ _. refl)
 
 -- The number of the line after so many; it stays at its greatest value.
 abbrev pub next_number : ℕ → ℕ

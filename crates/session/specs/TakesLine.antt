@@ -10,15 +10,18 @@ use Rattle.preservation.specs.Rising.{TrailAfter}
 use Rattle.session.specs.Commands.{is_dot_line, command_in, behind_name, second, words, ReadsAction}
 use Rattle.session.specs.Meaning.{Runs}
 use Rattle.session.specs.Moves.{undone, redone, undone_to}
-use Rattle.session.specs.Replies.{ended, refused, Refuses, Obeys, Moves, Looks, ShowsStack, ShowsCells, Saves, cells_named, global_lines, history_line}
+use Rattle.session.specs.Replies.{ended, refused, Refuses, Obeys, Moves, Looks, ShowsStack, ShowsCells, Saves}
+use Rattle.session.specs.Replies.{cells_named, global_lines, history_line}
 use Rattle.session.specs.Standing.{Standing, next_number}
 use Rattle.session.specs.declared.command.Command.{Command}
 use Rattle.session.specs.declared.command.Command.TheVariants as commands
-use Rattle.session.specs.declared.command.Command.TheVariants.{Undo, Redo, UndoTo, Show, Globals, Where, Cells, Save, Act, Quit}
+use Rattle.session.specs.declared.command.Command.TheVariants.{Undo, Redo, UndoTo, Show, Globals, Where, Cells, Save}
+use Rattle.session.specs.declared.command.Command.TheVariants.{Act, Quit}
 use Rattle.session.specs.declared.command.Reading.{Reading}
 use Rattle.session.specs.declared.command.Reading.TheVariants.{Lines}
 use Rattle.session.specs.declared.limits.TheConstants.{LONGEST_LINE}
-use Rattle.session.specs.declared.reply.Refusal.TheVariants.{NothingToUndo, NothingToRedo, BadCommand, NoMemory, LineTooLong, FieldLocked}
+use Rattle.session.specs.declared.reply.Refusal.TheVariants.{NothingToUndo, NothingToRedo, BadCommand, NoMemory}
+use Rattle.session.specs.declared.reply.Refusal.TheVariants.{LineTooLong, FieldLocked}
 use Rattle.session.specs.declared.reply.Ending.TheVariants as endings
 use Rattle.session.specs.declared.reply.Reply.{Reply}
 use Rattle.meaning.specs.Locked.{MeetsLock}
@@ -46,12 +49,13 @@ pub record GivesUp (old : History) (reply : Reply) (new : History) : Type 0 wher
   pub same : new ≡ record old { turns = new.turns }
 
 -- Typing into a field that is locked is refused, and what its reference did is taken back.
-pub record KeepsOut (steps : ℕ) (does : Action) (number : ℕ) (old : History) (reply : Reply) (new : History) : Type 0 where
-  pub answer : reply ≡ refused FieldLocked
-  pub end : History
-  pub run : RunState
-  pub meets : MeetsLock (begun old number) (fresh_run steps) does end run
-  pub same : new ≡ record old { turns = new.turns }
+pub record KeepsOut (steps : ℕ) (does : Action) (number : ℕ) (old : History) (reply : Reply) (new : History) : Type 0
+  where
+    pub answer : reply ≡ refused FieldLocked
+    pub end : History
+    pub run : RunState
+    pub meets : MeetsLock (begun old number) (fresh_run steps) does end run
+    pub same : new ≡ record old { turns = new.turns }
 
 -- what a user does is a fresh command, but for typing into a locked field
 abbrev pub Does : ℕ → Action → ℕ → History → Reply → History → Type 0
@@ -59,7 +63,8 @@ Does steps does number old reply new = Adds steps does number old reply new ⊎ 
 
 -- a text that is read so is done
 abbrev pub Commands : ℕ → Reading → List ℕ → ℕ → History → Reply → History → Type 0
-Commands steps reading text number old reply new = Obeys (ReadsAction reading) (λ does. Does steps does number old reply new) (GivesUp old reply new) text old reply new
+Commands steps reading text number old reply new = Obeys (ReadsAction reading)
+    (λ does. Does steps does number old reply new) (GivesUp old reply new) text old reply new
 
 -- what a dot line does by what it says
 abbrev pub Performs : ℕ → List ℕ → ℕ → Option Command → History → Reply → History → Type 0
@@ -68,12 +73,17 @@ Performs steps line number (Some (Undo k)) old reply new = Moves (undone k old) 
 Performs steps line number (Some (Redo k)) old reply new = Moves (redone k old) NothingToRedo old reply new
 Performs steps line number (Some (UndoTo n)) old reply new = Moves (undone_to n old) NothingToUndo old reply new
 Performs steps line number (Some Show) old reply new = ShowsStack old.now old reply new ⊎ Refuses NoMemory old reply new
-Performs steps line number (Some Globals) old reply new = Looks (global_lines old.now) old reply new ⊎ Refuses NoMemory old reply new
-Performs steps line number (Some Where) old reply new = Looks (decimal old.now.current ∷ []) old reply new ⊎ Refuses NoMemory old reply new
-Performs steps line number (Some commands.History) old reply new = Looks (history_line (length old.past) (length old.future) ∷ []) old reply new ⊎ Refuses NoMemory old reply new
-Performs steps line number (Some Cells) old reply new = ShowsCells (cells_named old.now (second (words line))) old reply new
+Performs steps line number (Some Globals) old reply new =
+    Looks (global_lines old.now) old reply new ⊎ Refuses NoMemory old reply new
+Performs steps line number (Some Where) old reply new =
+    Looks (decimal old.now.current ∷ []) old reply new ⊎ Refuses NoMemory old reply new
+Performs steps line number (Some commands.History) old reply new =
+    Looks (history_line (length old.past) (length old.future) ∷ []) old reply new ⊎ Refuses NoMemory old reply new
+Performs steps line number (Some Cells) old reply new =
+    ShowsCells (cells_named old.now (second (words line))) old reply new
 Performs steps line number (Some Save) old reply new = Saves old.now old reply new ⊎ Refuses NoMemory old reply new
-Performs steps line number (Some (Act reading)) old reply new = Commands steps reading (behind_name line) number old reply new
+Performs steps line number (Some (Act reading)) old reply new =
+    Commands steps reading (behind_name line) number old reply new
 Performs steps line number (Some Quit) old reply new = (reply ≡ ended endings.Quit) × (new ≡ old)
 
 -- What a dot line may be refused for memory: no move of the cursor, and neither `.quit` nor one that says nothing.
@@ -92,11 +102,13 @@ abbrev pub LineMayRunOut : List ℕ → Type 0
 LineMayRunOut line = MatchBool (is_dot_line line) (MayRunOut (command_in line)) (Unit {0})
 
 abbrev pub Says : ℕ → List ℕ → ℕ → History → Reply → History → Type 0
-Says steps line number old reply new = MatchBool (is_dot_line line) (Performs steps line number (command_in line) old reply new) (Commands steps Lines line number old reply new)
+Says steps line number old reply new = MatchBool (is_dot_line line)
+    (Performs steps line number (command_in line) old reply new) (Commands steps Lines line number old reply new)
 
 -- a line over 30,000 bytes is refused unread
 abbrev pub PerformsLine : ℕ → List ℕ → ℕ → History → Reply → History → Type 0
-PerformsLine steps line number old reply new = MatchBool (nat_lt LONGEST_LINE (length line)) (Refuses LineTooLong old reply new) (Says steps line number old reply new)
+PerformsLine steps line number old reply new = MatchBool (nat_lt LONGEST_LINE (length line))
+    (Refuses LineTooLong old reply new) (Says steps line number old reply new)
 
 -- A session takes a line: it is counted, answered, and the history goes on.
 pub record TakesLine (line : List ℕ) (old : Standing) (reply : Reply) (new : Standing) : Type 0 where

@@ -3,7 +3,9 @@
 ghost use Rattle.std.specs.Prelude.{◌≡◌, ◌<◌, ◌≤◌, ◌==◌, ℕ, List, [], ◌∷◌, length, option_map};
 ghost use Rattle.std.specs.List.{position, position_or_len};
 ghost use Rattle.session.specs.Commands as commands;
-ghost use Rattle.session.specs.Commands.{after_spaces as from_first_word, behind_name as from_first_space, is as is_word, is_dot_line as begins_with_dot, second, words, word_and_rest, places, named, counted, to_line, worded, acted_in as acted_by};
+ghost use Rattle.session.specs.Commands.{after_spaces as from_first_word, behind_name as from_first_space};
+ghost use Rattle.session.specs.Commands.{is as is_word, is_dot_line as begins_with_dot, second, words, word_and_rest};
+ghost use Rattle.session.specs.Commands.{places, named, counted, to_line, worded, acted_in as acted_by};
 
 use stack_file::number_at;
 

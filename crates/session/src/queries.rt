@@ -1,6 +1,7 @@
 //! What the lines that look show.
 
-ghost use Rattle.std.specs.Prelude.{◌≡◌, ◌<◌, ◌==◌, [], ◌∷◌, ◌++◌, decimal, length, map, OnOk, IfOk, IfSome, None, List, ℕ, if◌then◌else◌};
+ghost use Rattle.std.specs.Prelude.{◌≡◌, ◌<◌, ◌==◌, [], ◌∷◌, ◌++◌, decimal, length, map, OnOk, IfOk, IfSome, None};
+ghost use Rattle.std.specs.Prelude.{List, ℕ, if◌then◌else◌};
 ghost use Rattle.std.specs.FinMap.{entries};
 ghost use Rattle.std.specs.List.{position};
 ghost use Rattle.std.specs.Map.Iter.{deref_pair};
@@ -67,7 +68,8 @@ pub fn card_shown<E: External>(alloc: Global, world: &World<E>) -> Result<Shown,
 
 /// How many places can be undone and redone.
 pub fn history_shown<E: External>(alloc: Global, world: &World<E>) -> Result<Shown, AllocError>
-    ensures { IfOk result (λ shown. shown ≡ line_of_history (length world.now.history.past) (length world.now.history.future) ∷ []) }
+    ensures { IfOk result (λ shown. shown
+        ≡ line_of_history (length world.now.history.past) (length world.now.history.future) ∷ []) }
 {
     let mut line = Vec::new(alloc);
     write_number(&mut line, world.undoable())?;
@@ -127,7 +129,8 @@ pub fn globals_shown<E: External>(alloc: Global, world: &World<E>) -> Result<Sho
 
 /// The number of the external of a name, which is an unreserved word; case is ignored.
 pub fn external_named<E: External>(world: &World<E>, name: &[u8]) -> Option<usize>
-    ensures value { result ≡ (if is_unreserved name.now then index_of name.now (titles_of world.now.history.now.externals) else None) }
+    ensures value { result ≡ (if is_unreserved name.now then index_of name.now (titles_of world.now.history.now.externals) else
+        None) }
     ensures there { IfSome result (λ i. i < length world.now.history.now.externals) }
 {
     if !is_name(name) {

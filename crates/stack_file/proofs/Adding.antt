@@ -1,5 +1,6 @@
 -- Lines added at an end.
-use Rattle.std.proofs.Common.{◌≡◌, ℕ, List, [], ◌∷◌, ◌++◌, refl, sym, ap, ◌∙◌, append_assoc, ◌+◌, ◌<◌, ◌≤◌, length, get_or, drop, add-one}
+use Rattle.std.proofs.Common.{◌≡◌, ℕ, List, [], ◌∷◌, ◌++◌, refl, sym, ap, ◌∙◌, append_assoc, ◌+◌, ◌<◌, ◌≤◌, length}
+use Rattle.std.proofs.Common.{get_or, drop, add-one}
 use Rattle.std.specs.Prelude.{flat_map, map, Result, Ok, Err, OnOk}
 use Rattle.std.specs.declared.alloc.AllocError.{AllocError}
 use Rattle.std.proofs.lemmas.List.{append-nil, drop_all}
@@ -9,19 +10,25 @@ use Rattle.stack_file.specs.Lines.{with_lines}
 
 pub with_lines-joined : (out : List ℕ) (lines : List (List ℕ)) → with_lines out lines ≡ out ++ ended_lines lines
 with_lines-joined out [] = sym (append-nil out)
-with_lines-joined out (l ∷ ls) = with_lines-joined (out ++ (l ++ 10 ∷ [])) ls ∙ append_assoc out (l ++ 10 ∷ []) (ended_lines ls)
+with_lines-joined out (l ∷ ls) =
+    with_lines-joined (out ++ (l ++ 10 ∷ [])) ls ∙ append_assoc out (l ++ 10 ∷ []) (ended_lines ls)
 
 -- lines, and then others
 pub with_lines_append : (out : List ℕ) (a b : List (List ℕ)) → with_lines out (a ++ b) ≡ with_lines (with_lines out a) b
 with_lines_append out [] b = refl
 with_lines_append out (l ∷ a) b = with_lines_append (out ++ (l ++ 10 ∷ [])) a b
 
-pub lines_then : (a b d : List ℕ) (lines more : List (List ℕ)) → b ≡ with_lines a lines → d ≡ with_lines b more → d ≡ with_lines a (lines ++ more)
-lines_then a b d lines more e others = others ∙ ap (λ (x : List ℕ). with_lines x more) e ∙ sym (with_lines_append a lines more)
+pub lines_then : (a b d : List ℕ) (lines more : List (List ℕ)) → b ≡ with_lines a lines → d ≡ with_lines b more
+    → d ≡ with_lines a (lines ++ more)
+lines_then a b d lines more e others =
+    others ∙ ap (λ (x : List ℕ). with_lines x more) e ∙ sym (with_lines_append a lines more)
 
 -- the lines of one more, and of those that are left
-pub each-step : {X Y : Type 0} (lines : Y → List (List ℕ)) (g : X → Y) (a b : List ℕ) (x : X) (xs : List X) → b ≡ with_lines a (lines (g x)) → with_lines b (flat_map lines (map g xs)) ≡ with_lines a (flat_map lines (map g (x ∷ xs)))
-each-step lines g a b x xs e = ap (λ (t : List ℕ). with_lines t (flat_map lines (map g xs))) e ∙ sym (with_lines_append a (lines (g x)) (flat_map lines (map g xs)))
+pub each-step : {X Y : Type 0} (lines : Y → List (List ℕ)) (g : X → Y) (a b : List ℕ) (x : X) (xs : List X)
+    → b ≡ with_lines a (lines (g x))
+    → with_lines b (flat_map lines (map g xs)) ≡ with_lines a (flat_map lines (map g (x ∷ xs)))
+each-step lines g a b x xs e = ap (λ (t : List ℕ). with_lines t (flat_map lines (map g xs))) e
+    ∙ sym (with_lines_append a (lines (g x)) (flat_map lines (map g xs)))
 
 -- what an answer says once it is Ok
 pub on_ok : {P Q : Type 0} (r : Result (Unit {0}) AllocError) → (P → Q) → OnOk r P → OnOk r Q
@@ -33,5 +40,7 @@ pub next_is : (ids : List ℕ) (i x : ℕ) → i < length ids → x ≡ get_or i
 next_is ids i x within is = rw (is, add-one) (sym (drop-cons ids i 0 within))
 
 -- none is left
-pub all_done : {Y : Type 0} (lines : Y → List (List ℕ)) (g : ℕ → Y) (a whole : List ℕ) (ids : List ℕ) (i : ℕ) → length ids ≤ i → with_lines a (flat_map lines (map g (drop i ids))) ≡ whole → a ≡ whole
-all_done lines g a whole ids i past e = sym (ap (λ (xs : List ℕ). with_lines a (flat_map lines (map g xs))) (drop_all i ids past)) ∙ e
+pub all_done : {Y : Type 0} (lines : Y → List (List ℕ)) (g : ℕ → Y) (a whole : List ℕ) (ids : List ℕ) (i : ℕ)
+    → length ids ≤ i → with_lines a (flat_map lines (map g (drop i ids))) ≡ whole → a ≡ whole
+all_done lines g a whole ids i past e =
+    sym (ap (λ (xs : List ℕ). with_lines a (flat_map lines (map g xs))) (drop_all i ids past)) ∙ e

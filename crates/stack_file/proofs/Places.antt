@@ -1,5 +1,6 @@
 -- Where an id stands first.
-use Rattle.std.proofs.Common.{◌≡◌, ℕ, ◌+◌, ◌<◌, Bool, true, false, cond, List, [], ◌∷◌, ◌++◌, length, refl, sym, ◌∙◌, ap, arith, ltb, add-zero, inl, inr}
+use Rattle.std.proofs.Common.{◌≡◌, ℕ, ◌+◌, ◌<◌, Bool, true, false, cond, List, [], ◌∷◌, ◌++◌, length, refl, sym, ◌∙◌}
+use Rattle.std.proofs.Common.{ap, arith, ltb, add-zero, inl, inr}
 use Rattle.std.specs.Prelude.{Option, Some, None, position, is_some, not, ◌==◌, ◌||◌}
 use Rattle.std.specs.Prelude.{find, slice_get, option_and_then, map}
 use Rattle.std.specs.List.{position_from, position_or_len, list_any}
@@ -18,22 +19,28 @@ abbrev pub placed : Bool → Option ℕ → ℕ → Option ℕ
 placed here (Some i) n = Some i
 placed here None n = cond here (Some n) None
 
-from_push : {X : Type 0} (p : X → Bool) (i : ℕ) (xs : List X) (y : X) → position_from p i (xs ++ y ∷ []) ≡ placed (p y) (position_from p i xs) (i + length xs)
+from_push : {X : Type 0} (p : X → Bool) (i : ℕ) (xs : List X) (y : X)
+    → position_from p i (xs ++ y ∷ []) ≡ placed (p y) (position_from p i xs) (i + length xs)
 from_push p i [] y = ap (λ n. cond (p y) (Some n) None) (sym (add-zero i))
 from_push p i (x ∷ xs) y =
-    elim (p x) as (λ b. cond b (Some i) (position_from p (i + 1) (xs ++ y ∷ [])) ≡ placed (p y) (cond b (Some i) (position_from p (i + 1) xs)) (i + length (x ∷ xs))) [
+    elim (p x) as (λ b. cond b (Some i) (position_from p (i + 1) (xs ++ y ∷ []))
+    ≡ placed (p y) (cond b (Some i) (position_from p (i + 1) xs)) (i + length (x ∷ xs))) [
       | true ↦ refl
       | false ↦ from_push p (i + 1) xs y ∙ ap (placed (p y) (position_from p (i + 1) xs)) (omega arith)
     ]
 
-pub position-push : {X : Type 0} (p : X → Bool) (xs : List X) (y : X) → position p (xs ++ y ∷ []) ≡ placed (p y) (position p xs) (length xs)
+pub position-push : {X : Type 0} (p : X → Bool) (xs : List X) (y : X)
+    → position p (xs ++ y ∷ []) ≡ placed (p y) (position p xs) (length xs)
 position-push p xs y =
-    position_from-zero p (xs ++ y ∷ []) ∙ from_push p 0 xs y ∙ ap (λ o. placed (p y) o (0 + length xs)) (sym (position_from-zero p xs)) ∙ ap (placed (p y) (position p xs)) (omega arith)
+    position_from-zero p (xs ++ y ∷ []) ∙ from_push p 0 xs y
+    ∙ ap (λ o. placed (p y) o (0 + length xs)) (sym (position_from-zero p xs))
+    ∙ ap (placed (p y) (position p xs)) (omega arith)
 
 from_is_some : {X : Type 0} (p : X → Bool) (i : ℕ) (xs : List X) → is_some (position_from p i xs) ≡ list_any p xs
 from_is_some p i [] = refl
 from_is_some p i (x ∷ xs) =
-    elim (p x) as (λ b. is_some (cond b (Some i) (position_from p (i + 1) xs)) ≡ (b || list_any p xs)) [ true ↦ refl | false ↦ from_is_some p (i + 1) xs ]
+    elim (p x) as (λ b. is_some (cond b (Some i) (position_from p (i + 1) xs)) ≡ (b || list_any p xs))
+    [ true ↦ refl | false ↦ from_is_some p (i + 1) xs ]
 
 pub position-is_some : {X : Type 0} (p : X → Bool) (xs : List X) → is_some (position p xs) ≡ list_any p xs
 position-is_some p xs = ap is_some (position_from-zero p xs) ∙ from_is_some p 0 xs
@@ -50,40 +57,51 @@ one_id : (a b : ℕ) → (a == b) ≡ true → a ≡ b
 one_id a b e = grind (arith, nat_tests)
 
 -- the first time that an id comes
-pub placed-first : (old new : ℕ → Option ℕ) (ids : List ℕ) (id : ℕ) → ((q : ℕ) → old q ≡ position (λ x. x == q) ids) → is_some (old id) ≡ false → ((q : ℕ) → new q ≡ cond (id == q) (Some (length ids)) (old q))
+pub placed-first : (old new : ℕ → Option ℕ) (ids : List ℕ) (id : ℕ) → ((q : ℕ) → old q ≡ position (λ x. x == q) ids)
+    → is_some (old id) ≡ false → ((q : ℕ) → new q ≡ cond (id == q) (Some (length ids)) (old q))
     → (q : ℕ) → new q ≡ position (λ x. x == q) (ids ++ id ∷ [])
 placed-first old new ids id is free updates q =
-    updates q ∙ by (id == q) refl ∙ ap (λ o. placed (id == q) o (length ids)) (is q) ∙ sym (position-push (λ x. x == q) ids id)
+    updates q ∙ by (id == q) refl ∙ ap (λ o. placed (id == q) o (length ids)) (is q)
+    ∙ sym (position-push (λ x. x == q) ids id)
   where
     by : (b : Bool) → (id == q) ≡ b → cond b (Some (length ids)) (old q) ≡ placed b (old q) (length ids)
     by true e = sym (free_place (old q) (length ids) (ap (λ k. is_some (old k)) (sym (one_id id q e)) ∙ free))
     by false e = sym (other_place (old q) (length ids))
 
 -- the place of an id among the backgrounds is that of its background
-place_seen : (bs : List SheetLines) (id : ℕ) → position_or_len (λ x. x == id) (sheet_ids (map sheet_seen bs)) ≡ position_or_len (λ b. b.id == id) (map sheet_seen bs)
+place_seen : (bs : List SheetLines) (id : ℕ)
+    → position_or_len (λ x. x == id) (sheet_ids (map sheet_seen bs))
+    ≡ position_or_len (λ b. b.id == id) (map sheet_seen bs)
 place_seen [] id = refl
 place_seen (b ∷ bs) id = ap (λ n. cond (not (b.id == id)) (1 + n) 0) (place_seen bs id)
 
-within : {X : Type 0} (xs : List X) (n m : ℕ) → m ≡ length xs → slice_get xs n ≡ option_and_then (slice_get xs) (cond (ltb n m) (Some n) None)
+within : {X : Type 0} (xs : List X) (n m : ℕ) → m ≡ length xs
+    → slice_get xs n ≡ option_and_then (slice_get xs) (cond (ltb n m) (Some n) None)
 within xs n m same =
     elim (slice_get_cases xs n).1 [
       | inl h ↦ let yes : ltb n m ≡ true = grind (arith, nat_tests, h.1) in rw yes refl
       | inr h ↦ let no : ltb n m ≡ false = grind (arith, nat_tests, h.0) in rw no h.1
     ]
 
-found_at : (bs : List SheetLines) (id : ℕ) → find (λ b. b.id == id) (map sheet_seen bs) ≡ option_and_then (slice_get (map sheet_seen bs)) (position (λ x. x == id) (sheet_ids (map sheet_seen bs)))
+found_at : (bs : List SheetLines) (id : ℕ)
+    → find (λ b. b.id == id) (map sheet_seen bs)
+    ≡ option_and_then (slice_get (map sheet_seen bs)) (position (λ x. x == id) (sheet_ids (map sheet_seen bs)))
 found_at bs id =
     let same = length-map (map sheet_seen bs) (λ (b : Sheet). b.id) in
-    find_at (λ b. b.id == id) (map sheet_seen bs) ∙ ap (slice_get (map sheet_seen bs)) (sym (place_seen bs id)) ∙ within (map sheet_seen bs) _ _ same
+    find_at (λ b. b.id == id) (map sheet_seen bs) ∙ ap (slice_get (map sheet_seen bs)) (sym (place_seen bs id))
+    ∙ within (map sheet_seen bs) _ _ same
 
-pub parts_of-placed : (bs : List SheetLines) (id i : ℕ) (b : SheetLines) → position (λ x. x == id) (sheet_ids (map sheet_seen bs)) ≡ Some i → slice_get bs i ≡ Some b
+pub parts_of-placed : (bs : List SheetLines) (id i : ℕ) (b : SheetLines)
+    → position (λ x. x == id) (sheet_ids (map sheet_seen bs)) ≡ Some i → slice_get bs i ≡ Some b
     → parts_of (map sheet_seen bs) id ≡ b.parts.items
 parts_of-placed bs id i b at is = rw (found_at bs id, at) (rw (slice_get-map, is) refl)
 
-pub parts_of-none : (bs : List SheetLines) (id : ℕ) → position (λ x. x == id) (sheet_ids (map sheet_seen bs)) ≡ None → parts_of (map sheet_seen bs) id ≡ []
+pub parts_of-none : (bs : List SheetLines) (id : ℕ) → position (λ x. x == id) (sheet_ids (map sheet_seen bs)) ≡ None
+    → parts_of (map sheet_seen bs) id ≡ []
 parts_of-none bs id none = rw (found_at bs id, none) refl
 
-pub placed_within : (bs : List SheetLines) (id i : ℕ) → position (λ x. x == id) (sheet_ids (map sheet_seen bs)) ≡ Some i → i < length bs
+pub placed_within : (bs : List SheetLines) (id i : ℕ) → position (λ x. x == id) (sheet_ids (map sheet_seen bs)) ≡ Some i
+    → i < length bs
 placed_within bs id i at =
     let h = position-Some (λ x. x == id) (sheet_ids (map sheet_seen bs)) i 0 at in
     let a = length-map (map sheet_seen bs) (λ (b : Sheet). b.id) in

@@ -8,7 +8,8 @@ use Rattle.stack_text.specs.declared.sheets.PartContent.{PartContent}
 use Rattle.stack_text.specs.declared.sheets.Part.{Part}
 use Rattle.stack_text.specs.declared.sheets.Keeping.{Keeping}
 use Rattle.stack_text.specs.Document.{Sheet, Document, part_ids, sheet_ids}
-use Rattle.stack_text.specs.Listing.{part_entry, object_entries, parts_entry, contents_on, written, lit, content_entries}
+use Rattle.stack_text.specs.Listing.{part_entry, object_entries, parts_entry, contents_on, written, lit}
+use Rattle.stack_text.specs.Listing.{content_entries}
 
 -- the map with these entries, where the first of a key counts
 abbrev pub inserted : {K X : Type 0} {R : K → K → Ordering} → FinMap R X → List (K × X) → FinMap R X
@@ -17,7 +18,11 @@ inserted m (e ∷ es) = insert (inserted m es) e.0 e.1
 
 -- with what is kept on a card, or on card 0 for what is shared
 abbrev pub with_contents : ℕ → List (ℕ × PartContent) → Content → Content
-with_contents card contents s = record s { texts = inserted s.texts (content_entries written card contents); hilites = inserted s.hilites (content_entries lit card contents) }
+with_contents card contents s = record s {
+  texts = inserted s.texts (content_entries written card contents);
+  hilites = inserted s.hilites
+      (content_entries lit card contents);
+}
 
 abbrev pub own_contents : List Part → List (ℕ × PartContent)
 own_contents parts = map (λ p. (p.id, p.content)) parts
@@ -69,7 +74,8 @@ abbrev pub with_orders : List Sheet → List Sheet → Content → Content
 with_orders backgrounds cards s = record s { backgrounds = sheet_ids backgrounds; cards = sheet_ids cards }
 
 abbrev pub with_all_sheets : List Sheet → List Sheet → Content → Content
-with_all_sheets backgrounds cards s = with_sheets true backgrounds (with_sheets false cards (with_orders backgrounds cards s))
+with_all_sheets backgrounds cards s =
+    with_sheets true backgrounds (with_sheets false cards (with_orders backgrounds cards s))
 
 -- with all that a document lists
 abbrev pub with_document : Document → Content → Content

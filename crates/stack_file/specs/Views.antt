@@ -8,4 +8,10 @@ abbrev pub sheet_seen : SheetLines → Sheet
 sheet_seen s = record { id = s.id; object = s.object; parts = s.parts.items; keepings = s.keepings.items }
 
 abbrev pub text_seen : TextLines → Document
-text_seen t = record { next = t.next; stack = t.stack; backgrounds = map sheet_seen t.backgrounds.items; cards = map sheet_seen t.cards.items }
+text_seen t = record {
+  next = t.next;
+  stack = t.stack;
+  backgrounds = map sheet_seen t.backgrounds.items;
+  cards = map
+      sheet_seen t.cards.items;
+}

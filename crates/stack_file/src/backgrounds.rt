@@ -93,7 +93,8 @@ pub(crate) fn each_has_card(
     backgrounds: &[SheetLines],
     cards: &[SheetLines],
 ) -> Result<bool, AllocError>
-    ensures { IfOk result (λ x. x ≡ list_all (λ b. contains_id b.id (backgrounds_of (map sheet_seen cards.now))) (map sheet_seen backgrounds.now)) }
+    ensures { IfOk result (λ x. x ≡ list_all (λ b. contains_id b.id (backgrounds_of (map sheet_seen cards.now)))
+        (map sheet_seen backgrounds.now)) }
 {
     let owners = owners_of(alloc, cards)?;
     Ok(each_among(backgrounds, &owners))

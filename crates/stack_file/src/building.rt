@@ -7,7 +7,9 @@ ghost use Rattle.stack_text.specs.Document.{part_ids, sheet_ids};
 ghost use Rattle.stack_text.specs.Listing.{content_of};
 ghost use Rattle.stack_text.specs.Laws.{Spells};
 ghost use Rattle.stack_text.specs.Reading.{Gives, Fails, document_at};
-ghost use Rattle.stack_file.specs.Building.{with_contents, with_parts, with_keepings, with_list, with_rows, with_sheet, with_sheets, card_for as card_for_sheet, with_orders, with_all_sheets, with_document};
+ghost use Rattle.stack_file.specs.Building.{with_contents, with_parts, with_keepings, with_list, with_rows, with_sheet};
+ghost use Rattle.stack_file.specs.Building.{with_sheets, card_for as card_for_sheet, with_orders, with_all_sheets};
+ghost use Rattle.stack_file.specs.Building.{with_document};
 ghost use Rattle.stack_file.specs.Views.{sheet_seen, text_seen};
 
 use crate::document::document;
@@ -18,7 +20,8 @@ use stack_text::{Keeping, Part, PartContent, ReadError};
 use std::alloc::{AllocError, Global};
 
 fn put_object(stack: &mut Stack, id: Id, object: Object) -> Result<(), AllocError>
-    ensures { OnOk result (stack.new.content ≡ record stack.old.content { objects = insert stack.old.content.objects id object }) }
+    ensures { OnOk result (stack.new.content
+        ≡ record stack.old.content { objects = insert stack.old.content.objects id object }) }
 {
     stack.open_slot(id)?;
     let mut slot = Some(object);
@@ -28,7 +31,8 @@ fn put_object(stack: &mut Stack, id: Id, object: Object) -> Result<(), AllocErro
 
 #[tactic(auto, using(crate::proofs::Built::opened))]
 fn put_text(stack: &mut Stack, field: Id, card: Id, text: Text) -> Result<(), AllocError>
-    ensures { OnOk result (stack.new.content ≡ record stack.old.content { texts = insert stack.old.content.texts (field, card) text }) }
+    ensures { OnOk result (stack.new.content
+        ≡ record stack.old.content { texts = insert stack.old.content.texts (field, card) text }) }
 {
     stack.open_text(field, card)?;
     let mut slot = Some(text);
@@ -38,7 +42,8 @@ fn put_text(stack: &mut Stack, field: Id, card: Id, text: Text) -> Result<(), Al
 
 #[tactic(auto, using(crate::proofs::Built::opened))]
 fn put_hilite(stack: &mut Stack, button: Id, card: Id, lit: bool) -> Result<(), AllocError>
-    ensures { OnOk result (stack.new.content ≡ record stack.old.content { hilites = insert stack.old.content.hilites (button, card) lit }) }
+    ensures { OnOk result (stack.new.content
+        ≡ record stack.old.content { hilites = insert stack.old.content.hilites (button, card) lit }) }
 {
     stack.open_hilite(button, card)?;
     let mut slot = Some(lit);
@@ -192,7 +197,8 @@ fn set_orders(
     backgrounds: &[SheetLines],
     cards: &[SheetLines],
 ) -> Result<(), AllocError>
-    ensures { OnOk result (stack.new.content ≡ with_orders (map sheet_seen backgrounds.now) (map sheet_seen cards.now) stack.old.content) }
+    ensures { OnOk result (stack.new.content
+        ≡ with_orders (map sheet_seen backgrounds.now) (map sheet_seen cards.now) stack.old.content) }
 {
     let mut order = ids_of_sheets(alloc, cards)?;
     stack.swap_order(&mut order);
@@ -208,7 +214,8 @@ fn add_all_sheets(
     backgrounds: &mut Vec<SheetLines>,
     cards: &mut Vec<SheetLines>,
 ) -> Result<(), AllocError>
-    ensures { OnOk result (stack.new.content ≡ with_all_sheets (map sheet_seen backgrounds.old.items) (map sheet_seen cards.old.items) stack.old.content) }
+    ensures { OnOk result (stack.new.content
+        ≡ with_all_sheets (map sheet_seen backgrounds.old.items) (map sheet_seen cards.old.items) stack.old.content) }
 {
     set_orders(stack, alloc, backgrounds.as_slice(), cards.as_slice())?;
     add_sheets(stack, alloc, false, cards)?;

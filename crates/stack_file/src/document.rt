@@ -1,7 +1,8 @@
 //! A stack text, read sheet by sheet.
 
 ghost use Rattle.std.specs.Prelude.{map};
-ghost use Rattle.stack_text.specs.Reading.{Gives, times, background_at, backgrounds_at, card_at, cards_at, end_at, stack_at, body_at, all_lines as all_lines_at, document_at};
+ghost use Rattle.stack_text.specs.Reading.{Gives, times, background_at, backgrounds_at, card_at, cards_at, end_at};
+ghost use Rattle.stack_text.specs.Reading.{stack_at, body_at, all_lines as all_lines_at, document_at};
 ghost use Rattle.stack_file.specs.Views.{sheet_seen, text_seen};
 
 use crate::backgrounds::{Backgrounds, each_has_card};
@@ -38,7 +39,8 @@ fn counted_backgrounds(
     next: Id,
     count: u32,
 ) -> Result<Vec<SheetLines>, ReadError>
-    ensures { Gives (λ x. (map sheet_seen x.items, lines.new)) result (times count (background_at version next) lines.old) }
+    ensures { Gives (λ x. (map sheet_seen x.items, lines.new)) result
+        (times count (background_at version next) lines.old) }
 {
     let mut backgrounds = Vec::new(alloc);
     for _ in 0..count {
@@ -68,7 +70,8 @@ fn counted_cards(
     backgrounds: &Backgrounds,
     count: u32,
 ) -> Result<Vec<SheetLines>, ReadError>
-    ensures { Gives (λ x. (map sheet_seen x.items, lines.new)) result (times count (card_at version next (map sheet_seen backgrounds.now.list.now)) lines.old) }
+    ensures { Gives (λ x. (map sheet_seen x.items, lines.new)) result
+        (times count (card_at version next (map sheet_seen backgrounds.now.list.now)) lines.old) }
 {
     let mut cards = Vec::new(alloc);
     for _ in 0..count {
@@ -85,7 +88,8 @@ fn cards(
     next: Id,
     backgrounds: &[SheetLines],
 ) -> Result<Vec<SheetLines>, ReadError>
-    ensures { Gives (λ x. (map sheet_seen x.items, lines.new)) result (cards_at version next (map sheet_seen backgrounds.now) lines.old) }
+    ensures { Gives (λ x. (map sheet_seen x.items, lines.new)) result
+        (cards_at version next (map sheet_seen backgrounds.now) lines.old) }
 {
     let count = lines.count_after(b"cards ", 1, MOST_OBJECTS)?;
     let backgrounds = Backgrounds::new(alloc, backgrounds)?;
@@ -99,7 +103,8 @@ fn end(
     backgrounds: &[SheetLines],
     cards: &[SheetLines],
 ) -> Result<(), ReadError>
-    ensures { Gives (λ x. (tt, lines.new)) result (end_at (map sheet_seen backgrounds.now) (map sheet_seen cards.now) lines.old) }
+    ensures { Gives (λ x. (tt, lines.new)) result
+        (end_at (map sheet_seen backgrounds.now) (map sheet_seen cards.now) lines.old) }
 {
     lines.exactly(b"end")?;
     if !each_has_card(alloc, backgrounds, cards)? {

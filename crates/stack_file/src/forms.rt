@@ -1,8 +1,11 @@
 //! The words of a line, each by its form.
 
-ghost use Rattle.std.specs.Prelude.{◌≡◌, ◌<◌, ◌==◌, length, position, codes, IfSome, IfOk, IfErr, option_copied, option_map, option_and_then};
+ghost use Rattle.std.specs.Prelude.{◌≡◌, ◌<◌, ◌==◌, length, position, codes, IfSome, IfOk, IfErr, option_copied};
+ghost use Rattle.std.specs.Prelude.{option_map, option_and_then};
 ghost use Rattle.std.specs.List.{list_any};
-ghost use Rattle.stack_text.specs.Reading.{after_prefix, short_text, at_least, flag_at, count_at, piece_at, is_piece as is_piece_in, around_space, both as both_of, pair_at, part_header, version_at};
+ghost use Rattle.stack_text.specs.Reading.{after_prefix, short_text, at_least, flag_at, count_at, piece_at};
+ghost use Rattle.stack_text.specs.Reading.{is_piece as is_piece_in, around_space, both as both_of, pair_at};
+ghost use Rattle.stack_text.specs.Reading.{part_header, version_at};
 ghost use Rattle.stack_text.specs.Words.{number_at as number_of};
 ghost use Rattle.stack_text.specs.declared.fault.ReadError.TheVariants.{Memory};
 
@@ -136,7 +139,8 @@ pub(crate) fn piece_in(
     room: usize,
     line: &[u8],
 ) -> Result<Option<Vec<u8>>, ReadError>
-    ensures value { IfOk result (λ o. option_map (λ v. v.items) o ≡ option_and_then (piece_at alone room) (after_prefix (codes "|") line.now)) }
+    ensures value { IfOk result (λ o. option_map (λ v. v.items) o
+        ≡ option_and_then (piece_at alone room) (after_prefix (codes "|") line.now)) }
     ensures short { IfOk result (λ o. IfSome o (λ v. length v.items < room)) }
     ensures err { IfErr result (λ e. e ≡ Memory) }
 {

@@ -1,7 +1,8 @@
 //! Backgrounds and cards, read with their parts.
 
 ghost use Rattle.std.specs.Prelude.{map};
-ghost use Rattle.stack_text.specs.Reading.{Gives, for_each, layer_at, background_header_at, background_at, own_text_at, own_hilite_at, keeping_at, card_header_at, card_at};
+ghost use Rattle.stack_text.specs.Reading.{Gives, for_each, layer_at, background_header_at, background_at, own_text_at};
+ghost use Rattle.stack_text.specs.Reading.{own_hilite_at, keeping_at, card_header_at, card_at};
 ghost use Rattle.stack_file.specs.Views.{sheet_seen};
 
 use crate::backgrounds::Backgrounds;
@@ -136,7 +137,8 @@ fn card_header(
     next: Id,
     backgrounds: &Backgrounds,
 ) -> Result<(Id, Id), ReadError>
-    ensures { Gives (λ x. (x, lines.new)) result (card_header_at next (map sheet_seen backgrounds.now.list.now) lines.old) }
+    ensures { Gives (λ x. (x, lines.new)) result
+        (card_header_at next (map sheet_seen backgrounds.now.list.now) lines.old) }
 {
     let (id, background) = lines.card_head()?;
     lines.new_id(next, id, backgrounds.contains(background))?;
@@ -151,7 +153,8 @@ pub(crate) fn card(
     next: Id,
     backgrounds: &Backgrounds,
 ) -> Result<SheetLines, ReadError>
-    ensures { Gives (λ x. (sheet_seen x, lines.new)) result (card_at version next (map sheet_seen backgrounds.now.list.now) lines.old) }
+    ensures { Gives (λ x. (sheet_seen x, lines.new)) result
+        (card_at version next (map sheet_seen backgrounds.now.list.now) lines.old) }
 {
     let (id, background) = card_header(lines, next, backgrounds)?;
     let (name, cant_delete, script) = layer(lines, alloc)?;

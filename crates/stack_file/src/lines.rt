@@ -1,7 +1,9 @@
 //! Lines of a text, read one after the other, each by its form.
 
 ghost use Rattle.std.specs.Prelude.{◌≡◌, ◌<◌, codes, length, [], IfOk};
-ghost use Rattle.stack_text.specs.Reading.{Gives, next_line, or_bad_line, line_after, exactly, name_at, number_after, count_after, flag_after, flag_at, count_at, piece_at, pair_at, part_header, new_id, version_at, nothing_left};
+ghost use Rattle.stack_text.specs.Reading.{Gives, next_line, or_bad_line, line_after, exactly, name_at, number_after};
+ghost use Rattle.stack_text.specs.Reading.{count_after, flag_after, flag_at, count_at, piece_at, pair_at, part_header};
+ghost use Rattle.stack_text.specs.Reading.{new_id, version_at, nothing_left};
 ghost use Rattle.stack_text.specs.Words.{number_at as number_of};
 ghost use Rattle.stack_text.specs.declared.fault.FileError.TheVariants.{BadLine, BadId};
 ghost use Rattle.stack_text.specs.declared.fault.ReadError.TheVariants.{File};

@@ -1,7 +1,9 @@
 //! Parts, read with what is kept beside them.
 
 ghost use Rattle.std.specs.Prelude.{true, codes};
-ghost use Rattle.stack_text.specs.Reading.{Gives, flag_after, in_second_or, background_button_at, background_field_at, background_part_at, card_button_at, card_field_at, card_part_at, part_at, parts_at, times};
+ghost use Rattle.stack_text.specs.Reading.{Gives, flag_after, in_second_or, background_button_at, background_field_at};
+ghost use Rattle.stack_text.specs.Reading.{background_part_at, card_button_at, card_field_at, card_part_at, part_at};
+ghost use Rattle.stack_text.specs.Reading.{parts_at, times};
 ghost use Rattle.stack_file.specs.Owners.{rest_of};
 
 use crate::blocks::{block, script};
@@ -20,7 +22,8 @@ pub(crate) enum Owner {
 
 /// Whether a button shares its hilite, which version 1 doesn't say.
 fn shared_hilite(lines: &mut Lines, version: Version) -> Result<bool, ReadError>
-    ensures { Gives (λ x. (x, lines.new)) result (in_second_or version true (flag_after (codes "sharedHilite ")) lines.old) }
+    ensures { Gives (λ x. (x, lines.new)) result
+        (in_second_or version true (flag_after (codes "sharedHilite ")) lines.old) }
 {
     match version {
         Version::First => Ok(true),

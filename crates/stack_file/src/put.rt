@@ -84,7 +84,8 @@ pub(crate) fn flag_line(out: &mut Vec<u8>, key: &[u8], flag: bool) -> Result<(),
 
 /// A key, an id and a flag.
 pub(crate) fn hilite_line(out: &mut Vec<u8>, button: Id, lit: bool) -> Result<(), AllocError>
-    ensures { OnOk result (out.new.items ≡ with_lines out.old.items (flagged (numbered (codes "hilite") button) lit ∷ [])) }
+    ensures { OnOk result (out.new.items
+        ≡ with_lines out.old.items (flagged (numbered (codes "hilite") button) lit ∷ [])) }
 {
     put_numbered(out, b"hilite", button as usize)?;
     put_flag(out, lit)
@@ -152,7 +153,8 @@ pub(crate) fn block(out: &mut Vec<u8>, key: &[u8], text: &[u8]) -> Result<(), Al
 
 /// The text of a field that a card keeps.
 pub(crate) fn text_block(out: &mut Vec<u8>, field: Id, text: &[u8]) -> Result<(), AllocError>
-    ensures { OnOk result (out.new.items ≡ with_lines out.old.items (block_lines (numbered (codes "text") field) text.now)) }
+    ensures { OnOk result (out.new.items
+        ≡ with_lines out.old.items (block_lines (numbered (codes "text") field) text.now)) }
 {
     numbers_line(out, b"text", field as usize, piece_count(text))?;
     put_pieces(out, text)
@@ -169,7 +171,8 @@ fn cant_delete_of(kind: Kind) -> bool
 
 /// The name of a background or a card, whether it can't be deleted, and its script.
 pub(crate) fn layer(out: &mut Vec<u8>, object: &Object) -> Result<(), AllocError>
-    ensures { OnOk result (out.new.items ≡ with_lines out.old.items (layer_lines object.now.name object.now.script (cant_delete_in object.now.kind))) }
+    ensures { OnOk result (out.new.items
+        ≡ with_lines out.old.items (layer_lines object.now.name object.now.script (cant_delete_in object.now.kind))) }
 {
     name_line(out, object.name.as_text().as_slice())?;
     flag_line(out, b"cantDelete", cant_delete_of(object.kind))?;

@@ -1,16 +1,20 @@
 //! Writing the text of a stack, line by line.
 
-ghost use Rattle.std.specs.Prelude.{◌≡◌, ◌∷◌, ◌++◌, [], List, ℕ, All, IsTrue, codes, flat_map, length, map, unwrap_or, false, OnOk, IfOk};
+ghost use Rattle.std.specs.Prelude.{◌≡◌, ◌∷◌, ◌++◌, [], List, ℕ, All, IsTrue, codes, flat_map, length, map, unwrap_or};
+ghost use Rattle.std.specs.Prelude.{false, OnOk, IfOk};
 ghost use Rattle.object_table.specs.PartContents.{text_at, hilite_at};
 ghost use Rattle.object_table.specs.Objects.{has_kind, is_background, is_card, parts_at};
 ghost use Rattle.object_table.specs.WellFormed.{IsWellFormed};
 ghost use Rattle.stack_text.specs.Laws.{Spells, IsOfVersion};
-ghost use Rattle.stack_text.specs.Listing.{object_or, part_of, keeping_of, background_sheet, card_sheet, document_of, spelling};
-ghost use Rattle.stack_text.specs.Spelling.{header, name_line as name_spelled, script_lines, lines_by, part_lines, keeping_lines, parts_lines, background_lines, card_lines};
+ghost use Rattle.stack_text.specs.Listing.{object_or, part_of, keeping_of, background_sheet, card_sheet, document_of};
+ghost use Rattle.stack_text.specs.Listing.{spelling};
+ghost use Rattle.stack_text.specs.Spelling.{header, name_line as name_spelled, script_lines, lines_by, part_lines};
+ghost use Rattle.stack_text.specs.Spelling.{keeping_lines, parts_lines, background_lines, card_lines};
 ghost use Rattle.stack_text.specs.Words.{numbered};
 ghost use Rattle.stack_text.specs.declared.sheets.Version.TheVariants.{Second as second};
 ghost use Rattle.stack_text.specs.declared.sheets.PartContent.TheVariants.{Nothing, Written, Lit};
-ghost use Rattle.object_table.specs.declared.object.Kind.TheVariants.{CardButton, BackgroundButton, CardField, BackgroundField};
+ghost use Rattle.object_table.specs.declared.object.Kind.TheVariants.{CardButton, BackgroundButton, CardField};
+ghost use Rattle.object_table.specs.declared.object.Kind.TheVariants.{BackgroundField};
 ghost use Rattle.stack_file.specs.Lines.{with_lines};
 
 use crate::backgrounds::background_of;
@@ -45,7 +49,9 @@ fn card_button(
     visible: bool,
     lit: bool,
 ) -> Result<(), AllocError>
-    ensures { OnOk result (out.new.items ≡ with_lines out.old.items (lines_by second id object.now.name object.now.script Nothing (CardButton visible lit))) }
+    ensures { OnOk result (out.new.items
+        ≡ with_lines out.old.items (lines_by second id object.now.name object.now.script Nothing
+        (CardButton visible lit))) }
 {
     number_line(out, b"button", id as usize)?;
     name_line(out, object.name.as_text().as_slice())?;
@@ -61,7 +67,9 @@ fn background_button(
     flags: (bool, bool),
     lit: bool,
 ) -> Result<(), AllocError>
-    ensures { OnOk result (out.new.items ≡ with_lines out.old.items (lines_by second id object.now.name object.now.script (Lit lit) (BackgroundButton flags.0 flags.1))) }
+    ensures { OnOk result (out.new.items
+        ≡ with_lines out.old.items (lines_by second id object.now.name object.now.script (Lit lit)
+        (BackgroundButton flags.0 flags.1))) }
 {
     let (visible, shared_hilite) = flags;
     number_line(out, b"button", id as usize)?;
@@ -80,7 +88,9 @@ fn card_field(
     flags: (bool, bool),
     text: &[u8],
 ) -> Result<(), AllocError>
-    ensures { OnOk result (out.new.items ≡ with_lines out.old.items (lines_by second id object.now.name object.now.script (Written text.now) (CardField flags.0 flags.1))) }
+    ensures { OnOk result (out.new.items
+        ≡ with_lines out.old.items (lines_by second id object.now.name object.now.script (Written text.now)
+        (CardField flags.0 flags.1))) }
 {
     let (visible, lock_text) = flags;
     number_line(out, b"field", id as usize)?;
@@ -99,7 +109,9 @@ fn background_field(
     flags: (bool, bool, bool),
     text: &[u8],
 ) -> Result<(), AllocError>
-    ensures { OnOk result (out.new.items ≡ with_lines out.old.items (lines_by second id object.now.name object.now.script (Written text.now) (BackgroundField flags.0 flags.1 flags.2))) }
+    ensures { OnOk result (out.new.items
+        ≡ with_lines out.old.items (lines_by second id object.now.name object.now.script (Written text.now)
+        (BackgroundField flags.0 flags.1 flags.2))) }
 {
     let (visible, lock_text, shared_text) = flags;
     number_line(out, b"field", id as usize)?;
@@ -113,7 +125,8 @@ fn background_field(
 
 /// A part of a card, or with 0 in place of a card one of a background. What is no part has no line.
 fn put_part(out: &mut Vec<u8>, stack: &Stack, card: Id, id: Id) -> Result<(), AllocError>
-    ensures { OnOk result (out.new.items ≡ with_lines out.old.items (part_lines second (part_of stack.now.content card id))) }
+    ensures { OnOk result (out.new.items
+        ≡ with_lines out.old.items (part_lines second (part_of stack.now.content card id))) }
 {
     let Some(object) = stack.object(id) else {
         return Ok(());
@@ -144,7 +157,8 @@ fn put_part(out: &mut Vec<u8>, stack: &Stack, card: Id, id: Id) -> Result<(), Al
 }
 
 fn put_each_part(out: &mut Vec<u8>, stack: &Stack, card: Id, ids: &[Id]) -> Result<(), AllocError>
-    ensures { OnOk result (out.new.items ≡ with_lines out.old.items (flat_map (part_lines second) (map (part_of stack.now.content card) ids.now))) }
+    ensures { OnOk result (out.new.items
+        ≡ with_lines out.old.items (flat_map (part_lines second) (map (part_of stack.now.content card) ids.now))) }
 {
     for id in ids {
         put_part(out, stack, card, *id)?;
@@ -154,7 +168,8 @@ fn put_each_part(out: &mut Vec<u8>, stack: &Stack, card: Id, ids: &[Id]) -> Resu
 
 /// The parts of a card, or with 0 in place of a card those of a background, and how many there are.
 fn put_parts(out: &mut Vec<u8>, stack: &Stack, card: Id, ids: &[Id]) -> Result<(), AllocError>
-    ensures { OnOk result (out.new.items ≡ with_lines out.old.items (parts_lines second (map (part_of stack.now.content card) ids.now))) }
+    ensures { OnOk result (out.new.items
+        ≡ with_lines out.old.items (parts_lines second (map (part_of stack.now.content card) ids.now))) }
 {
     number_line(out, b"parts", ids.len())?;
     put_each_part(out, stack, card, ids)
@@ -162,7 +177,8 @@ fn put_parts(out: &mut Vec<u8>, stack: &Stack, card: Id, ids: &[Id]) -> Result<(
 
 /// What a card keeps for a part of its background.
 fn put_keeping(out: &mut Vec<u8>, stack: &Stack, card: Id, id: Id) -> Result<(), AllocError>
-    ensures { OnOk result (out.new.items ≡ with_lines out.old.items (keeping_lines second (keeping_of stack.now.content card id))) }
+    ensures { OnOk result (out.new.items
+        ≡ with_lines out.old.items (keeping_lines second (keeping_of stack.now.content card id))) }
 {
     let Some(object) = stack.object(id) else {
         return Ok(());
@@ -179,7 +195,8 @@ fn put_keeping(out: &mut Vec<u8>, stack: &Stack, card: Id, id: Id) -> Result<(),
 }
 
 fn put_keepings(out: &mut Vec<u8>, stack: &Stack, card: Id, ids: &[Id]) -> Result<(), AllocError>
-    ensures { OnOk result (out.new.items ≡ with_lines out.old.items (flat_map (keeping_lines second) (map (keeping_of stack.now.content card) ids.now))) }
+    ensures { OnOk result (out.new.items
+        ≡ with_lines out.old.items (flat_map (keeping_lines second) (map (keeping_of stack.now.content card) ids.now))) }
 {
     for id in ids {
         put_keeping(out, stack, card, *id)?;
@@ -212,7 +229,8 @@ fn parts_of(stack: &Stack, id: Id) -> &[Id]
 #[tactic(auto, using(crate::proofs::Adding::with_lines_append))]
 fn put_background(out: &mut Vec<u8>, stack: &Stack, id: Id) -> Result<(), AllocError>
     requires { IsTrue (has_kind is_background stack.now.content id) }
-    ensures { OnOk result (out.new.items ≡ with_lines out.old.items (background_lines second (background_sheet stack.now.content id))) }
+    ensures { OnOk result (out.new.items
+        ≡ with_lines out.old.items (background_lines second (background_sheet stack.now.content id))) }
 {
     let Some(object) = stack.object(id) else {
         unreachable!();
@@ -226,7 +244,8 @@ fn put_background(out: &mut Vec<u8>, stack: &Stack, id: Id) -> Result<(), AllocE
 fn put_card(out: &mut Vec<u8>, stack: &Stack, id: Id) -> Result<(), AllocError>
     requires formed { IsWellFormed stack.now.content }
     requires card { IsTrue (has_kind is_card stack.now.content id) }
-    ensures { OnOk result (out.new.items ≡ with_lines out.old.items (card_lines second (card_sheet stack.now.content id))) }
+    ensures { OnOk result (out.new.items
+        ≡ with_lines out.old.items (card_lines second (card_sheet stack.now.content id))) }
 {
     let Some(object) = stack.object(id) else {
         unreachable!();
@@ -240,7 +259,9 @@ fn put_card(out: &mut Vec<u8>, stack: &Stack, id: Id) -> Result<(), AllocError>
 
 fn put_backgrounds(out: &mut Vec<u8>, stack: &Stack, ids: &[Id]) -> Result<(), AllocError>
     requires { All (λ id. IsTrue (has_kind is_background stack.now.content id)) ids.now }
-    ensures { OnOk result (out.new.items ≡ with_lines out.old.items (flat_map (background_lines second) (map (background_sheet stack.now.content) ids.now))) }
+    ensures { OnOk result (out.new.items
+        ≡ with_lines out.old.items (flat_map (background_lines second)
+        (map (background_sheet stack.now.content) ids.now))) }
 {
     for id in ids {
         put_background(out, stack, *id)?;
@@ -251,7 +272,8 @@ fn put_backgrounds(out: &mut Vec<u8>, stack: &Stack, ids: &[Id]) -> Result<(), A
 fn put_cards(out: &mut Vec<u8>, stack: &Stack, ids: &[Id]) -> Result<(), AllocError>
     requires formed { IsWellFormed stack.now.content }
     requires cards { All (λ id. IsTrue (has_kind is_card stack.now.content id)) ids.now }
-    ensures { OnOk result (out.new.items ≡ with_lines out.old.items (flat_map (card_lines second) (map (card_sheet stack.now.content) ids.now))) }
+    ensures { OnOk result (out.new.items
+        ≡ with_lines out.old.items (flat_map (card_lines second) (map (card_sheet stack.now.content) ids.now))) }
 {
     for id in ids {
         put_card(out, stack, *id)?;
@@ -262,7 +284,8 @@ fn put_cards(out: &mut Vec<u8>, stack: &Stack, ids: &[Id]) -> Result<(), AllocEr
 /// The lines before the backgrounds.
 fn put_head(out: &mut Vec<u8>, stack: &Stack) -> Result<(), AllocError>
     requires { IsWellFormed stack.now.content }
-    ensures { OnOk result (out.new.items ≡ with_lines out.old.items (header second ∷ numbered (codes "next") stack.now.content.next
+    ensures { OnOk result (out.new.items
+        ≡ with_lines out.old.items (header second ∷ numbered (codes "next") stack.now.content.next
         ∷ name_spelled (object_or stack.now.content 0).name ∷ script_lines (object_or stack.now.content 0).script)) }
 {
     let Some(object) = stack.object(0) else {
@@ -279,7 +302,8 @@ pub fn write(alloc: Global, stack: &Stack) -> Result<Vec<u8>, AllocError>
     requires { IsWellFormed stack.now.content }
     ensures text { IfOk result (λ v. v.items ≡ spelling second stack.now.content) }
     ensures spells { IfOk result (λ v. Spells v.items stack.now.content) }
-    ensures only { (bytes : List ℕ) → IsOfVersion second bytes → Spells bytes stack.now.content → IfOk result (λ v. v.items ≡ bytes) }
+    ensures only { (bytes : List ℕ) → IsOfVersion second bytes → Spells bytes stack.now.content
+        → IfOk result (λ v. v.items ≡ bytes) }
 {
     let mut out = Vec::new(alloc);
     put_head(&mut out, stack)?;

@@ -4,7 +4,8 @@ use Rattle.std.specs.FinMap.{get}
 use Rattle.ht_values.specs.Text.{IsText}
 use Rattle.object_table.specs.Content.{Content}
 use Rattle.object_table.specs.PartContents.{text_at, hilite_at, keeps_text, keeps_hilite}
-use Rattle.object_table.specs.Objects.{is_stack, is_background, is_card, is_card_part, is_background_part, is_layer, has_kind, object_at, parts_at, background_at, object_count}
+use Rattle.object_table.specs.Objects.{is_stack, is_background, is_card, is_card_part, is_background_part, is_layer}
+use Rattle.object_table.specs.Objects.{has_kind, object_at, parts_at, background_at, object_count}
 use Rattle.object_table.specs.WellFormed.{NamesEach, IsWellFormed}
 
 pub record IsFormed (s : Content) : Type 0 where

@@ -1,20 +1,25 @@
 -- What the changes that make and remove objects write in a stack.
-use Rattle.std.specs.Prelude.{ℕ, ◌+◌, Bool, true, false, ◌&&◌, ◌||◌, not, nat_eq, leb, List, [], ◌∷◌, ◌++◌, map, filter, length, codes, Option, Some, None, option_map, unwrap_or, is_some, if◌then◌else◌}
+use Rattle.std.specs.Prelude.{ℕ, ◌+◌, Bool, true, false, ◌&&◌, ◌||◌, not, nat_eq, leb, List, [], ◌∷◌, ◌++◌, map}
+use Rattle.std.specs.Prelude.{filter, length, codes, Option, Some, None, option_map, unwrap_or, is_some, if◌then◌else◌}
 use Rattle.std.specs.FinMap.{keys}
 use Rattle.std.specs.List.{list_all}
 use Rattle.object_table.specs.Content.{Content}
 use Rattle.object_table.specs.Empty.{empty_object}
 use Rattle.object_table.specs.Layers.{layer_id, layer_parts}
-use Rattle.object_table.specs.Objects.{is_background_button, is_background_field, has_kind, parts_at, contains_id, background_at, object_count}
+use Rattle.object_table.specs.Objects.{is_background_button, is_background_field, has_kind, parts_at, contains_id}
+use Rattle.object_table.specs.Objects.{background_at, object_count}
 use Rattle.object_table.specs.Pairs.{Pair}
 use Rattle.object_table.specs.declared.object.Object.{Object}
 use Rattle.object_table.specs.declared.object.Kind.{Kind}
-use Rattle.object_table.specs.declared.object.Kind.TheVariants.{Background, Card, CardButton, BackgroundButton, CardField, BackgroundField}
+use Rattle.object_table.specs.declared.object.Kind.TheVariants.{Background, Card, CardButton, BackgroundButton}
+use Rattle.object_table.specs.declared.object.Kind.TheVariants.{CardField, BackgroundField}
 use Rattle.object_table.specs.declared.object.LayerId.{LayerId}
 use Rattle.object_table.specs.declared.object.LayerId.TheVariants.{OfCard, OfBackground}
 use Rattle.ht_values.specs.declared.word.PartKind.{PartKind}
 use Rattle.ht_values.specs.declared.word.PartKind.TheVariants.{Button, Field}
-use Rattle.stack_places.specs.Places.{StackPlace, Value, same_place, put, field_text, button_hilite, whole, card_order, background_order, layer_parts as parts_of, next_id, text, logical, object, ids, number}
+use Rattle.stack_places.specs.Places.{StackPlace, Value, same_place, put, field_text, button_hilite, whole, card_order}
+use Rattle.stack_places.specs.Places.{background_order, layer_parts as parts_of, next_id, text, logical, object, ids}
+use Rattle.stack_places.specs.Places.{number}
 
 -- a place, and the value that it gets, or none
 pub record WriteAt (P : Type 0) : Type 0 where
@@ -179,7 +184,8 @@ goes_as_layer s card id = nat_eq id card || (is_last_card s card && nat_eq id (h
 
 -- whether a part stands on a layer that goes
 abbrev pub goes_as_part : Content → ℕ → ℕ → Bool
-goes_as_part s card id = contains_id id (parts_at s card) || (is_last_card s card && contains_id id (parts_at s (home s card)))
+goes_as_part s card id =
+    contains_id id (parts_at s card) || (is_last_card s card && contains_id id (parts_at s (home s card)))
 
 -- whether what a part keeps for a card, or for 0, goes
 abbrev pub goes_as_content : Content → ℕ → Pair → Bool

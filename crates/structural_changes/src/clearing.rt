@@ -17,7 +17,8 @@ pub(crate) fn clear_objects(
     entries: &mut Vec<StackEntry>,
     ids: &[Id],
 ) -> Result<(), AllocError>
-    ensures adds { OnOk result (Adds stack.old stack.new entries.old.items entries.new.items (map (λ id. clear (whole id)) ids.now)) }
+    ensures adds { OnOk result (Adds stack.old stack.new entries.old.items entries.new.items
+        (map (λ id. clear (whole id)) ids.now)) }
     ensures opens { Opens stack.old stack.new }
 {
     entries.reserve(ids.len())?;
@@ -34,7 +35,8 @@ pub(crate) fn clear_parts(
     entries: &mut Vec<StackEntry>,
     layers: &[Id],
 ) -> Result<(), AllocError>
-    ensures adds { OnOk result (Adds stack.old stack.new entries.old.items entries.new.items (map (λ id. clear (parts_of id)) layers.now)) }
+    ensures adds { OnOk result (Adds stack.old stack.new entries.old.items entries.new.items
+        (map (λ id. clear (parts_of id)) layers.now)) }
     ensures opens { Opens stack.old stack.new }
 {
     for layer in layers {
@@ -50,7 +52,8 @@ pub(crate) fn clear_texts(
     entries: &mut Vec<StackEntry>,
     texts: &[(Id, Id)],
 ) -> Result<(), AllocError>
-    ensures adds { OnOk result (Adds stack.old stack.new entries.old.items entries.new.items (map (λ p. clear (field_text p.0 p.1)) texts.now)) }
+    ensures adds { OnOk result (Adds stack.old stack.new entries.old.items entries.new.items
+        (map (λ p. clear (field_text p.0 p.1)) texts.now)) }
     ensures opens { Opens stack.old stack.new }
 {
     entries.reserve(texts.len())?;
@@ -67,7 +70,8 @@ pub(crate) fn clear_hilites(
     entries: &mut Vec<StackEntry>,
     hilites: &[(Id, Id)],
 ) -> Result<(), AllocError>
-    ensures adds { OnOk result (Adds stack.old stack.new entries.old.items entries.new.items (map (λ p. clear (button_hilite p.0 p.1)) hilites.now)) }
+    ensures adds { OnOk result (Adds stack.old stack.new entries.old.items entries.new.items
+        (map (λ p. clear (button_hilite p.0 p.1)) hilites.now)) }
     ensures opens { Opens stack.old stack.new }
 {
     entries.reserve(hilites.len())?;

@@ -7,7 +7,9 @@ ghost use Rattle.object_table.specs.Objects.{has_kind, is_background, is_card, p
 ghost use Rattle.object_table.specs.Layers.{layer_id};
 ghost use Rattle.object_table.specs.WellFormed.{IsWellFormed};
 ghost use Rattle.structural_changes.specs.Prepared.{Adds, Opens};
-ghost use Rattle.structural_changes.specs.Writes.{new_part, kept_for, insert_after, is_part_of, ids_where, writes_of_new_part, fits_new_part, has_room_for, home, writes_of_new_card, writes_of_new_background};
+ghost use Rattle.structural_changes.specs.Writes.{new_part, kept_for, insert_after, is_part_of, ids_where};
+ghost use Rattle.structural_changes.specs.Writes.{writes_of_new_part, fits_new_part, has_room_for, home};
+ghost use Rattle.structural_changes.specs.Writes.{writes_of_new_card, writes_of_new_background};
 
 use crate::preparing::{
     add_entry, add_hilites, add_hilites_of, add_texts, add_texts_of, cards_of, parts_of,
@@ -107,7 +109,8 @@ pub fn prepare_new_part(
     requires well_formed { IsWellFormed stack.old.content }
     requires fits { fits_new_part stack.old.content layer ≡ true }
     ensures opens { Opens stack.old stack.new }
-    ensures entries { IfOk result (λ entries. Adds stack.old stack.new [] entries.items (writes_of_new_part stack.old.content layer kind)) }
+    ensures entries { IfOk result (λ entries. Adds stack.old stack.new [] entries.items
+        (writes_of_new_part stack.old.content layer kind)) }
 {
     let part = stack.next_id();
     let parts = parts_with(alloc, stack, layer, part)?;
@@ -211,7 +214,8 @@ pub fn prepare_new_background(
     requires well_formed { IsWellFormed stack.old.content }
     requires fits { has_room_for 2 stack.old.content ≡ true }
     ensures opens { Opens stack.old stack.new }
-    ensures entries { IfOk result (λ entries. Adds stack.old stack.new [] entries.items (writes_of_new_background stack.old.content card)) }
+    ensures entries { IfOk result (λ entries. Adds stack.old stack.new [] entries.items
+        (writes_of_new_background stack.old.content card)) }
 {
     let new = stack.next_id();
     let order = order_with(alloc, stack.cards(), card, new + 1)?;

@@ -4,7 +4,8 @@ ghost use Rattle.std.specs.Prelude.{◌≡◌, OnOk, IfOk, [], ◌∷◌, Some, 
 ghost use Rattle.stack_places.specs.Exchange.{IsReady};
 ghost use Rattle.stack_places.specs.Places.{field_text, text};
 ghost use Rattle.structural_changes.specs.Prepared.{Adds, Opens, write_of};
-ghost use Rattle.structural_changes.specs.Writes.{write, empty_texts, false_hilites, texts_of, hilites_of, is_card_of, is_part_of, keeps, ids_where};
+ghost use Rattle.structural_changes.specs.Writes.{write, empty_texts, false_hilites, texts_of, hilites_of, is_card_of};
+ghost use Rattle.structural_changes.specs.Writes.{is_part_of, keeps, ids_where};
 ghost use Rattle.object_table.specs.Layers.{is_of_layer, layer_id};
 ghost use Rattle.object_table.specs.Objects.{has_kind, is_background, parts_at};
 ghost use Rattle.object_table.specs.WellFormed.{IsWellFormed};
@@ -51,7 +52,8 @@ fn add_text(
     field: Id,
     card: Id,
 ) -> Result<(), AllocError>
-    ensures adds { OnOk result (Adds stack.old stack.new entries.old.items entries.new.items (write (field_text field card) (text []) ∷ [])) }
+    ensures adds { OnOk result (Adds stack.old stack.new entries.old.items entries.new.items
+        (write (field_text field card) (text []) ∷ [])) }
     ensures opens { Opens stack.old stack.new }
 {
     let text = BoxedText::new(alloc, Some(Text::new(alloc)))?;
@@ -157,7 +159,8 @@ pub(crate) fn parts_of(
     kind: PartKind,
 ) -> Result<Vec<Id>, AllocError>
     requires { has_kind is_background stack.now.content background ≡ true }
-    ensures { IfOk result (λ parts. parts.items ≡ ids_where stack.now.content (is_part_of (keeps kind) stack.now.content background)) }
+    ensures { IfOk result (λ parts. parts.items
+        ≡ ids_where stack.now.content (is_part_of (keeps kind) stack.now.content background)) }
 {
     let mut found = Vec::new(alloc);
     for part in parts_on(stack, LayerId::OfBackground(background)) {

@@ -6,7 +6,9 @@ ghost use Rattle.object_table.specs.Objects.{has_kind, is_background, is_card, p
 ghost use Rattle.object_table.specs.WellFormed.{IsWellFormed};
 ghost use Rattle.stack_places.specs.Places.{background_order, ids};
 ghost use Rattle.structural_changes.specs.Prepared.{Adds, Opens, has_content, pairs_kept};
-ghost use Rattle.structural_changes.specs.Writes.{write, without as order_without, following as next_in, home, ids_where, is_last_card, goes_as_layer, goes_as_part, goes_as_content, fits_deletion, writes_of_deletion};
+ghost use Rattle.structural_changes.specs.Writes.{write, without as order_without, following as next_in, home};
+ghost use Rattle.structural_changes.specs.Writes.{ids_where, is_last_card, goes_as_layer, goes_as_part};
+ghost use Rattle.structural_changes.specs.Writes.{goes_as_content, fits_deletion, writes_of_deletion};
 
 use crate::clearing::{clear_hilites, clear_objects, clear_parts, clear_texts};
 use crate::making::home_of;
@@ -67,7 +69,8 @@ fn without(alloc: Global, order: &IdList, id: Id) -> Result<IdList, AllocError>
 /// The layers that go with a card: the card, and its background with its last card.
 fn layers_with(alloc: Global, stack: &Stack, card: Id, last: bool) -> Result<Vec<Id>, AllocError>
     requires { last ≡ is_last_card stack.now.content card }
-    ensures { IfOk result (λ layers. layers.items ≡ card ∷ (if is_last_card stack.now.content card then home stack.now.content card ∷ [] else [])) }
+    ensures { IfOk result (λ layers. layers.items ≡ card
+        ∷ (if is_last_card stack.now.content card then home stack.now.content card ∷ [] else [])) }
 {
     if last {
         Vec::from_slice(alloc, &[card, home_of(stack, card)])
@@ -80,7 +83,8 @@ fn layers_with(alloc: Global, stack: &Stack, card: Id, last: bool) -> Result<Vec
 fn parts_with_background(stack: &Stack, card: Id, last: bool) -> &[Id]
     requires background { has_kind is_background stack.now.content (home stack.now.content card) ≡ true }
     requires last { last ≡ is_last_card stack.now.content card }
-    ensures { result.now ≡ (if is_last_card stack.now.content card then parts_at stack.now.content (home stack.now.content card) else []) }
+    ensures { result.now ≡ (if is_last_card stack.now.content card then parts_at stack.now.content
+        (home stack.now.content card) else []) }
 {
     if last {
         parts_on(stack, LayerId::OfBackground(home_of(stack, card)))
@@ -94,7 +98,8 @@ fn layers_that_go(alloc: Global, stack: &Stack, card: Id, last: bool) -> Result<
     requires well_formed { IsWellFormed stack.now.content }
     requires card { has_kind is_card stack.now.content card ≡ true }
     requires last { last ≡ is_last_card stack.now.content card }
-    ensures { IfOk result (λ layers. layers.items ≡ filter (goes_as_layer stack.now.content card) (keys stack.now.content.parts)) }
+    ensures { IfOk result (λ layers. layers.items
+        ≡ filter (goes_as_layer stack.now.content card) (keys stack.now.content.parts)) }
 {
     let mut layers = layers_with(alloc, stack, card, last)?;
     layers.sort_unstable();
@@ -112,7 +117,9 @@ fn objects_that_go(
     requires well_formed { IsWellFormed stack.now.content }
     requires card { has_kind is_card stack.now.content card ≡ true }
     requires last { last ≡ is_last_card stack.now.content card }
-    ensures { IfOk result (λ objects. objects.items ≡ ids_where stack.now.content (λ id. goes_as_layer stack.now.content card id || goes_as_part stack.now.content card id)) }
+    ensures { IfOk result (λ objects. objects.items
+        ≡ ids_where stack.now.content (λ id. goes_as_layer stack.now.content card id || goes_as_part stack.now.content
+        card id)) }
 {
     let mut objects = layers_with(alloc, stack, card, last)?;
     objects.extend_from_slice(parts_on(stack, LayerId::OfCard(card)))?;
@@ -140,7 +147,8 @@ fn add_kept(
     parts: &[Id],
     card: Id,
 ) -> Result<(), AllocError>
-    ensures { OnOk result (found.new.items ≡ found.old.items ++ filter (has_content kind stack.now.content) (map (λ part. (part, card)) parts.now)) }
+    ensures { OnOk result (found.new.items ≡ found.old.items
+        ++ filter (has_content kind stack.now.content) (map (λ part. (part, card)) parts.now)) }
 {
     for part in parts {
         if keeps_for(stack, kind, *part, card) {
@@ -161,7 +169,8 @@ fn contents_that_go(
     requires well_formed { IsWellFormed stack.now.content }
     requires card { has_kind is_card stack.now.content card ≡ true }
     requires last { last ≡ is_last_card stack.now.content card }
-    ensures { IfOk result (λ contents. contents.items ≡ filter (goes_as_content stack.now.content card) (pairs_kept kind stack.now.content)) }
+    ensures { IfOk result (λ contents. contents.items
+        ≡ filter (goes_as_content stack.now.content card) (pairs_kept kind stack.now.content)) }
 {
     let background = LayerId::OfBackground(home_of(stack, card));
     let mut found = Vec::new(alloc);
@@ -194,7 +203,9 @@ fn leave_background(
     last: bool,
 ) -> Result<(), AllocError>
     requires { last ≡ is_last_card stack.old.content card }
-    ensures adds { OnOk result (Adds stack.old stack.new entries.old.items entries.new.items (if is_last_card stack.old.content card then write background_order (ids (order_without (home stack.old.content card) stack.old.content.backgrounds)) ∷ [] else [])) }
+    ensures adds { OnOk result (Adds stack.old stack.new entries.old.items entries.new.items
+        (if is_last_card stack.old.content card then write background_order
+        (ids (order_without (home stack.old.content card) stack.old.content.backgrounds)) ∷ [] else [])) }
     ensures opens { Opens stack.old stack.new }
 {
     if !last {

@@ -31,20 +31,29 @@ failed {c} is y = of_fault (subst (λ z. Yields c (Err z)) is y)
 
 module _ (w : History) (r : RunState) (m : Referent) (t : List ℕ) (f : Frame) (typed : f ≡ typed_frame w) where
   -- the field or the card is gone
-  pub goes_without_place : (z : Stop) (n : Fault) → z ≡ stop.Fault n → Yields (field_place w.now m) (Err z) → TypesOver w r m t (Ok Done) w r
+  pub goes_without_place : (z : Stop) (n : Fault) → z ≡ stop.Fault n → Yields (field_place w.now m) (Err z)
+      → TypesOver w r m t (Ok Done) w r
   goes_without_place z n is place =
-      TypesOver.typed_field_goes typed (ap (λ (p : Result PlaceView Fault). and_then p (λ q. read_at w.now f.variables r.delimiter q)) (failed is place))
+      TypesOver.typed_field_goes typed
+      (ap (λ (p : Result PlaceView Fault). and_then p (λ q. read_at w.now f.variables r.delimiter q))
+      (failed is place))
 
-  pub goes_without_text : (z : Stop) (n : Fault) → z ≡ stop.Fault n → Yields (field_text w.now f.variables r.delimiter m) (Err z) → TypesOver w r m t (Ok Done) w r
+  pub goes_without_text : (z : Stop) (n : Fault) → z ≡ stop.Fault n
+      → Yields (field_text w.now f.variables r.delimiter m) (Err z) → TypesOver w r m t (Ok Done) w r
   goes_without_text z n is text = TypesOver.typed_field_goes typed (failed is text)
 
-  module _ (old t1 : List ℕ) (place : PlaceView) (text : Yields (field_text w.now f.variables r.delimiter m) (Ok old)) (found : Yields (field_place w.now m) (Ok place)) (same : t1 ≡ t) where
-    edited : {w1 : History} {f1 : Frame} {end : Result (Unit {0}) Stop} → Edits w f r.delimiter place (Put Into t1) end w1 f1 → Edits w f r.delimiter place (Put Into t) end w1 f1
+  module _ (old t1 : List ℕ) (place : PlaceView) (text : Yields (field_text w.now f.variables r.delimiter m) (Ok old))
+      (found : Yields (field_place w.now m) (Ok place)) (same : t1 ≡ t) where
+    edited : {w1 : History} {f1 : Frame} {end : Result (Unit {0}) Stop}
+        → Edits w f r.delimiter place (Put Into t1) end w1 f1 → Edits w f r.delimiter place (Put Into t) end w1 f1
     edited {w1} {f1} {end} edits = subst (λ (u : List ℕ). Edits w f r.delimiter place (Put Into u) end w1 f1) same edits
 
-    pub stops : (w1 : History) (f1 : Frame) (z : Stop) → Edits w f r.delimiter place (Put Into t1) (Err z) w1 f1 → TypesOver w r m t (Err z) w1 r
+    pub stops : (w1 : History) (f1 : Frame) (z : Stop) → Edits w f r.delimiter place (Put Into t1) (Err z) w1 f1
+        → TypesOver w r m t (Err z) w1 r
     stops w1 f1 z edits = TypesOver.type_over_stops typed (yielded text) (yielded found) (edited edits)
 
-    pub types : (w1 w2 : History) (f1 : Frame) (r1 : RunState) (message : SystemMessage) (end : Result Ended Stop) → Edits w f r.delimiter place (Put Into t1) (Ok tt) w1 f1
+    pub types : (w1 w2 : History) (f1 : Frame) (r1 : RunState) (message : SystemMessage) (end : Result Ended Stop)
+        → Edits w f r.delimiter place (Put Into t1) (Ok tt) w1 f1
         → message ≡ leaving_message old t → Tells w1 r m.object message end w2 r1 → TypesOver w r m t end w2 r1
-    types w1 w2 f1 r1 message end edits leaves told = TypesOver.types_over typed (yielded text) (yielded found) (edited edits) refl leaves told
+    types w1 w2 f1 r1 message end edits leaves told =
+        TypesOver.types_over typed (yielded text) (yielded found) (edited edits) refl leaves told

@@ -1,5 +1,6 @@
 use Rattle.definitional_interpreter.proofs.law.runs_are_computed.Goals as goal
-use Rattle.definitional_interpreter.proofs.Computed.{exactly, line_is_computed, message_is_computed, action_is_computed, reference_is_computed, value_is_computed}
+use Rattle.definitional_interpreter.proofs.Computed.{exactly, line_is_computed, message_is_computed}
+use Rattle.definitional_interpreter.proofs.Computed.{action_is_computed, reference_is_computed, value_is_computed}
 
 pub returns-clause-lines : goal.returns-clause-lines
 returns-clause-lines c =

@@ -9,7 +9,10 @@ use Rattle.headline.proofs.transcript.take_block.Given as goal
 abbrev pub invariant-loop-byte : goal.invariant-loop-byte
 invariant-loop-byte g l = record {
   taken : (text : List ℕ) × Appends (g.W.Write.contents l.fn.writer.device) (g.W.Write.contents l.writer.device) text
-      × ((start : Standing × SeenDesk) (read written : List ℕ) → Reached start read written (l.fn.session, g.D.Desk.seen l.fn.desk) l.fn.intake.pending.items l.fn.intake.lines l.fn.intake.bytes
-      → Reached start (read ++ take l.byte-index l.block) (written ++ text) (l.session, g.D.Desk.seen l.desk) l.intake.pending.items l.intake.lines l.intake.bytes);
+      × ((start : Standing × SeenDesk) (read written : List ℕ)
+      → Reached start read written (l.fn.session, g.D.Desk.seen l.fn.desk) l.fn.intake.pending.items
+      l.fn.intake.lines l.fn.intake.bytes
+      → Reached start (read ++ take l.byte-index l.block) (written ++ text) (l.session, g.D.Desk.seen l.desk)
+      l.intake.pending.items l.intake.lines l.intake.bytes);
   sound : l.writer.failures ≡ l.fn.writer.failures;
 }

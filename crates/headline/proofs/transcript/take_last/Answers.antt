@@ -11,7 +11,8 @@ use Rattle.headline.proofs.Intake.{Appends-nothing, last_quits, last_breaks, las
 use Rattle.session.specs.declared.reply.Reply.{Reply}
 use Rattle.headline.proofs.transcript.take_last.Goals as goal
 
-as_kept : (line pending : List ℕ) (old : Standing × SeenDesk) (reply : Reply) (new : Standing × SeenDesk) → line ≡ pending → Takes line old reply new → Takes pending old reply new
+as_kept : (line pending : List ℕ) (old : Standing × SeenDesk) (reply : Reply) (new : Standing × SeenDesk)
+    → line ≡ pending → Takes line old reply new → Takes pending old reply new
 as_kept line pending old reply new e s = subst (λ (t : List ℕ). Takes t old reply new) e s
 
 pub returns-then-is_empty-clause-ok : goal.returns-then-is_empty-clause-ok
@@ -25,27 +26,51 @@ pub returns-in_err-answer_line-clause-err : goal.returns-in_err-answer_line-clau
 returns-in_err-answer_line-clause-err g c =
     let h = c.in_err-answer_line.ensures.err in
     let old = c.args.intake.now in
-    let kept : Takes old.pending.items (c.args.session.now, g.D.Desk.seen c.args.desk.now) h.0 (c.answer_line.new.session, g.D.Desk.seen c.answer_line.new.desk) = as_kept _ old.pending.items _ _ _ c.deref.ensures.value h.2 in
+    let kept : Takes old.pending.items (c.args.session.now, g.D.Desk.seen c.args.desk.now) h.0
+    (c.answer_line.new.session, g.D.Desk.seen c.answer_line.new.desk) =
+    as_kept _ old.pending.items _ _ _ c.deref.ensures.value h.2 in
     let some : 0 < length old.pending.items = grind (arith, common_steps, nat_tests) in
     let short : old.bytes ≤ MOST_BYTES = omega arith in
     let p = err_from_is_err_and c.from_residual.result c.from_residual.ensures.1 in
-    rw p.1
-    (h.1, h.4, λ start read written r. last_breaks start read written (c.args.session.now, g.D.Desk.seen c.args.desk.now) old.pending.items old.lines old.bytes r h.0 h.1 (c.answer_line.new.session, g.D.Desk.seen c.answer_line.new.desk) some short kept h.3)
+    rw p.1 (
+      h.1,
+      h.4,
+      λ start read written r. last_breaks start read written
+          (c.args.session.now, g.D.Desk.seen c.args.desk.now) old.pending.items old.lines old.bytes r h.0 h.1
+          (c.answer_line.new.session, g.D.Desk.seen c.answer_line.new.desk) some short kept h.3,
+    )
 
 pub returns-then-branch-clause-ok : goal.returns-then-branch-clause-ok
 returns-then-branch-clause-ok g c =
     let h = rw c.if-branch.true at c.in_ok-answer_line.ensures.ok in
     let old = c.args.intake.now in
-    let kept : Takes old.pending.items (c.args.session.now, g.D.Desk.seen c.args.desk.now) h.0 (c.answer_line.new.session, g.D.Desk.seen c.answer_line.new.desk) = as_kept _ old.pending.items _ _ _ c.deref.ensures.value h.1 in
+    let kept : Takes old.pending.items (c.args.session.now, g.D.Desk.seen c.args.desk.now) h.0
+    (c.answer_line.new.session, g.D.Desk.seen c.answer_line.new.desk) =
+    as_kept _ old.pending.items _ _ _ c.deref.ensures.value h.1 in
     let some : 0 < length old.pending.items = grind (arith, common_steps, nat_tests) in
-    let short : old.bytes ≤ MOST_BYTES = omega arith in
-    (answer h.0, h.3, λ start read written r. last_quits start read written (c.args.session.now, g.D.Desk.seen c.args.desk.now) old.pending.items old.lines old.bytes r h.0 (c.answer_line.new.session, g.D.Desk.seen c.answer_line.new.desk) some short kept h.2)
+    let short : old.bytes ≤ MOST_BYTES = omega arith in (
+      answer h.0,
+      h.3,
+      λ start read written r. last_quits start read written
+          (c.args.session.now, g.D.Desk.seen c.args.desk.now) old.pending.items old.lines old.bytes r h.0
+          (c.answer_line.new.session, g.D.Desk.seen c.answer_line.new.desk) some short kept h.2,
+    )
 
 pub returns-clause-ok : goal.returns-clause-ok
 returns-clause-ok g c =
     let h = rw c.if-branch.false at c.in_ok-answer_line.ensures.ok in
     let old = c.args.intake.now in
-    let kept : Takes old.pending.items (c.args.session.now, g.D.Desk.seen c.args.desk.now) h.0 (c.answer_line.new.session, g.D.Desk.seen c.answer_line.new.desk) = as_kept _ old.pending.items _ _ _ c.deref.ensures.value h.1 in
+    let kept : Takes old.pending.items (c.args.session.now, g.D.Desk.seen c.args.desk.now) h.0
+    (c.answer_line.new.session, g.D.Desk.seen c.answer_line.new.desk) =
+    as_kept _ old.pending.items _ _ _ c.deref.ensures.value h.1 in
     let some : 0 < length old.pending.items = grind (arith, common_steps, nat_tests) in
-    let short : old.bytes ≤ MOST_BYTES = omega arith in
-    (answer h.0, h.3, λ start read written r. (last_finishes start read written (c.args.session.now, g.D.Desk.seen c.args.desk.now) old.pending.items old.lines old.bytes r h.0 (c.answer_line.new.session, g.D.Desk.seen c.answer_line.new.desk) some short kept h.2, tt))
+    let short : old.bytes ≤ MOST_BYTES = omega arith in (
+      answer h.0,
+      h.3,
+      λ start read written r. (
+        last_finishes start read written (c.args.session.now, g.D.Desk.seen c.args.desk.now) old.pending.items
+            old.lines old.bytes r h.0 (c.answer_line.new.session, g.D.Desk.seen c.answer_line.new.desk) some short kept
+            h.2,
+        tt,
+      ),
+    )

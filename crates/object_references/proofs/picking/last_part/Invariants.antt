@@ -5,4 +5,5 @@ use Rattle.object_references.proofs.picking.last_part.Given as goal
 
 abbrev pub invariant-loop-part : goal.invariant-loop-part
 invariant-loop-part l =
-    last_passing (has_kind (is_of l.kind) l.stack.content) l.last (drop l.part-index l.parts) ≡ last_passing (has_kind (is_of l.kind) l.stack.content) None l.parts
+    last_passing (has_kind (is_of l.kind) l.stack.content) l.last (drop l.part-index l.parts)
+    ≡ last_passing (has_kind (is_of l.kind) l.stack.content) None l.parts

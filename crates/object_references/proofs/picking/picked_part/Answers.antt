@@ -13,4 +13,5 @@ pub returns-in_ok-by_id-in-ById : goal.returns-in_ok-by_id-in-ById
 returns-in_ok-by_id-in-ById c =
     let s = c.args.stack.now.content in
     let ids = parts_on s c.args.layer c.args.kind in
-    c.find_part.ensures ∙ found_on s c.args.layer c.args.kind c.in_ok-by_id-in-ById.field-0 ∙ c.in_ok-by_id-in-ById.ensures s ids ∙ ap (picked s ids) (sym c.in-ById.is)
+    c.find_part.ensures ∙ found_on s c.args.layer c.args.kind c.in_ok-by_id-in-ById.field-0
+    ∙ c.in_ok-by_id-in-ById.ensures s ids ∙ ap (picked s ids) (sym c.in-ById.is)

@@ -8,4 +8,6 @@ pub returns-then-is_empty : goal.returns-then-is_empty
 returns-then-is_empty c = grind (arith, common_steps, nat_tests, words-none c.args.line.now)
 
 pub returns : goal.returns
-returns c = words-next c.args.line.now c.after_spaces-bytes.result.now c.word_length-end.result c.after_spaces-bytes.ensures (grind (arith, common_steps, nat_tests)) c.word_length-end.ensures.value c.word_length-end.ensures.within
+returns c = words-next c.args.line.now c.after_spaces-bytes.result.now c.word_length-end.result
+    c.after_spaces-bytes.ensures (grind (arith, common_steps, nat_tests)) c.word_length-end.ensures.value
+    c.word_length-end.ensures.within

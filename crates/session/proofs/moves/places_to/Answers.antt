@@ -6,7 +6,8 @@ use Rattle.session.proofs.moves.places_to.Goals as goal
 pub returns-then-number-stamp-clause-places : goal.returns-then-number-stamp-clause-places
 returns-then-number-stamp-clause-places g c =
     let h = c.args.world.now.history in
-    places_to-none c.args.number h (λ k lt. all_high c.args.number c.undoable-far.result h c.requires (omega arith) (omega arith) k (omega arith))
+    places_to-none c.args.number h (λ k lt. all_high c.args.number c.undoable-far.result h c.requires (omega arith)
+    (omega arith) k (omega arith))
 
 pub loop-near-preserved-then-number-stamp-2 : goal.loop-near-preserved-then-number-stamp-2
 loop-near-preserved-then-number-stamp-2 g c =
@@ -23,4 +24,5 @@ loop-near-preserved-then-number-stamp-2 g c =
 pub returns-clause-places : goal.returns-clause-places
 returns-clause-places g c =
     let near : c.loop-near.near ≡ c.loop-near.far = omega (arith, c.loop-near.invariant.order) in
-    places_to-found c.args.number c.loop-near.far c.args.world.now.history c.loop-near.invariant.within (λ k lt. c.loop-near.invariant.high k (omega arith)) c.loop-near.invariant.low
+    places_to-found c.args.number c.loop-near.far c.args.world.now.history c.loop-near.invariant.within
+    (λ k lt. c.loop-near.invariant.high k (omega arith)) c.loop-near.invariant.low

@@ -18,6 +18,7 @@ loop-i-preserved g c =
           let v = w.as_slice.result in
           let at = place_some ns m i w.in-Some.name.now v.now lt (rw w.as_slice.ensures.value w.in-Some.ensures) in
           rw (w.ordered-is, at.1, w.in_ok-insert.ensures.entries)
-          (in_order_more (listed ns m) (place ns m i) c.loop-i.ordered.entries w.in-Some.name v c.name_count-i-end.ensures.each.names at.0 c.loop-i.invariant)
+          (in_order_more (listed ns m) (place ns m i) c.loop-i.ordered.entries w.in-Some.name v
+          c.name_count-i-end.ensures.each.names at.0 c.loop-i.invariant)
       | in_default w ↦ rw (w.ordered-is, place_none ns m i lt w.in_default.ensures) c.loop-i.invariant
     ]

@@ -11,4 +11,12 @@ loop-end-preserved c =
     })
 
 pub returns : goal.returns
-returns c = (_, record { whole = c.loop-end.invariant.whole; each = c.loop-end.invariant.each; partial = IsLine-none _ (sym c.line_feed_in.ensures.value ∙ c.in_default.is) })
+returns c = (
+  _,
+  record {
+    whole = c.loop-end.invariant.whole;
+    each = c.loop-end.invariant.each;
+    partial = IsLine-none _
+        (sym c.line_feed_in.ensures.value ∙ c.in_default.is);
+  },
+)

@@ -5,4 +5,6 @@ use Rattle.stack_file.specs.Views.{sheet_seen}
 use Rattle.stack_file.proofs.backgrounds.each_has_card.Goals as goal
 
 pub returns : goal.returns
-returns c = c.each_among.ensures ∙ ap (λ (ids : List ℕ). list_all (λ (b : Sheet). contains_id b.id ids) (map sheet_seen c.args.backgrounds.now)) c.in_ok-owners.ensures
+returns c = c.each_among.ensures
+    ∙ ap (λ (ids : List ℕ). list_all (λ (b : Sheet). contains_id b.id ids) (map sheet_seen c.args.backgrounds.now))
+    c.in_ok-owners.ensures

@@ -6,4 +6,6 @@ use Rattle.stack_file.proofs.document.counted_backgrounds.Given as goal
 
 -- the backgrounds so far, and then those that are left
 abbrev pub invariant-loop : goal.invariant-loop
-invariant-loop l = with_front (map sheet_seen l.backgrounds.items) (times (l.count - l.counter) (background_at l.version l.next) l.lines) ≡ times l.count (background_at l.version l.next) l.fn.lines
+invariant-loop l = with_front (map sheet_seen l.backgrounds.items)
+    (times (l.count - l.counter) (background_at l.version l.next) l.lines)
+    ≡ times l.count (background_at l.version l.next) l.fn.lines

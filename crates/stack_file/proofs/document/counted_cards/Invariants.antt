@@ -6,4 +6,6 @@ use Rattle.stack_file.proofs.document.counted_cards.Given as goal
 
 -- the cards so far, and then those that are left
 abbrev pub invariant-loop : goal.invariant-loop
-invariant-loop l = with_front (map sheet_seen l.cards.items) (times (l.count - l.counter) (card_at l.version l.next (map sheet_seen l.backgrounds.list.now)) l.lines) ≡ times l.count (card_at l.version l.next (map sheet_seen l.backgrounds.list.now)) l.fn.lines
+invariant-loop l = with_front (map sheet_seen l.cards.items)
+    (times (l.count - l.counter) (card_at l.version l.next (map sheet_seen l.backgrounds.list.now)) l.lines)
+    ≡ times l.count (card_at l.version l.next (map sheet_seen l.backgrounds.list.now)) l.fn.lines

@@ -8,7 +8,9 @@ unfolding background_at
 returns-in_err-parts c =
     let e = c.in_err-parts.field-0.0 in
     let known : Fails e (background_at c.args.version c.args.next c.args.lines.now) =
-    rw (c.in_ok-id.ensures, c.in_ok-name.ensures) (fails_on e (parts_at c.args.next (background_part_at c.args.version) c.layer.new.lines) _ c.in_err-parts.ensures)
+    rw (c.in_ok-id.ensures, c.in_ok-name.ensures)
+    (fails_on e (parts_at c.args.next (background_part_at c.args.version) c.layer.new.lines) _
+    c.in_err-parts.ensures)
     in
     search (rules, known)
 

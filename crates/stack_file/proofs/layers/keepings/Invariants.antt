@@ -5,4 +5,6 @@ use Rattle.stack_file.proofs.layers.keepings.Given as goal
 
 -- what was kept so far, and then what is kept for the parts that are left
 abbrev pub invariant-loop-part : goal.invariant-loop-part
-invariant-loop-part l = with_front l.keepings.items (for_each (drop l.part-index l.parts) (keeping_at l.version) l.lines) ≡ for_each l.parts (keeping_at l.version) l.fn.lines
+invariant-loop-part l = with_front l.keepings.items
+    (for_each (drop l.part-index l.parts) (keeping_at l.version) l.lines)
+    ≡ for_each l.parts (keeping_at l.version) l.fn.lines

@@ -15,12 +15,16 @@ loop-id-preserved c =
     let i = c.loop-id.id-index in
     let a = c.loop-id.out.items in
     let within : i < length ids = grind (arith, common_steps, nat_tests) in
-    each-step (part_lines second) (part_of c.args.stack.now.content c.args.card) a c.put_part.new.out.items (get_or ids i 0) (drop (i + 1) ids) c.in_ok-put_part.ensures
-    ∙ ap (λ (xs : List ℕ). with_lines a (flat_map (part_lines second) (map (part_of c.args.stack.now.content c.args.card) xs))) (next_is ids i (get_or ids i 0) within refl)
+    each-step (part_lines second) (part_of c.args.stack.now.content c.args.card) a c.put_part.new.out.items
+    (get_or ids i 0) (drop (i + 1) ids) c.in_ok-put_part.ensures
+    ∙ ap (λ (xs : List ℕ). with_lines a
+    (flat_map (part_lines second) (map (part_of c.args.stack.now.content c.args.card) xs)))
+    (next_is ids i (get_or ids i 0) within refl)
     ∙ c.loop-id.invariant
 
 pub returns : goal.returns
 returns c =
     let ids = c.args.ids.now in
     let past : length ids ≤ c.loop-id.id-index = grind (arith, common_steps, nat_tests) in
-    all_done (part_lines second) (part_of c.args.stack.now.content c.args.card) c.loop-id.out.items _ ids c.loop-id.id-index past c.loop-id.invariant
+    all_done (part_lines second) (part_of c.args.stack.now.content c.args.card) c.loop-id.out.items _ ids
+    c.loop-id.id-index past c.loop-id.invariant

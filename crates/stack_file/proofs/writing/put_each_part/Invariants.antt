@@ -8,4 +8,6 @@ use Rattle.stack_file.proofs.writing.put_each_part.Given as goal
 
 -- what is written, and then the lines of those that are left
 abbrev pub invariant-loop-id : goal.invariant-loop-id
-invariant-loop-id l = with_lines l.out.items (flat_map (part_lines second) (map (part_of l.stack.content l.card) (drop l.id-index l.ids))) ≡ with_lines l.fn.out.items (flat_map (part_lines second) (map (part_of l.stack.content l.card) l.ids))
+invariant-loop-id l = with_lines l.out.items
+    (flat_map (part_lines second) (map (part_of l.stack.content l.card) (drop l.id-index l.ids)))
+    ≡ with_lines l.fn.out.items (flat_map (part_lines second) (map (part_of l.stack.content l.card) l.ids))

@@ -4,4 +4,5 @@ use Rattle.structural_changes.specs.Writes.{empty_texts}
 use Rattle.structural_changes.proofs.preparing.add_texts.Given as goal
 
 abbrev pub invariant-loop-card : goal.invariant-loop-card
-invariant-loop-card l = Adds l.fn.stack l.stack l.fn.entries.items l.entries.items (empty_texts l.field (take l.card-index l.cards))
+invariant-loop-card l =
+    Adds l.fn.stack l.stack l.fn.entries.items l.entries.items (empty_texts l.field (take l.card-index l.cards))

@@ -10,6 +10,11 @@ pub returns : goal.returns
 returns c =
     let s = c.args.stack.now.content in
     let past = c.loop-card-test.false in
-    let found = c.loop-card.invariant.found ∙ ap (filter (is_card_of s c.args.background)) (take_all c.loop-card.card-index c.as_slice-card-items.result.now (omega arith) ∙ c.loop-card.invariant.items) in
+    let found = c.loop-card.invariant.found
+    ∙ ap (filter (is_card_of s c.args.background))
+    (take_all c.loop-card.card-index c.as_slice-card-items.result.now (omega arith)
+    ∙ c.loop-card.invariant.items) in
     dedup_is eqb c.sort_unstable.new.self.items c.dedup.new.self.items c.dedup.ensures.filtered
-    ∙ sorted_ids s.objects (is_card_of s c.args.background) c.loop-card.cards.items c.sort_unstable.new.self.items (λ z. ap (contains_id z) found ∙ cards_found s c.requires c.args.background z) c.sort_unstable.ensures.permutation c.sort_unstable.ensures.sorted
+    ∙ sorted_ids s.objects (is_card_of s c.args.background) c.loop-card.cards.items c.sort_unstable.new.self.items
+    (λ z. ap (contains_id z) found ∙ cards_found s c.requires c.args.background z)
+    c.sort_unstable.ensures.permutation c.sort_unstable.ensures.sorted

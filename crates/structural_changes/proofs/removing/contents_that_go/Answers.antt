@@ -14,8 +14,12 @@ returns c =
     let card = c.args.card in
     let kind = c.args.kind in
     let kept_by = kept s kind in
-    let of_card = c.in_ok-add_kept.ensures ∙ (λ i. c.new-found.ensures.items i ++ kept_by (c.parts_on.ensures i) card) in
-    let of_background = c.in_ok-add_kept-2.ensures ∙ (λ i. of_card i ++ kept_by ((c.parts_on-2.ensures ∙ ap (parts_at s) c.home_of.ensures) i) card) in
+    let of_card =
+    c.in_ok-add_kept.ensures ∙ (λ i. c.new-found.ensures.items i ++ kept_by (c.parts_on.ensures i) card) in
+    let of_background = c.in_ok-add_kept-2.ensures
+    ∙ (λ i. of_card i ++ kept_by ((c.parts_on-2.ensures ∙ ap (parts_at s) c.home_of.ensures) i) card) in
     let found = c.in_ok-add_kept-3.ensures ∙ (λ i. of_background i ++ kept_by (c.parts_with_background.ensures i) 0) in
     dedup_is same_pair c.sort_unstable.new.self.items c.dedup.new.self.items c.dedup.ensures.filtered
-    ∙ sorted_contents s w card c.requires.card kind c.add_kept-3.new.found.items c.sort_unstable.new.self.items (λ q. ap (has pair_cmp q) found ∙ found_contents s w card c.requires.card kind q) c.sort_unstable.ensures.permutation c.sort_unstable.ensures.sorted
+    ∙ sorted_contents s w card c.requires.card kind c.add_kept-3.new.found.items c.sort_unstable.new.self.items
+    (λ q. ap (has pair_cmp q) found ∙ found_contents s w card c.requires.card kind q)
+    c.sort_unstable.ensures.permutation c.sort_unstable.ensures.sorted

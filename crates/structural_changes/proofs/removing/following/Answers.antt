@@ -9,7 +9,9 @@ returns-then-behind-ids c =
     let ids : c.as_slice-ids.result.now ≡ order = c.as_slice-ids.ensures in
     let place = c.unwrap_or-behind.ensures ∙ ap (λ x. unwrap_or x 0) c.number_of.ensures.value in
     (λ i. get_or (ids i) (place i) 0)
-    ∙ followed_by c.args.place 0 order (subst (λ n. n < length order) place (subst (λ l. c.unwrap_or-behind.result < length l) ids c.if-behind-ids.true))
+    ∙ followed_by c.args.place 0 order
+    (subst (λ n. n < length order) place
+    (subst (λ l. c.unwrap_or-behind.result < length l) ids c.if-behind-ids.true))
 
 pub returns-else-behind-ids : goal.returns-else-behind-ids
 returns-else-behind-ids c =
@@ -18,4 +20,6 @@ returns-else-behind-ids c =
     let place = c.unwrap_or-behind.ensures ∙ ap (λ x. unwrap_or x 0) c.number_of.ensures.value in
     c.unwrap_or.ensures
     ∙ ap (λ x. unwrap_or x c.args.place) (c.copied.ensures ∙ c.first.ensures.value ∙ ap (λ l. slice_get l 0) ids)
-    ∙ followed_by_first c.args.place order (subst (λ n. length order ≤ n) place (subst (λ l. length l ≤ c.unwrap_or-behind.result) ids c.if-behind-ids.false))
+    ∙ followed_by_first c.args.place order
+    (subst (λ n. length order ≤ n) place
+    (subst (λ l. length l ≤ c.unwrap_or-behind.result) ids c.if-behind-ids.false))

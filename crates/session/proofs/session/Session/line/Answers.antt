@@ -6,26 +6,34 @@ use Rattle.session.proofs.Stamping.{stamped-later, stamped-past, stamped-perform
 use Rattle.session.proofs.session.Session.line.Goals as goal
 
 pub invariant_of-self : goal.invariant_of-self
-invariant_of-self g c =
-    (c.self.invariant.0, omega (arith, c.self.invariant.1), stamped-later c.self.inside.lines _ c.self.inside.world.history (omega (arith, c.self.invariant.1)) c.self.invariant.2)
+invariant_of-self g c = (
+  c.self.invariant.0,
+  omega (arith, c.self.invariant.1),
+  stamped-later c.self.inside.lines _
+      c.self.inside.world.history (omega (arith, c.self.invariant.1)) c.self.invariant.2,
+)
 
 pub perform-requires-clause-stamped : goal.perform-requires-clause-stamped
 perform-requires-clause-stamped g c = stamped-past c.self.inside.lines c.self.inside.world.history c.self.invariant.2
 
 pub invariant_of-self-then-is_dot_line : goal.invariant_of-self-then-is_dot_line
 invariant_of-self-then-is_dot_line g c =
-    let counted = stamped-later c.self.inside.lines c.min-self-inside.result c.self.inside.world.history (omega (arith, c.self.invariant.1)) c.self.invariant.2 in (
+    let counted = stamped-later c.self.inside.lines c.min-self-inside.result c.self.inside.world.history
+    (omega (arith, c.self.invariant.1)) c.self.invariant.2 in (
       c.perform.ensures.closed,
       omega (arith, c.self.invariant.1),
-      stamped-performed c.self.inside.steps c.args.line.now _ c.min-self-inside.result c.self.inside.world.history c.perform.new.world.history c.perform.result counted c.perform.ensures.performed,
+      stamped-performed c.self.inside.steps c.args.line.now _ c.min-self-inside.result c.self.inside.world.history
+          c.perform.new.world.history c.perform.result counted c.perform.ensures.performed,
     )
 
 pub invariant_of-self-2 : goal.invariant_of-self-2
 invariant_of-self-2 g c =
-    let counted = stamped-later c.self.inside.lines c.min-self-inside.result c.self.inside.world.history (omega (arith, c.self.invariant.1)) c.self.invariant.2 in (
+    let counted = stamped-later c.self.inside.lines c.min-self-inside.result c.self.inside.world.history
+    (omega (arith, c.self.invariant.1)) c.self.invariant.2 in (
       c.obey-outcome.ensures.closed,
       omega (arith, c.self.invariant.1),
-      stamped-done c.self.inside.steps Lines c.args.line.now c.min-self-inside.result c.self.inside.world.history c.obey-outcome.new.world.history _ counted c.obey-outcome.ensures.done,
+      stamped-done c.self.inside.steps Lines c.args.line.now c.min-self-inside.result c.self.inside.world.history
+          c.obey-outcome.new.world.history _ counted c.obey-outcome.ensures.done,
     )
 
 pub returns-clause-step : goal.returns-clause-step

@@ -14,7 +14,8 @@ returns-in-Some c =
     ap (position (λ x. x == c.args.id)) (sym c.args.self.now.placed) ∙ sym c.place_of.ensures ∙ c.in-Some.is
     in
     let is : slice_get list c.in-Some.place ≡ Some c.index-self-place.result =
-    slice_get_read list (length list) c.in-Some.place c.index-self-place.result refl (placed_within list c.args.id c.in-Some.place at) c.index-self-place.is
+    slice_get_read list (length list) c.in-Some.place c.index-self-place.result refl
+    (placed_within list c.args.id c.in-Some.place at) c.index-self-place.is
     in
     c.deref.ensures.value ∙ ap (λ (b : SheetLines). b.parts.items) (sym c.index-self-place.is)
     ∙ sym (parts_of-placed list c.args.id c.in-Some.place c.index-self-place.result at is)
@@ -22,4 +23,5 @@ returns-in-Some c =
 pub returns-in-None : goal.returns-in-None
 returns-in-None c =
     sym
-    (parts_of-none c.args.self.now.list.now c.args.id (ap (position (λ x. x == c.args.id)) (sym c.args.self.now.placed) ∙ sym c.place_of.ensures ∙ c.in-None.is))
+    (parts_of-none c.args.self.now.list.now c.args.id
+    (ap (position (λ x. x == c.args.id)) (sym c.args.self.now.placed) ∙ sym c.place_of.ensures ∙ c.in-None.is))

@@ -3,4 +3,5 @@ use Rattle.std.specs.Prelude.{position}
 use Rattle.stack_file.proofs.placed.PlacedIds.place_of.Goals as goal
 
 pub returns : goal.returns
-returns c = c.copied.ensures ∙ c.get.ensures.value ∙ c.self.invariant c.args.id ∙ ap (position (λ x. x == c.args.id)) c.self.view_is
+returns c = c.copied.ensures ∙ c.get.ensures.value ∙ c.self.invariant c.args.id
+    ∙ ap (position (λ x. x == c.args.id)) c.self.view_is
