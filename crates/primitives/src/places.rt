@@ -1,6 +1,6 @@
 //! Variables, fields and containers, as the rules read and write them.
 
-ghost use Rattle.std.specs.Prelude.{◌≡◌, ◌++◌, ◌∷◌, ℕ, [], IsSome, IfOk, OnOk, Ok, tt, option_copied, false, true};
+ghost use Rattle.std.specs.Prelude.{◌≡◌, ◌++◌, ◌∷◌, ℕ, [], IsSome, IfOk, OnOk, Ok, option_copied, false, true};
 ghost use Rattle.ht_values.specs.Text.{numeral as numeral_of};
 ghost use Rattle.ht_values.specs.declared.word.Where.TheVariants.{Into};
 ghost use Rattle.journal_entries.specs.Changes.{fits as fits_state};
