@@ -15,22 +15,29 @@ use Rattle.meaning.specs.Places.{Edits, variable_place}
 use Rattle.meaning.specs.State.{RunState}
 use Rattle.interp.specs.Edits.{EditsContainer}
 
-pub of_variable : {w w1 : History} {r : RunState} {f f1 : Frame} {d : ℕ} {ct : tree.Container} {n : List ℕ} {e : Edit} {o : Result (Unit {0}) Stop} →
-    ct ≡ tree.variable n → Edits w f r.delimiter (variable_place f.variables n) e o w1 f1 → EditsContainer w r f d ct e o w1 r f1
+pub of_variable : {w w1 : History} {r : RunState} {f f1 : Frame} {d : ℕ} {ct : tree.Container} {n : List ℕ} {e : Edit}
+    {o : Result (Unit {0}) Stop} →
+    ct ≡ tree.variable n → Edits w f r.delimiter (variable_place f.variables n) e o w1 f1
+    → EditsContainer w r f d ct e o w1 r f1
 of_variable is h = EditsContainer.there (Resolves.place_variable is refl) h
 
-module _ {w w1 w2 : History} {r r1 r2 : RunState} {f f1 : Frame} {d : ℕ} {x : tree.Expr} {v : List ℕ} {ct : tree.Container} (value : Val w r f d x (Ok v) w1 r1) where
-  pub puts : {wr : Where} → EditsContainer w1 r1 f d ct (Put wr v) (Ok tt) w2 r2 f1 → Form w r f d (stm.put_in wr x ct) (Ok Next) w2 r2 f1
+module _ {w w1 w2 : History} {r r1 r2 : RunState} {f f1 : Frame} {d : ℕ} {x : tree.Expr} {v : List ℕ}
+    {ct : tree.Container} (value : Val w r f d x (Ok v) w1 r1) where
+  pub puts : {wr : Where} → EditsContainer w1 r1 f d ct (Put wr v) (Ok tt) w2 r2 f1
+      → Form w r f d (stm.put_in wr x ct) (Ok Next) w2 r2 f1
   puts (EditsContainer.there found change) = Form.put refl value found change
 
-  pub puts_not : {wr : Where} {z : Stop} → EditsContainer w1 r1 f d ct (Put wr v) (Err z) w2 r2 f1 → Form w r f d (stm.put_in wr x ct) (Err z) w2 r2 f1
+  pub puts_not : {wr : Where} {z : Stop} → EditsContainer w1 r1 f d ct (Put wr v) (Err z) w2 r2 f1
+      → Form w r f d (stm.put_in wr x ct) (Err z) w2 r2 f1
   puts_not (EditsContainer.nowhere found same) = rw same (Form.put_nowhere refl value found)
   puts_not (EditsContainer.there found change) = Form.put_fails refl value found change
 
-  pub alters : {op : Op} → EditsContainer w1 r1 f d ct (Alter op v) (Ok tt) w2 r2 f1 → Alters w r f d op x ct (Ok Next) w2 r2 f1
+  pub alters : {op : Op} → EditsContainer w1 r1 f d ct (Alter op v) (Ok tt) w2 r2 f1
+      → Alters w r f d op x ct (Ok Next) w2 r2 f1
   alters (EditsContainer.there found change) = Alters.alter value found change
 
-  pub alters_not : {op : Op} {z : Stop} → EditsContainer w1 r1 f d ct (Alter op v) (Err z) w2 r2 f1 → Alters w r f d op x ct (Err z) w2 r2 f1
+  pub alters_not : {op : Op} {z : Stop} → EditsContainer w1 r1 f d ct (Alter op v) (Err z) w2 r2 f1
+      → Alters w r f d op x ct (Err z) w2 r2 f1
   alters_not (EditsContainer.nowhere found same) = rw same (Alters.alter_nowhere value found)
   alters_not (EditsContainer.there found change) = Alters.alter_fails value found change
 

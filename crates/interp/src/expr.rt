@@ -135,7 +135,8 @@ pub(crate) fn there_is<E: External>(
     requires nested { nested ≤ 100 }
     requires deep { ref_depth (ref_of reference.now) < max_depth }
     requires open { IsSome (base world.old.history).start }
-    ensures meaning { Val world.old.history run.old frame.now nested (tree.there_is is_no (ref_of reference.now)) result world.new.history run.new }
+    ensures meaning { Val world.old.history run.old frame.now nested (tree.there_is is_no (ref_of reference.now)) result
+        world.new.history run.new }
     ensures keeps { Keeps world.old.history run.old world.new.history run.new }
 {
     let met = meet(world, run, frame, nested, reference);
@@ -156,7 +157,8 @@ pub(crate) fn field_of<E: External>(
     requires nested { nested ≤ 100 }
     requires deep { part_depth (part_of_tree part.now) ≤ max_depth }
     requires open { IsSome (base world.old.history).start }
-    ensures meaning { Val world.old.history run.old frame.now nested (tree.field (part_of_tree part.now)) result world.new.history run.new }
+    ensures meaning { Val world.old.history run.old frame.now nested (tree.field (part_of_tree part.now)) result
+        world.new.history run.new }
     ensures keeps { Keeps world.old.history run.old world.new.history run.new }
 {
     let referent = meet_part(world, run, frame, nested, part)?;
@@ -178,7 +180,8 @@ pub(crate) fn property_of<E: External>(
     requires nested { nested ≤ 100 }
     requires deep { ref_depth (ref_of reference.now) < max_depth }
     requires open { IsSome (base world.old.history).start }
-    ensures meaning { Val world.old.history run.old frame.now nested (tree.property name (ref_of reference.now)) result world.new.history run.new }
+    ensures meaning { Val world.old.history run.old frame.now nested (tree.property name (ref_of reference.now)) result
+        world.new.history run.new }
     ensures keeps { Keeps world.old.history run.old world.new.history run.new }
 {
     let referent = meet(world, run, frame, nested, reference)?;
@@ -202,7 +205,8 @@ pub(crate) fn binary<E: External>(
     requires left { depth left.now < max_depth }
     requires right { depth right.now < max_depth }
     requires open { IsSome (base world.old.history).start }
-    ensures meaning { Val world.old.history run.old frame.now nested (tree.binary op left.now right.now) result world.new.history run.new }
+    ensures meaning { Val world.old.history run.old frame.now nested (tree.binary op left.now right.now) result
+        world.new.history run.new }
     ensures keeps { Keeps world.old.history run.old world.new.history run.new }
 {
     let x = eval(world, run, frame, nested, left)?;
@@ -225,7 +229,8 @@ pub(crate) fn unary<E: External>(
     requires nested { nested ≤ 100 }
     requires deep { depth operand.now < max_depth }
     requires open { IsSome (base world.old.history).start }
-    ensures meaning { Val world.old.history run.old frame.now nested (tree.unary op operand.now) result world.new.history run.new }
+    ensures meaning { Val world.old.history run.old frame.now nested (tree.unary op operand.now) result
+        world.new.history run.new }
     ensures keeps { Keeps world.old.history run.old world.new.history run.new }
 {
     let x = eval(world, run, frame, nested, operand)?;
@@ -276,7 +281,8 @@ pub(crate) fn piece_of<E: External>(
     requires index { depth index.now < max_depth }
     requires text { depth text.now < max_depth }
     requires open { IsSome (base world.old.history).start }
-    ensures meaning { Val world.old.history run.old frame.now nested (tree.chunk (tree.piece kind index.now) text.now) result world.new.history run.new }
+    ensures meaning { Val world.old.history run.old frame.now nested (tree.chunk (tree.piece kind index.now) text.now)
+        result world.new.history run.new }
     ensures keeps { Keeps world.old.history run.old world.new.history run.new }
 {
     let at = number_value(world, run, frame, nested, index)?;
@@ -302,7 +308,8 @@ pub(crate) fn pieces_of<E: External>(
     requires last { depth last.now < max_depth }
     requires text { depth text.now < max_depth }
     requires open { IsSome (base world.old.history).start }
-    ensures meaning { Val world.old.history run.old frame.now nested (tree.chunk (tree.pieces kind first.now last.now) text.now) result world.new.history run.new }
+    ensures meaning { Val world.old.history run.old frame.now nested
+        (tree.chunk (tree.pieces kind first.now last.now) text.now) result world.new.history run.new }
     ensures keeps { Keeps world.old.history run.old world.new.history run.new }
 {
     let from = number_value(world, run, frame, nested, first)?;
@@ -326,7 +333,8 @@ pub(crate) fn nth_piece_of<E: External>(
     requires nested { nested ≤ 100 }
     requires text { depth text.now < max_depth }
     requires open { IsSome (base world.old.history).start }
-    ensures meaning { Val world.old.history run.old frame.now nested (tree.chunk (tree.nth_piece ordinal kind) text.now) result world.new.history run.new }
+    ensures meaning { Val world.old.history run.old frame.now nested (tree.chunk (tree.nth_piece ordinal kind) text.now)
+        result world.new.history run.new }
     ensures keeps { Keeps world.old.history run.old world.new.history run.new }
 {
     let text = meet_operand(world, run, frame, nested, text)?;
@@ -350,7 +358,8 @@ pub(crate) fn part_of<E: External>(
     requires nested { nested ≤ 100 }
     requires deep { depth text.now < max_depth }
     requires open { IsSome (base world.old.history).start }
-    ensures meaning { TakesPart world.old.history run.old frame.now nested (pieces_at_numbers kind from to) text.now result world.new.history run.new }
+    ensures meaning { TakesPart world.old.history run.old frame.now nested (pieces_at_numbers kind from to) text.now
+        result world.new.history run.new }
     ensures keeps { Keeps world.old.history run.old world.new.history run.new }
 {
     match text.kind() {
@@ -374,7 +383,8 @@ fn part_met(
     from: i64,
     to: i64,
 ) -> Result<Value, Stop>
-    ensures { (w w1 : History) (r : RunState) (f : Frame) (d : ℕ) (x : tree.Expr) → Val w r f d x met w1 run.now → TakesPart w r f d (pieces_at_numbers kind from to) x result w1 run.now }
+    ensures { (w w1 : History) (r : RunState) (f : Frame) (d : ℕ) (x : tree.Expr) → Val w r f d x met w1 run.now
+        → TakesPart w r f d (pieces_at_numbers kind from to) x result w1 run.now }
 {
     let value = met?;
     part_at(run, &value, kind, from, to)
@@ -405,7 +415,8 @@ pub(crate) fn lent_part<E: External>(
     requires nested { nested ≤ 100 }
     requires deep { depth text.now < max_depth }
     requires open { IsSome (base world.old.history).start }
-    ensures meaning { TakesPart world.old.history run.old frame.now nested (pieces_at_numbers kind from to) text.now result world.new.history run.new }
+    ensures meaning { TakesPart world.old.history run.old frame.now nested (pieces_at_numbers kind from to) text.now
+        result world.new.history run.new }
     ensures keeps { Keeps world.old.history run.old world.new.history run.new }
 {
     let text = meet_operand(world, run, frame, nested, text)?;
@@ -427,7 +438,8 @@ pub(crate) fn count_of_pieces<E: External>(
     requires nested { nested ≤ 100 }
     requires deep { depth text.now < max_depth }
     requires open { IsSome (base world.old.history).start }
-    ensures meaning { Val world.old.history run.old frame.now nested (tree.number_of (tree.pieces_of kind text.now)) result world.new.history run.new }
+    ensures meaning { Val world.old.history run.old frame.now nested (tree.number_of (tree.pieces_of kind text.now))
+        result world.new.history run.new }
     ensures keeps { Keeps world.old.history run.old world.new.history run.new }
 {
     let text = meet_operand(world, run, frame, nested, text)?;
@@ -448,7 +460,8 @@ pub(crate) fn number_of_object<E: External>(
     requires nested { nested ≤ 100 }
     requires deep { ref_depth (ref_of reference.now) < max_depth }
     requires open { IsSome (base world.old.history).start }
-    ensures meaning { Val world.old.history run.old frame.now nested (tree.number_of (tree.of_object (ref_of reference.now))) result world.new.history run.new }
+    ensures meaning { Val world.old.history run.old frame.now nested
+        (tree.number_of (tree.of_object (ref_of reference.now))) result world.new.history run.new }
     ensures keeps { Keeps world.old.history run.old world.new.history run.new }
 {
     let referent = meet(world, run, frame, nested, reference)?;
@@ -470,7 +483,8 @@ pub(crate) fn function_of<E: External>(
     requires nested { nested ≤ 100 }
     requires deep { depth operand.now < max_depth }
     requires open { IsSome (base world.old.history).start }
-    ensures meaning { Val world.old.history run.old frame.now nested (tree.function word operand.now) result world.new.history run.new }
+    ensures meaning { Val world.old.history run.old frame.now nested (tree.function word operand.now) result
+        world.new.history run.new }
     ensures keeps { Keeps world.old.history run.old world.new.history run.new }
 {
     match operand.kind() {
@@ -499,7 +513,8 @@ pub(crate) fn lent_function<E: External>(
     requires nested { nested ≤ 100 }
     requires deep { depth operand.now < max_depth }
     requires open { IsSome (base world.old.history).start }
-    ensures meaning { Val world.old.history run.old frame.now nested (tree.function word operand.now) result world.new.history run.new }
+    ensures meaning { Val world.old.history run.old frame.now nested (tree.function word operand.now) result
+        world.new.history run.new }
     ensures keeps { Keeps world.old.history run.old world.new.history run.new }
 {
     let x = meet_operand(world, run, frame, nested, operand)?;
@@ -526,7 +541,9 @@ pub(crate) fn function_met<E: External>(
 ) -> Result<Value, Stop>
     requires nested { nested ≤ 100 }
     requires open { IsSome (base world.old.history).start }
-    ensures meaning { (w : History) (r : RunState) (x : tree.Expr) → Val w r frame.now nested x met world.old.history run.old → Val w r frame.now nested (tree.function word x) result world.new.history run.new }
+    ensures meaning { (w : History) (r : RunState) (x : tree.Expr)
+        → Val w r frame.now nested x met world.old.history run.old
+        → Val w r frame.now nested (tree.function word x) result world.new.history run.new }
     ensures keeps { Keeps world.old.history run.old world.new.history run.new }
 {
     let value = met?;
@@ -554,7 +571,8 @@ pub(crate) fn arguments<E: External>(
     requires nested { nested ≤ 100 }
     requires deep { depths (exprs_of list.now) ≤ max_depth }
     requires open { IsSome (base world.old.history).start }
-    ensures meaning { Vals world.old.history run.old frame.now nested (exprs_of list.now) values.old (listed result values.new) world.new.history run.new }
+    ensures meaning { Vals world.old.history run.old frame.now nested (exprs_of list.now) values.old
+        (listed result values.new) world.new.history run.new }
     ensures keeps { Keeps world.old.history run.old world.new.history run.new }
 {
     for e in list {
@@ -631,7 +649,8 @@ pub(crate) fn piece_number<E: External>(
     requires index { depth index.now < max_depth }
     requires text { depth text.now < max_depth }
     requires open { IsSome (base world.old.history).start }
-    ensures meaning { NumberVal world.old.history run.old frame.now nested (tree.chunk (tree.piece kind index.now) text.now) result world.new.history run.new }
+    ensures meaning { NumberVal world.old.history run.old frame.now nested
+        (tree.chunk (tree.piece kind index.now) text.now) result world.new.history run.new }
     ensures keeps { Keeps world.old.history run.old world.new.history run.new }
 {
     let at = number_value(world, run, frame, nested, index)?;
@@ -657,7 +676,8 @@ pub(crate) fn pieces_number<E: External>(
     requires last { depth last.now < max_depth }
     requires text { depth text.now < max_depth }
     requires open { IsSome (base world.old.history).start }
-    ensures meaning { NumberVal world.old.history run.old frame.now nested (tree.chunk (tree.pieces kind first.now last.now) text.now) result world.new.history run.new }
+    ensures meaning { NumberVal world.old.history run.old frame.now nested
+        (tree.chunk (tree.pieces kind first.now last.now) text.now) result world.new.history run.new }
     ensures keeps { Keeps world.old.history run.old world.new.history run.new }
 {
     let from = number_value(world, run, frame, nested, first)?;
@@ -682,7 +702,8 @@ pub(crate) fn part_number<E: External>(
     requires nested { nested ≤ 100 }
     requires deep { depth text.now < max_depth }
     requires open { IsSome (base world.old.history).start }
-    ensures meaning { TakesNumber world.old.history run.old frame.now nested (pieces_at_numbers kind from to) text.now result world.new.history run.new }
+    ensures meaning { TakesNumber world.old.history run.old frame.now nested (pieces_at_numbers kind from to) text.now
+        result world.new.history run.new }
     ensures keeps { Keeps world.old.history run.old world.new.history run.new }
 {
     let value = part_of(world, run, frame, nested, kind, from, to, text)?;

@@ -43,7 +43,8 @@ pub(crate) fn calls<E: External>(
     requires nested { nested ≤ 100 }
     requires deep { depths (exprs_of list.now.items.items) ≤ max_depth }
     requires open { IsSome (base world.old.history).start }
-    ensures meaning { Calls world.old.history run.old frame.now nested object name.now (exprs_of list.now.items.items) kind result world.new.history run.new }
+    ensures meaning { Calls world.old.history run.old frame.now nested object name.now (exprs_of list.now.items.items)
+        kind result world.new.history run.new }
     ensures keeps { Keeps world.old.history run.old world.new.history run.new }
 {
     let mut values = Arguments::new(run.alloc());
@@ -67,7 +68,8 @@ pub(crate) fn send<E: External>(
 ) -> Result<Value, Stop>
     requires nested { nested ≤ 100 }
     requires open { IsSome (base world.old.history).start }
-    ensures meaning { Sends world.old.history run.old frame.now nested object name.now values.now kind result world.new.history run.new }
+    ensures meaning { Sends world.old.history run.old frame.now nested object name.now values.now kind result
+        world.new.history run.new }
     ensures keeps { Keeps world.old.history run.old world.new.history run.new }
 {
     run.step()?;
@@ -92,7 +94,8 @@ pub(crate) fn along<E: External>(
 ) -> Result<Value, Stop>
     requires nested { nested ≤ 100 }
     requires open { IsSome (base world.old.history).start }
-    ensures meaning { Along world.old.history run.old frame.now nested object path name.now values.now kind result world.new.history run.new }
+    ensures meaning { Along world.old.history run.old frame.now nested object path name.now values.now kind result
+        world.new.history run.new }
     ensures keeps { Keeps world.old.history run.old world.new.history run.new }
 {
     let mut rest = path;
@@ -140,7 +143,8 @@ pub(crate) fn outside<E: External>(
 ) -> Result<Value, Stop>
     requires nested { nested ≤ 100 }
     requires open { IsSome (base world.old.history).start }
-    ensures meaning { Outside world.old.history run.old frame.now nested name.now values.now kind result world.new.history run.new }
+    ensures meaning { Outside world.old.history run.old frame.now nested name.now values.now kind result
+        world.new.history run.new }
     ensures keeps { Keeps world.old.history run.old world.new.history run.new }
 {
     match external(world, kind, name) {
@@ -171,7 +175,8 @@ pub(crate) fn answer<E: External>(
 ) -> Result<Value, Stop>
     requires nested { nested ≤ 100 }
     requires open { IsSome (base world.old.history).start }
-    ensures meaning { BuiltInGives world.old.history run.old frame.now nested name.now values.now kind result world.new.history run.new }
+    ensures meaning { BuiltInGives world.old.history run.old frame.now nested name.now values.now kind result
+        world.new.history run.new }
     ensures keeps { Keeps world.old.history run.old world.new.history run.new }
 {
     match BuiltIn::named(kind, name) {

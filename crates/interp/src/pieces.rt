@@ -31,7 +31,8 @@ pub(crate) fn pieces<E: External>(
     requires nested { nested ≤ 100 }
     requires deep { chunk_depth (chunk_of chunk.now) < max_depth }
     requires open { IsSome (base world.old.history).start }
-    ensures meaning { ChunkOf world.old.history run.old frame.now nested (chunk_of chunk.now) result world.new.history run.new }
+    ensures meaning { ChunkOf world.old.history run.old frame.now nested (chunk_of chunk.now) result world.new.history
+        run.new }
     ensures keeps { Keeps world.old.history run.old world.new.history run.new }
 {
     match chunk {
@@ -94,7 +95,8 @@ pub(crate) fn edit_container<E: External>(
     requires nested { nested ≤ 100 }
     requires deep { container_depth container.now < max_depth }
     requires open { IsSome (base world.old.history).start }
-    ensures meaning { EditsContainer world.old.history run.old frame.old nested container.now change result world.new.history run.new frame.new }
+    ensures meaning { EditsContainer world.old.history run.old frame.old nested container.now change result
+        world.new.history run.new frame.new }
     ensures keeps { Keeps world.old.history run.old world.new.history run.new }
 {
     match container.kind() {

@@ -1,7 +1,8 @@
 //! References to objects.
 
 ghost use Rattle.std.specs.Prelude.{◌≡◌, ◌≤◌, ◌<◌, ℕ, IsSome};
-ghost use Rattle.ht_grammar.specs.Depth.{depth, destination_depth, owner_depth, part_depth, ref_depth, selector_depth, which_depth, max_depth};
+ghost use Rattle.ht_grammar.specs.Depth.{depth, destination_depth, owner_depth, part_depth, ref_depth, selector_depth};
+ghost use Rattle.ht_grammar.specs.Depth.{which_depth, max_depth};
 ghost use Rattle.ht_tree.specs.StatementView.{destination_of};
 ghost use Rattle.ht_tree.specs.View.{owner_of, part_of, ref_of, selector_of, which_of};
 ghost use Rattle.containers.specs.Base.{base};
@@ -42,7 +43,8 @@ pub(crate) fn seek<E: External>(
     requires nested { nested ≤ 100 }
     requires deep { selector_depth (selector_of selector.now) < max_depth }
     requires open { IsSome (base world.old.history).start }
-    ensures meaning { Seeks world.old.history run.old frame.now nested (selector_of selector.now) result world.new.history run.new }
+    ensures meaning { Seeks world.old.history run.old frame.now nested (selector_of selector.now) result
+        world.new.history run.new }
     ensures keeps { Keeps world.old.history run.old world.new.history run.new }
 {
     match selector {
@@ -72,7 +74,8 @@ pub(crate) fn scope<E: External>(
     requires nested { nested ≤ 100 }
     requires deep { owner_depth (owner_of owner.now) < max_depth }
     requires open { IsSome (base world.old.history).start }
-    ensures meaning { Owns world.old.history run.old frame.now nested layer (owner_of owner.now) result world.new.history run.new }
+    ensures meaning { Owns world.old.history run.old frame.now nested layer (owner_of owner.now) result
+        world.new.history run.new }
     ensures keeps { Keeps world.old.history run.old world.new.history run.new }
 {
     match owner {
@@ -102,7 +105,9 @@ fn expr_of(which: &Which) -> &Expr
 /// The one of several that a value picks which was computed, if it was.
 #[tactic(auto, using(crate::proofs::Picks::pick_rules))]
 fn picked(run: &Budget, which: &Which, met: Result<Value, Stop>) -> Result<Pick, Stop>
-    ensures { (w w1 : History) (r : RunState) (f : Frame) (d : ℕ) → Val w r f d (expr_in (which_of which.now)) met w1 run.now → Picks w r f d (which_of which.now) result w1 run.now }
+    ensures { (w w1 : History) (r : RunState) (f : Frame) (d : ℕ)
+        → Val w r f d (expr_in (which_of which.now)) met w1 run.now
+        → Picks w r f d (which_of which.now) result w1 run.now }
 {
     let text = met?.into_text(run.alloc())?;
     match which {
@@ -115,7 +120,9 @@ fn picked(run: &Budget, which: &Which, met: Result<Value, Stop>) -> Result<Pick,
 #[tactic(auto, using(meaning::proofs::Rules::seeks_which_rules))]
 #[inline(never)]
 fn sought(run: &Budget, which: &Which, met: Result<Value, Stop>) -> Result<Sought, Stop>
-    ensures { (w w1 : History) (r : RunState) (f : Frame) (d : ℕ) → Val w r f d (expr_in (which_of which.now)) met w1 run.now → Seeks w r f d (tree.which (which_of which.now)) result w1 run.now }
+    ensures { (w w1 : History) (r : RunState) (f : Frame) (d : ℕ)
+        → Val w r f d (expr_in (which_of which.now)) met w1 run.now
+        → Seeks w r f d (tree.which (which_of which.now)) result w1 run.now }
 {
     let pick = picked(run, which, met)?;
     Ok(Sought::Picked(pick))
@@ -130,7 +137,9 @@ fn on_card<E: External>(
     layer: Layer,
     card: Result<Sought, Stop>,
 ) -> Result<PartScope, Stop>
-    ensures { (w : History) (r : RunState) (f : Frame) (d : ℕ) (sl : tree.Selector) → Seeks w r f d sl card world.now.history run.now → Owns w r f d layer (tree.on_card sl) result world.now.history run.now }
+    ensures { (w : History) (r : RunState) (f : Frame) (d : ℕ) (sl : tree.Selector)
+        → Seeks w r f d sl card world.now.history run.now
+        → Owns w r f d layer (tree.on_card sl) result world.now.history run.now }
 {
     let card = card?;
     card_scope(world, run, layer, &card)
@@ -145,7 +154,9 @@ fn on_background<E: External>(
     layer: Layer,
     background: Result<Sought, Stop>,
 ) -> Result<PartScope, Stop>
-    ensures { (w : History) (r : RunState) (f : Frame) (d : ℕ) (sl : tree.Selector) → Seeks w r f d sl background world.now.history run.now → Owns w r f d layer (tree.on_background sl) result world.now.history run.now }
+    ensures { (w : History) (r : RunState) (f : Frame) (d : ℕ) (sl : tree.Selector)
+        → Seeks w r f d sl background world.now.history run.now
+        → Owns w r f d layer (tree.on_background sl) result world.now.history run.now }
 {
     let background = background?;
     background_scope(world, run, layer, &background)
@@ -165,7 +176,8 @@ pub(crate) fn meet_part<E: External>(
     requires nested { nested ≤ 100 }
     requires deep { part_depth (part_of part.now) ≤ max_depth }
     requires open { IsSome (base world.old.history).start }
-    ensures meaning { PartMet world.old.history run.old frame.now nested (part_of part.now) result world.new.history run.new }
+    ensures meaning { PartMet world.old.history run.old frame.now nested (part_of part.now) result world.new.history
+        run.new }
     ensures keeps { Keeps world.old.history run.old world.new.history run.new }
 {
     match part {
@@ -197,7 +209,10 @@ pub(crate) fn plain_part<E: External>(
     requires nested { nested ≤ 100 }
     requires deep { owner_depth (owner_of owner.now) < max_depth }
     requires open { IsSome (base world.old.history).start }
-    ensures meaning { (w : History) (r : RunState) → Val w r frame.now nested (expr_in (which_of which.now)) met world.old.history run.old → PartMet w r frame.now nested (tree.part layer kind (which_of which.now) (owner_of owner.now)) result world.new.history run.new }
+    ensures meaning { (w : History) (r : RunState)
+        → Val w r frame.now nested (expr_in (which_of which.now)) met world.old.history run.old
+        → PartMet w r frame.now nested (tree.part layer kind (which_of which.now) (owner_of owner.now)) result
+        world.new.history run.new }
     ensures keeps { Keeps world.old.history run.old world.new.history run.new }
 {
     let pick = picked(run, which, met)?;
@@ -222,7 +237,8 @@ pub(crate) fn nth_part<E: External>(
     requires nested { nested ≤ 100 }
     requires deep { owner_depth (owner_of owner.now) < max_depth }
     requires open { IsSome (base world.old.history).start }
-    ensures meaning { PartMet world.old.history run.old frame.now nested (tree.nth_part ordinal layer kind (owner_of owner.now)) result world.new.history run.new }
+    ensures meaning { PartMet world.old.history run.old frame.now nested
+        (tree.nth_part ordinal layer kind (owner_of owner.now)) result world.new.history run.new }
     ensures keeps { Keeps world.old.history run.old world.new.history run.new }
 {
     let scope = scope(world, run, frame, nested, layer_meant(layer, kind), owner)?;
@@ -243,7 +259,8 @@ pub(crate) fn meet<E: External>(
     requires nested { nested ≤ 100 }
     requires deep { ref_depth (ref_of reference.now) ≤ max_depth }
     requires open { IsSome (base world.old.history).start }
-    ensures meaning { Meets world.old.history run.old frame.now nested (ref_of reference.now) result world.new.history run.new }
+    ensures meaning { Meets world.old.history run.old frame.now nested (ref_of reference.now) result world.new.history
+        run.new }
     ensures keeps { Keeps world.old.history run.old world.new.history run.new }
 {
     match reference {
@@ -276,7 +293,8 @@ pub(crate) fn lead<E: External>(
     requires nested { nested ≤ 100 }
     requires deep { destination_depth (destination_of destination.now) ≤ max_depth }
     requires open { IsSome (base world.old.history).start }
-    ensures meaning { Leads world.old.history run.old frame.now nested (destination_of destination.now) result world.new.history run.new }
+    ensures meaning { Leads world.old.history run.old frame.now nested (destination_of destination.now) result
+        world.new.history run.new }
     ensures keeps { Keeps world.old.history run.old world.new.history run.new }
 {
     match destination {

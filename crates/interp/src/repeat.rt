@@ -35,7 +35,8 @@ pub(crate) fn repeat_times<E: External>(
     requires times { depth times.now < max_depth }
     requires lines { stmts_depth (stmts_of lines.now) < max_depth }
     requires open { IsSome (base world.old.history).start }
-    ensures meaning { Form world.old.history run.old frame.old nested (stm.repeat (stm.times times.now) (stmts_of lines.now)) result world.new.history run.new frame.new }
+    ensures meaning { Form world.old.history run.old frame.old nested
+        (stm.repeat (stm.times times.now) (stmts_of lines.now)) result world.new.history run.new frame.new }
     ensures keeps { Keeps world.old.history run.old world.new.history run.new }
 {
     let times = number_value(world, run, frame, nested, times)?;
@@ -63,7 +64,9 @@ pub(crate) fn repeat_counted<E: External>(
     requires to { depth to.now < max_depth }
     requires lines { stmts_depth (stmts_of lines.now.items.items) < max_depth }
     requires open { IsSome (base world.old.history).start }
-    ensures meaning { Form world.old.history run.old frame.old nested (stm.repeat (counted is_down name.now from.now to.now) (stmts_of lines.now.items.items)) result world.new.history run.new frame.new }
+    ensures meaning { Form world.old.history run.old frame.old nested
+        (stm.repeat (counted is_down name.now from.now to.now) (stmts_of lines.now.items.items)) result
+        world.new.history run.new frame.new }
     ensures keeps { Keeps world.old.history run.old world.new.history run.new }
 {
     let counter = bounds(world, run, frame, nested, from, to, is_down)?;
@@ -87,7 +90,8 @@ pub(crate) fn bounds<E: External>(
     requires from { depth from.now < max_depth }
     requires to { depth to.now < max_depth }
     requires open { IsSome (base world.old.history).start }
-    ensures meaning { Bounds world.old.history run.old frame.now nested from.now to.now is_down result world.new.history run.new }
+    ensures meaning { Bounds world.old.history run.old frame.now nested from.now to.now is_down result world.new.history
+        run.new }
     ensures keeps { Keeps world.old.history run.old world.new.history run.new }
 {
     let first = eval(world, run, frame, nested, from)?;
@@ -109,7 +113,8 @@ pub(crate) fn repeat_forever<E: External>(
     requires nested { nested ≤ 100 }
     requires lines { stmts_depth (stmts_of lines.now) < max_depth }
     requires open { IsSome (base world.old.history).start }
-    ensures meaning { Endless world.old.history run.old frame.old nested (stmts_of lines.now) result world.new.history run.new frame.new }
+    ensures meaning { Endless world.old.history run.old frame.old nested (stmts_of lines.now) result world.new.history
+        run.new frame.new }
     ensures keeps { Keeps world.old.history run.old world.new.history run.new }
 {
     loop {
@@ -138,7 +143,8 @@ pub(crate) fn repeat_while<E: External>(
     requires condition { depth condition.now < max_depth }
     requires lines { stmts_depth (stmts_of lines.now) < max_depth }
     requires open { IsSome (base world.old.history).start }
-    ensures meaning { While world.old.history run.old frame.old nested wanted condition.now (stmts_of lines.now) result world.new.history run.new frame.new }
+    ensures meaning { While world.old.history run.old frame.old nested wanted condition.now (stmts_of lines.now) result
+        world.new.history run.new frame.new }
     ensures keeps { Keeps world.old.history run.old world.new.history run.new }
 {
     loop {
@@ -170,7 +176,8 @@ pub(crate) fn turns<E: External>(
     requires nested { nested ≤ 100 }
     requires lines { stmts_depth (stmts_of lines.now) < max_depth }
     requires open { IsSome (base world.old.history).start }
-    ensures meaning { Counts world.old.history run.old frame.old nested (option_copied variable.entry) counter (stmts_of lines.now) result world.new.history run.new frame.new }
+    ensures meaning { Counts world.old.history run.old frame.old nested (option_copied variable.entry) counter
+        (stmts_of lines.now) result world.new.history run.new frame.new }
     ensures keeps { Keeps world.old.history run.old world.new.history run.new }
 {
     let mut turn = counter;

@@ -2,7 +2,8 @@
 
 ghost use Rattle.std.specs.Prelude.{◌≡◌, ◌≤◌, ◌<◌, IsSome, IfOk, true};
 ghost use Rattle.ht_grammar.specs.Statements as stm;
-ghost use Rattle.ht_grammar.specs.Depth.{chunk_depth, container_depth, depth, depths, destination_depth, ref_depth, stmt_depth, stmts_depth, max_depth};
+ghost use Rattle.ht_grammar.specs.Depth.{chunk_depth, container_depth, depth, depths, destination_depth, ref_depth};
+ghost use Rattle.ht_grammar.specs.Depth.{stmt_depth, stmts_depth, max_depth};
 ghost use Rattle.ht_tree.specs.StatementView.{destination_of, stmts_of};
 ghost use Rattle.ht_tree.specs.View.{chunk_of, exprs_of, ref_of};
 ghost use Rattle.containers.specs.Base.{base};
@@ -40,7 +41,8 @@ pub(crate) fn run_block<E: External>(
     requires nested { nested ≤ 100 }
     requires deep { stmts_depth (stmts_of lines.now) ≤ max_depth }
     requires open { IsSome (base world.old.history).start }
-    ensures meaning { Block world.old.history run.old frame.old nested (stmts_of lines.now) result world.new.history run.new frame.new }
+    ensures meaning { Block world.old.history run.old frame.old nested (stmts_of lines.now) result world.new.history
+        run.new frame.new }
     ensures passes { IfOk result (λ how. how ≡ How.Pass → run.new.left < run.old.left) }
     ensures keeps { Keeps world.old.history run.old world.new.history run.new }
 {
@@ -76,7 +78,8 @@ pub(crate) fn run_stmt<E: External>(
     requires nested { nested ≤ 100 }
     requires deep { stmt_depth stmt.now ≤ max_depth }
     requires open { IsSome (base world.old.history).start }
-    ensures meaning { Form world.old.history run.old frame.old nested stmt.now result world.new.history run.new frame.new }
+    ensures meaning { Form world.old.history run.old frame.old nested stmt.now result world.new.history run.new
+        frame.new }
     ensures keeps { Keeps world.old.history run.old world.new.history run.new }
 {
     match stmt.kind() {
@@ -128,7 +131,8 @@ pub(crate) fn run_plain<E: External>(
     requires plain { is_plain stmt.now ≡ true }
     requires deep { stmt_depth stmt.now ≤ max_depth }
     requires open { IsSome (base world.old.history).start }
-    ensures meaning { Form world.old.history run.old frame.old nested stmt.now result world.new.history run.new frame.new }
+    ensures meaning { Form world.old.history run.old frame.old nested stmt.now result world.new.history run.new
+        frame.new }
     ensures keeps { Keeps world.old.history run.old world.new.history run.new }
 {
     match stmt.kind() {
@@ -208,7 +212,8 @@ pub(crate) fn return_value<E: External>(
     requires nested { nested ≤ 100 }
     requires deep { depth value.now < max_depth }
     requires open { IsSome (base world.old.history).start }
-    ensures meaning { Form world.old.history run.old frame.old nested (stm.return_value value.now) result world.new.history run.new frame.new }
+    ensures meaning { Form world.old.history run.old frame.old nested (stm.return_value value.now) result
+        world.new.history run.new frame.new }
     ensures keeps { Keeps world.old.history run.old world.new.history run.new }
 {
     let value = eval(world, run, frame, nested, value)?;
@@ -230,7 +235,8 @@ pub(crate) fn command<E: External>(
     requires nested { nested ≤ 100 }
     requires deep { depths (exprs_of list.now.items.items) < max_depth }
     requires open { IsSome (base world.old.history).start }
-    ensures meaning { Form world.old.history run.old frame.old nested (stm.command name.now (exprs_of list.now.items.items)) result world.new.history run.new frame.new }
+    ensures meaning { Form world.old.history run.old frame.old nested
+        (stm.command name.now (exprs_of list.now.items.items)) result world.new.history run.new frame.new }
     ensures keeps { Keeps world.old.history run.old world.new.history run.new }
 {
     let kind = HandlerKind::Command;
@@ -252,7 +258,8 @@ pub(crate) fn show<E: External>(
     requires nested { nested ≤ 100 }
     requires deep { depth value.now < max_depth }
     requires open { IsSome (base world.old.history).start }
-    ensures meaning { Form world.old.history run.old frame.old nested (stm.put value.now) result world.new.history run.new frame.new }
+    ensures meaning { Form world.old.history run.old frame.old nested (stm.put value.now) result world.new.history
+        run.new frame.new }
     ensures keeps { Keeps world.old.history run.old world.new.history run.new }
 {
     let value = eval(world, run, frame, nested, value)?;
@@ -277,7 +284,8 @@ pub(crate) fn put<E: External>(
     requires value { depth value.now < max_depth }
     requires container { container_depth container.now < max_depth }
     requires open { IsSome (base world.old.history).start }
-    ensures meaning { Form world.old.history run.old frame.old nested (stm.put_in place value.now container.now) result world.new.history run.new frame.new }
+    ensures meaning { Form world.old.history run.old frame.old nested (stm.put_in place value.now container.now) result
+        world.new.history run.new frame.new }
     ensures keeps { Keeps world.old.history run.old world.new.history run.new }
 {
     let new = eval(world, run, frame, nested, value)?;
@@ -300,7 +308,8 @@ pub(crate) fn get<E: External>(
     requires nested { nested ≤ 100 }
     requires deep { depth value.now < max_depth }
     requires open { IsSome (base world.old.history).start }
-    ensures meaning { Form world.old.history run.old frame.old nested (stm.get value.now) result world.new.history run.new frame.new }
+    ensures meaning { Form world.old.history run.old frame.old nested (stm.get value.now) result world.new.history
+        run.new frame.new }
     ensures keeps { Keeps world.old.history run.old world.new.history run.new }
 {
     let new = eval(world, run, frame, nested, value)?;
@@ -325,7 +334,8 @@ pub(crate) fn set<E: External>(
     requires reference { ref_depth (ref_of reference.now) < max_depth }
     requires value { depth value.now < max_depth }
     requires open { IsSome (base world.old.history).start }
-    ensures meaning { Form world.old.history run.old frame.old nested (stm.set property (ref_of reference.now) value.now) result world.new.history run.new frame.new }
+    ensures meaning { Form world.old.history run.old frame.old nested
+        (stm.set property (ref_of reference.now) value.now) result world.new.history run.new frame.new }
     ensures keeps { Keeps world.old.history run.old world.new.history run.new }
 {
     let value = eval_text(world, run, frame, nested, value)?;
@@ -349,7 +359,8 @@ pub(crate) fn set_run<E: External>(
     requires nested { nested ≤ 100 }
     requires deep { depth value.now < max_depth }
     requires open { IsSome (base world.old.history).start }
-    ensures meaning { Form world.old.history run.old frame.old nested (stm.set_run property value.now) result world.new.history run.new frame.new }
+    ensures meaning { Form world.old.history run.old frame.old nested (stm.set_run property value.now) result
+        world.new.history run.new frame.new }
     ensures keeps { Keeps world.old.history run.old world.new.history run.new }
 {
     let value = eval_text(world, run, frame, nested, value)?;
@@ -376,7 +387,8 @@ pub(crate) fn alter<E: External>(
     requires value { depth value.now < max_depth }
     requires container { container_depth container.now < max_depth }
     requires open { IsSome (base world.old.history).start }
-    ensures meaning { Alters world.old.history run.old frame.old nested op value.now container.now result world.new.history run.new frame.new }
+    ensures meaning { Alters world.old.history run.old frame.old nested op value.now container.now result
+        world.new.history run.new frame.new }
     ensures keeps { Keeps world.old.history run.old world.new.history run.new }
 {
     let operand = eval(world, run, frame, nested, value)?;
@@ -401,7 +413,8 @@ pub(crate) fn delete<E: External>(
     requires chunk { chunk_depth (chunk_of chunk.now) < max_depth }
     requires container { container_depth container.now < max_depth }
     requires open { IsSome (base world.old.history).start }
-    ensures meaning { Form world.old.history run.old frame.old nested (stm.delete (chunk_of chunk.now) container.now) result world.new.history run.new frame.new }
+    ensures meaning { Form world.old.history run.old frame.old nested (stm.delete (chunk_of chunk.now) container.now)
+        result world.new.history run.new frame.new }
     ensures keeps { Keeps world.old.history run.old world.new.history run.new }
 {
     let pieces = pieces(world, run, frame, nested, chunk)?;
@@ -424,7 +437,8 @@ pub(crate) fn run_do<E: External>(
     requires nested { nested ≤ 100 }
     requires deep { depth text.now < max_depth }
     requires open { IsSome (base world.old.history).start }
-    ensures meaning { Form world.old.history run.old frame.old nested (stm.do_ text.now) result world.new.history run.new frame.new }
+    ensures meaning { Form world.old.history run.old frame.old nested (stm.do_ text.now) result world.new.history
+        run.new frame.new }
     ensures keeps { Keeps world.old.history run.old world.new.history run.new }
 {
     let text = eval_text(world, run, frame, nested, text)?;
@@ -455,7 +469,8 @@ pub(crate) fn run_send<E: External>(
     requires text { depth text.now < max_depth }
     requires reference { ref_depth (ref_of reference.now) < max_depth }
     requires open { IsSome (base world.old.history).start }
-    ensures meaning { Form world.old.history run.old frame.old nested (stm.send text.now (ref_of reference.now)) result world.new.history run.new frame.new }
+    ensures meaning { Form world.old.history run.old frame.old nested (stm.send text.now (ref_of reference.now)) result
+        world.new.history run.new frame.new }
     ensures keeps { Keeps world.old.history run.old world.new.history run.new }
 {
     let text = eval_text(world, run, frame, nested, text)?;
@@ -489,7 +504,8 @@ pub(crate) fn run_go<E: External>(
     requires nested { nested ≤ 100 }
     requires deep { destination_depth (destination_of destination.now) ≤ max_depth }
     requires open { IsSome (base world.old.history).start }
-    ensures meaning { Form world.old.history run.old frame.old nested (stm.go (destination_of destination.now)) result world.new.history run.new frame.new }
+    ensures meaning { Form world.old.history run.old frame.old nested (stm.go (destination_of destination.now)) result
+        world.new.history run.new frame.new }
     ensures keeps { Keeps world.old.history run.old world.new.history run.new }
 {
     let card = lead(world, run, frame, nested, destination)?;
@@ -515,7 +531,9 @@ pub(crate) fn when<E: External>(
     requires lines { stmts_depth (stmts_of lines.now) < max_depth }
     requires otherwise { stmts_depth (stmts_of otherwise.now) < max_depth }
     requires open { IsSome (base world.old.history).start }
-    ensures meaning { Form world.old.history run.old frame.old nested (stm.when condition.now (stmts_of lines.now) (stmts_of otherwise.now)) result world.new.history run.new frame.new }
+    ensures meaning { Form world.old.history run.old frame.old nested
+        (stm.when condition.now (stmts_of lines.now) (stmts_of otherwise.now)) result world.new.history run.new
+        frame.new }
     ensures keeps { Keeps world.old.history run.old world.new.history run.new }
 {
     if truth_value(world, run, frame, nested, condition)? {

@@ -16,7 +16,8 @@ is_there w i h = subst (λ n. i < n) (titles_count w) h
 pub is_titled : (w : History) (i : ℕ) → i < length w.now.externals → i < length (base w).titles
 is_titled w i h = subst (λ n. i < n) (sym (titles_count w)) h
 
-pub is_titled_if_some : (w : History) (o : Option ℕ) → IfSome o (λ i. i < length w.now.externals) → IfSome o (λ i. i < length (base w).titles)
+pub is_titled_if_some : (w : History) (o : Option ℕ) → IfSome o (λ i. i < length w.now.externals)
+    → IfSome o (λ i. i < length (base w).titles)
 is_titled_if_some w None h = h
 is_titled_if_some w (Some i) h = is_titled w i h
 
@@ -24,6 +25,7 @@ turns_are_beside : (w w2 : History) (i : ℕ) → w2 ≡ record w { turns = one_
 unfolding base
 turns_are_beside w w2 i e = ap base e
 
-pub refused_keeps : (w w2 : History) (i : ℕ) → (w2 ≡ w) ⊎ (w2 ≡ record w { turns = one_more_at w.turns i }) → base w2 ≡ base w
+pub refused_keeps : (w w2 : History) (i : ℕ) → (w2 ≡ w) ⊎ (w2 ≡ record w { turns = one_more_at w.turns i })
+    → base w2 ≡ base w
 refused_keeps w w2 i (inl e) = ap base e
 refused_keeps w w2 i (inr e) = turns_are_beside w w2 i e

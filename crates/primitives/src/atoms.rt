@@ -50,7 +50,8 @@ pub fn object_count<E: External>(
     count: &Count,
 ) -> Result<Value, Stop>
     requires { counts_objects (count_of count.now) ≡ true }
-    ensures { (f : Frame) (d : ℕ) → Val world.now.history run.now f d (tree.number_of (count_of count.now)) result world.now.history run.now }
+    ensures { (f : Frame) (d : ℕ) → Val world.now.history run.now f d (tree.number_of (count_of count.now)) result
+        world.now.history run.now }
 {
     match count {
         Count::Cards => Ok(numeral(run, world.stack().cards().len())?),

@@ -1,6 +1,7 @@
 //! Messages, handlers and externals, as the rules find and end them.
 
-ghost use Rattle.std.specs.Prelude.{◌≡◌, ◌<◌, [], ◌∷◌, ◌++◌, length, get_or, drop, true, IsSome, IfOk, IfSome, IfErr, OnOk, None, Some};
+ghost use Rattle.std.specs.Prelude.{◌≡◌, ◌<◌, [], ◌∷◌, ◌++◌, length, get_or, drop, true, IsSome, IfOk, IfSome, IfErr};
+ghost use Rattle.std.specs.Prelude.{OnOk, None, Some};
 ghost use Rattle.externals.specs.declared.external.Ask.TheVariants as ask;
 ghost use Rattle.externals.specs.declared.external.Input.TheVariants as input;
 ghost use Rattle.journal_entries.specs.State.{titles_of};
@@ -87,7 +88,8 @@ pub fn handler_frame(
     target: Id,
     values: &Arguments,
 ) -> Result<Frame, AllocError>
-    ensures { IfOk result (λ f. f ≡ frame_of_handler found.now.object target (parameters_of found.now.handler) values.now) }
+    ensures { IfOk result (λ f. f ≡ frame_of_handler found.now.object target (parameters_of found.now.handler)
+        values.now) }
 {
     let mut frame = Frame::of_handler(run.alloc(), found.object(), target);
     bind(
@@ -101,7 +103,8 @@ pub fn handler_frame(
 
 /// Gives parameters their arguments.
 fn bind(run: &Budget, frame: &mut Frame, names: &[Name], values: &[Value]) -> Result<(), AllocError>
-    ensures { OnOk result (frame.new ≡ record frame.old { variables = bound_to names.now values.now frame.old.variables }) }
+    ensures { OnOk result (frame.new
+        ≡ record frame.old { variables = bound_to names.now values.now frame.old.variables }) }
 {
     let mut left = values;
     for name in names {

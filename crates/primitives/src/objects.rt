@@ -9,7 +9,10 @@ ghost use Rattle.structural_changes.specs.Writes.{home};
 ghost use Rattle.object_references.specs.References as references;
 ghost use Rattle.object_references.specs.Settings as settings;
 ghost use Rattle.containers.specs.Base.{base};
-ghost use Rattle.meaning.specs.Menu.{closing as closing_of, differ, new_background_messages as messages_of_new_background, new_card_messages as messages_of_new_card, new_layer as layer_of_new, opening as opening_of};
+ghost use Rattle.meaning.specs.Menu.{closing as closing_of, differ};
+ghost use Rattle.meaning.specs.Menu.{new_background_messages as messages_of_new_background};
+ghost use Rattle.meaning.specs.Menu.{new_card_messages as messages_of_new_card, new_layer as layer_of_new};
+ghost use Rattle.meaning.specs.Menu.{opening as opening_of};
 ghost use Rattle.meaning.specs.Places.{Adds};
 ghost use Rattle.meaning.specs.Values.{Yields};
 
@@ -35,7 +38,8 @@ pub(crate) fn target_name<E: External>(
     run: &Budget,
     frame: &Frame,
 ) -> Result<Value, Stop>
-    ensures { Yields (settings.name_of world.now.history.now.stack world.now.history.now.current frame.now.target) result }
+    ensures { Yields (settings.name_of world.now.history.now.stack world.now.history.now.current frame.now.target)
+        result }
 {
     match name_of(run.alloc(), world.stack(), world.current(), frame.target) {
         Ok(name) => Ok(Value::of_text(name)),
@@ -106,7 +110,8 @@ pub fn card_scope<E: External>(
     layer: Layer,
     card: &Sought,
 ) -> Result<PartScope, Stop>
-    ensures { Yields (references.scope_of_card world.now.history.now.stack world.now.history.now.current layer card.now) result }
+    ensures { Yields (references.scope_of_card world.now.history.now.stack world.now.history.now.current layer card.now)
+        result }
 {
     match scope_of_card(world.stack(), world.current(), layer, card) {
         Ok(scope) => Ok(scope),
@@ -126,7 +131,8 @@ pub fn background_scope<E: External>(
     layer: Layer,
     background: &Sought,
 ) -> Result<PartScope, Stop>
-    ensures { Yields (references.scope_of_background world.now.history.now.stack world.now.history.now.current layer background.now) result }
+    ensures { Yields (references.scope_of_background world.now.history.now.stack world.now.history.now.current layer
+        background.now) result }
 {
     match scope_of_background(world.stack(), world.current(), layer, background) {
         Ok(scope) => Ok(scope),
@@ -197,7 +203,8 @@ pub fn background_there<E: External>(
     run: &Budget,
     background: &Sought,
 ) -> Result<Referent, Stop>
-    ensures { Yields (references.background_met world.now.history.now.stack world.now.history.now.current background.now) result }
+    ensures { Yields (references.background_met world.now.history.now.stack world.now.history.now.current
+        background.now) result }
 {
     match background_met(world.stack(), world.current(), background) {
         Ok(background) => Ok(background),
@@ -231,7 +238,8 @@ pub fn background_to<E: External>(
     run: &Budget,
     background: &Sought,
 ) -> Result<Id, Stop>
-    ensures { Yields (references.first_card_found world.now.history.now.stack world.now.history.now.current background.now) result }
+    ensures { Yields (references.first_card_found world.now.history.now.stack world.now.history.now.current
+        background.now) result }
 {
     match first_card_found(world.stack(), world.current(), background) {
         Ok(card) => Ok(card),

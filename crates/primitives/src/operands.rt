@@ -38,7 +38,9 @@ fn standing<'a, E: External>(
     frame: &'a Frame,
     operand: &'a Operand<'_>,
 ) -> Result<Standing<'a>, Fault>
-    ensures { MatchResult result (λ s. operand_text world.now.history.now frame.now.variables run.now.delimiter operand.now ≡ Ok (standing_text s)) (λ e. operand_text world.now.history.now frame.now.variables run.now.delimiter operand.now ≡ Err e) }
+    ensures { MatchResult result (λ s. operand_text world.now.history.now frame.now.variables run.now.delimiter
+        operand.now ≡ Ok (standing_text s))
+        (λ e. operand_text world.now.history.now frame.now.variables run.now.delimiter operand.now ≡ Err e) }
 {
     match operand {
         Operand::Value(value) => Ok(Standing::Value(value)),
@@ -123,7 +125,8 @@ pub fn operand_part<E: External>(
     operand: &Operand<'_>,
     pieces: &Chunk,
 ) -> Result<Value, Stop>
-    ensures { Yields (and_then (operand_text world.now.history.now frame.now.variables run.now.delimiter operand.now) (λ t. Ok (read_pieces run.now.delimiter pieces.now t))) result }
+    ensures { Yields (and_then (operand_text world.now.history.now frame.now.variables run.now.delimiter operand.now)
+        (λ t. Ok (read_pieces run.now.delimiter pieces.now t))) result }
 {
     match standing(world, run, frame, operand) {
         Ok(standing) => Ok(standing.part(run.alloc(), pieces, run.delimiter())?),
@@ -150,7 +153,8 @@ pub fn operand_count<E: External>(
     operand: &Operand<'_>,
     kind: ChunkKind,
 ) -> Result<Value, Stop>
-    ensures { Yields (and_then (operand_text world.now.history.now frame.now.variables run.now.delimiter operand.now) (λ t. Ok (numeral_of (pos (count_of run.now.delimiter kind t))))) result }
+    ensures { Yields (and_then (operand_text world.now.history.now frame.now.variables run.now.delimiter operand.now)
+        (λ t. Ok (numeral_of (pos (count_of run.now.delimiter kind t))))) result }
 {
     match standing(world, run, frame, operand) {
         Ok(standing) => Ok(count_in(run, standing, kind)?),
@@ -181,7 +185,8 @@ pub fn call_of_operand<E: External>(
     function: Func,
     operand: Operand<'_>,
 ) -> Result<Value, Stop>
-    ensures { Yields (and_then (operand_text world.now.history.now frame.now.variables run.now.delimiter operand.entry) (λ t. built_in_of function (t ∷ []))) result }
+    ensures { Yields (and_then (operand_text world.now.history.now frame.now.variables run.now.delimiter operand.entry)
+        (λ t. built_in_of function (t ∷ []))) result }
 {
     match function {
         Func::Length => match standing(world, run, frame, &operand) {

@@ -8,7 +8,10 @@ ghost use Rattle.object_references.specs.Settings.{setting as change_that_sets};
 ghost use Rattle.containers.specs.Base.{base};
 ghost use Rattle.containers.specs.declared.edit.Edit.TheVariants.{Put};
 ghost use Rattle.containers.specs.Places.{read_name as read_name_of};
-ghost use Rattle.meaning.specs.Places.{Assigns, DeclaresAll, Edits, Sets, field_named_place as place_of_field_named, field_place as place_of_field, field_text as text_of_field, it_name, nth_piece as nth_piece_of, pieces_at as pieces_at_numbers, variable_place as place_of_variable};
+ghost use Rattle.meaning.specs.Places.{Assigns, DeclaresAll, Edits, Sets, field_named_place as place_of_field_named};
+ghost use Rattle.meaning.specs.Places.{field_place as place_of_field, field_text as text_of_field, it_name};
+ghost use Rattle.meaning.specs.Places.{nth_piece as nth_piece_of, pieces_at as pieces_at_numbers};
+ghost use Rattle.meaning.specs.Places.{variable_place as place_of_variable};
 ghost use Rattle.containers.specs.Writes.{Declares};
 ghost use Rattle.change_journal.specs.History.{History};
 ghost use Rattle.externals.specs.declared.external.Ask.TheVariants as ask;
@@ -181,7 +184,8 @@ pub fn edit<E: External>(
     edit: Edit,
 ) -> Result<(), Stop>
     requires open { IsSome (base world.old.history).start }
-    ensures meaning { Edits world.old.history frame.old run.now.delimiter place.entry edit result world.new.history frame.new }
+    ensures meaning { Edits world.old.history frame.old run.now.delimiter place.entry edit result world.new.history
+        frame.new }
     ensures base { base world.new.history ≡ base world.old.history }
 {
     let operand = operand_of(run, &edit);
@@ -213,7 +217,8 @@ pub fn edit_variable<E: External>(
     edit: Edit,
 ) -> Result<(), Stop>
     requires open { IsSome (base world.old.history).start }
-    ensures meaning { Edits world.old.history frame.old run.now.delimiter (place_of_variable frame.old.variables name.now) edit result world.new.history frame.new }
+    ensures meaning { Edits world.old.history frame.old run.now.delimiter
+        (place_of_variable frame.old.variables name.now) edit result world.new.history frame.new }
     ensures base { base world.new.history ≡ base world.old.history }
 {
     match edit {
@@ -233,7 +238,8 @@ fn edit_named<E: External>(
     edit: Edit,
 ) -> Result<(), Stop>
     requires open { IsSome (base world.old.history).start }
-    ensures meaning { Edits world.old.history frame.old run.now.delimiter (place_of_variable frame.old.variables name.now) edit result world.new.history frame.new }
+    ensures meaning { Edits world.old.history frame.old run.now.delimiter
+        (place_of_variable frame.old.variables name.now) edit result world.new.history frame.new }
     ensures base { base world.new.history ≡ base world.old.history }
 {
     let operand = operand_of(run, &edit);
@@ -257,7 +263,8 @@ fn edit_named<E: External>(
 /// Puts a number into a variable of the handler's own that has a value, and says whether there is one.
 #[tactic(auto, using(meaning::proofs::Rules::edits_rules))]
 fn put_kept(frame: &mut Frame, name: &Name, new: &Value) -> bool
-    ensures put { result ≡ true → (w : History) (d : ℕ) → Edits w frame.old d (place_of_variable frame.old.variables name.now) (Put Into new.now) (Ok tt) w frame.new }
+    ensures put { result ≡ true → (w : History) (d : ℕ)
+        → Edits w frame.old d (place_of_variable frame.old.variables name.now) (Put Into new.now) (Ok tt) w frame.new }
     ensures not { result ≡ false → frame.new ≡ frame.old }
 {
     match new.kept_number() {
@@ -276,7 +283,8 @@ fn put_into<E: External>(
     new: Value,
 ) -> Result<(), Stop>
     requires open { IsSome (base world.old.history).start }
-    ensures meaning { Edits world.old.history frame.old run.now.delimiter (place_of_variable frame.old.variables name.now) (Put Into new) result world.new.history frame.new }
+    ensures meaning { Edits world.old.history frame.old run.now.delimiter
+        (place_of_variable frame.old.variables name.now) (Put Into new) result world.new.history frame.new }
     ensures base { base world.new.history ≡ base world.old.history }
 {
     if put_kept(frame, name, &new) {
@@ -302,7 +310,8 @@ pub fn put_into_it<E: External>(
     new: Value,
 ) -> Result<(), Stop>
     requires open { IsSome (base world.old.history).start }
-    ensures meaning { Edits world.old.history frame.old run.now.delimiter (place_of_variable frame.old.variables it_name) (Put Into new) result world.new.history frame.new }
+    ensures meaning { Edits world.old.history frame.old run.now.delimiter
+        (place_of_variable frame.old.variables it_name) (Put Into new) result world.new.history frame.new }
     ensures base { base world.new.history ≡ base world.old.history }
 {
     let it = it(run.alloc())?;
@@ -321,7 +330,8 @@ pub fn assign<E: External>(
 ) -> Result<(), Stop>
     requires open { IsSome (base world.old.history).start }
     requires turns { is_over turn.now ≡ false }
-    ensures meaning { Assigns world.old.history frame.old run.now.delimiter (option_copied variable.entry) (numeral_of turn.now.at) result world.new.history frame.new }
+    ensures meaning { Assigns world.old.history frame.old run.now.delimiter (option_copied variable.entry)
+        (numeral_of turn.now.at) result world.new.history frame.new }
     ensures base { base world.new.history ≡ base world.old.history }
 {
     match variable {
@@ -373,7 +383,8 @@ pub fn declare_globals<E: External>(
     names: &[Name],
 ) -> Result<How, Stop>
     requires open { IsSome (base world.old.history).start }
-    ensures meaning { (d : ℕ) → Form world.old.history run.now frame.old d (stm.global names.now) result world.new.history run.now frame.new }
+    ensures meaning { (d : ℕ) → Form world.old.history run.now frame.old d (stm.global names.now) result
+        world.new.history run.now frame.new }
     ensures base { base world.new.history ≡ base world.old.history }
 {
     declare_all(world, run, frame, names)?;
@@ -432,7 +443,8 @@ pub fn set_global<E: External>(
     value: Text,
 ) -> Result<Input, Stop>
     requires open { IsSome (base world.old.history).start }
-    ensures meaning { CallsBack world.old.history run.now nested (ask.SetGlobal note name value) result world.new.history run.now }
+    ensures meaning { CallsBack world.old.history run.now nested (ask.SetGlobal note name value) result
+        world.new.history run.now }
     ensures base { base world.new.history ≡ base world.old.history }
 {
     if !is_name(name.as_slice()) {
@@ -479,7 +491,8 @@ pub fn set_field<E: External>(
     value: Text,
 ) -> Result<Input, Stop>
     requires open { IsSome (base world.old.history).start }
-    ensures meaning { CallsBack world.old.history run.now nested (ask.SetFieldByName note on_card name.now value) result world.new.history run.now }
+    ensures meaning { CallsBack world.old.history run.now nested (ask.SetFieldByName note on_card name.now value) result
+        world.new.history run.now }
     ensures base { base world.new.history ≡ base world.old.history }
 {
     let mut frame = Frame::typed(run.alloc(), world.current());

@@ -1,6 +1,7 @@
 //! Values and parsing. A call that computes or parses may also be out of memory, which is `Stop::Memory`.
 
-ghost use Rattle.std.specs.Prelude.{◌≡◌, ℕ, ℤ, pos, [], ◌∷◌, List, Ok, Err, IfOk, IfErr, IfSome, OnOk, OnErr, length, ◌≤◌};
+ghost use Rattle.std.specs.Prelude.{◌≡◌, ℕ, ℤ, pos, [], ◌∷◌, List, Ok, Err, IfOk, IfErr, IfSome, OnOk, OnErr, length};
+ghost use Rattle.std.specs.Prelude.{◌≤◌};
 ghost use Rattle.ht_values.specs.Functions.{built_in as built_in_of};
 ghost use Rattle.ht_values.specs.Number.{number_of as number_of_text};
 ghost use Rattle.ht_values.specs.Operators.{binary as binary_of, unary as unary_of, truth_of as truth_of_text};
@@ -220,7 +221,8 @@ pub fn empty(run: &Budget) -> Value
 #[tactic(auto, using(meaning::proofs::Rules::val_there_is_rules))]
 #[inline(never)]
 pub fn there(run: &Budget, is_no: bool, met: Result<Referent, Stop>) -> Result<Value, Stop>
-    ensures { (w w1 : History) (r r1 : RunState) (f : Frame) (d : ℕ) (sought : tree.Ref) → Meets w r f d sought met w1 r1 → Val w r f d (tree.there_is is_no sought) result w1 r1 }
+    ensures { (w w1 : History) (r r1 : RunState) (f : Frame) (d : ℕ) (sought : tree.Ref)
+        → Meets w r f d sought met w1 r1 → Val w r f d (tree.there_is is_no sought) result w1 r1 }
 {
     match met {
         Ok(_) => Ok(Value::of_truth(!is_no)),

@@ -12,21 +12,32 @@ use Rattle.interp.proofs.Operands.{computed, counted, nth_taken, taken_part}
 use Rattle.interp.proofs.+run.Goals as goal
 
 pub conversation::converse-returns-in-Fail-clause-meaning : goal.conversation::converse-returns-in-Fail-clause-meaning
-conversation::converse-returns-in-Fail-clause-meaning g t c = c.loop-next.invariant.rest _ _ _ (Talks.talk_fails c.in_ok-step.ensures.meaning c.in_ok-ask.ensures.ok c.in-Fail.is)
+conversation::converse-returns-in-Fail-clause-meaning g t c = c.loop-next.invariant.rest _ _ _
+    (Talks.talk_fails c.in_ok-step.ensures.meaning c.in_ok-ask.ensures.ok c.in-Fail.is)
 
 pub conversation::converse-returns-in_err-next-in_default : goal.conversation::converse-returns-in_err-next-in_default
 conversation::converse-returns-in_err-next-in_default g t c =
-    let p = err_from_is_err_and c.from_residual-in_err-next-in_default.result c.from_residual-in_err-next-in_default.ensures.1 in
+    let p = err_from_is_err_and c.from_residual-in_err-next-in_default.result
+    c.from_residual-in_err-next-in_default.ensures.1 in
     record {
-      meaning = rw (p.1, p.2) (c.loop-next.invariant.rest _ _ _ (Talks.talk_stops c.in_ok-step.ensures.meaning c.in_ok-ask.ensures.ok c.in_err-next-in_default.ensures.meaning));
-      keeps = (c.call_back.ensures.keeps.0 ∙ (c.take_turn.ensures.base ∙ c.loop-next.invariant.base), omega (arith, c.call_back.ensures.keeps.1, c.step.ensures.fewer, c.loop-next.invariant.fewer));
+      meaning = rw (p.1, p.2) (c.loop-next.invariant.rest _ _ _
+          (Talks.talk_stops c.in_ok-step.ensures.meaning c.in_ok-ask.ensures.ok
+          c.in_err-next-in_default.ensures.meaning));
+      keeps = (
+        c.call_back.ensures.keeps.0
+            ∙ (c.take_turn.ensures.base ∙ c.loop-next.invariant.base),
+        omega
+            (arith, c.call_back.ensures.keeps.1, c.step.ensures.fewer, c.loop-next.invariant.fewer),
+      );
     }
 
 pub conversation::converse-loop-next-preserved : goal.conversation::converse-loop-next-preserved
 conversation::converse-loop-next-preserved g t c = record {
   fewer = omega (arith, c.call_back.ensures.keeps.1, c.step.ensures.fewer, c.loop-next.invariant.fewer);
   base = c.call_back.ensures.keeps.0 ∙ (c.take_turn.ensures.base ∙ c.loop-next.invariant.base);
-  rest = λ o w r h. c.loop-next.invariant.rest _ _ _ (Talks.talk_goes_on c.in_ok-step.ensures.meaning c.in_ok-ask.ensures.ok c.in_ok-next-in_default.ensures.meaning h);
+  rest = λ o w r h. c.loop-next.invariant.rest _ _ _
+      (Talks.talk_goes_on c.in_ok-step.ensures.meaning c.in_ok-ask.ensures.ok c.in_ok-next-in_default.ensures.meaning
+      h);
 }
 
 pub expr::arguments-eval-requires : goal.expr::arguments-eval-requires
@@ -37,27 +48,37 @@ expr::arguments-eval-requires g t c κs within =
 pub expr::arguments-returns-in_err-value-clause-meaning : goal.expr::arguments-returns-in_err-value-clause-meaning
 expr::arguments-returns-in_err-value-clause-meaning g t c =
     let p = err_from_is_err_and c.from_residual.result c.from_residual.ensures.1 in
-    rw (p.1, p.2) (c.loop-e.invariant.rest _ _ _ (Vals.vals_stop (cut_exprs c.args.list.now c.loop-e.e-index c.e-item.result c.loop-e-test.true c.e-item.is) c.in_err-value.ensures.meaning))
+    rw (p.1, p.2) (c.loop-e.invariant.rest _ _ _
+    (Vals.vals_stop (cut_exprs c.args.list.now c.loop-e.e-index c.e-item.result c.loop-e-test.true c.e-item.is)
+    c.in_err-value.ensures.meaning))
 
 pub expr::arguments-loop-e-preserved : goal.expr::arguments-loop-e-preserved
 expr::arguments-loop-e-preserved g t c = record {
   fewer = search rules;
   base = search rules;
-  rest = λ o w r h. c.loop-e.invariant.rest _ _ _ (Vals.vals_more (cut_exprs c.args.list.now c.loop-e.e-index c.e-item.result c.loop-e-test.true c.e-item.is) c.in_ok-value.ensures.meaning (rw c.in_ok-push.ensures at h));
+  rest = λ o w r h. c.loop-e.invariant.rest _ _ _
+      (Vals.vals_more (cut_exprs c.args.list.now c.loop-e.e-index c.e-item.result c.loop-e-test.true c.e-item.is)
+      c.in_ok-value.ensures.meaning (rw c.in_ok-push.ensures at h));
 }
 
 pub expr::arguments-returns-clause-meaning : goal.expr::arguments-returns-clause-meaning
-expr::arguments-returns-clause-meaning g t c = c.loop-e.invariant.rest _ _ _ (Vals.vals_done (no_exprs c.args.list.now c.loop-e.e-index c.loop-e-test.false))
+expr::arguments-returns-clause-meaning g t c =
+    c.loop-e.invariant.rest _ _ _ (Vals.vals_done (no_exprs c.args.list.now c.loop-e.e-index c.loop-e-test.false))
 
 pub message::along-returns-in-Err-clause-meaning : goal.message::along-returns-in-Err-clause-meaning
 message::along-returns-in-Err-clause-meaning g t c =
     let q = ap stmts_of c.deref.ensures.value ∙ ap lines_of c.handler-in-Some.ensures in
-    rw c.leaving.ensures (c.loop-world.invariant.rest _ _ _ (Along.along_stops {fd = c.in-Some.found} (search rules) (first_of (search rules, grind (arith, common_steps))) c.in_ok-inner-in-Some.ensures (rw (c.in-Err.is, q, c.find.ensures.world) at c.run_block-ended.ensures.meaning)))
+    rw c.leaving.ensures (c.loop-world.invariant.rest _ _ _
+    (Along.along_stops {fd = c.in-Some.found} (search rules) (first_of (search rules, grind (arith, common_steps)))
+    c.in_ok-inner-in-Some.ensures (rw (c.in-Err.is, q, c.find.ensures.world) at c.run_block-ended.ensures.meaning)))
 
 pub message::along-returns-in-Some-outcome-clause-meaning : goal.message::along-returns-in-Some-outcome-clause-meaning
 message::along-returns-in-Some-outcome-clause-meaning g t c =
     let q = ap stmts_of c.deref.ensures.value ∙ ap lines_of c.handler-in-Some.ensures in
-    c.loop-world.invariant.rest _ _ _ (Along.along_ends {fd = c.in-Some.found} (search rules) (first_of (search rules, grind (arith, common_steps))) c.in_ok-inner-in-Some.ensures (rw (c.in-Ok.is, q, c.find.ensures.world) at c.run_block-ended.ensures.meaning) c.in-Some-outcome.ensures.ended)
+    c.loop-world.invariant.rest _ _ _
+    (Along.along_ends {fd = c.in-Some.found} (search rules) (first_of (search rules, grind (arith, common_steps)))
+    c.in_ok-inner-in-Some.ensures (rw (c.in-Ok.is, q, c.find.ensures.world) at c.run_block-ended.ensures.meaning)
+    c.in-Some-outcome.ensures.ended)
 
 pub message::along-loop-world-preserved : goal.message::along-loop-world-preserved
 message::along-loop-world-preserved g t c =
@@ -67,13 +88,20 @@ message::along-loop-world-preserved g t c =
     record {
       fewer = omega (arith, c.outcome.ensures.left, c.run_block-ended.ensures.keeps.1, c.loop-world.invariant.fewer);
       base = (rw (c.find.ensures.world) at c.run_block-ended.ensures.keeps.0) ∙ c.loop-world.invariant.base;
-      rest = λ o w r h. c.loop-world.invariant.rest _ _ _ (Along.along_passes {fd = c.in-Some.found} (search rules) (first_of (search rules, grind (arith, common_steps))) c.in_ok-inner-in-Some.ensures (rw (c.in-Ok.is, q, passes, c.find.ensures.world) at c.run_block-ended.ensures.meaning) (rw (c.stack.ensures.content, c.current.ensures.value, c.object.ensures) at c.path_after-rest.ensures) (rw same at h));
+      rest = λ o w r h. c.loop-world.invariant.rest _ _ _
+          (Along.along_passes {fd = c.in-Some.found} (search rules)
+          (first_of (search rules, grind (arith, common_steps))) c.in_ok-inner-in-Some.ensures
+          (rw (c.in-Ok.is, q, passes, c.find.ensures.world) at c.run_block-ended.ensures.meaning)
+          (rw (c.stack.ensures.content, c.current.ensures.value, c.object.ensures) at c.path_after-rest.ensures)
+          (rw same at h));
     }
 
 pub pieces::resolve-returns-in_err-pieces-in-Chunk-clause-meaning : goal.pieces::resolve-returns-in_err-pieces-in-Chunk-clause-meaning
 pieces::resolve-returns-in_err-pieces-in-Chunk-clause-meaning g t c =
-    let p = err_from_is_err_and c.from_residual-in_err-pieces-in-Chunk.result c.from_residual-in_err-pieces-in-Chunk.ensures.1 in
-    rw (p.1, p.2) (Resolves.place_chunk_stops (sym c.kind.ensures ∙ ap container_of c.in-Chunk.is) c.in_err-pieces-in-Chunk.ensures.meaning)
+    let p = err_from_is_err_and c.from_residual-in_err-pieces-in-Chunk.result
+    c.from_residual-in_err-pieces-in-Chunk.ensures.1 in
+    rw (p.1, p.2) (Resolves.place_chunk_stops (sym c.kind.ensures ∙ ap container_of c.in-Chunk.is)
+    c.in_err-pieces-in-Chunk.ensures.meaning)
 
 pub stmt::run_block-run_stmt-requires : goal.stmt::run_block-run_stmt-requires
 stmt::run_block-run_stmt-requires g t c κs within =
@@ -82,15 +110,24 @@ stmt::run_block-run_stmt-requires g t c κs within =
 
 pub stmt::run_block-returns-in-Err-clause-meaning : goal.stmt::run_block-returns-in-Err-clause-meaning
 stmt::run_block-returns-in-Err-clause-meaning g t c =
-    rw c.stopping.ensures (c.loop-stmt.invariant.rest _ _ _ _ (Block.block_no_step (cut_stmts c.args.lines.now c.loop-stmt.stmt-index c.stmt-item.result c.loop-stmt-test.true c.stmt-item.is) (rw c.in-Err.is at c.step.ensures.meaning)))
+    rw c.stopping.ensures (c.loop-stmt.invariant.rest _ _ _ _
+    (Block.block_no_step (cut_stmts c.args.lines.now c.loop-stmt.stmt-index c.stmt-item.result c.loop-stmt-test.true
+    c.stmt-item.is) (rw c.in-Err.is at c.step.ensures.meaning)))
 
 pub stmt::run_block-returns-in-Err-run_stmt-clause-meaning : goal.stmt::run_block-returns-in-Err-run_stmt-clause-meaning
 stmt::run_block-returns-in-Err-run_stmt-clause-meaning g t c =
-    rw c.stopping-in-Err-run_stmt.ensures (c.loop-stmt.invariant.rest _ _ _ _ (Block.block_stops (cut_stmts c.args.lines.now c.loop-stmt.stmt-index c.stmt-item.result c.loop-stmt-test.true c.stmt-item.is) (rw c.in-Ok.is at c.step.ensures.meaning) (rw c.in-Err-run_stmt.is at c.run_stmt.ensures.meaning)))
+    rw c.stopping-in-Err-run_stmt.ensures
+    (c.loop-stmt.invariant.rest _ _ _ _
+    (Block.block_stops (cut_stmts c.args.lines.now c.loop-stmt.stmt-index c.stmt-item.result c.loop-stmt-test.true
+    c.stmt-item.is) (rw c.in-Ok.is at c.step.ensures.meaning)
+    (rw c.in-Err-run_stmt.is at c.run_stmt.ensures.meaning)))
 
 pub stmt::run_block-returns-in_default : goal.stmt::run_block-returns-in_default
 stmt::run_block-returns-in_default g t c = record {
-  meaning = c.loop-stmt.invariant.rest _ _ _ _ (Block.block_leaves (cut_stmts c.args.lines.now c.loop-stmt.stmt-index c.stmt-item.result c.loop-stmt-test.true c.stmt-item.is) (rw c.in-Ok.is at c.step.ensures.meaning) (rw c.in-Ok-run_stmt.is at c.run_stmt.ensures.meaning) c.in_default.not-Next);
+  meaning = c.loop-stmt.invariant.rest _ _ _ _
+      (Block.block_leaves (cut_stmts c.args.lines.now c.loop-stmt.stmt-index c.stmt-item.result c.loop-stmt-test.true
+      c.stmt-item.is) (rw c.in-Ok.is at c.step.ensures.meaning) (rw c.in-Ok-run_stmt.is at c.run_stmt.ensures.meaning)
+      c.in_default.not-Next);
   passes = search rules;
   keeps = search rules;
 }
@@ -99,35 +136,48 @@ pub stmt::run_block-loop-stmt-preserved : goal.stmt::run_block-loop-stmt-preserv
 stmt::run_block-loop-stmt-preserved g t c = record {
   fewer = search rules;
   base = search rules;
-  rest = λ o w r f h. c.loop-stmt.invariant.rest _ _ _ _ (Block.block_goes_on (cut_stmts c.args.lines.now c.loop-stmt.stmt-index c.stmt-item.result c.loop-stmt-test.true c.stmt-item.is) (rw c.in-Ok.is at c.step.ensures.meaning) (rw (c.in-Ok-run_stmt.is, c.in-Next.is) at c.run_stmt.ensures.meaning) h);
+  rest = λ o w r f h. c.loop-stmt.invariant.rest _ _ _ _
+      (Block.block_goes_on (cut_stmts c.args.lines.now c.loop-stmt.stmt-index c.stmt-item.result c.loop-stmt-test.true
+      c.stmt-item.is) (rw c.in-Ok.is at c.step.ensures.meaning)
+      (rw (c.in-Ok-run_stmt.is, c.in-Next.is) at c.run_stmt.ensures.meaning) h);
 }
 
 pub stmt::run_block-returns-clause-meaning : goal.stmt::run_block-returns-clause-meaning
-stmt::run_block-returns-clause-meaning g t c = c.loop-stmt.invariant.rest _ _ _ _ (Block.block_end (no_stmts c.args.lines.now c.loop-stmt.stmt-index c.loop-stmt-test.false))
+stmt::run_block-returns-clause-meaning g t c = c.loop-stmt.invariant.rest _ _ _ _
+    (Block.block_end (no_stmts c.args.lines.now c.loop-stmt.stmt-index c.loop-stmt-test.false))
 
 pub stmt::when-returns-then-branch-clause-meaning : goal.stmt::when-returns-then-branch-clause-meaning
-stmt::when-returns-then-branch-clause-meaning g t c = Form.if_true refl c.in_ok-truth_value.ensures.meaning c.if-branch.true c.run_block.ensures.meaning
+stmt::when-returns-then-branch-clause-meaning g t c =
+    Form.if_true refl c.in_ok-truth_value.ensures.meaning c.if-branch.true c.run_block.ensures.meaning
 
 pub stmt::when-returns-else-branch-clause-meaning : goal.stmt::when-returns-else-branch-clause-meaning
-stmt::when-returns-else-branch-clause-meaning g t c = Form.if_false refl c.in_ok-truth_value.ensures.meaning c.if-branch.false c.run_block-else-branch.ensures.meaning
+stmt::when-returns-else-branch-clause-meaning g t c =
+    Form.if_false refl c.in_ok-truth_value.ensures.meaning c.if-branch.false c.run_block-else-branch.ensures.meaning
 
 pub system::systems-returns-in_err-system-clause-meaning : goal.system::systems-returns-in_err-system-clause-meaning
 system::systems-returns-in_err-system-clause-meaning g t c =
     let p = err_from_is_err_and c.from_residual.result c.from_residual.ensures.1 in
-    rw (p.1, p.2) (c.loop-message.invariant.rest _ _ _ (Systems.systems_stop (cut_at c.args.messages.now c.loop-message.message-index _ c.loop-message-test.true) c.current.ensures.value c.in_err-system.ensures.meaning))
+    rw (p.1, p.2) (c.loop-message.invariant.rest _ _ _
+    (Systems.systems_stop (cut_at c.args.messages.now c.loop-message.message-index _ c.loop-message-test.true)
+    c.current.ensures.value c.in_err-system.ensures.meaning))
 
 pub system::systems-loop-message-preserved : goal.system::systems-loop-message-preserved
 system::systems-loop-message-preserved g t c = record {
   fewer = omega (arith, c.system.ensures.keeps.1, c.loop-message.invariant.fewer);
   base = c.system.ensures.keeps.0 ∙ c.loop-message.invariant.base;
-  rest = λ o w r h. c.loop-message.invariant.rest _ _ _ (Systems.systems_more (cut_at c.args.messages.now c.loop-message.message-index _ c.loop-message-test.true) c.current.ensures.value c.in_ok-system.ensures.meaning h);
+  rest = λ o w r h. c.loop-message.invariant.rest _ _ _
+      (Systems.systems_more (cut_at c.args.messages.now c.loop-message.message-index _ c.loop-message-test.true)
+      c.current.ensures.value c.in_ok-system.ensures.meaning h);
 }
 
 pub system::systems-returns-clause-meaning : goal.system::systems-returns-clause-meaning
-system::systems-returns-clause-meaning g t c = rw c.empty.ensures (c.loop-message.invariant.rest _ _ _ (Systems.systems_done (drop_of_length-le c.args.messages.now c.loop-message-test.false)))
+system::systems-returns-clause-meaning g t c = rw c.empty.ensures
+    (c.loop-message.invariant.rest _ _ _
+    (Systems.systems_done (drop_of_length-le c.args.messages.now c.loop-message-test.false)))
 
 pub expr::count_of_pieces-returns-clause-meaning : goal.expr::count_of_pieces-returns-clause-meaning
-expr::count_of_pieces-returns-clause-meaning g t c = counted c.in_ok-text.text c.in_ok-text.ensures.meaning refl c.operand_count.ensures
+expr::count_of_pieces-returns-clause-meaning g t c =
+    counted c.in_ok-text.text c.in_ok-text.ensures.meaning refl c.operand_count.ensures
 
 pub expr::lent_function-returns-in-Some-clause-meaning : goal.expr::lent_function-returns-in-Some-clause-meaning
 expr::lent_function-returns-in-Some-clause-meaning g t c =
@@ -135,10 +185,12 @@ expr::lent_function-returns-in-Some-clause-meaning g t c =
     computed c.in_ok-x.x c.in_ok-x.ensures.meaning named c.call_of_operand.ensures
 
 pub expr::nth_piece_of-returns-clause-meaning : goal.expr::nth_piece_of-returns-clause-meaning
-expr::nth_piece_of-returns-clause-meaning g t c = nth_taken c.in_ok-text.text c.in_ok-text.ensures.meaning c.nth_piece.ensures c.operand_part.ensures
+expr::nth_piece_of-returns-clause-meaning g t c =
+    nth_taken c.in_ok-text.text c.in_ok-text.ensures.meaning c.nth_piece.ensures c.operand_part.ensures
 
 pub expr::lent_part-returns-clause-meaning : goal.expr::lent_part-returns-clause-meaning
 expr::lent_part-returns-clause-meaning g t c =
     let from : SFits w64 c.args.from = search rules in
     let to : SFits w64 c.args.to = search rules in
-    rw (to_z-of_z w64 c.args.from from, to_z-of_z w64 c.args.to to) at (taken_part c.in_ok-text.text c.in_ok-text.ensures.meaning c.pieces_at.ensures c.operand_part.ensures)
+    rw (to_z-of_z w64 c.args.from from, to_z-of_z w64 c.args.to to) at
+    (taken_part c.in_ok-text.text c.in_ok-text.ensures.meaning c.pieces_at.ensures c.operand_part.ensures)

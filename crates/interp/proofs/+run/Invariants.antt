@@ -1,7 +1,8 @@
 -- What falls in each call of the cycle, and what its loops keep. A message, a turn of an external and `value` take a step;
 -- `do` and what they run goes one level deeper; all else goes into a part of a tree.
 use Rattle.std.proofs.Common.{◌≡◌, ◌≤◌, ℕ, List, drop, ◌+◌, ◌-◌, ◌*◌, max, Result, option_copied}
-use Rattle.ht_grammar.specs.Depth.{depth, depths, chunk_depth, container_depth, destination_depth, owner_depth, part_depth, ref_depth, selector_depth, stmt_depth, stmts_depth}
+use Rattle.ht_grammar.specs.Depth.{depth, depths, chunk_depth, container_depth, destination_depth, owner_depth}
+use Rattle.ht_grammar.specs.Depth.{part_depth, ref_depth, selector_depth, stmt_depth, stmts_depth}
 use Rattle.ht_tree.specs.View.{chunk_of, exprs_of, owner_of, part_of, ref_of, selector_of}
 use Rattle.ht_tree.specs.StatementView.{destination_of, stmts_of}
 use Rattle.change_journal.specs.History.{History}
@@ -21,7 +22,8 @@ abbrev pub decreases-expr::eval_text : goal.decreases-expr::eval_text
 decreases-expr::eval_text g l = 1000000 * l.run.now.left + 4000 * (100 - l.nested) + 8 * depth l.e.now + 103
 
 abbrev pub decreases-expr::binary : goal.decreases-expr::binary
-decreases-expr::binary g l = 1000000 * l.run.now.left + 4000 * (100 - l.nested) + 8 * max (depth l.left.now) (depth l.right.now) + 103
+decreases-expr::binary g l =
+    1000000 * l.run.now.left + 4000 * (100 - l.nested) + 8 * max (depth l.left.now) (depth l.right.now) + 103
 
 abbrev pub decreases-expr::unary : goal.decreases-expr::unary
 decreases-expr::unary g l = 1000000 * l.run.now.left + 4000 * (100 - l.nested) + 8 * depth l.operand.now + 103
@@ -30,19 +32,23 @@ abbrev pub decreases-expr::meet_operand : goal.decreases-expr::meet_operand
 decreases-expr::meet_operand g l = 1000000 * l.run.now.left + 4000 * (100 - l.nested) + 8 * depth l.e.now + 103
 
 abbrev pub decreases-expr::there_is : goal.decreases-expr::there_is
-decreases-expr::there_is g l = 1000000 * l.run.now.left + 4000 * (100 - l.nested) + 8 * ref_depth (ref_of l.reference.now) + 103
+decreases-expr::there_is g l =
+    1000000 * l.run.now.left + 4000 * (100 - l.nested) + 8 * ref_depth (ref_of l.reference.now) + 103
 
 abbrev pub decreases-expr::field_of : goal.decreases-expr::field_of
-decreases-expr::field_of g l = 1000000 * l.run.now.left + 4000 * (100 - l.nested) + 8 * part_depth (part_of l.part.now) + 101
+decreases-expr::field_of g l =
+    1000000 * l.run.now.left + 4000 * (100 - l.nested) + 8 * part_depth (part_of l.part.now) + 101
 
 abbrev pub decreases-expr::property_of : goal.decreases-expr::property_of
-decreases-expr::property_of g l = 1000000 * l.run.now.left + 4000 * (100 - l.nested) + 8 * ref_depth (ref_of l.reference.now) + 103
+decreases-expr::property_of g l =
+    1000000 * l.run.now.left + 4000 * (100 - l.nested) + 8 * ref_depth (ref_of l.reference.now) + 103
 
 abbrev pub decreases-expr::count_of_pieces : goal.decreases-expr::count_of_pieces
 decreases-expr::count_of_pieces g l = 1000000 * l.run.now.left + 4000 * (100 - l.nested) + 8 * depth l.text.now + 104
 
 abbrev pub decreases-expr::number_of_object : goal.decreases-expr::number_of_object
-decreases-expr::number_of_object g l = 1000000 * l.run.now.left + 4000 * (100 - l.nested) + 8 * ref_depth (ref_of l.reference.now) + 104
+decreases-expr::number_of_object g l =
+    1000000 * l.run.now.left + 4000 * (100 - l.nested) + 8 * ref_depth (ref_of l.reference.now) + 104
 
 abbrev pub decreases-expr::lent_function : goal.decreases-expr::lent_function
 decreases-expr::lent_function g l = 1000000 * l.run.now.left + 4000 * (100 - l.nested) + 8 * depth l.operand.now + 104
@@ -51,10 +57,12 @@ abbrev pub decreases-expr::function_met : goal.decreases-expr::function_met
 decreases-expr::function_met g l = 1000000 * l.run.now.left + 4000 * (100 - l.nested) + 2
 
 abbrev pub decreases-expr::piece_of : goal.decreases-expr::piece_of
-decreases-expr::piece_of g l = 1000000 * l.run.now.left + 4000 * (100 - l.nested) + 8 * max (depth l.index.now) (depth l.text.now) + 106
+decreases-expr::piece_of g l =
+    1000000 * l.run.now.left + 4000 * (100 - l.nested) + 8 * max (depth l.index.now) (depth l.text.now) + 106
 
 abbrev pub decreases-expr::pieces_of : goal.decreases-expr::pieces_of
-decreases-expr::pieces_of g l = 1000000 * l.run.now.left + 4000 * (100 - l.nested) + 8 * max (max (depth l.first.now) (depth l.last.now)) (depth l.text.now) + 106
+decreases-expr::pieces_of g l = 1000000 * l.run.now.left + 4000 * (100 - l.nested) + 8 * max
+    (max (depth l.first.now) (depth l.last.now)) (depth l.text.now) + 106
 
 abbrev pub decreases-expr::nth_piece_of : goal.decreases-expr::nth_piece_of
 decreases-expr::nth_piece_of g l = 1000000 * l.run.now.left + 4000 * (100 - l.nested) + 8 * depth l.text.now + 106
@@ -66,7 +74,8 @@ abbrev pub decreases-expr::lent_part : goal.decreases-expr::lent_part
 decreases-expr::lent_part g l = 1000000 * l.run.now.left + 4000 * (100 - l.nested) + 8 * depth l.text.now + 104
 
 abbrev pub decreases-pieces::pieces : goal.decreases-pieces::pieces
-decreases-pieces::pieces g l = 1000000 * l.run.now.left + 4000 * (100 - l.nested) + 8 * chunk_depth (chunk_of l.chunk.now) + 105
+decreases-pieces::pieces g l =
+    1000000 * l.run.now.left + 4000 * (100 - l.nested) + 8 * chunk_depth (chunk_of l.chunk.now) + 105
 
 abbrev pub decreases-expr::number_value : goal.decreases-expr::number_value
 decreases-expr::number_value g l = 1000000 * l.run.now.left + 4000 * (100 - l.nested) + 8 * depth l.e.now + 104
@@ -75,10 +84,12 @@ abbrev pub decreases-expr::plain_number : goal.decreases-expr::plain_number
 decreases-expr::plain_number g l = 1000000 * l.run.now.left + 4000 * (100 - l.nested) + 8 * depth l.e.now + 103
 
 abbrev pub decreases-expr::piece_number : goal.decreases-expr::piece_number
-decreases-expr::piece_number g l = 1000000 * l.run.now.left + 4000 * (100 - l.nested) + 8 * max (depth l.index.now) (depth l.text.now) + 107
+decreases-expr::piece_number g l =
+    1000000 * l.run.now.left + 4000 * (100 - l.nested) + 8 * max (depth l.index.now) (depth l.text.now) + 107
 
 abbrev pub decreases-expr::pieces_number : goal.decreases-expr::pieces_number
-decreases-expr::pieces_number g l = 1000000 * l.run.now.left + 4000 * (100 - l.nested) + 8 * max (max (depth l.first.now) (depth l.last.now)) (depth l.text.now) + 107
+decreases-expr::pieces_number g l = 1000000 * l.run.now.left + 4000 * (100 - l.nested) + 8 * max
+    (max (depth l.first.now) (depth l.last.now)) (depth l.text.now) + 107
 
 abbrev pub decreases-expr::part_number : goal.decreases-expr::part_number
 decreases-expr::part_number g l = 1000000 * l.run.now.left + 4000 * (100 - l.nested) + 8 * depth l.text.now + 106
@@ -87,25 +98,32 @@ abbrev pub decreases-expr::truth_value : goal.decreases-expr::truth_value
 decreases-expr::truth_value g l = 1000000 * l.run.now.left + 4000 * (100 - l.nested) + 8 * depth l.e.now + 103
 
 abbrev pub decreases-reference::meet_part : goal.decreases-reference::meet_part
-decreases-reference::meet_part g l = 1000000 * l.run.now.left + 4000 * (100 - l.nested) + 8 * part_depth (part_of l.part.now) + 100
+decreases-reference::meet_part g l =
+    1000000 * l.run.now.left + 4000 * (100 - l.nested) + 8 * part_depth (part_of l.part.now) + 100
 
 abbrev pub decreases-reference::meet : goal.decreases-reference::meet
-decreases-reference::meet g l = 1000000 * l.run.now.left + 4000 * (100 - l.nested) + 8 * ref_depth (ref_of l.reference.now) + 102
+decreases-reference::meet g l =
+    1000000 * l.run.now.left + 4000 * (100 - l.nested) + 8 * ref_depth (ref_of l.reference.now) + 102
 
 abbrev pub decreases-reference::scope : goal.decreases-reference::scope
-decreases-reference::scope g l = 1000000 * l.run.now.left + 4000 * (100 - l.nested) + 8 * owner_depth (owner_of l.owner.now) + 100
+decreases-reference::scope g l =
+    1000000 * l.run.now.left + 4000 * (100 - l.nested) + 8 * owner_depth (owner_of l.owner.now) + 100
 
 abbrev pub decreases-reference::plain_part : goal.decreases-reference::plain_part
-decreases-reference::plain_part g l = 1000000 * l.run.now.left + 4000 * (100 - l.nested) + 8 * owner_depth (owner_of l.owner.now) + 101
+decreases-reference::plain_part g l =
+    1000000 * l.run.now.left + 4000 * (100 - l.nested) + 8 * owner_depth (owner_of l.owner.now) + 101
 
 abbrev pub decreases-reference::nth_part : goal.decreases-reference::nth_part
-decreases-reference::nth_part g l = 1000000 * l.run.now.left + 4000 * (100 - l.nested) + 8 * owner_depth (owner_of l.owner.now) + 101
+decreases-reference::nth_part g l =
+    1000000 * l.run.now.left + 4000 * (100 - l.nested) + 8 * owner_depth (owner_of l.owner.now) + 101
 
 abbrev pub decreases-reference::seek : goal.decreases-reference::seek
-decreases-reference::seek g l = 1000000 * l.run.now.left + 4000 * (100 - l.nested) + 8 * selector_depth (selector_of l.selector.now) + 105
+decreases-reference::seek g l =
+    1000000 * l.run.now.left + 4000 * (100 - l.nested) + 8 * selector_depth (selector_of l.selector.now) + 105
 
 abbrev pub decreases-reference::lead : goal.decreases-reference::lead
-decreases-reference::lead g l = 1000000 * l.run.now.left + 4000 * (100 - l.nested) + 8 * destination_depth (destination_of l.destination.now) + 100
+decreases-reference::lead g l =
+    1000000 * l.run.now.left + 4000 * (100 - l.nested) + 8 * destination_depth (destination_of l.destination.now) + 100
 
 abbrev pub decreases-expr::function_of : goal.decreases-expr::function_of
 decreases-expr::function_of g l = 1000000 * l.run.now.left + 4000 * (100 - l.nested) + 8 * depth l.operand.now + 105
@@ -114,10 +132,12 @@ abbrev pub decreases-expr::text_value : goal.decreases-expr::text_value
 decreases-expr::text_value g l = 1000000 * l.run.now.left + 4000 * (100 - l.nested) + 1
 
 abbrev pub decreases-message::calls : goal.decreases-message::calls
-decreases-message::calls g l = 1000000 * l.run.now.left + 4000 * (100 - l.nested) + 8 * depths (exprs_of l.list.now.items.items) + 105
+decreases-message::calls g l =
+    1000000 * l.run.now.left + 4000 * (100 - l.nested) + 8 * depths (exprs_of l.list.now.items.items) + 105
 
 abbrev pub decreases-expr::arguments : goal.decreases-expr::arguments
-decreases-expr::arguments g l = 1000000 * l.run.now.left + 4000 * (100 - l.nested) + 8 * depths (exprs_of l.list.now) + 103
+decreases-expr::arguments g l =
+    1000000 * l.run.now.left + 4000 * (100 - l.nested) + 8 * depths (exprs_of l.list.now) + 103
 
 abbrev pub decreases-message::send : goal.decreases-message::send
 decreases-message::send g l = 1000000 * l.run.now.left + 4000 * (100 - l.nested) + 10
@@ -150,10 +170,12 @@ abbrev pub decreases-conversation::call_back : goal.decreases-conversation::call
 decreases-conversation::call_back g l = 1000000 * l.run.now.left + 4000 * (100 - l.nested) + 3000
 
 abbrev pub decreases-pieces::resolve : goal.decreases-pieces::resolve
-decreases-pieces::resolve g l = 1000000 * l.run.now.left + 4000 * (100 - l.nested) + 8 * container_depth l.container.now + 106
+decreases-pieces::resolve g l =
+    1000000 * l.run.now.left + 4000 * (100 - l.nested) + 8 * container_depth l.container.now + 106
 
 abbrev pub decreases-stmt::run_block : goal.decreases-stmt::run_block
-decreases-stmt::run_block g l = 1000000 * l.run.now.left + 4000 * (100 - l.nested) + 8 * stmts_depth (stmts_of l.lines.now) + 2003
+decreases-stmt::run_block g l =
+    1000000 * l.run.now.left + 4000 * (100 - l.nested) + 8 * stmts_depth (stmts_of l.lines.now) + 2003
 
 abbrev pub decreases-stmt::run_stmt : goal.decreases-stmt::run_stmt
 decreases-stmt::run_stmt g l = 1000000 * l.run.now.left + 4000 * (100 - l.nested) + 8 * stmt_depth l.stmt.now + 2002
@@ -165,7 +187,8 @@ abbrev pub decreases-stmt::return_value : goal.decreases-stmt::return_value
 decreases-stmt::return_value g l = 1000000 * l.run.now.left + 4000 * (100 - l.nested) + 8 * depth l.value.now + 2003
 
 abbrev pub decreases-stmt::command : goal.decreases-stmt::command
-decreases-stmt::command g l = 1000000 * l.run.now.left + 4000 * (100 - l.nested) + 8 * depths (exprs_of l.list.now.items.items) + 2003
+decreases-stmt::command g l =
+    1000000 * l.run.now.left + 4000 * (100 - l.nested) + 8 * depths (exprs_of l.list.now.items.items) + 2003
 
 abbrev pub decreases-stmt::show : goal.decreases-stmt::show
 decreases-stmt::show g l = 1000000 * l.run.now.left + 4000 * (100 - l.nested) + 8 * depth l.value.now + 2003
@@ -177,49 +200,63 @@ abbrev pub decreases-stmt::set_run : goal.decreases-stmt::set_run
 decreases-stmt::set_run g l = 1000000 * l.run.now.left + 4000 * (100 - l.nested) + 8 * depth l.value.now + 2003
 
 abbrev pub decreases-pieces::edit_container : goal.decreases-pieces::edit_container
-decreases-pieces::edit_container g l = 1000000 * l.run.now.left + 4000 * (100 - l.nested) + 8 * container_depth l.container.now + 107
+decreases-pieces::edit_container g l =
+    1000000 * l.run.now.left + 4000 * (100 - l.nested) + 8 * container_depth l.container.now + 107
 
 abbrev pub decreases-stmt::put : goal.decreases-stmt::put
-decreases-stmt::put g l = 1000000 * l.run.now.left + 4000 * (100 - l.nested) + 8 * max (depth l.value.now) (container_depth l.container.now) + 2003
+decreases-stmt::put g l = 1000000 * l.run.now.left + 4000 * (100 - l.nested) + 8 * max (depth l.value.now)
+    (container_depth l.container.now) + 2003
 
 abbrev pub decreases-stmt::alter : goal.decreases-stmt::alter
-decreases-stmt::alter g l = 1000000 * l.run.now.left + 4000 * (100 - l.nested) + 8 * max (depth l.value.now) (container_depth l.container.now) + 2003
+decreases-stmt::alter g l = 1000000 * l.run.now.left + 4000 * (100 - l.nested) + 8 * max (depth l.value.now)
+    (container_depth l.container.now) + 2003
 
 abbrev pub decreases-stmt::set : goal.decreases-stmt::set
-decreases-stmt::set g l = 1000000 * l.run.now.left + 4000 * (100 - l.nested) + 8 * max (ref_depth (ref_of l.reference.now)) (depth l.value.now) + 2003
+decreases-stmt::set g l = 1000000 * l.run.now.left + 4000 * (100 - l.nested) + 8 * max
+    (ref_depth (ref_of l.reference.now)) (depth l.value.now) + 2003
 
 abbrev pub decreases-stmt::delete : goal.decreases-stmt::delete
-decreases-stmt::delete g l = 1000000 * l.run.now.left + 4000 * (100 - l.nested) + 8 * max (chunk_depth (chunk_of l.chunk.now)) (container_depth l.container.now) + 2003
+decreases-stmt::delete g l = 1000000 * l.run.now.left + 4000 * (100 - l.nested) + 8 * max
+    (chunk_depth (chunk_of l.chunk.now)) (container_depth l.container.now) + 2003
 
 abbrev pub decreases-stmt::run_do : goal.decreases-stmt::run_do
 decreases-stmt::run_do g l = 1000000 * l.run.now.left + 4000 * (100 - l.nested) + 8 * depth l.text.now + 2003
 
 abbrev pub decreases-stmt::run_send : goal.decreases-stmt::run_send
-decreases-stmt::run_send g l = 1000000 * l.run.now.left + 4000 * (100 - l.nested) + 8 * max (depth l.text.now) (ref_depth (ref_of l.reference.now)) + 2003
+decreases-stmt::run_send g l = 1000000 * l.run.now.left + 4000 * (100 - l.nested) + 8 * max (depth l.text.now)
+    (ref_depth (ref_of l.reference.now)) + 2003
 
 abbrev pub decreases-stmt::run_go : goal.decreases-stmt::run_go
-decreases-stmt::run_go g l = 1000000 * l.run.now.left + 4000 * (100 - l.nested) + 8 * destination_depth (destination_of l.destination.now) + 2003
+decreases-stmt::run_go g l = 1000000 * l.run.now.left + 4000 * (100 - l.nested) + 8 * destination_depth
+    (destination_of l.destination.now) + 2003
 
 abbrev pub decreases-stmt::when : goal.decreases-stmt::when
-decreases-stmt::when g l = 1000000 * l.run.now.left + 4000 * (100 - l.nested) + 8 * max (depth l.condition.now) (max (stmts_depth (stmts_of l.lines.now)) (stmts_depth (stmts_of l.otherwise.now))) + 2005
+decreases-stmt::when g l = 1000000 * l.run.now.left + 4000 * (100 - l.nested) + 8 * max (depth l.condition.now)
+    (max (stmts_depth (stmts_of l.lines.now)) (stmts_depth (stmts_of l.otherwise.now))) + 2005
 
 abbrev pub decreases-repeat::repeat_times : goal.decreases-repeat::repeat_times
-decreases-repeat::repeat_times g l = 1000000 * l.run.now.left + 4000 * (100 - l.nested) + 8 * max (depth l.times.now) (stmts_depth (stmts_of l.lines.now)) + 2006
+decreases-repeat::repeat_times g l = 1000000 * l.run.now.left + 4000 * (100 - l.nested) + 8 * max (depth l.times.now)
+    (stmts_depth (stmts_of l.lines.now)) + 2006
 
 abbrev pub decreases-repeat::repeat_counted : goal.decreases-repeat::repeat_counted
-decreases-repeat::repeat_counted g l = 1000000 * l.run.now.left + 4000 * (100 - l.nested) + 8 * max (max (depth l.from.now) (depth l.to.now)) (stmts_depth (stmts_of l.lines.now.items.items)) + 2006
+decreases-repeat::repeat_counted g l = 1000000 * l.run.now.left + 4000 * (100 - l.nested) + 8 * max
+    (max (depth l.from.now) (depth l.to.now)) (stmts_depth (stmts_of l.lines.now.items.items)) + 2006
 
 abbrev pub decreases-repeat::bounds : goal.decreases-repeat::bounds
-decreases-repeat::bounds g l = 1000000 * l.run.now.left + 4000 * (100 - l.nested) + 8 * max (depth l.from.now) (depth l.to.now) + 103
+decreases-repeat::bounds g l =
+    1000000 * l.run.now.left + 4000 * (100 - l.nested) + 8 * max (depth l.from.now) (depth l.to.now) + 103
 
 abbrev pub decreases-repeat::repeat_forever : goal.decreases-repeat::repeat_forever
-decreases-repeat::repeat_forever g l = 1000000 * l.run.now.left + 4000 * (100 - l.nested) + 8 * stmts_depth (stmts_of l.lines.now) + 2005
+decreases-repeat::repeat_forever g l =
+    1000000 * l.run.now.left + 4000 * (100 - l.nested) + 8 * stmts_depth (stmts_of l.lines.now) + 2005
 
 abbrev pub decreases-repeat::repeat_while : goal.decreases-repeat::repeat_while
-decreases-repeat::repeat_while g l = 1000000 * l.run.now.left + 4000 * (100 - l.nested) + 8 * max (depth l.condition.now) (stmts_depth (stmts_of l.lines.now)) + 2005
+decreases-repeat::repeat_while g l = 1000000 * l.run.now.left + 4000 * (100 - l.nested) + 8 * max
+    (depth l.condition.now) (stmts_depth (stmts_of l.lines.now)) + 2005
 
 abbrev pub decreases-repeat::turns : goal.decreases-repeat::turns
-decreases-repeat::turns g l = 1000000 * l.run.now.left + 4000 * (100 - l.nested) + 8 * stmts_depth (stmts_of l.lines.now) + 2005
+decreases-repeat::turns g l =
+    1000000 * l.run.now.left + 4000 * (100 - l.nested) + 8 * stmts_depth (stmts_of l.lines.now) + 2005
 
 abbrev pub invariant-expr::arguments-loop-e : goal.invariant-expr::arguments-loop-e
 invariant-expr::arguments-loop-e g l = record {
@@ -269,7 +306,8 @@ invariant-repeat::turns-loop-turn g l = record {
   base : base l.world.history ≡ base l.fn.world.history;
   rest : (o : Result How Stop) (w : History) (r : RunState) (f : Frame) →
       Counts l.world.history l.run l.frame l.nested (option_copied l.variable) l.turn (stmts_of l.lines) o w r f →
-      Counts l.fn.world.history l.fn.run l.fn.frame l.nested (option_copied l.variable) l.fn.counter (stmts_of l.lines) o w r f;
+      Counts l.fn.world.history l.fn.run l.fn.frame l.nested (option_copied l.variable) l.fn.counter (stmts_of l.lines)
+      o w r f;
 }
 
 abbrev pub decreases-repeat::turns-loop-turn : goal.decreases-repeat::turns-loop-turn

@@ -6,8 +6,11 @@ use Rattle.primitives.proofs.places.declare_all.Goals as goal
 pub loop-name-preserved : goal.loop-name-preserved
 loop-name-preserved g c = record {
   base = search rules;
-  rest = λ o w f h. c.loop-name.invariant.rest o w f (DeclaresAll.declared (cut c.args.names.now c.loop-name.name-index c.name-item.result c.loop-name-test.true c.name-item.is) c.in_ok-declare_one.ensures.ok c.in_ok-declare_one.ensures.frame h);
+  rest = λ o w f h. c.loop-name.invariant.rest o w f
+      (DeclaresAll.declared (cut c.args.names.now c.loop-name.name-index c.name-item.result c.loop-name-test.true
+      c.name-item.is) c.in_ok-declare_one.ensures.ok c.in_ok-declare_one.ensures.frame h);
 }
 
 pub returns-clause-meaning : goal.returns-clause-meaning
-returns-clause-meaning g c = c.loop-name.invariant.rest _ _ _ (DeclaresAll.none_declared (drop_of_length-le c.args.names.now c.loop-name-test.false))
+returns-clause-meaning g c = c.loop-name.invariant.rest _ _ _
+    (DeclaresAll.none_declared (drop_of_length-le c.args.names.now c.loop-name-test.false))

@@ -7,4 +7,5 @@ returns-in-Ok-clause-meaning g c = Edits.edited (rw c.delimiter.ensures at c.in-
 
 pub returns-in-Err-Fault-clause-meaning : goal.returns-in-Err-Fault-clause-meaning
 returns-in-Err-Fault-clause-meaning g c =
-    Edits.edit_faults (rw (c.in-Err-Fault.field-0-is, c.delimiter.ensures) at c.in-Err-Fault.ensures.fault) (search rules) (search rules)
+    Edits.edit_faults (rw (c.in-Err-Fault.field-0-is, c.delimiter.ensures) at c.in-Err-Fault.ensures.fault)
+    (search rules) (search rules)
