@@ -8,6 +8,7 @@ import sys
 
 sys.dont_write_bytecode = True
 
+from lines import MOST
 from table import TYPES, binders, families, forms, letters, read, write
 
 
@@ -26,6 +27,13 @@ def meaning(table):
     return text.rstrip() + "\n"
 
 
+def ruleset(family, form, rules):
+    """A ruleset of rules of a family, in one line where that isn't too long."""
+    head, names = "\npub ruleset %s_%srules = (" % (family.lower(), form), ["%s.%s" % (family, rule) for rule in rules]
+    line = head + ", ".join(names) + ")\n"
+    return line if len(line) - 2 <= MOST else "%s\n%s)\n" % (head, "".join("  %s,\n" % name for name in names))
+
+
 def rulesets(table):
     """The file of rulesets: one for each family, and one for each form of a large one, with the rules that have no form."""
     text = read("rules.head").rstrip() + "\n"
@@ -33,12 +41,11 @@ def rulesets(table):
     text += "\n" + read("rules.leaves").rstrip() + "\n"
     for family in table:
         name = family["name"]
-        named = lambda rules: ", ".join("%s.%s" % (name, rule) for rule in rules)
-        text += "\npub ruleset %s_rules = (%s)\n" % (name.lower(), named(rule[0] for rule in family["rules"]))
+        text += ruleset(name, "", [rule[0] for rule in family["rules"]])
         found, rest = forms(family)
         if len(found) > 3:
             for form, rules in found.items():
-                text += "\npub ruleset %s_%s_rules = (%s)\n" % (name.lower(), form.lower(), named(rest + rules))
+                text += ruleset(name, form.lower() + "_", rest + rules)
     return text
 
 

@@ -7,6 +7,7 @@ import os
 import re
 import sys
 
+from lines import fitted
 from rules import BadTable, Reader, words  # noqa: F401
 
 HERE = os.path.dirname(os.path.abspath(__file__))
@@ -117,7 +118,7 @@ def write(crate, texts, writer, sources="meaning.rules"):
     """
     is_check, is_stale = "--check" in sys.argv[1:], False
     for path, text in texts.items():
-        path, text = os.path.join(CRATES, crate, path), WRITTEN % (writer, sources) + text
+        path, text = os.path.join(CRATES, crate, path), fitted(WRITTEN % (writer, sources) + text)
         if is_check:
             with open(path, encoding="utf-8") as file:
                 is_stale |= file.read() != text

@@ -4,7 +4,11 @@ use Rattle.meaning.specs.State.{Step}
 use Rattle.meaning.specs.Values.{Yields, Parses}
 use Rattle.meaning.specs.Places.{Edits, Assigns, DeclaresAll, Sets, Adds}
 use Rattle.meaning.specs.Messages.{Finds}
-use Rattle.meaning.specs.Meaning.{Val, Vals, NumberVal, TruthVal, TextVal, ChunkOf, Resolves, Picks, Seeks, Owns, PartMet, Meets, Leads, Form, Alters, Block, DoText, Endless, While, Bounds, Counts, Calls, SendsText, Sends, Along, Outside, BuiltInGives, System, Systems, Goes, Menu, Converses, Talks, CallsBack, Line, Message, Refers, Tells, TellsAll, Clicks, TypesOver, TypesInto, Acts}
+use Rattle.meaning.specs.Meaning.{Val, Vals, NumberVal, TruthVal, TextVal, ChunkOf, Resolves, Picks, Seeks, Owns}
+use Rattle.meaning.specs.Meaning.{PartMet, Meets, Leads, Form, Alters, Block, DoText, Endless, While, Bounds, Counts}
+use Rattle.meaning.specs.Meaning.{Calls, SendsText, Sends, Along, Outside, BuiltInGives, System, Systems, Goes, Menu}
+use Rattle.meaning.specs.Meaning.{Converses, Talks, CallsBack, Line, Message, Refers, Tells, TellsAll, Clicks}
+use Rattle.meaning.specs.Meaning.{TypesOver, TypesInto, Acts}
 
 pub ruleset step_rules = (Step.taken, Step.none_left)
 
@@ -24,7 +28,44 @@ pub ruleset finds_rules = (Finds.find_memory, Finds.finds, Finds.find_fails)
 
 pub ruleset adds_rules = (Adds.add_memory, Adds.too_many, Adds.adds)
 
-pub ruleset val_rules = (Val.memory, Val.number, Val.quoted, Val.constant, Val.return_sign, Val.name, Val.paren, Val.operand_stops, Val.one_operand, Val.left_stops, Val.right_stops, Val.two_operands, Val.there_is, Val.there_is_none, Val.there_stops, Val.chunk_stops, Val.chunk_of_stops, Val.chunk, Val.field_stops, Val.field, Val.the_result, Val.the_target, Val.pieces_stop, Val.pieces, Val.cards, Val.backgrounds, Val.parts, Val.number_stops, Val.number_of_object, Val.property_stops, Val.property, Val.run_property_read, Val.the_stops, Val.the_function, Val.the_value, Val.call)
+pub ruleset val_rules = (
+  Val.memory,
+  Val.number,
+  Val.quoted,
+  Val.constant,
+  Val.return_sign,
+  Val.name,
+  Val.paren,
+  Val.operand_stops,
+  Val.one_operand,
+  Val.left_stops,
+  Val.right_stops,
+  Val.two_operands,
+  Val.there_is,
+  Val.there_is_none,
+  Val.there_stops,
+  Val.chunk_stops,
+  Val.chunk_of_stops,
+  Val.chunk,
+  Val.field_stops,
+  Val.field,
+  Val.the_result,
+  Val.the_target,
+  Val.pieces_stop,
+  Val.pieces,
+  Val.cards,
+  Val.backgrounds,
+  Val.parts,
+  Val.number_stops,
+  Val.number_of_object,
+  Val.property_stops,
+  Val.property,
+  Val.run_property_read,
+  Val.the_stops,
+  Val.the_function,
+  Val.the_value,
+  Val.call,
+)
 
 pub ruleset val_number_rules = (Val.memory, Val.number)
 
@@ -76,15 +117,51 @@ pub ruleset numberval_rules = (NumberVal.number_memory, NumberVal.no_number, Num
 
 pub ruleset truthval_rules = (TruthVal.truth_memory, TruthVal.no_truth, TruthVal.a_truth)
 
-pub ruleset textval_rules = (TextVal.value_memory, TextVal.value_no_step, TextVal.value_too_deep, TextVal.value_syntax, TextVal.value)
+pub ruleset textval_rules = (
+  TextVal.value_memory,
+  TextVal.value_no_step,
+  TextVal.value_too_deep,
+  TextVal.value_syntax,
+  TextVal.value,
+)
 
-pub ruleset chunkof_rules = (ChunkOf.chunk_memory, ChunkOf.one_stops, ChunkOf.one, ChunkOf.from_stops, ChunkOf.to_stops, ChunkOf.range, ChunkOf.ordinal)
+pub ruleset chunkof_rules = (
+  ChunkOf.chunk_memory,
+  ChunkOf.one_stops,
+  ChunkOf.one,
+  ChunkOf.from_stops,
+  ChunkOf.to_stops,
+  ChunkOf.range,
+  ChunkOf.ordinal,
+)
 
-pub ruleset resolves_rules = (Resolves.place_memory, Resolves.place_variable, Resolves.place_field_stops, Resolves.place_field, Resolves.place_chunk_stops, Resolves.place_chunk_of_stops, Resolves.place_chunk)
+pub ruleset resolves_rules = (
+  Resolves.place_memory,
+  Resolves.place_variable,
+  Resolves.place_field_stops,
+  Resolves.place_field,
+  Resolves.place_chunk_stops,
+  Resolves.place_chunk_of_stops,
+  Resolves.place_chunk,
+)
 
-pub ruleset picks_rules = (Picks.pick_memory, Picks.pick_id_stops, Picks.pick_id, Picks.pick_text_stops, Picks.pick_text)
+pub ruleset picks_rules = (
+  Picks.pick_memory,
+  Picks.pick_id_stops,
+  Picks.pick_id,
+  Picks.pick_text_stops,
+  Picks.pick_text,
+)
 
-pub ruleset seeks_rules = (Seeks.seek_memory, Seeks.seek_this, Seeks.seek_next, Seeks.seek_previous, Seeks.seek_nth, Seeks.seek_stops, Seeks.seek_which)
+pub ruleset seeks_rules = (
+  Seeks.seek_memory,
+  Seeks.seek_this,
+  Seeks.seek_next,
+  Seeks.seek_previous,
+  Seeks.seek_nth,
+  Seeks.seek_stops,
+  Seeks.seek_which,
+)
 
 pub ruleset seeks_this_rules = (Seeks.seek_memory, Seeks.seek_this)
 
@@ -96,11 +173,35 @@ pub ruleset seeks_nth_rules = (Seeks.seek_memory, Seeks.seek_nth)
 
 pub ruleset seeks_which_rules = (Seeks.seek_memory, Seeks.seek_stops, Seeks.seek_which)
 
-pub ruleset owns_rules = (Owns.own_memory, Owns.no_owner, Owns.owner_card_stops, Owns.owner_card, Owns.owner_background_stops, Owns.owner_background)
+pub ruleset owns_rules = (
+  Owns.own_memory,
+  Owns.no_owner,
+  Owns.owner_card_stops,
+  Owns.owner_card,
+  Owns.owner_background_stops,
+  Owns.owner_background,
+)
 
-pub ruleset partmet_rules = (PartMet.part_memory, PartMet.part_stops, PartMet.part_owner_stops, PartMet.part_of_owner, PartMet.nth_owner_stops, PartMet.nth_of_owner)
+pub ruleset partmet_rules = (
+  PartMet.part_memory,
+  PartMet.part_stops,
+  PartMet.part_owner_stops,
+  PartMet.part_of_owner,
+  PartMet.nth_owner_stops,
+  PartMet.nth_of_owner,
+)
 
-pub ruleset meets_rules = (Meets.meet_memory, Meets.meet_me, Meets.meet_target, Meets.meet_stack, Meets.card_stops, Meets.meet_card, Meets.background_stops, Meets.meet_background, Meets.meet_part)
+pub ruleset meets_rules = (
+  Meets.meet_memory,
+  Meets.meet_me,
+  Meets.meet_target,
+  Meets.meet_stack,
+  Meets.card_stops,
+  Meets.meet_card,
+  Meets.background_stops,
+  Meets.meet_background,
+  Meets.meet_part,
+)
 
 pub ruleset meets_me_rules = (Meets.meet_memory, Meets.meet_me)
 
@@ -114,9 +215,74 @@ pub ruleset meets_background_rules = (Meets.meet_memory, Meets.background_stops,
 
 pub ruleset meets_a_part_rules = (Meets.meet_memory, Meets.meet_part)
 
-pub ruleset leads_rules = (Leads.lead_memory, Leads.lead_card_stops, Leads.lead_card, Leads.lead_background_stops, Leads.lead_background)
+pub ruleset leads_rules = (
+  Leads.lead_memory,
+  Leads.lead_card_stops,
+  Leads.lead_card,
+  Leads.lead_background_stops,
+  Leads.lead_background,
+)
 
-pub ruleset form_rules = (Form.form_memory, Form.show_stops, Form.show, Form.put_stops, Form.put_nowhere, Form.put_fails, Form.put, Form.get_stops, Form.get_fails, Form.get, Form.set_stops, Form.set_nowhere, Form.set_fails, Form.set, Form.set_run_stops, Form.set_run_fails, Form.set_run, Form.add, Form.subtract, Form.multiply, Form.divide, Form.delete_stops, Form.delete_nowhere, Form.delete_fails, Form.delete, Form.do_stops, Form.do_value, Form.send_text_stops, Form.send_nowhere, Form.send_stops, Form.send, Form.go_nowhere, Form.go_stops, Form.go, Form.global_stops, Form.global, Form.exit_repeat, Form.next_repeat, Form.exit_to_hypercard, Form.exit_handler, Form.pass, Form.return_nothing, Form.return_stops, Form.return_value, Form.command_stops, Form.command, Form.if_stops, Form.if_true, Form.if_false, Form.forever, Form.times_stops, Form.times, Form.while, Form.until, Form.up_stops, Form.up, Form.down_stops, Form.down)
+pub ruleset form_rules = (
+  Form.form_memory,
+  Form.show_stops,
+  Form.show,
+  Form.put_stops,
+  Form.put_nowhere,
+  Form.put_fails,
+  Form.put,
+  Form.get_stops,
+  Form.get_fails,
+  Form.get,
+  Form.set_stops,
+  Form.set_nowhere,
+  Form.set_fails,
+  Form.set,
+  Form.set_run_stops,
+  Form.set_run_fails,
+  Form.set_run,
+  Form.add,
+  Form.subtract,
+  Form.multiply,
+  Form.divide,
+  Form.delete_stops,
+  Form.delete_nowhere,
+  Form.delete_fails,
+  Form.delete,
+  Form.do_stops,
+  Form.do_value,
+  Form.send_text_stops,
+  Form.send_nowhere,
+  Form.send_stops,
+  Form.send,
+  Form.go_nowhere,
+  Form.go_stops,
+  Form.go,
+  Form.global_stops,
+  Form.global,
+  Form.exit_repeat,
+  Form.next_repeat,
+  Form.exit_to_hypercard,
+  Form.exit_handler,
+  Form.pass,
+  Form.return_nothing,
+  Form.return_stops,
+  Form.return_value,
+  Form.command_stops,
+  Form.command,
+  Form.if_stops,
+  Form.if_true,
+  Form.if_false,
+  Form.forever,
+  Form.times_stops,
+  Form.times,
+  Form.while,
+  Form.until,
+  Form.up_stops,
+  Form.up,
+  Form.down_stops,
+  Form.down,
+)
 
 pub ruleset form_put_rules = (Form.form_memory, Form.show_stops, Form.show)
 
@@ -136,7 +302,13 @@ pub ruleset form_multiply_rules = (Form.form_memory, Form.multiply)
 
 pub ruleset form_divide_rules = (Form.form_memory, Form.divide)
 
-pub ruleset form_delete_rules = (Form.form_memory, Form.delete_stops, Form.delete_nowhere, Form.delete_fails, Form.delete)
+pub ruleset form_delete_rules = (
+  Form.form_memory,
+  Form.delete_stops,
+  Form.delete_nowhere,
+  Form.delete_fails,
+  Form.delete,
+)
 
 pub ruleset form_do_rules = (Form.form_memory, Form.do_stops, Form.do_value)
 
@@ -176,19 +348,54 @@ pub ruleset form_repeat_counted_up_rules = (Form.form_memory, Form.up_stops, For
 
 pub ruleset form_repeat_counted_down_rules = (Form.form_memory, Form.down_stops, Form.down)
 
-pub ruleset alters_rules = (Alters.alter_memory, Alters.alter_stops, Alters.alter_nowhere, Alters.alter_fails, Alters.alter)
+pub ruleset alters_rules = (
+  Alters.alter_memory,
+  Alters.alter_stops,
+  Alters.alter_nowhere,
+  Alters.alter_fails,
+  Alters.alter,
+)
 
-pub ruleset block_rules = (Block.block_memory, Block.block_end, Block.block_no_step, Block.block_stops, Block.block_leaves, Block.block_goes_on)
+pub ruleset block_rules = (
+  Block.block_memory,
+  Block.block_end,
+  Block.block_no_step,
+  Block.block_stops,
+  Block.block_leaves,
+  Block.block_goes_on,
+)
 
 pub ruleset dotext_rules = (DoText.do_memory, DoText.do_too_deep, DoText.do_syntax, DoText.do_lines)
 
-pub ruleset endless_rules = (Endless.endless_memory, Endless.endless_no_step, Endless.endless_stops, Endless.endless_leaves, Endless.endless_goes_on)
+pub ruleset endless_rules = (
+  Endless.endless_memory,
+  Endless.endless_no_step,
+  Endless.endless_stops,
+  Endless.endless_leaves,
+  Endless.endless_goes_on,
+)
 
-pub ruleset while_rules = (While.while_memory, While.while_no_step, While.while_test_stops, While.while_ends, While.while_stops, While.while_leaves, While.while_goes_on)
+pub ruleset while_rules = (
+  While.while_memory,
+  While.while_no_step,
+  While.while_test_stops,
+  While.while_ends,
+  While.while_stops,
+  While.while_leaves,
+  While.while_goes_on,
+)
 
 pub ruleset bounds_rules = (Bounds.bounds_memory, Bounds.start_stops, Bounds.bound_stops, Bounds.bounds)
 
-pub ruleset counts_rules = (Counts.counts_memory, Counts.counts_no_step, Counts.counts_end, Counts.counts_fail, Counts.counts_stop, Counts.counts_leave, Counts.counts_go_on)
+pub ruleset counts_rules = (
+  Counts.counts_memory,
+  Counts.counts_no_step,
+  Counts.counts_end,
+  Counts.counts_fail,
+  Counts.counts_stop,
+  Counts.counts_leave,
+  Counts.counts_go_on,
+)
 
 pub ruleset calls_rules = (Calls.calls_memory, Calls.calls_stop, Calls.calls)
 
@@ -196,11 +403,34 @@ pub ruleset sendstext_rules = (SendsText.send_memory, SendsText.send_syntax, Sen
 
 pub ruleset sends_rules = (Sends.sends_memory, Sends.sends_no_step, Sends.sends)
 
-pub ruleset along_rules = (Along.along_memory, Along.along_broken, Along.along_too_deep, Along.along_stops, Along.along_ends, Along.along_passes, Along.along_unhandled)
+pub ruleset along_rules = (
+  Along.along_memory,
+  Along.along_broken,
+  Along.along_too_deep,
+  Along.along_stops,
+  Along.along_ends,
+  Along.along_passes,
+  Along.along_unhandled,
+)
 
-pub ruleset outside_rules = (Outside.outside_memory, Outside.no_external, Outside.external_stops, Outside.external_ends, Outside.external_passes)
+pub ruleset outside_rules = (
+  Outside.outside_memory,
+  Outside.no_external,
+  Outside.external_stops,
+  Outside.external_ends,
+  Outside.external_passes,
+)
 
-pub ruleset builtingives_rules = (BuiltInGives.built_in_memory, BuiltInGives.value_call, BuiltInGives.value_arguments, BuiltInGives.function_call, BuiltInGives.menu_unknown, BuiltInGives.menu_item, BuiltInGives.ignored_message, BuiltInGives.not_understood)
+pub ruleset builtingives_rules = (
+  BuiltInGives.built_in_memory,
+  BuiltInGives.value_call,
+  BuiltInGives.value_arguments,
+  BuiltInGives.function_call,
+  BuiltInGives.menu_unknown,
+  BuiltInGives.menu_item,
+  BuiltInGives.ignored_message,
+  BuiltInGives.not_understood,
+)
 
 pub ruleset system_rules = (System.system_memory, System.system_locked, System.system)
 
@@ -208,44 +438,138 @@ pub ruleset systems_rules = (Systems.systems_memory, Systems.systems_done, Syste
 
 pub ruleset goes_rules = (Goes.go_memory, Goes.go_stays, Goes.go_close_stops, Goes.go_gone, Goes.go_arrives)
 
-pub ruleset menu_rules = (Menu.menu_memory, Menu.card_close_stops, Menu.card_full, Menu.new_card, Menu.background_close_stops, Menu.background_full, Menu.new_background, Menu.part_full, Menu.new_part, Menu.delete_refused, Menu.delete_card)
+pub ruleset menu_rules = (
+  Menu.menu_memory,
+  Menu.card_close_stops,
+  Menu.card_full,
+  Menu.new_card,
+  Menu.background_close_stops,
+  Menu.background_full,
+  Menu.new_background,
+  Menu.part_full,
+  Menu.new_part,
+  Menu.delete_refused,
+  Menu.delete_card,
+)
 
 pub ruleset menu_newcarditem_rules = (Menu.menu_memory, Menu.card_close_stops, Menu.card_full, Menu.new_card)
 
-pub ruleset menu_newbackgrounditem_rules = (Menu.menu_memory, Menu.background_close_stops, Menu.background_full, Menu.new_background)
+pub ruleset menu_newbackgrounditem_rules = (
+  Menu.menu_memory,
+  Menu.background_close_stops,
+  Menu.background_full,
+  Menu.new_background,
+)
 
 pub ruleset menu_newpartitem_rules = (Menu.menu_memory, Menu.part_full, Menu.new_part)
 
 pub ruleset menu_deletecarditem_rules = (Menu.menu_memory, Menu.delete_refused, Menu.delete_card)
 
-pub ruleset converses_rules = (Converses.converse_memory, Converses.too_many_arguments, Converses.conversation_too_deep, Converses.converses)
+pub ruleset converses_rules = (
+  Converses.converse_memory,
+  Converses.too_many_arguments,
+  Converses.conversation_too_deep,
+  Converses.converses,
+)
 
-pub ruleset talks_rules = (Talks.talk_memory, Talks.talk_no_step, Talks.talk_done, Talks.talk_fails, Talks.talk_stops, Talks.talk_goes_on)
+pub ruleset talks_rules = (
+  Talks.talk_memory,
+  Talks.talk_no_step,
+  Talks.talk_done,
+  Talks.talk_fails,
+  Talks.talk_stops,
+  Talks.talk_goes_on,
+)
 
-pub ruleset callsback_rules = (CallsBack.call_back_memory, CallsBack.message_syntax, CallsBack.message_stops, CallsBack.message_runs, CallsBack.eval_syntax, CallsBack.eval_stops, CallsBack.evaluates, CallsBack.bad_global, CallsBack.global_fails, CallsBack.global_set, CallsBack.no_such_field, CallsBack.field_fails, CallsBack.field_set)
+pub ruleset callsback_rules = (
+  CallsBack.call_back_memory,
+  CallsBack.message_syntax,
+  CallsBack.message_stops,
+  CallsBack.message_runs,
+  CallsBack.eval_syntax,
+  CallsBack.eval_stops,
+  CallsBack.evaluates,
+  CallsBack.bad_global,
+  CallsBack.global_fails,
+  CallsBack.global_set,
+  CallsBack.no_such_field,
+  CallsBack.field_fails,
+  CallsBack.field_set,
+)
 
-pub ruleset callsback_sendcardmessage_rules = (CallsBack.call_back_memory, CallsBack.message_syntax, CallsBack.message_stops, CallsBack.message_runs)
+pub ruleset callsback_sendcardmessage_rules = (
+  CallsBack.call_back_memory,
+  CallsBack.message_syntax,
+  CallsBack.message_stops,
+  CallsBack.message_runs,
+)
 
-pub ruleset callsback_evalexpr_rules = (CallsBack.call_back_memory, CallsBack.eval_syntax, CallsBack.eval_stops, CallsBack.evaluates)
+pub ruleset callsback_evalexpr_rules = (
+  CallsBack.call_back_memory,
+  CallsBack.eval_syntax,
+  CallsBack.eval_stops,
+  CallsBack.evaluates,
+)
 
-pub ruleset callsback_setglobal_rules = (CallsBack.call_back_memory, CallsBack.bad_global, CallsBack.global_fails, CallsBack.global_set)
+pub ruleset callsback_setglobal_rules = (
+  CallsBack.call_back_memory,
+  CallsBack.bad_global,
+  CallsBack.global_fails,
+  CallsBack.global_set,
+)
 
-pub ruleset callsback_setfieldbyname_rules = (CallsBack.call_back_memory, CallsBack.no_such_field, CallsBack.field_fails, CallsBack.field_set)
+pub ruleset callsback_setfieldbyname_rules = (
+  CallsBack.call_back_memory,
+  CallsBack.no_such_field,
+  CallsBack.field_fails,
+  CallsBack.field_set,
+)
 
 pub ruleset line_rules = (Line.line_memory, Line.line_faults, Line.line_exits, Line.line_ends)
 
-pub ruleset message_rules = (Message.message_memory, Message.message_faults, Message.message_exits, Message.message_ends)
+pub ruleset message_rules = (
+  Message.message_memory,
+  Message.message_faults,
+  Message.message_exits,
+  Message.message_ends,
+)
 
 pub ruleset refers_rules = (Refers.refer_memory, Refers.refer_faults, Refers.refer_exits, Refers.refers)
 
 pub ruleset tells_rules = (Tells.tell_memory, Tells.tells_nothing, Tells.tells)
 
-pub ruleset tellsall_rules = (TellsAll.tell_all_memory, TellsAll.none_to_tell, TellsAll.tell_stops, TellsAll.tell_exits, TellsAll.tells_on)
+pub ruleset tellsall_rules = (
+  TellsAll.tell_all_memory,
+  TellsAll.none_to_tell,
+  TellsAll.tell_stops,
+  TellsAll.tell_exits,
+  TellsAll.tells_on,
+)
 
-pub ruleset clicks_rules = (Clicks.click_memory, Clicks.click_misses, Clicks.click_exits, Clicks.press_stops, Clicks.press_exits, Clicks.part_goes, Clicks.clicks)
+pub ruleset clicks_rules = (
+  Clicks.click_memory,
+  Clicks.click_misses,
+  Clicks.click_exits,
+  Clicks.press_stops,
+  Clicks.press_exits,
+  Clicks.part_goes,
+  Clicks.clicks,
+)
 
-pub ruleset typesover_rules = (TypesOver.type_over_memory, TypesOver.typed_field_goes, TypesOver.type_over_stops, TypesOver.types_over)
+pub ruleset typesover_rules = (
+  TypesOver.type_over_memory,
+  TypesOver.typed_field_goes,
+  TypesOver.type_over_stops,
+  TypesOver.types_over,
+)
 
-pub ruleset typesinto_rules = (TypesInto.type_memory, TypesInto.type_misses, TypesInto.type_exits, TypesInto.field_open_stops, TypesInto.field_open_exits, TypesInto.types_into)
+pub ruleset typesinto_rules = (
+  TypesInto.type_memory,
+  TypesInto.type_misses,
+  TypesInto.type_exits,
+  TypesInto.field_open_stops,
+  TypesInto.field_open_exits,
+  TypesInto.types_into,
+)
 
 pub ruleset acts_rules = (Acts.acts_by_lines, Acts.acts_by_opening, Acts.acts_by_click, Acts.acts_by_typing)
