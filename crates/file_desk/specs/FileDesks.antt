@@ -7,6 +7,6 @@ use Rattle.file_desk.specs.declared.desk.FileDesk.{FileDesk}
 abbrev pub failures_of : {R : Type 0} → FileDesk R → ℕ
 failures_of d = d.failures
 
--- what it keeps isn't told, since anyone may write the file
+-- What it keeps isn't told, since anyone may write the file, and neither is what it heard, which is logged.
 abbrev pub seen_file : {R : Type 0} → FileDesk R → SeenDesk
-seen_file d = record { kept = None; failures = failures_of d }
+seen_file d = record { kept = None; heard = None; failures = failures_of d }
