@@ -11,8 +11,8 @@ from tree import HERE
 WRITTEN = re.compile(r"(?:-- |<!-- )Written by (tools/\S+) from (\S+?)[.,]?\s")
 PAGES = ("DEFINITIONS", "INVARIANTS", "MEANING")
 RULES = ("meaning/specs/Meaning", "meaning/proofs/Rules", "run_laws/specs/Replaced", "run_laws/proofs/Bases",
-         "run_laws/proofs/Rises", "run_laws/proofs/Runs", "one_outcome/specs/Families", "one_outcome/specs/Meanings",
-         "one_outcome/proofs/Outcomes")
+         "run_laws/proofs/Rises", "run_laws/proofs/Runs", "run_laws/proofs/Wholes", "whole_states/proofs/Sound",
+         "one_outcome/specs/Families", "one_outcome/specs/Meanings", "one_outcome/proofs/Outcomes")
 
 
 def first_line(path: str) -> str:
