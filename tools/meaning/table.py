@@ -112,13 +112,13 @@ def imports(uses, text, more=()):
     return "".join("use %s\n" % (module if names is None else "%s.{%s}" % (module, ", ".join(names))) for module, names in modules.items())
 
 
-def write(crate, texts, writer, sources="meaning.rules"):
+def write(crate, texts, writer, sources="meaning.rules", fits=fitted):
     """Writes the files of a crate, each with a first line that says by what and from what, or with --check sees that they
-    are so, and ends with 1 where one isn't.
+    are so, and ends with 1 where one isn't. Lines that are too long are broken, or whatever `fits` does.
     """
     is_check, is_stale = "--check" in sys.argv[1:], False
     for path, text in texts.items():
-        path, text = os.path.join(CRATES, crate, path), fitted(WRITTEN % (writer, sources) + text)
+        path, text = os.path.join(CRATES, crate, path), fits(WRITTEN % (writer, sources) + text)
         if is_check:
             with open(path, encoding="utf-8") as file:
                 is_stale |= file.read() != text

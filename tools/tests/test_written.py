@@ -11,8 +11,9 @@ from tree import HERE
 WRITTEN = re.compile(r"(?:-- |<!-- )Written by (tools/\S+) from (\S+?)[.,]?\s")
 PAGES = ("DEFINITIONS", "INVARIANTS", "MEANING")
 RULES = ("meaning/specs/Meaning", "meaning/proofs/Rules", "preservation/specs/Replaced", "preservation/proofs/Bases",
-         "preservation/proofs/Rises", "preservation/proofs/Runs", "definitional_interpreter/specs/Families", "definitional_interpreter/specs/Meanings",
-         "definitional_interpreter/proofs/Outcomes")
+         "preservation/proofs/Rises", "preservation/proofs/Runs", "preservation/proofs/Wholes",
+         "whole_states/proofs/Sound", "definitional_interpreter/specs/Families",
+         "definitional_interpreter/specs/Meanings", "definitional_interpreter/proofs/Outcomes")
 
 
 def first_line(path: str) -> str:

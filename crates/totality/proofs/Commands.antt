@@ -22,7 +22,8 @@ use Rattle.meaning.specs.Menu.{message_name}
 use Rattle.meaning.specs.Places.{field_text, field_place}
 use Rattle.meaning.specs.State.{RunState, typed_frame}
 use Rattle.meaning.specs.Locked.{MeetsLock}
-use Rattle.totality.proofs.Chain.{Underway, Has, has, ok, same, stops_too, choose, computed, lines_end, message_ends, refers_to, then_ended}
+use Rattle.totality.proofs.Chain.{Underway, Has, has, ok, same, stops_too, choose, computed, lines_end, message_ends}
+use Rattle.totality.proofs.Chain.{refers_to, then_ended}
 use Rattle.definitional_interpreter.proofs.Comes.{AreExact}
 use Rattle.totality.proofs.Leaves.{then_edited_lines, edits}
 use Rattle.totality.proofs.Levels.{Level}

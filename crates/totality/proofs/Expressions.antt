@@ -13,7 +13,8 @@ use Rattle.ht_grammar.specs.Trees as tree
 use Rattle.change_journal.specs.History.{History}
 use Rattle.msg_path.specs.Path.{path}
 use Rattle.meaning.specs.declared.frame.Frame.{Frame}
-use Rattle.meaning.specs.Meaning.{Val, Vals, NumberVal, TruthVal, TextVal, ChunkOf, Resolves, Picks, Seeks, Owns, PartMet, Meets, Leads, Calls, Sends}
+use Rattle.meaning.specs.Meaning.{Val, Vals, NumberVal, TruthVal, TextVal, ChunkOf, Resolves, Picks, Seeks, Owns}
+use Rattle.meaning.specs.Meaning.{PartMet, Meets, Leads, Calls, Sends}
 use Rattle.meaning.specs.State.{RunState, noted}
 use Rattle.totality.proofs.Chain.{Underway, Has, ok, fault, yield, same, then, maybe, there, deep, nested}
 use Rattle.definitional_interpreter.proofs.Comes.{AreExact}

@@ -1,5 +1,6 @@
 -- Messages, the messages of the system, `go`, the menu and conversations with externals have an outcome.
-use Rattle.std.proofs.Common.{◌≡◌, ℕ, suc, ◌+◌, ◌≤◌, ◌<◌, List, [], ◌∷◌, length, true, false, Option, Some, None, Result, Ok, refl, ap}
+use Rattle.std.proofs.Common.{◌≡◌, ℕ, suc, ◌+◌, ◌≤◌, ◌<◌, List, [], ◌∷◌, length, true, false, Option, Some, None}
+use Rattle.std.proofs.Common.{Result, Ok, refl, ap}
 use Rattle.std.specs.Prelude.{nat_eq, nat_lt}
 use Rattle.std.proofs.lemmas.Bool.{ltb-true, ltb-false}
 use Rattle.ht_values.specs.declared.word.Where.TheVariants.{Into}
@@ -14,10 +15,12 @@ use Rattle.ht_grammar.specs.Statements as stm
 use Rattle.ht_grammar.specs.Whole.{sent_message}
 use Rattle.object_table.specs.Objects.{has_kind, is_card}
 use Rattle.externals.specs.declared.external.Ask.{Ask}
-use Rattle.externals.specs.declared.external.Ask.TheVariants.{SendCardMessage, EvalExpr, SetGlobal, SetFieldByName, Done, Fail}
+use Rattle.externals.specs.declared.external.Ask.TheVariants.{SendCardMessage, EvalExpr, SetGlobal, SetFieldByName}
+use Rattle.externals.specs.declared.external.Ask.TheVariants.{Done, Fail}
 use Rattle.externals.specs.declared.external.Input.{Input}
 use Rattle.externals.specs.declared.external.Input.TheVariants.{Start}
-use Rattle.journal_entries.specs.declared.change.Change.TheVariants.{Current, NewCard, NewBackground, NewPart, DeleteCard}
+use Rattle.journal_entries.specs.declared.change.Change.TheVariants.{Current, NewCard, NewBackground, NewPart}
+use Rattle.journal_entries.specs.declared.change.Change.TheVariants.{DeleteCard}
 use Rattle.change_journal.specs.History.{History}
 use Rattle.change_journal.specs.Rising.{TookTurn}
 use Rattle.object_references.specs.Deletion.{may_delete}
@@ -32,18 +35,23 @@ use Rattle.meaning.specs.declared.end.How.TheVariants.{Next, ExitRepeat, NextRep
 use Rattle.meaning.specs.declared.end.Stop.{Stop}
 use Rattle.meaning.specs.declared.frame.Frame.{Frame}
 use Rattle.meaning.specs.declared.item.Item.{Item}
-use Rattle.meaning.specs.declared.item.Item.TheVariants.{NewCard as NewCardItem, NewBackground as NewBackgroundItem, NewPart as NewPartItem, DeleteCard as DeleteCardItem}
+use Rattle.meaning.specs.declared.item.Item.TheVariants.{NewCard as NewCardItem, NewBackground as NewBackgroundItem}
+use Rattle.meaning.specs.declared.item.Item.TheVariants.{NewPart as NewPartItem, DeleteCard as DeleteCardItem}
 use Rattle.meaning.specs.declared.system.SystemMessage.{SystemMessage}
-use Rattle.meaning.specs.Meaning.{Block, SendsText, Along, Outside, BuiltInGives, System, Systems, Goes, Menu, Converses, Talks, CallsBack}
-use Rattle.meaning.specs.Menu.{item_named, new_layer, closing, opening, differ, new_card_messages, new_background_messages, message_name}
+use Rattle.meaning.specs.Meaning.{Block, SendsText, Along, Outside, BuiltInGives, System, Systems, Goes, Menu}
+use Rattle.meaning.specs.Meaning.{Converses, Talks, CallsBack}
+use Rattle.meaning.specs.Menu.{item_named, new_layer, closing, opening, differ, new_card_messages}
+use Rattle.meaning.specs.Menu.{new_background_messages, message_name}
 use Rattle.meaning.specs.Messages.{Finds, parameters_of, lines_of, is_ignored, only}
 use Rattle.meaning.specs.Places.{variable_place, field_named_place}
 use Rattle.meaning.specs.Repeats.{returned}
 use Rattle.meaning.specs.State.{RunState, Step, typed_frame, handler_frame}
 use Rattle.meaning.specs.Values.{Parses}
-use Rattle.totality.proofs.Chain.{Underway, Has, has, ok, fault, yield, same, then, then_lines, choose, maybe, deep, nested}
+use Rattle.totality.proofs.Chain.{Underway, Has, has, ok, fault, yield, same, then, then_lines, choose, maybe, deep}
+use Rattle.totality.proofs.Chain.{nested}
 use Rattle.definitional_interpreter.proofs.Comes.{AreExact}
-use Rattle.totality.proofs.Leaves.{then_step, lift, Passes, then_parsed, then_found, then_field, then_made, then_ends, then_edited_lines, edits, adds}
+use Rattle.totality.proofs.Leaves.{then_step, lift, Passes, then_parsed, then_found, then_field, then_made, then_ends}
+use Rattle.totality.proofs.Leaves.{then_edited_lines, edits, adds}
 use Rattle.totality.proofs.Turns.{then_turn}
 use Rattle.totality.proofs.Levels.{IsCallBack, Level}
 use Rattle.totality.proofs.Expressions.{sends_has, text_val_has, val_has, calls_has}

@@ -6,7 +6,8 @@ use Rattle.meaning.specs.declared.end.Stop.{Stop}
 use Rattle.meaning.specs.Meaning.{Acts}
 use Rattle.meaning.specs.State.{RunState}
 use Rattle.meaning.specs.Locked.{MeetsLock}
-use Rattle.totality.specs.Laws.{HasOutcome, outcome, LinesHaveAnOutcome, MessagesHaveAnOutcome, ActionsHaveAnOutcome, ReferencesHaveAnOutcome, ValuesHaveAnOutcome}
+use Rattle.totality.specs.Laws.{HasOutcome, outcome, LinesHaveAnOutcome, MessagesHaveAnOutcome, ActionsHaveAnOutcome}
+use Rattle.totality.specs.Laws.{ReferencesHaveAnOutcome, ValuesHaveAnOutcome}
 use Rattle.totality.proofs.Chain.{Underway, Has, has}
 use Rattle.definitional_interpreter.proofs.Comes.{AreExact}
 use Rattle.totality.proofs.Levels.{Level}

@@ -1,5 +1,6 @@
 -- Statements have an outcome.
-use Rattle.std.proofs.Common.{◌≡◌, ℕ, suc, ◌+◌, ◌≤◌, ◌<◌, List, [], ◌∷◌, Bool, true, false, Some, None, Result, Ok, Err, refl, sym, ap, subst, ◌∙◌}
+use Rattle.std.proofs.Common.{◌≡◌, ℕ, suc, ◌+◌, ◌≤◌, ◌<◌, List, [], ◌∷◌, Bool, true, false, Some, None, Result, Ok}
+use Rattle.std.proofs.Common.{Err, refl, sym, ap, subst, ◌∙◌}
 use Rattle.ht_values.specs.declared.fault.Fault.{Fault}
 use Rattle.ht_values.specs.declared.operator.Op.{Op}
 use Rattle.ht_values.specs.declared.operator.Op.TheVariants.{Add, Subtract, Multiply, Divide}
@@ -20,11 +21,13 @@ use Rattle.meaning.specs.Meaning.{Form, Alters, DoText, Bounds}
 use Rattle.meaning.specs.Places.{variable_place, it_name, chunk_of_place}
 use Rattle.meaning.specs.Repeats.{counter_of, turns}
 use Rattle.meaning.specs.State.{RunState, delimiter_set, run_property_set}
-use Rattle.totality.proofs.Chain.{Underway, Has, HasRun, run_ok, run_fault, run_exited, yield, same_run, then, then_in, choose, computed, deep, nested}
+use Rattle.totality.proofs.Chain.{Underway, Has, HasRun, run_ok, run_fault, run_exited, yield, same_run, then, then_in}
+use Rattle.totality.proofs.Chain.{choose, computed, deep, nested}
 use Rattle.definitional_interpreter.proofs.Comes.{AreExact}
 use Rattle.totality.proofs.Leaves.{then_parsed_in, then_ends_in, then_edited, edits, declares_all, sets}
 use Rattle.totality.proofs.Levels.{Level}
-use Rattle.totality.proofs.Expressions.{val_has, number_by, truth_by, chunk_has, resolves_has, meets_has, leads_has, calls_has}
+use Rattle.totality.proofs.Expressions.{val_has, number_by, truth_by, chunk_has, resolves_has, meets_has, leads_has}
+use Rattle.totality.proofs.Expressions.{calls_has}
 use Rattle.totality.proofs.Blocks.{block_has, endless_has, while_has, counts_has}
 use Rattle.totality.proofs.Messages.{sends_text_has, goes_has}
 

@@ -1,5 +1,6 @@
 -- Lines have a transcript.
-use Rattle.std.proofs.Common.{◌≡◌, ◌≢◌, ◌⊎◌, inl, inr, ℕ, zero, suc, ◌+◌, ◌-◌, ◌<◌, List, [], ◌∷◌, ◌++◌, length, Bool, true, false, Option, Some, None, Result, Ok, Err, refl, sym, ap, subst, ◌∙◌, arith}
+use Rattle.std.proofs.Common.{◌≡◌, ◌≢◌, ◌⊎◌, inl, inr, ℕ, zero, suc, ◌+◌, ◌-◌, ◌<◌, List, [], ◌∷◌, ◌++◌, length, Bool}
+use Rattle.std.proofs.Common.{true, false, Option, Some, None, Result, Ok, Err, refl, sym, ap, subst, ◌∙◌, arith}
 use Rattle.std.specs.Prelude.{take, min, MatchBool, nat_lt, nat_le, option_map, slice_get, if◌then◌else◌}
 use Rattle.std.proofs.lemmas.Bool.{ltb-true}
 use Rattle.std.proofs.lemmas.List.{length-drop, length-take, length-append}
@@ -20,23 +21,27 @@ use Rattle.meaning.specs.Actions.{Action}
 use Rattle.stack_text.specs.declared.sheets.Version.TheVariants.{Second as second}
 use Rattle.stack_text.specs.Listing.{document_of, spelling}
 use Rattle.stack_text.specs.Spelling.{document_lines}
-use Rattle.session.specs.Commands.{ReadsAction, typing, is_dot_line, command_in, behind_name, second as second_word, words}
+use Rattle.session.specs.Commands.{ReadsAction, typing, is_dot_line, command_in, behind_name, second as second_word}
+use Rattle.session.specs.Commands.{words}
 use Rattle.session.specs.declared.command.Command.{Command}
-use Rattle.session.specs.declared.command.Command.TheVariants.{Undo, Redo, UndoTo, Show, Globals, Where, Cells, History, Save, Act, Quit}
+use Rattle.session.specs.declared.command.Command.TheVariants.{Undo, Redo, UndoTo, Show, Globals, Where, Cells}
+use Rattle.session.specs.declared.command.Command.TheVariants.{History, Save, Act, Quit}
 use Rattle.session.specs.declared.command.Reading.{Reading}
 use Rattle.session.specs.declared.command.Reading.TheVariants.{Lines, Opening, Reference, Typing}
 use Rattle.session.specs.declared.limits.TheConstants.{LONGEST_LINE}
 use Rattle.session.specs.declared.reply.Ending.{Ending}
 use Rattle.session.specs.declared.reply.Ending.TheVariants as endings
 use Rattle.session.specs.declared.reply.Refusal.{Refusal}
-use Rattle.session.specs.declared.reply.Refusal.TheVariants.{NothingToUndo, NothingToRedo, BadCommand, NoMemory, LineTooLong, FieldLocked, SaveFailed}
+use Rattle.session.specs.declared.reply.Refusal.TheVariants.{NothingToUndo, NothingToRedo, BadCommand, NoMemory}
+use Rattle.session.specs.declared.reply.Refusal.TheVariants.{LineTooLong, FieldLocked, SaveFailed}
 use Rattle.session.specs.declared.reply.Reply.{Reply}
 use Rattle.session.specs.Meaning.{ending_of, Fresh, Locked}
 use Rattle.session.specs.Replies.{ended, refused, Refuses, Obeys, Moves, Looks, ShowsStack, ShowsCells, cells_named}
 use Rattle.session.proofs.LineFeeds.{splits_whole}
 use Rattle.headline.specs.Answers.{answer}
 use Rattle.headline.specs.Answering.{is_quit}
-use Rattle.headline.specs.Headline.{Snapshot, Timeline, followed_by, Commands, at_cursor, cursor_back, cursor_forth, before, last_numbered, cursor_back_to, Does, DoesLine, line_counted, LineMoves}
+use Rattle.headline.specs.Headline.{Snapshot, Timeline, followed_by, Commands, at_cursor, cursor_back, cursor_forth}
+use Rattle.headline.specs.Headline.{before, last_numbered, cursor_back_to, Does, DoesLine, line_counted, LineMoves}
 use Rattle.headline.specs.InputLines.{AreLines, all_lines}
 use Rattle.headline.specs.Saving.{Kept, SettlesHeard, as_heard}
 use Rattle.headline.proofs.Sessions.{split_of}

@@ -1,5 +1,6 @@
 -- No external becomes free, whatever a line does.
-use Rattle.std.proofs.Common.{◌≡◌, inl, inr, ℕ, zero, suc, ◌+◌, ◌-◌, List, [], ◌∷◌, ◌++◌, Bool, true, false, Option, Some, None, refl, sym, subst}
+use Rattle.std.proofs.Common.{◌≡◌, inl, inr, ℕ, zero, suc, ◌+◌, ◌-◌, List, [], ◌∷◌, ◌++◌, Bool, true, false, Option}
+use Rattle.std.proofs.Common.{Some, None, refl, sym, subst}
 use Rattle.std.specs.Prelude.{take, drop, MatchBool, nat_lt, length, option_map}
 use Rattle.std.specs.List.{AllByRecursion}
 use Rattle.journal_entries.specs.State.{State}
@@ -9,7 +10,8 @@ use Rattle.definitional_interpreter.proofs.Comes.{Sight}
 use Rattle.definitional_interpreter.proofs.Outcomes.{acts_comes}
 use Rattle.session.specs.Commands.{is_dot_line, command_in, behind_name, second as second_word, words}
 use Rattle.session.specs.declared.command.Command.{Command}
-use Rattle.session.specs.declared.command.Command.TheVariants.{Undo, Redo, UndoTo, Show, Globals, Where, Cells, History as HistoryCommand, Save, Act, Quit}
+use Rattle.session.specs.declared.command.Command.TheVariants.{Undo, Redo, UndoTo, Show, Globals, Where, Cells}
+use Rattle.session.specs.declared.command.Command.TheVariants.{History as HistoryCommand, Save, Act, Quit}
 use Rattle.session.specs.declared.command.Reading.{Reading}
 use Rattle.session.specs.declared.command.Reading.TheVariants.{Lines}
 use Rattle.session.specs.declared.limits.TheConstants.{LONGEST_LINE}
@@ -19,7 +21,8 @@ use Rattle.session.specs.declared.reply.Reply.{Reply}
 use Rattle.session.specs.Meaning.{Fresh}
 use Rattle.session.specs.Replies.{Refuses, Obeys, Moves, ShowsCells, cells_named}
 use Rattle.session.proofs.LineFeeds.{all-append}
-use Rattle.headline.specs.Headline.{Snapshot, Timeline, Commands, at_cursor, cursor_back, cursor_forth, cursor_back_to, Does, DoesLine, line_counted, LineMoves}
+use Rattle.headline.specs.Headline.{Snapshot, Timeline, Commands, at_cursor, cursor_back, cursor_forth, cursor_back_to}
+use Rattle.headline.specs.Headline.{Does, DoesLine, line_counted, LineMoves}
 use Rattle.transcripts.specs.Laws.{IsDetermined}
 use Rattle.transcripts.proofs.Once.{answered, of_each}
 

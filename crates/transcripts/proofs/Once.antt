@@ -1,5 +1,6 @@
 -- A line is taken in one way.
-use Rattle.std.proofs.Common.{◌≡◌, ◌≢◌, ◌⊎◌, inl, inr, ℕ, zero, suc, ◌+◌, List, [], ◌∷◌, ◌++◌, Bool, true, false, Option, Some, None, Result, Ok, Err, refl, sym, ap, subst, ◌∙◌, arith, append_assoc}
+use Rattle.std.proofs.Common.{◌≡◌, ◌≢◌, ◌⊎◌, inl, inr, ℕ, zero, suc, ◌+◌, List, [], ◌∷◌, ◌++◌, Bool, true, false}
+use Rattle.std.proofs.Common.{Option, Some, None, Result, Ok, Err, refl, sym, ap, subst, ◌∙◌, arith, append_assoc}
 use Rattle.std.specs.Prelude.{slice_get, MatchBool, length, nat_lt}
 use Rattle.std.specs.List.{AllByRecursion}
 use Rattle.std.proofs.lemmas.Option.{none-some}
@@ -23,9 +24,11 @@ use Rattle.transcripts.specs.Replies.{RepliesAreOne}
 use Rattle.definitional_interpreter.specs.Told.{told}
 use Rattle.definitional_interpreter.proofs.Comes.{AreExact, Sight, sight}
 use Rattle.definitional_interpreter.proofs.Outcomes.{refers_comes}
-use Rattle.session.specs.Commands.{ReadsAction, typing, is_dot_line, command_in, behind_name, second as second_word, words}
+use Rattle.session.specs.Commands.{ReadsAction, typing, is_dot_line, command_in, behind_name, second as second_word}
+use Rattle.session.specs.Commands.{words}
 use Rattle.session.specs.declared.command.Command.{Command}
-use Rattle.session.specs.declared.command.Command.TheVariants.{Undo, Redo, UndoTo, Show, Globals, Where, Cells, History as HistoryCommand, Save, Act, Quit}
+use Rattle.session.specs.declared.command.Command.TheVariants.{Undo, Redo, UndoTo, Show, Globals, Where, Cells}
+use Rattle.session.specs.declared.command.Command.TheVariants.{History as HistoryCommand, Save, Act, Quit}
 use Rattle.session.specs.declared.command.Reading.{Reading}
 use Rattle.session.specs.declared.command.Reading.TheVariants.{Lines, Opening, Reference, Typing}
 use Rattle.session.specs.declared.limits.TheConstants.{LONGEST_LINE}
@@ -37,7 +40,8 @@ use Rattle.session.specs.declared.reply.Reply.{Reply}
 use Rattle.session.specs.Meaning.{ending_of, Fresh, Locked}
 use Rattle.session.specs.Replies.{Refuses, Obeys, Moves, Looks, ShowsStack, ShowsCells, cells_named}
 use Rattle.session.specs.Splits.{IsLine, Splits, ended_lines}
-use Rattle.headline.specs.Headline.{Snapshot, Timeline, IsPresent, followed_by, Replaces, KeepsOut, Commands, Does, DoesLine, line_counted, LineMoves}
+use Rattle.headline.specs.Headline.{Snapshot, Timeline, IsPresent, followed_by, Replaces, KeepsOut, Commands, Does}
+use Rattle.headline.specs.Headline.{DoesLine, line_counted, LineMoves}
 use Rattle.transcripts.specs.Laws.{IsDetermined}
 
 -- what the readings of texts give

@@ -54,7 +54,8 @@ one_step laws line old {reply} {reply2} {new} {new2} all a b =
     let kept = kept_by a.taken.ending a.taken.told new.1 a.taken.kept a.kept in
     let kept2 = kept_by b.taken.ending b.taken.told new2.1 b.taken.kept b.kept in
     let moved = one_line laws line old.0 all a.taken.taken b.taken.taken
-    (room_of a.taken.ending a.taken.told new.1 kept a.memory) (room_of b.taken.ending b.taken.told new2.1 kept2 b.memory)
+    (room_of a.taken.ending a.taken.told new.1 kept a.memory)
+    (room_of b.taken.ending b.taken.told new2.1 kept2 b.memory)
     in
     let ended : a.taken.ending ≡ b.taken.ending = ap (λ (r : Reply). r.ending) moved.0 in
     let told : a.taken.told ≡ b.taken.told =
@@ -71,7 +72,8 @@ one_rest : (lines : List (List ℕ)) (quits : Bool) (mid mid2 new new2 : Timelin
     → (Session (Succeeds (SettlesHeard LineMoves)) mid lines more new →
     Session (Succeeds (SettlesHeard LineMoves)) mid lines more2 new2 → (more ≡ more2) × (new ≡ new2))
     → MatchBool quits ((more ≡ []) × (new ≡ mid)) (Session (Succeeds (SettlesHeard LineMoves)) mid lines more new)
-    → MatchBool quits ((more2 ≡ []) × (new2 ≡ mid2)) (Session (Succeeds (SettlesHeard LineMoves)) mid2 lines more2 new2) →
+    → MatchBool quits ((more2 ≡ []) × (new2 ≡ mid2)) (Session (Succeeds (SettlesHeard LineMoves)) mid2 lines more2 new2)
+    →
     mid ≡ mid2 → (more ≡ more2) × (new ≡ new2)
 one_rest lines true mid mid2 new new2 more more2 later a b same = (a.0 ∙ sym b.0, a.1 ∙ same ∙ sym b.1)
 one_rest lines false mid mid2 new new2 more more2 later a b same = later a

@@ -1,7 +1,9 @@
 -- What the changes, turns and steps in a rule keep: whole states, and texts.
 use Rattle.std.specs.Prelude.{IfSome, unwrap_or}
 use Rattle.std.specs.List.{All, AllByRecursion}
-use Rattle.std.proofs.Common.{◌≡◌, ◌+◌, ◌<◌, ℕ, zero, suc, List, [], ◌∷◌, ◌++◌, length, map, get_or, set, Bool, true, false, cond, Option, Some, None, option_map, is_some, Result, Ok, Err, IfOk, refl, sym, ap, subst, ◌∙◌, arith}
+use Rattle.std.proofs.Common.{◌≡◌, ◌+◌, ◌<◌, ℕ, zero, suc, List, [], ◌∷◌, ◌++◌, length, map, get_or, set, Bool, true}
+use Rattle.std.proofs.Common.{false, cond, Option, Some, None, option_map, is_some, Result, Ok, Err, IfOk, refl, sym}
+use Rattle.std.proofs.Common.{ap, subst, ◌∙◌, arith}
 use Rattle.std.proofs.lemmas.List.{length-map, get_or-map, get_or-set_same}
 use Rattle.std.proofs.lemmas.List.Elements.{All-get_or, All-from_recursion, recursion_from_All}
 use Rattle.ht_values.specs.declared.fault.Fault.{Fault}
@@ -32,7 +34,8 @@ use Rattle.journal_entries.specs.State.{State, seen_at, titles_of}
 use Rattle.journal_entries.specs.Changes.{changed, fits, HasTexts, makes_current}
 use Rattle.journal_entries.specs.Places.{Write, put, put_all, in_stack, current_card, in_the_stack}
 use Rattle.stack_places.specs.Places.{number}
-use Rattle.structural_changes.specs.Writes.{StackWrite, following, writes_of_new_part, writes_of_new_card, writes_of_new_background, writes_of_deletion}
+use Rattle.structural_changes.specs.Writes.{StackWrite, following, writes_of_new_part, writes_of_new_card}
+use Rattle.structural_changes.specs.Writes.{writes_of_new_background, writes_of_deletion}
 use Rattle.journal_entries.specs.Exchange.{with_cells}
 use Rattle.journal_entries.specs.declared.change.Change.{Change}
 use Rattle.journal_entries.specs.declared.change.Change.TheVariants as change
@@ -58,12 +61,15 @@ use Rattle.meaning.specs.declared.end.How.TheVariants.{Next, ExitRepeat, NextRep
 use Rattle.meaning.specs.declared.end.Stop.{Stop}
 use Rattle.meaning.specs.declared.frame.Frame.{Frame}
 use Rattle.meaning.specs.Messages.{Finds, only, lines_of}
-use Rattle.meaning.specs.Places.{Edits, Assigns, DeclaresAll, Sets, Adds, field_place, field_named_place, layer_of_field, it_name}
+use Rattle.meaning.specs.Places.{Edits, Assigns, DeclaresAll, Sets, Adds, field_place, field_named_place}
+use Rattle.meaning.specs.Places.{layer_of_field, it_name}
 use Rattle.meaning.specs.Repeats.{Outcome, returned, ends, leaves_repeat}
 use Rattle.meaning.specs.State.{RunState, Step, shows, noted, run_property_set, run_property, bound, handler_frame}
 use Rattle.meaning.specs.Values.{Yields, Parses}
 use Rattle.preservation.specs.Laws.{HasMemory}
-use Rattle.whole_states.specs.Texts.{RunTexts, LocalsTexts, FrameTexts, StorageTexts, HowTexts, InputTexts, AskTexts, IsFixed, sorts_of, IsWhole, HandlerTexts, HandlersTexts, StmtsTexts, TreesHaveTexts}
+use Rattle.whole_states.specs.Texts.{RunTexts, LocalsTexts, FrameTexts, StorageTexts, HowTexts, InputTexts, AskTexts}
+use Rattle.whole_states.specs.Texts.{IsFixed, sorts_of, IsWhole, HandlerTexts, HandlersTexts, StmtsTexts}
+use Rattle.whole_states.specs.Texts.{TreesHaveTexts}
 use Rattle.whole_states.proofs.TreeTexts.{scripts_have_texts}
 use Rattle.whole_states.proofs.ValueTexts.{given_text, empty_text, word_text, byte_text, EditTexts}
 use Rattle.whole_states.proofs.Turns.{AreTexts, turn_texts}
@@ -106,7 +112,8 @@ externals-changed s change.DeleteCard =
 
 pub sound_made : {w w2 : History} {c : Change} → fits w.now c ≡ true → HasTexts c → Made w w2 c → IsWhole w → IsWhole w2
 sound_made {w} {w2} {c} fit texts made q =
-    let same : sorts_of w2.now.externals ≡ sorts_of w.now.externals = ap (λ h. sorts_of h.now.externals) made.history ∙ ap sorts_of (externals-changed w.now c) in
+    let same : sorts_of w2.now.externals ≡ sorts_of w.now.externals =
+    ap (λ h. sorts_of h.now.externals) made.history ∙ ap sorts_of (externals-changed w.now c) in
     record { history = IsHistory-made w w2 c fit texts made q.history; fixed = subst (All IsFixed) (sym same) q.fixed }
 
 same_world : {w w2 : History} → w2 ≡ w → IsWhole w → IsWhole w2
@@ -118,55 +125,85 @@ among : (kind : Bool) (name : List ℕ) (es : List Seen) (k : ℕ) → external_
 among kind name [] k is = let no : ⊥ = cc in absurd no
 among kind name (e ∷ es) k is = by (answers kind name e) (external_named es kind name) (among kind name es) is
   where
-    by : (b : Bool) (rest : Option ℕ) → ((j : ℕ) → rest ≡ Some j → j < length es) → cond b (Some 0) (option_map suc rest) ≡ Some k → k < length (e ∷ es)
+    by : (b : Bool) (rest : Option ℕ) → ((j : ℕ) → rest ≡ Some j → j < length es)
+        → cond b (Some 0) (option_map suc rest) ≡ Some k → k < length (e ∷ es)
     by true rest h is = let first : 0 ≡ k = cc in omega (arith, first)
     by false None h is = let no : ⊥ = cc in absurd no
     by false (Some j) h is = let later : suc j ≡ k = cc in let less = h j refl in omega (arith, later, less)
 
 -- the external of a number is there
-pub named_stands : (w : History) (kind : Bool) (name : List ℕ) {k : ℕ} → external_named w.now.externals kind name ≡ Some k → k < length w.now.externals
+pub named_stands : (w : History) (kind : Bool) (name : List ℕ) {k : ℕ}
+    → external_named w.now.externals kind name ≡ Some k → k < length w.now.externals
 named_stands w kind name {k} is = among kind name w.now.externals k is
 
-pub stands_after : (w w2 : History) {k : ℕ} → base w2 ≡ base w → k < length w.now.externals → k < length w2.now.externals
+pub stands_after : (w w2 : History) {k : ℕ} → base w2 ≡ base w → k < length w.now.externals
+    → k < length w2.now.externals
 unfolding base
 stands_after w w2 kept there =
-    let titles : length (titles_of w2.now.externals) ≡ length (titles_of w.now.externals) = ap (λ b. length b.titles) kept in
+    let titles : length (titles_of w2.now.externals) ≡ length (titles_of w.now.externals) =
+    ap (λ b. length b.titles) kept in
     omega (arith, there, titles, length-map w.now.externals (λ e. e.title), length-map w2.now.externals (λ e. e.title))
 
-known_turn : (cells2 : List (List ℕ)) (ask : Ask) (sort : ℕ) (cells : List (List ℕ)) (input : Input) → IsFixed sort → AreTexts cells → InputTexts input →
+known_turn : (cells2 : List (List ℕ)) (ask : Ask) (sort : ℕ) (cells : List (List ℕ)) (input : Input) → IsFixed sort
+    → AreTexts cells → InputTexts input →
     IfSome (turn_of sort cells input) (λ turn. (ask ≡ turn.0) × (cells2 ≡ turn.1)) → AskTexts ask × AreTexts cells2
 known_turn cells2 ask sort cells input fixed h k known =
     let turn = (fixed cells input).0 in
     let is = (fixed cells input).1 in
-    let told : (ask ≡ turn.0) × (cells2 ≡ turn.1) = subst (λ o. IfSome o (λ t. (ask ≡ t.0) × (cells2 ≡ t.1))) is known in
-    let texts : AskTexts turn.0 × AreTexts turn.1 = subst (λ o. IfSome o (λ t. AskTexts t.0 × AreTexts t.1)) is (turn_texts sort cells input h k) in
+    let told : (ask ≡ turn.0) × (cells2 ≡ turn.1) =
+    subst (λ o. IfSome o (λ t. (ask ≡ t.0) × (cells2 ≡ t.1))) is known in
+    let texts : AskTexts turn.0 × AreTexts turn.1 =
+    subst (λ o. IfSome o (λ t. AskTexts t.0 × AreTexts t.1)) is (turn_texts sort cells input h k) in
     (subst AskTexts (sym told.0) texts.0, subst AreTexts (sym told.1) texts.1)
 
-pub sound_turn : {w w2 : History} {k : ℕ} {input : Input} {ask : Ask} → k < length w.now.externals → InputTexts input → TookTurn w w2 k input ask → IsWhole w → IsWhole w2 × AskTexts ask
+pub sound_turn : {w w2 : History} {k : ℕ} {input : Input} {ask : Ask} → k < length w.now.externals → InputTexts input
+    → TookTurn w w2 k input ask → IsWhole w → IsWhole w2 × AskTexts ask
 sound_turn {w} {w2} {k} {input} {ask} there texts took q =
     let old = seen_at w.now k in
     let cells = (seen_at w2.now k).cells in
     let was : IsExternal old = All-get_or IsExternal w.now.externals k none_seen there q.history.now.state.externals in
-    let sort : get_or (sorts_of w.now.externals) k 0 ≡ old.sort = get_or-map (λ e. e.sort) w.now.externals k none_seen 0 there in
-    let fixed : IsFixed old.sort = subst IsFixed sort (All-get_or IsFixed (sorts_of w.now.externals) k 0 (omega (arith, there, length-map w.now.externals (λ e. e.sort))) q.fixed) in
-    let known = known_turn cells ask old.sort old.cells input fixed (recursion_from_All IsText old.cells was.cells) texts took.turn.answers.known in
-    let found : seen_at w2.now k ≡ with_cells old cells = ap (λ s. seen_at s k) took.turn.state ∙ get_or-set_same w.now.externals k (with_cells old cells) none_seen there in
-    let is : IsExternal (seen_at w2.now k) = subst IsExternal (sym found) (record { title = was.title; cells = All-from_recursion IsText cells known.1; form = subst (IsKind old.sort old.answers_calls) (sym took.turn.answers.count) was.form }) in
-    let sorts : sorts_of w2.now.externals ≡ sorts_of w.now.externals = ap (λ s. sorts_of s.externals) took.turn.state ∙ kept w.now.externals k cells in
-    (record { history = IsHistory-turned w w2 k input ask there is took q.history; fixed = subst (All IsFixed) (sym sorts) q.fixed }, known.0)
+    let sort : get_or (sorts_of w.now.externals) k 0 ≡ old.sort =
+    get_or-map (λ e. e.sort) w.now.externals k none_seen 0 there in
+    let fixed : IsFixed old.sort = subst IsFixed sort
+    (All-get_or IsFixed (sorts_of w.now.externals) k 0
+    (omega (arith, there, length-map w.now.externals (λ e. e.sort))) q.fixed) in
+    let known = known_turn cells ask old.sort old.cells input fixed (recursion_from_All IsText old.cells was.cells)
+    texts took.turn.answers.known in
+    let found : seen_at w2.now k ≡ with_cells old cells = ap (λ s. seen_at s k) took.turn.state
+    ∙ get_or-set_same w.now.externals k (with_cells old cells) none_seen there in
+    let is : IsExternal (seen_at w2.now k) = subst IsExternal (sym found)
+    (record {
+      title = was.title;
+      cells = All-from_recursion IsText cells known.1;
+      form = subst
+          (IsKind old.sort old.answers_calls) (sym took.turn.answers.count) was.form;
+    }) in
+    let sorts : sorts_of w2.now.externals ≡ sorts_of w.now.externals =
+    ap (λ s. sorts_of s.externals) took.turn.state ∙ kept w.now.externals k cells in (
+      record {
+        history = IsHistory-turned w w2 k input ask there is took q.history;
+        fixed = subst (All IsFixed)
+            (sym sorts) q.fixed;
+      },
+      known.0,
+    )
   where
-    kept : (es : List Seen) (i : ℕ) (cells : List (List ℕ)) → sorts_of (set es i (with_cells (get_or es i none_seen) cells)) ≡ sorts_of es
+    kept : (es : List Seen) (i : ℕ) (cells : List (List ℕ))
+        → sorts_of (set es i (with_cells (get_or es i none_seen) cells)) ≡ sorts_of es
     kept [] i cells = refl
     kept (e ∷ es) zero cells = refl
     kept (e ∷ es) (suc i) cells = ap (λ xs. e.sort ∷ xs) (kept es i cells)
 
 -- ---- writes
 
-stood : {A : Type 0} (t : Option (List ℕ)) (k : List ℕ → Result A Fault) (a : A) → and_then (ok_or t NoSuchObject) k ≡ Ok a → is_some t ≡ true
+stood : {A : Type 0} (t : Option (List ℕ)) (k : List ℕ → Result A Fault) (a : A)
+    → and_then (ok_or t NoSuchObject) k ≡ Ok a → is_some t ≡ true
 stood (Some t) k a is = refl
 stood None k a is = cc
 
-due_stood : (s : State) (v : VariablesView) (delimiter : ℕ) (p : PlaceView) (e : Edit) (t : List ℕ) (field card : ℕ) → p.storage ≡ field_text field card → due s v delimiter p e ≡ Ok (Some t) → is_some (text_at s.stack field card) ≡ true
+due_stood : (s : State) (v : VariablesView) (delimiter : ℕ) (p : PlaceView) (e : Edit) (t : List ℕ) (field card : ℕ)
+    → p.storage ≡ field_text field card → due s v delimiter p e ≡ Ok (Some t)
+    → is_some (text_at s.stack field card) ≡ true
 due_stood s v delimiter p e t field card at is =
     let edit : List ℕ → Result (Option (List ℕ)) Fault = λ u. edited delimiter p.chunks e u in
     stood (text_at s.stack field card) edit (Some t) (subst (λ h. and_then (whole s v h) edit ≡ Ok (Some t)) at is)
@@ -175,7 +212,8 @@ pub same_frame : {f f2 : Frame} → f2 ≡ f → FrameTexts f → FrameTexts f2
 same_frame same h = subst FrameTexts (sym same) h
 
 module _ (cut : PartsCut) where
-  pub sound_edits : {w w2 : History} {f f2 : Frame} {delimiter : ℕ} {p : PlaceView} {e : Edit} {o : Result (Unit {0}) Stop} → StorageTexts p.storage → EditTexts e → delimiter < 256 →
+  pub sound_edits : {w w2 : History} {f f2 : Frame} {delimiter : ℕ} {p : PlaceView} {e : Edit}
+      {o : Result (Unit {0}) Stop} → StorageTexts p.storage → EditTexts e → delimiter < 256 →
       Edits w f delimiter p e o w2 f2 → HasMemory o → IsWhole w → FrameTexts f → IsWhole w2 × FrameTexts f2
   sound_edits placed texts byte Edits.edit_memory has q h = absurd (has refl)
   sound_edits placed texts byte (Edits.edit_faults _ same frame) has q h = (same_world same q, same_frame frame h)
@@ -185,15 +223,25 @@ module _ (cut : PartsCut) where
       (both.0, same_frame frame both.1)
     where
       is_text : (t : List ℕ) → due w.now f.variables delimiter p e ≡ Ok (Some t) → IsText t
-      is_text t is = subst (λ o. IfOk o (λ x. IfSome x IsText)) is (due_is_text cut w.now f.variables delimiter p e q.history.now.state h byte texts)
+      is_text t is = subst (λ o. IfOk o (λ x. IfSome x IsText)) is
+          (due_is_text cut w.now f.variables delimiter p e q.history.now.state h byte texts)
 
-      writes : {w3 : History} {v3 : VariablesView} → Writes w f.variables p.storage (due w.now f.variables delimiter p e) w3 v3 → IsWhole w3 × LocalsTexts v3.locals
+      writes : {w3 : History} {v3 : VariablesView}
+          → Writes w f.variables p.storage (due w.now f.variables delimiter p e) w3 v3
+          → IsWhole w3 × LocalsTexts v3.locals
       writes (Writes.nothing_due _) = (q, h)
-      writes (Writes.to_global {name = name} {t = t} at is made) = let named = subst StorageTexts at placed in (sound_made named.0 (named.1, is_text t is) made q, h)
-      writes (Writes.to_own {name = name} {t = t} _ is same) = (q, subst (λ (x : VariablesView). LocalsTexts x.locals) (sym same) (with_value_texts name (Some t) f.variables.locals h (is_text t is)))
-      writes (Writes.to_field {field = field} {card = card} {t = t} at is made) = (sound_made (due_stood w.now f.variables delimiter p e t field card at is) (is_text t is) made q, h)
+      writes (Writes.to_global {name = name} {t = t} at is made) =
+          let named = subst StorageTexts at placed in (sound_made named.0 (named.1, is_text t is) made q, h)
+      writes (Writes.to_own {name = name} {t = t} _ is same) = (
+        q,
+        subst (λ (x : VariablesView). LocalsTexts x.locals)
+            (sym same) (with_value_texts name (Some t) f.variables.locals h (is_text t is)),
+      )
+      writes (Writes.to_field {field = field} {card = card} {t = t} at is made) =
+          (sound_made (due_stood w.now f.variables delimiter p e t field card at is) (is_text t is) made q, h)
 
-  pub sound_assigns : {w w2 : History} {f f2 : Frame} {delimiter : ℕ} {variable : Option (List ℕ)} {t : List ℕ} {o : Result (Unit {0}) Stop} → IfSome variable IsText → IsText t → delimiter < 256 →
+  pub sound_assigns : {w w2 : History} {f f2 : Frame} {delimiter : ℕ} {variable : Option (List ℕ)} {t : List ℕ}
+      {o : Result (Unit {0}) Stop} → IfSome variable IsText → IsText t → delimiter < 256 →
       Assigns w f delimiter variable t o w2 f2 → HasMemory o → IsWhole w → FrameTexts f → IsWhole w2 × FrameTexts f2
   sound_assigns name texts byte Assigns.assign_memory has q h = absurd (has refl)
   sound_assigns name texts byte (Assigns.no_variable _) has q h = (q, h)
@@ -208,7 +256,9 @@ declared_texts v name h = by v.all_global
     by true = h
     by false = with_value_texts name None v.locals h tt
 
-pub sound_declares_all : {w w2 : History} {f f2 : Frame} {names : List (List ℕ)} {o : Result (Unit {0}) Stop} → AllByRecursion IsText names → DeclaresAll w f names o w2 f2 → HasMemory o → IsWhole w → FrameTexts f → IsWhole w2 × FrameTexts f2
+pub sound_declares_all : {w w2 : History} {f f2 : Frame} {names : List (List ℕ)} {o : Result (Unit {0}) Stop}
+    → AllByRecursion IsText names → DeclaresAll w f names o w2 f2 → HasMemory o → IsWhole w → FrameTexts f
+    → IsWhole w2 × FrameTexts f2
 sound_declares_all texts DeclaresAll.declare_memory has q h = absurd (has refl)
 sound_declares_all texts (DeclaresAll.none_declared _) has q h = (q, h)
 sound_declares_all {f = f} texts (DeclaresAll.declared {name = name} {v = v} is declares frame rest) has q h =
@@ -216,19 +266,26 @@ sound_declares_all {f = f} texts (DeclaresAll.declared {name = name} {v = v} is 
     let first = declare declares all.0 q h in
     sound_declares_all all.1 rest has first.0 (same_frame frame first.1)
   where
-    declare : {w w3 : History} {n : List ℕ} {v3 : VariablesView} → Declares w f.variables n w3 v3 → IsText n → IsWhole w → LocalsTexts f.variables.locals → IsWhole w3 × LocalsTexts v3.locals
-    declare {n = n} (Declares.has_value _ same) name q h = (q, subst (λ (x : VariablesView). LocalsTexts x.locals) (sym same) (declared_texts f.variables n h))
-    declare {n = n} (Declares.is_new _ made same) name q h =
-        (sound_made (folded_is_folded n) (folded_text n name, empty_text) made q, subst (λ (x : VariablesView). LocalsTexts x.locals) (sym same) (declared_texts f.variables n h))
+    declare : {w w3 : History} {n : List ℕ} {v3 : VariablesView} → Declares w f.variables n w3 v3 → IsText n → IsWhole w
+        → LocalsTexts f.variables.locals → IsWhole w3 × LocalsTexts v3.locals
+    declare {n = n} (Declares.has_value _ same) name q h =
+        (q, subst (λ (x : VariablesView). LocalsTexts x.locals) (sym same) (declared_texts f.variables n h))
+    declare {n = n} (Declares.is_new _ made same) name q h = (
+      sound_made (folded_is_folded n) (folded_text n name, empty_text) made q,
+      subst
+          (λ (x : VariablesView). LocalsTexts x.locals) (sym same) (declared_texts f.variables n h),
+    )
 
-pub sound_sets : {w w2 : History} {m : Referent} {prop : Prop} {t : List ℕ} {o : Result (Unit {0}) Stop} → IsText t → Sets w m prop t o w2 → HasMemory o → IsWhole w → IsWhole w2
+pub sound_sets : {w w2 : History} {m : Referent} {prop : Prop} {t : List ℕ} {o : Result (Unit {0}) Stop} → IsText t
+    → Sets w m prop t o w2 → HasMemory o → IsWhole w → IsWhole w2
 sound_sets texts Sets.set_memory has q = absurd (has refl)
 sound_sets texts (Sets.set_faults _ same) has q = same_world same q
 sound_sets {w} {w2} {m} {prop} {t} texts (Sets.set_made is made) has q =
     let fit = subst (λ x. IfOk x (FitsIn w.now.stack)) is (setting_fits w.now.stack m prop t) in
     sound_made (fit w.now refl) (subst (λ x. IfOk x HasTexts) is (setting_texts w.now.stack m prop t texts)) made q
 
-pub sound_adds : {w w2 : History} {c : Change} {o : Result (Unit {0}) Stop} → HasTexts c → Adds w c o w2 → HasMemory o → IsWhole w → IsWhole w2
+pub sound_adds : {w w2 : History} {c : Change} {o : Result (Unit {0}) Stop} → HasTexts c → Adds w c o w2 → HasMemory o
+    → IsWhole w → IsWhole w2
 sound_adds texts Adds.add_memory has q = absurd (has refl)
 sound_adds texts (Adds.too_many _) has q = q
 sound_adds texts (Adds.adds fit made) has q = sound_made fit texts made q
@@ -248,7 +305,8 @@ sound_noted name id is h = subst RunTexts (sym is) (record { delimiter = h.delim
 IfRun : Result RunState Fault → Type 0
 IfRun r = IfOk r RunTexts
 
-pub sound_property : {r r2 : RunState} (p : RunProp) (t : List ℕ) → run_property_set r p t ≡ Ok r2 → IsText t → RunTexts r → RunTexts r2
+pub sound_property : {r r2 : RunState} (p : RunProp) (t : List ℕ) → run_property_set r p t ≡ Ok r2 → IsText t
+    → RunTexts r → RunTexts r2
 sound_property {r} p t is texts h = subst (λ o. IfOk o RunTexts) is (by p t texts)
   where
     locks : (o : Result Bool Fault) → IfOk (and_then o (λ b. Ok (record r { lock_messages = b }))) RunTexts
@@ -261,7 +319,8 @@ sound_property {r} p t is texts h = subst (λ o. IfOk o RunTexts) is (by p t tex
 
     by : (p : RunProp) (t : List ℕ) → IsText t → IfOk (run_property_set r p t) RunTexts
     by ItemDelimiter [] k = tt
-    by ItemDelimiter (b ∷ []) k = record { delimiter = (recursion_from_All (λ c. c < 256) (b ∷ []) k.bytes).0; result = h.result }
+    by ItemDelimiter (b ∷ []) k =
+        record { delimiter = (recursion_from_All (λ c. c < 256) (b ∷ []) k.bytes).0; result = h.result }
     by ItemDelimiter (b ∷ c ∷ t) k = tt
     by LockMessages t k = locks (truth_of t)
     by EditBkgnd t k = edits (truth_of t)
@@ -271,15 +330,20 @@ property_read r ItemDelimiter h = byte_text r.delimiter h.delimiter
 property_read r LockMessages h = word_text r.lock_messages
 property_read r EditBkgnd h = word_text r.edit_background
 
-returned_texts : (kind : HandlerKind) (v : List ℕ) (r : RunState) → IsText v → RunTexts r → IsText (returned kind v r).value × RunTexts (returned kind v r).run
+returned_texts : (kind : HandlerKind) (v : List ℕ) (r : RunState) → IsText v → RunTexts r
+    → IsText (returned kind v r).value × RunTexts (returned kind v r).run
 returned_texts Command v r k h = (empty_text, record { delimiter = h.delimiter; result = k })
 returned_texts Function v r k h = (k, h)
 
-pub sound_returned : {v2 : List ℕ} {r r2 : RunState} (kind : HandlerKind) (v : List ℕ) → returned kind v r ≡ record { value = v2; run = r2 } → IsText v → RunTexts r → IsText v2 × RunTexts r2
-sound_returned {r = r} kind v is k h = subst (λ (x : Outcome). IsText x.value × RunTexts x.run) is (returned_texts kind v r k h)
+pub sound_returned : {v2 : List ℕ} {r r2 : RunState} (kind : HandlerKind) (v : List ℕ)
+    → returned kind v r ≡ record { value = v2; run = r2 } → IsText v → RunTexts r → IsText v2 × RunTexts r2
+sound_returned {r = r} kind v is k h =
+    subst (λ (x : Outcome). IsText x.value × RunTexts x.run) is (returned_texts kind v r k h)
 
-pub sound_ends : {v : List ℕ} {r r2 : RunState} (kind : HandlerKind) (how : How) → ends kind how r ≡ Some (record { value = v; run = r2 }) → HowTexts how → RunTexts r → IsText v × RunTexts r2
-sound_ends {r = r} kind how is k h = subst (λ o. IfSome o (λ (x : Outcome). IsText x.value × RunTexts x.run)) is (by how k)
+pub sound_ends : {v : List ℕ} {r r2 : RunState} (kind : HandlerKind) (how : How)
+    → ends kind how r ≡ Some (record { value = v; run = r2 }) → HowTexts how → RunTexts r → IsText v × RunTexts r2
+sound_ends {r = r} kind how is k h =
+    subst (λ o. IfSome o (λ (x : Outcome). IsText x.value × RunTexts x.run)) is (by how k)
   where
     by : (how : How) → HowTexts how → IfSome (ends kind how r) (λ (x : Outcome). IsText x.value × RunTexts x.run)
     by Next k = (empty_text, h)
@@ -302,30 +366,36 @@ sound_leaves how is k = subst (λ o. IfSome o HowTexts) is (by how k)
 
 -- ---- values that are computed, read or found
 
-pub sound_yields : {A : Type 0} {c : Result A Fault} {o : Result A Stop} (P : A → Type 0) → IfOk c P → Yields c o → IfOk o P
+pub sound_yields : {A : Type 0} {c : Result A Fault} {o : Result A Stop} (P : A → Type 0) → IfOk c P → Yields c o
+    → IfOk o P
 sound_yields P h Yields.yields_memory = tt
 sound_yields P h (Yields.yields is) = subst (λ x. IfOk x P) is h
 sound_yields P h (Yields.faults _) = tt
 
-pub sound_parses : {A : Type 0} {IsRead : List Token → A → Type 0} {P : A → Type 0} {t : List ℕ} {a : A} → TreesHaveTexts IsRead P → Parses IsRead t (Ok a) → IsText t → P a
+pub sound_parses : {A : Type 0} {IsRead : List Token → A → Type 0} {P : A → Type 0} {t : List ℕ} {a : A}
+    → TreesHaveTexts IsRead P → Parses IsRead t (Ok a) → IsText t → P a
 sound_parses {t = t} {a = a} law (Parses.parses reads) h = law t a h reads
 
-script_text : (o : Option Object) → IfSome o (λ x. IsText x.name × IsText x.script) → IsText (unwrap_or (option_map (λ x. x.script) o) [])
+script_text : (o : Option Object) → IfSome o (λ x. IsText x.name × IsText x.script)
+    → IsText (unwrap_or (option_map (λ x. x.script) o) [])
 script_text None h = empty_text
 script_text (Some x) h = h.1
 
-handler_texts : (hs : stm.Handlers) (kind : HandlerKind) (name : List ℕ) → HandlersTexts hs → IfSome (handler_in hs kind name) HandlerTexts
+handler_texts : (hs : stm.Handlers) (kind : HandlerKind) (name : List ℕ) → HandlersTexts hs
+    → IfSome (handler_in hs kind name) HandlerTexts
 handler_texts stm.no_handlers kind name h = tt
 handler_texts (stm.and_handler x xs) kind name h = by (handler_texts xs kind name h.1) (takes kind name x)
   where
-    by : IfSome (handler_in xs kind name) HandlerTexts → (b : Bool) → IfSome (cond b (Some x) (handler_in xs kind name)) HandlerTexts
+    by : IfSome (handler_in xs kind name) HandlerTexts → (b : Bool)
+        → IfSome (cond b (Some x) (handler_in xs kind name)) HandlerTexts
     by rest true = h.0
     by rest false = rest
 
 abbrev FoundTexts : Option Found → Type 0
 FoundTexts o = IfSome o (λ fd. HandlerTexts fd.handler)
 
-first_texts : {s : Content} {path name : List ℕ} {kind : HandlerKind} {o : Result (Option Found) Fault} → First s path kind name o → IsWellFormed s → IfOk o FoundTexts
+first_texts : {s : Content} {path name : List ℕ} {kind : HandlerKind} {o : Result (Option Found) Fault}
+    → First s path kind name o → IsWellFormed s → IfOk o FoundTexts
 first_texts (First.nothing_left _ is) w = subst (λ x. IfOk x FoundTexts) (sym is) tt
 first_texts {s} {path} {name} {kind} (First.here {id = id} {hs = hs} {h = h} _ reads found is) w =
     let texts = scripts_have_texts (object_script s id) hs (script_text (object_at s id) (w.names id)) reads in
@@ -334,15 +404,20 @@ first_texts {s} {path} {name} {kind} (First.here {id = id} {hs = hs} {h = h} _ r
 first_texts (First.further_on _ _ _ rest) w = first_texts rest w
 first_texts (First.no_script _ _ is) w = subst (λ x. IfOk x FoundTexts) (sym is) tt
 
-pub sound_finds : {s : Content} {path name : List ℕ} {kind : HandlerKind} {fd : Found} → Finds s path kind name (Ok (Some fd)) → IsWellFormed s → HandlerTexts fd.handler
+pub sound_finds : {s : Content} {path name : List ℕ} {kind : HandlerKind} {fd : Found}
+    → Finds s path kind name (Ok (Some fd)) → IsWellFormed s → HandlerTexts fd.handler
 sound_finds (Finds.finds first) w = first_texts first w
 
-bound_texts : (names arguments : List (List ℕ)) (v : VariablesView) → AreTexts arguments → LocalsTexts v.locals → LocalsTexts (bound names arguments v).locals
+bound_texts : (names arguments : List (List ℕ)) (v : VariablesView) → AreTexts arguments → LocalsTexts v.locals
+    → LocalsTexts (bound names arguments v).locals
 bound_texts [] arguments v h k = k
-bound_texts (n ∷ names) [] v h k = bound_texts names [] (with_local v n (Some [])) tt (with_value_texts n (Some []) v.locals k empty_text)
-bound_texts (n ∷ names) (a ∷ arguments) v h k = bound_texts names arguments (with_local v n (Some a)) h.1 (with_value_texts n (Some a) v.locals k h.0)
+bound_texts (n ∷ names) [] v h k =
+    bound_texts names [] (with_local v n (Some [])) tt (with_value_texts n (Some []) v.locals k empty_text)
+bound_texts (n ∷ names) (a ∷ arguments) v h k =
+    bound_texts names arguments (with_local v n (Some a)) h.1 (with_value_texts n (Some a) v.locals k h.0)
 
-pub sound_handler_frame : {f : Frame} (me target : ℕ) (names arguments : List (List ℕ)) → f ≡ handler_frame me target names arguments → AreTexts arguments → FrameTexts f
+pub sound_handler_frame : {f : Frame} (me target : ℕ) (names arguments : List (List ℕ))
+    → f ≡ handler_frame me target names arguments → AreTexts arguments → FrameTexts f
 sound_handler_frame me target names arguments is h = same_frame is (bound_texts names arguments _ h tt)
 
 pub sound_only : {t : List ℕ} (vs : List (List ℕ)) → only vs ≡ Some t → AreTexts vs → IsText t
@@ -372,11 +447,14 @@ IfPlaces o = IfOk o (λ p. StorageTexts p.storage)
 pub field_place_texts : (s : State) (m : Referent) → IfOk (field_place s m) (λ p. StorageTexts p.storage)
 field_place_texts s m = by (keeps_for s.stack m.object m.card)
   where
-    by : (b : Bool) → IfPlaces (and_then (cond b (Ok (field_text m.object (cond (is_shared s.stack m.object) 0 m.card))) (Err NoSuchObject)) (λ h. Ok (record { storage = h; chunks = [] })))
+    by : (b : Bool) → IfPlaces (and_then
+        (cond b (Ok (field_text m.object (cond (is_shared s.stack m.object) 0 m.card))) (Err NoSuchObject))
+        (λ h. Ok (record { storage = h; chunks = [] })))
     by true = tt
     by false = tt
 
-pub named_place_texts : (s : State) (b : Bool) (name : List ℕ) → IfOk (field_named_place s b name) (λ p. StorageTexts p.storage)
+pub named_place_texts : (s : State) (b : Bool) (name : List ℕ)
+    → IfOk (field_named_place s b name) (λ p. StorageTexts p.storage)
 named_place_texts s b name = by (field_named s.stack s.current (layer_of_field b) name)
   where
     by : (r : Result Referent Fault) → IfPlaces (and_then r (field_place s))

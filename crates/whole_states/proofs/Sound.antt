@@ -1,3 +1,4 @@
+-- Written by tools/meaning/whole.py from tools/meaning/meaning.rules.
 -- Each run leads from whole states to whole states, where its lines are texts and no external is free: an induction over
 -- the rules.
 use Rattle.std.specs.Prelude.{IfSome, ℕ, ℤ, pos, List, Bool, not, Option, Result}

@@ -3,7 +3,8 @@ use Rattle.std.specs.Prelude.{IfSome, option_and_then, find, unwrap_or}
 use Rattle.std.specs.List.{All}
 use Rattle.std.specs.Option.{ok_or}
 use Rattle.std.specs.Fmt.{decimal}
-use Rattle.std.proofs.Common.{◌≡◌, ◌<◌, ◌≤◌, ℕ, List, [], ◌∷◌, ◌++◌, length, codes, Bool, true, false, cond, Option, Some, None, is_some, Result, Ok, Err, IfOk, refl, arith, length-append}
+use Rattle.std.proofs.Common.{◌≡◌, ◌<◌, ◌≤◌, ℕ, List, [], ◌∷◌, ◌++◌, length, codes, Bool, true, false, cond, Option}
+use Rattle.std.proofs.Common.{Some, None, is_some, Result, Ok, Err, IfOk, refl, arith, length-append}
 use Rattle.std.proofs.lemmas.Bool.{leb-true}
 use Rattle.std.proofs.lemmas.Bool.Decides.{nat_tests}
 use Rattle.std.proofs.lemmas.List.{length-map}
@@ -27,10 +28,13 @@ use Rattle.object_table.specs.Numbers as numbers
 use Rattle.object_table.specs.Setting as settings
 use Rattle.object_table.specs.WellFormed.{IsWellFormed}
 use Rattle.object_table.specs.declared.object.Kind.{Kind}
-use Rattle.object_table.specs.declared.object.Kind.TheVariants.{Stack, Background, Card, CardButton, BackgroundButton, CardField, BackgroundField}
+use Rattle.object_table.specs.declared.object.Kind.TheVariants.{Stack, Background, Card, CardButton, BackgroundButton}
+use Rattle.object_table.specs.declared.object.Kind.TheVariants.{CardField, BackgroundField}
 use Rattle.object_table.specs.declared.object.Object.{Object}
 use Rattle.object_table.specs.declared.property.PropValue.{PropValue}
-use Rattle.object_table.specs.declared.property.PropValue.TheVariants.{NameIs, ScriptIs, VisibleIs, HiliteIs, SharedHiliteIs, LockTextIs, SharedTextIs, CantDeleteIs}
+use Rattle.object_table.specs.declared.property.PropValue.TheVariants.{NameIs, ScriptIs, VisibleIs, HiliteIs}
+use Rattle.object_table.specs.declared.property.PropValue.TheVariants.{SharedHiliteIs, LockTextIs, SharedTextIs}
+use Rattle.object_table.specs.declared.property.PropValue.TheVariants.{CantDeleteIs}
 use Rattle.properties.specs.Names.{words_of, is_nameless, by_id, by_name, full_name, short_name, own_id, short_id}
 use Rattle.properties.specs.PropertyText.{had, in_digits, hilite_for, property_by, property_of, own_hilite}
 use Rattle.properties.specs.Setting.{may_be_set, value_by}
@@ -40,7 +44,8 @@ use Rattle.journal_entries.specs.declared.change.Change.{Change}
 use Rattle.journal_entries.specs.declared.change.Change.TheVariants as change
 use Rattle.object_references.specs.declared.referent.Referent.{Referent}
 use Rattle.object_references.specs.References.{met_if_there}
-use Rattle.object_references.specs.Settings.{name_of, hilite_change, shares_hilite, background_hilite, change_of, setting}
+use Rattle.object_references.specs.Settings.{name_of, hilite_change, shares_hilite, background_hilite, change_of}
+use Rattle.object_references.specs.Settings.{setting}
 use Rattle.containers.specs.declared.edit.Edit.{Edit}
 use Rattle.containers.specs.declared.variables.Local.{Local}
 use Rattle.containers.specs.Edits.{edited, due, read_at}
@@ -48,14 +53,19 @@ use Rattle.containers.specs.Places.{StorageView, PlaceView, global, own, field_t
 use Rattle.containers.specs.Variables.{VariablesView, is_global, with_value}
 use Rattle.meaning.specs.Places as places
 use Rattle.whole_states.specs.Texts.{LocalsTexts, StorageTexts}
-use Rattle.whole_states.proofs.ValueTexts.{IfText, IfDue, AreBytes, given_text, empty_text, short_text, decimal_are, decimal_text, words_text, within_text, within_read, EditTexts, edited_text}
+use Rattle.whole_states.proofs.ValueTexts.{IfText, IfDue, AreBytes, given_text, empty_text, short_text, decimal_are}
+use Rattle.whole_states.proofs.ValueTexts.{decimal_text, words_text, within_text, within_read, EditTexts, edited_text}
 
 -- ---- variables and containers
 
 pub folded_text : (t : List ℕ) → IsText t → IsText (folded t)
 folded_text t h =
     let short = h.short in
-    record { short = omega (arith, short, length-map t to_ascii_lowercase); bytes = All-map (λ b. b < 256) to_ascii_lowercase t (lowered t h.bytes) }
+    record {
+      short = omega (arith, short, length-map t to_ascii_lowercase);
+      bytes = All-map (λ b. b < 256)
+          to_ascii_lowercase t (lowered t h.bytes);
+    }
   where
     lower : (b : ℕ) → b < 256 → to_ascii_lowercase b < 256
     lower b h = grind (arith, nat_tests)
@@ -70,11 +80,13 @@ named_texts v name h = by (is_global v name)
     by true = (folded_is_folded name, folded_text name h)
     by false = tt
 
-own_text : (name : List ℕ) (ls : List Local) → LocalsTexts ls → IfSome (option_and_then (λ l. l.value) (find (λ l. same l.name name) ls)) IsText
+own_text : (name : List ℕ) (ls : List Local) → LocalsTexts ls
+    → IfSome (option_and_then (λ l. l.value) (find (λ l. same l.name name) ls)) IsText
 own_text name [] h = tt
 own_text name (l ∷ ls) h = by (own_text name ls h.1) (same l.name name)
   where
-    by : IfSome (option_and_then (λ x. x.value) (find (λ x. same x.name name) ls)) IsText → (b : Bool) → IfSome (option_and_then (λ x. x.value) (cond b (Some l) (find (λ x. same x.name name) ls))) IsText
+    by : IfSome (option_and_then (λ x. x.value) (find (λ x. same x.name name) ls)) IsText → (b : Bool)
+        → IfSome (option_and_then (λ x. x.value) (cond b (Some l) (find (λ x. same x.name name) ls))) IsText
     by rest true = h.0
     by rest false = rest
 
@@ -82,7 +94,8 @@ of_global : (name : List ℕ) (o : Option (List ℕ)) → IfSome o (λ value. Is
 of_global name None h = tt
 of_global name (Some t) h = h.value
 
-in_text : (s : State) (v : VariablesView) (h : StorageView) → IsState s → LocalsTexts v.locals → IfSome (text_in s v h) IsText
+in_text : (s : State) (v : VariablesView) (h : StorageView) → IsState s → LocalsTexts v.locals
+    → IfSome (text_in s v h) IsText
 in_text s v (global name) q k = of_global name _ (q.globals name)
 in_text s v (own name) q k = own_text name v.locals k
 in_text s v (field_text field card) q k = q.stack.field_texts field card
@@ -95,18 +108,22 @@ found_text : (o : Option (List ℕ)) → IfSome o IsText → IfText (ok_or o NoS
 found_text None h = tt
 found_text (Some t) h = h
 
-pub read_name_text : (s : State) (v : VariablesView) (name : List ℕ) → IsState s → LocalsTexts v.locals → IsText name → IsText (read_name s v name)
+pub read_name_text : (s : State) (v : VariablesView) (name : List ℕ) → IsState s → LocalsTexts v.locals → IsText name
+    → IsText (read_name s v name)
 read_name_text s v name q k h = unwrapped (text_in s v (named v name)) name (in_text s v (named v name) q k) h
 
 whole_text : (s : State) (v : VariablesView) (h : StorageView) → IsState s → LocalsTexts v.locals → IfText (whole s v h)
 whole_text s v (global name) q k = unwrapped (text_in s v (global name)) [] (in_text s v (global name) q k) empty_text
 whole_text s v (own name) q k = unwrapped (text_in s v (own name)) [] (in_text s v (own name) q k) empty_text
-whole_text s v (field_text field card) q k = found_text (text_in s v (field_text field card)) (in_text s v (field_text field card) q k)
+whole_text s v (field_text field card) q k =
+    found_text (text_in s v (field_text field card)) (in_text s v (field_text field card) q k)
 
-pub field_is_text : (s : State) (v : VariablesView) (delimiter : ℕ) (m : Referent) → IsState s → LocalsTexts v.locals → IfText (places.field_text s v delimiter m)
+pub field_is_text : (s : State) (v : VariablesView) (delimiter : ℕ) (m : Referent) → IsState s → LocalsTexts v.locals
+    → IfText (places.field_text s v delimiter m)
 field_is_text s v delimiter m q k = by (places.field_place s m)
   where
-    reads : (p : PlaceView) (r : Result (List ℕ) Fault) → IfText r → IfText (and_then r (λ t. Ok (read_within delimiter p.chunks t)))
+    reads : (p : PlaceView) (r : Result (List ℕ) Fault) → IfText r
+        → IfText (and_then r (λ t. Ok (read_within delimiter p.chunks t)))
     reads p (Ok t) h = within_read delimiter p.chunks t h
     reads p (Err fault) h = tt
 
@@ -114,19 +131,24 @@ field_is_text s v delimiter m q k = by (places.field_place s m)
     by (Ok p) = reads p (whole s v p.storage) (whole_text s v p.storage q k)
     by (Err fault) = tt
 
-due_is : (r : Result (List ℕ) Fault) (f : List ℕ → Result (Option (List ℕ)) Fault) → IfText r → ((t : List ℕ) → IsText t → IfDue (f t)) → IfDue (and_then r f)
+due_is : (r : Result (List ℕ) Fault) (f : List ℕ → Result (Option (List ℕ)) Fault) → IfText r
+    → ((t : List ℕ) → IsText t → IfDue (f t)) → IfDue (and_then r f)
 due_is (Ok t) f h k = k t h
 due_is (Err fault) f h k = tt
 
-pub due_is_text : PartsCut → (s : State) (v : VariablesView) (delimiter : ℕ) (p : PlaceView) (e : Edit) → IsState s → LocalsTexts v.locals → delimiter < 256 → EditTexts e → IfDue (due s v delimiter p e)
-due_is_text cut s v delimiter p e q k d h = due_is (whole s v p.storage) (λ t. edited delimiter p.chunks e t) (whole_text s v p.storage q k) (λ t is. edited_text cut delimiter p.chunks e t d h is)
+pub due_is_text : PartsCut → (s : State) (v : VariablesView) (delimiter : ℕ) (p : PlaceView) (e : Edit) → IsState s
+    → LocalsTexts v.locals → delimiter < 256 → EditTexts e → IfDue (due s v delimiter p e)
+due_is_text cut s v delimiter p e q k d h = due_is (whole s v p.storage) (λ t. edited delimiter p.chunks e t)
+    (whole_text s v p.storage q k) (λ t is. edited_text cut delimiter p.chunks e t d h is)
 
 -- a variable of a handler gets a text, or means a global
-pub with_value_texts : (name : List ℕ) (value : Option (List ℕ)) (ls : List Local) → LocalsTexts ls → IfSome value IsText → LocalsTexts (with_value name value ls)
+pub with_value_texts : (name : List ℕ) (value : Option (List ℕ)) (ls : List Local) → LocalsTexts ls
+    → IfSome value IsText → LocalsTexts (with_value name value ls)
 with_value_texts name value [] h k = (k, tt)
 with_value_texts name value (l ∷ ls) h k = by (with_value_texts name value ls h.1 k) (same l.name name)
   where
-    by : LocalsTexts (with_value name value ls) → (b : Bool) → LocalsTexts (cond b (record l { value = value } ∷ ls) (l ∷ with_value name value ls))
+    by : LocalsTexts (with_value name value ls) → (b : Bool)
+        → LocalsTexts (cond b (record l { value = value } ∷ ls) (l ∷ with_value name value ls))
     by rest true = (k, h.1)
     by rest false = (h.0, rest)
 
@@ -149,15 +171,26 @@ by_id_text k id =
     let digits = n.1 in
     let mid : List ℕ = codes " id " in
     let size : length mid ≡ 4 = refl in
-    let front : AreBytes (words_of k ++ mid) = All-append (λ b. b < 256) (words_of k) mid w.1 (given_text mid refl).bytes in
-    short_text (by_id k id) (omega (arith, few, digits, size, length-append (words_of k ++ mid) (decimal id), length-append (words_of k) mid))
+    let front : AreBytes (words_of k ++ mid) =
+    All-append (λ b. b < 256) (words_of k) mid w.1 (given_text mid refl).bytes in
+    short_text (by_id k id)
+    (omega (
+      arith,
+      few,
+      digits,
+      size,
+      length-append (words_of k ++ mid) (decimal id),
+      length-append (words_of k)
+          mid,
+    ))
     (All-append (λ b. b < 256) (words_of k ++ mid) (decimal id) front n.0)
 
 by_name_bytes : (k : Kind) (name : List ℕ) → IsText name → AreBytes (by_name k name)
 by_name_bytes k name h =
     let quote : List ℕ = codes "\"" in
     let mid : List ℕ = codes " \"" in
-    let one : AreBytes (words_of k ++ mid) = All-append (λ b. b < 256) (words_of k) mid (words_small k).1 (given_text mid refl).bytes in
+    let one : AreBytes (words_of k ++ mid) =
+    All-append (λ b. b < 256) (words_of k) mid (words_small k).1 (given_text mid refl).bytes in
     let two : AreBytes (words_of k ++ mid ++ name) = All-append (λ b. b < 256) (words_of k ++ mid) name one h.bytes in
     All-append (λ b. b < 256) (words_of k ++ mid ++ name) quote two (given_text quote refl).bytes
 
@@ -179,7 +212,8 @@ digits_text : (n : Option ℕ) → IfText (in_digits n)
 digits_text None = tt
 digits_text (Some n) = decimal_text n
 
-property_by_text : (s : Content) (card id : ℕ) (o : Object) (p : Prop) → IsText o.name × IsText o.script → IfText (property_by s card id o p)
+property_by_text : (s : Content) (card id : ℕ) (o : Object) (p : Prop) → IsText o.name × IsText o.script
+    → IfText (property_by s card id o p)
 property_by_text s card id o prop.Name h = full_name_text o.kind id o.name h.0
 property_by_text s card id o prop.ShortName h = short_name_text o.kind id o.name h.0
 property_by_text s card id o prop.Id h = digits_text (own_id o.kind id)
@@ -196,7 +230,8 @@ property_by_text s card id o prop.CantDelete h = words_text (had (cant_delete_of
 pub property_text : (s : Content) (card id : ℕ) (p : Prop) → IsWellFormed s → IfText (property_of s card id p)
 property_text s card id p w = by (object_at s id) (w.names id)
   where
-    by : (o : Option Object) → IfSome o (λ x. IsText x.name × IsText x.script) → IfText (and_then (had o) (λ x. property_by s card id x p))
+    by : (o : Option Object) → IfSome o (λ x. IsText x.name × IsText x.script)
+        → IfText (and_then (had o) (λ x. property_by s card id x p))
     by None h = tt
     by (Some o) h = property_by_text s card id o p h
 
@@ -219,7 +254,8 @@ hilite_texts false button card lit = tt
 background_texts : (s : Content) (m : Referent) (lit : Bool) → IfTexts (background_hilite s m lit)
 background_texts s m lit = by (shares_hilite s m.object)
   where
-    by : (b : Bool) → IfTexts (cond b (hilite_change (is_some (hilite_at s m.object 0)) m.object 0 lit) (hilite_change (is_some (own_hilite s m.card m.object)) m.object m.card lit))
+    by : (b : Bool) → IfTexts (cond b (hilite_change (is_some (hilite_at s m.object 0)) m.object 0 lit)
+        (hilite_change (is_some (own_hilite s m.card m.object)) m.object m.card lit))
     by true = hilite_texts (is_some (hilite_at s m.object 0)) m.object 0 lit
     by false = hilite_texts (is_some (own_hilite s m.card m.object)) m.object m.card lit
 
@@ -237,11 +273,13 @@ change_texts s m (LockTextIs b) h = tt
 change_texts s m (SharedTextIs b) h = tt
 change_texts s m (CantDeleteIs b) h = tt
 
-flag_texts : (s : Content) (m : Referent) (make : Bool → PropValue) → ((b : Bool) → settings.HasTexts (make b)) → (r : Result Bool Fault) → IfTexts (and_then (and_then r (λ b. Ok (make b))) (change_of s m))
+flag_texts : (s : Content) (m : Referent) (make : Bool → PropValue) → ((b : Bool) → settings.HasTexts (make b))
+    → (r : Result Bool Fault) → IfTexts (and_then (and_then r (λ b. Ok (make b))) (change_of s m))
 flag_texts s m make each (Ok b) = change_texts s m (make b) (each b)
 flag_texts s m make each (Err fault) = tt
 
-value_texts : (s : Content) (m : Referent) (p : Prop) (t : List ℕ) → IsText t → IfTexts (and_then (value_by p t) (change_of s m))
+value_texts : (s : Content) (m : Referent) (p : Prop) (t : List ℕ) → IsText t
+    → IfTexts (and_then (value_by p t) (change_of s m))
 value_texts s m prop.Name t h = h
 value_texts s m prop.ShortName t h = tt
 value_texts s m prop.Id t h = tt

@@ -1,6 +1,7 @@
 -- The trees that a text is read as have texts alone.
 use Rattle.std.specs.List.{AllByRecursion}
-use Rattle.std.proofs.Common.{◌≡◌, ◌-◌, ◌<◌, ℕ, List, [], ◌∷◌, map, take, drop, Bool, true, false, cond, codes, Option, Some, None, ap, subst, arith, length-take, length-drop}
+use Rattle.std.proofs.Common.{◌≡◌, ◌-◌, ◌<◌, ℕ, List, [], ◌∷◌, map, take, drop, Bool, true, false, cond, codes, Option}
+use Rattle.std.proofs.Common.{Some, None, ap, subst, arith, length-take, length-drop}
 use Rattle.std.proofs.lemmas.List.Elements.{All-take, All-drop}
 use Rattle.ht_values.specs.Text.{IsText}
 use Rattle.ht_values.specs.declared.operator.Op.{Op}
@@ -16,16 +17,25 @@ use Rattle.ht_lex.specs.declared.tokens.Span.{Span}
 use Rattle.ht_lex.specs.Token.{Token, key, eol, later, inner, token_by, token_in}
 use Rattle.ht_lex.specs.Token as token
 use Rattle.ht_grammar.specs.declared.vocabulary.Layer.{Layer}
-use Rattle.ht_grammar.specs.Fronts.{LeadingOperator, infix_at, test_at, neither, leading_operator, operator_after_is, operator_after_is_not, asked_type, test_or, after_of, past_the, same_name}
+use Rattle.ht_grammar.specs.Fronts.{LeadingOperator, infix_at, test_at, neither, leading_operator, operator_after_is}
+use Rattle.ht_grammar.specs.Fronts.{operator_after_is_not, asked_type, test_or, after_of, past_the, same_name}
 use Rattle.ht_grammar.specs.Ends.{past_ends, ended, past_for, past_to, past_times}
-use Rattle.ht_grammar.specs.Expressions.{Level, Derives, DerivesList, DerivesLayer, DerivesArticle, DerivesChunk, DerivesCount, DerivesRef, DerivesSelector, DerivesWhich, DerivesPart, DerivesOwner, DerivesContainer}
+use Rattle.ht_grammar.specs.Expressions.{Level, Derives, DerivesList, DerivesLayer, DerivesArticle, DerivesChunk}
+use Rattle.ht_grammar.specs.Expressions.{DerivesCount, DerivesRef, DerivesSelector, DerivesWhich, DerivesPart}
+use Rattle.ht_grammar.specs.Expressions.{DerivesOwner, DerivesContainer}
 use Rattle.ht_grammar.specs.Expressions as e
-use Rattle.ht_grammar.specs.Grammar.{Context, DerivesNames, DerivesDestination, DerivesSimple, DerivesHead, DerivesStmt, DerivesLines, DerivesElse, DerivesParams, DerivesHandler, DerivesHandlers, DerivesMessage}
+use Rattle.ht_grammar.specs.Grammar.{Context, DerivesNames, DerivesDestination, DerivesSimple, DerivesHead}
+use Rattle.ht_grammar.specs.Grammar.{DerivesStmt, DerivesLines, DerivesElse, DerivesParams, DerivesHandler}
+use Rattle.ht_grammar.specs.Grammar.{DerivesHandlers, DerivesMessage}
 use Rattle.ht_grammar.specs.Grammar as g
 use Rattle.ht_grammar.specs.Reads.{ReadsType}
 use Rattle.ht_grammar.specs.Statements as stm
 use Rattle.ht_grammar.specs.Trees as tree
-use Rattle.whole_states.specs.Texts.{TokenTexts, TokensTexts, ExprTexts, ExprsTexts, ChunkTexts, WhichTexts, SelectorTexts, OwnerTexts, PartTexts, RefTexts, CountTexts, ContainerTexts, DestinationTexts, HeadTexts, StmtTexts, StmtsTexts, HandlerTexts, HandlersTexts, MessageTexts, ExpressionsHaveTexts, TypedLinesHaveTexts, SentMessagesHaveTexts, ScriptsHaveTexts, ClickedPartsHaveTexts, TypedTexts, TypedTextsHaveTexts}
+use Rattle.whole_states.specs.Texts.{TokenTexts, TokensTexts, ExprTexts, ExprsTexts, ChunkTexts, WhichTexts}
+use Rattle.whole_states.specs.Texts.{SelectorTexts, OwnerTexts, PartTexts, RefTexts, CountTexts, ContainerTexts}
+use Rattle.whole_states.specs.Texts.{DestinationTexts, HeadTexts, StmtTexts, StmtsTexts, HandlerTexts, HandlersTexts}
+use Rattle.whole_states.specs.Texts.{MessageTexts, ExpressionsHaveTexts, TypedLinesHaveTexts, SentMessagesHaveTexts}
+use Rattle.whole_states.specs.Texts.{ScriptsHaveTexts, ClickedPartsHaveTexts, TypedTexts, TypedTextsHaveTexts}
 
 -- ---- tokens
 
@@ -39,7 +49,8 @@ sliced t from size h =
     }
 
 pub dropped : (t : List ℕ) (from : ℕ) → IsText t → IsText (drop from t)
-dropped t from h = let short = h.short in record { short = omega (arith, short, length-drop from t); bytes = All-drop (λ b. b < 256) from t h.bytes }
+dropped t from h = let short = h.short in
+    record { short = omega (arith, short, length-drop from t); bytes = All-drop (λ b. b < 256) from t h.bytes }
 
 token_is : (kind : TokenKind) (t : List ℕ) (size : ℕ) → IsText t → TokenTexts (token_by kind t size)
 token_is kind.Name t size h = sliced t 0 size h
@@ -73,7 +84,8 @@ operator_rest (infix_at r op b) = b
 operator_rest (test_at op c) = c
 operator_rest neither = []
 
-typed_rest : (ts : List Token) (test : ValueType → UnOp) (op : Op) (asked : Option ValueType) → TokensTexts ts → TokensTexts (operator_rest (test_or test op ts asked))
+typed_rest : (ts : List Token) (test : ValueType → UnOp) (op : Op) (asked : Option ValueType) → TokensTexts ts
+    → TokensTexts (operator_rest (test_or test op ts asked))
 typed_rest ts test op None h = h
 typed_rest ts test op (Some v) h = texts_later (later ts) (texts_later ts h)
 
@@ -113,10 +125,12 @@ rest_is (key k.Div ∷ ts) h = h.1
 rest_is (key k.Mod ∷ ts) h = h.1
 rest_is (t ∷ ts) h = tt
 
-texts_infix : (m : List Token) {r : ℕ} {op : Op} {b : List Token} → leading_operator m ≡ infix_at r op b → TokensTexts m → TokensTexts b
+texts_infix : (m : List Token) {r : ℕ} {op : Op} {b : List Token} → leading_operator m ≡ infix_at r op b → TokensTexts m
+    → TokensTexts b
 texts_infix m is h = subst TokensTexts (ap operator_rest is) (rest_is m h)
 
-texts_test : (m : List Token) {op : UnOp} {c : List Token} → leading_operator m ≡ test_at op c → TokensTexts m → TokensTexts c
+texts_test : (m : List Token) {op : UnOp} {c : List Token} → leading_operator m ≡ test_at op c → TokensTexts m
+    → TokensTexts c
 texts_test m is h = subst TokensTexts (ap operator_rest is) (rest_is m h)
 
 texts_ends : (ts : List Token) → TokensTexts ts → TokensTexts (past_ends ts)
@@ -163,23 +177,34 @@ texts_article (e.no_ _) h = h.1
 texts_article (e.not_an _) h = h.1.1
 
 mutual
-  pub texts_expr : {k : Level} {a c : List Token} {x : tree.Expr} → Derives k a x c → TokensTexts a → ExprTexts x × TokensTexts c
-  texts_expr (e.join {m = m} p1 p2 p3) h = (((texts_expr p1 h).0, (texts_expr p3 (texts_infix m p2 (texts_expr p1 h).1)).0), (texts_expr p3 (texts_infix m p2 (texts_expr p1 h).1)).1)
+  pub texts_expr : {k : Level} {a c : List Token} {x : tree.Expr} → Derives k a x c → TokensTexts a
+      → ExprTexts x × TokensTexts c
+  texts_expr (e.join {m = m} p1 p2 p3)
+      h = (
+        ((texts_expr p1 h).0, (texts_expr p3 (texts_infix m p2 (texts_expr p1 h).1)).0),
+        (texts_expr p3 (texts_infix m p2 (texts_expr p1 h).1)).1,
+      )
   texts_expr (e.is_a {m = m} p1 p2) h = ((texts_expr p1 h).0, (texts_test m p2 (texts_expr p1 h).1))
   texts_expr (e.tighter p1) h = texts_expr p1 h
   texts_expr (e.tightest p1) h = texts_expr p1 h
-  texts_expr (e.raised p1 p2) h = (((texts_expr p1 h).0, (texts_expr p2 (texts_expr p1 h).1.1).0), (texts_expr p2 (texts_expr p1 h).1.1).1)
+  texts_expr (e.raised p1 p2) h =
+      (((texts_expr p1 h).0, (texts_expr p2 (texts_expr p1 h).1.1).0), (texts_expr p2 (texts_expr p1 h).1.1).1)
   texts_expr (e.not_raised p1) h = texts_expr p1 h
   texts_expr (e.minus p1) h = texts_expr p1 h.1
   texts_expr (e.not_ p1) h = texts_expr p1 h.1
   texts_expr (e.there_is p1 p2) h = texts_ref p2 (texts_article p1 h.1.1)
   texts_expr (e.no_prefix p1) h = texts_expr p1 h
   texts_expr (e.no_form p1) h = texts_expr p1 h
-  texts_expr (e.chunk {m = m} p1 p2 p3) h = (((texts_chunk p1 h).0, (texts_expr p3 (texts_of m p2 (texts_chunk p1 h).1)).0), (texts_expr p3 (texts_of m p2 (texts_chunk p1 h).1)).1)
+  texts_expr (e.chunk {m = m} p1 p2 p3)
+      h = (
+        ((texts_chunk p1 h).0, (texts_expr p3 (texts_of m p2 (texts_chunk p1 h).1)).0),
+        (texts_expr p3 (texts_of m p2 (texts_chunk p1 h).1)).1,
+      )
   texts_expr (e.field p1 _) h = texts_part p1 h
   texts_expr (e.result _) h = (tt, h.1.1)
   texts_expr (e.target _) h = (tt, h.1.1)
-  texts_expr (e.number_of {a = a} {m = m} p1 p2 p3) h = texts_count p3 (texts_of m p2 (subst TokensTexts p1 (texts_the a h)).1)
+  texts_expr (e.number_of {a = a} {m = m} p1 p2 p3) h =
+      texts_count p3 (texts_of m p2 (subst TokensTexts p1 (texts_the a h)).1)
   texts_expr (e.property {m = m} _ p2 p3) h = texts_ref p3 (texts_of (later m) p2 (texts_later m h.1))
   texts_expr (e.short_property {m = m} _ _ _ p4 p5) h = texts_ref p5 (texts_of (later m) p4 (texts_later m h.1.1))
   texts_expr (e.run_property _) h = (tt, h.1.1)
@@ -193,16 +218,21 @@ mutual
   texts_expr e.call_bare h = ((h.0, tt), h.1.1.1)
   texts_expr e.name h = h
 
-  pub texts_list : {a c : List Token} {x : tree.Exprs} → DerivesList a x c → TokensTexts a → ExprsTexts x × TokensTexts c
+  pub texts_list : {a c : List Token} {x : tree.Exprs} → DerivesList a x c → TokensTexts a
+      → ExprsTexts x × TokensTexts c
   texts_list (e.alone p1) h = (((texts_expr p1 h).0, tt), (texts_expr p1 h).1)
-  texts_list (e.followed p1 p2) h = (((texts_expr p1 h).0, (texts_list p2 (texts_expr p1 h).1.1).0), (texts_list p2 (texts_expr p1 h).1.1).1)
+  texts_list (e.followed p1 p2) h =
+      (((texts_expr p1 h).0, (texts_list p2 (texts_expr p1 h).1.1).0), (texts_list p2 (texts_expr p1 h).1.1).1)
 
-  pub texts_chunk : {a c : List Token} {x : tree.Chunk} → DerivesChunk a x c → TokensTexts a → ChunkTexts x × TokensTexts c
+  pub texts_chunk : {a c : List Token} {x : tree.Chunk} → DerivesChunk a x c → TokensTexts a
+      → ChunkTexts x × TokensTexts c
   texts_chunk (e.piece p1) h = texts_expr p1 h.1
-  texts_chunk (e.pieces p1 p2) h = (((texts_expr p1 h.1).0, (texts_expr p2 (texts_expr p1 h.1).1.1).0), (texts_expr p2 (texts_expr p1 h.1).1.1).1)
+  texts_chunk (e.pieces p1 p2) h =
+      (((texts_expr p1 h.1).0, (texts_expr p2 (texts_expr p1 h.1).1.1).0), (texts_expr p2 (texts_expr p1 h.1).1.1).1)
   texts_chunk (e.nth_piece {a = a} p1) h = (tt, (subst TokensTexts p1 (texts_the a h)).1.1)
 
-  pub texts_count : {a c : List Token} {x : tree.Count} → DerivesCount a x c → TokensTexts a → CountTexts x × TokensTexts c
+  pub texts_count : {a c : List Token} {x : tree.Count} → DerivesCount a x c → TokensTexts a
+      → CountTexts x × TokensTexts c
   texts_count (e.pieces_of {m = m} p1 p2) h = texts_expr p2 (texts_of m p1 h.1)
   texts_count e.cards h = (tt, h.1)
   texts_count e.backgrounds h = (tt, h.1)
@@ -217,36 +247,50 @@ mutual
   texts_ref (e.background p1) h = texts_selector p1 h
   texts_ref (e.a_part p1) h = texts_part p1 h
 
-  pub texts_selector : {k : Key} {a c : List Token} {x : tree.Selector} → DerivesSelector k a x c → TokensTexts a → SelectorTexts x × TokensTexts c
+  pub texts_selector : {k : Key} {a c : List Token} {x : tree.Selector} → DerivesSelector k a x c → TokensTexts a
+      → SelectorTexts x × TokensTexts c
   texts_selector e.this h = (tt, h.1.1)
   texts_selector e.next h = (tt, h.1.1)
   texts_selector e.previous h = (tt, h.1.1)
   texts_selector e.nth h = (tt, h.1.1)
   texts_selector (e.which p1) h = texts_which p1 h.1
 
-  pub texts_which : {a c : List Token} {x : tree.Which} → DerivesWhich a x c → TokensTexts a → WhichTexts x × TokensTexts c
+  pub texts_which : {a c : List Token} {x : tree.Which} → DerivesWhich a x c → TokensTexts a
+      → WhichTexts x × TokensTexts c
   texts_which (e.by_id p1) h = texts_expr p1 h.1
   texts_which (e.by_text p1) h = texts_expr p1 h
 
   pub texts_part : {a c : List Token} {x : tree.Part} → DerivesPart a x c → TokensTexts a → PartTexts x × TokensTexts c
-  texts_part (e.part p1 p2 p3) h = (((texts_which p2 (texts_layer p1 h).1).0, (texts_owner p3 (texts_which p2 (texts_layer p1 h).1).1).0), (texts_owner p3 (texts_which p2 (texts_layer p1 h).1).1).1)
+  texts_part (e.part p1 p2 p3)
+      h = (
+        ((texts_which p2 (texts_layer p1 h).1).0, (texts_owner p3 (texts_which p2 (texts_layer p1 h).1).1).0),
+        (texts_owner p3 (texts_which p2 (texts_layer p1 h).1).1).1,
+      )
   texts_part (e.nth_part p1 p2) h = texts_owner p2 (texts_layer p1 h.1).1
 
-  pub texts_owner : {a c : List Token} {x : tree.Owner} → DerivesOwner a x c → TokensTexts a → OwnerTexts x × TokensTexts c
+  pub texts_owner : {a c : List Token} {x : tree.Owner} → DerivesOwner a x c → TokensTexts a
+      → OwnerTexts x × TokensTexts c
   texts_owner e.no_owner h = (tt, h)
   texts_owner (e.of_card {m = m} p1 p2) h = texts_selector p2 (texts_of m p1 h)
   texts_owner (e.of_background {m = m} p1 p2) h = texts_selector p2 (texts_of m p1 h)
 
-pub texts_container : {a c : List Token} {x : tree.Container} → DerivesContainer a x c → TokensTexts a → ContainerTexts x × TokensTexts c
+pub texts_container : {a c : List Token} {x : tree.Container} → DerivesContainer a x c → TokensTexts a
+    → ContainerTexts x × TokensTexts c
 texts_container e.variable h = h
 texts_container (e.in_field p1 _) h = texts_part p1 h
-texts_container (e.in_chunk {m = m} p1 p2 p3) h = (((texts_chunk p1 h).0, (texts_container p3 (texts_of m p2 (texts_chunk p1 h).1)).0), (texts_container p3 (texts_of m p2 (texts_chunk p1 h).1)).1)
+texts_container (e.in_chunk {m = m} p1 p2 p3)
+    h = (
+      ((texts_chunk p1 h).0, (texts_container p3 (texts_of m p2 (texts_chunk p1 h).1)).0),
+      (texts_container p3 (texts_of m p2 (texts_chunk p1 h).1)).1,
+    )
 
-pub texts_names : {a c : List Token} {x : List (List ℕ)} → DerivesNames a x c → TokensTexts a → AllByRecursion IsText x × TokensTexts c
+pub texts_names : {a c : List Token} {x : List (List ℕ)} → DerivesNames a x c → TokensTexts a
+    → AllByRecursion IsText x × TokensTexts c
 texts_names g.one_name h = ((h.0, tt), h.1)
 texts_names (g.more_names p1) h = ((h.0, (texts_names p1 h.1.1).0), (texts_names p1 h.1.1).1)
 
-pub texts_destination : {a c : List Token} {x : stm.Destination} → DerivesDestination a x c → TokensTexts a → DestinationTexts x × TokensTexts c
+pub texts_destination : {a c : List Token} {x : stm.Destination} → DerivesDestination a x c → TokensTexts a
+    → DestinationTexts x × TokensTexts c
 texts_destination (g.destination_card p1) h = texts_selector p1 h
 texts_destination (g.destination_background p1) h = texts_selector p1 h
 texts_destination g.this_alone h = (tt, h.1)
@@ -254,19 +298,52 @@ texts_destination g.next_alone h = (tt, h.1)
 texts_destination g.previous_alone h = (tt, h.1)
 texts_destination g.nth_alone h = (tt, h.1)
 
-pub texts_simple : {k : Context} {a c : List Token} {x : stm.Stmt} → DerivesSimple k a x c → TokensTexts a → StmtTexts x × TokensTexts c
+pub texts_simple : {k : Context} {a c : List Token} {x : stm.Stmt} → DerivesSimple k a x c → TokensTexts a
+    → StmtTexts x × TokensTexts c
 texts_simple (g.put p1) h = texts_expr p1 h.1
-texts_simple (g.put_in p1 _ p3) h = (((texts_expr p1 h.1).0, (texts_container p3 (texts_expr p1 h.1).1.1).0), (texts_container p3 (texts_expr p1 h.1).1.1).1)
+texts_simple (g.put_in p1 _ p3)
+    h = (
+      ((texts_expr p1 h.1).0, (texts_container p3 (texts_expr p1 h.1).1.1).0),
+      (texts_container p3 (texts_expr p1 h.1).1.1).1,
+    )
 texts_simple (g.get p1) h = texts_expr p1 h.1
-texts_simple (g.set {a = a} _ p2 p3 p4) h = (((texts_ref p3 (texts_of (later (past_the a)) p2 (texts_later (past_the a) (texts_the a h.1)))).0, (texts_expr p4 (texts_ref p3 (texts_of (later (past_the a)) p2 (texts_later (past_the a) (texts_the a h.1)))).1.1).0), (texts_expr p4 (texts_ref p3 (texts_of (later (past_the a)) p2 (texts_later (past_the a) (texts_the a h.1)))).1.1).1)
+texts_simple (g.set {a = a} _ p2 p3 p4)
+    h = (
+      (
+        (texts_ref p3 (texts_of (later (past_the a)) p2 (texts_later (past_the a) (texts_the a h.1)))).0,
+        (texts_expr p4
+            (texts_ref p3 (texts_of (later (past_the a)) p2 (texts_later (past_the a) (texts_the a h.1)))).1.1).0,
+      ),
+      (texts_expr p4
+          (texts_ref p3 (texts_of (later (past_the a)) p2 (texts_later (past_the a) (texts_the a h.1)))).1.1).1,
+    )
 texts_simple (g.set_run {a = a} p1 _ p3) h = texts_expr p3 (subst TokensTexts p1 (texts_the a h.1)).1.1
-texts_simple (g.add p1 p2) h = (((texts_expr p1 h.1).0, (texts_container p2 (texts_expr p1 h.1).1.1).0), (texts_container p2 (texts_expr p1 h.1).1.1).1)
-texts_simple (g.subtract p1 p2) h = (((texts_expr p1 h.1).0, (texts_container p2 (texts_expr p1 h.1).1.1).0), (texts_container p2 (texts_expr p1 h.1).1.1).1)
-texts_simple (g.multiply p1 p2) h = (((texts_container p1 h.1).0, (texts_expr p2 (texts_container p1 h.1).1.1).0), (texts_expr p2 (texts_container p1 h.1).1.1).1)
-texts_simple (g.divide p1 p2) h = (((texts_container p1 h.1).0, (texts_expr p2 (texts_container p1 h.1).1.1).0), (texts_expr p2 (texts_container p1 h.1).1.1).1)
-texts_simple (g.delete {m = m} p1 p2 p3) h = (((texts_chunk p1 h.1).0, (texts_container p3 (texts_of m p2 (texts_chunk p1 h.1).1)).0), (texts_container p3 (texts_of m p2 (texts_chunk p1 h.1).1)).1)
+texts_simple (g.add p1 p2) h = (
+  ((texts_expr p1 h.1).0, (texts_container p2 (texts_expr p1 h.1).1.1).0),
+  (texts_container p2 (texts_expr p1 h.1).1.1).1,
+)
+texts_simple (g.subtract p1 p2)
+    h = (
+      ((texts_expr p1 h.1).0, (texts_container p2 (texts_expr p1 h.1).1.1).0),
+      (texts_container p2 (texts_expr p1 h.1).1.1).1,
+    )
+texts_simple (g.multiply p1 p2)
+    h = (
+      ((texts_container p1 h.1).0, (texts_expr p2 (texts_container p1 h.1).1.1).0),
+      (texts_expr p2 (texts_container p1 h.1).1.1).1,
+    )
+texts_simple (g.divide p1 p2) h = (
+  ((texts_container p1 h.1).0, (texts_expr p2 (texts_container p1 h.1).1.1).0),
+  (texts_expr p2 (texts_container p1 h.1).1.1).1,
+)
+texts_simple (g.delete {m = m} p1 p2 p3)
+    h = (
+      ((texts_chunk p1 h.1).0, (texts_container p3 (texts_of m p2 (texts_chunk p1 h.1).1)).0),
+      (texts_container p3 (texts_of m p2 (texts_chunk p1 h.1).1)).1,
+    )
 texts_simple (g.do_ p1) h = texts_expr p1 h.1
-texts_simple (g.send p1 p2) h = (((texts_expr p1 h.1).0, (texts_ref p2 (texts_expr p1 h.1).1.1).0), (texts_ref p2 (texts_expr p1 h.1).1.1).1)
+texts_simple (g.send p1 p2) h =
+    (((texts_expr p1 h.1).0, (texts_ref p2 (texts_expr p1 h.1).1.1).0), (texts_ref p2 (texts_expr p1 h.1).1.1).1)
 texts_simple (g.go {a = a} p1) h = texts_destination p1 (texts_to a h.1)
 texts_simple (g.global p1) h = texts_names p1 h.1
 texts_simple (g.exit_repeat _) h = (tt, h.1.1)
@@ -282,35 +359,114 @@ texts_simple (g.command p1) h = ((h.0, (texts_list p1 h.1).0), (texts_list p1 h.
 pub texts_head : {a c : List Token} {x : stm.Head} → DerivesHead a x c → TokensTexts a → HeadTexts x × TokensTexts c
 texts_head g.no_head h = (tt, h)
 texts_head g.forever h = (tt, h.1)
-texts_head (g.times {a = a} {m = m} p1) h = ((texts_expr p1 (texts_for a h)).0, (texts_times m (texts_expr p1 (texts_for a h)).1))
+texts_head (g.times {a = a} {m = m} p1) h =
+    ((texts_expr p1 (texts_for a h)).0, (texts_times m (texts_expr p1 (texts_for a h)).1))
 texts_head (g.while p1) h = texts_expr p1 h.1
 texts_head (g.until p1) h = texts_expr p1 h.1
-texts_head (g.counted_up p1 p2) h = ((h.1.0, (texts_expr p1 h.1.1.1).0, (texts_expr p2 (texts_expr p1 h.1.1.1).1.1).0), (texts_expr p2 (texts_expr p1 h.1.1.1).1.1).1)
-texts_head (g.counted_down p1 _ p3) h = ((h.1.0, (texts_expr p1 h.1.1.1).0, (texts_expr p3 (texts_expr p1 h.1.1.1).1.1.1).0), (texts_expr p3 (texts_expr p1 h.1.1.1).1.1.1).1)
+texts_head (g.counted_up p1 p2)
+    h = (
+      (h.1.0, (texts_expr p1 h.1.1.1).0, (texts_expr p2 (texts_expr p1 h.1.1.1).1.1).0),
+      (texts_expr p2 (texts_expr p1 h.1.1.1).1.1).1,
+    )
+texts_head (g.counted_down p1 _ p3)
+    h = (
+      (h.1.0, (texts_expr p1 h.1.1.1).0, (texts_expr p3 (texts_expr p1 h.1.1.1).1.1.1).0),
+      (texts_expr p3 (texts_expr p1 h.1.1.1).1.1.1).1,
+    )
 
 mutual
-  pub texts_stmt : {k : Context} {a c : List Token} {x : stm.Stmt} → DerivesStmt k a x c → TokensTexts a → StmtTexts x × TokensTexts c
+  pub texts_stmt : {k : Context} {a c : List Token} {x : stm.Stmt} → DerivesStmt k a x c → TokensTexts a
+      → StmtTexts x × TokensTexts c
   texts_stmt (g.simple p1) h = texts_simple p1 h
-  texts_stmt (g.short {m = m} p1 p2 p3) h = (((texts_expr p1 h.1).0, ((texts_simple p3 (subst TokensTexts p2 (texts_ends m (texts_expr p1 h.1).1)).1).0, tt), tt), (texts_simple p3 (subst TokensTexts p2 (texts_ends m (texts_expr p1 h.1).1)).1).1)
-  texts_stmt (g.short_else {m = m} {n = n} p1 p2 p3 p4 p5) h = (((texts_expr p1 h.1).0, ((texts_simple p3 (subst TokensTexts p2 (texts_ends m (texts_expr p1 h.1).1)).1).0, tt), ((texts_simple p5 (subst TokensTexts p4 (texts_ends n (texts_simple p3 (subst TokensTexts p2 (texts_ends m (texts_expr p1 h.1).1)).1).1)).1).0, tt)), (texts_simple p5 (subst TokensTexts p4 (texts_ends n (texts_simple p3 (subst TokensTexts p2 (texts_ends m (texts_expr p1 h.1).1)).1).1)).1).1)
-  texts_stmt (g.long {b = b} {m = m} p1 p2 p3 p4 p5) h = (((texts_expr p1 h.1).0, (texts_lines p4 (texts_ended b p3 (subst TokensTexts p2 (texts_ends m (texts_expr p1 h.1).1)).1)).0, (texts_else p5 (texts_lines p4 (texts_ended b p3 (subst TokensTexts p2 (texts_ends m (texts_expr p1 h.1).1)).1)).1).0), (texts_else p5 (texts_lines p4 (texts_ended b p3 (subst TokensTexts p2 (texts_ends m (texts_expr p1 h.1).1)).1)).1).1)
-  texts_stmt (g.repeat {m = m} p1 p2 p3) h = (((texts_head p1 h.1).0, (texts_lines p3 (texts_ended m p2 (texts_head p1 h.1).1)).0), (texts_lines p3 (texts_ended m p2 (texts_head p1 h.1).1)).1.1.1)
+  texts_stmt (g.short {m = m} p1 p2 p3)
+      h = (
+        (
+          (texts_expr p1 h.1).0,
+          (
+            (texts_simple p3 (subst TokensTexts p2 (texts_ends m (texts_expr p1 h.1).1)).1).0,
+            tt,
+          ),
+          tt,
+        ),
+        (texts_simple p3 (subst TokensTexts p2 (texts_ends m (texts_expr p1 h.1).1)).1).1,
+      )
+  texts_stmt (g.short_else {m = m} {n = n} p1 p2 p3 p4 p5)
+      h = (
+        (
+          (texts_expr p1 h.1).0,
+          (
+            (texts_simple p3 (subst TokensTexts p2 (texts_ends m (texts_expr p1 h.1).1)).1).0,
+            tt,
+          ),
+          (
+            (texts_simple p5 (subst TokensTexts p4
+                (texts_ends n (texts_simple p3 (subst TokensTexts p2 (texts_ends m (texts_expr p1 h.1).1)).1).1)).1).0,
+            tt,
+          ),
+        ),
+        (texts_simple p5 (subst TokensTexts p4
+            (texts_ends n (texts_simple p3 (subst TokensTexts p2 (texts_ends m (texts_expr p1 h.1).1)).1).1)).1).1,
+      )
+  texts_stmt (g.long {b = b} {m = m} p1 p2 p3 p4 p5)
+      h = (
+        (
+          (texts_expr p1 h.1).0,
+          (texts_lines p4
+              (texts_ended b p3 (subst TokensTexts p2 (texts_ends m (texts_expr p1 h.1).1)).1)).0,
+          (texts_else p5
+              (texts_lines p4 (texts_ended b p3 (subst TokensTexts p2 (texts_ends m (texts_expr p1 h.1).1)).1)).1).0,
+        ),
+        (texts_else p5
+            (texts_lines p4 (texts_ended b p3 (subst TokensTexts p2 (texts_ends m (texts_expr p1 h.1).1)).1)).1).1,
+      )
+  texts_stmt (g.repeat {m = m} p1 p2 p3)
+      h = (
+        ((texts_head p1 h.1).0, (texts_lines p3 (texts_ended m p2 (texts_head p1 h.1).1)).0),
+        (texts_lines p3 (texts_ended m p2 (texts_head p1 h.1).1)).1.1.1,
+      )
 
-  pub texts_lines : {k : Context} {a c : List Token} {x : stm.Stmts} → DerivesLines k a x c → TokensTexts a → StmtsTexts x × TokensTexts c
+  pub texts_lines : {k : Context} {a c : List Token} {x : stm.Stmts} → DerivesLines k a x c → TokensTexts a
+      → StmtsTexts x × TokensTexts c
   texts_lines g.done h = (tt, h)
-  texts_lines (g.line {m = m} p1 p2 p3) h = (((texts_stmt p1 h).0, (texts_lines p3 (texts_ended m p2 (texts_stmt p1 h).1)).0), (texts_lines p3 (texts_ended m p2 (texts_stmt p1 h).1)).1)
+  texts_lines (g.line {m = m} p1 p2 p3)
+      h = (
+        ((texts_stmt p1 h).0, (texts_lines p3 (texts_ended m p2 (texts_stmt p1 h).1)).0),
+        (texts_lines p3 (texts_ended m p2 (texts_stmt p1 h).1)).1,
+      )
 
-  pub texts_else : {k : Context} {a c : List Token} {x : stm.Stmts} → DerivesElse k a x c → TokensTexts a → StmtsTexts x × TokensTexts c
+  pub texts_else : {k : Context} {a c : List Token} {x : stm.Stmts} → DerivesElse k a x c → TokensTexts a
+      → StmtsTexts x × TokensTexts c
   texts_else g.end_if h = (tt, h.1.1)
-  texts_else (g.else_lines {a = a} p1 p2) h = ((texts_lines p2 (texts_ended a p1 h.1)).0, (texts_lines p2 (texts_ended a p1 h.1)).1.1.1)
-  texts_else (g.else_if {b = b} {m = m} p1 p2 p3 p4 p5) h = ((((texts_expr p1 h.1.1).0, (texts_lines p4 (texts_ended b p3 (subst TokensTexts p2 (texts_ends m (texts_expr p1 h.1.1).1)).1)).0, (texts_else p5 (texts_lines p4 (texts_ended b p3 (subst TokensTexts p2 (texts_ends m (texts_expr p1 h.1.1).1)).1)).1).0), tt), (texts_else p5 (texts_lines p4 (texts_ended b p3 (subst TokensTexts p2 (texts_ends m (texts_expr p1 h.1.1).1)).1)).1).1)
+  texts_else (g.else_lines {a = a} p1 p2) h =
+      ((texts_lines p2 (texts_ended a p1 h.1)).0, (texts_lines p2 (texts_ended a p1 h.1)).1.1.1)
+  texts_else (g.else_if {b = b} {m = m} p1 p2 p3 p4 p5)
+      h = (
+        (
+          (
+            (texts_expr p1 h.1.1).0,
+            (texts_lines p4 (texts_ended b p3 (subst TokensTexts p2 (texts_ends m (texts_expr p1 h.1.1).1)).1)).0,
+            (texts_else p5
+                (texts_lines p4 (texts_ended b p3
+                (subst TokensTexts p2 (texts_ends m (texts_expr p1 h.1.1).1)).1)).1).0,
+          ),
+          tt,
+        ),
+        (texts_else p5
+            (texts_lines p4 (texts_ended b p3 (subst TokensTexts p2 (texts_ends m (texts_expr p1 h.1.1).1)).1)).1).1,
+      )
 
-pub texts_params : {a c : List Token} {x : List (List ℕ)} → DerivesParams a x c → TokensTexts a → AllByRecursion IsText x × TokensTexts c
+pub texts_params : {a c : List Token} {x : List (List ℕ)} → DerivesParams a x c → TokensTexts a
+    → AllByRecursion IsText x × TokensTexts c
 texts_params g.no_params h = (tt, h)
 texts_params (g.params p1) h = texts_names p1 h
 
-pub texts_handler : {a c : List Token} {x : stm.Handler} → DerivesHandler a x c → TokensTexts a → HandlerTexts x × TokensTexts c
-texts_handler (g.handler {m = m} {n = n} _ p2 p3 p4 _ p6) h = ((h.1.0, (texts_params p2 h.1.1).0, (texts_lines p4 (texts_ended m p3 (texts_params p2 h.1.1).1)).0), (texts_ended n p6 (texts_lines p4 (texts_ended m p3 (texts_params p2 h.1.1).1)).1.1.1))
+pub texts_handler : {a c : List Token} {x : stm.Handler} → DerivesHandler a x c → TokensTexts a
+    → HandlerTexts x × TokensTexts c
+texts_handler (g.handler {m = m} {n = n} _ p2 p3 p4 _ p6)
+    h = (
+      (h.1.0, (texts_params p2 h.1.1).0, (texts_lines p4 (texts_ended m p3 (texts_params p2 h.1.1).1)).0),
+      (texts_ended n p6 (texts_lines p4 (texts_ended m p3 (texts_params p2 h.1.1).1)).1.1.1),
+    )
 
 pub texts_handlers : {a : List Token} {x : stm.Handlers} → DerivesHandlers a x → TokensTexts a → HandlersTexts x
 texts_handlers g.no_handlers h = tt

@@ -2,9 +2,13 @@
 use Rattle.std.specs.Prelude.{IfSome, ◌||◌, max, min, int_lt, unsigned_abs}
 use Rattle.std.specs.List.{All, AllByRecursion, list_all, prefix_len}
 use Rattle.std.specs.Fmt.{digits_onto, digits, decimal, digit_glyph}
-use Rattle.std.proofs.Common.{◌≡◌, ◌+◌, ◌-◌, ◌/◌, ◌%◌, ◌<◌, ◌≤◌, ◌==◌, ◌&&◌, ℕ, zero, suc, ℤ, pos, negsuc, List, [], ◌∷◌, ◌++◌, length, take, drop, Bool, true, false, cond, codes, nat_lt, nat_le, Option, Some, None, option_map, Result, Ok, Err, IfOk, refl, sym, ap, subst, arith, length-append, length-take, length-drop}
+use Rattle.std.proofs.Common.{◌≡◌, ◌+◌, ◌-◌, ◌/◌, ◌%◌, ◌<◌, ◌≤◌, ◌==◌, ◌&&◌, ℕ, zero, suc, ℤ, pos, negsuc, List, []}
+use Rattle.std.proofs.Common.{◌∷◌, ◌++◌, length, take, drop, Bool, true, false, cond, codes, nat_lt, nat_le, Option}
+use Rattle.std.proofs.Common.{Some, None, option_map, Result, Ok, Err, IfOk, refl, sym, ap, subst, arith}
+use Rattle.std.proofs.Common.{length-append, length-take, length-drop}
 use Rattle.std.proofs.lemmas.Bool.{and_parts, ltb-true, leb-true}
-use Rattle.std.proofs.lemmas.List.Elements.{All-nil, All-cons, All-take, All-drop, All-append, All-replicate, All-from_recursion, All-tail}
+use Rattle.std.proofs.lemmas.List.Elements.{All-nil, All-cons, All-take, All-drop, All-append, All-replicate}
+use Rattle.std.proofs.lemmas.List.Elements.{All-from_recursion, All-tail}
 use Rattle.ht_values.specs.declared.fault.Fault.{Fault}
 use Rattle.ht_values.specs.declared.fault.Fault.TheVariants.{TooLong, BadArgument}
 use Rattle.ht_values.specs.declared.operator.Func.{Func}
@@ -47,7 +51,8 @@ AreBytes t = All (λ b. b < 256) t
 
 bytes_of : (t : List ℕ) → list_all (λ b. nat_lt b 256) t ≡ true → AllByRecursion (λ b. b < 256) t
 bytes_of [] h = tt
-bytes_of (b ∷ bs) h = let parts = and_parts (nat_lt b 256) (list_all (λ c. nat_lt c 256) bs) h in (ltb-true b 256 parts.0, bytes_of bs parts.1)
+bytes_of (b ∷ bs) h = let parts = and_parts (nat_lt b 256) (list_all (λ c. nat_lt c 256) bs) h in
+    (ltb-true b 256 parts.0, bytes_of bs parts.1)
 
 pub short_text : (t : List ℕ) → length t ≤ 1000 → AreBytes t → IsText t
 short_text t h bytes = record { short = omega (arith, h); bytes = bytes }
@@ -99,22 +104,28 @@ glyph n = by (nat_lt (n % 10) 10)
     by true = omega arith
     by false = omega arith
 
-digits_are : (k n : ℕ) (acc : List ℕ) → AreBytes acc → AreBytes (digits_onto k 10 false n acc) × (length (digits_onto k 10 false n acc) ≤ k + length acc)
+digits_are : (k n : ℕ) (acc : List ℕ) → AreBytes acc
+    → AreBytes (digits_onto k 10 false n acc) × (length (digits_onto k 10 false n acc) ≤ k + length acc)
 digits_are zero n acc h = (h, omega arith)
 digits_are (suc k) n acc h = by (n / 10 == 0) (digits_are k (n / 10) (digit_glyph false (n % 10) ∷ acc) more)
   where
     more : AreBytes (digit_glyph false (n % 10) ∷ acc)
     more = All-cons (λ b. b < 256) (digit_glyph false (n % 10)) acc (glyph n) h
 
-    by : (b : Bool) → AreBytes (digits_onto k 10 false (n / 10) (digit_glyph false (n % 10) ∷ acc)) × (length (digits_onto k 10 false (n / 10) (digit_glyph false (n % 10) ∷ acc)) ≤ k + length (digit_glyph false (n % 10) ∷ acc)) →
-        AreBytes (cond b (digit_glyph false (n % 10) ∷ acc) (digits_onto k 10 false (n / 10) (digit_glyph false (n % 10) ∷ acc)))
-        × (length (cond b (digit_glyph false (n % 10) ∷ acc) (digits_onto k 10 false (n / 10) (digit_glyph false (n % 10) ∷ acc))) ≤ suc k + length acc)
+    by : (b : Bool) → AreBytes (digits_onto k 10 false (n / 10) (digit_glyph false (n % 10) ∷ acc))
+        × (length (digits_onto k 10 false (n / 10) (digit_glyph false (n % 10) ∷ acc))
+        ≤ k + length (digit_glyph false (n % 10) ∷ acc)) →
+        AreBytes (cond b (digit_glyph false (n % 10) ∷ acc)
+        (digits_onto k 10 false (n / 10) (digit_glyph false (n % 10) ∷ acc)))
+        × (length (cond b (digit_glyph false (n % 10) ∷ acc)
+        (digits_onto k 10 false (n / 10) (digit_glyph false (n % 10) ∷ acc))) ≤ suc k + length acc)
     by true rest = (more, omega arith)
     by false rest = let fits = rest.1 in (rest.0, omega (arith, fits))
 
 pub decimal_are : (n : ℕ) → AreBytes (decimal n) × (length (decimal n) ≤ 64)
 unfolding digits
-decimal_are n = let all = digits_are 64 n [] (All-nil (λ b. b < 256)) in let fits = all.1 in (all.0, omega (arith, fits))
+decimal_are n =
+    let all = digits_are 64 n [] (All-nil (λ b. b < 256)) in let fits = all.1 in (all.0, omega (arith, fits))
 
 pub decimal_text : (n : ℕ) → IsText (decimal n)
 decimal_text n = let all = decimal_are n in let fits = all.1 in short_text (decimal n) (omega (arith, fits)) all.0
@@ -124,11 +135,13 @@ numeral_text (pos n) = decimal_text n
 numeral_text (negsuc n) =
     let all = decimal_are (suc n) in
     let fits = all.1 in
-    short_text (45 ∷ decimal (suc n)) (omega (arith, fits)) (All-cons (λ b. b < 256) 45 (decimal (suc n)) (omega arith) all.0)
+    short_text (45 ∷ decimal (suc n)) (omega (arith, fits))
+    (All-cons (λ b. b < 256) 45 (decimal (suc n)) (omega arith) all.0)
 
 -- ---- operators and functions
 
-pub if_text : (r : Result (List ℕ) Fault) (f : List ℕ → Result (List ℕ) Fault) → IfText r → ((t : List ℕ) → IsText t → IfText (f t)) → IfText (and_then r f)
+pub if_text : (r : Result (List ℕ) Fault) (f : List ℕ → Result (List ℕ) Fault) → IfText r
+    → ((t : List ℕ) → IsText t → IfText (f t)) → IfText (and_then r f)
 if_text (Ok t) f h k = k t h
 if_text (Err fault) f h k = tt
 
@@ -161,7 +174,8 @@ binary_text op.Contains a b h k = word_text _
 binary_text op.IsIn a b h k = word_text _
 binary_text op.IsNotIn a b h k = word_text _
 binary_text op.Join a b h k = within_text (a ++ b) (All-append (λ c. c < 256) a b h.bytes k.bytes)
-binary_text op.JoinSpaced a b h k = within_text (a ++ 32 ∷ b) (All-append (λ c. c < 256) a (32 ∷ b) h.bytes (All-cons (λ c. c < 256) 32 b (omega arith) k.bytes))
+binary_text op.JoinSpaced a b h k = within_text (a ++ 32 ∷ b)
+    (All-append (λ c. c < 256) a (32 ∷ b) h.bytes (All-cons (λ c. c < 256) 32 b (omega arith) k.bytes))
 binary_text op.Add a b h k = numerals_text _
 binary_text op.Subtract a b h k = numerals_text _
 binary_text op.Multiply a b h k = numerals_text _
@@ -215,26 +229,34 @@ placed_bytes place.Into new old h k = h
 placed_bytes place.Before new old h k = All-append (λ b. b < 256) new old h k
 placed_bytes place.After new old h k = All-append (λ b. b < 256) old new k h
 
-padding_bytes : (delimiter : ℕ) (k : ChunkKind) (many first : ℕ) (t : List ℕ) → delimiter < 256 → AreBytes (padding delimiter k many first t)
+padding_bytes : (delimiter : ℕ) (k : ChunkKind) (many first : ℕ) (t : List ℕ) → delimiter < 256
+    → AreBytes (padding delimiter k many first t)
 padding_bytes delimiter kind.Char many first t h = All-nil (λ b. b < 256)
 padding_bytes delimiter kind.Word many first [] h = All-nil (λ b. b < 256)
-padding_bytes delimiter kind.Word many first (b ∷ bs) h = All-cons (λ b. b < 256) 32 [] (omega arith) (All-nil (λ b. b < 256))
+padding_bytes delimiter kind.Word many first (b ∷ bs) h =
+    All-cons (λ b. b < 256) 32 [] (omega arith) (All-nil (λ b. b < 256))
 padding_bytes delimiter kind.Item many first t h = All-replicate (λ b. b < 256) _ delimiter h
 padding_bytes delimiter kind.Line many first t h = All-replicate (λ b. b < 256) _ 13 (omega arith)
 
-put_at_bytes : (delimiter : ℕ) (k : ChunkKind) (many first : ℕ) (w : Where) (new t : List ℕ) (o : Option Span) → delimiter < 256 → AreBytes new → AreBytes t → AreBytes (put_at delimiter k many first w new t o)
+put_at_bytes : (delimiter : ℕ) (k : ChunkKind) (many first : ℕ) (w : Where) (new t : List ℕ) (o : Option Span)
+    → delimiter < 256 → AreBytes new → AreBytes t → AreBytes (put_at delimiter k many first w new t o)
 put_at_bytes delimiter k many first w new t (Some s) d h a =
-    let inside = placed_bytes w new (middle t s) h (All-take (λ b. b < 256) (s.after - s.start) (drop s.start t) (All-drop (λ b. b < 256) s.start t a)) in
-    let front = All-append (λ b. b < 256) (left t s) (placed w new (middle t s)) (All-take (λ b. b < 256) s.start t a) inside in
-    All-append (λ b. b < 256) (left t s ++ placed w new (middle t s)) (right t s) front (All-drop (λ b. b < 256) s.after t a)
+    let inside = placed_bytes w new (middle t s) h
+    (All-take (λ b. b < 256) (s.after - s.start) (drop s.start t) (All-drop (λ b. b < 256) s.start t a)) in
+    let front = All-append (λ b. b < 256) (left t s) (placed w new (middle t s)) (All-take (λ b. b < 256) s.start t a)
+    inside in
+    All-append (λ b. b < 256) (left t s ++ placed w new (middle t s)) (right t s) front
+    (All-drop (λ b. b < 256) s.after t a)
 put_at_bytes delimiter k many first w new t None d h a =
-    All-append (λ b. b < 256) (t ++ padding delimiter k many first t) new (All-append (λ b. b < 256) t (padding delimiter k many first t) a (padding_bytes delimiter k many first t d)) h
+    All-append (λ b. b < 256) (t ++ padding delimiter k many first t) new
+    (All-append (λ b. b < 256) t (padding delimiter k many first t) a (padding_bytes delimiter k many first t d)) h
 
 if_within : (b : Bool) (fault : Fault) (t : List ℕ) → AreBytes t → IfText (cond b (Err fault) (within_limit t))
 if_within true fault t h = tt
 if_within false fault t h = within_text t h
 
-put_text : (delimiter : ℕ) (c : Chunk) (w : Where) (new t : List ℕ) → delimiter < 256 → IsText new → IsText t → IfText (put delimiter c w new t)
+put_text : (delimiter : ℕ) (c : Chunk) (w : Where) (new t : List ℕ) → delimiter < 256 → IsText new → IsText t
+    → IfText (put delimiter c w new t)
 unfolding put
 put_text delimiter c w new t d h is =
     let many = count delimiter c.kind t in
@@ -243,13 +265,16 @@ put_text delimiter c w new t d h is =
     let n = unsigned_abs a in
     let m = unsigned_abs b in
     if_within (int_lt a (pos 1) || int_lt b a) BadArgument (put_from delimiter c.kind n m w new t)
-    (put_at_bytes delimiter c.kind many n w new t (stretch (spans delimiter c.kind t) n (min m many)) d h.bytes is.bytes)
+    (put_at_bytes delimiter c.kind many n w new t (stretch (spans delimiter c.kind t) n (min m many)) d h.bytes
+    is.bytes)
 
-pub put_within_text : (delimiter : ℕ) (cs : List Chunk) (w : Where) (new t : List ℕ) → delimiter < 256 → IsText new → IsText t → IfText (put_within delimiter cs w new t)
+pub put_within_text : (delimiter : ℕ) (cs : List Chunk) (w : Where) (new t : List ℕ) → delimiter < 256 → IsText new
+    → IsText t → IfText (put_within delimiter cs w new t)
 put_within_text delimiter [] w new t d h a = within_text (placed w new t) (placed_bytes w new t h.bytes a.bytes)
 put_within_text delimiter (c ∷ []) w new t d h a = put_text delimiter c w new t d h a
 put_within_text delimiter (c ∷ e ∷ cs) w new t d h a =
-    if_text (put_within delimiter (e ∷ cs) w new (read delimiter c t)) (λ part. put delimiter c place.Into part t) (put_within_text delimiter (e ∷ cs) w new (read delimiter c t) d h (read_text delimiter c t a))
+    if_text (put_within delimiter (e ∷ cs) w new (read delimiter c t)) (λ part. put delimiter c place.Into part t)
+    (put_within_text delimiter (e ∷ cs) w new (read delimiter c t) d h (read_text delimiter c t a))
     (λ part is. put_text delimiter c place.Into part t d is a)
 
 -- ---- deletes
@@ -261,28 +286,37 @@ abbrev Fits : List ℕ → List ℕ → Type 0
 Fits t u = (length u ≤ length t) × AreBytes u
 
 fits_text : (t u : List ℕ) → IsText t → Fits t u → IsText u
-fits_text t u h fits = let short = h.short in let less = fits.0 in record { short = omega (arith, short, less); bytes = fits.1 }
+fits_text t u h fits =
+    let short = h.short in let less = fits.0 in record { short = omega (arith, short, less); bytes = fits.1 }
 
-joined : (t rest : List ℕ) (s : Span) → s.start ≤ s.after → length rest ≤ length (drop s.after t) → AreBytes t → AreBytes rest → Fits t (take s.start t ++ rest)
+joined : (t rest : List ℕ) (s : Span) → s.start ≤ s.after → length rest ≤ length (drop s.after t) → AreBytes t
+    → AreBytes rest → Fits t (take s.start t ++ rest)
 joined t rest s forward less h k = (
   omega (arith, forward, less, length-append (take s.start t) rest, length-take s.start t, length-drop s.after t),
   All-append (λ b. b < 256) (take s.start t) rest (All-take (λ b. b < 256) s.start t h) k,
 )
 
-joined_up_fits : (t after : List ℕ) (s : Span) → s.start ≤ s.after → after ≡ drop s.after t → AreBytes t → Fits t (joined_up (take s.start t) after)
+joined_up_fits : (t after : List ℕ) (s : Span) → s.start ≤ s.after → after ≡ drop s.after t → AreBytes t
+    → Fits t (joined_up (take s.start t) after)
 joined_up_fits t [] s forward is h =
-    let front = take s.start t in
-    (omega (arith, length-take (length front - 1) front, length-take s.start t), All-take (λ b. b < 256) (length front - 1) front (All-take (λ b. b < 256) s.start t h))
+    let front = take s.start t in (
+      omega (arith, length-take (length front - 1) front, length-take s.start t),
+      All-take (λ b. b < 256)
+          (length front - 1) front (All-take (λ b. b < 256) s.start t h),
+    )
 joined_up_fits t (d ∷ after) s forward is h =
     let size : length (d ∷ after) ≡ length (drop s.after t) = ap (length {A = ℕ}) is in
     let bytes : AreBytes (d ∷ after) = subst AreBytes (sym is) (All-drop (λ b. b < 256) s.after t h) in
     joined t after s forward (omega (arith, size)) h (All-tail (λ b. b < 256) d after bytes)
 
-closed_fits : (k : ChunkKind) (t : List ℕ) (s : Span) → s.start ≤ s.after → AreBytes t → Fits t (closed_up k (left t s) (right t s))
-closed_fits kind.Char t s forward h = joined t (drop s.after t) s forward (omega arith) h (All-drop (λ b. b < 256) s.after t h)
+closed_fits : (k : ChunkKind) (t : List ℕ) (s : Span) → s.start ≤ s.after → AreBytes t
+    → Fits t (closed_up k (left t s) (right t s))
+closed_fits kind.Char t s forward h =
+    joined t (drop s.after t) s forward (omega arith) h (All-drop (λ b. b < 256) s.after t h)
 closed_fits kind.Word t s forward h =
     let n = prefix_len is_space (drop s.after t) in
-    joined t (drop n (drop s.after t)) s forward (omega (arith, length-drop n (drop s.after t))) h (All-drop (λ b. b < 256) n (drop s.after t) (All-drop (λ b. b < 256) s.after t h))
+    joined t (drop n (drop s.after t)) s forward (omega (arith, length-drop n (drop s.after t))) h
+    (All-drop (λ b. b < 256) n (drop s.after t) (All-drop (λ b. b < 256) s.after t h))
 closed_fits kind.Item t s forward h = joined_up_fits t (drop s.after t) s forward refl h
 closed_fits kind.Line t s forward h = joined_up_fits t (drop s.after t) s forward refl h
 
@@ -290,29 +324,37 @@ removed_text : PartsCut → (delimiter : ℕ) (c : Chunk) (t : List ℕ) → IsT
 unfolding removed
 removed_text cut delimiter c t h = by (found delimiter c t) refl
   where
-    by : (o : Option Span) → found delimiter c t ≡ o → IfSome (option_map (λ s. closed_up c.kind (left t s) (right t s)) o) IsText
+    by : (o : Option Span) → found delimiter c t ≡ o
+        → IfSome (option_map (λ s. closed_up c.kind (left t s) (right t s)) o) IsText
     by None is = tt
-    by (Some s) is = fits_text t (closed_up c.kind (left t s) (right t s)) h (closed_fits c.kind t s (cut delimiter c t s is).forward h.bytes)
+    by (Some s) is = fits_text t (closed_up c.kind (left t s) (right t s)) h
+        (closed_fits c.kind t s (cut delimiter c t s is).forward h.bytes)
 
 due_text : (r : Result (List ℕ) Fault) → IfText r → IfDue (and_then r (λ u. Ok (Some u)))
 due_text (Ok t) h = h
 due_text (Err fault) h = tt
 
-if_due : (r : Result (Option (List ℕ)) Fault) (f : Option (List ℕ) → Result (Option (List ℕ)) Fault) → IfDue r → ((t : Option (List ℕ)) → IfSome t IsText → IfDue (f t)) → IfDue (and_then r f)
+if_due : (r : Result (Option (List ℕ)) Fault) (f : Option (List ℕ) → Result (Option (List ℕ)) Fault) → IfDue r
+    → ((t : Option (List ℕ)) → IfSome t IsText → IfDue (f t)) → IfDue (and_then r f)
 if_due (Ok t) f h k = k t h
 if_due (Err fault) f h k = tt
 
-put_changed_text : (delimiter : ℕ) (c : Chunk) (t : List ℕ) (part : Option (List ℕ)) → delimiter < 256 → IsText t → IfSome part IsText → IfDue (put_changed delimiter c t part)
+put_changed_text : (delimiter : ℕ) (c : Chunk) (t : List ℕ) (part : Option (List ℕ)) → delimiter < 256 → IsText t
+    → IfSome part IsText → IfDue (put_changed delimiter c t part)
 put_changed_text delimiter c t None d a h = tt
-put_changed_text delimiter c t (Some part) d a h = due_text (put delimiter c place.Into part t) (put_text delimiter c place.Into part t d h a)
+put_changed_text delimiter c t (Some part) d a h =
+    due_text (put delimiter c place.Into part t) (put_text delimiter c place.Into part t d h a)
 
-removed_within_text : PartsCut → (delimiter : ℕ) (c : Chunk) (cs : List Chunk) (t : List ℕ) → delimiter < 256 → IsText t → IfDue (removed_within delimiter c cs t)
+removed_within_text : PartsCut → (delimiter : ℕ) (c : Chunk) (cs : List Chunk) (t : List ℕ) → delimiter < 256 → IsText t
+    → IfDue (removed_within delimiter c cs t)
 removed_within_text cut delimiter c [] t d a = removed_text cut delimiter c t a
 removed_within_text cut delimiter c (e ∷ cs) t d a =
-    if_due (removed_within delimiter e cs (read delimiter c t)) (λ part. put_changed delimiter c t part) (removed_within_text cut delimiter e cs (read delimiter c t) d (read_text delimiter c t a))
+    if_due (removed_within delimiter e cs (read delimiter c t)) (λ part. put_changed delimiter c t part)
+    (removed_within_text cut delimiter e cs (read delimiter c t) d (read_text delimiter c t a))
     (λ part h. put_changed_text delimiter c t part d a h)
 
-deleted_text : PartsCut → (delimiter : ℕ) (cs : List Chunk) (t : List ℕ) → delimiter < 256 → IsText t → IfDue (deleted_within delimiter cs t)
+deleted_text : PartsCut → (delimiter : ℕ) (cs : List Chunk) (t : List ℕ) → delimiter < 256 → IsText t
+    → IfDue (deleted_within delimiter cs t)
 deleted_text cut delimiter [] t d a = tt
 deleted_text cut delimiter (c ∷ cs) t d a = removed_within_text cut delimiter c cs t d a
 
@@ -323,11 +365,16 @@ EditTexts (Put w new) = IsText new
 EditTexts (Alter o operand) = IsText operand
 EditTexts Delete = Unit {0}
 
-pub edited_text : PartsCut → (delimiter : ℕ) (cs : List Chunk) (e : Edit) (t : List ℕ) → delimiter < 256 → EditTexts e → IsText t → IfDue (edited delimiter cs e t)
-edited_text cut delimiter cs (Put w new) t d h a = due_text (put_within delimiter cs w new t) (put_within_text delimiter cs w new t d h a)
-edited_text cut delimiter cs (Alter o operand) t d h a = altered (binary o (read_within delimiter cs t) operand) (binary_text o (read_within delimiter cs t) operand (within_read delimiter cs t a) h)
+pub edited_text : PartsCut → (delimiter : ℕ) (cs : List Chunk) (e : Edit) (t : List ℕ) → delimiter < 256 → EditTexts e
+    → IsText t → IfDue (edited delimiter cs e t)
+edited_text cut delimiter cs (Put w new) t d h a =
+    due_text (put_within delimiter cs w new t) (put_within_text delimiter cs w new t d h a)
+edited_text cut delimiter cs (Alter o operand) t d h a = altered (binary o (read_within delimiter cs t) operand)
+    (binary_text o (read_within delimiter cs t) operand (within_read delimiter cs t a) h)
   where
-    altered : (r : Result (List ℕ) Fault) → IfText r → IfDue (and_then r (λ v. and_then (put_within delimiter cs place.Into v t) (λ u. Ok (Some u))))
-    altered (Ok v) is = due_text (put_within delimiter cs place.Into v t) (put_within_text delimiter cs place.Into v t d is a)
+    altered : (r : Result (List ℕ) Fault) → IfText r
+        → IfDue (and_then r (λ v. and_then (put_within delimiter cs place.Into v t) (λ u. Ok (Some u))))
+    altered (Ok v) is =
+        due_text (put_within delimiter cs place.Into v t) (put_within_text delimiter cs place.Into v t d is a)
     altered (Err fault) is = tt
 edited_text cut delimiter cs Delete t d h a = deleted_text cut delimiter cs t d a

@@ -5,7 +5,8 @@ use Rattle.ht_values.specs.Text.{IsText, is_folded}
 use Rattle.externals.specs.Cells.{Seen}
 use Rattle.externals.specs.Table.{Turn, turn_of}
 use Rattle.externals.specs.declared.external.Ask.{Ask}
-use Rattle.externals.specs.declared.external.Ask.TheVariants.{SendCardMessage, EvalExpr, SetGlobal, SetFieldByName, Done, Fail}
+use Rattle.externals.specs.declared.external.Ask.TheVariants.{SendCardMessage, EvalExpr, SetGlobal, SetFieldByName}
+use Rattle.externals.specs.declared.external.Ask.TheVariants.{Done, Fail}
 use Rattle.externals.specs.declared.external.Input.{Input}
 use Rattle.externals.specs.declared.external.Input.TheVariants.{Start, Answer}
 use Rattle.change_journal.specs.History.{History, IsHistory}

@@ -1,7 +1,9 @@
 //! Where no external is free, what is read, computed and written of texts is texts, and whole states lead to whole states.
 
-ghost use Rattle.whole_states.specs.Laws.{LinesLeadToWhole, MessagesLeadToWhole, ActionsLeadToWhole, ReferencesLeadToWhole, ValuesLeadToWhole};
-ghost use Rattle.whole_states.specs.Texts.{ExpressionsHaveTexts, TypedLinesHaveTexts, SentMessagesHaveTexts, ScriptsHaveTexts, ClickedPartsHaveTexts, TypedTextsHaveTexts};
+ghost use Rattle.whole_states.specs.Laws.{LinesLeadToWhole, MessagesLeadToWhole, ActionsLeadToWhole};
+ghost use Rattle.whole_states.specs.Laws.{ReferencesLeadToWhole, ValuesLeadToWhole};
+ghost use Rattle.whole_states.specs.Texts.{ExpressionsHaveTexts, TypedLinesHaveTexts, SentMessagesHaveTexts};
+ghost use Rattle.whole_states.specs.Texts.{ScriptsHaveTexts, ClickedPartsHaveTexts, TypedTextsHaveTexts};
 
 use chunks::parts_cut;
 

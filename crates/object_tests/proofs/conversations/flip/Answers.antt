@@ -5,4 +5,5 @@ pub returns : goal.returns
 returns g c =
     let cells = g.E.External.cells c.args.external.now in
     let patch = c.args.patch.now in
-    rw (c.flip.ensures.cells, c.flip.ensures.patch, length-flipped cells patch) (IsProper-taken_out _ cells patch c.requires)
+    rw (c.flip.ensures.cells, c.flip.ensures.patch, length-flipped cells patch)
+    (IsProper-taken_out _ cells patch c.requires)

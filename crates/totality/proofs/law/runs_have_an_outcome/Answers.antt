@@ -1,6 +1,7 @@
 use Rattle.totality.proofs.law.runs_have_an_outcome.Goals as goal
 use Rattle.definitional_interpreter.proofs.Computed.{exactly}
-use Rattle.totality.proofs.Outcomes.{lines_have_an_outcome, messages_have_an_outcome, actions_have_an_outcome, references_have_an_outcome, values_have_an_outcome}
+use Rattle.totality.proofs.Outcomes.{lines_have_an_outcome, messages_have_an_outcome, actions_have_an_outcome}
+use Rattle.totality.proofs.Outcomes.{references_have_an_outcome, values_have_an_outcome}
 
 pub returns-clause-lines : goal.returns-clause-lines
 returns-clause-lines c =

@@ -1,4 +1,5 @@
-use Rattle.whole_states.proofs.TreeTexts.{expressions_have_texts, lines_have_texts, messages_have_texts, scripts_have_texts, parts_have_texts, typed_have_texts}
+use Rattle.whole_states.proofs.TreeTexts.{expressions_have_texts, lines_have_texts, messages_have_texts}
+use Rattle.whole_states.proofs.TreeTexts.{scripts_have_texts, parts_have_texts, typed_have_texts}
 use Rattle.whole_states.proofs.law.trees_have_texts.Goals as goal
 
 pub returns-clause-expressions : goal.returns-clause-expressions
