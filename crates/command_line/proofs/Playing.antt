@@ -10,7 +10,8 @@ use Rattle.session.specs.Opening.{opened}
 use Rattle.headline.specs.Saving.{Takes}
 use Rattle.session.specs.Standing.{Standing}
 use Rattle.headline.specs.Stops.{Ended, Stopped}
-use Rattle.headline.specs.Unzipped.{timeline_of, RunsFollow, StopsFollow}
+use Rattle.headline.specs.Unzipped.{timeline_of, RunsFollow}
+use Rattle.headline.specs.Whole.{RunsStayWhole, StopsStayWhole}
 use Rattle.headline.specs.declared.transcript.Ran.{Ran}
 use Rattle.headline.specs.declared.transcript.RunFault.{RunFault}
 use Rattle.headline.specs.declared.transcript.RunFault.TheVariants as runs
@@ -19,18 +20,19 @@ use Rattle.command_line.specs.Plays.{Plays, Stops, Ends, fault_of_run}
 
 module _ (bytes : List ℕ) (stack : Content) (externals : List Seen) (turns : List ℕ) (steps depth : ℕ) (left : Option (List ℕ)) (old : Standing) (desk : SeenDesk) (read written : List ℕ) (last : Standing × SeenDesk)
     (spelled : Spells bytes stack) (is : old ≡ opened stack externals turns steps depth) where
-  pub plays : (ran : Ran) → RunsFollow → Ended Takes (IsAtEnd left) ran (old, desk) read written last → Plays (IsAtEnd left) ran bytes (λ s. beginning s externals steps depth) desk read written last.1
-  plays ran law e =
+  pub plays : (ran : Ran) → RunsFollow → RunsStayWhole → Ended Takes (IsAtEnd left) ran (old, desk) read written last → Plays (IsAtEnd left) ran bytes (λ s. beginning s externals steps depth) desk read written last.1
+  plays ran follow stay e =
       let first : Ended Takes (IsAtEnd left) ran (opened stack externals turns steps depth, desk) read written last = subst (λ (s : Standing). Ended Takes (IsAtEnd left) ran (s, desk) read written last) is e in
-      let followed = law left ran (opened stack externals turns steps depth, desk) read written last first in
-      record { stack = stack; spelled = spelled; last = timeline_of last.0; finish = followed.0; lines = followed.1.0; input = followed.1.1; headline = followed.1.2 }
+      let followed = follow left ran (opened stack externals turns steps depth, desk) read written last first in
+      let whole = stay left ran (opened stack externals turns steps depth, desk) read written last first in
+      record { stack = stack; spelled = spelled; last = timeline_of last.0; finish = whole.0; lines = followed.1.0; input = followed.1.1; headline = followed.1.2 }
 
-  stops : (fault : RunFault) → StopsFollow → Stopped Takes (IsAtEnd left) fault (old, desk) read written last → Stops (IsAtEnd left) fault bytes (λ s. beginning s externals steps depth) desk read written last.1
+  stops : (fault : RunFault) → StopsStayWhole → Stopped Takes (IsAtEnd left) fault (old, desk) read written last → Stops (IsAtEnd left) fault bytes (λ s. beginning s externals steps depth) desk read written last.1
   stops fault law e =
       let first : Stopped Takes (IsAtEnd left) fault (opened stack externals turns steps depth, desk) read written last = subst (λ (s : Standing). Stopped Takes (IsAtEnd left) fault (s, desk) read written last) is e in
       record { stack = stack; spelled = spelled; last = timeline_of last.0; stopped = law left fault (opened stack externals turns steps depth, desk) read written last first }
 
-  pub ends : (fault : RunFault) → StopsFollow → Stopped Takes (IsAtEnd left) fault (old, desk) read written last → Ends (IsAtEnd left) (fault_of_run fault) bytes (λ s. beginning s externals steps depth) desk read written last.1
+  pub ends : (fault : RunFault) → StopsStayWhole → Stopped Takes (IsAtEnd left) fault (old, desk) read written last → Ends (IsAtEnd left) (fault_of_run fault) bytes (λ s. beginning s externals steps depth) desk read written last.1
   ends runs.Memory law e = record { unread = e.unread; unwritten = e.unwritten; same = ap (λ (s : Standing × SeenDesk). s.1) e.same }
   ends runs.Read law e = stops runs.Read law e
   ends runs.Write law e = stops runs.Write law e

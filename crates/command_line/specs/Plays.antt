@@ -4,10 +4,11 @@ use Rattle.devices.specs.Desks.{SeenDesk}
 use Rattle.object_table.specs.Content.{Content}
 use Rattle.stack_text.specs.Laws.{Spells}
 use Rattle.stack_text.specs.Reading.{document_at}
-use Rattle.headline.specs.Headline.{Timeline, LineMoves, Headline}
+use Rattle.headline.specs.Headline.{Timeline, Headline}
 use Rattle.headline.specs.Saving.{Settles}
 use Rattle.headline.specs.InputLines.{AreLines}
 use Rattle.headline.specs.Stops.{Ended, Stopped}
+use Rattle.headline.specs.Whole.{MovesWhole}
 use Rattle.headline.specs.declared.transcript.Ran.{Ran}
 use Rattle.headline.specs.declared.transcript.RunFault.{RunFault}
 use Rattle.headline.specs.declared.transcript.RunFault.TheVariants as runs
@@ -15,22 +16,25 @@ use Rattle.command_line.specs.declared.fault.CliFault.{CliFault}
 use Rattle.command_line.specs.declared.fault.CliFault.TheVariants.{Usage, CannotRead, Refused, Read, Write, TooManyLines, Memory}
 
 -- The bytes spell a stack, and a session that begins with it runs to this end beside a desk: what is written is the
--- answers to the lines that are read, those of a list of whole states with a cursor.
-pub record Plays (ends : Type 0) (ran : Ran) (bytes : List ℕ) (beginning : Content → Timeline) (old : SeenDesk) (read written : List ℕ) (new : SeenDesk) : Type 0 where
+-- answers to the lines that are read, those of a list of states with a cursor, each of which is whole before each line
+-- and after it.
+pub record Plays (ends : Type 0) (ran : Ran) (bytes : List ℕ) (beginning : Content → Timeline) (old : SeenDesk)
+    (read written : List ℕ) (new : SeenDesk) : Type 0 where
   pub stack : Content
   pub spelled : Spells bytes stack
   pub last : Timeline
-  pub finish : Ended (Settles LineMoves) ends ran (beginning stack, old) read written (last, new)
+  pub finish : Ended (Settles MovesWhole) ends ran (beginning stack, old) read written (last, new)
   pub lines : List (List ℕ)
   pub input : AreLines read lines
   pub headline : Headline (beginning stack, old) lines written (last, new)
 
--- the bytes spell a stack, and a session that begins with it stopped by this fault
-pub record Stops (ends : Type 0) (fault : RunFault) (bytes : List ℕ) (beginning : Content → Timeline) (old : SeenDesk) (read written : List ℕ) (new : SeenDesk) : Type 0 where
+-- the bytes spell a stack, and a session that begins with it stopped by this fault; so far each state was whole
+pub record Stops (ends : Type 0) (fault : RunFault) (bytes : List ℕ) (beginning : Content → Timeline) (old : SeenDesk)
+    (read written : List ℕ) (new : SeenDesk) : Type 0 where
   pub stack : Content
   pub spelled : Spells bytes stack
   pub last : Timeline
-  pub stopped : Stopped (Settles LineMoves) ends fault (beginning stack, old) read written (last, new)
+  pub stopped : Stopped (Settles MovesWhole) ends fault (beginning stack, old) read written (last, new)
 
 -- nothing is read, written or kept
 pub record Idles (old : SeenDesk) (read written : List ℕ) (new : SeenDesk) : Type 0 where

@@ -12,7 +12,7 @@ use crate::fault::CliFault;
 use crate::options::Options;
 use devices::{Desk, Watched};
 use externals::External;
-use headline::{Ran, RunFault, run, runs_follow, stops_follow};
+use headline::{Ran, RunFault, run, runs_follow, runs_stay_whole};
 use object_table::Stack;
 use session::Session;
 use stack_file::{ReadError, read, write};
@@ -77,7 +77,8 @@ fn leave<E: External, D: Desk>(session: &Session<E>, alloc: Global, given: &[u8]
 /// writer, up to `.quit` or the end of the input, which it tells. The desk keeps what is saved, hears of each message, and
 /// hears at the end, however the run ended, with which text of the stack the session ends.
 ///
-/// What is written is the answers to the lines that are read, those of a list of whole states with a cursor.
+/// What is written is the answers to the lines that are read, those of a list of states with a cursor, each of which is
+/// whole before each line and after it, however the run ends.
 /// `Refused` where the bytes are no stack text, and `Read`, `Write` and `TooManyLines` as `run` has them; `Memory`
 /// only where a growth was refused before the first line was read, so that nothing is read, written or kept. A device is
 /// blamed where it failed, and nowhere else.
@@ -110,7 +111,7 @@ pub fn play<E: External, R: Read, W: Write, D: Desk>(
         Err(_) => unreachable!(),
     };
     runs_follow();
-    stops_follow();
+    runs_stay_whole();
     match run(&mut session, alloc, reader, writer, desk) {
         Ok(ran) => {
             leave(&session, alloc, bytes, desk);
