@@ -1,5 +1,6 @@
 -- A run with the externals of the kit, by what is known of each.
-use Rattle.std.proofs.Common.{◌≡◌, ℕ, List, [], ◌∷◌, Bool, true, Option, Result, Err, IfOk, IfErr, map, refl, sym, ap, subst, ◌∙◌}
+use Rattle.std.proofs.Common.{◌≡◌, ℕ, List, [], ◌∷◌, Bool, true, Option, Result, Err, IfOk, IfErr, map, refl, sym, ap}
+use Rattle.std.proofs.Common.{subst, ◌∙◌}
 use Rattle.std.proofs.KnownBytes.{Appends-nil, Consumes-nil}
 use Rattle.std.specs.Io.KnownBytes.{Appends, Consumes}
 use Rattle.devices.specs.Desks.{SeenDesk}
@@ -13,7 +14,8 @@ use Rattle.command_line.specs.declared.fault.CliFault.TheVariants.{Memory}
 use Rattle.command_line.specs.Kit.{kit, count, bins, relay, gate}
 use Rattle.command_line.specs.Plays.{Plays, Ends}
 
-module _ {X : Type 0} (title : X → List ℕ) (sort : X → ℕ) (answers_calls : X → Bool) (cells : X → List (List ℕ)) {a b c d : X} {xs : List X}
+module _ {X : Type 0} (title : X → List ℕ) (sort : X → ℕ) (answers_calls : X → Bool) (cells : X → List (List ℕ))
+    {a b c d : X} {xs : List X}
     (is : xs ≡ a ∷ b ∷ c ∷ d ∷ [])
     (p : seen_by title sort answers_calls cells a ≡ count) (q : seen_by title sort answers_calls cells b ≡ bins)
     (r : seen_by title sort answers_calls cells c ≡ relay) (s : seen_by title sort answers_calls cells d ≡ gate) where
@@ -21,7 +23,8 @@ module _ {X : Type 0} (title : X → List ℕ) (sort : X → ℕ) (answers_calls
   see = seen_by title sort answers_calls cells
 
   four : see a ∷ see b ∷ see c ∷ see d ∷ [] ≡ kit
-  four = ap (λ x. x ∷ see b ∷ see c ∷ see d ∷ []) p ∙ ap (λ x. count ∷ x ∷ see c ∷ see d ∷ []) q ∙ ap (λ x. count ∷ bins ∷ x ∷ see d ∷ []) r ∙ ap (λ x. count ∷ bins ∷ relay ∷ x ∷ []) s
+  four = ap (λ x. x ∷ see b ∷ see c ∷ see d ∷ []) p ∙ ap (λ x. count ∷ x ∷ see c ∷ see d ∷ []) q
+      ∙ ap (λ x. count ∷ bins ∷ x ∷ see d ∷ []) r ∙ ap (λ x. count ∷ bins ∷ relay ∷ x ∷ []) s
 
   pub seen : map (seen_by title sort answers_calls cells) xs ≡ kit
   seen = ap (map see) is ∙ four
@@ -29,20 +32,32 @@ module _ {X : Type 0} (title : X → List ℕ) (sort : X → ℕ) (answers_calls
   pub apart : are_apart (map title xs) ≡ true
   apart = ap (λ ys. are_apart (map title ys)) is ∙ ap (λ ss. are_apart (titles_of ss)) four
 
-module _ (result : Result Ran CliFault) (ends : Type 0) (bytes : List ℕ) (steps depth : ℕ) (old new : SeenDesk) (a b c d : Option (List ℕ)) where
+module _ (result : Result Ran CliFault) (ends : Type 0) (bytes : List ℕ) (steps depth : ℕ) (old new : SeenDesk)
+    (a b c d : Option (List ℕ)) where
   pub plays_with : {xs ys : List Seen} → xs ≡ ys
-      → IfOk result (λ ran. (read : List ℕ) × (written : List ℕ) × Consumes a b read × Appends c d written × Plays ends ran bytes (λ stack. beginning stack xs steps depth) old read written new)
-      → IfOk result (λ ran. (read : List ℕ) × (written : List ℕ) × Consumes a b read × Appends c d written × Plays ends ran bytes (λ stack. beginning stack ys steps depth) old read written new)
-  plays_with is = subst (λ zs. IfOk result (λ ran. (read : List ℕ) × (written : List ℕ) × Consumes a b read × Appends c d written × Plays ends ran bytes (λ stack. beginning stack zs steps depth) old read written new)) is
+      → IfOk result (λ ran. (read : List ℕ) × (written : List ℕ) × Consumes a b read × Appends c d written
+      × Plays ends ran bytes (λ stack. beginning stack xs steps depth) old read written new)
+      → IfOk result (λ ran. (read : List ℕ) × (written : List ℕ) × Consumes a b read × Appends c d written
+      × Plays ends ran bytes (λ stack. beginning stack ys steps depth) old read written new)
+  plays_with is = subst (λ zs. IfOk result
+      (λ ran. (read : List ℕ) × (written : List ℕ) × Consumes a b read × Appends c d written
+      × Plays ends ran bytes (λ stack. beginning stack zs steps depth) old read written new)) is
 
   pub ends_with : {xs ys : List Seen} → xs ≡ ys
-      → IfErr result (λ fault. (read : List ℕ) × (written : List ℕ) × Consumes a b read × Appends c d written × Ends ends fault bytes (λ stack. beginning stack xs steps depth) old read written new)
-      → IfErr result (λ fault. (read : List ℕ) × (written : List ℕ) × Consumes a b read × Appends c d written × Ends ends fault bytes (λ stack. beginning stack ys steps depth) old read written new)
-  ends_with is = subst (λ zs. IfErr result (λ fault. (read : List ℕ) × (written : List ℕ) × Consumes a b read × Appends c d written × Ends ends fault bytes (λ stack. beginning stack zs steps depth) old read written new)) is
+      → IfErr result (λ fault. (read : List ℕ) × (written : List ℕ) × Consumes a b read × Appends c d written
+      × Ends ends fault bytes (λ stack. beginning stack xs steps depth) old read written new)
+      → IfErr result (λ fault. (read : List ℕ) × (written : List ℕ) × Consumes a b read × Appends c d written
+      × Ends ends fault bytes (λ stack. beginning stack ys steps depth) old read written new)
+  ends_with is = subst (λ zs. IfErr result
+      (λ fault. (read : List ℕ) × (written : List ℕ) × Consumes a b read × Appends c d written
+      × Ends ends fault bytes (λ stack. beginning stack zs steps depth) old read written new)) is
 
 -- nothing was read or written where memory was refused before the run
-pub idles : (result : Result Ran CliFault) (ends : Type 0) (bytes : List ℕ) (first : Content → Timeline) (desk : SeenDesk) (a c : Option (List ℕ)) → result ≡ Err Memory
-    → IfErr result (λ fault. (read : List ℕ) × (written : List ℕ) × Consumes a a read × Appends c c written × Ends ends fault bytes first desk read written desk)
+pub idles : (result : Result Ran CliFault) (ends : Type 0) (bytes : List ℕ) (first : Content → Timeline)
+    (desk : SeenDesk) (a c : Option (List ℕ)) → result ≡ Err Memory
+    → IfErr result (λ fault. (read : List ℕ) × (written : List ℕ) × Consumes a a read × Appends c c written
+    × Ends ends fault bytes first desk read written desk)
 idles result ends bytes first desk a c is =
-    subst (λ x. IfErr x (λ fault. (read : List ℕ) × (written : List ℕ) × Consumes a a read × Appends c c written × Ends ends fault bytes first desk read written desk)) (sym is)
+    subst (λ x. IfErr x (λ fault. (read : List ℕ) × (written : List ℕ) × Consumes a a read × Appends c c written
+    × Ends ends fault bytes first desk read written desk)) (sym is)
     ([], [], Consumes-nil a, Appends-nil c, record { unread = refl; unwritten = refl; same = refl })

@@ -18,22 +18,43 @@ use Rattle.headline.specs.declared.transcript.RunFault.TheVariants as runs
 use Rattle.command_line.specs.declared.fault.CliFault.TheVariants.{Read, Write}
 use Rattle.command_line.specs.Plays.{Plays, Stops, Ends, fault_of_run}
 
-module _ (bytes : List ℕ) (stack : Content) (externals : List Seen) (turns : List ℕ) (steps depth : ℕ) (left : Option (List ℕ)) (old : Standing) (desk : SeenDesk) (read written : List ℕ) (last : Standing × SeenDesk)
+module _ (bytes : List ℕ) (stack : Content) (externals : List Seen) (turns : List ℕ) (steps depth : ℕ)
+    (left : Option (List ℕ)) (old : Standing) (desk : SeenDesk) (read written : List ℕ) (last : Standing × SeenDesk)
     (spelled : Spells bytes stack) (is : old ≡ opened stack externals turns steps depth) where
-  pub plays : (ran : Ran) → RunsFollow → RunsStayWhole → Ended Takes (IsAtEnd left) ran (old, desk) read written last → Plays (IsAtEnd left) ran bytes (λ s. beginning s externals steps depth) desk read written last.1
+  pub plays : (ran : Ran) → RunsFollow → RunsStayWhole → Ended Takes (IsAtEnd left) ran (old, desk) read written last
+      → Plays (IsAtEnd left) ran bytes (λ s. beginning s externals steps depth) desk read written last.1
   plays ran follow stay e =
-      let first : Ended Takes (IsAtEnd left) ran (opened stack externals turns steps depth, desk) read written last = subst (λ (s : Standing). Ended Takes (IsAtEnd left) ran (s, desk) read written last) is e in
+      let first : Ended Takes (IsAtEnd left) ran (opened stack externals turns steps depth, desk) read written last =
+      subst (λ (s : Standing). Ended Takes (IsAtEnd left) ran (s, desk) read written last) is e in
       let followed = follow left ran (opened stack externals turns steps depth, desk) read written last first in
       let whole = stay left ran (opened stack externals turns steps depth, desk) read written last first in
-      record { stack = stack; spelled = spelled; last = timeline_of last.0; finish = whole.0; lines = followed.1.0; input = followed.1.1; headline = followed.1.2 }
+      record {
+        stack = stack;
+        spelled = spelled;
+        last = timeline_of last.0;
+        finish = whole.0;
+        lines = followed.1.0;
+        input = followed.1.1;
+        headline = followed.1.2;
+      }
 
-  stops : (fault : RunFault) → StopsStayWhole → Stopped Takes (IsAtEnd left) fault (old, desk) read written last → Stops (IsAtEnd left) fault bytes (λ s. beginning s externals steps depth) desk read written last.1
+  stops : (fault : RunFault) → StopsStayWhole → Stopped Takes (IsAtEnd left) fault (old, desk) read written last
+      → Stops (IsAtEnd left) fault bytes (λ s. beginning s externals steps depth) desk read written last.1
   stops fault law e =
-      let first : Stopped Takes (IsAtEnd left) fault (opened stack externals turns steps depth, desk) read written last = subst (λ (s : Standing). Stopped Takes (IsAtEnd left) fault (s, desk) read written last) is e in
-      record { stack = stack; spelled = spelled; last = timeline_of last.0; stopped = law left fault (opened stack externals turns steps depth, desk) read written last first }
+      let first : Stopped Takes (IsAtEnd left) fault (opened stack externals turns steps depth, desk) read written
+      last = subst (λ (s : Standing). Stopped Takes (IsAtEnd left) fault (s, desk) read written last) is e in
+      record {
+        stack = stack;
+        spelled = spelled;
+        last = timeline_of last.0;
+        stopped = law left fault
+            (opened stack externals turns steps depth, desk) read written last first;
+      }
 
-  pub ends : (fault : RunFault) → StopsStayWhole → Stopped Takes (IsAtEnd left) fault (old, desk) read written last → Ends (IsAtEnd left) (fault_of_run fault) bytes (λ s. beginning s externals steps depth) desk read written last.1
-  ends runs.Memory law e = record { unread = e.unread; unwritten = e.unwritten; same = ap (λ (s : Standing × SeenDesk). s.1) e.same }
+  pub ends : (fault : RunFault) → StopsStayWhole → Stopped Takes (IsAtEnd left) fault (old, desk) read written last
+      → Ends (IsAtEnd left) (fault_of_run fault) bytes (λ s. beginning s externals steps depth) desk read written last.1
+  ends runs.Memory law e =
+      record { unread = e.unread; unwritten = e.unwritten; same = ap (λ (s : Standing × SeenDesk). s.1) e.same }
   ends runs.Read law e = stops runs.Read law e
   ends runs.Write law e = stops runs.Write law e
   ends runs.TooManyLines law e = stops runs.TooManyLines law e
@@ -51,13 +72,15 @@ only_write runs.Read e = cc
 only_write runs.Write e = refl
 only_write runs.TooManyLines e = cc
 
-pub as_read : (fault : RunFault) → IsErrOf {T = Ran} (Err fault) runs.Read → IsErrOf {T = Ran} (Err (fault_of_run fault)) Read
+pub as_read : (fault : RunFault) → IsErrOf {T = Ran} (Err fault) runs.Read
+    → IsErrOf {T = Ran} (Err (fault_of_run fault)) Read
 as_read runs.Memory e = cc
 as_read runs.Read e = refl
 as_read runs.Write e = cc
 as_read runs.TooManyLines e = cc
 
-pub as_write : (fault : RunFault) → IsErrOf {T = Ran} (Err fault) runs.Write → IsErrOf {T = Ran} (Err (fault_of_run fault)) Write
+pub as_write : (fault : RunFault) → IsErrOf {T = Ran} (Err fault) runs.Write
+    → IsErrOf {T = Ran} (Err (fault_of_run fault)) Write
 as_write runs.Memory e = cc
 as_write runs.Read e = cc
 as_write runs.Write e = refl

@@ -13,7 +13,8 @@ use Rattle.headline.specs.declared.transcript.Ran.{Ran}
 use Rattle.headline.specs.declared.transcript.RunFault.{RunFault}
 use Rattle.headline.specs.declared.transcript.RunFault.TheVariants as runs
 use Rattle.command_line.specs.declared.fault.CliFault.{CliFault}
-use Rattle.command_line.specs.declared.fault.CliFault.TheVariants.{Usage, CannotRead, Refused, Read, Write, TooManyLines, Memory}
+use Rattle.command_line.specs.declared.fault.CliFault.TheVariants.{Usage, CannotRead, Refused, Read, Write}
+use Rattle.command_line.specs.declared.fault.CliFault.TheVariants.{TooManyLines, Memory}
 
 -- The bytes spell a stack, and a session that begins with it runs to this end beside a desk: what is written is the
 -- answers to the lines that are read, those of a list of states with a cursor, each of which is whole before each line
@@ -58,8 +59,10 @@ fault_of_run runs.TooManyLines = TooManyLines
 abbrev pub Ends : Type 0 → CliFault → List ℕ → (Content → Timeline) → SeenDesk → List ℕ → List ℕ → SeenDesk → Type 0
 Ends ends (Usage text) bytes beginning old read written new = ⊥
 Ends ends CannotRead bytes beginning old read written new = ⊥
-Ends ends (Refused error) bytes beginning old read written new = (document_at bytes ≡ Err error) × Idles old read written new
+Ends ends (Refused error) bytes beginning old read written new =
+    (document_at bytes ≡ Err error) × Idles old read written new
 Ends ends Read bytes beginning old read written new = Stops ends runs.Read bytes beginning old read written new
 Ends ends Write bytes beginning old read written new = Stops ends runs.Write bytes beginning old read written new
-Ends ends TooManyLines bytes beginning old read written new = Stops ends runs.TooManyLines bytes beginning old read written new
+Ends ends TooManyLines bytes beginning old read written new =
+    Stops ends runs.TooManyLines bytes beginning old read written new
 Ends ends Memory bytes beginning old read written new = Idles old read written new

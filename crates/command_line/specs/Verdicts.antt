@@ -6,7 +6,8 @@ use Rattle.stack_text.specs.declared.fault.FileError.{FileError}
 use Rattle.stack_text.specs.declared.fault.FileError.TheVariants.{BadLine, BadId, Truncated, TooMany}
 use Rattle.command_line.specs.declared.fault.TheConstants.{MOST_OF_NAME}
 use Rattle.command_line.specs.declared.fault.CliFault.{CliFault}
-use Rattle.command_line.specs.declared.fault.CliFault.TheVariants.{Usage, CannotRead, Refused, Read, Write, TooManyLines, Memory}
+use Rattle.command_line.specs.declared.fault.CliFault.TheVariants.{Usage, CannotRead, Refused, Read, Write}
+use Rattle.command_line.specs.declared.fault.CliFault.TheVariants.{TooManyLines, Memory}
 
 -- what words that aren't taken end the program by
 abbrev pub IsFaultOfWords : CliFault → Type 0

@@ -1,5 +1,6 @@
 -- What the program's words say.
-use Rattle.std.specs.Prelude.{◌≡◌, ℕ, Bool, true, false, List, [], Option, Some, None, min, max, unwrap_or, codes, ◌<◌, ◌^◌}
+use Rattle.std.specs.Prelude.{◌≡◌, ℕ, Bool, true, false, List, [], Option, Some, None, min, max, unwrap_or, codes, ◌<◌}
+use Rattle.std.specs.Prelude.{◌^◌}
 use Rattle.std.specs.Str.Parse.{IsNumeral, digits_value, without_leading_plus}
 use Rattle.std.specs.String.{string_bytes}
 use Rattle.clap.specs.Words.{App, Row, Rule, Text, new_app, new_rule, with_rule, first_of, one_of}
@@ -21,7 +22,12 @@ abbrev pub flag_rule : Text → Rule
 flag_rule name = record (new_rule name) { long = Some name; action = Some SetTrue }
 
 abbrev pub program : App
-program = with_rule (with_rule (with_rule (with_rule (with_rule (with_rule (new_app (codes "card_cli")) stack_rule) (number_rule (codes "steps") MOST_STEPS)) (number_rule (codes "depth") MOST_DEPTH)) (flag_rule (codes "watch"))) (flag_rule (codes "explain"))) (flag_rule (codes "check"))
+program = with_rule
+    (with_rule
+    (with_rule
+    (with_rule (with_rule (with_rule (new_app (codes "card_cli")) stack_rule) (number_rule (codes "steps") MOST_STEPS))
+    (number_rule (codes "depth") MOST_DEPTH)) (flag_rule (codes "watch"))) (flag_rule (codes "explain")))
+    (flag_rule (codes "check"))
 
 -- whether a text is a number that a word can hold
 abbrev pub Reads : Text → Type 0

@@ -31,35 +31,43 @@ struct Kit {
 // Each external of the kit as it begins, under its name.
 
 fn count_of(alloc: Global) -> Result<Box<Count>, AllocError>
-    ensures { IfOk result (λ c. seen_by ⟦<Count as External>⟧.title ⟦<Count as External>⟧.sort ⟦<Count as External>⟧.answers_calls ⟦<Count as External>⟧.cells c.value ≡ count) }
+    ensures { IfOk result (λ c. seen_by ⟦<Count as External>⟧.title ⟦<Count as External>⟧.sort
+        ⟦<Count as External>⟧.answers_calls ⟦<Count as External>⟧.cells c.value ≡ count) }
 {
     Ok(Box::new(alloc, Count::new(alloc, cut(alloc, b"Count")?, 0)?)?)
 }
 
 fn bins_of(alloc: Global) -> Result<Box<Bins>, AllocError>
-    ensures { IfOk result (λ b. seen_by ⟦<Bins as External>⟧.title ⟦<Bins as External>⟧.sort ⟦<Bins as External>⟧.answers_calls ⟦<Bins as External>⟧.cells b.value ≡ bins) }
+    ensures { IfOk result (λ b. seen_by ⟦<Bins as External>⟧.title ⟦<Bins as External>⟧.sort
+        ⟦<Bins as External>⟧.answers_calls ⟦<Bins as External>⟧.cells b.value ≡ bins) }
 {
     Ok(Box::new(alloc, Bins::new(alloc, cut(alloc, b"Bins")?)?)?)
 }
 
 fn relay_of(alloc: Global) -> Result<Box<Relay>, AllocError>
-    ensures { IfOk result (λ r. seen_by ⟦<Relay as External>⟧.title ⟦<Relay as External>⟧.sort ⟦<Relay as External>⟧.answers_calls ⟦<Relay as External>⟧.cells r.value ≡ relay) }
+    ensures { IfOk result (λ r. seen_by ⟦<Relay as External>⟧.title ⟦<Relay as External>⟧.sort
+        ⟦<Relay as External>⟧.answers_calls ⟦<Relay as External>⟧.cells r.value ≡ relay) }
 {
     Ok(Box::new(alloc, Relay::new(alloc, cut(alloc, b"Relay")?)?)?)
 }
 
 fn gate_of(alloc: Global) -> Result<Box<Gate>, AllocError>
-    ensures { IfOk result (λ g. seen_by ⟦<Gate as External>⟧.title ⟦<Gate as External>⟧.sort ⟦<Gate as External>⟧.answers_calls ⟦<Gate as External>⟧.cells g.value ≡ gate) }
+    ensures { IfOk result (λ g. seen_by ⟦<Gate as External>⟧.title ⟦<Gate as External>⟧.sort
+        ⟦<Gate as External>⟧.answers_calls ⟦<Gate as External>⟧.cells g.value ≡ gate) }
 {
     Ok(Box::new(alloc, Gate::new(alloc, cut(alloc, b"Gate")?)?)?)
 }
 
 /// The four as they begin, each under its name.
 fn kit_of(alloc: Global) -> Result<Kit, AllocError>
-    ensures count { IfOk result (λ k. seen_by ⟦<Count as External>⟧.title ⟦<Count as External>⟧.sort ⟦<Count as External>⟧.answers_calls ⟦<Count as External>⟧.cells k.count.value ≡ count) }
-    ensures bins { IfOk result (λ k. seen_by ⟦<Bins as External>⟧.title ⟦<Bins as External>⟧.sort ⟦<Bins as External>⟧.answers_calls ⟦<Bins as External>⟧.cells k.bins.value ≡ bins) }
-    ensures relay { IfOk result (λ k. seen_by ⟦<Relay as External>⟧.title ⟦<Relay as External>⟧.sort ⟦<Relay as External>⟧.answers_calls ⟦<Relay as External>⟧.cells k.relay.value ≡ relay) }
-    ensures gate { IfOk result (λ k. seen_by ⟦<Gate as External>⟧.title ⟦<Gate as External>⟧.sort ⟦<Gate as External>⟧.answers_calls ⟦<Gate as External>⟧.cells k.gate.value ≡ gate) }
+    ensures count { IfOk result (λ k. seen_by ⟦<Count as External>⟧.title ⟦<Count as External>⟧.sort
+        ⟦<Count as External>⟧.answers_calls ⟦<Count as External>⟧.cells k.count.value ≡ count) }
+    ensures bins { IfOk result (λ k. seen_by ⟦<Bins as External>⟧.title ⟦<Bins as External>⟧.sort
+        ⟦<Bins as External>⟧.answers_calls ⟦<Bins as External>⟧.cells k.bins.value ≡ bins) }
+    ensures relay { IfOk result (λ k. seen_by ⟦<Relay as External>⟧.title ⟦<Relay as External>⟧.sort
+        ⟦<Relay as External>⟧.answers_calls ⟦<Relay as External>⟧.cells k.relay.value ≡ relay) }
+    ensures gate { IfOk result (λ k. seen_by ⟦<Gate as External>⟧.title ⟦<Gate as External>⟧.sort
+        ⟦<Gate as External>⟧.answers_calls ⟦<Gate as External>⟧.cells k.gate.value ≡ gate) }
 {
     Ok(Kit {
         count: count_of(alloc)?,
@@ -132,11 +140,15 @@ pub fn play_with_kit<R: Read, W: Write, D: Desk>(
     ensures ok { IfOk result (λ ran. (read : List ℕ) × (written : List ℕ)
         × Consumes (R.remaining (device_of reader.old)) (R.remaining (device_of reader.new)) read
         × Appends (W.contents (device_of writer.old)) (W.contents (device_of writer.new)) written
-        × Plays (IsAtEnd (R.remaining (device_of reader.new))) ran bytes.now (λ stack. beginning stack kit options.now.steps options.now.depth) (D.seen desk.old) read written (D.seen desk.new)) }
+        × Plays (IsAtEnd (R.remaining (device_of reader.new))) ran bytes.now
+        (λ stack. beginning stack kit options.now.steps options.now.depth) (D.seen desk.old) read written
+        (D.seen desk.new)) }
     ensures err { IfErr result (λ fault. (read : List ℕ) × (written : List ℕ)
         × Consumes (R.remaining (device_of reader.old)) (R.remaining (device_of reader.new)) read
         × Appends (W.contents (device_of writer.old)) (W.contents (device_of writer.new)) written
-        × Ends (IsAtEnd (R.remaining (device_of reader.new))) fault bytes.now (λ stack. beginning stack kit options.now.steps options.now.depth) (D.seen desk.old) read written (D.seen desk.new)) }
+        × Ends (IsAtEnd (R.remaining (device_of reader.new))) fault bytes.now
+        (λ stack. beginning stack kit options.now.steps options.now.depth) (D.seen desk.old) read written
+        (D.seen desk.new)) }
     ensures read_failed { IsErrOf result CliFault.Read → Rose (failures_of reader.old) (failures_of reader.new) }
     ensures read_sound { ¬ IsErrOf result CliFault.Read → failures_of reader.new ≡ failures_of reader.old }
     ensures write_failed { IsErrOf result CliFault.Write → Rose (failures_of writer.old) (failures_of writer.new) }

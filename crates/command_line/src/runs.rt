@@ -95,11 +95,15 @@ pub fn play<E: External, R: Read, W: Write, D: Desk>(
     ensures ok { IfOk result (λ ran. (read : List ℕ) × (written : List ℕ)
         × Consumes (R.remaining (device_of reader.old)) (R.remaining (device_of reader.new)) read
         × Appends (W.contents (device_of writer.old)) (W.contents (device_of writer.new)) written
-        × Plays (IsAtEnd (R.remaining (device_of reader.new))) ran bytes.now (λ stack. beginning stack (map (seen_by E.title E.sort E.answers_calls E.cells) externals.items) options.now.steps options.now.depth) (D.seen desk.old) read written (D.seen desk.new)) }
+        × Plays (IsAtEnd (R.remaining (device_of reader.new))) ran bytes.now
+        (λ stack. beginning stack (map (seen_by E.title E.sort E.answers_calls E.cells) externals.items)
+        options.now.steps options.now.depth) (D.seen desk.old) read written (D.seen desk.new)) }
     ensures err { IfErr result (λ fault. (read : List ℕ) × (written : List ℕ)
         × Consumes (R.remaining (device_of reader.old)) (R.remaining (device_of reader.new)) read
         × Appends (W.contents (device_of writer.old)) (W.contents (device_of writer.new)) written
-        × Ends (IsAtEnd (R.remaining (device_of reader.new))) fault bytes.now (λ stack. beginning stack (map (seen_by E.title E.sort E.answers_calls E.cells) externals.items) options.now.steps options.now.depth) (D.seen desk.old) read written (D.seen desk.new)) }
+        × Ends (IsAtEnd (R.remaining (device_of reader.new))) fault bytes.now
+        (λ stack. beginning stack (map (seen_by E.title E.sort E.answers_calls E.cells) externals.items)
+        options.now.steps options.now.depth) (D.seen desk.old) read written (D.seen desk.new)) }
     ensures read_failed { IsErrOf result CliFault.Read → Rose (failures_of reader.old) (failures_of reader.new) }
     ensures read_sound { ¬ IsErrOf result CliFault.Read → failures_of reader.new ≡ failures_of reader.old }
     ensures write_failed { IsErrOf result CliFault.Write → Rose (failures_of writer.old) (failures_of writer.new) }

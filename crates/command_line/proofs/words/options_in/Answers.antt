@@ -4,7 +4,8 @@ use Rattle.clap.specs.Words.{found_of}
 use Rattle.clap.proofs.WalkLemmas.{one_text-rows, first_value-rows}
 use Rattle.command_line.proofs.words.options_in.Goals as goal
 
-given_or : (o : Option (Bor (List ℕ))) (d : Bor (List ℕ)) → (unwrap_or o d).now ≡ unwrap_or (option_map (λ s. s.now) o) d.now
+given_or : (o : Option (Bor (List ℕ))) (d : Bor (List ℕ))
+    → (unwrap_or o d).now ≡ unwrap_or (option_map (λ s. s.now) o) d.now
 given_or None d = refl
 given_or (Some s) d = refl
 
@@ -12,7 +13,8 @@ pub returns : goal.returns
 returns c =
     let f = found_of c.args.matches.now in
     record {
-      stack = c.in_ok-from_str.ensures.ok ∙ ap (λ s. s.now) c.unwrap_or.ensures ∙ given_or c.get_str.result _ ∙ ap (λ o. unwrap_or o []) (c.get_str.ensures ∙ first_value-rows f (codes "STACK"));
+      stack = c.in_ok-from_str.ensures.ok ∙ ap (λ s. s.now) c.unwrap_or.ensures ∙ given_or c.get_str.result _
+          ∙ ap (λ o. unwrap_or o []) (c.get_str.ensures ∙ first_value-rows f (codes "STACK"));
       steps = c.number.ensures.value;
       depth = c.number-2.ensures.value;
       watch = record {
