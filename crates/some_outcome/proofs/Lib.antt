@@ -9,3 +9,5 @@ pub mod Statements
 pub mod Commands
 pub mod Outcomes
 pub mod Replies
+mod Whole
+mod WholeReplies

@@ -1,9 +1,11 @@
 -- In the session's words: each fresh command has a reply.
 use Rattle.std.specs.Prelude.{◌⊎◌, ℕ}
-use Rattle.journal_entries.specs.State.{State}
+use Rattle.std.specs.List.{All}
+use Rattle.journal_entries.specs.State.{State, IsState}
 use Rattle.meaning.specs.Actions.{Action}
 use Rattle.session.specs.declared.reply.Reply.{Reply}
 use Rattle.session.specs.Meaning.{Fresh, Locked}
+use Rattle.whole_states.specs.Texts.{IsFixed, sorts_of, ActionTexts}
 
 -- A command has a reply and a state after it, in any state and with any number of steps, unless it types into a locked
 -- field.
@@ -11,3 +13,14 @@ abbrev pub RepliesExist : Type 0
 RepliesExist =
     (s : State) (steps : ℕ) (does : Action) →
     ((reply : Reply) × ((new : State) × Fresh s steps does reply new)) ⊎ Locked s steps does
+
+-- a state is whole, and none of its externals is free
+pub record IsWholeState (s : State) : Type 0 where
+  pub state : IsState s
+  pub fixed : All IsFixed (sorts_of s.externals)
+
+-- In such a state a command has a reply after which the state is such again, where what it does has texts.
+abbrev pub WholeRepliesExist : Type 0
+WholeRepliesExist =
+    (s : State) (steps : ℕ) (does : Action) → IsWholeState s → ActionTexts does →
+    ((reply : Reply) × ((new : State) × (Fresh s steps does reply new × IsWholeState new))) ⊎ Locked s steps does

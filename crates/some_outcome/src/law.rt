@@ -1,13 +1,15 @@
 //! Laws of outcomes that exist.
 
-ghost use Rattle.some_outcome.specs.Replies.{RepliesExist};
+ghost use Rattle.some_outcome.specs.Replies.{RepliesExist, WholeRepliesExist};
 ghost use Rattle.some_outcome.specs.Laws.{LinesHaveAnOutcome, MessagesHaveAnOutcome, ActionsHaveAnOutcome, ReferencesHaveAnOutcome, ValuesHaveAnOutcome};
+ghost use Rattle.some_outcome.specs.Laws.{LinesHaveAWholeOutcome, MessagesHaveAWholeOutcome, ActionsHaveAWholeOutcome, ReferencesHaveAWholeOutcome, ValuesHaveAWholeOutcome};
 
 use ht_grammar::{
     expressions_are_read_exactly, lines_are_read_exactly, messages_are_read_exactly,
     scripts_are_read_exactly,
 };
 use ht_lex::texts_are_cut_exactly;
+use whole_states::runs_lead_to_whole_states;
 
 /// Lines, a message, an action, the reference of a dot line or the value of an expression have an end that the rules allow
 /// and that isn't out of memory, while a batch is open; but for a text that is typed into a locked field.
@@ -25,10 +27,31 @@ pub fn runs_have_an_outcome()
     messages_are_read_exactly();
 }
 
+/// Where each state of the history is whole, no external is free, and what runs has texts, each of these has such an end after
+/// which each state is whole.
+pub fn runs_have_a_whole_outcome()
+    ensures lines { LinesHaveAWholeOutcome }
+    ensures messages { MessagesHaveAWholeOutcome }
+    ensures actions { ActionsHaveAWholeOutcome }
+    ensures references { ReferencesHaveAWholeOutcome }
+    ensures values { ValuesHaveAWholeOutcome }
+{
+    runs_have_an_outcome();
+    runs_lead_to_whole_states();
+}
+
 /// Each fresh command has a reply, with a state after it, in any state and with any number of steps; but for a text that is
 /// typed into a locked field.
 pub fn replies_exist()
     ensures { RepliesExist }
 {
     runs_have_an_outcome();
+}
+
+/// In a whole state where no external is free each fresh command whose texts are texts has a reply after which the state is
+/// such again; but for a text that is typed into a locked field.
+pub fn whole_replies_exist()
+    ensures { WholeRepliesExist }
+{
+    runs_have_a_whole_outcome();
 }

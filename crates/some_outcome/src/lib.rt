@@ -4,4 +4,6 @@
 
 mod law;
 
-pub use law::{replies_exist, runs_have_an_outcome};
+pub use law::{
+    replies_exist, runs_have_a_whole_outcome, runs_have_an_outcome, whole_replies_exist,
+};
