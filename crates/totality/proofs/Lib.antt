@@ -8,3 +8,4 @@ pub mod Messages
 pub mod Statements
 pub mod Commands
 pub mod Outcomes
+mod Whole

@@ -2,12 +2,15 @@
 
 ghost use Rattle.totality.specs.Laws.{LinesHaveAnOutcome, MessagesHaveAnOutcome, ActionsHaveAnOutcome};
 ghost use Rattle.totality.specs.Laws.{ReferencesHaveAnOutcome, ValuesHaveAnOutcome};
+ghost use Rattle.totality.specs.Laws.{LinesHaveAWholeOutcome, MessagesHaveAWholeOutcome, ActionsHaveAWholeOutcome};
+ghost use Rattle.totality.specs.Laws.{ReferencesHaveAWholeOutcome, ValuesHaveAWholeOutcome};
 
 use ht_grammar::{
     expressions_are_read_exactly, lines_are_read_exactly, messages_are_read_exactly,
     scripts_are_read_exactly,
 };
 use ht_lex::texts_are_cut_exactly;
+use whole_states::runs_lead_to_whole_states;
 
 /// Lines, a message, an action, the reference of a dot line or the value of an expression have an end that the rules allow
 /// and that isn't out of memory, while a batch is open; but for a text that is typed into a locked field.
@@ -23,4 +26,17 @@ pub fn runs_have_an_outcome()
     lines_are_read_exactly();
     scripts_are_read_exactly();
     messages_are_read_exactly();
+}
+
+/// Where each state of the history is whole, no external is free, and what runs has texts, each of these has such an end after
+/// which each state is whole.
+pub fn runs_have_a_whole_outcome()
+    ensures lines { LinesHaveAWholeOutcome }
+    ensures messages { MessagesHaveAWholeOutcome }
+    ensures actions { ActionsHaveAWholeOutcome }
+    ensures references { ReferencesHaveAWholeOutcome }
+    ensures values { ValuesHaveAWholeOutcome }
+{
+    runs_have_an_outcome();
+    runs_lead_to_whole_states();
 }

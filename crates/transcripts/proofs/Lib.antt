@@ -4,3 +4,4 @@ pub mod One
 pub mod Exists
 pub mod OneReply
 pub mod SomeReply
+pub mod WholeReplies

@@ -17,7 +17,7 @@ use Rattle.totality.specs.Laws.{HasOutcome, outcome, ActionsHaveAnOutcome}
 use Rattle.transcripts.specs.Replies.{RepliesExist}
 
 -- a history in this state, whose batch is open
-opened : State → History
+abbrev pub opened : State → History
 opened s = record {
   past = [];
   now = s;
@@ -29,14 +29,13 @@ opened s = record {
 }
 
 -- an end that isn't out of memory is answered
-answered : (o : Result Ended Stop) → HasMemory o → (ending : Ending) × (ending_of o ≡ Some ending)
+pub answered : (o : Result Ended Stop) → HasMemory o → (ending : Ending) × (ending_of o ≡ Some ending)
 answered (Ok ended) has = (endings.Ok, refl)
 answered (Err Exited) has = (endings.Ok, refl)
 answered (Err (Faults fa)) has = (endings.Fault fa, refl)
 answered (Err Memory) has = absurd (has refl)
 
 pub replies : ActionsHaveAnOutcome → RepliesExist
-unfolding opened
 replies actions s steps does = by_end (actions (opened s) (fresh_run steps) does refl)
   where
     by_end : HasOutcome (Acts (opened s) (fresh_run steps) does) ⊎

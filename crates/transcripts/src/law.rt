@@ -2,7 +2,7 @@
 
 ghost use Rattle.transcripts.specs.Laws.{TranscriptsExist, OutputsExist, TranscriptsAreOne, OutputsAreOne};
 ghost use Rattle.transcripts.specs.Laws.{KitIsFixed};
-ghost use Rattle.transcripts.specs.Replies.{RepliesAreOne, RepliesExist};
+ghost use Rattle.transcripts.specs.Replies.{RepliesAreOne, RepliesExist, WholeRepliesExist};
 
 use determinism::runs_have_one_outcome;
 use ht_grammar::{
@@ -10,7 +10,7 @@ use ht_grammar::{
     parts_are_read_exactly, scripts_are_read_exactly, typing_is_read_exactly,
 };
 use ht_lex::texts_are_cut_exactly;
-use totality::runs_have_an_outcome;
+use totality::{runs_have_a_whole_outcome, runs_have_an_outcome};
 
 /// Two replies to one fresh command, in one state where no external is free, are the same, and so are the states after it.
 pub fn replies_are_one()
@@ -25,6 +25,14 @@ pub fn replies_exist()
     ensures { RepliesExist }
 {
     runs_have_an_outcome();
+}
+
+/// In a whole state where no external is free each fresh command whose texts are texts has a reply after which the state is
+/// such again; but for a text that is typed into a locked field.
+pub fn whole_replies_exist()
+    ensures { WholeRepliesExist }
+{
+    runs_have_a_whole_outcome();
 }
 
 /// Each list of lines, and so each input, has answers none of which is refused for memory or for its file, from any list of

@@ -4,4 +4,6 @@
 
 mod law;
 
-pub use law::{replies_are_one, replies_exist, transcripts_are_one, transcripts_exist};
+pub use law::{
+    replies_are_one, replies_exist, transcripts_are_one, transcripts_exist, whole_replies_exist,
+};

@@ -68,7 +68,8 @@ use Rattle.meaning.specs.State.{RunState, Step, shows, noted, run_property_set, 
 use Rattle.meaning.specs.Values.{Yields, Parses}
 use Rattle.preservation.specs.Laws.{HasMemory}
 use Rattle.whole_states.specs.Texts.{RunTexts, LocalsTexts, FrameTexts, StorageTexts, HowTexts, InputTexts, AskTexts}
-use Rattle.whole_states.specs.Texts.{IsFixed, sorts_of, IsWhole, HandlerTexts, HandlersTexts, StmtsTexts}
+use Rattle.definitional_interpreter.specs.Laws.{IsFixed, sorts_of}
+use Rattle.whole_states.specs.Texts.{IsWhole, HandlerTexts, HandlersTexts, StmtsTexts}
 use Rattle.whole_states.specs.Texts.{TreesHaveTexts}
 use Rattle.whole_states.proofs.TreeTexts.{scripts_have_texts}
 use Rattle.whole_states.proofs.ValueTexts.{given_text, empty_text, word_text, byte_text, EditTexts}

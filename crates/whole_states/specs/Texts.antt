@@ -1,9 +1,7 @@
 -- That all texts in a tree are texts.
-use Rattle.std.specs.Prelude.{◌≡◌, ◌<◌, ℕ, true, List, [], ◌∷◌, map, Some, IfSome}
+use Rattle.std.specs.Prelude.{◌≡◌, ◌<◌, ℕ, true, List, [], ◌∷◌, IfSome}
 use Rattle.std.specs.List.{All, AllByRecursion}
 use Rattle.ht_values.specs.Text.{IsText, is_folded}
-use Rattle.externals.specs.Cells.{Seen}
-use Rattle.externals.specs.Table.{Turn, turn_of}
 use Rattle.externals.specs.declared.external.Ask.{Ask}
 use Rattle.externals.specs.declared.external.Ask.TheVariants.{SendCardMessage, EvalExpr, SetGlobal, SetFieldByName}
 use Rattle.externals.specs.declared.external.Ask.TheVariants.{Done, Fail}
@@ -23,6 +21,7 @@ use Rattle.ht_lex.specs.Token as token
 use Rattle.ht_grammar.specs.Reads.{Reads, ReadsExpr, ReadsLines, ReadsMessage, ReadsPart, ReadsScript, ReadsType}
 use Rattle.ht_grammar.specs.Statements as stm
 use Rattle.ht_grammar.specs.Trees as tree
+use Rattle.definitional_interpreter.specs.Laws.{IsFixed, sorts_of}
 
 -- a name, a number and what stands between quotes
 abbrev pub TokenTexts : Token → Type 0
@@ -202,13 +201,6 @@ ActionTexts (act.run_lines ss) = StmtsTexts ss
 ActionTexts act.open_stack = Unit {0}
 ActionTexts (act.click pa) = PartTexts pa
 ActionTexts (act.type_text t pa) = IsText t × PartTexts pa
-
--- a kind that isn't free: each of its turns is that of the table
-abbrev pub IsFixed : ℕ → Type 0
-IsFixed sort = (cells : List (List ℕ)) (input : Input) → (turn : Turn) × (turn_of sort cells input ≡ Some turn)
-
-abbrev pub sorts_of : List Seen → List ℕ
-sorts_of = map (λ e. e.sort)
 
 -- each state of a history is whole, and no external is free
 pub record IsWhole (w : History) : Type 0 where
