@@ -40,22 +40,21 @@ whole_list h q =
 
 whole_follows : (line : List ℕ) (old : Standing) (reply : Reply) (new : Standing) → TakesWhole line old reply new
     → MovesWhole line (timeline_of old) reply (timeline_of new)
-whole_follows line old reply new
-    t = record {
-      moves = lines_follow line old reply new t.takes;
-      before = whole_list old.history t.before;
-      after =
-          whole_list new.history t.after;
-    }
+whole_follows line old reply new t = record {
+  moves = lines_follow line old reply new t.takes;
+  before = whole_list old.history t.before;
+  after = whole_list new.history t.after;
+}
 
 settles_whole : (line : List ℕ) (old : Standing × SeenDesk) (reply : Reply) (new : Standing × SeenDesk)
     → Takes line old reply new → Settles MovesWhole line (timeline_beside old) reply (timeline_beside new)
-settles_whole line old reply new
-    s = record {
-      ending = s.ending;
-      taken = whole_follows line old.0 (record reply { ending = s.ending }) new.0 s.taken;
-      kept = s.kept;
-    }
+settles_whole line old reply new s = record {
+  ending = s.ending;
+  told = s.told;
+  taken = whole_follows line old.0 (record reply { ending = s.ending }) new.0 s.taken;
+  heard = s.heard;
+  kept = s.kept;
+}
 
 pub runs_stay_whole : RunsStayWhole
 runs_stay_whole left ran old read written new e =
