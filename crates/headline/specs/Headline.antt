@@ -52,8 +52,7 @@ IsPresent state t = (number : ℕ) × (slice_get t.snapshots t.cursor ≡ Some (
 -- then stand before the cursor, the oldest falls away.
 abbrev pub followed_by : Timeline → Snapshot → Timeline
 followed_by t after = record t {
-  snapshots = drop (t.cursor + 1 - t.depth)
-      (take (t.cursor + 1) t.snapshots ++ after ∷ []);
+  snapshots = drop (t.cursor + 1 - t.depth) (take (t.cursor + 1) t.snapshots ++ after ∷ []);
   cursor = min t.depth (t.cursor + 1);
 }
 
@@ -120,8 +119,8 @@ Does line (Some Show) state old reply new = ShowsStack state old reply new ⊎ R
 Does line (Some Globals) state old reply new = Looks (global_lines state) old reply new ⊎ Refuses NoMemory old reply new
 Does line (Some Where) state old reply new =
     Looks (decimal state.current ∷ []) old reply new ⊎ Refuses NoMemory old reply new
-Does line (Some History) state old reply new = Looks
-    (history_line old.cursor (length old.snapshots - (old.cursor + 1)) ∷ []) old reply new
+Does line (Some History) state old reply new =
+    Looks (history_line old.cursor (length old.snapshots - (old.cursor + 1)) ∷ []) old reply new
     ⊎ Refuses NoMemory old reply new
 Does line (Some Cells) state old reply new = ShowsCells (cells_named state (second (words line))) old reply new
 Does line (Some Save) state old reply new = Saves state old reply new ⊎ Refuses NoMemory old reply new
@@ -165,15 +164,13 @@ UndoesTo n old result new = Moved (cursor_back_to n old) NothingToUndo old resul
 
 -- a session begins with one state: the stack, no global, its first card, and the externals with their cells of now
 abbrev pub beginning : Content → List Seen → ℕ → ℕ → Timeline
-beginning stack externals steps
-    depth = record {
-      snapshots = record { state = first_state stack externals; number = 0 }
-          ∷ [];
-      cursor = 0;
-      depth = depth;
-      lines = 0;
-      steps = steps;
-    }
+beginning stack externals steps depth = record {
+  snapshots = record { state = first_state stack externals; number = 0 } ∷ [];
+  cursor = 0;
+  depth = depth;
+  lines = 0;
+  steps = steps;
+}
 
 -- an external that is plugged in joins each state, with its cells of now
 abbrev pub with_one_more : Seen → Snapshot → Snapshot
