@@ -12,9 +12,7 @@ from .shape import Depths, Shape
 BOUNDS = (8192, 4096)
 # The shapes that need more than the least of these, and the bound under which each has to answer, in KiB. `tools/needs`
 # says what each needs. The text of `send` runs within the tree of its statement, so the two trees add up.
-NEED_MORE: Mapping[str, int] = {
-    "repeat with, up": 8192, "repeat with, down": 8192, "the index of a chunk": 8192, "the second index of a chunk": 8192,
-    "send with arguments": 8192, "send with an index": 10240}
+NEED_MORE: Mapping[str, int] = {"send with arguments": 8192, "send with an index": 8192}
 # The bound under which the first shape that doesn't fit is told.
 TOLD = 1024
 MOST_SECONDS = 20.0
