@@ -5,3 +5,4 @@ pub mod Exists
 pub mod OneReply
 pub mod SomeReply
 pub mod WholeReplies
+mod Whole

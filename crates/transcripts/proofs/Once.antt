@@ -237,7 +237,7 @@ pub record Laws : Type 0 where
 pub answered : {o : Result Ended Stop} {e : Ending} → ending_of o ≡ Some e → HasMemory o
 answered {o} {e} is never = let gone : ending_of o ≡ None = ap ending_of never in none-some e (sym gone ∙ is)
 
-fresh_or_locked : Laws → {state : State} {steps : ℕ} (does : Action) {reply : Reply} {new : State} →
+pub fresh_or_locked : Laws → {state : State} {steps : ℕ} (does : Action) {reply : Reply} {new : State} →
     NoneIsFree (sorts_of state.externals) → Fresh state steps does reply new → Locked state steps does → ⊥
 fresh_or_locked laws does free fresh locked =
     fresh_is_unlocked laws.texts.exact fresh.old locked.old locked.end locked.run does (locked.here ∙ sym fresh.here)

@@ -1,6 +1,6 @@
 -- Laws of transcripts: what lines are answered, from a list of whole states and a desk on.
 use Rattle.std.specs.Prelude.{◌≡◌, ◌≢◌, ℕ, ◌<◌, List, length}
-use Rattle.std.specs.List.{AllByRecursion}
+use Rattle.std.specs.List.{All, AllByRecursion}
 use Rattle.devices.specs.Desks.{SeenDesk}
 use Rattle.definitional_interpreter.specs.Laws.{IsFixed, sorts_of, NoneIsFree}
 use Rattle.session.specs.declared.reply.Ending.TheVariants.{Refused}
@@ -10,6 +10,7 @@ use Rattle.headline.specs.Answering.{Session}
 use Rattle.headline.specs.Headline.{Snapshot, Timeline, LineMoves}
 use Rattle.headline.specs.InputLines.{AreLines}
 use Rattle.headline.specs.Saving.{SettlesHeard}
+use Rattle.transcripts.specs.Replies.{IsWholeState}
 
 -- a line is taken with the memory that it needs, and what it saves is kept
 pub record Succeeds {S : Type 0} (takes : List ℕ → S → Reply → S → Type 0) (line : List ℕ) (old : S) (reply : Reply)
@@ -34,6 +35,13 @@ HasPresent t = t.cursor < length t.snapshots
 -- no external of a state is free
 abbrev pub IsDetermined : Snapshot → Type 0
 IsDetermined s = NoneIsFree (sorts_of s.state.externals)
+
+-- a state is whole, and none of its externals is free
+abbrev pub StandsWhole : Snapshot → Type 0
+StandsWhole s = IsWholeState s.state
+
+abbrev pub AreBytes : List ℕ → Type 0
+AreBytes = All (λ b. b < 256)
 
 -- Each list of lines has a transcript.
 abbrev pub TranscriptsExist : Type 0
@@ -60,6 +68,20 @@ OutputsAreOne =
     (old : Timeline × SeenDesk) (read text text2 : List ℕ) (new new2 : Timeline × SeenDesk) →
     AllByRecursion IsDetermined old.0.snapshots → Output old read text new → Output old read text2 new2 →
     (text ≡ text2) × (new ≡ new2)
+
+-- Where each state is whole and no external is free, it is so after lines of bytes.
+abbrev pub TranscriptsStayWhole : Type 0
+TranscriptsStayWhole =
+    (old : Timeline × SeenDesk) (lines : List (List ℕ)) (text : List ℕ) (new : Timeline × SeenDesk) →
+    AllByRecursion AreBytes lines → AllByRecursion StandsWhole old.0.snapshots → Transcript old lines text new →
+    AllByRecursion StandsWhole new.0.snapshots
+
+-- And so it is after an input.
+abbrev pub OutputsStayWhole : Type 0
+OutputsStayWhole =
+    (old : Timeline × SeenDesk) (read text : List ℕ) (new : Timeline × SeenDesk) →
+    AreBytes read → AllByRecursion StandsWhole old.0.snapshots → Output old read text new →
+    AllByRecursion StandsWhole new.0.snapshots
 
 -- No external of the kit is free.
 abbrev pub KitIsFixed : Type 0

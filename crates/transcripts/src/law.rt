@@ -1,7 +1,7 @@
 //! Laws of transcripts.
 
 ghost use Rattle.transcripts.specs.Laws.{TranscriptsExist, OutputsExist, TranscriptsAreOne, OutputsAreOne};
-ghost use Rattle.transcripts.specs.Laws.{KitIsFixed};
+ghost use Rattle.transcripts.specs.Laws.{KitIsFixed, TranscriptsStayWhole, OutputsStayWhole};
 ghost use Rattle.transcripts.specs.Replies.{RepliesAreOne, RepliesExist, WholeRepliesExist};
 
 use determinism::runs_have_one_outcome;
@@ -11,6 +11,7 @@ use ht_grammar::{
 };
 use ht_lex::texts_are_cut_exactly;
 use totality::{runs_have_a_whole_outcome, runs_have_an_outcome};
+use whole_states::trees_have_texts;
 
 /// Two replies to one fresh command, in one state where no external is free, are the same, and so are the states after it.
 pub fn replies_are_one()
@@ -55,6 +56,23 @@ pub fn transcripts_are_one()
     ensures input { OutputsAreOne }
     ensures kit { KitIsFixed }
 {
+    replies_are_one();
+    texts_are_cut_exactly();
+    expressions_are_read_exactly();
+    lines_are_read_exactly();
+    scripts_are_read_exactly();
+    messages_are_read_exactly();
+    parts_are_read_exactly();
+    typing_is_read_exactly();
+}
+
+/// From whole states none of whose externals is free such answers lead to whole states none of whose externals is free.
+pub fn transcripts_stay_whole()
+    ensures lines { TranscriptsStayWhole }
+    ensures input { OutputsStayWhole }
+{
+    whole_replies_exist();
+    trees_have_texts();
     replies_are_one();
     texts_are_cut_exactly();
     expressions_are_read_exactly();

@@ -5,5 +5,6 @@
 mod law;
 
 pub use law::{
-    replies_are_one, replies_exist, transcripts_are_one, transcripts_exist, whole_replies_exist,
+    replies_are_one, replies_exist, transcripts_are_one, transcripts_exist, transcripts_stay_whole,
+    whole_replies_exist,
 };
