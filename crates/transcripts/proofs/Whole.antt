@@ -1,8 +1,8 @@
 -- Whole states lead to whole states, along a transcript.
 use Rattle.std.proofs.Common.{◌≡◌, ◌⊎◌, inl, inr, ℕ, ◌-◌, ◌≤◌, ◌<◌, List, [], ◌∷◌, ◌++◌, Bool, true, false, refl, sym}
 use Rattle.std.proofs.Common.{subst, append_assoc, arith}
-use Rattle.std.specs.Prelude.{MatchBool, nat_lt, length, take, drop, position_or_len, slice_index, ◌==◌, if◌then◌else◌}
-use Rattle.std.specs.List.{All, AllByRecursion}
+use Rattle.std.specs.Prelude.{MatchBool, nat_lt, length, take, drop, slice_index, ◌==◌, if◌then◌else◌}
+use Rattle.std.specs.List.{All, AllByRecursion, position_or_len}
 use Rattle.std.proofs.lemmas.Bool.{ltb-false}
 use Rattle.std.proofs.lemmas.List.{length-drop}
 use Rattle.std.proofs.lemmas.List.Elements.{All-take, All-drop, All-from_recursion, recursion_from_All}
