@@ -16,6 +16,7 @@ import sys
 sys.dont_write_bytecode = True
 
 from derivations import BLOCKS, FAMILIES, MEANING, TABLE, end_at, end_of, indices_of, memory_of
+from lines import MOST
 from table import CRATES, TYPES, binders, imports, letters, snake, variables, words, write
 
 # What is given of a variable before a derivation, by its letters.
@@ -321,7 +322,7 @@ class Clause:
         return told
 
     def body(self):
-        """The clause behind its pattern; where a last derivation tells just what the rule does, it is that."""
+        """The steps of the clause behind its pattern; where a last derivation tells just what the rule does, it is the last."""
         for at, premise in enumerate(self.premises, 1):
             self.premise(at, premise)
         told = self.end()
@@ -329,19 +330,29 @@ class Clause:
         whole = last and next((family for family in TABLE if snake(family["name"]) == last[3]), None)
         same = last and ["%s.%d" % (last[1], at) for at in range(len(told))]
         if whole and len(conclusions(whole)) == len(told) and told == same:
-            return " ".join([*self.lets[:-1], last[2]])
-        return " ".join([*self.lets, "(%s)" % ", ".join(told)])
+            return [*self.lets[:-1], last[2]]
+        return [*self.lets, "(%s)" % ", ".join(told)]
 
     def text(self):
+        """The clause, on one line where it fits, else with a line for each step."""
+        head, steps = self.parts()
+        whole = " ".join([head, *steps])
+        fits = len("    sound_%s %s" % (snake(self.family["name"]), whole)) <= MOST
+        return whole if fits else "\n        ".join([head, *steps])
+
+    def parts(self):
+        """The pattern of the clause, and its steps."""
         name = "%s.%s" % (self.family["name"], self.name)
         if end_of(self.conclusion)[0] == "(Err Memory)":
-            return "%s has %s = absurd (has refl)" % (name, " ".join("_" for _ in self.arguments))
-        body = self.body()
+            return "%s has %s =" % (name, " ".join("_" for _ in self.arguments)), ["absurd (has refl)"]
+        steps = self.body()
+        body = " ".join(steps)
         order = re.findall(r"\w+", binders([*self.premises, self.conclusion]))
         named = [each for each in self.named if re.search(r"(?<![\w.{])%s(?![\w(])" % each, body)]
         places = ["p%d" % at if at in self.used else "_" for at, _ in enumerate(self.premises, 1)]
         pattern = " ".join([name, *("{%s = %s}" % (each, each) for each in sorted(named, key=order.index)), *places])
-        return "%s has %s = %s" % ("(%s)" % pattern if " " in pattern else pattern, " ".join(self.arguments), body)
+        head = "%s has %s =" % ("(%s)" % pattern if " " in pattern else pattern, " ".join(self.arguments))
+        return head, steps
 
 
 def conclusions(family):
@@ -366,7 +377,7 @@ def function(family):
 def main():
     blocks = ["\n  mutual\n" + "\n".join(map(function, block)) for block in BLOCKS]
     text = "\nmodule _ (cut : PartsCut) where" + "".join(blocks)
-    write("whole_states", {"proofs/Sound.antt": TITLE + imports(USES, text, [MEANING]) + text}, "whole.py", fits=str)
+    write("whole_states", {"proofs/Sound.antt": TITLE + imports(USES, text, [MEANING]) + text}, "whole.py")
     print("a law over %d families" % len(TABLE))
 
 
