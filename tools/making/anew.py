@@ -1,10 +1,12 @@
 """Builds the program from nothing, in the gate's own way.
 
 `rt ci` proves a copy of the crates that the program needs, and no others, without their must-fail edits. It hands the
-crates above a library what that states, and not its proofs, which takes half the processor time of `rt lib`. It keeps
-no work, so an interrupted build begins anew. The copy lies in a temporary folder outside the repository.
+crates above a library what that states, and not its proofs, which takes half the processor time of `rt lib`. It is
+called several times, so that crates of the longest way get all cores (lanes). Where rt keeps what it proves, a build
+that was interrupted goes on from there. The copy lies in a temporary folder outside the repository.
 """
 
+import contextlib
 import os
 import re
 import shutil
@@ -12,14 +14,15 @@ import signal
 import subprocess
 import tempfile
 import time
-from typing import Dict, List
+from typing import Dict, List, Sequence, Set
 
-from . import sums
+from . import lanes, sums
 from .forecast import Forecast, cost
 from .progress import Teller, left_of, say, slots, time_of
 
 PROVED = re.compile(rb"^rt: (\w+) proved$", re.MULTILINE)
 LOG = os.path.join("out", "build", "gate.log")
+LOG_BESIDE = os.path.join("out", "build", "beside.log")
 # What `rt ci` runs the program with, beside its sources.
 GIVEN = ("args", "stdin", "stdout", "status")
 
@@ -49,8 +52,13 @@ class Anew:
 
     def __init__(self, root: str, uses: Dict[str, List[str]], crates: List[str]) -> None:
         self.root, self.crates, self.log = root, crates, os.path.join(root, LOG)
-        self.start, self.done = time.time(), 0
+        self.start = time.time()
+        self.done: Set[str] = set()
+        self.running: List["subprocess.Popen[bytes]"] = []
         costs = {crate: cost(root, crate) for crate in crates}
+        is_shared = slots() >= lanes.LEAST_CORES and lanes.is_kept()
+        self.alone = lanes.alone(uses, costs) if is_shared else []
+        self.beside = lanes.beside(uses, costs) if is_shared else []
         self.forecast = Forecast(uses, costs, slots(), self.start)
         self.teller = Teller(self.line)
 
@@ -58,33 +66,69 @@ class Anew:
         """How far it is."""
         now = time.time()
         return "%d of %d crates proved, %s gone, %s" % (
-            self.done, len(self.crates), time_of(now - self.start), left_of(self.forecast.left(now)))
+            len(self.done), len(self.crates), time_of(now - self.start), left_of(self.forecast.left(now)))
 
     def look(self) -> None:
         """Takes up which crates are proved by now, from what rt has said."""
-        with open(self.log, "rb") as log:
-            found = [name.decode() for name in PROVED.findall(log.read())]
-        for crate in found[self.done:]:
-            self.forecast.ended(crate, time.time())
-        self.done = len(found)
+        for path in (LOG, LOG_BESIDE):
+            if not os.path.exists(os.path.join(self.root, path)):
+                continue
+            with open(os.path.join(self.root, path), "rb") as log:
+                found = {name.decode() for name in PROVED.findall(log.read())}
+            for crate in found - self.done:
+                self.forecast.ended(crate, time.time())
+            self.done |= found
+
+    def begin(self, top: str, log: str, names: Sequence[str], **more: str) -> "subprocess.Popen[bytes]":
+        """Calls rt for these crates and those below them, or for all, in the copy. What it says goes to a log."""
+        with open(os.path.join(self.root, log), "ab") as said:
+            process = subprocess.Popen(
+                ["rt", "ci", *names], cwd=os.path.join(top, "tree"), stdin=subprocess.DEVNULL, stdout=said,
+                env={**os.environ, "TMPDIR": os.path.join(top, "room"), **more}, stderr=subprocess.STDOUT,
+                start_new_session=True)
+        self.running.append(process)
+        return process
 
     def wait(self, process: "subprocess.Popen[bytes]") -> int:
-        """Tells how far it is until rt ends, and gives its status. Where it is interrupted, rt is ended."""
+        """Tells how far it is until a call of rt ends, and gives its status."""
+        while process.poll() is None:
+            self.look()
+            self.teller.tell()
+            time.sleep(0.2)
+        self.running.remove(process)
+        return process.returncode
+
+    def prove(self, top: str) -> int:
+        """Proves the larger crates of the longest way, each alone, and the early others beside, and then all.
+
+        Gives the status of rt.
+        """
+        status = 0
         try:
-            while process.poll() is None:
-                self.look()
-                self.teller.tell()
-                time.sleep(0.2)
+            if self.beside:
+                self.begin(top, LOG_BESIDE, self.beside, RT_JOBS="1")
+            for names in [*([crate] for crate in self.alone), []]:
+                status = self.wait(self.begin(top, LOG, names))
+                if status != 0:
+                    break
+            return status
         finally:
+            self.end()
+
+    def end(self) -> None:
+        """Ends the calls of rt that still run."""
+        for process in self.running:
             if process.poll() is None:
                 os.killpg(process.pid, signal.SIGTERM)
-                process.wait()
-            self.teller.clear()
-        return process.returncode
+            process.wait()
+        self.teller.clear()
 
     def go(self) -> int:
         """Proves all, puts the program and its record in their places, and gives the status of rt."""
         os.makedirs(os.path.dirname(self.log), exist_ok=True)
+        for path in (LOG, LOG_BESIDE):
+            with contextlib.suppress(FileNotFoundError):
+                os.remove(os.path.join(self.root, path))
         top = tempfile.mkdtemp(prefix="card-build-")
         try:
             tree, room = os.path.join(top, "tree"), os.path.join(top, "room")
@@ -94,11 +138,7 @@ class Anew:
                 # As root, rt runs the program as nobody, who has to come through.
                 os.chmod(folder, 0o711)
             copy_of(self.root, tree)
-            with open(self.log, "wb") as log:
-                process = subprocess.Popen(
-                    ["rt", "ci"], cwd=tree, env={**os.environ, "TMPDIR": room}, stdin=subprocess.DEVNULL, stdout=log,
-                    stderr=subprocess.STDOUT, start_new_session=True)
-            status = self.wait(process)
+            status = self.prove(top)
             if status != 0:
                 say("%s was not built; what rt says stands in %s" % (sums.PROGRAM, os.path.relpath(self.log)))
                 return status
@@ -124,7 +164,7 @@ def prove(root: str, uses: Dict[str, List[str]], crates: List[str]) -> int:
     try:
         status = build.go()
     except KeyboardInterrupt:
-        say("interrupted; a build from nothing keeps no work")
+        say("interrupted")
         return 130
     if status == 0:
         say("%s is proved and built, after %s" % (sums.PROGRAM, time_of(time.time() - build.start)))

@@ -4,15 +4,22 @@ import json
 import os
 import signal
 import subprocess
+import sys
 import time
 import unittest
 from typing import List
 
-from tree import KIT, TreeTest
+from tree import HERE, KIT, TreeTest
+
+sys.path.insert(0, os.path.join(HERE, "tools"))
+
+from making import lanes  # noqa: E402
+from making.progress import slots  # noqa: E402
 
 BUILT = "crates/card_cli/out/card_cli"
 RECORD = BUILT + ".json"
-ALL = ["tree ci"]
+# With some cores the crates of the longest way, here all, are asked for one after another.
+ALL = [*(["tree ci low", "tree ci middle"] if slots() >= lanes.LEAST_CORES else []), "tree ci"]
 
 
 class Building(TreeTest):
@@ -115,7 +122,7 @@ class Building(TreeTest):
         until = time.time() + 20
         while not self.called() and time.time() < until:
             time.sleep(0.02)
-        self.assertEqual(self.called(), ALL)
+        self.assertEqual(self.called(), ALL[:1])
         self.assertEqual(len(os.listdir(room)), 1)
         process.send_signal(signal.SIGTERM)
         _, said = process.communicate(timeout=20)

@@ -36,7 +36,7 @@ case $1 in
         [ -z "${FAILS-}" ] || { echo "rt: FAILED: low"; echo "1 passed, 1 failed"; exit 1; }
         find . -type f > "$CALLS.tree"
         for crate in crates/*; do echo "rt: $(basename "$crate") proved"; done
-        program crates/card_cli
+        [ $# -gt 1 ] || program crates/card_cli
         echo "${SAYS-2 passed, 0 failed}" ;;
     lib) mkdir -p out/rlib; echo x > out/rlib/stamp; echo "so far: 1 of 1 functions" ;;
     run) program . ;;
