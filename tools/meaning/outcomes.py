@@ -257,8 +257,7 @@ BOUNDS = {"d ≡ 100": "choose_false _ _ (at_limit %s)", "d < 100": "choose_true
 # A condition on a value: the lemma by what it is equal to.
 CASES = {"true": "choose_true", "false": "choose_false", "None": "maybe_none", "Some": "maybe_some", "Ok": "computed_ok", "Err": "computed_err"}
 # What these rules do with their one part.
-WHOLES = {"there_is": "there_ok _ (%s)", "there_is_none": "there_none _ (%s)", "there_stops": "there_stop _ p3 (%s)",
-          "Line": "ends_lines (%s)", "Message": "ends_message (%s)", "Refers": "refers_to (%s)"}
+WHOLES = {"there_is": "there_ok _ (%s)", "there_is_none": "there_none _ (%s)", "there_stops": "there_stop _ p3 (%s)"}
 
 
 def under(premise, place, rest):
@@ -331,7 +330,7 @@ use Rattle.definitional_interpreter.specs.Told.{told, ran}
 use Rattle.definitional_interpreter.specs.Changes.{yielded, step, make, edit, assign, declare_all, set_property, add_objects, turn}
 use Rattle.definitional_interpreter.specs.Texts.{parsed, first_found}
 use Rattle.definitional_interpreter.proofs.Comes.{Sight, sight, Comes}
-use Rattle.definitional_interpreter.proofs.Chain.{done, later, after_ok, after_stop, after_in_ok, after_in_stop, after_run_ok, after_run_stop, after_lines_ok, after_lines_stop, after_next_ok, after_next_stop, after_next_leaves, choose_true, choose_false, maybe_some, maybe_none, computed_ok, computed_err, below, at_least, at_limit, gives_outcome, there_ok, there_none, there_stop, ends_lines, ends_message, refers_to}
+use Rattle.definitional_interpreter.proofs.Chain.{done, later, after_ok, after_stop, after_in_ok, after_in_stop, after_run_ok, after_run_stop, after_lines_ok, after_lines_stop, after_next_ok, after_next_stop, after_next_leaves, choose_true, choose_false, maybe_some, maybe_none, computed_ok, computed_err, below, at_least, at_limit, gives_outcome, there_ok, there_none, there_stop}
 use Rattle.definitional_interpreter.proofs.Leaves.{yields, parses_expression, parses_typed_lines, parses_sent_message, steps, finds, makes, takes_turn, sets, adds, edits, assigns, declares_all, HasExternal, named_there, there_after, asks_back, talk_back}
 use Rattle.meaning.specs.Meaning.{%s}""" % ", ".join(FAMILIES)
     return "-- What the rules allow is what the meanings come to.\n" + imports(uses, text) + text

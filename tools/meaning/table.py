@@ -24,7 +24,7 @@ TYPES = {
     "oc": "Result Chunk Stop", "opl": "Result PlaceView Stop", "opi": "Result Pick Stop", "osk": "Result Sought Stop",
     "osc": "Result PartScope Stop", "om": "Result Referent Stop", "oi": "Result ℕ Stop", "oh": "Result How Stop",
     "oco": "Result CounterState Stop", "odn": "Result Conversed Stop", "oin": "Result Input Stop",
-    "ot": "Result (Unit {0}) Stop", "oe": "Result Ended Stop", "oio": "Result (Option ℕ) Stop",
+    "ot": "Result (Unit {0}) Stop",
     "z": "Stop", "fa": "Fault", "b": "Bool", "u": "ℤ", "op": "Op", "un": "UnOp", "cn": "Constant", "fw": "FunctionWord",
     "fu": "Func", "pr": "Prop", "rp": "RunProp", "od": "Ordinal", "kd": "ChunkKind", "wr": "Where", "pk": "PartKind",
     "ly": "Layer", "oly": "Option Layer", "c": "Chunk", "pl": "PlaceView", "pi": "Pick", "sk": "Sought", "sc": "PartScope",

@@ -15,9 +15,7 @@ use Rattle.meaning.specs.Repeats.{Outcome}
 use Rattle.meaning.specs.State.{RunState}
 use Rattle.definitional_interpreter.specs.Told.{Present, Told, told, Ran, ran, after, after_in, after_run, after_lines}
 use Rattle.definitional_interpreter.specs.Told.{after_next}
-use Rattle.definitional_interpreter.specs.Told.{choose, maybe, computed, there, ended, ended_lines, ended_message}
-use Rattle.definitional_interpreter.specs.Told.{referred}
-use Rattle.definitional_interpreter.specs.Told.{referred_by, gave}
+use Rattle.definitional_interpreter.specs.Told.{choose, maybe, computed, there, gave}
 use Rattle.definitional_interpreter.specs.Families.{Meanings}
 use Rattle.definitional_interpreter.specs.Meanings.{meanings, one_more}
 use Rattle.definitional_interpreter.specs.Laws.{NoneIsFree, Enough}
@@ -183,7 +181,7 @@ pub gives_outcome : {g : Sight} {w : History} {out : Outcome} {v : List ℕ} {r 
     ≡ record { value = v; run = r } → Comes g w (λ parts. gave (sight g w) out) (told (Ok v) (sight g w) r) w
 gives_outcome {g} {w} {out} {v} {r} is = is_done (λ parts. ap (gave (sight g w)) is)
 
--- ---- references that may have no object, and ends of commands
+-- ---- references that may have no object
 
 pub there_ok : {g : Sight} {w w1 : History} {F : Meanings → Told Referent}
     (say : Bool → List ℕ) {m : Referent} {r1 : RunState} → Comes g w F (told (Ok m) (sight g w1) r1) w1 →
@@ -208,18 +206,3 @@ pub there_stop : {g : Sight} {w w1 : History} {F : Meanings → Told Referent}
     Comes g w (λ parts. there (F parts) say) (told (Err z) (sight g w1) r1) w1
 there_stop {g} {w1 = w1} say {z = z} {r1 = r1} isnt first =
     before (λ parts t. there t say) first (is_done (λ parts. there_is z (sight g w1) r1 say isnt))
-
-pub ends_lines : {g : Sight} {A : Type 0} {w w1 : History} {F : Meanings → Ran A} {o : Result A Stop} {r1 : RunState}
-    {f1 : Frame} → Comes g w F (ran o (sight g w1) r1 f1) w1 →
-    Comes g w (λ parts. ended_lines (F parts)) (told (ended o) (sight g w1) r1) w1
-ends_lines first = before (λ parts t. ended_lines t) first done
-
-pub ends_message : {g : Sight} {A : Type 0} {w w1 : History} {F : Meanings → Told A} {o : Result A Stop}
-    {r1 : RunState} → Comes g w F (told o (sight g w1) r1) w1 →
-    Comes g w (λ parts. ended_message (F parts)) (told (ended o) (sight g w1) r1) w1
-ends_message first = before (λ parts t. ended_message t) first done
-
-pub refers_to : {g : Sight} {w w1 : History} {F : Meanings → Told Referent} {o : Result Referent Stop}
-    {r1 : RunState} → Comes g w F (told o (sight g w1) r1) w1 →
-    Comes g w (λ parts. referred (F parts)) (told (referred_by o) (sight g w1) r1) w1
-refers_to first = before (λ parts t. referred t) first done

@@ -2,7 +2,7 @@
 -- What the rules allow is what the meanings come to.
 use Rattle.std.proofs.Common.{◌≡◌, refl, sym, subst}
 use Rattle.preservation.specs.Laws.{HasMemory}
-use Rattle.preservation.proofs.Ends.{given, stopped, faulted, exited}
+use Rattle.preservation.proofs.Ends.{given, stopped, faulted}
 use Rattle.definitional_interpreter.specs.Told.{told, ran}
 use Rattle.definitional_interpreter.specs.Changes.{edit, add_objects, turn}
 use Rattle.definitional_interpreter.proofs.Comes.{Sight, sight, Comes}
@@ -11,7 +11,6 @@ use Rattle.definitional_interpreter.proofs.Chain.{after_run_ok, after_run_stop, 
 use Rattle.definitional_interpreter.proofs.Chain.{after_next_ok, after_next_stop, after_next_leaves, choose_true}
 use Rattle.definitional_interpreter.proofs.Chain.{choose_false, maybe_some, maybe_none, computed_ok, computed_err}
 use Rattle.definitional_interpreter.proofs.Chain.{below, at_least, gives_outcome, there_ok, there_none, there_stop}
-use Rattle.definitional_interpreter.proofs.Chain.{ends_lines, ends_message, refers_to}
 use Rattle.definitional_interpreter.proofs.Leaves.{yields, parses_expression, parses_typed_lines, parses_sent_message}
 use Rattle.definitional_interpreter.proofs.Leaves.{steps, finds, makes, takes_turn, sets, adds, edits, assigns}
 use Rattle.definitional_interpreter.proofs.Leaves.{declares_all, HasExternal, named_there, there_after, asks_back}
@@ -21,7 +20,7 @@ use Rattle.meaning.specs.Meaning.{PartMet, Meets, Leads, Form, Alters, Block, Do
 use Rattle.meaning.specs.Meaning.{Calls, SendsText, Sends, Along, Outside, BuiltInGives, System, Systems, Goes, Menu}
 use Rattle.meaning.specs.Meaning.{Converses, Talks, CallsBack, Line, Message, Refers, Tells, TellsAll, Clicks}
 use Rattle.meaning.specs.Meaning.{TypesOver, TypesInto, Acts}
-use Rattle.std.specs.Prelude.{ℕ, ◌+◌, ℤ, List, [], Bool, Option, Some, None, Result, Ok, Err}
+use Rattle.std.specs.Prelude.{ℕ, ◌+◌, ℤ, List, [], Bool, Option, None, Result, Ok, Err}
 use Rattle.ht_values.specs.declared.fault.Fault.TheVariants.{TooDeep, CantDelete, BadArgument}
 use Rattle.ht_values.specs.declared.operator.Op.{Op}
 use Rattle.ht_values.specs.declared.word.Where.TheVariants.{Into}
@@ -44,8 +43,6 @@ use Rattle.object_references.specs.declared.referent.Sought.{Sought}
 use Rattle.containers.specs.declared.edit.Edit.TheVariants.{Put, Delete}
 use Rattle.containers.specs.Places.{PlaceView}
 use Rattle.meaning.specs.declared.end.Conversed.{Conversed}
-use Rattle.meaning.specs.declared.end.Ended.{Ended}
-use Rattle.meaning.specs.declared.end.Ended.TheVariants.{Done as DoneEnd, Exited as ExitedEnd}
 use Rattle.meaning.specs.declared.frame.Frame.{Frame}
 use Rattle.meaning.specs.declared.end.How.{How}
 use Rattle.meaning.specs.declared.end.How.TheVariants.{Next, ExitRepeat, NextRepeat, Exit, Pass, Returns}
@@ -1054,98 +1051,83 @@ mutual
       (after_lines_ok _ (subst (λ (f : Frame). Comes g w (λ parts. edit (sight g w) r f pl (Put Into v))
       (ran (Ok tt) (sight g w1) r f1) w1) p3 (edits p4 given)) (done)))))
 
-  pub line_comes : {g : Sight} {w w2 : History} {r r2 : RunState} {ss : stm.Stmts} {oe : Result Ended Stop}
-      → Line w r ss oe w2 r2 → HasMemory oe
-      → Comes g w (λ parts. parts.line (sight g w) r ss) (told oe (sight g w2) r2) w2
+  pub line_comes : {g : Sight} {w w2 : History} {r r2 : RunState} {ss : stm.Stmts} {ot : Result (Unit {0}) Stop}
+      → Line w r ss ot w2 r2 → HasMemory ot
+      → Comes g w (λ parts. parts.line (sight g w) r ss) (told ot (sight g w2) r2) w2
   line_comes Line.line_memory has = absurd (has refl)
-  line_comes {g} (Line.line_faults {f = f} {f1 = f1} {w = w} {w1 = w1} {r = r} {r1 = r1} {ss = ss} {fa = fa} p1 p2)
-      has = later (ends_lines (subst (λ (f : Frame). Comes g w (λ parts. parts.block (sight g w) r f 0 ss)
-      (ran (Err (Faults fa)) (sight g w1) r1 f1) w1) p1 (block_comes p2 (stopped has))))
-  line_comes {g} (Line.line_exits {f = f} {f1 = f1} {w = w} {w1 = w1} {r = r} {r1 = r1} {ss = ss} p1 p2) has = later
-      (ends_lines (subst (λ (f : Frame). Comes g w (λ parts. parts.block (sight g w) r f 0 ss)
-      (ran (Err Exited) (sight g w1) r1 f1) w1) p1 (block_comes p2 exited)))
-  line_comes {g} (Line.line_ends {f = f} {f1 = f1} {w = w} {w1 = w1} {r = r} {r1 = r1} {ss = ss} {h = h} p1 p2)
-      has = later (ends_lines (subst (λ (f : Frame). Comes g w (λ parts. parts.block (sight g w) r f 0 ss)
-      (ran (Ok h) (sight g w1) r1 f1) w1) p1 (block_comes p2 given)))
+  line_comes {g} (Line.line_stops {f = f} {f1 = f1} {w = w} {w1 = w1} {r = r} {r1 = r1} {ss = ss} {z = z} p1 p2)
+      has = later (after_lines_stop _
+      (subst (λ (f : Frame). Comes g w (λ parts. parts.block (sight g w) r f 0 ss) (ran (Err z) (sight g w1) r1 f1) w1)
+      p1 (block_comes p2 (stopped has))))
+  line_comes {g} (Line.line {f = f} {f1 = f1} {w = w} {w1 = w1} {r = r} {r1 = r1} {ss = ss} {h = h} p1 p2) has = later
+      (after_lines_ok _ (subst (λ (f : Frame). Comes g w (λ parts. parts.block (sight g w) r f 0 ss)
+      (ran (Ok h) (sight g w1) r1 f1) w1) p1 (block_comes p2 given)) (done))
 
   pub message_comes : {g : Sight} {w w2 : History} {r r2 : RunState} {i : ℕ} {n : List ℕ} {vs : List (List ℕ)}
-      {oe : Result Ended Stop} → Message w r i n vs oe w2 r2 → HasMemory oe
-      → Comes g w (λ parts. parts.message (sight g w) r i n vs) (told oe (sight g w2) r2) w2
+      {ot : Result (Unit {0}) Stop} → Message w r i n vs ot w2 r2 → HasMemory ot
+      → Comes g w (λ parts. parts.message (sight g w) r i n vs) (told ot (sight g w2) r2) w2
   message_comes Message.message_memory has = absurd (has refl)
-  message_comes {g} (Message.message_faults {f = f} {w = w} {w1 = w1} {r = r} {r1 = r1} {i = i} {n = n} {vs = vs}
-      {fa = fa} p1 p2) has = later (ends_message
+  message_comes {g} (Message.sent_alone_stops {f = f} {w = w} {w1 = w1} {r = r} {r1 = r1} {i = i} {n = n} {vs = vs}
+      {z = z} p1 p2) has = later (after_stop _
       (subst (λ (f : Frame). Comes g w (λ parts. parts.sends (sight g w) r f 0 i n vs Command)
-      (told (Err (Faults fa)) (sight g w1) r1) w1) p1 (sends_comes p2 (stopped has))))
-  message_comes {g} (Message.message_exits {f = f} {w = w} {w1 = w1} {r = r} {r1 = r1} {i = i} {n = n} {vs = vs} p1 p2)
-      has = later (ends_message (subst
-      (λ (f : Frame). Comes g w (λ parts. parts.sends (sight g w) r f 0 i n vs Command)
-      (told (Err Exited) (sight g w1) r1) w1) p1 (sends_comes p2 exited)))
-  message_comes {g} (Message.message_ends {f = f} {w = w} {w1 = w1} {r = r} {r1 = r1} {i = i} {n = n} {v = v} {vs = vs}
-      p1 p2) has = later (ends_message
-      (subst (λ (f : Frame). Comes g w (λ parts. parts.sends (sight g w) r f 0 i n vs Command)
-      (told (Ok v) (sight g w1) r1) w1) p1 (sends_comes p2 given)))
+      (told (Err z) (sight g w1) r1) w1) p1 (sends_comes p2 (stopped has))))
+  message_comes {g} (Message.sent_alone {f = f} {w = w} {w1 = w1} {r = r} {r1 = r1} {i = i} {n = n} {v = v} {vs = vs} p1
+      p2) has = later (after_ok _ (subst
+      (λ (f : Frame). Comes g w (λ parts. parts.sends (sight g w) r f 0 i n vs Command) (told (Ok v) (sight g w1) r1)
+      w1) p1 (sends_comes p2 given)) (done))
 
 mutual
-  pub refers_comes : {g : Sight} {w w2 : History} {r r2 : RunState} {pa : tree.Part} {oio : Result (Option ℕ) Stop}
-      → Refers w r pa oio w2 r2 → HasMemory oio
-      → Comes g w (λ parts. parts.refers (sight g w) r pa) (told oio (sight g w2) r2) w2
+  pub refers_comes : {g : Sight} {w w2 : History} {r r2 : RunState} {pa : tree.Part} {oi : Result ℕ Stop}
+      → Refers w r pa oi w2 r2 → HasMemory oi
+      → Comes g w (λ parts. parts.refers (sight g w) r pa) (told oi (sight g w2) r2) w2
   refers_comes Refers.refer_memory has = absurd (has refl)
-  refers_comes {g} (Refers.refer_faults {f = f} {w = w} {w1 = w1} {r = r} {r1 = r1} {pa = pa} {fa = fa} p1 p2)
-      has = later (refers_to (subst (λ (f : Frame). Comes g w (λ parts. parts.part_met (sight g w) r f 0 pa)
-      (told (Err (Faults fa)) (sight g w1) r1) w1) p1 (part_met_comes p2 (stopped has))))
-  refers_comes {g} (Refers.refer_exits {f = f} {w = w} {w1 = w1} {r = r} {r1 = r1} {pa = pa} p1 p2) has = later
-      (refers_to (subst (λ (f : Frame). Comes g w (λ parts. parts.part_met (sight g w) r f 0 pa)
-      (told (Err Exited) (sight g w1) r1) w1) p1 (part_met_comes p2 exited)))
+  refers_comes {g} (Refers.refer_stops {f = f} {w = w} {w1 = w1} {r = r} {r1 = r1} {pa = pa} {z = z} p1 p2) has = later
+      (after_stop _ (subst (λ (f : Frame). Comes g w (λ parts. parts.part_met (sight g w) r f 0 pa)
+      (told (Err z) (sight g w1) r1) w1) p1 (part_met_comes p2 (stopped has))))
   refers_comes {g} (Refers.refers {f = f} {w = w} {w1 = w1} {r = r} {r1 = r1} {pa = pa} {m = m} {i = i} p1 p2 p3)
-      has = subst (λ (i : ℕ). Comes g w (λ parts. parts.refers (sight g w) r pa) (told (Ok (Some i)) (sight g w1) r1)
-      w1) (sym p3) (later (refers_to (subst
+      has = subst (λ (i : ℕ). Comes g w (λ parts. parts.refers (sight g w) r pa) (told (Ok i) (sight g w1) r1) w1)
+      (sym p3) (later (after_ok _ (subst
       (λ (f : Frame). Comes g w (λ parts. parts.part_met (sight g w) r f 0 pa) (told (Ok m) (sight g w1) r1) w1) p1
-      (part_met_comes p2 given))))
+      (part_met_comes p2 given)) (done)))
 
-  pub tells_comes : {g : Sight} {w w2 : History} {r r2 : RunState} {i : ℕ} {mg : SystemMessage} {oe : Result Ended Stop}
-      → Tells w r i mg oe w2 r2 → HasMemory oe
-      → Comes g w (λ parts. parts.tells (sight g w) r i mg) (told oe (sight g w2) r2) w2
+  pub tells_comes : {g : Sight} {w w2 : History} {r r2 : RunState} {i : ℕ} {mg : SystemMessage}
+      {ot : Result (Unit {0}) Stop} → Tells w r i mg ot w2 r2 → HasMemory ot
+      → Comes g w (λ parts. parts.tells (sight g w) r i mg) (told ot (sight g w2) r2) w2
   tells_comes Tells.tell_memory has = absurd (has refl)
   tells_comes (Tells.tells_nothing p1) has = later (choose_true _ _ p1 (done))
-  tells_comes {g} (Tells.tells {r = r} {r1 = r1} {n = n} {w = w} {w1 = w1} {i = i} {oe = oe} p1 p2 p3) has = later
+  tells_comes {g} (Tells.tells {r = r} {r1 = r1} {n = n} {w = w} {w1 = w1} {i = i} {ot = ot} p1 p2 p3) has = later
       (choose_false _ _ p1 (subst (λ (n : List ℕ). Comes g w (λ parts. parts.message (sight g w) r i n [])
-      (told oe (sight g w1) r1) w1) p2 (message_comes p3 has)))
+      (told ot (sight g w1) r1) w1) p2 (message_comes p3 has)))
 
   pub tells_all_comes : {g : Sight} {w w2 : History} {r r2 : RunState} {ms : List SystemMessage}
-      {oe : Result Ended Stop} → TellsAll w r ms oe w2 r2 → HasMemory oe
-      → Comes g w (λ parts. parts.tells_all (sight g w) r ms) (told oe (sight g w2) r2) w2
+      {ot : Result (Unit {0}) Stop} → TellsAll w r ms ot w2 r2 → HasMemory ot
+      → Comes g w (λ parts. parts.tells_all (sight g w) r ms) (told ot (sight g w2) r2) w2
   tells_all_comes TellsAll.tell_all_memory has = absurd (has refl)
   tells_all_comes {g} (TellsAll.none_to_tell {ms = ms} {w = w} {r = r} p1) has = subst
-      (λ (ms : List SystemMessage). Comes g w (λ parts. parts.tells_all (sight g w) r ms)
-      (told (Ok DoneEnd) (sight g w) r) w) (sym p1) (later (done))
+      (λ (ms : List SystemMessage). Comes g w (λ parts. parts.tells_all (sight g w) r ms) (told (Ok tt) (sight g w) r)
+      w) (sym p1) (later (done))
   tells_all_comes {g} (TellsAll.tell_stops {ms = ms} {w = w} {w1 = w1} {r = r} {r1 = r1} {z = z} p1 p2) has = subst
       (λ (ms : List SystemMessage). Comes g w (λ parts. parts.tells_all (sight g w) r ms) (told (Err z) (sight g w1) r1)
       w1) (sym p1) (later (after_stop _ (tells_comes p2 has)))
-  tells_all_comes {g} (TellsAll.tell_exits {ms = ms} {w = w} {w1 = w1} {r = r} {r1 = r1} p1 p2) has = subst
-      (λ (ms : List SystemMessage). Comes g w (λ parts. parts.tells_all (sight g w) r ms)
-      (told (Ok ExitedEnd) (sight g w1) r1) w1) (sym p1) (later (after_ok _ (tells_comes p2 given) (done)))
-  tells_all_comes {g} (TellsAll.tells_on {ms = ms} {w = w} {w2 = w2} {r = r} {r2 = r2} {oe = oe} p1 p2 p3) has = subst
-      (λ (ms : List SystemMessage). Comes g w (λ parts. parts.tells_all (sight g w) r ms) (told oe (sight g w2) r2) w2)
+  tells_all_comes {g} (TellsAll.tells_on {ms = ms} {w = w} {w2 = w2} {r = r} {r2 = r2} {ot = ot} p1 p2 p3) has = subst
+      (λ (ms : List SystemMessage). Comes g w (λ parts. parts.tells_all (sight g w) r ms) (told ot (sight g w2) r2) w2)
       (sym p1) (later (after_ok _ (tells_comes p2 given) (tells_all_comes p3 has)))
 
-  pub clicks_comes : {g : Sight} {w w2 : History} {r r2 : RunState} {pa : tree.Part} {oe : Result Ended Stop}
-      → Clicks w r pa oe w2 r2 → HasMemory oe
-      → Comes g w (λ parts. parts.clicks (sight g w) r pa) (told oe (sight g w2) r2) w2
+  pub clicks_comes : {g : Sight} {w w2 : History} {r r2 : RunState} {pa : tree.Part} {ot : Result (Unit {0}) Stop}
+      → Clicks w r pa ot w2 r2 → HasMemory ot
+      → Comes g w (λ parts. parts.clicks (sight g w) r pa) (told ot (sight g w2) r2) w2
   clicks_comes Clicks.click_memory has = absurd (has refl)
   clicks_comes (Clicks.click_misses p1) has = later (after_stop _ (refers_comes p1 (stopped has)))
-  clicks_comes (Clicks.click_exits p1) has = later (after_ok _ (refers_comes p1 given) (done))
   clicks_comes (Clicks.press_stops p1 p2) has =
       later (after_ok _ (refers_comes p1 given) (after_stop _ (tells_comes p2 has)))
-  clicks_comes (Clicks.press_exits p1 p2) has =
-      later (after_ok _ (refers_comes p1 given) (after_ok _ (tells_comes p2 given) (done)))
   clicks_comes (Clicks.part_goes p1 p2 p3) has =
       later (after_ok _ (refers_comes p1 given) (after_ok _ (tells_comes p2 given) (choose_false _ _ p3 (done))))
   clicks_comes (Clicks.clicks p1 p2 p3 p4) has = later
       (after_ok _ (refers_comes p1 given) (after_ok _ (tells_comes p2 given) (choose_true _ _ p3 (tells_comes p4 has))))
 
   pub types_over_comes : {g : Sight} {w w2 : History} {r r2 : RunState} {m : Referent} {t : List ℕ}
-      {oe : Result Ended Stop} → TypesOver w r m t oe w2 r2 → HasMemory oe
-      → Comes g w (λ parts. parts.types_over (sight g w) r m t) (told oe (sight g w2) r2) w2
+      {ot : Result (Unit {0}) Stop} → TypesOver w r m t ot w2 r2 → HasMemory ot
+      → Comes g w (λ parts. parts.types_over (sight g w) r m t) (told ot (sight g w2) r2) w2
   types_over_comes TypesOver.type_over_memory has = absurd (has refl)
   types_over_comes (TypesOver.typed_field_goes {f = f} {w = w} {r = r} {m = m} {fa = fa} p1 p2) has = later
       (computed_err _ _ (subst (λ (f : Frame). field_text w.now f.variables r.delimiter m ≡ Err fa) p1 p2) (done))
@@ -1156,43 +1138,40 @@ mutual
       (subst (λ (f : Frame). Comes g w (λ parts. edit (sight g w) r f pl (Put Into t)) (ran (Err z) (sight g w1) r f1)
       w1) p1 (edits p4 (stopped has))))))
   types_over_comes {g} (TypesOver.types_over {f = f} {f1 = f1} {w = w} {w1 = w1} {w2 = w2} {r = r} {r1 = r1} {m = m}
-      {v = v} {t = t} {pl = pl} {i = i} {mg = mg} {oe = oe} p1 p2 p3 p4 p5 p6 p7) has = later
+      {v = v} {t = t} {pl = pl} {i = i} {mg = mg} {ot = ot} p1 p2 p3 p4 p5 p6 p7) has = later
       (computed_ok _ _ (subst (λ (f : Frame). field_text w.now f.variables r.delimiter m ≡ Ok v) p1 p2)
       (computed_ok _ _ p3 (after_lines_ok _
       (subst (λ (f : Frame). Comes g w (λ parts. edit (sight g w) r f pl (Put Into t)) (ran (Ok tt) (sight g w1) r f1)
       w1) p1 (edits p4 given)) (subst
-      (λ (mg : SystemMessage). Comes g w1 (λ parts. parts.tells (sight g w1) r m.object mg) (told oe (sight g w2) r1)
-      w2) p6 (subst (λ (i : ℕ). Comes g w1 (λ parts. parts.tells (sight g w1) r i mg) (told oe (sight g w2) r1) w2) p5
+      (λ (mg : SystemMessage). Comes g w1 (λ parts. parts.tells (sight g w1) r m.object mg) (told ot (sight g w2) r1)
+      w2) p6 (subst (λ (i : ℕ). Comes g w1 (λ parts. parts.tells (sight g w1) r i mg) (told ot (sight g w2) r1) w2) p5
       (tells_comes p7 has))))))
 
   pub types_into_comes : {g : Sight} {w w2 : History} {r r2 : RunState} {t : List ℕ} {pa : tree.Part}
-      {oe : Result Ended Stop} → TypesInto w r t pa oe w2 r2 → HasMemory oe
-      → Comes g w (λ parts. parts.types_into (sight g w) r t pa) (told oe (sight g w2) r2) w2
+      {ot : Result (Unit {0}) Stop} → TypesInto w r t pa ot w2 r2 → HasMemory ot
+      → Comes g w (λ parts. parts.types_into (sight g w) r t pa) (told ot (sight g w2) r2) w2
   types_into_comes TypesInto.type_memory has = absurd (has refl)
   types_into_comes (TypesInto.type_misses p1) has = later (after_stop _ (refers_comes p1 (stopped has)))
-  types_into_comes (TypesInto.type_exits p1) has = later (after_ok _ (refers_comes p1 given) (done))
   types_into_comes (TypesInto.field_open_stops p1 p2 p3) has =
       later (after_ok _ (refers_comes p1 given) (choose_false _ _ p2 (after_stop _ (tells_comes p3 has))))
-  types_into_comes (TypesInto.field_open_exits p1 p2 p3) has =
-      later (after_ok _ (refers_comes p1 given) (choose_false _ _ p2 (after_ok _ (tells_comes p3 given) (done))))
-  types_into_comes {g} (TypesInto.types_into {w2 = w2} {w3 = w3} {r2 = r2} {r3 = r3} {m = m} {t = t} {oe = oe} p1 p2 p3
+  types_into_comes {g} (TypesInto.types_into {w2 = w2} {w3 = w3} {r2 = r2} {r3 = r3} {m = m} {t = t} {ot = ot} p1 p2 p3
       p4 p5) has = later (after_ok _ (refers_comes p1 given)
-      (choose_false _ _ p2 (after_ok _ (tells_comes p4 given)
-      (subst (λ (m : Referent). Comes g w2 (λ parts. parts.types_over (sight g w2) r2 m t) (told oe (sight g w3) r3) w3)
-      p3 (types_over_comes p5 has)))))
+      (choose_false _ _ p2 (after_ok _ (tells_comes p3 given)
+      (subst (λ (m : Referent). Comes g w2 (λ parts. parts.types_over (sight g w2) r2 m t) (told ot (sight g w3) r3) w3)
+      p4 (types_over_comes p5 has)))))
 
-  pub acts_comes : {g : Sight} {w w2 : History} {r r2 : RunState} {ac : Action} {oe : Result Ended Stop}
-      → Acts w r ac oe w2 r2 → HasMemory oe
-      → Comes g w (λ parts. parts.acts (sight g w) r ac) (told oe (sight g w2) r2) w2
-  acts_comes {g} (Acts.acts_by_lines {ac = ac} {w = w} {w1 = w1} {r = r} {r1 = r1} {oe = oe} p1 p2) has = subst
-      (λ (ac : Action). Comes g w (λ parts. parts.acts (sight g w) r ac) (told oe (sight g w1) r1) w1) (sym p1)
+  pub acts_comes : {g : Sight} {w w2 : History} {r r2 : RunState} {ac : Action} {ot : Result (Unit {0}) Stop}
+      → Acts w r ac ot w2 r2 → HasMemory ot
+      → Comes g w (λ parts. parts.acts (sight g w) r ac) (told ot (sight g w2) r2) w2
+  acts_comes {g} (Acts.acts_by_lines {ac = ac} {w = w} {w1 = w1} {r = r} {r1 = r1} {ot = ot} p1 p2) has = subst
+      (λ (ac : Action). Comes g w (λ parts. parts.acts (sight g w) r ac) (told ot (sight g w1) r1) w1) (sym p1)
       (later (line_comes p2 has))
-  acts_comes {g} (Acts.acts_by_opening {ac = ac} {w = w} {w1 = w1} {r = r} {r1 = r1} {oe = oe} p1 p2) has = subst
-      (λ (ac : Action). Comes g w (λ parts. parts.acts (sight g w) r ac) (told oe (sight g w1) r1) w1) (sym p1)
+  acts_comes {g} (Acts.acts_by_opening {ac = ac} {w = w} {w1 = w1} {r = r} {r1 = r1} {ot = ot} p1 p2) has = subst
+      (λ (ac : Action). Comes g w (λ parts. parts.acts (sight g w) r ac) (told ot (sight g w1) r1) w1) (sym p1)
       (later (tells_all_comes p2 has))
-  acts_comes {g} (Acts.acts_by_click {ac = ac} {w = w} {w1 = w1} {r = r} {r1 = r1} {oe = oe} p1 p2) has = subst
-      (λ (ac : Action). Comes g w (λ parts. parts.acts (sight g w) r ac) (told oe (sight g w1) r1) w1) (sym p1)
+  acts_comes {g} (Acts.acts_by_click {ac = ac} {w = w} {w1 = w1} {r = r} {r1 = r1} {ot = ot} p1 p2) has = subst
+      (λ (ac : Action). Comes g w (λ parts. parts.acts (sight g w) r ac) (told ot (sight g w1) r1) w1) (sym p1)
       (later (clicks_comes p2 has))
-  acts_comes {g} (Acts.acts_by_typing {ac = ac} {w = w} {w1 = w1} {r = r} {r1 = r1} {oe = oe} p1 p2) has = subst
-      (λ (ac : Action). Comes g w (λ parts. parts.acts (sight g w) r ac) (told oe (sight g w1) r1) w1) (sym p1)
+  acts_comes {g} (Acts.acts_by_typing {ac = ac} {w = w} {w1 = w1} {r = r} {r1 = r1} {ot = ot} p1 p2) has = subst
+      (λ (ac : Action). Comes g w (λ parts. parts.acts (sight g w) r ac) (told ot (sight g w1) r1) w1) (sym p1)
       (later (types_into_comes p2 has))

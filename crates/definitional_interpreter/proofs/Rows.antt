@@ -23,7 +23,7 @@ use Rattle.externals.specs.Cells.{Seen}
 use Rattle.meaning.specs.declared.end.How.TheVariants.{Next}
 use Rattle.definitional_interpreter.specs.Told.{Present, Told, told, Ran, ran, after_in, after_next, after_lines}
 use Rattle.definitional_interpreter.specs.Told.{maybe, gave}
-use Rattle.definitional_interpreter.specs.Told.{ended_lines}
+use Rattle.definitional_interpreter.specs.Told.{after_lines}
 use Rattle.definitional_interpreter.specs.Changes.{with_variables, with_global}
 use Rattle.definitional_interpreter.specs.Rows as rows
 use Rattle.definitional_interpreter.specs.Texts.{parsed}
@@ -154,10 +154,10 @@ h_line = codes "do \"put h()\" & return & \"put the result\""
 abbrev by_call : (k : ℕ) → Told (List ℕ) → List (List ℕ)
 by_call k x =
     answered
-    (ended_lines
+    (after_lines
     (after_next (after_next (after_in (typed_frame_at 2) x (λ v w r. ran (Ok Next) w (shows r v) (typed_frame_at 2)))
     (λ w r f. (meanings (and_more 35 k)).block w r f 1 (stm.also (stm.put tree.result) stm.stop)))
-    (λ w r f. (meanings (and_more 38 k)).block w r f 0 stm.stop))) (λ w. [])
+    (λ w r f. (meanings (and_more 38 k)).block w r f 0 stm.stop)) (λ _ w r. told (Ok tt) w r)) (λ w. [])
 
 function_calls : (k : ℕ) → answers (and_more 40 k) (on_card function_script [] [] empty [] []) (h_line ∷ [])
     ≡ by_call k
@@ -265,11 +265,11 @@ conversation k =
 abbrev by_value : (k : ℕ) (c : List ℕ) → Globals → List ℕ → (Present → List (List ℕ)) → Option (List ℕ) → List (List ℕ)
 by_value k c globals name rest v =
     answered
-    (ended_lines
+    (after_lines
     (after_next
     (after_in (typed_frame_at 2) (told (Ok (unwrap_or v name)) (on_card c [] [] globals [] []) (run_at 999999 [] []))
     (λ v w r. ran (Ok Next) w (shows r v) (typed_frame_at 2)))
-    (λ w r f. (meanings (and_more 38 k)).block w r f 0 stm.stop))) rest
+    (λ w r f. (meanings (and_more 38 k)).block w r f 0 stm.stop)) (λ _ w r. told (Ok tt) w r)) rest
 
 abbrev with_abc : Globals
 with_abc = insert empty (codes "abc") (codes "1")

@@ -20,7 +20,6 @@ use Rattle.journal_entries.specs.State.{Globals}
 use Rattle.journal_entries.specs.ScriptTrees.{object_script}
 use Rattle.msg_path.specs.Handlers.{Found}
 use Rattle.msg_path.specs.Path.{path, path_by, path_after}
-use Rattle.meaning.specs.declared.end.Ended.{Ended}
 use Rattle.meaning.specs.declared.end.How.TheVariants.{Next}
 use Rattle.meaning.specs.declared.end.Stop.{Stop}
 use Rattle.meaning.specs.declared.end.Stop.TheVariants.{Fault as Faults}
@@ -28,7 +27,7 @@ use Rattle.meaning.specs.declared.frame.Frame.{Frame}
 use Rattle.meaning.specs.declared.sent.SentMessage.{SentMessage}
 use Rattle.meaning.specs.State.{RunState, fresh_run, noted, typed_frame_at}
 use Rattle.definitional_interpreter.specs.Told.{Present, Told, told, ran, after, after_in, after_next, maybe}
-use Rattle.definitional_interpreter.specs.Told.{ended_lines}
+use Rattle.definitional_interpreter.specs.Told.{after_lines}
 use Rattle.definitional_interpreter.specs.Changes.{step}
 use Rattle.definitional_interpreter.specs.Texts.{read_by, parsed, handled, first_found}
 use Rattle.definitional_interpreter.specs.Messages.{met_by}
@@ -129,12 +128,12 @@ abbrev pub run_at : ℕ → List (List ℕ) → List SentMessage → RunState
 run_at left shown sent = record (fresh_run 1000000) { left = left; shown = shown; sent = sent }
 
 -- how a command that is typed alone ends, by what its message comes to
-abbrev pub command_ends : (k : ℕ) → Present → Told (List ℕ) → Told Ended
+abbrev pub command_ends : (k : ℕ) → Present → Told (List ℕ) → Told (Unit {0})
 command_ends k w x =
-    ended_lines
+    after_lines
     (after_next
     (after_in (typed_frame_at w.now.current) x (λ _ w2 r. ran (Ok Next) w2 r (typed_frame_at w.now.current)))
-    (λ w r f. (meanings (and_more 38 k)).block w r f 0 stm.stop))
+    (λ w r f. (meanings (and_more 38 k)).block w r f 0 stm.stop)) (λ _ w r. told (Ok tt) w r)
 
 -- a command that is typed alone, while the first card is the current one
 pub typed_command : (k : ℕ) (c b s : List ℕ) (globals : Globals) (externals : List Seen) (turns : List ℕ)

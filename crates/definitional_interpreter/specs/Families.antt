@@ -16,7 +16,6 @@ use Rattle.object_references.specs.declared.referent.Referent.{Referent}
 use Rattle.object_references.specs.declared.referent.Sought.{Sought}
 use Rattle.containers.specs.Places.{PlaceView}
 use Rattle.meaning.specs.declared.end.Conversed.{Conversed}
-use Rattle.meaning.specs.declared.end.Ended.{Ended}
 use Rattle.meaning.specs.declared.frame.Frame.{Frame}
 use Rattle.meaning.specs.declared.end.How.{How}
 use Rattle.meaning.specs.declared.system.SystemMessage.{SystemMessage}
@@ -60,12 +59,12 @@ pub record Meanings : Type 0 where
   pub converses : Present → RunState → ℕ → ℕ → List (List ℕ) → Told Conversed
   pub talks : Present → RunState → ℕ → ℕ → Input → Told Conversed
   pub calls_back : Present → RunState → ℕ → Ask → Told Input
-  pub line : Present → RunState → stm.Stmts → Told Ended
-  pub message : Present → RunState → ℕ → List ℕ → List (List ℕ) → Told Ended
-  pub refers : Present → RunState → tree.Part → Told (Option ℕ)
-  pub tells : Present → RunState → ℕ → SystemMessage → Told Ended
-  pub tells_all : Present → RunState → List SystemMessage → Told Ended
-  pub clicks : Present → RunState → tree.Part → Told Ended
-  pub types_over : Present → RunState → Referent → List ℕ → Told Ended
-  pub types_into : Present → RunState → List ℕ → tree.Part → Told Ended
-  pub acts : Present → RunState → Action → Told Ended
+  pub line : Present → RunState → stm.Stmts → Told (Unit {0})
+  pub message : Present → RunState → ℕ → List ℕ → List (List ℕ) → Told (Unit {0})
+  pub refers : Present → RunState → tree.Part → Told ℕ
+  pub tells : Present → RunState → ℕ → SystemMessage → Told (Unit {0})
+  pub tells_all : Present → RunState → List SystemMessage → Told (Unit {0})
+  pub clicks : Present → RunState → tree.Part → Told (Unit {0})
+  pub types_over : Present → RunState → Referent → List ℕ → Told (Unit {0})
+  pub types_into : Present → RunState → List ℕ → tree.Part → Told (Unit {0})
+  pub acts : Present → RunState → Action → Told (Unit {0})

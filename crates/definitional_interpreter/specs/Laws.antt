@@ -6,7 +6,6 @@ use Rattle.externals.specs.Cells.{Seen}
 use Rattle.externals.specs.Table.{Turn, turn_of}
 use Rattle.externals.specs.declared.external.Input.{Input}
 use Rattle.change_journal.specs.History.{History}
-use Rattle.meaning.specs.declared.end.Ended.{Ended}
 use Rattle.meaning.specs.declared.end.Stop.{Stop}
 use Rattle.meaning.specs.declared.frame.Frame.{Frame}
 use Rattle.meaning.specs.Actions.{Action}
@@ -40,21 +39,21 @@ Enough Holds = (least : ℕ) × ((parts : ℕ) → least ≤ parts → Holds (me
 -- Where no external is free, and lines don't end out of memory, the function gives their end, state and run.
 abbrev pub LinesAreComputed : Type 0
 LinesAreComputed =
-    (w w2 : History) (r r2 : RunState) (ss : stm.Stmts) (o : Result Ended Stop) →
+    (w w2 : History) (r r2 : RunState) (ss : stm.Stmts) (o : Result (Unit {0}) Stop) →
     NoneIsFree (sorts w) → Line w r ss o w2 r2 → HasMemory o →
     Enough (λ m. m.line (present w) r ss ≡ told o (present w2) r2)
 
 -- and so it does of a message
 abbrev pub MessagesAreComputed : Type 0
 MessagesAreComputed =
-    (w w2 : History) (r r2 : RunState) (i : ℕ) (n : List ℕ) (vs : List (List ℕ)) (o : Result Ended Stop) →
+    (w w2 : History) (r r2 : RunState) (i : ℕ) (n : List ℕ) (vs : List (List ℕ)) (o : Result (Unit {0}) Stop) →
     NoneIsFree (sorts w) → Message w r i n vs o w2 r2 → HasMemory o →
     Enough (λ m. m.message (present w) r i n vs ≡ told o (present w2) r2)
 
 -- and of an action
 abbrev pub ActionsAreComputed : Type 0
 ActionsAreComputed =
-    (w w2 : History) (r r2 : RunState) (ac : Action) (o : Result Ended Stop) →
+    (w w2 : History) (r r2 : RunState) (ac : Action) (o : Result (Unit {0}) Stop) →
     NoneIsFree (sorts w) → Acts w r ac o w2 r2 → HasMemory o →
     Enough (λ m. m.acts (present w) r ac ≡ told o (present w2) r2)
 

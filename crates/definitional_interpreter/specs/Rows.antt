@@ -9,9 +9,8 @@ use Rattle.object_table.specs.declared.object.Object.{Object}
 use Rattle.object_table.specs.declared.object.Kind.TheVariants.{Stack, Background, Card, BackgroundField}
 use Rattle.externals.specs.Cells.{Seen}
 use Rattle.journal_entries.specs.State.{first_state}
-use Rattle.meaning.specs.declared.end.Ended.{Ended}
 use Rattle.meaning.specs.declared.end.Stop.{Stop}
-use Rattle.meaning.specs.declared.end.Stop.TheVariants.{Fault as Faults}
+use Rattle.meaning.specs.declared.end.Stop.TheVariants.{Fault as Faults, Exited}
 use Rattle.meaning.specs.State.{RunState, fresh_run}
 use Rattle.definitional_interpreter.specs.Told.{Present, Told, unknown, told, after}
 use Rattle.definitional_interpreter.specs.Texts.{parsed}
@@ -20,13 +19,14 @@ use Rattle.definitional_interpreter.specs.Meanings.{meanings}
 -- ---- lines and their answers
 
 -- how a command ends
-abbrev pub ending : Result Ended Stop → List ℕ
-ending (Ok end) = codes "ok"
+abbrev pub ending : Result (Unit {0}) Stop → List ℕ
+ending (Ok _) = codes "ok"
+ending (Err Exited) = codes "ok"
 ending (Err (Faults fault)) = codes "fault " ++ decimal (number_of_fault fault)
 ending (Err stop) = codes "no answer"
 
 -- what a command shows, and then how it ends
-abbrev pub answer : Result Ended Stop → RunState → List (List ℕ)
+abbrev pub answer : Result (Unit {0}) Stop → RunState → List (List ℕ)
 answer o r = map (λ line. codes "> " ++ line) r.shown ++ ending o ∷ []
 
 -- so many, and so many more
@@ -35,11 +35,11 @@ and_more zero more = more
 and_more (suc n) more = suc (and_more n more)
 
 -- a line that is typed, where so many nested parts can be told
-abbrev pub typed : ℕ → Present → List ℕ → Told Ended
+abbrev pub typed : ℕ → Present → List ℕ → Told (Unit {0})
 typed parts w line =
     after (told (parsed typed_lines line) w (fresh_run 1000000)) (λ ss w r. (meanings parts).line w r ss)
 
-abbrev pub answered : Told Ended → (Present → List (List ℕ)) → List (List ℕ)
+abbrev pub answered : Told (Unit {0}) → (Present → List (List ℕ)) → List (List ℕ)
 answered unknown rest = codes "no answer" ∷ []
 answered (told o w r) rest = answer o r ++ rest w
 

@@ -5,12 +5,10 @@ use Rattle.ht_values.specs.declared.fault.Fault.TheVariants.{NoSuchObject}
 use Rattle.journal_entries.specs.State.{State}
 use Rattle.change_journal.specs.History.{History}
 use Rattle.object_references.specs.declared.referent.Referent.{Referent}
-use Rattle.meaning.specs.declared.end.Ended.{Ended}
-use Rattle.meaning.specs.declared.end.Ended.TheVariants.{Done as DoneEnd, Exited as ExitedEnd}
 use Rattle.meaning.specs.declared.end.How.{How}
 use Rattle.meaning.specs.declared.end.How.TheVariants.{Next}
 use Rattle.meaning.specs.declared.end.Stop.{Stop}
-use Rattle.meaning.specs.declared.end.Stop.TheVariants.{Fault as Faults, Exited, Memory}
+use Rattle.meaning.specs.declared.end.Stop.TheVariants.{Fault as Faults}
 use Rattle.meaning.specs.declared.frame.Frame.{Frame}
 use Rattle.meaning.specs.Repeats.{Outcome}
 use Rattle.meaning.specs.State.{RunState}
@@ -84,37 +82,6 @@ there unknown say = unknown
 there (told (Ok m) w r) say = told (Ok (say true)) w r
 there (told (Err (Faults NoSuchObject)) w r) say = told (Ok (say false)) w r
 there (told (Err z) w r) say = told (Err z) w r
-
--- ---- ends of commands: `exit to HyperCard` is an end and no fault
-
-abbrev pub ended : {A : Type 0} → Result A Stop → Result Ended Stop
-ended (Ok a) = Ok DoneEnd
-ended (Err Exited) = Ok ExitedEnd
-ended (Err (Faults n)) = Err (Faults n)
-ended (Err Memory) = Err Memory
-
-abbrev pub ended_lines : {A : Type 0} → Ran A → Told Ended
-ended_lines unknown_run = unknown
-ended_lines (ran o w r f) = told (ended o) w r
-
-abbrev pub ended_message : {A : Type 0} → Told A → Told Ended
-ended_message unknown = unknown
-ended_message (told o w r) = told (ended o) w r
-
-abbrev pub referred_by : Result Referent Stop → Result (Option ℕ) Stop
-referred_by (Ok m) = Ok (Some m.object)
-referred_by (Err Exited) = Ok None
-referred_by (Err (Faults n)) = Err (Faults n)
-referred_by (Err Memory) = Err Memory
-
-abbrev pub referred : Told Referent → Told (Option ℕ)
-referred unknown = unknown
-referred (told o w r) = told (referred_by o) w r
-
--- a dot line goes on, unless its message ended by `exit to HyperCard`
-abbrev pub goes_on_after : Ended → Present → RunState → (Unit {0} → Told Ended) → Told Ended
-goes_on_after DoneEnd w r next = next tt
-goes_on_after ExitedEnd w r next = told (Ok ExitedEnd) w r
 
 -- what a handler gives
 abbrev pub gave : Present → Outcome → Told (List ℕ)

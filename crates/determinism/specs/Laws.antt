@@ -3,7 +3,6 @@ use Rattle.std.specs.Prelude.{◌≡◌, ℕ, List, Option, Result}
 use Rattle.ht_grammar.specs.Statements as stm
 use Rattle.ht_grammar.specs.Trees as tree
 use Rattle.change_journal.specs.History.{History}
-use Rattle.meaning.specs.declared.end.Ended.{Ended}
 use Rattle.meaning.specs.declared.end.Stop.{Stop}
 use Rattle.meaning.specs.declared.frame.Frame.{Frame}
 use Rattle.meaning.specs.Actions.{Action}
@@ -20,21 +19,21 @@ SameOutcome w v w2 v2 r2 q2 o p = (o ≡ p) × (w2.now ≡ v2.now) × (r2 ≡ q2
 -- Two runs of the same lines from the same state, neither of which is out of memory, have one outcome.
 abbrev pub LinesHaveOneOutcome : Type 0
 LinesHaveOneOutcome =
-    (w v w2 v2 : History) (r r2 q2 : RunState) (ss : stm.Stmts) (o p : Result Ended Stop) →
+    (w v w2 v2 : History) (r r2 q2 : RunState) (ss : stm.Stmts) (o p : Result (Unit {0}) Stop) →
     v.now ≡ w.now → NoneIsFree (sorts w) → Line w r ss o w2 r2 → Line v r ss p v2 q2 → HasMemory o → HasMemory p →
     SameOutcome w v w2 v2 r2 q2 o p
 
 -- and so have two runs of the same message
 abbrev pub MessagesHaveOneOutcome : Type 0
 MessagesHaveOneOutcome =
-    (w v w2 v2 : History) (r r2 q2 : RunState) (i : ℕ) (n : List ℕ) (vs : List (List ℕ)) (o p : Result Ended Stop) →
+    (w v w2 v2 : History) (r r2 q2 : RunState) (i : ℕ) (n : List ℕ) (vs : List (List ℕ)) (o p : Result (Unit {0}) Stop) →
     v.now ≡ w.now → NoneIsFree (sorts w) → Message w r i n vs o w2 r2 → Message v r i n vs p v2 q2 →
     HasMemory o → HasMemory p → SameOutcome w v w2 v2 r2 q2 o p
 
 -- and of the same action
 abbrev pub ActionsHaveOneOutcome : Type 0
 ActionsHaveOneOutcome =
-    (w v w2 v2 : History) (r r2 q2 : RunState) (ac : Action) (o p : Result Ended Stop) →
+    (w v w2 v2 : History) (r r2 q2 : RunState) (ac : Action) (o p : Result (Unit {0}) Stop) →
     v.now ≡ w.now → NoneIsFree (sorts w) → Acts w r ac o w2 r2 → Acts v r ac p v2 q2 → HasMemory o → HasMemory p →
     SameOutcome w v w2 v2 r2 q2 o p
 

@@ -5,6 +5,7 @@ ghost use Rattle.ht_grammar.specs.Depth.{max_depth, part_depth};
 ghost use Rattle.ht_tree.specs.StatementView.{stmts_of};
 ghost use Rattle.ht_tree.specs.View.{part_of};
 ghost use Rattle.containers.specs.Base.{base};
+ghost use Rattle.meaning.specs.Ends.{end_of, led_to};
 ghost use Rattle.meaning.specs.Meaning.{Line, Message, Refers};
 
 use crate::message::send;
@@ -30,7 +31,8 @@ pub fn run_line<E: External>(
     lines: &Stmts,
 ) -> Result<Ended, Stop>
     requires open { IsSome (base world.old.history).start }
-    ensures meaning { Line world.old.history run.old (stmts_of lines.now.items.items) result world.new.history run.new }
+    ensures meaning { Line world.old.history run.old (stmts_of lines.now.items.items) (end_of result)
+        world.new.history run.new }
     ensures fewer { run.new.left ≤ run.old.left }
     ensures base { base world.new.history ≡ base world.old.history }
 {
@@ -53,7 +55,7 @@ pub fn send_message<E: External>(
     name: &Text,
 ) -> Result<Ended, Stop>
     requires open { IsSome (base world.old.history).start }
-    ensures meaning { Message world.old.history run.old object name.now [] result world.new.history run.new }
+    ensures meaning { Message world.old.history run.old object name.now [] (end_of result) world.new.history run.new }
     ensures fewer { run.new.left ≤ run.old.left }
     ensures base { base world.new.history ≡ base world.old.history }
 {
@@ -87,7 +89,7 @@ pub fn find_ref<E: External>(
 ) -> Result<Option<Id>, Stop>
     requires deep { part_depth (part_of part.now) ≤ max_depth }
     requires open { IsSome (base world.old.history).start }
-    ensures meaning { Refers world.old.history run.old (part_of part.now) result world.new.history run.new }
+    ensures meaning { Refers world.old.history run.old (part_of part.now) (led_to result) world.new.history run.new }
     ensures fewer { run.new.left ≤ run.old.left }
     ensures base { base world.new.history ≡ base world.old.history }
 {

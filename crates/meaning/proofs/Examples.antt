@@ -11,7 +11,6 @@ use Rattle.ht_lex.specs.declared.key.Constant.TheVariants as constant
 use Rattle.ht_grammar.specs.Statements as stm
 use Rattle.ht_grammar.specs.Trees as tree
 use Rattle.change_journal.specs.History.{History}
-use Rattle.meaning.specs.declared.end.Ended.TheVariants.{Exited as ExitedEnd}
 use Rattle.meaning.specs.declared.end.How.TheVariants.{Next}
 use Rattle.meaning.specs.declared.end.Stop.TheVariants.{Fault as Faults, Exited}
 use Rattle.meaning.specs.Meaning.{Val, NumberVal, TruthVal, Form, Block, Endless, Counts, Line}
@@ -56,11 +55,11 @@ unfolding computing
 no_turns_take_a_test w r f ss h = Form.times refl (NumberVal.a_number (Val.number refl) (Yields.yields refl)) refl
     (Counts.counts_end (Step.taken h refl) refl)
 
--- `exit to HyperCard` in a repeat ends the line well
+-- `exit to HyperCard` in a repeat ends the line
 exit_ends_the_line : (w : History) (r : RunState) → 0 < r.left → 0 < (less r).left → 0 < (less (less r)).left →
-    Line w r (stm.also (stm.repeat stm.forever (stm.also stm.exit_to_hypercard stm.stop)) stm.stop) (Ok ExitedEnd) w
+    Line w r (stm.also (stm.repeat stm.forever (stm.also stm.exit_to_hypercard stm.stop)) stm.stop) (Err Exited) w
     (less (less (less r)))
 exit_ends_the_line w r a b c =
-    Line.line_exits refl (Block.block_stops refl (Step.taken a refl)
+    Line.line_stops refl (Block.block_stops refl (Step.taken a refl)
     (Form.forever refl (Endless.endless_stops (Step.taken b refl)
     (Block.block_stops refl (Step.taken c refl) (Form.exit_to_hypercard refl)))))

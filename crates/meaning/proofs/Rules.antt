@@ -525,33 +525,20 @@ pub ruleset callsback_setfieldbyname_rules = (
   CallsBack.field_set,
 )
 
-pub ruleset line_rules = (Line.line_memory, Line.line_faults, Line.line_exits, Line.line_ends)
+pub ruleset line_rules = (Line.line_memory, Line.line_stops, Line.line)
 
-pub ruleset message_rules = (
-  Message.message_memory,
-  Message.message_faults,
-  Message.message_exits,
-  Message.message_ends,
-)
+pub ruleset message_rules = (Message.message_memory, Message.sent_alone_stops, Message.sent_alone)
 
-pub ruleset refers_rules = (Refers.refer_memory, Refers.refer_faults, Refers.refer_exits, Refers.refers)
+pub ruleset refers_rules = (Refers.refer_memory, Refers.refer_stops, Refers.refers)
 
 pub ruleset tells_rules = (Tells.tell_memory, Tells.tells_nothing, Tells.tells)
 
-pub ruleset tellsall_rules = (
-  TellsAll.tell_all_memory,
-  TellsAll.none_to_tell,
-  TellsAll.tell_stops,
-  TellsAll.tell_exits,
-  TellsAll.tells_on,
-)
+pub ruleset tellsall_rules = (TellsAll.tell_all_memory, TellsAll.none_to_tell, TellsAll.tell_stops, TellsAll.tells_on)
 
 pub ruleset clicks_rules = (
   Clicks.click_memory,
   Clicks.click_misses,
-  Clicks.click_exits,
   Clicks.press_stops,
-  Clicks.press_exits,
   Clicks.part_goes,
   Clicks.clicks,
 )
@@ -566,9 +553,7 @@ pub ruleset typesover_rules = (
 pub ruleset typesinto_rules = (
   TypesInto.type_memory,
   TypesInto.type_misses,
-  TypesInto.type_exits,
   TypesInto.field_open_stops,
-  TypesInto.field_open_exits,
   TypesInto.types_into,
 )
 

@@ -6,4 +6,5 @@ pub mod Menu
 pub mod Messages
 pub mod Actions
 pub mod Meaning
+pub mod Ends
 pub mod Locked

@@ -70,8 +70,6 @@ use Rattle.msg_path.specs.declared.built_in.BuiltIn.TheVariants.{DoMenu, Value, 
 use Rattle.msg_path.specs.Handlers.{Found}
 use Rattle.msg_path.specs.Path.{path, path_after}
 use Rattle.meaning.specs.declared.end.Conversed.{Conversed}
-use Rattle.meaning.specs.declared.end.Ended.{Ended}
-use Rattle.meaning.specs.declared.end.Ended.TheVariants.{Done as DoneEnd, Exited as ExitedEnd}
 use Rattle.meaning.specs.declared.frame.Frame.{Frame}
 use Rattle.meaning.specs.declared.end.How.{How}
 use Rattle.meaning.specs.declared.end.How.TheVariants.{Next, ExitRepeat, NextRepeat, Exit, Pass, Returns}
@@ -1603,136 +1601,114 @@ mutual
   -- ---- commands
 
   -- The lines of a typed command: the card that is current as it begins is `me`.
-  pub data Line : History → RunState → stm.Stmts → Result Ended Stop → History → RunState → Type 0 where
+  pub data Line : History → RunState → stm.Stmts → Result (Unit {0}) Stop → History → RunState → Type 0 where
     line_memory : {w w1 : History} {r r1 : RunState} {ss : stm.Stmts} →
         Line w r ss (Err Memory) w1 r1
-    line_faults : {f f1 : Frame} {w w1 : History} {r r1 : RunState} {ss : stm.Stmts} {fa : Fault} →
+    line_stops : {f f1 : Frame} {w w1 : History} {r r1 : RunState} {ss : stm.Stmts} {z : Stop} →
         f ≡ typed_frame w →
-        Block w r f 0 ss (Err (Faults fa)) w1 r1 f1 →
-        Line w r ss (Err (Faults fa)) w1 r1
-    line_exits : {f f1 : Frame} {w w1 : History} {r r1 : RunState} {ss : stm.Stmts} →
-        f ≡ typed_frame w →
-        Block w r f 0 ss (Err Exited) w1 r1 f1 →
-        Line w r ss (Ok ExitedEnd) w1 r1
-    line_ends : {f f1 : Frame} {w w1 : History} {r r1 : RunState} {ss : stm.Stmts} {h : How} →
+        Block w r f 0 ss (Err z) w1 r1 f1 →
+        Line w r ss (Err z) w1 r1
+    line : {f f1 : Frame} {w w1 : History} {r r1 : RunState} {ss : stm.Stmts} {h : How} →
         f ≡ typed_frame w →
         Block w r f 0 ss (Ok h) w1 r1 f1 →
-        Line w r ss (Ok DoneEnd) w1 r1
+        Line w r ss (Ok tt) w1 r1
 
   -- A message that is sent to an object by itself.
-  pub data Message : History → RunState → ℕ → List ℕ → List (List ℕ) → Result Ended Stop → History → RunState
+  pub data Message : History → RunState → ℕ → List ℕ → List (List ℕ) → Result (Unit {0}) Stop → History → RunState
       → Type 0 where
     message_memory : {w w1 : History} {r r1 : RunState} {i : ℕ} {n : List ℕ} {vs : List (List ℕ)} →
         Message w r i n vs (Err Memory) w1 r1
-    message_faults : {f : Frame} {w w1 : History} {r r1 : RunState} {i : ℕ} {n : List ℕ} {vs : List (List ℕ)}
-        {fa : Fault} →
+    sent_alone_stops : {f : Frame} {w w1 : History} {r r1 : RunState} {i : ℕ} {n : List ℕ} {vs : List (List ℕ)}
+        {z : Stop} →
         f ≡ typed_frame w →
-        Sends w r f 0 i n vs Command (Err (Faults fa)) w1 r1 →
-        Message w r i n vs (Err (Faults fa)) w1 r1
-    message_exits : {f : Frame} {w w1 : History} {r r1 : RunState} {i : ℕ} {n : List ℕ} {vs : List (List ℕ)} →
-        f ≡ typed_frame w →
-        Sends w r f 0 i n vs Command (Err Exited) w1 r1 →
-        Message w r i n vs (Ok ExitedEnd) w1 r1
-    message_ends : {f : Frame} {w w1 : History} {r r1 : RunState} {i : ℕ} {n v : List ℕ} {vs : List (List ℕ)} →
+        Sends w r f 0 i n vs Command (Err z) w1 r1 →
+        Message w r i n vs (Err z) w1 r1
+    sent_alone : {f : Frame} {w w1 : History} {r r1 : RunState} {i : ℕ} {n v : List ℕ} {vs : List (List ℕ)} →
         f ≡ typed_frame w →
         Sends w r f 0 i n vs Command (Ok v) w1 r1 →
-        Message w r i n vs (Ok DoneEnd) w1 r1
+        Message w r i n vs (Ok tt) w1 r1
 
   -- ---- dot lines that send messages
 
-  -- The object of a reference in a dot line, none where it ends by `exit to HyperCard`. The card that is current as it
-  -- begins is `me`.
-  pub data Refers : History → RunState → tree.Part → Result (Option ℕ) Stop → History → RunState → Type 0 where
+  -- The object of a reference in a dot line. The card that is current as it begins is `me`.
+  pub data Refers : History → RunState → tree.Part → Result ℕ Stop → History → RunState → Type 0 where
     refer_memory : {w w1 : History} {r r1 : RunState} {pa : tree.Part} →
         Refers w r pa (Err Memory) w1 r1
-    refer_faults : {f : Frame} {w w1 : History} {r r1 : RunState} {pa : tree.Part} {fa : Fault} →
+    refer_stops : {f : Frame} {w w1 : History} {r r1 : RunState} {pa : tree.Part} {z : Stop} →
         f ≡ typed_frame w →
-        PartMet w r f 0 pa (Err (Faults fa)) w1 r1 →
-        Refers w r pa (Err (Faults fa)) w1 r1
-    refer_exits : {f : Frame} {w w1 : History} {r r1 : RunState} {pa : tree.Part} →
-        f ≡ typed_frame w →
-        PartMet w r f 0 pa (Err Exited) w1 r1 →
-        Refers w r pa (Ok None) w1 r1
+        PartMet w r f 0 pa (Err z) w1 r1 →
+        Refers w r pa (Err z) w1 r1
     refers : {f : Frame} {w w1 : History} {r r1 : RunState} {pa : tree.Part} {m : Referent} {i : ℕ} →
         f ≡ typed_frame w →
         PartMet w r f 0 pa (Ok m) w1 r1 →
         i ≡ m.object →
-        Refers w r pa (Ok (Some i)) w1 r1
+        Refers w r pa (Ok i) w1 r1
 
   -- A message of the system that a dot line sends to an object; none while lockMessages is true.
-  pub data Tells : History → RunState → ℕ → SystemMessage → Result Ended Stop → History → RunState → Type 0 where
+  pub data Tells : History → RunState → ℕ → SystemMessage → Result (Unit {0}) Stop → History → RunState → Type 0 where
     tell_memory : {w w1 : History} {r r1 : RunState} {i : ℕ} {mg : SystemMessage} →
         Tells w r i mg (Err Memory) w1 r1
     tells_nothing : {r : RunState} {w : History} {i : ℕ} {mg : SystemMessage} →
         r.lock_messages ≡ true →
-        Tells w r i mg (Ok DoneEnd) w r
-    tells : {r r1 : RunState} {n : List ℕ} {mg : SystemMessage} {w w1 : History} {i : ℕ} {oe : Result Ended Stop} →
+        Tells w r i mg (Ok tt) w r
+    tells : {r r1 : RunState} {n : List ℕ} {mg : SystemMessage} {w w1 : History} {i : ℕ} {ot : Result (Unit {0}) Stop} →
         r.lock_messages ≡ false →
         n ≡ message_name mg →
-        Message w r i n [] oe w1 r1 →
-        Tells w r i mg oe w1 r1
+        Message w r i n [] ot w1 r1 →
+        Tells w r i mg ot w1 r1
 
   -- Messages of the system, each to the card that is current at that moment, up to the first that doesn't end well.
-  pub data TellsAll : History → RunState → List SystemMessage → Result Ended Stop → History → RunState → Type 0 where
+  pub data TellsAll : History → RunState → List SystemMessage → Result (Unit {0}) Stop → History → RunState
+      → Type 0 where
     tell_all_memory : {w w1 : History} {r r1 : RunState} {ms : List SystemMessage} →
         TellsAll w r ms (Err Memory) w1 r1
     none_to_tell : {ms : List SystemMessage} {w : History} {r : RunState} →
         ms ≡ [] →
-        TellsAll w r ms (Ok DoneEnd) w r
+        TellsAll w r ms (Ok tt) w r
     tell_stops : {ms ms1 : List SystemMessage} {mg : SystemMessage} {w w1 : History} {r r1 : RunState} {z : Stop} →
         ms ≡ mg ∷ ms1 →
         Tells w r w.now.current mg (Err z) w1 r1 →
         TellsAll w r ms (Err z) w1 r1
-    tell_exits : {ms ms1 : List SystemMessage} {mg : SystemMessage} {w w1 : History} {r r1 : RunState} →
-        ms ≡ mg ∷ ms1 →
-        Tells w r w.now.current mg (Ok ExitedEnd) w1 r1 →
-        TellsAll w r ms (Ok ExitedEnd) w1 r1
     tells_on : {ms ms1 : List SystemMessage} {mg : SystemMessage} {w w1 w2 : History} {r r1 r2 : RunState}
-        {oe : Result Ended Stop} →
+        {ot : Result (Unit {0}) Stop} →
         ms ≡ mg ∷ ms1 →
-        Tells w r w.now.current mg (Ok DoneEnd) w1 r1 →
-        TellsAll w1 r1 ms1 oe w2 r2 →
-        TellsAll w r ms oe w2 r2
+        Tells w r w.now.current mg (Ok tt) w1 r1 →
+        TellsAll w1 r1 ms1 ot w2 r2 →
+        TellsAll w r ms ot w2 r2
 
   -- `.click`: mouseDown to the part, then mouseUp where it is still there.
-  pub data Clicks : History → RunState → tree.Part → Result Ended Stop → History → RunState → Type 0 where
+  pub data Clicks : History → RunState → tree.Part → Result (Unit {0}) Stop → History → RunState → Type 0 where
     click_memory : {w w1 : History} {r r1 : RunState} {pa : tree.Part} →
         Clicks w r pa (Err Memory) w1 r1
     click_misses : {w w1 : History} {r r1 : RunState} {pa : tree.Part} {z : Stop} →
         Refers w r pa (Err z) w1 r1 →
         Clicks w r pa (Err z) w1 r1
-    click_exits : {w w1 : History} {r r1 : RunState} {pa : tree.Part} →
-        Refers w r pa (Ok None) w1 r1 →
-        Clicks w r pa (Ok ExitedEnd) w1 r1
     press_stops : {w w1 w2 : History} {r r1 r2 : RunState} {pa : tree.Part} {i : ℕ} {z : Stop} →
-        Refers w r pa (Ok (Some i)) w1 r1 →
+        Refers w r pa (Ok i) w1 r1 →
         Tells w1 r1 i MouseDown (Err z) w2 r2 →
         Clicks w r pa (Err z) w2 r2
-    press_exits : {w w1 w2 : History} {r r1 r2 : RunState} {pa : tree.Part} {i : ℕ} →
-        Refers w r pa (Ok (Some i)) w1 r1 →
-        Tells w1 r1 i MouseDown (Ok ExitedEnd) w2 r2 →
-        Clicks w r pa (Ok ExitedEnd) w2 r2
     part_goes : {w w1 w2 : History} {r r1 r2 : RunState} {pa : tree.Part} {i : ℕ} →
-        Refers w r pa (Ok (Some i)) w1 r1 →
-        Tells w1 r1 i MouseDown (Ok DoneEnd) w2 r2 →
+        Refers w r pa (Ok i) w1 r1 →
+        Tells w1 r1 i MouseDown (Ok tt) w2 r2 →
         is_some (object_at w2.now.stack i) ≡ false →
-        Clicks w r pa (Ok DoneEnd) w2 r2
-    clicks : {w w1 w2 w3 : History} {r r1 r2 r3 : RunState} {pa : tree.Part} {i : ℕ} {oe : Result Ended Stop} →
-        Refers w r pa (Ok (Some i)) w1 r1 →
-        Tells w1 r1 i MouseDown (Ok DoneEnd) w2 r2 →
+        Clicks w r pa (Ok tt) w2 r2
+    clicks : {w w1 w2 w3 : History} {r r1 r2 r3 : RunState} {pa : tree.Part} {i : ℕ} {ot : Result (Unit {0}) Stop} →
+        Refers w r pa (Ok i) w1 r1 →
+        Tells w1 r1 i MouseDown (Ok tt) w2 r2 →
         is_some (object_at w2.now.stack i) ≡ true →
-        Tells w2 r2 i MouseUp oe w3 r3 →
-        Clicks w r pa oe w3 r3
+        Tells w2 r2 i MouseUp ot w3 r3 →
+        Clicks w r pa ot w3 r3
 
   -- A text takes the place of the text that a field has for a card, and the field is left; nothing happens where the
   -- field or the card is gone.
-  pub data TypesOver : History → RunState → Referent → List ℕ → Result Ended Stop → History → RunState → Type 0 where
+  pub data TypesOver : History → RunState → Referent → List ℕ → Result (Unit {0}) Stop → History → RunState
+      → Type 0 where
     type_over_memory : {w w1 : History} {r r1 : RunState} {m : Referent} {t : List ℕ} →
         TypesOver w r m t (Err Memory) w1 r1
     typed_field_goes : {f : Frame} {w : History} {r : RunState} {m : Referent} {fa : Fault} {t : List ℕ} →
         f ≡ typed_frame w →
         field_text w.now f.variables r.delimiter m ≡ Err fa →
-        TypesOver w r m t (Ok DoneEnd) w r
+        TypesOver w r m t (Ok tt) w r
     type_over_stops : {f f1 : Frame} {w w1 : History} {r : RunState} {m : Referent} {v t : List ℕ} {pl : PlaceView}
         {z : Stop} →
         f ≡ typed_frame w →
@@ -1741,62 +1717,55 @@ mutual
         Edits w f r.delimiter pl (Put Into t) (Err z) w1 f1 →
         TypesOver w r m t (Err z) w1 r
     types_over : {f f1 : Frame} {w w1 w2 : History} {r r1 : RunState} {m : Referent} {v t : List ℕ} {pl : PlaceView}
-        {i : ℕ} {mg : SystemMessage} {oe : Result Ended Stop} →
+        {i : ℕ} {mg : SystemMessage} {ot : Result (Unit {0}) Stop} →
         f ≡ typed_frame w →
         field_text w.now f.variables r.delimiter m ≡ Ok v →
         field_place w.now m ≡ Ok pl →
         Edits w f r.delimiter pl (Put Into t) (Ok tt) w1 f1 →
         i ≡ m.object →
         mg ≡ leaving_message v t →
-        Tells w1 r i mg oe w2 r1 →
-        TypesOver w r m t oe w2 r1
+        Tells w1 r i mg ot w2 r1 →
+        TypesOver w r m t ot w2 r1
 
   -- `.type` into a field that isn't locked: openField to it, then the text for the card that was current as it was
   -- found.
-  pub data TypesInto : History → RunState → List ℕ → tree.Part → Result Ended Stop → History → RunState → Type 0 where
+  pub data TypesInto : History → RunState → List ℕ → tree.Part → Result (Unit {0}) Stop → History → RunState
+      → Type 0 where
     type_memory : {w w1 : History} {r r1 : RunState} {t : List ℕ} {pa : tree.Part} →
         TypesInto w r t pa (Err Memory) w1 r1
     type_misses : {w w1 : History} {r r1 : RunState} {pa : tree.Part} {z : Stop} {t : List ℕ} →
         Refers w r pa (Err z) w1 r1 →
         TypesInto w r t pa (Err z) w1 r1
-    type_exits : {w w1 : History} {r r1 : RunState} {pa : tree.Part} {t : List ℕ} →
-        Refers w r pa (Ok None) w1 r1 →
-        TypesInto w r t pa (Ok ExitedEnd) w1 r1
     field_open_stops : {w w1 w2 : History} {r r1 r2 : RunState} {pa : tree.Part} {i : ℕ} {z : Stop} {t : List ℕ} →
-        Refers w r pa (Ok (Some i)) w1 r1 →
+        Refers w r pa (Ok i) w1 r1 →
         locks_text w1.now.stack i ≡ false →
         Tells w1 r1 i OpenField (Err z) w2 r2 →
         TypesInto w r t pa (Err z) w2 r2
-    field_open_exits : {w w1 w2 : History} {r r1 r2 : RunState} {pa : tree.Part} {i : ℕ} {t : List ℕ} →
-        Refers w r pa (Ok (Some i)) w1 r1 →
-        locks_text w1.now.stack i ≡ false →
-        Tells w1 r1 i OpenField (Ok ExitedEnd) w2 r2 →
-        TypesInto w r t pa (Ok ExitedEnd) w2 r2
     types_into : {w w1 w2 w3 : History} {r r1 r2 r3 : RunState} {pa : tree.Part} {i : ℕ} {m : Referent} {t : List ℕ}
-        {oe : Result Ended Stop} →
-        Refers w r pa (Ok (Some i)) w1 r1 →
+        {ot : Result (Unit {0}) Stop} →
+        Refers w r pa (Ok i) w1 r1 →
         locks_text w1.now.stack i ≡ false →
+        Tells w1 r1 i OpenField (Ok tt) w2 r2 →
         m ≡ met_here w1.now.current i →
-        Tells w1 r1 i OpenField (Ok DoneEnd) w2 r2 →
-        TypesOver w2 r2 m t oe w3 r3 →
-        TypesInto w r t pa oe w3 r3
+        TypesOver w2 r2 m t ot w3 r3 →
+        TypesInto w r t pa ot w3 r3
 
   -- What a user does: a typed command, `.open`, `.click` or `.type`.
-  pub data Acts : History → RunState → Action → Result Ended Stop → History → RunState → Type 0 where
-    acts_by_lines : {ac : Action} {ss : stm.Stmts} {w w1 : History} {r r1 : RunState} {oe : Result Ended Stop} →
+  pub data Acts : History → RunState → Action → Result (Unit {0}) Stop → History → RunState → Type 0 where
+    acts_by_lines : {ac : Action} {ss : stm.Stmts} {w w1 : History} {r r1 : RunState} {ot : Result (Unit {0}) Stop} →
         ac ≡ act.run_lines ss →
-        Line w r ss oe w1 r1 →
-        Acts w r ac oe w1 r1
-    acts_by_opening : {ac : Action} {w w1 : History} {r r1 : RunState} {oe : Result Ended Stop} →
+        Line w r ss ot w1 r1 →
+        Acts w r ac ot w1 r1
+    acts_by_opening : {ac : Action} {w w1 : History} {r r1 : RunState} {ot : Result (Unit {0}) Stop} →
         ac ≡ act.open_stack →
-        TellsAll w r opening_stack oe w1 r1 →
-        Acts w r ac oe w1 r1
-    acts_by_click : {ac : Action} {pa : tree.Part} {w w1 : History} {r r1 : RunState} {oe : Result Ended Stop} →
+        TellsAll w r opening_stack ot w1 r1 →
+        Acts w r ac ot w1 r1
+    acts_by_click : {ac : Action} {pa : tree.Part} {w w1 : History} {r r1 : RunState} {ot : Result (Unit {0}) Stop} →
         ac ≡ act.click pa →
-        Clicks w r pa oe w1 r1 →
-        Acts w r ac oe w1 r1
+        Clicks w r pa ot w1 r1 →
+        Acts w r ac ot w1 r1
     acts_by_typing : {ac : Action} {t : List ℕ} {pa : tree.Part} {w w1 : History} {r r1 : RunState}
-        {oe : Result Ended Stop} →
+        {ot : Result (Unit {0}) Stop} →
         ac ≡ act.type_text t pa →
-        TypesInto w r t pa oe w1 r1 →
-        Acts w r ac oe w1 r1
+        TypesInto w r t pa ot w1 r1 →
+        Acts w r ac ot w1 r1

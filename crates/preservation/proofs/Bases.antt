@@ -4,7 +4,7 @@ use Rattle.std.proofs.Common.{◌≡◌, refl, ◌∙◌}
 use Rattle.containers.specs.Base.{base}
 use Rattle.containers.proofs.Bases.{made_keeps as base_made, took_keeps as base_turn}
 use Rattle.preservation.specs.Laws.{HasMemory}
-use Rattle.preservation.proofs.Ends.{given, stopped, faulted, exited}
+use Rattle.preservation.proofs.Ends.{given, stopped, faulted}
 use Rattle.preservation.proofs.Kept.{base_edits, base_assigns, base_declares_all, base_sets, base_adds}
 use Rattle.std.specs.Prelude.{ℕ, ℤ, List, Bool, Option, Result}
 use Rattle.ht_values.specs.declared.operator.Op.{Op}
@@ -22,7 +22,6 @@ use Rattle.object_references.specs.declared.referent.Referent.{Referent}
 use Rattle.object_references.specs.declared.referent.Sought.{Sought}
 use Rattle.containers.specs.Places.{PlaceView}
 use Rattle.meaning.specs.declared.end.Conversed.{Conversed}
-use Rattle.meaning.specs.declared.end.Ended.{Ended}
 use Rattle.meaning.specs.declared.frame.Frame.{Frame}
 use Rattle.meaning.specs.declared.end.How.{How}
 use Rattle.meaning.specs.declared.end.Stop.{Stop}
@@ -422,71 +421,63 @@ mutual
   base_calls_back (CallsBack.field_fails _ _ _ p4) has = base_edits p4 (stopped has)
   base_calls_back (CallsBack.field_set _ _ _ p4 _) has = base_edits p4 given
 
-  pub base_line : {w w2 : History} {r r2 : RunState} {ss : stm.Stmts} {oe : Result Ended Stop} → Line w r ss oe w2 r2
-      → HasMemory oe → base w2 ≡ base w
+  pub base_line : {w w2 : History} {r r2 : RunState} {ss : stm.Stmts} {ot : Result (Unit {0}) Stop}
+      → Line w r ss ot w2 r2 → HasMemory ot → base w2 ≡ base w
   base_line Line.line_memory has = absurd (has refl)
-  base_line (Line.line_faults _ p2) has = base_block p2 (stopped has)
-  base_line (Line.line_exits _ p2) has = base_block p2 exited
-  base_line (Line.line_ends _ p2) has = base_block p2 given
+  base_line (Line.line_stops _ p2) has = base_block p2 (stopped has)
+  base_line (Line.line _ p2) has = base_block p2 given
 
   pub base_message : {w w2 : History} {r r2 : RunState} {i : ℕ} {n : List ℕ} {vs : List (List ℕ)}
-      {oe : Result Ended Stop} → Message w r i n vs oe w2 r2 → HasMemory oe → base w2 ≡ base w
+      {ot : Result (Unit {0}) Stop} → Message w r i n vs ot w2 r2 → HasMemory ot → base w2 ≡ base w
   base_message Message.message_memory has = absurd (has refl)
-  base_message (Message.message_faults _ p2) has = base_sends p2 (stopped has)
-  base_message (Message.message_exits _ p2) has = base_sends p2 exited
-  base_message (Message.message_ends _ p2) has = base_sends p2 given
+  base_message (Message.sent_alone_stops _ p2) has = base_sends p2 (stopped has)
+  base_message (Message.sent_alone _ p2) has = base_sends p2 given
 
 mutual
-  pub base_refers : {w w2 : History} {r r2 : RunState} {pa : tree.Part} {oio : Result (Option ℕ) Stop}
-      → Refers w r pa oio w2 r2 → HasMemory oio → base w2 ≡ base w
+  pub base_refers : {w w2 : History} {r r2 : RunState} {pa : tree.Part} {oi : Result ℕ Stop} → Refers w r pa oi w2 r2
+      → HasMemory oi → base w2 ≡ base w
   base_refers Refers.refer_memory has = absurd (has refl)
-  base_refers (Refers.refer_faults _ p2) has = base_part_met p2 (stopped has)
-  base_refers (Refers.refer_exits _ p2) has = base_part_met p2 exited
+  base_refers (Refers.refer_stops _ p2) has = base_part_met p2 (stopped has)
   base_refers (Refers.refers _ p2 _) has = base_part_met p2 given
 
-  pub base_tells : {w w2 : History} {r r2 : RunState} {i : ℕ} {mg : SystemMessage} {oe : Result Ended Stop}
-      → Tells w r i mg oe w2 r2 → HasMemory oe → base w2 ≡ base w
+  pub base_tells : {w w2 : History} {r r2 : RunState} {i : ℕ} {mg : SystemMessage} {ot : Result (Unit {0}) Stop}
+      → Tells w r i mg ot w2 r2 → HasMemory ot → base w2 ≡ base w
   base_tells Tells.tell_memory has = absurd (has refl)
   base_tells (Tells.tells_nothing _) has = refl
   base_tells (Tells.tells _ _ p3) has = base_message p3 has
 
-  pub base_tells_all : {w w2 : History} {r r2 : RunState} {ms : List SystemMessage} {oe : Result Ended Stop}
-      → TellsAll w r ms oe w2 r2 → HasMemory oe → base w2 ≡ base w
+  pub base_tells_all : {w w2 : History} {r r2 : RunState} {ms : List SystemMessage} {ot : Result (Unit {0}) Stop}
+      → TellsAll w r ms ot w2 r2 → HasMemory ot → base w2 ≡ base w
   base_tells_all TellsAll.tell_all_memory has = absurd (has refl)
   base_tells_all (TellsAll.none_to_tell _) has = refl
   base_tells_all (TellsAll.tell_stops _ p2) has = base_tells p2 has
-  base_tells_all (TellsAll.tell_exits _ p2) has = base_tells p2 given
   base_tells_all (TellsAll.tells_on _ p2 p3) has = base_tells_all p3 has ∙ base_tells p2 given
 
-  pub base_clicks : {w w2 : History} {r r2 : RunState} {pa : tree.Part} {oe : Result Ended Stop}
-      → Clicks w r pa oe w2 r2 → HasMemory oe → base w2 ≡ base w
+  pub base_clicks : {w w2 : History} {r r2 : RunState} {pa : tree.Part} {ot : Result (Unit {0}) Stop}
+      → Clicks w r pa ot w2 r2 → HasMemory ot → base w2 ≡ base w
   base_clicks Clicks.click_memory has = absurd (has refl)
   base_clicks (Clicks.click_misses p1) has = base_refers p1 (stopped has)
-  base_clicks (Clicks.click_exits p1) has = base_refers p1 given
   base_clicks (Clicks.press_stops p1 p2) has = base_tells p2 has ∙ base_refers p1 given
-  base_clicks (Clicks.press_exits p1 p2) has = base_tells p2 given ∙ base_refers p1 given
   base_clicks (Clicks.part_goes p1 p2 _) has = base_tells p2 given ∙ base_refers p1 given
   base_clicks (Clicks.clicks p1 p2 _ p4) has = base_tells p4 has ∙ base_tells p2 given ∙ base_refers p1 given
 
-  pub base_types_over : {w w2 : History} {r r2 : RunState} {m : Referent} {t : List ℕ} {oe : Result Ended Stop}
-      → TypesOver w r m t oe w2 r2 → HasMemory oe → base w2 ≡ base w
+  pub base_types_over : {w w2 : History} {r r2 : RunState} {m : Referent} {t : List ℕ} {ot : Result (Unit {0}) Stop}
+      → TypesOver w r m t ot w2 r2 → HasMemory ot → base w2 ≡ base w
   base_types_over TypesOver.type_over_memory has = absurd (has refl)
   base_types_over (TypesOver.typed_field_goes _ _) has = refl
-  base_types_over (TypesOver.type_over_stops _ _ _ p4) has = base_edits p4 (stopped has)
+  base_types_over (TypesOver.type_over_stops _ _ _ p4) has = base_edits p4 has
   base_types_over (TypesOver.types_over _ _ _ p4 _ _ p7) has = base_tells p7 has ∙ base_edits p4 given
 
-  pub base_types_into : {w w2 : History} {r r2 : RunState} {t : List ℕ} {pa : tree.Part} {oe : Result Ended Stop}
-      → TypesInto w r t pa oe w2 r2 → HasMemory oe → base w2 ≡ base w
+  pub base_types_into : {w w2 : History} {r r2 : RunState} {t : List ℕ} {pa : tree.Part} {ot : Result (Unit {0}) Stop}
+      → TypesInto w r t pa ot w2 r2 → HasMemory ot → base w2 ≡ base w
   base_types_into TypesInto.type_memory has = absurd (has refl)
   base_types_into (TypesInto.type_misses p1) has = base_refers p1 (stopped has)
-  base_types_into (TypesInto.type_exits p1) has = base_refers p1 given
   base_types_into (TypesInto.field_open_stops p1 _ p3) has = base_tells p3 has ∙ base_refers p1 given
-  base_types_into (TypesInto.field_open_exits p1 _ p3) has = base_tells p3 given ∙ base_refers p1 given
-  base_types_into (TypesInto.types_into p1 _ _ p4 p5) has =
-      base_types_over p5 has ∙ base_tells p4 given ∙ base_refers p1 given
+  base_types_into (TypesInto.types_into p1 _ p3 _ p5) has =
+      base_types_over p5 has ∙ base_tells p3 given ∙ base_refers p1 given
 
-  pub base_acts : {w w2 : History} {r r2 : RunState} {ac : Action} {oe : Result Ended Stop} → Acts w r ac oe w2 r2
-      → HasMemory oe → base w2 ≡ base w
+  pub base_acts : {w w2 : History} {r r2 : RunState} {ac : Action} {ot : Result (Unit {0}) Stop} → Acts w r ac ot w2 r2
+      → HasMemory ot → base w2 ≡ base w
   base_acts (Acts.acts_by_lines _ p2) has = base_line p2 has
   base_acts (Acts.acts_by_opening _ p2) has = base_tells_all p2 has
   base_acts (Acts.acts_by_click _ p2) has = base_clicks p2 has

@@ -14,7 +14,7 @@ use Rattle.preservation.specs.Replaced.{replaced_systems, replaced_goes, replace
 use Rattle.preservation.specs.Replaced.{replaced_talks, replaced_calls_back, replaced_line, replaced_message}
 use Rattle.preservation.specs.Replaced.{replaced_refers, replaced_tells, replaced_tells_all, replaced_clicks}
 use Rattle.preservation.specs.Replaced.{replaced_types_over, replaced_types_into, replaced_acts}
-use Rattle.preservation.proofs.Ends.{given, stopped, faulted, exited}
+use Rattle.preservation.proofs.Ends.{given, stopped, faulted}
 use Rattle.preservation.proofs.Risen.{rises_nothing, rises_trans, rises_made, rises_turn, rises_edits, rises_assigns}
 use Rattle.preservation.proofs.Risen.{rises_declares_all, rises_sets, rises_adds}
 use Rattle.std.specs.Prelude.{ℕ, ℤ, List, Bool, Option, Result}
@@ -33,7 +33,6 @@ use Rattle.object_references.specs.declared.referent.Referent.{Referent}
 use Rattle.object_references.specs.declared.referent.Sought.{Sought}
 use Rattle.containers.specs.Places.{PlaceView}
 use Rattle.meaning.specs.declared.end.Conversed.{Conversed}
-use Rattle.meaning.specs.declared.end.Ended.{Ended}
 use Rattle.meaning.specs.declared.frame.Frame.{Frame}
 use Rattle.meaning.specs.declared.end.How.{How}
 use Rattle.meaning.specs.declared.end.Stop.{Stop}
@@ -462,73 +461,65 @@ mutual
   rises_calls_back (CallsBack.field_fails _ _ _ p4) has = rises_edits p4 (stopped has)
   rises_calls_back (CallsBack.field_set _ _ _ p4 _) has = rises_edits p4 given
 
-  pub rises_line : {w w2 : History} {r r2 : RunState} {ss : stm.Stmts} {oe : Result Ended Stop}
-      (v : Line w r ss oe w2 r2) → HasMemory oe → RisesBy (replaced_line v) w.start w2.start
+  pub rises_line : {w w2 : History} {r r2 : RunState} {ss : stm.Stmts} {ot : Result (Unit {0}) Stop}
+      (v : Line w r ss ot w2 r2) → HasMemory ot → RisesBy (replaced_line v) w.start w2.start
   rises_line Line.line_memory has = absurd (has refl)
-  rises_line (Line.line_faults _ p2) has = rises_block p2 (stopped has)
-  rises_line (Line.line_exits _ p2) has = rises_block p2 exited
-  rises_line (Line.line_ends _ p2) has = rises_block p2 given
+  rises_line (Line.line_stops _ p2) has = rises_block p2 (stopped has)
+  rises_line (Line.line _ p2) has = rises_block p2 given
 
   pub rises_message : {w w2 : History} {r r2 : RunState} {i : ℕ} {n : List ℕ} {vs : List (List ℕ)}
-      {oe : Result Ended Stop} (v : Message w r i n vs oe w2 r2) → HasMemory oe
+      {ot : Result (Unit {0}) Stop} (v : Message w r i n vs ot w2 r2) → HasMemory ot
       → RisesBy (replaced_message v) w.start w2.start
   rises_message Message.message_memory has = absurd (has refl)
-  rises_message (Message.message_faults _ p2) has = rises_sends p2 (stopped has)
-  rises_message (Message.message_exits _ p2) has = rises_sends p2 exited
-  rises_message (Message.message_ends _ p2) has = rises_sends p2 given
+  rises_message (Message.sent_alone_stops _ p2) has = rises_sends p2 (stopped has)
+  rises_message (Message.sent_alone _ p2) has = rises_sends p2 given
 
 mutual
-  pub rises_refers : {w w2 : History} {r r2 : RunState} {pa : tree.Part} {oio : Result (Option ℕ) Stop}
-      (v : Refers w r pa oio w2 r2) → HasMemory oio → RisesBy (replaced_refers v) w.start w2.start
+  pub rises_refers : {w w2 : History} {r r2 : RunState} {pa : tree.Part} {oi : Result ℕ Stop}
+      (v : Refers w r pa oi w2 r2) → HasMemory oi → RisesBy (replaced_refers v) w.start w2.start
   rises_refers Refers.refer_memory has = absurd (has refl)
-  rises_refers (Refers.refer_faults _ p2) has = rises_part_met p2 (stopped has)
-  rises_refers (Refers.refer_exits _ p2) has = rises_part_met p2 exited
+  rises_refers (Refers.refer_stops _ p2) has = rises_part_met p2 (stopped has)
   rises_refers (Refers.refers _ p2 _) has = rises_part_met p2 given
 
-  pub rises_tells : {w w2 : History} {r r2 : RunState} {i : ℕ} {mg : SystemMessage} {oe : Result Ended Stop}
-      (v : Tells w r i mg oe w2 r2) → HasMemory oe → RisesBy (replaced_tells v) w.start w2.start
+  pub rises_tells : {w w2 : History} {r r2 : RunState} {i : ℕ} {mg : SystemMessage} {ot : Result (Unit {0}) Stop}
+      (v : Tells w r i mg ot w2 r2) → HasMemory ot → RisesBy (replaced_tells v) w.start w2.start
   rises_tells Tells.tell_memory has = absurd (has refl)
   rises_tells (Tells.tells_nothing _) has = rises_nothing
   rises_tells (Tells.tells _ _ p3) has = rises_message p3 has
 
-  pub rises_tells_all : {w w2 : History} {r r2 : RunState} {ms : List SystemMessage} {oe : Result Ended Stop}
-      (v : TellsAll w r ms oe w2 r2) → HasMemory oe → RisesBy (replaced_tells_all v) w.start w2.start
+  pub rises_tells_all : {w w2 : History} {r r2 : RunState} {ms : List SystemMessage} {ot : Result (Unit {0}) Stop}
+      (v : TellsAll w r ms ot w2 r2) → HasMemory ot → RisesBy (replaced_tells_all v) w.start w2.start
   rises_tells_all TellsAll.tell_all_memory has = absurd (has refl)
   rises_tells_all (TellsAll.none_to_tell _) has = rises_nothing
   rises_tells_all (TellsAll.tell_stops _ p2) has = rises_tells p2 has
-  rises_tells_all (TellsAll.tell_exits _ p2) has = rises_tells p2 given
   rises_tells_all (TellsAll.tells_on _ p2 p3) has = rises_trans (rises_tells p2 given) (rises_tells_all p3 has)
 
-  pub rises_clicks : {w w2 : History} {r r2 : RunState} {pa : tree.Part} {oe : Result Ended Stop}
-      (v : Clicks w r pa oe w2 r2) → HasMemory oe → RisesBy (replaced_clicks v) w.start w2.start
+  pub rises_clicks : {w w2 : History} {r r2 : RunState} {pa : tree.Part} {ot : Result (Unit {0}) Stop}
+      (v : Clicks w r pa ot w2 r2) → HasMemory ot → RisesBy (replaced_clicks v) w.start w2.start
   rises_clicks Clicks.click_memory has = absurd (has refl)
   rises_clicks (Clicks.click_misses p1) has = rises_refers p1 (stopped has)
-  rises_clicks (Clicks.click_exits p1) has = rises_refers p1 given
   rises_clicks (Clicks.press_stops p1 p2) has = rises_trans (rises_refers p1 given) (rises_tells p2 has)
-  rises_clicks (Clicks.press_exits p1 p2) has = rises_trans (rises_refers p1 given) (rises_tells p2 given)
   rises_clicks (Clicks.part_goes p1 p2 _) has = rises_trans (rises_refers p1 given) (rises_tells p2 given)
   rises_clicks (Clicks.clicks p1 p2 _ p4) has =
       rises_trans (rises_refers p1 given) (rises_trans (rises_tells p2 given) (rises_tells p4 has))
 
-  pub rises_types_over : {w w2 : History} {r r2 : RunState} {m : Referent} {t : List ℕ} {oe : Result Ended Stop}
-      (v : TypesOver w r m t oe w2 r2) → HasMemory oe → RisesBy (replaced_types_over v) w.start w2.start
+  pub rises_types_over : {w w2 : History} {r r2 : RunState} {m : Referent} {t : List ℕ} {ot : Result (Unit {0}) Stop}
+      (v : TypesOver w r m t ot w2 r2) → HasMemory ot → RisesBy (replaced_types_over v) w.start w2.start
   rises_types_over TypesOver.type_over_memory has = absurd (has refl)
   rises_types_over (TypesOver.typed_field_goes _ _) has = rises_nothing
-  rises_types_over (TypesOver.type_over_stops _ _ _ p4) has = rises_edits p4 (stopped has)
+  rises_types_over (TypesOver.type_over_stops _ _ _ p4) has = rises_edits p4 has
   rises_types_over (TypesOver.types_over _ _ _ p4 _ _ p7) has = rises_trans (rises_edits p4 given) (rises_tells p7 has)
 
-  pub rises_types_into : {w w2 : History} {r r2 : RunState} {t : List ℕ} {pa : tree.Part} {oe : Result Ended Stop}
-      (v : TypesInto w r t pa oe w2 r2) → HasMemory oe → RisesBy (replaced_types_into v) w.start w2.start
+  pub rises_types_into : {w w2 : History} {r r2 : RunState} {t : List ℕ} {pa : tree.Part} {ot : Result (Unit {0}) Stop}
+      (v : TypesInto w r t pa ot w2 r2) → HasMemory ot → RisesBy (replaced_types_into v) w.start w2.start
   rises_types_into TypesInto.type_memory has = absurd (has refl)
   rises_types_into (TypesInto.type_misses p1) has = rises_refers p1 (stopped has)
-  rises_types_into (TypesInto.type_exits p1) has = rises_refers p1 given
   rises_types_into (TypesInto.field_open_stops p1 _ p3) has = rises_trans (rises_refers p1 given) (rises_tells p3 has)
-  rises_types_into (TypesInto.field_open_exits p1 _ p3) has = rises_trans (rises_refers p1 given) (rises_tells p3 given)
-  rises_types_into (TypesInto.types_into p1 _ _ p4 p5) has =
-      rises_trans (rises_refers p1 given) (rises_trans (rises_tells p4 given) (rises_types_over p5 has))
+  rises_types_into (TypesInto.types_into p1 _ p3 _ p5) has =
+      rises_trans (rises_refers p1 given) (rises_trans (rises_tells p3 given) (rises_types_over p5 has))
 
-  pub rises_acts : {w w2 : History} {r r2 : RunState} {ac : Action} {oe : Result Ended Stop} (v : Acts w r ac oe w2 r2)
-      → HasMemory oe → RisesBy (replaced_acts v) w.start w2.start
+  pub rises_acts : {w w2 : History} {r r2 : RunState} {ac : Action} {ot : Result (Unit {0}) Stop}
+      (v : Acts w r ac ot w2 r2) → HasMemory ot → RisesBy (replaced_acts v) w.start w2.start
   rises_acts (Acts.acts_by_lines _ p2) has = rises_line p2 has
   rises_acts (Acts.acts_by_opening _ p2) has = rises_tells_all p2 has
   rises_acts (Acts.acts_by_click _ p2) has = rises_clicks p2 has

@@ -2,7 +2,7 @@
 -- A run goes on: no step comes back, and what is shown and sent only grows.
 use Rattle.std.proofs.Common.{refl}
 use Rattle.preservation.specs.Laws.{HasMemory, GoesOn}
-use Rattle.preservation.proofs.Ends.{given, stopped, faulted, exited}
+use Rattle.preservation.proofs.Ends.{given, stopped, faulted}
 use Rattle.preservation.proofs.Going.{goes_nowhere, goes_trans, goes_by_step, goes_by_shows, goes_by_noted}
 use Rattle.preservation.proofs.Going.{goes_by_property, goes_by_ends, goes_by_returned}
 use Rattle.std.specs.Prelude.{ℕ, ℤ, List, Bool, Option, Result}
@@ -21,7 +21,6 @@ use Rattle.object_references.specs.declared.referent.Referent.{Referent}
 use Rattle.object_references.specs.declared.referent.Sought.{Sought}
 use Rattle.containers.specs.Places.{PlaceView}
 use Rattle.meaning.specs.declared.end.Conversed.{Conversed}
-use Rattle.meaning.specs.declared.end.Ended.{Ended}
 use Rattle.meaning.specs.declared.frame.Frame.{Frame}
 use Rattle.meaning.specs.declared.end.How.{How}
 use Rattle.meaning.specs.declared.end.Stop.{Stop}
@@ -427,72 +426,64 @@ mutual
   goes_calls_back (CallsBack.field_fails _ _ _ _) has = goes_nowhere
   goes_calls_back (CallsBack.field_set _ _ _ _ _) has = goes_nowhere
 
-  pub goes_line : {w w2 : History} {r r2 : RunState} {ss : stm.Stmts} {oe : Result Ended Stop} → Line w r ss oe w2 r2
-      → HasMemory oe → GoesOn r r2
+  pub goes_line : {w w2 : History} {r r2 : RunState} {ss : stm.Stmts} {ot : Result (Unit {0}) Stop}
+      → Line w r ss ot w2 r2 → HasMemory ot → GoesOn r r2
   goes_line Line.line_memory has = absurd (has refl)
-  goes_line (Line.line_faults _ p2) has = goes_block p2 (stopped has)
-  goes_line (Line.line_exits _ p2) has = goes_block p2 exited
-  goes_line (Line.line_ends _ p2) has = goes_block p2 given
+  goes_line (Line.line_stops _ p2) has = goes_block p2 (stopped has)
+  goes_line (Line.line _ p2) has = goes_block p2 given
 
   pub goes_message : {w w2 : History} {r r2 : RunState} {i : ℕ} {n : List ℕ} {vs : List (List ℕ)}
-      {oe : Result Ended Stop} → Message w r i n vs oe w2 r2 → HasMemory oe → GoesOn r r2
+      {ot : Result (Unit {0}) Stop} → Message w r i n vs ot w2 r2 → HasMemory ot → GoesOn r r2
   goes_message Message.message_memory has = absurd (has refl)
-  goes_message (Message.message_faults _ p2) has = goes_sends p2 (stopped has)
-  goes_message (Message.message_exits _ p2) has = goes_sends p2 exited
-  goes_message (Message.message_ends _ p2) has = goes_sends p2 given
+  goes_message (Message.sent_alone_stops _ p2) has = goes_sends p2 (stopped has)
+  goes_message (Message.sent_alone _ p2) has = goes_sends p2 given
 
 mutual
-  pub goes_refers : {w w2 : History} {r r2 : RunState} {pa : tree.Part} {oio : Result (Option ℕ) Stop}
-      → Refers w r pa oio w2 r2 → HasMemory oio → GoesOn r r2
+  pub goes_refers : {w w2 : History} {r r2 : RunState} {pa : tree.Part} {oi : Result ℕ Stop} → Refers w r pa oi w2 r2
+      → HasMemory oi → GoesOn r r2
   goes_refers Refers.refer_memory has = absurd (has refl)
-  goes_refers (Refers.refer_faults _ p2) has = goes_part_met p2 (stopped has)
-  goes_refers (Refers.refer_exits _ p2) has = goes_part_met p2 exited
+  goes_refers (Refers.refer_stops _ p2) has = goes_part_met p2 (stopped has)
   goes_refers (Refers.refers _ p2 _) has = goes_part_met p2 given
 
-  pub goes_tells : {w w2 : History} {r r2 : RunState} {i : ℕ} {mg : SystemMessage} {oe : Result Ended Stop}
-      → Tells w r i mg oe w2 r2 → HasMemory oe → GoesOn r r2
+  pub goes_tells : {w w2 : History} {r r2 : RunState} {i : ℕ} {mg : SystemMessage} {ot : Result (Unit {0}) Stop}
+      → Tells w r i mg ot w2 r2 → HasMemory ot → GoesOn r r2
   goes_tells Tells.tell_memory has = absurd (has refl)
   goes_tells (Tells.tells_nothing _) has = goes_nowhere
   goes_tells (Tells.tells _ _ p3) has = goes_message p3 has
 
-  pub goes_tells_all : {w w2 : History} {r r2 : RunState} {ms : List SystemMessage} {oe : Result Ended Stop}
-      → TellsAll w r ms oe w2 r2 → HasMemory oe → GoesOn r r2
+  pub goes_tells_all : {w w2 : History} {r r2 : RunState} {ms : List SystemMessage} {ot : Result (Unit {0}) Stop}
+      → TellsAll w r ms ot w2 r2 → HasMemory ot → GoesOn r r2
   goes_tells_all TellsAll.tell_all_memory has = absurd (has refl)
   goes_tells_all (TellsAll.none_to_tell _) has = goes_nowhere
   goes_tells_all (TellsAll.tell_stops _ p2) has = goes_tells p2 has
-  goes_tells_all (TellsAll.tell_exits _ p2) has = goes_tells p2 given
   goes_tells_all (TellsAll.tells_on _ p2 p3) has = goes_trans (goes_tells p2 given) (goes_tells_all p3 has)
 
-  pub goes_clicks : {w w2 : History} {r r2 : RunState} {pa : tree.Part} {oe : Result Ended Stop}
-      → Clicks w r pa oe w2 r2 → HasMemory oe → GoesOn r r2
+  pub goes_clicks : {w w2 : History} {r r2 : RunState} {pa : tree.Part} {ot : Result (Unit {0}) Stop}
+      → Clicks w r pa ot w2 r2 → HasMemory ot → GoesOn r r2
   goes_clicks Clicks.click_memory has = absurd (has refl)
   goes_clicks (Clicks.click_misses p1) has = goes_refers p1 (stopped has)
-  goes_clicks (Clicks.click_exits p1) has = goes_refers p1 given
   goes_clicks (Clicks.press_stops p1 p2) has = goes_trans (goes_refers p1 given) (goes_tells p2 has)
-  goes_clicks (Clicks.press_exits p1 p2) has = goes_trans (goes_refers p1 given) (goes_tells p2 given)
   goes_clicks (Clicks.part_goes p1 p2 _) has = goes_trans (goes_refers p1 given) (goes_tells p2 given)
   goes_clicks (Clicks.clicks p1 p2 _ p4) has =
       goes_trans (goes_refers p1 given) (goes_trans (goes_tells p2 given) (goes_tells p4 has))
 
-  pub goes_types_over : {w w2 : History} {r r2 : RunState} {m : Referent} {t : List ℕ} {oe : Result Ended Stop}
-      → TypesOver w r m t oe w2 r2 → HasMemory oe → GoesOn r r2
+  pub goes_types_over : {w w2 : History} {r r2 : RunState} {m : Referent} {t : List ℕ} {ot : Result (Unit {0}) Stop}
+      → TypesOver w r m t ot w2 r2 → HasMemory ot → GoesOn r r2
   goes_types_over TypesOver.type_over_memory has = absurd (has refl)
   goes_types_over (TypesOver.typed_field_goes _ _) has = goes_nowhere
   goes_types_over (TypesOver.type_over_stops _ _ _ _) has = goes_nowhere
   goes_types_over (TypesOver.types_over _ _ _ _ _ _ p7) has = goes_tells p7 has
 
-  pub goes_types_into : {w w2 : History} {r r2 : RunState} {t : List ℕ} {pa : tree.Part} {oe : Result Ended Stop}
-      → TypesInto w r t pa oe w2 r2 → HasMemory oe → GoesOn r r2
+  pub goes_types_into : {w w2 : History} {r r2 : RunState} {t : List ℕ} {pa : tree.Part} {ot : Result (Unit {0}) Stop}
+      → TypesInto w r t pa ot w2 r2 → HasMemory ot → GoesOn r r2
   goes_types_into TypesInto.type_memory has = absurd (has refl)
   goes_types_into (TypesInto.type_misses p1) has = goes_refers p1 (stopped has)
-  goes_types_into (TypesInto.type_exits p1) has = goes_refers p1 given
   goes_types_into (TypesInto.field_open_stops p1 _ p3) has = goes_trans (goes_refers p1 given) (goes_tells p3 has)
-  goes_types_into (TypesInto.field_open_exits p1 _ p3) has = goes_trans (goes_refers p1 given) (goes_tells p3 given)
-  goes_types_into (TypesInto.types_into p1 _ _ p4 p5) has =
-      goes_trans (goes_refers p1 given) (goes_trans (goes_tells p4 given) (goes_types_over p5 has))
+  goes_types_into (TypesInto.types_into p1 _ p3 _ p5) has =
+      goes_trans (goes_refers p1 given) (goes_trans (goes_tells p3 given) (goes_types_over p5 has))
 
-  pub goes_acts : {w w2 : History} {r r2 : RunState} {ac : Action} {oe : Result Ended Stop} → Acts w r ac oe w2 r2
-      → HasMemory oe → GoesOn r r2
+  pub goes_acts : {w w2 : History} {r r2 : RunState} {ac : Action} {ot : Result (Unit {0}) Stop} → Acts w r ac ot w2 r2
+      → HasMemory ot → GoesOn r r2
   goes_acts (Acts.acts_by_lines _ p2) has = goes_line p2 has
   goes_acts (Acts.acts_by_opening _ p2) has = goes_tells_all p2 has
   goes_acts (Acts.acts_by_click _ p2) has = goes_clicks p2 has

@@ -14,7 +14,7 @@ use Rattle.preservation.specs.Replaced.{replaced_systems, replaced_goes, replace
 use Rattle.preservation.specs.Replaced.{replaced_talks, replaced_calls_back, replaced_line, replaced_message}
 use Rattle.preservation.specs.Replaced.{replaced_refers, replaced_tells, replaced_tells_all, replaced_clicks}
 use Rattle.preservation.specs.Replaced.{replaced_types_over, replaced_types_into, replaced_acts}
-use Rattle.preservation.proofs.Ends.{given, stopped, faulted, exited}
+use Rattle.preservation.proofs.Ends.{given, stopped, faulted}
 use Rattle.meaning.specs.Places.{it_name}
 use Rattle.preservation.proofs.Placed.{placed_variable, placed, placed_at, placed_by_name, placed_part}
 use Rattle.preservation.proofs.StaysWhole.{whole_nothing, whole_trans, may_go, whole_made, whole_turn, whole_edits}
@@ -35,7 +35,6 @@ use Rattle.object_references.specs.declared.referent.Referent.{Referent}
 use Rattle.object_references.specs.declared.referent.Sought.{Sought}
 use Rattle.containers.specs.Places.{PlaceView}
 use Rattle.meaning.specs.declared.end.Conversed.{Conversed}
-use Rattle.meaning.specs.declared.end.Ended.{Ended}
 use Rattle.meaning.specs.declared.frame.Frame.{Frame}
 use Rattle.meaning.specs.declared.end.How.{How}
 use Rattle.meaning.specs.declared.end.Stop.{Stop}
@@ -468,74 +467,66 @@ mutual
   whole_calls_back (CallsBack.field_set {b = b} {n = n} {w = w} _ p2 _ p4 _) has =
       whole_edits (placed_by_name w.now b n p2) p4 given
 
-  pub whole_line : {w w2 : History} {r r2 : RunState} {ss : stm.Stmts} {oe : Result Ended Stop}
-      (v : Line w r ss oe w2 r2) → HasMemory oe → KeepsWhole (replaced_line v) w w2
+  pub whole_line : {w w2 : History} {r r2 : RunState} {ss : stm.Stmts} {ot : Result (Unit {0}) Stop}
+      (v : Line w r ss ot w2 r2) → HasMemory ot → KeepsWhole (replaced_line v) w w2
   whole_line Line.line_memory has = absurd (has refl)
-  whole_line (Line.line_faults _ p2) has = whole_block p2 (stopped has)
-  whole_line (Line.line_exits _ p2) has = whole_block p2 exited
-  whole_line (Line.line_ends _ p2) has = whole_block p2 given
+  whole_line (Line.line_stops _ p2) has = whole_block p2 (stopped has)
+  whole_line (Line.line _ p2) has = whole_block p2 given
 
   pub whole_message : {w w2 : History} {r r2 : RunState} {i : ℕ} {n : List ℕ} {vs : List (List ℕ)}
-      {oe : Result Ended Stop} (v : Message w r i n vs oe w2 r2) → HasMemory oe → KeepsWhole (replaced_message v) w w2
+      {ot : Result (Unit {0}) Stop} (v : Message w r i n vs ot w2 r2) → HasMemory ot
+      → KeepsWhole (replaced_message v) w w2
   whole_message Message.message_memory has = absurd (has refl)
-  whole_message (Message.message_faults _ p2) has = whole_sends p2 (stopped has)
-  whole_message (Message.message_exits _ p2) has = whole_sends p2 exited
-  whole_message (Message.message_ends _ p2) has = whole_sends p2 given
+  whole_message (Message.sent_alone_stops _ p2) has = whole_sends p2 (stopped has)
+  whole_message (Message.sent_alone _ p2) has = whole_sends p2 given
 
 mutual
-  pub whole_refers : {w w2 : History} {r r2 : RunState} {pa : tree.Part} {oio : Result (Option ℕ) Stop}
-      (v : Refers w r pa oio w2 r2) → HasMemory oio → KeepsWhole (replaced_refers v) w w2
+  pub whole_refers : {w w2 : History} {r r2 : RunState} {pa : tree.Part} {oi : Result ℕ Stop}
+      (v : Refers w r pa oi w2 r2) → HasMemory oi → KeepsWhole (replaced_refers v) w w2
   whole_refers Refers.refer_memory has = absurd (has refl)
-  whole_refers (Refers.refer_faults _ p2) has = whole_part_met p2 (stopped has)
-  whole_refers (Refers.refer_exits _ p2) has = whole_part_met p2 exited
+  whole_refers (Refers.refer_stops _ p2) has = whole_part_met p2 (stopped has)
   whole_refers (Refers.refers _ p2 _) has = whole_part_met p2 given
 
-  pub whole_tells : {w w2 : History} {r r2 : RunState} {i : ℕ} {mg : SystemMessage} {oe : Result Ended Stop}
-      (v : Tells w r i mg oe w2 r2) → HasMemory oe → KeepsWhole (replaced_tells v) w w2
+  pub whole_tells : {w w2 : History} {r r2 : RunState} {i : ℕ} {mg : SystemMessage} {ot : Result (Unit {0}) Stop}
+      (v : Tells w r i mg ot w2 r2) → HasMemory ot → KeepsWhole (replaced_tells v) w w2
   whole_tells Tells.tell_memory has = absurd (has refl)
   whole_tells (Tells.tells_nothing _) has = whole_nothing
   whole_tells (Tells.tells _ _ p3) has = whole_message p3 has
 
-  pub whole_tells_all : {w w2 : History} {r r2 : RunState} {ms : List SystemMessage} {oe : Result Ended Stop}
-      (v : TellsAll w r ms oe w2 r2) → HasMemory oe → KeepsWhole (replaced_tells_all v) w w2
+  pub whole_tells_all : {w w2 : History} {r r2 : RunState} {ms : List SystemMessage} {ot : Result (Unit {0}) Stop}
+      (v : TellsAll w r ms ot w2 r2) → HasMemory ot → KeepsWhole (replaced_tells_all v) w w2
   whole_tells_all TellsAll.tell_all_memory has = absurd (has refl)
   whole_tells_all (TellsAll.none_to_tell _) has = whole_nothing
   whole_tells_all (TellsAll.tell_stops _ p2) has = whole_tells p2 has
-  whole_tells_all (TellsAll.tell_exits _ p2) has = whole_tells p2 given
   whole_tells_all (TellsAll.tells_on _ p2 p3) has = whole_trans (whole_tells p2 given) (whole_tells_all p3 has)
 
-  pub whole_clicks : {w w2 : History} {r r2 : RunState} {pa : tree.Part} {oe : Result Ended Stop}
-      (v : Clicks w r pa oe w2 r2) → HasMemory oe → KeepsWhole (replaced_clicks v) w w2
+  pub whole_clicks : {w w2 : History} {r r2 : RunState} {pa : tree.Part} {ot : Result (Unit {0}) Stop}
+      (v : Clicks w r pa ot w2 r2) → HasMemory ot → KeepsWhole (replaced_clicks v) w w2
   whole_clicks Clicks.click_memory has = absurd (has refl)
   whole_clicks (Clicks.click_misses p1) has = whole_refers p1 (stopped has)
-  whole_clicks (Clicks.click_exits p1) has = whole_refers p1 given
   whole_clicks (Clicks.press_stops p1 p2) has = whole_trans (whole_refers p1 given) (whole_tells p2 has)
-  whole_clicks (Clicks.press_exits p1 p2) has = whole_trans (whole_refers p1 given) (whole_tells p2 given)
   whole_clicks (Clicks.part_goes p1 p2 _) has = whole_trans (whole_refers p1 given) (whole_tells p2 given)
   whole_clicks (Clicks.clicks p1 p2 _ p4) has =
       whole_trans (whole_refers p1 given) (whole_trans (whole_tells p2 given) (whole_tells p4 has))
 
-  pub whole_types_over : {w w2 : History} {r r2 : RunState} {m : Referent} {t : List ℕ} {oe : Result Ended Stop}
-      (v : TypesOver w r m t oe w2 r2) → HasMemory oe → KeepsWhole (replaced_types_over v) w w2
+  pub whole_types_over : {w w2 : History} {r r2 : RunState} {m : Referent} {t : List ℕ} {ot : Result (Unit {0}) Stop}
+      (v : TypesOver w r m t ot w2 r2) → HasMemory ot → KeepsWhole (replaced_types_over v) w w2
   whole_types_over TypesOver.type_over_memory has = absurd (has refl)
   whole_types_over (TypesOver.typed_field_goes _ _) has = whole_nothing
-  whole_types_over (TypesOver.type_over_stops {w = w} {m = m} _ _ p3 p4) has =
-      whole_edits (placed_at w.now m p3) p4 (stopped has)
+  whole_types_over (TypesOver.type_over_stops {w = w} {m = m} _ _ p3 p4) has = whole_edits (placed_at w.now m p3) p4 has
   whole_types_over (TypesOver.types_over {w = w} {m = m} _ _ p3 p4 _ _ p7) has =
       whole_trans (whole_edits (placed_at w.now m p3) p4 given) (whole_tells p7 has)
 
-  pub whole_types_into : {w w2 : History} {r r2 : RunState} {t : List ℕ} {pa : tree.Part} {oe : Result Ended Stop}
-      (v : TypesInto w r t pa oe w2 r2) → HasMemory oe → KeepsWhole (replaced_types_into v) w w2
+  pub whole_types_into : {w w2 : History} {r r2 : RunState} {t : List ℕ} {pa : tree.Part} {ot : Result (Unit {0}) Stop}
+      (v : TypesInto w r t pa ot w2 r2) → HasMemory ot → KeepsWhole (replaced_types_into v) w w2
   whole_types_into TypesInto.type_memory has = absurd (has refl)
   whole_types_into (TypesInto.type_misses p1) has = whole_refers p1 (stopped has)
-  whole_types_into (TypesInto.type_exits p1) has = whole_refers p1 given
   whole_types_into (TypesInto.field_open_stops p1 _ p3) has = whole_trans (whole_refers p1 given) (whole_tells p3 has)
-  whole_types_into (TypesInto.field_open_exits p1 _ p3) has = whole_trans (whole_refers p1 given) (whole_tells p3 given)
-  whole_types_into (TypesInto.types_into p1 _ _ p4 p5) has =
-      whole_trans (whole_refers p1 given) (whole_trans (whole_tells p4 given) (whole_types_over p5 has))
+  whole_types_into (TypesInto.types_into p1 _ p3 _ p5) has =
+      whole_trans (whole_refers p1 given) (whole_trans (whole_tells p3 given) (whole_types_over p5 has))
 
-  pub whole_acts : {w w2 : History} {r r2 : RunState} {ac : Action} {oe : Result Ended Stop} (v : Acts w r ac oe w2 r2)
-      → HasMemory oe → KeepsWhole (replaced_acts v) w w2
+  pub whole_acts : {w w2 : History} {r r2 : RunState} {ac : Action} {ot : Result (Unit {0}) Stop}
+      (v : Acts w r ac ot w2 r2) → HasMemory ot → KeepsWhole (replaced_acts v) w w2
   whole_acts (Acts.acts_by_lines _ p2) has = whole_line p2 has
   whole_acts (Acts.acts_by_opening _ p2) has = whole_tells_all p2 has
   whole_acts (Acts.acts_by_click _ p2) has = whole_clicks p2 has

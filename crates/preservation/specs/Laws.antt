@@ -6,7 +6,6 @@ use Rattle.journal_entries.specs.Replaced.{Replacement, places_of}
 use Rattle.journal_entries.specs.Trails.{Mark, IsOnce, IsShort, different}
 use Rattle.change_journal.specs.History.{History}
 use Rattle.containers.specs.Base.{base}
-use Rattle.meaning.specs.declared.end.Ended.{Ended}
 use Rattle.meaning.specs.declared.end.Stop.{Stop}
 use Rattle.meaning.specs.declared.end.Stop.TheVariants.{Memory}
 use Rattle.meaning.specs.declared.frame.Frame.{Frame}
@@ -36,45 +35,45 @@ pub record GoesOn (old new : RunState) : Type 0 where
 
 abbrev pub LinesKeepBases : Type 0
 LinesKeepBases =
-    (w w2 : History) (r r2 : RunState) (ss : stm.Stmts) (o : Result Ended Stop) →
+    (w w2 : History) (r r2 : RunState) (ss : stm.Stmts) (o : Result (Unit {0}) Stop) →
     Line w r ss o w2 r2 → HasMemory o → base w2 ≡ base w
 
 abbrev pub LinesRise : Type 0
 LinesRise =
-    (w w2 : History) (r r2 : RunState) (ss : stm.Stmts) (o : Result Ended Stop) (line : Line w r ss o w2 r2) →
+    (w w2 : History) (r r2 : RunState) (ss : stm.Stmts) (o : Result (Unit {0}) Stop) (line : Line w r ss o w2 r2) →
     HasMemory o → RisesBy (replaced_line line) w.start w2.start
 
 abbrev pub LinesGoOn : Type 0
 LinesGoOn =
-    (w w2 : History) (r r2 : RunState) (ss : stm.Stmts) (o : Result Ended Stop) →
+    (w w2 : History) (r r2 : RunState) (ss : stm.Stmts) (o : Result (Unit {0}) Stop) →
     Line w r ss o w2 r2 → HasMemory o → GoesOn r r2
 
 abbrev pub LinesStayWhole : Type 0
 LinesStayWhole =
-    (w w2 : History) (r r2 : RunState) (ss : stm.Stmts) (o : Result Ended Stop) (line : Line w r ss o w2 r2) →
+    (w w2 : History) (r r2 : RunState) (ss : stm.Stmts) (o : Result (Unit {0}) Stop) (line : Line w r ss o w2 r2) →
     HasMemory o → KeepsWhole (replaced_line line) w w2
 
 -- ---- a message that is sent by itself
 
 abbrev pub MessagesKeepBases : Type 0
 MessagesKeepBases =
-    (w w2 : History) (r r2 : RunState) (i : ℕ) (n : List ℕ) (vs : List (List ℕ)) (o : Result Ended Stop) →
+    (w w2 : History) (r r2 : RunState) (i : ℕ) (n : List ℕ) (vs : List (List ℕ)) (o : Result (Unit {0}) Stop) →
     Message w r i n vs o w2 r2 → HasMemory o → base w2 ≡ base w
 
 abbrev pub MessagesRise : Type 0
 MessagesRise =
-    (w w2 : History) (r r2 : RunState) (i : ℕ) (n : List ℕ) (vs : List (List ℕ)) (o : Result Ended Stop)
+    (w w2 : History) (r r2 : RunState) (i : ℕ) (n : List ℕ) (vs : List (List ℕ)) (o : Result (Unit {0}) Stop)
     (message : Message w r i n vs o w2 r2) →
     HasMemory o → RisesBy (replaced_message message) w.start w2.start
 
 abbrev pub MessagesGoOn : Type 0
 MessagesGoOn =
-    (w w2 : History) (r r2 : RunState) (i : ℕ) (n : List ℕ) (vs : List (List ℕ)) (o : Result Ended Stop) →
+    (w w2 : History) (r r2 : RunState) (i : ℕ) (n : List ℕ) (vs : List (List ℕ)) (o : Result (Unit {0}) Stop) →
     Message w r i n vs o w2 r2 → HasMemory o → GoesOn r r2
 
 abbrev pub MessagesStayWhole : Type 0
 MessagesStayWhole =
-    (w w2 : History) (r r2 : RunState) (i : ℕ) (n : List ℕ) (vs : List (List ℕ)) (o : Result Ended Stop)
+    (w w2 : History) (r r2 : RunState) (i : ℕ) (n : List ℕ) (vs : List (List ℕ)) (o : Result (Unit {0}) Stop)
     (message : Message w r i n vs o w2 r2) →
     HasMemory o → KeepsWhole (replaced_message message) w w2
 
@@ -82,22 +81,22 @@ MessagesStayWhole =
 
 abbrev pub ActionsKeepBases : Type 0
 ActionsKeepBases =
-    (w w2 : History) (r r2 : RunState) (ac : Action) (o : Result Ended Stop) →
+    (w w2 : History) (r r2 : RunState) (ac : Action) (o : Result (Unit {0}) Stop) →
     Acts w r ac o w2 r2 → HasMemory o → base w2 ≡ base w
 
 abbrev pub ActionsRise : Type 0
 ActionsRise =
-    (w w2 : History) (r r2 : RunState) (ac : Action) (o : Result Ended Stop) (acts : Acts w r ac o w2 r2) →
+    (w w2 : History) (r r2 : RunState) (ac : Action) (o : Result (Unit {0}) Stop) (acts : Acts w r ac o w2 r2) →
     HasMemory o → RisesBy (replaced_acts acts) w.start w2.start
 
 abbrev pub ActionsGoOn : Type 0
 ActionsGoOn =
-    (w w2 : History) (r r2 : RunState) (ac : Action) (o : Result Ended Stop) →
+    (w w2 : History) (r r2 : RunState) (ac : Action) (o : Result (Unit {0}) Stop) →
     Acts w r ac o w2 r2 → HasMemory o → GoesOn r r2
 
 abbrev pub ActionsStayWhole : Type 0
 ActionsStayWhole =
-    (w w2 : History) (r r2 : RunState) (ac : Action) (o : Result Ended Stop) (acts : Acts w r ac o w2 r2) →
+    (w w2 : History) (r r2 : RunState) (ac : Action) (o : Result (Unit {0}) Stop) (acts : Acts w r ac o w2 r2) →
     HasMemory o → KeepsWhole (replaced_acts acts) w w2
 
 -- ---- the reference of a dot line

@@ -20,7 +20,6 @@ use Rattle.object_references.specs.declared.referent.Referent.{Referent}
 use Rattle.object_references.specs.declared.referent.Sought.{Sought}
 use Rattle.containers.specs.Places.{PlaceView}
 use Rattle.meaning.specs.declared.end.Conversed.{Conversed}
-use Rattle.meaning.specs.declared.end.Ended.{Ended}
 use Rattle.meaning.specs.declared.frame.Frame.{Frame}
 use Rattle.meaning.specs.declared.end.How.{How}
 use Rattle.meaning.specs.declared.end.Stop.{Stop}
@@ -415,71 +414,63 @@ abbrev mutual
   replaced_calls_back (CallsBack.field_fails _ _ _ p4) = replaced_edits p4
   replaced_calls_back (CallsBack.field_set _ _ _ p4 _) = replaced_edits p4
 
-  pub replaced_line : {w w2 : History} {r r2 : RunState} {ss : stm.Stmts} {oe : Result Ended Stop}
-      → Line w r ss oe w2 r2 → List Replacement
+  pub replaced_line : {w w2 : History} {r r2 : RunState} {ss : stm.Stmts} {ot : Result (Unit {0}) Stop}
+      → Line w r ss ot w2 r2 → List Replacement
   replaced_line Line.line_memory = []
-  replaced_line (Line.line_faults _ p2) = replaced_block p2
-  replaced_line (Line.line_exits _ p2) = replaced_block p2
-  replaced_line (Line.line_ends _ p2) = replaced_block p2
+  replaced_line (Line.line_stops _ p2) = replaced_block p2
+  replaced_line (Line.line _ p2) = replaced_block p2
 
   pub replaced_message : {w w2 : History} {r r2 : RunState} {i : ℕ} {n : List ℕ} {vs : List (List ℕ)}
-      {oe : Result Ended Stop} → Message w r i n vs oe w2 r2 → List Replacement
+      {ot : Result (Unit {0}) Stop} → Message w r i n vs ot w2 r2 → List Replacement
   replaced_message Message.message_memory = []
-  replaced_message (Message.message_faults _ p2) = replaced_sends p2
-  replaced_message (Message.message_exits _ p2) = replaced_sends p2
-  replaced_message (Message.message_ends _ p2) = replaced_sends p2
+  replaced_message (Message.sent_alone_stops _ p2) = replaced_sends p2
+  replaced_message (Message.sent_alone _ p2) = replaced_sends p2
 
 abbrev mutual
-  pub replaced_refers : {w w2 : History} {r r2 : RunState} {pa : tree.Part} {oio : Result (Option ℕ) Stop}
-      → Refers w r pa oio w2 r2 → List Replacement
+  pub replaced_refers : {w w2 : History} {r r2 : RunState} {pa : tree.Part} {oi : Result ℕ Stop}
+      → Refers w r pa oi w2 r2 → List Replacement
   replaced_refers Refers.refer_memory = []
-  replaced_refers (Refers.refer_faults _ p2) = replaced_part_met p2
-  replaced_refers (Refers.refer_exits _ p2) = replaced_part_met p2
+  replaced_refers (Refers.refer_stops _ p2) = replaced_part_met p2
   replaced_refers (Refers.refers _ p2 _) = replaced_part_met p2
 
-  pub replaced_tells : {w w2 : History} {r r2 : RunState} {i : ℕ} {mg : SystemMessage} {oe : Result Ended Stop}
-      → Tells w r i mg oe w2 r2 → List Replacement
+  pub replaced_tells : {w w2 : History} {r r2 : RunState} {i : ℕ} {mg : SystemMessage} {ot : Result (Unit {0}) Stop}
+      → Tells w r i mg ot w2 r2 → List Replacement
   replaced_tells Tells.tell_memory = []
   replaced_tells (Tells.tells_nothing _) = []
   replaced_tells (Tells.tells _ _ p3) = replaced_message p3
 
-  pub replaced_tells_all : {w w2 : History} {r r2 : RunState} {ms : List SystemMessage} {oe : Result Ended Stop}
-      → TellsAll w r ms oe w2 r2 → List Replacement
+  pub replaced_tells_all : {w w2 : History} {r r2 : RunState} {ms : List SystemMessage} {ot : Result (Unit {0}) Stop}
+      → TellsAll w r ms ot w2 r2 → List Replacement
   replaced_tells_all TellsAll.tell_all_memory = []
   replaced_tells_all (TellsAll.none_to_tell _) = []
   replaced_tells_all (TellsAll.tell_stops _ p2) = replaced_tells p2
-  replaced_tells_all (TellsAll.tell_exits _ p2) = replaced_tells p2
   replaced_tells_all (TellsAll.tells_on _ p2 p3) = replaced_tells p2 ++ replaced_tells_all p3
 
-  pub replaced_clicks : {w w2 : History} {r r2 : RunState} {pa : tree.Part} {oe : Result Ended Stop}
-      → Clicks w r pa oe w2 r2 → List Replacement
+  pub replaced_clicks : {w w2 : History} {r r2 : RunState} {pa : tree.Part} {ot : Result (Unit {0}) Stop}
+      → Clicks w r pa ot w2 r2 → List Replacement
   replaced_clicks Clicks.click_memory = []
   replaced_clicks (Clicks.click_misses p1) = replaced_refers p1
-  replaced_clicks (Clicks.click_exits p1) = replaced_refers p1
   replaced_clicks (Clicks.press_stops p1 p2) = replaced_refers p1 ++ replaced_tells p2
-  replaced_clicks (Clicks.press_exits p1 p2) = replaced_refers p1 ++ replaced_tells p2
   replaced_clicks (Clicks.part_goes p1 p2 _) = replaced_refers p1 ++ replaced_tells p2
   replaced_clicks (Clicks.clicks p1 p2 _ p4) = replaced_refers p1 ++ (replaced_tells p2 ++ replaced_tells p4)
 
-  pub replaced_types_over : {w w2 : History} {r r2 : RunState} {m : Referent} {t : List ℕ} {oe : Result Ended Stop}
-      → TypesOver w r m t oe w2 r2 → List Replacement
+  pub replaced_types_over : {w w2 : History} {r r2 : RunState} {m : Referent} {t : List ℕ} {ot : Result (Unit {0}) Stop}
+      → TypesOver w r m t ot w2 r2 → List Replacement
   replaced_types_over TypesOver.type_over_memory = []
   replaced_types_over (TypesOver.typed_field_goes _ _) = []
   replaced_types_over (TypesOver.type_over_stops _ _ _ p4) = replaced_edits p4
   replaced_types_over (TypesOver.types_over _ _ _ p4 _ _ p7) = replaced_edits p4 ++ replaced_tells p7
 
-  pub replaced_types_into : {w w2 : History} {r r2 : RunState} {t : List ℕ} {pa : tree.Part} {oe : Result Ended Stop}
-      → TypesInto w r t pa oe w2 r2 → List Replacement
+  pub replaced_types_into : {w w2 : History} {r r2 : RunState} {t : List ℕ} {pa : tree.Part}
+      {ot : Result (Unit {0}) Stop} → TypesInto w r t pa ot w2 r2 → List Replacement
   replaced_types_into TypesInto.type_memory = []
   replaced_types_into (TypesInto.type_misses p1) = replaced_refers p1
-  replaced_types_into (TypesInto.type_exits p1) = replaced_refers p1
   replaced_types_into (TypesInto.field_open_stops p1 _ p3) = replaced_refers p1 ++ replaced_tells p3
-  replaced_types_into (TypesInto.field_open_exits p1 _ p3) = replaced_refers p1 ++ replaced_tells p3
-  replaced_types_into (TypesInto.types_into p1 _ _ p4 p5) =
-      replaced_refers p1 ++ (replaced_tells p4 ++ replaced_types_over p5)
+  replaced_types_into (TypesInto.types_into p1 _ p3 _ p5) =
+      replaced_refers p1 ++ (replaced_tells p3 ++ replaced_types_over p5)
 
-  pub replaced_acts : {w w2 : History} {r r2 : RunState} {ac : Action} {oe : Result Ended Stop} → Acts w r ac oe w2 r2
-      → List Replacement
+  pub replaced_acts : {w w2 : History} {r r2 : RunState} {ac : Action} {ot : Result (Unit {0}) Stop}
+      → Acts w r ac ot w2 r2 → List Replacement
   replaced_acts (Acts.acts_by_lines _ p2) = replaced_line p2
   replaced_acts (Acts.acts_by_opening _ p2) = replaced_tells_all p2
   replaced_acts (Acts.acts_by_click _ p2) = replaced_clicks p2

@@ -10,6 +10,8 @@ use Rattle.meaning.specs.State.{RunState, fresh_run}
 use Rattle.meaning.specs.Actions.{Action}
 use Rattle.meaning.specs.Meaning.{Acts}
 use Rattle.meaning.specs.declared.end.Ended.{Ended}
+use Rattle.meaning.specs.declared.end.Ended.TheVariants.{Done, Exited}
+use Rattle.meaning.specs.Ends.{end_of}
 use Rattle.meaning.specs.declared.end.Stop.{Stop}
 use Rattle.preservation.specs.Laws.{HasMemory}
 use Rattle.preservation.specs.Replaced.{replaced_acts}
@@ -20,6 +22,7 @@ use Rattle.session.specs.Meaning.{ending_of, reply_of}
 use Rattle.session.specs.Replies.{refused}
 use Rattle.session.specs.TakesLine.{Adds, Does}
 use Rattle.session.specs.declared.reply.Ending.{Ending}
+use Rattle.session.specs.declared.reply.Ending.TheVariants as endings
 use Rattle.session.specs.declared.reply.Refusal.TheVariants.{FieldLocked}
 use Rattle.session.specs.declared.reply.Reply.{Reply}
 use Rattle.user_actions.specs.Views.{ActionEnds}
@@ -53,12 +56,12 @@ still_open old w number keeps = is_open w (subst (λ b. IsSome b.start) (sym kee
 
 -- ---- a command that ends
 
-has_memory : (end : Result Ended Stop) (ending : Ending) → ending_of end ≡ Some ending → HasMemory end
+has_memory : (end : Result (Unit {0}) Stop) (ending : Ending) → ending_of end ≡ Some ending → HasMemory end
 has_memory end ending is = λ out. let none : None ≡ Some ending = sym (ap ending_of out) ∙ is in cc
 
 -- what it adds
-pub adds : (steps number : ℕ) (does : Action) (old w new : History) (run : RunState) (end : Result Ended Stop)
-    (ending : Ending)
+pub adds : (steps number : ℕ) (does : Action) (old w new : History) (run : RunState)
+    (end : Result (Unit {0}) Stop) (ending : Ending)
     → Acts (begun old number) (fresh_run steps) does end w run → base w ≡ base (begun old number)
     → ending_of end ≡ Some ending → IfSome w.start (λ o. IsOnce o.trail) → new ≡ committed w
     → Adds steps does number old (reply_of run ending) new
@@ -101,13 +104,18 @@ given_back old w new number keeps closed joined =
 
 -- ---- what a user does
 
+-- `exit to HyperCard` is no fault
+pub ends_well : (ended : Ended) → ending_of (end_of (Ok ended)) ≡ Some endings.Ok
+ends_well Done = refl
+ends_well Exited = refl
+
 -- how an action ends that isn't kept out
 abbrev pub some_end : Result Ended Stop → Result (Option Ended) Stop
 some_end (Ok ended) = Ok (Some ended)
 some_end (Err stop) = Err stop
 
 acted : (w r2 : History) (r r3 : RunState) (does : Action) (end : Result Ended Stop)
-    → ActionEnds w r does (some_end end) r2 r3 → Acts w r does end r2 r3
+    → ActionEnds w r does (some_end end) r2 r3 → Acts w r does (end_of end) r2 r3
 acted w r2 r r3 does (Ok ended) means = means
 acted w r2 r r3 does (Err stop) means = means
 
@@ -124,10 +132,10 @@ module _ (steps number : ℕ) (does : Action) (old w0 w : History) (run0 run : R
   kept_base = keeps ∙ ap base begins
 
   pub finishes : (end : Result Ended Stop) (ending : Ending) (reply : Reply) (new : History) → o ≡ some_end end
-      → ending_of end ≡ Some ending → reply ≡ reply_of run ending
+      → ending_of (end_of end) ≡ Some ending → reply ≡ reply_of run ending
       → IfSome w.start (λ o. IsOnce o.trail) → new ≡ committed w → Does steps does number old reply new
   finishes end ending reply new is ends told once joined =
-      let added : Adds steps does number old (reply_of run ending) new = adds steps number does old w new run end ending
+      let added : Adds steps does number old (reply_of run ending) new = adds steps number does old w new run (end_of end) ending
       (acted (begun old number) w (fresh_run steps) run does end (from_here (some_end end) is)) kept_base ends once
       joined in
       inl (subst (λ (r : Reply). Adds steps does number old r new) (sym told) added)

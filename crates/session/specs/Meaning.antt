@@ -5,7 +5,6 @@ use Rattle.change_journal.specs.History.{History}
 use Rattle.meaning.specs.State.{RunState, fresh_run}
 use Rattle.meaning.specs.Actions.{Action}
 use Rattle.meaning.specs.Meaning.{Acts}
-use Rattle.meaning.specs.declared.end.Ended.{Ended}
 use Rattle.meaning.specs.declared.end.Stop.{Stop}
 use Rattle.meaning.specs.declared.end.Stop.TheVariants as stop
 use Rattle.session.specs.declared.reply.Ending.{Ending}
@@ -14,8 +13,8 @@ use Rattle.session.specs.declared.reply.Reply.{Reply}
 use Rattle.meaning.specs.Locked.{MeetsLock}
 
 -- How a command is answered that ended so: `exit to HyperCard` is no fault. One that is out of memory isn't a fresh command.
-abbrev pub ending_of : Result Ended Stop → Option Ending
-ending_of (Ok ended) = Some endings.Ok
+abbrev pub ending_of : Result (Unit {0}) Stop → Option Ending
+ending_of (Ok _) = Some endings.Ok
 ending_of (Err stop.Exited) = Some endings.Ok
 ending_of (Err (stop.Fault fault)) = Some (endings.Fault fault)
 ending_of (Err stop.Memory) = None
@@ -28,7 +27,7 @@ reply_of run ending = record { shown = run.shown; sent = run.sent; ending = endi
 -- and how it ended.
 pub record Runs (old : History) (steps : ℕ) (does : Action) (reply : Reply) (new : History) : Type 0 where
   pub run : RunState
-  pub end : Result Ended Stop
+  pub end : Result (Unit {0}) Stop
   pub means : Acts old (fresh_run steps) does end new run
   pub ending : Ending
   pub ends : ending_of end ≡ Some ending

@@ -7,8 +7,6 @@ use Rattle.ht_values.specs.declared.fault.Fault.{Fault}
 use Rattle.ht_values.specs.declared.fault.Fault.TheVariants.{NoSuchObject}
 use Rattle.change_journal.specs.History.{Open, History}
 use Rattle.object_references.specs.declared.referent.Referent.{Referent}
-use Rattle.meaning.specs.declared.end.Ended.{Ended}
-use Rattle.meaning.specs.declared.end.Ended.TheVariants.{Done as DoneEnd, Exited as ExitedEnd}
 use Rattle.meaning.specs.declared.end.How.{How}
 use Rattle.meaning.specs.declared.end.How.TheVariants.{Next, ExitRepeat, NextRepeat, Exit, Pass, Returns}
 use Rattle.meaning.specs.declared.end.Stop.{Stop}
@@ -166,44 +164,3 @@ there some none (has (Err Exited) w r has_memory k h) is isnt stops = has (Err E
     (stops Exited w r (λ e. cc) h)
 there some none (has (Err (Faults NoSuchObject)) w r has_memory k h) is isnt stops = ok _ k (isnt w r h)
 there some none (has (Err (Faults n)) w r has_memory k h) is isnt stops = fault _ k (stops (Faults n) w r (λ e. cc) h)
-
--- ---- ends of commands
-
-pub lines_end : {A : Type 0} {n : ℕ} {P : Result A Stop → History → RunState → Frame → Type 0}
-    {Q : Result Ended Stop → History → RunState → Type 0} → HasRun n P
-    → ((fa : Fault) (w : History) (r : RunState) (f : Frame) → P (Err (Faults fa)) w r f → Q (Err (Faults fa)) w r) →
-    ((w : History) (r : RunState) (f : Frame) → P (Err Exited) w r f → Q (Ok ExitedEnd) w r)
-    → ((a : A) (w : History) (r : RunState) (f : Frame) → P (Ok a) w r f → Q (Ok DoneEnd) w r) → Has n Q
-lines_end (has_run (Ok a) w r f has_memory k h) faults exits ends = ok _ k (ends a w r f h)
-lines_end (has_run (Err (Faults fa)) w r f has_memory k h) faults exits ends = fault _ k (faults fa w r f h)
-lines_end (has_run (Err Exited) w r f has_memory k h) faults exits ends = ok _ k (exits w r f h)
-lines_end (has_run (Err Memory) w r f has_memory k h) faults exits ends = absurd (has_memory refl)
-
-pub message_ends : {A : Type 0} {n : ℕ} {P : Result A Stop → History → RunState → Type 0}
-    {Q : Result Ended Stop → History → RunState → Type 0} → Has n P
-    → ((fa : Fault) (w : History) (r : RunState) → P (Err (Faults fa)) w r → Q (Err (Faults fa)) w r) →
-    ((w : History) (r : RunState) → P (Err Exited) w r → Q (Ok ExitedEnd) w r)
-    → ((a : A) (w : History) (r : RunState) → P (Ok a) w r → Q (Ok DoneEnd) w r) → Has n Q
-message_ends (has (Ok a) w r has_memory k h) faults exits ends = ok _ k (ends a w r h)
-message_ends (has (Err (Faults fa)) w r has_memory k h) faults exits ends = fault _ k (faults fa w r h)
-message_ends (has (Err Exited) w r has_memory k h) faults exits ends = ok _ k (exits w r h)
-message_ends (has (Err Memory) w r has_memory k h) faults exits ends = absurd (has_memory refl)
-
-pub refers_to : {n : ℕ} {P : Result Referent Stop → History → RunState → Type 0}
-    {Q : Result (Option ℕ) Stop → History → RunState → Type 0} → Has n P
-    → ((fa : Fault) (w : History) (r : RunState) → P (Err (Faults fa)) w r → Q (Err (Faults fa)) w r) →
-    ((w : History) (r : RunState) → P (Err Exited) w r → Q (Ok None) w r)
-    → ((m : Referent) (w : History) (r : RunState) → P (Ok m) w r → Q (Ok (Some m.object)) w r) → Has n Q
-refers_to (has (Ok m) w r has_memory k h) faults exits ends = ok _ k (ends m w r h)
-refers_to (has (Err (Faults fa)) w r has_memory k h) faults exits ends = fault _ k (faults fa w r h)
-refers_to (has (Err Exited) w r has_memory k h) faults exits ends = ok _ k (exits w r h)
-refers_to (has (Err Memory) w r has_memory k h) faults exits ends = absurd (has_memory refl)
-
--- a message, and what follows unless it ended by `exit to HyperCard`
-pub then_ended : {n : ℕ} {P Q : Result Ended Stop → History → RunState → Type 0} → Has n P
-    → ((z : Stop) (w : History) (r : RunState) → P (Err z) w r → Q (Err z) w r) →
-    ((w : History) (r : RunState) → P (Ok ExitedEnd) w r → Q (Ok ExitedEnd) w r)
-    → ((w : History) (r : RunState) → Underway n w r → P (Ok DoneEnd) w r → Has n Q) → Has n Q
-then_ended (has (Ok DoneEnd) w r has_memory k h) stops exits goes_on = goes_on w r k h
-then_ended (has (Ok ExitedEnd) w r has_memory k h) stops exits goes_on = ok _ k (exits w r h)
-then_ended (has (Err z) w r has_memory k h) stops exits goes_on = has (Err z) w r has_memory k (stops z w r h)

@@ -22,8 +22,7 @@ use Rattle.meaning.specs.Menu.{message_name}
 use Rattle.meaning.specs.Places.{field_text, field_place}
 use Rattle.meaning.specs.State.{RunState, typed_frame}
 use Rattle.meaning.specs.Locked.{MeetsLock}
-use Rattle.totality.proofs.Chain.{Underway, Has, has, ok, same, stops_too, choose, computed, lines_end, message_ends}
-use Rattle.totality.proofs.Chain.{refers_to, then_ended}
+use Rattle.totality.proofs.Chain.{Underway, Has, has, ok, same, stops_too, then, then_lines, choose, computed}
 use Rattle.definitional_interpreter.proofs.Comes.{AreExact}
 use Rattle.totality.proofs.Leaves.{then_edited_lines, edits}
 use Rattle.totality.proofs.Levels.{Level}
@@ -32,24 +31,23 @@ use Rattle.totality.proofs.Blocks.{block_has}
 
 pub line_has : {n : ℕ} → Level n → (w : History) (r : RunState) (ss : stm.Stmts) → Underway (suc n) w r →
     Has (suc n) (Line w r ss)
-line_has h w r ss k = lines_end (block_has h w r (typed_frame w) 0 ss (omega arith) k)
-    (λ fa w1 r1 f1 g. Line.line_faults refl g) (λ w1 r1 f1 g. Line.line_exits refl g)
-    (λ how w1 r1 f1 g. Line.line_ends refl g)
+line_has h w r ss k =
+    then_lines (block_has h w r (typed_frame w) 0 ss (omega arith) k) (λ z w1 r1 f1 g. Line.line_stops refl g)
+    (λ how w1 r1 f1 k1 g. ok _ k1 (Line.line refl g))
 
 pub message_has : {n : ℕ} → Level n → (w : History) (r : RunState) (i : ℕ) (name : List ℕ) (vs : List (List ℕ)) →
     Underway (suc n) w r → Has (suc n) (Message w r i name vs)
 message_has h w r i name vs k =
-    message_ends (sends_has h w r (typed_frame w) 0 i name vs Command (omega arith) k)
-    (λ fa w1 r1 g. Message.message_faults refl g) (λ w1 r1 g. Message.message_exits refl g)
-    (λ v w1 r1 g. Message.message_ends refl g)
+    then (sends_has h w r (typed_frame w) 0 i name vs Command (omega arith) k)
+    (λ z w1 r1 g. Message.sent_alone_stops refl g) (λ v w1 r1 k1 g. ok _ k1 (Message.sent_alone refl g))
 
 -- ---- dot lines that send messages
 
 pub refers_has : {n : ℕ} → AreExact → Level n → (w : History) (r : RunState) (pa : tree.Part) → Underway (suc n) w r →
     Has (suc n) (Refers w r pa)
 refers_has exact h w r pa k =
-    refers_to (part_has exact h w r (typed_frame w) 0 pa (omega arith) k) (λ fa w1 r1 g. Refers.refer_faults refl g)
-    (λ w1 r1 g. Refers.refer_exits refl g) (λ met w1 r1 g. Refers.refers refl g refl)
+    then (part_has exact h w r (typed_frame w) 0 pa (omega arith) k) (λ z w1 r1 g. Refers.refer_stops refl g)
+    (λ met w1 r1 k1 g. ok _ k1 (Refers.refers refl g refl))
 
 tells_has : {n : ℕ} → Level n → (w : History) (r : RunState) (i : ℕ) (mg : SystemMessage) → Underway (suc n) w r →
     Has (suc n) (Tells w r i mg)
@@ -61,21 +59,15 @@ tells_all_has : {n : ℕ} → Level n → (w : History) (r : RunState) (ms : Lis
     Has (suc n) (TellsAll w r ms)
 tells_all_has h w r [] k = ok _ k (TellsAll.none_to_tell refl)
 tells_all_has h w r (mg ∷ ms) k =
-    then_ended (tells_has h w r w.now.current mg k) (λ z w1 r1 g. TellsAll.tell_stops refl g)
-    (λ w1 r1 g. TellsAll.tell_exits refl g)
-    (λ w1 r1 k1 g. same (tells_all_has h w1 r1 ms k1) (λ o w2 r2 g2. TellsAll.tells_on refl g g2))
+    then (tells_has h w r w.now.current mg k) (λ z w1 r1 g. TellsAll.tell_stops refl g)
+    (λ _ w1 r1 k1 g. same (tells_all_has h w1 r1 ms k1) (λ o w2 r2 g2. TellsAll.tells_on refl g g2))
 
 clicks_has : {n : ℕ} → AreExact → Level n → (w : History) (r : RunState) (pa : tree.Part) → Underway (suc n) w r →
     Has (suc n) (Clicks w r pa)
-clicks_has {n} exact h w r pa k = by_part (refers_has exact h w r pa k)
-  where
-    by_part : Has (suc n) (Refers w r pa) → Has (suc n) (Clicks w r pa)
-    by_part (has (Err z) w1 r1 has_memory k1 g) = has (Err z) w1 r1 (stops_too has_memory) k1 (Clicks.click_misses g)
-    by_part (has (Ok None) w1 r1 has_memory k1 g) = ok _ k1 (Clicks.click_exits g)
-    by_part (has (Ok (Some i)) w1 r1 has_memory k1 g) =
-        then_ended (tells_has h w1 r1 i MouseDown k1) (λ z w2 r2 g2. Clicks.press_stops g g2)
-        (λ w2 r2 g2. Clicks.press_exits g g2) (λ w2 r2 k2 g2.
-        choose (is_some (object_at w2.now.stack i))
+clicks_has exact h w r pa k =
+    then (refers_has exact h w r pa k) (λ z w1 r1 g. Clicks.click_misses g)
+    (λ i w1 r1 k1 g. then (tells_has h w1 r1 i MouseDown k1) (λ z w2 r2 g2. Clicks.press_stops g g2)
+        (λ _ w2 r2 k2 g2. choose (is_some (object_at w2.now.stack i))
         (λ there. same (tells_has h w2 r2 i MouseUp k2) (λ o w3 r3 g3. Clicks.clicks g g2 there g3))
         (λ gone. ok _ k2 (Clicks.part_goes g g2 gone)))
 
@@ -106,13 +98,11 @@ types_into_has {n} exact h w r t pa k = by_part (refers_has exact h w r pa k)
         ((w2 : History) × ((r2 : RunState) × MeetsLock w r (act.type_text t pa) w2 r2))
     by_part (has (Err z) w1 r1 has_memory k1 g) = inl
         (has (Err z) w1 r1 (stops_too has_memory) k1 (TypesInto.type_misses g))
-    by_part (has (Ok None) w1 r1 has_memory k1 g) = inl (ok _ k1 (TypesInto.type_exits g))
-    by_part (has (Ok (Some i)) w1 r1 has_memory k1 g) =
+    by_part (has (Ok i) w1 r1 has_memory k1 g) =
         choose (locks_text w1.now.stack i) (λ locked. inr (w1, (r1, (i, g, locked)))) (λ free. inl
-        (then_ended (tells_has h w1 r1 i OpenField k1) (λ z w2 r2 g2. TypesInto.field_open_stops g free g2)
-        (λ w2 r2 g2. TypesInto.field_open_exits g free g2) (λ w2 r2 k2 g2.
+        (then (tells_has h w1 r1 i OpenField k1) (λ z w2 r2 g2. TypesInto.field_open_stops g free g2) (λ _ w2 r2 k2 g2.
         same (types_over_has h w2 r2 (met_here w1.now.current i) t k2)
-        (λ o w3 r3 g3. TypesInto.types_into g free refl g2 g3))))
+        (λ o w3 r3 g3. TypesInto.types_into g free g2 refl g3))))
 
 pub acts_has : {n : ℕ} → AreExact → Level n → (w : History) (r : RunState) (ac : Action) → Underway (suc n) w r →
     Has (suc n) (Acts w r ac) ⊎ ((w2 : History) × ((r2 : RunState) × MeetsLock w r ac w2 r2))

@@ -12,7 +12,6 @@ use Rattle.ht_grammar.specs.Lines.{typed_lines}
 use Rattle.ht_grammar.specs.Reads.{ReadsLines, ReadsPart, ReadsType}
 use Rattle.ht_grammar.specs.Whole.{clicked_part, typed_text}
 use Rattle.journal_entries.specs.State.{State}
-use Rattle.meaning.specs.declared.end.Ended.{Ended}
 use Rattle.meaning.specs.declared.end.Stop.{Stop}
 use Rattle.meaning.specs.declared.sent.SentMessage.{SentMessage}
 use Rattle.meaning.specs.declared.end.Stop.TheVariants.{Fault as Faults, Exited, Memory}
@@ -139,7 +138,7 @@ followed_present t after present =
 
 -- ---- a fresh command
 
-no_refusal : (o : Result Ended Stop) (e : Ending) (x : Refusal) → ending_of o ≡ Some e → e ≢ endings.Refused x
+no_refusal : (o : Result (Unit {0}) Stop) (e : Ending) (x : Refusal) → ending_of o ≡ Some e → e ≢ endings.Refused x
 no_refusal (Ok end) e x is = λ same. cc
 no_refusal (Err Exited) e x is = λ same. cc
 no_refusal (Err (Faults fa)) e x is = λ same. cc

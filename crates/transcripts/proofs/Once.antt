@@ -9,7 +9,6 @@ use Rattle.ht_grammar.specs.Reads.{ReadsLines, ReadsPart, ReadsType}
 use Rattle.ht_grammar.specs.Trees as tree
 use Rattle.journal_entries.specs.State.{State}
 use Rattle.change_journal.specs.History.{History}
-use Rattle.meaning.specs.declared.end.Ended.{Ended}
 use Rattle.meaning.specs.declared.end.Stop.{Stop}
 use Rattle.meaning.specs.declared.end.Stop.TheVariants.{Fault as Faults, Exited, Memory}
 use Rattle.meaning.specs.Actions as act
@@ -145,7 +144,7 @@ no_turns = record { of_turns = λ turns. []; counts = λ turns i. refl }
 
 -- two references from one state find the same
 one_reference : AreExact →
-    (w v : History) {w2 v2 : History} {r r2 q2 : RunState} {pa : tree.Part} {o p : Result (Option ℕ) Stop} →
+    (w v : History) {w2 v2 : History} {r r2 q2 : RunState} {pa : tree.Part} {o p : Result ℕ Stop} →
     v.now ≡ w.now → NoneIsFree (sorts w) → HasMemory o → HasMemory p → Refers w r pa o w2 r2 → Refers v r pa p v2 q2
     → (o ≡ p) × (w2.now ≡ v2.now)
 one_reference exact w v {w2} {v2} {r} {r2} {q2} {pa} {o} {p} same free has had a b =
@@ -170,12 +169,9 @@ misses_too (Faults fa) has = λ e. cc
 no_value : {A : Type 0} {z : Stop} {a : A} → ◌≡◌ {A = Result A Stop} (Err z) (Ok a) → ⊥
 no_value e = cc
 
-none_is_some : {i : ℕ} → ◌≡◌ {A = Result (Option ℕ) Stop} (Ok None) (Ok (Some i)) → ⊥
-none_is_some e = cc
-
 -- a field that two references find is locked for both
 is_locked : AreExact → (w v : History) {w2 v2 : History} {r r2 q2 : RunState} {pa : tree.Part} {i field : ℕ} →
-    v.now ≡ w.now → NoneIsFree (sorts w) → Refers w r pa (Ok (Some i)) w2 r2 → Refers v r pa (Ok (Some field)) v2 q2
+    v.now ≡ w.now → NoneIsFree (sorts w) → Refers w r pa (Ok i) w2 r2 → Refers v r pa (Ok field) v2 q2
     → locks_text w2.now.stack i ≡ false → locks_text v2.now.stack field ≡ true → ⊥
 is_locked exact w v {w2} {v2} {i = i} {field} same free a b unlocked locked =
     let both = one_reference exact w v same free (λ e. cc) (λ e. cc) a b in
@@ -186,24 +182,20 @@ is_locked exact w v {w2} {v2} {i = i} {field} same free a b unlocked locked =
 -- a text that is typed into a field which was locked when it was found
 typed_unlocked : AreExact →
     (w v : History) {w2 v2 : History} {r r2 q2 : RunState} {t : List ℕ} {pa : tree.Part} {field : ℕ}
-    {o : Result Ended Stop} → v.now ≡ w.now → NoneIsFree (sorts w) → HasMemory o → TypesInto w r t pa o w2 r2
-    → Refers v r pa (Ok (Some field)) v2 q2 → locks_text v2.now.stack field ≡ true → ⊥
+    {o : Result (Unit {0}) Stop} → v.now ≡ w.now → NoneIsFree (sorts w) → HasMemory o → TypesInto w r t pa o w2 r2
+    → Refers v r pa (Ok field) v2 q2 → locks_text v2.now.stack field ≡ true → ⊥
 typed_unlocked exact w v same free has TypesInto.type_memory found locked = has refl
 typed_unlocked exact w v same free has (TypesInto.type_misses {z = z} g) found locked = let both = one_reference exact
     w v same free (misses_too z has) (λ e. cc) g found in no_value both.0
-typed_unlocked exact w v same free has (TypesInto.type_exits g) found locked = let both = one_reference exact w v same
-    free (λ e. cc) (λ e. cc) g found in none_is_some both.0
 typed_unlocked exact w v same free has (TypesInto.field_open_stops g unlocked rest) found locked = is_locked exact w v
     same free g found unlocked locked
-typed_unlocked exact w v same free has (TypesInto.field_open_exits g unlocked rest) found locked = is_locked exact w v
-    same free g found unlocked locked
-typed_unlocked exact w v same free has (TypesInto.types_into g unlocked here opens over) found locked = is_locked
+typed_unlocked exact w v same free has (TypesInto.types_into g unlocked opens here over) found locked = is_locked
     exact w v same free g found unlocked locked
 
 -- a command that has memory isn't one for a locked field
 fresh_is_unlocked : AreExact →
     (w v : History) {w2 : History} {r r2 : RunState} (v2 : History) (q2 : RunState) (ac : Action)
-    {o : Result Ended Stop} → v.now ≡ w.now → NoneIsFree (sorts w) → HasMemory o → Acts w r ac o w2 r2 →
+    {o : Result (Unit {0}) Stop} → v.now ≡ w.now → NoneIsFree (sorts w) → HasMemory o → Acts w r ac o w2 r2 →
     MeetsLock v r ac v2 q2 → ⊥
 fresh_is_unlocked exact w v {w2} {r} {r2} v2 q2 (act.type_text text reference) {o} same free has
     (Acts.acts_by_typing {t = t} {pa = pa} p typed) (field, found, locked) =
@@ -234,7 +226,7 @@ pub record Laws : Type 0 where
   pub texts : Texts
   pub replies : RepliesAreOne
 
-pub answered : {o : Result Ended Stop} {e : Ending} → ending_of o ≡ Some e → HasMemory o
+pub answered : {o : Result (Unit {0}) Stop} {e : Ending} → ending_of o ≡ Some e → HasMemory o
 answered {o} {e} is never = let gone : ending_of o ≡ None = ap ending_of never in none-some e (sym gone ∙ is)
 
 pub fresh_or_locked : Laws → {state : State} {steps : ℕ} (does : Action) {reply : Reply} {new : State} →

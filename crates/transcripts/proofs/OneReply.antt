@@ -1,7 +1,6 @@
 -- Two replies to one fresh command are the same.
 use Rattle.std.proofs.Common.{◌≡◌, Some, None, Result, sym, ap, subst, ◌∙◌}
 use Rattle.journal_entries.specs.State.{State}
-use Rattle.meaning.specs.declared.end.Ended.{Ended}
 use Rattle.meaning.specs.declared.end.Stop.{Stop}
 use Rattle.meaning.specs.State.{RunState, fresh_run}
 use Rattle.preservation.specs.Laws.{HasMemory}
@@ -12,10 +11,10 @@ use Rattle.determinism.specs.Laws.{ActionsHaveOneOutcome}
 use Rattle.transcripts.specs.Replies.{RepliesAreOne}
 
 -- a command with an answer has memory
-answered : (o : Result Ended Stop) (e : Ending) → ending_of o ≡ Some e → HasMemory o
+answered : (o : Result (Unit {0}) Stop) (e : Ending) → ending_of o ≡ Some e → HasMemory o
 answered o e is never = let gone : ending_of o ≡ None = ap ending_of never in cc
 
-same_ending : (o p : Result Ended Stop) (e f : Ending) → o ≡ p → ending_of o ≡ Some e → ending_of p ≡ Some f → e ≡ f
+same_ending : (o p : Result (Unit {0}) Stop) (e f : Ending) → o ≡ p → ending_of o ≡ Some e → ending_of p ≡ Some f → e ≡ f
 same_ending o p e f same is was = let both : ending_of o ≡ ending_of p = ap ending_of same in cc
 
 same_reply : (r q : RunState) (e f : Ending) → r ≡ q → e ≡ f → reply_of r e ≡ reply_of q f

@@ -2,7 +2,6 @@
 use Rattle.std.proofs.Common.{◌≡◌, ◌⊎◌, inl, inr, [], Some, Result, Ok, Err, refl}
 use Rattle.journal_entries.specs.State.{State}
 use Rattle.change_journal.specs.History.{History}
-use Rattle.meaning.specs.declared.end.Ended.{Ended}
 use Rattle.meaning.specs.declared.end.Stop.{Stop}
 use Rattle.meaning.specs.declared.end.Stop.TheVariants.{Fault as Faults, Exited, Memory}
 use Rattle.meaning.specs.Meaning.{Acts}
@@ -29,7 +28,7 @@ opened s = record {
 }
 
 -- an end that isn't out of memory is answered
-pub answered : (o : Result Ended Stop) → HasMemory o → (ending : Ending) × (ending_of o ≡ Some ending)
+pub answered : (o : Result (Unit {0}) Stop) → HasMemory o → (ending : Ending) × (ending_of o ≡ Some ending)
 answered (Ok ended) has = (endings.Ok, refl)
 answered (Err Exited) has = (endings.Ok, refl)
 answered (Err (Faults fa)) has = (endings.Fault fa, refl)

@@ -9,8 +9,6 @@ use Rattle.containers.specs.Edits.{read_at}
 use Rattle.containers.specs.Places.{PlaceView}
 use Rattle.object_references.specs.declared.referent.Referent.{Referent}
 use Rattle.meaning.specs.Actions.{leaving_message}
-use Rattle.meaning.specs.declared.end.Ended.{Ended}
-use Rattle.meaning.specs.declared.end.Ended.TheVariants.{Done}
 use Rattle.meaning.specs.declared.end.Stop.{Stop}
 use Rattle.meaning.specs.declared.end.Stop.TheVariants as stop
 use Rattle.meaning.specs.declared.frame.Frame.{Frame}
@@ -32,14 +30,14 @@ failed {c} is y = of_fault (subst (λ z. Yields c (Err z)) is y)
 module _ (w : History) (r : RunState) (m : Referent) (t : List ℕ) (f : Frame) (typed : f ≡ typed_frame w) where
   -- the field or the card is gone
   pub goes_without_place : (z : Stop) (n : Fault) → z ≡ stop.Fault n → Yields (field_place w.now m) (Err z)
-      → TypesOver w r m t (Ok Done) w r
+      → TypesOver w r m t (Ok tt) w r
   goes_without_place z n is place =
       TypesOver.typed_field_goes typed
       (ap (λ (p : Result PlaceView Fault). and_then p (λ q. read_at w.now f.variables r.delimiter q))
       (failed is place))
 
   pub goes_without_text : (z : Stop) (n : Fault) → z ≡ stop.Fault n
-      → Yields (field_text w.now f.variables r.delimiter m) (Err z) → TypesOver w r m t (Ok Done) w r
+      → Yields (field_text w.now f.variables r.delimiter m) (Err z) → TypesOver w r m t (Ok tt) w r
   goes_without_text z n is text = TypesOver.typed_field_goes typed (failed is text)
 
   module _ (old t1 : List ℕ) (place : PlaceView) (text : Yields (field_text w.now f.variables r.delimiter m) (Ok old))
@@ -52,7 +50,7 @@ module _ (w : History) (r : RunState) (m : Referent) (t : List ℕ) (f : Frame) 
         → TypesOver w r m t (Err z) w1 r
     stops w1 f1 z edits = TypesOver.type_over_stops typed (yielded text) (yielded found) (edited edits)
 
-    pub types : (w1 w2 : History) (f1 : Frame) (r1 : RunState) (message : SystemMessage) (end : Result Ended Stop)
+    pub types : (w1 w2 : History) (f1 : Frame) (r1 : RunState) (message : SystemMessage) (end : Result (Unit {0}) Stop)
         → Edits w f r.delimiter place (Put Into t1) (Ok tt) w1 f1
         → message ≡ leaving_message old t → Tells w1 r m.object message end w2 r1 → TypesOver w r m t end w2 r1
     types w1 w2 f1 r1 message end edits leaves told =

@@ -8,6 +8,7 @@ use Rattle.change_journal.specs.History.{History}
 use Rattle.meaning.specs.declared.end.Ended.{Ended}
 use Rattle.meaning.specs.declared.end.Stop.{Stop}
 use Rattle.meaning.specs.Actions as act
+use Rattle.meaning.specs.Ends.{end_of}
 use Rattle.meaning.specs.Meaning.{Acts, TypesInto}
 use Rattle.meaning.specs.Locked.{IsLocked, MeetsLock}
 use Rattle.meaning.specs.State.{RunState}
@@ -28,12 +29,12 @@ Fits _ = Unit {0}
 
 -- typing ends so, or doesn't begin, as the field is locked
 abbrev pub TypingEnds : History → RunState → List ℕ → Part → Result (Option Ended) Stop → History → RunState → Type 0
-TypingEnds w r text reference (Ok (Some ended)) w2 r2 = TypesInto w r text reference (Ok ended) w2 r2
+TypingEnds w r text reference (Ok (Some ended)) w2 r2 = TypesInto w r text reference (end_of (Ok ended)) w2 r2
 TypingEnds w r text reference (Ok None) w2 r2 = IsLocked w r reference w2 r2
 TypingEnds w r text reference (Err stop) w2 r2 = TypesInto w r text reference (Err stop) w2 r2
 
 -- an action ends so, or is refused for a locked field
 abbrev pub ActionEnds : History → RunState → act.Action → Result (Option Ended) Stop → History → RunState → Type 0
-ActionEnds w r action (Ok (Some ended)) w2 r2 = Acts w r action (Ok ended) w2 r2
+ActionEnds w r action (Ok (Some ended)) w2 r2 = Acts w r action (end_of (Ok ended)) w2 r2
 ActionEnds w r action (Ok None) w2 r2 = MeetsLock w r action w2 r2
 ActionEnds w r action (Err stop) w2 r2 = Acts w r action (Err stop) w2 r2

@@ -3,6 +3,7 @@
 ghost use Rattle.std.specs.Prelude.{◌≡◌, ◌≤◌, IsSome};
 ghost use Rattle.containers.specs.Base.{base};
 ghost use Rattle.meaning.specs.Actions.{opening_stack};
+ghost use Rattle.meaning.specs.Ends.{end_of};
 ghost use Rattle.meaning.specs.Meaning.{Tells, TellsAll};
 
 use change_journal::World;
@@ -20,7 +21,7 @@ pub(crate) fn tell<E: External>(
     message: SystemMessage,
 ) -> Result<Ended, Stop>
     requires open { IsSome (base world.old.history).start }
-    ensures meaning { Tells world.old.history run.old object message result world.new.history run.new }
+    ensures meaning { Tells world.old.history run.old object message (end_of result) world.new.history run.new }
     ensures fewer { run.new.left ≤ run.old.left }
     ensures base { base world.new.history ≡ base world.old.history }
 {
@@ -39,7 +40,7 @@ fn tell_all<E: External>(
     messages: &[SystemMessage],
 ) -> Result<Ended, Stop>
     requires open { IsSome (base world.old.history).start }
-    ensures meaning { TellsAll world.old.history run.old messages.now result world.new.history run.new }
+    ensures meaning { TellsAll world.old.history run.old messages.now (end_of result) world.new.history run.new }
     ensures fewer { run.new.left ≤ run.old.left }
     ensures base { base world.new.history ≡ base world.old.history }
 {
@@ -55,7 +56,7 @@ fn tell_all<E: External>(
 /// `.open`
 pub(crate) fn open_stack<E: External>(world: &mut World<E>, run: &mut Budget) -> Result<Ended, Stop>
     requires open { IsSome (base world.old.history).start }
-    ensures meaning { TellsAll world.old.history run.old opening_stack result world.new.history run.new }
+    ensures meaning { TellsAll world.old.history run.old opening_stack (end_of result) world.new.history run.new }
     ensures fewer { run.new.left ≤ run.old.left }
     ensures base { base world.new.history ≡ base world.old.history }
 {

@@ -5,6 +5,7 @@ ghost use Rattle.ht_grammar.specs.Depth.{max_depth, part_depth};
 ghost use Rattle.ht_tree.specs.View.{part_of};
 ghost use Rattle.object_table.specs.Objects.{object_at};
 ghost use Rattle.containers.specs.Base.{base};
+ghost use Rattle.meaning.specs.Ends.{end_of};
 ghost use Rattle.meaning.specs.Meaning.{Clicks};
 
 use crate::messages::tell;
@@ -31,7 +32,7 @@ pub(crate) fn click<E: External>(
 ) -> Result<Ended, Stop>
     requires deep { part_depth (part_of part.now) ≤ max_depth }
     requires open { IsSome (base world.old.history).start }
-    ensures meaning { Clicks world.old.history run.old (part_of part.now) result world.new.history run.new }
+    ensures meaning { Clicks world.old.history run.old (part_of part.now) (end_of result) world.new.history run.new }
     ensures fewer { run.new.left ≤ run.old.left }
     ensures base { base world.new.history ≡ base world.old.history }
 {

@@ -5,6 +5,7 @@ ghost use Rattle.ht_grammar.specs.Depth.{max_depth, part_depth};
 ghost use Rattle.ht_tree.specs.View.{part_of};
 ghost use Rattle.containers.specs.Base.{base};
 ghost use Rattle.meaning.specs.Actions.{leaving_message as message_on_leaving, locks_text};
+ghost use Rattle.meaning.specs.Ends.{end_of};
 ghost use Rattle.meaning.specs.Meaning.{TypesOver};
 ghost use Rattle.meaning.specs.Places.{field_text as text_of_field};
 ghost use Rattle.meaning.specs.Values.{Yields};
@@ -74,7 +75,7 @@ fn type_over<E: External>(
     text: &Text,
 ) -> Result<Ended, Stop>
     requires open { IsSome (base world.old.history).start }
-    ensures meaning { TypesOver world.old.history run.old field text.now result world.new.history run.new }
+    ensures meaning { TypesOver world.old.history run.old field text.now (end_of result) world.new.history run.new }
     ensures fewer { run.new.left ≤ run.old.left }
     ensures base { base world.new.history ≡ base world.old.history }
 {

@@ -11,7 +11,7 @@ use Rattle.meaning.specs.Messages.{parameters_of}
 use Rattle.preservation.specs.Laws.{HasMemory}
 use Rattle.preservation.proofs.Bases.{base_calls_back}
 use Rattle.containers.proofs.Bases.{took_keeps as base_turn}
-use Rattle.preservation.proofs.Ends.{given, stopped, faulted, exited}
+use Rattle.preservation.proofs.Ends.{given, stopped, faulted}
 use Rattle.preservation.proofs.StaysWhole.{may_go}
 use Rattle.whole_states.specs.Texts.{IsWhole, RunTexts, FrameTexts, StorageTexts, HowTexts, InputTexts, AskTexts}
 use Rattle.whole_states.specs.Texts.{ActionTexts, ExprTexts, ExprsTexts, ChunkTexts, ContainerTexts, WhichTexts}
@@ -47,7 +47,6 @@ use Rattle.object_references.specs.Settings.{parts_here}
 use Rattle.containers.specs.Places.{PlaceView}
 use Rattle.msg_path.specs.BuiltIns.{calls_function}
 use Rattle.meaning.specs.declared.end.Conversed.{Conversed}
-use Rattle.meaning.specs.declared.end.Ended.{Ended}
 use Rattle.meaning.specs.declared.frame.Frame.{Frame}
 use Rattle.meaning.specs.declared.end.How.{How}
 use Rattle.meaning.specs.declared.end.Stop.{Stop}
@@ -883,71 +882,58 @@ module _ (cut : PartsCut) where
             (subst AskTexts p1 given1).1 run.delimiter p4 given whole (same_frame p3 tt) in
         (after4.0, run, (subst InputTexts (sym p5) ((subst AskTexts p1 given1).0, empty_text)))
 
-    pub sound_line : {w w2 : History} {r r2 : RunState} {ss : stm.Stmts} {oe : Result Ended Stop} → Line w r ss oe w2 r2
-        → HasMemory oe → IsWhole w → RunTexts r → StmtsTexts ss → IsWhole w2 × RunTexts r2
+    pub sound_line : {w w2 : History} {r r2 : RunState} {ss : stm.Stmts} {ot : Result (Unit {0}) Stop}
+        → Line w r ss ot w2 r2 → HasMemory ot → IsWhole w → RunTexts r → StmtsTexts ss → IsWhole w2 × RunTexts r2
     sound_line Line.line_memory has _ _ _ = absurd (has refl)
-    sound_line (Line.line_faults p1 p2) has whole run given1 =
+    sound_line (Line.line_stops p1 p2) has whole run given1 =
         let after2 = sound_block p2 (stopped has) whole run (same_frame p1 tt) given1 in
         (after2.0, after2.1)
-    sound_line (Line.line_exits p1 p2) has whole run given1 =
-        let after2 = sound_block p2 exited whole run (same_frame p1 tt) given1 in
-        (after2.0, after2.1)
-    sound_line (Line.line_ends p1 p2) has whole run given1 =
+    sound_line (Line.line p1 p2) has whole run given1 =
         let after2 = sound_block p2 given whole run (same_frame p1 tt) given1 in
         (after2.0, after2.1)
 
     pub sound_message : {w w2 : History} {r r2 : RunState} {i : ℕ} {n : List ℕ} {vs : List (List ℕ)}
-        {oe : Result Ended Stop} → Message w r i n vs oe w2 r2 → HasMemory oe → IsWhole w → RunTexts r → AreTexts vs
-        → IsWhole w2 × RunTexts r2
+        {ot : Result (Unit {0}) Stop} → Message w r i n vs ot w2 r2 → HasMemory ot → IsWhole w → RunTexts r
+        → AreTexts vs → IsWhole w2 × RunTexts r2
     sound_message Message.message_memory has _ _ _ = absurd (has refl)
-    sound_message (Message.message_faults p1 p2) has whole run given1 =
+    sound_message (Message.sent_alone_stops p1 p2) has whole run given1 =
         let after2 = sound_sends p2 (stopped has) whole run (same_frame p1 tt) given1 in
         (after2.0, after2.1)
-    sound_message (Message.message_exits p1 p2) has whole run given1 =
-        let after2 = sound_sends p2 exited whole run (same_frame p1 tt) given1 in
-        (after2.0, after2.1)
-    sound_message (Message.message_ends p1 p2) has whole run given1 =
+    sound_message (Message.sent_alone p1 p2) has whole run given1 =
         let after2 = sound_sends p2 given whole run (same_frame p1 tt) given1 in
         (after2.0, after2.1)
 
   mutual
-    pub sound_refers : {w w2 : History} {r r2 : RunState} {pa : tree.Part} {oio : Result (Option ℕ) Stop}
-        → Refers w r pa oio w2 r2 → HasMemory oio → IsWhole w → RunTexts r → PartTexts pa → IsWhole w2 × RunTexts r2
+    pub sound_refers : {w w2 : History} {r r2 : RunState} {pa : tree.Part} {oi : Result ℕ Stop} → Refers w r pa oi w2 r2
+        → HasMemory oi → IsWhole w → RunTexts r → PartTexts pa → IsWhole w2 × RunTexts r2
     sound_refers Refers.refer_memory has _ _ _ = absurd (has refl)
-    sound_refers (Refers.refer_faults p1 p2) has whole run given1 =
+    sound_refers (Refers.refer_stops p1 p2) has whole run given1 =
         sound_part_met p2 (stopped has) whole run (same_frame p1 tt) given1
-    sound_refers (Refers.refer_exits p1 p2) has whole run given1 =
-        sound_part_met p2 exited whole run (same_frame p1 tt) given1
     sound_refers (Refers.refers p1 p2 _) has whole run given1 =
         sound_part_met p2 given whole run (same_frame p1 tt) given1
 
-    pub sound_tells : {w w2 : History} {r r2 : RunState} {i : ℕ} {mg : SystemMessage} {oe : Result Ended Stop}
-        → Tells w r i mg oe w2 r2 → HasMemory oe → IsWhole w → RunTexts r → IsWhole w2 × RunTexts r2
+    pub sound_tells : {w w2 : History} {r r2 : RunState} {i : ℕ} {mg : SystemMessage} {ot : Result (Unit {0}) Stop}
+        → Tells w r i mg ot w2 r2 → HasMemory ot → IsWhole w → RunTexts r → IsWhole w2 × RunTexts r2
     sound_tells Tells.tell_memory has _ _ = absurd (has refl)
     sound_tells (Tells.tells_nothing _) has whole run = (whole, run)
     sound_tells (Tells.tells _ _ p3) has whole run = sound_message p3 has whole run tt
 
-    pub sound_tells_all : {w w2 : History} {r r2 : RunState} {ms : List SystemMessage} {oe : Result Ended Stop}
-        → TellsAll w r ms oe w2 r2 → HasMemory oe → IsWhole w → RunTexts r → IsWhole w2 × RunTexts r2
+    pub sound_tells_all : {w w2 : History} {r r2 : RunState} {ms : List SystemMessage} {ot : Result (Unit {0}) Stop}
+        → TellsAll w r ms ot w2 r2 → HasMemory ot → IsWhole w → RunTexts r → IsWhole w2 × RunTexts r2
     sound_tells_all TellsAll.tell_all_memory has _ _ = absurd (has refl)
     sound_tells_all (TellsAll.none_to_tell _) has whole run = (whole, run)
     sound_tells_all (TellsAll.tell_stops _ p2) has whole run = sound_tells p2 has whole run
-    sound_tells_all (TellsAll.tell_exits _ p2) has whole run = sound_tells p2 given whole run
     sound_tells_all (TellsAll.tells_on _ p2 p3) has whole run =
         let after2 = sound_tells p2 given whole run in
         sound_tells_all p3 has after2.0 after2.1
 
-    pub sound_clicks : {w w2 : History} {r r2 : RunState} {pa : tree.Part} {oe : Result Ended Stop}
-        → Clicks w r pa oe w2 r2 → HasMemory oe → IsWhole w → RunTexts r → PartTexts pa → IsWhole w2 × RunTexts r2
+    pub sound_clicks : {w w2 : History} {r r2 : RunState} {pa : tree.Part} {ot : Result (Unit {0}) Stop}
+        → Clicks w r pa ot w2 r2 → HasMemory ot → IsWhole w → RunTexts r → PartTexts pa → IsWhole w2 × RunTexts r2
     sound_clicks Clicks.click_memory has _ _ _ = absurd (has refl)
     sound_clicks (Clicks.click_misses p1) has whole run given1 = sound_refers p1 (stopped has) whole run given1
-    sound_clicks (Clicks.click_exits p1) has whole run given1 = sound_refers p1 given whole run given1
     sound_clicks (Clicks.press_stops p1 p2) has whole run given1 =
         let after1 = sound_refers p1 given whole run given1 in
         sound_tells p2 has after1.0 after1.1
-    sound_clicks (Clicks.press_exits p1 p2) has whole run given1 =
-        let after1 = sound_refers p1 given whole run given1 in
-        sound_tells p2 given after1.0 after1.1
     sound_clicks (Clicks.part_goes p1 p2 _) has whole run given1 =
         let after1 = sound_refers p1 given whole run given1 in
         sound_tells p2 given after1.0 after1.1
@@ -956,39 +942,35 @@ module _ (cut : PartsCut) where
         let after2 = sound_tells p2 given after1.0 after1.1 in
         sound_tells p4 has after2.0 after2.1
 
-    pub sound_types_over : {w w2 : History} {r r2 : RunState} {m : Referent} {t : List ℕ} {oe : Result Ended Stop}
-        → TypesOver w r m t oe w2 r2 → HasMemory oe → IsWhole w → RunTexts r → IsText t → IsWhole w2 × RunTexts r2
+    pub sound_types_over : {w w2 : History} {r r2 : RunState} {m : Referent} {t : List ℕ} {ot : Result (Unit {0}) Stop}
+        → TypesOver w r m t ot w2 r2 → HasMemory ot → IsWhole w → RunTexts r → IsText t → IsWhole w2 × RunTexts r2
     sound_types_over TypesOver.type_over_memory has _ _ _ = absurd (has refl)
     sound_types_over (TypesOver.typed_field_goes p1 _) has whole run given1 = (whole, run)
     sound_types_over (TypesOver.type_over_stops {w = w} {m = m} p1 _ p3 p4) has whole run given1 =
         let after4 = sound_edits cut (subst (λ o. IfOk o (λ p. StorageTexts p.storage)) p3 (field_place_texts w.now m))
-            given1 run.delimiter p4 (stopped has) whole (same_frame p1 tt) in
+            given1 run.delimiter p4 has whole (same_frame p1 tt) in
         (after4.0, run)
     sound_types_over (TypesOver.types_over {w = w} {m = m} p1 _ p3 p4 _ _ p7) has whole run given1 =
         let after4 = sound_edits cut (subst (λ o. IfOk o (λ p. StorageTexts p.storage)) p3 (field_place_texts w.now m))
             given1 run.delimiter p4 given whole (same_frame p1 tt) in
         sound_tells p7 has after4.0 run
 
-    pub sound_types_into : {w w2 : History} {r r2 : RunState} {t : List ℕ} {pa : tree.Part} {oe : Result Ended Stop}
-        → TypesInto w r t pa oe w2 r2 → HasMemory oe → IsWhole w → RunTexts r → IsText t → PartTexts pa
-        → IsWhole w2 × RunTexts r2
+    pub sound_types_into : {w w2 : History} {r r2 : RunState} {t : List ℕ} {pa : tree.Part}
+        {ot : Result (Unit {0}) Stop} → TypesInto w r t pa ot w2 r2 → HasMemory ot → IsWhole w → RunTexts r → IsText t
+        → PartTexts pa → IsWhole w2 × RunTexts r2
     sound_types_into TypesInto.type_memory has _ _ _ _ = absurd (has refl)
     sound_types_into (TypesInto.type_misses p1) has whole run given1 given2 =
         sound_refers p1 (stopped has) whole run given2
-    sound_types_into (TypesInto.type_exits p1) has whole run given1 given2 = sound_refers p1 given whole run given2
     sound_types_into (TypesInto.field_open_stops p1 _ p3) has whole run given1 given2 =
         let after1 = sound_refers p1 given whole run given2 in
         sound_tells p3 has after1.0 after1.1
-    sound_types_into (TypesInto.field_open_exits p1 _ p3) has whole run given1 given2 =
+    sound_types_into (TypesInto.types_into p1 _ p3 _ p5) has whole run given1 given2 =
         let after1 = sound_refers p1 given whole run given2 in
-        sound_tells p3 given after1.0 after1.1
-    sound_types_into (TypesInto.types_into p1 _ _ p4 p5) has whole run given1 given2 =
-        let after1 = sound_refers p1 given whole run given2 in
-        let after4 = sound_tells p4 given after1.0 after1.1 in
-        sound_types_over p5 has after4.0 after4.1 given1
+        let after3 = sound_tells p3 given after1.0 after1.1 in
+        sound_types_over p5 has after3.0 after3.1 given1
 
-    pub sound_acts : {w w2 : History} {r r2 : RunState} {ac : Action} {oe : Result Ended Stop} → Acts w r ac oe w2 r2
-        → HasMemory oe → IsWhole w → RunTexts r → ActionTexts ac → IsWhole w2 × RunTexts r2
+    pub sound_acts : {w w2 : History} {r r2 : RunState} {ac : Action} {ot : Result (Unit {0}) Stop}
+        → Acts w r ac ot w2 r2 → HasMemory ot → IsWhole w → RunTexts r → ActionTexts ac → IsWhole w2 × RunTexts r2
     sound_acts (Acts.acts_by_lines p1 p2) has whole run given1 =
         sound_line p2 has whole run (subst ActionTexts p1 given1)
     sound_acts (Acts.acts_by_opening p1 p2) has whole run given1 = sound_tells_all p2 has whole run

@@ -8,7 +8,6 @@ use Rattle.change_journal.specs.History.{History}
 use Rattle.meaning.specs.Actions.{Action}
 use Rattle.meaning.specs.Meaning.{Val, Line, Message, Refers, Acts}
 use Rattle.meaning.specs.State.{RunState}
-use Rattle.meaning.specs.declared.end.Ended.{Ended}
 use Rattle.meaning.specs.declared.end.Stop.{Stop}
 use Rattle.meaning.specs.declared.frame.Frame.{Frame}
 use Rattle.preservation.specs.Laws.{HasMemory}
@@ -17,20 +16,20 @@ use Rattle.whole_states.specs.Texts.{IsWhole, RunTexts, FrameTexts, ExprTexts, P
 -- The lines of a command, whatever the handlers and externals that they reach: each state of the history after them is whole.
 abbrev pub LinesLeadToWhole : Type 0
 LinesLeadToWhole =
-    (w w2 : History) (r r2 : RunState) (ss : stm.Stmts) (o : Result Ended Stop) →
+    (w w2 : History) (r r2 : RunState) (ss : stm.Stmts) (o : Result (Unit {0}) Stop) →
     Line w r ss o w2 r2 → HasMemory o → IsWhole w → RunTexts r → StmtsTexts ss → IsWhole w2 × RunTexts r2
 
 -- and so of a message that is sent by itself
 abbrev pub MessagesLeadToWhole : Type 0
 MessagesLeadToWhole =
-    (w w2 : History) (r r2 : RunState) (i : ℕ) (n : List ℕ) (vs : List (List ℕ)) (o : Result Ended Stop) →
+    (w w2 : History) (r r2 : RunState) (i : ℕ) (n : List ℕ) (vs : List (List ℕ)) (o : Result (Unit {0}) Stop) →
     Message w r i n vs o w2 r2 → HasMemory o → IsWhole w → RunTexts r → AllByRecursion IsText vs →
     IsWhole w2 × RunTexts r2
 
 -- of what a user does
 abbrev pub ActionsLeadToWhole : Type 0
 ActionsLeadToWhole =
-    (w w2 : History) (r r2 : RunState) (ac : Action) (o : Result Ended Stop) →
+    (w w2 : History) (r r2 : RunState) (ac : Action) (o : Result (Unit {0}) Stop) →
     Acts w r ac o w2 r2 → HasMemory o → IsWhole w → RunTexts r → ActionTexts ac → IsWhole w2 × RunTexts r2
 
 -- of the reference of a dot line

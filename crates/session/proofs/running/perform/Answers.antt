@@ -3,7 +3,7 @@ use Rattle.containers.specs.Base.{base}
 use Rattle.meaning.specs.declared.end.Stop.TheVariants as stop
 use Rattle.session.specs.declared.reply.Ending.TheVariants as ending
 use Rattle.session.specs.Meaning.{reply_of}
-use Rattle.session.proofs.Adding.{begun_open, still_open, finishes, keeps_out, given_back}
+use Rattle.session.proofs.Adding.{begun_open, still_open, finishes, keeps_out, given_back, ends_well}
 use Rattle.session.proofs.running.perform.Goals as goal
 
 pub act-requires-clause-open : goal.act-requires-clause-open
@@ -33,7 +33,8 @@ pub returns-in-Ok-Some-clause-ok : goal.returns-in-Ok-Some-clause-ok
 returns-in-Ok-Some-clause-ok g c =
     finishes c.args.steps c.args.number _ c.args.world.now.history _ c.act.new.world.history _ c.act.new.run
     c.act.result c.in_ok-begin.ensures.ok c.new-run.ensures c.act.ensures.base c.act.ensures.meaning
-    (Ok c.in-Ok-Some.field-0-0) ending.Ok _ _ (c.in-Ok-Some.is ∙ ap Ok c.in-Ok-Some.field-0-is) refl
+    (Ok c.in-Ok-Some.field-0-0) ending.Ok _ _ (c.in-Ok-Some.is ∙ ap Ok c.in-Ok-Some.field-0-is)
+    (ends_well c.in-Ok-Some.field-0-0)
     c.finished.ensures.answer c.finished.ensures.once c.finished.ensures.history
 
 pub returns-in-Ok-None-clause-ok : goal.returns-in-Ok-None-clause-ok

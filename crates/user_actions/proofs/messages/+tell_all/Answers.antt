@@ -13,7 +13,7 @@ pub returns-in-empty-clause-meaning : goal.returns-in-empty-clause-meaning
 returns-in-empty-clause-meaning g t c = TellsAll.none_to_tell (none _ c.in-empty.len_below)
 
 pub returns-in-Exited-clause-meaning : goal.returns-in-Exited-clause-meaning
-returns-in-Exited-clause-meaning g t c = TellsAll.tell_exits (split _ _ c.in-len1-up.len_at_least)
+returns-in-Exited-clause-meaning g t c = TellsAll.tell_stops (split _ _ c.in-len1-up.len_at_least)
     (rw (c.current.ensures.value, c.in-Exited.is) at c.in_ok-tell-in-len1-up.ensures.meaning)
 
 pub returns-in-Done-clause-meaning : goal.returns-in-Done-clause-meaning
