@@ -1,5 +1,5 @@
 -- What the function gives is what the rules allow.
-use Rattle.std.specs.Prelude.{◌≡◌, ℕ, ◌<◌, ◌≤◌, List, length, map, slice_index_or, Option, Some, Result}
+use Rattle.std.specs.Prelude.{◌≡◌, ℕ, ◌<◌, ◌≤◌, List, length, map, slice_index_or, Some, Result}
 use Rattle.ht_grammar.specs.Statements as stm
 use Rattle.ht_grammar.specs.Trees as tree
 use Rattle.externals.specs.Cells.{Seen}
@@ -60,7 +60,7 @@ ActionsAreComputed =
 -- and of the reference of a dot line
 abbrev pub ReferencesAreComputed : Type 0
 ReferencesAreComputed =
-    (w w2 : History) (r r2 : RunState) (pa : tree.Part) (o : Result (Option ℕ) Stop) →
+    (w w2 : History) (r r2 : RunState) (pa : tree.Part) (o : Result ℕ Stop) →
     NoneIsFree (sorts w) → Refers w r pa o w2 r2 → HasMemory o →
     Enough (λ m. m.refers (present w) r pa ≡ told o (present w2) r2)
 

@@ -1,5 +1,5 @@
 -- Two runs of one thing have one outcome.
-use Rattle.std.specs.Prelude.{◌≡◌, ℕ, List, Option, Result}
+use Rattle.std.specs.Prelude.{◌≡◌, ℕ, List, Result}
 use Rattle.ht_grammar.specs.Statements as stm
 use Rattle.ht_grammar.specs.Trees as tree
 use Rattle.change_journal.specs.History.{History}
@@ -40,7 +40,7 @@ ActionsHaveOneOutcome =
 -- and two lookups of the same reference
 abbrev pub ReferencesHaveOneOutcome : Type 0
 ReferencesHaveOneOutcome =
-    (w v w2 v2 : History) (r r2 q2 : RunState) (pa : tree.Part) (o p : Result (Option ℕ) Stop) →
+    (w v w2 v2 : History) (r r2 q2 : RunState) (pa : tree.Part) (o p : Result ℕ Stop) →
     v.now ≡ w.now → NoneIsFree (sorts w) → Refers w r pa o w2 r2 → Refers v r pa p v2 q2 → HasMemory o → HasMemory p →
     SameOutcome w v w2 v2 r2 q2 o p
 

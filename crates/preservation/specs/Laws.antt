@@ -1,5 +1,5 @@
 -- Laws over the rules: what each run keeps that doesn't run out of memory.
-use Rattle.std.specs.Prelude.{◌≡◌, ◌≤◌, ℕ, List, [], ◌++◌, Option, Result, Err}
+use Rattle.std.specs.Prelude.{◌≡◌, ◌≤◌, ℕ, List, [], ◌++◌, Result, Err}
 use Rattle.ht_grammar.specs.Statements as stm
 use Rattle.ht_grammar.specs.Trees as tree
 use Rattle.journal_entries.specs.Replaced.{Replacement, places_of}
@@ -103,22 +103,22 @@ ActionsStayWhole =
 
 abbrev pub ReferencesKeepBases : Type 0
 ReferencesKeepBases =
-    (w w2 : History) (r r2 : RunState) (pa : tree.Part) (o : Result (Option ℕ) Stop) →
+    (w w2 : History) (r r2 : RunState) (pa : tree.Part) (o : Result ℕ Stop) →
     Refers w r pa o w2 r2 → HasMemory o → base w2 ≡ base w
 
 abbrev pub ReferencesRise : Type 0
 ReferencesRise =
-    (w w2 : History) (r r2 : RunState) (pa : tree.Part) (o : Result (Option ℕ) Stop) (refers : Refers w r pa o w2 r2) →
+    (w w2 : History) (r r2 : RunState) (pa : tree.Part) (o : Result ℕ Stop) (refers : Refers w r pa o w2 r2) →
     HasMemory o → RisesBy (replaced_refers refers) w.start w2.start
 
 abbrev pub ReferencesGoOn : Type 0
 ReferencesGoOn =
-    (w w2 : History) (r r2 : RunState) (pa : tree.Part) (o : Result (Option ℕ) Stop) →
+    (w w2 : History) (r r2 : RunState) (pa : tree.Part) (o : Result ℕ Stop) →
     Refers w r pa o w2 r2 → HasMemory o → GoesOn r r2
 
 abbrev pub ReferencesStayWhole : Type 0
 ReferencesStayWhole =
-    (w w2 : History) (r r2 : RunState) (pa : tree.Part) (o : Result (Option ℕ) Stop) (refers : Refers w r pa o w2 r2) →
+    (w w2 : History) (r r2 : RunState) (pa : tree.Part) (o : Result ℕ Stop) (refers : Refers w r pa o w2 r2) →
     HasMemory o → KeepsWhole (replaced_refers refers) w w2
 
 -- ---- the value of an expression

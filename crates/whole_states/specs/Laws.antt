@@ -1,5 +1,5 @@
 -- Laws over the rules: where no external is free, a run whose trees are of texts leads from whole states to whole states.
-use Rattle.std.specs.Prelude.{ℕ, List, Option, Result, IfOk}
+use Rattle.std.specs.Prelude.{ℕ, List, Result, IfOk}
 use Rattle.std.specs.List.{AllByRecursion}
 use Rattle.ht_values.specs.Text.{IsText}
 use Rattle.ht_grammar.specs.Statements as stm
@@ -35,7 +35,7 @@ ActionsLeadToWhole =
 -- of the reference of a dot line
 abbrev pub ReferencesLeadToWhole : Type 0
 ReferencesLeadToWhole =
-    (w w2 : History) (r r2 : RunState) (pa : tree.Part) (o : Result (Option ℕ) Stop) →
+    (w w2 : History) (r r2 : RunState) (pa : tree.Part) (o : Result ℕ Stop) →
     Refers w r pa o w2 r2 → HasMemory o → IsWhole w → RunTexts r → PartTexts pa → IsWhole w2 × RunTexts r2
 
 -- and of an expression, whose value is a text then
