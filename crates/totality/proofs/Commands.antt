@@ -65,11 +65,11 @@ tells_all_has h w r (mg ∷ ms) k =
 clicks_has : {n : ℕ} → AreExact → Level n → (w : History) (r : RunState) (pa : tree.Part) → Underway (suc n) w r →
     Has (suc n) (Clicks w r pa)
 clicks_has exact h w r pa k =
-    then (refers_has exact h w r pa k) (λ z w1 r1 g. Clicks.click_misses g)
-    (λ i w1 r1 k1 g. then (tells_has h w1 r1 i MouseDown k1) (λ z w2 r2 g2. Clicks.press_stops g g2)
-        (λ _ w2 r2 k2 g2. choose (is_some (object_at w2.now.stack i))
-        (λ there. same (tells_has h w2 r2 i MouseUp k2) (λ o w3 r3 g3. Clicks.clicks g g2 there g3))
-        (λ gone. ok _ k2 (Clicks.part_goes g g2 gone)))
+    then (refers_has exact h w r pa k) (λ z w1 r1 g. Clicks.click_misses g) (λ i w1 r1 k1 g.
+    then (tells_has h w1 r1 i MouseDown k1) (λ z w2 r2 g2. Clicks.press_stops g g2) (λ _ w2 r2 k2 g2.
+    choose (is_some (object_at w2.now.stack i))
+    (λ there. same (tells_has h w2 r2 i MouseUp k2) (λ o w3 r3 g3. Clicks.clicks g g2 there g3))
+    (λ gone. ok _ k2 (Clicks.part_goes g g2 gone))))
 
 no_value : {A : Type 0} {fa : Fault} {a : A} → Err fa ≡ Ok a → ⊥
 no_value e = cc
