@@ -1,5 +1,6 @@
 pub mod Words
 pub mod Constants
+pub mod Ordinals
 pub mod Pieces
 pub mod Lexemes
 pub mod Token

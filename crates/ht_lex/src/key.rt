@@ -2,6 +2,7 @@
 
 ghost use Rattle.std.specs.Prelude.{◌≡◌};
 ghost use Rattle.ht_lex.specs.Constants.{constant_text};
+ghost use Rattle.ht_lex.specs.Ordinals.{from_first as number_from_first};
 
 use ht_values::{ChunkKind, PartKind};
 
@@ -100,6 +101,27 @@ pub enum Ordinal {
     Ninth,
     Tenth,
     Last,
+}
+
+impl Ordinal {
+    /// Its number, from 1 to 10, however many there are; `None` of the last.
+    pub fn from_first(self) -> Option<u8>
+        ensures { result ≡ number_from_first self }
+    {
+        match self {
+            Ordinal::First => Some(1),
+            Ordinal::Second => Some(2),
+            Ordinal::Third => Some(3),
+            Ordinal::Fourth => Some(4),
+            Ordinal::Fifth => Some(5),
+            Ordinal::Sixth => Some(6),
+            Ordinal::Seventh => Some(7),
+            Ordinal::Eighth => Some(8),
+            Ordinal::Ninth => Some(9),
+            Ordinal::Tenth => Some(10),
+            Ordinal::Last => None,
+        }
+    }
 }
 
 /// The constants but `return`, which is a key of its own.

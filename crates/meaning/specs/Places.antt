@@ -8,7 +8,7 @@ use Rattle.ht_values.specs.declared.word.Prop.{Prop}
 use Rattle.ht_values.specs.declared.word.Where.TheVariants.{Into}
 use Rattle.ht_values.specs.Outcome.{and_then}
 use Rattle.ht_lex.specs.declared.key.Ordinal.{Ordinal}
-use Rattle.ht_lex.specs.declared.key.Ordinal.TheVariants as ordinal
+use Rattle.ht_lex.specs.Ordinals.{from_first}
 use Rattle.chunks.specs.declared.chunk.Chunk.{Chunk}
 use Rattle.chunks.specs.declared.chunk.Index.{Index}
 use Rattle.chunks.specs.declared.chunk.Index.TheVariants.{At, Last}
@@ -36,22 +36,14 @@ use Rattle.meaning.specs.declared.frame.Frame.{Frame}
 abbrev pub pieces_at : ChunkKind → ℤ → ℤ → Chunk
 pieces_at kind a b = record { kind = kind; from = At a; to = At b }
 
-abbrev pub index_of : Ordinal → Index
-index_of ordinal.First = At (pos 1)
-index_of ordinal.Second = At (pos 2)
-index_of ordinal.Third = At (pos 3)
-index_of ordinal.Fourth = At (pos 4)
-index_of ordinal.Fifth = At (pos 5)
-index_of ordinal.Sixth = At (pos 6)
-index_of ordinal.Seventh = At (pos 7)
-index_of ordinal.Eighth = At (pos 8)
-index_of ordinal.Ninth = At (pos 9)
-index_of ordinal.Tenth = At (pos 10)
-index_of ordinal.Last = Last
+-- the index of a number, or the last
+abbrev pub index_by : Option ℕ → Index
+index_by (Some n) = At (pos n)
+index_by None = Last
 
 -- the one piece of an ordinal
 abbrev pub nth_piece : Ordinal → ChunkKind → Chunk
-nth_piece o kind = record { kind = kind; from = index_of o; to = index_of o }
+nth_piece o kind = record { kind = kind; from = index_by (from_first o); to = index_by (from_first o) }
 
 -- the place of a variable, whole
 abbrev pub variable_place : VariablesView → List ℕ → PlaceView

@@ -9,7 +9,7 @@ use Rattle.ht_values.specs.declared.word.PartKind.TheVariants.{Button, Field}
 use Rattle.ht_values.specs.Number.{is_numeral, value_of}
 use Rattle.ht_values.specs.Outcome.{and_then}
 use Rattle.ht_lex.specs.declared.key.Ordinal.{Ordinal}
-use Rattle.ht_lex.specs.declared.key.Ordinal.TheVariants as ordinal
+use Rattle.ht_lex.specs.Ordinals.{from_first}
 use Rattle.ht_grammar.specs.declared.vocabulary.Layer.{Layer}
 use Rattle.ht_grammar.specs.declared.vocabulary.Layer.TheVariants as layer
 use Rattle.object_table.specs.Content.{Content}
@@ -31,17 +31,7 @@ use Rattle.object_references.specs.declared.referent.Referent.{Referent}
 
 -- the number of an ordinal among so many
 abbrev pub ordinal_number : Ordinal → ℕ → ℕ
-ordinal_number ordinal.First count = 1
-ordinal_number ordinal.Second count = 2
-ordinal_number ordinal.Third count = 3
-ordinal_number ordinal.Fourth count = 4
-ordinal_number ordinal.Fifth count = 5
-ordinal_number ordinal.Sixth count = 6
-ordinal_number ordinal.Seventh count = 7
-ordinal_number ordinal.Eighth count = 8
-ordinal_number ordinal.Ninth count = 9
-ordinal_number ordinal.Tenth count = 10
-ordinal_number ordinal.Last count = count
+ordinal_number o count = unwrap_or (from_first o) count
 
 -- the one with a number, counted from 1
 abbrev pub numbered : List ℕ → ℤ → Option ℕ

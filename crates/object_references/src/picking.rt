@@ -1,6 +1,6 @@
 //! One of several objects in their order.
 
-ghost use Rattle.std.specs.Prelude.{◌≡◌, List, ℕ, length, option_and_then, unwrap_or};
+ghost use Rattle.std.specs.Prelude.{◌≡◌, List, ℕ, length, option_and_then};
 ghost use Rattle.object_table.specs.Content.{Content};
 ghost use Rattle.object_table.specs.Numbers.{at_number, of_kind};
 ghost use Rattle.object_table.specs.References.{pick as pick_of};
@@ -13,30 +13,14 @@ use ht_lex::Ordinal;
 use ht_values::{PartKind, Text, numeral};
 use object_table::{Id, IdList, LayerId, Stack, Which};
 
-/// The number of an ordinal, however many they are. `None` of the last, which has the number that they count.
-fn number_from_first(ordinal: Ordinal) -> Option<usize>
-    ensures { (count : ℕ) → unwrap_or result count ≡ references.ordinal_number ordinal count }
-{
-    match ordinal {
-        Ordinal::First => Some(1),
-        Ordinal::Second => Some(2),
-        Ordinal::Third => Some(3),
-        Ordinal::Fourth => Some(4),
-        Ordinal::Fifth => Some(5),
-        Ordinal::Sixth => Some(6),
-        Ordinal::Seventh => Some(7),
-        Ordinal::Eighth => Some(8),
-        Ordinal::Ninth => Some(9),
-        Ordinal::Tenth => Some(10),
-        Ordinal::Last => None,
-    }
-}
-
 /// The number of an ordinal among so many: the last has the number that they count.
 pub fn ordinal_number(ordinal: Ordinal, count: usize) -> usize
     ensures { result ≡ references.ordinal_number ordinal count }
 {
-    number_from_first(ordinal).unwrap_or(count)
+    match ordinal.from_first() {
+        Some(number) => usize::from(number),
+        None => count,
+    }
 }
 
 fn by_id(text: &Text) -> Option<Which<'_>>
@@ -93,8 +77,8 @@ fn nth_part(stack: &Stack, layer: LayerId, kind: PartKind, ordinal: Ordinal) -> 
     ensures { result ≡ references.picked stack.now.content (references.parts_on stack.now.content layer kind)
         (variants.Nth ordinal) }
 {
-    match number_from_first(ordinal) {
-        Some(number) => stack.find_part(layer, kind, Which::Number(number)),
+    match ordinal.from_first() {
+        Some(number) => stack.find_part(layer, kind, Which::Number(usize::from(number))),
         None => last_part(stack, parts_of(stack, layer), kind),
     }
 }

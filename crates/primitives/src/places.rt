@@ -51,18 +51,9 @@ pub fn pieces_at(kind: ChunkKind, from: i64, to: i64) -> Chunk
 pub fn nth_piece(ordinal: Ordinal, kind: ChunkKind) -> Chunk
     ensures { result ≡ nth_piece_of ordinal kind }
 {
-    let index = match ordinal {
-        Ordinal::First => Index::At(1),
-        Ordinal::Second => Index::At(2),
-        Ordinal::Third => Index::At(3),
-        Ordinal::Fourth => Index::At(4),
-        Ordinal::Fifth => Index::At(5),
-        Ordinal::Sixth => Index::At(6),
-        Ordinal::Seventh => Index::At(7),
-        Ordinal::Eighth => Index::At(8),
-        Ordinal::Ninth => Index::At(9),
-        Ordinal::Tenth => Index::At(10),
-        Ordinal::Last => Index::Last,
+    let index = match ordinal.from_first() {
+        Some(number) => Index::At(i64::from(number)),
+        None => Index::Last,
     };
     Chunk {
         kind,
