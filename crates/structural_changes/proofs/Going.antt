@@ -27,7 +27,8 @@ use Rattle.structural_changes.specs.Prepared.{has_content, pairs_kept}
 use Rattle.structural_changes.specs.Writes.{home, is_last_card, goes_as_layer, goes_as_part, goes_as_content}
 use Rattle.structural_changes.proofs.Ascending.{has, sorted_once, ascending_keys}
 use Rattle.structural_changes.proofs.Cards.{card_home}
-use Rattle.structural_changes.proofs.Deletion.{total-lost, and_passes, card_part-not, listed_part, gone, live}
+use Rattle.structural_changes.proofs.Deletion.{live}
+use Rattle.structural_changes.proofs.Leaving.{total-lost, and_passes, card_part-not, listed_part, gone}
 use Rattle.structural_changes.proofs.Deletion.{it_alone, not_zero, field_of_card, field_of_background}
 use Rattle.structural_changes.proofs.Deletion.{button_of_background}
 use Rattle.structural_changes.proofs.Filled.{any-filter, nat_eq_sym}

@@ -5,6 +5,7 @@ pub mod Grown
 pub mod Parts
 pub mod Cards
 pub mod Backgrounds
+pub mod Leaving
 pub mod Deletion
 pub mod Examples
 pub mod Ascending

@@ -2,7 +2,7 @@ use Rattle.std.proofs.Common.{eqb, ap, ◌∙◌, ◌++◌}
 use Rattle.std.proofs.lemmas.List.Filters.{dedup_is}
 use Rattle.object_table.specs.Objects.{contains_id}
 use Rattle.structural_changes.proofs.Ascending.{sorted_ids}
-use Rattle.structural_changes.proofs.Deletion.{gone}
+use Rattle.structural_changes.proofs.Leaving.{gone}
 use Rattle.structural_changes.proofs.Going.{found_objects}
 use Rattle.structural_changes.proofs.removing.objects_that_go.Goals as goal
 
