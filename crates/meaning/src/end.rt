@@ -27,7 +27,7 @@ pub enum Stop {
     Memory,
 }
 
-/// How a command ends that isn't stopped by a fault.
+/// How a command ends that isn't stopped by a fault, for whoever runs one. Within a command `Stop` tells both.
 #[derive(Clone, Copy, PartialEq, Eq, Debug)]
 pub enum Ended {
     Done,
