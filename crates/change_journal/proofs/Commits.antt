@@ -124,7 +124,7 @@ history-committed b batch w f =
       start = None;
       depth =
           b.depth;
-      turns = b.present.turns;
+      logs = b.present.logs;
     }
 
 pub IsSound-committed : (b : Journal) (room more : ℕ) (batch : BatchView) → IsSound b room (Some batch)

@@ -90,7 +90,7 @@ history-back b j batch n l e ready =
       } ∷ future_steps names (same i) (drop b.cursor b.batches);
       start = None;
       depth = b.depth;
-      turns = b.present.turns;
+      logs = b.present.logs;
     })
 
 pub IsSound-back : (b : Journal) (j room : ℕ) (batch : BatchView) → b.cursor ≡ j + 1 → batch ≡ get_or b.batches j batch
@@ -165,7 +165,7 @@ history-forth b batch l e ready =
       future = future_steps names t (drop (b.cursor + 1) b.batches);
       start = None;
       depth = b.depth;
-      turns = b.present.turns;
+      logs = b.present.logs;
     })
 
 pub IsSound-forth : (b : Journal) (room : ℕ) (batch : BatchView) → b.cursor < length b.batches

@@ -84,7 +84,7 @@ history-grown b k batch w ready opened =
             trail = trail i;
           });
       depth = b.depth;
-      turns = w.turns i;
+      logs = w.logs i;
     }
 
 pub AllReady-grown : (b : Journal) (k : PresentView) → Grows b.present k → AllReady (shape_of b.present) b.batches

@@ -26,7 +26,7 @@ use Rattle.journal_entries.specs.Trails.{Mark, at, structural, turned, holds, ma
 use Rattle.journal_entries.specs.Exchange.{PresentView, BatchView, Shape, with_cells, shape_of, exchanged, taken, back}
 use Rattle.journal_entries.specs.Exchange.{back_taken, forth, weight, entry_weight, mark_of, trail_of, IsReady}
 use Rattle.journal_entries.specs.Exchange.{AreReady}
-use Rattle.journal_entries.specs.Turning.{Carries, AreCarried, Prepares, Turns, IsNumbered, one_more_at, with_cells_at}
+use Rattle.journal_entries.specs.Turning.{Carries, AreCarried, Prepares, Turns, IsNumbered, logs_after, with_cells_at}
 use Rattle.journal_entries.specs.Changing.{Makes, kept, kept_in_turn, kept_turn, holds_one}
 use Rattle.journal_entries.specs.declared.entry.Entry.{Entry}
 use Rattle.journal_entries.specs.declared.entry.Entry.TheVariants.{External}
@@ -52,7 +52,7 @@ use Rattle.change_journal.proofs.Objects.{externals-deletion}
 history-round : (b : Journal) (k : PresentView) (batch more : BatchView) → k.names ≡ b.present.names
     → back b.present.names k.state more.entries ≡ back b.present.names b.present.state batch.entries
     → history_of (with_present b k) (Some more)
-    ≡ record (history_of b (Some batch)) { now = k.state; start = Some (open_of k.names k.state more); turns = k.turns }
+    ≡ record (history_of b (Some batch)) { now = k.state; start = Some (open_of k.names k.state more); logs = k.logs }
 history-round b k batch more names same =
     let s : back k.names k.state more.entries ≡ back b.present.names b.present.state batch.entries =
     (λ i. back (names i) k.state more.entries) ∙ same in
@@ -63,7 +63,7 @@ history-round b k batch more names same =
       future = future_steps (names i) (s i) (drop b.cursor b.batches);
       start = Some (open_of k.names k.state more);
       depth = b.depth;
-      turns = k.turns;
+      logs = k.logs;
     }
 
 -- ---- a write
@@ -430,19 +430,20 @@ pub turned-all : (b : Journal) (k : PresentView) (batch more : BatchView) (i : �
     (p : Changes) → i < length b.present.state.externals → Turns b.present.state k.state i input ask
     → IsPatch (seen_at b.present.state i).cells (seen_at k.state i).cells p
     → more ≡ record batch { entries = kept_turn batch.entries i p }
-    → k ≡ record b.present { state = k.state; turns = one_more_at b.present.turns i }
+    → k ≡ record b.present
+    { state = k.state; logs = logs_after b.present.logs b.present.state k.state i input ask }
     → TookTurn (history_of b (Some batch)) (history_of (with_present b k) (Some more)) i input ask
 turned-all b k batch more i input ask p there turn patch batch_is present_is =
     let h = b.present in
     let names : k.names ≡ h.names = ap (λ x. x.names) present_is in
-    let turns : k.turns ≡ one_more_at h.turns i = ap (λ x. x.turns) present_is in
+    let logs : k.logs ≡ logs_after h.logs h.state k.state i input ask = ap (λ x. x.logs) present_is in
     let new : BatchView = record batch { entries = kept_turn batch.entries i p } in
     let up = rises-turned h batch k i input ask p names there turn patch in
     let round = history-round b k batch new names up.state in
     rw batch_is (record {
       turn = turn;
-      history = round ∙ ap (λ ts. record (history_of b (Some batch))
-          { now = k.state; start = Some (open_of k.names k.state new); turns = ts }) turns;
+      history = round ∙ ap (λ ls. record (history_of b (Some batch))
+          { now = k.state; start = Some (open_of k.names k.state new); logs = ls }) logs;
       start = rw names up;
     })
 
@@ -496,7 +497,8 @@ pub IsSound-turned : (b : Journal) (k : PresentView) (room : ℕ) (batch more : 
     (ask : Ask) (p : Changes) → i < length b.present.state.externals → IsExternal (seen_at k.state i)
     → Turns b.present.state k.state i input ask → IsPatch (seen_at b.present.state i).cells (seen_at k.state i).cells p
     → more ≡ record batch { entries = kept_turn batch.entries i p }
-    → k ≡ record b.present { state = k.state; turns = one_more_at b.present.turns i } → IsSound b room (Some batch)
+    → k ≡ record b.present
+    { state = k.state; logs = logs_after b.present.logs b.present.state k.state i input ask } → IsSound b room (Some batch)
     → IsSound (with_present b k) room (Some more)
 IsSound-turned b k room batch more i input ask p there known turn patch batch_is present_is sound =
     let h = shape_of b.present in

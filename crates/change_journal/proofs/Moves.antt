@@ -34,8 +34,8 @@ journal_unplugged b oldest i = record b {
   present = record b.present {
     state = record b.present.state
         { externals = take i b.present.state.externals ++ drop (i + 1) b.present.state.externals };
-    turns =
-        take i b.present.turns ++ drop (i + 1) b.present.turns;
+    logs =
+        take i b.present.logs ++ drop (i + 1) b.present.logs;
   };
   oldest = oldest;
   batches = [];

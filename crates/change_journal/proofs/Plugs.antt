@@ -2,6 +2,7 @@
 use Rattle.std.proofs.Common.{◌≡◌, ◌++◌, ℕ, List, [], ◌∷◌, map, take, drop, reverse, refl, sym, subst, ap, ◌∙◌, None}
 use Rattle.std.proofs.Common.{false}
 use Rattle.externals.specs.Cells.{Seen, IsExternal}
+use Rattle.externals.specs.Log.{Log}
 use Rattle.object_table.specs.Table.{Room}
 use Rattle.journal_entries.specs.State.{State, has_name, titles_of}
 use Rattle.journal_entries.specs.Exchange.{BatchView, shape_of, back, forth, weight, trail_of}
@@ -52,13 +53,13 @@ future-plugged room names s x (b ∷ bs) r =
           b.entries;
     } ∷ rest i
 
-abbrev pub journal_plugged : Journal → Seen → ℕ → Journal
-journal_plugged b x turns = record b
-    { present = record b.present { state = with_external x b.present.state; turns = b.present.turns ++ turns ∷ [] } }
+abbrev pub journal_plugged : Journal → Seen → Log → Journal
+journal_plugged b x log = record b
+    { present = record b.present { state = with_external x b.present.state; logs = b.present.logs ++ log ∷ [] } }
 
-pub history-plugged : (b : Journal) (x : Seen) (turns : ℕ) → AllReady (shape_of b.present) b.batches
-    → history_of (journal_plugged b x turns) None ≡ plugged (history_of b None) x turns
-history-plugged b x turns ready =
+pub history-plugged : (b : Journal) (x : Seen) (log : Log) → AllReady (shape_of b.present) b.batches
+    → history_of (journal_plugged b x log) None ≡ plugged (history_of b None) x log
+history-plugged b x log ready =
     let h = b.present in
     let past = past-plugged h.room h.names b.oldest h.state x (reverse (take b.cursor b.batches))
     (AllReady-reverse (shape_of h) (take b.cursor b.batches)
@@ -74,18 +75,18 @@ history-plugged b x turns ready =
           future i;
       start = None;
       depth = b.depth;
-      turns = h.turns ++ turns ∷ [];
+      logs = h.logs ++ log ∷ [];
     }
 
-pub IsSound-plugged : (b : Journal) (room : ℕ) (x : Seen) (turns : ℕ) → IsExternal x
+pub IsSound-plugged : (b : Journal) (room : ℕ) (x : Seen) (log : Log) → IsExternal x
     → has_name x.title (titles_of b.present.state.externals) ≡ false → IsSound b room None
-    → IsSound (journal_plugged b x turns) room None
-IsSound-plugged b room x turns known new sound = record {
+    → IsSound (journal_plugged b x log) room None
+IsSound-plugged b room x log known new sound = record {
   within = sound.within;
   few = sound.few;
   some = sound.some;
   ready = AllReady-plugged b.present.room b.present.names b.present.state x b.batches sound.ready;
   opened = tt;
-  history = rw (history-plugged b x turns sound.ready)
-      (IsHistory-plugged (history_of b None) x turns refl known new sound.history);
+  history = rw (history-plugged b x log sound.ready)
+      (IsHistory-plugged (history_of b None) x log refl known new sound.history);
 }

@@ -7,10 +7,11 @@ use Rattle.std.proofs.lemmas.List.{map-append}
 use Rattle.std.proofs.lemmas.List.Elements.{All-append, All-push, All-take, All-drop}
 use Rattle.ht_values.specs.Text.{same, folded}
 use Rattle.externals.specs.Cells.{Seen, IsExternal}
+use Rattle.externals.specs.Log.{Log}
 use Rattle.journal_entries.proofs.Once.{and_not_parts}
 use Rattle.journal_entries.proofs.Turned.{map-without}
 use Rattle.journal_entries.specs.State.{State, titles_of, has_name, are_apart}
-use Rattle.change_journal.specs.History.{Step, Open, History, AreStates, IsStateOf, IsHistory, begun, committed}
+use Rattle.change_journal.specs.History.{Step, Open, History, AreStates, IsStateOf, IsHistory, committed}
 use Rattle.change_journal.specs.History.{rolled_back, flipped_back, flipped_forth, plugged, unplugged_at}
 use Rattle.change_journal.specs.History.{with_external, step_with_external, without_at}
 
@@ -112,9 +113,9 @@ steps-plugged ts x [] known new h = tt
 steps-plugged ts x (s ∷ steps) known new h =
     (state-plugged ts x s.state known new h.0, steps-plugged ts x steps known new h.1)
 
-pub IsHistory-plugged : (h : History) (x : Seen) (turns : ℕ) → h.start ≡ None → IsExternal x
-    → has_name x.title (titles_of h.now.externals) ≡ false → IsHistory h → IsHistory (plugged h x turns)
-IsHistory-plugged h x turns none known new q =
+pub IsHistory-plugged : (h : History) (x : Seen) (log : Log) → h.start ≡ None → IsExternal x
+    → has_name x.title (titles_of h.now.externals) ≡ false → IsHistory h → IsHistory (plugged h x log)
+IsHistory-plugged h x log none known new q =
     let free : has_name x.title q.titles ≡ false = rw q.now.titles at new in
     record {
       titles = q.titles ++ x.title ∷ [];

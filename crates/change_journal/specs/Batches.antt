@@ -64,7 +64,7 @@ around b s start = record {
       future_steps b.present.names s (redoable b);
   start = start;
   depth = b.depth;
-  turns = b.present.turns;
+  logs = b.present.logs;
 }
 
 -- the open batch, which leads back from this state

@@ -3,6 +3,7 @@ use Rattle.std.specs.Prelude.{◌≡◌, ℕ, ◌+◌, List, [], ◌∷◌, ◌+
 use Rattle.std.specs.Prelude.{slice_index_or, refl}
 use Rattle.std.specs.Coded.{Coded, code_by, coded×, coded_list, coded_ℕ, coded_option}
 use Rattle.externals.specs.Cells.{Seen}
+use Rattle.externals.specs.Log.{Log, coded_log}
 use Rattle.journal_entries.specs.State.{State, IsState, coded_state, titles_of, index_of}
 use Rattle.journal_entries.specs.Trails.{Mark, IsOnce}
 use Rattle.change_journal.specs.Marks.{coded_trail}
@@ -26,7 +27,8 @@ pub record Open : Type 0 where
 
 -- The states before the cursor and after it, the nearest first, and the present one with its number. Where a
 -- batch is open, past and future stand round the state that it began with, whose number it is. At most depth
--- states stand before the cursor. The turns of the externals are beside the states.
+-- states stand before the cursor. The logs of the externals are beside the states, and no undo
+-- takes a turn out of them.
 pub record History : Type 0 where
   pub past : List Step
   pub now : State
@@ -34,7 +36,7 @@ pub record History : Type 0 where
   pub future : List Step
   pub start : Option Open
   pub depth : ℕ
-  pub turns : List ℕ
+  pub logs : List Log
 
 abbrev pub coded_step : Coded Step
 coded_step = code_by (State × (ℕ × (ℕ × (ℕ × List Mark))))
@@ -49,11 +51,11 @@ coded_open = code_by (State × (ℕ × (ℕ × (ℕ × List Mark))))
     (λ p. record { state = p.0; number = p.1.0; undo = p.1.1.0; redo = p.1.1.1.0; trail = p.1.1.1.1 }) (λ _. refl)
 
 abbrev pub coded_history : Coded History
-coded_history = code_by (List Step × (State × (ℕ × (List Step × (Option Open × (ℕ × List ℕ))))))
+coded_history = code_by (List Step × (State × (ℕ × (List Step × (Option Open × (ℕ × List Log))))))
     (coded× (coded_list coded_step)
     (coded× coded_state (coded× coded_ℕ
-    (coded× (coded_list coded_step) (coded× (coded_option coded_open) (coded× coded_ℕ (coded_list coded_ℕ)))))))
-    (λ h. (h.past, (h.now, (h.stamp, (h.future, (h.start, (h.depth, h.turns)))))))
+    (coded× (coded_list coded_step) (coded× (coded_option coded_open) (coded× coded_ℕ (coded_list coded_log)))))))
+    (λ h. (h.past, (h.now, (h.stamp, (h.future, (h.start, (h.depth, h.logs)))))))
     (λ p. record {
       past = p.0;
       now = p.1.0;
@@ -62,7 +64,7 @@ coded_history = code_by (List Step × (State × (ℕ × (List Step × (Option Op
       start = p.1.1.1.1.0;
       depth =
           p.1.1.1.1.1.0;
-      turns = p.1.1.1.1.1.1;
+      logs = p.1.1.1.1.1.1;
     }) (λ _. refl)
 
 abbrev pub states_of : List Step → List State
@@ -77,9 +79,9 @@ abbrev pub stamp_at : History → ℕ → ℕ
 stamp_at h i = slice_index_or (h.stamp ∷ map (λ step. step.stamp) h.past) i 0
 
 -- a history of one state
-abbrev pub alone : State → ℕ → ℕ → List ℕ → History
-alone s stamp depth turns =
-    record { past = []; now = s; stamp = stamp; future = []; start = None; depth = depth; turns = turns }
+abbrev pub alone : State → ℕ → ℕ → List Log → History
+alone s stamp depth logs =
+    record { past = []; now = s; stamp = stamp; future = []; start = None; depth = depth; logs = logs }
 
 -- ---- moves
 
@@ -137,20 +139,20 @@ flipped_forth_from h (step ∷ rest) = record h {
 abbrev pub flipped_forth : History → History
 flipped_forth h = flipped_forth_from h h.future
 
--- one more external in each state of the list
+-- one more external, with its log, in each state of the list
 abbrev pub with_external : Seen → State → State
 with_external x s = record s { externals = s.externals ++ x ∷ [] }
 
 abbrev pub step_with_external : Seen → Step → Step
 step_with_external x step = record step { state = with_external x step.state }
 
-abbrev pub plugged : History → Seen → ℕ → History
-plugged h x turns = record h {
+abbrev pub plugged : History → Seen → Log → History
+plugged h x log = record h {
   past = map (step_with_external x) h.past;
   now = with_external x h.now;
   future = map
       (step_with_external x) h.future;
-  turns = h.turns ++ turns ∷ [];
+  logs = h.logs ++ log ∷ [];
 }
 
 -- the present state alone, without the external of a name; where none has it nothing changes
@@ -160,7 +162,7 @@ without_at i xs = take i xs ++ drop (i + 1) xs
 abbrev pub unplugged_at : History → Option ℕ → History
 unplugged_at h None = h
 unplugged_at h (Some i) =
-    alone (record h.now { externals = without_at i h.now.externals }) h.stamp h.depth (without_at i h.turns)
+    alone (record h.now { externals = without_at i h.now.externals }) h.stamp h.depth (without_at i h.logs)
 
 abbrev pub unplugged : List ℕ → History → History
 unplugged name h = unplugged_at h (index_of name (titles_of h.now.externals))

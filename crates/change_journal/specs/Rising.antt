@@ -6,7 +6,7 @@ use Rattle.journal_entries.specs.State.{seen_at}
 use Rattle.journal_entries.specs.Changes.{changed}
 use Rattle.journal_entries.specs.Replaced.{Replacement, replaced_by, replaced_by_turn, back_weight, forth_weight}
 use Rattle.journal_entries.specs.Trails.{Mark, mark_at, marked, turned}
-use Rattle.journal_entries.specs.Turning.{Turns, one_more_at}
+use Rattle.journal_entries.specs.Turning.{Turns, logs_after}
 use Rattle.journal_entries.specs.declared.change.Change.{Change}
 use Rattle.change_journal.specs.History.{Open, History}
 
@@ -40,10 +40,12 @@ pub record Made (old new : History) (change : Change) : Type 0 where
   pub start : BothOpen old.start new.start
       (λ o p. Rises (replaced_by old.now change) (trail_after (replaced_by old.now change) o.trail) o p)
 
--- a turn of the i-th external in an open batch
+-- A turn of the i-th external in an open batch. Where its kind is free, its log has this turn more at its end; all other
+-- logs stay.
 pub record TookTurn (old new : History) (i : ℕ) (input : Input) (ask : Ask) : Type 0 where
   pub turn : Turns old.now new.now i input ask
-  pub history : new ≡ record old { now = new.now; start = new.start; turns = one_more_at old.turns i }
+  pub history : new ≡ record old
+      { now = new.now; start = new.start; logs = logs_after old.logs old.now new.now i input ask }
   pub start : BothOpen old.start new.start
       (λ o p. let replaced = replaced_by_turn i (seen_at old.now i).cells (seen_at new.now i).cells in Rises replaced
       (trail_after_turn replaced o.trail) o p)

@@ -1,6 +1,6 @@
 //! The world: one present state, and the batches that lead back and forth from it.
 
-ghost use Rattle.std.specs.Prelude.{◌≡◌, ◌⊎◌, ℕ, ◌<◌, ◌≤◌, List, [], ◌∷◌, ◌++◌, length, true, IsErr, Some, None};
+ghost use Rattle.std.specs.Prelude.{◌≡◌, ℕ, ◌<◌, ◌≤◌, List, [], ◌∷◌, ◌++◌, length, true, IsErr, Some, None};
 ghost use Rattle.std.specs.Prelude.{IsSome, IfSome, IsTrue, IfOk, IfErr, OnErr, OnOk, is_ok, map, option_map};
 ghost use Rattle.std.specs.Prelude.{option_copied, slice_index_or, slice_get};
 ghost use Rattle.std.specs.FinMap as finite;
@@ -15,7 +15,6 @@ ghost use Rattle.journal_entries.specs.Changes.{fits};
 ghost use Rattle.journal_entries.specs.ScriptTrees.{object_script};
 ghost use Rattle.journal_entries.specs.declared.change.Change.TheVariants as made_change;
 ghost use Rattle.journal_entries.specs.Trails.{IsOnce, IsShort, different, places_in};
-ghost use Rattle.journal_entries.specs.Turning.{one_more_at};
 ghost use Rattle.change_journal.specs.History.{IsHistory, alone, begun, committed, rolled_back, flipped_back};
 ghost use Rattle.change_journal.specs.History.{flipped_forth, plugged, unplugged, stamp_at};
 ghost use Rattle.std.specs.VecDeque.{deque_len, deque_capacity};
@@ -123,7 +122,7 @@ impl<E: External> World<E> {
         ensures apart { is_ok result ≡ apart_titles (map E.title externals.items) }
         ensures ok { IfOk result (λ w. w.history ≡ alone
             (first_state stack.content (map (seen_by E.title E.sort E.answers_calls E.cells) externals.items)) 0 depth
-            (map E.turn_count externals.items)) }
+            (map E.log externals.items)) }
         ensures err { IfErr result (λ e. (e.0 ≡ WorldError.DuplicateName) × (e.1 ≡ stack) × (e.2.items ≡ externals.items)) }
     {
         if !are_apart(&externals) {
@@ -233,7 +232,7 @@ impl<E: External> World<E> {
     pub fn external(&self, i: usize) -> &E
         requires { i < length self.now.history.now.externals }
         ensures seen { seen_by E.title E.sort E.answers_calls E.cells result.now ≡ seen_at self.now.history.now i }
-        ensures turns { E.turn_count result.now ≡ slice_index_or self.now.history.turns i 0 }
+        ensures log { E.log result.now ≡ slice_index_or self.now.history.logs i [] }
     {
         self.present.external(i)
     }
@@ -316,14 +315,13 @@ impl<E: External> World<E> {
         }
     }
 
-    /// Gives the i-th external one turn. Where memory was refused nothing changes but its count of turns, which
-    /// rises by one at most.
+    /// Gives the i-th external one turn, which the log of one that answers freely has then at its end. Where memory was
+    /// refused nothing changes.
     pub fn turn_external(&mut self, i: usize, input: &Input) -> Result<Ask, AllocError>
         requires open { IsSome self.old.history.start }
         requires there { i < length self.old.history.now.externals }
         ensures ok { IfOk result (λ ask. TookTurn self.old.history self.new.history i input.now ask) }
-        ensures err { OnErr result ((self.new.history ≡ self.old.history)
-            ⊎ (self.new.history ≡ record self.old.history { turns = one_more_at self.old.history.turns i })) }
+        ensures err { OnErr result (self.new.history ≡ self.old.history) }
     {
         let ask = match &mut self.open {
             Some(batch) => batch.turn(&mut self.present, i, self.alloc, input)?,
@@ -388,7 +386,7 @@ impl<E: External> World<E> {
         requires { self.old.history.start ≡ None }
         ensures ok { OnOk result (self.new.history
             ≡ plugged self.old.history (seen_by E.title E.sort E.answers_calls E.cells external)
-            (E.turn_count external)) }
+            (E.log external)) }
         ensures err { IfErr result (λ e. (e.1 ≡ external) × (self.new.history ≡ self.old.history)) }
         ensures duplicate { IfErr result
             (λ e. e.0 ≡ PlugError.DuplicateName
@@ -414,8 +412,8 @@ impl<E: External> World<E> {
         ensures history { self.new.history ≡ unplugged name.now self.old.history }
         ensures external { option_map (seen_by E.title E.sort E.answers_calls E.cells) result
             ≡ option_map (seen_at self.old.history.now) (index_of name.now (titles_of self.old.history.now.externals)) }
-        ensures turns { option_map E.turn_count result
-            ≡ option_map (λ i. slice_index_or self.old.history.turns i 0)
+        ensures log { option_map E.log result
+            ≡ option_map (λ i. slice_index_or self.old.history.logs i [])
             (index_of name.now (titles_of self.old.history.now.externals)) }
     {
         let i = self.present.external_number(name)?;
@@ -436,7 +434,7 @@ impl<E: External> World<E> {
     /// The externals in the order of plugging, with their cells of now.
     pub fn close(self) -> Vec<E>
         ensures seen { map (seen_by E.title E.sort E.answers_calls E.cells) result.items ≡ self.history.now.externals }
-        ensures turns { map E.turn_count result.items ≡ self.history.turns }
+        ensures logs { map E.log result.items ≡ self.history.logs }
     {
         let World {
             present,

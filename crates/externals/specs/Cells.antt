@@ -1,6 +1,6 @@
 -- Cells of an external, patches of them, and their flips.
 use Rattle.std.specs.Coded.{Coded, code_by, coded×, coded_ℕ, coded_bool, coded_list}
-use Rattle.std.specs.Prelude.{refl, true, false, Bool, ◌≡◌, ◌≢◌, ℕ, ◌+◌, ◌-◌, ◌<◌, ◌^◌, min, List, [], ◌∷◌, length}
+use Rattle.std.specs.Prelude.{refl, true, false, Bool, ◌≡◌, ◌≢◌, ℕ, ◌<◌, List, [], ◌∷◌, length}
 use Rattle.std.specs.Prelude.{All, slice_set, slice_index_or, slice_get, Some}
 use Rattle.ht_values.specs.Text.{IsText}
 
@@ -52,10 +52,6 @@ pub record IsKind (kind : ℕ) (flag : Bool) (count : ℕ) : Type 0 where
   pub bins : kind ≡ 2 → (flag ≡ false) × (count ≡ 16)
   pub relay : kind ≡ 3 → (flag ≡ false) × (count ≡ 2)
   pub gate : kind ≡ 4 → (flag ≡ false) × (count ≡ 1)
-
--- one more turn; the greatest value stays
-abbrev pub one_more_turn : ℕ → ℕ
-one_more_turn n = min (n + 1) (2 ^ 64 - 1)
 
 -- what is seen of an external: its name, kind, flag and cells
 pub record Seen : Type 0 where

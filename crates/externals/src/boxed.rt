@@ -14,7 +14,7 @@ impl External for Box<dyn External> {
 
     ghost cells = { λ b. (External-box b).cells b.value };
 
-    ghost turn_count = { λ b. (External-box b).turn_count b.value };
+    ghost log = { λ b. (External-box b).log b.value };
 
     fn name(&self) -> &Text {
         (**self).name()
@@ -34,10 +34,6 @@ impl External for Box<dyn External> {
 
     fn cell(&self, i: usize) -> &Text {
         (**self).cell(i)
-    }
-
-    fn turns(&self) -> u64 {
-        (**self).turns()
     }
 
     fn turn(&mut self, alloc: Global, input: &Input) -> Result<(Ask, Patch), AllocError> {

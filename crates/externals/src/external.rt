@@ -1,7 +1,7 @@
 //! What an external is: its name, kind and cells, and what it does at a turn.
 
 ghost use Rattle.std.specs.Prelude.{◌≡◌, ℕ, ◌<◌, Bool, List, length, IfOk, OnErr, slice_get, Some};
-ghost use Rattle.externals.specs.Cells.{flipped, taken_out, IsProper, IsPatch, IsKind, one_more_turn};
+ghost use Rattle.externals.specs.Cells.{flipped, taken_out, IsProper, IsPatch, IsKind};
 
 use crate::patch::Patch;
 use crate::texts::Texts;
@@ -48,8 +48,13 @@ pub enum Ask {
 ///
 /// Its name, its kind, whether it is a function and how many cells it has never change. Only `turn` and
 /// `flip` change cells. Kinds 1 to 4 answer as the table of kinds says; any other kind answers freely.
+///
+/// Its log is what a free kind did: each of its turns, with what it was handed, what it asked and its cells after it. No
+/// code reads it, so one that answers freely may keep it or not. It is no cell, and no flip takes a turn out of it. A
+/// kind of the table has no need of one, and adds nothing to it.
 pub trait External: Drop {
-    ghost use Rattle.externals.specs.Table.{Answers};
+    ghost use Rattle.externals.specs.Table.{Answers, turn_of};
+    ghost use Rattle.externals.specs.Log.{Log, log_after};
 
     ghost title: { Self → List ℕ };
 
@@ -59,7 +64,7 @@ pub trait External: Drop {
 
     ghost cells: { Self → List (List ℕ) };
 
-    ghost turn_count: { Self → ℕ };
+    ghost log: { Self → Log };
 
     /// The name by which handlers call it.
     fn name(&self) -> &Text
@@ -84,13 +89,15 @@ pub trait External: Drop {
         requires { i < length (cells self.now) }
         ensures { slice_get (cells self.now) i ≡ Some result.now };
 
-    /// One turn of a conversation. The patch names just the cells that changed, each once, with its old text.
-    /// Where memory was refused the cells are as before.
+    /// One turn of a conversation. The patch names just the cells that changed, each once, with its old text. A free kind
+    /// has then this turn more at the end of its log. Where memory was refused the cells and the log are as before.
     fn turn(&mut self, alloc: Global, input: &Input) -> Result<(Ask, Patch), AllocError>
         ensures answers { IfOk result (λ r. Answers (sort self.old) (cells self.old) input.now r.0 (cells self.new)) }
         ensures patch { IfOk result (λ r. IsPatch (cells self.old) (cells self.new) r.1) }
         ensures err { OnErr result (cells self.new ≡ cells self.old) }
-        ensures turns { turn_count self.new ≡ one_more_turn (turn_count self.old) }
+        ensures log { IfOk result (λ r. log self.new ≡ log_after (turn_of (sort self.old) (cells self.old) input.now)
+            (log self.old) (record { input = input.now; ask = r.0; cells = cells self.new })) }
+        ensures log_err { OnErr result (log self.new ≡ log self.old) }
         ensures title { title self.new ≡ title self.old }
         ensures sort { sort self.new ≡ sort self.old }
         ensures flag { answers_calls self.new ≡ answers_calls self.old };
@@ -100,13 +107,8 @@ pub trait External: Drop {
         requires { IsProper (length (cells self.old)) patch.old }
         ensures cells { cells self.new ≡ flipped (cells self.old) patch.old }
         ensures patch { patch.new ≡ taken_out (cells self.old) patch.old }
-        ensures turns { turn_count self.new ≡ turn_count self.old }
+        ensures log { log self.new ≡ log self.old }
         ensures title { title self.new ≡ title self.old }
         ensures sort { sort self.new ≡ sort self.old }
         ensures flag { answers_calls self.new ≡ answers_calls self.old };
-
-    /// How many turns it has taken, those that memory cut short too; the count stays at its greatest value.
-    /// It is no cell: nothing that is said of cells or of states speaks of it.
-    fn turns(&self) -> u64
-        ensures { result ≡ turn_count self.now };
 }

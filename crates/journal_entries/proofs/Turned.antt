@@ -3,12 +3,13 @@ use Rattle.std.proofs.Common.{take, drop, ◌≡◌, ◌++◌, ℕ, zero, suc, �
 use Rattle.std.proofs.Common.{refl, sym, ap, ◌∙◌, arith, length-set, Result, Ok, Err, OnErr, OnOk}
 use Rattle.std.proofs.lemmas.List.{map-set, get_or-map, get_or-set_same, set-get_or}
 use Rattle.externals.specs.Cells.{Seen, none_seen, Changes, IsPatch, flipped}
-use Rattle.externals.specs.Table.{Answers}
+use Rattle.externals.specs.Table.{Answers, turn_of}
+use Rattle.externals.specs.Log.{Log, log_after}
 use Rattle.externals.specs.declared.external.Input.{Input}
 use Rattle.externals.specs.declared.external.Ask.{Ask}
 use Rattle.journal_entries.specs.State.{State, seen_at}
 use Rattle.journal_entries.specs.Exchange.{Shape, counts_of, with_cells, exchanged, IsReady}
-use Rattle.journal_entries.specs.Turning.{Turns}
+use Rattle.journal_entries.specs.Turning.{Turns, logs_after}
 use Rattle.journal_entries.specs.declared.entry.Entry.TheVariants.{External}
 use Rattle.externals.proofs.Flipping.{patch_back, set-set_same}
 use Rattle.journal_entries.proofs.Going.{counts_of-set, get_or-seen, map_seen-set, get_or-counts, length-counts}
@@ -44,11 +45,24 @@ pub unturned : {X : Type 0} (f : X → Seen) (xs : List X) (i : ℕ) (x y : X) �
 unturned f xs i x y h e same = map-set f xs i y ∙ ap (λ z. set (map f xs) i z) (same ∙ sym (get_or-seen f xs i x h e))
     ∙ set-get_or (map f xs) i none_seen
 
--- how many turns
-pub turns_more : {X : Type 0} (n : X → ℕ) (xs : List X) (i : ℕ) (x y : X) (more : ℕ → ℕ) → i < length xs
-    → x ≡ get_or xs i x → n y ≡ more (n x) → map n (set xs i y) ≡ set (map n xs) i (more (get_or (map n xs) i 0))
-turns_more n xs i x y more h e is = map-set n xs i y
-    ∙ ap (λ z. set (map n xs) i z) (is ∙ ap (λ k. more k) (sym (get_or-map n xs i x 0 h ∙ ap n (sym e))))
+-- the log of the i-th has the turn
+pub logs_more : {X : Type 0} (f : X → Seen) (log : X → Log) (xs : List X) (i : ℕ) (x y : X) (input : Input) (ask : Ask)
+    → i < length xs → x ≡ get_or xs i x → log y ≡ log_after (turn_of (f x).sort (f x).cells input) (log x)
+    (record { input = input; ask = ask; cells = (f y).cells }) → (s : State) → s.externals ≡ map f xs
+    → map log (set xs i y)
+    ≡ logs_after (map log xs) s (record s { externals = map f (set xs i y) }) i input ask
+logs_more f log xs i x y input ask h e is s seen =
+    let old : seen_at s i ≡ f x = ap (λ es. get_or es i none_seen) seen ∙ get_or-seen f xs i x h e in
+    let new = seen_new f xs i y h in
+    let first : get_or (map log xs) i [] ≡ log x = get_or-map log xs i x [] h ∙ ap log (sym e) in
+    rw (old, new, first) (map-set log xs i y ∙ ap (λ z. set (map log xs) i z) is)
+
+-- where a turn is refused the log is as it was
+pub logs_same : {X : Type 0} (log : X → Log) (xs : List X) (i : ℕ) (x y : X) → i < length xs → x ≡ get_or xs i x
+    → log y ≡ log x → map log (set xs i y) ≡ map log xs
+logs_same log xs i x y h e same =
+    map-set log xs i y ∙ ap (λ z. set (map log xs) i z) (same ∙ sym (get_or-map log xs i x [] h ∙ ap log (sym e)))
+    ∙ set-get_or (map log xs) i []
 
 pub on_err : {T E P : Type 0} (r : Result T E) → P → OnErr r P
 on_err (Ok x) p = tt
@@ -96,6 +110,10 @@ IsReady-turned h old new i p is l q =
 pub on_ok_both : {T E P Q R : Type 0} (r : Result T E) → (P → Q → R) → OnOk r P → OnOk r Q → OnOk r R
 on_ok_both (Ok x) f p q = f p q
 on_ok_both (Err e) f p q = tt
+
+pub on_err_both : {T E P Q R : Type 0} (r : Result T E) → (P → Q → R) → OnErr r P → OnErr r Q → OnErr r R
+on_err_both (Ok x) f p q = tt
+on_err_both (Err e) f p q = f p q
 
 -- what holds either way
 pub either : {T E P Q R : Type 0} (r : Result T E) → OnOk r P → OnErr r Q → (P → R) → (Q → R) → R

@@ -4,6 +4,7 @@ use Rattle.std.specs.Prelude.{option_map, refl, slice_index_or, slice_set}
 use Rattle.std.specs.FinMap.{get}
 use Rattle.std.specs.Coded.{Coded, code_by, coded×, coded_ℕ, coded_list}
 use Rattle.externals.specs.Cells.{Seen, none_seen, flipped, taken_out, IsProper}
+use Rattle.externals.specs.Log.{Log, coded_log}
 use Rattle.object_table.specs.Maps.{put_option}
 use Rattle.object_table.specs.Table.{Room, coded_room}
 use Rattle.stack_places.specs.Places.{size, size_of, text, number}
@@ -14,18 +15,18 @@ use Rattle.journal_entries.specs.Trails.{Mark, at, turned, mark_at}
 use Rattle.journal_entries.specs.declared.entry.Entry.{Entry}
 use Rattle.journal_entries.specs.declared.entry.Entry.TheVariants.{Global, Current, Stack, External}
 
--- a state, with the names of globals that have numbers, each external's turns and the stack's room
+-- a state, with the names of globals that have numbers, each external's log and the stack's room
 pub record PresentView : Type 0 where
   pub state : State
   pub names : List (List ℕ)
-  pub turns : List ℕ
+  pub logs : List Log
   pub room : Room
 
 abbrev pub coded_present_view : Coded PresentView
-coded_present_view = code_by (State × (List (List ℕ) × (List ℕ × Room)))
-    (coded× coded_state (coded× (coded_list (coded_list coded_ℕ)) (coded× (coded_list coded_ℕ) coded_room)))
-    (λ h. (h.state, (h.names, (h.turns, h.room))))
-    (λ p. record { state = p.0; names = p.1.0; turns = p.1.1.0; room = p.1.1.1 }) (λ _. refl)
+coded_present_view = code_by (State × (List (List ℕ) × (List Log × Room)))
+    (coded× coded_state (coded× (coded_list (coded_list coded_ℕ)) (coded× (coded_list coded_log) coded_room)))
+    (λ h. (h.state, (h.names, (h.logs, h.room))))
+    (λ p. record { state = p.0; names = p.1.0; logs = p.1.1.0; room = p.1.1.1 }) (λ _. refl)
 
 -- a batch: the number of the line that it belongs to, and its entries
 pub record BatchView : Type 0 where

@@ -1,7 +1,7 @@
 -- Turns of externals, and changes that have grown what they need.
-use Rattle.std.specs.Prelude.{◌⊎◌, ◌≡◌, ◌<◌, ◌+◌, ℕ, List, [], ◌∷◌, length, slice_index_or, slice_set}
-use Rattle.externals.specs.Cells.{one_more_turn}
-use Rattle.externals.specs.Table.{Answers}
+use Rattle.std.specs.Prelude.{◌≡◌, ◌<◌, ◌+◌, ℕ, List, [], ◌∷◌, length, slice_index_or, slice_set}
+use Rattle.externals.specs.Table.{Answers, turn_of}
+use Rattle.externals.specs.Log.{Log, log_after}
 use Rattle.externals.specs.declared.external.Input.{Input}
 use Rattle.externals.specs.declared.external.Ask.{Ask}
 use Rattle.stack_places.specs.Exchange.{IsWider}
@@ -23,23 +23,21 @@ use Rattle.journal_entries.specs.declared.change.Change.{Change}
 abbrev pub with_cells_at : State → ℕ → List (List ℕ) → State
 with_cells_at s i cells = record s { externals = slice_set s.externals i (with_cells (seen_at s i) cells) }
 
--- one more turn of the i-th
-abbrev pub one_more_at : List ℕ → ℕ → List ℕ
-one_more_at turns i = slice_set turns i (one_more_turn (slice_index_or turns i 0))
+-- the logs after a turn of the i-th external, which led from the old state to the new one: the others stay
+abbrev pub logs_after : List Log → State → State → ℕ → Input → Ask → List Log
+logs_after logs old new i input ask =
+    slice_set logs i (log_after (turn_of (seen_at old i).sort (seen_at old i).cells input) (slice_index_or logs i [])
+    (record { input = input; ask = ask; cells = (seen_at new i).cells }))
 
 -- a turn of the i-th external leads from the old state to the new one
 pub record Turns (old new : State) (i : ℕ) (input : Input) (ask : Ask) : Type 0 where
   pub answers : Answers (seen_at old i).sort (seen_at old i).cells input ask (seen_at new i).cells
   pub state : new ≡ with_cells_at old i (seen_at new i).cells
 
--- nothing changes but the count of turns, which rises once at most
-abbrev pub TurnsAtMostOnce : PresentView → PresentView → ℕ → Type 0
-TurnsAtMostOnce old new i = (new ≡ old) ⊎ (new ≡ record old { turns = one_more_at old.turns i })
-
 -- only the names and the stack's room grow
 pub record Grows (old new : PresentView) : Type 0 where
   pub state : new.state ≡ old.state
-  pub turns : new.turns ≡ old.turns
+  pub logs : new.logs ≡ old.logs
   pub names : Extends old.names new.names
   pub room : IsWider old.room new.room
 

@@ -11,7 +11,7 @@ ghost use Rattle.journal_entries.specs.Indexed.{IsIndexed, is_held as is_held_in
 ghost use Rattle.journal_entries.specs.Keys.{key_of as key_of_entry};
 ghost use Rattle.journal_entries.specs.PlaceSets.{has_place, IsBounded};
 ghost use Rattle.journal_entries.specs.declared.place_key.PlaceKey.{PlaceKey};
-ghost use Rattle.journal_entries.specs.Turning.{Grows, Turns, TurnsAtMostOnce, one_more_at};
+ghost use Rattle.journal_entries.specs.Turning.{Grows, Turns, logs_after};
 ghost use Rattle.journal_entries.specs.Exchange.{back, forth, exchanged, of_one_place, taken, shape_of, AreReady};
 ghost use Rattle.journal_entries.specs.Exchange.{IsReady};
 
@@ -183,7 +183,7 @@ impl OpenBatch {
         self.write(present, entry)
     }
 
-    /// Gives an external one turn and keeps its patch, if that names a cell.
+    /// Gives an external one turn and keeps its patch, if that names a cell. Where memory was refused nothing changes.
     pub fn turn<E: External>(
         &mut self,
         present: &mut Present<E>,
@@ -196,10 +196,12 @@ impl OpenBatch {
         ensures entry { OnOk result ((p : Changes) × IsPatch (seen_at present.old.state i).cells
             (seen_at present.new.state i).cells p
             × (self.new ≡ record self.old { entries = kept_turn self.old.entries i p })) }
-        ensures present { OnOk result (present.new ≡ record present.old
-            { state = present.new.state; turns = one_more_at present.old.turns i }) }
+        ensures present { IfOk result (λ ask. present.new ≡ record present.old {
+          state = present.new.state;
+          logs = logs_after present.old.logs present.old.state present.new.state i input.now ask;
+        }) }
         ensures err { OnErr result (self.new ≡ self.old) }
-        ensures present_err { OnErr result (TurnsAtMostOnce present.old present.new i) }
+        ensures present_err { OnErr result (present.new ≡ present.old) }
     {
         reserve(&mut self.entries, 1)?;
         let (ask, patch) = present.turn(i, alloc, input)?;

@@ -17,7 +17,7 @@ ghost use Rattle.journal_entries.specs.Changes.{fits};
 ghost use Rattle.journal_entries.specs.declared.change.Change.TheVariants as made_change;
 ghost use Rattle.journal_entries.specs.Exchange.{exchanged, taken, back, back_taken, forth, forth_taken, shape_of};
 ghost use Rattle.journal_entries.specs.Exchange.{IsReady, AreReady};
-ghost use Rattle.journal_entries.specs.Turning.{Grows, Prepares, Turns, entries_of, one_more_at};
+ghost use Rattle.journal_entries.specs.Turning.{Grows, Prepares, Turns, entries_of, logs_after};
 
 use crate::change::Change;
 use crate::entry::{Entry, Prepared};
@@ -39,7 +39,7 @@ use structural_changes::{
 };
 
 /// The present state, which contracts see beside the names of globals that have numbers and the externals'
-/// turns. It keeps trees of scripts that were parsed, which no contract sees.
+/// logs. It keeps trees of scripts that were parsed, which no contract sees.
 pub struct Present<E: External> {
     stack: Stack,
     trees: ScriptTrees,
@@ -79,7 +79,7 @@ impl<E: External> Model for Present<E> {
         externals = map (seen_by E.title E.sort E.answers_calls E.cells) p.externals.items;
       };
       names = p.globals.names;
-      turns = map E.turn_count p.externals.items;
+      logs = map E.log p.externals.items;
       room = p.stack.room;
     } };
 
@@ -98,7 +98,7 @@ impl<E: External> Present<E> {
                 (seen_by E.title E.sort E.answers_calls E.cells) externals.items;
           };
           names = [];
-          turns = map E.turn_count externals.items;
+          logs = map E.log externals.items;
           room = stack.room;
         } }
     {
@@ -298,7 +298,7 @@ impl<E: External> Present<E> {
         current_with_entries(alloc, next, gone)
     }
 
-    /// Gives an external one turn.
+    /// Gives an external one turn, which its log has then at its end. Where memory was refused nothing changes.
     pub fn turn(
         &mut self,
         i: usize,
@@ -308,8 +308,11 @@ impl<E: External> Present<E> {
         requires { i < length self.old.state.externals }
         ensures turn { IfOk result (λ r. Turns self.old.state self.new.state i input.now r.0) }
         ensures patch { IfOk result (λ r. IsPatch (seen_at self.old.state i).cells (seen_at self.new.state i).cells r.1) }
-        ensures present { self.new ≡ record self.old { state = self.new.state; turns = one_more_at self.old.turns i } }
-        ensures err { OnErr result (self.new.state ≡ self.old.state) }
+        ensures present { IfOk result (λ r. self.new ≡ record self.old {
+          state = self.new.state;
+          logs = logs_after self.old.logs self.old.state self.new.state i input.now r.0;
+        }) }
+        ensures err { OnErr result (self.new ≡ self.old) }
     {
         self.externals[i].turn(alloc, input)
     }
@@ -396,7 +399,7 @@ impl<E: External> Present<E> {
     pub fn external(&self, i: usize) -> &E
         requires { i < length self.now.state.externals }
         ensures seen { seen_by E.title E.sort E.answers_calls E.cells result.now ≡ seen_at self.now.state i }
-        ensures turns { E.turn_count result.now ≡ slice_index_or self.now.turns i 0 }
+        ensures log { E.log result.now ≡ slice_index_or self.now.logs i [] }
     {
         &self.externals[i]
     }
@@ -446,7 +449,7 @@ impl<E: External> Present<E> {
             externals = self.old.state.externals
                 ++ seen_by E.title E.sort E.answers_calls E.cells external ∷ [];
           };
-          turns = self.old.turns ++ E.turn_count external ∷ [];
+          logs = self.old.logs ++ E.log external ∷ [];
         }) }
         ensures err { IfErr result (λ e. (e ≡ external) × (self.new ≡ self.old)) }
     {
@@ -460,13 +463,13 @@ impl<E: External> Present<E> {
     pub fn unplug(&mut self, i: usize) -> E
         requires { i < length self.old.state.externals }
         ensures seen { seen_by E.title E.sort E.answers_calls E.cells result ≡ seen_at self.old.state i }
-        ensures turns { E.turn_count result ≡ slice_index_or self.old.turns i 0 }
+        ensures log { E.log result ≡ slice_index_or self.old.logs i [] }
         ensures present { self.new ≡ record self.old {
           state = record self.old.state {
             externals = take i self.old.state.externals
                 ++ drop (i + 1) self.old.state.externals;
           };
-          turns = take i self.old.turns ++ drop (i + 1) self.old.turns;
+          logs = take i self.old.logs ++ drop (i + 1) self.old.logs;
         } }
     {
         self.externals.remove(i)
@@ -475,7 +478,7 @@ impl<E: External> Present<E> {
     /// The externals, in order.
     pub fn into_externals(self) -> Vec<E>
         ensures seen { map (seen_by E.title E.sort E.answers_calls E.cells) result.items ≡ self.state.externals }
-        ensures turns { map E.turn_count result.items ≡ self.turns }
+        ensures logs { map E.log result.items ≡ self.logs }
     {
         let Present {
             stack: _,

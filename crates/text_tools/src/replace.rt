@@ -1,17 +1,17 @@
 //! Replace: a function that replaces each occurrence of a run of bytes.
 
 ghost use Rattle.std.specs.Prelude.{◌≡◌, ◌<◌, ◌≤◌, ◌++◌, drop, ℕ, List, [], true, false, length, IfOk, IfErr, OnErr};
-ghost use Rattle.std.specs.Prelude.{OnOk, Ok, Err};
+ghost use Rattle.std.specs.Prelude.{OnOk, Ok, Err, ◌∷◌};
 ghost use Rattle.ht_values.specs.declared.text.TheConstants.{LIMIT};
 ghost use Rattle.ht_values.specs.Outcome.{Gives, within_limit};
-ghost use Rattle.externals.specs.Cells.{IsPatch, one_more_turn};
+ghost use Rattle.externals.specs.Cells.{IsPatch};
 ghost use Rattle.externals.specs.Table.{Answers};
 ghost use Rattle.text_tools.specs.Replacing.{replaced, replaced_after, replace_turn, told};
 
 use externals::{Ask, External, Input, Patch, Texts};
 use ht_values::{Failure, Fault, Text};
 use std::alloc::{AllocError, Global};
-use xkit::Cells;
+use xkit::{Cells, TurnLog};
 
 /// The function `Replace(text, old, new)`: the text with each occurrence of `old` replaced by `new`, byte for byte, from
 /// left to right, none overlapping. An empty `old` occurs nowhere. It fails where the value would be over 30,000 bytes,
@@ -20,7 +20,7 @@ use xkit::Cells;
 pub struct Replace {
     name: Text,
     cells: Cells,
-    turns: u64,
+    log: TurnLog,
 }
 
 impl Replace {
@@ -30,12 +30,12 @@ impl Replace {
         ensures kind { IfOk result (λ e. ⟦<Replace as External>⟧.sort e ≡ 0) }
         ensures flag { IfOk result (λ e. ⟦<Replace as External>⟧.answers_calls e ≡ true) }
         ensures cells { IfOk result (λ e. ⟦<Replace as External>⟧.cells e ≡ []) }
-        ensures turns { IfOk result (λ e. ⟦<Replace as External>⟧.turn_count e ≡ 0) }
+        ensures log { IfOk result (λ e. ⟦<Replace as External>⟧.log e ≡ []) }
     {
         Ok(Replace {
             name,
             cells: Cells::empty(alloc, 0)?,
-            turns: 0,
+            log: TurnLog::new(),
         })
     }
 }
@@ -49,7 +49,7 @@ impl External for Replace {
 
     ghost cells = { λ e. e.cells };
 
-    ghost turn_count = { λ e. e.turns };
+    ghost log = { λ e. e.log.turns };
 
     fn name(&self) -> &Text {
         &self.name
@@ -76,22 +76,20 @@ impl External for Replace {
         ensures answers { IfOk result (λ r. Answers 0 self.old.cells input.now r.0 self.new.cells) }
         ensures patch { IfOk result (λ r. IsPatch self.old.cells self.new.cells r.1) }
         ensures err { OnErr result (self.new.cells ≡ self.old.cells) }
-        ensures turns { self.new.turns ≡ one_more_turn self.old.turns }
+        ensures log { IfOk result (λ r. self.new.log.turns ≡ self.old.log.turns
+            ++ (record { input = input.now; ask = r.0; cells = self.new.cells }) ∷ []) }
+        ensures log_err { OnErr result (self.new.log.turns ≡ self.old.log.turns) }
         ensures title { self.new.name ≡ self.old.name }
         ensures sort { ⟦<Replace as External>⟧.sort self.new ≡ ⟦<Replace as External>⟧.sort self.old }
         ensures flag { ⟦<Replace as External>⟧.answers_calls self.new ≡ ⟦<Replace as External>⟧.answers_calls self.old }
     {
-        self.turns = self.turns.saturating_add(1);
         let ask = answer(alloc, input)?;
+        self.log.record(input, &ask, &self.cells);
         Ok((ask, Patch::new(alloc)))
     }
 
     fn flip(&mut self, patch: &mut Patch) {
         self.cells.flip(patch);
-    }
-
-    fn turns(&self) -> u64 {
-        self.turns
     }
 }
 

@@ -1,8 +1,9 @@
 //! Table: a command that keeps values under keys.
 
-ghost use Rattle.std.specs.Prelude.{◌≡◌, ◌<◌, [], length, false, position, replicate, take, IfOk, IfSome, OnErr};
+ghost use Rattle.std.specs.Prelude.{◌≡◌, ◌<◌, [], ◌∷◌, ◌++◌, length, false, position, replicate, take, IfOk, IfSome};
+ghost use Rattle.std.specs.Prelude.{OnErr};
 ghost use Rattle.ht_values.specs.Text.{same};
-ghost use Rattle.externals.specs.Cells.{IsPatch, one_more_turn};
+ghost use Rattle.externals.specs.Cells.{IsPatch};
 ghost use Rattle.externals.specs.Table.{Answers};
 ghost use Rattle.xkit.specs.Steps.{Takes};
 ghost use Rattle.text_tools.specs.Lookup.{delete_turn, done, entered, get_turn, place_of as place_of_key, put_turn};
@@ -11,7 +12,7 @@ ghost use Rattle.text_tools.specs.Lookup.{table_turn, with_entry};
 use externals::{Ask, External, Input, Patch, Texts};
 use ht_values::Text;
 use std::alloc::{AllocError, Global};
-use xkit::{Cells, Step, changed, unchanged};
+use xkit::{Cells, Step, TurnLog, changed, unchanged};
 
 /// How many keys there are at most.
 const PLACES: usize = 32;
@@ -24,7 +25,7 @@ const PLACES: usize = 32;
 pub struct Table {
     name: Text,
     cells: Cells,
-    turns: u64,
+    log: TurnLog,
     ghost two_cells_each: { length cells ≡ 64 },
 }
 
@@ -35,12 +36,12 @@ impl Table {
         ensures kind { IfOk result (λ e. ⟦<Table as External>⟧.sort e ≡ 0) }
         ensures flag { IfOk result (λ e. ⟦<Table as External>⟧.answers_calls e ≡ false) }
         ensures cells { IfOk result (λ e. ⟦<Table as External>⟧.cells e ≡ replicate 64 []) }
-        ensures turns { IfOk result (λ e. ⟦<Table as External>⟧.turn_count e ≡ 0) }
+        ensures log { IfOk result (λ e. ⟦<Table as External>⟧.log e ≡ []) }
     {
         Ok(Table {
             name,
             cells: Cells::empty(alloc, 64)?,
-            turns: 0,
+            log: TurnLog::new(),
         })
     }
 }
@@ -54,7 +55,7 @@ impl External for Table {
 
     ghost cells = { λ e. e.cells };
 
-    ghost turn_count = { λ e. e.turns };
+    ghost log = { λ e. e.log.turns };
 
     fn name(&self) -> &Text {
         &self.name
@@ -81,24 +82,23 @@ impl External for Table {
         ensures answers { IfOk result (λ r. Answers 0 self.old.cells input.now r.0 self.new.cells) }
         ensures patch { IfOk result (λ r. IsPatch self.old.cells self.new.cells r.1) }
         ensures err { OnErr result (self.new.cells ≡ self.old.cells) }
-        ensures turns { self.new.turns ≡ one_more_turn self.old.turns }
+        ensures log { IfOk result (λ r. self.new.log.turns ≡ self.old.log.turns
+            ++ (record { input = input.now; ask = r.0; cells = self.new.cells }) ∷ []) }
+        ensures log_err { OnErr result (self.new.log.turns ≡ self.old.log.turns) }
         ensures title { self.new.name ≡ self.old.name }
         ensures sort { ⟦<Table as External>⟧.sort self.new ≡ ⟦<Table as External>⟧.sort self.old }
         ensures flag { ⟦<Table as External>⟧.answers_calls self.new ≡ ⟦<Table as External>⟧.answers_calls self.old }
     {
-        self.turns = self.turns.saturating_add(1);
-        match input {
-            Input::Start(args) => started(&mut self.cells, alloc, args),
-            Input::Answer(_, _) => Ok(unchanged(alloc, Ask::Fail)),
-        }
+        let (ask, patch) = match input {
+            Input::Start(args) => started(&mut self.cells, alloc, args)?,
+            Input::Answer(_, _) => unchanged(alloc, Ask::Fail),
+        };
+        self.log.record(input, &ask, &self.cells);
+        Ok((ask, patch))
     }
 
     fn flip(&mut self, patch: &mut Patch) {
         self.cells.flip(patch);
-    }
-
-    fn turns(&self) -> u64 {
-        self.turns
     }
 }
 

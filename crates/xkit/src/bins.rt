@@ -17,7 +17,6 @@ use std::alloc::{AllocError, Global};
 pub struct Bins {
     name: Text,
     cells: Cells,
-    turns: u64,
     ghost sixteen_cells: { length cells ≡ 16 },
 }
 
@@ -28,12 +27,10 @@ impl Bins {
         ensures kind { IfOk result (λ e. ⟦<Bins as External>⟧.sort e ≡ 2) }
         ensures flag { IfOk result (λ e. ⟦<Bins as External>⟧.answers_calls e ≡ false) }
         ensures cells { IfOk result (λ e. ⟦<Bins as External>⟧.cells e ≡ replicate 16 []) }
-        ensures turns { IfOk result (λ e. ⟦<Bins as External>⟧.turn_count e ≡ 0) }
     {
         Ok(Bins {
             name,
             cells: Cells::empty(alloc, 16)?,
-            turns: 0,
         })
     }
 }
@@ -49,7 +46,7 @@ impl External for Bins {
 
     ghost cells = { λ e. e.cells };
 
-    ghost turn_count = { λ e. e.turns };
+    ghost log = { λ _. [] };
 
     fn name(&self) -> &Text {
         &self.name
@@ -72,16 +69,11 @@ impl External for Bins {
     }
 
     fn turn(&mut self, alloc: Global, input: &Input) -> Result<(Ask, Patch), AllocError> {
-        self.turns = self.turns.saturating_add(1);
         turned(&mut self.cells, alloc, input)
     }
 
     fn flip(&mut self, patch: &mut Patch) {
         self.cells.flip(patch);
-    }
-
-    fn turns(&self) -> u64 {
-        self.turns
     }
 }
 

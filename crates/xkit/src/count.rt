@@ -18,7 +18,6 @@ use std::alloc::{AllocError, Global};
 pub struct Count {
     name: Text,
     cells: Cells,
-    turns: u64,
     ghost one_cell: { length cells ≡ 1 },
 }
 
@@ -29,13 +28,11 @@ impl Count {
         ensures kind { IfOk result (λ e. ⟦<Count as External>⟧.sort e ≡ 1) }
         ensures flag { IfOk result (λ e. ⟦<Count as External>⟧.answers_calls e ≡ true) }
         ensures cells { IfOk result (λ e. ⟦<Count as External>⟧.cells e ≡ numeral_of start ∷ []) }
-        ensures turns { IfOk result (λ e. ⟦<Count as External>⟧.turn_count e ≡ 0) }
     {
         let first = text_of(alloc, start)?;
         Ok(Count {
             name,
             cells: Cells::one(alloc, first)?,
-            turns: 0,
         })
     }
 }
@@ -51,7 +48,7 @@ impl External for Count {
 
     ghost cells = { λ e. e.cells };
 
-    ghost turn_count = { λ e. e.turns };
+    ghost log = { λ _. [] };
 
     fn name(&self) -> &Text {
         &self.name
@@ -74,16 +71,11 @@ impl External for Count {
     }
 
     fn turn(&mut self, alloc: Global, input: &Input) -> Result<(Ask, Patch), AllocError> {
-        self.turns = self.turns.saturating_add(1);
         turned(&mut self.cells, alloc, input)
     }
 
     fn flip(&mut self, patch: &mut Patch) {
         self.cells.flip(patch);
-    }
-
-    fn turns(&self) -> u64 {
-        self.turns
     }
 }
 

@@ -16,7 +16,6 @@ use std::alloc::{AllocError, Global};
 pub struct Gate {
     name: Text,
     cells: Cells,
-    turns: u64,
     ghost one_cell: { length cells ≡ 1 },
 }
 
@@ -27,13 +26,11 @@ impl Gate {
         ensures kind { IfOk result (λ e. ⟦<Gate as External>⟧.sort e ≡ 4) }
         ensures flag { IfOk result (λ e. ⟦<Gate as External>⟧.answers_calls e ≡ false) }
         ensures cells { IfOk result (λ e. ⟦<Gate as External>⟧.cells e ≡ codes "0" ∷ []) }
-        ensures turns { IfOk result (λ e. ⟦<Gate as External>⟧.turn_count e ≡ 0) }
     {
         let shut = text(alloc, b"0")?;
         Ok(Gate {
             name,
             cells: Cells::one(alloc, shut)?,
-            turns: 0,
         })
     }
 }
@@ -49,7 +46,7 @@ impl External for Gate {
 
     ghost cells = { λ e. e.cells };
 
-    ghost turn_count = { λ e. e.turns };
+    ghost log = { λ _. [] };
 
     fn name(&self) -> &Text {
         &self.name
@@ -72,16 +69,11 @@ impl External for Gate {
     }
 
     fn turn(&mut self, alloc: Global, input: &Input) -> Result<(Ask, Patch), AllocError> {
-        self.turns = self.turns.saturating_add(1);
         turned(&mut self.cells, alloc, input)
     }
 
     fn flip(&mut self, patch: &mut Patch) {
         self.cells.flip(patch);
-    }
-
-    fn turns(&self) -> u64 {
-        self.turns
     }
 }
 

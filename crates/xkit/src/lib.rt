@@ -1,4 +1,4 @@
-//! The four externals of the kit, and the cells that any external can keep.
+//! The four externals of the kit, and the cells and the log that any external can keep.
 #![tactic(auto)]
 
 mod bins;
@@ -7,6 +7,7 @@ mod count;
 mod gate;
 mod relay;
 mod step;
+mod turn_log;
 
 pub use bins::Bins;
 pub use cells::Cells;
@@ -14,3 +15,4 @@ pub use count::Count;
 pub use gate::Gate;
 pub use relay::Relay;
 pub use step::{Step, changed, unchanged};
+pub use turn_log::TurnLog;

@@ -19,7 +19,6 @@ use std::alloc::{AllocError, Global};
 pub struct Relay {
     name: Text,
     cells: Cells,
-    turns: u64,
     ghost two_cells: { length cells ≡ 2 },
 }
 
@@ -30,12 +29,10 @@ impl Relay {
         ensures kind { IfOk result (λ e. ⟦<Relay as External>⟧.sort e ≡ 3) }
         ensures flag { IfOk result (λ e. ⟦<Relay as External>⟧.answers_calls e ≡ false) }
         ensures cells { IfOk result (λ e. ⟦<Relay as External>⟧.cells e ≡ replicate 2 []) }
-        ensures turns { IfOk result (λ e. ⟦<Relay as External>⟧.turn_count e ≡ 0) }
     {
         Ok(Relay {
             name,
             cells: Cells::empty(alloc, 2)?,
-            turns: 0,
         })
     }
 }
@@ -51,7 +48,7 @@ impl External for Relay {
 
     ghost cells = { λ e. e.cells };
 
-    ghost turn_count = { λ e. e.turns };
+    ghost log = { λ _. [] };
 
     fn name(&self) -> &Text {
         &self.name
@@ -74,16 +71,11 @@ impl External for Relay {
     }
 
     fn turn(&mut self, alloc: Global, input: &Input) -> Result<(Ask, Patch), AllocError> {
-        self.turns = self.turns.saturating_add(1);
         turned(&mut self.cells, alloc, input)
     }
 
     fn flip(&mut self, patch: &mut Patch) {
         self.cells.flip(patch);
-    }
-
-    fn turns(&self) -> u64 {
-        self.turns
     }
 }
 

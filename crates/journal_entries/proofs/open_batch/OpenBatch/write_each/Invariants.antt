@@ -11,7 +11,7 @@ invariant-loop-entry g l = record {
   count : into_iter_len l.entry-iterator ≡ length (into_iter_items l.entry-iterator);
   number : l.self-inside.number ≡ l.initial.self-inside.number;
   names : l.present.names ≡ l.initial.present.names;
-  turns : l.present.turns ≡ l.initial.present.turns;
+  logs : l.present.logs ≡ l.initial.present.logs;
   room : l.present.room ≡ l.initial.present.room;
   ready : AreReady (shape_of l.present) (into_iter_items l.entry-iterator);
   state : forth l.present.names l.present.state (into_iter_items l.entry-iterator)

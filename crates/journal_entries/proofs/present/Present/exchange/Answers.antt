@@ -35,6 +35,6 @@ returns-in-External-clause-state g c =
     λ k. record { title = h.title k; sort = h.sort k; answers_calls = h.flag k; cells = h.cells k } in
     let all = map_seen-set f xs i r c.flip.new.self (flipped (f r).cells p) there c.index_mut.ensures.value new in
     let one = get_or-seen f xs i r there c.index_mut.ensures.value in
-    let turns = map-set_same g.E.External.turn_count xs i c.flip.new.self r
-    (h.turns ∙ ap g.E.External.turn_count c.index_mut.ensures.value) in
-    rw (c.in-External.is, ← c.self-in-External.view_is, all, turns, one) refl
+    let logs = map-set_same g.E.External.log xs i c.flip.new.self r
+    (h.log ∙ ap g.E.External.log c.index_mut.ensures.value) in
+    rw (c.in-External.is, ← c.self-in-External.view_is, all, logs, one) refl

@@ -28,7 +28,7 @@ loop-i-preserved g c =
     c.exchange.ensures.entry ∙ ap (λ y. taken s.names s.state y) (sym c.index-entries-i.is) in
     rw (self_is, entry_is) (record {
       names = v.names;
-      turns = v.turns;
+      logs = v.logs;
       room = v.room;
       within = omega (arith, length-set es j (taken s.names s.state x));
       ready = rw (same_shape s.room s.names s.state x, take-set es j (taken s.names s.state x)) parts.1;

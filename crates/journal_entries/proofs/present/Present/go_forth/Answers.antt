@@ -19,7 +19,7 @@ loop-i-preserved g c =
     c.exchange.ensures.entry ∙ ap (λ y. taken s.names s.state y) (sym c.index-entries-i.is) in
     rw (self_is, entry_is) (record {
       names = v.names;
-      turns = v.turns;
+      logs = v.logs;
       room = v.room;
       ready = rw (same_shape s.room s.names s.state x, drop-set-lt (i + 1) es i (taken s.names s.state x) (omega arith))
           parts.1;

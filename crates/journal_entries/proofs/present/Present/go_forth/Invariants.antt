@@ -5,7 +5,7 @@ use Rattle.journal_entries.proofs.present.Present.go_forth.Given as goal
 abbrev pub invariant-loop-i : goal.invariant-loop-i
 invariant-loop-i g l = record {
   names : l.self.names ≡ l.initial.self.names;
-  turns : l.self.turns ≡ l.initial.self.turns;
+  logs : l.self.logs ≡ l.initial.self.logs;
   room : l.self.room ≡ l.initial.self.room;
   ready : AreReady (shape_of l.self) (drop l.i l.entries);
   state : forth l.self.names l.self.state (drop l.i l.entries)

@@ -11,7 +11,7 @@ returns-clause-grows g c =
     rw (← c.self.view_is, c.in_ok-open_hilite.ensures.ok)
     (record {
       state = refl;
-      turns = refl;
+      logs = refl;
       names = ([], sym (append-nil c.self.inside.globals.names));
       room = IsWider-hilite c.self.inside.stack.room (c.args.button, c.args.card);
     })

@@ -12,7 +12,7 @@ returns-clause-grows g c =
     rw (← c.self.view_is, c.in_ok-open_text.ensures.ok)
     (record {
       state = refl;
-      turns = refl;
+      logs = refl;
       names = ([], sym (append-nil c.self.inside.globals.names));
       room = IsWider-text c.self.inside.stack.room (c.args.field, c.args.card);
     })

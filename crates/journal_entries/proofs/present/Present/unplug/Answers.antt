@@ -8,4 +8,4 @@ returns-clause-present g c =
     let f = seen_by g.E.External.title g.E.External.sort g.E.External.answers_calls g.E.External.cells in
     let xs = c.self.inside.externals.items in
     let items = c.remove.ensures.by_index.2 in
-    rw (← c.self.view_is, items, map-without f xs c.args.i, map-without g.E.External.turn_count xs c.args.i) refl
+    rw (← c.self.view_is, items, map-without f xs c.args.i, map-without g.E.External.log xs c.args.i) refl
