@@ -3,6 +3,7 @@ use Rattle.std.proofs.Common.{◌≡◌, ℕ, List, Option, Err, IsErrOf, refl, 
 use Rattle.std.specs.Io.KnownBytes.{IsAtEnd}
 use Rattle.devices.specs.Desks.{SeenDesk}
 use Rattle.externals.specs.Cells.{Seen}
+use Rattle.externals.specs.Log.{Log}
 use Rattle.object_table.specs.Content.{Content}
 use Rattle.stack_text.specs.Laws.{Spells}
 use Rattle.headline.specs.Headline.{beginning}
@@ -18,16 +19,16 @@ use Rattle.headline.specs.declared.transcript.RunFault.TheVariants as runs
 use Rattle.command_line.specs.declared.fault.CliFault.TheVariants.{Read, Write}
 use Rattle.command_line.specs.Plays.{Plays, Stops, Ends, fault_of_run}
 
-module _ (bytes : List ℕ) (stack : Content) (externals : List Seen) (turns : List ℕ) (steps depth : ℕ)
+module _ (bytes : List ℕ) (stack : Content) (externals : List Seen) (logs : List Log) (steps depth : ℕ)
     (left : Option (List ℕ)) (old : Standing) (desk : SeenDesk) (read written : List ℕ) (last : Standing × SeenDesk)
-    (spelled : Spells bytes stack) (is : old ≡ opened stack externals turns steps depth) where
+    (spelled : Spells bytes stack) (is : old ≡ opened stack externals logs steps depth) where
   pub plays : (ran : Ran) → RunsFollow → RunsStayWhole → Ended Takes (IsAtEnd left) ran (old, desk) read written last
       → Plays (IsAtEnd left) ran bytes (λ s. beginning s externals steps depth) desk read written last.1
   plays ran follow stay e =
-      let first : Ended Takes (IsAtEnd left) ran (opened stack externals turns steps depth, desk) read written last =
+      let first : Ended Takes (IsAtEnd left) ran (opened stack externals logs steps depth, desk) read written last =
       subst (λ (s : Standing). Ended Takes (IsAtEnd left) ran (s, desk) read written last) is e in
-      let followed = follow left ran (opened stack externals turns steps depth, desk) read written last first in
-      let whole = stay left ran (opened stack externals turns steps depth, desk) read written last first in
+      let followed = follow left ran (opened stack externals logs steps depth, desk) read written last first in
+      let whole = stay left ran (opened stack externals logs steps depth, desk) read written last first in
       record {
         stack = stack;
         spelled = spelled;
@@ -41,14 +42,14 @@ module _ (bytes : List ℕ) (stack : Content) (externals : List Seen) (turns : L
   stops : (fault : RunFault) → StopsStayWhole → Stopped Takes (IsAtEnd left) fault (old, desk) read written last
       → Stops (IsAtEnd left) fault bytes (λ s. beginning s externals steps depth) desk read written last.1
   stops fault law e =
-      let first : Stopped Takes (IsAtEnd left) fault (opened stack externals turns steps depth, desk) read written
+      let first : Stopped Takes (IsAtEnd left) fault (opened stack externals logs steps depth, desk) read written
       last = subst (λ (s : Standing). Stopped Takes (IsAtEnd left) fault (s, desk) read written last) is e in
       record {
         stack = stack;
         spelled = spelled;
         last = timeline_of last.0;
         stopped = law left fault
-            (opened stack externals turns steps depth, desk) read written last first;
+            (opened stack externals logs steps depth, desk) read written last first;
       }
 
   pub ends : (fault : RunFault) → StopsStayWhole → Stopped Takes (IsAtEnd left) fault (old, desk) read written last

@@ -2,6 +2,7 @@
 use Rattle.std.proofs.Common.{◌≡◌, ℕ, zero, suc, ◌+◌, ◌-◌, ◌<◌, List, [], ◌∷◌, ◌++◌, length, map, Bool, true, false}
 use Rattle.std.proofs.Common.{Option, Some, None, Result, Ok, Err, refl, sym, ap, subst, ◌∙◌, arith}
 use Rattle.std.specs.Prelude.{slice_index_or, slice_set, option_map, IfSome, if◌then◌else◌}
+use Rattle.std.proofs.lemmas.List.{set-get_or}
 use Rattle.ht_values.specs.declared.fault.Fault.{Fault}
 use Rattle.ht_values.specs.declared.fault.Fault.TheVariants.{StepLimit, TooMany, Syntax}
 use Rattle.ht_values.specs.Text.{folded}
@@ -11,6 +12,7 @@ use Rattle.externals.specs.declared.external.Ask.{Ask}
 use Rattle.externals.specs.declared.external.Ask.TheVariants.{SendCardMessage, EvalExpr, SetGlobal, SetFieldByName}
 use Rattle.externals.specs.declared.external.Ask.TheVariants.{Done, Fail}
 use Rattle.externals.specs.declared.external.Input.{Input}
+use Rattle.externals.specs.Log.{log_after}
 use Rattle.journal_entries.specs.declared.change.Change.{Change}
 use Rattle.journal_entries.specs.declared.change.Change.TheVariants as changes
 use Rattle.stack_places.specs.Places.{number}
@@ -20,7 +22,7 @@ use Rattle.journal_entries.specs.Changes.{changed, makes_current}
 use Rattle.journal_entries.specs.Places.{Write, put, put_all, in_stack, current_card, in_the_stack}
 use Rattle.journal_entries.specs.State.{State, seen_at}
 use Rattle.journal_entries.specs.Exchange.{with_cells}
-use Rattle.journal_entries.specs.Turning.{with_cells_at, one_more_at}
+use Rattle.journal_entries.specs.Turning.{with_cells_at}
 use Rattle.change_journal.specs.History.{History}
 use Rattle.change_journal.specs.Rising.{Made, TookTurn}
 use Rattle.containers.specs.declared.edit.Edit.{Edit}
@@ -302,13 +304,14 @@ takes_turn {g} {w} {w1} {k} {input} {ask} {r} t h =
         t.turn.answers.known in
         let now_is : with_cells_at w.now k given.0.1 ≡ w1.now = ap (with_cells_at w.now k) (sym known.1)
         ∙ sym t.turn.state in
+        let logs_are : w1.logs ≡ w.logs = ap (λ h. h.logs) t.history
+        ∙ ap (λ due. slice_set w.logs k (log_after due (slice_index_or w.logs k [])
+        (record { input = input; ask = ask; cells = (seen_at w1.now k).cells }))) given.1 ∙ set-get_or w.logs k [] in
         ap (turn_by (sight g w) r k) given.1
-        ∙ ap (λ a. told (Ok a)
-        (record { now = with_cells_at w.now k given.0.1; turns = one_more_at (g.of_turns w.turns) k }) r)
+        ∙ ap (λ a. told (Ok a) (record { now = with_cells_at w.now k given.0.1; logs = g.of_logs w.logs }) r)
         (sym known.0)
-        ∙ ap (λ s. told (Ok ask) (record { now = s; turns = one_more_at (g.of_turns w.turns) k }) r) now_is
-        ∙ ap (λ turns. told (Ok ask) (record { now = w1.now; turns = turns }) r) (sym (g.counts w.turns k))
-        ∙ ap (λ u. told (Ok ask) u r) (sym (ap (sight g) t.history))
+        ∙ ap (λ s. told (Ok ask) (record { now = s; logs = g.of_logs w.logs }) r) now_is
+        ∙ ap (λ ls. told (Ok ask) (record { now = w1.now; logs = g.of_logs ls }) r) (sym logs_are)
 
 -- Done and Fail are no call-backs
 abbrev pub IsCall : Ask → Type 0

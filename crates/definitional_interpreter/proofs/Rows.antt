@@ -232,30 +232,30 @@ unfolding computing
 gate_read = refl
 
 -- the answer of Gate, which no script has, and then the rest
-abbrev by_gate : (k : ℕ) → Seen → ℕ → (Present → List (List ℕ)) → List (List ℕ)
-by_gate k e turns rest = answered (command_ends k (on_card [] [] [] empty (e ∷ []) (turns ∷ []))
-    (by_found (and_more 34 k) (on_card [] [] [] empty (e ∷ []) (turns ∷ []))
+abbrev by_gate : (k : ℕ) → Seen → (Present → List (List ℕ)) → List (List ℕ)
+by_gate k e rest = answered (command_ends k (on_card [] [] [] empty (e ∷ []) ([] ∷ []))
+    (by_found (and_more 34 k) (on_card [] [] [] empty (e ∷ []) ([] ∷ []))
     (noted (run_at 999998 [] []) (codes "Gate") 2)
     (typed_frame_at 2) 0 (codes "Gate") [] Command
     (found_among ((2, []) ∷ (1, []) ∷ (0, []) ∷ []) Command (codes "Gate")))) rest
 
-gate_once : (k : ℕ) (rest : Present → List (List ℕ)) → by_gate k gate 0 rest ≡ codes "ok"
-    ∷ rest (on_card [] [] [] empty (open_gate ∷ []) (1 ∷ []))
+gate_once : (k : ℕ) (rest : Present → List (List ℕ)) → by_gate k gate rest ≡ codes "ok"
+    ∷ rest (on_card [] [] [] empty (open_gate ∷ []) ([] ∷ []))
 unfolding computing
 gate_once k rest = refl
 
-gate_again : (k : ℕ) → by_gate k open_gate 1 (λ w. []) ≡ codes "fault 2" ∷ []
+gate_again : (k : ℕ) → by_gate k open_gate (λ w. []) ≡ codes "fault 2" ∷ []
 unfolding computing
 gate_again k = refl
 
 pub conversation : rows.Conversation
 conversation k =
     ap (λ t. answered t (λ w. answers (and_more 40 k) w (codes "Gate" ∷ [])))
-    (typed_command k [] [] [] empty (gate ∷ []) (0 ∷ []) (codes "Gate") (codes "Gate") tree.none [] gate_read
+    (typed_command k [] [] [] empty (gate ∷ []) ([] ∷ []) (codes "Gate") (codes "Gate") tree.none [] gate_read
     (no_values k _ _ _))
     ∙ gate_once k (λ w. answers (and_more 40 k) w (codes "Gate" ∷ []))
     ∙ ap (λ t. codes "ok" ∷ answered t (λ w. []))
-    (typed_command k [] [] [] empty (open_gate ∷ []) (1 ∷ []) (codes "Gate") (codes "Gate") tree.none [] gate_read
+    (typed_command k [] [] [] empty (open_gate ∷ []) ([] ∷ []) (codes "Gate") (codes "Gate") tree.none [] gate_read
     (no_values k _ _ _))
     ∙ ap (λ rest. codes "ok" ∷ rest) (gate_again k)
 

@@ -16,6 +16,7 @@ use Rattle.object_table.specs.Content.{Content}
 use Rattle.object_table.specs.Objects.{object_at}
 use Rattle.object_table.specs.declared.object.Object.{Object}
 use Rattle.externals.specs.Cells.{Seen}
+use Rattle.externals.specs.Log.{Log}
 use Rattle.journal_entries.specs.State.{Globals}
 use Rattle.journal_entries.specs.ScriptTrees.{object_script}
 use Rattle.msg_path.specs.Handlers.{Found}
@@ -35,12 +36,12 @@ use Rattle.definitional_interpreter.specs.Meanings.{meanings}
 use Rattle.definitional_interpreter.specs.Rows.{and_more, objects_of, two_cards, typed}
 
 -- the stack in a state, with its first card as the current one
-abbrev pub on_card : (card background stack : List ℕ) → Globals → List Seen → List ℕ → Present
-on_card c b s globals externals turns =
+abbrev pub on_card : (card background stack : List ℕ) → Globals → List Seen → List Log → Present
+on_card c b s globals externals logs =
     record {
       now = record { stack = two_cards c b s; globals = globals; current = 2; externals = externals };
-      turns =
-          turns;
+      logs =
+          logs;
     }
 
 object_is : (c b s : List ℕ) (id : ℕ) → object_at (two_cards c b s) id ≡ find nat_cmp id (objects_of c b s)
@@ -92,29 +93,29 @@ abbrev pub by_found : ℕ → Present → RunState → Frame → ℕ → List �
 by_found parts w r f d n vs kind y = after (told y w r) (λ found w r. met_by (meanings parts) w r f d 2 n vs kind found)
 
 -- a message to the first card
-pub sent : (parts : ℕ) (c b s : List ℕ) (globals : Globals) (externals : List Seen) (turns : List ℕ) (r r1 : RunState)
+pub sent : (parts : ℕ) (c b s : List ℕ) (globals : Globals) (externals : List Seen) (logs : List Log) (r r1 : RunState)
     (f : Frame) (d : ℕ) (n : List ℕ) (vs : List (List ℕ)) (kind : HandlerKind) →
-    step (on_card c b s globals externals turns) r ≡ told (Ok tt) (on_card c b s globals externals turns) r1 →
-    (meanings (suc (suc parts))).sends (on_card c b s globals externals turns) r f d 2 n vs kind
-    ≡ by_found parts (on_card c b s globals externals turns) (noted r1 n 2) f d n vs kind
+    step (on_card c b s globals externals logs) r ≡ told (Ok tt) (on_card c b s globals externals logs) r1 →
+    (meanings (suc (suc parts))).sends (on_card c b s globals externals logs) r f d 2 n vs kind
+    ≡ by_found parts (on_card c b s globals externals logs) (noted r1 n 2) f d n vs kind
     (found_among ((2, c) ∷ (1, b) ∷ (0, s) ∷ []) kind n)
 unfolding meanings
-sent parts c b s globals externals turns r r1 f d n vs kind taken =
-    let w = on_card c b s globals externals turns in
+sent parts c b s globals externals logs r r1 f d n vs kind taken =
+    let w = on_card c b s globals externals logs in
     ap (λ t. after t
     (λ _ w r. (meanings (suc parts)).along w (noted r n 2) f d 2 (path w.now.stack w.now.current 2) n vs kind)) taken
     ∙ ap (λ is. (meanings (suc parts)).along w (noted r1 n 2) f d 2 is n vs kind) (path_is c b s)
     ∙ ap (λ y. by_found parts w (noted r1 n 2) f d n vs kind y) (all_scripts c b s kind n)
 
 -- a message that the background passes
-pub passed_on : (parts : ℕ) (c b s : List ℕ) (globals : Globals) (externals : List Seen) (turns : List ℕ)
+pub passed_on : (parts : ℕ) (c b s : List ℕ) (globals : Globals) (externals : List Seen) (logs : List Log)
     (r : RunState) (f : Frame) (d : ℕ) (n : List ℕ) (vs : List (List ℕ)) (kind : HandlerKind) →
-    (meanings (suc parts)).along (on_card c b s globals externals turns) r f d 2
+    (meanings (suc parts)).along (on_card c b s globals externals logs) r f d 2
     (path_after (two_cards c b s) 2 1) n vs kind
-    ≡ by_found parts (on_card c b s globals externals turns) r f d n vs kind (found_among ((0, s) ∷ []) kind n)
+    ≡ by_found parts (on_card c b s globals externals logs) r f d n vs kind (found_among ((0, s) ∷ []) kind n)
 unfolding meanings
-passed_on parts c b s globals externals turns r f d n vs kind =
-    let w = on_card c b s globals externals turns in
+passed_on parts c b s globals externals logs r f d n vs kind =
+    let w = on_card c b s globals externals logs in
     ap (λ is. (meanings (suc parts)).along w r f d 2 is n vs kind) after_background
     ∙ ap (λ y. by_found parts w r f d n vs kind y) (stack_script c b s kind n)
   where
@@ -136,24 +137,24 @@ command_ends k w x =
     (λ w r f. (meanings (and_more 38 k)).block w r f 0 stm.stop)) (λ _ w r. told (Ok tt) w r)
 
 -- a command that is typed alone, while the first card is the current one
-pub typed_command : (k : ℕ) (c b s : List ℕ) (globals : Globals) (externals : List Seen) (turns : List ℕ)
+pub typed_command : (k : ℕ) (c b s : List ℕ) (globals : Globals) (externals : List Seen) (logs : List Log)
     (line n : List ℕ)
     (es : tree.Exprs) (vs : List (List ℕ)) →
     parsed typed_lines line ≡ Ok (stm.also (stm.command n es) stm.stop) →
-    (meanings (and_more 36 k)).vals (on_card c b s globals externals turns) (run_at 999999 [] []) (typed_frame_at 2) 0
+    (meanings (and_more 36 k)).vals (on_card c b s globals externals logs) (run_at 999999 [] []) (typed_frame_at 2) 0
     es []
-    ≡ told (Ok vs) (on_card c b s globals externals turns) (run_at 999999 [] []) →
-    typed (and_more 40 k) (on_card c b s globals externals turns) line
-    ≡ command_ends k (on_card c b s globals externals turns)
-    (by_found (and_more 34 k) (on_card c b s globals externals turns) (noted (run_at 999998 [] []) n 2)
+    ≡ told (Ok vs) (on_card c b s globals externals logs) (run_at 999999 [] []) →
+    typed (and_more 40 k) (on_card c b s globals externals logs) line
+    ≡ command_ends k (on_card c b s globals externals logs)
+    (by_found (and_more 34 k) (on_card c b s globals externals logs) (noted (run_at 999998 [] []) n 2)
     (typed_frame_at 2) 0 n vs Command (found_among ((2, c) ∷ (1, b) ∷ (0, s) ∷ []) Command n))
 unfolding meanings
-typed_command k c b s globals externals turns line n es vs read values =
-    let w = on_card c b s globals externals turns in
+typed_command k c b s globals externals logs line n es vs read values =
+    let w = on_card c b s globals externals logs in
     ap (λ t. after (told t w (fresh_run 1000000)) (λ ss w r. (meanings (and_more 40 k)).line w r ss)) read
     ∙ ap (λ t. command_ends k w (after t
     (λ vs w2 r. (meanings (and_more 36 k)).sends w2 r (typed_frame_at 2) 0 2 n vs Command)))
     values
     ∙ ap (command_ends k w)
-    (sent (and_more 34 k) c b s globals externals turns (run_at 999999 [] []) (run_at 999998 [] [])
+    (sent (and_more 34 k) c b s globals externals logs (run_at 999999 [] []) (run_at 999998 [] [])
     (typed_frame_at 2) 0 n vs Command refl)

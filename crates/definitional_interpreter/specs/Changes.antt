@@ -11,7 +11,7 @@ use Rattle.externals.specs.declared.external.Input.{Input}
 use Rattle.externals.specs.Table.{Turn, turn_of}
 use Rattle.journal_entries.specs.State.{seen_at}
 use Rattle.journal_entries.specs.Changes.{changed, fits}
-use Rattle.journal_entries.specs.Turning.{with_cells_at, one_more_at}
+use Rattle.journal_entries.specs.Turning.{with_cells_at}
 use Rattle.journal_entries.specs.declared.change.Change.{Change}
 use Rattle.journal_entries.specs.declared.change.Change.TheVariants.{Global, FieldText}
 use Rattle.object_references.specs.declared.referent.Referent.{Referent}
@@ -96,9 +96,9 @@ add_objects w r c = choose (fits w.now c) (λ _. make w r c) (λ _. told (Err (F
 
 -- ---- externals
 
--- a turn of the i-th external: what it asks; it is unknown of a free kind
+-- a turn of the i-th external: what it asks; it is unknown of a free kind, and of another all logs stay
 abbrev pub turn_by : Present → RunState → ℕ → Option Turn → Told Ask
-turn_by w r i (Some t) = told (Ok t.0) (record { now = with_cells_at w.now i t.1; turns = one_more_at w.turns i }) r
+turn_by w r i (Some t) = told (Ok t.0) (record w { now = with_cells_at w.now i t.1 }) r
 turn_by w r i None = unknown
 
 abbrev pub turn : Present → RunState → ℕ → Input → Told Ask

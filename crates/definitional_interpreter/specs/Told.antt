@@ -2,6 +2,7 @@
 use Rattle.std.specs.Prelude.{ℕ, Bool, true, false, List, Option, Some, None, Result, Ok, Err}
 use Rattle.ht_values.specs.declared.fault.Fault.{Fault}
 use Rattle.ht_values.specs.declared.fault.Fault.TheVariants.{NoSuchObject}
+use Rattle.externals.specs.Log.{Log}
 use Rattle.journal_entries.specs.State.{State}
 use Rattle.change_journal.specs.History.{History}
 use Rattle.object_references.specs.declared.referent.Referent.{Referent}
@@ -13,13 +14,13 @@ use Rattle.meaning.specs.declared.frame.Frame.{Frame}
 use Rattle.meaning.specs.Repeats.{Outcome}
 use Rattle.meaning.specs.State.{RunState}
 
--- what a run sees of a history: the present state and the turns of the externals, and no weights
+-- what a run sees of a history: the present state and the logs of the externals, and no weights
 pub record Present : Type 0 where
   pub now : State
-  pub turns : List ℕ
+  pub logs : List Log
 
 abbrev pub present : History → Present
-present w = record { now = w.now; turns = w.turns }
+present w = record { now = w.now; logs = w.logs }
 
 -- what an expression comes to; it is unknown where the fuel is out
 pub data Told (A : Type 0) : Type 0 where

@@ -12,11 +12,11 @@ use Rattle.determinism.specs.Laws.{LinesHaveOneOutcome, MessagesHaveOneOutcome, 
 use Rattle.determinism.specs.Laws.{ReferencesHaveOneOutcome, ValuesHaveOneOutcome}
 use Rattle.definitional_interpreter.proofs.Comes.{AreExact, Sight, sight, Comes}
 use Rattle.definitional_interpreter.proofs.Outcomes.{val_comes, line_comes, message_comes, refers_comes, acts_comes}
-use Rattle.definitional_interpreter.proofs.Computed.{all_turns}
+use Rattle.definitional_interpreter.proofs.Computed.{all_logs}
 
--- the turns not at all
-abbrev no_turns : Sight
-no_turns = record { of_turns = λ turns. []; counts = λ turns i. refl }
+-- the logs not at all
+abbrev no_logs : Sight
+no_logs = record { of_logs = λ logs. [] }
 
 -- two runs of one thing, seen so, come to one thing
 one : {A : Type 0} (g : Sight) (w v w2 v2 : History) {r2 q2 : RunState} {o p : Result A Stop}
@@ -33,22 +33,22 @@ alike : {A : Type 0} {w v w2 v2 : History} {r2 q2 : RunState} {o p : Result A St
     AreExact → v.now ≡ w.now → NoneIsFree (sorts w) →
     ((g : Sight) → Comes g w (F (sight g w)) (told o (sight g w2) r2) w2) →
     ((g : Sight) → Comes g v (F (sight g v)) (told p (sight g v2) q2) v2) → SameOutcome w v w2 v2 r2 q2 o p
-alike {w} {v} {w2} {v2} {r2} {q2} {o} {p} F exact same free first second = (ends.0, ends.1, ends.2, turns)
+alike {w} {v} {w2} {v2} {r2} {q2} {o} {p} F exact same free first second = (ends.0, ends.1, ends.2, logs)
   where
     parts_of : (g : Sight) → told o (sight g w2) r2 ≡ told p (sight g v2) q2 →
-        (o ≡ p) × (w2.now ≡ v2.now) × (r2 ≡ q2) × (g.of_turns w2.turns ≡ g.of_turns v2.turns)
-    parts_of g is = let there : sight g w2 ≡ sight g v2 = cc in (cc, ap (λ u. u.now) there, cc, ap (λ u. u.turns) there)
+        (o ≡ p) × (w2.now ≡ v2.now) × (r2 ≡ q2) × (g.of_logs w2.logs ≡ g.of_logs v2.logs)
+    parts_of g is = let there : sight g w2 ≡ sight g v2 = cc in (cc, ap (λ u. u.now) there, cc, ap (λ u. u.logs) there)
 
-    begins : sight no_turns v ≡ sight no_turns w
-    begins = ap (λ s. record { now = s; turns = [] }) same
+    begins : sight no_logs v ≡ sight no_logs w
+    begins = ap (λ s. record { now = s; logs = [] }) same
 
-    ends : (o ≡ p) × (w2.now ≡ v2.now) × (r2 ≡ q2) × (no_turns.of_turns w2.turns ≡ no_turns.of_turns v2.turns)
-    ends = parts_of no_turns (one no_turns w v w2 v2 F exact begins free (first no_turns) (second no_turns))
+    ends : (o ≡ p) × (w2.now ≡ v2.now) × (r2 ≡ q2) × (no_logs.of_logs w2.logs ≡ no_logs.of_logs v2.logs)
+    ends = parts_of no_logs (one no_logs w v w2 v2 F exact begins free (first no_logs) (second no_logs))
 
-    turns : v.turns ≡ w.turns → w2.turns ≡ v2.turns
-    turns is =
-        let seen : sight all_turns v ≡ sight all_turns w = cc in
-        (parts_of all_turns (one all_turns w v w2 v2 F exact seen free (first all_turns) (second all_turns))).3
+    logs : v.logs ≡ w.logs → w2.logs ≡ v2.logs
+    logs is =
+        let seen : sight all_logs v ≡ sight all_logs w = cc in
+        (parts_of all_logs (one all_logs w v w2 v2 F exact seen free (first all_logs) (second all_logs))).3
 
 pub one_line : AreExact → LinesHaveOneOutcome
 one_line exact w v w2 v2 r r2 q2 ss o p same free first second has had =

@@ -11,10 +11,9 @@ use Rattle.meaning.specs.State.{RunState}
 use Rattle.preservation.specs.Laws.{HasMemory}
 use Rattle.definitional_interpreter.specs.Laws.{sorts, NoneIsFree}
 
--- Two runs end alike, with the same state and run, and with as many turns of each external where they began with as
--- many.
+-- Two runs end alike, with the same state and run, and with the same logs where they began with the same.
 abbrev pub SameOutcome : {A : Type 0} (w v w2 v2 : History) (r2 q2 : RunState) (o p : Result A Stop) → Type 0
-SameOutcome w v w2 v2 r2 q2 o p = (o ≡ p) × (w2.now ≡ v2.now) × (r2 ≡ q2) × (v.turns ≡ w.turns → w2.turns ≡ v2.turns)
+SameOutcome w v w2 v2 r2 q2 o p = (o ≡ p) × (w2.now ≡ v2.now) × (r2 ≡ q2) × (v.logs ≡ w.logs → w2.logs ≡ v2.logs)
 
 -- Two runs of the same lines from the same state, neither of which is out of memory, have one outcome.
 abbrev pub LinesHaveOneOutcome : Type 0

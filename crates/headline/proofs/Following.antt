@@ -14,6 +14,7 @@ use Rattle.std.proofs.Math.Seq.{take-append-add, drop-append_seam}
 use Rattle.devices.specs.Desks.{SeenDesk}
 use Rattle.meaning.specs.Actions.{Action}
 use Rattle.externals.specs.Cells.{Seen}
+use Rattle.externals.specs.Log.{Log}
 use Rattle.journal_entries.specs.State.{State, titles_of, index_of}
 use Rattle.change_journal.specs.History.{History, Step, begun, step_with_external, plugged, unplugged_at, flipped_back}
 use Rattle.change_journal.specs.History.{flipped_back_from, flipped_forth, flipped_forth_from}
@@ -514,9 +515,9 @@ map-reverse f [] = refl
 map-reverse f (x ∷ xs) = ap (map f) (reverse-cons x xs) ∙ map-append f (reverse xs) (x ∷ [])
     ∙ ap (λ (t : List Snapshot). t ++ f x ∷ []) (map-reverse f xs) ∙ sym (reverse-cons (f x) (map f xs))
 
-all_plugged : (x : Seen) (turns : ℕ) (h : History)
-    → all_snapshots (plugged h x turns) ≡ map (with_one_more x) (all_snapshots h)
-all_plugged x turns h =
+all_plugged : (x : Seen) (log : Log) (h : History)
+    → all_snapshots (plugged h x log) ≡ map (with_one_more x) (all_snapshots h)
+all_plugged x log h =
     let f : Snapshot → Snapshot = with_one_more x in
     ap₂ (λ (before after : List Snapshot). reverse before ++ f (present_of h) ∷ after) (snapshots-with x h.past)
     (snapshots-with x h.future)
@@ -543,9 +544,9 @@ unplug_follows lines steps h (Some i) =
     ap alone (sym (from_cursor h))
 
 pub plugs_follow : PlugsFollow
-plugs_follow s x turns name = (
+plugs_follow s x log name = (
   (λ i. record {
-    snapshots = all_plugged x turns s.history i;
+    snapshots = all_plugged x log s.history i;
     cursor = length-map s.history.past (step_with_external x)
         i;
     depth = s.history.depth;
@@ -556,7 +557,7 @@ plugs_follow s x turns name = (
 )
 
 pub opens_follow : OpensFollow
-opens_follow stack externals turns steps depth = refl
+opens_follow stack externals logs steps depth = refl
 
 -- ---- runs
 

@@ -6,6 +6,7 @@ use Rattle.std.specs.Io.KnownBytes.{IsAtEnd}
 use Rattle.devices.specs.Desks.{SeenDesk, HearsOrForgets}
 use Rattle.devices.specs.Watching.{Rose}
 use Rattle.externals.specs.Cells.{Seen}
+use Rattle.externals.specs.Log.{Log}
 use Rattle.object_table.specs.Content.{Content}
 use Rattle.journal_entries.specs.State.{titles_of, index_of}
 use Rattle.change_journal.specs.History.{History, Step, plugged, unplugged}
@@ -70,14 +71,14 @@ without_if None t = t
 without_if (Some i) t = without_plugged i t
 
 abbrev pub PlugsFollow : Type 0
-PlugsFollow = (s : Standing) (x : Seen) (turns : ℕ) (name : List ℕ)
-    → (timeline_of (with_history s (plugged s.history x turns)) ≡ with_plugged x (timeline_of s))
+PlugsFollow = (s : Standing) (x : Seen) (log : Log) (name : List ℕ)
+    → (timeline_of (with_history s (plugged s.history x log)) ≡ with_plugged x (timeline_of s))
     × (timeline_of (with_history s (unplugged name s.history))
     ≡ without_if (index_of name (titles_of s.history.now.externals)) (timeline_of s))
 
 abbrev pub OpensFollow : Type 0
-OpensFollow = (stack : Content) (externals : List Seen) (turns : List ℕ) (steps depth : ℕ)
-    → timeline_of (opened stack externals turns steps depth) ≡ beginning stack externals steps depth
+OpensFollow = (stack : Content) (externals : List Seen) (logs : List Log) (steps depth : ℕ)
+    → timeline_of (opened stack externals logs steps depth) ≡ beginning stack externals steps depth
 
 -- a session beside a desk
 abbrev pub timeline_beside : Standing × SeenDesk → Timeline × SeenDesk

@@ -35,15 +35,13 @@ pub(crate) enum Asked {
 #[derive(Clone, Copy)]
 pub(crate) struct Turn(pub Told, pub Asked, pub &'static [(usize, Bytes, Bytes)]);
 
-/// What an external is: its name, its kind, whether it is a function, how many cells it has, which text each of them is,
-/// and how many turns it has taken.
+/// What an external is: its name, its kind, whether it is a function, how many cells it has, and which text each of them is.
 pub(crate) struct Profile {
     pub name: Bytes,
     pub kind: u32,
     pub is_function: bool,
     pub cells: usize,
     pub text: Bytes,
-    pub turns: u64,
 }
 
 fn is_pushed(alloc: Global, texts: &mut Texts, bytes: &[u8]) -> bool {
@@ -231,5 +229,4 @@ pub(crate) fn has_profile<E: External>(external: &E, due: &Profile) -> bool {
         && external.is_function() == due.is_function
         && external.cell_count() == due.cells
         && are_all(external, due.text)
-        && external.turns() == due.turns
 }

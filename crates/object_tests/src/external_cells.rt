@@ -1,24 +1,28 @@
 //! An external that is none of the kit's, in a box and without.
 
+ghost use Rattle.std.specs.Prelude.{◌≡◌, length, IfOk, IfSome, OnErr};
+ghost use Rattle.externals.specs.Cells.{IsPatch};
+
 use crate::boxed_externals::Boxed;
 use crate::conversations::*;
 use crate::plain_texts::text;
 use externals::{Ask, External, Input, Patch, Texts, law_of_external, laws_of_flips};
 use ht_values::Text;
 use std::alloc::{AllocError, Global};
-use std::mem;
+use xkit::{Cells, Step, TurnLog, changed, unchanged};
 
-/// Of no known kind, a command: at each start its cell becomes the first argument, and it asks for its value. It fails at
-/// an answer.
+/// Of no known kind, a command that echoes what it is handed: at each start its cell becomes the first argument, and it asks
+/// for its value. An answer ends the conversation with its value. Its log has each turn.
 #[derive(Drop)]
 struct Echo {
     name: Text,
-    cell: Text,
-    turns: u64,
+    cells: Cells,
+    log: TurnLog,
+    ghost one_cell: { length cells ≡ 1 },
 }
 
 impl External for Echo {
-    ghost use Rattle.std.specs.Prelude.{[], ◌∷◌, false};
+    ghost use Rattle.std.specs.Prelude.{false};
 
     ghost title = { λ e. e.name };
 
@@ -26,9 +30,9 @@ impl External for Echo {
 
     ghost answers_calls = { λ _. false };
 
-    ghost cells = { λ e. e.cell ∷ [] };
+    ghost cells = { λ e. e.cells };
 
-    ghost turn_count = { λ e. e.turns };
+    ghost log = { λ e. e.log.turns };
 
     fn name(&self) -> &Text {
         &self.name
@@ -43,53 +47,59 @@ impl External for Echo {
     }
 
     fn cell_count(&self) -> usize {
-        1
+        self.cells.len()
     }
 
     fn cell(&self, i: usize) -> &Text {
-        let _ = i;
-        &self.cell
+        self.cells.at(i)
     }
 
     fn turn(&mut self, alloc: Global, input: &Input) -> Result<(Ask, Patch), AllocError> {
-        self.turns = self.turns.saturating_add(1);
-        match input {
-            Input::Answer(_, _) => Ok((Ask::Fail, Patch::new(alloc))),
-            Input::Start(args) => {
-                if args.len() == 0 || args.at(0).as_slice() == self.cell.as_slice() {
-                    return Ok((Ask::Fail, Patch::new(alloc)));
-                }
-                let asked = args.at(0).try_clone(alloc)?;
-                let mut next = args.at(0).try_clone(alloc)?;
-                mem::swap(&mut self.cell, &mut next);
-                let mut patch = Patch::new(alloc);
-                match patch.push(0, next) {
-                    Ok(()) => Ok((Ask::EvalExpr(Texts::new(alloc), asked), patch)),
-                    Err(old) => {
-                        self.cell = old;
-                        Err(AllocError)
-                    }
-                }
-            }
-        }
+        let (ask, patch) = echoed(&mut self.cells, alloc, input)?;
+        self.log.record(input, &ask, &self.cells);
+        Ok((ask, patch))
     }
 
     fn flip(&mut self, patch: &mut Patch) {
-        if patch.len() > 0 {
-            patch.swap(0, &mut self.cell);
-        }
+        self.cells.flip(patch);
     }
+}
 
-    fn turns(&self) -> u64 {
-        self.turns
+/// One turn.
+fn echoed(cells: &mut Cells, alloc: Global, input: &Input) -> Step
+    requires { length cells.old ≡ 1 }
+    ensures ok { IfOk result (λ r. IsPatch cells.old cells.new r.1) }
+    ensures err { OnErr result (cells.new ≡ cells.old) }
+    ensures count { length cells.new ≡ length cells.old }
+{
+    match input {
+        Input::Answer(_, value) => Ok(unchanged(alloc, Ask::Done(value.try_clone(alloc)?, false))),
+        Input::Start(args) if args.len() > 0 => {
+            let asked = args.at(0).try_clone(alloc)?;
+            let kept = args.at(0).try_clone(alloc)?;
+            changed(
+                cells,
+                alloc,
+                0,
+                kept,
+                Ask::EvalExpr(Texts::new(alloc), asked),
+            )
+        }
+        Input::Start(_) => Ok(unchanged(alloc, Ask::Fail)),
     }
+}
+
+fn one_cell(alloc: Global) -> Option<Cells>
+    ensures { IfSome result (λ c. length c ≡ 1) }
+{
+    Cells::one(alloc, text(alloc, b"old")?).ok()
 }
 
 fn make_echo(alloc: Global) -> Option<Echo> {
     Some(Echo {
         name: text(alloc, b"Echo")?,
-        cell: text(alloc, b"old")?,
-        turns: 0,
+        cells: one_cell(alloc)?,
+        log: TurnLog::new(),
     })
 }
 
@@ -98,11 +108,14 @@ fn boxed_echo(alloc: Global) -> Option<Boxed> {
     Some(boxed)
 }
 
-const TURN: Turn = Turn(
-    Told::Start("new"),
-    Asked::Value(b"new"),
-    &[(0, b"old", b"new")],
-);
+const TURNS: &[Turn] = &[
+    Turn(
+        Told::Start("new"),
+        Asked::Value(b"new"),
+        &[(0, b"old", b"new")],
+    ),
+    Turn(Told::Answer("", b"told"), Asked::Done(b"told"), &[]),
+];
 
 const AFTER: Profile = Profile {
     name: b"Echo",
@@ -110,7 +123,6 @@ const AFTER: Profile = Profile {
     is_function: false,
     cells: 1,
     text: b"new",
-    turns: 1,
 };
 
 fn keeps_laws<E: External>(external: &E) {
@@ -118,11 +130,12 @@ fn keeps_laws<E: External>(external: &E) {
     laws_of_flips();
 }
 
-/// Whether an external asks for the value of `new` when it starts with it, and its cell then becomes `new`.
+/// Whether an external asks for the value of `new` when it starts with it, its cell then becomes `new`, and it ends with the
+/// value that it is told.
 fn meets<E: External>(alloc: Global, external: Option<E>) -> bool {
     match external {
         Some(mut external) => {
-            let took = takes(alloc, &mut external, &TURN);
+            let took = TURNS.iter().all(|turn| takes(alloc, &mut external, turn));
             keeps_laws(&external);
             took && has_profile(&external, &AFTER)
         }

@@ -15,7 +15,6 @@ const BEGUN: &[(Made, Profile)] = &[
             is_function: true,
             cells: 1,
             text: b"0",
-            turns: 0,
         },
     ),
     (
@@ -26,7 +25,6 @@ const BEGUN: &[(Made, Profile)] = &[
             is_function: true,
             cells: 1,
             text: b"-7",
-            turns: 0,
         },
     ),
     (
@@ -37,7 +35,6 @@ const BEGUN: &[(Made, Profile)] = &[
             is_function: false,
             cells: 16,
             text: b"",
-            turns: 0,
         },
     ),
     (
@@ -48,7 +45,6 @@ const BEGUN: &[(Made, Profile)] = &[
             is_function: false,
             cells: 2,
             text: b"",
-            turns: 0,
         },
     ),
     (
@@ -59,7 +55,6 @@ const BEGUN: &[(Made, Profile)] = &[
             is_function: false,
             cells: 1,
             text: b"0",
-            turns: 0,
         },
     ),
     (
@@ -70,7 +65,6 @@ const BEGUN: &[(Made, Profile)] = &[
             is_function: true,
             cells: 0,
             text: b"",
-            turns: 0,
         },
     ),
     (
@@ -81,7 +75,6 @@ const BEGUN: &[(Made, Profile)] = &[
             is_function: false,
             cells: 64,
             text: b"",
-            turns: 0,
         },
     ),
 ];

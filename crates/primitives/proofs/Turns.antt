@@ -1,8 +1,7 @@
--- Externals by their numbers, and turns that were refused.
-use Rattle.std.proofs.Common.{◌≡◌, ◌<◌, ◌⊎◌, ℕ, length, ap, subst, sym, inl, inr}
+-- Externals by their numbers.
+use Rattle.std.proofs.Common.{◌≡◌, ◌<◌, ℕ, length, subst, sym}
 use Rattle.std.specs.Prelude.{Option, Some, None, IfSome}
 use Rattle.std.proofs.lemmas.List.{length-map}
-use Rattle.journal_entries.specs.Turning.{one_more_at}
 use Rattle.change_journal.specs.History.{History}
 use Rattle.containers.specs.Base.{base}
 
@@ -20,12 +19,3 @@ pub is_titled_if_some : (w : History) (o : Option ℕ) → IfSome o (λ i. i < l
     → IfSome o (λ i. i < length (base w).titles)
 is_titled_if_some w None h = h
 is_titled_if_some w (Some i) h = is_titled w i h
-
-turns_are_beside : (w w2 : History) (i : ℕ) → w2 ≡ record w { turns = one_more_at w.turns i } → base w2 ≡ base w
-unfolding base
-turns_are_beside w w2 i e = ap base e
-
-pub refused_keeps : (w w2 : History) (i : ℕ) → (w2 ≡ w) ⊎ (w2 ≡ record w { turns = one_more_at w.turns i })
-    → base w2 ≡ base w
-refused_keeps w w2 i (inl e) = ap base e
-refused_keeps w w2 i (inr e) = turns_are_beside w w2 i e

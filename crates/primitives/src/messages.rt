@@ -261,7 +261,7 @@ fn push(texts: &mut Texts, text: Text) -> Result<(), AllocError>
 }
 
 /// A turn of an external, in the open batch. Where it is out of memory, the state at the start of the batch is kept all the same.
-#[tactic(auto, using(containers::proofs::Bases::took_keeps, containers::proofs::Bases::is_open, crate::proofs::Turns::is_there, crate::proofs::Turns::refused_keeps))]
+#[tactic(auto, using(containers::proofs::Bases::took_keeps, containers::proofs::Bases::is_open, crate::proofs::Turns::is_there))]
 #[inline(never)]
 pub fn take_turn<E: External>(
     world: &mut World<E>,

@@ -7,7 +7,7 @@ use externals::{Ask, External, Input, Patch, Texts};
 use ht_values::{Text, numeral, text_of};
 use std::alloc::{AllocError, Global};
 use std::rc::Rc;
-use xkit::{Cells, Gate, Step, changed};
+use xkit::{Cells, Gate, Step, TurnLog, changed};
 
 /// What an external asks at each turn.
 #[derive(Clone, Copy)]
@@ -30,7 +30,7 @@ struct Free {
     name: Text,
     manner: Manner,
     cells: Cells,
-    turns: u64,
+    log: TurnLog,
     mark: Rc<u8>,
     ghost one_cell: { length cells ≡ 1 },
 }
@@ -46,7 +46,7 @@ impl External for Free {
 
     ghost cells = { λ e. e.cells };
 
-    ghost turn_count = { λ e. e.turns };
+    ghost log = { λ e. e.log.turns };
 
     fn name(&self) -> &Text {
         &self.name
@@ -69,16 +69,13 @@ impl External for Free {
     }
 
     fn turn(&mut self, alloc: Global, input: &Input) -> Result<(Ask, Patch), AllocError> {
-        self.turns = self.turns.saturating_add(1);
-        turned(self.manner, &mut self.cells, alloc, input)
+        let (ask, patch) = turned(self.manner, &mut self.cells, alloc, input)?;
+        self.log.record(input, &ask, &self.cells);
+        Ok((ask, patch))
     }
 
     fn flip(&mut self, patch: &mut Patch) {
         self.cells.flip(patch);
-    }
-
-    fn turns(&self) -> u64 {
-        self.turns
     }
 }
 
@@ -139,7 +136,7 @@ fn free_of(alloc: Global, name: Text, manner: Manner, mark: &Rc<u8>) -> Option<F
         name,
         manner,
         cells,
-        turns: 0,
+        log: TurnLog::new(),
         mark,
     })
 }

@@ -1,6 +1,7 @@
 -- Commands that are run, and commands that are given up.
 use Rattle.std.proofs.Common.{◌≡◌, ℕ, List, refl, sym, ap, subst, ◌∙◌, inl, inr, arith}
 use Rattle.std.specs.Prelude.{Option, Some, None, IfSome, IsSome, Result, Ok, Err, unwrap_or, option_map}
+use Rattle.externals.specs.Log.{Log}
 use Rattle.journal_entries.specs.State.{State}
 use Rattle.journal_entries.specs.Trails.{IsOnce}
 use Rattle.change_journal.specs.History.{History, Open, begun, committed, rolled_back, rolled_back_from}
@@ -28,7 +29,7 @@ use Rattle.session.specs.declared.reply.Reply.{Reply}
 use Rattle.user_actions.specs.Views.{ActionEnds}
 
 -- what stands round the batch is as before
-kept : (w w2 : History) → base w2 ≡ base w → w2 ≡ record w { now = w2.now; start = w2.start; turns = w2.turns }
+kept : (w w2 : History) → base w2 ≡ base w → w2 ≡ record w { now = w2.now; start = w2.start; logs = w2.logs }
 unfolding base
 kept w w2 e = λ i. record {
   past = (e i).past;
@@ -38,7 +39,7 @@ kept w w2 e = λ i. record {
   start =
       w2.start;
   depth = (e i).depth;
-  turns = w2.turns;
+  logs = w2.logs;
 }
 
 begin_kept : (w w2 : History) → base w2 ≡ base w → option_map began w2.start ≡ option_map began w.start
@@ -80,7 +81,7 @@ adds steps number does old w new run end ending means keeps ends once joined =
       once = is_once;
       few = short_after (replaced_acts means) b.0.trail b.2 is_once;
       joined = joined ∙ ap committed (kept (begun old number) w keeps
-          ∙ ap (λ (s : Option Open). record old { now = w.now; start = s; turns = w.turns }) b.1);
+          ∙ ap (λ (s : Option Open). record old { now = w.now; start = s; logs = w.logs }) b.1);
     }
 
 -- ---- a command that is given up
@@ -88,19 +89,19 @@ adds steps number does old w new run end ending means keeps ends once joined =
 -- the state with which it began is the present one again
 rolled : (old w : History) (number : ℕ) → base w ≡ base (begun old number) → old.start ≡ None → (start : Option Open)
     → option_map began start ≡ Some (old.now, number)
-    → rolled_back_from w start ≡ record old { turns = w.turns }
+    → rolled_back_from w start ≡ record old { logs = w.logs }
 rolled old w number keeps closed None is = let no : ⊥ = cc in absurd no
 rolled old w number keeps closed (Some o) is =
     let here : o.state ≡ old.now = ap (λ (p : Option (State × ℕ)). (unwrap_or p (old.now, number)).0) is in
     ap (λ (h : History). record h { now = o.state; start = None }) (kept (begun old number) w keeps)
-    ∙ (λ i. record old { now = here i; start = sym closed i; turns = w.turns })
+    ∙ (λ i. record old { now = here i; start = sym closed i; logs = w.logs })
 
 pub given_back : (old w new : History) (number : ℕ) → base w ≡ base (begun old number) → old.start ≡ None
-    → new ≡ rolled_back w → new ≡ record old { turns = new.turns }
+    → new ≡ rolled_back w → new ≡ record old { logs = new.logs }
 given_back old w new number keeps closed joined =
-    let is : new ≡ record old { turns = w.turns } =
+    let is : new ≡ record old { logs = w.logs } =
     joined ∙ rolled old w number keeps closed w.start (begin_kept (begun old number) w keeps) in
-    is ∙ ap (λ (turns : List ℕ). record old { turns = turns }) (sym (ap (λ (h : History). h.turns) is))
+    is ∙ ap (λ (logs : List Log). record old { logs = logs }) (sym (ap (λ (h : History). h.logs) is))
 
 -- ---- what a user does
 

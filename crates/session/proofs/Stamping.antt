@@ -6,6 +6,7 @@ use Rattle.std.proofs.lemmas.Bool.{lt-leb}
 use Rattle.std.proofs.lemmas.List.{reverse-append, length-map}
 use Rattle.meaning.specs.Actions.{Action}
 use Rattle.externals.specs.Cells.{Seen}
+use Rattle.externals.specs.Log.{Log}
 use Rattle.journal_entries.specs.State.{titles_of, index_of}
 use Rattle.change_journal.specs.History.{History, Step, stamp_at, step_with_external, plugged, unplugged, unplugged_at}
 use Rattle.change_journal.specs.History.{flipped_back, flipped_back_from, flipped_forth, flipped_forth_from}
@@ -239,8 +240,8 @@ numbers-plugged : (x : Seen) (steps : List Step) → numbers_of (map (step_with_
 numbers-plugged x [] = refl
 numbers-plugged x (s ∷ ss) = ap (λ (t : List ℕ). s.stamp ∷ t) (numbers-plugged x ss)
 
-stamped-plugged : (n : ℕ) (h : History) (x : Seen) (turns : ℕ) → AreStamped n h → AreStamped n (plugged h x turns)
-stamped-plugged n h x turns d = subst (DescendFrom n)
+stamped-plugged : (n : ℕ) (h : History) (x : Seen) (log : Log) → AreStamped n h → AreStamped n (plugged h x log)
+stamped-plugged n h x log d = subst (DescendFrom n)
     (λ i. reverse (sym (numbers-plugged x h.future) i) ++ h.stamp ∷ sym (numbers-plugged x h.past) i) d
 
 pub stamped-unplugged : (n : ℕ) (name : List ℕ) (h : History) → AreStamped n h → AreStamped n (unplugged name h)
@@ -251,12 +252,12 @@ stamped-unplugged n name h d = by (index_of name (titles_of h.now.externals))
     by (Some i) = ((here_back n h d).0, tt)
 
 -- an external that is plugged or handed back, and one that is unplugged, leave no batch open either
-pub stands-plugged : {T A : Type 0} (n : ℕ) (old new : History) (x : Seen) (turns : ℕ) (P : A → Type 0)
-    (result : Result T A) → OnOk result (new ≡ plugged old x turns) → IfErr result (λ e. P e × (new ≡ old))
+pub stands-plugged : {T A : Type 0} (n : ℕ) (old new : History) (x : Seen) (log : Log) (P : A → Type 0)
+    (result : Result T A) → OnOk result (new ≡ plugged old x log) → IfErr result (λ e. P e × (new ≡ old))
     → old.start ≡ None → AreStamped n old → (new.start ≡ None) × AreStamped n new
-stands-plugged n old new x turns P (Ok done) ok err closed d =
-    (ap (λ h. h.start) ok ∙ closed, subst (AreStamped n) (sym ok) (stamped-plugged n old x turns d))
-stands-plugged n old new x turns P (Err e) ok err closed d =
+stands-plugged n old new x log P (Ok done) ok err closed d =
+    (ap (λ h. h.start) ok ∙ closed, subst (AreStamped n) (sym ok) (stamped-plugged n old x log d))
+stands-plugged n old new x log P (Err e) ok err closed d =
     (ap (λ h. h.start) err.1 ∙ closed, subst (AreStamped n) (sym err.1) d)
 
 pub closed-unplugged : (name : List ℕ) (h : History) → h.start ≡ None → (unplugged name h).start ≡ None

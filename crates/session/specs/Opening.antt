@@ -1,6 +1,7 @@
 -- How a session is opened.
 use Rattle.std.specs.Prelude.{ℕ, not, ◌&&◌, List, Option, Some, None, nat_le, if◌then◌else◌}
 use Rattle.externals.specs.Cells.{Seen}
+use Rattle.externals.specs.Log.{Log}
 use Rattle.object_table.specs.Content.{Content}
 use Rattle.journal_entries.specs.State.{first_state, are_apart}
 use Rattle.change_journal.specs.History.{alone}
@@ -17,7 +18,7 @@ open_fault steps depth titles =
     (if not (nat_le 1 depth && nat_le depth MOST_DEPTH) then Some BadDepth else
     (if are_apart titles then None else Some DuplicateName))
 
--- one state: the stack, no global, its first card, and the externals with their cells of now
-abbrev pub opened : Content → List Seen → List ℕ → ℕ → ℕ → Standing
-opened stack externals turns steps depth =
-    record { history = alone (first_state stack externals) 0 depth turns; lines = 0; steps = steps }
+-- one state: the stack, no global, its first card, and the externals with their cells and logs of now
+abbrev pub opened : Content → List Seen → List Log → ℕ → ℕ → Standing
+opened stack externals logs steps depth =
+    record { history = alone (first_state stack externals) 0 depth logs; lines = 0; steps = steps }

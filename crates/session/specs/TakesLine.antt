@@ -41,12 +41,12 @@ pub record Adds (steps : ℕ) (does : Action) (number : ℕ) (old : History) (re
   pub trail : TrailAfter (replaced_acts runs.means) [] batch.trail
   pub once : IsOnce batch.trail
   pub few : IsShort batch.trail (different (places_of (replaced_acts runs.means)))
-  pub joined : new ≡ committed (record old { now = end.now; start = Some batch; turns = end.turns })
+  pub joined : new ≡ committed (record old { now = end.now; start = Some batch; logs = end.logs })
 
--- A command that is given up leaves all as it was, but for the turns that externals took.
+-- A command that is given up leaves all as it was, but for the logs of externals, which keep the turns that they took.
 pub record GivesUp (old : History) (reply : Reply) (new : History) : Type 0 where
   pub answer : reply ≡ refused NoMemory
-  pub same : new ≡ record old { turns = new.turns }
+  pub same : new ≡ record old { logs = new.logs }
 
 -- Typing into a field that is locked is refused, and what its reference did is taken back.
 pub record KeepsOut (steps : ℕ) (does : Action) (number : ℕ) (old : History) (reply : Reply) (new : History) : Type 0
@@ -55,7 +55,7 @@ pub record KeepsOut (steps : ℕ) (does : Action) (number : ℕ) (old : History)
     pub end : History
     pub run : RunState
     pub meets : MeetsLock (begun old number) (fresh_run steps) does end run
-    pub same : new ≡ record old { turns = new.turns }
+    pub same : new ≡ record old { logs = new.logs }
 
 -- what a user does is a fresh command, but for typing into a locked field
 abbrev pub Does : ℕ → Action → ℕ → History → Reply → History → Type 0

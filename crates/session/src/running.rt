@@ -101,7 +101,7 @@ fn kept_out<E: External>(alloc: Global, world: &mut World<E>) -> Reply
 }
 
 /// Does what a user does, with so many steps, as the command of the line of this number. Where it is out of memory nothing is
-/// left of what it did, but for the turns of externals, and so where a text is typed into a locked field.
+/// left of what it did, but for the logs of externals, and so where a text is typed into a locked field.
 fn perform<E: External>(
     alloc: Global,
     world: &mut World<E>,
@@ -112,7 +112,7 @@ fn perform<E: External>(
     requires closed { world.old.history.start ≡ None }
     requires fits { Fits (action_of action.now) }
     ensures ok { IfOk result (λ reply. Does steps (action_of action.now) number world.old.history reply world.new.history) }
-    ensures err { OnErr result (world.new.history ≡ record world.old.history { turns = world.new.history.turns }) }
+    ensures err { OnErr result (world.new.history ≡ record world.old.history { logs = world.new.history.logs }) }
     ensures closed { world.new.history.start ≡ None }
 {
     world.begin(number)?;

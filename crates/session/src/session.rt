@@ -188,7 +188,7 @@ impl<E: External> Session<E> {
             (open_fault steps depth (map E.title externals.items) ≡ None)
             × (s ≡ opened stack.content
             (map (seen_by E.title E.sort E.answers_calls E.cells) externals.items)
-            (map E.turn_count externals.items) steps depth)) }
+            (map E.log externals.items) steps depth)) }
         ensures err { IfErr result (λ e.
             (open_fault steps depth (map E.title externals.items) ≡ Some e.0)
             × (e.1 ≡ stack) × (e.2.items ≡ externals.items)) }
@@ -246,7 +246,7 @@ impl<E: External> Session<E> {
     pub fn plug(&mut self, external: E) -> Result<(), (PlugError, E)>
         ensures ok { OnOk result (self.new ≡ record self.old {
           history = plugged self.old.history
-              (seen_by E.title E.sort E.answers_calls E.cells external) (E.turn_count external);
+              (seen_by E.title E.sort E.answers_calls E.cells external) (E.log external);
         }) }
         ensures err { IfErr result (λ e. (e.1 ≡ external) × (self.new ≡ self.old)) }
         ensures duplicate { IfErr result (λ e. e.0 ≡ PlugError.DuplicateName
@@ -265,8 +265,8 @@ impl<E: External> Session<E> {
         ensures external { option_map (seen_by E.title E.sort E.answers_calls E.cells) result
             ≡ option_map (seen_at self.old.history.now)
             (index_of name.now (titles_of self.old.history.now.externals)) }
-        ensures turns { option_map E.turn_count result
-            ≡ option_map (λ i. slice_index_or self.old.history.turns i 0)
+        ensures log { option_map E.log result
+            ≡ option_map (λ i. slice_index_or self.old.history.logs i [])
             (index_of name.now (titles_of self.old.history.now.externals)) }
     {
         self.world.unplug(name)
@@ -276,7 +276,7 @@ impl<E: External> Session<E> {
     pub fn close(self) -> Vec<E>
         ensures seen { map (seen_by E.title E.sort E.answers_calls E.cells) result.items
             ≡ self.history.now.externals }
-        ensures turns { map E.turn_count result.items ≡ self.history.turns }
+        ensures logs { map E.log result.items ≡ self.history.logs }
     {
         let Session {
             alloc: _,

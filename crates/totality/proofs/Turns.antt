@@ -15,7 +15,7 @@ use Rattle.externals.specs.Table.{gate_turn, may_count, is_stage}
 use Rattle.journal_entries.specs.Exchange.{with_cells}
 use Rattle.journal_entries.specs.Replaced.{replaced_by_turn}
 use Rattle.journal_entries.specs.State.{seen_at}
-use Rattle.journal_entries.specs.Turning.{with_cells_at, one_more_at}
+use Rattle.journal_entries.specs.Turning.{with_cells_at, logs_after}
 use Rattle.change_journal.specs.History.{Open, History}
 use Rattle.change_journal.specs.Rising.{BothOpen, Rises, TookTurn, trail_after_turn}
 use Rattle.meaning.specs.declared.end.Stop.{Stop}
@@ -94,20 +94,20 @@ is_there (s ∷ es) zero input t e = omega arith
 is_there (s ∷ es) (suc k) input t e = let before = is_there es k input t e in omega (arith, before)
 
 -- the history after a turn of the k-th external
-abbrev with_turn : History → Open → ℕ → Turn → History
-with_turn w batch k t = record w {
+abbrev with_turn : History → Open → ℕ → Input → Turn → History
+with_turn w batch k input t = record w {
   now = with_cells_at w.now k t.1;
   start = Some (record batch {
     trail = trail_after_turn
         (replaced_by_turn k (seen_at w.now k).cells (seen_at (with_cells_at w.now k t.1) k).cells) batch.trail;
   });
-  turns = one_more_at w.turns k;
+  logs = logs_after w.logs w.now (with_cells_at w.now k t.1) k input t.0;
 }
 
 takes : (w : History) (batch : Open) (k : ℕ) (input : Input) (t : Turn) → w.start ≡ Some batch →
     (seen_at (with_cells_at w.now k t.1) k).cells ≡ t.1 →
     Answers (seen_at w.now k).sort (seen_at w.now k).cells input t.0 t.1
-    → TookTurn w (with_turn w batch k t) k input t.0
+    → TookTurn w (with_turn w batch k input t) k input t.0
 takes w batch k input t e cells answers = record {
   turn = record {
     answers = subst (λ new. Answers (seen_at w.now k).sort (seen_at w.now k).cells input t.0 new) (sym cells) answers;
@@ -116,7 +116,7 @@ takes w batch k input t e cells answers = record {
   history = refl;
   start =
       subst
-      (λ s. BothOpen s (with_turn w batch k t).start
+      (λ s. BothOpen s (with_turn w batch k input t).start
       (λ o p. let replaced = replaced_by_turn k (seen_at w.now k).cells (seen_at (with_cells_at w.now k t.1) k).cells
       in Rises replaced (trail_after_turn replaced o.trail) o p))
       (sym e) (record { state = refl; number = refl; undo = omega arith; redo = omega arith; trail = refl });
@@ -132,7 +132,7 @@ then_turn {B} {n} {Q} w r k input goes goes_on = by_turn
     by_turn : (t : Option Turn) → turn_of (seen_at w.now k).sort (seen_at w.now k).cells input ≡ t → Has n Q
     by_turn None is =
         let t : Turn = (Fail, (seen_at w.now k).cells) in
-        goes_on Fail (with_turn w goes.is_open.0 k t) (record { is_open = (_, refl); left = goes.left })
+        goes_on Fail (with_turn w goes.is_open.0 k input t) (record { is_open = (_, refl); left = goes.left })
         (takes w goes.is_open.0 k input t goes.is_open.1
         (ap (λ es. (slice_index_or es k none_seen).cells) (set-get_or w.now.externals k none_seen))
         (record {
@@ -141,7 +141,7 @@ then_turn {B} {n} {Q} w r k input goes goes_on = by_turn
               (λ o. IfSome o (λ turn. (Fail ≡ turn.0) × ((seen_at w.now k).cells ≡ turn.1))) (sym is) tt;
         }))
     by_turn (Some t) is =
-        goes_on t.0 (with_turn w goes.is_open.0 k t) (record { is_open = (_, refl); left = goes.left })
+        goes_on t.0 (with_turn w goes.is_open.0 k input t) (record { is_open = (_, refl); left = goes.left })
         (takes w goes.is_open.0 k input t goes.is_open.1
         (ap (λ s. s.cells) (get_or-set_same w.now.externals k (with_cells (seen_at w.now k) t.1) none_seen
         (is_there w.now.externals k input t is)))

@@ -26,9 +26,9 @@ use Rattle.headline.specs.Headline.{Does, DoesLine, line_counted, LineMoves}
 use Rattle.transcripts.specs.Laws.{IsDetermined}
 use Rattle.transcripts.proofs.Once.{answered, of_each}
 
--- the turns as they are
-abbrev all_turns : Sight
-all_turns = record { of_turns = λ turns. turns; counts = λ turns i. refl }
+-- the logs as they are
+abbrev all_logs : Sight
+all_logs = record { of_logs = λ logs. logs }
 
 -- ---- lists
 
@@ -145,7 +145,7 @@ fresh_kept : (does : Action) (state : State) (steps : ℕ) (reply : Reply) (afte
     NoneIsFree (sorts_of state.externals) → Fresh state steps does reply after → NoneIsFree (sorts_of after.externals)
 fresh_kept does state steps reply after such free fresh =
     let kept : sorts fresh.end ≡ sorts fresh.old =
-    (acts_comes {g = all_turns} fresh.runs.means (answered fresh.runs.ends)).kept in
+    (acts_comes {g = all_logs} fresh.runs.means (answered fresh.runs.ends)).kept in
     subst (λ (s : State). NoneIsFree (sorts_of s.externals)) (sym fresh.leaves)
     (subst NoneIsFree (sym kept) (subst (λ (s : State). NoneIsFree (sorts_of s.externals)) (sym fresh.here) free))
 

@@ -138,9 +138,9 @@ one_show state {reply = reply} {reply2 = reply2} a b =
 
 -- ---- a fresh command
 
--- the turns of externals aren't compared
-abbrev no_turns : Sight
-no_turns = record { of_turns = λ turns. []; counts = λ turns i. refl }
+-- the logs of externals aren't compared
+abbrev no_logs : Sight
+no_logs = record { of_logs = λ logs. [] }
 
 -- two references from one state find the same
 one_reference : AreExact →
@@ -148,15 +148,15 @@ one_reference : AreExact →
     v.now ≡ w.now → NoneIsFree (sorts w) → HasMemory o → HasMemory p → Refers w r pa o w2 r2 → Refers v r pa p v2 q2
     → (o ≡ p) × (w2.now ≡ v2.now)
 one_reference exact w v {w2} {v2} {r} {r2} {q2} {pa} {o} {p} same free has had a b =
-    let begins : sight no_turns v ≡ sight no_turns w = ap (λ s. record { now = s; turns = [] }) same in
-    let first = (refers_comes {g = no_turns} a has).gives exact free in
-    let later = (refers_comes {g = no_turns} b had).gives exact
+    let begins : sight no_logs v ≡ sight no_logs w = ap (λ s. record { now = s; logs = [] }) same in
+    let first = (refers_comes {g = no_logs} a has).gives exact free in
+    let later = (refers_comes {g = no_logs} b had).gives exact
     (subst (λ (s : State). NoneIsFree (sorts_of s.externals)) (sym same) free) in
     let fuel = first.0 + later.0 in
-    let is : told o (sight no_turns w2) r2 ≡ told p (sight no_turns v2) q2 =
+    let is : told o (sight no_logs w2) r2 ≡ told p (sight no_logs v2) q2 =
     sym (first.1 fuel (omega arith)) ∙ ap (λ u. (meanings fuel).refers u r pa) (sym begins) ∙ later.1 fuel
     (omega arith) in
-    let there : sight no_turns w2 ≡ sight no_turns v2 = cc in (cc, ap (λ u. u.now) there)
+    let there : sight no_logs w2 ≡ sight no_logs v2 = cc in (cc, ap (λ u. u.now) there)
 
 true_false : true ≡ false → ⊥
 true_false e = cc

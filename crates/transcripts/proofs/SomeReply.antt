@@ -24,7 +24,7 @@ opened s = record {
   future = [];
   start = Some (record { state = s; number = 0; undo = 0; redo = 0; trail = [] });
   depth = 0;
-  turns = [];
+  logs = [];
 }
 
 -- an end that isn't out of memory is answered
