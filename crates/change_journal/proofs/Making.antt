@@ -498,8 +498,8 @@ pub IsSound-turned : (b : Journal) (k : PresentView) (room : ℕ) (batch more : 
     → Turns b.present.state k.state i input ask → IsPatch (seen_at b.present.state i).cells (seen_at k.state i).cells p
     → more ≡ record batch { entries = kept_turn batch.entries i p }
     → k ≡ record b.present
-    { state = k.state; logs = logs_after b.present.logs b.present.state k.state i input ask } → IsSound b room (Some batch)
-    → IsSound (with_present b k) room (Some more)
+    { state = k.state; logs = logs_after b.present.logs b.present.state k.state i input ask }
+    → IsSound b room (Some batch) → IsSound (with_present b k) room (Some more)
 IsSound-turned b k room batch more i input ask p there known turn patch batch_is present_is sound =
     let h = shape_of b.present in
     let shape : shape_of k ≡ h = λ x.

@@ -1,6 +1,6 @@
 -- Flips of lists of cells by patches.
 use Rattle.std.proofs.Common.{◌≡◌, ◌≢◌, ℕ, zero, suc, ◌<◌, List, [], ◌∷◌, length, get_or, set, refl, sym, ap, ◌∙◌}
-use Rattle.std.proofs.Common.{arith, Some, length-set, slice_get, slice_set, slice_index_or, inl, inr}
+use Rattle.std.proofs.Common.{arith, Some, length-set, slice_get, inl, inr}
 use Rattle.std.proofs.lemmas.List.{set-get_or, get_or-set_same, get_or-set_other}
 use Rattle.std.proofs.lemmas.Bool.{cases_eq}
 use Rattle.std.proofs.lemmas.Option.{slice_get_within}
@@ -124,16 +124,3 @@ flipped-patch old new (e ∷ p) n h r =
 
 pub patch_back : (old new : List (List ℕ)) (p : Changes) → IsPatch old new p → flipped new p ≡ old
 patch_back old new p h = flipped-patch old new p h.count h.old_texts h.rest
-
--- a proper patch of an external with one cell has one member at most: its flip exchanges that text
-pub flip_one_cells : (t : List ℕ) (p : Changes) → IsProper 1 p → 0 < length p
-    → (slice_index_or p 0 (0, [])).1 ∷ [] ≡ flipped (t ∷ []) p
-flip_one_cells t [] h l = absurd (omega arith)
-flip_one_cells t (e ∷ []) h l = let z : e.0 ≡ 0 = omega arith in rw z refl
-flip_one_cells t (e ∷ f ∷ p) h l = absurd (h.1.0 (omega arith))
-
-pub flip_one_patch : (t : List ℕ) (p : Changes) → IsProper 1 p → 0 < length p
-    → slice_set p 0 ((slice_index_or p 0 (0, [])).0, t) ≡ taken_out (t ∷ []) p
-flip_one_patch t [] h l = absurd (omega arith)
-flip_one_patch t (e ∷ []) h l = let z : e.0 ≡ 0 = omega arith in rw z refl
-flip_one_patch t (e ∷ f ∷ p) h l = absurd (h.1.0 (omega arith))

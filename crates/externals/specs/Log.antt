@@ -17,8 +17,8 @@ pub record LoggedTurn : Type 0 where
 abbrev pub Log : Type 0
 Log = List LoggedTurn
 
--- The log after a turn. Where the table has the turn, it follows from the cells and the input, and the log stays; else it
--- has this turn more at its end.
+-- The log after a turn. Where the table has the turn, it follows from the cells and the input, and the log stays; else
+-- it has this turn more at its end.
 abbrev pub log_after : Option Turn → Log → LoggedTurn → Log
 log_after (Some _) log turn = log
 log_after None log turn = log ++ turn ∷ []

@@ -1,5 +1,5 @@
 -- What a patch holds.
-use Rattle.std.specs.Prelude.{List, [], ◌∷◌}
+use Rattle.std.specs.Prelude.{[], ◌∷◌}
 use Rattle.externals.specs.Cells.{Changes}
 use Rattle.externals.specs.declared.patch.CellChanges.{CellChanges}
 use Rattle.externals.specs.declared.patch.CellChanges.TheVariants.{Nothing, One, Several}

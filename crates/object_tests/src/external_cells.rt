@@ -11,8 +11,8 @@ use ht_values::Text;
 use std::alloc::{AllocError, Global};
 use xkit::{Cells, Step, TurnLog, changed, unchanged};
 
-/// Of no known kind, a command that echoes what it is handed: at each start its cell becomes the first argument, and it asks
-/// for its value. An answer ends the conversation with its value. Its log has each turn.
+/// Of no known kind, a command that echoes what it is handed: at each start its cell becomes the first argument, and it
+/// asks for its value. An answer ends the conversation with its value. Its log has each turn.
 #[derive(Drop)]
 struct Echo {
     name: Text,
@@ -130,8 +130,8 @@ fn keeps_laws<E: External>(external: &E) {
     laws_of_flips();
 }
 
-/// Whether an external asks for the value of `new` when it starts with it, its cell then becomes `new`, and it ends with the
-/// value that it is told.
+/// Whether an external asks for the value of `new` when it starts with it, its cell then becomes `new`, and it ends with
+/// the value that it is told.
 fn meets<E: External>(alloc: Global, external: Option<E>) -> bool {
     match external {
         Some(mut external) => {

@@ -10,8 +10,8 @@ use std::marker::Model;
 
 /// The turns that an external took, the first one first, which contracts see as `turns`. Only proofs read them.
 ///
-/// An external whose kind is in no table holds one, makes it with `new`, gives `turns` as its log, and records each turn
-/// once its cells are those after it.
+/// An external whose kind is in no table holds one, which it makes with `new`. It gives `turns` as its log, and records
+/// each turn once its cells are those after it.
 #[derive(Drop)]
 #[non_exhaustive]
 pub struct TurnLog {

@@ -44,8 +44,8 @@ returns-clause-present g c =
       externals = map f xs;
     } in
     rw (← c.self.view_is) (IfOk-weaker c.turn.result _ _
-    (λ r a. rw (logs_more f g.E.External.log xs c.args.i c.index_mut.result.now c.turn.new.self c.args.input.now r.0 there
-    c.index_mut.ensures.value a s refl) refl) c.turn.ensures.log)
+    (λ r a. rw (logs_more f g.E.External.log xs c.args.i c.index_mut.result.now c.turn.new.self c.args.input.now r.0
+    there c.index_mut.ensures.value a s refl) refl) c.turn.ensures.log)
 
 pub returns-clause-err : goal.returns-clause-err
 returns-clause-err g c =
