@@ -329,9 +329,9 @@ use Rattle.preservation.proofs.Ends.{given, stopped, faulted, exited}
 use Rattle.definitional_interpreter.specs.Told.{told, ran}
 use Rattle.definitional_interpreter.specs.Changes.{yielded, step, make, edit, assign, declare_all, set_property, add_objects, turn}
 use Rattle.definitional_interpreter.specs.Texts.{parsed, first_found}
-use Rattle.definitional_interpreter.proofs.Comes.{Sight, sight, Comes}
+use Rattle.definitional_interpreter.proofs.Comes.{Sight, sight, Comes, HasExternal}
 use Rattle.definitional_interpreter.proofs.Chain.{done, later, after_ok, after_stop, after_in_ok, after_in_stop, after_run_ok, after_run_stop, after_lines_ok, after_lines_stop, after_next_ok, after_next_stop, after_next_leaves, choose_true, choose_false, maybe_some, maybe_none, computed_ok, computed_err, below, at_least, at_limit, gives_outcome, there_ok, there_none, there_stop}
-use Rattle.definitional_interpreter.proofs.Leaves.{yields, parses_expression, parses_typed_lines, parses_sent_message, steps, finds, makes, takes_turn, sets, adds, edits, assigns, declares_all, HasExternal, named_there, there_after, asks_back, talk_back}
+use Rattle.definitional_interpreter.proofs.Leaves.{yields, parses_expression, parses_typed_lines, parses_sent_message, steps, finds, makes, takes_turn, sets, adds, edits, assigns, declares_all, named_there, there_after, asks_back, talk_back}
 use Rattle.meaning.specs.Meaning.{%s}""" % ", ".join(FAMILIES)
     return "-- What the rules allow is what the meanings come to.\n" + imports(uses, text) + text
 

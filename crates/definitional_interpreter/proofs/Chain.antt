@@ -18,8 +18,8 @@ use Rattle.definitional_interpreter.specs.Told.{after_next}
 use Rattle.definitional_interpreter.specs.Told.{choose, maybe, computed, there, gave}
 use Rattle.definitional_interpreter.specs.Families.{Meanings}
 use Rattle.definitional_interpreter.specs.Meanings.{meanings, one_more}
-use Rattle.definitional_interpreter.specs.Laws.{NoneIsFree, Enough}
-use Rattle.definitional_interpreter.proofs.Comes.{Sight, sight, Comes}
+use Rattle.definitional_interpreter.specs.Laws.{Enough}
+use Rattle.definitional_interpreter.proofs.Comes.{kept_refl, kept_trans, Sight, sight, Comes}
 
 both : (P Q R : Meanings → Type 0) → ((parts : Meanings) → P parts → Q parts → R parts) → Enough P → Enough Q → Enough R
 both P Q R f a b =
@@ -28,17 +28,17 @@ both P Q R f a b =
 -- a part, and what follows from it
 pub before : {g : Sight} {X Y : Type 0} {w w1 w2 : History} {F : Meanings → X} {x : X} {y : Y} (K : Meanings → X → Y) →
     Comes g w F x w1 → Comes g w1 (λ parts. K parts x) y w2 → Comes g w (λ parts. K parts (F parts)) y w2
-before {F = F} {x = x} {y = y} K first rest = record {
-  kept = rest.kept ∙ first.kept;
+before {g = g} {w = w} {w1 = w1} {w2 = w2} {F = F} {x = x} {y = y} K first rest = record {
+  kept = kept_trans first.kept rest.kept;
   gives =
-      λ exact free. both (λ parts. F parts ≡ x) (λ parts. K parts x ≡ y) (λ parts. K parts (F parts) ≡ y)
-      (λ parts p q. ap (K parts) p ∙ q) (first.gives exact free)
-      (rest.gives exact (subst NoneIsFree (sym first.kept) free));
+      λ exact asked. both (λ parts. F parts ≡ x) (λ parts. K parts x ≡ y) (λ parts. K parts (F parts) ≡ y)
+      (λ parts p q. ap (K parts) p ∙ q) (first.gives exact (g.first w w1 w2 rest.kept asked))
+      (rest.gives exact (g.rest w w1 w2 first.kept asked));
 }
 
 -- nothing is left to be computed
 pub done : {g : Sight} {X : Type 0} {w : History} {x : X} → Comes g w (λ parts. x) x w
-done = record { kept = refl; gives = λ exact free. (0, λ fuel le. refl) }
+done = record { kept = kept_refl; gives = λ exact asked. (0, λ fuel le. refl) }
 
 raised : {X : Type 0} (F : Meanings → X) (x : X) (least : ℕ) →
     ((fuel : ℕ) → least ≤ fuel → F (one_more (meanings fuel)) ≡ x) → (fuel : ℕ) → suc least ≤ fuel → F (meanings fuel)
@@ -50,7 +50,7 @@ raised F x least h (suc fuel) le = h fuel (omega (arith, le))
 pub later : {g : Sight} {X : Type 0} {w w2 : History} {F : Meanings → X} {x : X} →
     Comes g w (λ parts. F (one_more parts)) x w2 → Comes g w F x w2
 later {F = F} {x = x} h =
-    record { kept = h.kept; gives = λ exact free. let e = h.gives exact free in (suc e.0, raised F x e.0 e.1) }
+    record { kept = h.kept; gives = λ exact asked. let e = h.gives exact asked in (suc e.0, raised F x e.0 e.1) }
 
 -- ---- a part that gives a value, and a part that stops
 
@@ -126,7 +126,7 @@ left_here (Returns v) w r f next isnt = refl
 -- what the meanings come to in one step
 is_done : {g : Sight} {X : Type 0} {w : History} {F : Meanings → X} {x : X} → ((parts : Meanings) → F parts ≡ x) →
     Comes g w F x w
-is_done is = record { kept = refl; gives = λ exact free. (0, λ fuel le. is (meanings fuel)) }
+is_done is = record { kept = kept_refl; gives = λ exact asked. (0, λ fuel le. is (meanings fuel)) }
 
 pub after_next_leaves : {g : Sight} {w w1 : History} {F : Meanings → Ran How}
     (G : Meanings → Present → RunState → Frame → Ran How) {h : How} {r1 : RunState} {f1 : Frame} →

@@ -7,6 +7,7 @@ use Rattle.ht_grammar.specs.Reads.{ReadsExpr, ReadsLines, ReadsMessage, ReadsScr
 use Rattle.ht_grammar.specs.Whole.{script, sent_message}
 use Rattle.definitional_interpreter.specs.Laws.{LinesAreComputed, MessagesAreComputed}
 use Rattle.definitional_interpreter.specs.Laws.{ActionsAreComputed, ReferencesAreComputed, ValuesAreComputed}
+use Rattle.definitional_interpreter.proofs.Sights.{fixed_sight}
 use Rattle.definitional_interpreter.proofs.Comes.{AreExact, Sight}
 use Rattle.definitional_interpreter.proofs.Outcomes.{val_comes, line_comes, message_comes, refers_comes, acts_comes}
 
@@ -16,7 +17,7 @@ exactly c e l s m = record { cuts = c; expressions = e; lines = l; messages = m;
 
 -- the logs as they are
 abbrev pub all_logs : Sight
-all_logs = record { of_logs = λ logs. logs }
+all_logs = fixed_sight (λ logs. logs)
 
 -- ---- what the function gives
 

@@ -1,8 +1,8 @@
 -- What a rule makes beside its parts has one outcome: texts, steps, edits, objects and turns.
 use Rattle.std.proofs.Common.{◌≡◌, ℕ, zero, suc, ◌+◌, ◌-◌, ◌<◌, List, [], ◌∷◌, ◌++◌, length, map, Bool, true, false}
 use Rattle.std.proofs.Common.{Option, Some, None, Result, Ok, Err, refl, sym, ap, subst, ◌∙◌, arith}
-use Rattle.std.specs.Prelude.{slice_index_or, slice_set, option_map, IfSome, if◌then◌else◌}
-use Rattle.std.proofs.lemmas.List.{set-get_or}
+use Rattle.std.specs.Prelude.{slice_index_or, slice_set, option_map, if◌then◌else◌}
+use Rattle.std.proofs.Common.{length-set}
 use Rattle.ht_values.specs.declared.fault.Fault.{Fault}
 use Rattle.ht_values.specs.declared.fault.Fault.TheVariants.{StepLimit, TooMany, Syntax}
 use Rattle.ht_values.specs.Text.{folded}
@@ -12,7 +12,8 @@ use Rattle.externals.specs.declared.external.Ask.{Ask}
 use Rattle.externals.specs.declared.external.Ask.TheVariants.{SendCardMessage, EvalExpr, SetGlobal, SetFieldByName}
 use Rattle.externals.specs.declared.external.Ask.TheVariants.{Done, Fail}
 use Rattle.externals.specs.declared.external.Input.{Input}
-use Rattle.externals.specs.Log.{log_after}
+use Rattle.externals.specs.Log.{Log, LoggedTurn, log_after}
+use Rattle.externals.specs.Table.{Turn, turn_of}
 use Rattle.journal_entries.specs.declared.change.Change.{Change}
 use Rattle.journal_entries.specs.declared.change.Change.TheVariants as changes
 use Rattle.stack_places.specs.Places.{number}
@@ -22,7 +23,6 @@ use Rattle.journal_entries.specs.Changes.{changed, makes_current}
 use Rattle.journal_entries.specs.Places.{Write, put, put_all, in_stack, current_card, in_the_stack}
 use Rattle.journal_entries.specs.State.{State, seen_at}
 use Rattle.journal_entries.specs.Exchange.{with_cells}
-use Rattle.journal_entries.specs.Turning.{with_cells_at}
 use Rattle.change_journal.specs.History.{History}
 use Rattle.change_journal.specs.Rising.{Made, TookTurn}
 use Rattle.containers.specs.declared.edit.Edit.{Edit}
@@ -36,14 +36,15 @@ use Rattle.meaning.specs.declared.frame.Frame.{Frame}
 use Rattle.meaning.specs.Places.{Edits, Assigns, DeclaresAll, Sets, Adds}
 use Rattle.meaning.specs.State.{RunState, Step}
 use Rattle.meaning.specs.Values.{Yields}
-use Rattle.preservation.specs.Laws.{HasMemory}
+use Rattle.preservation.specs.Laws.{HasMemory, IsPrefix}
 use Rattle.definitional_interpreter.specs.Told.{Present, Told, told, ran, after, maybe, computed, choose}
 use Rattle.definitional_interpreter.specs.Changes.{with_global, yielded, step_by, step, made, make, with_variables}
 use Rattle.definitional_interpreter.specs.Changes.{written, edit_by}
-use Rattle.definitional_interpreter.specs.Changes.{edit, assign, declare_all, set_property, add_objects, turn_by, turn}
+use Rattle.definitional_interpreter.specs.Changes.{edit, assign, declare_all, set_property, add_objects, turn}
 use Rattle.definitional_interpreter.specs.Families.{Meanings}
-use Rattle.definitional_interpreter.specs.Laws.{sorts_of, sorts, IsFixed, NoneIsFree}
-use Rattle.definitional_interpreter.proofs.Comes.{AreExact, Sight, sight, Comes}
+use Rattle.definitional_interpreter.specs.Laws.{sorts_of, sorts}
+use Rattle.definitional_interpreter.proofs.Comes.{AreExact, Sight, sight, Comes, Kept, HasExternal, kept_refl, kept_same}
+use Rattle.definitional_interpreter.proofs.Comes.{kept_trans, prefix_same}
 use Rattle.ht_lex.specs.declared.tokens.Span.{Span}
 use Rattle.ht_lex.specs.Cutting.{spans_of, CutsExactly}
 use Rattle.ht_lex.specs.Token.{Token, token_in}
@@ -129,37 +130,42 @@ externals-changed s changes.DeleteCard =
     externals-stack (put s current_card (Some (number (following s.current s.stack.cards))))
     (writes_of_deletion s.stack s.current)
 
-sorts_made : {w w1 : History} {c : Change} → Made w w1 c → sorts w1 ≡ sorts w
-sorts_made {w} {w1} {c} m = ap sorts m.history ∙ ap sorts_of (externals-changed w.now c)
+kept_made : {w w1 : History} {c : Change} → Made w w1 c → Kept w w1
+kept_made {w} {w1} {c} m = record {
+  kinds = ap (λ h. sorts h) m.history ∙ ap sorts_of (externals-changed w.now c);
+  count = ap (λ h. length h.logs) m.history;
+  logs = λ i. prefix_same (slice_index_or w.logs i []) (slice_index_or w1.logs i [])
+      (ap (λ h. slice_index_or h.logs i []) m.history);
+}
 
 present_made : (g : Sight) {w w1 : History} {c : Change} → Made w w1 c → made (sight g w) c ≡ sight g w1
 present_made g m = sym (ap (sight g) m.history)
 
 -- an outcome that is the same whatever the parts mean
-leaf : {g : Sight} {X : Type 0} {w w1 : History} {x y : X} → sorts w1 ≡ sorts w → x ≡ y → Comes g w (λ parts. x) y w1
-leaf kept is = record { kept = kept; gives = λ exact free. (0, λ fuel le. is) }
+leaf : {g : Sight} {X : Type 0} {w w1 : History} {x y : X} → Kept w w1 → x ≡ y → Comes g w (λ parts. x) y w1
+leaf kept is = record { kept = kept; gives = λ exact asked. (0, λ fuel le. is) }
 
 pub makes : {g : Sight} {w w1 : History} {c : Change} {r : RunState} → Made w w1 c →
     Comes g w (λ parts. make (sight g w) r c) (told (Ok tt) (sight g w1) r) w1
 unfolding make
-makes {g} {r = r} m = leaf (sorts_made m) (ap (λ w. told (Ok tt) w r) (present_made g m))
+makes {g} {r = r} m = leaf (kept_made m) (ap (λ w. told (Ok tt) w r) (present_made g m))
 
 writes : (g : Sight) {w w1 : History} {v : VariablesView} {p : StorageView} {d : Result (Option (List ℕ)) Fault}
     {r : RunState} {f : Frame} → Writes w f.variables p d w1 v →
-    (sorts w1 ≡ sorts w) × (edit_by (sight g w) r f p d ≡ ran (Ok tt) (sight g w1) r (with_variables f v))
-writes g {w} {p = p} {r = r} {f = f} (Writes.nothing_due is) = (refl, ap (edit_by (sight g w) r f p) is)
+    Kept w w1 × (edit_by (sight g w) r f p d ≡ ran (Ok tt) (sight g w1) r (with_variables f v))
+writes g {w} {p = p} {r = r} {f = f} (Writes.nothing_due is) = (kept_refl, ap (edit_by (sight g w) r f p) is)
 writes g {w} {p = p} {r = r} {f = f} (Writes.to_global {name = name} {t = t} at is m) = (
-  sorts_made m,
+  kept_made m,
   ap (edit_by (sight g w) r f p) is ∙ ap (λ p. written (sight g w) r f p t) at
       ∙ ap (λ w. ran (Ok tt) w r f) (present_made g m),
 )
 writes g {w} {p = p} {r = r} {f = f} (Writes.to_own {name = name} {t = t} at is new) = (
-  refl,
+  kept_refl,
   ap (edit_by (sight g w) r f p) is ∙ ap (λ p. written (sight g w) r f p t) at
       ∙ ap (λ v. ran (Ok tt) (sight g w) r (with_variables f v)) (sym new),
 )
 writes g {w} {p = p} {r = r} {f = f} (Writes.to_field {t = t} at is m) = (
-  sorts_made m,
+  kept_made m,
   ap (edit_by (sight g w) r f p) is ∙ ap (λ p. written (sight g w) r f p t) at
       ∙ ap (λ w. ran (Ok tt) w r f) (present_made g m),
 )
@@ -169,7 +175,7 @@ pub edits : {g : Sight} {w w1 : History} {f f1 : Frame} {r : RunState} {p : Plac
     Comes g w (λ parts. edit (sight g w) r f p e) (ran o (sight g w1) r f1) w1
 edits {w} {w1} {f} {f1} {r} {p} {e} Edits.edit_memory has = absurd (has refl)
 edits {g} {w} {w1} {f} {f1} {r} {p} {e} (Edits.edit_faults {n = n} is same frame) has =
-    leaf (ap sorts same)
+    leaf (kept_same same)
     (ap (edit_by (sight g w) r f p.storage) is ∙ ap (λ (v : History). ran (Err (Faults n)) (sight g v) r f) (sym same)
     ∙ ap (ran (Err (Faults n)) (sight g w1) r) (sym frame))
 edits {g} {w} {w1} {f} {f1} {r} {p} {e} (Edits.edited done_by frame) has =
@@ -180,28 +186,29 @@ pub assigns : {g : Sight} {w w1 : History} {f f1 : Frame} {r : RunState} {name :
     Comes g w (λ parts. assign (sight g w) r f name v) (ran o (sight g w1) r f1) w1
 assigns Assigns.assign_memory has = absurd (has refl)
 assigns {g} {w} {f = f} {r = r} {v = v} (Assigns.no_variable is) has =
-    leaf refl (ap (λ name. assign (sight g w) r f name v) is)
+    leaf kept_refl (ap (λ name. assign (sight g w) r f name v) is)
 assigns {g} {w} {w1} {f} {f1} {r} {v = v} {o = o} (Assigns.assigns is e) has =
     subst (λ name. Comes g w (λ parts. assign (sight g w) r f name v) (ran o (sight g w1) r f1) w1) (sym is)
     (edits e has)
 
 declares : (g : Sight) {w w1 : History} {v v1 : VariablesView} {name : List ℕ} → Declares w v name w1 v1 →
-    (sorts w1 ≡ sorts w) × (with_global (sight g w) name (get w.now.globals (folded name))
+    Kept w w1 × (with_global (sight g w) name (get w.now.globals (folded name))
     ≡ sight g w1) × (declared v name ≡ v1)
-declares g {w} {name = name} (Declares.has_value is new) = (refl, ap (with_global (sight g w) name) is, sym new)
+declares g {w} {name = name} (Declares.has_value is new) = (kept_refl, ap (with_global (sight g w) name) is, sym new)
 declares g {w} {name = name} (Declares.is_new is m new) =
-    (sorts_made m, ap (with_global (sight g w) name) is ∙ present_made g m, sym new)
+    (kept_made m, ap (with_global (sight g w) name) is ∙ present_made g m, sym new)
 
-moved : {g : Sight} {X : Type 0} {w w1 w2 : History} {F : Meanings → X} {x : X} → sorts w1
-    ≡ sorts w → Comes g w1 F x w2 → Comes g w F x w2
-moved kept h = record { kept = h.kept ∙ kept; gives = λ exact free. h.gives exact (subst NoneIsFree (sym kept) free) }
+moved : {g : Sight} {X : Type 0} {w w1 w2 : History} {F : Meanings → X} {x : X} → Kept w w1 →
+    Comes g w1 F x w2 → Comes g w F x w2
+moved {g} {w = w} {w1 = w1} {w2 = w2} kept h =
+    record { kept = kept_trans kept h.kept; gives = λ exact asked. h.gives exact (g.rest w w1 w2 kept asked) }
 
 pub declares_all : {g : Sight} {w w1 : History} {f f1 : Frame} {r : RunState} {names : List (List ℕ)}
     {o : Result (Unit {0}) Stop} → DeclaresAll w f names o w1 f1 → HasMemory o →
     Comes g w (λ parts. declare_all (sight g w) r f names) (ran o (sight g w1) r f1) w1
 declares_all DeclaresAll.declare_memory has = absurd (has refl)
 declares_all {g} {w} {f = f} {r = r} (DeclaresAll.none_declared is) has =
-    leaf refl (ap (declare_all (sight g w) r f) is)
+    leaf kept_refl (ap (declare_all (sight g w) r f) is)
 declares_all {g} {w} {w1 = w2} {f} {f1 = f2} {r} {o = o}
     (DeclaresAll.declared {w1 = w1} {f1 = f1} {names1 = names} {name = name} {v = v} is d frame rest) has =
     let all = declares g d in
@@ -220,11 +227,11 @@ pub sets : {g : Sight} {w w1 : History} {m : Referent} {p : Prop} {t : List ℕ}
 unfolding make
 sets Sets.set_memory has = absurd (has refl)
 sets {g} {w} {r = r} (Sets.set_faults {n = n} is same) has =
-    leaf (ap sorts same)
+    leaf (kept_same same)
     (ap (λ c. computed c (λ c. make (sight g w) r c) (λ n. told (Err (Faults n)) (sight g w) r)) is
     ∙ ap (λ (v : History). told (Err (Faults n)) (sight g v) r) (sym same))
 sets {g} {w} {r = r} (Sets.set_made is m) has =
-    leaf (sorts_made m)
+    leaf (kept_made m)
     (ap (λ c. computed c (λ c. make (sight g w) r c) (λ n. told (Err (Faults n)) (sight g w) r)) is
     ∙ ap (λ w. told (Ok tt) w r) (present_made g m))
 
@@ -233,16 +240,13 @@ pub adds : {g : Sight} {w w1 : History} {c : Change} {o : Result (Unit {0}) Stop
 unfolding make
 adds Adds.add_memory has = absurd (has refl)
 adds {g} {w} {c = c} {r = r} (Adds.too_many is) has =
-    leaf refl (ap (λ b. choose b (λ _. make (sight g w) r c) (λ _. told (Err (Faults TooMany)) (sight g w) r)) is)
+    leaf kept_refl (ap (λ b. choose b (λ _. make (sight g w) r c) (λ _. told (Err (Faults TooMany)) (sight g w) r)) is)
 adds {g} {w} {c = c} {r = r} (Adds.adds is m) has =
-    leaf (sorts_made m)
+    leaf (kept_made m)
     (ap (λ b. choose b (λ _. make (sight g w) r c) (λ _. told (Err (Faults TooMany)) (sight g w) r)) is
     ∙ ap (λ w. told (Ok tt) w r) (present_made g m))
 
 -- ---- externals
-
-pub record HasExternal (w : History) (k : ℕ) : Type 0 where
-  pub there : k < length (sorts w)
 
 -- an external that a message names is there
 named_later : (rest : List ℕ) (found : Option ℕ) (k : ℕ) → ((j : ℕ) → found ≡ Some j → j < length rest) →
@@ -267,7 +271,7 @@ pub named_there : (w : History) (is_function : Bool) (name : List ℕ) {k : ℕ}
     external_named w.now.externals is_function name ≡ Some k → HasExternal w k
 named_there w is_function name {k} is = record { there = within w.now.externals is_function name k is }
 
-sort_at : (es : List Seen) (k : ℕ) → slice_index_or (sorts_of es) k 0 ≡ (slice_index_or es k none_seen).sort
+pub sort_at : (es : List Seen) (k : ℕ) → slice_index_or (sorts_of es) k 0 ≡ (slice_index_or es k none_seen).sort
 sort_at [] k = refl
 sort_at (e ∷ es) zero = refl
 sort_at (e ∷ es) (suc k) = sort_at es k
@@ -282,36 +286,41 @@ sorts_took : {w w1 : History} {k : ℕ} {input : Input} {ask : Ask} → TookTurn
 sorts_took {w} {w1} {k} t = ap (λ s. sorts_of s.externals) t.turn.state
     ∙ sorts-turned w.now.externals k (seen_at w1.now k).cells
 
+after_grows : (due : Option Turn) (log : Log) (turn : LoggedTurn) → IsPrefix log (log_after due log turn)
+after_grows (Some t) log turn = prefix_same log log refl
+after_grows None log turn = (turn ∷ [], refl)
+
+grown_at : (logs : List Log) (k : ℕ) (log : Log) → IsPrefix (slice_index_or logs k []) log → (i : ℕ) →
+    IsPrefix (slice_index_or logs i []) (slice_index_or (slice_set logs k log) i [])
+grown_at [] k log grown i = prefix_same [] [] refl
+grown_at (l ∷ ls) zero log grown zero = grown
+grown_at (l ∷ ls) zero log grown (suc i) = prefix_same (slice_index_or ls i []) (slice_index_or ls i []) refl
+grown_at (l ∷ ls) (suc k) log grown zero = prefix_same l l refl
+grown_at (l ∷ ls) (suc k) log grown (suc i) = grown_at ls k log grown i
+
+kept_took : {w w1 : History} {k : ℕ} {input : Input} {ask : Ask} → TookTurn w w1 k input ask → Kept w w1
+kept_took {w} {w1} {k} {input} {ask} t =
+    let due = turn_of (seen_at w.now k).sort (seen_at w.now k).cells input in
+    let turn : LoggedTurn = record { input = input; ask = ask; cells = (seen_at w1.now k).cells } in
+    let log = log_after due (slice_index_or w.logs k []) turn in
+    let logs_are : w1.logs ≡ slice_set w.logs k log = ap (λ h. h.logs) t.history in
+    record {
+      kinds = sorts_took t;
+      count = ap length logs_are ∙ length-set w.logs k log;
+      logs = λ i. subst (λ ls. IsPrefix (slice_index_or w.logs i []) (slice_index_or ls i [])) (sym logs_are)
+          (grown_at w.logs k log (after_grows due (slice_index_or w.logs k []) turn) i);
+    }
+
 pub there_after : {w w1 w2 : History} {k j : ℕ} {input : Input} {ask : Ask} → HasExternal w k →
-    TookTurn w w1 j input ask → sorts w2 ≡ sorts w1 → HasExternal w2 k
-there_after {k = k} h took kept = record { there = subst (λ ks. k < length ks) (sym (kept ∙ sorts_took took)) h.there }
+    TookTurn w w1 j input ask → Kept w1 w2 → HasExternal w2 k
+there_after {k = k} h took kept =
+    record { there = subst (λ ks. k < length ks) (sym (kept.kinds ∙ sorts_took took)) h.there }
 
 pub takes_turn : {g : Sight} {w w1 : History} {k : ℕ} {input : Input} {ask : Ask} {r : RunState} →
     TookTurn w w1 k input ask → HasExternal w k →
     Comes g w (λ parts. turn (sight g w) r k input) (told (Ok ask) (sight g w1) r) w1
 takes_turn {g} {w} {w1} {k} {input} {ask} {r} t h =
-    record { kept = sorts_took t; gives = λ exact free. (0, λ fuel le. is (free k h.there)) }
-  where
-    seen : Seen
-    seen = seen_at w.now k
-
-    is : IsFixed (slice_index_or (sorts w) k 0) → turn (sight g w) r k input ≡ told (Ok ask) (sight g w1) r
-    is fixed =
-        let given = subst IsFixed (sort_at w.now.externals k) fixed seen.cells input in
-        let known =
-        subst
-        (λ o. IfSome o (λ turn. (ask ≡ turn.0) × ((seen_at w1.now k).cells ≡ turn.1))) given.1
-        t.turn.answers.known in
-        let now_is : with_cells_at w.now k given.0.1 ≡ w1.now = ap (with_cells_at w.now k) (sym known.1)
-        ∙ sym t.turn.state in
-        let logs_are : w1.logs ≡ w.logs = ap (λ h. h.logs) t.history
-        ∙ ap (λ due. slice_set w.logs k (log_after due (slice_index_or w.logs k [])
-        (record { input = input; ask = ask; cells = (seen_at w1.now k).cells }))) given.1 ∙ set-get_or w.logs k [] in
-        ap (turn_by (sight g w) r k) given.1
-        ∙ ap (λ a. told (Ok a) (record { now = with_cells_at w.now k given.0.1; logs = g.of_logs w.logs }) r)
-        (sym known.0)
-        ∙ ap (λ s. told (Ok ask) (record { now = s; logs = g.of_logs w.logs }) r) now_is
-        ∙ ap (λ ls. told (Ok ask) (record { now = w1.now; logs = g.of_logs ls }) r) (sym logs_are)
+    record { kept = kept_took t; gives = λ exact asked. (0, λ fuel le. g.computes w w1 k input ask r t h asked) }
 
 -- Done and Fail are no call-backs
 abbrev pub IsCall : Ask → Type 0
@@ -376,14 +385,14 @@ parses : {g : Sight} {A : Type 0} (read : List Token → Option A) (IsRead : Lis
     Comes g w (λ parts. told (parsed read t) (sight g w) r) (told o (sight g w) r) w
 parses read IsRead exactly Parses.parse_memory has = absurd (has refl)
 parses {g} read IsRead exactly {t = t} {w = w} {r = r} (Parses.parses p) has = record {
-  kept = refl;
+  kept = kept_refl;
   gives =
-      λ exact free. (0, λ fuel le. ap (λ x. told (or_syntax x) (sight g w) r) (is_read exact.cuts (exactly exact) p));
+      λ exact asked. (0, λ fuel le. ap (λ x. told (or_syntax x) (sight g w) r) (is_read exact.cuts (exactly exact) p));
 }
 parses {g} read IsRead exactly {t = t} {w = w} {r = r} (Parses.unparsed none) has = record {
-  kept = refl;
+  kept = kept_refl;
   gives =
-      λ exact free. (
+      λ exact asked. (
         0,
         λ fuel le. ap (λ x. told (or_syntax x) (sight g w) r)
             (is_unread read IsRead t exact.cuts (exactly exact) none),
@@ -430,8 +439,8 @@ found_first : {g : Sight} {path name : List ℕ} {kind : HandlerKind} {out : Res
     Comes g w (λ parts. told (first_found w.now.stack path kind name) (sight g w) r)
     (told (yielded out) (sight g w) r) w
 found_first {g} {path} {name} {kind} {w = w} {r = r} first = record {
-  kept = refl;
-  gives = λ exact free. (0, λ fuel le. ap (λ x. told x (sight g w) r) (first_is exact first));
+  kept = kept_refl;
+  gives = λ exact asked. (0, λ fuel le. ap (λ x. told x (sight g w) r) (first_is exact first));
 }
 
 pub finds : {g : Sight} {path name : List ℕ} {kind : HandlerKind} {o : Result (Option Found) Stop} {w : History}

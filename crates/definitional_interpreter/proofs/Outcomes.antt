@@ -5,7 +5,7 @@ use Rattle.preservation.specs.Laws.{HasMemory}
 use Rattle.preservation.proofs.Ends.{given, stopped, faulted}
 use Rattle.definitional_interpreter.specs.Told.{told, ran}
 use Rattle.definitional_interpreter.specs.Changes.{edit, add_objects, turn}
-use Rattle.definitional_interpreter.proofs.Comes.{Sight, sight, Comes}
+use Rattle.definitional_interpreter.proofs.Comes.{Sight, sight, Comes, HasExternal}
 use Rattle.definitional_interpreter.proofs.Chain.{done, later, after_ok, after_stop, after_in_ok, after_in_stop}
 use Rattle.definitional_interpreter.proofs.Chain.{after_run_ok, after_run_stop, after_lines_ok, after_lines_stop}
 use Rattle.definitional_interpreter.proofs.Chain.{after_next_ok, after_next_stop, after_next_leaves, choose_true}
@@ -13,8 +13,7 @@ use Rattle.definitional_interpreter.proofs.Chain.{choose_false, maybe_some, mayb
 use Rattle.definitional_interpreter.proofs.Chain.{below, at_least, gives_outcome, there_ok, there_none, there_stop}
 use Rattle.definitional_interpreter.proofs.Leaves.{yields, parses_expression, parses_typed_lines, parses_sent_message}
 use Rattle.definitional_interpreter.proofs.Leaves.{steps, finds, makes, takes_turn, sets, adds, edits, assigns}
-use Rattle.definitional_interpreter.proofs.Leaves.{declares_all, HasExternal, named_there, there_after, asks_back}
-use Rattle.definitional_interpreter.proofs.Leaves.{talk_back}
+use Rattle.definitional_interpreter.proofs.Leaves.{declares_all, named_there, there_after, asks_back, talk_back}
 use Rattle.meaning.specs.Meaning.{Val, Vals, NumberVal, TruthVal, TextVal, ChunkOf, Resolves, Picks, Seeks, Owns}
 use Rattle.meaning.specs.Meaning.{PartMet, Meets, Leads, Form, Alters, Block, DoText, Endless, While, Bounds, Counts}
 use Rattle.meaning.specs.Meaning.{Calls, SendsText, Sends, Along, Outside, BuiltInGives, System, Systems, Goes, Menu}

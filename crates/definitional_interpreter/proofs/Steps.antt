@@ -40,8 +40,8 @@ abbrev pub on_card : (card background stack : List ℕ) → Globals → List See
 on_card c b s globals externals logs =
     record {
       now = record { stack = two_cards c b s; globals = globals; current = 2; externals = externals };
-      logs =
-          logs;
+      logs = logs;
+      turns = [];
     }
 
 object_is : (c b s : List ℕ) (id : ℕ) → object_at (two_cards c b s) id ≡ find nat_cmp id (objects_of c b s)

@@ -1,5 +1,6 @@
 -- What an edit, a declaration, a property, new objects and a turn make of a state.
-use Rattle.std.specs.Prelude.{ℕ, zero, suc, ◌-◌, List, [], ◌∷◌, Option, Some, None, Result, Ok, Err}
+use Rattle.std.specs.Prelude.{ℕ, zero, suc, ◌-◌, List, [], ◌∷◌, ◌++◌, length, slice_index_or, slice_set}
+use Rattle.std.specs.Prelude.{slice_get, Option, Some, None, Result, Ok, Err}
 use Rattle.std.specs.FinMap.{get}
 use Rattle.ht_values.specs.declared.fault.Fault.{Fault}
 use Rattle.ht_values.specs.declared.fault.Fault.TheVariants.{StepLimit, TooMany}
@@ -9,6 +10,7 @@ use Rattle.ht_values.specs.Text.{folded}
 use Rattle.externals.specs.declared.external.Ask.{Ask}
 use Rattle.externals.specs.declared.external.Input.{Input}
 use Rattle.externals.specs.Table.{Turn, turn_of}
+use Rattle.externals.specs.Log.{LoggedTurn}
 use Rattle.journal_entries.specs.State.{seen_at}
 use Rattle.journal_entries.specs.Changes.{changed, fits}
 use Rattle.journal_entries.specs.Turning.{with_cells_at}
@@ -96,10 +98,19 @@ add_objects w r c = choose (fits w.now c) (λ _. make w r c) (λ _. told (Err (F
 
 -- ---- externals
 
--- a turn of the i-th external: what it asks; it is unknown of a free kind, and of another all logs stay
+-- a turn of the i-th external, which its log has then at its end; it is unknown where none is left
+abbrev pub free_turn : Present → RunState → ℕ → Option LoggedTurn → Told Ask
+free_turn w r i (Some t) = told (Ok t.ask) (record w {
+  now = with_cells_at w.now i t.cells;
+  logs = slice_set w.logs i (slice_index_or w.logs i [] ++ t ∷ []);
+}) r
+free_turn w r i None = unknown
+
+-- a turn of the i-th external: what it asks. The table has that of a kind that isn't free, and then all logs stay.
 abbrev pub turn_by : Present → RunState → ℕ → Option Turn → Told Ask
 turn_by w r i (Some t) = told (Ok t.0) (record w { now = with_cells_at w.now i t.1 }) r
-turn_by w r i None = unknown
+turn_by w r i None =
+    free_turn w r i (slice_get (slice_index_or w.turns i []) (length (slice_index_or w.logs i [])))
 
 abbrev pub turn : Present → RunState → ℕ → Input → Told Ask
 turn w r i input = turn_by w r i (turn_of (seen_at w.now i).sort (seen_at w.now i).cells input)

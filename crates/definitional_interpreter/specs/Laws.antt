@@ -1,9 +1,10 @@
 -- What the function gives is what the rules allow.
-use Rattle.std.specs.Prelude.{◌≡◌, ℕ, ◌<◌, ◌≤◌, List, length, map, slice_index_or, Some, Result}
+use Rattle.std.specs.Prelude.{◌≡◌, ℕ, ◌<◌, ◌≤◌, List, length, map, slice_index_or, [], Some, Result}
 use Rattle.ht_grammar.specs.Statements as stm
 use Rattle.ht_grammar.specs.Trees as tree
 use Rattle.externals.specs.Cells.{Seen}
 use Rattle.externals.specs.Table.{Turn, turn_of}
+use Rattle.externals.specs.Log.{Log}
 use Rattle.externals.specs.declared.external.Input.{Input}
 use Rattle.change_journal.specs.History.{History}
 use Rattle.meaning.specs.declared.end.Stop.{Stop}
@@ -11,7 +12,7 @@ use Rattle.meaning.specs.declared.frame.Frame.{Frame}
 use Rattle.meaning.specs.Actions.{Action}
 use Rattle.meaning.specs.Meaning.{Val, Line, Message, Refers, Acts}
 use Rattle.meaning.specs.State.{RunState}
-use Rattle.preservation.specs.Laws.{HasMemory}
+use Rattle.preservation.specs.Laws.{HasMemory, IsPrefix}
 use Rattle.definitional_interpreter.specs.Told.{present, told}
 use Rattle.definitional_interpreter.specs.Families.{Meanings}
 use Rattle.definitional_interpreter.specs.Meanings.{meanings}
@@ -29,6 +30,10 @@ sorts w = sorts_of w.now.externals
 -- no external is free
 abbrev pub NoneIsFree : List ℕ → Type 0
 NoneIsFree kinds = (i : ℕ) → i < length kinds → IsFixed (slice_index_or kinds i 0)
+
+-- these are the turns of each external: each log is the head of its own
+abbrev pub AreTold : List Log → List Log → Type 0
+AreTold turns logs = (i : ℕ) → IsPrefix (slice_index_or logs i []) (slice_index_or turns i [])
 
 -- ---- the function gives what the rules allow
 

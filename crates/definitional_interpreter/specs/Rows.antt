@@ -73,7 +73,7 @@ two_cards card background stack = record {
 -- its first state, with these scripts of the first card, of the background and of the stack
 abbrev pub first_card : (card background stack : List ℕ) → List Seen → Present
 first_card card background stack externals =
-    record { now = first_state (two_cards card background stack) externals; logs = map (λ e. []) externals }
+    record { now = first_state (two_cards card background stack) externals; logs = map (λ e. []) externals; turns = [] }
 
 abbrev pub gate : Seen
 gate = record { title = codes "Gate"; sort = 4; answers_calls = false; cells = codes "0" ∷ [] }

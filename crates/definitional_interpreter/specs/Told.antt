@@ -1,5 +1,5 @@
 -- What a part of a run comes to, computed: how it ends, with the state, the run and the frame after it.
-use Rattle.std.specs.Prelude.{ℕ, Bool, true, false, List, Option, Some, None, Result, Ok, Err}
+use Rattle.std.specs.Prelude.{ℕ, Bool, true, false, List, [], Option, Some, None, Result, Ok, Err}
 use Rattle.ht_values.specs.declared.fault.Fault.{Fault}
 use Rattle.ht_values.specs.declared.fault.Fault.TheVariants.{NoSuchObject}
 use Rattle.externals.specs.Log.{Log}
@@ -14,13 +14,19 @@ use Rattle.meaning.specs.declared.frame.Frame.{Frame}
 use Rattle.meaning.specs.Repeats.{Outcome}
 use Rattle.meaning.specs.State.{RunState}
 
--- what a run sees of a history: the present state and the logs of the externals, and no weights
+-- What a run sees of a history: the present state and the logs of the externals, and no weights. Beside them stand the
+-- turns of each external, the first one first: one that is free takes the first of them that its log doesn't have.
 pub record Present : Type 0 where
   pub now : State
   pub logs : List Log
+  pub turns : List Log
 
+abbrev pub present_with : List Log → History → Present
+present_with turns w = record { now = w.now; logs = w.logs; turns = turns }
+
+-- no free external has a turn
 abbrev pub present : History → Present
-present w = record { now = w.now; logs = w.logs }
+present w = present_with [] w
 
 -- what an expression comes to; it is unknown where the fuel is out
 pub data Told (A : Type 0) : Type 0 where

@@ -8,6 +8,7 @@ use Rattle.meaning.specs.Actions.{Action}
 use Rattle.definitional_interpreter.specs.Laws.{sorts_of, sorts, NoneIsFree}
 use Rattle.definitional_interpreter.proofs.Comes.{Sight}
 use Rattle.definitional_interpreter.proofs.Outcomes.{acts_comes}
+use Rattle.definitional_interpreter.proofs.Sights.{fixed_sight}
 use Rattle.session.specs.Commands.{ReadsAction, is_dot_line, command_in, behind_name, second as second_word, words}
 use Rattle.session.specs.declared.command.Command.{Command}
 use Rattle.session.specs.declared.command.Command.TheVariants.{Undo, Redo, UndoTo, Show, Globals, Where, Cells}
@@ -28,7 +29,7 @@ use Rattle.transcripts.proofs.Once.{answered, of_each}
 
 -- the logs as they are
 abbrev all_logs : Sight
-all_logs = record { of_logs = λ logs. logs }
+all_logs = fixed_sight (λ logs. logs)
 
 -- ---- lists
 
@@ -145,7 +146,7 @@ fresh_kept : (does : Action) (state : State) (steps : ℕ) (reply : Reply) (afte
     NoneIsFree (sorts_of state.externals) → Fresh state steps does reply after → NoneIsFree (sorts_of after.externals)
 fresh_kept does state steps reply after such free fresh =
     let kept : sorts fresh.end ≡ sorts fresh.old =
-    (acts_comes {g = all_logs} fresh.runs.means (answered fresh.runs.ends)).kept in
+    (acts_comes {g = all_logs} fresh.runs.means (answered fresh.runs.ends)).kept.kinds in
     subst (λ (s : State). NoneIsFree (sorts_of s.externals)) (sym fresh.leaves)
     (subst NoneIsFree (sym kept) (subst (λ (s : State). NoneIsFree (sorts_of s.externals)) (sym fresh.here) free))
 

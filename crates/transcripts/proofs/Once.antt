@@ -23,6 +23,7 @@ use Rattle.transcripts.specs.Replies.{RepliesAreOne}
 use Rattle.definitional_interpreter.specs.Told.{told}
 use Rattle.definitional_interpreter.proofs.Comes.{AreExact, Sight, sight}
 use Rattle.definitional_interpreter.proofs.Outcomes.{refers_comes}
+use Rattle.definitional_interpreter.proofs.Sights.{fixed_sight}
 use Rattle.session.specs.Commands.{ReadsAction, typing, is_dot_line, command_in, behind_name, second as second_word}
 use Rattle.session.specs.Commands.{words}
 use Rattle.session.specs.declared.command.Command.{Command}
@@ -140,7 +141,7 @@ one_show state {reply = reply} {reply2 = reply2} a b =
 
 -- the logs of externals aren't compared
 abbrev no_logs : Sight
-no_logs = record { of_logs = λ logs. [] }
+no_logs = fixed_sight (λ logs. [])
 
 -- two references from one state find the same
 one_reference : AreExact →
@@ -148,7 +149,7 @@ one_reference : AreExact →
     v.now ≡ w.now → NoneIsFree (sorts w) → HasMemory o → HasMemory p → Refers w r pa o w2 r2 → Refers v r pa p v2 q2
     → (o ≡ p) × (w2.now ≡ v2.now)
 one_reference exact w v {w2} {v2} {r} {r2} {q2} {pa} {o} {p} same free has had a b =
-    let begins : sight no_logs v ≡ sight no_logs w = ap (λ s. record { now = s; logs = [] }) same in
+    let begins : sight no_logs v ≡ sight no_logs w = ap (λ s. record { now = s; logs = []; turns = [] }) same in
     let first = (refers_comes {g = no_logs} a has).gives exact free in
     let later = (refers_comes {g = no_logs} b had).gives exact
     (subst (λ (s : State). NoneIsFree (sorts_of s.externals)) (sym same) free) in
