@@ -431,6 +431,13 @@ impl<E: External> World<E> {
         let _ = &self.present;
     }
 
+    /// Each external has a log, at any time. It does nothing.
+    pub fn law_of_logs(&self)
+        ensures { length self.now.history.logs ≡ length self.now.history.now.externals }
+    {
+        self.present.law_of_logs();
+    }
+
     /// The externals in the order of plugging, with their cells of now.
     pub fn close(self) -> Vec<E>
         ensures seen { map (seen_by E.title E.sort E.answers_calls E.cells) result.items ≡ self.history.now.externals }

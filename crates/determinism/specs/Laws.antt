@@ -52,7 +52,7 @@ ValuesHaveOneOutcome =
 
 -- ---- whatever the externals are: their logs tell the outcome
 
--- each external has a log
+-- each external has a log, as it has in a world
 abbrev pub HasLogs : History → Type 0
 HasLogs w = length w.logs ≡ length w.now.externals
 

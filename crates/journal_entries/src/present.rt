@@ -411,6 +411,13 @@ impl<E: External> Present<E> {
         self.externals.len()
     }
 
+    /// Each external has a log. It does nothing.
+    pub fn law_of_logs(&self)
+        ensures { length self.now.logs ≡ length self.now.state.externals }
+    {
+        let _ = &self.externals;
+    }
+
     /// Whether a change fits.
     pub fn fits(&self, change: &Change) -> bool
         ensures { result ≡ fits self.now.state change.now }
