@@ -8,13 +8,14 @@ use Rattle.meaning.specs.declared.frame.Frame.{Frame}
 use Rattle.meaning.specs.Meaning.{Block, Endless, While, Counts}
 use Rattle.meaning.specs.Repeats.{leaves_repeat, goes_on, CounterState, is_over, stepped}
 use Rattle.meaning.specs.State.{RunState}
-use Rattle.totality.proofs.Chain.{Underway, HasRun, run_ok, same_run, then_in, then_run, then_next, choose, maybe}
+use Rattle.totality.proofs.Chain.{Begun, Underway, HasRun, run_ok, same_run, then_in, then_run, then_next, choose}
+use Rattle.totality.proofs.Chain.{maybe}
 use Rattle.totality.proofs.Leaves.{then_step_in, lift_run, Passes, passes, then_edited, assigns}
 use Rattle.totality.proofs.Levels.{Level}
 use Rattle.totality.proofs.Expressions.{truth_by}
 
-pub block_ends : {n : ℕ} → Level n → (w : History) (r : RunState) (f : Frame) (d : ℕ) (ss : stm.Stmts) → d ≤ 100 →
-    Underway (suc n) w r → HasRun (suc n) (Passes n (Block w r f d ss))
+pub block_ends : {begun : Begun} {n : ℕ} → Level begun n → (w : History) (r : RunState) (f : Frame) (d : ℕ)
+    (ss : stm.Stmts) → d ≤ 100 → Underway begun (suc n) w r → HasRun begun (suc n) (Passes n (Block w r f d ss))
 block_ends h w r f d stm.stop le k = run_ok _ _ k (record { ends = Block.block_end refl; fewer = λ e. cc })
 block_ends h w r f d (stm.also s ss) le k =
     then_step_in w r f k (λ z r1 st. record { ends = Block.block_no_step refl st; fewer = λ e. cc })
@@ -23,21 +24,21 @@ block_ends h w r f d (stm.also s ss) le k =
     (λ how w1 r2 f1 g isnt. Block.block_leaves refl st g isnt) (λ w1 r2 f1 k2 g.
     same_run (h.block w1 r2 f1 d ss le k2) (λ o w2 r3 f2 g2. Block.block_goes_on refl st g g2))))
 
-pub block_has : {n : ℕ} → Level n → (w : History) (r : RunState) (f : Frame) (d : ℕ) (ss : stm.Stmts) → d ≤ 100 →
-    Underway (suc n) w r → HasRun (suc n) (Block w r f d ss)
+pub block_has : {begun : Begun} {n : ℕ} → Level begun n → (w : History) (r : RunState) (f : Frame) (d : ℕ)
+    (ss : stm.Stmts) → d ≤ 100 → Underway begun (suc n) w r → HasRun begun (suc n) (Block w r f d ss)
 block_has h w r f d ss le k = same_run (block_ends h w r f d ss le k) (λ o w1 r1 f1 g. g.ends)
 
-pub endless_has : {n : ℕ} → Level n → (w : History) (r : RunState) (f : Frame) (d : ℕ) (ss : stm.Stmts) → d ≤ 100 →
-    Underway (suc n) w r → HasRun (suc n) (Endless w r f d ss)
+pub endless_has : {begun : Begun} {n : ℕ} → Level begun n → (w : History) (r : RunState) (f : Frame) (d : ℕ)
+    (ss : stm.Stmts) → d ≤ 100 → Underway begun (suc n) w r → HasRun begun (suc n) (Endless w r f d ss)
 endless_has h w r f d ss le k =
     then_step_in w r f k (λ z r1 st. Endless.endless_no_step st) (λ r1 k1 st. lift_run
     (then_run (h.block w r1 f d ss le k1) (λ z w1 r2 f1 g. Endless.endless_stops st g) (λ how w1 r2 f1 k2 g.
     maybe (leaves_repeat how) (λ h1 is. run_ok _ _ k2 (Endless.endless_leaves st g is))
     (λ is. same_run (h.endless w1 r2 f1 d ss le k2) (λ o w2 r3 f2 g2. Endless.endless_goes_on st g is g2)))))
 
-pub while_has : {n : ℕ} → Level n →
-    (w : History) (r : RunState) (f : Frame) (d : ℕ) (wanted : Bool) (x : tree.Expr) (ss : stm.Stmts) → d ≤ 100 →
-    Underway (suc n) w r → HasRun (suc n) (While w r f d wanted x ss)
+pub while_has : {begun : Begun} {n : ℕ} → Level begun n → (w : History) (r : RunState) (f : Frame) (d : ℕ)
+    (wanted : Bool) (x : tree.Expr) (ss : stm.Stmts) → d ≤ 100 → Underway begun (suc n) w r →
+    HasRun begun (suc n) (While w r f d wanted x ss)
 while_has h w r f d wanted x ss le k =
     then_step_in w r f k (λ z r1 st. While.while_no_step st) (λ r1 k1 st. lift_run
     (then_in f (truth_by (h.val w r1 f d x le k1)) (λ z w1 r2 g. While.while_test_stops st g) (λ b w1 r2 k2 g.
@@ -49,9 +50,9 @@ while_has h w r f d wanted x ss le k =
     (λ o w3 r4 f2 g3. While.while_goes_on st g on g2 is g3))))
     (λ over. run_ok _ _ k2 (While.while_ends st g over)))))
 
-pub counts_has : {n : ℕ} → Level n →
-    (w : History) (r : RunState) (f : Frame) (d : ℕ) (name : Option (List ℕ)) (c : CounterState) (ss : stm.Stmts) →
-    d ≤ 100 → Underway (suc n) w r → HasRun (suc n) (Counts w r f d name c ss)
+pub counts_has : {begun : Begun} {n : ℕ} → Level begun n → (w : History) (r : RunState) (f : Frame) (d : ℕ)
+    (name : Option (List ℕ)) (c : CounterState) (ss : stm.Stmts) → d ≤ 100 → Underway begun (suc n) w r →
+    HasRun begun (suc n) (Counts w r f d name c ss)
 counts_has h w r f d name c ss le k =
     then_step_in w r f k (λ z r1 st. Counts.counts_no_step st) (λ r1 k1 st. lift_run
     (choose (is_over c) (λ over. run_ok _ _ k1 (Counts.counts_end st over)) (λ on.

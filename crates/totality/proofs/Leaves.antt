@@ -45,39 +45,41 @@ use Rattle.meaning.specs.State.{RunState, Step}
 use Rattle.meaning.specs.Values.{Yields, Parses}
 use Rattle.preservation.specs.Laws.{HasMemory}
 use Rattle.definitional_interpreter.proofs.Comes.{AreExact}
-use Rattle.totality.proofs.Chain.{IsOpen, Underway, Has, has, HasRun, has_run, up, stops_too, maybe}
+use Rattle.totality.specs.Laws.{Follows}
+use Rattle.totality.proofs.Chain.{Begun, IsOpen, Underway, Has, has, HasRun, has_run, up, stops_too, maybe}
 
 -- ---- steps
 
 -- a step, and then with fewer steps
-pub then_step : {B : Type 0} {n : ℕ} {Q : Result B Stop → History → RunState → Type 0} (w : History) (r : RunState) →
-    Underway (suc n) w r → ((z : Stop) (r1 : RunState) → Step r (Err z) r1 → Q (Err z) w r1)
-    → ((r1 : RunState) → Underway n w r1 → Step r (Ok tt) r1 → Has (suc n) Q) → Has (suc n) Q
-then_step {B} {n} {Q} w r k stops goes_on = by_left r.left refl
+pub then_step : {B : Type 0} {begun : Begun} {n : ℕ} {Q : Result B Stop → History → RunState → Type 0} (w : History)
+    (r : RunState) → Underway begun (suc n) w r → ((z : Stop) (r1 : RunState) → Step r (Err z) r1 → Q (Err z) w r1) →
+    ((r1 : RunState) → Underway begun n w r1 → Step r (Ok tt) r1 → Has begun (suc n) Q) → Has begun (suc n) Q
+then_step {B} {begun} {n} {Q} w r k stops goes_on = by_left r.left refl
   where
-    by_left : (left : ℕ) → r.left ≡ left → Has (suc n) Q
+    by_left : (left : ℕ) → r.left ≡ left → Has begun (suc n) Q
     by_left zero e = has (Err (Faults StepLimit)) w r (λ e. cc) k (stops (Faults StepLimit) r (Step.none_left e))
     by_left (suc rest) e = let fewer = k.left in goes_on (record r { left = r.left - 1 })
         (record { is_open = k.is_open; left = omega (arith, e, fewer) }) (Step.taken (omega (arith, e)) refl)
 
-pub then_step_in : {B : Type 0} {n : ℕ} {Q : Result B Stop → History → RunState → Frame → Type 0} (w : History)
-    (r : RunState) (f : Frame) → Underway (suc n) w r →
-    ((z : Stop) (r1 : RunState) → Step r (Err z) r1 → Q (Err z) w r1 f)
-    → ((r1 : RunState) → Underway n w r1 → Step r (Ok tt) r1 → HasRun (suc n) Q) → HasRun (suc n) Q
-then_step_in {B} {n} {Q} w r f k stops goes_on = by_left r.left refl
+pub then_step_in : {B : Type 0} {begun : Begun} {n : ℕ} {Q : Result B Stop → History → RunState → Frame → Type 0}
+    (w : History) (r : RunState) (f : Frame) → Underway begun (suc n) w r →
+    ((z : Stop) (r1 : RunState) → Step r (Err z) r1 → Q (Err z) w r1 f) →
+    ((r1 : RunState) → Underway begun n w r1 → Step r (Ok tt) r1 → HasRun begun (suc n) Q) → HasRun begun (suc n) Q
+then_step_in {B} {begun} {n} {Q} w r f k stops goes_on = by_left r.left refl
   where
-    by_left : (left : ℕ) → r.left ≡ left → HasRun (suc n) Q
+    by_left : (left : ℕ) → r.left ≡ left → HasRun begun (suc n) Q
     by_left zero e = has_run (Err (Faults StepLimit)) w r f (λ e. cc) k
         (stops (Faults StepLimit) r (Step.none_left e))
     by_left (suc rest) e = let fewer = k.left in goes_on (record r { left = r.left - 1 })
         (record { is_open = k.is_open; left = omega (arith, e, fewer) }) (Step.taken (omega (arith, e)) refl)
 
 -- with fewer steps, and so with more
-pub lift : {A : Type 0} {n : ℕ} {Rule : Result A Stop → History → RunState → Type 0} → Has n Rule → Has (suc n) Rule
+pub lift : {A : Type 0} {begun : Begun} {n : ℕ} {Rule : Result A Stop → History → RunState → Type 0} →
+    Has begun n Rule → Has begun (suc n) Rule
 lift (has o w r has_memory k h) = has o w r has_memory (up k) h
 
-pub lift_run : {A : Type 0} {n : ℕ} {Rule : Result A Stop → History → RunState → Frame → Type 0} → HasRun n Rule →
-    HasRun (suc n) Rule
+pub lift_run : {A : Type 0} {begun : Begun} {n : ℕ} {Rule : Result A Stop → History → RunState → Frame → Type 0} →
+    HasRun begun n Rule → HasRun begun (suc n) Rule
 lift_run (has_run o w r f has_memory k h) = has_run o w r f has_memory (up k) h
 
 -- lines that pass their message have taken a step
@@ -86,8 +88,8 @@ pub record Passes (n : ℕ) (Rule : Result How Stop → History → RunState →
   pub ends : Rule o w r f
   pub fewer : o ≡ Ok Pass → r.left < n
 
-pub passes : {n : ℕ} {Rule : Result How Stop → History → RunState → Frame → Type 0} → HasRun n Rule →
-    HasRun (suc n) (Passes n Rule)
+pub passes : {begun : Begun} {n : ℕ} {Rule : Result How Stop → History → RunState → Frame → Type 0} →
+    HasRun begun n Rule → HasRun begun (suc n) (Passes n Rule)
 passes (has_run o w r f has_memory k h) = has_run o w r f has_memory (up k) (record { ends = h; fewer = λ e. k.left })
 
 -- ---- texts
@@ -111,28 +113,28 @@ read_or_not {A} read IsRead text cuts exact {X} is isnt =
     cut_once spans cut r = let same : Some spans ≡ Some r.spans = sym cut ∙ (cuts text r.spans).1 r.cut in cc
 
 -- a text is parsed, or it isn't in the grammar
-pub then_parsed : {A B : Type 0} {n : ℕ} {Q : Result B Stop → History → RunState → Type 0} {w : History}
+pub then_parsed : {A B : Type 0} {begun : Begun} {n : ℕ} {Q : Result B Stop → History → RunState → Type 0} {w : History}
     {r : RunState} (read : List Token → Option A) (IsRead : List Token → A → Type 0) (text : List ℕ) →
-    CutsExactly spans_of → ReadsExactly read IsRead → Underway n w r
-    → ((z : Stop) → Parses IsRead text (Err z) → Q (Err z) w r) →
-    ((tree : A) → Parses IsRead text (Ok tree) → Has n Q) → Has n Q
+    CutsExactly spans_of → ReadsExactly read IsRead → Underway begun n w r →
+    ((z : Stop) → Parses IsRead text (Err z) → Q (Err z) w r) →
+    ((tree : A) → Parses IsRead text (Ok tree) → Has begun n Q) → Has begun n Q
 then_parsed {w = w} {r} read IsRead text cuts exact k stops goes_on =
     read_or_not read IsRead text cuts exact (λ tree reads. goes_on tree (Parses.parses reads))
     (λ none. has (Err (Faults Syntax)) w r (λ e. cc) k (stops (Faults Syntax) (Parses.unparsed none)))
 
-pub then_parsed_in : {A B : Type 0} {n : ℕ} {Q : Result B Stop → History → RunState → Frame → Type 0} {w : History}
-    {r : RunState} (f : Frame) (read : List Token → Option A) (IsRead : List Token → A → Type 0) (text : List ℕ) →
-    CutsExactly spans_of → ReadsExactly read IsRead → Underway n w r
-    → ((z : Stop) → Parses IsRead text (Err z) → Q (Err z) w r f) →
-    ((tree : A) → Parses IsRead text (Ok tree) → HasRun n Q) → HasRun n Q
+pub then_parsed_in : {A B : Type 0} {begun : Begun} {n : ℕ} {Q : Result B Stop → History → RunState → Frame → Type 0}
+    {w : History} {r : RunState} (f : Frame) (read : List Token → Option A) (IsRead : List Token → A → Type 0)
+    (text : List ℕ) → CutsExactly spans_of → ReadsExactly read IsRead → Underway begun n w r →
+    ((z : Stop) → Parses IsRead text (Err z) → Q (Err z) w r f) →
+    ((tree : A) → Parses IsRead text (Ok tree) → HasRun begun n Q) → HasRun begun n Q
 then_parsed_in {w = w} {r} f read IsRead text cuts exact k stops goes_on =
     read_or_not read IsRead text cuts exact (λ tree reads. goes_on tree (Parses.parses reads))
     (λ none. has_run (Err (Faults Syntax)) w r f (λ e. cc) k (stops (Faults Syntax) (Parses.unparsed none)))
 
 -- a place is found, or the fault in its stead
-pub then_field : {A B : Type 0} {n : ℕ} {Q : Result B Stop → History → RunState → Type 0} {w : History} {r : RunState}
-    (c : Result A Fault) → Underway n w r → ((z : Stop) → Yields c (Err z) → Q (Err z) w r) →
-    ((a : A) → Yields c (Ok a) → Has n Q) → Has n Q
+pub then_field : {A B : Type 0} {begun : Begun} {n : ℕ} {Q : Result B Stop → History → RunState → Type 0} {w : History}
+    {r : RunState} (c : Result A Fault) → Underway begun n w r → ((z : Stop) → Yields c (Err z) → Q (Err z) w r) →
+    ((a : A) → Yields c (Ok a) → Has begun n Q) → Has begun n Q
 then_field (Ok a) k stops goes_on = goes_on a (Yields.yields refl)
 then_field {w = w} {r} (Err fa) k stops goes_on = has (Err (Faults fa)) w r (λ e. cc) k
     (stops (Faults fa) (Yields.faults refl))
@@ -157,13 +159,14 @@ first exact s (id ∷ rest) kind n =
     (λ none. first_is (Err Syntax) (First.no_script refl none refl))
 
 -- a handler is looked for
-pub then_found : {B : Type 0} {n : ℕ} {Q : Result B Stop → History → RunState → Type 0} {r : RunState} (w : History)
-    (is : List ℕ) (kind : HandlerKind) (name : List ℕ) → AreExact → Underway n w r
-    → ((z : Stop) → Finds w.now.stack is kind name (Err z) → Q (Err z) w r) →
-    ((found : Option Found) → Finds w.now.stack is kind name (Ok found) → Has n Q) → Has n Q
-then_found {B} {n} {Q} {r} w is kind name exact k stops goes_on = by_first (first exact w.now.stack is kind name)
+pub then_found : {B : Type 0} {begun : Begun} {n : ℕ} {Q : Result B Stop → History → RunState → Type 0} {r : RunState}
+    (w : History) (is : List ℕ) (kind : HandlerKind) (name : List ℕ) → AreExact → Underway begun n w r →
+    ((z : Stop) → Finds w.now.stack is kind name (Err z) → Q (Err z) w r) →
+    ((found : Option Found) → Finds w.now.stack is kind name (Ok found) → Has begun n Q) → Has begun n Q
+then_found {B} {begun} {n} {Q} {r} w is kind name exact k stops goes_on = by_first
+    (first exact w.now.stack is kind name)
   where
-    by_first : FirstIs w.now.stack is kind name → Has n Q
+    by_first : FirstIs w.now.stack is kind name → Has begun n Q
     by_first (first_is (Ok found) first) = goes_on found (Finds.finds first)
     by_first (first_is (Err fa) first) = has (Err (Faults fa)) w r (λ e. cc) k
         (stops (Faults fa) (Finds.find_fails first))
@@ -184,118 +187,130 @@ makes w batch c e = record {
       (record { state = refl; number = refl; undo = omega arith; redo = omega arith; trail = refl });
 }
 
+-- the batch is open after it too
+after : {begun : Begun} {w : History} (k : IsOpen begun w) (c : Change) → IsOpen begun (with_change w k.batch c)
+after {w = w} k c = record { batch = _; is = refl; follows = Follows.changes k.follows (makes w k.batch c k.is) }
+
 -- a change, and then
-pub then_made : {X : Type 0} {n : ℕ} {r : RunState} (w : History) (c : Change) → Underway n w r →
-    ((w1 : History) → Underway n w1 r → Made w w1 c → X) → X
-then_made w c k goes_on = goes_on (with_change w k.is_open.0 c) (record { is_open = (_, refl); left = k.left })
-    (makes w k.is_open.0 c k.is_open.1)
+pub then_made : {X : Type 0} {begun : Begun} {n : ℕ} {r : RunState} (w : History) (c : Change) → Underway begun n w r →
+    ((w1 : History) → Underway begun n w1 r → Made w w1 c → X) → X
+then_made w c k goes_on =
+    let o = k.is_open in goes_on (with_change w o.batch c) (record { is_open = after o c; left = k.left })
+    (makes w o.batch c o.is)
 
 -- what leaves the run as it is: how it ends, with the history after it
-pub data Ends {A : Type 0} (Rule : Result A Stop → History → Type 0) : Type 0 where
-  ends : (o : Result A Stop) (w : History) → HasMemory o → IsOpen w → Rule o w → Ends Rule
+pub data Ends {A : Type 0} (begun : Begun) (Rule : Result A Stop → History → Type 0) : Type 0 where
+  ends : (o : Result A Stop) (w : History) → HasMemory o → IsOpen begun w → Rule o w → Ends begun Rule
 
 -- and with the frame after it
-pub data EndsIn {A : Type 0} (Rule : Result A Stop → History → Frame → Type 0) : Type 0 where
-  ends_in : (o : Result A Stop) (w : History) (f : Frame) → HasMemory o → IsOpen w → Rule o w f → EndsIn Rule
+pub data EndsIn {A : Type 0} (begun : Begun) (Rule : Result A Stop → History → Frame → Type 0) : Type 0 where
+  ends_in : (o : Result A Stop) (w : History) (f : Frame) → HasMemory o → IsOpen begun w → Rule o w f →
+      EndsIn begun Rule
 
-still : {n : ℕ} {w : History} {r : RunState} (w1 : History) → Underway n w r → IsOpen w1 → Underway n w1 r
+still : {begun : Begun} {n : ℕ} {w : History} {r : RunState} (w1 : History) → Underway begun n w r → IsOpen begun w1 →
+    Underway begun n w1 r
 still w1 k is_open = record { is_open = is_open; left = k.left }
 
-pub then_ends : {B : Type 0} {n : ℕ} {P : Result (Unit {0}) Stop → History → Type 0}
-    {Q : Result B Stop → History → RunState → Type 0} {w : History} {r : RunState} → Underway n w r → Ends P
-    → ((z : Stop) (w : History) → P (Err z) w → Q (Err z) w r) →
-    ((w : History) → Underway n w r → P (Ok tt) w → Has n Q) → Has n Q
+pub then_ends : {B : Type 0} {begun : Begun} {n : ℕ} {P : Result (Unit {0}) Stop → History → Type 0}
+    {Q : Result B Stop → History → RunState → Type 0} {w : History} {r : RunState} → Underway begun n w r →
+    Ends begun P → ((z : Stop) (w : History) → P (Err z) w → Q (Err z) w r) →
+    ((w : History) → Underway begun n w r → P (Ok tt) w → Has begun n Q) → Has begun n Q
 then_ends k (ends (Ok u) w1 has_memory is_open h) stops goes_on = goes_on w1 (still w1 k is_open) h
 then_ends {r = r} k (ends (Err z) w1 has_memory is_open h) stops goes_on = has (Err z) w1 r (stops_too has_memory)
     (still w1 k is_open) (stops z w1 h)
 
-pub then_ends_in : {B : Type 0} {n : ℕ} {P : Result (Unit {0}) Stop → History → Type 0}
+pub then_ends_in : {B : Type 0} {begun : Begun} {n : ℕ} {P : Result (Unit {0}) Stop → History → Type 0}
     {Q : Result B Stop → History → RunState → Frame → Type 0} {w : History} {r : RunState} (f : Frame) →
-    Underway n w r → Ends P
-    → ((z : Stop) (w : History) → P (Err z) w → Q (Err z) w r f) →
-    ((w : History) → Underway n w r → P (Ok tt) w → HasRun n Q) → HasRun n Q
+    Underway begun n w r → Ends begun P → ((z : Stop) (w : History) → P (Err z) w → Q (Err z) w r f) →
+    ((w : History) → Underway begun n w r → P (Ok tt) w → HasRun begun n Q) → HasRun begun n Q
 then_ends_in f k (ends (Ok u) w1 has_memory is_open h) stops goes_on = goes_on w1 (still w1 k is_open) h
 then_ends_in {r = r} f k (ends (Err z) w1 has_memory is_open h) stops goes_on = has_run (Err z) w1 r f
     (stops_too has_memory) (still w1 k is_open) (stops z w1 h)
 
-pub then_edited : {B : Type 0} {n : ℕ} {P : Result (Unit {0}) Stop → History → Frame → Type 0}
-    {Q : Result B Stop → History → RunState → Frame → Type 0} {w : History} {r : RunState} → Underway n w r → EndsIn P
-    → ((z : Stop) (w : History) (f : Frame) → P (Err z) w f → Q (Err z) w r f) →
-    ((w : History) (f : Frame) → Underway n w r → P (Ok tt) w f → HasRun n Q) → HasRun n Q
+pub then_edited : {B : Type 0} {begun : Begun} {n : ℕ} {P : Result (Unit {0}) Stop → History → Frame → Type 0}
+    {Q : Result B Stop → History → RunState → Frame → Type 0} {w : History} {r : RunState} → Underway begun n w r →
+    EndsIn begun P → ((z : Stop) (w : History) (f : Frame) → P (Err z) w f → Q (Err z) w r f) →
+    ((w : History) (f : Frame) → Underway begun n w r → P (Ok tt) w f → HasRun begun n Q) → HasRun begun n Q
 then_edited k (ends_in (Ok u) w1 f1 has_memory is_open h) stops goes_on = goes_on w1 f1 (still w1 k is_open) h
 then_edited {r = r} k (ends_in (Err z) w1 f1 has_memory is_open h) stops goes_on = has_run (Err z) w1 r f1
     (stops_too has_memory) (still w1 k is_open) (stops z w1 f1 h)
 
-pub then_edited_lines : {B : Type 0} {n : ℕ} {P : Result (Unit {0}) Stop → History → Frame → Type 0}
-    {Q : Result B Stop → History → RunState → Type 0} {w : History} {r : RunState} → Underway n w r → EndsIn P
-    → ((z : Stop) (w : History) (f : Frame) → P (Err z) w f → Q (Err z) w r) →
-    ((w : History) (f : Frame) → Underway n w r → P (Ok tt) w f → Has n Q) → Has n Q
+pub then_edited_lines : {B : Type 0} {begun : Begun} {n : ℕ} {P : Result (Unit {0}) Stop → History → Frame → Type 0}
+    {Q : Result B Stop → History → RunState → Type 0} {w : History} {r : RunState} → Underway begun n w r →
+    EndsIn begun P → ((z : Stop) (w : History) (f : Frame) → P (Err z) w f → Q (Err z) w r) →
+    ((w : History) (f : Frame) → Underway begun n w r → P (Ok tt) w f → Has begun n Q) → Has begun n Q
 then_edited_lines k (ends_in (Ok u) w1 f1 has_memory is_open h) stops goes_on = goes_on w1 f1 (still w1 k is_open) h
 then_edited_lines {r = r} k (ends_in (Err z) w1 f1 has_memory is_open h) stops goes_on = has (Err z) w1 r
     (stops_too has_memory) (still w1 k is_open) (stops z w1 f1 h)
 
-in_same : {P Q : Result (Unit {0}) Stop → History → Frame → Type 0} → EndsIn P →
-    ((o : Result (Unit {0}) Stop) (w : History) (f : Frame) → P o w f → Q o w f) → EndsIn Q
+in_same : {begun : Begun} {P Q : Result (Unit {0}) Stop → History → Frame → Type 0} → EndsIn begun P →
+    ((o : Result (Unit {0}) Stop) (w : History) (f : Frame) → P o w f → Q o w f) → EndsIn begun Q
 in_same (ends_in o w f has_memory is_open h) rule = ends_in o w f has_memory is_open (rule o w f h)
 
 -- ---- containers
 
 -- a container is edited
-pub edits : (w : History) (f : Frame) (delimiter : ℕ) (p : PlaceView) (e : Edit) → IsOpen w →
-    EndsIn (Edits w f delimiter p e)
-edits w f delimiter p e k = by_due (due w.now f.variables delimiter p e) refl
+pub edits : {begun : Begun} (w : History) (f : Frame) (delimiter : ℕ) (p : PlaceView) (e : Edit) → IsOpen begun w →
+    EndsIn begun (Edits w f delimiter p e)
+edits {begun} w f delimiter p e k = by_due (due w.now f.variables delimiter p e) refl
   where
     by_storage : (t : List ℕ) (s : StorageView) → p.storage ≡ s → due w.now f.variables delimiter p e ≡ Ok (Some t) →
-        EndsIn (Edits w f delimiter p e)
-    by_storage t (global name) at is = ends_in (Ok tt) (with_change w k.0 (Global name (Some t))) f (λ e. cc)
-        (_, refl) (Edits.edited (Writes.to_global at is (makes w k.0 _ k.1)) refl)
+        EndsIn begun (Edits w f delimiter p e)
+    by_storage t (global name) at is = ends_in (Ok tt) (with_change w k.batch (Global name (Some t))) f (λ e. cc)
+        (after k (Global name (Some t))) (Edits.edited (Writes.to_global at is (makes w k.batch _ k.is)) refl)
     by_storage t (own name) at is = ends_in (Ok tt) w _ (λ e. cc) k (Edits.edited (Writes.to_own at is refl) refl)
-    by_storage t (field_text field card) at is = ends_in (Ok tt) (with_change w k.0 (FieldText field card t)) f
-        (λ e. cc) (_, refl) (Edits.edited (Writes.to_field at is (makes w k.0 _ k.1)) refl)
+    by_storage t (field_text field card) at is = ends_in (Ok tt) (with_change w k.batch (FieldText field card t)) f
+        (λ e. cc) (after k (FieldText field card t))
+        (Edits.edited (Writes.to_field at is (makes w k.batch _ k.is)) refl)
 
     by_due : (d : Result (Option (List ℕ)) Fault) → due w.now f.variables delimiter p e ≡ d →
-        EndsIn (Edits w f delimiter p e)
+        EndsIn begun (Edits w f delimiter p e)
     by_due (Ok (Some t)) is = by_storage t p.storage refl is
     by_due (Ok None) is = ends_in (Ok tt) w f (λ e. cc) k (Edits.edited (Writes.nothing_due is) refl)
     by_due (Err fa) is = ends_in (Err (Faults fa)) w f (λ e. cc) k (Edits.edit_faults is refl refl)
 
 -- the number of a turn is put into the variable of a repeat
-pub assigns : (w : History) (f : Frame) (delimiter : ℕ) (name : Option (List ℕ)) (v : List ℕ) → IsOpen w →
-    EndsIn (Assigns w f delimiter name v)
+pub assigns : {begun : Begun} (w : History) (f : Frame) (delimiter : ℕ) (name : Option (List ℕ)) (v : List ℕ) →
+    IsOpen begun w → EndsIn begun (Assigns w f delimiter name v)
 assigns w f delimiter None v k = ends_in (Ok tt) w f (λ e. cc) k (Assigns.no_variable refl)
 assigns w f delimiter (Some name) v k = in_same (edits w f delimiter (variable_place f.variables name) (Put Into v) k)
     (λ o w1 f1 h. Assigns.assigns refl h)
 
 -- names mean globals from here on
-pub declares_all : (names : List (List ℕ)) (w : History) (f : Frame) → IsOpen w → EndsIn (DeclaresAll w f names)
+pub declares_all : {begun : Begun} (names : List (List ℕ)) (w : History) (f : Frame) → IsOpen begun w →
+    EndsIn begun (DeclaresAll w f names)
 declares_all [] w f k = ends_in (Ok tt) w f (λ e. cc) k (DeclaresAll.none_declared refl)
-declares_all (name ∷ names) w f k = by_value (get w.now.globals (folded name)) refl
+declares_all {begun} (name ∷ names) w f k = by_value (get w.now.globals (folded name)) refl
     (λ w k. declares_all names w (record f { variables = declared f.variables name }) k)
   where
     by_value : (v : Option (List ℕ)) → get w.now.globals (folded name) ≡ v →
-        ((w : History) → IsOpen w → EndsIn (DeclaresAll w (record f { variables = declared f.variables name }) names)) →
-        EndsIn (DeclaresAll w f (name ∷ names))
+        ((w : History) → IsOpen begun w →
+        EndsIn begun (DeclaresAll w (record f { variables = declared f.variables name }) names)) →
+        EndsIn begun (DeclaresAll w f (name ∷ names))
     by_value (Some t) is later = in_same (later w k)
         (λ o w1 f2 h. DeclaresAll.declared refl (Declares.has_value is refl) refl h)
     by_value None is later =
-        in_same (later (with_change w k.0 (Global (folded name) (Some []))) (_, refl))
-        (λ o w1 f2 h. DeclaresAll.declared refl (Declares.is_new is (makes w k.0 _ k.1) refl) refl h)
+        let change : Change = Global (folded name) (Some []) in
+        in_same (later (with_change w k.batch change) (after k change))
+        (λ o w1 f2 h. DeclaresAll.declared refl (Declares.is_new is (makes w k.batch _ k.is) refl) refl h)
 
 -- ---- objects
 
 -- a property of an object is set
-pub sets : (w : History) (m : Referent) (p : Prop) (t : List ℕ) → IsOpen w → Ends (Sets w m p t)
-sets w m p t k = by_setting (setting w.now.stack m p t) refl
+pub sets : {begun : Begun} (w : History) (m : Referent) (p : Prop) (t : List ℕ) → IsOpen begun w →
+    Ends begun (Sets w m p t)
+sets {begun} w m p t k = by_setting (setting w.now.stack m p t) refl
   where
-    by_setting : (c : Result Change Fault) → setting w.now.stack m p t ≡ c → Ends (Sets w m p t)
-    by_setting (Ok c) is = ends (Ok tt) (with_change w k.0 c) (λ e. cc) (_, refl)
-        (Sets.set_made is (makes w k.0 c k.1))
+    by_setting : (c : Result Change Fault) → setting w.now.stack m p t ≡ c → Ends begun (Sets w m p t)
+    by_setting (Ok c) is = ends (Ok tt) (with_change w k.batch c) (λ e. cc) (after k c)
+        (Sets.set_made is (makes w k.batch c k.is))
     by_setting (Err fa) is = ends (Err (Faults fa)) w (λ e. cc) k (Sets.set_faults is refl)
 
 -- objects are made, where they fit
-pub adds : (w : History) (c : Change) → IsOpen w → Ends (Adds w c)
-adds w c k = by_fit (fits w.now c) refl
+pub adds : {begun : Begun} (w : History) (c : Change) → IsOpen begun w → Ends begun (Adds w c)
+adds {begun} w c k = by_fit (fits w.now c) refl
   where
-    by_fit : (b : Bool) → fits w.now c ≡ b → Ends (Adds w c)
-    by_fit true is = ends (Ok tt) (with_change w k.0 c) (λ e. cc) (_, refl) (Adds.adds is (makes w k.0 c k.1))
+    by_fit : (b : Bool) → fits w.now c ≡ b → Ends begun (Adds w c)
+    by_fit true is = ends (Ok tt) (with_change w k.batch c) (λ e. cc) (after k c)
+        (Adds.adds is (makes w k.batch c k.is))
     by_fit false is = ends (Err (Faults TooMany)) w (λ e. cc) k (Adds.too_many is)

@@ -11,7 +11,7 @@ use Rattle.meaning.specs.declared.frame.Frame.{Frame}
 use Rattle.meaning.specs.Meaning.{Val, Form, Block, Endless, While, Counts, Along, Talks, CallsBack}
 use Rattle.meaning.specs.Repeats.{CounterState}
 use Rattle.meaning.specs.State.{RunState}
-use Rattle.totality.proofs.Chain.{Underway, Has, HasRun}
+use Rattle.totality.proofs.Chain.{Begun, Underway, Has, HasRun}
 
 -- a turn that goes on: it is neither done nor failed
 abbrev pub IsCallBack : Ask → Type 0
@@ -20,22 +20,22 @@ IsCallBack Fail = ⊥
 IsCallBack _ = Unit {0}
 
 -- the parts that begin behind a step
-pub record Level (n : ℕ) : Type 0 where
-  pub val : (w : History) (r : RunState) (f : Frame) (d : ℕ) (e : tree.Expr) → d ≤ 100 → Underway n w r →
-      Has n (Val w r f d e)
-  pub form : (w : History) (r : RunState) (f : Frame) (d : ℕ) (s : stm.Stmt) → d ≤ 100 → Underway n w r →
-      HasRun n (Form w r f d s)
-  pub block : (w : History) (r : RunState) (f : Frame) (d : ℕ) (ss : stm.Stmts) → d ≤ 100 → Underway n w r →
-      HasRun n (Block w r f d ss)
-  pub endless : (w : History) (r : RunState) (f : Frame) (d : ℕ) (ss : stm.Stmts) → d ≤ 100 → Underway n w r →
-      HasRun n (Endless w r f d ss)
+pub record Level (begun : Begun) (n : ℕ) : Type 0 where
+  pub val : (w : History) (r : RunState) (f : Frame) (d : ℕ) (e : tree.Expr) → d ≤ 100 → Underway begun n w r →
+      Has begun n (Val w r f d e)
+  pub form : (w : History) (r : RunState) (f : Frame) (d : ℕ) (s : stm.Stmt) → d ≤ 100 → Underway begun n w r →
+      HasRun begun n (Form w r f d s)
+  pub block : (w : History) (r : RunState) (f : Frame) (d : ℕ) (ss : stm.Stmts) → d ≤ 100 → Underway begun n w r →
+      HasRun begun n (Block w r f d ss)
+  pub endless : (w : History) (r : RunState) (f : Frame) (d : ℕ) (ss : stm.Stmts) → d ≤ 100 → Underway begun n w r →
+      HasRun begun n (Endless w r f d ss)
   pub while : (w : History) (r : RunState) (f : Frame) (d : ℕ) (wanted : Bool) (x : tree.Expr) (ss : stm.Stmts) →
-      d ≤ 100 → Underway n w r → HasRun n (While w r f d wanted x ss)
+      d ≤ 100 → Underway begun n w r → HasRun begun n (While w r f d wanted x ss)
   pub counts : (w : History) (r : RunState) (f : Frame) (d : ℕ) (name : Option (List ℕ)) (c : CounterState)
-      (ss : stm.Stmts) → d ≤ 100 → Underway n w r → HasRun n (Counts w r f d name c ss)
+      (ss : stm.Stmts) → d ≤ 100 → Underway begun n w r → HasRun begun n (Counts w r f d name c ss)
   pub along : (w : History) (r : RunState) (f : Frame) (d i : ℕ) (is name : List ℕ) (vs : List (List ℕ))
-      (kind : HandlerKind) → d ≤ 100 → Underway n w r → Has n (Along w r f d i is name vs kind)
-  pub talks : (w : History) (r : RunState) (d e : ℕ) (input : Input) → d ≤ 100 → Underway n w r →
-      Has n (Talks w r d e input)
-  pub calls_back : (w : History) (r : RunState) (d : ℕ) (ask : Ask) → IsCallBack ask → d ≤ 100 → Underway n w r →
-      Has n (CallsBack w r d ask)
+      (kind : HandlerKind) → d ≤ 100 → Underway begun n w r → Has begun n (Along w r f d i is name vs kind)
+  pub talks : (w : History) (r : RunState) (d e : ℕ) (input : Input) → d ≤ 100 → Underway begun n w r →
+      Has begun n (Talks w r d e input)
+  pub calls_back : (w : History) (r : RunState) (d : ℕ) (ask : Ask) → IsCallBack ask → d ≤ 100 → Underway begun n w r →
+      Has begun n (CallsBack w r d ask)

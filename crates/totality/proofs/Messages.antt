@@ -47,6 +47,7 @@ use Rattle.meaning.specs.Places.{variable_place, field_named_place}
 use Rattle.meaning.specs.Repeats.{returned}
 use Rattle.meaning.specs.State.{RunState, Step, typed_frame, handler_frame}
 use Rattle.meaning.specs.Values.{Parses}
+use Rattle.totality.proofs.Chain.{Begun}
 use Rattle.totality.proofs.Chain.{Underway, Has, has, ok, fault, yield, same, then, then_lines, choose, maybe, deep}
 use Rattle.totality.proofs.Chain.{nested}
 use Rattle.definitional_interpreter.proofs.Comes.{AreExact}
@@ -58,31 +59,31 @@ use Rattle.totality.proofs.Expressions.{sends_has, text_val_has, val_has, calls_
 use Rattle.totality.proofs.Blocks.{block_ends, block_has}
 
 -- a value that is returned
-ended : {n : ℕ} {Rule : Result (List ℕ) Stop → History → RunState → Type 0} {w : History} {r : RunState}
-    (kind : HandlerKind) (v : List ℕ) → Underway n w r →
+ended : {begun : Begun} {n : ℕ} {Rule : Result (List ℕ) Stop → History → RunState → Type 0} {w : History} {r : RunState}
+    (kind : HandlerKind) (v : List ℕ) → Underway begun n w r →
     ((given : List ℕ) (r2 : RunState) → returned kind v r ≡ record { value = given; run = r2 } → Rule (Ok given) w r2) →
-    Has n Rule
+    Has begun n Rule
 ended Command v k rule = has (Ok []) _ _ (λ e. cc) (record { is_open = k.is_open; left = k.left }) (rule [] _ refl)
 ended Function v k rule = has (Ok v) _ _ (λ e. cc) k (rule v _ refl)
 
 -- ---- messages of the system, go and the menu
 
-system_has : {n : ℕ} → Level n → (w : History) (r : RunState) (f : Frame) (d i : ℕ) (mg : SystemMessage) → d ≤ 100 →
-    Underway (suc n) w r → Has (suc n) (System w r f d i mg)
+system_has : {begun : Begun} {n : ℕ} → Level begun n → (w : History) (r : RunState) (f : Frame) (d i : ℕ)
+    (mg : SystemMessage) → d ≤ 100 → Underway begun (suc n) w r → Has begun (suc n) (System w r f d i mg)
 system_has h w r f d i mg le k =
     choose r.lock_messages (λ locked. ok _ k (System.system_locked locked))
     (λ free. same (sends_has h w r f d i (message_name mg) [] Command le k)
     (λ o w1 r1 g. System.system free refl g))
 
-systems_has : {n : ℕ} → Level n → (w : History) (r : RunState) (f : Frame) (d : ℕ) (ms : List SystemMessage) → d ≤ 100 →
-    Underway (suc n) w r → Has (suc n) (Systems w r f d ms)
+systems_has : {begun : Begun} {n : ℕ} → Level begun n → (w : History) (r : RunState) (f : Frame) (d : ℕ)
+    (ms : List SystemMessage) → d ≤ 100 → Underway begun (suc n) w r → Has begun (suc n) (Systems w r f d ms)
 systems_has h w r f d [] le k = ok _ k (Systems.systems_done refl)
 systems_has h w r f d (mg ∷ ms) le k =
     then (system_has h w r f d w.now.current mg le k) (λ z w1 r1 g. Systems.systems_stop refl refl g)
     (λ v w1 r1 k1 g. same (systems_has h w1 r1 f d ms le k1) (λ o w2 r2 g2. Systems.systems_more refl refl g g2))
 
-pub goes_has : {n : ℕ} → Level n → (w : History) (r : RunState) (f : Frame) (d card : ℕ) → d ≤ 100 →
-    Underway (suc n) w r → Has (suc n) (Goes w r f d card)
+pub goes_has : {begun : Begun} {n : ℕ} → Level begun n → (w : History) (r : RunState) (f : Frame) (d card : ℕ) →
+    d ≤ 100 → Underway begun (suc n) w r → Has begun (suc n) (Goes w r f d card)
 goes_has h w r f d card le k =
     choose (nat_eq card w.now.current) (λ here. ok _ k (Goes.go_stays here)) (λ away.
     then (systems_has h w r f d (closing (differ w.now.stack w.now.current w.now.stack card)) le k)
@@ -93,8 +94,8 @@ goes_has h w r f d card le k =
     k2) (λ o w3 r2 g2. Goes.go_arrives away refl g there made g2)))
     (λ gone. fault _ k1 (Goes.go_gone away refl g gone))))
 
-menu_has : {n : ℕ} → Level n → (w : History) (r : RunState) (f : Frame) (d : ℕ) (it : Item) → d ≤ 100 →
-    Underway (suc n) w r → Has (suc n) (Menu w r f d it)
+menu_has : {begun : Begun} {n : ℕ} → Level begun n → (w : History) (r : RunState) (f : Frame) (d : ℕ) (it : Item) →
+    d ≤ 100 → Underway begun (suc n) w r → Has begun (suc n) (Menu w r f d it)
 menu_has h w r f d NewCardItem le k =
     then (systems_has h w r f d (closing false) le k) (λ z w1 r1 g. Menu.card_close_stops refl g) (λ v w1 r1 k1 g.
     then_ends k1 (adds w1 NewCard k1.is_open) (λ z w2 g2. Menu.card_full refl g g2)
@@ -117,16 +118,16 @@ menu_has h w r f d DeleteCardItem le k =
 -- ---- externals
 
 -- a call-back, and the turn that gets its answer
-goes_on_talking : {n : ℕ} → Level n →
-    (w : History) (r : RunState) (d e : ℕ) (input : Input) (ask : Ask) (r1 : RunState) (w1 : History) → IsCallBack ask →
-    Step r (Ok tt) r1 → TookTurn w w1 e input ask → d ≤ 100 → Underway n w1 r1 → Has n (Talks w r d e input)
+goes_on_talking : {begun : Begun} {n : ℕ} → Level begun n → (w : History) (r : RunState) (d e : ℕ) (input : Input)
+    (ask : Ask) (r1 : RunState) (w1 : History) → IsCallBack ask → Step r (Ok tt) r1 → TookTurn w w1 e input ask →
+    d ≤ 100 → Underway begun n w1 r1 → Has begun n (Talks w r d e input)
 goes_on_talking h w r d e input ask r1 w1 calls st took le k1 =
     then (h.calls_back w1 r1 d ask calls le k1) (λ z w2 r2 g. Talks.talk_stops st took g)
     (λ answer w2 r2 k2 g. same (h.talks w2 r2 d e answer le k2) (λ o w3 r3 g2. Talks.talk_goes_on st took g g2))
 
-talk_by : {n : ℕ} → Level n →
-    (w : History) (r : RunState) (d e : ℕ) (input : Input) (ask : Ask) (r1 : RunState) (w1 : History) →
-    Step r (Ok tt) r1 → TookTurn w w1 e input ask → d ≤ 100 → Underway n w1 r1 → Has n (Talks w r d e input)
+talk_by : {begun : Begun} {n : ℕ} → Level begun n → (w : History) (r : RunState) (d e : ℕ) (input : Input) (ask : Ask)
+    (r1 : RunState) (w1 : History) → Step r (Ok tt) r1 → TookTurn w w1 e input ask → d ≤ 100 → Underway begun n w1 r1 →
+    Has begun n (Talks w r d e input)
 talk_by h w r d e input (Done v passes) r1 w1 st took le k1 = ok _ k1 (Talks.talk_done st took refl refl)
 talk_by h w r d e input Fail r1 w1 st took le k1 = fault _ k1 (Talks.talk_fails st took refl)
 talk_by h w r d e input (SendCardMessage note t) r1 w1 st took le k1 = goes_on_talking h w r d e input _ r1 w1 tt st
@@ -138,23 +139,24 @@ talk_by h w r d e input (SetGlobal note name v) r1 w1 st took le k1 = goes_on_ta
 talk_by h w r d e input (SetFieldByName note on_card name v) r1 w1 st took le k1 = goes_on_talking h w r d e input _
     r1 w1 tt st took le k1
 
-pub talks_has : {n : ℕ} → Level n → (w : History) (r : RunState) (d e : ℕ) (input : Input) → d ≤ 100 →
-    Underway (suc n) w r → Has (suc n) (Talks w r d e input)
+pub talks_has : {begun : Begun} {n : ℕ} → Level begun n → (w : History) (r : RunState) (d e : ℕ) (input : Input) →
+    d ≤ 100 → Underway begun (suc n) w r → Has begun (suc n) (Talks w r d e input)
 talks_has h w r d e input le k =
     then_step w r k (λ z r1 st. Talks.talk_no_step st)
     (λ r1 k1 st. lift (then_turn w r1 e input k1
     (λ ask w1 k2 took. talk_by h w r d e input ask r1 w1 st took le k2)))
 
-converses_has : {n : ℕ} → Level n → (w : History) (r : RunState) (d e : ℕ) (vs : List (List ℕ)) → d ≤ 100 →
-    Underway (suc n) w r → Has (suc n) (Converses w r d e vs)
+converses_has : {begun : Begun} {n : ℕ} → Level begun n → (w : History) (r : RunState) (d e : ℕ) (vs : List (List ℕ)) →
+    d ≤ 100 → Underway begun (suc n) w r → Has begun (suc n) (Converses w r d e vs)
 converses_has h w r d e vs le k =
     choose (nat_lt 16 (length vs)) (λ many. fault _ k (Converses.too_many_arguments (ltb-true 16 (length vs) many)))
     (λ few. deep d le (λ lt. same (talks_has h w r (d + 1) e (Start vs) (nested lt) k)
     (λ o w1 r1 g. Converses.converses (ltb-false 16 (length vs) few) lt refl g))
     (λ at. fault _ k (Converses.conversation_too_deep (ltb-false 16 (length vs) few) at)))
 
-pub calls_back_has : {n : ℕ} → AreExact → Level n → (w : History) (r : RunState) (d : ℕ) (ask : Ask) → IsCallBack ask →
-    d ≤ 100 → Underway (suc n) w r → Has (suc n) (CallsBack w r d ask)
+pub calls_back_has : {begun : Begun} {n : ℕ} → AreExact → Level begun n →
+    (w : History) (r : RunState) (d : ℕ) (ask : Ask) → IsCallBack ask → d ≤ 100 → Underway begun (suc n) w r →
+    Has begun (suc n) (CallsBack w r d ask)
 calls_back_has exact h w r d (SendCardMessage note t) calls le k =
     then_parsed typed_lines ReadsLines t exact.cuts exact.lines k (λ z p. CallsBack.message_syntax refl p) (λ ss p.
     then_lines (block_has h w r (typed_frame w) d ss le k) (λ z w1 r1 f1 g. CallsBack.message_stops refl p refl g)
@@ -180,10 +182,9 @@ calls_back_has exact h w r d Fail calls le k = absurd calls
 
 -- ---- messages
 
-built_in_by : {n : ℕ} → AreExact → Level n →
-    (w : History) (r : RunState) (f : Frame) (d : ℕ) (name : List ℕ) (vs : List (List ℕ)) (kind : HandlerKind)
-    (b : BuiltIn) → built_in_named kind name ≡ Some b → d ≤ 100 → Underway (suc n) w r →
-    Has (suc n) (BuiltInGives w r f d name vs kind)
+built_in_by : {begun : Begun} {n : ℕ} → AreExact → Level begun n → (w : History) (r : RunState) (f : Frame) (d : ℕ)
+    (name : List ℕ) (vs : List (List ℕ)) (kind : HandlerKind) (b : BuiltIn) → built_in_named kind name ≡ Some b →
+    d ≤ 100 → Underway begun (suc n) w r → Has begun (suc n) (BuiltInGives w r f d name vs kind)
 built_in_by exact h w r f d name vs kind Value is le k =
     maybe (only vs) (λ t one. same (text_val_has exact h w r f d t le k)
     (λ o w1 r1 g. BuiltInGives.value_call is one g)) (λ none. fault _ k (BuiltInGives.value_arguments is none))
@@ -194,17 +195,17 @@ built_in_by exact h w r f d name vs kind DoMenu is le k =
     (λ item named. same (menu_has h w r f d item le k) (λ o w1 r1 g. BuiltInGives.menu_item is named g))
     (λ none. fault _ k (BuiltInGives.menu_unknown is none))
 
-built_in_has : {n : ℕ} → AreExact → Level n →
-    (w : History) (r : RunState) (f : Frame) (d : ℕ) (name : List ℕ) (vs : List (List ℕ)) (kind : HandlerKind) →
-    d ≤ 100 → Underway (suc n) w r → Has (suc n) (BuiltInGives w r f d name vs kind)
+built_in_has : {begun : Begun} {n : ℕ} → AreExact → Level begun n → (w : History) (r : RunState) (f : Frame) (d : ℕ)
+    (name : List ℕ) (vs : List (List ℕ)) (kind : HandlerKind) → d ≤ 100 → Underway begun (suc n) w r →
+    Has begun (suc n) (BuiltInGives w r f d name vs kind)
 built_in_has exact h w r f d name vs kind le k =
     maybe (built_in_named kind name) (λ b is. built_in_by exact h w r f d name vs kind b is le k)
     (λ isnt. choose (is_ignored kind name) (λ ignored. ok _ k (BuiltInGives.ignored_message isnt ignored))
     (λ unknown. fault _ k (BuiltInGives.not_understood isnt unknown)))
 
-outside_has : {n : ℕ} → AreExact → Level n →
-    (w : History) (r : RunState) (f : Frame) (d : ℕ) (name : List ℕ) (vs : List (List ℕ)) (kind : HandlerKind) →
-    d ≤ 100 → Underway (suc n) w r → Has (suc n) (Outside w r f d name vs kind)
+outside_has : {begun : Begun} {n : ℕ} → AreExact → Level begun n → (w : History) (r : RunState) (f : Frame) (d : ℕ)
+    (name : List ℕ) (vs : List (List ℕ)) (kind : HandlerKind) → d ≤ 100 → Underway begun (suc n) w r →
+    Has begun (suc n) (Outside w r f d name vs kind)
 outside_has exact h w r f d name vs kind le k =
     maybe (external_named w.now.externals (calls_function kind) name)
     (λ e is. then (converses_has h w r d e vs le k) (λ z w1 r1 g. Outside.external_stops is g) (λ c w1 r1 k1 g.
@@ -214,12 +215,13 @@ outside_has exact h w r f d name vs kind le k =
     (λ isnt. same (built_in_has exact h w r f d name vs kind le k) (λ o w1 r1 g. Outside.no_external isnt g))
 
 -- how the lines of a handler end, and what becomes of the message: those that pass it have taken a step
-handler_ends : {n : ℕ} → Level n →
-    (w : History) (r : RunState) (f : Frame) (d i : ℕ) (is name : List ℕ) (vs : List (List ℕ)) (kind : HandlerKind)
-    (found : Found) (how : How) (w1 : History) (r1 : RunState) (f1 : Frame) → d ≤ 100 → Underway (suc n) w1 r1
-    → Finds w.now.stack is kind name (Ok (Some found)) → d < 100 →
-    Passes n (Block w r (handler_frame found.object i (parameters_of found.handler) vs) (d + 1)
-    (lines_of found.handler)) (Ok how) w1 r1 f1 → Has (suc n) (Along w r f d i is name vs kind)
+handler_ends : {begun : Begun} {n : ℕ} → Level begun n → (w : History) (r : RunState) (f : Frame) (d i : ℕ)
+    (is name : List ℕ) (vs : List (List ℕ)) (kind : HandlerKind) (found : Found) (how : How) (w1 : History)
+    (r1 : RunState) (f1 : Frame) → d ≤ 100 → Underway begun (suc n) w1 r1 →
+    Finds w.now.stack is kind name (Ok (Some found)) → d < 100 →
+    Passes n
+    (Block w r (handler_frame found.object i (parameters_of found.handler) vs) (d + 1) (lines_of found.handler))
+    (Ok how) w1 r1 f1 → Has begun (suc n) (Along w r f d i is name vs kind)
 handler_ends h w r f d i is name vs kind found Pass w1 r1 f1 le k1 g lt b =
     lift (same (h.along w1 r1 f d i (path_after w1.now.stack w1.now.current found.object) name vs kind le
     (record { is_open = k1.is_open; left = b.fewer refl }))
@@ -235,10 +237,10 @@ handler_ends h w r f d i is name vs kind found Exit w1 r1 f1 le k1 g lt b = ok _
 handler_ends h w r f d i is name vs kind found (Returns v) w1 r1 f1 le k1 g lt b = ended kind v k1
     (λ v r2 gives. Along.along_ends g lt refl b.ends (ap Some gives))
 
-met_by : {n : ℕ} → AreExact → Level n →
-    (w : History) (r : RunState) (f : Frame) (d i : ℕ) (is name : List ℕ) (vs : List (List ℕ)) (kind : HandlerKind)
-    (found : Option Found) → Finds w.now.stack is kind name (Ok found) → d ≤ 100 → Underway (suc n) w r →
-    Has (suc n) (Along w r f d i is name vs kind)
+met_by : {begun : Begun} {n : ℕ} → AreExact → Level begun n → (w : History) (r : RunState) (f : Frame) (d i : ℕ)
+    (is name : List ℕ) (vs : List (List ℕ)) (kind : HandlerKind) (found : Option Found) →
+    Finds w.now.stack is kind name (Ok found) → d ≤ 100 → Underway begun (suc n) w r →
+    Has begun (suc n) (Along w r f d i is name vs kind)
 met_by exact h w r f d i is name vs kind (Some found) g le k =
     deep d le (λ lt. then_lines
     (block_ends h w r (handler_frame found.object i (parameters_of found.handler) vs) (d + 1)
@@ -248,20 +250,21 @@ met_by exact h w r f d i is name vs kind (Some found) g le k =
 met_by exact h w r f d i is name vs kind None g le k = same (outside_has exact h w r f d name vs kind le k)
     (λ o w1 r1 g2. Along.along_unhandled g g2)
 
-pub along_has : {n : ℕ} → AreExact → Level n →
-    (w : History) (r : RunState) (f : Frame) (d i : ℕ) (is name : List ℕ) (vs : List (List ℕ)) (kind : HandlerKind) →
-    d ≤ 100 → Underway (suc n) w r → Has (suc n) (Along w r f d i is name vs kind)
+pub along_has : {begun : Begun} {n : ℕ} → AreExact → Level begun n → (w : History) (r : RunState) (f : Frame) (d i : ℕ)
+    (is name : List ℕ) (vs : List (List ℕ)) (kind : HandlerKind) → d ≤ 100 → Underway begun (suc n) w r →
+    Has begun (suc n) (Along w r f d i is name vs kind)
 along_has exact h w r f d i is name vs kind le k = then_found w is kind name exact k (λ z g. Along.along_broken g)
     (λ met g. met_by exact h w r f d i is name vs kind met g le k)
 
-called_by : {n : ℕ} → AreExact → Level n →
-    (w : History) (r : RunState) (f : Frame) (d i : ℕ) (t : List ℕ) (message : stm.Message) →
-    Parses ReadsMessage t (Ok message) → d ≤ 100 → Underway (suc n) w r → Has (suc n) (SendsText w r f d i t)
+called_by : {begun : Begun} {n : ℕ} → AreExact → Level begun n → (w : History) (r : RunState) (f : Frame) (d i : ℕ)
+    (t : List ℕ) (message : stm.Message) → Parses ReadsMessage t (Ok message) → d ≤ 100 → Underway begun (suc n) w r →
+    Has begun (suc n) (SendsText w r f d i t)
 called_by exact h w r f d i t (stm.message name es) p le k = same (calls_has exact h w r f d i name es Command le k)
     (λ o w1 r1 g. SendsText.sends_text p g)
 
-pub sends_text_has : {n : ℕ} → AreExact → Level n → (w : History) (r : RunState) (f : Frame) (d i : ℕ) (t : List ℕ) →
-    d ≤ 100 → Underway (suc n) w r → Has (suc n) (SendsText w r f d i t)
+pub sends_text_has : {begun : Begun} {n : ℕ} → AreExact → Level begun n →
+    (w : History) (r : RunState) (f : Frame) (d i : ℕ) (t : List ℕ) → d ≤ 100 → Underway begun (suc n) w r →
+    Has begun (suc n) (SendsText w r f d i t)
 sends_text_has exact h w r f d i t le k =
     then_parsed sent_message ReadsMessage t exact.cuts exact.messages k (λ z p. SendsText.send_syntax p)
     (λ message p. called_by exact h w r f d i t message p le k)

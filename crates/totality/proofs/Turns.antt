@@ -1,15 +1,14 @@
 -- A turn of the table leaves as many cells, and it is a turn of an open history.
-use Rattle.std.proofs.Common.{◌≡◌, ℕ, zero, suc, ◌<◌, ℤ, pos, negsuc, List, [], ◌∷◌, length, Bool, true, false}
-use Rattle.std.proofs.Common.{Option, Some, None, Result, refl, sym, ap, subst, arith}
-use Rattle.std.specs.Prelude.{slice_index_or, IfSome, if◌then◌else◌, nat_eq, nat_lt, bytes_eq, codes}
-use Rattle.std.proofs.lemmas.List.{length-set, set-get_or, get_or-set_same}
+use Rattle.std.proofs.Common.{◌≡◌, ℕ, zero, suc, ℤ, pos, negsuc, List, [], ◌∷◌, length, Bool, true, false}
+use Rattle.std.proofs.Common.{Option, Some, None, Result, refl, sym, ap, subst, ◌∙◌, arith}
+use Rattle.std.specs.Prelude.{slice_index_or, slice_set, IfSome, if◌then◌else◌, nat_eq, nat_lt, bytes_eq, codes}
+use Rattle.std.proofs.lemmas.List.{length-set}
 use Rattle.std.proofs.lemmas.Option.{none-some}
 use Rattle.externals.specs.Cells.{Seen, none_seen}
 use Rattle.externals.specs.Number.{number_in}
 use Rattle.externals.specs.declared.external.Ask.{Ask}
 use Rattle.externals.specs.declared.external.Input.{Input}
 use Rattle.externals.specs.declared.external.Input.TheVariants.{Start, Answer}
-use Rattle.externals.specs.declared.external.Ask.TheVariants.{Fail}
 use Rattle.externals.specs.Table.{Turn, Answers, turn_of, cell, counted, counter_turn, stored, bins_turn, relay_turn}
 use Rattle.externals.specs.Table.{gate_turn, may_count, is_stage}
 use Rattle.journal_entries.specs.Exchange.{with_cells}
@@ -20,7 +19,8 @@ use Rattle.change_journal.specs.History.{Open, History}
 use Rattle.change_journal.specs.Rising.{BothOpen, Rises, TookTurn, trail_after_turn}
 use Rattle.meaning.specs.declared.end.Stop.{Stop}
 use Rattle.meaning.specs.State.{RunState}
-use Rattle.totality.proofs.Chain.{Underway, Has}
+use Rattle.totality.specs.Laws.{Follows}
+use Rattle.totality.proofs.Chain.{Begun, Underway, Has}
 
 -- ---- as many cells
 
@@ -86,13 +86,6 @@ keeps sort cells input =
 
 -- ---- a turn of an open history
 
--- an external that has a turn of the table is there
-is_there : (es : List Seen) (k : ℕ) (input : Input) (t : Turn) →
-    turn_of (slice_index_or es k none_seen).sort (slice_index_or es k none_seen).cells input ≡ Some t → k < length es
-is_there [] k input t e = absurd (none-some _ e)
-is_there (s ∷ es) zero input t e = omega arith
-is_there (s ∷ es) (suc k) input t e = let before = is_there es k input t e in omega (arith, before)
-
 -- the history after a turn of the k-th external
 abbrev with_turn : History → Open → ℕ → Input → Turn → History
 with_turn w batch k input t = record w {
@@ -122,31 +115,51 @@ takes w batch k input t e cells answers = record {
       (sym e) (record { state = refl; number = refl; undo = omega arith; redo = omega arith; trail = refl });
 }
 
--- A turn of an external, and then: of a kind that isn't free the one of the table, of a free one that it fails.
-pub then_turn : {B : Type 0} {n : ℕ} {Q : Result B Stop → History → RunState → Type 0} (w : History) (r : RunState)
-    (k : ℕ) (input : Input) → Underway n w r
-    → ((ask : Ask) (w1 : History) → Underway n w1 r → TookTurn w w1 k input ask → Has n Q) → Has n Q
-then_turn {B} {n} {Q} w r k input goes goes_on = by_turn
+-- the cells after a turn that leaves as many, also of an external that isn't there
+cells_after : (es : List Seen) (k : ℕ) (cells : List (List ℕ)) →
+    length cells ≡ length (slice_index_or es k none_seen).cells →
+    (slice_index_or (slice_set es k (with_cells (slice_index_or es k none_seen) cells)) k none_seen).cells ≡ cells
+cells_after [] k [] count = refl
+cells_after [] k (c ∷ cells) count = cc
+cells_after (s ∷ es) zero cells count = refl
+cells_after (s ∷ es) (suc k) cells count = cells_after es k cells count
+
+-- A turn of an external, and then.
+pub then_turn : {B : Type 0} {begun : Begun} {n : ℕ} {Q : Result B Stop → History → RunState → Type 0} (w : History)
+    (r : RunState) (k : ℕ) (input : Input) → Underway begun n w r →
+    ((ask : Ask) (w1 : History) → Underway begun n w1 r → TookTurn w w1 k input ask → Has begun n Q) → Has begun n Q
+then_turn {B} {begun} {n} {Q} w r k input goes goes_on = by_turn
     (turn_of (seen_at w.now k).sort (seen_at w.now k).cells input) refl
   where
-    by_turn : (t : Option Turn) → turn_of (seen_at w.now k).sort (seen_at w.now k).cells input ≡ t → Has n Q
+    turned : (t : Turn) → Answers (seen_at w.now k).sort (seen_at w.now k).cells input t.0 t.1
+        → (turn_of (seen_at w.now k).sort (seen_at w.now k).cells input ≡ None →
+        begun.behaviour k (slice_index_or w.logs k []) (seen_at w.now k).cells input ≡ t) → Has begun n Q
+    turned t answers free =
+        let cells = cells_after w.now.externals k t.1 answers.count in
+        let took = takes w goes.is_open.batch k input t goes.is_open.is cells answers in
+        goes_on t.0 (with_turn w goes.is_open.batch k input t)
+        (record {
+          is_open = record {
+            batch = _;
+            is = refl;
+            follows = Follows.turns goes.is_open.follows took
+                (λ none. subst (λ after. begun.behaviour k (slice_index_or w.logs k []) (seen_at w.now k).cells input
+                ≡ (t.0, after))
+                (sym cells) (free none));
+          };
+          left = goes.left;
+        }) took
+
+    by_turn : (t : Option Turn) → turn_of (seen_at w.now k).sort (seen_at w.now k).cells input ≡ t → Has begun n Q
     by_turn None is =
-        let t : Turn = (Fail, (seen_at w.now k).cells) in
-        goes_on Fail (with_turn w goes.is_open.0 k input t) (record { is_open = (_, refl); left = goes.left })
-        (takes w goes.is_open.0 k input t goes.is_open.1
-        (ap (λ es. (slice_index_or es k none_seen).cells) (set-get_or w.now.externals k none_seen))
-        (record {
-          count = refl;
-          known = subst
-              (λ o. IfSome o (λ turn. (Fail ≡ turn.0) × ((seen_at w.now k).cells ≡ turn.1))) (sym is) tt;
-        }))
+        let t : Turn = begun.behaviour k (slice_index_or w.logs k []) (seen_at w.now k).cells input in
+        turned t (record {
+          count = begun.keeps_counts k (slice_index_or w.logs k []) (seen_at w.now k).cells input;
+          known = subst (λ o. IfSome o (λ turn. (t.0 ≡ turn.0) × (t.1 ≡ turn.1))) (sym is) tt;
+        }) (λ none. refl)
     by_turn (Some t) is =
-        goes_on t.0 (with_turn w goes.is_open.0 k input t) (record { is_open = (_, refl); left = goes.left })
-        (takes w goes.is_open.0 k input t goes.is_open.1
-        (ap (λ s. s.cells) (get_or-set_same w.now.externals k (with_cells (seen_at w.now k) t.1) none_seen
-        (is_there w.now.externals k input t is)))
-        (record {
+        turned t (record {
           count = subst (λ o. IfSome o (Keeps (length (seen_at w.now k).cells))) is
               (keeps (seen_at w.now k).sort (seen_at w.now k).cells input);
           known = subst (λ o. IfSome o (λ turn. (t.0 ≡ turn.0) × (t.1 ≡ turn.1))) (sym is) (refl, refl);
-        }))
+        }) (λ none. absurd (none-some _ (sym none ∙ is)))

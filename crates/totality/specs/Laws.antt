@@ -1,10 +1,17 @@
 -- Laws of outcomes that exist.
-use Rattle.std.specs.Prelude.{◌⊎◌, ℕ, ◌≤◌, List, IsSome, Result}
+use Rattle.std.specs.Prelude.{◌≡◌, ◌⊎◌, ℕ, ◌≤◌, List, [], length, slice_index_or, None, IsSome, Result}
 use Rattle.std.specs.List.{AllByRecursion}
 use Rattle.ht_values.specs.Text.{IsText}
 use Rattle.ht_grammar.specs.Statements as stm
 use Rattle.ht_grammar.specs.Trees as tree
+use Rattle.externals.specs.Log.{Log}
+use Rattle.externals.specs.Table.{Turn, turn_of}
+use Rattle.externals.specs.declared.external.Ask.{Ask}
+use Rattle.externals.specs.declared.external.Input.{Input}
+use Rattle.journal_entries.specs.State.{seen_at}
+use Rattle.journal_entries.specs.declared.change.Change.{Change}
 use Rattle.change_journal.specs.History.{History}
+use Rattle.change_journal.specs.Rising.{Made, TookTurn}
 use Rattle.meaning.specs.declared.end.Stop.{Stop}
 use Rattle.meaning.specs.declared.frame.Frame.{Frame}
 use Rattle.meaning.specs.Actions.{Action}
@@ -41,6 +48,67 @@ abbrev pub ActionsHaveAnOutcome : Type 0
 ActionsHaveAnOutcome =
     (w : History) (r : RunState) (ac : Action) → IsSome w.start →
     HasOutcome (Acts w r ac) ⊎ ((w2 : History) × ((r2 : RunState) × MeetsLock w r ac w2 r2))
+
+-- ---- outcomes for each behaviour of the externals
+
+-- What externals of free kinds do: what the one of a number asks, and its cells after that, by its log so far, its
+-- cells and what it is handed.
+abbrev pub Behaviour : Type 0
+Behaviour = ℕ → Log → List (List ℕ) → Input → Turn
+
+-- as many cells are left as there were
+abbrev pub KeepsCounts : Behaviour → Type 0
+KeepsCounts behaviour = (i : ℕ) (log : Log) (cells : List (List ℕ)) (input : Input) →
+    length (behaviour i log cells input).1 ≡ length cells
+
+-- where the kind of the i-th external is free, this turn of it is that of the behaviour
+abbrev pub IsTurnOf : Behaviour → History → History → ℕ → Input → Ask → Type 0
+IsTurnOf behaviour old new i input ask = turn_of (seen_at old.now i).sort (seen_at old.now i).cells input ≡ None →
+    behaviour i (slice_index_or old.logs i []) (seen_at old.now i).cells input ≡ (ask, (seen_at new.now i).cells)
+
+-- Changes and turns, one after the other, lead from a history to this one. Each turn of a free external, by which its
+-- log has one turn more, is that of the behaviour.
+pub data Follows (behaviour : Behaviour) (begin : History) : History → Type 0 where
+  begins : Follows behaviour begin begin
+  changes : {old new : History} {change : Change} → Follows behaviour begin old → Made old new change →
+      Follows behaviour begin new
+  turns : {old new : History} {i : ℕ} {input : Input} {ask : Ask} → Follows behaviour begin old →
+      TookTurn old new i input ask → IsTurnOf behaviour old new i input ask → Follows behaviour begin new
+
+-- an end that a rule allows and that isn't out of memory, where each turn of a free external is that of the behaviour
+pub data HasOutcomeBy {A : Type 0} (behaviour : Behaviour) (begin : History)
+    (Rule : Result A Stop → History → RunState → Type 0) : Type 0 where
+  outcome_by : (o : Result A Stop) (w : History) (r : RunState) → HasMemory o → Rule o w r →
+      Follows behaviour begin w → HasOutcomeBy behaviour begin Rule
+
+-- For each behaviour lines have such an outcome while a batch is open.
+abbrev pub LinesHaveAnOutcomeBy : Type 0
+LinesHaveAnOutcomeBy = (behaviour : Behaviour) → KeepsCounts behaviour → (w : History) (r : RunState) (ss : stm.Stmts) →
+    IsSome w.start → HasOutcomeBy behaviour w (Line w r ss)
+
+-- and so has a message
+abbrev pub MessagesHaveAnOutcomeBy : Type 0
+MessagesHaveAnOutcomeBy = (behaviour : Behaviour) → KeepsCounts behaviour →
+    (w : History) (r : RunState) (i : ℕ) (n : List ℕ) (vs : List (List ℕ)) → IsSome w.start →
+    HasOutcomeBy behaviour w (Message w r i n vs)
+
+-- and the reference of a dot line
+abbrev pub ReferencesHaveAnOutcomeBy : Type 0
+ReferencesHaveAnOutcomeBy = (behaviour : Behaviour) → KeepsCounts behaviour →
+    (w : History) (r : RunState) (pa : tree.Part) → IsSome w.start → HasOutcomeBy behaviour w (Refers w r pa)
+
+-- and the value of an expression, at most a hundred calls deep
+abbrev pub ValuesHaveAnOutcomeBy : Type 0
+ValuesHaveAnOutcomeBy = (behaviour : Behaviour) → KeepsCounts behaviour →
+    (w : History) (r : RunState) (f : Frame) (d : ℕ) (e : tree.Expr) → IsSome w.start → d ≤ 100 →
+    HasOutcomeBy behaviour w (Val w r f d e)
+
+-- and an action, unless it types into a locked field, up to which the behaviour is followed too
+abbrev pub ActionsHaveAnOutcomeBy : Type 0
+ActionsHaveAnOutcomeBy = (behaviour : Behaviour) → KeepsCounts behaviour →
+    (w : History) (r : RunState) (ac : Action) → IsSome w.start →
+    HasOutcomeBy behaviour w (Acts w r ac) ⊎
+    ((w2 : History) × ((r2 : RunState) × (MeetsLock w r ac w2 r2 × Follows behaviour w w2)))
 
 -- ---- outcomes that are whole
 

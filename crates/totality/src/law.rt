@@ -2,6 +2,8 @@
 
 ghost use Rattle.totality.specs.Laws.{LinesHaveAnOutcome, MessagesHaveAnOutcome, ActionsHaveAnOutcome};
 ghost use Rattle.totality.specs.Laws.{ReferencesHaveAnOutcome, ValuesHaveAnOutcome};
+ghost use Rattle.totality.specs.Laws.{LinesHaveAnOutcomeBy, MessagesHaveAnOutcomeBy, ActionsHaveAnOutcomeBy};
+ghost use Rattle.totality.specs.Laws.{ReferencesHaveAnOutcomeBy, ValuesHaveAnOutcomeBy};
 ghost use Rattle.totality.specs.Laws.{LinesHaveAWholeOutcome, MessagesHaveAWholeOutcome, ActionsHaveAWholeOutcome};
 ghost use Rattle.totality.specs.Laws.{ReferencesHaveAWholeOutcome, ValuesHaveAWholeOutcome};
 
@@ -12,6 +14,23 @@ use ht_grammar::{
 use ht_lex::texts_are_cut_exactly;
 use whole_states::runs_lead_to_whole_states;
 
+/// For each behaviour of the externals of free kinds, lines, a message, an action, the reference of a dot line or the
+/// value of an expression have an end that the rules allow and that isn't out of memory, while a batch is open, and
+/// each turn of such an external is that of the behaviour; but for a text that is typed into a locked field.
+pub fn behaviours_have_an_outcome()
+    ensures lines { LinesHaveAnOutcomeBy }
+    ensures messages { MessagesHaveAnOutcomeBy }
+    ensures actions { ActionsHaveAnOutcomeBy }
+    ensures references { ReferencesHaveAnOutcomeBy }
+    ensures values { ValuesHaveAnOutcomeBy }
+{
+    texts_are_cut_exactly();
+    expressions_are_read_exactly();
+    lines_are_read_exactly();
+    scripts_are_read_exactly();
+    messages_are_read_exactly();
+}
+
 /// Lines, a message, an action, the reference of a dot line or the value of an expression have an end that the rules allow
 /// and that isn't out of memory, while a batch is open; but for a text that is typed into a locked field.
 pub fn runs_have_an_outcome()
@@ -21,11 +40,7 @@ pub fn runs_have_an_outcome()
     ensures references { ReferencesHaveAnOutcome }
     ensures values { ValuesHaveAnOutcome }
 {
-    texts_are_cut_exactly();
-    expressions_are_read_exactly();
-    lines_are_read_exactly();
-    scripts_are_read_exactly();
-    messages_are_read_exactly();
+    behaviours_have_an_outcome();
 }
 
 /// Where each state of the history is whole, no external is free, and what runs has texts, each of these has such an end after
