@@ -8,4 +8,5 @@ pub mod Messages
 pub mod Statements
 pub mod Commands
 pub mod Outcomes
+pub mod Logged
 mod Whole

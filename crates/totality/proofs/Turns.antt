@@ -142,7 +142,7 @@ then_turn {B} {begun} {n} {Q} w r k input goes goes_on = by_turn
           is_open = record {
             batch = _;
             is = refl;
-            follows = Follows.turns goes.is_open.follows took
+            follows = Follows.took_turn goes.is_open.follows took
                 (λ none. subst (λ after. begun.behaviour k (slice_index_or w.logs k []) (seen_at w.now k).cells input
                 ≡ (t.0, after))
                 (sym cells) (free none));

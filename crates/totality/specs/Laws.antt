@@ -1,5 +1,6 @@
 -- Laws of outcomes that exist.
-use Rattle.std.specs.Prelude.{◌≡◌, ◌⊎◌, ℕ, ◌≤◌, List, [], length, slice_index_or, None, IsSome, Result}
+use Rattle.std.specs.Prelude.{◌≡◌, ◌⊎◌, ℕ, ◌≤◌, ◌<◌, List, [], ◌∷◌, ◌++◌, length, slice_index_or, None, IsSome}
+use Rattle.std.specs.Prelude.{Result}
 use Rattle.std.specs.List.{AllByRecursion}
 use Rattle.ht_values.specs.Text.{IsText}
 use Rattle.ht_grammar.specs.Statements as stm
@@ -70,9 +71,9 @@ IsTurnOf behaviour old new i input ask = turn_of (seen_at old.now i).sort (seen_
 -- log has one turn more, is that of the behaviour.
 pub data Follows (behaviour : Behaviour) (begin : History) : History → Type 0 where
   begins : Follows behaviour begin begin
-  changes : {old new : History} {change : Change} → Follows behaviour begin old → Made old new change →
+  made : {old new : History} {change : Change} → Follows behaviour begin old → Made old new change →
       Follows behaviour begin new
-  turns : {old new : History} {i : ℕ} {input : Input} {ask : Ask} → Follows behaviour begin old →
+  took_turn : {old new : History} {i : ℕ} {input : Input} {ask : Ask} → Follows behaviour begin old →
       TookTurn old new i input ask → IsTurnOf behaviour old new i input ask → Follows behaviour begin new
 
 -- an end that a rule allows and that isn't out of memory, where each turn of a free external is that of the behaviour
@@ -109,6 +110,26 @@ ActionsHaveAnOutcomeBy = (behaviour : Behaviour) → KeepsCounts behaviour →
     (w : History) (r : RunState) (ac : Action) → IsSome w.start →
     HasOutcomeBy behaviour w (Acts w r ac) ⊎
     ((w2 : History) × ((r2 : RunState) × (MeetsLock w r ac w2 r2 × Follows behaviour w w2)))
+
+-- ---- what a behaviour leaves in the logs
+
+-- a kind of which the table has no turn
+abbrev pub IsFree : ℕ → Type 0
+IsFree sort = (cells : List (List ℕ)) (input : Input) → turn_of sort cells input ≡ None
+
+-- each of these turns is the one that is given by the log and the cells before it
+abbrev pub AreTurnsOf : (Log → List (List ℕ) → Input → Turn) → Log → List (List ℕ) → Log → Type 0
+AreTurnsOf gives log cells [] = Unit {0}
+AreTurnsOf gives log cells (turn ∷ turns) =
+    (gives log cells turn.input ≡ (turn.ask, turn.cells)) × AreTurnsOf gives (log ++ turn ∷ []) turn.cells turns
+
+-- Where a history follows a behaviour, the log of each free external is the one before with turns more, each of which
+-- is that of the behaviour.
+abbrev pub BehavioursAreLogged : Type 0
+BehavioursAreLogged = (behaviour : Behaviour) (w w2 : History) (i : ℕ) → i < length w.logs →
+    IsFree (seen_at w.now i).sort → Follows behaviour w w2 →
+    (turns : Log) × (slice_index_or w2.logs i [] ≡ slice_index_or w.logs i [] ++ turns) ×
+    AreTurnsOf (behaviour i) (slice_index_or w.logs i []) (seen_at w.now i).cells turns
 
 -- ---- outcomes that are whole
 

@@ -3,7 +3,7 @@
 ghost use Rattle.totality.specs.Laws.{LinesHaveAnOutcome, MessagesHaveAnOutcome, ActionsHaveAnOutcome};
 ghost use Rattle.totality.specs.Laws.{ReferencesHaveAnOutcome, ValuesHaveAnOutcome};
 ghost use Rattle.totality.specs.Laws.{LinesHaveAnOutcomeBy, MessagesHaveAnOutcomeBy, ActionsHaveAnOutcomeBy};
-ghost use Rattle.totality.specs.Laws.{ReferencesHaveAnOutcomeBy, ValuesHaveAnOutcomeBy};
+ghost use Rattle.totality.specs.Laws.{ReferencesHaveAnOutcomeBy, ValuesHaveAnOutcomeBy, BehavioursAreLogged};
 ghost use Rattle.totality.specs.Laws.{LinesHaveAWholeOutcome, MessagesHaveAWholeOutcome, ActionsHaveAWholeOutcome};
 ghost use Rattle.totality.specs.Laws.{ReferencesHaveAWholeOutcome, ValuesHaveAWholeOutcome};
 
@@ -31,8 +31,14 @@ pub fn behaviours_have_an_outcome()
     messages_are_read_exactly();
 }
 
-/// Lines, a message, an action, the reference of a dot line or the value of an expression have an end that the rules allow
-/// and that isn't out of memory, while a batch is open; but for a text that is typed into a locked field.
+/// Where a behaviour is followed, the log of each external of a free kind is the one before with turns more, each of
+/// which is that of the behaviour by the log and the cells before it.
+pub fn behaviours_are_logged()
+    ensures { BehavioursAreLogged }
+{}
+
+/// Lines, a message, an action, the reference of a dot line or the value of an expression have an end that the rules
+/// allow and that isn't out of memory, while a batch is open; but for a text that is typed into a locked field.
 pub fn runs_have_an_outcome()
     ensures lines { LinesHaveAnOutcome }
     ensures messages { MessagesHaveAnOutcome }
@@ -43,8 +49,8 @@ pub fn runs_have_an_outcome()
     behaviours_have_an_outcome();
 }
 
-/// Where each state of the history is whole, no external is free, and what runs has texts, each of these has such an end after
-/// which each state is whole.
+/// Where each state of the history is whole, no external is free, and what runs has texts, each of these has such an end
+/// after which each state is whole.
 pub fn runs_have_a_whole_outcome()
     ensures lines { LinesHaveAWholeOutcome }
     ensures messages { MessagesHaveAWholeOutcome }

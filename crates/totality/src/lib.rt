@@ -1,7 +1,10 @@
-//! Totality: each run of HyperTalk has an outcome, whatever its lines, handlers and externals. These are laws over the rules,
-//! each the contract of a function that does nothing.
+//! Totality: each run of HyperTalk has an outcome, whatever its lines, handlers and externals. These are laws over the
+//! rules, each the contract of a function that does nothing.
 #![tactic(auto)]
 
 mod law;
 
-pub use law::{behaviours_have_an_outcome, runs_have_a_whole_outcome, runs_have_an_outcome};
+pub use law::{
+    behaviours_are_logged, behaviours_have_an_outcome, runs_have_a_whole_outcome,
+    runs_have_an_outcome,
+};
