@@ -3,19 +3,24 @@
 ghost use Rattle.std.specs.Prelude.{◌≡◌, IfOk};
 ghost use Rattle.ht_values.specs.Text.{folded, same};
 
-use ht_values::{Name, Text};
+use ht_values::Name;
+use smallvec::SmallVec;
 use std::alloc::{AllocError, Global};
 use std::marker::Model;
 
-/// The folded form of a name, which contracts see as its bytes. So a name is known by a plain comparison.
+/// The longest name that takes no memory of its own, in bytes.
+const MOST_INLINE: usize = 16;
+
+/// The folded form of a name, which contracts see as its bytes. So a name is known by a plain comparison. A short one takes no
+/// memory.
 pub(crate) struct FoldedName {
-    text: Text,
+    bytes: SmallVec<u8, MOST_INLINE>,
 }
 
 /// Written here and not derived, so that it is proved once how it is dropped.
 impl Drop for FoldedName {
     fn drop(self) {
-        let FoldedName { text: _ } = self;
+        let FoldedName { bytes: _ } = self;
     }
 }
 
@@ -25,9 +30,9 @@ impl Model for FoldedName {
 
     ghost Value = { List ℕ };
 
-    ghost view = { λ n. n.text };
+    ghost view = { λ n. n.bytes.items };
 
-    ghost invariant = { λ n. is_folded n.text ≡ true };
+    ghost invariant = { λ n. is_folded n.bytes.items ≡ true };
 }
 
 impl FoldedName {
@@ -37,7 +42,7 @@ impl FoldedName {
         ensures { IfOk result (λ n. n ≡ folded name.now) }
     {
         Ok(FoldedName {
-            text: name.folded().try_clone(alloc)?,
+            bytes: SmallVec::from_slice(alloc, name.folded().as_slice())?,
         })
     }
 
@@ -47,6 +52,6 @@ impl FoldedName {
     pub(crate) fn is_of(&self, name: &Name) -> bool
         ensures { result ≡ same self.now name.now }
     {
-        self.text.as_slice() == name.folded().as_slice()
+        self.bytes.as_slice() == name.folded().as_slice()
     }
 }

@@ -18,4 +18,4 @@ pub use reading::{read, read_name, standing_in};
 pub use standing::Standing;
 pub use store::Store;
 pub use variables::Variables;
-pub use writing::{declare, edit_variable, put_number, write};
+pub use writing::{alter_number, declare, edit_variable, put_number, write};

@@ -16,6 +16,7 @@ use ht_values::{Failure, Fault, Name, Text, Value};
 use std::alloc::Global;
 
 /// What a name reads as an expression, lent: the value of its variable, or its spelling where that has none. It takes no memory.
+#[inline(always)]
 pub fn read_name<'a, W: Store>(
     world: &'a W,
     variables: &'a Variables,

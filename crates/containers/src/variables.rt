@@ -149,6 +149,7 @@ impl Variables {
     }
 
     /// What a name means, found by one look over the names.
+    #[inline(always)]
     pub(crate) fn meaning_of(&self, name: &Name) -> NameMeaning<'_>
         ensures { IsMeaning self.now name.now result }
     {

@@ -222,6 +222,26 @@ pub fn put_number(variables: &mut Variables, name: &Name, number: i64) -> bool
     variables.put_number(name, number)
 }
 
+/// Computes with a variable of the handler's own, as `edit_variable` does, where it and the operand are kept as numbers and the
+/// operator gives a number of them, and says whether it does; else nothing changes. It takes no memory.
+#[tactic(auto, using(crate::proofs::Rules::writes_rules))]
+#[inline]
+pub fn alter_number(variables: &mut Variables, name: &Name, op: Op, operand: &Value) -> bool
+    ensures altered { result ≡ true → (h : History) (d : ℕ)
+        → Writes h variables.old (named variables.old name.now)
+        (due h.now variables.old d (record { storage = named variables.old name.now; chunks = [] })
+        (Alter op operand.now)) h variables.new }
+    ensures not { result ≡ false → variables.new ≡ variables.old }
+{
+    match variables.compute(name, op, operand) {
+        Some(number) => {
+            law_of_value(&Value::of_number(number));
+            true
+        }
+        None => false,
+    }
+}
+
 /// Puts a value into a variable, whatever stands there.
 #[tactic(auto, using(crate::proofs::Rules::writes_rules))]
 fn put_variable<W: Store>(
