@@ -1,3 +1,4 @@
 pub mod Atoms
+pub mod Listed
 pub mod Operands
 pub mod Views

@@ -6,19 +6,41 @@ ghost use Rattle.meaning.specs.Messages.{only as only_of};
 use ht_values::Value;
 use std::alloc::{AllocError, Global};
 use std::marker::Model;
+use std::{mem, slice};
+
+/// For how many values there is room where there is a second one.
+const ROOM: usize = 4;
+
+/// Values in their order: a single one takes no memory.
+#[derive(Drop)]
+pub(crate) enum Listed {
+    One(Value),
+    All(Vec<Value>),
+}
 
 /// Values that are handed over with a message, in their order.
-#[derive(Drop)]
 pub struct Arguments {
-    items: Vec<Value>,
+    values: Listed,
+    alloc: Global,
+}
+
+/// Written here and not derived, so that no crate above proves anew how it is dropped.
+impl Drop for Arguments {
+    fn drop(self) {
+        let Arguments {
+            values: _,
+            alloc: _,
+        } = self;
+    }
 }
 
 impl Model for Arguments {
     ghost use Rattle.std.specs.Prelude.{List, ℕ};
+    ghost use Rattle.primitives.specs.Listed.{listed};
 
     ghost Value = { List (List ℕ) };
 
-    ghost view = { λ a. a.items.items };
+    ghost view = { λ a. listed a.values };
 }
 
 impl Arguments {
@@ -27,16 +49,21 @@ impl Arguments {
         ensures { result ≡ [] }
     {
         Arguments {
-            items: Vec::new(alloc),
+            values: Listed::All(Vec::new(alloc)),
+            alloc,
         }
     }
 
-    /// Adds another at their end.
+    /// Adds another at their end. The first takes no memory.
     #[inline(never)]
     pub fn push(&mut self, value: Value) -> Result<(), AllocError>
         ensures { OnOk result (self.new ≡ self.old ++ value ∷ []) }
     {
-        self.items.push(value)?;
+        match mem::replace(&mut self.values, Listed::All(Vec::new(self.alloc))) {
+            Listed::All(items) if items.is_empty() => self.values = Listed::One(value),
+            Listed::All(items) => self.values = Listed::All(with_last(items, value)?),
+            Listed::One(first) => self.values = Listed::All(both(self.alloc, first, value)?),
+        }
         Ok(())
     }
 
@@ -44,7 +71,7 @@ impl Arguments {
     pub fn with(mut self, value: Value) -> Result<Arguments, AllocError>
         ensures { IfOk result (λ a. a ≡ self ++ value ∷ []) }
     {
-        self.items.push(value)?;
+        self.push(value)?;
         Ok(self)
     }
 
@@ -52,14 +79,17 @@ impl Arguments {
     pub fn len(&self) -> usize
         ensures { result ≡ length self.now }
     {
-        self.items.len()
+        self.as_slice().len()
     }
 
     /// The arguments as a slice.
     pub fn as_slice(&self) -> &[Value]
         ensures { result.now ≡ self.now }
     {
-        &self.items
+        match &self.values {
+            Listed::One(value) => slice::from_ref(value),
+            Listed::All(items) => items,
+        }
     }
 
     /// The one argument, where there is just one.
@@ -71,4 +101,22 @@ impl Arguments {
             _ => None,
         }
     }
+}
+
+/// Values with another at their end.
+fn with_last(mut items: Vec<Value>, value: Value) -> Result<Vec<Value>, AllocError>
+    ensures { IfOk result (λ v. v.items ≡ items.items ++ value ∷ []) }
+{
+    items.push(value)?;
+    Ok(items)
+}
+
+/// Two values.
+fn both(alloc: Global, first: Value, second: Value) -> Result<Vec<Value>, AllocError>
+    ensures { IfOk result (λ v. v.items ≡ first ∷ second ∷ []) }
+{
+    let mut items = Vec::with_capacity(alloc, ROOM)?;
+    items.push(first)?;
+    items.push(second)?;
+    Ok(items)
 }

@@ -6,6 +6,7 @@ pub mod arguments;
 pub mod atoms;
 mod meant;
 pub mod messages;
+pub mod numbers;
 pub mod objects;
 pub mod operands;
 pub mod places;

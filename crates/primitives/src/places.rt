@@ -6,7 +6,7 @@ ghost use Rattle.ht_values.specs.declared.word.Where.TheVariants.{Into};
 ghost use Rattle.journal_entries.specs.Changes.{fits as fits_state};
 ghost use Rattle.object_references.specs.Settings.{setting as change_that_sets};
 ghost use Rattle.containers.specs.Base.{base};
-ghost use Rattle.containers.specs.declared.edit.Edit.TheVariants.{Put};
+ghost use Rattle.containers.specs.declared.edit.Edit.TheVariants.{Alter, Put};
 ghost use Rattle.containers.specs.Places.{read_name as read_name_of};
 ghost use Rattle.meaning.specs.Places.{Assigns, DeclaresAll, Edits, Sets, field_named_place as place_of_field_named};
 ghost use Rattle.meaning.specs.Places.{field_place as place_of_field, field_text as text_of_field, it_name};
@@ -26,12 +26,13 @@ use crate::values::short_text;
 use change_journal::{Change, World};
 use chunks::{Chunk, Index};
 use containers::{
-    Container, Edit, Place, Standing, declare, put_number, read, read_name, resolve, write,
+    Container, Edit, Place, Standing, alter_number, declare, put_number, read, read_name, resolve,
+    write,
 };
 use externals::{External, Input, Texts};
 use ht_grammar::Layer;
 use ht_lex::{Ordinal, is_name};
-use ht_values::{ChunkKind, Failure, Fault, Name, Prop, Text, Value, Where};
+use ht_values::{ChunkKind, Failure, Fault, Name, Op, Prop, Text, Value, Where};
 use meaning::{Budget, Counter, Frame, How, Stop};
 use object_references::{Referent, field_named, set_change};
 use std::alloc::{AllocError, Global};
@@ -63,6 +64,7 @@ pub fn nth_piece(ordinal: Ordinal, kind: ChunkKind) -> Chunk
 }
 
 /// What a name reads.
+#[inline(always)]
 pub(crate) fn variable<E: External>(
     world: &World<E>,
     run: &Budget,
@@ -214,8 +216,40 @@ pub fn edit_variable<E: External>(
 {
     match edit {
         Edit::Put(Where::Into, value) => put_into(world, run, frame, name, value),
+        Edit::Alter(op, operand) => alter_variable(world, run, frame, name, op, operand),
         edit => edit_named(world, run, frame, name, edit),
     }
+}
+
+/// Computes with a variable, in the open batch. Two numbers of which one is the handler's own are computed with where it stands.
+#[tactic(auto, using(meaning::proofs::Rules::edits_rules))]
+pub(crate) fn alter_variable<E: External>(
+    world: &mut World<E>,
+    run: &Budget,
+    frame: &mut Frame,
+    name: &Name,
+    op: Op,
+    operand: Value,
+) -> Result<(), Stop>
+    requires open { IsSome (base world.old.history).start }
+    ensures meaning { Edits world.old.history frame.old run.now.delimiter
+        (place_of_variable frame.old.variables name.now) (Alter op operand) result world.new.history frame.new }
+    ensures base { base world.new.history ≡ base world.old.history }
+{
+    if alter_kept(frame, name, op, &operand) {
+        return Ok(());
+    }
+    edit_named(world, run, frame, name, Edit::Alter(op, operand))
+}
+
+/// Computes with a variable of the handler's own, where it and the operand are kept as numbers, and says whether they are.
+#[tactic(auto, using(meaning::proofs::Rules::edits_rules))]
+fn alter_kept(frame: &mut Frame, name: &Name, op: Op, operand: &Value) -> bool
+    ensures altered { result ≡ true → (w : History) (d : ℕ) → Edits w frame.old d
+        (place_of_variable frame.old.variables name.now) (Alter op operand.now) (Ok tt) w frame.new }
+    ensures not { result ≡ false → frame.new ≡ frame.old }
+{
+    alter_number(&mut frame.variables, name, op, operand)
 }
 
 /// Edits a variable by what stands there.

@@ -1,0 +1,8 @@
+-- The values of a list, a single one by itself.
+use Rattle.std.specs.Prelude.{ℕ, List, [], ◌∷◌}
+use Rattle.primitives.specs.declared.arguments.Listed.{Listed}
+use Rattle.primitives.specs.declared.arguments.Listed.TheVariants as variant
+
+abbrev pub listed : Listed → List (List ℕ)
+listed (variant.One value) = value ∷ []
+listed (variant.All values) = values.items

@@ -1,0 +1,96 @@
+//! What is computed at once of names and literals that are kept as numbers.
+
+ghost use Rattle.std.specs.Prelude.{◌≡◌, ℕ, IsSome, IfSome, IfNone, Ok};
+ghost use Rattle.ht_grammar.specs.Trees as tree;
+ghost use Rattle.ht_values.specs.Text.{numeral as numeral_of};
+ghost use Rattle.change_journal.specs.History.{History};
+ghost use Rattle.containers.specs.Base.{base};
+ghost use Rattle.meaning.specs.Meaning.{Alters, NumberVal, TruthVal, Val};
+ghost use Rattle.meaning.specs.State.{RunState};
+
+use crate::places::alter_variable;
+use change_journal::World;
+use externals::External;
+use ht_tree::{Container, ContainerKind, Expr, ExprKind};
+use ht_values::{Op, Value, number_by, truth_by};
+use meaning::{Budget, Frame, How, Stop};
+
+/// The number as which a name or a literal is kept; `None` where it isn't kept so, and for every other expression.
+#[tactic(auto, using(meaning::proofs::Rules::val_rules))]
+#[inline]
+fn kept_number(frame: &Frame, e: &Expr) -> Option<i64>
+    ensures { IfSome result (λ n. (w : History) (r : RunState) (d : ℕ) → Val w r frame.now d e.now (Ok (numeral_of n)) w r) }
+{
+    match e.kind() {
+        ExprKind::Name(name) => frame.variables.number(name),
+        ExprKind::Number(value) => value.kept_number(),
+        _ => None,
+    }
+}
+
+/// The number that an expression is, where it is kept as one. It takes no memory.
+#[tactic(auto, using(meaning::proofs::Rules::numberval_rules))]
+#[inline(never)]
+pub fn known_number(frame: &Frame, e: &Expr) -> Option<i64>
+    ensures { IfSome result (λ n. (w : History) (r : RunState) (d : ℕ) → NumberVal w r frame.now d e.now (Ok n) w r) }
+{
+    let number = Value::of_number(kept_number(frame, e)?);
+    number.number().ok()
+}
+
+/// What an operator gives of two operands that are kept as numbers, where that is a number or a truth value. It takes no memory.
+#[tactic(auto, using(meaning::proofs::Rules::val_binary_rules))]
+#[inline(never)]
+pub fn known_value(frame: &Frame, op: Op, left: &Expr, right: &Expr) -> Option<Value>
+    ensures { IfSome result (λ v. (w : History) (r : RunState) (d : ℕ)
+        → Val w r frame.now d (tree.binary op left.now right.now) (Ok v) w r) }
+{
+    let x = kept_number(frame, left)?;
+    let y = kept_number(frame, right)?;
+    match number_by(op, x, y) {
+        Some(number) => Some(Value::of_number(number)),
+        None => Some(Value::of_truth(truth_by(op, x, y)?)),
+    }
+}
+
+/// Whether two operands that are kept as numbers compare so, where a condition is that. It takes no memory.
+#[tactic(auto, using(meaning::proofs::Rules::val_binary_rules, meaning::proofs::Rules::truthval_rules))]
+#[inline(never)]
+pub fn known_truth(frame: &Frame, e: &Expr) -> Option<bool>
+    ensures { IfSome result (λ b. (w : History) (r : RunState) (d : ℕ) → TruthVal w r frame.now d e.now (Ok b) w r) }
+{
+    let ExprKind::Binary(op, left, right) = e.kind() else {
+        return None;
+    };
+    let x = kept_number(frame, left)?;
+    let y = kept_number(frame, right)?;
+    truth_by(*op, x, y)
+}
+
+/// Arithmetic on a variable by an operand that is kept as a number; `None` where the operand isn't kept so, or the container is
+/// no variable, and then nothing changes.
+#[tactic(auto, using(meaning::proofs::Rules::alters_rules, meaning::proofs::Rules::resolves_rules))]
+#[inline(never)]
+pub fn alter_by_number<E: External>(
+    world: &mut World<E>,
+    run: &Budget,
+    frame: &mut Frame,
+    op: Op,
+    value: &Expr,
+    container: &Container,
+) -> Option<Result<How, Stop>>
+    requires open { IsSome (base world.old.history).start }
+    ensures meaning { IfSome result (λ o. (d : ℕ) → Alters world.old.history run.now frame.old d op value.now container.now o
+        world.new.history run.now frame.new) }
+    ensures none { IfNone result ((world.new ≡ world.old) × (frame.new ≡ frame.old)) }
+    ensures base { base world.new.history ≡ base world.old.history }
+{
+    let ContainerKind::Variable(name) = container.kind() else {
+        return None;
+    };
+    let number = kept_number(frame, value)?;
+    match alter_variable(world, run, frame, name, op, Value::of_number(number)) {
+        Ok(()) => Some(Ok(How::Next)),
+        Err(stop) => Some(Err(stop)),
+    }
+}
