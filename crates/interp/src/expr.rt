@@ -27,6 +27,7 @@ use ht_values::{ChunkKind, Fault, Op, Prop, Text, UnOp, Value};
 use meaning::{Budget, Frame, MOST_NESTED, Stop, TextUse};
 use primitives::arguments::Arguments;
 use primitives::atoms::{atom, object_count};
+use primitives::numbers::{known_number, known_truth, known_value};
 use primitives::objects::property;
 use primitives::operands::{
     Operand, call_of_operand, call_of_value, operand_count, operand_into_text, operand_part,
@@ -188,7 +189,7 @@ pub(crate) fn property_of<E: External>(
     property(world, run, referent, name)
 }
 
-/// Two operands from left to right, and what the operator gives.
+/// Two operands from left to right, and what the operator gives. Two that are kept as numbers are computed with at once.
 #[cycle(run)]
 #[tactic(auto, using(meaning::proofs::Rules::val_binary_rules))]
 #[inline(never)]
@@ -209,6 +210,9 @@ pub(crate) fn binary<E: External>(
         world.new.history run.new }
     ensures keeps { Keeps world.old.history run.old world.new.history run.new }
 {
+    if let Some(value) = known_value(frame, op, left, right) {
+        return Ok(value);
+    }
     let x = eval(world, run, frame, nested, left)?;
     let y = eval(world, run, frame, nested, right)?;
     apply(run, op, &x, &y)
@@ -628,6 +632,9 @@ pub(crate) fn plain_number<E: External>(
     ensures meaning { NumberVal world.old.history run.old frame.now nested e.now result world.new.history run.new }
     ensures keeps { Keeps world.old.history run.old world.new.history run.new }
 {
+    if let Some(number) = known_number(frame, e) {
+        return Ok(number);
+    }
     let value = eval(world, run, frame, nested, e)?;
     number(run, &value)
 }
@@ -710,7 +717,7 @@ pub(crate) fn part_number<E: External>(
     number(run, &value)
 }
 
-/// A condition.
+/// A condition. Two numbers that are compared are looked at where they are kept.
 #[cycle(run)]
 #[tactic(auto, using(meaning::proofs::Rules::truthval_rules))]
 #[inline(never)]
@@ -727,6 +734,9 @@ pub(crate) fn truth_value<E: External>(
     ensures meaning { TruthVal world.old.history run.old frame.now nested e.now result world.new.history run.new }
     ensures keeps { Keeps world.old.history run.old world.new.history run.new }
 {
+    if let Some(truth) = known_truth(frame, e) {
+        return Ok(truth);
+    }
     let value = eval(world, run, frame, nested, e)?;
     truth(run, &value)
 }

@@ -24,6 +24,7 @@ use ht_grammar::{HandlerKind, RunProp};
 use ht_tree::{Chunk, Container, Destination, Expr, Exprs, Head, Ref, Stmt, StmtKind};
 use ht_values::{Fault, Op, Prop, Text, Where};
 use meaning::{Budget, Frame, How, MOST_NESTED, Stop, TextUse};
+use primitives::numbers::alter_by_number;
 use primitives::places::{declare_globals, edit, put_into_it, set_property};
 use primitives::values::{empty, leaving_text, lines, message, set_run_property, stopping};
 
@@ -370,7 +371,7 @@ pub(crate) fn set_run<E: External>(
     }
 }
 
-/// Arithmetic on a container.
+/// Arithmetic on a container. An operand that is kept as a number alters a variable at once.
 #[cycle(run)]
 #[tactic(auto, using(crate::proofs::Edits::alter_rules))]
 #[inline(never)]
@@ -391,6 +392,9 @@ pub(crate) fn alter<E: External>(
         world.new.history run.new frame.new }
     ensures keeps { Keeps world.old.history run.old world.new.history run.new }
 {
+    if let Some(done) = alter_by_number(world, run, frame, op, value, container) {
+        return done;
+    }
     let operand = eval(world, run, frame, nested, value)?;
     let change = Edit::Alter(op, operand);
     edit_container(world, run, frame, nested, container, change)?;
