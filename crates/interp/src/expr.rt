@@ -27,7 +27,7 @@ use ht_values::{ChunkKind, Fault, Op, Prop, Text, UnOp, Value};
 use meaning::{Budget, Frame, MOST_NESTED, Stop, TextUse};
 use primitives::arguments::Arguments;
 use primitives::atoms::{atom, object_count};
-use primitives::numbers::{known_number, known_truth, known_value};
+use primitives::numbers::{are_plain, binary_of_plain, known_number, known_truth};
 use primitives::objects::property;
 use primitives::operands::{
     Operand, call_of_operand, call_of_value, operand_count, operand_into_text, operand_part,
@@ -61,6 +61,9 @@ pub(crate) fn eval<E: External>(
         ExprKind::Call(name, list) => {
             let function = HandlerKind::Function;
             calls(world, run, frame, nested, frame.me, name, list, function)
+        }
+        ExprKind::Binary(op, left, right) if are_plain(left, right) => {
+            binary_of_plain(world, run, frame, nested, *op, left, right)
         }
         ExprKind::Binary(op, left, right) => binary(world, run, frame, nested, *op, left, right),
         ExprKind::Unary(op, operand) => unary(world, run, frame, nested, *op, operand),
@@ -189,7 +192,7 @@ pub(crate) fn property_of<E: External>(
     property(world, run, referent, name)
 }
 
-/// Two operands from left to right, and what the operator gives. Two that are kept as numbers are computed with at once.
+/// Two operands from left to right, and what the operator gives.
 #[cycle(run)]
 #[tactic(auto, using(meaning::proofs::Rules::val_binary_rules))]
 #[inline(never)]
@@ -210,9 +213,6 @@ pub(crate) fn binary<E: External>(
         world.new.history run.new }
     ensures keeps { Keeps world.old.history run.old world.new.history run.new }
 {
-    if let Some(value) = known_value(frame, op, left, right) {
-        return Ok(value);
-    }
     let x = eval(world, run, frame, nested, left)?;
     let y = eval(world, run, frame, nested, right)?;
     apply(run, op, &x, &y)

@@ -1,14 +1,17 @@
 //! What is computed at once of names and literals that are kept as numbers.
 
-ghost use Rattle.std.specs.Prelude.{◌≡◌, ℕ, IsSome, IfSome, IfNone, Ok};
+ghost use Rattle.std.specs.Prelude.{◌≡◌, ℕ, true, IsSome, IfSome, IfNone, Ok};
 ghost use Rattle.ht_grammar.specs.Trees as tree;
 ghost use Rattle.ht_values.specs.Text.{numeral as numeral_of};
 ghost use Rattle.change_journal.specs.History.{History};
 ghost use Rattle.containers.specs.Base.{base};
 ghost use Rattle.meaning.specs.Meaning.{Alters, NumberVal, TruthVal, Val};
 ghost use Rattle.meaning.specs.State.{RunState};
+ghost use Rattle.primitives.specs.Atoms.{is_atom};
 
+use crate::atoms::atom;
 use crate::places::alter_variable;
+use crate::values::apply;
 use change_journal::World;
 use externals::External;
 use ht_tree::{Container, ContainerKind, Expr, ExprKind};
@@ -40,8 +43,7 @@ pub fn known_number(frame: &Frame, e: &Expr) -> Option<i64>
 
 /// What an operator gives of two operands that are kept as numbers, where that is a number or a truth value. It takes no memory.
 #[tactic(auto, using(meaning::proofs::Rules::val_binary_rules))]
-#[inline(never)]
-pub fn known_value(frame: &Frame, op: Op, left: &Expr, right: &Expr) -> Option<Value>
+fn known_value(frame: &Frame, op: Op, left: &Expr, right: &Expr) -> Option<Value>
     ensures { IfSome result (λ v. (w : History) (r : RunState) (d : ℕ)
         → Val w r frame.now d (tree.binary op left.now right.now) (Ok v) w r) }
 {
@@ -65,6 +67,50 @@ pub fn known_truth(frame: &Frame, e: &Expr) -> Option<bool>
     let x = kept_number(frame, left)?;
     let y = kept_number(frame, right)?;
     truth_by(*op, x, y)
+}
+
+/// Whether both expressions are names or numbers, which ask for no other's value.
+pub fn are_plain(left: &Expr, right: &Expr) -> bool
+    ensures { result ≡ true → (is_atom left.now ≡ true) × (is_atom right.now ≡ true) }
+{
+    is_plain(left) && is_plain(right)
+}
+
+/// Whether an expression is a name or a number.
+#[inline]
+pub fn is_plain(e: &Expr) -> bool
+    ensures { result ≡ true → is_atom e.now ≡ true }
+{
+    match e.kind() {
+        ExprKind::Name(_) | ExprKind::Number(_) => true,
+        _ => false,
+    }
+}
+
+/// What an operator gives of two operands that ask for no other's value. Those that are kept as numbers are computed with at
+/// once.
+#[tactic(auto, using(meaning::proofs::Rules::val_binary_rules))]
+#[inline(never)]
+pub fn binary_of_plain<E: External>(
+    world: &World<E>,
+    run: &Budget,
+    frame: &Frame,
+    nested: u32,
+    op: Op,
+    left: &Expr,
+    right: &Expr,
+) -> Result<Value, Stop>
+    requires left { is_atom left.now ≡ true }
+    requires right { is_atom right.now ≡ true }
+    ensures { Val world.now.history run.now frame.now nested (tree.binary op left.now right.now) result
+        world.now.history run.now }
+{
+    if let Some(value) = known_value(frame, op, left, right) {
+        return Ok(value);
+    }
+    let x = atom(world, run, frame, left)?;
+    let y = atom(world, run, frame, right)?;
+    apply(run, op, &x, &y)
 }
 
 /// Arithmetic on a variable by an operand that is kept as a number; `None` where the operand isn't kept so, or the container is
