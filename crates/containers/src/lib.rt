@@ -3,6 +3,7 @@
 
 mod edit;
 mod folded_name;
+mod indexed_locals;
 mod law;
 mod place;
 mod reading;

@@ -1,8 +1,8 @@
 //! The variables of a handler that runs, or of a typed line.
 
 ghost use Rattle.std.specs.Prelude.{◌≡◌, ◌<◌, ◌++◌, ℕ, Ok, List, [], true, false, length, Err, IfErr, IfOk, OnOk};
-ghost use Rattle.std.specs.Prelude.{OnErr, IfNone, IfSome, Option, option_copied, find, position, slice_index_or};
-ghost use Rattle.std.specs.Prelude.{slice_set, unwrap_or, is_none, Some, None};
+ghost use Rattle.std.specs.Prelude.{OnErr, IfNone, IfSome, Option, option_copied, find, slice_index_or};
+ghost use Rattle.std.specs.Prelude.{unwrap_or, is_none, Some, None};
 ghost use Rattle.ht_values.specs.Outcome.{Gives, within_limit};
 ghost use Rattle.ht_values.specs.declared.word.Where.TheVariants.{After};
 ghost use Rattle.containers.specs.declared.edit.Edit.TheVariants.{Put};
@@ -17,6 +17,7 @@ ghost use Rattle.containers.specs.Standing.{IsMeaning};
 
 use crate::edit::Edit;
 use crate::folded_name::FoldedName;
+use crate::indexed_locals::Locals;
 use crate::standing::Standing;
 use chunks::Chunk;
 use ht_values::{Failure, Name, Op, Text, Value, Where, law_of_value, number_by};
@@ -32,10 +33,11 @@ pub(crate) struct Local {
 
 impl Local {
     /// Puts a number in the place of the value, if there is one, and says whether there is.
-    fn put_number(&mut self, number: i64) -> bool
+    pub(crate) fn put_number(&mut self, number: i64) -> bool
         ensures put { result ≡ true → (is_none self.old.value ≡ false)
             × (self.new ≡ record self.old { value = Some (numeral_of number) }) }
         ensures not { result ≡ false → self.new ≡ self.old }
+        ensures name { self.new.name ≡ self.old.name }
     {
         match &mut self.value {
             Some(value) => {
@@ -48,11 +50,12 @@ impl Local {
 
     /// Computes with the number as which the value is kept, if it and the operand are kept so, in its place. Says which number
     /// stands there then; else nothing changes.
-    fn compute(&mut self, op: Op, operand: &Value) -> Option<i64>
+    pub(crate) fn compute(&mut self, op: Op, operand: &Value) -> Option<i64>
         ensures number { IfSome result (λ n. (is_none self.old.value ≡ false)
             × (binary_of op (unwrap_or self.old.value []) operand.now ≡ Ok (numeral_of n))
             × (self.new ≡ record self.old { value = Some (numeral_of n) })) }
         ensures none { IfNone result (self.new ≡ self.old) }
+        ensures name { self.new.name ≡ self.old.name }
     {
         let number = self.computed(op, operand)?;
         self.value = Some(Value::of_number(number));
@@ -69,11 +72,12 @@ impl Local {
     }
 
     /// Adds a value at the end of the one that the name has, which is empty where it has none.
-    fn append(&mut self, alloc: Global, new: Value) -> Result<(), Failure>
+    pub(crate) fn append(&mut self, alloc: Global, new: Value) -> Result<(), Failure>
         ensures ok { OnOk result ((t : List ℕ) × (within_limit (unwrap_or self.old.value [] ++ new) ≡ Ok t)
             × (self.new ≡ record self.old { value = Some t })) }
         ensures fault { IfErr result (λ e. Gives {A = List ℕ} (Err e) (within_limit (unwrap_or self.old.value [] ++ new))) }
         ensures err { OnErr result (self.new ≡ self.old) }
+        ensures name { self.new.name ≡ self.old.name }
     {
         if let Some(value) = &mut self.value {
             return value.append(alloc, &new);
@@ -97,7 +101,7 @@ pub(crate) enum NameMeaning<'a> {
 #[derive(Drop)]
 pub struct Variables {
     all_global: bool,
-    locals: Vec<Local>,
+    locals: Locals,
 }
 
 impl Model for Variables {
@@ -105,7 +109,7 @@ impl Model for Variables {
 
     ghost Value = { VariablesView };
 
-    ghost view = { λ v. record { all_global = v.all_global; locals = v.locals.items } };
+    ghost view = { λ v. record { all_global = v.all_global; locals = v.locals } };
 }
 
 impl Variables {
@@ -115,7 +119,7 @@ impl Variables {
     {
         Variables {
             all_global: false,
-            locals: Vec::new(alloc),
+            locals: Locals::new(alloc),
         }
     }
 
@@ -125,7 +129,7 @@ impl Variables {
     {
         Variables {
             all_global: true,
-            locals: Vec::new(alloc),
+            locals: Locals::new(alloc),
         }
     }
 
@@ -134,7 +138,7 @@ impl Variables {
     fn local(&self, name: &Name) -> Option<&Local>
         ensures { option_copied result ≡ local_of self.now name.now }
     {
-        self.locals.iter().find(|local| local.name.is_of(name))
+        self.locals.find(name)
     }
 
     /// Whether a name means a global.
@@ -183,11 +187,10 @@ impl Variables {
         ensures ok { OnOk result (self.new ≡ with_local self.old name.now value) }
         ensures err { OnErr result (self.new ≡ self.old) }
     {
-        match number_of(&self.locals, name) {
-            Some(i) => set_value(&mut self.locals, i, value),
+        match self.locals.number_of(name) {
+            Some(i) => self.locals.set_value(i, value),
             None => {
-                let name = FoldedName::of(alloc, name)?;
-                self.locals.push(Local { name, value })?;
+                self.locals.push(alloc, name, value)?;
             }
         }
         Ok(())
@@ -216,8 +219,8 @@ impl Variables {
         if self.all_global {
             return false;
         }
-        match number_of(&self.locals, name) {
-            Some(i) => put_number_at(&mut self.locals, i, number),
+        match self.locals.number_of(name) {
+            Some(i) => self.locals.put_number_at(i, number),
             None => false,
         }
     }
@@ -233,8 +236,8 @@ impl Variables {
         if self.all_global {
             return None;
         }
-        match number_of(&self.locals, name) {
-            Some(i) => compute_at(&mut self.locals, i, op, operand),
+        match self.locals.number_of(name) {
+            Some(i) => self.locals.compute_at(i, op, operand),
             None => None,
         }
     }
@@ -256,10 +259,10 @@ impl Variables {
         if self.all_global {
             return Ok(Some(value));
         }
-        match number_of(&self.locals, name) {
-            Some(i) if self.locals[i].value.is_none() => Ok(Some(value)),
+        match self.locals.number_of(name) {
+            Some(i) if self.locals.as_slice()[i].value.is_none() => Ok(Some(value)),
             Some(i) => {
-                set_value(&mut self.locals, i, Some(value));
+                self.locals.set_value(i, Some(value));
                 Ok(None)
             }
             None => {
@@ -285,10 +288,17 @@ impl Variables {
             (edited delimiter chunks.now edit (own_text self.old name.now))) }
         ensures err { OnErr result (self.new ≡ self.old) }
     {
-        match number_of(&self.locals, name) {
+        match self.locals.number_of(name) {
             Some(i) => {
-                if let Some(value) = edited_at(alloc, &self.locals, i, edit, chunks, delimiter)? {
-                    set_value(&mut self.locals, i, Some(value));
+                if let Some(value) = edited_at(
+                    alloc,
+                    self.locals.as_slice(),
+                    i,
+                    edit,
+                    chunks,
+                    delimiter,
+                )? {
+                    self.locals.set_value(i, Some(value));
                 }
                 Ok(())
             }
@@ -313,8 +323,8 @@ impl Variables {
             (λ e. Gives {A = Option (List ℕ)} (Err e) (edited d [] (Put After new) (own_text self.old name.now))) }
         ensures err { OnErr result (self.new ≡ self.old) }
     {
-        match number_of(&self.locals, name) {
-            Some(i) => append_at(alloc, &mut self.locals, i, new),
+        match self.locals.number_of(name) {
+            Some(i) => self.locals.append_at(alloc, i, new),
             None => {
                 law_of_value(&new);
                 Ok(self.set(alloc, name, Some(new))?)
@@ -352,66 +362,6 @@ impl Variables {
         }
         self.set(alloc, name, None)
     }
-}
-
-/// The place in the order of the name that is the same.
-fn number_of(locals: &[Local], name: &Name) -> Option<usize>
-    ensures value { result ≡ position (λ l. same l.name name.now) locals.now }
-    ensures within { IfSome result (λ i. i < length locals.now) }
-{
-    locals.iter().position(|local| local.name.is_of(name))
-}
-
-fn set_value(locals: &mut Vec<Local>, i: usize, value: Option<Value>)
-    requires { i < length locals.old.items }
-    ensures { (other : Local) → locals.new.items
-        ≡ slice_set locals.old.items i (record (slice_index_or locals.old.items i other) { value = value }) }
-{
-    let local = &mut locals[i];
-    local.value = value;
-}
-
-/// Adds a value at the end of the one at a place; one that isn't there is empty.
-fn append_at(alloc: Global, locals: &mut Vec<Local>, i: usize, new: Value) -> Result<(), Failure>
-    requires { i < length locals.old.items }
-    ensures ok { OnOk result ((other : Local) → (t : List ℕ)
-        × (within_limit (unwrap_or (slice_index_or locals.old.items i other).value [] ++ new) ≡ Ok t)
-        × (locals.new.items ≡ slice_set locals.old.items i
-        (record (slice_index_or locals.old.items i other) { value = Some t }))) }
-    ensures fault { (other : Local)
-        → IfErr result (λ e. Gives {A = List ℕ} (Err e)
-        (within_limit (unwrap_or (slice_index_or locals.old.items i other).value [] ++ new))) }
-    ensures err { OnErr result (locals.new.items ≡ locals.old.items) }
-{
-    let local = &mut locals[i];
-    local.append(alloc, new)
-}
-
-/// Puts a number in the place of the value at a place, if there is one, and says whether there is.
-fn put_number_at(locals: &mut Vec<Local>, i: usize, number: i64) -> bool
-    requires { i < length locals.old.items }
-    ensures put { result ≡ true → (other : Local)
-        → (is_none (slice_index_or locals.old.items i other).value ≡ false)
-        × (locals.new.items ≡ slice_set locals.old.items i
-        (record (slice_index_or locals.old.items i other) { value = Some (numeral_of number) })) }
-    ensures not { result ≡ false → locals.new.items ≡ locals.old.items }
-{
-    let local = &mut locals[i];
-    local.put_number(number)
-}
-
-/// Computes with the number at a place, if it and the operand are kept so. Says which number stands there then.
-fn compute_at(locals: &mut Vec<Local>, i: usize, op: Op, operand: &Value) -> Option<i64>
-    requires { i < length locals.old.items }
-    ensures number { IfSome result (λ n. (other : Local)
-        → (is_none (slice_index_or locals.old.items i other).value ≡ false)
-        × (binary_of op (unwrap_or (slice_index_or locals.old.items i other).value []) operand.now ≡ Ok (numeral_of n))
-        × (locals.new.items ≡ slice_set locals.old.items i
-        (record (slice_index_or locals.old.items i other) { value = Some (numeral_of n) }))) }
-    ensures none { IfNone result (locals.new.items ≡ locals.old.items) }
-{
-    let local = &mut locals[i];
-    local.compute(op, operand)
 }
 
 /// What an edit makes of the value at a place; of one that isn't there, as of an empty one.

@@ -1,8 +1,7 @@
 use Rattle.std.proofs.Common.{◌≡◌, ℕ, List, [], ◌++◌, Some, None, Option, Ok, Err, Result, refl, ap, sym, ◌∙◌, get_or}
-use Rattle.std.proofs.Common.{unwrap_or, position, rules}
+use Rattle.std.proofs.Common.{unwrap_or, rules}
 use Rattle.std.proofs.lemmas.Result.{on_ok_weaker, IfErr-weaker}
 use Rattle.ht_values.specs.Outcome.{Gives, and_then, within_limit}
-use Rattle.ht_values.specs.Text.{same}
 use Rattle.ht_values.specs.declared.failure.Failure.{Failure}
 use Rattle.ht_values.specs.declared.failure.Failure.TheVariants as failure
 use Rattle.ht_values.specs.declared.fault.Fault.{Fault}
@@ -25,9 +24,8 @@ fault_is_written failure.Memory r h = h
 
 pub returns-in-Some-clause-ok : goal.returns-in-Some-clause-ok
 returns-in-Some-clause-ok c =
-    let ls = c.self.inside.locals.items in
-    let found = sym (ap (λ xs. position (λ l. same l.name c.args.name.now) xs) c.deref.ensures.value)
-    ∙ sym c.number_of.ensures.value ∙ c.in-Some.is in
+    let ls = c.self.inside.locals in
+    let found = sym c.number_of.ensures.value ∙ c.in-Some.is in
     let text : own_text c.args.self.now c.args.name.now ≡ unwrap_or (get_or ls c.in-Some.i nobody).value [] =
     ap (λ v. own_text v c.args.name.now) (sym c.self.view_is)
     ∙ text_found c.self.inside.all_global c.args.name.now ls c.in-Some.i nobody found in
@@ -40,9 +38,8 @@ returns-in-Some-clause-ok c =
 
 pub returns-in-Some-clause-fault : goal.returns-in-Some-clause-fault
 returns-in-Some-clause-fault c d =
-    let ls = c.self.inside.locals.items in
-    let found = sym (ap (λ xs. position (λ l. same l.name c.args.name.now) xs) c.deref.ensures.value)
-    ∙ sym c.number_of.ensures.value ∙ c.in-Some.is in
+    let ls = c.self.inside.locals in
+    let found = sym c.number_of.ensures.value ∙ c.in-Some.is in
     let text : own_text c.args.self.now c.args.name.now ≡ unwrap_or (get_or ls c.in-Some.i nobody).value [] =
     ap (λ v. own_text v c.args.name.now) (sym c.self.view_is)
     ∙ text_found c.self.inside.all_global c.args.name.now ls c.in-Some.i nobody found in
@@ -50,9 +47,8 @@ returns-in-Some-clause-fault c d =
 
 pub returns-in_ok-set-in-None-clause-ok : goal.returns-in_ok-set-in-None-clause-ok
 returns-in_ok-set-in-None-clause-ok c h d =
-    let ls = c.self.inside.locals.items in
-    let missing = sym (ap (λ xs. position (λ l. same l.name c.args.name.now) xs) c.deref.ensures.value)
-    ∙ sym c.number_of.ensures.value ∙ c.in-None.is in
+    let ls = c.self.inside.locals in
+    let missing = sym c.number_of.ensures.value ∙ c.in-None.is in
     let text : own_text c.args.self.now c.args.name.now ≡ [] = ap (λ v. own_text v c.args.name.now) (sym c.self.view_is)
     ∙ text_missing c.self.inside.all_global c.args.name.now ls missing in
     let fits : within_limit c.args.new ≡ Ok c.args.new = search rules in

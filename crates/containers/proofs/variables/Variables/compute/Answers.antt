@@ -1,7 +1,7 @@
-use Rattle.std.proofs.Common.{◌≡◌, [], ◌||◌, Some, None, ap, sym, ◌∙◌, get_or, unwrap_or, position}
+use Rattle.std.proofs.Common.{◌≡◌, [], ◌||◌, Some, None, ap, sym, ◌∙◌, get_or, unwrap_or}
 use Rattle.std.proofs.lemmas.Option.{IfSome_then}
 use Rattle.ht_values.specs.Operators.{binary}
-use Rattle.ht_values.specs.Text.{numeral, same}
+use Rattle.ht_values.specs.Text.{numeral}
 use Rattle.containers.specs.declared.variables.Local.{Local}
 use Rattle.containers.specs.Variables.{is_global, own_text, with_local}
 use Rattle.containers.proofs.Locals.{global_found, text_found, value_set}
@@ -12,10 +12,9 @@ nobody = record { name = []; value = None }
 
 pub returns-in-Some-clause-number : goal.returns-in-Some-clause-number
 returns-in-Some-clause-number c =
-    let ls = c.self.inside.locals.items in
+    let ls = c.self.inside.locals in
     let name = c.args.name.now in
-    let found = sym (ap (λ xs. position (λ l. same l.name name) xs) c.deref.ensures.value)
-    ∙ sym c.number_of.ensures.value ∙ c.in-Some.is in
+    let found = sym c.number_of.ensures.value ∙ c.in-Some.is in
     let global = ap (λ v. is_global v name) (sym c.self.view_is)
     ∙ global_found c.self.inside.all_global name ls c.in-Some.i nobody found in
     let text : own_text c.args.self.now name ≡ unwrap_or (get_or ls c.in-Some.i nobody).value [] =
