@@ -22,6 +22,7 @@ pub mod Laws
 pub mod Layers
 pub mod Listable
 pub mod Rows
+pub mod Runs
 pub mod Sorts
 pub mod Stacks
 pub mod Texts

@@ -51,7 +51,7 @@ digit-above h lt = leb-true 48 (hex_digit h) (agree_below_at (λ d. leb 48 (hex_
 
 -- ---- bytes
 
-spelled-plain : (b : ℕ) → is_plain b ≡ true → spelled_byte b ≡ b ∷ []
+pub spelled-plain : (b : ℕ) → is_plain b ≡ true → spelled_byte b ≡ b ∷ []
 spelled-plain b e = rw e refl
 
 spelled-escaped : (b : ℕ) → is_plain b ≡ false → spelled_byte b ≡ 92 ∷ hex_digit (b / 16) ∷ hex_digit (b % 16) ∷ []
@@ -129,7 +129,7 @@ char-found (x ∷ c ∷ d ∷ after) b rest e = by (is_plain x) (eqb x 92) refl 
     by false true t is h = escaped_char x c d after b rest is h
     by false false t is h = absurd cc
 
-plain_char : (b : ℕ) (rest : List ℕ) → is_plain b ≡ true → char_at (b ∷ rest) ≡ Some (b, rest)
+pub plain_char : (b : ℕ) (rest : List ℕ) → is_plain b ≡ true → char_at (b ∷ rest) ≡ Some (b, rest)
 plain_char b [] e = rw e refl
 plain_char b (c ∷ []) e = rw e refl
 plain_char b (c ∷ d ∷ rest) e = rw e refl
