@@ -1,5 +1,6 @@
 pub mod Adding
 pub mod Built
+pub mod Found
 pub mod PieceTexts
 pub mod Pieced
 pub mod Places

@@ -2,5 +2,4 @@ pub mod Pieces
 pub mod Owners
 pub mod Views
 pub mod Lines
-pub mod Written
 pub mod Building

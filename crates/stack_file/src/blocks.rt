@@ -18,6 +18,7 @@ fn pieces(lines: &mut Lines, alloc: Global, count: u32) -> Result<Vec<u8>, ReadE
     let mut text = Vec::new(alloc);
     for _ in 0..count {
         let piece = lines.piece(alloc, count == 1, ROOM - text.len())?;
+        text.reserve(piece.len() + 1)?;
         text.extend_from_slice(&piece)?;
         text.push(b'\r')?;
     }

@@ -8,8 +8,10 @@ ghost use Rattle.stack_text.specs.Reading.{is_piece as is_piece_in, around_space
 ghost use Rattle.stack_text.specs.Reading.{part_header, version_at};
 ghost use Rattle.stack_text.specs.Words.{number_at as number_of};
 ghost use Rattle.stack_text.specs.declared.fault.ReadError.TheVariants.{Memory};
+ghost use Rattle.stack_file.specs.Pieces.{around as around_byte};
 
-use ht_values::{PartKind, Text, TextError};
+use ht_values::{PartKind, Text};
+use memchr::memchr;
 use stack_text::{ReadError, Version, number_at, unspell};
 use std::alloc::Global;
 
@@ -17,17 +19,18 @@ use std::alloc::Global;
 const MOST_PIECES: u32 = 30_001;
 
 /// Where a byte comes first.
+#[tactic(auto, using(crate::proofs::Found::first_place))]
 pub(crate) fn place_of(bytes: &[u8], byte: u8) -> Option<usize>
     ensures value { result ≡ position (λ b. b == byte) bytes.now }
     ensures within { IfSome result (λ i. i < length bytes.now) }
 {
-    bytes.iter().position(|b| *b == byte)
+    memchr(byte, bytes)
 }
 
 fn has_return(bytes: &[u8]) -> bool
     ensures { result ≡ list_any (λ b. b == 13) bytes.now }
 {
-    bytes.contains(&b'\r')
+    place_of(bytes, b'\r').is_some()
 }
 
 fn rest_after<'a>(line: &'a [u8], prefix: &[u8]) -> Option<&'a [u8]>
@@ -91,11 +94,7 @@ fn text_of(alloc: Global, spelling: &[u8]) -> Result<Option<Text>, ReadError>
 {
     match unspell(alloc, spelling)? {
         None => Ok(None),
-        Some(bytes) => match Text::from_slice(alloc, &bytes) {
-            Ok(text) => Ok(Some(text)),
-            Err(TextError::TooLong) => Ok(None),
-            Err(TextError::Memory) => Err(ReadError::Memory),
-        },
+        Some(bytes) => Ok(Text::from_vec(bytes).ok()),
     }
 }
 
@@ -150,11 +149,18 @@ pub(crate) fn piece_in(
     }
 }
 
+/// What stands before a byte where it comes first, and what stands after it.
+pub(crate) fn around(bytes: &[u8], byte: u8) -> Option<(&[u8], &[u8])>
+    ensures { option_map (λ x. (x.0.now, x.1.now)) result ≡ around_byte byte bytes.now }
+{
+    let place = place_of(bytes, byte)?;
+    Some((&bytes[..place], &bytes[place + 1..]))
+}
+
 fn words_of(line: &[u8]) -> Option<(&[u8], &[u8])>
     ensures { option_map (λ x. (x.0.now, x.1.now)) result ≡ around_space line.now }
 {
-    let space = place_of(line, b' ')?;
-    Some((&line[..space], &line[space + 1..]))
+    around(line, b' ')
 }
 
 /// Two values, where both are there.

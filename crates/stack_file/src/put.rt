@@ -1,12 +1,13 @@
 //! Lines of a text, written at its end.
 
 ghost use Rattle.std.specs.Prelude.{◌≡◌, ◌≤◌, ◌==◌, ◌∷◌, ◌++◌, [], codes, count_by, decimal, length, map, OnOk};
+ghost use Rattle.std.specs.List.{slice_split};
 ghost use Rattle.ht_values.specs.Delimited.{delimited};
 ghost use Rattle.stack_text.specs.Spelling.{name_line as name_spelled, layer_lines, cant_delete_of as cant_delete_in};
 ghost use Rattle.stack_text.specs.Words.{numbered, flagged, barred, spelled_flag, block as block_lines};
 ghost use Rattle.stack_file.specs.Lines.{with_lines};
-ghost use Rattle.stack_file.specs.Written.{in_piece};
 
+use crate::forms::around;
 use itoa::Buffer;
 use object_table::{Id, Kind, Object};
 use stack_text::spell_into;
@@ -103,7 +104,13 @@ fn returns_in(text: &[u8]) -> usize
     ensures value { result ≡ count_by (λ b. b == 13) text.now }
     ensures few { result ≤ length text.now }
 {
-    text.iter().filter(|b| **b == b'\r').count()
+    let mut returns = 0;
+    for byte in text {
+        if *byte == b'\r' {
+            returns += 1;
+        }
+    }
+    returns
 }
 
 /// How many pieces a text has.
@@ -118,29 +125,41 @@ fn piece_count(text: &[u8]) -> usize
     }
 }
 
-fn put_in_piece(out: &mut Vec<u8>, byte: u8) -> Result<(), AllocError>
-    ensures { OnOk result (out.new.items ≡ out.old.items ++ in_piece byte) }
+/// A piece of a text, on a line of its own.
+fn put_piece(out: &mut Vec<u8>, piece: &[u8]) -> Result<(), AllocError>
+    ensures { OnOk result (out.new.items ≡ with_lines out.old.items (barred piece.now ∷ [])) }
 {
-    if byte == b'\r' {
-        put(out, b"\n|")
-    } else {
-        spell_into(out, &[byte])
+    put(out, b"|")?;
+    spell_into(out, piece)?;
+    put(out, b"\n")
+}
+
+/// A line for each piece of a text that isn't empty.
+fn put_each_piece(out: &mut Vec<u8>, text: &[u8]) -> Result<(), AllocError>
+    ensures { OnOk result (out.new.items
+        ≡ with_lines out.old.items (map barred (slice_split (λ b. b == 13) text.now))) }
+{
+    let mut rest = text;
+    for _ in 0..text.len() {
+        let Some((piece, after)) = around(rest, b'\r') else {
+            break;
+        };
+        put_piece(out, piece)?;
+        rest = after;
     }
+    put_piece(out, rest)
 }
 
 /// A line for each piece of a text.
-#[tactic(auto, using(crate::proofs::Pieced::no_pieces))]
+#[tactic(auto, using(crate::proofs::Pieced::no_pieces, crate::proofs::Pieced::some_pieces))]
 fn put_pieces(out: &mut Vec<u8>, text: &[u8]) -> Result<(), AllocError>
     ensures { OnOk result (out.new.items ≡ with_lines out.old.items (map barred (delimited 13 text.now))) }
 {
     if text.is_empty() {
-        return Ok(());
+        Ok(())
+    } else {
+        put_each_piece(out, text)
     }
-    put(out, b"|")?;
-    for byte in text {
-        put_in_piece(out, *byte)?;
-    }
-    put(out, b"\n")
 }
 
 /// A key with the number of a text's pieces, and the pieces.
