@@ -167,8 +167,8 @@ fn unspell_runs(out: &mut Vec<u8>, bytes: &[u8]) -> Result<bool, AllocError>
     Ok(true)
 }
 
-/// Writes at the end the text that the bytes spell, and says whether they spell one. They spell none where a byte stands
-/// for itself that may not, or one is escaped that stands for itself; then what was written at the end is of no account.
+/// Writes at the end the text that the bytes spell, and says whether they spell one. They spell none where a byte
+/// stands for itself that may not, or one is escaped that stands for itself. Then what was written is of no account.
 #[tactic(auto, using(crate::proofs::Runs::plain_unspelled))]
 pub fn unspell_into(out: &mut Vec<u8>, bytes: &[u8]) -> Result<bool, AllocError>
     ensures { IfOk result (λ known. option_map (λ t. out.old.items ++ t) (unspelled bytes.now)

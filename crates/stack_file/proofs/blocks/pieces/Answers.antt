@@ -33,7 +33,8 @@ loop-preserved c =
     ≡ Ok (piece, c.piece.new.self)) room c.in_ok-piece.ensures.value in
     let more : c.push.new.self.items ≡ (text ++ piece) ++ 13 ∷ [] = c.in_ok-push.ensures.items
     ∙ ap (λ (t : List ℕ). t ++ 13 ∷ [])
-    (c.in_ok-extend_from_slice.ensures.items ∙ ap (λ (t : List ℕ). t ++ c.deref.result.now) c.in_ok-reserve.ensures.items
+    (c.in_ok-extend_from_slice.ensures.items
+    ∙ ap (λ (t : List ℕ). t ++ c.deref.result.now) c.in_ok-reserve.ensures.items
     ∙ ap (λ (p : List ℕ). text ++ p) c.deref.ensures.value) in
     let size : length c.push.new.self.items ≡ length text + length piece + 1 =
     ap length more ∙ omega (arith, length-append (text ++ piece) (13 ∷ []), length-append text piece) in
