@@ -1,5 +1,6 @@
 -- The code's table of symbols is the definition's, and each symbol has a byte.
-use Rattle.std.proofs.Common.{◌≡◌, ℕ, ◌≤◌, List, [], ◌∷◌, Bool, true, false, length, map, cond, refl, ap, arith, rules}
+use Rattle.std.proofs.Common.{◌≡◌, ℕ, ◌≤◌, List, [], ◌∷◌, Bool, true, false, length, map, cond, eqb, refl, ap, ◌∙◌}
+use Rattle.std.proofs.Common.{arith, rules, Option, Some, None, slice_index}
 use Rattle.std.proofs.Common.{drop, length-append}
 use Rattle.std.specs.List.{AllByRecursion}
 use Rattle.std.proofs.lemmas.Slice.Eq.{starts_is}
@@ -11,7 +12,9 @@ use Rattle.ht_lex.specs.declared.key.TokenKind.TheVariants as kind
 use Rattle.ht_lex.specs.declared.lexeme.Lexeme.TheVariants.{Token}
 use Rattle.ht_lex.specs.declared.lexeme.TheConstants.{SYMBOLS}
 use Rattle.ht_lex.specs.Words.{symbols}
-use Rattle.ht_lex.specs.Lexemes.{symbol_among, symbol_lexeme, FitsIn}
+use Rattle.ht_lex.specs.Lexemes.{symbol_among, symbol_lexeme, lone_symbol, FitsIn}
+use Rattle.ht_lex.specs.declared.key.Key.TheVariants as k
+use Rattle.std.proofs.lemmas.Bool.{eqb-true}
 
 pub rows_of_symbols : map (λ row. (row.0.now, row.1)) SYMBOLS ≡ symbols
 unfolding symbols
@@ -41,3 +44,40 @@ all_have_bytes = search rules
 pub symbol_fits : (text : List ℕ) → FitsIn text (symbol_lexeme text)
 unfolding symbol_lexeme
 symbol_fits text = among_fits symbols text all_have_bytes
+
+-- ---- symbols that begin no other
+
+-- a byte after which any bytes may stand
+abbrev IsLone : ℕ → Key → Type 0
+IsLone b key = (rest : List ℕ) → symbol_lexeme (b ∷ rest) ≡ Token (kind.Key key) 1
+
+abbrev given : ℕ → Option Key → Type 0
+given b o = (key : Key) → o ≡ Some key → IsLone b key
+
+-- a row of the choice, and those after it
+row : (x b : ℕ) (key : Key) (other : Option Key) → IsLone x key → given b other
+    → given b (cond (eqb b x) (Some key) other)
+row x b key other here later = by (eqb b x) refl
+  where
+    by : (c : Bool) → eqb b x ≡ c → given b (cond c (Some key) other)
+    by true e found is rest =
+        let same : key ≡ found = cc in
+        let byte : b ≡ x = eqb-true b x e in
+        ap (λ (n : ℕ). symbol_lexeme (n ∷ rest)) byte ∙ here rest ∙ ap (λ (f : Key). Token (kind.Key f) 1) same
+    by false e found is rest = later found is rest
+
+none_given : (b : ℕ) → given b None
+none_given b key is rest = absurd cc
+
+lone : (b : ℕ) → given b (lone_symbol b)
+unfolding symbol_lexeme symbols
+lone b =
+    row 40 b k.LeftParen _ (λ rest. refl) (row 41 b k.RightParen _ (λ rest. refl)
+    (row 44 b k.CommaSign _ (λ rest. refl) (row 43 b k.Plus _ (λ rest. refl) (row 45 b k.Minus _ (λ rest. refl)
+    (row 42 b k.Star _ (λ rest. refl) (row 47 b k.Slash _ (λ rest. refl) (row 94 b k.Caret _ (λ rest. refl)
+    (row 61 b k.Equal _ (λ rest. refl) (none_given b)))))))))
+
+pub lone_is_symbol : (text : List ℕ) (key : Key) → lone_symbol (slice_index text 0) ≡ Some key
+    → symbol_lexeme text ≡ Token (kind.Key key) 1
+lone_is_symbol [] key is = absurd cc
+lone_is_symbol (b ∷ rest) key is = lone b key is rest

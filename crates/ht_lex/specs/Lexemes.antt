@@ -1,9 +1,10 @@
 -- Not for belief: what a text begins with, as the code finds it.
 use Rattle.std.specs.Prelude.{ℕ, ◌+◌, ◌≤◌, Bool, if◌then◌else◌, ◌==◌, List, [], ◌∷◌, drop, take, length, slice_index}
-use Rattle.std.specs.Prelude.{Some, None, nat_eq, codes}
+use Rattle.std.specs.Prelude.{Option, Some, None, nat_eq, codes}
 use Rattle.std.specs.Char.{is_ascii_digit}
 use Rattle.std.specs.List.{prefix_len, starts_with}
 use Rattle.ht_lex.specs.declared.key.Key.{Key}
+use Rattle.ht_lex.specs.declared.key.Key.TheVariants as k
 use Rattle.ht_lex.specs.declared.key.TokenKind.TheVariants as kind
 use Rattle.ht_lex.specs.declared.lexeme.Class.{Class}
 use Rattle.ht_lex.specs.declared.lexeme.Class.TheVariants as class
@@ -45,6 +46,20 @@ symbol_among (row ∷ rows) text =
 
 unfoldable pub symbol_lexeme : List ℕ → Lexeme
 symbol_lexeme text = symbol_among symbols text
+
+-- The symbols of one byte that begin no other.
+abbrev pub lone_symbol : ℕ → Option Key
+lone_symbol b =
+    if b == 40 then Some k.LeftParen
+    else if b == 41 then Some k.RightParen
+    else if b == 44 then Some k.CommaSign
+    else if b == 43 then Some k.Plus
+    else if b == 45 then Some k.Minus
+    else if b == 42 then Some k.Star
+    else if b == 47 then Some k.Slash
+    else if b == 94 then Some k.Caret
+    else if b == 61 then Some k.Equal
+    else None
 
 unfoldable pub first_lexeme : List ℕ → Lexeme
 first_lexeme text =

@@ -89,11 +89,39 @@ fn symbol_among(mut rows: &[(&[u8], Key)], text: &[u8]) -> Lexeme
     Lexeme::Nothing
 }
 
+/// The key of a byte that is a symbol and begins no longer one. Most symbols are told so, without the table.
+fn lone_symbol(byte: u8) -> Option<Key>
+    ensures { result ≡ lexemes.lone_symbol byte }
+{
+    match byte {
+        b'(' => Some(Key::LeftParen),
+        b')' => Some(Key::RightParen),
+        b',' => Some(Key::CommaSign),
+        b'+' => Some(Key::Plus),
+        b'-' => Some(Key::Minus),
+        b'*' => Some(Key::Star),
+        b'/' => Some(Key::Slash),
+        b'^' => Some(Key::Caret),
+        b'=' => Some(Key::Equal),
+        _ => None,
+    }
+}
+
+/// The symbol that a text begins with, found in the table.
+fn listed_symbol(text: &[u8]) -> Lexeme
+    ensures { result ≡ lexemes.symbol_lexeme text.now }
+{
+    symbol_among(&SYMBOLS, text)
+}
+
 fn symbol_lexeme(text: &[u8]) -> Lexeme
     ensures value { result ≡ lexemes.symbol_lexeme text.now }
     ensures within { lexemes.FitsIn text.now result }
 {
-    symbol_among(&SYMBOLS, text)
+    match lone_symbol(byte_at(text, 0)) {
+        Some(key) => Lexeme::Token(TokenKind::Key(key), 1),
+        None => listed_symbol(text),
+    }
 }
 
 fn kind_of_word(word: &[u8]) -> TokenKind
