@@ -16,7 +16,7 @@ use crate::grammar::{Grammar, Level, WHOLE, to_expr};
 use crate::operator::{EQUALITY, LeadingOperator, leading_rank, take_operator};
 use ht_lex::{Cursor, Key, Stop, TokenKind, to_name, to_text};
 use ht_tree::{Expr, ExprKind, Exprs};
-use ht_values::{Op, Text, UnOp, Value};
+use ht_values::{Op, Text, UnOp, Value, plain_number};
 use std::alloc::Global;
 
 /// The value of these digits, unless memory is refused.
@@ -24,8 +24,10 @@ fn to_value(alloc: Global, digits: &[u8]) -> Result<Value, Stop>
     requires { length digits.now ≤ LIMIT }
     ensures { Gives digits.now result }
 {
-    let text = to_text(alloc, digits)?;
-    Ok(Value::copied(alloc, &text)?)
+    match plain_number(digits) {
+        Some(number) => Ok(Value::of_number(number)),
+        None => Ok(Value::of_text(to_text(alloc, digits)?)),
+    }
 }
 
 /// An expression, where `)` follows.

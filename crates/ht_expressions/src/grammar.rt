@@ -27,6 +27,7 @@ pub enum Level {
 pub const WHOLE: Level = Level::Rank(7);
 
 /// The expression of this kind, unless memory is refused.
+#[inline(always)]
 pub(crate) fn to_expr(alloc: Global, kind: ExprKind) -> Result<Expr, Stop>
     requires { depth (expr_of kind) ≤ max_depth }
     ensures { Gives (expr_of kind) result }

@@ -253,6 +253,7 @@ impl Model for Expr {
 
 impl Expr {
     /// The expression of a kind, which is at most 100 levels deep.
+    #[inline(always)]
     pub fn new(alloc: Global, kind: ExprKind) -> Result<Expr, AllocError>
         requires { depth (expr_of kind) ≤ max_depth }
         ensures { IfOk result (λ e. e ≡ expr_of kind) }
@@ -279,6 +280,7 @@ impl Expr {
 }
 
 impl ExprKind {
+    #[inline(always)]
     fn depth(&self) -> usize
         ensures { result ≡ depth (expr_of self.now) }
     {
