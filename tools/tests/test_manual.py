@@ -34,7 +34,7 @@ class Folded(unittest.TestCase):
             self.assertTrue(self.folded[name], name)
 
     def test_what_says_more(self) -> None:
-        for name in ("there_stops", "set_run_fails", "go_gone", "line_faults", "paren", "exit_to_hypercard"):
+        for name in ("there_stops", "set_run_fails", "go_gone", "delete_refused", "paren", "exit_to_hypercard"):
             self.assertFalse(self.folded[name], name)
 
     def test_another_state_is_no_handing_on(self) -> None:
