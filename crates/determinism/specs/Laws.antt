@@ -60,28 +60,28 @@ HasLogs w = length w.logs ≡ length w.now.externals
 -- the same logs after them, have one outcome.
 abbrev pub LogsTellLines : Type 0
 LogsTellLines =
-    (w v w2 v2 : History) (r r2 q2 : RunState) (ss : stm.Stmts) (o p : Result Ended Stop) →
+    (w v w2 v2 : History) (r r2 q2 : RunState) (ss : stm.Stmts) (o p : Result (Unit {0}) Stop) →
     v.now ≡ w.now → v.logs ≡ w.logs → HasLogs w → v2.logs ≡ w2.logs → Line w r ss o w2 r2 → Line v r ss p v2 q2 →
     HasMemory o → HasMemory p → (o ≡ p) × (w2.now ≡ v2.now) × (r2 ≡ q2)
 
 -- and so have two runs of the same message
 abbrev pub LogsTellMessages : Type 0
 LogsTellMessages =
-    (w v w2 v2 : History) (r r2 q2 : RunState) (i : ℕ) (n : List ℕ) (vs : List (List ℕ)) (o p : Result Ended Stop) →
+    (w v w2 v2 : History) (r r2 q2 : RunState) (i : ℕ) (n : List ℕ) (vs : List (List ℕ)) (o p : Result (Unit {0}) Stop) →
     v.now ≡ w.now → v.logs ≡ w.logs → HasLogs w → v2.logs ≡ w2.logs → Message w r i n vs o w2 r2 → Message v r i n vs p v2 q2 →
     HasMemory o → HasMemory p → (o ≡ p) × (w2.now ≡ v2.now) × (r2 ≡ q2)
 
 -- and so have two runs of the same action
 abbrev pub LogsTellActions : Type 0
 LogsTellActions =
-    (w v w2 v2 : History) (r r2 q2 : RunState) (ac : Action) (o p : Result Ended Stop) →
+    (w v w2 v2 : History) (r r2 q2 : RunState) (ac : Action) (o p : Result (Unit {0}) Stop) →
     v.now ≡ w.now → v.logs ≡ w.logs → HasLogs w → v2.logs ≡ w2.logs → Acts w r ac o w2 r2 → Acts v r ac p v2 q2 →
     HasMemory o → HasMemory p → (o ≡ p) × (w2.now ≡ v2.now) × (r2 ≡ q2)
 
 -- and so have two runs of the same reference
 abbrev pub LogsTellReferences : Type 0
 LogsTellReferences =
-    (w v w2 v2 : History) (r r2 q2 : RunState) (pa : tree.Part) (o p : Result (Option ℕ) Stop) →
+    (w v w2 v2 : History) (r r2 q2 : RunState) (pa : tree.Part) (o p : Result ℕ Stop) →
     v.now ≡ w.now → v.logs ≡ w.logs → HasLogs w → v2.logs ≡ w2.logs → Refers w r pa o w2 r2 → Refers v r pa p v2 q2 →
     HasMemory o → HasMemory p → (o ≡ p) × (w2.now ≡ v2.now) × (r2 ≡ q2)
 
