@@ -33,15 +33,15 @@ def split(family):
 
 def computed_type(family):
     starts, end, left = split(family)
-    kinds = ["Present" if index == "w" else TYPES[letters(index)] for index in starts]
+    kinds = ["Visible" if index == "w" else TYPES[letters(index)] for index in starts]
     of = TYPES[letters(end)][len("Result "):-len(" Stop")]
-    return " → ".join(kinds + ["%s %s" % ("Ran" if len(left) == 3 else "Told", of)])
+    return " → ".join(kinds + ["%s %s" % ("ToldIn" if len(left) == 3 else "Told", of)])
 
 
 def families_file():
     text = "pub record Meanings : Type 0 where\n"
     text += "".join("  pub %s : %s\n" % (snake(family["name"]), computed_type(family)) for family in TABLE)
-    uses = "use Rattle.definitional_interpreter.specs.Told.{Present, Told, Ran}"
+    uses = "use Rattle.definitional_interpreter.specs.Told.{Visible, Told, ToldIn}"
     return "-- What each family of rules comes to, computed: from a state, a run, a frame and a tree.\n" + imports(uses, text) + "\n" + text
 
 
@@ -53,7 +53,7 @@ def made(fields):
 def unknown(family):
     """What a family comes to where there is no fuel."""
     starts, _, left = split(family)
-    return "λ %s. %s" % (" ".join("_" for _ in starts), "unknown_run" if len(left) == 3 else "unknown")
+    return "λ %s. %s" % (" ".join("_" for _ in starts), "unknown_in" if len(left) == 3 else "unknown")
 
 
 def use(module, names):
@@ -73,7 +73,7 @@ def meanings_file():
     text = "-- without fuel nothing is known\nabbrev pub nothing : Meanings\nnothing = %s\n" % nothing
     text += "\n-- each part from the meanings of its parts\nabbrev pub one_more : Meanings → Meanings\none_more m = %s\n" % step
     text += "\n-- the meanings that so many nested parts can tell\nunfoldable pub meanings : ℕ → Meanings\nmeanings zero = nothing\nmeanings (suc parts) = one_more (meanings parts)\n"
-    uses = "use Rattle.std.specs.Prelude.{ℕ, zero, suc}\nuse Rattle.definitional_interpreter.specs.Told.{unknown, unknown_run}\nuse Rattle.definitional_interpreter.specs.Families.{Meanings}\n"
+    uses = "use Rattle.std.specs.Prelude.{ℕ, zero, suc}\nuse Rattle.definitional_interpreter.specs.Told.{unknown, unknown_in}\nuse Rattle.definitional_interpreter.specs.Families.{Meanings}\n"
     uses += "\n".join(use("Rattle.definitional_interpreter.specs." + name, [snake(f) + "_of" for f in named.split()]) for name, named in FILES.items())
     return "-- The meaning of HyperTalk as a function with fuel.\n" + uses + "\n\n" + text
 
@@ -108,11 +108,11 @@ def leaf(premise, run, w):
     if head == "Adds":
         return "adds", told("add_objects (sight g %s) %s %s" % (rest[0], run, rest[1]), rest[2], rest[3])
     if head == "Edits":
-        return "edits", ("ran", "edit (sight g %s) %s %s %s %s" % (rest[0], run, rest[1], rest[3], rest[4]), rest[5], rest[6], run, rest[7])
+        return "edits", ("told_in", "edit (sight g %s) %s %s %s %s" % (rest[0], run, rest[1], rest[3], rest[4]), rest[5], rest[6], run, rest[7])
     if head == "Assigns":
-        return "assigns", ("ran", "assign (sight g %s) %s %s %s %s" % (rest[0], run, rest[1], rest[3], rest[4]), rest[5], rest[6], run, rest[7])
+        return "assigns", ("told_in", "assign (sight g %s) %s %s %s %s" % (rest[0], run, rest[1], rest[3], rest[4]), rest[5], rest[6], run, rest[7])
     if head == "DeclaresAll":
-        return "declares_all", ("ran", "declare_all (sight g %s) %s %s %s" % (rest[0], run, rest[1], rest[2]), rest[3], rest[4], run, rest[5])
+        return "declares_all", ("told_in", "declare_all (sight g %s) %s %s %s" % (rest[0], run, rest[1], rest[2]), rest[3], rest[4], run, rest[5])
     return None
 
 
@@ -123,7 +123,7 @@ def family_part(premise):
     starts, _, left = split(FAMILIES[head])
     given, end, after = rest[:len(starts)], rest[len(starts)], rest[len(starts) + 1:]
     code = "parts.%s %s" % (snake(head), " ".join("(sight g %s)" % t if at == 0 else t for at, t in enumerate(given)))
-    return (snake(head) + "_comes", ("ran" if len(left) == 3 else "told", code, end, after[0], after[1], *after[2:]))
+    return (snake(head) + "_comes", ("told_in" if len(left) == 3 else "told", code, end, after[0], after[1], *after[2:]))
 
 
 def comes(w, part):
@@ -140,7 +140,7 @@ def swap(variable, term, text):
 
 
 DEFINES = re.compile(r"^([a-z]+\d*) ≡ (.*)$")
-OPS = {("told", "told"): "after", ("told", "ran"): "after_in", ("ran", "ran"): "after_run", ("ran", "told"): "after_lines"}
+OPS = {("told", "told"): "after", ("told", "told_in"): "after_in", ("told_in", "told_in"): "after_run", ("told_in", "told"): "after_lines"}
 
 
 def definitions(premises):
@@ -310,7 +310,7 @@ def chain(family, name, steps, whole):
 
 def function(family):
     starts, end, left = split(family)
-    whole = ("ran" if len(left) == 3 else "told", "parts.%s %s" % (snake(family["name"]), " ".join("(sight g w)" if n == 0 else t for n, t in enumerate(starts))), end, left[0], left[1], *left[2:])
+    whole = ("told_in" if len(left) == 3 else "told", "parts.%s %s" % (snake(family["name"]), " ".join("(sight g w)" if n == 0 else t for n, t in enumerate(starts))), end, left[0], left[1], *left[2:])
     extra = " → HasExternal w k" if family["name"] in ("Converses", "Talks") else ""
     says = "{g : Sight} %s → %s → HasMemory %s%s → %s" % (binders([" ".join(starts + [end] + left)]), " ".join([family["name"], *starts, end, *left]), end, extra, comes("w", whole))
     name = snake(family["name"]) + "_comes"
@@ -326,7 +326,7 @@ use Rattle.ht_grammar.specs.Reading.{expression}
 use Rattle.ht_grammar.specs.Whole.{sent_message}
 use Rattle.preservation.specs.Laws.{HasMemory}
 use Rattle.preservation.proofs.Ends.{given, stopped, faulted, exited}
-use Rattle.definitional_interpreter.specs.Told.{told, ran}
+use Rattle.definitional_interpreter.specs.Told.{told, told_in}
 use Rattle.definitional_interpreter.specs.Changes.{yielded, step, make, edit, assign, declare_all, set_property, add_objects, turn}
 use Rattle.definitional_interpreter.specs.Texts.{parsed, first_found}
 use Rattle.definitional_interpreter.proofs.Comes.{Sight, sight, Comes, HasExternal}

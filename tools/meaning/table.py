@@ -28,7 +28,7 @@ TYPES = {
     "z": "Stop", "fa": "Fault", "b": "Bool", "u": "ℤ", "op": "Op", "un": "UnOp", "cn": "Constant", "fw": "FunctionWord",
     "fu": "Func", "pr": "Prop", "rp": "RunProp", "od": "Ordinal", "kd": "ChunkKind", "wr": "Where", "pk": "PartKind",
     "ly": "Layer", "oly": "Option Layer", "c": "Chunk", "pl": "PlaceView", "pi": "Pick", "sk": "Sought", "sc": "PartScope",
-    "m": "Referent", "h": "How", "co": "CounterState", "on": "Option (List ℕ)", "cl": "HandlerKind", "fd": "Found",
+    "m": "Referent", "h": "How", "co": "CounterState", "on": "Option (List ℕ)", "cl": "HandlerKind", "fd": "HandlerFound",
     "it": "Item", "la": "LayerId", "dn": "Conversed", "inp": "Input", "ask": "Ask", "mg": "SystemMessage", "ms": "List SystemMessage",
     "ac": "Action",
 }

@@ -16,8 +16,11 @@ import sys
 sys.dont_write_bytecode = True
 
 from derivations import BLOCKS, FAMILIES, MEANING, TABLE, end_at, end_of, indices_of, memory_of
-from lines import MOST
+from lines import MOST, broken
 from table import CRATES, TYPES, binders, imports, letters, snake, variables, words, write
+
+# What stands before the steps of a clause.
+DEEPER = " " * 8
 
 # What is given of a variable before a derivation, by its letters.
 TREES = {
@@ -125,7 +128,7 @@ ENDS = {
     "Pass": "tt",
 }
 
-TITLE = """-- Each run leads from whole states to whole states, where its lines are texts and no external is free: an induction over
+TITLE = """-- Each run leads from whole states to whole states, where its lines are texts and each external is deterministic: an induction over
 -- the rules.
 """
 USES = """use Rattle.std.specs.Prelude.{IfSome}
@@ -322,7 +325,7 @@ class Clause:
         return told
 
     def body(self):
-        """The steps of the clause behind its pattern; where a last derivation tells just what the rule does, it is the last."""
+        """The steps of the clause behind its pattern, and what it tells; where a last derivation tells that, it is a step."""
         for at, premise in enumerate(self.premises, 1):
             self.premise(at, premise)
         told = self.end()
@@ -330,29 +333,35 @@ class Clause:
         whole = last and next((family for family in TABLE if snake(family["name"]) == last[3]), None)
         same = last and ["%s.%d" % (last[1], at) for at in range(len(told))]
         if whole and len(conclusions(whole)) == len(told) and told == same:
-            return [*self.lets[:-1], last[2]]
-        return [*self.lets, "(%s)" % ", ".join(told)]
+            return [*self.lets[:-1], last[2]], []
+        return list(self.lets), told
 
     def text(self):
-        """The clause, on one line where it fits, else with a line for each step."""
-        head, steps = self.parts()
-        whole = " ".join([head, *steps])
-        fits = len("    sound_%s %s" % (snake(self.family["name"]), whole)) <= MOST
-        return whole if fits else "\n        ".join([head, *steps])
+        """The clause, on one line where it fits, else with a line for each step, and for each part of what it tells."""
+        head, steps, told = self.parts()
+        end = ["(%s)" % ", ".join(told)] if told else []
+        whole = " ".join([head, *steps, *end])
+        if len("    sound_%s %s" % (snake(self.family["name"]), whole)) <= MOST:
+            return whole
+        lines = [DEEPER + line.strip() for step in steps for line in broken(DEEPER + step)]
+        if not end or len(DEEPER + end[0]) <= MOST:
+            return "\n".join([head, *lines, *(DEEPER + each for each in end)])
+        margin = DEEPER if steps else DEEPER[4:]
+        return "\n".join([head, *lines]) + "\n".join([" (", *("%s  %s," % (margin, each) for each in told), margin + ")"])
 
     def parts(self):
-        """The pattern of the clause, and its steps."""
+        """The pattern of the clause, its steps, and what it tells."""
         name = "%s.%s" % (self.family["name"], self.name)
         if end_of(self.conclusion)[0] == "(Err Memory)":
-            return "%s has %s =" % (name, " ".join("_" for _ in self.arguments)), ["absurd (has refl)"]
-        steps = self.body()
-        body = " ".join(steps)
+            return "%s has %s =" % (name, " ".join("_" for _ in self.arguments)), ["absurd (has refl)"], []
+        steps, told = self.body()
+        body = " ".join([*steps, *told])
         order = re.findall(r"\w+", binders([*self.premises, self.conclusion]))
         named = [each for each in self.named if re.search(r"(?<![\w.{])%s(?![\w(])" % each, body)]
         places = ["p%d" % at if at in self.used else "_" for at, _ in enumerate(self.premises, 1)]
         pattern = " ".join([name, *("{%s = %s}" % (each, each) for each in sorted(named, key=order.index)), *places])
         head = "%s has %s =" % ("(%s)" % pattern if " " in pattern else pattern, " ".join(self.arguments))
-        return head, steps
+        return head, steps, told
 
 
 def conclusions(family):

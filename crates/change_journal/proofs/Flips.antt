@@ -7,7 +7,7 @@ use Rattle.journal_entries.specs.Exchange.{AreReady}
 use Rattle.journal_entries.proofs.Going.{back-forth, back_taken-forth, forth-back, forth_taken-back, shape-back}
 use Rattle.journal_entries.proofs.Going.{shape-forth, AreReady-back_taken, AreReady-forth_taken}
 use Rattle.journal_entries.proofs.Weighing.{trail_of-back, trail_of-forth}
-use Rattle.change_journal.specs.History.{Step, flipped_back, flipped_forth}
+use Rattle.change_journal.specs.History.{Neighbour, flipped_back, flipped_forth}
 use Rattle.change_journal.specs.Batches.{Journal, stamp_of, past_steps, future_steps, history_of, IsSound}
 use Rattle.change_journal.proofs.Ready.{AllReady-get, AllReady-set}
 use Rattle.change_journal.proofs.States.{IsHistory-flipped_back, IsHistory-flipped_forth}
@@ -42,7 +42,7 @@ nearest : (b : Journal) (j : ℕ) (batch : BatchView) → b.cursor ≡ j + 1 →
 nearest b j batch n l e = rw (n, take_more b.batches j batch l, ← e) (reverse-append (take j b.batches) (batch ∷ []))
 
 -- the step that the nearest batch stands for
-abbrev step_back : Journal → ℕ → BatchView → Step
+abbrev step_back : Journal → ℕ → BatchView → Neighbour
 step_back b j batch = record {
   state = back b.present.names b.present.state batch.entries;
   stamp = stamp_of b.oldest
@@ -112,7 +112,7 @@ IsSound-back b j room batch n e sound =
     }
 
 -- the step that the next batch stands for
-abbrev step_forth : Journal → BatchView → Step
+abbrev step_forth : Journal → BatchView → Neighbour
 step_forth b batch = record {
   state = forth b.present.names b.present.state batch.entries;
   stamp = batch.number;

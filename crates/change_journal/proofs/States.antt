@@ -11,11 +11,11 @@ use Rattle.externals.specs.Log.{Log}
 use Rattle.journal_entries.proofs.Once.{and_not_parts}
 use Rattle.journal_entries.proofs.Turned.{map-without}
 use Rattle.journal_entries.specs.State.{State, titles_of, has_name, are_apart}
-use Rattle.change_journal.specs.History.{Step, Open, History, AreStates, IsStateOf, IsHistory, committed}
+use Rattle.change_journal.specs.History.{Neighbour, Open, History, AreStates, IsStateOf, IsHistory, committed}
 use Rattle.change_journal.specs.History.{rolled_back, flipped_back, flipped_forth, plugged, unplugged_at}
 use Rattle.change_journal.specs.History.{with_external, step_with_external, without_at}
 
-AreStates-take : (ts : List (List ℕ)) (n : ℕ) (steps : List Step) → AreStates ts steps → AreStates ts (take n steps)
+AreStates-take : (ts : List (List ℕ)) (n : ℕ) (steps : List Neighbour) → AreStates ts steps → AreStates ts (take n steps)
 AreStates-take ts zero [] h = tt
 AreStates-take ts (suc n) [] h = tt
 AreStates-take ts zero (s ∷ steps) h = tt
@@ -38,13 +38,13 @@ IsHistory-rolled_back h o e q =
     let start = rw e at q.start in
     rw e (record { titles = q.titles; past = q.past; now = start.0; future = q.future; start = tt })
 
-pub IsHistory-flipped_back : (h : History) (step : Step) (rest : List Step) → h.past ≡ step ∷ rest → IsHistory h
+pub IsHistory-flipped_back : (h : History) (step : Neighbour) (rest : List Neighbour) → h.past ≡ step ∷ rest → IsHistory h
     → IsHistory (flipped_back h)
 IsHistory-flipped_back h step rest e q =
     let past = rw e at q.past in
     rw e (record { titles = q.titles; past = past.1; now = past.0; future = (q.now, q.future); start = q.start })
 
-pub IsHistory-flipped_forth : (h : History) (step : Step) (rest : List Step) → h.future ≡ step ∷ rest → IsHistory h
+pub IsHistory-flipped_forth : (h : History) (step : Neighbour) (rest : List Neighbour) → h.future ≡ step ∷ rest → IsHistory h
     → IsHistory (flipped_forth h)
 IsHistory-flipped_forth h step rest e q =
     let future = rw e at q.future in
@@ -107,7 +107,7 @@ state-plugged ts x s known new q =
       titles = titles;
     }
 
-steps-plugged : (ts : List (List ℕ)) (x : Seen) (steps : List Step) → IsExternal x → has_name x.title ts ≡ false
+steps-plugged : (ts : List (List ℕ)) (x : Seen) (steps : List Neighbour) → IsExternal x → has_name x.title ts ≡ false
     → AreStates ts steps → AreStates (ts ++ x.title ∷ []) (map (step_with_external x) steps)
 steps-plugged ts x [] known new h = tt
 steps-plugged ts x (s ∷ steps) known new h =

@@ -4,7 +4,7 @@ use Rattle.std.specs.Prelude.{Some, None}
 use Rattle.journal_entries.specs.State.{State}
 use Rattle.journal_entries.specs.Exchange.{PresentView, BatchView, Shape, back, back_taken, forth, forth_taken, weight}
 use Rattle.journal_entries.specs.Exchange.{trail_of, shape_of, AreReady}
-use Rattle.change_journal.specs.History.{Step, Open, History, IsHistory}
+use Rattle.change_journal.specs.History.{Neighbour, Open, History, IsHistory}
 
 -- What World holds but for the open batch: the present state, the number of the oldest state, the greatest
 -- number of states before the cursor, the batches from the oldest on, and how many of them lead back.
@@ -21,7 +21,7 @@ stamp_of oldest [] = oldest
 stamp_of oldest (b ∷ bs) = b.number
 
 -- the states that batches lead back to, the nearest first
-abbrev pub past_steps : List (List ℕ) → ℕ → State → List BatchView → List Step
+abbrev pub past_steps : List (List ℕ) → ℕ → State → List BatchView → List Neighbour
 past_steps names oldest s [] = []
 past_steps names oldest s (b ∷ bs) = record {
   state = back names s b.entries;
@@ -34,7 +34,7 @@ past_steps names oldest s (b ∷ bs) = record {
     ∷ past_steps names oldest (back names s b.entries) bs
 
 -- the states that batches lead forth to
-abbrev pub future_steps : List (List ℕ) → State → List BatchView → List Step
+abbrev pub future_steps : List (List ℕ) → State → List BatchView → List Neighbour
 future_steps names s [] = []
 future_steps names s (b ∷ bs) = record {
   state = forth names s b.entries;

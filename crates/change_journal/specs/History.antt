@@ -10,7 +10,7 @@ use Rattle.change_journal.specs.Marks.{coded_trail}
 
 -- A neighbouring state, with the number of the line that added it, and of the batch between that state and the
 -- one nearer to the cursor: what it weighs as undoable and as redoable, and its trail.
-pub record Step : Type 0 where
+pub record Neighbour : Type 0 where
   pub state : State
   pub stamp : ℕ
   pub undo : ℕ
@@ -30,16 +30,16 @@ pub record Open : Type 0 where
 -- states stand before the cursor. The logs of the externals are beside the states, and no undo
 -- takes a turn out of them.
 pub record History : Type 0 where
-  pub past : List Step
+  pub past : List Neighbour
   pub now : State
   pub stamp : ℕ
-  pub future : List Step
+  pub future : List Neighbour
   pub start : Option Open
   pub depth : ℕ
   pub logs : List Log
 
-abbrev pub coded_step : Coded Step
-coded_step = code_by (State × (ℕ × (ℕ × (ℕ × List Mark))))
+abbrev pub coded_neighbour : Coded Neighbour
+coded_neighbour = code_by (State × (ℕ × (ℕ × (ℕ × List Mark))))
     (coded× coded_state (coded× coded_ℕ (coded× coded_ℕ (coded× coded_ℕ coded_trail))))
     (λ s. (s.state, (s.stamp, (s.undo, (s.redo, s.trail)))))
     (λ p. record { state = p.0; stamp = p.1.0; undo = p.1.1.0; redo = p.1.1.1.0; trail = p.1.1.1.1 }) (λ _. refl)
@@ -51,10 +51,10 @@ coded_open = code_by (State × (ℕ × (ℕ × (ℕ × List Mark))))
     (λ p. record { state = p.0; number = p.1.0; undo = p.1.1.0; redo = p.1.1.1.0; trail = p.1.1.1.1 }) (λ _. refl)
 
 abbrev pub coded_history : Coded History
-coded_history = code_by (List Step × (State × (ℕ × (List Step × (Option Open × (ℕ × List Log))))))
-    (coded× (coded_list coded_step)
+coded_history = code_by (List Neighbour × (State × (ℕ × (List Neighbour × (Option Open × (ℕ × List Log))))))
+    (coded× (coded_list coded_neighbour)
     (coded× coded_state (coded× coded_ℕ
-    (coded× (coded_list coded_step) (coded× (coded_option coded_open) (coded× coded_ℕ (coded_list coded_log)))))))
+    (coded× (coded_list coded_neighbour) (coded× (coded_option coded_open) (coded× coded_ℕ (coded_list coded_log)))))))
     (λ h. (h.past, (h.now, (h.stamp, (h.future, (h.start, (h.depth, h.logs)))))))
     (λ p. record {
       past = p.0;
@@ -67,7 +67,7 @@ coded_history = code_by (List Step × (State × (ℕ × (List Step × (Option Op
       logs = p.1.1.1.1.1.1;
     }) (λ _. refl)
 
-abbrev pub states_of : List Step → List State
+abbrev pub states_of : List Neighbour → List State
 states_of = map (λ step. step.state)
 
 -- the list of whole states, in which as many stand before the cursor as there are past ones
@@ -113,7 +113,7 @@ abbrev pub rolled_back : History → History
 rolled_back h = rolled_back_from h h.start
 
 -- the cursor moves to a neighbour, and the batch between keeps its weights and its trail
-abbrev pub flipped_back_from : History → List Step → History
+abbrev pub flipped_back_from : History → List Neighbour → History
 flipped_back_from h [] = h
 flipped_back_from h (step ∷ rest) = record h {
   past = rest;
@@ -126,7 +126,7 @@ flipped_back_from h (step ∷ rest) = record h {
 abbrev pub flipped_back : History → History
 flipped_back h = flipped_back_from h h.past
 
-abbrev pub flipped_forth_from : History → List Step → History
+abbrev pub flipped_forth_from : History → List Neighbour → History
 flipped_forth_from h [] = h
 flipped_forth_from h (step ∷ rest) = record h {
   past = record step { state = h.now; stamp = h.stamp }
@@ -143,7 +143,7 @@ flipped_forth h = flipped_forth_from h h.future
 abbrev pub with_external : Seen → State → State
 with_external x s = record s { externals = s.externals ++ x ∷ [] }
 
-abbrev pub step_with_external : Seen → Step → Step
+abbrev pub step_with_external : Seen → Neighbour → Neighbour
 step_with_external x step = record step { state = with_external x step.state }
 
 abbrev pub plugged : History → Seen → Log → History
@@ -174,7 +174,7 @@ pub record IsStateOf (names : List (List ℕ)) (s : State) : Type 0 where
   pub state : IsState s
   pub titles : titles_of s.externals ≡ names
 
-abbrev pub AreStates : List (List ℕ) → List Step → Type 0
+abbrev pub AreStates : List (List ℕ) → List Neighbour → Type 0
 AreStates titles [] = Unit {0}
 AreStates titles (step ∷ steps) = IsStateOf titles step.state × AreStates titles steps
 

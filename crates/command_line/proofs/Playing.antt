@@ -9,7 +9,7 @@ use Rattle.stack_text.specs.Laws.{Spells}
 use Rattle.headline.specs.Headline.{beginning}
 use Rattle.session.specs.Opening.{opened}
 use Rattle.headline.specs.Saving.{Takes}
-use Rattle.session.specs.Standing.{Standing}
+use Rattle.session.specs.SessionView.{SessionView}
 use Rattle.headline.specs.Stops.{Ended, Stopped}
 use Rattle.headline.specs.Unzipped.{timeline_of, RunsFollow}
 use Rattle.headline.specs.Whole.{RunsStayWhole, StopsStayWhole}
@@ -20,13 +20,13 @@ use Rattle.command_line.specs.declared.fault.CliFault.TheVariants.{Read, Write}
 use Rattle.command_line.specs.Plays.{Plays, Stops, Ends, fault_of_run}
 
 module _ (bytes : List ℕ) (stack : Content) (externals : List Seen) (logs : List Log) (steps depth : ℕ)
-    (left : Option (List ℕ)) (old : Standing) (desk : SeenDesk) (read written : List ℕ) (last : Standing × SeenDesk)
+    (left : Option (List ℕ)) (old : SessionView) (desk : SeenDesk) (read written : List ℕ) (last : SessionView × SeenDesk)
     (spelled : Spells bytes stack) (is : old ≡ opened stack externals logs steps depth) where
   pub plays : (ran : Ran) → RunsFollow → RunsStayWhole → Ended Takes (IsAtEnd left) ran (old, desk) read written last
       → Plays (IsAtEnd left) ran bytes (λ s. beginning s externals steps depth) desk read written last.1
   plays ran follow stay e =
       let first : Ended Takes (IsAtEnd left) ran (opened stack externals logs steps depth, desk) read written last =
-      subst (λ (s : Standing). Ended Takes (IsAtEnd left) ran (s, desk) read written last) is e in
+      subst (λ (s : SessionView). Ended Takes (IsAtEnd left) ran (s, desk) read written last) is e in
       let followed = follow left ran (opened stack externals logs steps depth, desk) read written last first in
       let whole = stay left ran (opened stack externals logs steps depth, desk) read written last first in
       record {
@@ -43,7 +43,7 @@ module _ (bytes : List ℕ) (stack : Content) (externals : List Seen) (logs : Li
       → Stops (IsAtEnd left) fault bytes (λ s. beginning s externals steps depth) desk read written last.1
   stops fault law e =
       let first : Stopped Takes (IsAtEnd left) fault (opened stack externals logs steps depth, desk) read written
-      last = subst (λ (s : Standing). Stopped Takes (IsAtEnd left) fault (s, desk) read written last) is e in
+      last = subst (λ (s : SessionView). Stopped Takes (IsAtEnd left) fault (s, desk) read written last) is e in
       record {
         stack = stack;
         spelled = spelled;
@@ -55,7 +55,7 @@ module _ (bytes : List ℕ) (stack : Content) (externals : List Seen) (logs : Li
   pub ends : (fault : RunFault) → StopsStayWhole → Stopped Takes (IsAtEnd left) fault (old, desk) read written last
       → Ends (IsAtEnd left) (fault_of_run fault) bytes (λ s. beginning s externals steps depth) desk read written last.1
   ends runs.Memory law e =
-      record { unread = e.unread; unwritten = e.unwritten; same = ap (λ (s : Standing × SeenDesk). s.1) e.same }
+      record { unread = e.unread; unwritten = e.unwritten; same = ap (λ (s : SessionView × SeenDesk). s.1) e.same }
   ends runs.Read law e = stops runs.Read law e
   ends runs.Write law e = stops runs.Write law e
   ends runs.TooManyLines law e = stops runs.TooManyLines law e

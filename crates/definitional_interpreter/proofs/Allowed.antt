@@ -20,14 +20,14 @@ use Rattle.meaning.specs.declared.frame.Frame.{Frame}
 use Rattle.meaning.specs.Meaning.{Val, NumberVal, ChunkOf, Picks, Seeks, Owns, PartMet, Meets}
 use Rattle.meaning.specs.State.{RunState}
 use Rattle.meaning.specs.Values.{Yields}
-use Rattle.definitional_interpreter.specs.Told.{Present, present, Told, unknown, told, after, maybe, there}
+use Rattle.definitional_interpreter.specs.Told.{Visible, visible, Told, unknown, told, after, maybe, there}
 use Rattle.definitional_interpreter.specs.Changes.{yielded}
 use Rattle.definitional_interpreter.specs.Alone.{meanings_alone, ExpressionsAreAllowed}
 
 -- an outcome, if it is known, is allowed, and nothing has changed
 data Allowed {A : Type 0} (P : Result A Stop → Type 0) (w : History) (r : RunState) : Told A → Type 0 where
   not_known : Allowed P w r unknown
-  known : {o : Result A Stop} → P o → Allowed P w r (told o (present w) r)
+  known : {o : Result A Stop} → P o → Allowed P w r (told o (visible w) r)
 
 same : {A : Type 0} {P Q : Result A Stop → Type 0} {w : History} {r : RunState} {t : Told A} → Allowed P w r t
     → ((o : Result A Stop) → P o → Q o) → Allowed Q w r t
@@ -36,8 +36,8 @@ same (known {o} h) rule = known (rule o h)
 
 -- one part after another
 then : {A B : Type 0} {P : Result A Stop → Type 0} {Q : Result B Stop → Type 0} {w : History} {r : RunState}
-    {t : Told A} (next : A → Present → RunState → Told B) → Allowed P w r t
-    → ((z : Stop) → P (Err z) → Q (Err z)) → ((a : A) → P (Ok a) → Allowed Q w r (next a (present w) r))
+    {t : Told A} (next : A → Visible → RunState → Told B) → Allowed P w r t
+    → ((z : Stop) → P (Err z) → Q (Err z)) → ((a : A) → P (Ok a) → Allowed Q w r (next a (visible w) r))
     → Allowed Q w r (after t next)
 then next not_known stops goes_on = not_known
 then next (known {o = Ok a} h) stops goes_on = goes_on a h
@@ -63,13 +63,13 @@ not_told : {A : Type 0} {P : Result A Stop → Type 0} {w : History} {r : RunSta
     → Allowed P w r t
 not_told {P = P} {w = w} {r = r} e = subst (λ t. Allowed P w r t) (sym e) not_known
 
-no_call : (fuel : ℕ) (w : Present) (r : RunState) (f : Frame) (d i : ℕ) (n : List ℕ) (es : tree.Exprs)
+no_call : (fuel : ℕ) (w : Visible) (r : RunState) (f : Frame) (d i : ℕ) (n : List ℕ) (es : tree.Exprs)
     (kind : HandlerKind) → (meanings_alone fuel).calls w r f d i n es kind ≡ unknown
 unfolding meanings_alone
 no_call zero w r f d i n es kind = refl
 no_call (suc fuel) w r f d i n es kind = refl
 
-no_value : (fuel : ℕ) (w : Present) (r : RunState) (f : Frame) (d : ℕ) (t : List ℕ)
+no_value : (fuel : ℕ) (w : Visible) (r : RunState) (f : Frame) (d : ℕ) (t : List ℕ)
     → (meanings_alone fuel).text_val w r f d t ≡ unknown
 unfolding meanings_alone
 no_value zero w r f d t = refl
@@ -79,16 +79,16 @@ no_value (suc fuel) w r f d t = refl
 by_function : (fuel : ℕ) (w : History) (r : RunState) (f : Frame) (d : ℕ) (word : FunctionWord) (x : tree.Expr)
     (p : List ℕ) (found : Option Func) → func_of word ≡ found → Val w r f d x (Ok p) w r
     → Allowed (λ o. Val w r f d (tree.function word x) o w r) w r
-    (maybe found (λ fu. told (yielded (built_in fu (p ∷ []))) (present w) r)
-    (λ _. (meanings_alone fuel).text_val (present w) r f d p))
+    (maybe found (λ fu. told (yielded (built_in fu (p ∷ []))) (visible w) r)
+    (λ _. (meanings_alone fuel).text_val (visible w) r f d p))
 by_function fuel w r f d word x p (Some fu) e h = known (Val.the_function refl h e (yields_it _))
-by_function fuel w r f d word x p None e h = not_told (no_value fuel (present w) r f d p)
+by_function fuel w r f d word x p None e h = not_told (no_value fuel (visible w) r f d p)
 
 mutual
   unfolding meanings_alone
 
   val_allowed : (fuel : ℕ) (w : History) (r : RunState) (f : Frame) (d : ℕ) (e : tree.Expr)
-      → Allowed (λ o. Val w r f d e o w r) w r ((meanings_alone fuel).val (present w) r f d e)
+      → Allowed (λ o. Val w r f d e o w r) w r ((meanings_alone fuel).val (visible w) r f d e)
   val_allowed zero w r f d e = not_known
   val_allowed (suc fuel) w r f d (tree.number v) = known (Val.number refl)
   val_allowed (suc fuel) w r f d (tree.quoted v) = known (Val.quoted refl)
@@ -127,16 +127,16 @@ mutual
   val_allowed (suc fuel) w r f d (tree.function word x) =
       then _ (val_allowed fuel w r f d x) (λ z h. Val.the_stops refl h)
       (λ p h. by_function fuel w r f d word x p (func_of word) refl h)
-  val_allowed (suc fuel) w r f d (tree.call n es) = not_told (no_call fuel (present w) r f d f.me n es _)
+  val_allowed (suc fuel) w r f d (tree.call n es) = not_told (no_call fuel (visible w) r f d f.me n es _)
 
   number_allowed : (fuel : ℕ) (w : History) (r : RunState) (f : Frame) (d : ℕ) (x : tree.Expr)
-      → Allowed (λ o. NumberVal w r f d x o w r) w r ((meanings_alone fuel).number_val (present w) r f d x)
+      → Allowed (λ o. NumberVal w r f d x o w r) w r ((meanings_alone fuel).number_val (visible w) r f d x)
   number_allowed zero w r f d x = not_known
   number_allowed (suc fuel) w r f d x = then _ (val_allowed fuel w r f d x) (λ z h. NumberVal.no_number h)
       (λ p h. known (NumberVal.a_number h (yields_it _)))
 
   chunk_allowed : (fuel : ℕ) (w : History) (r : RunState) (f : Frame) (d : ℕ) (head : tree.Chunk)
-      → Allowed (λ o. ChunkOf w r f d head o w r) w r ((meanings_alone fuel).chunk_of (present w) r f d head)
+      → Allowed (λ o. ChunkOf w r f d head o w r) w r ((meanings_alone fuel).chunk_of (visible w) r f d head)
   chunk_allowed zero w r f d head = not_known
   chunk_allowed (suc fuel) w r f d (tree.piece kind x) =
       then _ (number_allowed fuel w r f d x) (λ z h. ChunkOf.one_stops refl h) (λ u h. known (ChunkOf.one refl h refl))
@@ -147,7 +147,7 @@ mutual
   chunk_allowed (suc fuel) w r f d (tree.nth_piece od kind) = known (ChunkOf.ordinal refl refl)
 
   picks_allowed : (fuel : ℕ) (w : History) (r : RunState) (f : Frame) (d : ℕ) (which : tree.Which)
-      → Allowed (λ o. Picks w r f d which o w r) w r ((meanings_alone fuel).picks (present w) r f d which)
+      → Allowed (λ o. Picks w r f d which o w r) w r ((meanings_alone fuel).picks (visible w) r f d which)
   picks_allowed zero w r f d which = not_known
   picks_allowed (suc fuel) w r f d (tree.by_id x) = then _ (val_allowed fuel w r f d x)
       (λ z h. Picks.pick_id_stops refl h) (λ t h. known (Picks.pick_id refl h refl))
@@ -155,7 +155,7 @@ mutual
       (λ z h. Picks.pick_text_stops refl h) (λ t h. known (Picks.pick_text refl h refl))
 
   seeks_allowed : (fuel : ℕ) (w : History) (r : RunState) (f : Frame) (d : ℕ) (sl : tree.Selector)
-      → Allowed (λ o. Seeks w r f d sl o w r) w r ((meanings_alone fuel).seeks (present w) r f d sl)
+      → Allowed (λ o. Seeks w r f d sl o w r) w r ((meanings_alone fuel).seeks (visible w) r f d sl)
   seeks_allowed zero w r f d sl = not_known
   seeks_allowed (suc fuel) w r f d tree.this = known (Seeks.seek_this refl refl)
   seeks_allowed (suc fuel) w r f d tree.next = known (Seeks.seek_next refl refl)
@@ -165,7 +165,7 @@ mutual
       (λ z h. Seeks.seek_stops refl h) (λ p h. known (Seeks.seek_which refl h refl))
 
   owns_allowed : (fuel : ℕ) (w : History) (r : RunState) (f : Frame) (d : ℕ) (layer : Layer) (owner : tree.Owner)
-      → Allowed (λ o. Owns w r f d layer owner o w r) w r ((meanings_alone fuel).owns (present w) r f d layer owner)
+      → Allowed (λ o. Owns w r f d layer owner o w r) w r ((meanings_alone fuel).owns (visible w) r f d layer owner)
   owns_allowed zero w r f d layer owner = not_known
   owns_allowed (suc fuel) w r f d layer tree.no_owner = known (Owns.no_owner refl refl)
   owns_allowed (suc fuel) w r f d layer (tree.on_card sl) = then _ (seeks_allowed fuel w r f d sl)
@@ -175,7 +175,7 @@ mutual
       (λ s h. known (Owns.owner_background refl h (yields_it _)))
 
   part_allowed : (fuel : ℕ) (w : History) (r : RunState) (f : Frame) (d : ℕ) (pa : tree.Part)
-      → Allowed (λ o. PartMet w r f d pa o w r) w r ((meanings_alone fuel).part_met (present w) r f d pa)
+      → Allowed (λ o. PartMet w r f d pa o w r) w r ((meanings_alone fuel).part_met (visible w) r f d pa)
   part_allowed zero w r f d pa = not_known
   part_allowed (suc fuel) w r f d (tree.part layer kind wh owner) =
       then _ (picks_allowed fuel w r f d wh) (λ z h. PartMet.part_stops refl h) (λ p h.
@@ -186,7 +186,7 @@ mutual
       (λ s h. known (PartMet.nth_of_owner refl refl h (yields_it _)))
 
   meets_allowed : (fuel : ℕ) (w : History) (r : RunState) (f : Frame) (d : ℕ) (ref : tree.Ref)
-      → Allowed (λ o. Meets w r f d ref o w r) w r ((meanings_alone fuel).meets (present w) r f d ref)
+      → Allowed (λ o. Meets w r f d ref o w r) w r ((meanings_alone fuel).meets (visible w) r f d ref)
   meets_allowed zero w r f d ref = not_known
   meets_allowed (suc fuel) w r f d tree.me = known (Meets.meet_me refl (yields_it _))
   meets_allowed (suc fuel) w r f d tree.the_target = known (Meets.meet_target refl (yields_it _))
@@ -198,8 +198,8 @@ mutual
   meets_allowed (suc fuel) w r f d (tree.a_part pa) =
       same (part_allowed fuel w r f d pa) (λ o h. Meets.meet_part refl h)
 
-outcome : {A : Type 0} {P : Result A Stop → Type 0} {w : History} {r q : RunState} {o : Result A Stop} {v : Present}
-    → Allowed P w r (told o v q) → P o × (v ≡ present w) × (q ≡ r)
+outcome : {A : Type 0} {P : Result A Stop → Type 0} {w : History} {r q : RunState} {o : Result A Stop} {v : Visible}
+    → Allowed P w r (told o v q) → P o × (v ≡ visible w) × (q ≡ r)
 outcome (known h) = (h, refl, refl)
 
 pub expressions_allowed : ExpressionsAreAllowed

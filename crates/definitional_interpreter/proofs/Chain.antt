@@ -13,7 +13,7 @@ use Rattle.meaning.specs.declared.end.Stop.TheVariants.{Fault as Faults, Exited,
 use Rattle.meaning.specs.declared.frame.Frame.{Frame}
 use Rattle.meaning.specs.Repeats.{Outcome}
 use Rattle.meaning.specs.State.{RunState}
-use Rattle.definitional_interpreter.specs.Told.{Present, Told, told, Ran, ran, after, after_in, after_run, after_lines}
+use Rattle.definitional_interpreter.specs.Told.{Visible, Told, told, ToldIn, told_in, after, after_in, after_run, after_lines}
 use Rattle.definitional_interpreter.specs.Told.{after_next}
 use Rattle.definitional_interpreter.specs.Told.{choose, maybe, computed, there, gave}
 use Rattle.definitional_interpreter.specs.Families.{Meanings}
@@ -55,67 +55,67 @@ later {F = F} {x = x} h =
 -- ---- a part that gives a value, and a part that stops
 
 pub after_ok : {g : Sight} {A B : Type 0} {w w1 w2 : History} {F : Meanings → Told A}
-    (G : Meanings → A → Present → RunState → Told B) {a : A} {r1 : RunState} {x : Told B} →
+    (G : Meanings → A → Visible → RunState → Told B) {a : A} {r1 : RunState} {x : Told B} →
     Comes g w F (told (Ok a) (sight g w1) r1) w1 → Comes g w1 (λ parts. G parts a (sight g w1) r1) x w2 →
     Comes g w (λ parts. after (F parts) (G parts)) x w2
 after_ok G first rest = before (λ parts t. after t (G parts)) first rest
 
 pub after_stop : {g : Sight} {A B : Type 0} {w w1 : History} {F : Meanings → Told A}
-    (G : Meanings → A → Present → RunState → Told B) {z : Stop} {r1 : RunState} →
+    (G : Meanings → A → Visible → RunState → Told B) {z : Stop} {r1 : RunState} →
     Comes g w F (told (Err z) (sight g w1) r1) w1 →
     Comes g w (λ parts. after (F parts) (G parts)) (told (Err z) (sight g w1) r1) w1
 after_stop G first = before (λ parts t. after t (G parts)) first done
 
 pub after_in_ok : {g : Sight} {A B : Type 0} {w w1 w2 : History} (f : Frame) {F : Meanings → Told A}
-    (G : Meanings → A → Present → RunState → Ran B) {a : A} {r1 : RunState} {x : Ran B} →
+    (G : Meanings → A → Visible → RunState → ToldIn B) {a : A} {r1 : RunState} {x : ToldIn B} →
     Comes g w F (told (Ok a) (sight g w1) r1) w1 → Comes g w1 (λ parts. G parts a (sight g w1) r1) x w2 →
     Comes g w (λ parts. after_in f (F parts) (G parts)) x w2
 after_in_ok f G first rest = before (λ parts t. after_in f t (G parts)) first rest
 
 pub after_in_stop : {g : Sight} {A B : Type 0} {w w1 : History} (f : Frame) {F : Meanings → Told A}
-    (G : Meanings → A → Present → RunState → Ran B) {z : Stop} {r1 : RunState} →
+    (G : Meanings → A → Visible → RunState → ToldIn B) {z : Stop} {r1 : RunState} →
     Comes g w F (told (Err z) (sight g w1) r1) w1 →
-    Comes g w (λ parts. after_in f (F parts) (G parts)) (ran (Err z) (sight g w1) r1 f) w1
+    Comes g w (λ parts. after_in f (F parts) (G parts)) (told_in (Err z) (sight g w1) r1 f) w1
 after_in_stop f G first = before (λ parts t. after_in f t (G parts)) first done
 
-pub after_run_ok : {g : Sight} {A B : Type 0} {w w1 w2 : History} {F : Meanings → Ran A}
-    (G : Meanings → A → Present → RunState → Frame → Ran B) {a : A} {r1 : RunState} {f1 : Frame} {x : Ran B} →
-    Comes g w F (ran (Ok a) (sight g w1) r1 f1) w1 → Comes g w1 (λ parts. G parts a (sight g w1) r1 f1) x w2 →
+pub after_run_ok : {g : Sight} {A B : Type 0} {w w1 w2 : History} {F : Meanings → ToldIn A}
+    (G : Meanings → A → Visible → RunState → Frame → ToldIn B) {a : A} {r1 : RunState} {f1 : Frame} {x : ToldIn B} →
+    Comes g w F (told_in (Ok a) (sight g w1) r1 f1) w1 → Comes g w1 (λ parts. G parts a (sight g w1) r1 f1) x w2 →
     Comes g w (λ parts. after_run (F parts) (G parts)) x w2
 after_run_ok G first rest = before (λ parts t. after_run t (G parts)) first rest
 
-pub after_run_stop : {g : Sight} {A B : Type 0} {w w1 : History} {F : Meanings → Ran A}
-    (G : Meanings → A → Present → RunState → Frame → Ran B) {z : Stop} {r1 : RunState} {f1 : Frame} →
-    Comes g w F (ran (Err z) (sight g w1) r1 f1) w1 →
-    Comes g w (λ parts. after_run (F parts) (G parts)) (ran (Err z) (sight g w1) r1 f1) w1
+pub after_run_stop : {g : Sight} {A B : Type 0} {w w1 : History} {F : Meanings → ToldIn A}
+    (G : Meanings → A → Visible → RunState → Frame → ToldIn B) {z : Stop} {r1 : RunState} {f1 : Frame} →
+    Comes g w F (told_in (Err z) (sight g w1) r1 f1) w1 →
+    Comes g w (λ parts. after_run (F parts) (G parts)) (told_in (Err z) (sight g w1) r1 f1) w1
 after_run_stop G first = before (λ parts t. after_run t (G parts)) first done
 
-pub after_lines_ok : {g : Sight} {A B : Type 0} {w w1 w2 : History} {F : Meanings → Ran A}
-    (G : Meanings → A → Present → RunState → Told B) {a : A} {r1 : RunState} {f1 : Frame} {x : Told B} →
-    Comes g w F (ran (Ok a) (sight g w1) r1 f1) w1 → Comes g w1 (λ parts. G parts a (sight g w1) r1) x w2 →
+pub after_lines_ok : {g : Sight} {A B : Type 0} {w w1 w2 : History} {F : Meanings → ToldIn A}
+    (G : Meanings → A → Visible → RunState → Told B) {a : A} {r1 : RunState} {f1 : Frame} {x : Told B} →
+    Comes g w F (told_in (Ok a) (sight g w1) r1 f1) w1 → Comes g w1 (λ parts. G parts a (sight g w1) r1) x w2 →
     Comes g w (λ parts. after_lines (F parts) (G parts)) x w2
 after_lines_ok G first rest = before (λ parts t. after_lines t (G parts)) first rest
 
-pub after_lines_stop : {g : Sight} {A B : Type 0} {w w1 : History} {F : Meanings → Ran A}
-    (G : Meanings → A → Present → RunState → Told B) {z : Stop} {r1 : RunState} {f1 : Frame} →
-    Comes g w F (ran (Err z) (sight g w1) r1 f1) w1 →
+pub after_lines_stop : {g : Sight} {A B : Type 0} {w w1 : History} {F : Meanings → ToldIn A}
+    (G : Meanings → A → Visible → RunState → Told B) {z : Stop} {r1 : RunState} {f1 : Frame} →
+    Comes g w F (told_in (Err z) (sight g w1) r1 f1) w1 →
     Comes g w (λ parts. after_lines (F parts) (G parts)) (told (Err z) (sight g w1) r1) w1
 after_lines_stop G first = before (λ parts t. after_lines t (G parts)) first done
 
-pub after_next_ok : {g : Sight} {w w1 w2 : History} {F : Meanings → Ran How}
-    (G : Meanings → Present → RunState → Frame → Ran How) {r1 : RunState} {f1 : Frame} {x : Ran How} →
-    Comes g w F (ran (Ok Next) (sight g w1) r1 f1) w1 → Comes g w1 (λ parts. G parts (sight g w1) r1 f1) x w2 →
+pub after_next_ok : {g : Sight} {w w1 w2 : History} {F : Meanings → ToldIn How}
+    (G : Meanings → Visible → RunState → Frame → ToldIn How) {r1 : RunState} {f1 : Frame} {x : ToldIn How} →
+    Comes g w F (told_in (Ok Next) (sight g w1) r1 f1) w1 → Comes g w1 (λ parts. G parts (sight g w1) r1 f1) x w2 →
     Comes g w (λ parts. after_next (F parts) (G parts)) x w2
 after_next_ok G first rest = before (λ parts t. after_next t (G parts)) first rest
 
-pub after_next_stop : {g : Sight} {w w1 : History} {F : Meanings → Ran How}
-    (G : Meanings → Present → RunState → Frame → Ran How) {z : Stop} {r1 : RunState} {f1 : Frame} →
-    Comes g w F (ran (Err z) (sight g w1) r1 f1) w1 →
-    Comes g w (λ parts. after_next (F parts) (G parts)) (ran (Err z) (sight g w1) r1 f1) w1
+pub after_next_stop : {g : Sight} {w w1 : History} {F : Meanings → ToldIn How}
+    (G : Meanings → Visible → RunState → Frame → ToldIn How) {z : Stop} {r1 : RunState} {f1 : Frame} →
+    Comes g w F (told_in (Err z) (sight g w1) r1 f1) w1 →
+    Comes g w (λ parts. after_next (F parts) (G parts)) (told_in (Err z) (sight g w1) r1 f1) w1
 after_next_stop G first = before (λ parts t. after_next t (G parts)) first done
 
-left_here : (h : How) (w : Present) (r : RunState) (f : Frame) (next : Present → RunState → Frame → Ran How) →
-    h ≢ Next → after_next (ran (Ok h) w r f) next ≡ ran (Ok h) w r f
+left_here : (h : How) (w : Visible) (r : RunState) (f : Frame) (next : Visible → RunState → Frame → ToldIn How) →
+    h ≢ Next → after_next (told_in (Ok h) w r f) next ≡ told_in (Ok h) w r f
 left_here Next w r f next isnt = absurd (isnt refl)
 left_here ExitRepeat w r f next isnt = refl
 left_here NextRepeat w r f next isnt = refl
@@ -128,10 +128,10 @@ is_done : {g : Sight} {X : Type 0} {w : History} {F : Meanings → X} {x : X} �
     Comes g w F x w
 is_done is = record { kept = kept_refl; gives = λ exact asked. (0, λ fuel le. is (meanings fuel)) }
 
-pub after_next_leaves : {g : Sight} {w w1 : History} {F : Meanings → Ran How}
-    (G : Meanings → Present → RunState → Frame → Ran How) {h : How} {r1 : RunState} {f1 : Frame} →
-    h ≢ Next → Comes g w F (ran (Ok h) (sight g w1) r1 f1) w1 →
-    Comes g w (λ parts. after_next (F parts) (G parts)) (ran (Ok h) (sight g w1) r1 f1) w1
+pub after_next_leaves : {g : Sight} {w w1 : History} {F : Meanings → ToldIn How}
+    (G : Meanings → Visible → RunState → Frame → ToldIn How) {h : How} {r1 : RunState} {f1 : Frame} →
+    h ≢ Next → Comes g w F (told_in (Ok h) (sight g w1) r1 f1) w1 →
+    Comes g w (λ parts. after_next (F parts) (G parts)) (told_in (Ok h) (sight g w1) r1 f1) w1
 after_next_leaves {g} {w1 = w1} G {h = h} {r1 = r1} {f1 = f1} isnt first =
     before (λ parts t. after_next t (G parts)) first (is_done (λ parts. left_here h (sight g w1) r1 f1 (G parts) isnt))
 
@@ -193,7 +193,7 @@ pub there_none : {g : Sight} {w w1 : History} {F : Meanings → Told Referent} (
     Comes g w (λ parts. there (F parts) say) (told (Ok (say false)) (sight g w1) r1) w1
 there_none say first = before (λ parts t. there t say) first done
 
-there_is : (z : Stop) (w : Present) (r : RunState) (say : Bool → List ℕ) → z ≢ Faults NoSuchObject →
+there_is : (z : Stop) (w : Visible) (r : RunState) (say : Bool → List ℕ) → z ≢ Faults NoSuchObject →
     there (told (Err z) w r) say ≡ told (Err z) w r
 there_is Exited w r say isnt = refl
 there_is Memory w r say isnt = refl

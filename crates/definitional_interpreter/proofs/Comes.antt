@@ -14,7 +14,7 @@ use Rattle.change_journal.specs.History.{History}
 use Rattle.change_journal.specs.Rising.{TookTurn}
 use Rattle.meaning.specs.State.{RunState}
 use Rattle.preservation.specs.Laws.{IsPrefix}
-use Rattle.definitional_interpreter.specs.Told.{Present, told}
+use Rattle.definitional_interpreter.specs.Told.{Visible, told}
 use Rattle.definitional_interpreter.specs.Changes.{turn}
 use Rattle.definitional_interpreter.specs.Families.{Meanings}
 use Rattle.definitional_interpreter.specs.Laws.{sorts, Enough}
@@ -61,7 +61,7 @@ kept_trans {w} {w1} {w2} first rest = record {
 pub record HasExternal (w : History) (k : ℕ) : Type 0 where
   pub there : k < length (sorts w)
 
--- A way to see logs, with turns of free externals, and with what is asked of a run: that it is asked of the whole of it
+-- A way to see logs, with turns of nondeterministic externals, and with what is asked of a run: that it is asked of the whole of it
 -- asks it of each part, and then a turn is the computed one.
 pub record Sight : Type 1 where
   pub of_logs : List Log → List Log
@@ -75,7 +75,7 @@ pub record Sight : Type 1 where
       ≡ told (Ok ask) (record { now = w1.now; logs = of_logs w1.logs; turns = turns }) r
 
 -- a history, with its logs seen so
-abbrev pub sight : Sight → History → Present
+abbrev pub sight : Sight → History → Visible
 sight g w = record { now = w.now; logs = g.of_logs w.logs; turns = g.turns }
 
 -- From one history to another, with the same externals, the meanings come to this where that is so which is asked.

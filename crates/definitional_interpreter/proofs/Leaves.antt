@@ -37,7 +37,7 @@ use Rattle.meaning.specs.Places.{Edits, Assigns, DeclaresAll, Sets, Adds}
 use Rattle.meaning.specs.State.{RunState, Step}
 use Rattle.meaning.specs.Values.{Yields}
 use Rattle.preservation.specs.Laws.{HasMemory, IsPrefix}
-use Rattle.definitional_interpreter.specs.Told.{Present, Told, told, ran, after, maybe, computed, choose}
+use Rattle.definitional_interpreter.specs.Told.{Visible, Told, told, told_in, after, maybe, computed, choose}
 use Rattle.definitional_interpreter.specs.Changes.{with_global, yielded, step_by, step, made, make, with_variables}
 use Rattle.definitional_interpreter.specs.Changes.{written, edit_by}
 use Rattle.definitional_interpreter.specs.Changes.{edit, assign, declare_all, set_property, add_objects, turn}
@@ -61,7 +61,7 @@ use Rattle.object_table.specs.Content.{Content}
 use Rattle.externals.specs.Cells.{Seen, none_seen}
 use Rattle.msg_path.specs.BuiltIns.{external_named, answers}
 use Rattle.journal_entries.specs.ScriptTrees.{object_script}
-use Rattle.msg_path.specs.Handlers.{Found, First}
+use Rattle.msg_path.specs.Handlers.{HandlerFound, First}
 use Rattle.meaning.specs.declared.end.Conversed.{Conversed}
 use Rattle.meaning.specs.Meaning.{CallsBack}
 use Rattle.meaning.specs.Messages.{Finds}
@@ -81,7 +81,7 @@ yields Yields.yields_memory has = absurd (has refl)
 yields {g} {w = w} {r = r} (Yields.yields is) has = said (ap (λ c. told (yielded c) (sight g w) r) is) done
 yields {g} {w = w} {r = r} (Yields.faults is) has = said (ap (λ c. told (yielded c) (sight g w) r) is) done
 
-step_is : (n : ℕ) (w : Present) (r : RunState) → 0 < n → step_by n w r ≡ told (Ok tt) w (record r { left = r.left - 1 })
+step_is : (n : ℕ) (w : Visible) (r : RunState) → 0 < n → step_by n w r ≡ told (Ok tt) w (record r { left = r.left - 1 })
 step_is zero w r is = absurd (omega (arith, is))
 step_is (suc n) w r is = refl
 
@@ -152,43 +152,43 @@ makes {g} {r = r} m = leaf (kept_made m) (ap (λ w. told (Ok tt) w r) (present_m
 
 writes : (g : Sight) {w w1 : History} {v : VariablesView} {p : StorageView} {d : Result (Option (List ℕ)) Fault}
     {r : RunState} {f : Frame} → Writes w f.variables p d w1 v →
-    Kept w w1 × (edit_by (sight g w) r f p d ≡ ran (Ok tt) (sight g w1) r (with_variables f v))
+    Kept w w1 × (edit_by (sight g w) r f p d ≡ told_in (Ok tt) (sight g w1) r (with_variables f v))
 writes g {w} {p = p} {r = r} {f = f} (Writes.nothing_due is) = (kept_refl, ap (edit_by (sight g w) r f p) is)
 writes g {w} {p = p} {r = r} {f = f} (Writes.to_global {name = name} {t = t} at is m) = (
   kept_made m,
   ap (edit_by (sight g w) r f p) is ∙ ap (λ p. written (sight g w) r f p t) at
-      ∙ ap (λ w. ran (Ok tt) w r f) (present_made g m),
+      ∙ ap (λ w. told_in (Ok tt) w r f) (present_made g m),
 )
 writes g {w} {p = p} {r = r} {f = f} (Writes.to_own {name = name} {t = t} at is new) = (
   kept_refl,
   ap (edit_by (sight g w) r f p) is ∙ ap (λ p. written (sight g w) r f p t) at
-      ∙ ap (λ v. ran (Ok tt) (sight g w) r (with_variables f v)) (sym new),
+      ∙ ap (λ v. told_in (Ok tt) (sight g w) r (with_variables f v)) (sym new),
 )
 writes g {w} {p = p} {r = r} {f = f} (Writes.to_field {t = t} at is m) = (
   kept_made m,
   ap (edit_by (sight g w) r f p) is ∙ ap (λ p. written (sight g w) r f p t) at
-      ∙ ap (λ w. ran (Ok tt) w r f) (present_made g m),
+      ∙ ap (λ w. told_in (Ok tt) w r f) (present_made g m),
 )
 
 pub edits : {g : Sight} {w w1 : History} {f f1 : Frame} {r : RunState} {p : PlaceView} {e : Edit}
     {o : Result (Unit {0}) Stop} → Edits w f r.delimiter p e o w1 f1 → HasMemory o →
-    Comes g w (λ parts. edit (sight g w) r f p e) (ran o (sight g w1) r f1) w1
+    Comes g w (λ parts. edit (sight g w) r f p e) (told_in o (sight g w1) r f1) w1
 edits {w} {w1} {f} {f1} {r} {p} {e} Edits.edit_memory has = absurd (has refl)
 edits {g} {w} {w1} {f} {f1} {r} {p} {e} (Edits.edit_faults {n = n} is same frame) has =
     leaf (kept_same same)
-    (ap (edit_by (sight g w) r f p.storage) is ∙ ap (λ (v : History). ran (Err (Faults n)) (sight g v) r f) (sym same)
-    ∙ ap (ran (Err (Faults n)) (sight g w1) r) (sym frame))
+    (ap (edit_by (sight g w) r f p.storage) is ∙ ap (λ (v : History). told_in (Err (Faults n)) (sight g v) r f) (sym same)
+    ∙ ap (told_in (Err (Faults n)) (sight g w1) r) (sym frame))
 edits {g} {w} {w1} {f} {f1} {r} {p} {e} (Edits.edited done_by frame) has =
-    let both = writes g {r = r} {f = f} done_by in leaf both.0 (both.1 ∙ ap (ran (Ok tt) (sight g w1) r) (sym frame))
+    let both = writes g {r = r} {f = f} done_by in leaf both.0 (both.1 ∙ ap (told_in (Ok tt) (sight g w1) r) (sym frame))
 
 pub assigns : {g : Sight} {w w1 : History} {f f1 : Frame} {r : RunState} {name : Option (List ℕ)} {v : List ℕ}
     {o : Result (Unit {0}) Stop} → Assigns w f r.delimiter name v o w1 f1 → HasMemory o →
-    Comes g w (λ parts. assign (sight g w) r f name v) (ran o (sight g w1) r f1) w1
+    Comes g w (λ parts. assign (sight g w) r f name v) (told_in o (sight g w1) r f1) w1
 assigns Assigns.assign_memory has = absurd (has refl)
 assigns {g} {w} {f = f} {r = r} {v = v} (Assigns.no_variable is) has =
     leaf kept_refl (ap (λ name. assign (sight g w) r f name v) is)
 assigns {g} {w} {w1} {f} {f1} {r} {v = v} {o = o} (Assigns.assigns is e) has =
-    subst (λ name. Comes g w (λ parts. assign (sight g w) r f name v) (ran o (sight g w1) r f1) w1) (sym is)
+    subst (λ name. Comes g w (λ parts. assign (sight g w) r f name v) (told_in o (sight g w1) r f1) w1) (sym is)
     (edits e has)
 
 declares : (g : Sight) {w w1 : History} {v v1 : VariablesView} {name : List ℕ} → Declares w v name w1 v1 →
@@ -205,7 +205,7 @@ moved {g} {w = w} {w1 = w1} {w2 = w2} kept h =
 
 pub declares_all : {g : Sight} {w w1 : History} {f f1 : Frame} {r : RunState} {names : List (List ℕ)}
     {o : Result (Unit {0}) Stop} → DeclaresAll w f names o w1 f1 → HasMemory o →
-    Comes g w (λ parts. declare_all (sight g w) r f names) (ran o (sight g w1) r f1) w1
+    Comes g w (λ parts. declare_all (sight g w) r f names) (told_in o (sight g w1) r f1) w1
 declares_all DeclaresAll.declare_memory has = absurd (has refl)
 declares_all {g} {w} {f = f} {r = r} (DeclaresAll.none_declared is) has =
     leaf kept_refl (ap (declare_all (sight g w) r f) is)
@@ -214,12 +214,12 @@ declares_all {g} {w} {w1 = w2} {f} {f1 = f2} {r} {o = o}
     let all = declares g d in
     let f_is : f1 ≡ with_variables f (declared f.variables name) = frame ∙ ap (with_variables f) (sym all.2) in
     let h = moved all.0 (declares_all {r = r} rest has) in
-    subst (λ ns. Comes g w (λ parts. declare_all (sight g w) r f ns) (ran o (sight g w2) r f2) w2) (sym is)
+    subst (λ ns. Comes g w (λ parts. declare_all (sight g w) r f ns) (told_in o (sight g w2) r f2) w2) (sym is)
     (subst
     (λ f1. Comes g w
     (λ parts. declare_all (with_global (sight g w) name (get w.now.globals (folded name))) r f1 names)
-    (ran o (sight g w2) r f2) w2) f_is
-    (subst (λ u. Comes g w (λ parts. declare_all u r f1 names) (ran o (sight g w2) r f2) w2) (sym all.1) h))
+    (told_in o (sight g w2) r f2) w2) f_is
+    (subst (λ u. Comes g w (λ parts. declare_all u r f1 names) (told_in o (sight g w2) r f2) w2) (sym all.1) h))
 
 pub sets : {g : Sight} {w w1 : History} {m : Referent} {p : Prop} {t : List ℕ} {o : Result (Unit {0}) Stop}
     {r : RunState} → Sets w m p t o w1 → HasMemory o →
@@ -414,7 +414,7 @@ pub parses_sent_message : {g : Sight} {t : List ℕ} {o : Result Message Stop} {
     Comes g w (λ parts. told (parsed sent_message t) (sight g w) r) (told o (sight g w) r) w
 parses_sent_message p has = parses sent_message ReadsMessage (λ e. e.messages) p has
 
-first_is : {s : Content} {path name : List ℕ} {kind : HandlerKind} {out : Result (Option Found) Fault} → AreExact →
+first_is : {s : Content} {path name : List ℕ} {kind : HandlerKind} {out : Result (Option HandlerFound) Fault} → AreExact →
     First s path kind name out → first_found s path kind name ≡ yielded out
 first_is {s} {path} {name} {kind} exact (First.nothing_left e a) = ap (λ p. first_found s p kind name) e
     ∙ ap yielded (sym a)
@@ -434,7 +434,7 @@ first_is {s} {path} {name} {kind} exact (First.no_script {rest = rest} {id = id}
     (λ _. Err (Faults Syntax))) (is_unread script ReadsScript (object_script s id) exact.cuts exact.scripts none)
     ∙ ap yielded (sym a)
 
-found_first : {g : Sight} {path name : List ℕ} {kind : HandlerKind} {out : Result (Option Found) Fault} {w : History}
+found_first : {g : Sight} {path name : List ℕ} {kind : HandlerKind} {out : Result (Option HandlerFound) Fault} {w : History}
     {r : RunState} → First w.now.stack path kind name out →
     Comes g w (λ parts. told (first_found w.now.stack path kind name) (sight g w) r)
     (told (yielded out) (sight g w) r) w
@@ -443,7 +443,7 @@ found_first {g} {path} {name} {kind} {w = w} {r = r} first = record {
   gives = λ exact asked. (0, λ fuel le. ap (λ x. told x (sight g w) r) (first_is exact first));
 }
 
-pub finds : {g : Sight} {path name : List ℕ} {kind : HandlerKind} {o : Result (Option Found) Stop} {w : History}
+pub finds : {g : Sight} {path name : List ℕ} {kind : HandlerKind} {o : Result (Option HandlerFound) Stop} {w : History}
     {r : RunState} → Finds w.now.stack path kind name o → HasMemory o →
     Comes g w (λ parts. told (first_found w.now.stack path kind name) (sight g w) r) (told o (sight g w) r) w
 finds Finds.find_memory has = absurd (has refl)

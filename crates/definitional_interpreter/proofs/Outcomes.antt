@@ -3,7 +3,7 @@
 use Rattle.std.proofs.Common.{◌≡◌, refl, sym, subst}
 use Rattle.preservation.specs.Laws.{HasMemory}
 use Rattle.preservation.proofs.Ends.{given, stopped, faulted}
-use Rattle.definitional_interpreter.specs.Told.{told, ran}
+use Rattle.definitional_interpreter.specs.Told.{told, told_in}
 use Rattle.definitional_interpreter.specs.Changes.{edit, add_objects, turn}
 use Rattle.definitional_interpreter.proofs.Comes.{Sight, sight, Comes, HasExternal}
 use Rattle.definitional_interpreter.proofs.Chain.{done, later, after_ok, after_stop, after_in_ok, after_in_stop}
@@ -441,212 +441,220 @@ mutual
 
   pub form_comes : {g : Sight} {w w2 : History} {r r2 : RunState} {f f2 : Frame} {d : ℕ} {s : stm.Stmt}
       {oh : Result How Stop} → Form w r f d s oh w2 r2 f2 → HasMemory oh
-      → Comes g w (λ parts. parts.form (sight g w) r f d s) (ran oh (sight g w2) r2 f2) w2
+      → Comes g w (λ parts. parts.form (sight g w) r f d s) (told_in oh (sight g w2) r2 f2) w2
   form_comes Form.form_memory has = absurd (has refl)
   form_comes {g} (Form.show_stops {s = s} {w = w} {w1 = w1} {r = r} {r1 = r1} {f = f} {d = d} {z = z} p1 p2) has = subst
-      (λ (s : stm.Stmt). Comes g w (λ parts. parts.form (sight g w) r f d s) (ran (Err z) (sight g w1) r1 f) w1)
+      (λ (s : stm.Stmt). Comes g w (λ parts. parts.form (sight g w) r f d s) (told_in (Err z) (sight g w1) r1 f) w1)
       (sym p1) (later (after_in_stop _ _ (val_comes p2 (stopped has))))
   form_comes {g} (Form.show {s = s} {e = e} {w = w} {w1 = w1} {r = r} {r2 = r2} {f = f} {d = d} p1 p2 p3) has = subst
-      (λ (s : stm.Stmt). Comes g w (λ parts. parts.form (sight g w) r f d s) (ran (Ok Next) (sight g w1) r2 f) w1)
+      (λ (s : stm.Stmt). Comes g w (λ parts. parts.form (sight g w) r f d s) (told_in (Ok Next) (sight g w1) r2 f) w1)
       (sym p1) (subst (λ (r2 : RunState). Comes g w (λ parts. parts.form (sight g w) r f d (stm.put e))
-      (ran (Ok Next) (sight g w1) r2 f) w1) (sym p3) (later (after_in_ok _ _ (val_comes p2 given) (done))))
+      (told_in (Ok Next) (sight g w1) r2 f) w1) (sym p3) (later (after_in_ok _ _ (val_comes p2 given) (done))))
   form_comes {g} (Form.put_stops {s = s} {w = w} {w1 = w1} {r = r} {r1 = r1} {f = f} {d = d} {z = z} p1 p2) has = subst
-      (λ (s : stm.Stmt). Comes g w (λ parts. parts.form (sight g w) r f d s) (ran (Err z) (sight g w1) r1 f) w1)
+      (λ (s : stm.Stmt). Comes g w (λ parts. parts.form (sight g w) r f d s) (told_in (Err z) (sight g w1) r1 f) w1)
       (sym p1) (later (after_in_stop _ _ (val_comes p2 (stopped has))))
   form_comes {g} (Form.put_nowhere {s = s} {w = w} {w2 = w2} {r = r} {r2 = r2} {f = f} {d = d} {z = z} p1 p2 p3)
-      has = subst (λ (s : stm.Stmt). Comes g w (λ parts. parts.form (sight g w) r f d s) (ran (Err z) (sight g w2) r2 f)
-      w2) (sym p1) (later (after_in_ok _ _ (val_comes p2 given) (after_in_stop _ _ (resolves_comes p3 (stopped has)))))
+      has = subst (λ (s : stm.Stmt). Comes g w (λ parts. parts.form (sight g w) r f d s)
+      (told_in (Err z) (sight g w2) r2 f) w2) (sym p1)
+      (later (after_in_ok _ _ (val_comes p2 given) (after_in_stop _ _ (resolves_comes p3 (stopped has)))))
   form_comes {g} (Form.put_fails {s = s} {w = w} {w3 = w3} {r = r} {r2 = r2} {f = f} {f1 = f1} {d = d} {z = z} p1 p2 p3
       p4) has = subst (λ (s : stm.Stmt). Comes g w (λ parts. parts.form (sight g w) r f d s)
-      (ran (Err z) (sight g w3) r2 f1) w3) (sym p1)
+      (told_in (Err z) (sight g w3) r2 f1) w3) (sym p1)
       (later (after_in_ok _ _ (val_comes p2 given)
       (after_in_ok _ _ (resolves_comes p3 given) (after_run_stop _ (edits p4 (stopped has))))))
   form_comes {g} (Form.put {s = s} {w = w} {w3 = w3} {r = r} {r2 = r2} {f = f} {f1 = f1} {d = d} p1 p2 p3 p4)
       has = subst (λ (s : stm.Stmt). Comes g w (λ parts. parts.form (sight g w) r f d s)
-      (ran (Ok Next) (sight g w3) r2 f1) w3) (sym p1)
+      (told_in (Ok Next) (sight g w3) r2 f1) w3) (sym p1)
       (later (after_in_ok _ _ (val_comes p2 given)
       (after_in_ok _ _ (resolves_comes p3 given) (after_run_ok _ (edits p4 given) (done)))))
   form_comes {g} (Form.get_stops {s = s} {w = w} {w1 = w1} {r = r} {r1 = r1} {f = f} {d = d} {z = z} p1 p2) has = subst
-      (λ (s : stm.Stmt). Comes g w (λ parts. parts.form (sight g w) r f d s) (ran (Err z) (sight g w1) r1 f) w1)
+      (λ (s : stm.Stmt). Comes g w (λ parts. parts.form (sight g w) r f d s) (told_in (Err z) (sight g w1) r1 f) w1)
       (sym p1) (later (after_in_stop _ _ (val_comes p2 (stopped has))))
   form_comes {g} (Form.get_fails {s = s} {w = w} {w2 = w2} {r = r} {r1 = r1} {f = f} {f1 = f1} {d = d} {z = z} p1 p2 p3)
       has = subst (λ (s : stm.Stmt). Comes g w (λ parts. parts.form (sight g w) r f d s)
-      (ran (Err z) (sight g w2) r1 f1) w2) (sym p1)
+      (told_in (Err z) (sight g w2) r1 f1) w2) (sym p1)
       (later (after_in_ok _ _ (val_comes p2 given) (after_run_stop _ (edits p3 (stopped has)))))
   form_comes {g} (Form.get {s = s} {w = w} {w2 = w2} {r = r} {r1 = r1} {f = f} {f1 = f1} {d = d} p1 p2 p3) has = subst
-      (λ (s : stm.Stmt). Comes g w (λ parts. parts.form (sight g w) r f d s) (ran (Ok Next) (sight g w2) r1 f1) w2)
+      (λ (s : stm.Stmt). Comes g w (λ parts. parts.form (sight g w) r f d s) (told_in (Ok Next) (sight g w2) r1 f1) w2)
       (sym p1) (later (after_in_ok _ _ (val_comes p2 given) (after_run_ok _ (edits p3 given) (done))))
   form_comes {g} (Form.set_stops {s = s} {w = w} {w1 = w1} {r = r} {r1 = r1} {f = f} {d = d} {z = z} p1 p2) has = subst
-      (λ (s : stm.Stmt). Comes g w (λ parts. parts.form (sight g w) r f d s) (ran (Err z) (sight g w1) r1 f) w1)
+      (λ (s : stm.Stmt). Comes g w (λ parts. parts.form (sight g w) r f d s) (told_in (Err z) (sight g w1) r1 f) w1)
       (sym p1) (later (after_in_stop _ _ (val_comes p2 (stopped has))))
   form_comes {g} (Form.set_nowhere {s = s} {w = w} {w2 = w2} {r = r} {r2 = r2} {f = f} {d = d} {z = z} p1 p2 p3)
-      has = subst (λ (s : stm.Stmt). Comes g w (λ parts. parts.form (sight g w) r f d s) (ran (Err z) (sight g w2) r2 f)
-      w2) (sym p1) (later (after_in_ok _ _ (val_comes p2 given) (after_in_stop _ _ (meets_comes p3 (stopped has)))))
+      has = subst (λ (s : stm.Stmt). Comes g w (λ parts. parts.form (sight g w) r f d s)
+      (told_in (Err z) (sight g w2) r2 f) w2) (sym p1)
+      (later (after_in_ok _ _ (val_comes p2 given) (after_in_stop _ _ (meets_comes p3 (stopped has)))))
   form_comes {g} (Form.set_fails {s = s} {w = w} {w3 = w3} {r = r} {r2 = r2} {f = f} {d = d} {z = z} p1 p2 p3 p4)
-      has = subst (λ (s : stm.Stmt). Comes g w (λ parts. parts.form (sight g w) r f d s) (ran (Err z) (sight g w3) r2 f)
-      w3) (sym p1) (later (after_in_ok _ _ (val_comes p2 given)
+      has = subst (λ (s : stm.Stmt). Comes g w (λ parts. parts.form (sight g w) r f d s)
+      (told_in (Err z) (sight g w3) r2 f) w3) (sym p1)
+      (later (after_in_ok _ _ (val_comes p2 given)
       (after_in_ok _ _ (meets_comes p3 given) (after_in_stop _ _ (sets p4 (stopped has))))))
   form_comes {g} (Form.set {s = s} {w = w} {w3 = w3} {r = r} {r2 = r2} {f = f} {d = d} p1 p2 p3 p4) has = subst
-      (λ (s : stm.Stmt). Comes g w (λ parts. parts.form (sight g w) r f d s) (ran (Ok Next) (sight g w3) r2 f) w3)
+      (λ (s : stm.Stmt). Comes g w (λ parts. parts.form (sight g w) r f d s) (told_in (Ok Next) (sight g w3) r2 f) w3)
       (sym p1) (later (after_in_ok _ _ (val_comes p2 given)
       (after_in_ok _ _ (meets_comes p3 given) (after_in_ok _ _ (sets p4 given) (done)))))
   form_comes {g} (Form.set_run_stops {s = s} {w = w} {w1 = w1} {r = r} {r1 = r1} {f = f} {d = d} {z = z} p1 p2)
-      has = subst (λ (s : stm.Stmt). Comes g w (λ parts. parts.form (sight g w) r f d s) (ran (Err z) (sight g w1) r1 f)
-      w1) (sym p1) (later (after_in_stop _ _ (val_comes p2 (stopped has))))
+      has = subst (λ (s : stm.Stmt). Comes g w (λ parts. parts.form (sight g w) r f d s)
+      (told_in (Err z) (sight g w1) r1 f) w1) (sym p1) (later (after_in_stop _ _ (val_comes p2 (stopped has))))
   form_comes {g} (Form.set_run_fails {s = s} {w = w} {w1 = w1} {r = r} {r1 = r1} {f = f} {d = d} {fa = fa} p1 p2 p3)
       has = subst (λ (s : stm.Stmt). Comes g w (λ parts. parts.form (sight g w) r f d s)
-      (ran (Err (Faults fa)) (sight g w1) r1 f) w1) (sym p1)
+      (told_in (Err (Faults fa)) (sight g w1) r1 f) w1) (sym p1)
       (later (after_in_ok _ _ (val_comes p2 given) (computed_err _ _ p3 (done))))
   form_comes {g} (Form.set_run {s = s} {w = w} {w1 = w1} {r = r} {r2 = r2} {f = f} {d = d} p1 p2 p3) has = subst
-      (λ (s : stm.Stmt). Comes g w (λ parts. parts.form (sight g w) r f d s) (ran (Ok Next) (sight g w1) r2 f) w1)
+      (λ (s : stm.Stmt). Comes g w (λ parts. parts.form (sight g w) r f d s) (told_in (Ok Next) (sight g w1) r2 f) w1)
       (sym p1) (later (after_in_ok _ _ (val_comes p2 given) (computed_ok _ _ p3 (done))))
   form_comes {g} (Form.add {s = s} {w = w} {w1 = w1} {r = r} {r1 = r1} {f = f} {f1 = f1} {d = d} {oh = oh} p1 p2)
-      has = subst (λ (s : stm.Stmt). Comes g w (λ parts. parts.form (sight g w) r f d s) (ran oh (sight g w1) r1 f1) w1)
-      (sym p1) (later (alters_comes p2 has))
+      has = subst (λ (s : stm.Stmt). Comes g w (λ parts. parts.form (sight g w) r f d s) (told_in oh (sight g w1) r1 f1)
+      w1) (sym p1) (later (alters_comes p2 has))
   form_comes {g} (Form.subtract {s = s} {w = w} {w1 = w1} {r = r} {r1 = r1} {f = f} {f1 = f1} {d = d} {oh = oh} p1 p2)
-      has = subst (λ (s : stm.Stmt). Comes g w (λ parts. parts.form (sight g w) r f d s) (ran oh (sight g w1) r1 f1) w1)
-      (sym p1) (later (alters_comes p2 has))
+      has = subst (λ (s : stm.Stmt). Comes g w (λ parts. parts.form (sight g w) r f d s) (told_in oh (sight g w1) r1 f1)
+      w1) (sym p1) (later (alters_comes p2 has))
   form_comes {g} (Form.multiply {s = s} {w = w} {w1 = w1} {r = r} {r1 = r1} {f = f} {f1 = f1} {d = d} {oh = oh} p1 p2)
-      has = subst (λ (s : stm.Stmt). Comes g w (λ parts. parts.form (sight g w) r f d s) (ran oh (sight g w1) r1 f1) w1)
-      (sym p1) (later (alters_comes p2 has))
+      has = subst (λ (s : stm.Stmt). Comes g w (λ parts. parts.form (sight g w) r f d s) (told_in oh (sight g w1) r1 f1)
+      w1) (sym p1) (later (alters_comes p2 has))
   form_comes {g} (Form.divide {s = s} {w = w} {w1 = w1} {r = r} {r1 = r1} {f = f} {f1 = f1} {d = d} {oh = oh} p1 p2)
-      has = subst (λ (s : stm.Stmt). Comes g w (λ parts. parts.form (sight g w) r f d s) (ran oh (sight g w1) r1 f1) w1)
-      (sym p1) (later (alters_comes p2 has))
+      has = subst (λ (s : stm.Stmt). Comes g w (λ parts. parts.form (sight g w) r f d s) (told_in oh (sight g w1) r1 f1)
+      w1) (sym p1) (later (alters_comes p2 has))
   form_comes {g} (Form.delete_stops {s = s} {w = w} {w1 = w1} {r = r} {r1 = r1} {f = f} {d = d} {z = z} p1 p2)
-      has = subst (λ (s : stm.Stmt). Comes g w (λ parts. parts.form (sight g w) r f d s) (ran (Err z) (sight g w1) r1 f)
-      w1) (sym p1) (later (after_in_stop _ _ (chunk_of_comes p2 (stopped has))))
+      has = subst (λ (s : stm.Stmt). Comes g w (λ parts. parts.form (sight g w) r f d s)
+      (told_in (Err z) (sight g w1) r1 f) w1) (sym p1) (later (after_in_stop _ _ (chunk_of_comes p2 (stopped has))))
   form_comes {g} (Form.delete_nowhere {s = s} {w = w} {w2 = w2} {r = r} {r2 = r2} {f = f} {d = d} {z = z} p1 p2 p3)
-      has = subst (λ (s : stm.Stmt). Comes g w (λ parts. parts.form (sight g w) r f d s) (ran (Err z) (sight g w2) r2 f)
-      w2) (sym p1) (later (after_in_ok _ _ (chunk_of_comes p2 given)
-      (after_in_stop _ _ (resolves_comes p3 (stopped has)))))
+      has = subst (λ (s : stm.Stmt). Comes g w (λ parts. parts.form (sight g w) r f d s)
+      (told_in (Err z) (sight g w2) r2 f) w2) (sym p1)
+      (later (after_in_ok _ _ (chunk_of_comes p2 given) (after_in_stop _ _ (resolves_comes p3 (stopped has)))))
   form_comes {g} (Form.delete_fails {s = s} {w = w} {w2 = w2} {w3 = w3} {r = r} {r2 = r2} {f = f} {f1 = f1} {d = d}
       {pl1 = pl1} {z = z} p1 p2 p3 p4 p5) has = subst
-      (λ (s : stm.Stmt). Comes g w (λ parts. parts.form (sight g w) r f d s) (ran (Err z) (sight g w3) r2 f1) w3)
+      (λ (s : stm.Stmt). Comes g w (λ parts. parts.form (sight g w) r f d s) (told_in (Err z) (sight g w3) r2 f1) w3)
       (sym p1) (later (after_in_ok _ _ (chunk_of_comes p2 given)
       (after_in_ok _ _ (resolves_comes p3 given)
       (after_run_stop _ (subst (λ (pl1 : PlaceView). Comes g w2 (λ parts. edit (sight g w2) r2 f pl1 Delete)
-      (ran (Err z) (sight g w3) r2 f1) w3) p4 (edits p5 (stopped has)))))))
+      (told_in (Err z) (sight g w3) r2 f1) w3) p4 (edits p5 (stopped has)))))))
   form_comes {g} (Form.delete {s = s} {w = w} {w2 = w2} {w3 = w3} {r = r} {r2 = r2} {f = f} {f1 = f1} {d = d}
       {pl1 = pl1} p1 p2 p3 p4 p5) has = subst
-      (λ (s : stm.Stmt). Comes g w (λ parts. parts.form (sight g w) r f d s) (ran (Ok Next) (sight g w3) r2 f1) w3)
+      (λ (s : stm.Stmt). Comes g w (λ parts. parts.form (sight g w) r f d s) (told_in (Ok Next) (sight g w3) r2 f1) w3)
       (sym p1) (later (after_in_ok _ _ (chunk_of_comes p2 given)
       (after_in_ok _ _ (resolves_comes p3 given)
       (after_run_ok _ (subst (λ (pl1 : PlaceView). Comes g w2 (λ parts. edit (sight g w2) r2 f pl1 Delete)
-      (ran (Ok tt) (sight g w3) r2 f1) w3) p4 (edits p5 given)) (done)))))
+      (told_in (Ok tt) (sight g w3) r2 f1) w3) p4 (edits p5 given)) (done)))))
   form_comes {g} (Form.do_stops {s = s} {w = w} {w1 = w1} {r = r} {r1 = r1} {f = f} {d = d} {z = z} p1 p2) has = subst
-      (λ (s : stm.Stmt). Comes g w (λ parts. parts.form (sight g w) r f d s) (ran (Err z) (sight g w1) r1 f) w1)
+      (λ (s : stm.Stmt). Comes g w (λ parts. parts.form (sight g w) r f d s) (told_in (Err z) (sight g w1) r1 f) w1)
       (sym p1) (later (after_in_stop _ _ (val_comes p2 (stopped has))))
   form_comes {g} (Form.do_value {s = s} {w = w} {w2 = w2} {r = r} {r2 = r2} {f = f} {f1 = f1} {d = d} {oh = oh} p1 p2
-      p3) has = subst (λ (s : stm.Stmt). Comes g w (λ parts. parts.form (sight g w) r f d s) (ran oh (sight g w2) r2 f1)
-      w2) (sym p1) (later (after_in_ok _ _ (val_comes p2 given) (do_text_comes p3 has)))
+      p3) has = subst (λ (s : stm.Stmt). Comes g w (λ parts. parts.form (sight g w) r f d s)
+      (told_in oh (sight g w2) r2 f1) w2) (sym p1) (later (after_in_ok _ _ (val_comes p2 given) (do_text_comes p3 has)))
   form_comes {g} (Form.send_text_stops {s = s} {w = w} {w1 = w1} {r = r} {r1 = r1} {f = f} {d = d} {z = z} p1 p2)
-      has = subst (λ (s : stm.Stmt). Comes g w (λ parts. parts.form (sight g w) r f d s) (ran (Err z) (sight g w1) r1 f)
-      w1) (sym p1) (later (after_in_stop _ _ (val_comes p2 (stopped has))))
+      has = subst (λ (s : stm.Stmt). Comes g w (λ parts. parts.form (sight g w) r f d s)
+      (told_in (Err z) (sight g w1) r1 f) w1) (sym p1) (later (after_in_stop _ _ (val_comes p2 (stopped has))))
   form_comes {g} (Form.send_nowhere {s = s} {w = w} {w2 = w2} {r = r} {r2 = r2} {f = f} {d = d} {z = z} p1 p2 p3)
-      has = subst (λ (s : stm.Stmt). Comes g w (λ parts. parts.form (sight g w) r f d s) (ran (Err z) (sight g w2) r2 f)
-      w2) (sym p1) (later (after_in_ok _ _ (val_comes p2 given) (after_in_stop _ _ (meets_comes p3 (stopped has)))))
+      has = subst (λ (s : stm.Stmt). Comes g w (λ parts. parts.form (sight g w) r f d s)
+      (told_in (Err z) (sight g w2) r2 f) w2) (sym p1)
+      (later (after_in_ok _ _ (val_comes p2 given) (after_in_stop _ _ (meets_comes p3 (stopped has)))))
   form_comes {g} (Form.send_stops {s = s} {w = w} {w3 = w3} {r = r} {r3 = r3} {f = f} {d = d} {z = z} p1 p2 p3 p4)
-      has = subst (λ (s : stm.Stmt). Comes g w (λ parts. parts.form (sight g w) r f d s) (ran (Err z) (sight g w3) r3 f)
-      w3) (sym p1) (later (after_in_ok _ _ (val_comes p2 given)
+      has = subst (λ (s : stm.Stmt). Comes g w (λ parts. parts.form (sight g w) r f d s)
+      (told_in (Err z) (sight g w3) r3 f) w3) (sym p1)
+      (later (after_in_ok _ _ (val_comes p2 given)
       (after_in_ok _ _ (meets_comes p3 given) (after_in_stop _ _ (sends_text_comes p4 (stopped has))))))
   form_comes {g} (Form.send {s = s} {w = w} {w3 = w3} {r = r} {r3 = r3} {f = f} {d = d} p1 p2 p3 p4) has = subst
-      (λ (s : stm.Stmt). Comes g w (λ parts. parts.form (sight g w) r f d s) (ran (Ok Next) (sight g w3) r3 f) w3)
+      (λ (s : stm.Stmt). Comes g w (λ parts. parts.form (sight g w) r f d s) (told_in (Ok Next) (sight g w3) r3 f) w3)
       (sym p1) (later (after_in_ok _ _ (val_comes p2 given)
       (after_in_ok _ _ (meets_comes p3 given) (after_in_ok _ _ (sends_text_comes p4 given) (done)))))
   form_comes {g} (Form.go_nowhere {s = s} {w = w} {w1 = w1} {r = r} {r1 = r1} {f = f} {d = d} {z = z} p1 p2) has = subst
-      (λ (s : stm.Stmt). Comes g w (λ parts. parts.form (sight g w) r f d s) (ran (Err z) (sight g w1) r1 f) w1)
+      (λ (s : stm.Stmt). Comes g w (λ parts. parts.form (sight g w) r f d s) (told_in (Err z) (sight g w1) r1 f) w1)
       (sym p1) (later (after_in_stop _ _ (leads_comes p2 (stopped has))))
   form_comes {g} (Form.go_stops {s = s} {w = w} {w2 = w2} {r = r} {r2 = r2} {f = f} {d = d} {z = z} p1 p2 p3)
-      has = subst (λ (s : stm.Stmt). Comes g w (λ parts. parts.form (sight g w) r f d s) (ran (Err z) (sight g w2) r2 f)
-      w2) (sym p1) (later (after_in_ok _ _ (leads_comes p2 given) (after_in_stop _ _ (goes_comes p3 (stopped has)))))
+      has = subst (λ (s : stm.Stmt). Comes g w (λ parts. parts.form (sight g w) r f d s)
+      (told_in (Err z) (sight g w2) r2 f) w2) (sym p1)
+      (later (after_in_ok _ _ (leads_comes p2 given) (after_in_stop _ _ (goes_comes p3 (stopped has)))))
   form_comes {g} (Form.go {s = s} {w = w} {w2 = w2} {r = r} {r2 = r2} {f = f} {d = d} p1 p2 p3) has = subst
-      (λ (s : stm.Stmt). Comes g w (λ parts. parts.form (sight g w) r f d s) (ran (Ok Next) (sight g w2) r2 f) w2)
+      (λ (s : stm.Stmt). Comes g w (λ parts. parts.form (sight g w) r f d s) (told_in (Ok Next) (sight g w2) r2 f) w2)
       (sym p1) (later (after_in_ok _ _ (leads_comes p2 given) (after_in_ok _ _ (goes_comes p3 given) (done))))
   form_comes {g} (Form.global_stops {s = s} {w = w} {w1 = w1} {f = f} {f1 = f1} {z = z} {r = r} {d = d} p1 p2)
-      has = subst (λ (s : stm.Stmt). Comes g w (λ parts. parts.form (sight g w) r f d s) (ran (Err z) (sight g w1) r f1)
-      w1) (sym p1) (later (after_run_stop _ (declares_all p2 (stopped has))))
+      has = subst (λ (s : stm.Stmt). Comes g w (λ parts. parts.form (sight g w) r f d s)
+      (told_in (Err z) (sight g w1) r f1) w1) (sym p1) (later (after_run_stop _ (declares_all p2 (stopped has))))
   form_comes {g} (Form.global {s = s} {w = w} {w1 = w1} {f = f} {f1 = f1} {r = r} {d = d} p1 p2) has = subst
-      (λ (s : stm.Stmt). Comes g w (λ parts. parts.form (sight g w) r f d s) (ran (Ok Next) (sight g w1) r f1) w1)
+      (λ (s : stm.Stmt). Comes g w (λ parts. parts.form (sight g w) r f d s) (told_in (Ok Next) (sight g w1) r f1) w1)
       (sym p1) (later (after_run_ok _ (declares_all p2 given) (done)))
   form_comes {g} (Form.exit_repeat {s = s} {w = w} {r = r} {f = f} {d = d} p1) has = subst
-      (λ (s : stm.Stmt). Comes g w (λ parts. parts.form (sight g w) r f d s) (ran (Ok ExitRepeat) (sight g w) r f) w)
-      (sym p1) (later (done))
+      (λ (s : stm.Stmt). Comes g w (λ parts. parts.form (sight g w) r f d s) (told_in (Ok ExitRepeat) (sight g w) r f)
+      w) (sym p1) (later (done))
   form_comes {g} (Form.next_repeat {s = s} {w = w} {r = r} {f = f} {d = d} p1) has = subst
-      (λ (s : stm.Stmt). Comes g w (λ parts. parts.form (sight g w) r f d s) (ran (Ok NextRepeat) (sight g w) r f) w)
-      (sym p1) (later (done))
+      (λ (s : stm.Stmt). Comes g w (λ parts. parts.form (sight g w) r f d s) (told_in (Ok NextRepeat) (sight g w) r f)
+      w) (sym p1) (later (done))
   form_comes {g} (Form.exit_to_hypercard {s = s} {w = w} {r = r} {f = f} {d = d} p1) has = subst
-      (λ (s : stm.Stmt). Comes g w (λ parts. parts.form (sight g w) r f d s) (ran (Err Exited) (sight g w) r f) w)
+      (λ (s : stm.Stmt). Comes g w (λ parts. parts.form (sight g w) r f d s) (told_in (Err Exited) (sight g w) r f) w)
       (sym p1) (later (done))
   form_comes {g} (Form.exit_handler {s = s} {w = w} {r = r} {f = f} {d = d} p1) has = subst
-      (λ (s : stm.Stmt). Comes g w (λ parts. parts.form (sight g w) r f d s) (ran (Ok Exit) (sight g w) r f) w) (sym p1)
-      (later (done))
-  form_comes {g} (Form.pass {s = s} {w = w} {r = r} {f = f} {d = d} p1) has = subst
-      (λ (s : stm.Stmt). Comes g w (λ parts. parts.form (sight g w) r f d s) (ran (Ok Pass) (sight g w) r f) w) (sym p1)
-      (later (done))
-  form_comes {g} (Form.return_nothing {s = s} {w = w} {r = r} {f = f} {d = d} p1) has = subst
-      (λ (s : stm.Stmt). Comes g w (λ parts. parts.form (sight g w) r f d s) (ran (Ok (Returns [])) (sight g w) r f) w)
+      (λ (s : stm.Stmt). Comes g w (λ parts. parts.form (sight g w) r f d s) (told_in (Ok Exit) (sight g w) r f) w)
       (sym p1) (later (done))
+  form_comes {g} (Form.pass {s = s} {w = w} {r = r} {f = f} {d = d} p1) has = subst
+      (λ (s : stm.Stmt). Comes g w (λ parts. parts.form (sight g w) r f d s) (told_in (Ok Pass) (sight g w) r f) w)
+      (sym p1) (later (done))
+  form_comes {g} (Form.return_nothing {s = s} {w = w} {r = r} {f = f} {d = d} p1) has = subst
+      (λ (s : stm.Stmt). Comes g w (λ parts. parts.form (sight g w) r f d s) (told_in (Ok (Returns [])) (sight g w) r f)
+      w) (sym p1) (later (done))
   form_comes {g} (Form.return_stops {s = s} {w = w} {w1 = w1} {r = r} {r1 = r1} {f = f} {d = d} {z = z} p1 p2)
-      has = subst (λ (s : stm.Stmt). Comes g w (λ parts. parts.form (sight g w) r f d s) (ran (Err z) (sight g w1) r1 f)
-      w1) (sym p1) (later (after_in_stop _ _ (val_comes p2 (stopped has))))
+      has = subst (λ (s : stm.Stmt). Comes g w (λ parts. parts.form (sight g w) r f d s)
+      (told_in (Err z) (sight g w1) r1 f) w1) (sym p1) (later (after_in_stop _ _ (val_comes p2 (stopped has))))
   form_comes {g} (Form.return_value {s = s} {w = w} {w1 = w1} {r = r} {r1 = r1} {f = f} {d = d} {v = v} p1 p2)
       has = subst (λ (s : stm.Stmt). Comes g w (λ parts. parts.form (sight g w) r f d s)
-      (ran (Ok (Returns v)) (sight g w1) r1 f) w1) (sym p1) (later (after_in_ok _ _ (val_comes p2 given) (done)))
+      (told_in (Ok (Returns v)) (sight g w1) r1 f) w1) (sym p1) (later (after_in_ok _ _ (val_comes p2 given) (done)))
   form_comes {g} (Form.command_stops {s = s} {n = n} {es = es} {i = i} {d = d} {f = f} {w = w} {w1 = w1} {r = r}
       {r1 = r1} {z = z} p1 p2 p3) has = subst
-      (λ (s : stm.Stmt). Comes g w (λ parts. parts.form (sight g w) r f d s) (ran (Err z) (sight g w1) r1 f) w1)
+      (λ (s : stm.Stmt). Comes g w (λ parts. parts.form (sight g w) r f d s) (told_in (Err z) (sight g w1) r1 f) w1)
       (sym p1) (later (after_in_stop _ _
       (subst (λ (i : ℕ). Comes g w (λ parts. parts.calls (sight g w) r f d i n es Command)
       (told (Err z) (sight g w1) r1) w1) p2 (calls_comes p3 (stopped has)))))
   form_comes {g} (Form.command {s = s} {n = n} {v = v} {es = es} {i = i} {d = d} {f = f} {w = w} {w1 = w1} {r = r}
       {r1 = r1} p1 p2 p3) has = subst
-      (λ (s : stm.Stmt). Comes g w (λ parts. parts.form (sight g w) r f d s) (ran (Ok Next) (sight g w1) r1 f) w1)
+      (λ (s : stm.Stmt). Comes g w (λ parts. parts.form (sight g w) r f d s) (told_in (Ok Next) (sight g w1) r1 f) w1)
       (sym p1) (later (after_in_ok _ _
       (subst (λ (i : ℕ). Comes g w (λ parts. parts.calls (sight g w) r f d i n es Command) (told (Ok v) (sight g w1) r1)
       w1) p2 (calls_comes p3 given)) (done)))
   form_comes {g} (Form.if_stops {s = s} {w = w} {w1 = w1} {r = r} {r1 = r1} {f = f} {d = d} {z = z} p1 p2) has = subst
-      (λ (s : stm.Stmt). Comes g w (λ parts. parts.form (sight g w) r f d s) (ran (Err z) (sight g w1) r1 f) w1)
+      (λ (s : stm.Stmt). Comes g w (λ parts. parts.form (sight g w) r f d s) (told_in (Err z) (sight g w1) r1 f) w1)
       (sym p1) (later (after_in_stop _ _ (truth_val_comes p2 (stopped has))))
   form_comes {g} (Form.if_true {s = s} {w = w} {w2 = w2} {r = r} {r2 = r2} {f = f} {f1 = f1} {d = d} {oh = oh} p1 p2 p3
-      p4) has = subst (λ (s : stm.Stmt). Comes g w (λ parts. parts.form (sight g w) r f d s) (ran oh (sight g w2) r2 f1)
-      w2) (sym p1) (later (after_in_ok _ _ (truth_val_comes p2 given) (choose_true _ _ p3 (block_comes p4 has))))
+      p4) has = subst (λ (s : stm.Stmt). Comes g w (λ parts. parts.form (sight g w) r f d s)
+      (told_in oh (sight g w2) r2 f1) w2) (sym p1)
+      (later (after_in_ok _ _ (truth_val_comes p2 given) (choose_true _ _ p3 (block_comes p4 has))))
   form_comes {g} (Form.if_false {s = s} {w = w} {w2 = w2} {r = r} {r2 = r2} {f = f} {f1 = f1} {d = d} {oh = oh} p1 p2 p3
-      p4) has = subst (λ (s : stm.Stmt). Comes g w (λ parts. parts.form (sight g w) r f d s) (ran oh (sight g w2) r2 f1)
-      w2) (sym p1) (later (after_in_ok _ _ (truth_val_comes p2 given) (choose_false _ _ p3 (block_comes p4 has))))
+      p4) has = subst (λ (s : stm.Stmt). Comes g w (λ parts. parts.form (sight g w) r f d s)
+      (told_in oh (sight g w2) r2 f1) w2) (sym p1)
+      (later (after_in_ok _ _ (truth_val_comes p2 given) (choose_false _ _ p3 (block_comes p4 has))))
   form_comes {g} (Form.forever {s = s} {w = w} {w1 = w1} {r = r} {r1 = r1} {f = f} {f1 = f1} {d = d} {oh = oh} p1 p2)
-      has = subst (λ (s : stm.Stmt). Comes g w (λ parts. parts.form (sight g w) r f d s) (ran oh (sight g w1) r1 f1) w1)
-      (sym p1) (later (endless_comes p2 has))
+      has = subst (λ (s : stm.Stmt). Comes g w (λ parts. parts.form (sight g w) r f d s) (told_in oh (sight g w1) r1 f1)
+      w1) (sym p1) (later (endless_comes p2 has))
   form_comes {g} (Form.times_stops {s = s} {w = w} {w1 = w1} {r = r} {r1 = r1} {f = f} {d = d} {z = z} p1 p2)
-      has = subst (λ (s : stm.Stmt). Comes g w (λ parts. parts.form (sight g w) r f d s) (ran (Err z) (sight g w1) r1 f)
-      w1) (sym p1) (later (after_in_stop _ _ (number_val_comes p2 (stopped has))))
+      has = subst (λ (s : stm.Stmt). Comes g w (λ parts. parts.form (sight g w) r f d s)
+      (told_in (Err z) (sight g w1) r1 f) w1) (sym p1) (later (after_in_stop _ _ (number_val_comes p2 (stopped has))))
   form_comes {g} (Form.times {s = s} {ss = ss} {w = w} {w1 = w1} {w2 = w2} {r = r} {r1 = r1} {r2 = r2} {f = f} {f1 = f1}
       {d = d} {co = co} {oh = oh} p1 p2 p3 p4) has = subst
-      (λ (s : stm.Stmt). Comes g w (λ parts. parts.form (sight g w) r f d s) (ran oh (sight g w2) r2 f1) w2) (sym p1)
-      (later (after_in_ok _ _ (number_val_comes p2 given)
+      (λ (s : stm.Stmt). Comes g w (λ parts. parts.form (sight g w) r f d s) (told_in oh (sight g w2) r2 f1) w2)
+      (sym p1) (later (after_in_ok _ _ (number_val_comes p2 given)
       (subst (λ (co : CounterState). Comes g w1 (λ parts. parts.counts (sight g w1) r1 f d None co ss)
-      (ran oh (sight g w2) r2 f1) w2) p3 (counts_comes p4 has))))
+      (told_in oh (sight g w2) r2 f1) w2) p3 (counts_comes p4 has))))
   form_comes {g} (Form.while {s = s} {w = w} {w1 = w1} {r = r} {r1 = r1} {f = f} {f1 = f1} {d = d} {oh = oh} p1 p2)
-      has = subst (λ (s : stm.Stmt). Comes g w (λ parts. parts.form (sight g w) r f d s) (ran oh (sight g w1) r1 f1) w1)
-      (sym p1) (later (while_comes p2 has))
+      has = subst (λ (s : stm.Stmt). Comes g w (λ parts. parts.form (sight g w) r f d s) (told_in oh (sight g w1) r1 f1)
+      w1) (sym p1) (later (while_comes p2 has))
   form_comes {g} (Form.until {s = s} {w = w} {w1 = w1} {r = r} {r1 = r1} {f = f} {f1 = f1} {d = d} {oh = oh} p1 p2)
-      has = subst (λ (s : stm.Stmt). Comes g w (λ parts. parts.form (sight g w) r f d s) (ran oh (sight g w1) r1 f1) w1)
-      (sym p1) (later (while_comes p2 has))
+      has = subst (λ (s : stm.Stmt). Comes g w (λ parts. parts.form (sight g w) r f d s) (told_in oh (sight g w1) r1 f1)
+      w1) (sym p1) (later (while_comes p2 has))
   form_comes {g} (Form.up_stops {s = s} {w = w} {w1 = w1} {r = r} {r1 = r1} {f = f} {d = d} {z = z} p1 p2) has = subst
-      (λ (s : stm.Stmt). Comes g w (λ parts. parts.form (sight g w) r f d s) (ran (Err z) (sight g w1) r1 f) w1)
+      (λ (s : stm.Stmt). Comes g w (λ parts. parts.form (sight g w) r f d s) (told_in (Err z) (sight g w1) r1 f) w1)
       (sym p1) (later (after_in_stop _ _ (bounds_comes p2 (stopped has))))
   form_comes {g} (Form.up {s = s} {w = w} {w2 = w2} {r = r} {r2 = r2} {f = f} {f1 = f1} {d = d} {oh = oh} p1 p2 p3)
-      has = subst (λ (s : stm.Stmt). Comes g w (λ parts. parts.form (sight g w) r f d s) (ran oh (sight g w2) r2 f1) w2)
-      (sym p1) (later (after_in_ok _ _ (bounds_comes p2 given) (counts_comes p3 has)))
+      has = subst (λ (s : stm.Stmt). Comes g w (λ parts. parts.form (sight g w) r f d s) (told_in oh (sight g w2) r2 f1)
+      w2) (sym p1) (later (after_in_ok _ _ (bounds_comes p2 given) (counts_comes p3 has)))
   form_comes {g} (Form.down_stops {s = s} {w = w} {w1 = w1} {r = r} {r1 = r1} {f = f} {d = d} {z = z} p1 p2) has = subst
-      (λ (s : stm.Stmt). Comes g w (λ parts. parts.form (sight g w) r f d s) (ran (Err z) (sight g w1) r1 f) w1)
+      (λ (s : stm.Stmt). Comes g w (λ parts. parts.form (sight g w) r f d s) (told_in (Err z) (sight g w1) r1 f) w1)
       (sym p1) (later (after_in_stop _ _ (bounds_comes p2 (stopped has))))
   form_comes {g} (Form.down {s = s} {w = w} {w2 = w2} {r = r} {r2 = r2} {f = f} {f1 = f1} {d = d} {oh = oh} p1 p2 p3)
-      has = subst (λ (s : stm.Stmt). Comes g w (λ parts. parts.form (sight g w) r f d s) (ran oh (sight g w2) r2 f1) w2)
-      (sym p1) (later (after_in_ok _ _ (bounds_comes p2 given) (counts_comes p3 has)))
+      has = subst (λ (s : stm.Stmt). Comes g w (λ parts. parts.form (sight g w) r f d s) (told_in oh (sight g w2) r2 f1)
+      w2) (sym p1) (later (after_in_ok _ _ (bounds_comes p2 given) (counts_comes p3 has)))
 
   pub alters_comes : {g : Sight} {w w2 : History} {r r2 : RunState} {f f2 : Frame} {d : ℕ} {op : Op} {e : tree.Expr}
       {ct : tree.Container} {oh : Result How Stop} → Alters w r f d op e ct oh w2 r2 f2 → HasMemory oh
-      → Comes g w (λ parts. parts.alters (sight g w) r f d op e ct) (ran oh (sight g w2) r2 f2) w2
+      → Comes g w (λ parts. parts.alters (sight g w) r f d op e ct) (told_in oh (sight g w2) r2 f2) w2
   alters_comes Alters.alter_memory has = absurd (has refl)
   alters_comes (Alters.alter_stops p1) has = later (after_in_stop _ _ (val_comes p1 (stopped has)))
   alters_comes (Alters.alter_nowhere p1 p2) has =
@@ -660,34 +668,34 @@ mutual
 
   pub block_comes : {g : Sight} {w w2 : History} {r r2 : RunState} {f f2 : Frame} {d : ℕ} {ss : stm.Stmts}
       {oh : Result How Stop} → Block w r f d ss oh w2 r2 f2 → HasMemory oh
-      → Comes g w (λ parts. parts.block (sight g w) r f d ss) (ran oh (sight g w2) r2 f2) w2
+      → Comes g w (λ parts. parts.block (sight g w) r f d ss) (told_in oh (sight g w2) r2 f2) w2
   block_comes Block.block_memory has = absurd (has refl)
   block_comes {g} (Block.block_end {ss = ss} {w = w} {r = r} {f = f} {d = d} p1) has = subst
-      (λ (ss : stm.Stmts). Comes g w (λ parts. parts.block (sight g w) r f d ss) (ran (Ok Next) (sight g w) r f) w)
+      (λ (ss : stm.Stmts). Comes g w (λ parts. parts.block (sight g w) r f d ss) (told_in (Ok Next) (sight g w) r f) w)
       (sym p1) (later (done))
   block_comes {g} (Block.block_no_step {ss = ss} {r = r} {r1 = r1} {z = z} {w = w} {f = f} {d = d} p1 p2) has = subst
-      (λ (ss : stm.Stmts). Comes g w (λ parts. parts.block (sight g w) r f d ss) (ran (Err z) (sight g w) r1 f) w)
+      (λ (ss : stm.Stmts). Comes g w (λ parts. parts.block (sight g w) r f d ss) (told_in (Err z) (sight g w) r1 f) w)
       (sym p1) (later (after_in_stop _ _ (steps p2 (stopped has))))
   block_comes {g} (Block.block_stops {ss = ss} {r = r} {r2 = r2} {w = w} {w1 = w1} {f = f} {f1 = f1} {d = d} {z = z} p1
       p2 p3) has = subst (λ (ss : stm.Stmts). Comes g w (λ parts. parts.block (sight g w) r f d ss)
-      (ran (Err z) (sight g w1) r2 f1) w1) (sym p1)
+      (told_in (Err z) (sight g w1) r2 f1) w1) (sym p1)
       (later (after_in_ok _ _ (steps p2 given) (after_next_stop _ (form_comes p3 has))))
   block_comes {g} (Block.block_leaves {ss = ss} {r = r} {r2 = r2} {w = w} {w1 = w1} {f = f} {f1 = f1} {d = d} {h = h} p1
       p2 p3 p4) has = subst (λ (ss : stm.Stmts). Comes g w (λ parts. parts.block (sight g w) r f d ss)
-      (ran (Ok h) (sight g w1) r2 f1) w1) (sym p1)
+      (told_in (Ok h) (sight g w1) r2 f1) w1) (sym p1)
       (later (after_in_ok _ _ (steps p2 given) (after_next_leaves _ p4 (form_comes p3 given))))
   block_comes {g} (Block.block_goes_on {ss = ss} {r = r} {r3 = r3} {w = w} {w2 = w2} {f = f} {f2 = f2} {d = d} {oh = oh}
       p1 p2 p3 p4) has = subst (λ (ss : stm.Stmts). Comes g w (λ parts. parts.block (sight g w) r f d ss)
-      (ran oh (sight g w2) r3 f2) w2) (sym p1)
+      (told_in oh (sight g w2) r3 f2) w2) (sym p1)
       (later (after_in_ok _ _ (steps p2 given) (after_next_ok _ (form_comes p3 given) (block_comes p4 has))))
 
   pub do_text_comes : {g : Sight} {w w2 : History} {r r2 : RunState} {f f2 : Frame} {d : ℕ} {t : List ℕ}
       {oh : Result How Stop} → DoText w r f d t oh w2 r2 f2 → HasMemory oh
-      → Comes g w (λ parts. parts.do_text (sight g w) r f d t) (ran oh (sight g w2) r2 f2) w2
+      → Comes g w (λ parts. parts.do_text (sight g w) r f d t) (told_in oh (sight g w2) r2 f2) w2
   do_text_comes DoText.do_memory has = absurd (has refl)
   do_text_comes {g} (DoText.do_too_deep {d = d} {w = w} {r = r} {f = f} {t = t} p1) has = subst
-      (λ (d : ℕ). Comes g w (λ parts. parts.do_text (sight g w) r f d t) (ran (Err (Faults TooDeep)) (sight g w) r f) w)
-      (sym p1) (later (done))
+      (λ (d : ℕ). Comes g w (λ parts. parts.do_text (sight g w) r f d t)
+      (told_in (Err (Faults TooDeep)) (sight g w) r f) w) (sym p1) (later (done))
   do_text_comes (DoText.do_syntax p1 p2) has =
       later (choose_true _ _ (below p1) (after_in_stop _ _ (parses_typed_lines p2 (stopped has))))
   do_text_comes (DoText.do_lines p1 p2 p3) has =
@@ -695,7 +703,7 @@ mutual
 
   pub endless_comes : {g : Sight} {w w2 : History} {r r2 : RunState} {f f2 : Frame} {d : ℕ} {ss : stm.Stmts}
       {oh : Result How Stop} → Endless w r f d ss oh w2 r2 f2 → HasMemory oh
-      → Comes g w (λ parts. parts.endless (sight g w) r f d ss) (ran oh (sight g w2) r2 f2) w2
+      → Comes g w (λ parts. parts.endless (sight g w) r f d ss) (told_in oh (sight g w2) r2 f2) w2
   endless_comes Endless.endless_memory has = absurd (has refl)
   endless_comes (Endless.endless_no_step p1) has = later (after_in_stop _ _ (steps p1 (stopped has)))
   endless_comes (Endless.endless_stops p1 p2) has =
@@ -708,7 +716,7 @@ mutual
 
   pub while_comes : {g : Sight} {w w2 : History} {r r2 : RunState} {f f2 : Frame} {d : ℕ} {b : Bool} {e : tree.Expr}
       {ss : stm.Stmts} {oh : Result How Stop} → While w r f d b e ss oh w2 r2 f2 → HasMemory oh
-      → Comes g w (λ parts. parts.while (sight g w) r f d b e ss) (ran oh (sight g w2) r2 f2) w2
+      → Comes g w (λ parts. parts.while (sight g w) r f d b e ss) (told_in oh (sight g w2) r2 f2) w2
   while_comes While.while_memory has = absurd (has refl)
   while_comes (While.while_no_step p1) has = later (after_in_stop _ _ (steps p1 (stopped has)))
   while_comes (While.while_test_stops p1 p2) has =
@@ -739,7 +747,7 @@ mutual
 
   pub counts_comes : {g : Sight} {w w2 : History} {r r2 : RunState} {f f2 : Frame} {d : ℕ} {on : Option (List ℕ)}
       {co : CounterState} {ss : stm.Stmts} {oh : Result How Stop} → Counts w r f d on co ss oh w2 r2 f2 → HasMemory oh
-      → Comes g w (λ parts. parts.counts (sight g w) r f d on co ss) (ran oh (sight g w2) r2 f2) w2
+      → Comes g w (λ parts. parts.counts (sight g w) r f d on co ss) (told_in oh (sight g w2) r2 f2) w2
   counts_comes Counts.counts_memory has = absurd (has refl)
   counts_comes (Counts.counts_no_step p1) has = later (after_in_stop _ _ (steps p1 (stopped has)))
   counts_comes (Counts.counts_end p1 p2) has = later (after_in_ok _ _ (steps p1 given) (choose_true _ _ p2 (done)))
@@ -758,7 +766,7 @@ mutual
       (choose_false _ _ p2 (after_run_ok _ (assigns p3 given)
       (after_run_ok _ (block_comes p4 given)
       (maybe_none _ _ p5 (subst (λ (co1 : CounterState). Comes g w2
-      (λ parts. parts.counts (sight g w2) r2 f2 d on co1 ss) (ran oh (sight g w3) r3 f3) w3) p6
+      (λ parts. parts.counts (sight g w2) r2 f2 d on co1 ss) (told_in oh (sight g w3) r3 f3) w3) p6
       (counts_comes p7 has)))))))
 
   pub calls_comes : {g : Sight} {w w2 : History} {r r2 : RunState} {f : Frame} {d i : ℕ} {n : List ℕ} {es : tree.Exprs}
@@ -801,19 +809,20 @@ mutual
       p1 p2 p3 p4) has = later (after_ok _ (finds p1 given)
       (choose_true _ _ (below p2) (after_lines_stop _
       (subst (λ (f1 : Frame). Comes g w (λ parts. parts.block (sight g w) r f1 (d + 1) (lines_of fd.handler))
-      (ran (Err z) (sight g w1) r1 f2) w1) p3 (block_comes p4 (stopped has))))))
+      (told_in (Err z) (sight g w1) r1 f2) w1) p3 (block_comes p4 (stopped has))))))
   along_comes {g} (Along.along_ends {w = w} {w1 = w1} {fd = fd} {d = d} {f1 = f1} {f2 = f2} {r = r} {r1 = r1} {h = h} p1
       p2 p3 p4 p5) has = later (after_ok _ (finds p1 given)
       (choose_true _ _ (below p2) (after_lines_ok _
       (subst (λ (f1 : Frame). Comes g w (λ parts. parts.block (sight g w) r f1 (d + 1) (lines_of fd.handler))
-      (ran (Ok h) (sight g w1) r1 f2) w1) p3 (block_comes p4 given)) (maybe_some _ _ p5 (done)))))
+      (told_in (Ok h) (sight g w1) r1 f2) w1) p3 (block_comes p4 given)) (maybe_some _ _ p5 (done)))))
   along_comes {g} (Along.along_passes {w = w} {w1 = w1} {w2 = w2} {n = n} {is1 = is1} {cl = cl} {fd = fd} {d = d}
       {i = i} {f1 = f1} {f2 = f2} {f = f} {vs = vs} {r = r} {r1 = r1} {r2 = r2} {o = o} p1 p2 p3 p4 p5 p6) has = later
       (after_ok _ (finds p1 given) (choose_true _ _ (below p2)
       (after_lines_ok _ (subst (λ (f1 : Frame). Comes g w
-      (λ parts. parts.block (sight g w) r f1 (d + 1) (lines_of fd.handler)) (ran (Ok Pass) (sight g w1) r1 f2) w1) p3
-      (block_comes p4 given)) (subst (λ (is1 : List ℕ). Comes g w1
-      (λ parts. parts.along (sight g w1) r1 f d i is1 n vs cl) (told o (sight g w2) r2) w2) p5 (along_comes p6 has)))))
+      (λ parts. parts.block (sight g w) r f1 (d + 1) (lines_of fd.handler)) (told_in (Ok Pass) (sight g w1) r1 f2) w1)
+      p3 (block_comes p4 given)) (subst
+      (λ (is1 : List ℕ). Comes g w1 (λ parts. parts.along (sight g w1) r1 f d i is1 n vs cl) (told o (sight g w2) r2)
+      w2) p5 (along_comes p6 has)))))
   along_comes (Along.along_unhandled p1 p2) has = later (after_ok _ (finds p1 given) (outside_comes p2 has))
 
   pub outside_comes : {g : Sight} {w w2 : History} {r r2 : RunState} {f : Frame} {d : ℕ} {n : List ℕ}
@@ -988,7 +997,7 @@ mutual
       (λ (ask : Ask). Comes g w (λ parts. parts.calls_back (sight g w) r d ask) (told (Err z) (sight g w1) r1) w1)
       (sym p1) (later (after_ok _ (parses_typed_lines p2 given)
       (after_lines_stop _ (subst (λ (f : Frame). Comes g w (λ parts. parts.block (sight g w) r f d ss)
-      (ran (Err z) (sight g w1) r1 f1) w1) p3 (block_comes p4 (stopped has))))))
+      (told_in (Err z) (sight g w1) r1 f1) w1) p3 (block_comes p4 (stopped has))))))
   calls_back_comes {g} (CallsBack.message_runs {ask = ask} {vs = vs} {t = t} {ss = ss} {f = f} {f1 = f1} {w = w}
       {w1 = w1} {r = r} {r1 = r1} {d = d} {h = h} {inp = inp} p1 p2 p3 p4 p5) has = subst
       (λ (ask : Ask). Comes g w (λ parts. parts.calls_back (sight g w) r d ask) (told (Ok inp) (sight g w1) r1) w1)
@@ -996,7 +1005,7 @@ mutual
       (told (Ok inp) (sight g w1) r1) w1) (sym p5)
       (later (after_ok _ (parses_typed_lines p2 given)
       (after_lines_ok _ (subst (λ (f : Frame). Comes g w (λ parts. parts.block (sight g w) r f d ss)
-      (ran (Ok h) (sight g w1) r1 f1) w1) p3 (block_comes p4 given)) (done)))))
+      (told_in (Ok h) (sight g w1) r1 f1) w1) p3 (block_comes p4 given)) (done)))))
   calls_back_comes {g} (CallsBack.eval_syntax {ask = ask} {z = z} {w = w} {r = r} {d = d} p1 p2) has = subst
       (λ (ask : Ask). Comes g w (λ parts. parts.calls_back (sight g w) r d ask) (told (Err z) (sight g w) r) w) (sym p1)
       (later (after_stop _ (parses_expression p2 (stopped has))))
@@ -1022,8 +1031,8 @@ mutual
       (λ (ask : Ask). Comes g w (λ parts. parts.calls_back (sight g w) r d ask) (told (Err z) (sight g w1) r) w1)
       (sym p1) (later (choose_true _ _ p2
       (after_lines_stop _ (subst (λ (f : Frame). Comes g w
-      (λ parts. edit (sight g w) r f (variable_place f.variables n) (Put Into v)) (ran (Err z) (sight g w1) r f1) w1) p3
-      (edits p4 (stopped has))))))
+      (λ parts. edit (sight g w) r f (variable_place f.variables n) (Put Into v)) (told_in (Err z) (sight g w1) r f1)
+      w1) p3 (edits p4 (stopped has))))))
   calls_back_comes {g} (CallsBack.global_set {ask = ask} {vs = vs} {n = n} {v = v} {f = f} {f1 = f1} {w = w} {w1 = w1}
       {r = r} {inp = inp} {d = d} p1 p2 p3 p4 p5) has = subst
       (λ (ask : Ask). Comes g w (λ parts. parts.calls_back (sight g w) r d ask) (told (Ok inp) (sight g w1) r) w1)
@@ -1031,7 +1040,7 @@ mutual
       (told (Ok inp) (sight g w1) r) w1) (sym p5)
       (later (choose_true _ _ p2 (after_lines_ok _
       (subst (λ (f : Frame). Comes g w (λ parts. edit (sight g w) r f (variable_place f.variables n) (Put Into v))
-      (ran (Ok tt) (sight g w1) r f1) w1) p3 (edits p4 given)) (done)))))
+      (told_in (Ok tt) (sight g w1) r f1) w1) p3 (edits p4 given)) (done)))))
   calls_back_comes {g} (CallsBack.no_such_field {ask = ask} {w = w} {z = z} {r = r} {d = d} p1 p2) has = subst
       (λ (ask : Ask). Comes g w (λ parts. parts.calls_back (sight g w) r d ask) (told (Err z) (sight g w) r) w) (sym p1)
       (later (after_stop _ (yields p2 (stopped has))))
@@ -1040,7 +1049,7 @@ mutual
       (λ (ask : Ask). Comes g w (λ parts. parts.calls_back (sight g w) r d ask) (told (Err z) (sight g w1) r) w1)
       (sym p1) (later (after_ok _ (yields p2 given)
       (after_lines_stop _ (subst (λ (f : Frame). Comes g w (λ parts. edit (sight g w) r f pl (Put Into v))
-      (ran (Err z) (sight g w1) r f1) w1) p3 (edits p4 (stopped has))))))
+      (told_in (Err z) (sight g w1) r f1) w1) p3 (edits p4 (stopped has))))))
   calls_back_comes {g} (CallsBack.field_set {ask = ask} {vs = vs} {b = b} {n = n} {v = v} {w = w} {w1 = w1} {pl = pl}
       {f = f} {f1 = f1} {r = r} {inp = inp} {d = d} p1 p2 p3 p4 p5) has = subst
       (λ (ask : Ask). Comes g w (λ parts. parts.calls_back (sight g w) r d ask) (told (Ok inp) (sight g w1) r) w1)
@@ -1048,7 +1057,7 @@ mutual
       (told (Ok inp) (sight g w1) r) w1) (sym p5)
       (later (after_ok _ (yields p2 given)
       (after_lines_ok _ (subst (λ (f : Frame). Comes g w (λ parts. edit (sight g w) r f pl (Put Into v))
-      (ran (Ok tt) (sight g w1) r f1) w1) p3 (edits p4 given)) (done)))))
+      (told_in (Ok tt) (sight g w1) r f1) w1) p3 (edits p4 given)) (done)))))
 
   pub line_comes : {g : Sight} {w w2 : History} {r r2 : RunState} {ss : stm.Stmts} {ot : Result (Unit {0}) Stop}
       → Line w r ss ot w2 r2 → HasMemory ot
@@ -1056,11 +1065,11 @@ mutual
   line_comes Line.line_memory has = absurd (has refl)
   line_comes {g} (Line.line_stops {f = f} {f1 = f1} {w = w} {w1 = w1} {r = r} {r1 = r1} {ss = ss} {z = z} p1 p2)
       has = later (after_lines_stop _
-      (subst (λ (f : Frame). Comes g w (λ parts. parts.block (sight g w) r f 0 ss) (ran (Err z) (sight g w1) r1 f1) w1)
-      p1 (block_comes p2 (stopped has))))
+      (subst (λ (f : Frame). Comes g w (λ parts. parts.block (sight g w) r f 0 ss) (told_in (Err z) (sight g w1) r1 f1)
+      w1) p1 (block_comes p2 (stopped has))))
   line_comes {g} (Line.line {f = f} {f1 = f1} {w = w} {w1 = w1} {r = r} {r1 = r1} {ss = ss} {h = h} p1 p2) has = later
       (after_lines_ok _ (subst (λ (f : Frame). Comes g w (λ parts. parts.block (sight g w) r f 0 ss)
-      (ran (Ok h) (sight g w1) r1 f1) w1) p1 (block_comes p2 given)) (done))
+      (told_in (Ok h) (sight g w1) r1 f1) w1) p1 (block_comes p2 given)) (done))
 
   pub message_comes : {g : Sight} {w w2 : History} {r r2 : RunState} {i : ℕ} {n : List ℕ} {vs : List (List ℕ)}
       {ot : Result (Unit {0}) Stop} → Message w r i n vs ot w2 r2 → HasMemory ot
@@ -1134,16 +1143,17 @@ mutual
       {pl = pl} {z = z} p1 p2 p3 p4) has = later
       (computed_ok _ _ (subst (λ (f : Frame). field_text w.now f.variables r.delimiter m ≡ Ok v) p1 p2)
       (computed_ok _ _ p3 (after_lines_stop _
-      (subst (λ (f : Frame). Comes g w (λ parts. edit (sight g w) r f pl (Put Into t)) (ran (Err z) (sight g w1) r f1)
-      w1) p1 (edits p4 (stopped has))))))
+      (subst (λ (f : Frame). Comes g w (λ parts. edit (sight g w) r f pl (Put Into t))
+      (told_in (Err z) (sight g w1) r f1) w1) p1 (edits p4 (stopped has))))))
   types_over_comes {g} (TypesOver.types_over {f = f} {f1 = f1} {w = w} {w1 = w1} {w2 = w2} {r = r} {r1 = r1} {m = m}
       {v = v} {t = t} {pl = pl} {i = i} {mg = mg} {ot = ot} p1 p2 p3 p4 p5 p6 p7) has = later
       (computed_ok _ _ (subst (λ (f : Frame). field_text w.now f.variables r.delimiter m ≡ Ok v) p1 p2)
       (computed_ok _ _ p3 (after_lines_ok _
-      (subst (λ (f : Frame). Comes g w (λ parts. edit (sight g w) r f pl (Put Into t)) (ran (Ok tt) (sight g w1) r f1)
-      w1) p1 (edits p4 given)) (subst
-      (λ (mg : SystemMessage). Comes g w1 (λ parts. parts.tells (sight g w1) r m.object mg) (told ot (sight g w2) r1)
-      w2) p6 (subst (λ (i : ℕ). Comes g w1 (λ parts. parts.tells (sight g w1) r i mg) (told ot (sight g w2) r1) w2) p5
+      (subst (λ (f : Frame). Comes g w (λ parts. edit (sight g w) r f pl (Put Into t))
+      (told_in (Ok tt) (sight g w1) r f1) w1) p1 (edits p4 given))
+      (subst (λ (mg : SystemMessage). Comes g w1 (λ parts. parts.tells (sight g w1) r m.object mg)
+      (told ot (sight g w2) r1) w2) p6
+      (subst (λ (i : ℕ). Comes g w1 (λ parts. parts.tells (sight g w1) r i mg) (told ot (sight g w2) r1) w2) p5
       (tells_comes p7 has))))))
 
   pub types_into_comes : {g : Sight} {w w2 : History} {r r2 : RunState} {t : List ℕ} {pa : tree.Part}

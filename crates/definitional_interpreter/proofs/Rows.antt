@@ -9,7 +9,7 @@ use Rattle.ht_values.specs.declared.word.Where.TheVariants.{Into}
 use Rattle.ht_grammar.specs.declared.vocabulary.HandlerKind.{HandlerKind}
 use Rattle.journal_entries.specs.State.{Globals}
 use Rattle.containers.specs.Variables.{declared}
-use Rattle.msg_path.specs.Handlers.{Found}
+use Rattle.msg_path.specs.Handlers.{HandlerFound}
 use Rattle.meaning.specs.declared.end.How.{How}
 use Rattle.meaning.specs.declared.end.Stop.{Stop}
 use Rattle.meaning.specs.declared.sent.SentMessage.{SentMessage}
@@ -21,7 +21,7 @@ use Rattle.meaning.specs.State.{RunState, noted, shows, typed_frame_at, handler_
 use Rattle.msg_path.specs.Path.{path_after}
 use Rattle.externals.specs.Cells.{Seen}
 use Rattle.meaning.specs.declared.end.How.TheVariants.{Next}
-use Rattle.definitional_interpreter.specs.Told.{Present, Told, told, Ran, ran, after_in, after_next, after_lines}
+use Rattle.definitional_interpreter.specs.Told.{Visible, Told, told, ToldIn, told_in, after_in, after_next, after_lines}
 use Rattle.definitional_interpreter.specs.Told.{maybe, gave}
 use Rattle.definitional_interpreter.specs.Told.{after_lines}
 use Rattle.definitional_interpreter.specs.Changes.{with_variables, with_global}
@@ -123,7 +123,7 @@ repeats_read : parsed typed_lines (codes "repeats 9")
 unfolding computing
 repeats_read = refl
 
-repeats_values : (k : ℕ) (w : Present) (r : RunState) (f : Frame) →
+repeats_values : (k : ℕ) (w : Visible) (r : RunState) (f : Frame) →
     (meanings (and_more 36 k)).vals w r f 0 (tree.more (tree.number (codes "9")) tree.none) []
     ≡ told (Ok (codes "9" ∷ [])) w r
 unfolding computing
@@ -155,7 +155,7 @@ abbrev by_call : (k : ℕ) → Told (List ℕ) → List (List ℕ)
 by_call k x =
     answered
     (after_lines
-    (after_next (after_next (after_in (typed_frame_at 2) x (λ v w r. ran (Ok Next) w (shows r v) (typed_frame_at 2)))
+    (after_next (after_next (after_in (typed_frame_at 2) x (λ v w r. told_in (Ok Next) w (shows r v) (typed_frame_at 2)))
     (λ w r f. (meanings (and_more 35 k)).block w r f 1 (stm.also (stm.put tree.result) stm.stop)))
     (λ w r f. (meanings (and_more 38 k)).block w r f 0 stm.stop)) (λ _ w r. told (Ok tt) w r)) (λ w. [])
 
@@ -188,7 +188,7 @@ who_read : parsed typed_lines (codes "who") ≡ Ok (stm.also (stm.command (codes
 unfolding computing
 who_read = refl
 
-no_values : (k : ℕ) (w : Present) (r : RunState) (f : Frame)
+no_values : (k : ℕ) (w : Visible) (r : RunState) (f : Frame)
     → (meanings (and_more 36 k)).vals w r f 0 tree.none [] ≡ told (Ok []) w r
 unfolding computing
 no_values k w r f = refl
@@ -232,14 +232,14 @@ unfolding computing
 gate_read = refl
 
 -- the answer of Gate, which no script has, and then the rest
-abbrev by_gate : (k : ℕ) → Seen → (Present → List (List ℕ)) → List (List ℕ)
+abbrev by_gate : (k : ℕ) → Seen → (Visible → List (List ℕ)) → List (List ℕ)
 by_gate k e rest = answered (command_ends k (on_card [] [] [] empty (e ∷ []) ([] ∷ []))
     (by_found (and_more 34 k) (on_card [] [] [] empty (e ∷ []) ([] ∷ []))
     (noted (run_at 999998 [] []) (codes "Gate") 2)
     (typed_frame_at 2) 0 (codes "Gate") [] Command
     (found_among ((2, []) ∷ (1, []) ∷ (0, []) ∷ []) Command (codes "Gate")))) rest
 
-gate_once : (k : ℕ) (rest : Present → List (List ℕ)) → by_gate k gate rest ≡ codes "ok"
+gate_once : (k : ℕ) (rest : Visible → List (List ℕ)) → by_gate k gate rest ≡ codes "ok"
     ∷ rest (on_card [] [] [] empty (open_gate ∷ []) ([] ∷ []))
 unfolding computing
 gate_once k rest = refl
@@ -262,13 +262,13 @@ conversation k =
 -- ---- globals
 
 -- a global's name that is shown, by its value
-abbrev by_value : (k : ℕ) (c : List ℕ) → Globals → List ℕ → (Present → List (List ℕ)) → Option (List ℕ) → List (List ℕ)
+abbrev by_value : (k : ℕ) (c : List ℕ) → Globals → List ℕ → (Visible → List (List ℕ)) → Option (List ℕ) → List (List ℕ)
 by_value k c globals name rest v =
     answered
     (after_lines
     (after_next
     (after_in (typed_frame_at 2) (told (Ok (unwrap_or v name)) (on_card c [] [] globals [] []) (run_at 999999 [] []))
-    (λ v w r. ran (Ok Next) w (shows r v) (typed_frame_at 2)))
+    (λ v w r. told_in (Ok Next) w (shows r v) (typed_frame_at 2)))
     (λ w r f. (meanings (and_more 38 k)).block w r f 0 stm.stop)) (λ _ w r. told (Ok tt) w r)) rest
 
 abbrev with_abc : Globals
@@ -322,17 +322,17 @@ with_g = with_variables own_frame (declared own_frame.variables (codes "g"))
 abbrev globals_g : Globals
 globals_g = insert (insert empty (codes "g") []) (codes "g") (codes "5")
 
-abbrev before_g : Present
+abbrev before_g : Visible
 before_g = on_card deep_script [] [] empty [] []
 
-abbrev after_g : Present
+abbrev after_g : Visible
 after_g = on_card deep_script [] [] globals_g [] []
 
-abbrev among : HandlerKind → List ℕ → Result (Option Found) Stop
+abbrev among : HandlerKind → List ℕ → Result (Option HandlerFound) Stop
 among kind n = found_among ((2, deep_script) ∷ (1, []) ∷ (0, []) ∷ []) kind n
 
 -- a handler ends, with so many nested parts, in the frame of the one that called it
-abbrev handler_ends : ℕ → Frame → ℕ → List ℕ → Ran How → Told (List ℕ)
+abbrev handler_ends : ℕ → Frame → ℕ → List ℕ → ToldIn How → Told (List ℕ)
 handler_ends parts f d n x =
     after_lines x
     (λ h w r. maybe (ends Command h r) (λ out. gave w out)
@@ -341,13 +341,13 @@ handler_ends parts f d n x =
 abbrev in_a : (k : ℕ) → Told (List ℕ) → Told (List ℕ)
 in_a k x =
     handler_ends (and_more 34 k) (typed_frame_at 2) 0 (codes "a")
-    (after_next (after_in own_frame x (λ _ w r. ran (Ok Next) w r own_frame))
+    (after_next (after_in own_frame x (λ _ w r. told_in (Ok Next) w r own_frame))
     (λ w r f. (meanings (and_more 32 k)).block w r f 1 (stm.also (stm.put (tree.number (codes "2"))) stm.stop)))
 
 abbrev in_b : (k : ℕ) → Told (List ℕ) → Told (List ℕ)
 in_b k x =
     handler_ends (and_more 28 k) own_frame 1 (codes "b")
-    (after_next (after_in own_frame x (λ _ w r. ran (Ok Next) w r own_frame))
+    (after_next (after_in own_frame x (λ _ w r. told_in (Ok Next) w r own_frame))
     (λ w r f. (meanings (and_more 26 k)).block w r f 2 (stm.also (stm.put (tree.number (codes "4"))) stm.stop)))
 
 abbrev last_line : stm.Stmts
@@ -361,7 +361,7 @@ last_lines =
 abbrev declares_g : (k : ℕ) → Option (List ℕ) → Told (List ℕ)
 declares_g k v = handler_ends (and_more 22 k) own_frame 2 (codes "c")
     (after_next
-    (ran (Ok Next) (with_global before_g (codes "g") v)
+    (told_in (Ok Next) (with_global before_g (codes "g") v)
     (run_at 999991 (codes "1" ∷ codes "3" ∷ [])
     (to_card (codes "a") ∷ to_card (codes "b") ∷ to_card (codes "c") ∷ [])) with_g)
     (λ w r f. (meanings (and_more 21 k)).block w r f 3 last_lines))
@@ -369,7 +369,7 @@ declares_g k v = handler_ends (and_more 22 k) own_frame 2 (codes "c")
 abbrev in_c : (k : ℕ) → Told (List ℕ) → Told (List ℕ)
 in_c k x =
     handler_ends (and_more 22 k) own_frame 2 (codes "c")
-    (after_next (after_in with_g x (λ v w r. ran (Ok Next) w (shows r v) with_g))
+    (after_next (after_in with_g x (λ v w r. told_in (Ok Next) w (shows r v) with_g))
     (λ w r f. (meanings (and_more 19 k)).block w r f 3 last_line))
 
 abbrev run_a : ℕ → RunState

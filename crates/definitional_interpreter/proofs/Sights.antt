@@ -1,4 +1,4 @@
--- Ways to see logs: where no external is free, and where the logs tell what free ones did.
+-- Ways to see logs: where each external is deterministic, and where the logs tell what free ones did.
 use Rattle.std.proofs.Common.{◌≡◌, ℕ, ◌<◌, List, [], ◌∷◌, ◌++◌, length, Option, Some, None, Ok, refl, sym, ap}
 use Rattle.std.proofs.Common.{subst, ◌∙◌}
 use Rattle.std.proofs.lemmas.List.{set-get_or, get_or-set_same}
@@ -14,9 +14,9 @@ use Rattle.change_journal.specs.History.{History}
 use Rattle.change_journal.specs.Rising.{TookTurn}
 use Rattle.meaning.specs.State.{RunState}
 use Rattle.preservation.specs.Laws.{IsPrefix}
-use Rattle.definitional_interpreter.specs.Told.{Present, told}
+use Rattle.definitional_interpreter.specs.Told.{Visible, told}
 use Rattle.definitional_interpreter.specs.Changes.{turn, turn_by, free_turn}
-use Rattle.definitional_interpreter.specs.Laws.{sorts, IsFixed, NoneIsFree, AreTold}
+use Rattle.definitional_interpreter.specs.Laws.{sorts, IsDeterministic, AreDeterministic, AreTold}
 use Rattle.definitional_interpreter.proofs.Comes.{HasExternal, Sight, prefix_trans}
 use Rattle.definitional_interpreter.proofs.Leaves.{sort_at}
 
@@ -44,7 +44,7 @@ module _ (w w1 : History) (k : ℕ) (input : Input) (ask : Ask) (r : RunState) (
       turn (record { now = w.now; logs = of_logs w.logs; turns = turns }) r k input
       ≡ told (Ok ask) (record { now = w1.now; logs = of_logs w1.logs; turns = turns }) r
   by_table of_logs turns due is =
-      let u : Present = record { now = w.now; logs = of_logs w.logs; turns = turns } in
+      let u : Visible = record { now = w.now; logs = of_logs w.logs; turns = turns } in
       let known =
       subst (λ o. IfSome o (λ turn. (ask ≡ turn.0) × ((seen_at w1.now k).cells ≡ turn.1))) is t.turn.answers.known in
       let now_is : with_cells_at w.now k due.1 ≡ w1.now = ap (with_cells_at w.now k) (sym known.1) ∙ sym t.turn.state in
@@ -60,7 +60,7 @@ module _ (w w1 : History) (k : ℕ) (input : Input) (ask : Ask) (r : RunState) (
       turn (record { now = w.now; logs = w.logs; turns = turns }) r k input
       ≡ told (Ok ask) (record { now = w1.now; logs = w1.logs; turns = turns }) r
   by_turns turns is there more =
-      let u : Present = record { now = w.now; logs = w.logs; turns = turns } in
+      let u : Visible = record { now = w.now; logs = w.logs; turns = turns } in
       let before : Log = slice_index_or w.logs k [] in
       let logs_are : w1.logs ≡ slice_set w.logs k (before ++ taken ∷ []) = logs_by None is in
       let log_is : slice_index_or w1.logs k [] ≡ before ++ taken ∷ [] = ap (λ ls. slice_index_or ls k []) logs_are
@@ -73,16 +73,16 @@ module _ (w w1 : History) (k : ℕ) (input : Input) (ask : Ask) (r : RunState) (
       (sym t.turn.state)
       ∙ ap (λ ls. told (Ok ask) (record u { now = w1.now; logs = ls }) r) (sym logs_are)
 
--- where no external is free
+-- where each external is deterministic
 abbrev pub fixed_sight : (List Log → List Log) → Sight
 fixed_sight of_logs = record {
   of_logs = of_logs;
   turns = [];
-  Asks = λ w w2. NoneIsFree (sorts w);
+  Asks = λ w w2. AreDeterministic (sorts w);
   first = λ w w1 w2 kept asked. asked;
-  rest = λ w w1 w2 kept asked. subst NoneIsFree (sym kept.kinds) asked;
+  rest = λ w w1 w2 kept asked. subst AreDeterministic (sym kept.kinds) asked;
   computes = λ w w1 k input ask r t h asked.
-      let given = subst IsFixed (sort_at w.now.externals k) (asked k h.there) (seen_at w.now k).cells input in
+      let given = subst IsDeterministic (sort_at w.now.externals k) (asked k h.there) (seen_at w.now k).cells input in
       by_table w w1 k input ask r t of_logs [] given.0 given.1;
 }
 

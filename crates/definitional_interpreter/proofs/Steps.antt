@@ -19,7 +19,7 @@ use Rattle.externals.specs.Cells.{Seen}
 use Rattle.externals.specs.Log.{Log}
 use Rattle.journal_entries.specs.State.{Globals}
 use Rattle.journal_entries.specs.ScriptTrees.{object_script}
-use Rattle.msg_path.specs.Handlers.{Found}
+use Rattle.msg_path.specs.Handlers.{HandlerFound}
 use Rattle.msg_path.specs.Path.{path, path_by, path_after}
 use Rattle.meaning.specs.declared.end.How.TheVariants.{Next}
 use Rattle.meaning.specs.declared.end.Stop.{Stop}
@@ -27,7 +27,7 @@ use Rattle.meaning.specs.declared.end.Stop.TheVariants.{Fault as Faults}
 use Rattle.meaning.specs.declared.frame.Frame.{Frame}
 use Rattle.meaning.specs.declared.sent.SentMessage.{SentMessage}
 use Rattle.meaning.specs.State.{RunState, fresh_run, noted, typed_frame_at}
-use Rattle.definitional_interpreter.specs.Told.{Present, Told, told, ran, after, after_in, after_next, maybe}
+use Rattle.definitional_interpreter.specs.Told.{Visible, Told, told, told_in, after, after_in, after_next, maybe}
 use Rattle.definitional_interpreter.specs.Told.{after_lines}
 use Rattle.definitional_interpreter.specs.Changes.{step}
 use Rattle.definitional_interpreter.specs.Texts.{read_by, parsed, handled, first_found}
@@ -36,7 +36,7 @@ use Rattle.definitional_interpreter.specs.Meanings.{meanings}
 use Rattle.definitional_interpreter.specs.Rows.{and_more, objects_of, two_cards, typed}
 
 -- the stack in a state, with its first card as the current one
-abbrev pub on_card : (card background stack : List ℕ) → Globals → List Seen → List Log → Present
+abbrev pub on_card : (card background stack : List ℕ) → Globals → List Seen → List Log → Visible
 on_card c b s globals externals logs =
     record {
       now = record { stack = two_cards c b s; globals = globals; current = 2; externals = externals };
@@ -57,14 +57,14 @@ path_is c b s = ap (path_by (two_cards c b s) 2 2) (object_is c b s 2)
 -- ---- handlers
 
 -- the first handler among scripts, each with the object that has it
-abbrev pub found_among : List (ℕ × List ℕ) → HandlerKind → List ℕ → Result (Option Found) Stop
+abbrev pub found_among : List (ℕ × List ℕ) → HandlerKind → List ℕ → Result (Option HandlerFound) Stop
 found_among [] kind n = Ok None
 found_among (e ∷ es) kind n =
     maybe (read_by script e.1) (λ hs. handled e.0 (handler_in hs kind n) (λ _. found_among es kind n))
     (λ _. Err (Faults Syntax))
 
 one_more_script : (s : Content) (id : ℕ) (t : List ℕ) (is : List ℕ) (kind : HandlerKind) (n : List ℕ)
-    (y : Result (Option Found) Stop) → object_script s id ≡ t → first_found s is kind n ≡ y →
+    (y : Result (Option HandlerFound) Stop) → object_script s id ≡ t → first_found s is kind n ≡ y →
     first_found s (id ∷ is) kind n
     ≡ maybe (read_by script t) (λ hs. handled id (handler_in hs kind n) (λ _. y)) (λ _. Err (Faults Syntax))
 one_more_script s id t is kind n y here later =
@@ -88,8 +88,8 @@ all_scripts c b s kind n =
 -- ---- messages
 
 -- what a message comes to by what was found
-abbrev pub by_found : ℕ → Present → RunState → Frame → ℕ → List ℕ → List (List ℕ) → HandlerKind →
-    Result (Option Found) Stop → Told (List ℕ)
+abbrev pub by_found : ℕ → Visible → RunState → Frame → ℕ → List ℕ → List (List ℕ) → HandlerKind →
+    Result (Option HandlerFound) Stop → Told (List ℕ)
 by_found parts w r f d n vs kind y = after (told y w r) (λ found w r. met_by (meanings parts) w r f d 2 n vs kind found)
 
 -- a message to the first card
@@ -129,11 +129,11 @@ abbrev pub run_at : ℕ → List (List ℕ) → List SentMessage → RunState
 run_at left shown sent = record (fresh_run 1000000) { left = left; shown = shown; sent = sent }
 
 -- how a command that is typed alone ends, by what its message comes to
-abbrev pub command_ends : (k : ℕ) → Present → Told (List ℕ) → Told (Unit {0})
+abbrev pub command_ends : (k : ℕ) → Visible → Told (List ℕ) → Told (Unit {0})
 command_ends k w x =
     after_lines
     (after_next
-    (after_in (typed_frame_at w.now.current) x (λ _ w2 r. ran (Ok Next) w2 r (typed_frame_at w.now.current)))
+    (after_in (typed_frame_at w.now.current) x (λ _ w2 r. told_in (Ok Next) w2 r (typed_frame_at w.now.current)))
     (λ w r f. (meanings (and_more 38 k)).block w r f 0 stm.stop)) (λ _ w r. told (Ok tt) w r)
 
 -- a command that is typed alone, while the first card is the current one

@@ -6,7 +6,7 @@ use Rattle.meaning.specs.declared.end.Stop.{Stop}
 use Rattle.meaning.specs.declared.frame.Frame.{Frame}
 use Rattle.meaning.specs.Meaning.{Val}
 use Rattle.meaning.specs.State.{RunState}
-use Rattle.definitional_interpreter.specs.Told.{Present, present, unknown, told}
+use Rattle.definitional_interpreter.specs.Told.{Visible, visible, unknown, told}
 use Rattle.definitional_interpreter.specs.Families.{Meanings}
 use Rattle.definitional_interpreter.specs.Meanings.{nothing, one_more}
 
@@ -23,5 +23,5 @@ meanings_alone (suc fuel) = without_messages (one_more (meanings_alone fuel))
 abbrev pub ExpressionsAreAllowed : Type 0
 ExpressionsAreAllowed =
     (fuel : ℕ) (w : History) (r q : RunState) (f : Frame) (d : ℕ) (e : tree.Expr) (o : Result (List ℕ) Stop)
-    (v : Present) →
-    (meanings_alone fuel).val (present w) r f d e ≡ told o v q → Val w r f d e o w r × (v ≡ present w) × (q ≡ r)
+    (v : Visible) →
+    (meanings_alone fuel).val (visible w) r f d e ≡ told o v q → Val w r f d e o w r × (v ≡ visible w) × (q ≡ r)

@@ -28,7 +28,7 @@ use Rattle.meaning.specs.declared.end.Stop.TheVariants.{Fault as Faults}
 use Rattle.meaning.specs.declared.frame.Frame.{Frame}
 use Rattle.meaning.specs.Places.{variable_place}
 use Rattle.meaning.specs.State.{RunState}
-use Rattle.definitional_interpreter.specs.Told.{Present, Told, unknown, told, Ran, ran, choose, computed}
+use Rattle.definitional_interpreter.specs.Told.{Visible, Told, unknown, told, ToldIn, told_in, choose, computed}
 
 -- a computed value, or its fault
 abbrev pub yielded : {A : Type 0} → Result A Fault → Result A Stop
@@ -36,18 +36,18 @@ yielded (Ok a) = Ok a
 yielded (Err n) = Err (Faults n)
 
 -- a step is taken, where one is left
-abbrev pub step_by : ℕ → Present → RunState → Told (Unit {0})
+abbrev pub step_by : ℕ → Visible → RunState → Told (Unit {0})
 step_by zero w r = told (Err (Faults StepLimit)) w r
 step_by (suc n) w r = told (Ok tt) w (record r { left = r.left - 1 })
 
-abbrev pub step : Present → RunState → Told (Unit {0})
+abbrev pub step : Visible → RunState → Told (Unit {0})
 step w r = step_by r.left w r
 
 -- a change of the state
-abbrev pub made : Present → Change → Present
+abbrev pub made : Visible → Change → Visible
 made w c = record w { now = changed w.now c }
 
-unfoldable pub make : Present → RunState → Change → Told (Unit {0})
+unfoldable pub make : Visible → RunState → Change → Told (Unit {0})
 make w r c = told (Ok tt) (made w c) r
 
 -- ---- containers
@@ -56,32 +56,32 @@ abbrev pub with_variables : Frame → VariablesView → Frame
 with_variables f v = record f { variables = v }
 
 -- a text is written to its place
-abbrev pub written : Present → RunState → Frame → StorageView → List ℕ → Ran (Unit {0})
-written w r f (global name) t = ran (Ok tt) (made w (Global name (Some t))) r f
-written w r f (own name) t = ran (Ok tt) w r (with_variables f (with_local f.variables name (Some t)))
-written w r f (field_text field card) t = ran (Ok tt) (made w (FieldText field card t)) r f
+abbrev pub written : Visible → RunState → Frame → StorageView → List ℕ → ToldIn (Unit {0})
+written w r f (global name) t = told_in (Ok tt) (made w (Global name (Some t))) r f
+written w r f (own name) t = told_in (Ok tt) w r (with_variables f (with_local f.variables name (Some t)))
+written w r f (field_text field card) t = told_in (Ok tt) (made w (FieldText field card t)) r f
 
-abbrev pub edit_by : Present → RunState → Frame → StorageView → Result (Option (List ℕ)) Fault → Ran (Unit {0})
+abbrev pub edit_by : Visible → RunState → Frame → StorageView → Result (Option (List ℕ)) Fault → ToldIn (Unit {0})
 edit_by w r f storage (Ok (Some t)) = written w r f storage t
-edit_by w r f storage (Ok None) = ran (Ok tt) w r f
-edit_by w r f storage (Err n) = ran (Err (Faults n)) w r f
+edit_by w r f storage (Ok None) = told_in (Ok tt) w r f
+edit_by w r f storage (Err n) = told_in (Err (Faults n)) w r f
 
 -- a container is edited
-abbrev pub edit : Present → RunState → Frame → PlaceView → Edit → Ran (Unit {0})
+abbrev pub edit : Visible → RunState → Frame → PlaceView → Edit → ToldIn (Unit {0})
 edit w r f p e = edit_by w r f p.storage (due w.now f.variables r.delimiter p e)
 
 -- the number of a turn is put into the variable of a repeat
-abbrev pub assign : Present → RunState → Frame → Option (List ℕ) → List ℕ → Ran (Unit {0})
-assign w r f None v = ran (Ok tt) w r f
+abbrev pub assign : Visible → RunState → Frame → Option (List ℕ) → List ℕ → ToldIn (Unit {0})
+assign w r f None v = told_in (Ok tt) w r f
 assign w r f (Some name) v = edit w r f (variable_place f.variables name) (Put Into v)
 
 -- a name means a global from here on, which has a value
-abbrev pub with_global : Present → List ℕ → Option (List ℕ) → Present
+abbrev pub with_global : Visible → List ℕ → Option (List ℕ) → Visible
 with_global w name (Some t) = w
 with_global w name None = made w (Global (folded name) (Some []))
 
-abbrev pub declare_all : Present → RunState → Frame → List (List ℕ) → Ran (Unit {0})
-declare_all w r f [] = ran (Ok tt) w r f
+abbrev pub declare_all : Visible → RunState → Frame → List (List ℕ) → ToldIn (Unit {0})
+declare_all w r f [] = told_in (Ok tt) w r f
 declare_all w r f (name ∷ names) =
     declare_all (with_global w name (get w.now.globals (folded name))) r
     (with_variables f (declared f.variables name)) names
@@ -89,28 +89,28 @@ declare_all w r f (name ∷ names) =
 -- ---- objects
 
 -- a property of an object is set
-abbrev pub set_property : Present → RunState → Referent → Prop → List ℕ → Told (Unit {0})
+abbrev pub set_property : Visible → RunState → Referent → Prop → List ℕ → Told (Unit {0})
 set_property w r m prop t = computed (setting w.now.stack m prop t) (λ c. make w r c) (λ n. told (Err (Faults n)) w r)
 
 -- objects are made, where they fit
-abbrev pub add_objects : Present → RunState → Change → Told (Unit {0})
+abbrev pub add_objects : Visible → RunState → Change → Told (Unit {0})
 add_objects w r c = choose (fits w.now c) (λ _. make w r c) (λ _. told (Err (Faults TooMany)) w r)
 
 -- ---- externals
 
 -- a turn of the i-th external, which its log has then at its end; it is unknown where none is left
-abbrev pub free_turn : Present → RunState → ℕ → Option LoggedTurn → Told Ask
+abbrev pub free_turn : Visible → RunState → ℕ → Option LoggedTurn → Told Ask
 free_turn w r i (Some t) = told (Ok t.ask) (record w {
   now = with_cells_at w.now i t.cells;
   logs = slice_set w.logs i (slice_index_or w.logs i [] ++ t ∷ []);
 }) r
 free_turn w r i None = unknown
 
--- a turn of the i-th external: what it asks. The table has that of a kind that isn't free, and then all logs stay.
-abbrev pub turn_by : Present → RunState → ℕ → Option Turn → Told Ask
+-- a turn of the i-th external: what it asks. The table has that of a deterministic kind, and then all logs stay.
+abbrev pub turn_by : Visible → RunState → ℕ → Option Turn → Told Ask
 turn_by w r i (Some t) = told (Ok t.0) (record w { now = with_cells_at w.now i t.1 }) r
 turn_by w r i None =
     free_turn w r i (slice_get (slice_index_or w.turns i []) (length (slice_index_or w.logs i [])))
 
-abbrev pub turn : Present → RunState → ℕ → Input → Told Ask
+abbrev pub turn : Visible → RunState → ℕ → Input → Told Ask
 turn w r i input = turn_by w r i (turn_of (seen_at w.now i).sort (seen_at w.now i).cells input)

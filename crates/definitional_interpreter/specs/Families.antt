@@ -1,6 +1,6 @@
 -- Written by tools/meaning/outcomes.py from tools/meaning/meaning.rules.
 -- What each family of rules comes to, computed: from a state, a run, a frame and a tree.
-use Rattle.definitional_interpreter.specs.Told.{Present, Told, Ran}
+use Rattle.definitional_interpreter.specs.Told.{Visible, Told, ToldIn}
 use Rattle.std.specs.Prelude.{ℕ, ℤ, List, Bool, Option}
 use Rattle.ht_values.specs.declared.operator.Op.{Op}
 use Rattle.ht_grammar.specs.declared.vocabulary.HandlerKind.{HandlerKind}
@@ -25,46 +25,46 @@ use Rattle.meaning.specs.State.{RunState}
 use Rattle.meaning.specs.Repeats.{CounterState}
 
 pub record Meanings : Type 0 where
-  pub val : Present → RunState → Frame → ℕ → tree.Expr → Told (List ℕ)
-  pub vals : Present → RunState → Frame → ℕ → tree.Exprs → List (List ℕ) → Told (List (List ℕ))
-  pub number_val : Present → RunState → Frame → ℕ → tree.Expr → Told ℤ
-  pub truth_val : Present → RunState → Frame → ℕ → tree.Expr → Told Bool
-  pub text_val : Present → RunState → Frame → ℕ → List ℕ → Told (List ℕ)
-  pub chunk_of : Present → RunState → Frame → ℕ → tree.Chunk → Told Chunk
-  pub resolves : Present → RunState → Frame → ℕ → tree.Container → Told PlaceView
-  pub picks : Present → RunState → Frame → ℕ → tree.Which → Told Pick
-  pub seeks : Present → RunState → Frame → ℕ → tree.Selector → Told Sought
-  pub owns : Present → RunState → Frame → ℕ → Layer → tree.Owner → Told PartScope
-  pub part_met : Present → RunState → Frame → ℕ → tree.Part → Told Referent
-  pub meets : Present → RunState → Frame → ℕ → tree.Ref → Told Referent
-  pub leads : Present → RunState → Frame → ℕ → stm.Destination → Told ℕ
-  pub form : Present → RunState → Frame → ℕ → stm.Stmt → Ran How
-  pub alters : Present → RunState → Frame → ℕ → Op → tree.Expr → tree.Container → Ran How
-  pub block : Present → RunState → Frame → ℕ → stm.Stmts → Ran How
-  pub do_text : Present → RunState → Frame → ℕ → List ℕ → Ran How
-  pub endless : Present → RunState → Frame → ℕ → stm.Stmts → Ran How
-  pub while : Present → RunState → Frame → ℕ → Bool → tree.Expr → stm.Stmts → Ran How
-  pub bounds : Present → RunState → Frame → ℕ → tree.Expr → tree.Expr → Bool → Told CounterState
-  pub counts : Present → RunState → Frame → ℕ → Option (List ℕ) → CounterState → stm.Stmts → Ran How
-  pub calls : Present → RunState → Frame → ℕ → ℕ → List ℕ → tree.Exprs → HandlerKind → Told (List ℕ)
-  pub sends_text : Present → RunState → Frame → ℕ → ℕ → List ℕ → Told (List ℕ)
-  pub sends : Present → RunState → Frame → ℕ → ℕ → List ℕ → List (List ℕ) → HandlerKind → Told (List ℕ)
-  pub along : Present → RunState → Frame → ℕ → ℕ → List ℕ → List ℕ → List (List ℕ) → HandlerKind → Told (List ℕ)
-  pub outside : Present → RunState → Frame → ℕ → List ℕ → List (List ℕ) → HandlerKind → Told (List ℕ)
-  pub built_in_gives : Present → RunState → Frame → ℕ → List ℕ → List (List ℕ) → HandlerKind → Told (List ℕ)
-  pub system : Present → RunState → Frame → ℕ → ℕ → SystemMessage → Told (List ℕ)
-  pub systems : Present → RunState → Frame → ℕ → List SystemMessage → Told (List ℕ)
-  pub goes : Present → RunState → Frame → ℕ → ℕ → Told (List ℕ)
-  pub menu : Present → RunState → Frame → ℕ → Item → Told (List ℕ)
-  pub converses : Present → RunState → ℕ → ℕ → List (List ℕ) → Told Conversed
-  pub talks : Present → RunState → ℕ → ℕ → Input → Told Conversed
-  pub calls_back : Present → RunState → ℕ → Ask → Told Input
-  pub line : Present → RunState → stm.Stmts → Told (Unit {0})
-  pub message : Present → RunState → ℕ → List ℕ → List (List ℕ) → Told (Unit {0})
-  pub refers : Present → RunState → tree.Part → Told ℕ
-  pub tells : Present → RunState → ℕ → SystemMessage → Told (Unit {0})
-  pub tells_all : Present → RunState → List SystemMessage → Told (Unit {0})
-  pub clicks : Present → RunState → tree.Part → Told (Unit {0})
-  pub types_over : Present → RunState → Referent → List ℕ → Told (Unit {0})
-  pub types_into : Present → RunState → List ℕ → tree.Part → Told (Unit {0})
-  pub acts : Present → RunState → Action → Told (Unit {0})
+  pub val : Visible → RunState → Frame → ℕ → tree.Expr → Told (List ℕ)
+  pub vals : Visible → RunState → Frame → ℕ → tree.Exprs → List (List ℕ) → Told (List (List ℕ))
+  pub number_val : Visible → RunState → Frame → ℕ → tree.Expr → Told ℤ
+  pub truth_val : Visible → RunState → Frame → ℕ → tree.Expr → Told Bool
+  pub text_val : Visible → RunState → Frame → ℕ → List ℕ → Told (List ℕ)
+  pub chunk_of : Visible → RunState → Frame → ℕ → tree.Chunk → Told Chunk
+  pub resolves : Visible → RunState → Frame → ℕ → tree.Container → Told PlaceView
+  pub picks : Visible → RunState → Frame → ℕ → tree.Which → Told Pick
+  pub seeks : Visible → RunState → Frame → ℕ → tree.Selector → Told Sought
+  pub owns : Visible → RunState → Frame → ℕ → Layer → tree.Owner → Told PartScope
+  pub part_met : Visible → RunState → Frame → ℕ → tree.Part → Told Referent
+  pub meets : Visible → RunState → Frame → ℕ → tree.Ref → Told Referent
+  pub leads : Visible → RunState → Frame → ℕ → stm.Destination → Told ℕ
+  pub form : Visible → RunState → Frame → ℕ → stm.Stmt → ToldIn How
+  pub alters : Visible → RunState → Frame → ℕ → Op → tree.Expr → tree.Container → ToldIn How
+  pub block : Visible → RunState → Frame → ℕ → stm.Stmts → ToldIn How
+  pub do_text : Visible → RunState → Frame → ℕ → List ℕ → ToldIn How
+  pub endless : Visible → RunState → Frame → ℕ → stm.Stmts → ToldIn How
+  pub while : Visible → RunState → Frame → ℕ → Bool → tree.Expr → stm.Stmts → ToldIn How
+  pub bounds : Visible → RunState → Frame → ℕ → tree.Expr → tree.Expr → Bool → Told CounterState
+  pub counts : Visible → RunState → Frame → ℕ → Option (List ℕ) → CounterState → stm.Stmts → ToldIn How
+  pub calls : Visible → RunState → Frame → ℕ → ℕ → List ℕ → tree.Exprs → HandlerKind → Told (List ℕ)
+  pub sends_text : Visible → RunState → Frame → ℕ → ℕ → List ℕ → Told (List ℕ)
+  pub sends : Visible → RunState → Frame → ℕ → ℕ → List ℕ → List (List ℕ) → HandlerKind → Told (List ℕ)
+  pub along : Visible → RunState → Frame → ℕ → ℕ → List ℕ → List ℕ → List (List ℕ) → HandlerKind → Told (List ℕ)
+  pub outside : Visible → RunState → Frame → ℕ → List ℕ → List (List ℕ) → HandlerKind → Told (List ℕ)
+  pub built_in_gives : Visible → RunState → Frame → ℕ → List ℕ → List (List ℕ) → HandlerKind → Told (List ℕ)
+  pub system : Visible → RunState → Frame → ℕ → ℕ → SystemMessage → Told (List ℕ)
+  pub systems : Visible → RunState → Frame → ℕ → List SystemMessage → Told (List ℕ)
+  pub goes : Visible → RunState → Frame → ℕ → ℕ → Told (List ℕ)
+  pub menu : Visible → RunState → Frame → ℕ → Item → Told (List ℕ)
+  pub converses : Visible → RunState → ℕ → ℕ → List (List ℕ) → Told Conversed
+  pub talks : Visible → RunState → ℕ → ℕ → Input → Told Conversed
+  pub calls_back : Visible → RunState → ℕ → Ask → Told Input
+  pub line : Visible → RunState → stm.Stmts → Told (Unit {0})
+  pub message : Visible → RunState → ℕ → List ℕ → List (List ℕ) → Told (Unit {0})
+  pub refers : Visible → RunState → tree.Part → Told ℕ
+  pub tells : Visible → RunState → ℕ → SystemMessage → Told (Unit {0})
+  pub tells_all : Visible → RunState → List SystemMessage → Told (Unit {0})
+  pub clicks : Visible → RunState → tree.Part → Told (Unit {0})
+  pub types_over : Visible → RunState → Referent → List ℕ → Told (Unit {0})
+  pub types_into : Visible → RunState → List ℕ → tree.Part → Told (Unit {0})
+  pub acts : Visible → RunState → Action → Told (Unit {0})

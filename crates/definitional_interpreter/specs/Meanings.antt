@@ -1,7 +1,7 @@
 -- Written by tools/meaning/outcomes.py from tools/meaning/meaning.rules.
 -- The meaning of HyperTalk as a function with fuel.
 use Rattle.std.specs.Prelude.{ℕ, zero, suc}
-use Rattle.definitional_interpreter.specs.Told.{unknown, unknown_run}
+use Rattle.definitional_interpreter.specs.Told.{unknown, unknown_in}
 use Rattle.definitional_interpreter.specs.Families.{Meanings}
 use Rattle.definitional_interpreter.specs.Expressions.{val_of, vals_of, number_val_of, truth_val_of, text_val_of}
 use Rattle.definitional_interpreter.specs.Expressions.{chunk_of_of, resolves_of, picks_of, seeks_of, owns_of}
@@ -30,14 +30,14 @@ nothing = record {
   part_met = λ _ _ _ _ _. unknown;
   meets = λ _ _ _ _ _. unknown;
   leads = λ _ _ _ _ _. unknown;
-  form = λ _ _ _ _ _. unknown_run;
-  alters = λ _ _ _ _ _ _ _. unknown_run;
-  block = λ _ _ _ _ _. unknown_run;
-  do_text = λ _ _ _ _ _. unknown_run;
-  endless = λ _ _ _ _ _. unknown_run;
-  while = λ _ _ _ _ _ _ _. unknown_run;
+  form = λ _ _ _ _ _. unknown_in;
+  alters = λ _ _ _ _ _ _ _. unknown_in;
+  block = λ _ _ _ _ _. unknown_in;
+  do_text = λ _ _ _ _ _. unknown_in;
+  endless = λ _ _ _ _ _. unknown_in;
+  while = λ _ _ _ _ _ _ _. unknown_in;
   bounds = λ _ _ _ _ _ _ _. unknown;
-  counts = λ _ _ _ _ _ _ _. unknown_run;
+  counts = λ _ _ _ _ _ _ _. unknown_in;
   calls = λ _ _ _ _ _ _ _ _. unknown;
   sends_text = λ _ _ _ _ _ _. unknown;
   sends = λ _ _ _ _ _ _ _ _. unknown;

@@ -12,7 +12,7 @@ use Rattle.journal_entries.specs.State.{first_state}
 use Rattle.meaning.specs.declared.end.Stop.{Stop}
 use Rattle.meaning.specs.declared.end.Stop.TheVariants.{Fault as Faults, Exited}
 use Rattle.meaning.specs.State.{RunState, fresh_run}
-use Rattle.definitional_interpreter.specs.Told.{Present, Told, unknown, told, after}
+use Rattle.definitional_interpreter.specs.Told.{Visible, Told, unknown, told, after}
 use Rattle.definitional_interpreter.specs.Texts.{parsed}
 use Rattle.definitional_interpreter.specs.Meanings.{meanings}
 
@@ -35,16 +35,16 @@ and_more zero more = more
 and_more (suc n) more = suc (and_more n more)
 
 -- a line that is typed, where so many nested parts can be told
-abbrev pub typed : ℕ → Present → List ℕ → Told (Unit {0})
+abbrev pub typed : ℕ → Visible → List ℕ → Told (Unit {0})
 typed parts w line =
     after (told (parsed typed_lines line) w (fresh_run 1000000)) (λ ss w r. (meanings parts).line w r ss)
 
-abbrev pub answered : Told (Unit {0}) → (Present → List (List ℕ)) → List (List ℕ)
+abbrev pub answered : Told (Unit {0}) → (Visible → List (List ℕ)) → List (List ℕ)
 answered unknown rest = codes "no answer" ∷ []
 answered (told o w r) rest = answer o r ++ rest w
 
 -- the answers of lines that are typed one after another
-abbrev pub answers : ℕ → Present → List (List ℕ) → List (List ℕ)
+abbrev pub answers : ℕ → Visible → List (List ℕ) → List (List ℕ)
 answers parts w [] = []
 answers parts w (line ∷ lines) = answered (typed parts w line) (λ w. answers parts w lines)
 
@@ -71,7 +71,7 @@ two_cards card background stack = record {
 }
 
 -- its first state, with these scripts of the first card, of the background and of the stack
-abbrev pub first_card : (card background stack : List ℕ) → List Seen → Present
+abbrev pub first_card : (card background stack : List ℕ) → List Seen → Visible
 first_card card background stack externals =
     record { now = first_state (two_cards card background stack) externals; logs = map (λ e. []) externals; turns = [] }
 
@@ -81,25 +81,25 @@ gate = record { title = codes "Gate"; sort = 4; answers_calls = false; cells = c
 -- ---- rows of any state
 
 abbrev pub Sum : Type 0
-Sum = (k : ℕ) (w : Present) → answers (and_more 20 k) w (codes "put 2 + 3" ∷ []) ≡ codes "> 5" ∷ codes "ok" ∷ []
+Sum = (k : ℕ) (w : Visible) → answers (and_more 20 k) w (codes "put 2 + 3" ∷ []) ≡ codes "> 5" ∷ codes "ok" ∷ []
 
 -- the quotient is rounded towards zero
 abbrev pub Quotient : Type 0
 Quotient =
-    (k : ℕ) (w : Present) → answers (and_more 20 k) w (codes "put 7 div -2" ∷ []) ≡ codes "> -3" ∷ codes "ok" ∷ []
+    (k : ℕ) (w : Visible) → answers (and_more 20 k) w (codes "put 7 div -2" ∷ []) ≡ codes "> -3" ∷ codes "ok" ∷ []
 
 abbrev pub NoNumber : Type 0
-NoNumber = (k : ℕ) (w : Present) → answers (and_more 20 k) w (codes "put \"x\" + 1" ∷ []) ≡ codes "fault 4" ∷ []
+NoNumber = (k : ℕ) (w : Visible) → answers (and_more 20 k) w (codes "put \"x\" + 1" ∷ []) ≡ codes "fault 4" ∷ []
 
 -- a fault ends the command, and what was shown stays shown
 abbrev pub FaultAfterLines : Type 0
 FaultAfterLines =
-    (k : ℕ) (w : Present) → answers (and_more 20 k) w (codes "put 2\rput 3 div 0\rput 4" ∷ []) ≡ codes "> 2"
+    (k : ℕ) (w : Visible) → answers (and_more 20 k) w (codes "put 2\rput 3 div 0\rput 4" ∷ []) ≡ codes "> 2"
     ∷ codes "fault 6" ∷ []
 
 abbrev pub Choice : Type 0
 Choice =
-    (k : ℕ) (w : Present) →
+    (k : ℕ) (w : Visible) →
     answers (and_more 20 k) w
     ((codes "do \"if false then\" & return & \"put 1\" & return & \"else if true then\" & return & \"put 2\""
     ++ codes " & return & \"else\" & return & \"put 3\" & return & \"end if\"") ∷ [])
@@ -107,31 +107,31 @@ Choice =
 
 abbrev pub Repeated : Type 0
 Repeated =
-    (k : ℕ) (w : Present) →
+    (k : ℕ) (w : Visible) →
     answers (and_more 20 k) w (codes "do \"repeat for 2 times\" & return & \"put 1\" & return & \"end repeat\"" ∷ [])
     ≡ codes "> 1" ∷ codes "> 1" ∷ codes "ok" ∷ []
 
 abbrev pub Chunks : Type 0
 Chunks =
-    (k : ℕ) (w : Present) →
+    (k : ℕ) (w : Visible) →
     answers (and_more 20 k) w (codes "put \"[\" & char 4 to 9 of \"hello\" & \"]\" && \"[\" & item 0 of \"a,b\" & \"]\""
     ∷ [])
     ≡ codes "> [lo] []" ∷ codes "ok" ∷ []
 
 abbrev pub NoExpression : Type 0
 NoExpression =
-    (k : ℕ) (w : Present) → answers (and_more 20 k) w (codes "put the value of \"1 +\"" ∷ []) ≡ codes "fault 1" ∷ []
+    (k : ℕ) (w : Visible) → answers (and_more 20 k) w (codes "put the value of \"1 +\"" ∷ []) ≡ codes "fault 1" ∷ []
 
 abbrev pub ExitToHyperCard : Type 0
 ExitToHyperCard =
-    (k : ℕ) (w : Present) →
+    (k : ℕ) (w : Visible) →
     answers (and_more 20 k) w (codes "do \"put 1\" & return & \"exit to HyperCard\" & return & \"put 2\"" ∷ [])
     ≡ codes "> 1" ∷ codes "ok" ∷ []
 
 -- the delimiter of items is the run's: the next command has a comma again
 abbrev pub Delimiter : Type 0
 Delimiter =
-    (k : ℕ) (w : Present) →
+    (k : ℕ) (w : Visible) →
     answers (and_more 20 k) w (codes "set itemDelimiter to \";\"\rput item 1 of \"a;b,c\""
     ∷ codes "put item 1 of \"a;b,c\"" ∷ [])
     ≡ codes "> a" ∷ codes "ok" ∷ codes "> a;b" ∷ codes "ok" ∷ []

@@ -9,7 +9,7 @@ use Rattle.ht_grammar.specs.Statements.{Handler}
 use Rattle.ht_grammar.specs.Whole.{script}
 use Rattle.object_table.specs.Content.{Content}
 use Rattle.journal_entries.specs.ScriptTrees.{object_script}
-use Rattle.msg_path.specs.Handlers.{Found}
+use Rattle.msg_path.specs.Handlers.{HandlerFound}
 use Rattle.meaning.specs.declared.end.Stop.{Stop}
 use Rattle.meaning.specs.declared.end.Stop.TheVariants.{Fault as Faults}
 use Rattle.definitional_interpreter.specs.Told.{maybe}
@@ -27,12 +27,12 @@ abbrev pub parsed : {A : Type 0} → (List Token → Option A) → List ℕ → 
 parsed read text = or_syntax (read_by read text)
 
 -- the handler of a script, or else what the rest of the path has
-abbrev pub handled : ℕ → Option Handler → (Unit {0} → Result (Option Found) Stop) → Result (Option Found) Stop
+abbrev pub handled : ℕ → Option Handler → (Unit {0} → Result (Option HandlerFound) Stop) → Result (Option HandlerFound) Stop
 handled id (Some h) rest = Ok (Some (record { object = id; handler = h }))
 handled id None rest = rest tt
 
 -- the first handler on a path
-abbrev pub first_found : Content → List ℕ → HandlerKind → List ℕ → Result (Option Found) Stop
+abbrev pub first_found : Content → List ℕ → HandlerKind → List ℕ → Result (Option HandlerFound) Stop
 first_found s [] kind name = Ok None
 first_found s (id ∷ rest) kind name =
     maybe (read_by script (object_script s id))

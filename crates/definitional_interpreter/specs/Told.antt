@@ -16,58 +16,58 @@ use Rattle.meaning.specs.State.{RunState}
 
 -- What a run sees of a history: the present state and the logs of the externals, and no weights. Beside them stand the
 -- turns of each external, the first one first: one that is free takes the first of them that its log doesn't have.
-pub record Present : Type 0 where
+pub record Visible : Type 0 where
   pub now : State
   pub logs : List Log
   pub turns : List Log
 
-abbrev pub present_with : List Log → History → Present
+abbrev pub present_with : List Log → History → Visible
 present_with turns w = record { now = w.now; logs = w.logs; turns = turns }
 
 -- no free external has a turn
-abbrev pub present : History → Present
-present w = present_with [] w
+abbrev pub visible : History → Visible
+visible w = present_with [] w
 
 -- what an expression comes to; it is unknown where the fuel is out
 pub data Told (A : Type 0) : Type 0 where
   unknown : Told A
-  told : Result A Stop → Present → RunState → Told A
+  told : Result A Stop → Visible → RunState → Told A
 
 -- what a statement comes to, with the frame after it
-pub data Ran (A : Type 0) : Type 0 where
-  unknown_run : Ran A
-  ran : Result A Stop → Present → RunState → Frame → Ran A
+pub data ToldIn (A : Type 0) : Type 0 where
+  unknown_in : ToldIn A
+  told_in : Result A Stop → Visible → RunState → Frame → ToldIn A
 
 -- ---- one part after another: a part that stops hands on why, with what was done up to there
 
-abbrev pub after : {A B : Type 0} → Told A → (A → Present → RunState → Told B) → Told B
+abbrev pub after : {A B : Type 0} → Told A → (A → Visible → RunState → Told B) → Told B
 after unknown next = unknown
 after (told (Ok a) w r) next = next a w r
 after (told (Err z) w r) next = told (Err z) w r
 
 -- a part that leaves the frame
-abbrev pub after_in : {A B : Type 0} → Frame → Told A → (A → Present → RunState → Ran B) → Ran B
-after_in f unknown next = unknown_run
+abbrev pub after_in : {A B : Type 0} → Frame → Told A → (A → Visible → RunState → ToldIn B) → ToldIn B
+after_in f unknown next = unknown_in
 after_in f (told (Ok a) w r) next = next a w r
-after_in f (told (Err z) w r) next = ran (Err z) w r f
+after_in f (told (Err z) w r) next = told_in (Err z) w r f
 
-abbrev pub after_run : {A B : Type 0} → Ran A → (A → Present → RunState → Frame → Ran B) → Ran B
-after_run unknown_run next = unknown_run
-after_run (ran (Ok a) w r f) next = next a w r f
-after_run (ran (Err z) w r f) next = ran (Err z) w r f
+abbrev pub after_run : {A B : Type 0} → ToldIn A → (A → Visible → RunState → Frame → ToldIn B) → ToldIn B
+after_run unknown_in next = unknown_in
+after_run (told_in (Ok a) w r f) next = next a w r f
+after_run (told_in (Err z) w r f) next = told_in (Err z) w r f
 
 -- a part whose frame ends with it
-abbrev pub after_lines : {A B : Type 0} → Ran A → (A → Present → RunState → Told B) → Told B
-after_lines unknown_run next = unknown
-after_lines (ran (Ok a) w r f) next = next a w r
-after_lines (ran (Err z) w r f) next = told (Err z) w r
+abbrev pub after_lines : {A B : Type 0} → ToldIn A → (A → Visible → RunState → Told B) → Told B
+after_lines unknown_in next = unknown
+after_lines (told_in (Ok a) w r f) next = next a w r
+after_lines (told_in (Err z) w r f) next = told (Err z) w r
 
 -- a statement, and then the rest of its lines, unless it leaves them
-abbrev pub after_next : Ran How → (Present → RunState → Frame → Ran How) → Ran How
-after_next unknown_run next = unknown_run
-after_next (ran (Ok Next) w r f) next = next w r f
-after_next (ran (Ok h) w r f) next = ran (Ok h) w r f
-after_next (ran (Err z) w r f) next = ran (Err z) w r f
+abbrev pub after_next : ToldIn How → (Visible → RunState → Frame → ToldIn How) → ToldIn How
+after_next unknown_in next = unknown_in
+after_next (told_in (Ok Next) w r f) next = next w r f
+after_next (told_in (Ok h) w r f) next = told_in (Ok h) w r f
+after_next (told_in (Err z) w r f) next = told_in (Err z) w r f
 
 -- ---- cases
 
@@ -91,5 +91,5 @@ there (told (Err (Faults NoSuchObject)) w r) say = told (Ok (say false)) w r
 there (told (Err z) w r) say = told (Err z) w r
 
 -- what a handler gives
-abbrev pub gave : Present → Outcome → Told (List ℕ)
+abbrev pub gave : Visible → Outcome → Told (List ℕ)
 gave w out = told (Ok out.value) w out.run

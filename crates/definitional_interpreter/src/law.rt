@@ -1,4 +1,4 @@
-//! Where no external is free, a function computes a run.
+//! Where each external is deterministic, a function computes a run.
 
 ghost use Rattle.definitional_interpreter.specs.Alone.{ExpressionsAreAllowed};
 ghost use Rattle.definitional_interpreter.specs.Laws.{LinesAreComputed, MessagesAreComputed, ActionsAreComputed};
@@ -15,7 +15,7 @@ use ht_grammar::{
 use ht_lex::texts_are_cut_exactly;
 
 /// What the rules allow of lines, a message, an action, the reference of a dot line or an expression is what the function
-/// gives, with enough fuel, where no plugged external is free and the run isn't out of memory.
+/// gives, with enough fuel, where each plugged external is deterministic and the run isn't out of memory.
 pub fn runs_are_computed()
     ensures lines { LinesAreComputed }
     ensures messages { MessagesAreComputed }

@@ -6,10 +6,10 @@ use Rattle.journal_entries.specs.State.{State}
 use Rattle.change_journal.specs.History.{History}
 use Rattle.meaning.specs.declared.end.Stop.{Stop}
 use Rattle.meaning.specs.State.{RunState}
-use Rattle.definitional_interpreter.specs.Told.{Present, Told, told}
+use Rattle.definitional_interpreter.specs.Told.{Visible, Told, told}
 use Rattle.definitional_interpreter.specs.Families.{Meanings}
 use Rattle.definitional_interpreter.specs.Meanings.{meanings}
-use Rattle.definitional_interpreter.specs.Laws.{sorts_of, sorts, NoneIsFree}
+use Rattle.definitional_interpreter.specs.Laws.{sorts_of, sorts, AreDeterministic}
 use Rattle.determinism.specs.Laws.{SameOutcome}
 use Rattle.determinism.specs.Laws.{LinesHaveOneOutcome, MessagesHaveOneOutcome, ActionsHaveOneOutcome}
 use Rattle.determinism.specs.Laws.{ReferencesHaveOneOutcome, ValuesHaveOneOutcome, HasLogs}
@@ -25,7 +25,7 @@ no_logs = fixed_sight (λ logs. [])
 
 -- two runs of one thing, seen so, come to one thing
 one : {A : Type 0} (g : Sight) (w v w2 v2 : History) {r2 q2 : RunState} {o p : Result A Stop}
-    (F : Present → Meanings → Told A) → AreExact → sight g v ≡ sight g w → g.Asks w w2 → g.Asks v v2 →
+    (F : Visible → Meanings → Told A) → AreExact → sight g v ≡ sight g w → g.Asks w w2 → g.Asks v v2 →
     Comes g w (F (sight g w)) (told o (sight g w2) r2) w2 → Comes g v (F (sight g v)) (told p (sight g v2) q2) v2 →
     told o (sight g w2) r2 ≡ told p (sight g v2) q2
 one g w v w2 v2 F exact same asked asked_too first second =
@@ -40,14 +40,14 @@ parts_of : {A : Type 0} (g : Sight) (w2 v2 : History) {r2 q2 : RunState} {o p : 
 parts_of g w2 v2 is =
     let there : sight g w2 ≡ sight g v2 = cc in (cc, ap (λ u. u.now) there, cc, ap (λ u. u.logs) there)
 
-alike : {A : Type 0} {w v w2 v2 : History} {r2 q2 : RunState} {o p : Result A Stop} (F : Present → Meanings → Told A) →
-    AreExact → v.now ≡ w.now → NoneIsFree (sorts w) →
+alike : {A : Type 0} {w v w2 v2 : History} {r2 q2 : RunState} {o p : Result A Stop} (F : Visible → Meanings → Told A) →
+    AreExact → v.now ≡ w.now → AreDeterministic (sorts w) →
     ((g : Sight) → Comes g w (F (sight g w)) (told o (sight g w2) r2) w2) →
     ((g : Sight) → Comes g v (F (sight g v)) (told p (sight g v2) q2) v2) → SameOutcome w v w2 v2 r2 q2 o p
 alike {w} {v} {w2} {v2} {r2} {q2} {o} {p} F exact same free first second = (ends.0, ends.1, ends.2, logs)
   where
-    also : NoneIsFree (sorts v)
-    also = subst (λ (u : State). NoneIsFree (sorts_of u.externals)) (sym same) free
+    also : AreDeterministic (sorts v)
+    also = subst (λ (u : State). AreDeterministic (sorts_of u.externals)) (sym same) free
 
     begins : sight no_logs v ≡ sight no_logs w
     begins = ap (λ s. record { now = s; logs = []; turns = [] }) same
@@ -85,7 +85,7 @@ one_value exact w v w2 v2 r r2 q2 f d e o p same free first second has had =
 
 -- two runs with the same logs at their ends come to one thing
 told_alike : {A : Type 0} {w v w2 v2 : History} {r2 q2 : RunState} {o p : Result A Stop}
-    (F : Present → Meanings → Told A) → AreExact → v.now ≡ w.now → v.logs ≡ w.logs → HasLogs w → v2.logs ≡ w2.logs →
+    (F : Visible → Meanings → Told A) → AreExact → v.now ≡ w.now → v.logs ≡ w.logs → HasLogs w → v2.logs ≡ w2.logs →
     ((g : Sight) → Comes g w (F (sight g w)) (told o (sight g w2) r2) w2) →
     ((g : Sight) → Comes g v (F (sight g v)) (told p (sight g v2) q2) v2) → (o ≡ p) × (w2.now ≡ v2.now) × (r2 ≡ q2)
 told_alike {w = w} {v = v} {w2 = w2} {v2 = v2} F exact same logs has ends first second =

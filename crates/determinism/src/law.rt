@@ -1,4 +1,4 @@
-//! Where no external is free, a run has one outcome; else the logs of externals tell which one it has.
+//! Where each external is deterministic, a run has one outcome; else the logs of externals tell which one it has.
 
 ghost use Rattle.determinism.specs.Laws.{LinesHaveOneOutcome, MessagesHaveOneOutcome, ActionsHaveOneOutcome};
 ghost use Rattle.determinism.specs.Laws.{ReferencesHaveOneOutcome, ValuesHaveOneOutcome};
@@ -12,7 +12,7 @@ use ht_grammar::{
 use ht_lex::texts_are_cut_exactly;
 
 /// Two runs of the same lines, message, action, reference of a dot line or expression from the same state, neither of which
-/// is out of memory, have the same end, state and run, where no plugged external is free.
+/// is out of memory, have the same end, state and run, where each plugged external is deterministic.
 pub fn runs_have_one_outcome()
     ensures lines { LinesHaveOneOutcome }
     ensures messages { MessagesHaveOneOutcome }

@@ -49,7 +49,7 @@ pub enum Ask {
 /// Its name, its kind, whether it is a function and how many cells it has never change. Only `turn` and
 /// `flip` change cells. Kinds 1 to 4 answer as the table of kinds says; any other kind answers freely.
 ///
-/// Its log is what a free kind did: each of its turns, with what it was handed, what it asked and its cells after it.
+/// Its log is what a nondeterministic kind did: each of its turns, with what it was handed, what it asked and its cells after it.
 /// Only proofs read it. It is no cell, and no flip takes a turn out of it. A kind of the table adds nothing to it, since
 /// its turns follow from its cells and what it is handed.
 pub trait External: Drop {

@@ -16,7 +16,7 @@ use Rattle.meaning.specs.Actions.{Action}
 use Rattle.externals.specs.Cells.{Seen}
 use Rattle.externals.specs.Log.{Log}
 use Rattle.journal_entries.specs.State.{State, titles_of, index_of}
-use Rattle.change_journal.specs.History.{History, Step, begun, step_with_external, plugged, unplugged_at, flipped_back}
+use Rattle.change_journal.specs.History.{History, Neighbour, begun, step_with_external, plugged, unplugged_at, flipped_back}
 use Rattle.change_journal.specs.History.{flipped_back_from, flipped_forth, flipped_forth_from}
 use Rattle.session.specs.declared.limits.TheConstants.{LONGEST_LINE}
 use Rattle.session.specs.Commands.{is_dot_line, command_in, behind_name, second, words}
@@ -26,7 +26,7 @@ use Rattle.headline.specs.Headline.{last_numbered, with_one_more, without_one, l
 use Rattle.session.specs.Moves.{MovesTo, back_by, forth_by, stamps, undone, redone, undone_to, undone_by, places_to}
 use Rattle.session.specs.Replies.{Refuses, obeys, nothing, given_up, Moves, Looks, ShowsCells, cells_named}
 use Rattle.headline.specs.Saving.{Settles, Takes}
-use Rattle.session.specs.Standing.{Standing, next_number}
+use Rattle.session.specs.SessionView.{SessionView, next_number}
 use Rattle.session.specs.TakesLine as taken
 use Rattle.session.specs.TakesLine.{Adds, GivesUp, Performs, Says}
 use Rattle.headline.specs.Unzipped.{snapshots_of, all_snapshots, timeline_of, timeline_beside, LinesFollow}
@@ -44,7 +44,7 @@ use Rattle.headline.proofs.Sessions.{run_lines, ended_follows, stopped_follows}
 reverse-cons : {A : Type 0} (x : A) (xs : List A) → reverse (x ∷ xs) ≡ reverse xs ++ x ∷ []
 reverse-cons x xs = reverse-append (x ∷ []) xs
 
-abbrev snapshot_of : Step → Snapshot
+abbrev snapshot_of : Neighbour → Snapshot
 snapshot_of step = record { state = step.state; number = step.stamp }
 
 abbrev present_of : History → Snapshot
@@ -52,16 +52,16 @@ present_of h = record { state = h.now; number = h.stamp }
 
 -- ---- flips
 
-all_back : (h : History) (steps : List Step) → h.past ≡ steps
+all_back : (h : History) (steps : List Neighbour) → h.past ≡ steps
     → all_snapshots (flipped_back_from h steps) ≡ all_snapshots h
 all_back h [] e = refl
 all_back h (s ∷ ss) e =
     let after = present_of h ∷ snapshots_of h.future in
-    sym (ap (λ (steps : List Step). reverse (snapshots_of steps) ++ after) e
+    sym (ap (λ (steps : List Neighbour). reverse (snapshots_of steps) ++ after) e
     ∙ ap (λ (t : List Snapshot). t ++ after) (reverse-cons (snapshot_of s) (snapshots_of ss))
     ∙ append_assoc (reverse (snapshots_of ss)) (snapshot_of s ∷ []) after)
 
-all_forth : (h : History) (steps : List Step) → h.future ≡ steps
+all_forth : (h : History) (steps : List Neighbour) → h.future ≡ steps
     → all_snapshots (flipped_forth_from h steps) ≡ all_snapshots h
 all_forth h [] e = refl
 all_forth h (s ∷ ss) e =
@@ -69,13 +69,13 @@ all_forth h (s ∷ ss) e =
     ap (λ (t : List Snapshot). t ++ (snapshot_of s ∷ snapshots_of ss))
     (reverse-cons (present_of h) (snapshots_of h.past))
     ∙ append_assoc front (present_of h ∷ []) (snapshot_of s ∷ snapshots_of ss)
-    ∙ sym (ap (λ (steps : List Step). front ++ present_of h ∷ snapshots_of steps) e)
+    ∙ sym (ap (λ (steps : List Neighbour). front ++ present_of h ∷ snapshots_of steps) e)
 
-depth_back : (h : History) (steps : List Step) → (flipped_back_from h steps).depth ≡ h.depth
+depth_back : (h : History) (steps : List Neighbour) → (flipped_back_from h steps).depth ≡ h.depth
 depth_back h [] = refl
 depth_back h (s ∷ ss) = refl
 
-depth_forth : (h : History) (steps : List Step) → (flipped_forth_from h steps).depth ≡ h.depth
+depth_forth : (h : History) (steps : List Neighbour) → (flipped_forth_from h steps).depth ≡ h.depth
 depth_forth h [] = refl
 depth_forth h (s ∷ ss) = refl
 
@@ -97,7 +97,7 @@ cursor_back_by zero h le = omega arith
 cursor_back_by (suc k) h le = let one = past-flipped_back h (omega arith) in omega
     (arith, one, cursor_back_by k (flipped_back h) (omega (arith, one)))
 
-past_forth : (h : History) (steps : List Step) → 0 < length steps
+past_forth : (h : History) (steps : List Neighbour) → 0 < length steps
     → length (flipped_forth_from h steps).past ≡ length h.past + 1
 past_forth h [] some = absurd (omega arith)
 past_forth h (s ∷ ss) some = omega arith
@@ -120,7 +120,7 @@ length-all h = omega (
 length-before : (h : History) → length (reverse (snapshots_of h.past)) ≡ length h.past
 length-before h = length-reverse (snapshots_of h.past) ∙ length-map h.past snapshot_of
 
-abbrev standing_of : ℕ → ℕ → History → Standing
+abbrev standing_of : ℕ → ℕ → History → SessionView
 standing_of lines steps h = record { history = h; lines = lines; steps = steps }
 
 module _ (lines steps : ℕ) where
@@ -224,7 +224,7 @@ last-reverse n (x ∷ xs) =
     ]
     ∙ sym (ap (option_map here) (position-cons p x.number (numbers xs)))
 
-numbers_of : (ss : List Step) → numbers (snapshots_of ss) ≡ map (λ step. step.stamp) ss
+numbers_of : (ss : List Neighbour) → numbers (snapshots_of ss) ≡ map (λ step. step.stamp) ss
 numbers_of [] = refl
 numbers_of (s ∷ ss) = ap (λ (t : List ℕ). s.stamp ∷ t) (numbers_of ss)
 
@@ -324,7 +324,7 @@ reverse-take n xs =
     ∙ subst (λ m. drop m (back ++ front) ≡ front) size (drop-append_seam back front))
 
 -- the states before the one that is added
-kept_states : (depth : ℕ) (old : History) (step : Step) → snapshot_of step ≡ present_of old
+kept_states : (depth : ℕ) (old : History) (step : Neighbour) → snapshot_of step ≡ present_of old
     → reverse (snapshots_of (take depth (step ∷ old.past)))
     ≡ drop (length old.past + 1 - depth) (reverse (snapshots_of old.past) ++ present_of old ∷ [])
 kept_states depth old step is =
@@ -337,7 +337,7 @@ kept_states depth old step is =
     (reverse-cons (present_of old) (snapshots_of old.past))
     ∙ ap (λ n. drop (n - depth) (reverse (snapshots_of old.past) ++ present_of old ∷ [])) size
 
-joined_list : (depth : ℕ) (old : History) (step : Step) (added : Snapshot) → snapshot_of step ≡ present_of old
+joined_list : (depth : ℕ) (old : History) (step : Neighbour) (added : Snapshot) → snapshot_of step ≡ present_of old
     → reverse (snapshots_of (take depth (step ∷ old.past))) ++ added ∷ []
     ≡ drop (length old.past + 1 - depth) (take (length old.past + 1) (all_snapshots old) ++ added ∷ [])
 joined_list depth old step added is =
@@ -354,7 +354,7 @@ module _ (lines steps : ℕ) where
   adds_follow : (does : Action) (old : History) (reply : Reply) (new : History) → Adds steps does lines old reply new
       → Replaces does old.now (at lines steps old) reply (at lines steps new)
   adds_follow does old reply new a =
-      let step : Step = record {
+      let step : Neighbour = record {
         state = a.batch.state;
         stamp = old.stamp;
         undo = a.batch.undo;
@@ -505,7 +505,7 @@ lines_follow line old reply new t =
 
 -- ---- externals plugged in and out
 
-snapshots-with : (x : Seen) (ss : List Step)
+snapshots-with : (x : Seen) (ss : List Neighbour)
     → snapshots_of (map (step_with_external x) ss) ≡ map (with_one_more x) (snapshots_of ss)
 snapshots-with x [] = refl
 snapshots-with x (s ∷ ss) = ap (λ (t : List Snapshot). with_one_more x (snapshot_of s) ∷ t) (snapshots-with x ss)
@@ -561,7 +561,7 @@ opens_follow stack externals logs steps depth = refl
 
 -- ---- runs
 
-settles_follow : (line : List ℕ) (old : Standing × SeenDesk) (reply : Reply) (new : Standing × SeenDesk)
+settles_follow : (line : List ℕ) (old : SessionView × SeenDesk) (reply : Reply) (new : SessionView × SeenDesk)
     → Takes line old reply new → Settles LineMoves line (timeline_beside old) reply (timeline_beside new)
 settles_follow line old reply new s = record {
   ending = s.ending;

@@ -16,7 +16,7 @@ use Rattle.session.specs.TakesLine.{TakesLine}
 use Rattle.session.specs.Splits.{IsLine, ended_lines, Splits}
 use Rattle.headline.specs.InputLines.{without_return, last_line}
 use Rattle.headline.specs.Saving.{Takes}
-use Rattle.session.specs.Standing.{Standing}
+use Rattle.session.specs.SessionView.{SessionView}
 use Rattle.headline.specs.Answering.{is_quit, Answered, OneMore, Finishes, Quits, Breaks, Exceeds}
 use Rattle.headline.specs.Intake.{Reached, Broken}
 use Rattle.headline.specs.Writing.{IsCut}
@@ -77,13 +77,13 @@ length-without_return line =
     ]
 
 -- lines that are too long are answered alike
-TakesLine-long : (a b : List ℕ) (old : Standing) (reply : Reply) (new : Standing) → LONGEST_LINE < length a
+TakesLine-long : (a b : List ℕ) (old : SessionView) (reply : Reply) (new : SessionView) → LONGEST_LINE < length a
     → LONGEST_LINE < length b → TakesLine a old reply new → TakesLine b old reply new
 TakesLine-long a b old reply new p q s =
     let done = rw (lt-ltb LONGEST_LINE (length a) p) at s.performed in
     record { number = s.number; steps = s.steps; performed = rw (lt-ltb LONGEST_LINE (length b) q) done }
 
-Takes-long : (a b : List ℕ) (old : Standing × SeenDesk) (reply : Reply) (new : Standing × SeenDesk)
+Takes-long : (a b : List ℕ) (old : SessionView × SeenDesk) (reply : Reply) (new : SessionView × SeenDesk)
     → LONGEST_LINE < length a → LONGEST_LINE < length b → Takes a old reply new → Takes b old reply new
 Takes-long a b old reply new p q s =
     let taken = TakesLine-long a b old.0 (record reply { ending = s.ending }) new.0 p q s.taken.takes in
@@ -98,7 +98,7 @@ Takes-long a b old reply new p q s =
 -- the part that is kept of a line is answered as the line
 kept_line : (f : List ℕ → List ℕ) → ((line : List ℕ) → length line ≤ length (f line) + 1) → (k : ℕ) → 30001 < k
     → (pending rest : List ℕ) → pending ≡ take k rest
-    → (old : Standing × SeenDesk) (reply : Reply) (new : Standing × SeenDesk) → Takes (f pending) old reply new
+    → (old : SessionView × SeenDesk) (reply : Reply) (new : SessionView × SeenDesk) → Takes (f pending) old reply new
     → Takes (f rest) old reply new
 kept_line f size k big pending rest e old reply new s =
     elim (cases_lt k (length rest)) [
@@ -112,7 +112,7 @@ length_zero : (xs : List ℕ) → length xs ≡ 0 → xs ≡ []
 length_zero [] e = refl
 length_zero (x ∷ xs) e = absurd (omega arith)
 
-module _ (old : Standing × SeenDesk) (read written : List ℕ) (now : Standing × SeenDesk) (pending : List ℕ)
+module _ (old : SessionView × SeenDesk) (read written : List ℕ) (now : SessionView × SeenDesk) (pending : List ℕ)
     (lines bytes : ℕ) (r : Reached old read written now pending lines bytes) where
   -- one byte more, which ends no line
   pub reached_more : (b : ℕ) (pending2 : List ℕ) → b ≢ 10 → lines < MOST_LINES
@@ -134,13 +134,13 @@ module _ (old : Standing × SeenDesk) (read written : List ℕ) (now : Standing 
   }
 
   -- the line that a line feed ends, as it is answered
-  ended_step : (reply : Reply) (new : Standing × SeenDesk) → Takes (without_return pending) now reply new
+  ended_step : (reply : Reply) (new : SessionView × SeenDesk) → Takes (without_return pending) now reply new
       → Takes (without_return r.rest) now reply new
   ended_step reply new s =
       kept_line without_return length-without_return KEPT (omega arith) pending r.rest r.kept now reply new s
 
   -- a line feed, and an answer that does not quit
-  pub reached_line : (reply : Reply) (new : Standing × SeenDesk) → Takes (without_return pending) now reply new
+  pub reached_line : (reply : Reply) (new : SessionView × SeenDesk) → Takes (without_return pending) now reply new
       → is_quit reply.ending ≡ false
       → Reached old (read ++ 10 ∷ []) (written ++ answer reply) new [] (lines + 1) (bytes + 1)
   reached_line reply new s q = record {
@@ -156,7 +156,7 @@ module _ (old : Standing × SeenDesk) (read written : List ℕ) (now : Standing 
   }
 
   -- a line feed ends one more line
-  pub ended_one : (reply : Reply) (new : Standing × SeenDesk) → lines < MOST_LINES → bytes < MOST_BYTES
+  pub ended_one : (reply : Reply) (new : SessionView × SeenDesk) → lines < MOST_LINES → bytes < MOST_BYTES
       → Takes (without_return pending) now reply new
       → (o : OneMore Takes ⊥ old (read ++ 10 ∷ []) written reply new) × (length o.ahead ≤ 0)
   ended_one reply new few short s =
@@ -182,7 +182,7 @@ module _ (old : Standing × SeenDesk) (read written : List ℕ) (now : Standing 
         omega arith,
       )
 
-  pub reached_quit : (reply : Reply) (new : Standing × SeenDesk) → lines < MOST_LINES → bytes < MOST_BYTES
+  pub reached_quit : (reply : Reply) (new : SessionView × SeenDesk) → lines < MOST_LINES → bytes < MOST_BYTES
       → Takes (without_return pending) now reply new → is_quit reply.ending ≡ true
       → (q : Quits Takes ⊥ old (read ++ 10 ∷ []) (written ++ answer reply) new) × (length q.taken.ahead ≤ 0)
   reached_quit reply new few short s q =
@@ -190,7 +190,7 @@ module _ (old : Standing × SeenDesk) (read written : List ℕ) (now : Standing 
       (record { text = written; reply = reply; taken = o.0; quits = q; sent = refl }, o.1)
 
   -- a line feed, and an answer of which a part is written
-  pub reached_break : (reply : Reply) (sent : List ℕ) (new : Standing × SeenDesk) → lines < MOST_LINES
+  pub reached_break : (reply : Reply) (sent : List ℕ) (new : SessionView × SeenDesk) → lines < MOST_LINES
       → bytes < MOST_BYTES → Takes (without_return pending) now reply new → IsCut (answer reply) sent
       → Broken 0 old (read ++ 10 ∷ []) (written ++ sent) new
   reached_break reply sent new few short s cut =
@@ -221,13 +221,13 @@ module _ (old : Standing × SeenDesk) (read written : List ℕ) (now : Standing 
   room_left : 0 < length pending → lines < MOST_LINES
   room_left some = elim r.room [ inl none ↦ absurd (some_rest some none) | inr few ↦ few ]
 
-  last_step : (reply : Reply) (new : Standing × SeenDesk) → Takes pending now reply new → Takes r.rest now reply new
+  last_step : (reply : Reply) (new : SessionView × SeenDesk) → Takes pending now reply new → Takes r.rest now reply new
   last_step reply new s =
       let id : List ℕ → List ℕ = λ t. t in
       kept_line id (λ line. omega arith) KEPT (omega arith) pending r.rest r.kept now reply new s
 
   -- the last line, which nothing ended
-  pub last_one : (reply : Reply) (new : Standing × SeenDesk) → 0 < length pending → bytes ≤ MOST_BYTES
+  pub last_one : (reply : Reply) (new : SessionView × SeenDesk) → 0 < length pending → bytes ≤ MOST_BYTES
       → Takes pending now reply new → OneMore Takes (Unit {0}) old read written reply new
   last_one reply new some short s =
       let few : lines < MOST_LINES = room_left some in
@@ -248,13 +248,13 @@ module _ (old : Standing × SeenDesk) (read written : List ℕ) (now : Standing 
         close = omega arith;
       }
 
-  pub last_quits : (reply : Reply) (new : Standing × SeenDesk) → 0 < length pending → bytes ≤ MOST_BYTES
+  pub last_quits : (reply : Reply) (new : SessionView × SeenDesk) → 0 < length pending → bytes ≤ MOST_BYTES
       → Takes pending now reply new → is_quit reply.ending ≡ true
       → Quits Takes (Unit {0}) old read (written ++ answer reply) new
   last_quits reply new some short s q =
       record { text = written; reply = reply; taken = last_one reply new some short s; quits = q; sent = refl }
 
-  pub last_breaks : (reply : Reply) (sent : List ℕ) (new : Standing × SeenDesk) → 0 < length pending
+  pub last_breaks : (reply : Reply) (sent : List ℕ) (new : SessionView × SeenDesk) → 0 < length pending
       → bytes ≤ MOST_BYTES → Takes pending now reply new → IsCut (answer reply) sent
       → Breaks Takes (Unit {0}) old read (written ++ sent) new
   last_breaks reply sent new some short s
@@ -267,7 +267,7 @@ module _ (old : Standing × SeenDesk) (read written : List ℕ) (now : Standing 
         went = refl;
       }
 
-  pub last_finishes : (reply : Reply) (new : Standing × SeenDesk) → 0 < length pending → bytes ≤ MOST_BYTES
+  pub last_finishes : (reply : Reply) (new : SessionView × SeenDesk) → 0 < length pending → bytes ≤ MOST_BYTES
       → Takes pending now reply new → is_quit reply.ending ≡ false
       → Finishes Takes old read (written ++ answer reply) new
   last_finishes reply new some short s q =
@@ -302,7 +302,7 @@ module _ (old : Standing × SeenDesk) (read written : List ℕ) (now : Standing 
 
 -- ---- more bytes behind
 
-one_more_behind : (old : Standing × SeenDesk) (read text : List ℕ) (reply : Reply) (new : Standing × SeenDesk)
+one_more_behind : (old : SessionView × SeenDesk) (read text : List ℕ) (reply : Reply) (new : SessionView × SeenDesk)
     (more : List ℕ) (o : OneMore Takes ⊥ old read text reply new) → length o.ahead ≤ 0 → length more < BLOCK
     → (p : OneMore Takes ⊥ old (read ++ more) text reply new) × (length p.ahead ≤ length more)
 one_more_behind old read text reply new more o none close =
@@ -327,7 +327,7 @@ one_more_behind old read text reply new more o none close =
       omega (arith, size),
     )
 
-pub Breaks-more : (old : Standing × SeenDesk) (read written : List ℕ) (new : Standing × SeenDesk) (more : List ℕ)
+pub Breaks-more : (old : SessionView × SeenDesk) (read written : List ℕ) (new : SessionView × SeenDesk) (more : List ℕ)
     → length more < BLOCK → Broken 0 old read written new → Breaks Takes ⊥ old (read ++ more) written new
 Breaks-more old read written new more close (b, none) =
     record {
@@ -341,7 +341,7 @@ Breaks-more old read written new more close (b, none) =
       went = b.went;
     }
 
-pub Quits-more : (old : Standing × SeenDesk) (read written : List ℕ) (new : Standing × SeenDesk) (more : List ℕ)
+pub Quits-more : (old : SessionView × SeenDesk) (read written : List ℕ) (new : SessionView × SeenDesk) (more : List ℕ)
     → length more < BLOCK → (q : Quits Takes ⊥ old read written new) × (length q.taken.ahead ≤ 0)
     → (p : Quits Takes ⊥ old (read ++ more) written new) × (length p.taken.ahead ≤ length more)
 Quits-more old read written new more close (q, none) =

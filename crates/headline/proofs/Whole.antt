@@ -4,7 +4,7 @@ use Rattle.std.specs.Prelude.{reverse}
 use Rattle.std.proofs.lemmas.List.{reverse-append}
 use Rattle.devices.specs.Desks.{SeenDesk}
 use Rattle.journal_entries.specs.State.{State, IsState}
-use Rattle.change_journal.specs.History.{History, Step, AreStates, IsHistory}
+use Rattle.change_journal.specs.History.{History, Neighbour, AreStates, IsHistory}
 use Rattle.stack_text.specs.Laws.{Spells, WrittenIsRead}
 use Rattle.stack_text.specs.Listing.{spelling}
 use Rattle.stack_text.specs.declared.sheets.Version.TheVariants.{Second as second}
@@ -15,7 +15,7 @@ use Rattle.headline.specs.Whole.{AreWhole, MovesWhole, RunsStayWhole, StopsStayW
 use Rattle.headline.proofs.Following.{lines_follow}
 use Rattle.headline.proofs.Sessions.{run_lines, ended_follows, stopped_follows}
 use Rattle.std.specs.Io.KnownBytes.{IsAtEnd}
-use Rattle.session.specs.Standing.{Standing}
+use Rattle.session.specs.SessionView.{SessionView}
 use Rattle.session.specs.declared.reply.Reply.{Reply}
 
 whole_append : (xs ys : List Snapshot) → AreWhole xs → AreWhole ys → AreWhole (xs ++ ys)
@@ -27,7 +27,7 @@ whole_reverse [] h = tt
 whole_reverse (x ∷ xs) h = subst AreWhole (sym (reverse-append (x ∷ []) xs))
     (whole_append (reverse xs) (x ∷ []) (whole_reverse xs h.1) (h.0, tt))
 
-whole_steps : (titles : List (List ℕ)) (steps : List Step) → AreStates titles steps → AreWhole (snapshots_of steps)
+whole_steps : (titles : List (List ℕ)) (steps : List Neighbour) → AreStates titles steps → AreWhole (snapshots_of steps)
 whole_steps titles [] h = tt
 whole_steps titles (s ∷ ss) h = (h.0.state, whole_steps titles ss h.1)
 
@@ -38,7 +38,7 @@ whole_list h q =
     (whole_reverse (snapshots_of h.past) (whole_steps q.titles h.past q.past))
     (q.now.state, whole_steps q.titles h.future q.future)
 
-whole_follows : (line : List ℕ) (old : Standing) (reply : Reply) (new : Standing) → TakesWhole line old reply new
+whole_follows : (line : List ℕ) (old : SessionView) (reply : Reply) (new : SessionView) → TakesWhole line old reply new
     → MovesWhole line (timeline_of old) reply (timeline_of new)
 whole_follows line old reply new t = record {
   moves = lines_follow line old reply new t.takes;
@@ -46,7 +46,7 @@ whole_follows line old reply new t = record {
   after = whole_list new.history t.after;
 }
 
-settles_whole : (line : List ℕ) (old : Standing × SeenDesk) (reply : Reply) (new : Standing × SeenDesk)
+settles_whole : (line : List ℕ) (old : SessionView × SeenDesk) (reply : Reply) (new : SessionView × SeenDesk)
     → Takes line old reply new → Settles MovesWhole line (timeline_beside old) reply (timeline_beside new)
 settles_whole line old reply new s = record {
   ending = s.ending;

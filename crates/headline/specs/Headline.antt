@@ -14,7 +14,7 @@ use Rattle.session.specs.Meaning.{Fresh, Locked}
 use Rattle.session.specs.Replies.{ended, Refuses, Obeys, Moves, Looks, ShowsStack, ShowsCells, Saves, cells_named}
 use Rattle.session.specs.Replies.{global_lines, history_line}
 use Rattle.headline.specs.Saving.{Settles}
-use Rattle.session.specs.Standing.{next_number}
+use Rattle.session.specs.SessionView.{next_number}
 use Rattle.session.specs.declared.command.Command.{Command}
 use Rattle.session.specs.declared.command.Command.TheVariants.{Undo, Redo, UndoTo, Show, Globals, Where, Cells}
 use Rattle.session.specs.declared.command.Command.TheVariants.{History, Save, Act, Quit}

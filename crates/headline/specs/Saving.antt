@@ -5,7 +5,7 @@ use Rattle.devices.specs.Watching.{counted}
 use Rattle.change_journal.specs.History.{IsHistory}
 use Rattle.devices.specs.declared.desk.HeardMessage.{HeardMessage}
 use Rattle.meaning.specs.declared.sent.SentMessage.{SentMessage}
-use Rattle.session.specs.Standing.{Standing}
+use Rattle.session.specs.SessionView.{SessionView}
 use Rattle.session.specs.TakesLine.{TakesLine}
 use Rattle.session.specs.declared.reply.Ending.{Ending}
 use Rattle.session.specs.declared.reply.Ending.TheVariants.{Ok, Refused, Save}
@@ -52,11 +52,11 @@ abbrev pub SettlesHeard : {S : Type 0} → (List ℕ → S → Reply → S → T
 SettlesHeard takes = Beside Hears KeptOrNot takes
 
 -- a session takes a line, and each state of its list is whole before the line and after it
-pub record TakesWhole (line : List ℕ) (old : Standing) (reply : Reply) (new : Standing) : Type 0 where
+pub record TakesWhole (line : List ℕ) (old : SessionView) (reply : Reply) (new : SessionView) : Type 0 where
   pub takes : TakesLine line old reply new
   pub before : IsHistory old.history
   pub after : IsHistory new.history
 
 -- a session beside a desk takes a line
-abbrev pub Takes : List ℕ → Standing × SeenDesk → Reply → Standing × SeenDesk → Type 0
+abbrev pub Takes : List ℕ → SessionView × SeenDesk → Reply → SessionView × SeenDesk → Type 0
 Takes = Settles TakesWhole

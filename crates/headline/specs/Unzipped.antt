@@ -9,7 +9,7 @@ use Rattle.externals.specs.Cells.{Seen}
 use Rattle.externals.specs.Log.{Log}
 use Rattle.object_table.specs.Content.{Content}
 use Rattle.journal_entries.specs.State.{titles_of, index_of}
-use Rattle.change_journal.specs.History.{History, Step, plugged, unplugged}
+use Rattle.change_journal.specs.History.{History, Neighbour, plugged, unplugged}
 use Rattle.headline.specs.Answering.{Session}
 use Rattle.headline.specs.Headline.{Snapshot, Timeline, LineMoves, Headline, Undoes, Redoes, UndoesTo, beginning}
 use Rattle.headline.specs.Headline.{with_plugged, without_plugged}
@@ -17,7 +17,7 @@ use Rattle.session.specs.Moves.{MovesTo, undone, redone, undone_to}
 use Rattle.session.specs.Opening.{opened}
 use Rattle.headline.specs.Saving.{Kept, Beside, Settles, SettlesHeard, Takes}
 use Rattle.headline.specs.InputLines.{AreLines}
-use Rattle.session.specs.Standing.{Standing}
+use Rattle.session.specs.SessionView.{SessionView}
 use Rattle.headline.specs.Stops.{Ended, Stopped}
 use Rattle.session.specs.TakesLine.{TakesLine}
 use Rattle.headline.specs.declared.transcript.Ran.{Ran}
@@ -26,14 +26,14 @@ use Rattle.session.specs.declared.reply.Refusal.{Refusal}
 use Rattle.session.specs.declared.reply.Refusal.TheVariants.{NothingToUndo, NothingToRedo, BadCommand}
 use Rattle.session.specs.declared.reply.Reply.{Reply}
 
-abbrev pub snapshots_of : List Step → List Snapshot
+abbrev pub snapshots_of : List Neighbour → List Snapshot
 snapshots_of = map (λ step. record { state = step.state; number = step.stamp })
 
 -- the states before the cursor, turned round, the present one, and those after it
 abbrev pub all_snapshots : History → List Snapshot
 all_snapshots h = reverse (snapshots_of h.past) ++ record { state = h.now; number = h.stamp } ∷ snapshots_of h.future
 
-abbrev pub timeline_of : Standing → Timeline
+abbrev pub timeline_of : SessionView → Timeline
 timeline_of s = record {
   snapshots = all_snapshots s.history;
   cursor = length s.history.past;
@@ -43,19 +43,19 @@ timeline_of s = record {
 }
 
 -- a session whose history is this one
-abbrev pub with_history : Standing → History → Standing
+abbrev pub with_history : SessionView → History → SessionView
 with_history s h = record s { history = h }
 
 -- ---- laws
 
 -- each line that a session takes does so to the list of its states
 abbrev pub LinesFollow : Type 0
-LinesFollow = (line : List ℕ) (old : Standing) (reply : Reply) (new : Standing) → TakesLine line old reply new
+LinesFollow = (line : List ℕ) (old : SessionView) (reply : Reply) (new : SessionView) → TakesLine line old reply new
     → LineMoves line (timeline_of old) reply (timeline_of new)
 
 -- and so do `undo`, `redo` and `undo_to`
 abbrev pub MovesFollow : Type 0
-MovesFollow = (s : Standing) (k : ℕ) (result : Result (Unit {0}) Refusal) (h : History)
+MovesFollow = (s : SessionView) (k : ℕ) (result : Result (Unit {0}) Refusal) (h : History)
     → (MatchBool (k == 0) (IsErrOf result BadCommand × (with_history s h ≡ s))
     (MovesTo (undone k s.history) NothingToUndo s.history result h)
     → Undoes k (timeline_of s) result (timeline_of (with_history s h)))
@@ -71,7 +71,7 @@ without_if None t = t
 without_if (Some i) t = without_plugged i t
 
 abbrev pub PlugsFollow : Type 0
-PlugsFollow = (s : Standing) (x : Seen) (log : Log) (name : List ℕ)
+PlugsFollow = (s : SessionView) (x : Seen) (log : Log) (name : List ℕ)
     → (timeline_of (with_history s (plugged s.history x log)) ≡ with_plugged x (timeline_of s))
     × (timeline_of (with_history s (unplugged name s.history))
     ≡ without_if (index_of name (titles_of s.history.now.externals)) (timeline_of s))
@@ -81,22 +81,22 @@ OpensFollow = (stack : Content) (externals : List Seen) (logs : List Log) (steps
     → timeline_of (opened stack externals logs steps depth) ≡ beginning stack externals steps depth
 
 -- a session beside a desk
-abbrev pub timeline_beside : Standing × SeenDesk → Timeline × SeenDesk
+abbrev pub timeline_beside : SessionView × SeenDesk → Timeline × SeenDesk
 timeline_beside s = (timeline_of s.0, s.1)
 
 -- A run that ended, with this left to read where that is known, did what the headline says to the list of the
 -- session's states, beside the desk.
 abbrev pub RunsFollow : Type 0
-RunsFollow = (left : Option (List ℕ)) (ran : Ran) (old : Standing × SeenDesk) (read written : List ℕ)
-    (new : Standing × SeenDesk) → Ended Takes (IsAtEnd left) ran old read written new
+RunsFollow = (left : Option (List ℕ)) (ran : Ran) (old : SessionView × SeenDesk) (read written : List ℕ)
+    (new : SessionView × SeenDesk) → Ended Takes (IsAtEnd left) ran old read written new
     → Ended (Settles LineMoves) (IsAtEnd left) ran (timeline_beside old) read written (timeline_beside new)
     × ((lines : List (List ℕ)) × AreLines read lines
     × Headline (timeline_beside old) lines written (timeline_beside new))
 
 -- and so did a run that stopped, as far as it came
 abbrev pub StopsFollow : Type 0
-StopsFollow = (left : Option (List ℕ)) (fault : RunFault) (old : Standing × SeenDesk) (read written : List ℕ)
-    (new : Standing × SeenDesk) → Stopped Takes (IsAtEnd left) fault old read written new
+StopsFollow = (left : Option (List ℕ)) (fault : RunFault) (old : SessionView × SeenDesk) (read written : List ℕ)
+    (new : SessionView × SeenDesk) → Stopped Takes (IsAtEnd left) fault old read written new
     → Stopped (Settles LineMoves) (IsAtEnd left) fault (timeline_beside old) read written (timeline_beside new)
 
 -- Beside a desk whose count of failures didn't rise all that was saved is kept: each line that saves is answered `ok`, and

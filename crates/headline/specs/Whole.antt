@@ -13,7 +13,7 @@ use Rattle.headline.specs.declared.transcript.Ran.{Ran}
 use Rattle.headline.specs.declared.transcript.RunFault.{RunFault}
 use Rattle.stack_text.specs.Laws.{Spells, stack_in}
 use Rattle.session.specs.Replies.{ended, Saves}
-use Rattle.session.specs.Standing.{Standing}
+use Rattle.session.specs.SessionView.{SessionView}
 use Rattle.session.specs.declared.reply.Ending.TheVariants.{Save}
 use Rattle.session.specs.declared.reply.Reply.{Reply}
 
@@ -32,7 +32,7 @@ pub record MovesWhole (line : List ℕ) (old : Timeline) (reply : Reply) (new : 
 -- to the lines that are read, those of such lists.
 abbrev pub RunsStayWhole : Type 0
 RunsStayWhole =
-    (left : Option (List ℕ)) (ran : Ran) (old : Standing × SeenDesk) (read written : List ℕ) (new : Standing × SeenDesk)
+    (left : Option (List ℕ)) (ran : Ran) (old : SessionView × SeenDesk) (read written : List ℕ) (new : SessionView × SeenDesk)
     →
     Ended Takes (IsAtEnd left) ran old read written new →
     Ended (Settles MovesWhole) (IsAtEnd left) ran (timeline_beside old) read written (timeline_beside new) ×
@@ -42,8 +42,8 @@ RunsStayWhole =
 -- and along a run that stopped, as far as it came
 abbrev pub StopsStayWhole : Type 0
 StopsStayWhole =
-    (left : Option (List ℕ)) (fault : RunFault) (old : Standing × SeenDesk) (read written : List ℕ)
-    (new : Standing × SeenDesk) →
+    (left : Option (List ℕ)) (fault : RunFault) (old : SessionView × SeenDesk) (read written : List ℕ)
+    (new : SessionView × SeenDesk) →
     Stopped Takes (IsAtEnd left) fault old read written new →
     Stopped (Settles MovesWhole) (IsAtEnd left) fault (timeline_beside old) read written (timeline_beside new)
 

@@ -8,7 +8,7 @@ ghost use Rattle.devices.specs.Desks.{SeenDesk, HearsOrForgets};
 ghost use Rattle.devices.specs.Watching.{device_of, failures_of, Rose};
 ghost use Rattle.headline.specs.Answers.{answer};
 ghost use Rattle.headline.specs.Saving.{KeptOrNot, Takes, as_heard};
-ghost use Rattle.session.specs.Standing.{Standing};
+ghost use Rattle.session.specs.SessionView.{SessionView};
 ghost use Rattle.headline.specs.InputLines.{without_return as line_of_ended, AreLines};
 ghost use Rattle.headline.specs.Answering.{is_quit, Breaks, Finishes};
 ghost use Rattle.headline.specs.Writing.{IsCut};
@@ -209,14 +209,14 @@ fn take_byte<E: External, W: Write, D: Desk>(
     requires bytes { intake.old.bytes < MOST_BYTES }
     ensures ok { IfOk result (λ quits. (text : List ℕ)
         × Appends (W.contents (device_of writer.old)) (W.contents (device_of writer.new)) text
-        × ((start : Standing × SeenDesk) (read written : List ℕ)
+        × ((start : SessionView × SeenDesk) (read written : List ℕ)
         → Reached start read written (session.old, D.seen desk.old)
         intake.old.pending.items intake.old.lines intake.old.bytes
         → Onward 0 quits start (read ++ byte ∷ []) (written ++ text) (session.new, D.seen desk.new)
         intake.new.pending.items intake.new.lines intake.new.bytes)) }
     ensures err { OnErr result ((text : List ℕ)
         × Appends (W.contents (device_of writer.old)) (W.contents (device_of writer.new)) text
-        × ((start : Standing × SeenDesk) (read written : List ℕ)
+        × ((start : SessionView × SeenDesk) (read written : List ℕ)
         → Reached start read written (session.old, D.seen desk.old)
         intake.old.pending.items intake.old.lines intake.old.bytes
         → Broken 0 start (read ++ byte ∷ []) (written ++ text) (session.new, D.seen desk.new))) }
@@ -254,14 +254,14 @@ fn take_block<E: External, W: Write, D: Desk>(
     requires { length block.now ≤ BLOCK }
     ensures ok { IfOk result (λ quits. (text : List ℕ)
         × Appends (W.contents (device_of writer.old)) (W.contents (device_of writer.new)) text
-        × ((start : Standing × SeenDesk) (read written : List ℕ)
+        × ((start : SessionView × SeenDesk) (read written : List ℕ)
         → Reached start read written (session.old, D.seen desk.old)
         intake.old.pending.items intake.old.lines intake.old.bytes
         → Onward (BLOCK - 1) quits start (read ++ block.now) (written ++ text) (session.new, D.seen desk.new)
         intake.new.pending.items intake.new.lines intake.new.bytes)) }
     ensures err { IfErr result (λ e. (text : List ℕ)
         × Appends (W.contents (device_of writer.old)) (W.contents (device_of writer.new)) text
-        × ((start : Standing × SeenDesk) (read written : List ℕ)
+        × ((start : SessionView × SeenDesk) (read written : List ℕ)
         → Reached start read written (session.old, D.seen desk.old)
         intake.old.pending.items intake.old.lines intake.old.bytes
         → Stopped Takes ⊥ e start (read ++ block.now) (written ++ text) (session.new, D.seen desk.new))) }
@@ -292,13 +292,13 @@ fn take_last<E: External, W: Write, D: Desk>(
 ) -> Result<Ran, Cut>
     ensures ok { IfOk result (λ ran. (text : List ℕ)
         × Appends (W.contents (device_of writer.old)) (W.contents (device_of writer.new)) text
-        × ((start : Standing × SeenDesk) (read written : List ℕ)
+        × ((start : SessionView × SeenDesk) (read written : List ℕ)
         → Reached start read written (session.old, D.seen desk.old)
         intake.now.pending.items intake.now.lines intake.now.bytes
         → Ended Takes (Unit {0}) ran start read (written ++ text) (session.new, D.seen desk.new))) }
     ensures err { OnErr result ((text : List ℕ)
         × Appends (W.contents (device_of writer.old)) (W.contents (device_of writer.new)) text
-        × ((start : Standing × SeenDesk) (read written : List ℕ)
+        × ((start : SessionView × SeenDesk) (read written : List ℕ)
         → Reached start read written (session.old, D.seen desk.old)
         intake.now.pending.items intake.now.lines intake.now.bytes
         → Breaks Takes (Unit {0}) start read (written ++ text) (session.new, D.seen desk.new))) }

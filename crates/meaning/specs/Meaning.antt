@@ -67,7 +67,7 @@ use Rattle.containers.specs.declared.edit.Edit.TheVariants.{Put, Alter, Delete}
 use Rattle.containers.specs.Places.{PlaceView, read_name}
 use Rattle.msg_path.specs.BuiltIns.{calls_function, external_named, built_in_named}
 use Rattle.msg_path.specs.declared.built_in.BuiltIn.TheVariants.{DoMenu, Value, Function as BuiltInFunction}
-use Rattle.msg_path.specs.Handlers.{Found}
+use Rattle.msg_path.specs.Handlers.{HandlerFound}
 use Rattle.msg_path.specs.Path.{path, path_after}
 use Rattle.meaning.specs.declared.end.Conversed.{Conversed}
 use Rattle.meaning.specs.declared.frame.Frame.{Frame}
@@ -1225,19 +1225,19 @@ mutual
         {vs : List (List ℕ)} →
         Finds w.now.stack is cl n (Err z) →
         Along w r f d i is n vs cl (Err z) w r
-    along_too_deep : {w : History} {is n : List ℕ} {cl : HandlerKind} {fd : Found} {d i : ℕ} {r : RunState} {f : Frame}
-        {vs : List (List ℕ)} →
+    along_too_deep : {w : History} {is n : List ℕ} {cl : HandlerKind} {fd : HandlerFound} {d i : ℕ} {r : RunState}
+        {f : Frame} {vs : List (List ℕ)} →
         Finds w.now.stack is cl n (Ok (Some fd)) →
         d ≡ 100 →
         Along w r f d i is n vs cl (Err (Faults TooDeep)) w r
-    along_stops : {w w1 : History} {is n : List ℕ} {cl : HandlerKind} {fd : Found} {d i : ℕ} {f1 f2 f : Frame}
+    along_stops : {w w1 : History} {is n : List ℕ} {cl : HandlerKind} {fd : HandlerFound} {d i : ℕ} {f1 f2 f : Frame}
         {vs : List (List ℕ)} {r r1 : RunState} {z : Stop} →
         Finds w.now.stack is cl n (Ok (Some fd)) →
         d < 100 →
         f1 ≡ handler_frame fd.object i (parameters_of fd.handler) vs →
         Block w r f1 (d + 1) (lines_of fd.handler) (Err z) w1 r1 f2 →
         Along w r f d i is n vs cl (Err z) w1 r1
-    along_ends : {w w1 : History} {is n v : List ℕ} {cl : HandlerKind} {fd : Found} {d i : ℕ} {f1 f2 f : Frame}
+    along_ends : {w w1 : History} {is n v : List ℕ} {cl : HandlerKind} {fd : HandlerFound} {d i : ℕ} {f1 f2 f : Frame}
         {vs : List (List ℕ)} {r r1 r2 : RunState} {h : How} →
         Finds w.now.stack is cl n (Ok (Some fd)) →
         d < 100 →
@@ -1245,8 +1245,8 @@ mutual
         Block w r f1 (d + 1) (lines_of fd.handler) (Ok h) w1 r1 f2 →
         ends cl h r1 ≡ Some (record { value = v; run = r2 }) →
         Along w r f d i is n vs cl (Ok v) w1 r2
-    along_passes : {w w1 w2 : History} {is n is1 : List ℕ} {cl : HandlerKind} {fd : Found} {d i : ℕ} {f1 f2 f : Frame}
-        {vs : List (List ℕ)} {r r1 r2 : RunState} {o : Result (List ℕ) Stop} →
+    along_passes : {w w1 w2 : History} {is n is1 : List ℕ} {cl : HandlerKind} {fd : HandlerFound} {d i : ℕ}
+        {f1 f2 f : Frame} {vs : List (List ℕ)} {r r1 r2 : RunState} {o : Result (List ℕ) Stop} →
         Finds w.now.stack is cl n (Ok (Some fd)) →
         d < 100 →
         f1 ≡ handler_frame fd.object i (parameters_of fd.handler) vs →

@@ -6,7 +6,7 @@ use Rattle.ht_grammar.specs.declared.vocabulary.HandlerKind.TheVariants.{Command
 use Rattle.ht_grammar.specs.Statements.{Handler, handler, Stmts}
 use Rattle.object_table.specs.Content.{Content}
 use Rattle.msg_path.specs.BuiltIns.{is_system_message}
-use Rattle.msg_path.specs.Handlers.{Found, First}
+use Rattle.msg_path.specs.Handlers.{HandlerFound, First}
 use Rattle.meaning.specs.declared.end.Stop.{Stop}
 use Rattle.meaning.specs.declared.end.Stop.TheVariants as stop
 
@@ -27,9 +27,9 @@ only (t ∷ []) = Some t
 only _ = None
 
 -- the first handler on a path, if there is one; or a script on the way is at fault; or it was out of memory
-pub data Finds : Content → List ℕ → HandlerKind → List ℕ → Result (Option Found) Stop → Type 0 where
+pub data Finds : Content → List ℕ → HandlerKind → List ℕ → Result (Option HandlerFound) Stop → Type 0 where
   find_memory : {s : Content} {path name : List ℕ} {kind : HandlerKind} → Finds s path kind name (Err stop.Memory)
-  finds : {s : Content} {path name : List ℕ} {kind : HandlerKind} {found : Option Found} →
+  finds : {s : Content} {path name : List ℕ} {kind : HandlerKind} {found : Option HandlerFound} →
       First s path kind name (Ok found) → Finds s path kind name (Ok found)
   find_fails : {s : Content} {path name : List ℕ} {kind : HandlerKind} {n : Fault} →
       First s path kind name (Err n) → Finds s path kind name (Err (stop.Fault n))

@@ -8,7 +8,7 @@ use Rattle.ht_grammar.specs.Reads.{Reads, ReadsScript}
 use Rattle.ht_grammar.specs.Laws.{OneTreePerText}
 use Rattle.object_table.specs.Content.{Content}
 use Rattle.journal_entries.specs.ScriptTrees.{object_script}
-use Rattle.msg_path.specs.Handlers.{Found, First}
+use Rattle.msg_path.specs.Handlers.{HandlerFound, First}
 use Rattle.msg_path.specs.Handlers as first
 use Rattle.msg_path.specs.Laws.{FirstIsOne}
 
@@ -27,7 +27,7 @@ some_or_none e f = cc
 one_handler : {o : Option Handler} {h g : Handler} → o ≡ Some h → o ≡ Some g → h ≡ g
 one_handler e f = cc
 
-abbrev outcome : ℕ → Handler → Result (Option Found) Fault
+abbrev outcome : ℕ → Handler → Result (Option HandlerFound) Fault
 outcome i h = Ok (Some (record { object = i; handler = h }))
 
 outcomes : {i j : ℕ} {h g : Handler} → i ≡ j → h ≡ g → outcome i h ≡ outcome j g

@@ -10,7 +10,7 @@ use Rattle.ht_grammar.specs.Handlers.{handler_in}
 use Rattle.ht_grammar.specs.Reads.{Reads, ReadsScript}
 use Rattle.object_table.specs.Content.{Content}
 use Rattle.journal_entries.specs.ScriptTrees.{object_script}
-use Rattle.msg_path.specs.Handlers.{Found, First}
+use Rattle.msg_path.specs.Handlers.{HandlerFound, First}
 use Rattle.msg_path.specs.Handlers as first
 use Rattle.msg_path.specs.Meets.{GivesDue, LeadsOn}
 use Rattle.msg_path.specs.Meets as meets
@@ -18,15 +18,15 @@ use Rattle.msg_path.specs.Trees.{IsNoTree}
 
 pub ruleset meeting = (meets.on_path, meets.after_stack, meets.stops)
 
-pub leads_to : (s : Content) (id : ℕ) (kind : HandlerKind) (name : List ℕ) (hs : Handlers) (found : Found)
+pub leads_to : (s : Content) (id : ℕ) (kind : HandlerKind) (name : List ℕ) (hs : Handlers) (found : HandlerFound)
     → Reads ReadsScript (object_script s id) hs → handler_in hs kind name ≡ Some found.handler → found.object ≡ id
     → (rest : List ℕ) → First s (id ∷ rest) kind name (Ok (Some found))
 leads_to s id kind name hs found r h e rest = first.here refl r h
-    (ap (λ (k : ℕ). Ok (Some (let f : Found = record { object = k; handler = found.handler } in f))) e)
+    (ap (λ (k : ℕ). Ok (Some (let f : HandlerFound = record { object = k; handler = found.handler } in f))) e)
 
 pub leads_past : (s : Content) (id : ℕ) (kind : HandlerKind) (name : List ℕ) (hs : Handlers)
     → Reads ReadsScript (object_script s id) hs → handler_in hs kind name ≡ None
-    → (rest : List ℕ) (outcome : Result (Option Found) Fault) → First s rest kind name outcome
+    → (rest : List ℕ) (outcome : Result (Option HandlerFound) Fault) → First s rest kind name outcome
     → First s (id ∷ rest) kind name outcome
 leads_past s id kind name hs r h rest outcome p = first.further_on refl r h p
 

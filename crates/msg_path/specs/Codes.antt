@@ -6,7 +6,7 @@ use Rattle.ht_grammar.specs.declared.vocabulary.HandlerKind.{HandlerKind}
 use Rattle.ht_grammar.specs.declared.vocabulary.HandlerKind.TheVariants.{Command, Function}
 use Rattle.ht_grammar.specs.Statements.{Stmt, Stmts, stop, also, Handler, handler}
 use Rattle.ht_tree.specs.StatementView.{stmts_of}
-use Rattle.msg_path.specs.Handlers.{Found}
+use Rattle.msg_path.specs.Handlers.{HandlerFound}
 
 abbrev pub kind_of : Bool → HandlerKind
 kind_of true = Function
@@ -40,6 +40,6 @@ coded_handler c = code_by Parts
     (coded× coded_bool (coded× (coded_list coded_ℕ) (coded× (coded_list (coded_list coded_ℕ)) (coded_list c)))) parts_of
     handler_of_parts handler_back
 
-abbrev pub coded_found : Coded Stmt → Coded Found
+abbrev pub coded_found : Coded Stmt → Coded HandlerFound
 coded_found c = code_by (ℕ × Handler) (coded× coded_ℕ (coded_handler c)) (λ f. (f.object, f.handler))
     (λ p. record { object = p.0; handler = p.1 }) (λ _. refl)

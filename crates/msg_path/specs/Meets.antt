@@ -27,15 +27,15 @@ met_after_stack externals kind name =
 
 -- What a message of a kind and a name meets first: a handler on the path, or what comes after the stack.
 pub data Meets : State → List ℕ → HandlerKind → List ℕ → Result Found Fault → Type 0 where
-  on_path : {s : State} {path name : List ℕ} {kind : HandlerKind} {first : Result (Option handlers.Found) Fault}
-      {found : handlers.Found} {outcome : Result Found Fault} →
+  on_path : {s : State} {path name : List ℕ} {kind : HandlerKind} {first : Result (Option handlers.HandlerFound) Fault}
+      {found : handlers.HandlerFound} {outcome : Result Found Fault} →
       First s.stack path kind name first → first ≡ Ok (Some found) → outcome ≡ Ok (met.Handler found)
       → Meets s path kind name outcome
-  after_stack : {s : State} {path name : List ℕ} {kind : HandlerKind} {first : Result (Option handlers.Found) Fault}
+  after_stack : {s : State} {path name : List ℕ} {kind : HandlerKind} {first : Result (Option handlers.HandlerFound) Fault}
       {outcome : Result Found Fault} →
       First s.stack path kind name first → first ≡ Ok None → outcome ≡ Ok (met_after_stack s.externals kind name)
       → Meets s path kind name outcome
-  stops : {s : State} {path name : List ℕ} {kind : HandlerKind} {first : Result (Option handlers.Found) Fault}
+  stops : {s : State} {path name : List ℕ} {kind : HandlerKind} {first : Result (Option handlers.HandlerFound) Fault}
       {fault : Fault} {outcome : Result Found Fault} →
       First s.stack path kind name first → first ≡ Err fault → outcome ≡ Err fault → Meets s path kind name outcome
 
@@ -47,8 +47,8 @@ GivesDue IsDue (Err failure.Memory) = Unit {0}
 
 -- what the script of an object says of a path that begins with it: the handler that it has is the first; without one the
 -- rest of the path decides
-abbrev pub LeadsOn : Content → ℕ → HandlerKind → List ℕ → Result (Option handlers.Found) Fault → Type 0
+abbrev pub LeadsOn : Content → ℕ → HandlerKind → List ℕ → Result (Option handlers.HandlerFound) Fault → Type 0
 LeadsOn s id kind name (Ok (Some found)) = (rest : List ℕ) → First s (id ∷ rest) kind name (Ok (Some found))
-LeadsOn s id kind name (Ok None) = (rest : List ℕ) (outcome : Result (Option handlers.Found) Fault)
+LeadsOn s id kind name (Ok None) = (rest : List ℕ) (outcome : Result (Option handlers.HandlerFound) Fault)
     → First s rest kind name outcome → First s (id ∷ rest) kind name outcome
 LeadsOn s id kind name (Err fault) = (rest : List ℕ) → First s (id ∷ rest) kind name (Err fault)

@@ -36,10 +36,10 @@ impl Model for FoundHandler {
     ghost use Rattle.std.specs.Prelude.{◌≡◌, ◌<◌, length, unwrap_or};
     ghost use Rattle.ht_tree.specs.contracts.statement.Stmt as stmt;
     ghost use Rattle.ht_tree.specs.ScriptView.{handler_at};
-    ghost use Rattle.msg_path.specs.Handlers.{Found, no_handler};
+    ghost use Rattle.msg_path.specs.Handlers.{HandlerFound, no_handler};
     ghost use Rattle.msg_path.specs.Codes.{coded_found};
 
-    ghost Value = { Found };
+    ghost Value = { HandlerFound };
 
     ghost coded = { coded_found stmt.the_row.coded };
 

@@ -5,7 +5,7 @@ use Rattle.std.specs.List.{position, position_or_len}
 use Rattle.std.proofs.lemmas.List.{length-map}
 use Rattle.std.proofs.lemmas.List.Sums.{position_or_len_is}
 use Rattle.std.proofs.lemmas.Bool.{lt-ltb, le-ltb, le-leb}
-use Rattle.change_journal.specs.History.{History, Step, stamp_at, flipped_back, flipped_back_from, flipped_forth}
+use Rattle.change_journal.specs.History.{History, Neighbour, stamp_at, flipped_back, flipped_back_from, flipped_forth}
 use Rattle.change_journal.specs.History.{flipped_forth_from}
 use Rattle.session.specs.Moves.{back_by, forth_by, stamps, places_to}
 
@@ -19,7 +19,7 @@ back_by-next n i h lt = rw one_less refl
 pub forth_by-next : (n i : ℕ) (h : History) → i < n → forth_by (n - i) h ≡ forth_by (n - (i + 1)) (flipped_forth h)
 forth_by-next n i h lt = rw one_less refl
 
-back_from : (h : History) (steps : List Step) → 0 < length steps
+back_from : (h : History) (steps : List Neighbour) → 0 < length steps
     → length (flipped_back_from h steps).past + 1 ≡ length steps
 back_from h [] some = absurd (omega arith)
 back_from h (s ∷ ss) some = omega arith
@@ -27,7 +27,7 @@ back_from h (s ∷ ss) some = omega arith
 pub past-flipped_back : (h : History) → 0 < length h.past → length (flipped_back h).past + 1 ≡ length h.past
 past-flipped_back h some = back_from h h.past some
 
-forth_from : (h : History) (steps : List Step) → 0 < length steps
+forth_from : (h : History) (steps : List Neighbour) → 0 < length steps
     → length (flipped_forth_from h steps).future + 1 ≡ length steps
 forth_from h [] some = absurd (omega arith)
 forth_from h (s ∷ ss) some = omega arith
@@ -35,14 +35,14 @@ forth_from h (s ∷ ss) some = omega arith
 pub future-flipped_forth : (h : History) → 0 < length h.future → length (flipped_forth h).future + 1 ≡ length h.future
 future-flipped_forth h some = forth_from h h.future some
 
-start_back : (h : History) (steps : List Step) → (flipped_back_from h steps).start ≡ h.start
+start_back : (h : History) (steps : List Neighbour) → (flipped_back_from h steps).start ≡ h.start
 start_back h [] = refl
 start_back h (s ∷ ss) = refl
 
 pub start-flipped_back : (h : History) → (flipped_back h).start ≡ h.start
 start-flipped_back h = start_back h h.past
 
-start_forth : (h : History) (steps : List Step) → (flipped_forth_from h steps).start ≡ h.start
+start_forth : (h : History) (steps : List Neighbour) → (flipped_forth_from h steps).start ≡ h.start
 start_forth h [] = refl
 start_forth h (s ∷ ss) = refl
 

@@ -8,7 +8,7 @@ use Rattle.meaning.specs.Actions.{Action}
 use Rattle.externals.specs.Cells.{Seen}
 use Rattle.externals.specs.Log.{Log}
 use Rattle.journal_entries.specs.State.{titles_of, index_of}
-use Rattle.change_journal.specs.History.{History, Step, stamp_at, step_with_external, plugged, unplugged, unplugged_at}
+use Rattle.change_journal.specs.History.{History, Neighbour, stamp_at, step_with_external, plugged, unplugged, unplugged_at}
 use Rattle.change_journal.specs.History.{flipped_back, flipped_back_from, flipped_forth, flipped_forth_from}
 use Rattle.session.specs.Moves.{MovesTo, back_by, forth_by, stamps, undone, redone, undone_to, undone_by, places_to}
 use Rattle.session.specs.Commands.{behind_name, second, words}
@@ -31,7 +31,7 @@ descend-behind : (n : ℕ) (ms ns : List ℕ) → DescendFrom n (ms ++ ns) → D
 descend-behind n [] ns d = d
 descend-behind n (m ∷ ms) ns d = descend-later m n ns d.0 (descend-behind m ms ns d.1)
 
-descend-taken : (n k : ℕ) (steps : List Step) → DescendFrom n (numbers_of steps)
+descend-taken : (n k : ℕ) (steps : List Neighbour) → DescendFrom n (numbers_of steps)
     → DescendFrom n (numbers_of (take k steps))
 descend-taken n zero steps d = tt
 descend-taken n (suc k) [] d = tt
@@ -77,19 +77,19 @@ here_back n h d = descend-behind n (reverse (numbers_of h.future)) (stamps h) d
 pub stamped-past : (n : ℕ) (h : History) → AreStamped n h → DescendFrom h.stamp (numbers_of h.past)
 stamped-past n h d = (here_back n h d).1
 
-all_back : (h : History) (steps : List Step) → h.past ≡ steps → all_stamps (flipped_back_from h steps) ≡ all_stamps h
+all_back : (h : History) (steps : List Neighbour) → h.past ≡ steps → all_stamps (flipped_back_from h steps) ≡ all_stamps h
 all_back h [] e = refl
 all_back h (s ∷ ss) e =
     let front = reverse (numbers_of h.future) in
     ap (λ (t : List ℕ). t ++ (s.stamp ∷ numbers_of ss)) (reverse-append (h.stamp ∷ []) (numbers_of h.future))
     ∙ append_assoc front (h.stamp ∷ []) (s.stamp ∷ numbers_of ss)
-    ∙ sym (ap (λ (steps : List Step). front ++ h.stamp ∷ numbers_of steps) e)
+    ∙ sym (ap (λ (steps : List Neighbour). front ++ h.stamp ∷ numbers_of steps) e)
 
-all_forth : (h : History) (steps : List Step) → h.future ≡ steps
+all_forth : (h : History) (steps : List Neighbour) → h.future ≡ steps
     → all_stamps (flipped_forth_from h steps) ≡ all_stamps h
 all_forth h [] e = refl
 all_forth h (s ∷ ss) e =
-    sym (ap (λ (steps : List Step). reverse (numbers_of steps) ++ stamps h) e
+    sym (ap (λ (steps : List Neighbour). reverse (numbers_of steps) ++ stamps h) e
     ∙ ap (λ (t : List ℕ). t ++ stamps h) (reverse-append (s.stamp ∷ []) (numbers_of ss))
     ∙ append_assoc (reverse (numbers_of ss)) (s.stamp ∷ []) (stamps h))
 
@@ -236,7 +236,7 @@ stamped-performed steps line (Some (commands.Act reading)) n old new reply d p =
     stamped-done steps reading (behind_name line) n old new reply d p
 stamped-performed steps line (Some commands.Quit) n old new reply d p = subst (AreStamped n) (sym p.1) d
 
-numbers-plugged : (x : Seen) (steps : List Step) → numbers_of (map (step_with_external x) steps) ≡ numbers_of steps
+numbers-plugged : (x : Seen) (steps : List Neighbour) → numbers_of (map (step_with_external x) steps) ≡ numbers_of steps
 numbers-plugged x [] = refl
 numbers-plugged x (s ∷ ss) = ap (λ (t : List ℕ). s.stamp ∷ t) (numbers-plugged x ss)
 

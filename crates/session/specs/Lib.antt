@@ -5,5 +5,5 @@ pub mod Opening
 pub mod Replies
 pub mod Splits
 pub mod Stamped
-pub mod Standing
+pub mod SessionView
 pub mod TakesLine

@@ -6,7 +6,7 @@ use Rattle.object_table.specs.Content.{Content}
 use Rattle.journal_entries.specs.State.{first_state, are_apart}
 use Rattle.change_journal.specs.History.{alone}
 use Rattle.change_journal.specs.declared.world.TheConstants.{MOST_DEPTH}
-use Rattle.session.specs.Standing.{Standing}
+use Rattle.session.specs.SessionView.{SessionView}
 use Rattle.session.specs.declared.limits.TheConstants.{MOST_STEPS}
 use Rattle.session.specs.declared.fault.OpenError.{OpenError}
 use Rattle.session.specs.declared.fault.OpenError.TheVariants.{BadSteps, BadDepth, DuplicateName}
@@ -19,6 +19,6 @@ open_fault steps depth titles =
     (if are_apart titles then None else Some DuplicateName))
 
 -- one state: the stack, no global, its first card, and the externals with their cells and logs of now
-abbrev pub opened : Content → List Seen → List Log → ℕ → ℕ → Standing
+abbrev pub opened : Content → List Seen → List Log → ℕ → ℕ → SessionView
 opened stack externals logs steps depth =
     record { history = alone (first_state stack externals) 0 depth logs; lines = 0; steps = steps }

@@ -1,6 +1,6 @@
 -- The numbers of the states of a session.
 use Rattle.std.specs.Prelude.{ℕ, ◌≤◌, List, [], ◌∷◌, ◌++◌, map, reverse}
-use Rattle.change_journal.specs.History.{History, Step}
+use Rattle.change_journal.specs.History.{History, Neighbour}
 use Rattle.session.specs.Moves.{stamps}
 
 -- the first of these numbers is at most this one, and each other at most the one before it
@@ -8,7 +8,7 @@ abbrev pub DescendFrom : ℕ → List ℕ → Type 0
 DescendFrom n [] = Unit {0}
 DescendFrom n (m ∷ ms) = (m ≤ n) × DescendFrom m ms
 
-abbrev pub numbers_of : List Step → List ℕ
+abbrev pub numbers_of : List Neighbour → List ℕ
 numbers_of = map (λ step. step.stamp)
 
 -- the numbers of all states, from the last one back

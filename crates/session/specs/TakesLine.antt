@@ -12,7 +12,7 @@ use Rattle.session.specs.Meaning.{Runs}
 use Rattle.session.specs.Moves.{undone, redone, undone_to}
 use Rattle.session.specs.Replies.{ended, refused, Refuses, Obeys, Moves, Looks, ShowsStack, ShowsCells, Saves}
 use Rattle.session.specs.Replies.{cells_named, global_lines, history_line}
-use Rattle.session.specs.Standing.{Standing, next_number}
+use Rattle.session.specs.SessionView.{SessionView, next_number}
 use Rattle.session.specs.declared.command.Command.{Command}
 use Rattle.session.specs.declared.command.Command.TheVariants as commands
 use Rattle.session.specs.declared.command.Command.TheVariants.{Undo, Redo, UndoTo, Show, Globals, Where, Cells, Save}
@@ -111,7 +111,7 @@ PerformsLine steps line number old reply new = MatchBool (nat_lt LONGEST_LINE (l
     (Refuses LineTooLong old reply new) (Says steps line number old reply new)
 
 -- A session takes a line: it is counted, answered, and the history goes on.
-pub record TakesLine (line : List ℕ) (old : Standing) (reply : Reply) (new : Standing) : Type 0 where
+pub record TakesLine (line : List ℕ) (old : SessionView) (reply : Reply) (new : SessionView) : Type 0 where
   pub number : new.lines ≡ next_number old.lines
   pub steps : new.steps ≡ old.steps
   pub performed : PerformsLine old.steps line new.lines old.history reply new.history

@@ -59,11 +59,11 @@ impl<E: External> Model for Session<E> {
     ghost use Rattle.std.specs.Prelude.{◌≡◌, ◌≤◌, None};
     ghost use Rattle.session.specs.declared.limits.TheConstants.{LAST_NUMBER};
     ghost use Rattle.session.specs.Stamped.{AreStamped};
-    ghost use Rattle.session.specs.Standing.{Standing, coded_standing};
+    ghost use Rattle.session.specs.SessionView.{SessionView, coded_session_view};
 
-    ghost Value = { Standing };
+    ghost Value = { SessionView };
 
-    ghost coded = { coded_standing };
+    ghost coded = { coded_session_view };
 
     ghost view = { λ s. record { history = s.world.history; lines = s.lines; steps = s.steps } };
 

@@ -33,7 +33,7 @@ use Rattle.containers.specs.Edits.{due}
 use Rattle.containers.specs.Places.{StorageView, PlaceView, global, own, field_text}
 use Rattle.containers.specs.Variables.{declared}
 use Rattle.containers.specs.Writes.{Writes, Declares}
-use Rattle.msg_path.specs.Handlers.{Found, First}
+use Rattle.msg_path.specs.Handlers.{HandlerFound, First}
 use Rattle.meaning.specs.declared.end.How.{How}
 use Rattle.meaning.specs.declared.end.How.TheVariants.{Pass}
 use Rattle.meaning.specs.declared.end.Stop.{Stop}
@@ -141,7 +141,7 @@ then_field {w = w} {r} (Err fa) k stops goes_on = has (Err (Faults fa)) w r (λ 
 
 -- the first handler on a path, none, or a script at fault
 pub data FirstIs (s : Content) (is : List ℕ) (kind : HandlerKind) (n : List ℕ) : Type 0 where
-  first_is : (out : Result (Option Found) Fault) → First s is kind n out → FirstIs s is kind n
+  first_is : (out : Result (Option HandlerFound) Fault) → First s is kind n out → FirstIs s is kind n
 
 first_by : (s : Content) (id : ℕ) (rest : List ℕ) (kind : HandlerKind) (n : List ℕ) (hs : Handlers) →
     Reads ReadsScript (object_script s id) hs → FirstIs s rest kind n → (found : Option Handler) →
@@ -162,7 +162,7 @@ first exact s (id ∷ rest) kind n =
 pub then_found : {B : Type 0} {begun : Begun} {n : ℕ} {Q : Result B Stop → History → RunState → Type 0} {r : RunState}
     (w : History) (is : List ℕ) (kind : HandlerKind) (name : List ℕ) → AreExact → Underway begun n w r →
     ((z : Stop) → Finds w.now.stack is kind name (Err z) → Q (Err z) w r) →
-    ((found : Option Found) → Finds w.now.stack is kind name (Ok found) → Has begun n Q) → Has begun n Q
+    ((found : Option HandlerFound) → Finds w.now.stack is kind name (Ok found) → Has begun n Q) → Has begun n Q
 then_found {B} {begun} {n} {Q} {r} w is kind name exact k stops goes_on = by_first
     (first exact w.now.stack is kind name)
   where

@@ -1,4 +1,4 @@
--- The logs of free externals tell the turns of a behaviour that was followed.
+-- The logs of nondeterministic externals tell the turns of a behaviour that was followed.
 use Rattle.std.proofs.Common.{◌≡◌, ◌⊎◌, inl, inr, ℕ, zero, suc, ◌+◌, ◌<◌, List, [], ◌∷◌, ◌++◌, length, map, None}
 use Rattle.std.proofs.Common.{refl, sym, ap, subst, ◌∙◌}
 use Rattle.std.specs.Prelude.{slice_index_or, slice_set}
@@ -96,7 +96,7 @@ same_kind (s ∷ es) zero (suc i) cells = refl
 same_kind (s ∷ es) (suc k) zero cells = refl
 same_kind (s ∷ es) (suc k) (suc i) cells = same_kind es k i cells
 
--- the log of the i-th external, whose kind is free, is the one before with turns of the behaviour
+-- the log of the i-th external, whose kind is nondeterministic, is the one before with turns of the behaviour
 record IsLogged (behaviour : Behaviour) (w w2 : History) (i : ℕ) : Type 0 where
   turns : Log
   there : i < length w2.logs

@@ -28,7 +28,7 @@ use Rattle.containers.specs.declared.edit.Edit.TheVariants.{Put}
 use Rattle.msg_path.specs.BuiltIns.{calls_function, external_named, built_in_named}
 use Rattle.msg_path.specs.declared.built_in.BuiltIn.{BuiltIn}
 use Rattle.msg_path.specs.declared.built_in.BuiltIn.TheVariants.{DoMenu, Value, Function as BuiltInFunction}
-use Rattle.msg_path.specs.Handlers.{Found}
+use Rattle.msg_path.specs.Handlers.{HandlerFound}
 use Rattle.msg_path.specs.Path.{path_after}
 use Rattle.meaning.specs.declared.end.How.{How}
 use Rattle.meaning.specs.declared.end.How.TheVariants.{Next, ExitRepeat, NextRepeat, Exit, Pass, Returns}
@@ -216,7 +216,7 @@ outside_has exact h w r f d name vs kind le k =
 
 -- how the lines of a handler end, and what becomes of the message: those that pass it have taken a step
 handler_ends : {begun : Begun} {n : ℕ} → Level begun n → (w : History) (r : RunState) (f : Frame) (d i : ℕ)
-    (is name : List ℕ) (vs : List (List ℕ)) (kind : HandlerKind) (found : Found) (how : How) (w1 : History)
+    (is name : List ℕ) (vs : List (List ℕ)) (kind : HandlerKind) (found : HandlerFound) (how : How) (w1 : History)
     (r1 : RunState) (f1 : Frame) → d ≤ 100 → Underway begun (suc n) w1 r1 →
     Finds w.now.stack is kind name (Ok (Some found)) → d < 100 →
     Passes n
@@ -238,7 +238,7 @@ handler_ends h w r f d i is name vs kind found (Returns v) w1 r1 f1 le k1 g lt b
     (λ v r2 gives. Along.along_ends g lt refl b.ends (ap Some gives))
 
 met_by : {begun : Begun} {n : ℕ} → AreExact → Level begun n → (w : History) (r : RunState) (f : Frame) (d i : ℕ)
-    (is name : List ℕ) (vs : List (List ℕ)) (kind : HandlerKind) (found : Option Found) →
+    (is name : List ℕ) (vs : List (List ℕ)) (kind : HandlerKind) (found : Option HandlerFound) →
     Finds w.now.stack is kind name (Ok found) → d ≤ 100 → Underway begun (suc n) w r →
     Has begun (suc n) (Along w r f d i is name vs kind)
 met_by exact h w r f d i is name vs kind (Some found) g le k =

@@ -5,7 +5,7 @@ use Rattle.std.specs.Prelude.{take, drop, MatchBool, nat_lt, length, option_map}
 use Rattle.std.specs.List.{AllByRecursion}
 use Rattle.journal_entries.specs.State.{State}
 use Rattle.meaning.specs.Actions.{Action}
-use Rattle.definitional_interpreter.specs.Laws.{sorts_of, sorts, NoneIsFree}
+use Rattle.definitional_interpreter.specs.Laws.{sorts_of, sorts, AreDeterministic}
 use Rattle.definitional_interpreter.proofs.Comes.{Sight}
 use Rattle.definitional_interpreter.proofs.Outcomes.{acts_comes}
 use Rattle.definitional_interpreter.proofs.Sights.{fixed_sight}
@@ -143,16 +143,16 @@ module _ (P : State → Type 0) (IsSuch : Action → Type 0)
 
 -- a command keeps the kinds of the externals
 fresh_kept : (does : Action) (state : State) (steps : ℕ) (reply : Reply) (after : State) → Unit {0} →
-    NoneIsFree (sorts_of state.externals) → Fresh state steps does reply after → NoneIsFree (sorts_of after.externals)
+    AreDeterministic (sorts_of state.externals) → Fresh state steps does reply after → AreDeterministic (sorts_of after.externals)
 fresh_kept does state steps reply after such free fresh =
     let kept : sorts fresh.end ≡ sorts fresh.old =
     (acts_comes {g = all_logs} fresh.runs.means (answered fresh.runs.ends)).kept.kinds in
-    subst (λ (s : State). NoneIsFree (sorts_of s.externals)) (sym fresh.leaves)
-    (subst NoneIsFree (sym kept) (subst (λ (s : State). NoneIsFree (sorts_of s.externals)) (sym fresh.here) free))
+    subst (λ (s : State). AreDeterministic (sorts_of s.externals)) (sym fresh.leaves)
+    (subst AreDeterministic (sym kept) (subst (λ (s : State). AreDeterministic (sorts_of s.externals)) (sym fresh.here) free))
 
 pub line_kept : (line : List ℕ) (old : Timeline) {reply : Reply} {new : Timeline} →
     AllByRecursion IsDetermined old.snapshots → LineMoves line old reply new →
     AllByRecursion IsDetermined new.snapshots
 line_kept line old all a =
-    line_keeps (λ state. NoneIsFree (sorts_of state.externals)) (λ does. Unit {0}) fresh_kept line old
+    line_keeps (λ state. AreDeterministic (sorts_of state.externals)) (λ does. Unit {0}) fresh_kept line old
     (λ short reading does. (λ reads. tt, λ reads. tt)) all a

@@ -17,7 +17,7 @@ use Rattle.meaning.specs.Meaning.{Refers, TypesInto, Acts}
 use Rattle.meaning.specs.State.{RunState}
 use Rattle.preservation.specs.Laws.{HasMemory}
 use Rattle.meaning.specs.Locked.{MeetsLock}
-use Rattle.definitional_interpreter.specs.Laws.{sorts_of, sorts, NoneIsFree}
+use Rattle.definitional_interpreter.specs.Laws.{sorts_of, sorts, AreDeterministic}
 use Rattle.definitional_interpreter.specs.Meanings.{meanings}
 use Rattle.transcripts.specs.Replies.{RepliesAreOne}
 use Rattle.definitional_interpreter.specs.Told.{told}
@@ -146,13 +146,13 @@ no_logs = fixed_sight (λ logs. [])
 -- two references from one state find the same
 one_reference : AreExact →
     (w v : History) {w2 v2 : History} {r r2 q2 : RunState} {pa : tree.Part} {o p : Result ℕ Stop} →
-    v.now ≡ w.now → NoneIsFree (sorts w) → HasMemory o → HasMemory p → Refers w r pa o w2 r2 → Refers v r pa p v2 q2
+    v.now ≡ w.now → AreDeterministic (sorts w) → HasMemory o → HasMemory p → Refers w r pa o w2 r2 → Refers v r pa p v2 q2
     → (o ≡ p) × (w2.now ≡ v2.now)
 one_reference exact w v {w2} {v2} {r} {r2} {q2} {pa} {o} {p} same free has had a b =
     let begins : sight no_logs v ≡ sight no_logs w = ap (λ s. record { now = s; logs = []; turns = [] }) same in
     let first = (refers_comes {g = no_logs} a has).gives exact free in
     let later = (refers_comes {g = no_logs} b had).gives exact
-    (subst (λ (s : State). NoneIsFree (sorts_of s.externals)) (sym same) free) in
+    (subst (λ (s : State). AreDeterministic (sorts_of s.externals)) (sym same) free) in
     let fuel = first.0 + later.0 in
     let is : told o (sight no_logs w2) r2 ≡ told p (sight no_logs v2) q2 =
     sym (first.1 fuel (omega arith)) ∙ ap (λ u. (meanings fuel).refers u r pa) (sym begins) ∙ later.1 fuel
@@ -172,7 +172,7 @@ no_value e = cc
 
 -- a field that two references find is locked for both
 is_locked : AreExact → (w v : History) {w2 v2 : History} {r r2 q2 : RunState} {pa : tree.Part} {i field : ℕ} →
-    v.now ≡ w.now → NoneIsFree (sorts w) → Refers w r pa (Ok i) w2 r2 → Refers v r pa (Ok field) v2 q2
+    v.now ≡ w.now → AreDeterministic (sorts w) → Refers w r pa (Ok i) w2 r2 → Refers v r pa (Ok field) v2 q2
     → locks_text w2.now.stack i ≡ false → locks_text v2.now.stack field ≡ true → ⊥
 is_locked exact w v {w2} {v2} {i = i} {field} same free a b unlocked locked =
     let both = one_reference exact w v same free (λ e. cc) (λ e. cc) a b in
@@ -183,7 +183,7 @@ is_locked exact w v {w2} {v2} {i = i} {field} same free a b unlocked locked =
 -- a text that is typed into a field which was locked when it was found
 typed_unlocked : AreExact →
     (w v : History) {w2 v2 : History} {r r2 q2 : RunState} {t : List ℕ} {pa : tree.Part} {field : ℕ}
-    {o : Result (Unit {0}) Stop} → v.now ≡ w.now → NoneIsFree (sorts w) → HasMemory o → TypesInto w r t pa o w2 r2
+    {o : Result (Unit {0}) Stop} → v.now ≡ w.now → AreDeterministic (sorts w) → HasMemory o → TypesInto w r t pa o w2 r2
     → Refers v r pa (Ok field) v2 q2 → locks_text v2.now.stack field ≡ true → ⊥
 typed_unlocked exact w v same free has TypesInto.type_memory found locked = has refl
 typed_unlocked exact w v same free has (TypesInto.type_misses {z = z} g) found locked = let both = one_reference exact
@@ -196,7 +196,7 @@ typed_unlocked exact w v same free has (TypesInto.types_into g unlocked opens he
 -- a command that has memory isn't one for a locked field
 fresh_is_unlocked : AreExact →
     (w v : History) {w2 : History} {r r2 : RunState} (v2 : History) (q2 : RunState) (ac : Action)
-    {o : Result (Unit {0}) Stop} → v.now ≡ w.now → NoneIsFree (sorts w) → HasMemory o → Acts w r ac o w2 r2 →
+    {o : Result (Unit {0}) Stop} → v.now ≡ w.now → AreDeterministic (sorts w) → HasMemory o → Acts w r ac o w2 r2 →
     MeetsLock v r ac v2 q2 → ⊥
 fresh_is_unlocked exact w v {w2} {r} {r2} v2 q2 (act.type_text text reference) {o} same free has
     (Acts.acts_by_typing {t = t} {pa = pa} p typed) (field, found, locked) =
@@ -231,14 +231,14 @@ pub answered : {o : Result (Unit {0}) Stop} {e : Ending} → ending_of o ≡ Som
 answered {o} {e} is never = let gone : ending_of o ≡ None = ap ending_of never in none-some e (sym gone ∙ is)
 
 pub fresh_or_locked : Laws → {state : State} {steps : ℕ} (does : Action) {reply : Reply} {new : State} →
-    NoneIsFree (sorts_of state.externals) → Fresh state steps does reply new → Locked state steps does → ⊥
+    AreDeterministic (sorts_of state.externals) → Fresh state steps does reply new → Locked state steps does → ⊥
 fresh_or_locked laws does free fresh locked =
     fresh_is_unlocked laws.texts.exact fresh.old locked.old locked.end locked.run does (locked.here ∙ sym fresh.here)
-    (subst (λ (s : State). NoneIsFree (sorts_of s.externals)) (sym fresh.here) free) (answered fresh.runs.ends)
+    (subst (λ (s : State). AreDeterministic (sorts_of s.externals)) (sym fresh.here) free) (answered fresh.runs.ends)
     fresh.runs.means locked.meets
 
 one_deed : Laws → (does : Action) (state : State) (old : Timeline) {reply reply2 : Reply} {new new2 : Timeline} →
-    NoneIsFree (sorts_of state.externals)
+    AreDeterministic (sorts_of state.externals)
     → Replaces does state old reply new ⊎ KeepsOut does state old reply new →
     Replaces does state old reply2 new2 ⊎ KeepsOut does state old reply2 new2 → Same reply new reply2 new2
 one_deed laws does state old {reply} {reply2} free (inl a) (inl b) =
@@ -249,7 +249,7 @@ one_deed laws does state old free (inr a) (inl b) = absurd (fresh_or_locked laws
 one_deed laws does state old free (inr a) (inr b) = one_refusal a.refuses b.refuses
 
 one_command : Laws → (reading : Reading) (text : List ℕ) (state : State) (old : Timeline) {reply reply2 : Reply}
-    {new new2 : Timeline} → NoneIsFree (sorts_of state.externals)
+    {new new2 : Timeline} → AreDeterministic (sorts_of state.externals)
     → Commands reading text state old reply new → Commands reading text state old reply2 new2 → HasRoom reply →
     HasRoom reply2 → Same reply new reply2 new2
 one_command laws reading text state old {reply} {reply2} {new} {new2} free (Obeys.obeys {does = does} reads done)
@@ -271,7 +271,7 @@ one_command laws reading text state old free (Obeys.nothing none refuses) (Obeys
     absurd (refused_room refuses2 room2)
 
 one_dot_line : Laws → (line : List ℕ) (command : Option Command) (state : State) (old : Timeline)
-    {reply reply2 : Reply} {new new2 : Timeline} → NoneIsFree (sorts_of state.externals)
+    {reply reply2 : Reply} {new new2 : Timeline} → AreDeterministic (sorts_of state.externals)
     → Does line command state old reply new → Does line command state old reply2 new2 → HasRoom reply →
     HasRoom reply2 →
     Same reply new reply2 new2
@@ -294,7 +294,7 @@ one_dot_line laws line (Some Quit) state old free a b room room2 = (a.0 ∙ sym 
 -- a line that isn't too long
 one_short_line : Laws →
     (line : List ℕ) (dot : Bool) (state : State) (old : Timeline) {reply reply2 : Reply} {new new2 : Timeline} →
-    NoneIsFree (sorts_of state.externals)
+    AreDeterministic (sorts_of state.externals)
     → MatchBool dot (Does line (command_in line) state old reply new) (Commands Lines line state old reply new)
     → MatchBool dot (Does line (command_in line) state old reply2 new2) (Commands Lines line state old reply2 new2) →
     HasRoom reply → HasRoom reply2 → Same reply new reply2 new2
@@ -304,7 +304,7 @@ one_short_line laws line false state old free a b room room2 = one_command laws 
     room2
 
 one_line_of : Laws → (line : List ℕ) (long : Bool) (state : State) (old : Timeline) {reply reply2 : Reply}
-    {new new2 : Timeline} → NoneIsFree (sorts_of state.externals)
+    {new new2 : Timeline} → AreDeterministic (sorts_of state.externals)
     → MatchBool long (Refuses LineTooLong old reply new) (DoesLine line state old reply new) →
     MatchBool long (Refuses LineTooLong old reply2 new2) (DoesLine line state old reply2 new2) → HasRoom reply →
     HasRoom reply2 → Same reply new reply2 new2

@@ -12,7 +12,7 @@ use Rattle.headline.specs.Answering.{is_quit, Session}
 use Rattle.headline.specs.Headline.{Timeline, LineMoves}
 use Rattle.headline.specs.InputLines.{all_lines}
 use Rattle.headline.specs.Saving.{Kept, KeptOrNot, SettlesHeard}
-use Rattle.transcripts.specs.Laws.{Succeeds, IsDetermined, TranscriptsAreOne, OutputsAreOne, KitIsFixed}
+use Rattle.transcripts.specs.Laws.{Succeeds, IsDetermined, TranscriptsAreOne, OutputsAreOne, KitIsDeterministic}
 use Rattle.transcripts.proofs.Exists.{after_hearing}
 use Rattle.transcripts.proofs.Once.{Laws, one_line, one_split}
 use Rattle.transcripts.proofs.Kept.{line_kept}
@@ -102,7 +102,7 @@ one_output one old read text text2 new new2 all (lines, (are, transcript)) (line
     one old lines text text2 new new2 all transcript
     (subst (λ ls. Session (Succeeds (SettlesHeard LineMoves)) old ls text2 new2) same transcript2)
 
-pub kit_is_fixed : KitIsFixed
+pub kit_is_fixed : KitIsDeterministic
 kit_is_fixed = (
   λ cells input. (_, refl),
   λ cells input. (_, refl),

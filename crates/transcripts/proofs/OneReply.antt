@@ -6,7 +6,7 @@ use Rattle.meaning.specs.State.{RunState, fresh_run}
 use Rattle.preservation.specs.Laws.{HasMemory}
 use Rattle.session.specs.declared.reply.Ending.{Ending}
 use Rattle.session.specs.Meaning.{ending_of, reply_of}
-use Rattle.definitional_interpreter.specs.Laws.{sorts_of, NoneIsFree}
+use Rattle.definitional_interpreter.specs.Laws.{sorts_of, AreDeterministic}
 use Rattle.determinism.specs.Laws.{ActionsHaveOneOutcome}
 use Rattle.transcripts.specs.Replies.{RepliesAreOne}
 
@@ -22,8 +22,8 @@ same_reply r q e f is same = ap (λ r. reply_of r e) is ∙ ap (reply_of q) same
 
 pub one_reply : ActionsHaveOneOutcome → RepliesAreOne
 one_reply law s steps does reply reply2 new new2 free a b =
-    let begins : NoneIsFree (sorts_of a.old.now.externals) =
-    subst (λ (s : State). NoneIsFree (sorts_of s.externals)) (sym a.here) free in
+    let begins : AreDeterministic (sorts_of a.old.now.externals) =
+    subst (λ (s : State). AreDeterministic (sorts_of s.externals)) (sym a.here) free in
     let same =
     law a.old b.old a.end b.end (fresh_run steps) a.runs.run b.runs.run does a.runs.end b.runs.end
     (b.here ∙ sym a.here) begins

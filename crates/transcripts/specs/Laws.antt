@@ -2,7 +2,7 @@
 use Rattle.std.specs.Prelude.{◌≡◌, ◌≢◌, ℕ, ◌<◌, List, length}
 use Rattle.std.specs.List.{All, AllByRecursion}
 use Rattle.devices.specs.Desks.{SeenDesk}
-use Rattle.definitional_interpreter.specs.Laws.{IsFixed, sorts_of, NoneIsFree}
+use Rattle.definitional_interpreter.specs.Laws.{IsDeterministic, sorts_of, AreDeterministic}
 use Rattle.session.specs.declared.reply.Ending.TheVariants.{Refused}
 use Rattle.session.specs.declared.reply.Refusal.TheVariants.{NoMemory, SaveFailed}
 use Rattle.session.specs.declared.reply.Reply.{Reply}
@@ -32,11 +32,11 @@ Output old read text new = (lines : List (List ℕ)) × (AreLines read lines × 
 abbrev pub HasPresent : Timeline → Type 0
 HasPresent t = t.cursor < length t.snapshots
 
--- no external of a state is free
+-- each external of a state is deterministic
 abbrev pub IsDetermined : Snapshot → Type 0
-IsDetermined s = NoneIsFree (sorts_of s.state.externals)
+IsDetermined s = AreDeterministic (sorts_of s.state.externals)
 
--- a state is whole, and none of its externals is free
+-- a state is whole, and each of its externals is deterministic
 abbrev pub StandsWhole : Snapshot → Type 0
 StandsWhole s = IsWholeState s.state
 
@@ -55,7 +55,7 @@ OutputsExist =
     (old : Timeline × SeenDesk) (read : List ℕ) → HasPresent old.0 →
     (text : List ℕ) × ((new : Timeline × SeenDesk) × Output old read text new)
 
--- Where no external of the states is free, lines have one transcript.
+-- Where each external of the states is deterministic, lines have one transcript.
 abbrev pub TranscriptsAreOne : Type 0
 TranscriptsAreOne =
     (old : Timeline × SeenDesk) (lines : List (List ℕ)) (text text2 : List ℕ) (new new2 : Timeline × SeenDesk) →
@@ -69,7 +69,7 @@ OutputsAreOne =
     AllByRecursion IsDetermined old.0.snapshots → Output old read text new → Output old read text2 new2 →
     (text ≡ text2) × (new ≡ new2)
 
--- Where each state is whole and no external is free, it is so after lines of bytes.
+-- Where each state is whole and each external is deterministic, it is so after lines of bytes.
 abbrev pub TranscriptsStayWhole : Type 0
 TranscriptsStayWhole =
     (old : Timeline × SeenDesk) (lines : List (List ℕ)) (text : List ℕ) (new : Timeline × SeenDesk) →
@@ -83,6 +83,6 @@ OutputsStayWhole =
     AreBytes read → AllByRecursion StandsWhole old.0.snapshots → Output old read text new →
     AllByRecursion StandsWhole new.0.snapshots
 
--- No external of the kit is free.
-abbrev pub KitIsFixed : Type 0
-KitIsFixed = IsFixed 1 × IsFixed 2 × IsFixed 3 × IsFixed 4
+-- Each external of the kit is deterministic.
+abbrev pub KitIsDeterministic : Type 0
+KitIsDeterministic = IsDeterministic 1 × IsDeterministic 2 × IsDeterministic 3 × IsDeterministic 4

@@ -1,7 +1,7 @@
 //! Laws of transcripts.
 
 ghost use Rattle.transcripts.specs.Laws.{TranscriptsExist, OutputsExist, TranscriptsAreOne, OutputsAreOne};
-ghost use Rattle.transcripts.specs.Laws.{KitIsFixed, TranscriptsStayWhole, OutputsStayWhole};
+ghost use Rattle.transcripts.specs.Laws.{KitIsDeterministic, TranscriptsStayWhole, OutputsStayWhole};
 ghost use Rattle.transcripts.specs.Replies.{RepliesAreOne, RepliesExist, WholeRepliesExist};
 
 use determinism::runs_have_one_outcome;
@@ -13,7 +13,7 @@ use ht_lex::texts_are_cut_exactly;
 use totality::{runs_have_a_whole_outcome, runs_have_an_outcome};
 use whole_states::trees_have_texts;
 
-/// Two replies to one fresh command, in one state where no external is free, are the same, and so are the states after it.
+/// Two replies to one fresh command, in one state where each external is deterministic, are the same, and so are the states after it.
 pub fn replies_are_one()
     ensures { RepliesAreOne }
 {
@@ -28,7 +28,7 @@ pub fn replies_exist()
     runs_have_an_outcome();
 }
 
-/// In a whole state where no external is free each fresh command whose texts are texts has a reply after which the state is
+/// In a whole state where each external is deterministic each fresh command whose texts are texts has a reply after which the state is
 /// such again; but for a text that is typed into a locked field.
 pub fn whole_replies_exist()
     ensures { WholeRepliesExist }
@@ -54,7 +54,7 @@ pub fn transcripts_exist()
 pub fn transcripts_are_one()
     ensures lines { TranscriptsAreOne }
     ensures input { OutputsAreOne }
-    ensures kit { KitIsFixed }
+    ensures kit { KitIsDeterministic }
 {
     replies_are_one();
     texts_are_cut_exactly();

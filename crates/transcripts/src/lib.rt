@@ -1,4 +1,4 @@
-//! An input has an output, and where no external is free just one: laws over the headline, each the contract of a
+//! An input has an output, and where each external is deterministic just one: laws over the headline, each the contract of a
 //! function that does nothing.
 #![tactic(auto)]
 

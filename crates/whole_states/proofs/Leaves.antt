@@ -55,7 +55,7 @@ use Rattle.ht_values.specs.declared.fault.Fault.TheVariants.{NoSuchObject}
 use Rattle.containers.specs.Variables.{VariablesView, declared, with_local}
 use Rattle.containers.specs.Writes.{Writes, Declares}
 use Rattle.msg_path.specs.BuiltIns.{answers, external_named}
-use Rattle.msg_path.specs.Handlers.{Found, First}
+use Rattle.msg_path.specs.Handlers.{HandlerFound, First}
 use Rattle.meaning.specs.declared.end.How.{How}
 use Rattle.meaning.specs.declared.end.How.TheVariants.{Next, ExitRepeat, NextRepeat, Exit, Pass, Returns}
 use Rattle.meaning.specs.declared.end.Stop.{Stop}
@@ -68,7 +68,7 @@ use Rattle.meaning.specs.State.{RunState, Step, shows, noted, run_property_set, 
 use Rattle.meaning.specs.Values.{Yields, Parses}
 use Rattle.preservation.specs.Laws.{HasMemory}
 use Rattle.whole_states.specs.Texts.{RunTexts, LocalsTexts, FrameTexts, StorageTexts, HowTexts, InputTexts, AskTexts}
-use Rattle.definitional_interpreter.specs.Laws.{IsFixed, sorts_of}
+use Rattle.definitional_interpreter.specs.Laws.{IsDeterministic, sorts_of}
 use Rattle.whole_states.specs.Texts.{IsWhole, HandlerTexts, HandlersTexts, StmtsTexts}
 use Rattle.whole_states.specs.Texts.{TreesHaveTexts}
 use Rattle.whole_states.proofs.TreeTexts.{scripts_have_texts}
@@ -115,7 +115,7 @@ pub sound_made : {w w2 : History} {c : Change} → fits w.now c ≡ true → Has
 sound_made {w} {w2} {c} fit texts made q =
     let same : sorts_of w2.now.externals ≡ sorts_of w.now.externals =
     ap (λ h. sorts_of h.now.externals) made.history ∙ ap sorts_of (externals-changed w.now c) in
-    record { history = IsHistory-made w w2 c fit texts made q.history; fixed = subst (All IsFixed) (sym same) q.fixed }
+    record { history = IsHistory-made w w2 c fit texts made q.history; fixed = subst (All IsDeterministic) (sym same) q.fixed }
 
 same_world : {w w2 : History} → w2 ≡ w → IsWhole w → IsWhole w2
 same_world same q = subst IsWhole (sym same) q
@@ -145,7 +145,7 @@ stands_after w w2 kept there =
     ap (λ b. length b.titles) kept in
     omega (arith, there, titles, length-map w.now.externals (λ e. e.title), length-map w2.now.externals (λ e. e.title))
 
-known_turn : (cells2 : List (List ℕ)) (ask : Ask) (sort : ℕ) (cells : List (List ℕ)) (input : Input) → IsFixed sort
+known_turn : (cells2 : List (List ℕ)) (ask : Ask) (sort : ℕ) (cells : List (List ℕ)) (input : Input) → IsDeterministic sort
     → AreTexts cells → InputTexts input →
     IfSome (turn_of sort cells input) (λ turn. (ask ≡ turn.0) × (cells2 ≡ turn.1)) → AskTexts ask × AreTexts cells2
 known_turn cells2 ask sort cells input fixed h k known =
@@ -165,8 +165,8 @@ sound_turn {w} {w2} {k} {input} {ask} there texts took q =
     let was : IsExternal old = All-get_or IsExternal w.now.externals k none_seen there q.history.now.state.externals in
     let sort : get_or (sorts_of w.now.externals) k 0 ≡ old.sort =
     get_or-map (λ e. e.sort) w.now.externals k none_seen 0 there in
-    let fixed : IsFixed old.sort = subst IsFixed sort
-    (All-get_or IsFixed (sorts_of w.now.externals) k 0
+    let fixed : IsDeterministic old.sort = subst IsDeterministic sort
+    (All-get_or IsDeterministic (sorts_of w.now.externals) k 0
     (omega (arith, there, length-map w.now.externals (λ e. e.sort))) q.fixed) in
     let known = known_turn cells ask old.sort old.cells input fixed (recursion_from_All IsText old.cells was.cells)
     texts took.turn.answers.known in
@@ -183,7 +183,7 @@ sound_turn {w} {w2} {k} {input} {ask} there texts took q =
     ap (λ s. sorts_of s.externals) took.turn.state ∙ kept w.now.externals k cells in (
       record {
         history = IsHistory-turned w w2 k input ask there is took q.history;
-        fixed = subst (All IsFixed)
+        fixed = subst (All IsDeterministic)
             (sym sorts) q.fixed;
       },
       known.0,
@@ -392,10 +392,10 @@ handler_texts (stm.and_handler x xs) kind name h = by (handler_texts xs kind nam
     by rest true = h.0
     by rest false = rest
 
-abbrev FoundTexts : Option Found → Type 0
+abbrev FoundTexts : Option HandlerFound → Type 0
 FoundTexts o = IfSome o (λ fd. HandlerTexts fd.handler)
 
-first_texts : {s : Content} {path name : List ℕ} {kind : HandlerKind} {o : Result (Option Found) Fault}
+first_texts : {s : Content} {path name : List ℕ} {kind : HandlerKind} {o : Result (Option HandlerFound) Fault}
     → First s path kind name o → IsWellFormed s → IfOk o FoundTexts
 first_texts (First.nothing_left _ is) w = subst (λ x. IfOk x FoundTexts) (sym is) tt
 first_texts {s} {path} {name} {kind} (First.here {id = id} {hs = hs} {h = h} _ reads found is) w =
@@ -405,7 +405,7 @@ first_texts {s} {path} {name} {kind} (First.here {id = id} {hs = hs} {h = h} _ r
 first_texts (First.further_on _ _ _ rest) w = first_texts rest w
 first_texts (First.no_script _ _ is) w = subst (λ x. IfOk x FoundTexts) (sym is) tt
 
-pub sound_finds : {s : Content} {path name : List ℕ} {kind : HandlerKind} {fd : Found}
+pub sound_finds : {s : Content} {path name : List ℕ} {kind : HandlerKind} {fd : HandlerFound}
     → Finds s path kind name (Ok (Some fd)) → IsWellFormed s → HandlerTexts fd.handler
 sound_finds (Finds.finds first) w = first_texts first w
 

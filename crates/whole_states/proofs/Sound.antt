@@ -1,6 +1,6 @@
 -- Written by tools/meaning/whole.py from tools/meaning/meaning.rules.
--- Each run leads from whole states to whole states, where its lines are texts and no external is free: an induction
--- over
+-- Each run leads from whole states to whole states, where its lines are texts and each external is deterministic: an
+-- induction over
 -- the rules.
 use Rattle.std.specs.Prelude.{IfSome, ℕ, ℤ, pos, List, Bool, not, Option, Result}
 use Rattle.std.proofs.Common.{◌<◌, length, refl, sym, subst, IfOk, [], ◌∷◌}
@@ -72,9 +72,12 @@ module _ (cut : PartsCut) where
     sound_val (Val.constant {cn = cn} p1 p2) has whole run given1 given2 =
         (whole, run, (subst IsText (sym p2) (constant_is cn)))
     sound_val (Val.return_sign p1 p2) has whole run given1 given2 = (whole, run, (subst IsText (sym p2) return_text))
-    sound_val (Val.name {n = n} {w = w} {f = f} p1 p2) has whole run given1 given2 =
-        (whole, run, (subst IsText (sym p2)
-            (read_name_text w.now f.variables n whole.history.now.state given1 (subst ExprTexts p1 given2))))
+    sound_val (Val.name {n = n} {w = w} {f = f} p1 p2) has whole run given1 given2 = (
+      whole,
+      run,
+      (subst IsText (sym p2) (read_name_text w.now f.variables n whole.history.now.state given1
+          (subst ExprTexts p1 given2))),
+    )
     sound_val (Val.paren p1 p2) has whole run given1 given2 =
         sound_val p2 has whole run given1 (subst ExprTexts p1 given2)
     sound_val (Val.operand_stops p1 p2) has whole run given1 given2 =
@@ -118,13 +121,17 @@ module _ (cut : PartsCut) where
         let after2 = sound_part_met p2 (stopped has) whole run given1 (subst ExprTexts p1 given2) in
         (after2.0, after2.1, tt)
     sound_val (Val.field {w1 = w1} {r1 = r1} {f = f} {m = m} p1 p2 p3) has whole run given1 given2 =
-        let after2 = sound_part_met p2 given whole run given1 (subst ExprTexts p1 given2) in
-        (after2.0, after2.1, (sound_yields IsText
-            (field_is_text w1.now f.variables r1.delimiter m after2.0.history.now.state given1) p3))
+        let after2 = sound_part_met p2 given whole run given1 (subst ExprTexts p1 given2) in (
+          after2.0,
+          after2.1,
+          (sound_yields IsText (field_is_text w1.now f.variables r1.delimiter m after2.0.history.now.state given1) p3),
+        )
     sound_val (Val.the_result p1 p2) has whole run given1 given2 = (whole, run, (subst IsText (sym p2) run.result))
-    sound_val (Val.the_target {w = w} {f = f} p1 p2) has whole run given1 given2 =
-        (whole, run, (sound_yields IsText (name_text w.now.stack w.now.current f.target whole.history.now.state.stack)
-            p2))
+    sound_val (Val.the_target {w = w} {f = f} p1 p2) has whole run given1 given2 = (
+      whole,
+      run,
+      (sound_yields IsText (name_text w.now.stack w.now.current f.target whole.history.now.state.stack) p2),
+    )
     sound_val (Val.pieces_stop p1 p2) has whole run given1 given2 =
         let after2 = sound_val p2 has whole run given1 (subst ExprTexts p1 given2) in
         (after2.0, after2.1, tt)
@@ -135,23 +142,29 @@ module _ (cut : PartsCut) where
         (whole, run, (subst IsText (sym p2) (numeral_text (pos (length w.now.stack.cards)))))
     sound_val (Val.backgrounds {w = w} p1 p2) has whole run given1 given2 =
         (whole, run, (subst IsText (sym p2) (numeral_text (pos (length w.now.stack.backgrounds)))))
-    sound_val (Val.parts {oly = oly} {pk = pk} {w = w} p1 p2) has whole run given1 given2 =
-        (whole, run, (subst IsText (sym p2)
-            (numeral_text (pos (length (parts_here w.now.stack w.now.current oly pk))))))
+    sound_val (Val.parts {oly = oly} {pk = pk} {w = w} p1 p2) has whole run given1 given2 = (
+      whole,
+      run,
+      (subst IsText (sym p2) (numeral_text (pos (length (parts_here w.now.stack w.now.current oly pk))))),
+    )
     sound_val (Val.number_stops p1 p2) has whole run given1 given2 =
         let after2 = sound_meets p2 (stopped has) whole run given1 (subst ExprTexts p1 given2) in
         (after2.0, after2.1, tt)
     sound_val (Val.number_of_object {w1 = w1} {m = m} p1 p2 p3) has whole run given1 given2 =
-        let after2 = sound_meets p2 given whole run given1 (subst ExprTexts p1 given2) in
-        (after2.0, after2.1, (sound_yields IsText
-            (property_text w1.now.stack m.card m.object Number after2.0.history.now.state.stack) p3))
+        let after2 = sound_meets p2 given whole run given1 (subst ExprTexts p1 given2) in (
+          after2.0,
+          after2.1,
+          (sound_yields IsText (property_text w1.now.stack m.card m.object Number after2.0.history.now.state.stack) p3),
+        )
     sound_val (Val.property_stops p1 p2) has whole run given1 given2 =
         let after2 = sound_meets p2 (stopped has) whole run given1 (subst ExprTexts p1 given2) in
         (after2.0, after2.1, tt)
     sound_val (Val.property {pr = pr} {w1 = w1} {m = m} p1 p2 p3) has whole run given1 given2 =
-        let after2 = sound_meets p2 given whole run given1 (subst ExprTexts p1 given2) in
-        (after2.0, after2.1, (sound_yields IsText
-            (property_text w1.now.stack m.card m.object pr after2.0.history.now.state.stack) p3))
+        let after2 = sound_meets p2 given whole run given1 (subst ExprTexts p1 given2) in (
+          after2.0,
+          after2.1,
+          (sound_yields IsText (property_text w1.now.stack m.card m.object pr after2.0.history.now.state.stack) p3),
+        )
     sound_val (Val.run_property_read {rp = rp} {r = r} p1 p2) has whole run given1 given2 =
         (whole, run, (subst IsText (sym p2) (property_read r rp run)))
     sound_val (Val.the_stops p1 p2) has whole run given1 given2 =
@@ -209,7 +222,7 @@ module _ (cut : PartsCut) where
     sound_text_val (TextVal.value_syntax p1 _ _) has whole run given1 given2 = (whole, (sound_step p1 run), tt)
     sound_text_val (TextVal.value p1 _ p3 p4) has whole run given1 given2 =
         sound_val p4 has whole (sound_step p1 run) given1
-            (sound_parses {P = ExprTexts} expressions_have_texts p3 given2)
+        (sound_parses {P = ExprTexts} expressions_have_texts p3 given2)
 
     pub sound_chunk_of : {w w2 : History} {r r2 : RunState} {f : Frame} {d : ℕ} {hd : tree.Chunk}
         {oc : Result Chunk Stop} → ChunkOf w r f d hd oc w2 r2 → HasMemory oc → IsWhole w → RunTexts r → FrameTexts f
@@ -233,9 +246,12 @@ module _ (cut : PartsCut) where
         {opl : Result PlaceView Stop} → Resolves w r f d ct opl w2 r2 → HasMemory opl → IsWhole w → RunTexts r
         → FrameTexts f → ContainerTexts ct → IsWhole w2 × RunTexts r2 × IfOk opl (λ p. StorageTexts p.storage)
     sound_resolves Resolves.place_memory has _ _ _ _ = absurd (has refl)
-    sound_resolves (Resolves.place_variable {n = n} {f = f} p1 p2) has whole run given1 given2 =
-        (whole, run, (subst (λ (x : PlaceView). StorageTexts x.storage) (sym p2)
-            (named_texts f.variables n (subst ContainerTexts p1 given2))))
+    sound_resolves (Resolves.place_variable {n = n} {f = f} p1 p2) has whole run given1 given2 = (
+      whole,
+      run,
+      (subst (λ (x : PlaceView). StorageTexts x.storage) (sym p2)
+          (named_texts f.variables n (subst ContainerTexts p1 given2))),
+    )
     sound_resolves (Resolves.place_field_stops p1 p2) has whole run given1 given2 =
         let after2 = sound_part_met p2 (stopped has) whole run given1 (subst ContainerTexts p1 given2) in
         (after2.0, after2.1, tt)
@@ -379,12 +395,12 @@ module _ (cut : PartsCut) where
     sound_form (Form.get_fails {f = f} p1 p2 p3) has whole run given1 given2 =
         let after2 = sound_val p2 given whole run given1 (subst StmtTexts p1 given2) in
         let after3 = sound_edits cut (named_texts f.variables it_name it_text) after2.2 after2.1.delimiter p3
-            (stopped has) after2.0 given1 in
+        (stopped has) after2.0 given1 in
         (after3.0, after2.1, after3.1, tt)
     sound_form (Form.get {f = f} p1 p2 p3) has whole run given1 given2 =
         let after2 = sound_val p2 given whole run given1 (subst StmtTexts p1 given2) in
         let after3 = sound_edits cut (named_texts f.variables it_name it_text) after2.2 after2.1.delimiter p3 given
-            after2.0 given1 in
+        after2.0 given1 in
         (after3.0, after2.1, after3.1, tt)
     sound_form (Form.set_stops p1 p2) has whole run given1 given2 =
         let after2 = sound_val p2 (stopped has) whole run given1 (subst StmtTexts p1 given2).1 in
@@ -429,13 +445,13 @@ module _ (cut : PartsCut) where
         let after2 = sound_chunk_of p2 given whole run given1 (subst StmtTexts p1 given2).0 in
         let after3 = sound_resolves p3 given after2.0 after2.1 given1 (subst StmtTexts p1 given2).1 in
         let after5 = sound_edits cut (subst (λ (x : PlaceView). StorageTexts x.storage) (sym p4) after3.2) tt
-            after3.1.delimiter p5 (stopped has) after3.0 given1 in
+        after3.1.delimiter p5 (stopped has) after3.0 given1 in
         (after5.0, after3.1, after5.1, tt)
     sound_form (Form.delete p1 p2 p3 p4 p5) has whole run given1 given2 =
         let after2 = sound_chunk_of p2 given whole run given1 (subst StmtTexts p1 given2).0 in
         let after3 = sound_resolves p3 given after2.0 after2.1 given1 (subst StmtTexts p1 given2).1 in
         let after5 = sound_edits cut (subst (λ (x : PlaceView). StorageTexts x.storage) (sym p4) after3.2) tt
-            after3.1.delimiter p5 given after3.0 given1 in
+        after3.1.delimiter p5 given after3.0 given1 in
         (after5.0, after3.1, after5.1, tt)
     sound_form (Form.do_stops p1 p2) has whole run given1 given2 =
         let after2 = sound_val p2 (stopped has) whole run given1 (subst StmtTexts p1 given2) in
@@ -518,19 +534,19 @@ module _ (cut : PartsCut) where
         sound_while p2 has whole run given1 (subst StmtTexts p1 given2).0 (subst StmtTexts p1 given2).1
     sound_form (Form.up_stops p1 p2) has whole run given1 given2 =
         let after2 = sound_bounds p2 (stopped has) whole run given1 (subst StmtTexts p1 given2).0.1
-            (subst StmtTexts p1 given2).0.2 in
+        (subst StmtTexts p1 given2).0.2 in
         (after2.0, after2.1, given1, tt)
     sound_form (Form.up p1 p2 p3) has whole run given1 given2 =
         let after2 =
-            sound_bounds p2 given whole run given1 (subst StmtTexts p1 given2).0.1 (subst StmtTexts p1 given2).0.2 in
+        sound_bounds p2 given whole run given1 (subst StmtTexts p1 given2).0.1 (subst StmtTexts p1 given2).0.2 in
         sound_counts p3 has after2.0 after2.1 given1 (subst StmtTexts p1 given2).0.0 (subst StmtTexts p1 given2).1
     sound_form (Form.down_stops p1 p2) has whole run given1 given2 =
         let after2 = sound_bounds p2 (stopped has) whole run given1 (subst StmtTexts p1 given2).0.1
-            (subst StmtTexts p1 given2).0.2 in
+        (subst StmtTexts p1 given2).0.2 in
         (after2.0, after2.1, given1, tt)
     sound_form (Form.down p1 p2 p3) has whole run given1 given2 =
         let after2 =
-            sound_bounds p2 given whole run given1 (subst StmtTexts p1 given2).0.1 (subst StmtTexts p1 given2).0.2 in
+        sound_bounds p2 given whole run given1 (subst StmtTexts p1 given2).0.1 (subst StmtTexts p1 given2).0.2 in
         sound_counts p3 has after2.0 after2.1 given1 (subst StmtTexts p1 given2).0.0 (subst StmtTexts p1 given2).1
 
     pub sound_alters : {w w2 : History} {r r2 : RunState} {f f2 : Frame} {d : ℕ} {op : Op} {e : tree.Expr}
@@ -646,21 +662,21 @@ module _ (cut : PartsCut) where
     sound_counts (Counts.counts_end p1 _) has whole run given1 given2 given3 = (whole, (sound_step p1 run), given1, tt)
     sound_counts (Counts.counts_fail {co = co} p1 _ p3) has whole run given1 given2 given3 =
         let after3 = sound_assigns cut given2 (numeral_text co.at) (sound_step p1 run).delimiter p3 (stopped has) whole
-            given1 in
+        given1 in
         (after3.0, (sound_step p1 run), after3.1, tt)
     sound_counts (Counts.counts_stop {co = co} p1 _ p3 p4) has whole run given1 given2 given3 =
         let after3 =
-            sound_assigns cut given2 (numeral_text co.at) (sound_step p1 run).delimiter p3 given whole given1 in
+        sound_assigns cut given2 (numeral_text co.at) (sound_step p1 run).delimiter p3 given whole given1 in
         let after4 = sound_block p4 has after3.0 (sound_step p1 run) after3.1 given3 in
         (after4.0, after4.1, after4.2, tt)
     sound_counts (Counts.counts_leave {co = co} {h = h} p1 _ p3 p4 p5) has whole run given1 given2 given3 =
         let after3 =
-            sound_assigns cut given2 (numeral_text co.at) (sound_step p1 run).delimiter p3 given whole given1 in
+        sound_assigns cut given2 (numeral_text co.at) (sound_step p1 run).delimiter p3 given whole given1 in
         let after4 = sound_block p4 given after3.0 (sound_step p1 run) after3.1 given3 in
         (after4.0, after4.1, after4.2, (sound_leaves h p5 after4.3))
     sound_counts (Counts.counts_go_on {co = co} p1 _ p3 p4 _ _ p7) has whole run given1 given2 given3 =
         let after3 =
-            sound_assigns cut given2 (numeral_text co.at) (sound_step p1 run).delimiter p3 given whole given1 in
+        sound_assigns cut given2 (numeral_text co.at) (sound_step p1 run).delimiter p3 given whole given1 in
         let after4 = sound_block p4 given after3.0 (sound_step p1 run) after3.1 given3 in
         sound_counts p7 has after4.0 after4.1 after4.2 given2 given3
 
@@ -699,20 +715,20 @@ module _ (cut : PartsCut) where
     sound_along (Along.along_too_deep p1 _) has whole run given1 given2 = (whole, run, tt)
     sound_along (Along.along_stops {fd = fd} {i = i} {vs = vs} p1 _ p3 p4) has whole run given1 given2 =
         let after4 = sound_block p4 (stopped has) whole run
-            (sound_handler_frame fd.object i (parameters_of fd.handler) vs p3 given2)
-            (lines_texts fd.handler (sound_finds p1 whole.history.now.state.stack)) in
+        (sound_handler_frame fd.object i (parameters_of fd.handler) vs p3 given2)
+        (lines_texts fd.handler (sound_finds p1 whole.history.now.state.stack)) in
         (after4.0, after4.1, tt)
     sound_along (Along.along_ends {cl = cl} {fd = fd} {i = i} {vs = vs} {h = h} p1 _ p3 p4 p5) has whole run given1
         given2 =
         let after4 = sound_block p4 given whole run
-            (sound_handler_frame fd.object i (parameters_of fd.handler) vs p3 given2)
-            (lines_texts fd.handler (sound_finds p1 whole.history.now.state.stack)) in
+        (sound_handler_frame fd.object i (parameters_of fd.handler) vs p3 given2)
+        (lines_texts fd.handler (sound_finds p1 whole.history.now.state.stack)) in
         let after5 = sound_ends cl h p5 after4.3 after4.1 in
         (after4.0, after5.1, after5.0)
     sound_along (Along.along_passes {fd = fd} {i = i} {vs = vs} p1 _ p3 p4 _ p6) has whole run given1 given2 =
         let after4 = sound_block p4 given whole run
-            (sound_handler_frame fd.object i (parameters_of fd.handler) vs p3 given2)
-            (lines_texts fd.handler (sound_finds p1 whole.history.now.state.stack)) in
+        (sound_handler_frame fd.object i (parameters_of fd.handler) vs p3 given2)
+        (lines_texts fd.handler (sound_finds p1 whole.history.now.state.stack)) in
         sound_along p6 has after4.0 after4.1 given1 given2
     sound_along (Along.along_unhandled _ p2) has whole run given1 given2 = sound_outside p2 has whole run given1 given2
 
@@ -825,9 +841,11 @@ module _ (cut : PartsCut) where
     sound_talks Talks.talk_memory has _ _ _ _ = absurd (has refl)
     sound_talks (Talks.talk_no_step p1) has whole run given1 given2 = (whole, (sound_step p1 run), tt)
     sound_talks (Talks.talk_done p1 p2 p3 p4) has whole run given1 given2 =
-        let after2 = sound_turn given1 given2 p2 whole in
-        (after2.0, (sound_step p1 run),
-            (subst (λ (x : Conversed). IsText x.value) (sym p4) (subst AskTexts p3 after2.1)))
+        let after2 = sound_turn given1 given2 p2 whole in (
+          after2.0,
+          (sound_step p1 run),
+          (subst (λ (x : Conversed). IsText x.value) (sym p4) (subst AskTexts p3 after2.1)),
+        )
     sound_talks (Talks.talk_fails p1 p2 p3) has whole run given1 given2 =
         let after2 = sound_turn given1 given2 p2 whole in
         (after2.0, (sound_step p1 run), tt)
@@ -839,7 +857,7 @@ module _ (cut : PartsCut) where
         let after2 = sound_turn given1 given2 p2 whole in
         let after3 = sound_calls_back p3 given after2.0 (sound_step p1 run) after2.1 in
         sound_talks p4 has after3.0 after3.1
-            (stands_after w1 w2 (base_calls_back p3 given) (stands_after w w1 (base_turn p2) given1)) after3.2
+        (stands_after w1 w2 (base_calls_back p3 given) (stands_after w w1 (base_turn p2) given1)) after3.2
 
     pub sound_calls_back : {w w2 : History} {r r2 : RunState} {d : ℕ} {ask : Ask} {oin : Result Input Stop}
         → CallsBack w r d ask oin w2 r2 → HasMemory oin → IsWhole w → RunTexts r → AskTexts ask
@@ -848,38 +866,38 @@ module _ (cut : PartsCut) where
     sound_calls_back (CallsBack.message_syntax p1 _) has whole run given1 = (whole, run, tt)
     sound_calls_back (CallsBack.message_stops p1 p2 p3 p4) has whole run given1 =
         let after4 = sound_block p4 (stopped has) whole run (same_frame p3 tt)
-            (sound_parses {P = StmtsTexts} lines_have_texts p2 (subst AskTexts p1 given1).1) in
+        (sound_parses {P = StmtsTexts} lines_have_texts p2 (subst AskTexts p1 given1).1) in
         (after4.0, after4.1, tt)
     sound_calls_back (CallsBack.message_runs p1 p2 p3 p4 p5) has whole run given1 =
         let after4 = sound_block p4 given whole run (same_frame p3 tt)
-            (sound_parses {P = StmtsTexts} lines_have_texts p2 (subst AskTexts p1 given1).1) in
+        (sound_parses {P = StmtsTexts} lines_have_texts p2 (subst AskTexts p1 given1).1) in
         (after4.0, after4.1, (subst InputTexts (sym p5) ((subst AskTexts p1 given1).0, empty_text)))
     sound_calls_back (CallsBack.eval_syntax p1 _) has whole run given1 = (whole, run, tt)
     sound_calls_back (CallsBack.eval_stops p1 p2 p3 p4) has whole run given1 =
         let after4 = sound_val p4 (stopped has) whole run (same_frame p3 tt)
-            (sound_parses {P = ExprTexts} expressions_have_texts p2 (subst AskTexts p1 given1).1) in
+        (sound_parses {P = ExprTexts} expressions_have_texts p2 (subst AskTexts p1 given1).1) in
         (after4.0, after4.1, tt)
     sound_calls_back (CallsBack.evaluates p1 p2 p3 p4 p5) has whole run given1 =
         let after4 = sound_val p4 given whole run (same_frame p3 tt)
-            (sound_parses {P = ExprTexts} expressions_have_texts p2 (subst AskTexts p1 given1).1) in
+        (sound_parses {P = ExprTexts} expressions_have_texts p2 (subst AskTexts p1 given1).1) in
         (after4.0, after4.1, (subst InputTexts (sym p5) ((subst AskTexts p1 given1).0, after4.2)))
     sound_calls_back (CallsBack.bad_global p1 _) has whole run given1 = (whole, run, tt)
     sound_calls_back (CallsBack.global_fails {n = n} {f = f} p1 _ p3 p4) has whole run given1 =
         let after4 = sound_edits cut (named_texts f.variables n (subst AskTexts p1 given1).1)
-            (subst AskTexts p1 given1).2 run.delimiter p4 (stopped has) whole (same_frame p3 tt) in
+        (subst AskTexts p1 given1).2 run.delimiter p4 (stopped has) whole (same_frame p3 tt) in
         (after4.0, run, tt)
     sound_calls_back (CallsBack.global_set {n = n} {f = f} p1 _ p3 p4 p5) has whole run given1 =
         let after4 = sound_edits cut (named_texts f.variables n (subst AskTexts p1 given1).1)
-            (subst AskTexts p1 given1).2 run.delimiter p4 given whole (same_frame p3 tt) in
+        (subst AskTexts p1 given1).2 run.delimiter p4 given whole (same_frame p3 tt) in
         (after4.0, run, (subst InputTexts (sym p5) ((subst AskTexts p1 given1).0, empty_text)))
     sound_calls_back (CallsBack.no_such_field p1 p2) has whole run given1 = (whole, run, tt)
     sound_calls_back (CallsBack.field_fails {b = b} {n = n} {w = w} p1 p2 p3 p4) has whole run given1 =
         let after4 = sound_edits cut (sound_yields (λ p. StorageTexts p.storage) (named_place_texts w.now b n) p2)
-            (subst AskTexts p1 given1).1 run.delimiter p4 (stopped has) whole (same_frame p3 tt) in
+        (subst AskTexts p1 given1).1 run.delimiter p4 (stopped has) whole (same_frame p3 tt) in
         (after4.0, run, tt)
     sound_calls_back (CallsBack.field_set {b = b} {n = n} {w = w} p1 p2 p3 p4 p5) has whole run given1 =
         let after4 = sound_edits cut (sound_yields (λ p. StorageTexts p.storage) (named_place_texts w.now b n) p2)
-            (subst AskTexts p1 given1).1 run.delimiter p4 given whole (same_frame p3 tt) in
+        (subst AskTexts p1 given1).1 run.delimiter p4 given whole (same_frame p3 tt) in
         (after4.0, run, (subst InputTexts (sym p5) ((subst AskTexts p1 given1).0, empty_text)))
 
     pub sound_line : {w w2 : History} {r r2 : RunState} {ss : stm.Stmts} {ot : Result (Unit {0}) Stop}
@@ -948,11 +966,11 @@ module _ (cut : PartsCut) where
     sound_types_over (TypesOver.typed_field_goes p1 _) has whole run given1 = (whole, run)
     sound_types_over (TypesOver.type_over_stops {w = w} {m = m} p1 _ p3 p4) has whole run given1 =
         let after4 = sound_edits cut (subst (λ o. IfOk o (λ p. StorageTexts p.storage)) p3 (field_place_texts w.now m))
-            given1 run.delimiter p4 has whole (same_frame p1 tt) in
+        given1 run.delimiter p4 has whole (same_frame p1 tt) in
         (after4.0, run)
     sound_types_over (TypesOver.types_over {w = w} {m = m} p1 _ p3 p4 _ _ p7) has whole run given1 =
         let after4 = sound_edits cut (subst (λ o. IfOk o (λ p. StorageTexts p.storage)) p3 (field_place_texts w.now m))
-            given1 run.delimiter p4 given whole (same_frame p1 tt) in
+        given1 run.delimiter p4 given whole (same_frame p1 tt) in
         sound_tells p7 has after4.0 run
 
     pub sound_types_into : {w w2 : History} {r r2 : RunState} {t : List ℕ} {pa : tree.Part}

@@ -1,4 +1,4 @@
--- Laws over the rules: where no external is free, a run whose trees are of texts leads from whole states to whole states.
+-- Laws over the rules: where each external is deterministic, a run whose trees are of texts leads from whole states to whole states.
 use Rattle.std.specs.Prelude.{ℕ, List, Result, IfOk}
 use Rattle.std.specs.List.{AllByRecursion}
 use Rattle.ht_values.specs.Text.{IsText}

@@ -21,7 +21,7 @@ use Rattle.ht_lex.specs.Token as token
 use Rattle.ht_grammar.specs.Reads.{Reads, ReadsExpr, ReadsLines, ReadsMessage, ReadsPart, ReadsScript, ReadsType}
 use Rattle.ht_grammar.specs.Statements as stm
 use Rattle.ht_grammar.specs.Trees as tree
-use Rattle.definitional_interpreter.specs.Laws.{IsFixed, sorts_of}
+use Rattle.definitional_interpreter.specs.Laws.{IsDeterministic, sorts_of}
 
 -- a name, a number and what stands between quotes
 abbrev pub TokenTexts : Token → Type 0
@@ -202,10 +202,10 @@ ActionTexts act.open_stack = Unit {0}
 ActionTexts (act.click pa) = PartTexts pa
 ActionTexts (act.type_text t pa) = IsText t × PartTexts pa
 
--- each state of a history is whole, and no external is free
+-- each state of a history is whole, and each external is deterministic
 pub record IsWhole (w : History) : Type 0 where
   pub history : IsHistory w
-  pub fixed : All IsFixed (sorts_of w.now.externals)
+  pub fixed : All IsDeterministic (sorts_of w.now.externals)
 
 -- ---- what a text is read as
 

@@ -15,248 +15,226 @@ use Rattle.meaning.specs.State.{RunState}
 use Rattle.meaning.specs.Meaning.{Vals, Block, Endless, While, Counts, Along, Systems, Converses, Talks}
 use Rattle.interp.proofs.+run.Given as goal
 
+-- A step that is left counts for more than the calls that may be nested, a call for more than a tree is deep, and a level of a
+-- tree for more than the order of the functions that work at one place of it: what an expression is asked, 100 and more;
+-- what a statement is, 2001 and more; what asks for neither, below 20.
+abbrev rank : RunState → ℕ → ℕ → ℕ → ℕ
+rank run nested depth order = 1000000 * run.left + 4000 * (100 - nested) + 8 * depth + order
+
 abbrev pub decreases-expr::eval : goal.decreases-expr::eval
-decreases-expr::eval g l = 1000000 * l.run.now.left + 4000 * (100 - l.nested) + 8 * depth l.e.now + 102
+decreases-expr::eval g l = rank l.run.now l.nested (depth l.e.now) 102
 
 abbrev pub decreases-expr::eval_text : goal.decreases-expr::eval_text
-decreases-expr::eval_text g l = 1000000 * l.run.now.left + 4000 * (100 - l.nested) + 8 * depth l.e.now + 103
+decreases-expr::eval_text g l = rank l.run.now l.nested (depth l.e.now) 103
 
 abbrev pub decreases-expr::binary : goal.decreases-expr::binary
-decreases-expr::binary g l =
-    1000000 * l.run.now.left + 4000 * (100 - l.nested) + 8 * max (depth l.left.now) (depth l.right.now) + 103
+decreases-expr::binary g l = rank l.run.now l.nested (max (depth l.left.now) (depth l.right.now)) 103
 
 abbrev pub decreases-expr::unary : goal.decreases-expr::unary
-decreases-expr::unary g l = 1000000 * l.run.now.left + 4000 * (100 - l.nested) + 8 * depth l.operand.now + 103
+decreases-expr::unary g l = rank l.run.now l.nested (depth l.operand.now) 103
 
 abbrev pub decreases-expr::meet_operand : goal.decreases-expr::meet_operand
-decreases-expr::meet_operand g l = 1000000 * l.run.now.left + 4000 * (100 - l.nested) + 8 * depth l.e.now + 103
+decreases-expr::meet_operand g l = rank l.run.now l.nested (depth l.e.now) 103
 
 abbrev pub decreases-expr::there_is : goal.decreases-expr::there_is
-decreases-expr::there_is g l =
-    1000000 * l.run.now.left + 4000 * (100 - l.nested) + 8 * ref_depth (ref_of l.reference.now) + 103
+decreases-expr::there_is g l = rank l.run.now l.nested (ref_depth (ref_of l.reference.now)) 103
 
 abbrev pub decreases-expr::field_of : goal.decreases-expr::field_of
-decreases-expr::field_of g l =
-    1000000 * l.run.now.left + 4000 * (100 - l.nested) + 8 * part_depth (part_of l.part.now) + 101
+decreases-expr::field_of g l = rank l.run.now l.nested (part_depth (part_of l.part.now)) 101
 
 abbrev pub decreases-expr::property_of : goal.decreases-expr::property_of
-decreases-expr::property_of g l =
-    1000000 * l.run.now.left + 4000 * (100 - l.nested) + 8 * ref_depth (ref_of l.reference.now) + 103
+decreases-expr::property_of g l = rank l.run.now l.nested (ref_depth (ref_of l.reference.now)) 103
 
 abbrev pub decreases-expr::count_of_pieces : goal.decreases-expr::count_of_pieces
-decreases-expr::count_of_pieces g l = 1000000 * l.run.now.left + 4000 * (100 - l.nested) + 8 * depth l.text.now + 104
+decreases-expr::count_of_pieces g l = rank l.run.now l.nested (depth l.text.now) 104
 
 abbrev pub decreases-expr::number_of_object : goal.decreases-expr::number_of_object
-decreases-expr::number_of_object g l =
-    1000000 * l.run.now.left + 4000 * (100 - l.nested) + 8 * ref_depth (ref_of l.reference.now) + 104
+decreases-expr::number_of_object g l = rank l.run.now l.nested (ref_depth (ref_of l.reference.now)) 104
 
 abbrev pub decreases-expr::lent_function : goal.decreases-expr::lent_function
-decreases-expr::lent_function g l = 1000000 * l.run.now.left + 4000 * (100 - l.nested) + 8 * depth l.operand.now + 104
+decreases-expr::lent_function g l = rank l.run.now l.nested (depth l.operand.now) 104
 
 abbrev pub decreases-expr::function_met : goal.decreases-expr::function_met
-decreases-expr::function_met g l = 1000000 * l.run.now.left + 4000 * (100 - l.nested) + 2
+decreases-expr::function_met g l = rank l.run.now l.nested 0 2
 
 abbrev pub decreases-expr::piece_of : goal.decreases-expr::piece_of
-decreases-expr::piece_of g l =
-    1000000 * l.run.now.left + 4000 * (100 - l.nested) + 8 * max (depth l.index.now) (depth l.text.now) + 106
+decreases-expr::piece_of g l = rank l.run.now l.nested (max (depth l.index.now) (depth l.text.now)) 106
 
 abbrev pub decreases-expr::pieces_of : goal.decreases-expr::pieces_of
-decreases-expr::pieces_of g l = 1000000 * l.run.now.left + 4000 * (100 - l.nested) + 8 * max
-    (max (depth l.first.now) (depth l.last.now)) (depth l.text.now) + 106
+decreases-expr::pieces_of g l =
+    rank l.run.now l.nested (max (max (depth l.first.now) (depth l.last.now)) (depth l.text.now)) 106
 
 abbrev pub decreases-expr::nth_piece_of : goal.decreases-expr::nth_piece_of
-decreases-expr::nth_piece_of g l = 1000000 * l.run.now.left + 4000 * (100 - l.nested) + 8 * depth l.text.now + 106
+decreases-expr::nth_piece_of g l = rank l.run.now l.nested (depth l.text.now) 106
 
 abbrev pub decreases-expr::part_of : goal.decreases-expr::part_of
-decreases-expr::part_of g l = 1000000 * l.run.now.left + 4000 * (100 - l.nested) + 8 * depth l.text.now + 105
+decreases-expr::part_of g l = rank l.run.now l.nested (depth l.text.now) 105
 
 abbrev pub decreases-expr::lent_part : goal.decreases-expr::lent_part
-decreases-expr::lent_part g l = 1000000 * l.run.now.left + 4000 * (100 - l.nested) + 8 * depth l.text.now + 104
+decreases-expr::lent_part g l = rank l.run.now l.nested (depth l.text.now) 104
 
 abbrev pub decreases-pieces::pieces : goal.decreases-pieces::pieces
-decreases-pieces::pieces g l =
-    1000000 * l.run.now.left + 4000 * (100 - l.nested) + 8 * chunk_depth (chunk_of l.chunk.now) + 105
+decreases-pieces::pieces g l = rank l.run.now l.nested (chunk_depth (chunk_of l.chunk.now)) 105
 
 abbrev pub decreases-expr::number_value : goal.decreases-expr::number_value
-decreases-expr::number_value g l = 1000000 * l.run.now.left + 4000 * (100 - l.nested) + 8 * depth l.e.now + 104
+decreases-expr::number_value g l = rank l.run.now l.nested (depth l.e.now) 104
 
 abbrev pub decreases-expr::plain_number : goal.decreases-expr::plain_number
-decreases-expr::plain_number g l = 1000000 * l.run.now.left + 4000 * (100 - l.nested) + 8 * depth l.e.now + 103
+decreases-expr::plain_number g l = rank l.run.now l.nested (depth l.e.now) 103
 
 abbrev pub decreases-expr::piece_number : goal.decreases-expr::piece_number
-decreases-expr::piece_number g l =
-    1000000 * l.run.now.left + 4000 * (100 - l.nested) + 8 * max (depth l.index.now) (depth l.text.now) + 107
+decreases-expr::piece_number g l = rank l.run.now l.nested (max (depth l.index.now) (depth l.text.now)) 107
 
 abbrev pub decreases-expr::pieces_number : goal.decreases-expr::pieces_number
-decreases-expr::pieces_number g l = 1000000 * l.run.now.left + 4000 * (100 - l.nested) + 8 * max
-    (max (depth l.first.now) (depth l.last.now)) (depth l.text.now) + 107
+decreases-expr::pieces_number g l =
+    rank l.run.now l.nested (max (max (depth l.first.now) (depth l.last.now)) (depth l.text.now)) 107
 
 abbrev pub decreases-expr::part_number : goal.decreases-expr::part_number
-decreases-expr::part_number g l = 1000000 * l.run.now.left + 4000 * (100 - l.nested) + 8 * depth l.text.now + 106
+decreases-expr::part_number g l = rank l.run.now l.nested (depth l.text.now) 106
 
 abbrev pub decreases-expr::truth_value : goal.decreases-expr::truth_value
-decreases-expr::truth_value g l = 1000000 * l.run.now.left + 4000 * (100 - l.nested) + 8 * depth l.e.now + 103
+decreases-expr::truth_value g l = rank l.run.now l.nested (depth l.e.now) 103
 
 abbrev pub decreases-reference::meet_part : goal.decreases-reference::meet_part
-decreases-reference::meet_part g l =
-    1000000 * l.run.now.left + 4000 * (100 - l.nested) + 8 * part_depth (part_of l.part.now) + 100
+decreases-reference::meet_part g l = rank l.run.now l.nested (part_depth (part_of l.part.now)) 100
 
 abbrev pub decreases-reference::meet : goal.decreases-reference::meet
-decreases-reference::meet g l =
-    1000000 * l.run.now.left + 4000 * (100 - l.nested) + 8 * ref_depth (ref_of l.reference.now) + 102
+decreases-reference::meet g l = rank l.run.now l.nested (ref_depth (ref_of l.reference.now)) 102
 
 abbrev pub decreases-reference::scope : goal.decreases-reference::scope
-decreases-reference::scope g l =
-    1000000 * l.run.now.left + 4000 * (100 - l.nested) + 8 * owner_depth (owner_of l.owner.now) + 100
+decreases-reference::scope g l = rank l.run.now l.nested (owner_depth (owner_of l.owner.now)) 100
 
 abbrev pub decreases-reference::plain_part : goal.decreases-reference::plain_part
-decreases-reference::plain_part g l =
-    1000000 * l.run.now.left + 4000 * (100 - l.nested) + 8 * owner_depth (owner_of l.owner.now) + 101
+decreases-reference::plain_part g l = rank l.run.now l.nested (owner_depth (owner_of l.owner.now)) 101
 
 abbrev pub decreases-reference::nth_part : goal.decreases-reference::nth_part
-decreases-reference::nth_part g l =
-    1000000 * l.run.now.left + 4000 * (100 - l.nested) + 8 * owner_depth (owner_of l.owner.now) + 101
+decreases-reference::nth_part g l = rank l.run.now l.nested (owner_depth (owner_of l.owner.now)) 101
 
 abbrev pub decreases-reference::seek : goal.decreases-reference::seek
-decreases-reference::seek g l =
-    1000000 * l.run.now.left + 4000 * (100 - l.nested) + 8 * selector_depth (selector_of l.selector.now) + 105
+decreases-reference::seek g l = rank l.run.now l.nested (selector_depth (selector_of l.selector.now)) 105
 
 abbrev pub decreases-reference::lead : goal.decreases-reference::lead
-decreases-reference::lead g l =
-    1000000 * l.run.now.left + 4000 * (100 - l.nested) + 8 * destination_depth (destination_of l.destination.now) + 100
+decreases-reference::lead g l = rank l.run.now l.nested (destination_depth (destination_of l.destination.now)) 100
 
 abbrev pub decreases-expr::function_of : goal.decreases-expr::function_of
-decreases-expr::function_of g l = 1000000 * l.run.now.left + 4000 * (100 - l.nested) + 8 * depth l.operand.now + 105
+decreases-expr::function_of g l = rank l.run.now l.nested (depth l.operand.now) 105
 
 abbrev pub decreases-expr::text_value : goal.decreases-expr::text_value
-decreases-expr::text_value g l = 1000000 * l.run.now.left + 4000 * (100 - l.nested) + 1
+decreases-expr::text_value g l = rank l.run.now l.nested 0 1
 
 abbrev pub decreases-message::calls : goal.decreases-message::calls
-decreases-message::calls g l =
-    1000000 * l.run.now.left + 4000 * (100 - l.nested) + 8 * depths (exprs_of l.list.now.items.items) + 105
+decreases-message::calls g l = rank l.run.now l.nested (depths (exprs_of l.list.now.items.items)) 105
 
 abbrev pub decreases-expr::arguments : goal.decreases-expr::arguments
-decreases-expr::arguments g l =
-    1000000 * l.run.now.left + 4000 * (100 - l.nested) + 8 * depths (exprs_of l.list.now) + 103
+decreases-expr::arguments g l = rank l.run.now l.nested (depths (exprs_of l.list.now)) 103
 
 abbrev pub decreases-message::send : goal.decreases-message::send
-decreases-message::send g l = 1000000 * l.run.now.left + 4000 * (100 - l.nested) + 10
+decreases-message::send g l = rank l.run.now l.nested 0 10
 
 abbrev pub decreases-system::system : goal.decreases-system::system
-decreases-system::system g l = 1000000 * l.run.now.left + 4000 * (100 - l.nested) + 11
+decreases-system::system g l = rank l.run.now l.nested 0 11
 
 abbrev pub decreases-system::systems : goal.decreases-system::systems
-decreases-system::systems g l = 1000000 * l.run.now.left + 4000 * (100 - l.nested) + 12
+decreases-system::systems g l = rank l.run.now l.nested 0 12
 
 abbrev pub decreases-system::go : goal.decreases-system::go
-decreases-system::go g l = 1000000 * l.run.now.left + 4000 * (100 - l.nested) + 13
+decreases-system::go g l = rank l.run.now l.nested 0 13
 
 abbrev pub decreases-system::menu : goal.decreases-system::menu
-decreases-system::menu g l = 1000000 * l.run.now.left + 4000 * (100 - l.nested) + 13
+decreases-system::menu g l = rank l.run.now l.nested 0 13
 
 abbrev pub decreases-message::answer : goal.decreases-message::answer
-decreases-message::answer g l = 1000000 * l.run.now.left + 4000 * (100 - l.nested) + 14
+decreases-message::answer g l = rank l.run.now l.nested 0 14
 
 abbrev pub decreases-message::outside : goal.decreases-message::outside
-decreases-message::outside g l = 1000000 * l.run.now.left + 4000 * (100 - l.nested) + 15
+decreases-message::outside g l = rank l.run.now l.nested 0 15
 
 abbrev pub decreases-message::along : goal.decreases-message::along
-decreases-message::along g l = 1000000 * l.run.now.left + 4000 * (100 - l.nested) + 16
+decreases-message::along g l = rank l.run.now l.nested 0 16
 
 abbrev pub decreases-conversation::converse : goal.decreases-conversation::converse
-decreases-conversation::converse g l = 1000000 * l.run.now.left + 4000 * (100 - l.nested) + 9
+decreases-conversation::converse g l = rank l.run.now l.nested 0 9
 
 abbrev pub decreases-conversation::call_back : goal.decreases-conversation::call_back
-decreases-conversation::call_back g l = 1000000 * l.run.now.left + 4000 * (100 - l.nested) + 3000
+decreases-conversation::call_back g l = rank l.run.now l.nested 0 3000
 
 abbrev pub decreases-pieces::resolve : goal.decreases-pieces::resolve
-decreases-pieces::resolve g l =
-    1000000 * l.run.now.left + 4000 * (100 - l.nested) + 8 * container_depth l.container.now + 106
+decreases-pieces::resolve g l = rank l.run.now l.nested (container_depth l.container.now) 106
 
 abbrev pub decreases-stmt::run_block : goal.decreases-stmt::run_block
-decreases-stmt::run_block g l =
-    1000000 * l.run.now.left + 4000 * (100 - l.nested) + 8 * stmts_depth (stmts_of l.lines.now) + 2003
+decreases-stmt::run_block g l = rank l.run.now l.nested (stmts_depth (stmts_of l.lines.now)) 2003
 
 abbrev pub decreases-stmt::run_stmt : goal.decreases-stmt::run_stmt
-decreases-stmt::run_stmt g l = 1000000 * l.run.now.left + 4000 * (100 - l.nested) + 8 * stmt_depth l.stmt.now + 2002
+decreases-stmt::run_stmt g l = rank l.run.now l.nested (stmt_depth l.stmt.now) 2002
 
 abbrev pub decreases-stmt::run_plain : goal.decreases-stmt::run_plain
-decreases-stmt::run_plain g l = 1000000 * l.run.now.left + 4000 * (100 - l.nested) + 8 * stmt_depth l.stmt.now + 2001
+decreases-stmt::run_plain g l = rank l.run.now l.nested (stmt_depth l.stmt.now) 2001
 
 abbrev pub decreases-stmt::return_value : goal.decreases-stmt::return_value
-decreases-stmt::return_value g l = 1000000 * l.run.now.left + 4000 * (100 - l.nested) + 8 * depth l.value.now + 2003
+decreases-stmt::return_value g l = rank l.run.now l.nested (depth l.value.now) 2003
 
 abbrev pub decreases-stmt::command : goal.decreases-stmt::command
-decreases-stmt::command g l =
-    1000000 * l.run.now.left + 4000 * (100 - l.nested) + 8 * depths (exprs_of l.list.now.items.items) + 2003
+decreases-stmt::command g l = rank l.run.now l.nested (depths (exprs_of l.list.now.items.items)) 2003
 
 abbrev pub decreases-stmt::show : goal.decreases-stmt::show
-decreases-stmt::show g l = 1000000 * l.run.now.left + 4000 * (100 - l.nested) + 8 * depth l.value.now + 2003
+decreases-stmt::show g l = rank l.run.now l.nested (depth l.value.now) 2003
 
 abbrev pub decreases-stmt::get : goal.decreases-stmt::get
-decreases-stmt::get g l = 1000000 * l.run.now.left + 4000 * (100 - l.nested) + 8 * depth l.value.now + 2003
+decreases-stmt::get g l = rank l.run.now l.nested (depth l.value.now) 2003
 
 abbrev pub decreases-stmt::set_run : goal.decreases-stmt::set_run
-decreases-stmt::set_run g l = 1000000 * l.run.now.left + 4000 * (100 - l.nested) + 8 * depth l.value.now + 2003
+decreases-stmt::set_run g l = rank l.run.now l.nested (depth l.value.now) 2003
 
 abbrev pub decreases-pieces::edit_container : goal.decreases-pieces::edit_container
-decreases-pieces::edit_container g l =
-    1000000 * l.run.now.left + 4000 * (100 - l.nested) + 8 * container_depth l.container.now + 107
+decreases-pieces::edit_container g l = rank l.run.now l.nested (container_depth l.container.now) 107
 
 abbrev pub decreases-stmt::put : goal.decreases-stmt::put
-decreases-stmt::put g l = 1000000 * l.run.now.left + 4000 * (100 - l.nested) + 8 * max (depth l.value.now)
-    (container_depth l.container.now) + 2003
+decreases-stmt::put g l = rank l.run.now l.nested (max (depth l.value.now) (container_depth l.container.now)) 2003
 
 abbrev pub decreases-stmt::alter : goal.decreases-stmt::alter
-decreases-stmt::alter g l = 1000000 * l.run.now.left + 4000 * (100 - l.nested) + 8 * max (depth l.value.now)
-    (container_depth l.container.now) + 2003
+decreases-stmt::alter g l = rank l.run.now l.nested (max (depth l.value.now) (container_depth l.container.now)) 2003
 
 abbrev pub decreases-stmt::set : goal.decreases-stmt::set
-decreases-stmt::set g l = 1000000 * l.run.now.left + 4000 * (100 - l.nested) + 8 * max
-    (ref_depth (ref_of l.reference.now)) (depth l.value.now) + 2003
+decreases-stmt::set g l = rank l.run.now l.nested (max (ref_depth (ref_of l.reference.now)) (depth l.value.now)) 2003
 
 abbrev pub decreases-stmt::delete : goal.decreases-stmt::delete
-decreases-stmt::delete g l = 1000000 * l.run.now.left + 4000 * (100 - l.nested) + 8 * max
-    (chunk_depth (chunk_of l.chunk.now)) (container_depth l.container.now) + 2003
+decreases-stmt::delete g l =
+    rank l.run.now l.nested (max (chunk_depth (chunk_of l.chunk.now)) (container_depth l.container.now)) 2003
 
 abbrev pub decreases-stmt::run_do : goal.decreases-stmt::run_do
-decreases-stmt::run_do g l = 1000000 * l.run.now.left + 4000 * (100 - l.nested) + 8 * depth l.text.now + 2003
+decreases-stmt::run_do g l = rank l.run.now l.nested (depth l.text.now) 2003
 
 abbrev pub decreases-stmt::run_send : goal.decreases-stmt::run_send
-decreases-stmt::run_send g l = 1000000 * l.run.now.left + 4000 * (100 - l.nested) + 8 * max (depth l.text.now)
-    (ref_depth (ref_of l.reference.now)) + 2003
+decreases-stmt::run_send g l =
+    rank l.run.now l.nested (max (depth l.text.now) (ref_depth (ref_of l.reference.now))) 2003
 
 abbrev pub decreases-stmt::run_go : goal.decreases-stmt::run_go
-decreases-stmt::run_go g l = 1000000 * l.run.now.left + 4000 * (100 - l.nested) + 8 * destination_depth
-    (destination_of l.destination.now) + 2003
+decreases-stmt::run_go g l = rank l.run.now l.nested (destination_depth (destination_of l.destination.now)) 2003
 
 abbrev pub decreases-stmt::when : goal.decreases-stmt::when
-decreases-stmt::when g l = 1000000 * l.run.now.left + 4000 * (100 - l.nested) + 8 * max (depth l.condition.now)
-    (max (stmts_depth (stmts_of l.lines.now)) (stmts_depth (stmts_of l.otherwise.now))) + 2005
+decreases-stmt::when g l =
+    rank l.run.now l.nested (max (depth l.condition.now) (max (stmts_depth (stmts_of l.lines.now)) (stmts_depth (stmts_of l.otherwise.now)))) 2005
 
 abbrev pub decreases-repeat::repeat_times : goal.decreases-repeat::repeat_times
-decreases-repeat::repeat_times g l = 1000000 * l.run.now.left + 4000 * (100 - l.nested) + 8 * max (depth l.times.now)
-    (stmts_depth (stmts_of l.lines.now)) + 2006
+decreases-repeat::repeat_times g l =
+    rank l.run.now l.nested (max (depth l.times.now) (stmts_depth (stmts_of l.lines.now))) 2006
 
 abbrev pub decreases-repeat::repeat_counted : goal.decreases-repeat::repeat_counted
-decreases-repeat::repeat_counted g l = 1000000 * l.run.now.left + 4000 * (100 - l.nested) + 8 * max
-    (max (depth l.from.now) (depth l.to.now)) (stmts_depth (stmts_of l.lines.now.items.items)) + 2006
+decreases-repeat::repeat_counted g l =
+    rank l.run.now l.nested (max (max (depth l.from.now) (depth l.to.now)) (stmts_depth (stmts_of l.lines.now.items.items))) 2006
 
 abbrev pub decreases-repeat::bounds : goal.decreases-repeat::bounds
-decreases-repeat::bounds g l =
-    1000000 * l.run.now.left + 4000 * (100 - l.nested) + 8 * max (depth l.from.now) (depth l.to.now) + 103
+decreases-repeat::bounds g l = rank l.run.now l.nested (max (depth l.from.now) (depth l.to.now)) 103
 
 abbrev pub decreases-repeat::repeat_forever : goal.decreases-repeat::repeat_forever
-decreases-repeat::repeat_forever g l =
-    1000000 * l.run.now.left + 4000 * (100 - l.nested) + 8 * stmts_depth (stmts_of l.lines.now) + 2005
+decreases-repeat::repeat_forever g l = rank l.run.now l.nested (stmts_depth (stmts_of l.lines.now)) 2005
 
 abbrev pub decreases-repeat::repeat_while : goal.decreases-repeat::repeat_while
-decreases-repeat::repeat_while g l = 1000000 * l.run.now.left + 4000 * (100 - l.nested) + 8 * max
-    (depth l.condition.now) (stmts_depth (stmts_of l.lines.now)) + 2005
+decreases-repeat::repeat_while g l =
+    rank l.run.now l.nested (max (depth l.condition.now) (stmts_depth (stmts_of l.lines.now))) 2005
 
 abbrev pub decreases-repeat::turns : goal.decreases-repeat::turns
-decreases-repeat::turns g l =
-    1000000 * l.run.now.left + 4000 * (100 - l.nested) + 8 * stmts_depth (stmts_of l.lines.now) + 2005
+decreases-repeat::turns g l = rank l.run.now l.nested (stmts_depth (stmts_of l.lines.now)) 2005
 
 abbrev pub invariant-expr::arguments-loop-e : goal.invariant-expr::arguments-loop-e
 invariant-expr::arguments-loop-e g l = record {

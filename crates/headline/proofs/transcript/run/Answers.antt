@@ -4,7 +4,7 @@ use Rattle.std.proofs.lemmas.Result.{err_from_is_err_and}
 use Rattle.devices.proofs.Known.{Appends-Appends, Consumes-Consumes}
 use Rattle.devices.specs.Desks.{SeenDesk}
 use Rattle.headline.specs.Saving.{Takes}
-use Rattle.session.specs.Standing.{Standing}
+use Rattle.session.specs.SessionView.{SessionView}
 use Rattle.headline.proofs.Sessions.{Breaks-by, Quits-by, Ended-by, Stopped-by}
 use Rattle.headline.specs.declared.transcript.Ran.TheVariants.{Quit}
 use Rattle.headline.proofs.Intake.{Appends-nothing, Consumes-nothing}
@@ -22,7 +22,7 @@ returns-in_err-ran-clause-err g c =
     let nothing = rw c.if-count-eq0.true at c.in-Ok-read.ensures.bytes in
     let read_on = rw append-nil at (Consumes-Consumes _ _ _ inv.0 [] inv.2 nothing.0) in
     let p = err_from_is_err_and c.from_residual.result c.from_residual.ensures.1 in
-    let new : Standing × SeenDesk = (c.take_last.new.session, g.D.Desk.seen c.take_last.new.desk) in
+    let new : SessionView × SeenDesk = (c.take_last.new.session, g.D.Desk.seen c.take_last.new.desk) in
     let broken = Breaks-by Takes (c.args.session.now, g.D.Desk.seen c.args.desk.now) inv.0 (inv.1 ++ h.0) new
     (λ t. nothing.1 refl (omega arith))
     (h.2 (c.args.session.now, g.D.Desk.seen c.args.desk.now) inv.0 inv.1 inv.4) in
@@ -34,7 +34,7 @@ returns-then-count-eq0-clause-ok g c =
     let h = c.in_ok-ran.ensures.ok in
     let nothing = rw c.if-count-eq0.true at c.in-Ok-read.ensures.bytes in
     let read_on = rw append-nil at (Consumes-Consumes _ _ _ inv.0 [] inv.2 nothing.0) in
-    let new : Standing × SeenDesk = (c.take_last.new.session, g.D.Desk.seen c.take_last.new.desk) in (
+    let new : SessionView × SeenDesk = (c.take_last.new.session, g.D.Desk.seen c.take_last.new.desk) in (
       inv.0,
       inv.1 ++ h.0,
       read_on,
@@ -74,7 +74,7 @@ returns-then-branch-clause-ok g c =
     let inv = c.loop.invariant.reached in
     let h = rw c.if-branch.true at c.in_ok-take_block.ensures.ok in
     let block = take c.in-Ok-read.count c.read.new.buf in
-    let new : Standing × SeenDesk = (c.take_block.new.session, g.D.Desk.seen c.take_block.new.desk) in
+    let new : SessionView × SeenDesk = (c.take_block.new.session, g.D.Desk.seen c.take_block.new.desk) in
     let quits = h.2 (c.args.session.now, g.D.Desk.seen c.args.desk.now) inv.0 inv.1 inv.4 in (
       inv.0 ++ block,
       inv.1 ++ h.0,

@@ -8,7 +8,7 @@ use Rattle.headline.specs.declared.limits.TheConstants.{MOST_BYTES, MOST_LINES}
 use Rattle.headline.specs.Answering.{Breaks, Quits}
 use Rattle.headline.specs.Intake.{Reached}
 use Rattle.headline.specs.Saving.{Takes}
-use Rattle.session.specs.Standing.{Standing}
+use Rattle.session.specs.SessionView.{SessionView}
 use Rattle.headline.proofs.Intake.{Breaks-more, Quits-more, reached_full, block_parts, block_more}
 use Rattle.headline.proofs.transcript.take_block.Goals as goal
 
@@ -52,7 +52,7 @@ returns-in_err-take_byte-clause-err g c =
     let block = c.args.block.now in
     let lt : i < length block = omega arith in
     let h = c.in_err-take_byte.ensures.err in
-    let new : Standing × SeenDesk = (c.take_byte.new.session, g.D.Desk.seen c.take_byte.new.desk) in
+    let new : SessionView × SeenDesk = (c.take_byte.new.session, g.D.Desk.seen c.take_byte.new.desk) in
     let p = err_from_is_err_and c.from_residual.result c.from_residual.ensures.1 in
     rw (p.1, p.2) (
       inv.0 ++ h.0,
@@ -70,7 +70,7 @@ returns-then-branch-clause-ok g c =
     let i = c.loop-byte.byte-index in
     let block = c.args.block.now in
     let lt : i < length block = omega arith in
-    let new : Standing × SeenDesk = (c.take_byte.new.session, g.D.Desk.seen c.take_byte.new.desk) in
+    let new : SessionView × SeenDesk = (c.take_byte.new.session, g.D.Desk.seen c.take_byte.new.desk) in
     let h = rw c.if-branch.true at c.in_ok-take_byte.ensures.ok in
     let close : length (drop (i + 1) block) < BLOCK = behind i block c.requires lt in (
       inv.0 ++ h.0,

@@ -3,7 +3,7 @@ use Rattle.std.proofs.lemmas.Result.{err_from_is_err_and}
 use Rattle.headline.specs.Answers.{answer}
 use Rattle.devices.specs.Desks.{SeenDesk}
 use Rattle.headline.specs.Saving.{Takes}
-use Rattle.session.specs.Standing.{Standing}
+use Rattle.session.specs.SessionView.{SessionView}
 use Rattle.headline.specs.InputLines.{without_return}
 use Rattle.headline.specs.Answering.{is_quit}
 use Rattle.headline.specs.Intake.{Onward}
@@ -12,7 +12,7 @@ use Rattle.session.specs.declared.reply.Reply.{Reply}
 use Rattle.headline.proofs.transcript.take_byte.Goals as goal
 
 -- the line that was answered
-as_kept : (line pending : List ℕ) (old : Standing × SeenDesk) (reply : Reply) (new : Standing × SeenDesk)
+as_kept : (line pending : List ℕ) (old : SessionView × SeenDesk) (reply : Reply) (new : SessionView × SeenDesk)
     → line ≡ without_return pending → Takes line old reply new → Takes (without_return pending) old reply new
 as_kept line pending old reply new e s = subst (λ (t : List ℕ). Takes t old reply new) e s
 
@@ -40,7 +40,7 @@ pub returns-then-byte-eq10-clause-ok : goal.returns-then-byte-eq10-clause-ok
 returns-then-byte-eq10-clause-ok g c =
     let h = c.in_ok-quits.ensures.ok in
     let old = c.args.intake.now in
-    let new : Standing × SeenDesk = (c.answer_line.new.session, g.D.Desk.seen c.answer_line.new.desk) in
+    let new : SessionView × SeenDesk = (c.answer_line.new.session, g.D.Desk.seen c.answer_line.new.desk) in
     let line_is : c.without_return.result.now ≡ without_return old.pending.items =
     c.without_return.ensures ∙ ap without_return c.deref.ensures.value in
     let kept : Takes (without_return old.pending.items) (c.args.session.now, g.D.Desk.seen c.args.desk.now) h.0 new =
