@@ -1,5 +1,5 @@
-//! Times of calls, by one word: `values`, `parser`, `stack` or `world`. Without one of these it says what each word times,
-//! so that what it prints stays the same.
+//! Times of calls, by one word: `values`, `parser`, `stack` or `world`. Without one of these it says what each word
+//! times, so that what it prints stays the same.
 #![tactic(auto)]
 
 mod parser;

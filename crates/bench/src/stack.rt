@@ -59,7 +59,8 @@ fn check_written(alloc: Global, stack: &Stack, text: &[u8]) -> anyhow::Result<()
     Ok(())
 }
 
-/// The text of a stack, and the stack; it is written as it was read. Both stand in a box, which each exit drops by one call.
+/// The text of a stack, and the stack; it is written as it was read. Both stand in a box, which each exit drops by one
+/// call.
 fn inputs(alloc: Global, groups: u32, step: u32) -> anyhow::Result<Box<Given>>
     ensures { IfOk result (λ g. IsWellFormed g.value.stack.content) }
 {

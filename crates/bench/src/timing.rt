@@ -31,8 +31,8 @@ pub(crate) fn nanoseconds_since(rt: &HostRuntime, start: &Instant) -> io::Result
     Ok(u64::try_from(elapsed).unwrap_or(u64::MAX))
 }
 
-/// The ratio of an amount to another in so many parts of one, as 10 for tenths, rounded down. If the other is 0, it counts
-/// as 1.
+/// The ratio of an amount to another in so many parts of one, as 10 for tenths, rounded down. If the other is 0, it
+/// counts as 1.
 pub(crate) fn ratio(amount: u64, to: u64, parts: u32) -> u128
     ensures { result ≡ amount * parts / max to 1 }
 {

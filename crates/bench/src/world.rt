@@ -1,5 +1,5 @@
-//! Times and bytes of writes in one batch of a world, and times of going back and forth over it. Each time stands beside
-//! its ratio to that of plain maps and lists that take as many values, one after the other.
+//! Times and bytes of writes in one batch of a world, and times of going back and forth over it. Each time stands
+//! beside its ratio to that of plain maps and lists that take as many values, one after the other.
 
 mod plain;
 

@@ -1,4 +1,5 @@
-//! A stack's session over standard input and output: `card_cli STACK [--steps N] [--depth D] [--watch] [--explain] [--check]`.
+//! A stack's session over standard input and output: `card_cli STACK [--steps N] [--depth D] [--watch] [--explain]
+//! [--check]`.
 #![tactic(auto)]
 
 use command_line::{
@@ -157,9 +158,9 @@ fn listed(rt: &HostRuntime, checked: &Checked) -> Result<ExitCode, CliFault> {
     }
 }
 
-/// Runs standard input to standard output, with the externals of the kit; what is saved goes to the file of the stack, and why
-/// one isn't saved to standard error. There the messages are shown too, with `--watch`, and with `--explain` why lines fault or
-/// are refused.
+/// Runs standard input to standard output, with the externals of the kit; what is saved goes to the file of the stack,
+/// and why one isn't saved to standard error. There the messages are shown too, with `--watch`, and with `--explain`
+/// why lines fault or are refused.
 fn run(
     rt: &HostRuntime,
     options: &Options,
@@ -204,7 +205,8 @@ fn perform(rt: &HostRuntime, options: &Options) -> Result<ExitCode, Failure> {
     }
 }
 
-/// Tells a fault on standard error, and gives the status; where it is out of memory for the line, the line is `no memory`.
+/// Tells a fault on standard error, and gives the status; where it is out of memory for the line, the line is `no
+/// memory`.
 fn told(rt: &HostRuntime, failure: &Failure, stack: &[u8]) -> ExitCode {
     let answer = match cut(rt.alloc(), stack) {
         Ok(name) => verdict(rt.alloc(), &failure.fault, &name),

@@ -15,7 +15,8 @@ use Rattle.change_journal.specs.History.{Neighbour, Open, History, AreStates, Is
 use Rattle.change_journal.specs.History.{rolled_back, flipped_back, flipped_forth, plugged, unplugged_at}
 use Rattle.change_journal.specs.History.{with_external, step_with_external, without_at}
 
-AreStates-take : (ts : List (List ℕ)) (n : ℕ) (steps : List Neighbour) → AreStates ts steps → AreStates ts (take n steps)
+AreStates-take : (ts : List (List ℕ)) (n : ℕ) (steps : List Neighbour) → AreStates ts steps
+    → AreStates ts (take n steps)
 AreStates-take ts zero [] h = tt
 AreStates-take ts (suc n) [] h = tt
 AreStates-take ts zero (s ∷ steps) h = tt
@@ -38,13 +39,15 @@ IsHistory-rolled_back h o e q =
     let start = rw e at q.start in
     rw e (record { titles = q.titles; past = q.past; now = start.0; future = q.future; start = tt })
 
-pub IsHistory-flipped_back : (h : History) (step : Neighbour) (rest : List Neighbour) → h.past ≡ step ∷ rest → IsHistory h
+pub IsHistory-flipped_back : (h : History) (step : Neighbour) (rest : List Neighbour) → h.past ≡ step ∷ rest
+    → IsHistory h
     → IsHistory (flipped_back h)
 IsHistory-flipped_back h step rest e q =
     let past = rw e at q.past in
     rw e (record { titles = q.titles; past = past.1; now = past.0; future = (q.now, q.future); start = q.start })
 
-pub IsHistory-flipped_forth : (h : History) (step : Neighbour) (rest : List Neighbour) → h.future ≡ step ∷ rest → IsHistory h
+pub IsHistory-flipped_forth : (h : History) (step : Neighbour) (rest : List Neighbour) → h.future ≡ step ∷ rest
+    → IsHistory h
     → IsHistory (flipped_forth h)
 IsHistory-flipped_forth h step rest e q =
     let future = rw e at q.future in

@@ -40,8 +40,8 @@ pub record Made (old new : History) (change : Change) : Type 0 where
   pub start : BothOpen old.start new.start
       (λ o p. Rises (replaced_by old.now change) (trail_after (replaced_by old.now change) o.trail) o p)
 
--- A turn of the i-th external in an open batch. Where its kind is nondeterministic, its log has this turn more at its end; all
--- other logs stay.
+-- A turn of the i-th external in an open batch. Where its kind is nondeterministic, its log has this turn more at its
+-- end; all other logs stay.
 pub record TookTurn (old new : History) (i : ℕ) (input : Input) (ask : Ask) : Type 0 where
   pub turn : Turns old.now new.now i input ask
   pub history : new ≡ record old

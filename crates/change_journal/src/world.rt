@@ -123,7 +123,8 @@ impl<E: External> World<E> {
         ensures ok { IfOk result (λ w. w.history ≡ alone
             (first_state stack.content (map (seen_by E.title E.sort E.answers_calls E.cells) externals.items)) 0 depth
             (map E.log externals.items)) }
-        ensures err { IfErr result (λ e. (e.0 ≡ WorldError.DuplicateName) × (e.1 ≡ stack) × (e.2.items ≡ externals.items)) }
+        ensures err { IfErr result (λ e. (e.0 ≡ WorldError.DuplicateName) × (e.1 ≡ stack)
+            × (e.2.items ≡ externals.items)) }
     {
         if !are_apart(&externals) {
             return Err((WorldError::DuplicateName, stack, externals));
@@ -157,14 +158,14 @@ impl<E: External> World<E> {
         self.present.script_tree(id)
     }
 
-    /// The number of the first reading of an object's script, if its tree was kept. It stays while the script does, also
-    /// where the tree goes; no other script gets it. No clause says so, since the history has no readings.
+    /// The number of the first reading of an object's script, if its tree was kept. It stays while the script does,
+    /// also where the tree goes; no other script gets it. No clause says so, since the history has no readings.
     pub fn script_reading(&self, id: Id) -> Option<u64> {
         self.present.script_reading(id)
     }
 
-    /// Keeps the tree of an object's script until that script changes, or until those that are kept after it take its room.
-    /// It shows nowhere but in time.
+    /// Keeps the tree of an object's script until that script changes, or until those that are kept after it take its
+    /// room. It shows nowhere but in time.
     pub fn keep_script_tree(&mut self, id: Id, tree: Rc<Script>) -> Result<(), AllocError>
         requires { Reads ReadsScript (object_script self.old.history.now.stack id) (script_of tree.value) }
         ensures { self.new ≡ self.old }
@@ -204,8 +205,8 @@ impl<E: External> World<E> {
         self.present.global_numbered(i)
     }
 
-    /// A global that has a value: its name and its value. They are counted from 0. It goes over the numbers of the names
-    /// from the first one.
+    /// A global that has a value: its name and its value. They are counted from 0. It goes over the numbers of the
+    /// names from the first one.
     pub fn global_at(&self, i: usize) -> (&[u8], &Text)
         requires { i < length (listed self.now.names self.now.history.now.globals) }
         ensures { slice_get (listed self.now.names self.now.history.now.globals) i ≡ Some (result.0.now, result.1.now) }
@@ -300,8 +301,8 @@ impl<E: External> World<E> {
         }
     }
 
-    /// Gives a global a value, or none, by its folded name, as its change does. Where the name was met before, it takes no
-    /// memory but that of an entry. Where memory was refused nothing changes, and the value is dropped.
+    /// Gives a global a value, or none, by its folded name, as its change does. Where the name was met before, it takes
+    /// no memory but that of an entry. Where memory was refused nothing changes, and the value is dropped.
     pub fn put_global(&mut self, name: &Text, value: Option<Text>) -> Result<(), AllocError>
         requires open { IsSome self.old.history.start }
         requires fits { fits self.old.history.now (made_change.Global name.now value) ≡ true }

@@ -82,7 +82,8 @@ PieceIsPut =
     → put delimiter (one k n) place.Into p t ≡ Ok u → 0 < length u
     → pieces delimiter k u ≡ with_piece k n p (pieces delimiter k t)
 
--- whether a piece put at this number is read at the same number: a char or a word past the end stands just past the last
+-- whether a piece put at this number is read at the same number: a char or a word past the end stands just past the
+-- last
 abbrev pub IsReached : ℕ → ChunkKind → ℕ → List ℕ → Type 0
 IsReached delimiter kind.Char n t = n ≤ count delimiter kind.Char t
 IsReached delimiter kind.Word n t = n ≤ count delimiter kind.Word t

@@ -1,4 +1,5 @@
--- Chunks of chunks. The first of a list is the nearest to the container; each later one is a chunk of what those before it read.
+-- Chunks of chunks. The first of a list is the nearest to the container; each later one is a chunk of what those before
+-- it read.
 use Rattle.std.specs.Prelude.{ℕ, List, [], ◌∷◌, Option, Some, None, Ok, Result}
 use Rattle.ht_values.specs.declared.fault.Fault.{Fault}
 use Rattle.ht_values.specs.Outcome.{and_then, within_limit}
@@ -13,7 +14,8 @@ abbrev pub read_within : ℕ → List Chunk → List ℕ → List ℕ
 read_within delimiter [] t = t
 read_within delimiter (c ∷ cs) t = read_within delimiter cs (read delimiter c t)
 
--- the text after another is put at the innermost chunk: the part that a chunk reads is changed by the inner ones, and put into it
+-- the text after another is put at the innermost chunk: the part that a chunk reads is changed by the inner ones, and
+-- put into it
 abbrev pub put_within : ℕ → List Chunk → Where → List ℕ → List ℕ → Result (List ℕ) Fault
 put_within delimiter [] w new t = within_limit (placed w new t)
 put_within delimiter (c ∷ []) w new t = put delimiter c w new t

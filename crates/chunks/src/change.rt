@@ -23,8 +23,8 @@ pub(crate) fn closed(alloc: Global, before: &[u8], after: &[u8]) -> Result<Text,
     Ok(Text::from_vec(bytes).unwrap())
 }
 
-/// The text that a chunk reads: from the start of its first piece to the end of its last, and of no bytes where it reads no
-/// piece. The delimiter is that of items.
+/// The text that a chunk reads: from the start of its first piece to the end of its last, and of no bytes where it
+/// reads no piece. The delimiter is that of items.
 pub fn take(alloc: Global, text: &Text, chunk: &Chunk, delimiter: u8) -> Result<Text, AllocError>
     ensures { IfOk result (λ t. t ≡ pieces.read delimiter chunk.now text.now) }
 {
@@ -56,8 +56,8 @@ fn rest_of<'a>(kind: ChunkKind, before: &'a [u8], after: &'a [u8]) -> (&'a [u8],
     }
 }
 
-/// The text after a chunk is deleted; nothing where the chunk reads no piece, so that nothing changes. Lines and items go
-/// with the delimiter after them or, at the end, with the one before them; words go with the spaces after them.
+/// The text after a chunk is deleted; nothing where the chunk reads no piece, so that nothing changes. Lines and items
+/// go with the delimiter after them or, at the end, with the one before them; words go with the spaces after them.
 pub fn delete(
     alloc: Global,
     text: &Text,
@@ -145,9 +145,10 @@ fn appended(
     Ok(Text::from_vec(bytes)?)
 }
 
-/// The text after another text is put into a chunk, before it or after it. A first index below 1, or a last one below the
-/// first, is `BadArgument`; an outcome over 30,000 bytes is `TooLong`. `last` is at least 1. Past the end of the text, items
-/// and lines are filled up with delimiters, and a word is put after a space: this is the project's profile, as are the faults.
+/// The text after another text is put into a chunk, before it or after it. A first index below 1, or a last one below
+/// the first, is `BadArgument`; an outcome over 30,000 bytes is `TooLong`. `last` is at least 1. Past the end of the
+/// text, items and lines are filled up with delimiters, and a word is put after a space: this is the project's profile,
+/// as are the faults.
 pub fn put(
     alloc: Global,
     text: &Text,

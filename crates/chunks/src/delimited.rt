@@ -6,7 +6,8 @@ ghost use Rattle.chunks.specs.Scan.{all_kept, is_delimiter, scan};
 
 use crate::chunk::Span;
 
-/// How many bytes are looked at together. Their delimiters are so few that a byte counts them, and so they are counted fast.
+/// How many bytes are looked at together. Their delimiters are so few that a byte counts them, and so they are counted
+/// fast.
 const BLOCK: usize = 192;
 
 /// How many delimiters stand in a block.
@@ -51,7 +52,8 @@ pub(crate) fn delimited_count(text: &[u8], delimiter: u8) -> usize
     delimiters(text, delimiter) + 1
 }
 
-/// Where the part stands that has so many before it. Blocks that end before its front, or lie inside of it, are passed over.
+/// Where the part stands that has so many before it. Blocks that end before its front, or lie inside of it, are passed
+/// over.
 #[tactic(auto, using(crate::proofs::Blocks::block_passed, crate::proofs::Blocks::block_uncut, crate::proofs::Scans::inside, crate::proofs::Blocks::part_ended, crate::proofs::Blocks::next_part, crate::proofs::Scans::last_found, crate::proofs::Scans::none_left))]
 fn part_at(text: &[u8], delimiter: u8, before: usize) -> Option<Span>
     ensures { result ≡ slice_get (scan (is_delimiter delimiter) all_kept 0 0 text.now) before }

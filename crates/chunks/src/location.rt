@@ -106,8 +106,8 @@ fn several(text: &[u8], chunk: &Chunk, delimiter: u8) -> Option<Span>
     stretch(text, chunk.kind, delimiter, first, last)
 }
 
-/// The part of a text that a chunk reads, from the start of its first piece to the end of its last; `None` where no piece is
-/// read. The delimiter is that of items. It takes no memory.
+/// The part of a text that a chunk reads, from the start of its first piece to the end of its last; `None` where no
+/// piece is read. The delimiter is that of items. It takes no memory.
 #[tactic(auto, using(crate::proofs::Order::found_within))]
 pub fn find(text: &[u8], chunk: &Chunk, delimiter: u8) -> Option<Span>
     ensures value { result ≡ found delimiter chunk.now text.now }
@@ -129,8 +129,8 @@ pub fn count(text: &[u8], kind: ChunkKind, delimiter: u8) -> usize
     piece::count(text, kind, delimiter)
 }
 
-/// The part of a text that a chunk reads, lent; of no bytes where no piece is read. The delimiter is that of items. It takes
-/// no memory.
+/// The part of a text that a chunk reads, lent; of no bytes where no piece is read. The delimiter is that of items. It
+/// takes no memory.
 pub fn part<'a>(text: &'a [u8], chunk: &Chunk, delimiter: u8) -> &'a [u8]
     ensures value { result.now ≡ read delimiter chunk.now text.now }
     ensures within { length result.now ≤ length text.now }

@@ -13,8 +13,8 @@ use crate::location::part;
 use ht_values::{Failure, Text, Where, joined};
 use std::alloc::{AllocError, Global};
 
-/// The part of a text that the chunks read, each in what the one before it read, lent. The delimiter is that of items. It
-/// takes no memory.
+/// The part of a text that the chunks read, each in what the one before it read, lent. The delimiter is that of items.
+/// It takes no memory.
 pub fn part_within<'a>(text: &'a [u8], chunks: &[Chunk], delimiter: u8) -> &'a [u8]
     ensures value { result.now ≡ read_within delimiter chunks.now text.now }
     ensures within { length result.now ≤ length text.now }
@@ -65,8 +65,8 @@ fn put_back(
     put_in(alloc, text, chunk, Where::Into, new.as_slice(), delimiter)
 }
 
-/// The text after another is put at the innermost chunk, whose outcome is put into the chunk around it, and so on; without a
-/// chunk at the whole text. The faults are those of `put`, the innermost first.
+/// The text after another is put at the innermost chunk, whose outcome is put into the chunk around it, and so on;
+/// without a chunk at the whole text. The faults are those of `put`, the innermost first.
 pub fn put_within(
     alloc: Global,
     text: &Text,
@@ -103,8 +103,8 @@ fn put_inside(
     }
 }
 
-/// The text after the innermost chunk is deleted; nothing where it isn't found, or where there is no chunk: then nothing
-/// changes. The faults are those of `put` into the chunks around it.
+/// The text after the innermost chunk is deleted; nothing where it isn't found, or where there is no chunk: then
+/// nothing changes. The faults are those of `put` into the chunks around it.
 pub fn delete_within(
     alloc: Global,
     text: &Text,

@@ -20,7 +20,8 @@ use Rattle.command_line.specs.declared.fault.CliFault.TheVariants.{Read, Write}
 use Rattle.command_line.specs.Plays.{Plays, Stops, Ends, fault_of_run}
 
 module _ (bytes : List ℕ) (stack : Content) (externals : List Seen) (logs : List Log) (steps depth : ℕ)
-    (left : Option (List ℕ)) (old : SessionView) (desk : SeenDesk) (read written : List ℕ) (last : SessionView × SeenDesk)
+    (left : Option (List ℕ)) (old : SessionView) (desk : SeenDesk) (read written : List ℕ)
+    (last : SessionView × SeenDesk)
     (spelled : Spells bytes stack) (is : old ≡ opened stack externals logs steps depth) where
   pub plays : (ran : Ran) → RunsFollow → RunsStayWhole → Ended Takes (IsAtEnd left) ran (old, desk) read written last
       → Plays (IsAtEnd left) ran bytes (λ s. beginning s externals steps depth) desk read written last.1

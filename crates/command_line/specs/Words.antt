@@ -11,7 +11,8 @@ use Rattle.session.specs.declared.limits.TheConstants.{MOST_STEPS}
 use Rattle.command_line.specs.declared.options.Options.{Options}
 use Rattle.command_line.specs.declared.words.TheConstants.{DEFAULT_STEPS}
 
--- STACK has to be there; --steps and --depth have a number in their range, and --watch, --explain and --check stand alone
+-- STACK has to be there; --steps and --depth have a number in their range, and --watch, --explain and --check stand
+-- alone
 abbrev pub stack_rule : Rule
 stack_rule = record (new_rule (codes "STACK")) { required = true; action = Some Set }
 

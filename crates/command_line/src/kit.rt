@@ -107,15 +107,16 @@ fn kit_listed<E: External>(
     requires bins { seen_by E.title E.sort E.answers_calls E.cells second ≡ bins }
     requires relay { seen_by E.title E.sort E.answers_calls E.cells third ≡ relay }
     requires gate { seen_by E.title E.sort E.answers_calls E.cells fourth ≡ gate }
-    ensures seen { IfOk result (λ externals. map (seen_by E.title E.sort E.answers_calls E.cells) externals.items ≡ kit) }
+    ensures seen { IfOk result (λ externals. map
+        (seen_by E.title E.sort E.answers_calls E.cells) externals.items ≡ kit) }
     ensures apart { IfOk result (λ externals. are_apart (map E.title externals.items) ≡ true) }
 {
     let externals = listed(alloc, first, second, third, fourth)?;
     Ok(externals)
 }
 
-/// Looks at the scripts of a stack text and runs nothing, as `check` of `explain` does, beside the four externals of the kit.
-/// `Refused` where the bytes are no stack text, `Memory` where a growth was refused.
+/// Looks at the scripts of a stack text and runs nothing, as `check` of `explain` does, beside the four externals of
+/// the kit. `Refused` where the bytes are no stack text, `Memory` where a growth was refused.
 pub fn check_with_kit(alloc: Global, bytes: &[u8]) -> Result<Checked, CliFault> {
     let stack = stack_of(alloc, bytes)?;
     let kit = kit_of(alloc)?;
@@ -127,8 +128,8 @@ pub fn check_with_kit(alloc: Global, bytes: &[u8]) -> Result<Checked, CliFault> 
     Ok(check(alloc, &stack, &externals)?)
 }
 
-/// Runs as `play` does, with the four externals of the kit under their names: `Count`, which begins at 0, `Bins`, `Relay`
-/// and `Gate`.
+/// Runs as `play` does, with the four externals of the kit under their names: `Count`, which begins at 0, `Bins`,
+/// `Relay` and `Gate`.
 pub fn play_with_kit<R: Read, W: Write, D: Desk>(
     alloc: Global,
     options: &Options,

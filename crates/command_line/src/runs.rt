@@ -73,15 +73,14 @@ fn leave<E: External, D: Desk>(session: &Session<E>, alloc: Global, given: &[u8]
     }
 }
 
-/// Reads the stack text, opens a session with these externals as the options say, and runs the reader to the
-/// writer, up to `.quit` or the end of the input, which it tells. The desk keeps what is saved, hears of each message, and
-/// hears at the end, however the run ended, with which text of the stack the session ends.
+/// Reads the stack text, opens a session with these externals as the options say, and runs the reader to the writer, up
+/// to `.quit` or the end of the input, which it tells. The desk keeps what is saved, hears of each message, and hears
+/// at the end, however the run ended, with which text of the stack the session ends.
 ///
 /// What is written is the answers to the lines that are read, those of a list of states with a cursor, each of which is
-/// whole before each line and after it, however the run ends.
-/// `Refused` where the bytes are no stack text, and `Read`, `Write` and `TooManyLines` as `run` has them; `Memory`
-/// only where a growth was refused before the first line was read, so that nothing is read, written or kept. A device is
-/// blamed where it failed, and nowhere else.
+/// whole before each line and after it, however the run ends. `Refused` where the bytes are no stack text, and `Read`,
+/// `Write` and `TooManyLines` as `run` has them; `Memory` only where a growth was refused before the first line was
+/// read, so that nothing is read, written or kept. A device is blamed where it failed, and nowhere else.
 pub fn play<E: External, R: Read, W: Write, D: Desk>(
     alloc: Global,
     options: &Options,

@@ -150,7 +150,8 @@ pub fn options_of(alloc: Global, words: &[String]) -> Result<Options, CliFault>
     ensures ok { IfOk result (Says (matches_of program_by (map (λ s. string_bytes s) words.now))) }
     ensures taken { IfOk result (λ w. fault_of program_by (map (λ s. string_bytes s) words.now) ≡ []) }
     ensures err { IfErr result IsFaultOfWords }
-    ensures memory { IfErr result (λ f. fault_of program_by (map (λ s. string_bytes s) words.now) ≡ [] → f ≡ CliFault.Memory) }
+    ensures memory { IfErr result (λ f. fault_of program_by (map (λ s. string_bytes s) words.now) ≡ []
+        → f ≡ CliFault.Memory) }
 {
     let command = program(alloc)?;
     match command.try_get_matches_from(words) {

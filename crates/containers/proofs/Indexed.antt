@@ -118,7 +118,8 @@ module _ (most : ℕ) (names : List (List ℕ)) (added : List ℕ) where
       let near : place_of_name name (take most names) ≡ None =
       ap (place_of_name name) (sym (take-append-le most names (added ∷ []) many)) ∙ missing in
       let asked : same added name ≡ bytes_eq (folded spelled) (folded name) =
-      ap (λ t. bytes_eq t (folded name)) (ap folded is_added ∙ folded_stays (folded spelled) (folded_is_folded spelled)) in
+      ap (λ t. bytes_eq t (folded name))
+      (ap folded is_added ∙ folded_stays (folded spelled) (folded_is_folded spelled)) in
       updates name ∙ by (bytes_eq (folded spelled) (folded name)) refl (is name near)
       ∙ ap (λ b. placed b (place_of_name name names) (length names)) (sym asked)
       ∙ sym (position-push (λ n. same n name) names added)

@@ -9,8 +9,9 @@ use Rattle.change_journal.specs.Rising.{Made}
 use Rattle.containers.specs.Places.{StorageView, global, own, field_text}
 use Rattle.containers.specs.Variables.{VariablesView, declared, with_local}
 
--- A text that is due is written: a global and a text of a field by a change of the history, which says what it replaces,
--- a handler's own variable among its variables. Where none is due nothing changes, and a fault is never written.
+-- A text that is due is written: a global and a text of a field by a change of the history, which says what it
+-- replaces, a handler's own variable among its variables. Where none is due nothing changes, and a fault is never
+-- written.
 pub data Writes : History → VariablesView → StorageView → Result (Option (List ℕ)) Fault → History → VariablesView
     → Type 0 where
   nothing_due : {h : History} {v : VariablesView} {p : StorageView} {due : Result (Option (List ℕ)) Fault} →

@@ -128,7 +128,8 @@ fn altered(
     operand: &Value,
     delimiter: u8,
 ) -> Result<Value, Failure>
-    ensures { Gives result (binary_of op (read_within delimiter chunks.now (standing_text standing.entry)) operand.now) }
+    ensures { Gives result (binary_of op
+        (read_within delimiter chunks.now (standing_text standing.entry)) operand.now) }
 {
     match chunks {
         [] => standing.altered(alloc, op, operand),

@@ -11,8 +11,8 @@ use std::marker::Model;
 /// The longest name that takes no memory of its own, in bytes.
 const MOST_INLINE: usize = 16;
 
-/// The folded form of a name, which contracts see as its bytes. So a name is known by a plain comparison. A short one takes no
-/// memory.
+/// The folded form of a name, which contracts see as its bytes. So a name is known by a plain comparison. A short one
+/// takes no memory.
 pub(crate) struct FoldedName {
     bytes: SmallVec<u8, MOST_INLINE>,
 }

@@ -1,7 +1,19 @@
 //! The names that a handler has met, and where each stands.
 
 ghost use Rattle.std.specs.Prelude.{◌≡◌, ◌<◌, ◌++◌, ◌∷◌, ℕ, Ok, List, [], true, false, length, Err, IfErr, OnOk};
-ghost use Rattle.std.specs.Prelude.{OnErr, IfNone, IfSome, find, map, option_copied, position, slice_index_or, slice_set, unwrap_or, is_none};
+ghost use Rattle.std.specs.Prelude.{
+  OnErr,
+  IfNone,
+  IfSome,
+  find,
+  map,
+  option_copied,
+  position,
+  slice_index_or,
+  slice_set,
+  unwrap_or,
+  is_none,
+};
 ghost use Rattle.std.specs.Prelude.{Some, None};
 ghost use Rattle.ht_values.specs.Outcome.{Gives, within_limit};
 ghost use Rattle.ht_values.specs.Operators.{binary as binary_of};
@@ -21,8 +33,8 @@ pub(crate) const MOST_SCANNED: usize = 16;
 
 const _: () = prove!(MOST_SCANNED == 16);
 
-/// The names that a handler has met, in the order in which they came. The first few are looked at one by one; where another one
-/// stands is told in a few steps, however many there are and whichever came.
+/// The names that a handler has met, in the order in which they came. The first few are looked at one by one; where
+/// another one stands is told in a few steps, however many there are and whichever came.
 #[derive(Drop)]
 pub(crate) struct Locals {
     items: Vec<Local>,

@@ -21,8 +21,8 @@ pub enum Container<'a> {
     Field(Id, Id),
 }
 
-/// What holds a text: a global or a variable of the handler's own, by its name, or a field for a card, 0 standing for the
-/// shared text.
+/// What holds a text: a global or a variable of the handler's own, by its name, or a field for a card, 0 standing for
+/// the shared text.
 #[derive(Clone, Copy)]
 pub(crate) enum Storage<'a> {
     Global(&'a Name),
@@ -46,9 +46,10 @@ impl<'a> Model for Place<'a> {
     ghost view = { λ p. record { storage = storage_view p.storage; chunks = p.chunks.items } };
 }
 
-/// The place of a container, without chunks yet. A name means a global or a variable of the handler's own; a field's text
-/// is the one that its cards share, where they share it, else that of the card. `NoSuchObject` where the field keeps no
-/// text for the card: a background's field is read and written only with a card of that background. It takes no memory.
+/// The place of a container, without chunks yet. A name means a global or a variable of the handler's own; a field's
+/// text is the one that its cards share, where they share it, else that of the card. `NoSuchObject` where the field
+/// keeps no text for the card: a background's field is read and written only with a card of that background. It takes
+/// no memory.
 pub fn resolve<'a, W: Store>(
     alloc: Global,
     world: &W,

@@ -15,7 +15,8 @@ use crate::variables::{NameMeaning, Variables};
 use ht_values::{Failure, Fault, Name, Text, Value};
 use std::alloc::Global;
 
-/// What a name reads as an expression, lent: the value of its variable, or its spelling where that has none. It takes no memory.
+/// What a name reads as an expression, lent: the value of its variable, or its spelling where that has none. It takes
+/// no memory.
 #[inline(always)]
 pub fn read_name<'a, W: Store>(
     world: &'a W,
@@ -50,8 +51,8 @@ pub fn standing_in<'a, W: Store>(
     }
 }
 
-/// The whole text of a container: `empty` where it is a variable without a value, `NoSuchObject` where it is a text of a
-/// field that isn't there.
+/// The whole text of a container: `empty` where it is a variable without a value, `NoSuchObject` where it is a text of
+/// a field that isn't there.
 pub(crate) fn whole<'a, W: Store>(
     world: &'a W,
     variables: &'a Variables,
@@ -69,8 +70,8 @@ pub(crate) fn whole<'a, W: Store>(
     }
 }
 
-/// What a container reads: what its chunks read of its text, which is empty for a variable without a value. The delimiter
-/// is that of items. `NoSuchObject` where it is a text of a field that isn't there any more.
+/// What a container reads: what its chunks read of its text, which is empty for a variable without a value. The
+/// delimiter is that of items. `NoSuchObject` where it is a text of a field that isn't there any more.
 pub fn read<W: Store>(
     alloc: Global,
     world: &W,

@@ -26,7 +26,8 @@ pub trait Store {
     fn global(&self, name: &Text) -> Option<&Text>
         ensures { option_copied result ≡ finite.get (history self.now).now.globals name.now };
 
-    /// Gives a global a value, or none, by its folded name, in the open batch. Where memory was refused nothing changes.
+    /// Gives a global a value, or none, by its folded name, in the open batch. Where memory was refused nothing
+    /// changes.
     fn put_global(&mut self, name: &Text, value: Option<Text>) -> Result<(), AllocError>
         requires open { IsSome (history self.old).start }
         requires fits { fits (history self.old).now (made_change.Global name.now value) ≡ true }

@@ -48,8 +48,8 @@ impl Local {
         }
     }
 
-    /// Computes with the number as which the value is kept, if it and the operand are kept so, in its place. Says which number
-    /// stands there then; else nothing changes.
+    /// Computes with the number as which the value is kept, if it and the operand are kept so, in its place. Says which
+    /// number stands there then; else nothing changes.
     pub(crate) fn compute(&mut self, op: Op, operand: &Value) -> Option<i64>
         ensures number { IfSome result (λ n. (is_none self.old.value ≡ false)
             × (binary_of op (unwrap_or self.old.value []) operand.now ≡ Ok (numeral_of n))
@@ -75,7 +75,8 @@ impl Local {
     pub(crate) fn append(&mut self, alloc: Global, new: Value) -> Result<(), Failure>
         ensures ok { OnOk result ((t : List ℕ) × (within_limit (unwrap_or self.old.value [] ++ new) ≡ Ok t)
             × (self.new ≡ record self.old { value = Some t })) }
-        ensures fault { IfErr result (λ e. Gives {A = List ℕ} (Err e) (within_limit (unwrap_or self.old.value [] ++ new))) }
+        ensures fault { IfErr result (λ e. Gives {A = List ℕ} (Err e)
+            (within_limit (unwrap_or self.old.value [] ++ new))) }
         ensures err { OnErr result (self.new ≡ self.old) }
         ensures name { self.new.name ≡ self.old.name }
     {
@@ -96,8 +97,8 @@ pub(crate) enum NameMeaning<'a> {
     Unknown,
 }
 
-/// The variables of a handler, in the order in which their names came, and the names that mean globals there; or those of
-/// a typed line, where every variable is global. Names that are the same are one.
+/// The variables of a handler, in the order in which their names came, and the names that mean globals there; or those
+/// of a typed line, where every variable is global. Names that are the same are one.
 #[derive(Drop)]
 pub struct Variables {
     all_global: bool,
@@ -196,8 +197,8 @@ impl Variables {
         Ok(())
     }
 
-    /// The number as which a variable of the handler's own is kept, found by one look over the names; `None` where the name
-    /// means a global, or its value is kept as something else. It takes no memory.
+    /// The number as which a variable of the handler's own is kept, found by one look over the names; `None` where the
+    /// name means a global, or its value is kept as something else. It takes no memory.
     #[inline]
     pub fn number(&self, name: &Name) -> Option<i64>
         ensures { IfSome result (λ n. (is_global self.now name.now ≡ false)
@@ -209,8 +210,8 @@ impl Variables {
         }
     }
 
-    /// Puts a number into a variable of the handler's own that has a value, and says whether there is one; else nothing changes.
-    /// It takes no memory.
+    /// Puts a number into a variable of the handler's own that has a value, and says whether there is one; else nothing
+    /// changes. It takes no memory.
     pub(crate) fn put_number(&mut self, name: &Name, number: i64) -> bool
         ensures put { result ≡ true → (is_global self.old name.now ≡ false)
             × (self.new ≡ with_local self.old name.now (Some (numeral_of number))) }
@@ -225,8 +226,8 @@ impl Variables {
         }
     }
 
-    /// Computes with a variable of the handler's own that is kept as a number, in its place, where the operand is kept so as well.
-    /// Says which number stands there then; else nothing changes. It takes no memory.
+    /// Computes with a variable of the handler's own that is kept as a number, in its place, where the operand is kept
+    /// so as well. Says which number stands there then; else nothing changes. It takes no memory.
     pub(crate) fn compute(&mut self, name: &Name, op: Op, operand: &Value) -> Option<i64>
         ensures number { IfSome result (λ n. (is_global self.old name.now ≡ false)
             × (binary_of op (own_text self.old name.now) operand.now ≡ Ok (numeral_of n))
@@ -242,8 +243,8 @@ impl Variables {
         }
     }
 
-    /// Puts a value into a variable of the handler's own, which is looked for once. Where the name means a global the value comes back.
-    /// Then, and where memory was refused, nothing changes.
+    /// Puts a value into a variable of the handler's own, which is looked for once. Where the name means a global the
+    /// value comes back. Then, and where memory was refused, nothing changes.
     pub(crate) fn put(
         &mut self,
         alloc: Global,
@@ -272,8 +273,8 @@ impl Variables {
         }
     }
 
-    /// Edits a variable of the handler's own, which is looked for once: one without a value is empty. After a fault, and where
-    /// it is out of memory, nothing has changed.
+    /// Edits a variable of the handler's own, which is looked for once: one without a value is empty. After a fault,
+    /// and where it is out of memory, nothing has changed.
     pub(crate) fn edit(
         &mut self,
         alloc: Global,
@@ -314,8 +315,8 @@ impl Variables {
         }
     }
 
-    /// Adds a value at the end of a variable of the handler's own, in its place where it stands as a text; one without a value is
-    /// empty. After a fault, and where it is out of memory, nothing has changed.
+    /// Adds a value at the end of a variable of the handler's own, in its place where it stands as a text; one without
+    /// a value is empty. After a fault, and where it is out of memory, nothing has changed.
     fn append(&mut self, alloc: Global, name: &Name, new: Value) -> Result<(), Failure>
         ensures ok { OnOk result ((h : History) (d : ℕ)
             → Writes h self.old (own name.now) (edited d [] (Put After new) (own_text self.old name.now)) h self.new) }

@@ -116,11 +116,12 @@ fn edit_global<W: Store>(
     }
 }
 
-/// The number that an operator gives of a global and of an operand, where the one is a numeral without a sign and the other is
-/// kept as a number.
+/// The number that an operator gives of a global and of an operand, where the one is a numeral without a sign and the
+/// other is kept as a number.
 fn global_computed<W: Store>(world: &W, name: &Name, op: Op, operand: &Value) -> Option<i64>
     ensures { IfSome result (λ n. binary_of op
-        (unwrap_or (finite.get (W.history world.now).now.globals (folded name.now)) []) operand.now ≡ Ok (numeral_of n)) }
+        (unwrap_or (finite.get (W.history world.now).now.globals (folded name.now)) []) operand.now
+        ≡ Ok (numeral_of n)) }
 {
     let number = plain_number(world.global(name.folded())?.as_slice())?;
     number_by(op, number, operand.kept_number()?)
@@ -166,7 +167,8 @@ fn put_into_field<W: Store>(
 ) -> Result<(), AllocError>
     requires open { IsSome (base (W.history world.old)).start }
     requires there { IsSome (text_at (W.history world.old).now.stack field card) }
-    ensures ok { OnOk result (Made (W.history world.old) (W.history world.new) (made_change.FieldText field card value)) }
+    ensures ok { OnOk result (Made (W.history world.old) (W.history world.new)
+        (made_change.FieldText field card value)) }
     ensures err { OnErr result (W.history world.new ≡ W.history world.old) }
     ensures base { base (W.history world.new) ≡ base (W.history world.old) }
 {
@@ -207,8 +209,8 @@ pub fn write<W: Store>(
     }
 }
 
-/// Puts a number into a variable of the handler's own that has a value, as `edit_variable` does, and says whether there is one;
-/// else nothing changes. It takes no memory.
+/// Puts a number into a variable of the handler's own that has a value, as `edit_variable` does, and says whether there
+/// is one; else nothing changes. It takes no memory.
 #[tactic(auto, using(crate::proofs::Rules::writes_rules))]
 #[inline]
 pub fn put_number(variables: &mut Variables, name: &Name, number: i64) -> bool
@@ -222,8 +224,8 @@ pub fn put_number(variables: &mut Variables, name: &Name, number: i64) -> bool
     variables.put_number(name, number)
 }
 
-/// Computes with a variable of the handler's own, as `edit_variable` does, where it and the operand are kept as numbers and the
-/// operator gives a number of them, and says whether it does; else nothing changes. It takes no memory.
+/// Computes with a variable of the handler's own, as `edit_variable` does, where it and the operand are kept as numbers
+/// and the operator gives a number of them, and says whether it does; else nothing changes. It takes no memory.
 #[tactic(auto, using(crate::proofs::Rules::writes_rules))]
 #[inline]
 pub fn alter_number(variables: &mut Variables, name: &Name, op: Op, operand: &Value) -> bool
@@ -252,7 +254,8 @@ fn put_variable<W: Store>(
     value: Value,
 ) -> Result<(), AllocError>
     requires { IsSome (base (W.history world.old)).start }
-    ensures ok { OnOk result (Writes (W.history world.old) variables.old (named variables.old name.now) (Ok (Some value))
+    ensures ok { OnOk result (Writes (W.history world.old) variables.old
+        (named variables.old name.now) (Ok (Some value))
         (W.history world.new) variables.new) }
     ensures err { OnErr result ((W.history world.new ≡ W.history world.old) × (variables.new ≡ variables.old)) }
     ensures base { base (W.history world.new) ≡ base (W.history world.old) }
@@ -263,8 +266,8 @@ fn put_variable<W: Store>(
     }
 }
 
-/// Edits a variable in the open batch, as `write` does at its place, which needs not be made. The delimiter is that of items.
-/// After a fault, and where it is out of memory, nothing has changed.
+/// Edits a variable in the open batch, as `write` does at its place, which needs not be made. The delimiter is that of
+/// items. After a fault, and where it is out of memory, nothing has changed.
 #[tactic(auto, using(crate::proofs::Rules::writes_rules))]
 pub fn edit_variable<W: Store>(
     alloc: Global,
@@ -357,8 +360,8 @@ fn alter_variable<W: Store>(
     }
 }
 
-/// `global`: a name means a global from here on, which gets the empty text where it had no value. Where memory was refused
-/// the history is as before, though the name may mean a global.
+/// `global`: a name means a global from here on, which gets the empty text where it had no value. Where memory was
+/// refused the history is as before, though the name may mean a global.
 #[tactic(auto, using(crate::proofs::Rules::declares_rules, crate::proofs::Bases::made_keeps, crate::proofs::Bases::is_open, ht_values::proofs::Folding::folded_is_folded))]
 pub fn declare<W: Store>(
     alloc: Global,
@@ -367,7 +370,8 @@ pub fn declare<W: Store>(
     name: &Name,
 ) -> Result<(), AllocError>
     requires { IsSome (base (W.history world.old)).start }
-    ensures ok { OnOk result (Declares (W.history world.old) variables.old name.now (W.history world.new) variables.new) }
+    ensures ok { OnOk result (Declares (W.history world.old) variables.old name.now
+        (W.history world.new) variables.new) }
     ensures err { OnErr result (W.history world.new ≡ W.history world.old) }
     ensures base { base (W.history world.new) ≡ base (W.history world.old) }
 {

@@ -13,7 +13,8 @@ use Rattle.meaning.specs.declared.end.Stop.TheVariants.{Fault as Faults, Exited,
 use Rattle.meaning.specs.declared.frame.Frame.{Frame}
 use Rattle.meaning.specs.Repeats.{Outcome}
 use Rattle.meaning.specs.State.{RunState}
-use Rattle.definitional_interpreter.specs.Told.{Visible, Told, told, ToldIn, told_in, after, after_in, after_run, after_lines}
+use Rattle.definitional_interpreter.specs.Told.{Visible, Told, told, ToldIn, told_in, after, after_in, after_run}
+use Rattle.definitional_interpreter.specs.Told.{after_lines}
 use Rattle.definitional_interpreter.specs.Told.{after_next}
 use Rattle.definitional_interpreter.specs.Told.{choose, maybe, computed, there, gave}
 use Rattle.definitional_interpreter.specs.Families.{Meanings}

@@ -61,8 +61,8 @@ kept_trans {w} {w1} {w2} first rest = record {
 pub record HasExternal (w : History) (k : ℕ) : Type 0 where
   pub there : k < length (sorts w)
 
--- A way to see logs, with turns of nondeterministic externals, and with what is asked of a run: that it is asked of the whole of it
--- asks it of each part, and then a turn is the computed one.
+-- A way to see logs, with turns of nondeterministic externals, and with what is asked of a run: that it is asked of the
+-- whole of it asks it of each part, and then a turn is the computed one.
 pub record Sight : Type 1 where
   pub of_logs : List Log → List Log
   pub turns : List Log

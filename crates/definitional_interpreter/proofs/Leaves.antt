@@ -43,7 +43,8 @@ use Rattle.definitional_interpreter.specs.Changes.{written, edit_by}
 use Rattle.definitional_interpreter.specs.Changes.{edit, assign, declare_all, set_property, add_objects, turn}
 use Rattle.definitional_interpreter.specs.Families.{Meanings}
 use Rattle.definitional_interpreter.specs.Laws.{sorts_of, sorts}
-use Rattle.definitional_interpreter.proofs.Comes.{AreExact, Sight, sight, Comes, Kept, HasExternal, kept_refl, kept_same}
+use Rattle.definitional_interpreter.proofs.Comes.{AreExact, Sight, sight, Comes, Kept, HasExternal, kept_refl}
+use Rattle.definitional_interpreter.proofs.Comes.{kept_same}
 use Rattle.definitional_interpreter.proofs.Comes.{kept_trans, prefix_same}
 use Rattle.ht_lex.specs.declared.tokens.Span.{Span}
 use Rattle.ht_lex.specs.Cutting.{spans_of, CutsExactly}
@@ -176,10 +177,12 @@ pub edits : {g : Sight} {w w1 : History} {f f1 : Frame} {r : RunState} {p : Plac
 edits {w} {w1} {f} {f1} {r} {p} {e} Edits.edit_memory has = absurd (has refl)
 edits {g} {w} {w1} {f} {f1} {r} {p} {e} (Edits.edit_faults {n = n} is same frame) has =
     leaf (kept_same same)
-    (ap (edit_by (sight g w) r f p.storage) is ∙ ap (λ (v : History). told_in (Err (Faults n)) (sight g v) r f) (sym same)
+    (ap (edit_by (sight g w) r f p.storage) is
+    ∙ ap (λ (v : History). told_in (Err (Faults n)) (sight g v) r f) (sym same)
     ∙ ap (told_in (Err (Faults n)) (sight g w1) r) (sym frame))
 edits {g} {w} {w1} {f} {f1} {r} {p} {e} (Edits.edited done_by frame) has =
-    let both = writes g {r = r} {f = f} done_by in leaf both.0 (both.1 ∙ ap (told_in (Ok tt) (sight g w1) r) (sym frame))
+    let both =
+    writes g {r = r} {f = f} done_by in leaf both.0 (both.1 ∙ ap (told_in (Ok tt) (sight g w1) r) (sym frame))
 
 pub assigns : {g : Sight} {w w1 : History} {f f1 : Frame} {r : RunState} {name : Option (List ℕ)} {v : List ℕ}
     {o : Result (Unit {0}) Stop} → Assigns w f r.delimiter name v o w1 f1 → HasMemory o →
@@ -414,7 +417,8 @@ pub parses_sent_message : {g : Sight} {t : List ℕ} {o : Result Message Stop} {
     Comes g w (λ parts. told (parsed sent_message t) (sight g w) r) (told o (sight g w) r) w
 parses_sent_message p has = parses sent_message ReadsMessage (λ e. e.messages) p has
 
-first_is : {s : Content} {path name : List ℕ} {kind : HandlerKind} {out : Result (Option HandlerFound) Fault} → AreExact →
+first_is : {s : Content} {path name : List ℕ} {kind : HandlerKind} {out : Result (Option HandlerFound) Fault} → AreExact
+    →
     First s path kind name out → first_found s path kind name ≡ yielded out
 first_is {s} {path} {name} {kind} exact (First.nothing_left e a) = ap (λ p. first_found s p kind name) e
     ∙ ap yielded (sym a)
@@ -434,7 +438,8 @@ first_is {s} {path} {name} {kind} exact (First.no_script {rest = rest} {id = id}
     (λ _. Err (Faults Syntax))) (is_unread script ReadsScript (object_script s id) exact.cuts exact.scripts none)
     ∙ ap yielded (sym a)
 
-found_first : {g : Sight} {path name : List ℕ} {kind : HandlerKind} {out : Result (Option HandlerFound) Fault} {w : History}
+found_first : {g : Sight} {path name : List ℕ} {kind : HandlerKind} {out : Result (Option HandlerFound) Fault}
+    {w : History}
     {r : RunState} → First w.now.stack path kind name out →
     Comes g w (λ parts. told (first_found w.now.stack path kind name) (sight g w) r)
     (told (yielded out) (sight g w) r) w

@@ -155,7 +155,8 @@ abbrev by_call : (k : ℕ) → Told (List ℕ) → List (List ℕ)
 by_call k x =
     answered
     (after_lines
-    (after_next (after_next (after_in (typed_frame_at 2) x (λ v w r. told_in (Ok Next) w (shows r v) (typed_frame_at 2)))
+    (after_next (after_next (after_in (typed_frame_at 2) x
+    (λ v w r. told_in (Ok Next) w (shows r v) (typed_frame_at 2)))
     (λ w r f. (meanings (and_more 35 k)).block w r f 1 (stm.also (stm.put tree.result) stm.stop)))
     (λ w r f. (meanings (and_more 38 k)).block w r f 0 stm.stop)) (λ _ w r. told (Ok tt) w r)) (λ w. [])
 

@@ -17,7 +17,8 @@ use Rattle.meaning.specs.declared.end.Stop.TheVariants.{Fault as Faults, Exited}
 use Rattle.meaning.specs.Places.{variable_place, it_name, chunk_of_place}
 use Rattle.meaning.specs.Repeats.{leaves_repeat, goes_on, CounterState, counter_of, is_over, stepped, turns}
 use Rattle.meaning.specs.State.{RunState, shows, run_property_set}
-use Rattle.definitional_interpreter.specs.Told.{Visible, Told, told, ToldIn, told_in, after, after_in, after_run, after_next}
+use Rattle.definitional_interpreter.specs.Told.{Visible, Told, told, ToldIn, told_in, after, after_in, after_run}
+use Rattle.definitional_interpreter.specs.Told.{after_next}
 use Rattle.definitional_interpreter.specs.Told.{choose, maybe}
 use Rattle.definitional_interpreter.specs.Told.{computed}
 use Rattle.definitional_interpreter.specs.Changes.{yielded, step, edit, assign, declare_all, set_property}
@@ -42,7 +43,8 @@ form_of m w r f d (stm.put_in place x ct) =
     (λ p w r. after_run (edit w r f p (Put place v)) (λ _ w r f. told_in (Ok Next) w r f)))
 form_of m w r f d (stm.get x) =
     after_in f (m.val w r f d x)
-    (λ v w r. after_run (edit w r f (variable_place f.variables it_name) (Put Into v)) (λ _ w r f. told_in (Ok Next) w r f))
+    (λ v w r. after_run (edit w r f (variable_place f.variables it_name) (Put Into v))
+    (λ _ w r f. told_in (Ok Next) w r f))
 form_of m w r f d (stm.set p ref x) =
     after_in f (m.val w r f d x)
     (λ v w r. after_in f (m.meets w r f d ref)
@@ -115,7 +117,8 @@ abbrev pub bounds_of : Meanings → Visible → RunState → Frame → ℕ → t
 bounds_of m w r f d x y down =
     after (m.val w r f d x) (λ p w r. after (m.val w r f d y) (λ q w r. told (yielded (counter_of p q down)) w r))
 
-abbrev pub counts_of : Meanings → Visible → RunState → Frame → ℕ → Option (List ℕ) → CounterState → stm.Stmts → ToldIn How
+abbrev pub counts_of : Meanings → Visible → RunState → Frame → ℕ → Option (List ℕ) → CounterState → stm.Stmts
+    → ToldIn How
 counts_of m w r f d name c ss =
     after_in f (step w r) (λ _ w r. choose (is_over c)
     (λ _. told_in (Ok Next) w r f)

@@ -27,7 +27,8 @@ abbrev pub parsed : {A : Type 0} → (List Token → Option A) → List ℕ → 
 parsed read text = or_syntax (read_by read text)
 
 -- the handler of a script, or else what the rest of the path has
-abbrev pub handled : ℕ → Option Handler → (Unit {0} → Result (Option HandlerFound) Stop) → Result (Option HandlerFound) Stop
+abbrev pub handled : ℕ → Option Handler → (Unit {0} → Result (Option HandlerFound) Stop)
+    → Result (Option HandlerFound) Stop
 handled id (Some h) rest = Ok (Some (record { object = id; handler = h }))
 handled id None rest = rest tt
 

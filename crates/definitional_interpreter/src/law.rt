@@ -14,8 +14,8 @@ use ht_grammar::{
 };
 use ht_lex::texts_are_cut_exactly;
 
-/// What the rules allow of lines, a message, an action, the reference of a dot line or an expression is what the function
-/// gives, with enough fuel, where each plugged external is deterministic and the run isn't out of memory.
+/// What the rules allow of lines, a message, an action, the reference of a dot line or an expression is what the
+/// function gives, with enough fuel, where each plugged external is deterministic and the run isn't out of memory.
 pub fn runs_are_computed()
     ensures lines { LinesAreComputed }
     ensures messages { MessagesAreComputed }

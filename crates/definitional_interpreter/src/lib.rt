@@ -1,5 +1,5 @@
-//! A definitional interpreter: a function with fuel computes what a run of HyperTalk comes to, where each external is deterministic.
-//! That it gives what the rules allow are laws, each the contract of a function that does nothing.
+//! A definitional interpreter: a function with fuel computes what a run of HyperTalk comes to, where each external is
+//! deterministic. That it gives what the rules allow are laws, each the contract of a function that does nothing.
 #![tactic(auto)]
 
 mod law;

@@ -94,7 +94,8 @@ told_alike {w = w} {v = v} {w2 = w2} {v2 = v2} F exact same logs has ends first 
     let counted : length w.logs ≡ length (sorts w) = has ∙ sym (length-map w.now.externals (λ e. e.sort)) in
     let counted_too : length v.logs ≡ length (sorts v) = ap length logs ∙ counted
     ∙ ap (λ (s : State). length (sorts_of s.externals)) (sym same) in
-    let asked : g.Asks w w2 = (counted, λ i. prefix_same (slice_index_or w2.logs i []) (slice_index_or w2.logs i []) refl) in
+    let asked : g.Asks w w2 =
+    (counted, λ i. prefix_same (slice_index_or w2.logs i []) (slice_index_or w2.logs i []) refl) in
     let asked_too : g.Asks v v2 = (
       counted_too,
       λ i. prefix_same (slice_index_or v2.logs i []) (slice_index_or w2.logs i [])

@@ -25,7 +25,8 @@ LinesHaveOneOutcome =
 -- and so have two runs of the same message
 abbrev pub MessagesHaveOneOutcome : Type 0
 MessagesHaveOneOutcome =
-    (w v w2 v2 : History) (r r2 q2 : RunState) (i : ℕ) (n : List ℕ) (vs : List (List ℕ)) (o p : Result (Unit {0}) Stop) →
+    (w v w2 v2 : History) (r r2 q2 : RunState) (i : ℕ) (n : List ℕ) (vs : List (List ℕ)) (o p : Result (Unit {0}) Stop)
+    →
     v.now ≡ w.now → AreDeterministic (sorts w) → Message w r i n vs o w2 r2 → Message v r i n vs p v2 q2 →
     HasMemory o → HasMemory p → SameOutcome w v w2 v2 r2 q2 o p
 
@@ -40,7 +41,8 @@ ActionsHaveOneOutcome =
 abbrev pub ReferencesHaveOneOutcome : Type 0
 ReferencesHaveOneOutcome =
     (w v w2 v2 : History) (r r2 q2 : RunState) (pa : tree.Part) (o p : Result ℕ Stop) →
-    v.now ≡ w.now → AreDeterministic (sorts w) → Refers w r pa o w2 r2 → Refers v r pa p v2 q2 → HasMemory o → HasMemory p →
+    v.now ≡ w.now → AreDeterministic (sorts w) → Refers w r pa o w2 r2 → Refers v r pa p v2 q2 → HasMemory o
+    → HasMemory p →
     SameOutcome w v w2 v2 r2 q2 o p
 
 -- and two computations of the same expression
@@ -67,8 +69,10 @@ LogsTellLines =
 -- and so have two runs of the same message
 abbrev pub LogsTellMessages : Type 0
 LogsTellMessages =
-    (w v w2 v2 : History) (r r2 q2 : RunState) (i : ℕ) (n : List ℕ) (vs : List (List ℕ)) (o p : Result (Unit {0}) Stop) →
-    v.now ≡ w.now → v.logs ≡ w.logs → HasLogs w → v2.logs ≡ w2.logs → Message w r i n vs o w2 r2 → Message v r i n vs p v2 q2 →
+    (w v w2 v2 : History) (r r2 q2 : RunState) (i : ℕ) (n : List ℕ) (vs : List (List ℕ)) (o p : Result (Unit {0}) Stop)
+    →
+    v.now ≡ w.now → v.logs ≡ w.logs → HasLogs w → v2.logs ≡ w2.logs → Message w r i n vs o w2 r2
+    → Message v r i n vs p v2 q2 →
     HasMemory o → HasMemory p → (o ≡ p) × (w2.now ≡ v2.now) × (r2 ≡ q2)
 
 -- and so have two runs of the same action

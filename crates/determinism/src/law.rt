@@ -11,8 +11,8 @@ use ht_grammar::{
 };
 use ht_lex::texts_are_cut_exactly;
 
-/// Two runs of the same lines, message, action, reference of a dot line or expression from the same state, neither of which
-/// is out of memory, have the same end, state and run, where each plugged external is deterministic.
+/// Two runs of the same lines, message, action, reference of a dot line or expression from the same state, neither of
+/// which is out of memory, have the same end, state and run, where each plugged external is deterministic.
 pub fn runs_have_one_outcome()
     ensures lines { LinesHaveOneOutcome }
     ensures messages { MessagesHaveOneOutcome }
@@ -27,9 +27,9 @@ pub fn runs_have_one_outcome()
     messages_are_read_exactly();
 }
 
-/// Whatever the externals are, their logs tell the outcome: two runs of the same lines, message, action, reference of a dot
-/// line or expression from the same state and logs, neither of which is out of memory, have the same end, state and run
-/// where the externals have the same logs after them.
+/// Whatever the externals are, their logs tell the outcome: two runs of the same lines, message, action, reference of a
+/// dot line or expression from the same state and logs, neither of which is out of memory, have the same end, state and
+/// run where the externals have the same logs after them.
 pub fn logs_tell_outcomes()
     ensures lines { LogsTellLines }
     ensures messages { LogsTellMessages }

@@ -41,9 +41,11 @@ pub fn bytes_of<R: Read>(
     reader: &mut Watched<R>,
     limit: usize,
 ) -> Result<Vec<u8>, BytesFault>
-    ensures ok { IfOk result (λ bytes. ReadsAll limit (R.remaining (device_of reader.old)) (R.remaining (device_of reader.new))
+    ensures ok { IfOk result (λ bytes. ReadsAll limit (R.remaining (device_of reader.old))
+        (R.remaining (device_of reader.new))
         bytes.items) }
-    ensures err { IfErr result (StopsAfter limit (R.remaining (device_of reader.old)) (R.remaining (device_of reader.new))) }
+    ensures err { IfErr result (StopsAfter limit (R.remaining (device_of reader.old))
+        (R.remaining (device_of reader.new))) }
     ensures failed { IsErrOf result BytesFault.Device → Rose (failures_of reader.old) (failures_of reader.new) }
     ensures sound { ¬ IsErrOf result BytesFault.Device → failures_of reader.new ≡ failures_of reader.old }
 {

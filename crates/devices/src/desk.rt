@@ -14,11 +14,11 @@ pub struct HeardMessage {
     pub object: Id,
 }
 
-/// Keeps the last text that was saved, and hears of each message that was sent, of the text with which a session ends, and,
-/// if it wants to, why lines faulted or were refused.
+/// Keeps the last text that was saved, and hears of each message that was sent, of the text with which a session ends,
+/// and, if it wants to, why lines faulted or were refused.
 ///
-/// A desk may tell what it keeps and what it heard, as one in memory does; one that keeps it in a file doesn't. One that is
-/// out of memory for a message doesn't tell any more of what it heard.
+/// A desk may tell what it keeps and what it heard, as one in memory does; one that keeps it in a file doesn't. One
+/// that is out of memory for a message doesn't tell any more of what it heard.
 pub trait Desk {
     ghost seen: { Self → SeenDesk };
 
@@ -45,8 +45,8 @@ pub trait Desk {
         ensures { seen self.new ≡ seen self.old }
     {}
 
-    /// Hears with which text of the stack a session ends, and whether that is the text that was read at its beginning. It
-    /// can't fail.
+    /// Hears with which text of the stack a session ends, and whether that is the text that was read at its beginning.
+    /// It can't fail.
     fn leave(&mut self, _text: &[u8], _is_as_read: bool)
         ensures { seen self.new ≡ seen self.old }
     {}

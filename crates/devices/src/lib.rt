@@ -1,5 +1,5 @@
-//! Readers and writers whose failures are counted, and those that are waited for; all the bytes of a reader up to a limit,
-//! and a write of all the bytes to a writer; and desks, which keep what is saved.
+//! Readers and writers whose failures are counted, and those that are waited for; all the bytes of a reader up to a
+//! limit, and a write of all the bytes to a writer; and desks, which keep what is saved.
 #![tactic(auto)]
 
 mod all_bytes;

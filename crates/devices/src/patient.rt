@@ -13,8 +13,8 @@ use std::{io, thread};
 const PAUSE: u64 = 5;
 
 /// A reader or a writer that waits where its device would block, as one behind a stream that somebody else set to be
-/// non-blocking. It tells its bytes where the device does. A call ends by `WouldBlock` only where the device did so at each
-/// of 2^64 - 1 tries.
+/// non-blocking. It tells its bytes where the device does. A call ends by `WouldBlock` only where the device did so at
+/// each of 2^64 - 1 tries.
 #[derive(Drop)]
 pub struct Patient<'a, C, D> {
     clock: &'a C,

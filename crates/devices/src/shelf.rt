@@ -68,8 +68,8 @@ impl Shelf {
         }
     }
 
-    /// What it heard of lines that faulted or were refused, each with a line feed behind it, but for those for which it was out
-    /// of memory.
+    /// What it heard of lines that faulted or were refused, each with a line feed behind it, but for those for which it
+    /// was out of memory.
     pub fn explained(&self) -> &[u8]
         ensures { result.now ≡ explained_on self.now }
     {

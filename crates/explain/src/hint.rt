@@ -133,8 +133,8 @@ fn is_last(spans: &[Span], number: usize) -> bool {
     }
 }
 
-/// The innermost block that is open before a place, by the token that begins it: `on`, `function`, `repeat`, or an `if` whose
-/// line ends with `then`. None where no block is open, or there is no memory to tell.
+/// The innermost block that is open before a place, by the token that begins it: `on`, `function`, `repeat`, or an `if`
+/// whose line ends with `then`. None where no block is open, or there is no memory to tell.
 fn open_block(alloc: Global, spans: &[Span], at: usize) -> Option<usize> {
     let mut open: Vec<usize> = Vec::new(alloc);
     let mut condition = None;

@@ -1,5 +1,6 @@
-//! Why a line faulted or was refused, and where, in words; and what of a stack's scripts isn't in the grammar. It promises
-//! nothing but that it returns: no answer, state or saved text depends on what it writes, and rows try what that is.
+//! Why a line faulted or was refused, and where, in words; and what of a stack's scripts isn't in the grammar. It
+//! promises nothing but that it returns: no answer, state or saved text depends on what it writes, and rows try what
+//! that is.
 #![tactic(auto)]
 
 mod hint;

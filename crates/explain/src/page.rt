@@ -4,8 +4,8 @@ use itoa::Buffer;
 use stack_text::spell_into;
 use std::alloc::Global;
 
-/// What is written so far. Where memory is refused it is cut there, and remembers that, so that who writes has no error to
-/// hand on.
+/// What is written so far. Where memory is refused it is cut there, and remembers that, so that who writes has no error
+/// to hand on.
 #[derive(Drop)]
 pub struct Page {
     bytes: Vec<u8>,

@@ -77,7 +77,8 @@ pub(crate) fn write_statement(page: &mut Page, place: Place<'_>) {
     }
 }
 
-/// The line of a place, indented by four spaces, and below it a caret at the place; of a long line what stands round it.
+/// The line of a place, indented by four spaces, and below it a caret at the place; of a long line what stands round
+/// it.
 pub(crate) fn write_pointed(page: &mut Page, place: Place<'_>) {
     let front = front_of(place);
     let at = place.column.saturating_sub(1);

@@ -279,11 +279,11 @@ fn refusal_explained(page: &mut Page, alloc: Global, line: &[u8], refusal: Refus
     }
 }
 
-/// Why a line faulted or was refused, and where, over several lines without an end of the last; nothing for a line that ended
-/// well. What there is no memory for is left out.
+/// Why a line faulted or was refused, and where, over several lines without an end of the last; nothing for a line that
+/// ended well. What there is no memory for is left out.
 ///
-/// A fault is told with its number and name, the innermost place where it came, and the calls that were open, outwards; a
-/// typed line that isn't in the grammar with the place from which it couldn't be read on.
+/// A fault is told with its number and name, the innermost place where it came, and the calls that were open, outwards;
+/// a typed line that isn't in the grammar with the place from which it couldn't be read on.
 pub fn explain<E: External>(
     alloc: Global,
     session: &Session<E>,

@@ -16,8 +16,8 @@ use std::alloc::{AllocError, Global};
 /// What was found in the scripts of a stack.
 #[derive(Drop)]
 pub struct Checked {
-    /// A line for each script that isn't in the grammar, with its line and a caret below, and for each message that nothing
-    /// handles.
+    /// A line for each script that isn't in the grammar, with its line and a caret below, and for each message that
+    /// nothing handles.
     pub page: Page,
     /// Whether each script is in the grammar.
     pub reads: bool,
@@ -165,8 +165,8 @@ fn begins_statement(before: Option<TokenKind>) -> bool {
     )
 }
 
-/// The message that is sent by the name at a place: a command where a statement begins, and a function where a parenthesis
-/// follows the name within one.
+/// The message that is sent by the name at a place: a command where a statement begins, and a function where a
+/// parenthesis follows the name within one.
 fn sent_at(tokens: &Tokens<'_>, number: usize) -> Option<(HandlerKind, Span)> {
     let spans = tokens.spans();
     let span = spans.get(number)?;
@@ -182,8 +182,8 @@ fn sent_at(tokens: &Tokens<'_>, number: usize) -> Option<(HandlerKind, Span)> {
     is_call.then_some((HandlerKind::Function, *span))
 }
 
-/// Looks at each script of a stack and runs nothing: which aren't in the grammar, and which messages nothing handles, these
-/// externals neither, that those send that are. An error where memory was refused.
+/// Looks at each script of a stack and runs nothing: which aren't in the grammar, and which messages nothing handles,
+/// these externals neither, that those send that are. An error where memory was refused.
 pub fn check<E: External>(
     alloc: Global,
     stack: &Stack,

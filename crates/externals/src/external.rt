@@ -49,9 +49,9 @@ pub enum Ask {
 /// Its name, its kind, whether it is a function and how many cells it has never change. Only `turn` and
 /// `flip` change cells. Kinds 1 to 4 answer as the table of kinds says; any other kind answers freely.
 ///
-/// Its log is what a nondeterministic kind did: each of its turns, with what it was handed, what it asked and its cells after it.
-/// Only proofs read it. It is no cell, and no flip takes a turn out of it. A kind of the table adds nothing to it, since
-/// its turns follow from its cells and what it is handed.
+/// Its log is what a nondeterministic kind did: each of its turns, with what it was handed, what it asked and its cells
+/// after it. Only proofs read it. It is no cell, and no flip takes a turn out of it. A kind of the table adds nothing
+/// to it, since its turns follow from its cells and what it is handed.
 pub trait External: Drop {
     ghost use Rattle.externals.specs.Table.{Answers, turn_of};
     ghost use Rattle.externals.specs.Log.{Log, log_after};
@@ -90,7 +90,8 @@ pub trait External: Drop {
         ensures { slice_get (cells self.now) i ≡ Some result.now };
 
     /// One turn of a conversation. The patch names just the cells that changed, each once, with its old text. A free
-    /// kind has then this turn more at the end of its log. Where memory was refused the cells and the log are as before.
+    /// kind has then this turn more at the end of its log. Where memory was refused the cells and the log are as
+    /// before.
     fn turn(&mut self, alloc: Global, input: &Input) -> Result<(Ask, Patch), AllocError>
         ensures answers { IfOk result (λ r. Answers (sort self.old) (cells self.old) input.now r.0 (cells self.new)) }
         ensures patch { IfOk result (λ r. IsPatch (cells self.old) (cells self.new) r.1) }

@@ -18,8 +18,8 @@ pub struct Beside {
     pub file: File,
 }
 
-/// The name of this number for a file beside a path: `STACK.new`, `STACK.new1`, `STACK.new2`, .. Where that is too long,
-/// it loses as many bytes of `STACK` as it has behind it, or up to three more, so that no character is cut.
+/// The name of this number for a file beside a path: `STACK.new`, `STACK.new1`, `STACK.new2`, .. Where that is too
+/// long, it loses as many bytes of `STACK` as it has behind it, or up to three more, so that no character is cut.
 fn name(
     alloc: Global,
     path: Path<'_>,

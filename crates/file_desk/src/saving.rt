@@ -81,8 +81,8 @@ fn hold<R: Files<File = File>>(
 
 /// Gives a new file the owner, the group and the mode of another one, and says whether it has the group.
 ///
-/// Only the administrator may give a file to another owner, and others may give it only to a group of theirs. Without the
-/// group, a group may do no more than everybody.
+/// Only the administrator may give a file to another owner, and others may give it only to a group of theirs. Without
+/// the group, a group may do no more than everybody.
 fn give(file: &File, like: &FileState) -> io::Result<bool> {
     let now = FileState::new(file.metadata()?);
     let has_owner = now.owner() == like.owner();
@@ -170,10 +170,11 @@ fn replace<R: Files<File = File> + AllocGlobal>(
 
 /// Puts a text in the place of a file's, where the file is still as it was last, and says how it is then.
 ///
-/// The file has the old text or the new one, whole, whatever happens; where the save fails it has the old one. A file that
-/// isn't there any more is made again. Nothing that stands there and isn't the file as it was last is removed or written:
-/// the new text goes to a new file, and what stands there is looked at right before the rename. Programs that save as this
-/// one does exclude one another by a lock; of another one, what it writes between that look and the rename is lost.
+/// The file has the old text or the new one, whole, whatever happens; where the save fails it has the old one. A file
+/// that isn't there any more is made again. Nothing that stands there and isn't the file as it was last is removed or
+/// written: the new text goes to a new file, and what stands there is looked at right before the rename. Programs that
+/// save as this one does exclude one another by a lock; of another one, what it writes between that look and the rename
+/// is lost.
 pub fn save<R: Files<File = File> + AllocGlobal>(
     rt: &R,
     path: &str,

@@ -14,8 +14,8 @@ pub struct FileState {
 }
 
 impl FileState {
-    /// The state that the metadata of a file tell. They are asked for before the file is read, so that a change while it
-    /// is read shows later.
+    /// The state that the metadata of a file tell. They are asked for before the file is read, so that a change while
+    /// it is read shows later.
     pub fn new(metadata: Metadata) -> FileState
         ensures { metadata_of result ≡ metadata }
     {

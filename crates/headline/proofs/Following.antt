@@ -16,7 +16,8 @@ use Rattle.meaning.specs.Actions.{Action}
 use Rattle.externals.specs.Cells.{Seen}
 use Rattle.externals.specs.Log.{Log}
 use Rattle.journal_entries.specs.State.{State, titles_of, index_of}
-use Rattle.change_journal.specs.History.{History, Neighbour, begun, step_with_external, plugged, unplugged_at, flipped_back}
+use Rattle.change_journal.specs.History.{History, Neighbour, begun, step_with_external, plugged, unplugged_at}
+use Rattle.change_journal.specs.History.{flipped_back}
 use Rattle.change_journal.specs.History.{flipped_back_from, flipped_forth, flipped_forth_from}
 use Rattle.session.specs.declared.limits.TheConstants.{LONGEST_LINE}
 use Rattle.session.specs.Commands.{is_dot_line, command_in, behind_name, second, words}

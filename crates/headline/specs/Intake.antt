@@ -11,7 +11,8 @@ use Rattle.headline.specs.declared.limits.TheConstants.{MOST_LINES}
 
 -- After these bytes this text is written, and this much is kept of the line that isn't ended. Such a line begins only
 -- where there may be one more.
-pub record Reached (old : SessionView × SeenDesk) (read written : List ℕ) (now : SessionView × SeenDesk) (pending : List ℕ)
+pub record Reached (old : SessionView × SeenDesk) (read written : List ℕ) (now : SessionView × SeenDesk)
+    (pending : List ℕ)
     (line_count byte_count : ℕ) : Type 0 where
   pub lines : List (List ℕ)
   pub rest : List ℕ
@@ -23,7 +24,8 @@ pub record Reached (old : SessionView × SeenDesk) (read written : List ℕ) (no
   pub bytes_counted : byte_count ≡ length read
 
 -- a line quit, with so many bytes behind it at most, or more bytes may come
-abbrev pub Onward : ℕ → Bool → SessionView × SeenDesk → List ℕ → List ℕ → SessionView × SeenDesk → List ℕ → ℕ → ℕ → Type 0
+abbrev pub Onward : ℕ → Bool → SessionView × SeenDesk → List ℕ → List ℕ → SessionView × SeenDesk → List ℕ → ℕ → ℕ
+    → Type 0
 Onward most quits old read written now pending line_count byte_count = MatchBool quits
     ((q : Quits Takes ⊥ old read written now) × (length q.taken.ahead ≤ most))
     (Reached old read written now pending line_count byte_count)

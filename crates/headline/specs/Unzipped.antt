@@ -99,8 +99,8 @@ StopsFollow = (left : Option (List ℕ)) (fault : RunFault) (old : SessionView �
     (new : SessionView × SeenDesk) → Stopped Takes (IsAtEnd left) fault old read written new
     → Stopped (Settles LineMoves) (IsAtEnd left) fault (timeline_beside old) read written (timeline_beside new)
 
--- Beside a desk whose count of failures didn't rise all that was saved is kept: each line that saves is answered `ok`, and
--- the desk has its text until another line saves.
+-- Beside a desk whose count of failures didn't rise all that was saved is kept: each line that saves is answered `ok`,
+-- and the desk has its text until another line saves.
 abbrev pub SavesFollow : Type 0
 SavesFollow = (old : Timeline × SeenDesk) (lines : List (List ℕ)) (text : List ℕ) (new : Timeline × SeenDesk)
     → old.1.failures ≤ 2 ^ 64 - 1 → Headline old lines text new

@@ -32,7 +32,8 @@ pub record MovesWhole (line : List ℕ) (old : Timeline) (reply : Reply) (new : 
 -- to the lines that are read, those of such lists.
 abbrev pub RunsStayWhole : Type 0
 RunsStayWhole =
-    (left : Option (List ℕ)) (ran : Ran) (old : SessionView × SeenDesk) (read written : List ℕ) (new : SessionView × SeenDesk)
+    (left : Option (List ℕ)) (ran : Ran) (old : SessionView × SeenDesk) (read written : List ℕ)
+    (new : SessionView × SeenDesk)
     →
     Ended Takes (IsAtEnd left) ran old read written new →
     Ended (Settles MovesWhole) (IsAtEnd left) ran (timeline_beside old) read written (timeline_beside new) ×

@@ -323,11 +323,10 @@ const BLOCK: usize = 4_096;
 /// all, and where there is memory for a copy of the answer; an answer needs none. Input is read in blocks
 /// of at most 4,096 bytes.
 ///
-/// The desk hears of each message that a line sent, in their order, once the line is done, and then, if it wants to, why the
-/// line faulted or was refused. The text of
-/// a line that saves is handed to it then: the answer is `ok` where it keeps the text. Where it
-/// doesn't, its `failures` rose, what it kept before stands, and the answer is `refused 7`. Both come
-/// before the answer is written.
+/// The desk hears of each message that a line sent, in their order, once the line is done, and then, if it wants to,
+/// why the line faulted or was refused. The text of a line that saves is handed to it then: the answer is `ok` where it
+/// keeps the text. Where it doesn't, its `failures` rose, what it kept before stands, and the answer is `refused 7`.
+/// Both come before the answer is written.
 ///
 /// `TooManyLines` where a byte comes after 1,000,000 lines or 1,000,000,000 bytes; `Read` and `Write`
 /// only where the device failed, and then no line is done further; `Memory` only where none was there to

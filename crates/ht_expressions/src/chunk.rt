@@ -55,7 +55,8 @@ impl<F: Fn(Global, &mut Cursor<'_>, Level, usize) -> Result<Expr, Stop>> Grammar
         requires { Nests self.now.depth (F.pre self.now.read) (F.post self.now.read) }
         ensures { Reads chunk_of chunk_depth self.now.depth
             (spec.and_then (spec.read self.now.depth e.whole tokens.old)
-            (λ i r. spec.piece_by (spec.read self.now.depth) self.now.depth (first_kind r) piece i r)) result tokens.new }
+            (λ i r. spec.piece_by (spec.read self.now.depth) self.now.depth (first_kind r) piece i r))
+            result tokens.new }
     {
         let first = self.read(tokens, WHOLE)?;
         match tokens.peek() {

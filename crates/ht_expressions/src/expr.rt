@@ -260,7 +260,8 @@ impl<F: Fn(Global, &mut Cursor<'_>, Level, usize) -> Result<Expr, Stop>> Grammar
         Err(Stop::Syntax)
     }
 
-    /// Operators up to this rank. A rank is joined only where an operator of it comes, since most expressions have few or none.
+    /// Operators up to this rank. A rank is joined only where an operator of it comes, since most expressions have few
+    /// or none.
     pub(crate) fn rank(&self, tokens: &mut Cursor<'_>, rank: u8) -> Result<Expr, Stop>
         requires nests { Nests self.now.depth (F.pre self.now.read) (F.post self.now.read) }
         requires shallow { self.now.depth < max_depth }

@@ -1,4 +1,5 @@
-//! Expressions and references, read from tokens. Each rule is a method over a reader of the parts of an expression, and is proved by itself.
+//! Expressions and references, read from tokens. Each rule is a method over a reader of the parts of an expression, and
+//! is proved by itself.
 #![tactic(auto)]
 
 mod chunk;

@@ -13,8 +13,8 @@ use ht_lex::{Cursor, Stop};
 use ht_tree::{Chunk, Expr, Exprs, Part, Ref, Selector};
 use std::alloc::Global;
 
-/// An expression of at most `depth` levels, which ends before what can't belong to it. `Syntax` where the tokens begin none,
-/// `Memory` where a growth was refused; the tokens are gone past in part then.
+/// An expression of at most `depth` levels, which ends before what can't belong to it. `Syntax` where the tokens begin
+/// none, `Memory` where a growth was refused; the tokens are gone past in part then.
 #[tactic(auto, using(crate::proofs::Deeper::none_read, crate::proofs::Deeper::read_deeper), unfolding(ht_grammar::specs::Reading::level_at))]
 pub fn read(
     alloc: Global,
@@ -76,7 +76,8 @@ pub fn part(alloc: Global, tokens: &mut Cursor<'_>, depth: usize) -> Result<Part
 /// A field, whose parts have at most `depth` levels.
 pub fn field(alloc: Global, tokens: &mut Cursor<'_>, depth: usize) -> Result<Part, Stop>
     requires { depth ≤ max_depth }
-    ensures { Reads part_of part_depth (depth + 1) (spec.field_at (spec.read depth) depth tokens.old) result tokens.new }
+    ensures { Reads part_of part_depth (depth + 1)
+        (spec.field_at (spec.read depth) depth tokens.old) result tokens.new }
 {
     Grammar { alloc, depth, read }.field(tokens)
 }

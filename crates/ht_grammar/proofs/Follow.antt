@@ -17,7 +17,8 @@ use Rattle.ht_grammar.specs.Expressions.{primary}
 use Rattle.ht_grammar.specs.Expressions as e
 use Rattle.ht_grammar.specs.Reading.{referenced_layer, part_kind_by, unless_part}
 
--- How loosely the tokens hang on what stands before them: an opening parenthesis or a kind of part 0, an owner 1, `^` 2, an operator by its rank, and nothing 10.
+-- How loosely the tokens hang on what stands before them: an opening parenthesis or a kind of part 0, an owner 1, `^`
+-- 2, an operator by its rank, and nothing 10.
 abbrev pub operator_tie : LeadingOperator → ℕ
 operator_tie (infix_at r op b) = r + 2
 operator_tie (test_at op c) = 7

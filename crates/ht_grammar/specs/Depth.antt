@@ -5,7 +5,8 @@ use Rattle.ht_grammar.specs.Trees.{Expr, Exprs, Chunk, Which, Selector, Owner, P
 use Rattle.ht_grammar.specs.Statements as s
 use Rattle.ht_grammar.specs.Statements.{Destination, Head, Stmt, Stmts, Handler, Handlers, Message, Typed}
 
--- A chunk's indices, the parts of `is a` and the like are no nodes of their own; a reference is one, and its owner one more.
+-- A chunk's indices, the parts of `is a` and the like are no nodes of their own; a reference is one, and its owner one
+-- more.
 abbrev mutual
   pub depth : Expr → ℕ
   depth (t.number w) = 1

@@ -1,4 +1,5 @@
--- The grammar of expressions and references. `Derives p a e c`: the tokens a are those of an expression e, of the part p of the grammar, and then c.
+-- The grammar of expressions and references. `Derives p a e c`: the tokens a are those of an expression e, of the part
+-- p of the grammar, and then c.
 use Rattle.std.specs.Prelude.{◌≡◌, ℕ, suc, List, ◌∷◌, Bool, true, false, Option, Some, None, codes}
 use Rattle.ht_lex.specs.declared.key.Key.{Key}
 use Rattle.ht_lex.specs.declared.key.Key.TheVariants as k

@@ -1,4 +1,5 @@
--- The grammar of statements, handlers and scripts. `DerivesStmt x a s c`: in the context x the tokens a are those of the statement s, and then c.
+-- The grammar of statements, handlers and scripts. `DerivesStmt x a s c`: in the context x the tokens a are those of
+-- the statement s, and then c.
 use Rattle.std.specs.Prelude.{◌≡◌, ℕ, List, [], ◌∷◌, Bool, true, false, Option, Some, None, is_some, codes}
 use Rattle.ht_lex.specs.declared.key.Key.{Key}
 use Rattle.ht_lex.specs.declared.key.Key.TheVariants as k
@@ -131,7 +132,8 @@ pub data DerivesHead : List Token → Head → List Token → Type 0 where
 mutual
   pub data DerivesStmt : Context → List Token → Stmt → List Token → Type 0 where
     simple : {x : Context} {a c : List Token} {t : Stmt} → DerivesSimple x a t c → DerivesStmt x a t c
-    -- A statement stands on the line of `then`; an `else` after it, on a later line too, belongs to it where a statement stands on its line.
+    -- A statement stands on the line of `then`; an `else` after it, on a later line too, belongs to it where a
+    -- statement stands on its line.
     short : {x : Context} {a b c m : List Token} {e : Expr} {t : Stmt} → Derives whole a e m
         → past_ends m ≡ key k.Then ∷ b
         → DerivesSimple x b t c → DerivesStmt x (key k.If ∷ a) (s.when e (also t stop) stop) c

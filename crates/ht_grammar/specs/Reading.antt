@@ -1,4 +1,5 @@
--- Reading expressions and references, as a function on lists of tokens: a tree and the tokens after it. The laws tie it to the rules.
+-- Reading expressions and references, as a function on lists of tokens: a tree and the tokens after it. The laws tie it
+-- to the rules.
 use Rattle.std.specs.Prelude.{ℕ, zero, suc, List, [], ◌∷◌, length, Bool, true, false, Option, Some, None}
 use Rattle.std.specs.Prelude.{if◌then◌else◌, nat_eq, nat_le, codes}
 use Rattle.ht_lex.specs.declared.key.Key.TheVariants as k

@@ -1,4 +1,5 @@
--- Reading scripts, references of dot lines and texts of `send`, as functions on lists of tokens. The laws tie them to the rules.
+-- Reading scripts, references of dot lines and texts of `send`, as functions on lists of tokens. The laws tie them to
+-- the rules.
 use Rattle.std.specs.Prelude.{ℕ, zero, suc, List, [], ◌∷◌, length, Option, Some, None, if◌then◌else◌}
 use Rattle.ht_lex.specs.declared.key.Key.TheVariants as k
 use Rattle.ht_lex.specs.declared.key.TokenKind.{TokenKind}

@@ -1,5 +1,5 @@
-//! Laws of the grammar, each the contract of a function: the reading of tokens answers just the trees of the grammar, and no
-//! tokens and no text are two trees.
+//! Laws of the grammar, each the contract of a function: the reading of tokens answers just the trees of the grammar,
+//! and no tokens and no text are two trees.
 
 ghost use Rattle.ht_grammar.specs.Reads.{ReadsScript, ReadsLines, ReadsExpr, ReadsPart, ReadsType, ReadsMessage};
 ghost use Rattle.ht_grammar.specs.Reading.{expression};

@@ -30,7 +30,8 @@ use Rattle.std.specs.Cmp.Derive.{both_true}
 use Rattle.ht_lex.proofs.Runs.{passing_le, run_passes, run_begins, run_within, closed_len, closed_at, closed_take}
 use Rattle.ht_lex.proofs.Runs.{closed_within}
 
--- What a first byte begins: blanks, a return, digits, a word, a text in quotes, a continued line, or else a comment or a symbol.
+-- What a first byte begins: blanks, a return, digits, a word, a text in quotes, a continued line, or else a comment or
+-- a symbol.
 abbrev rank : ℕ → ℕ
 rank b = cond (is_blank b) 0 (cond (is_return b) 1
     (cond (is_ascii_digit b) 2 (cond (begins_word b) 3 (cond (is_quote b) 4 (cond (b == 0xC2) 5 6)))))

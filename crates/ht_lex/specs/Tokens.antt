@@ -6,7 +6,8 @@ use Rattle.ht_lex.specs.Pieces.{NoLonger, Longest}
 use Rattle.ht_lex.specs.Token as tokens
 use Rattle.ht_lex.specs.Token.{token_in}
 
--- From a place on the text has tokens at these spans, each the longest there, with gaps between them, up to a place where it has no more.
+-- From a place on the text has tokens at these spans, each the longest there, with gaps between them, up to a place
+-- where it has no more.
 pub data Cuts (text : List ℕ) : ℕ → List Span → ℕ → Type 0 where
   -- the text ends, or no token begins
   halt : {place : ℕ} → NoLonger (drop place text) 0 → Cuts text place [] place

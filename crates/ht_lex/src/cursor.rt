@@ -60,8 +60,8 @@ impl<'a> Cursor<'a> {
         self.spans.len()
     }
 
-    /// Where the first token begins, in bytes from the beginning of the text; at the end how many bytes the text has. No
-    /// clause says so: contracts see tokens, and not where they stand.
+    /// Where the first token begins, in bytes from the beginning of the text; at the end how many bytes the text has.
+    /// No clause says so: contracts see tokens, and not where they stand.
     pub fn place(&self) -> usize {
         match self.spans {
             [] => self.text.len(),

@@ -8,7 +8,8 @@ ghost use Rattle.ht_lex.specs.Words as words;
 use crate::key::{Constant, Key, Ordinal};
 use ht_values::{ChunkKind, PartKind};
 
-/// The reserved words, each with its key: those that begin with `a`, with `b`, and so on. Other spellings of a word have its key.
+/// The reserved words, each with its key: those that begin with `a`, with `b`, and so on. Other spellings of a word
+/// have its key.
 const RESERVED: [&[(&[u8], Key)]; 26] = [
     &[
         (b"add", Key::Add),

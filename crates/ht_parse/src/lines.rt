@@ -408,7 +408,8 @@ fn else_if(
     depth: usize,
 ) -> Result<Stmt, Stop>
     requires { depth ≤ max_depth }
-    ensures { Reads (λ x. x) stmt_depth depth (else_if_of depth (context_of context.entry) tokens.old) result tokens.new }
+    ensures { Reads (λ x. x) stmt_depth depth
+        (else_if_of depth (context_of context.entry) tokens.old) result tokens.new }
 {
     if depth == 0 {
         return Err(Stop::Syntax);

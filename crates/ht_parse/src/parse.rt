@@ -68,8 +68,8 @@ pub fn parse_script(alloc: Global, text: &Text) -> Result<Script, ParseError>
     }
 }
 
-/// The lines that a typed command, the text of `do` or that of a call-back is. `Syntax` where it is none, `Memory` where a
-/// growth was refused.
+/// The lines that a typed command, the text of `do` or that of a call-back is. `Syntax` where it is none, `Memory`
+/// where a growth was refused.
 pub fn parse_lines(alloc: Global, text: &Text) -> Result<Stmts, ParseError>
     ensures { Parses (λ x. stmts_of x.items.items) ReadsLines text.now result }
 {
@@ -95,8 +95,8 @@ pub fn parse_expr(alloc: Global, text: &Text) -> Result<Expr, ParseError>
     }
 }
 
-/// The button or field that a text refers to, without an owner: one to be clicked. `Syntax` where it refers to none, `Memory`
-/// where a growth was refused.
+/// The button or field that a text refers to, without an owner: one to be clicked. `Syntax` where it refers to none,
+/// `Memory` where a growth was refused.
 pub fn parse_part(alloc: Global, text: &Text) -> Result<Part, ParseError>
     ensures { Parses part_of ReadsPart text.now result }
 {
@@ -109,8 +109,8 @@ pub fn parse_part(alloc: Global, text: &Text) -> Result<Part, ParseError>
     }
 }
 
-/// A text in quotes, `into` and a field without an owner: what is typed, and where. `Syntax` where the text is none, `Memory`
-/// where a growth was refused.
+/// A text in quotes, `into` and a field without an owner: what is typed, and where. `Syntax` where the text is none,
+/// `Memory` where a growth was refused.
 pub fn parse_type(alloc: Global, text: &Text) -> Result<Typing, ParseError>
     ensures { Parses typing_of ReadsType text.now result }
 {
@@ -123,8 +123,8 @@ pub fn parse_type(alloc: Global, text: &Text) -> Result<Typing, ParseError>
     }
 }
 
-/// The message that the text of `send` is: a name, and arguments after it. `Syntax` where it is none, `Memory` where a growth
-/// was refused.
+/// The message that the text of `send` is: a name, and arguments after it. `Syntax` where it is none, `Memory` where a
+/// growth was refused.
 pub fn parse_message(alloc: Global, text: &Text) -> Result<Message, ParseError>
     ensures { Parses message_of ReadsMessage text.now result }
 {

@@ -226,7 +226,8 @@ impl Simple {
         requires { self.now.depth < max_depth }
         ensures { Reads (λ s. s) stmt_depth (self.now.depth + 1)
             (r.and_then (spec.container self.now.depth tokens.old)
-            (λ c. spec.after_key k.By (λ m. r.made (s.multiply c) (r.read self.now.depth e.whole m)))) result tokens.new }
+            (λ c. spec.after_key k.By (λ m. r.made (s.multiply c) (r.read self.now.depth e.whole m))))
+            result tokens.new }
     {
         let container = self.container(tokens)?;
         let value = self.value_after(tokens, Key::By)?;

@@ -242,7 +242,8 @@ impl Model for Expr {
 
     ghost view = { λ e. expr_of e.node.value.kind };
 
-    ghost invariant = { λ e. (e.node.value.depth ≡ d.depth (expr_of e.node.value.kind)) × (e.node.value.depth ≤ d.max_depth) };
+    ghost invariant = { λ e. (e.node.value.depth ≡ d.depth (expr_of e.node.value.kind))
+        × (e.node.value.depth ≤ d.max_depth) };
 
     ghost size = { d.depth };
 

@@ -95,7 +95,8 @@ impl Script {
         Ok(self)
     }
 
-    /// The place of the first handler of a kind and a name, counted from 0. Case in the name is ignored. It takes no memory.
+    /// The place of the first handler of a kind and a name, counted from 0. Case in the name is ignored. It takes no
+    /// memory.
     pub fn first(&self, kind: HandlerKind, name: &Text) -> Option<usize>
         ensures value { option_and_then (handler_at self.now) result ≡ handler_in (script_of self.now) kind name.now }
         ensures there { IfSome result (λ place. place < length self.now.handlers.items) }

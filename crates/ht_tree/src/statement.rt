@@ -156,7 +156,8 @@ impl Model for Stmt {
 
     ghost view = { λ x. stmt_of x.node.value.kind };
 
-    ghost invariant = { λ x. (x.node.value.depth ≡ stmt_depth (stmt_of x.node.value.kind)) × (x.node.value.depth ≤ max_depth) };
+    ghost invariant = { λ x. (x.node.value.depth ≡ stmt_depth (stmt_of x.node.value.kind))
+        × (x.node.value.depth ≤ max_depth) };
 
     ghost size = { stmt_depth };
 
@@ -223,7 +224,8 @@ impl Head {
 }
 
 impl Stmt {
-    /// The statement of a kind, which is at most 100 levels deep, and where it begins, in bytes from the beginning of its text.
+    /// The statement of a kind, which is at most 100 levels deep, and where it begins, in bytes from the beginning of
+    /// its text.
     pub fn new(alloc: Global, kind: StmtKind, place: usize) -> Result<Stmt, AllocError>
         requires { stmt_depth (stmt_of kind) ≤ max_depth }
         ensures { IfOk result (λ made. made ≡ stmt_of kind) }

@@ -29,8 +29,9 @@ pub record TextsAreOrdered : Type 0 where
   pub total : IsTotalOrder text_order
   pub equal : (a b : List ℕ) → (text_order a b ≡ Equal) ↔ Same a b
 
--- values are equal where neither stands before the other; turned round, the order is turned round; and among numerals, as
--- among other texts, it goes on from one pair to the next. (It doesn't from numerals to texts: 9 < 10, 10 < 5x, 5x < 9.)
+-- values are equal where neither stands before the other; turned round, the order is turned round; and among numerals,
+-- as among other texts, it goes on from one pair to the next. (It doesn't from numerals to texts: 9 < 10, 10 < 5x, 5x <
+-- 9.)
 pub record ValuesAreOrdered : Type 0 where
   pub equal : (a b : List ℕ) → are_equal a b ≡ is_eq (order_of a b)
   pub turned : (a b : List ℕ) → order_of a b ≡ ordering_reverse (order_of b a)

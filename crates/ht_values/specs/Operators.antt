@@ -113,7 +113,8 @@ binary op.Div a b = in_numerals (on_numbers cut_quotient a b)
 binary op.Mod a b = in_numerals (on_numbers remainder a b)
 binary op.Power a b = in_numerals (on_numbers power a b)
 
--- the number that these operators give of two numbers; none of the others, nor where it isn't in range or a divisor is 0
+-- the number that these operators give of two numbers; none of the others, nor where it isn't in range or a divisor is
+-- 0
 abbrev pub number_by : Op → ℤ → ℤ → Option ℤ
 number_by op.Add x y = result_ok (ranged (x +ℤ y))
 number_by op.Subtract x y = result_ok (ranged (x -ℤ y))

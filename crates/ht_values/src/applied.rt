@@ -33,9 +33,9 @@ fn in_words(truth: Result<bool, Fault>) -> Result<Value, Failure>
 }
 
 /// What an operator of two operands gives: its value, a fault of the command, or `Memory` where a growth was refused.
-/// Both operands are converted, the left one first; a divisor of 0 comes before a quotient that isn't exact, and the range
-/// of 64 bits last. The operators are those of HyperTalk 2.x; whole numbers and the order of faults are this project's
-/// profile.
+/// Both operands are converted, the left one first; a divisor of 0 comes before a quotient that isn't exact, and the
+/// range of 64 bits last. The operators are those of HyperTalk 2.x; whole numbers and the order of faults are this
+/// project's profile.
 #[tactic(auto, unfolding(crate::specs::Operators::binary))]
 pub fn binary(alloc: Global, op: Op, left: &Value, right: &Value) -> Result<Value, Failure>
     ensures { Gives result (binary_of op left.now right.now) }

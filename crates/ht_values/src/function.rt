@@ -74,7 +74,8 @@ fn character(alloc: Global, number: i64) -> Result<Value, Failure>
     Ok(Value::of_text(text))
 }
 
-/// The first place, counted from 1, at which a run of the text is the same as the other; 0 for none, and for an empty run.
+/// The first place, counted from 1, at which a run of the text is the same as the other; 0 for none, and for an empty
+/// run.
 fn place_number(alloc: Global, run: &Text, text: &Text) -> i64
     ensures { result ≡ pos (offset_of run.now text.now) }
 {

@@ -8,8 +8,8 @@ use crate::fault::Fault;
 use crate::text::{LIMIT, Text};
 use std::alloc::Global;
 
-/// A text of three parts, one after another: `TooLong` where they are over 30,000 bytes, before any memory is taken, else
-/// `Memory` where a growth was refused. It takes memory once.
+/// A text of three parts, one after another: `TooLong` where they are over 30,000 bytes, before any memory is taken,
+/// else `Memory` where a growth was refused. It takes memory once.
 pub fn joined(alloc: Global, left: &[u8], between: &[u8], right: &[u8]) -> Result<Text, Failure>
     ensures { Gives result (within_limit (left.now ++ between.now ++ right.now)) }
 {

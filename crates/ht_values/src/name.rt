@@ -7,8 +7,8 @@ use crate::text::Text;
 use std::alloc::{AllocError, Global};
 use std::marker::Model;
 
-/// A name as it is spelled, which contracts see as its bytes. It keeps its folded form, so that what goes by folded names
-/// is found without memory.
+/// A name as it is spelled, which contracts see as its bytes. It keeps its folded form, so that what goes by folded
+/// names is found without memory.
 pub struct Name {
     spelling: Text,
     /// The folded form, where it isn't the spelling.

@@ -102,9 +102,9 @@ fn spelled(text: &[u8]) -> Result<i64, Fault>
     }
 }
 
-/// The number of a text: that of a numeral, and 0 for a text of no bytes or of spaces alone. A text that is spelled as a
-/// number is `OutOfRange` where that does not fit 64 bits, and any other text is `NotANumber`. It takes no memory. Whole
-/// numbers of 64 bits are this project's profile.
+/// The number of a text: that of a numeral, and 0 for a text of no bytes or of spaces alone. A text that is spelled as
+/// a number is `OutOfRange` where that does not fit 64 bits, and any other text is `NotANumber`. It takes no memory.
+/// Whole numbers of 64 bits are this project's profile.
 #[tactic(auto, unfolding(crate::specs::Number::number_of))]
 #[inline(never)]
 pub fn number_of(text: &Text) -> Result<i64, Fault>

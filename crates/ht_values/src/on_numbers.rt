@@ -8,8 +8,8 @@ ghost use Rattle.ht_values.specs.Text.{numeral as numeral_of};
 use crate::arithmetic::{cut, rest_of};
 use crate::operator::Op;
 
-/// The number that `+`, `-`, `*`, `div` or `mod` gives of two numbers. `None` where it is out of range or the divisor is 0, and
-/// for each other operator. It takes no memory.
+/// The number that `+`, `-`, `*`, `div` or `mod` gives of two numbers. `None` where it is out of range or the divisor
+/// is 0, and for each other operator. It takes no memory.
 #[inline]
 pub fn number_by(op: Op, left: i64, right: i64) -> Option<i64>
     ensures value { result ≡ number_by_of op left right }

@@ -96,8 +96,8 @@ impl Text {
         self.bytes.iter().all(|byte| !byte.is_ascii_uppercase())
     }
 
-    /// Adds bytes at the end. `TooLong` where the text would be over 30,000 bytes, else `Memory` where a growth was refused;
-    /// the text is then as it was.
+    /// Adds bytes at the end. `TooLong` where the text would be over 30,000 bytes, else `Memory` where a growth was
+    /// refused; the text is then as it was.
     pub fn append(&mut self, bytes: &[u8]) -> Result<(), Failure>
         ensures ok { OnOk result (within_limit (self.old ++ bytes.now) ≡ Ok self.new) }
         ensures fault { IfErr result (λ e. Gives {A = List ℕ} (Err e) (within_limit (self.old ++ bytes.now))) }
@@ -145,8 +145,8 @@ impl Text {
     }
 }
 
-/// Whether two long texts are equal after A-Z is folded to a-z. They are first compared as they stand: where they are equal,
-/// that takes a twentieth of the time. Not inlined, so that `same` stays small.
+/// Whether two long texts are equal after A-Z is folded to a-z. They are first compared as they stand: where they are
+/// equal, that takes a twentieth of the time. Not inlined, so that `same` stays small.
 #[inline(never)]
 fn are_same_long(left: &[u8], right: &[u8]) -> bool
     ensures { IsTrue result ↔ Same left.now right.now }

@@ -25,8 +25,8 @@ pub(crate) enum Form {
     Spelled(Text),
 }
 
-/// A value of HyperTalk, which contracts see as its text. What was computed as a number or as a truth value is kept so, and is
-/// spelled only where its bytes are asked for: in between it takes no memory, and nothing is read back.
+/// A value of HyperTalk, which contracts see as its text. What was computed as a number or as a truth value is kept so,
+/// and is spelled only where its bytes are asked for: in between it takes no memory, and nothing is read back.
 pub struct Value {
     form: Form,
 }
@@ -121,8 +121,8 @@ impl Value {
         Ok(Spelling { text })
     }
 
-    /// Adds the text of another value at the end: where this one is kept as a text, in its place. `TooLong` where the text would
-    /// be over 30,000 bytes, else `Memory` where a growth was refused; the value is then as it was.
+    /// Adds the text of another value at the end: where this one is kept as a text, in its place. `TooLong` where the
+    /// text would be over 30,000 bytes, else `Memory` where a growth was refused; the value is then as it was.
     pub fn append(&mut self, alloc: Global, new: &Value) -> Result<(), Failure>
         ensures ok { OnOk result (within_limit (self.old ++ new.now) ≡ Ok self.new) }
         ensures fault { IfErr result (λ e. Gives {A = List ℕ} (Err e) (within_limit (self.old ++ new.now))) }
@@ -153,7 +153,8 @@ impl Value {
         }
     }
 
-    /// The number that the value means, or the fault that it means none, as `number_of` says it of a text. It takes no memory.
+    /// The number that the value means, or the fault that it means none, as `number_of` says it of a text. It takes no
+    /// memory.
     #[inline]
     #[tactic(auto, using(crate::proofs::Spellings::numeral_is_read, crate::proofs::Spellings::word_is_no_number))]
     pub fn number(&self) -> Result<i64, Fault>
@@ -179,8 +180,8 @@ impl Value {
         }
     }
 
-    /// The truth value that the value means, or the fault that it means none, as `truth_of` says it of a text. It takes no
-    /// memory.
+    /// The truth value that the value means, or the fault that it means none, as `truth_of` says it of a text. It takes
+    /// no memory.
     #[tactic(auto, using(crate::proofs::Spellings::word_is_true, crate::proofs::Spellings::numeral_is_no_truth))]
     pub fn truth(&self) -> Result<bool, Fault>
         ensures { result ≡ truth_of_text self.now }

@@ -17,8 +17,8 @@ use primitives::messages::{start, take_turn};
 use primitives::places::{set_field, set_global};
 use primitives::values::{expression, leaving_text, lines};
 
-/// A conversation with an external: its arguments are counted, then the depth is tested. Its turns are one level deeper, with a
-/// step before each.
+/// A conversation with an external: its arguments are counted, then the depth is tested. Its turns are one level
+/// deeper, with a step before each.
 #[cycle(run)]
 #[tactic(auto, using(meaning::proofs::Rules::converses_rules, meaning::proofs::Rules::talks_rules))]
 #[inline(never)]

@@ -586,8 +586,8 @@ pub(crate) fn arguments<E: External>(
     Ok(())
 }
 
-/// An expression that is converted to a number. A chunk isn't computed as a value first, so an index in an index takes one
-/// frame of this function, and none of `eval`.
+/// An expression that is converted to a number. A chunk isn't computed as a value first, so an index in an index takes
+/// one frame of this function, and none of `eval`.
 #[cycle(run)]
 #[tactic(auto, using(meaning::proofs::Rules::numberval_rules))]
 #[inline(never)]

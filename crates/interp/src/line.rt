@@ -20,10 +20,11 @@ use meaning::{Budget, Ended, Frame, Stop};
 use object_table::Id;
 use primitives::arguments::Arguments;
 
-/// Runs the lines of a typed command in the open batch: `me` and `the target` are the card that is current as it begins, and
-/// every variable is a global. What it shows and sends, and the steps that are left, stand in the budget, also where it ends
-/// by a fault; a fault keeps what was changed before it. Where it is out of memory nothing is said of the present state: the
-/// batch is to be rolled back. Whatever it answers, the history round the batch and the state at its start are kept.
+/// Runs the lines of a typed command in the open batch: `me` and `the target` are the card that is current as it
+/// begins, and every variable is a global. What it shows and sends, and the steps that are left, stand in the budget,
+/// also where it ends by a fault; a fault keeps what was changed before it. Where it is out of memory nothing is said
+/// of the present state: the batch is to be rolled back. Whatever it answers, the history round the batch and the state
+/// at its start are kept.
 #[tactic(auto, using(meaning::proofs::Rules::line_rules))]
 pub fn run_line<E: External>(
     world: &mut World<E>,
@@ -46,7 +47,8 @@ pub fn run_line<E: External>(
     }
 }
 
-/// Sends a message without arguments to an object in the open batch, with a step of its own. All else is as for a typed line.
+/// Sends a message without arguments to an object in the open batch, with a step of its own. All else is as for a typed
+/// line.
 #[tactic(auto, using(meaning::proofs::Rules::message_rules))]
 pub fn send_message<E: External>(
     world: &mut World<E>,
@@ -78,9 +80,9 @@ pub fn send_message<E: External>(
     }
 }
 
-/// Finds the part that the reference of a dot line means, in the open batch: `me` and `the target` are the card that is current
-/// as it begins, and every variable is a global. `None` where a call in it ends by `exit to HyperCard`; where there is no such
-/// part it is fault 3. All else is as for a typed line.
+/// Finds the part that the reference of a dot line means, in the open batch: `me` and `the target` are the card that is
+/// current as it begins, and every variable is a global. `None` where a call in it ends by `exit to HyperCard`; where
+/// there is no such part it is fault 3. All else is as for a typed line.
 #[tactic(auto, using(meaning::proofs::Rules::refers_rules))]
 pub fn find_ref<E: External>(
     world: &mut World<E>,

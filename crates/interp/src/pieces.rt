@@ -63,7 +63,8 @@ pub(crate) fn resolve<'a, E: External>(
     requires nested { nested ≤ 100 }
     requires deep { container_depth container.now < max_depth }
     requires open { IsSome (base world.old.history).start }
-    ensures meaning { Resolves world.old.history run.old frame.now nested container.now result world.new.history run.new }
+    ensures meaning { Resolves world.old.history run.old frame.now nested container.now result
+        world.new.history run.new }
     ensures keeps { Keeps world.old.history run.old world.new.history run.new }
 {
     match container.kind() {

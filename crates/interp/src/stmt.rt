@@ -64,8 +64,8 @@ pub(crate) fn run_block<E: External>(
     Ok(How::Next)
 }
 
-/// How a statement ends, whose step was taken. This is joined with the block in which the statement stands, so that a block
-/// in a block takes no frame of the choice among all others.
+/// How a statement ends, whose step was taken. This is joined with the block in which the statement stands, so that a
+/// block in a block takes no frame of the choice among all others.
 #[cycle(run)]
 #[tactic(auto, using(meaning::proofs::Rules::form_rules))]
 #[inline(always)]

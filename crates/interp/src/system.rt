@@ -35,7 +35,8 @@ pub(crate) fn system<E: External>(
 ) -> Result<Value, Stop>
     requires nested { nested ≤ 100 }
     requires open { IsSome (base world.old.history).start }
-    ensures meaning { System world.old.history run.old frame.now nested object message result world.new.history run.new }
+    ensures meaning { System world.old.history run.old frame.now nested object message result
+        world.new.history run.new }
     ensures keeps { Keeps world.old.history run.old world.new.history run.new }
 {
     if run.lock_messages() {

@@ -12,8 +12,8 @@ use ht_values::Text;
 use std::marker::Model;
 use std::mem;
 
-/// Most lines that change something write one global or go to a card. Such an entry needs no list: a global's, with a value
-/// or without, where a `u32` numbers it, or that of the current card. `Several` may hold any number of entries.
+/// Most lines that change something write one global or go to a card. Such an entry needs no list: a global's, with a
+/// value or without, where a `u32` numbers it, or that of the current card. `Several` may hold any number of entries.
 #[derive(Drop)]
 enum BatchEntries {
     Value(u32, Text),
@@ -119,8 +119,8 @@ fn of_global(i: u32, value: Option<Text>) -> BatchEntries
     }
 }
 
-/// The entries as a batch keeps them. A list gives back what it doesn't fill, or stays as it is where the smaller block is
-/// refused.
+/// The entries as a batch keeps them. A list gives back what it doesn't fill, or stays as it is where the smaller block
+/// is refused.
 fn batch_entries(mut entries: Vec<Entry>) -> BatchEntries
     ensures { entries_in result ≡ entries.items }
 {

@@ -7,8 +7,8 @@ use externals::Patch;
 use ht_values::Text;
 use stack_places::StackEntry;
 
-/// A place with the value that isn't there now, or an external's number with a patch: at most 48 bytes, beside the texts
-/// and lists and what stands in boxes.
+/// A place with the value that isn't there now, or an external's number with a patch: at most 48 bytes, beside the
+/// texts and lists and what stands in boxes.
 #[derive(Drop)]
 pub enum Entry {
     /// The number of a global's name.

@@ -12,8 +12,8 @@ use std::alloc::{AllocError, Global};
 use std::marker::Model;
 use std::mem;
 
-/// Texts by name. A name keeps its number from the time it is first met, also while it has no value. The number that was
-/// exchanged last is kept, since a loop tends to read and write one global.
+/// Texts by name. A name keeps its number from the time it is first met, also while it has no value. The number that
+/// was exchanged last is kept, since a loop tends to read and write one global.
 #[derive(Drop)]
 pub struct Globals {
     names: IndexSet<Vec<u8>>,
@@ -64,8 +64,10 @@ impl Globals {
 
     /// The number of a name, if it has one.
     fn number_of(&self, name: &Text) -> Option<usize>
-        ensures there { IfSome result (λ i. (i < length self.now.names) × (slice_index_or self.now.names i [] ≡ name.now)) }
-        ensures absent { IfNone result ((i : ℕ) → i < length self.now.names → slice_index_or self.now.names i [] ≢ name.now) }
+        ensures there { IfSome result (λ i. (i < length self.now.names)
+            × (slice_index_or self.now.names i [] ≡ name.now)) }
+        ensures absent { IfNone result ((i : ℕ) → i < length self.now.names
+            → slice_index_or self.now.names i [] ≢ name.now) }
     {
         if self.is_at(self.last, name) {
             return Some(self.last);
@@ -76,7 +78,8 @@ impl Globals {
     /// The number of a name, which gets one if it has none. No value changes. It takes no memory where the name has
     /// one.
     pub fn number(&mut self, name: &Text) -> Result<usize, AllocError>
-        ensures number { IfOk result (λ i. (i < length self.new.names) × (slice_index_or self.new.names i [] ≡ name.now)) }
+        ensures number { IfOk result (λ i. (i < length self.new.names)
+            × (slice_index_or self.new.names i [] ≡ name.now)) }
         ensures same { self.new.texts ≡ self.old.texts }
         ensures wider { Extends self.old.names self.new.names }
         ensures only { IfOk result (λ i. (j : ℕ) → j < length self.new.names
@@ -117,7 +120,8 @@ impl Globals {
         }
     }
 
-    /// How many names have numbers, with a value or without. `numbered` gives each name that has a value once, at its number.
+    /// How many names have numbers, with a value or without. `numbered` gives each name that has a value once, at its
+    /// number.
     pub fn name_count(&self) -> usize
         ensures count { result ≡ length self.now.names }
         ensures each { Lists (listed self.now.names self.now.texts) self.now.texts }

@@ -26,8 +26,8 @@ use ht_values::Text;
 use std::alloc::{AllocError, Global};
 use std::marker::Model;
 
-/// A batch that grows. Beside its entries stands the set of the places that the segment since the latest structural entry
-/// has, so that it is known at once whether it has an entry of a place.
+/// A batch that grows. Beside its entries stands the set of the places that the segment since the latest structural
+/// entry has, so that it is known at once whether it has an entry of a place.
 pub struct OpenBatch {
     number: u32,
     entries: Vec<Entry>,
@@ -126,8 +126,9 @@ impl OpenBatch {
         }
     }
 
-    /// Makes exchanges, from the first to the last, and keeps of what comes out what the places have no entry for. Since these
-    /// make or remove an object, after which no place waits, and few come before that, what waits needn't be sorted.
+    /// Makes exchanges, from the first to the last, and keeps of what comes out what the places have no entry for.
+    /// Since these make or remove an object, after which no place waits, and few come before that, what waits needn't
+    /// be sorted.
     fn write_each<E: External>(
         &mut self,
         present: &mut Present<E>,
@@ -331,7 +332,8 @@ fn keep(entries: &mut Vec<Entry>, places: &mut PlaceSet, entry: Entry)
     entries.push_reserved(entry);
 }
 
-/// Makes an exchange and keeps what comes out, unless the place has its entry already. Where it has none, there is room.
+/// Makes an exchange and keeps what comes out, unless the place has its entry already. Where it has none, there is
+/// room.
 fn write_reserved<E: External>(
     entries: &mut Vec<Entry>,
     places: &mut PlaceSet,

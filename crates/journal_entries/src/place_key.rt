@@ -20,8 +20,8 @@ pub(crate) enum PropertyKey {
     CantDelete,
 }
 
-/// The place that an entry replaces, where it neither makes or removes an object nor belongs to an external. The order is
-/// that in which most changes write their places.
+/// The place that an entry replaces, where it neither makes or removes an object nor belongs to an external. The order
+/// is that in which most changes write their places.
 #[derive(Clone, Copy, Eq, Ord, PartialEq, PartialOrd)]
 pub(crate) enum PlaceKey {
     NextId,

@@ -9,8 +9,8 @@ use crate::place_key::PlaceKey;
 use std::alloc::{AllocError, Global};
 use std::collections::BTreeSet;
 
-/// Places, each added once. What is added waits in a list until a place is looked up that doesn't come above all of them;
-/// then it is sorted. Most changes write their places in order, and none of those is looked up or sorted.
+/// Places, each added once. What is added waits in a list until a place is looked up that doesn't come above all of
+/// them; then it is sorted. Most changes write their places in order, and none of those is looked up or sorted.
 #[derive(Drop)]
 pub(crate) struct PlaceSet {
     sorted: BTreeSet<PlaceKey>,

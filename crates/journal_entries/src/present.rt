@@ -307,7 +307,8 @@ impl<E: External> Present<E> {
     ) -> Result<(Ask, Patch), AllocError>
         requires { i < length self.old.state.externals }
         ensures turn { IfOk result (λ r. Turns self.old.state self.new.state i input.now r.0) }
-        ensures patch { IfOk result (λ r. IsPatch (seen_at self.old.state i).cells (seen_at self.new.state i).cells r.1) }
+        ensures patch { IfOk result (λ r. IsPatch (seen_at self.old.state i).cells
+            (seen_at self.new.state i).cells r.1) }
         ensures present { IfOk result (λ r. self.new ≡ record self.old {
           state = self.new.state;
           logs = logs_after self.old.logs self.old.state self.new.state i input.now r.0;
@@ -325,14 +326,14 @@ impl<E: External> Present<E> {
         self.trees.get(id)
     }
 
-    /// The number of the first reading of an object's script, if its tree was kept. It stays while the script does, also
-    /// where the tree goes; no other script gets it.
+    /// The number of the first reading of an object's script, if its tree was kept. It stays while the script does,
+    /// also where the tree goes; no other script gets it.
     pub fn script_reading(&self, id: Id) -> Option<u64> {
         self.trees.first_reading(id)
     }
 
-    /// Keeps the tree of an object's script until that script changes, or until the trees that are kept after it take up the
-    /// room. It shows nowhere but in time.
+    /// Keeps the tree of an object's script until that script changes, or until the trees that are kept after it take
+    /// up the room. It shows nowhere but in time.
     pub fn keep_script_tree(&mut self, id: Id, tree: Rc<Script>) -> Result<(), AllocError>
         requires { Reads ReadsScript (object_script self.old.state.stack id) (script_of tree.value) }
         ensures { self.new ≡ self.old }
@@ -524,7 +525,8 @@ fn entries_with_current(
     made: Vec<StackEntry>,
     current: Id,
 ) -> Result<Vec<Entry>, AllocError>
-    ensures { IfOk result (λ entries. entries.items ≡ map (λ e. Entry.Stack e) made.items ++ Entry.Current current ∷ []) }
+    ensures { IfOk result (λ entries. entries.items ≡ map (λ e. Entry.Stack e) made.items
+        ++ Entry.Current current ∷ []) }
 {
     let mut entries = Vec::new(alloc);
     add_each(&mut entries, made)?;

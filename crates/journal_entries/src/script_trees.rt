@@ -36,9 +36,9 @@ struct Readings {
     last: u64,
 }
 
-/// Trees of scripts that were parsed, at most one for each object. A tree goes before the script of its object changes, so
-/// one that is there is that of the script of now. Each reading has a number, by which its tree is kept: so the first tree is
-/// the oldest one, and goes where there is no room for another.
+/// Trees of scripts that were parsed, at most one for each object. A tree goes before the script of its object changes,
+/// so one that is there is that of the script of now. Each reading has a number, by which its tree is kept: so the
+/// first tree is the oldest one, and goes where there is no room for another.
 #[derive(Drop)]
 pub(crate) struct ScriptTrees {
     readings: BTreeMap<Id, Readings>,
@@ -71,8 +71,8 @@ impl ScriptTrees {
         Some(&kept.tree)
     }
 
-    /// The number of the first reading of an object's script, if it was read. It stays while the script does, also where the
-    /// tree goes; no other script gets it.
+    /// The number of the first reading of an object's script, if it was read. It stays while the script does, also
+    /// where the tree goes; no other script gets it.
     pub(crate) fn first_reading(&self, id: Id) -> Option<u64> {
         match self.readings.get(&id) {
             Some(readings) => Some(readings.first),
@@ -80,7 +80,8 @@ impl ScriptTrees {
         }
     }
 
-    /// Keeps the tree of an object's script, which has so many bytes. The oldest trees go where there is no room for it.
+    /// Keeps the tree of an object's script, which has so many bytes. The oldest trees go where there is no room for
+    /// it.
     pub(crate) fn keep(&mut self, id: Id, tree: Rc<Script>, bytes: usize) -> Result<(), AllocError>
         requires counted { IsCounted self.old }
         requires few { bytes ≤ MOST_KEPT_BYTES }
@@ -114,7 +115,8 @@ impl ScriptTrees {
         }
     }
 
-    /// Puts the tree of an object's script, for which there is room, behind those that are kept, as that of the next reading.
+    /// Puts the tree of an object's script, for which there is room, behind those that are kept, as that of the next
+    /// reading.
     fn put(&mut self, id: Id, kept: KeptTree, next: u64) -> Result<(), AllocError>
         requires counted { IsCounted self.old }
         requires room { HasRoomFor kept.bytes self.old }

@@ -114,7 +114,8 @@ pub data Sets : History → Referent → Prop → List ℕ → Result (Unit {0})
   set_made : {w w1 : History} {m : Referent} {prop : Prop} {t : List ℕ} {c : Change} →
       setting w.now.stack m prop t ≡ Ok c → Made w w1 c → Sets w m prop t (Ok tt) w1
 
--- objects are made, unless their ids would pass the greatest one or too many would live; after a fault nothing has changed
+-- objects are made, unless their ids would pass the greatest one or too many would live; after a fault nothing has
+-- changed
 pub data Adds : History → Change → Result (Unit {0}) Stop → History → Type 0 where
   add_memory : {w w1 : History} {c : Change} → Adds w c (Err stop.Memory) w1
   too_many : {w : History} {c : Change} → fits w.now c ≡ false → Adds w c (Err (stop.Fault TooMany)) w

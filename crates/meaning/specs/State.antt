@@ -14,8 +14,8 @@ use Rattle.meaning.specs.declared.end.Stop.{Stop}
 use Rattle.meaning.specs.declared.end.Stop.TheVariants as stop
 use Rattle.meaning.specs.declared.sent.SentMessage.{SentMessage}
 
--- A run: the item delimiter, whether the system sends no messages, whether new parts stand on the background, `the result`,
--- the steps that are left, the lines shown, and the messages sent.
+-- A run: the item delimiter, whether the system sends no messages, whether new parts stand on the background, `the
+-- result`, the steps that are left, the lines shown, and the messages sent.
 pub record RunState : Type 0 where
   pub delimiter : ℕ
   pub lock_messages : Bool

@@ -15,8 +15,8 @@ use stack_text::spell_into;
 use std::alloc::{AllocError, Global};
 use std::marker::Model;
 
-/// The run of one command: the item delimiter, lockMessages and editBkgnd, `the result`, the steps that are left, the lines
-/// shown, and the messages sent.
+/// The run of one command: the item delimiter, lockMessages and editBkgnd, `the result`, the steps that are left, the
+/// lines shown, and the messages sent.
 pub struct Budget {
     alloc: Global,
     delimiter: u8,
@@ -61,8 +61,8 @@ impl Model for Budget {
 }
 
 impl Budget {
-    /// The run of a typed command that begins, with so many steps: items are delimited by commas, lockMessages and editBkgnd
-    /// are false, the result is empty. It takes no memory.
+    /// The run of a typed command that begins, with so many steps: items are delimited by commas, lockMessages and
+    /// editBkgnd are false, the result is empty. It takes no memory.
     pub fn new(alloc: Global, steps: u32) -> Budget
         ensures { result ≡ fresh_run steps }
     {
@@ -206,8 +206,8 @@ impl Budget {
         }
     }
 
-    /// Sets a property of the run. `BadArgument` where the delimiter isn't one byte, `NotLogical` where another property isn't
-    /// `true` or `false`; then nothing changes. It takes no memory.
+    /// Sets a property of the run. `BadArgument` where the delimiter isn't one byte, `NotLogical` where another
+    /// property isn't `true` or `false`; then nothing changes. It takes no memory.
     pub fn set_property(&mut self, property: RunProp, text: &Text) -> Result<(), Fault>
         ensures ok { OnOk result (run_property_set self.old property text.now ≡ Ok self.new) }
         ensures fault { IfErr result (λ e. run_property_set self.old property text.now ≡ Err e) }

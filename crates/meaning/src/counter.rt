@@ -7,8 +7,8 @@ ghost use Rattle.meaning.specs.Repeats.{is_over as is_over_of, stepped};
 use ht_values::Value;
 use std::marker::Model;
 
-/// The number of the turn that comes next, and the bound, which is passed upward or downward. No number past the bound is
-/// formed: the last one is marked as passed.
+/// The number of the turn that comes next, and the bound, which is passed upward or downward. No number past the bound
+/// is formed: the last one is marked as passed.
 #[derive(Drop)]
 pub struct Counter {
     at: i64,

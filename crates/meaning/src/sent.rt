@@ -8,7 +8,8 @@ use object_table::Id;
 use std::alloc::{AllocError, Global};
 use std::marker::Model;
 
-/// A line that is shown: the bytes after `> `, as they are answered. A text stands there as it is spelled in a stack text.
+/// A line that is shown: the bytes after `> `, as they are answered. A text stands there as it is spelled in a stack
+/// text.
 #[derive(Drop)]
 pub struct Line {
     bytes: Vec<u8>,

@@ -6,7 +6,8 @@ ghost use Rattle.meaning.specs.Menu.{message_name};
 use ht_values::Text;
 use std::alloc::{AllocError, Global};
 
-/// A message that the system sends: as the current card changes, as the stack is opened, and for what is clicked or typed.
+/// A message that the system sends: as the current card changes, as the stack is opened, and for what is clicked or
+/// typed.
 #[derive(Clone, Copy, PartialEq, Eq, Debug)]
 pub enum SystemMessage {
     CloseCard,

@@ -71,8 +71,9 @@ pub struct Stopped {
     pub meant: Vec<Text>,
 }
 
-/// Remembers why and where a run stops, from the inside outwards. What is remembered stands in a box, which the first note makes,
-/// so that a run in which nothing is noted takes no memory for it. It never fails: what there is no memory for is left out.
+/// Remembers why and where a run stops, from the inside outwards. What is remembered stands in a box, which the first
+/// note makes, so that a run in which nothing is noted takes no memory for it. It never fails: what there is no memory
+/// for is left out.
 pub struct Trace {
     alloc: Global,
     stopped: OnceCell<Box<RefCell<Stopped>>>,

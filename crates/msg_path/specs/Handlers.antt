@@ -21,7 +21,8 @@ no_handler = handler Command [] [] stop
 
 -- The first handler of a kind and a name on a path. A script on the way that isn't in the grammar is a fault.
 pub data First : Content → List ℕ → HandlerKind → List ℕ → Result (Option HandlerFound) Fault → Type 0 where
-  nothing_left : {s : Content} {path name : List ℕ} {kind : HandlerKind} {outcome : Result (Option HandlerFound) Fault} →
+  nothing_left : {s : Content} {path name : List ℕ} {kind : HandlerKind} {outcome : Result (Option HandlerFound) Fault}
+      →
       path ≡ [] → outcome ≡ Ok None → First s path kind name outcome
   here : {s : Content} {path rest name : List ℕ} {id : ℕ} {kind : HandlerKind} {hs : Handlers} {h : Handler}
       {outcome : Result (Option HandlerFound) Fault} →

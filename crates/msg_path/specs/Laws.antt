@@ -8,5 +8,6 @@ use Rattle.msg_path.specs.Handlers.{HandlerFound, First}
 -- a message finds one handler at most, or one fault
 abbrev pub FirstIsOne : Type 0
 FirstIsOne =
-    (s : Content) (path : List ℕ) (kind : HandlerKind) (name : List ℕ) (one other : Result (Option HandlerFound) Fault) →
+    (s : Content) (path : List ℕ) (kind : HandlerKind) (name : List ℕ) (one other : Result (Option HandlerFound) Fault)
+    →
     First s path kind name one → First s path kind name other → one ≡ other

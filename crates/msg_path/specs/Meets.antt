@@ -31,7 +31,8 @@ pub data Meets : State → List ℕ → HandlerKind → List ℕ → Result Foun
       {found : handlers.HandlerFound} {outcome : Result Found Fault} →
       First s.stack path kind name first → first ≡ Ok (Some found) → outcome ≡ Ok (met.Handler found)
       → Meets s path kind name outcome
-  after_stack : {s : State} {path name : List ℕ} {kind : HandlerKind} {first : Result (Option handlers.HandlerFound) Fault}
+  after_stack : {s : State} {path name : List ℕ} {kind : HandlerKind}
+      {first : Result (Option handlers.HandlerFound) Fault}
       {outcome : Result Found Fault} →
       First s.stack path kind name first → first ≡ Ok None → outcome ≡ Ok (met_after_stack s.externals kind name)
       → Meets s path kind name outcome
@@ -45,8 +46,8 @@ GivesDue IsDue (Ok x) = IsDue (Ok x)
 GivesDue IsDue (Err (failure.Fault f)) = IsDue (Err f)
 GivesDue IsDue (Err failure.Memory) = Unit {0}
 
--- what the script of an object says of a path that begins with it: the handler that it has is the first; without one the
--- rest of the path decides
+-- what the script of an object says of a path that begins with it: the handler that it has is the first; without one
+-- the rest of the path decides
 abbrev pub LeadsOn : Content → ℕ → HandlerKind → List ℕ → Result (Option handlers.HandlerFound) Fault → Type 0
 LeadsOn s id kind name (Ok (Some found)) = (rest : List ℕ) → First s (id ∷ rest) kind name (Ok (Some found))
 LeadsOn s id kind name (Ok None) = (rest : List ℕ) (outcome : Result (Option handlers.HandlerFound) Fault)

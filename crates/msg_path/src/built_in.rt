@@ -41,8 +41,8 @@ const SYSTEM_MESSAGES: [&[u8]; 16] = [
 ];
 
 impl BuiltIn {
-    /// What is built in for messages of a kind and a name: the command `doMenu`, or a function. Case is ignored. It takes no
-    /// memory.
+    /// What is built in for messages of a kind and a name: the command `doMenu`, or a function. Case is ignored. It
+    /// takes no memory.
     pub fn named(kind: HandlerKind, name: &Text) -> Option<BuiltIn>
         ensures { result ≡ built_in_named kind name.now }
     {
@@ -67,8 +67,8 @@ fn has_name(names: &[&[u8]], name: &[u8]) -> bool
     false
 }
 
-/// Whether a command that nothing handles is ignored, since its name is that of a system message. Case is ignored. It takes no
-/// memory.
+/// Whether a command that nothing handles is ignored, since its name is that of a system message. Case is ignored. It
+/// takes no memory.
 pub fn is_system_message(name: &Text) -> bool
     ensures { result ≡ is_of_the_system name.now }
 {

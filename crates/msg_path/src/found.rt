@@ -10,8 +10,8 @@ use object_table::Id;
 use std::marker::Model;
 use std::rc::Rc;
 
-/// A handler that was found, and the object whose script has it. It shares that script, so it stays as it was found where the
-/// object's script is replaced, or the object goes.
+/// A handler that was found, and the object whose script has it. It shares that script, so it stays as it was found
+/// where the object's script is replaced, or the object goes.
 pub struct FoundHandler {
     object: Id,
     script: Rc<Script>,
@@ -43,7 +43,11 @@ impl Model for FoundHandler {
 
     ghost coded = { coded_found stmt.the_row.coded };
 
-    ghost view = { λ f. record { object = f.object; handler = unwrap_or (handler_at f.script.value f.place) no_handler } };
+    ghost view = { λ f. record {
+      object = f.object;
+      handler = unwrap_or
+          (handler_at f.script.value f.place) no_handler;
+    } };
 
     ghost invariant = { λ f. f.place < length f.script.value.handlers.items };
 }
@@ -75,8 +79,8 @@ impl FoundHandler {
         self.object
     }
 
-    /// Whether its object still has the script in which it stands, also where the world doesn't keep the tree any more. A
-    /// script that went and came back is another one. No clause says so, since no model has the readings of scripts.
+    /// Whether its object still has the script in which it stands, also where the world doesn't keep the tree any more.
+    /// A script that went and came back is another one. No clause says so, since no model has the readings of scripts.
     pub fn is_current<E: External>(&self, world: &World<E>) -> bool {
         match self.reading {
             Some(reading) => world.script_reading(self.object) == Some(reading),

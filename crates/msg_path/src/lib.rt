@@ -1,4 +1,5 @@
-//! The message path: the objects that a message goes to, the first handler among their scripts, and what comes after the stack.
+//! The message path: the objects that a message goes to, the first handler among their scripts, and what comes after
+//! the stack.
 #![tactic(auto)]
 
 mod built_in;

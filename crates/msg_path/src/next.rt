@@ -60,8 +60,8 @@ fn handler_here<E: External>(
 }
 
 /// The first handler of a kind and a name on a path; `None` where no script on it has one. Scripts are parsed one after
-/// another, up to the one that has it: one on the way that isn't in the grammar is the fault `Syntax`. The world keeps the
-/// trees, which shows nowhere but in time.
+/// another, up to the one that has it: one on the way that isn't in the grammar is the fault `Syntax`. The world keeps
+/// the trees, which shows nowhere but in time.
 pub fn first_handler<E: External>(
     alloc: Global,
     world: &mut World<E>,
@@ -97,8 +97,8 @@ fn answers<E: External>(external: &E, is_function: bool, name: &Text) -> bool
     external.is_function() == is_function && external.name().same(name)
 }
 
-/// The number of the external that answers commands of a name, or with `is_function` calls of it. Case is ignored. It takes no
-/// memory.
+/// The number of the external that answers commands of a name, or with `is_function` calls of it. Case is ignored. It
+/// takes no memory.
 pub fn external_named<E: External>(
     world: &World<E>,
     is_function: bool,

@@ -93,8 +93,8 @@ pub fn path(stack: &Stack, current: Id, object: Id) -> MessagePath
     }
 }
 
-/// Where `pass` goes on, in the state of now: after `me` on its path, and on all of that path where `me` is gone. It takes no
-/// memory.
+/// Where `pass` goes on, in the state of now: after `me` on its path, and on all of that path where `me` is gone. It
+/// takes no memory.
 pub fn path_after(stack: &Stack, current: Id, me: Id) -> MessagePath
     ensures { result ≡ path_after_object stack.now.content current me }
 {

@@ -53,8 +53,8 @@ fn kept<E: External>(
     Ok(tree)
 }
 
-/// The tree of an object's script, shared. It is parsed where the world doesn't keep it, and kept from then on. `Syntax` where
-/// the script isn't in the grammar.
+/// The tree of an object's script, shared. It is parsed where the world doesn't keep it, and kept from then on.
+/// `Syntax` where the script isn't in the grammar.
 pub(crate) fn tree<E: External>(
     alloc: Global,
     world: &mut World<E>,

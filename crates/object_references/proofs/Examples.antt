@@ -1,5 +1,5 @@
--- Worked examples, which check the definitions, in a stack of a background 1 with a field 3 Note, and two cards on it, 2 A and
--- 4 without a name.
+-- Worked examples, which check the definitions, in a stack of a background 1 with a field 3 Note, and two cards on it,
+-- 2 A and 4 without a name.
 use Rattle.std.proofs.Common.{◌≡◌, ℕ, true, false, List, [], ◌∷◌, codes, Ok, Err, refl}
 use Rattle.std.specs.Ordering.{nat_cmp}
 use Rattle.std.specs.FinMap.{from_sorted, empty, get, find, get-from_sorted}

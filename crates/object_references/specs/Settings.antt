@@ -53,7 +53,8 @@ change_of s m (HiliteIs lit) = if has_kind is_background_button s m.object then 
     (change.Prop m.object (HiliteIs lit))
 change_of s m value = Ok (change.Prop m.object value)
 
--- first whether there is such a property that may be set, then whether the text is of its type, then whether a hilite is there
+-- first whether there is such a property that may be set, then whether the text is of its type, then whether a hilite
+-- is there
 abbrev pub setting : Content → Referent → Prop → List ℕ → Result Change Fault
 setting s m prop t = and_then (value_for s m.object prop t) (change_of s m)
 

@@ -1,5 +1,5 @@
-//! References to objects: which card, background, button or field is meant, what may be set in it, and whether a card may
-//! go. Nothing here takes memory but a name that is read.
+//! References to objects: which card, background, button or field is meant, what may be set in it, and whether a card
+//! may go. Nothing here takes memory but a name that is read.
 #![tactic(auto)]
 
 mod cards;

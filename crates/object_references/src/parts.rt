@@ -107,8 +107,8 @@ pub fn part_met(
     Ok(met_here(scope.card, part))
 }
 
-/// The first field of a name, also of the empty one, on the current card or on its background. `NoSuchObject` where there
-/// is none.
+/// The first field of a name, also of the empty one, on the current card or on its background. `NoSuchObject` where
+/// there is none.
 pub fn field_named(stack: &Stack, current: Id, layer: Layer, name: &Text) -> Result<Referent, Fault>
     ensures { result ≡ references.field_named stack.now.content current layer name.now }
 {

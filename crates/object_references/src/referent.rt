@@ -44,8 +44,8 @@ impl Drop for Sought {
     }
 }
 
-/// Where a part is looked for: its layer, and the card that is meant with the part. That is the card which the reference
-/// has as its owner, else the current one.
+/// Where a part is looked for: its layer, and the card that is meant with the part. That is the card which the
+/// reference has as its owner, else the current one.
 #[derive(Clone, Copy, Debug)]
 pub struct PartScope {
     pub layer: LayerId,

@@ -81,9 +81,9 @@ fn change_of(stack: &Stack, meant: Referent, value: PropValue) -> Result<Change,
     }
 }
 
-/// The change that sets a property to a text. It fits each state with this stack. `NoSuchProperty` where the object has no
-/// such property or it may not be set, then `NotLogical` where the property is a truth value and the text is none, then
-/// `NoSuchObject` where a background's button keeps no hilite for the card. It takes no memory.
+/// The change that sets a property to a text. It fits each state with this stack. `NoSuchProperty` where the object has
+/// no such property or it may not be set, then `NotLogical` where the property is a truth value and the text is none,
+/// then `NoSuchObject` where a background's button keeps no hilite for the card. It takes no memory.
 pub fn set_change(stack: &Stack, meant: Referent, prop: Prop, text: Text) -> Result<Change, Fault>
     ensures change { result ≡ settings.setting stack.now.content meant prop text }
     ensures fits { IfOk result (settings.FitsIn stack.now.content) }

@@ -31,8 +31,8 @@ fn key_of(name: &Text) -> u128
     key
 }
 
-/// The name of an object, which contracts see as its text. Beside that it keeps the text's key, so that a search passes a
-/// name by in one step, however long it is and however late it differs.
+/// The name of an object, which contracts see as its text. Beside that it keeps the text's key, so that a search passes
+/// a name by in one step, however long it is and however late it differs.
 #[derive(Drop)]
 pub struct ObjectName {
     text: Text,

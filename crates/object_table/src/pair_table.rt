@@ -14,8 +14,8 @@ use crate::row::Row;
 use std::alloc::{AllocError, Global};
 use std::marker::Model;
 
-/// The values that stand at pairs of the ids of a part and a card. A pair has to be open to have one, and an open
-/// pair may have none. Each part with an open pair has a row; so a pair is found in a few steps, whichever ids others have.
+/// The values that stand at pairs of the ids of a part and a card. A pair has to be open to have one, and an open pair
+/// may have none. Each part with an open pair has a row; so a pair is found in a few steps, whichever ids others have.
 #[derive(Drop)]
 pub(crate) struct PairTable<X> {
     rows: Vec<(Id, Row<X>)>,
@@ -81,7 +81,8 @@ impl<X: Drop> PairTable<X> {
 
     pub(crate) fn open(&mut self, part: Id, card: Id) -> Result<(), AllocError>
         ensures values { values_in (entries_of self.new) ≡ values_in (entries_of self.old) }
-        ensures room { OnOk result (open_in (entries_of self.new) ≡ set.insert (open_in (entries_of self.old)) (part, card)) }
+        ensures room { OnOk result (open_in (entries_of self.new)
+            ≡ set.insert (open_in (entries_of self.old)) (part, card)) }
         ensures inside { OnOk result (set.contains (open_in (entries_of self.new)) (part, card) ≡ true) }
         ensures err { OnErr result (open_in (entries_of self.new) ≡ open_in (entries_of self.old)) }
     {

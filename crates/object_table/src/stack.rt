@@ -115,8 +115,8 @@ impl Stack {
         })
     }
 
-    /// The stack of no object, not even itself, with no room, for a reader that fills it. It isn't well formed. The next
-    /// id is 1. It takes no memory.
+    /// The stack of no object, not even itself, with no room, for a reader that fills it. It isn't well formed. The
+    /// next id is 1. It takes no memory.
     pub fn blank(alloc: Global) -> Stack
         ensures content { result.content ≡ blank_stack }
         ensures room { result.room ≡ no_room }

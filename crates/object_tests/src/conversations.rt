@@ -35,8 +35,8 @@ pub(crate) enum Asked {
 #[derive(Clone, Copy)]
 pub(crate) struct Turn(pub Told, pub Asked, pub &'static [(usize, Bytes, Bytes)]);
 
-/// What an external is: its name, its kind, whether it is a function, how many cells it has, and which text each of them
-/// is.
+/// What an external is: its name, its kind, whether it is a function, how many cells it has, and which text each of
+/// them is.
 pub(crate) struct Profile {
     pub name: Bytes,
     pub kind: u32,

@@ -130,8 +130,8 @@ fn keeps_laws<E: External>(external: &E) {
     laws_of_flips();
 }
 
-/// Whether an external asks for the value of `new` when it starts with it, its cell then becomes `new`, and it ends with
-/// the value that it is told.
+/// Whether an external asks for the value of `new` when it starts with it, its cell then becomes `new`, and it ends
+/// with the value that it is told.
 fn meets<E: External>(alloc: Global, external: Option<E>) -> bool {
     match external {
         Some(mut external) => {

@@ -1,5 +1,5 @@
-//! Examples of the stack file, with ample memory: a text is made, and comes to something where it is read. Most are rows of
-//! `rows`; here are long texts, and those with each byte changed, or cut at each place.
+//! Examples of the stack file, with ample memory: a text is made, and comes to something where it is read. Most are
+//! rows of `rows`; here are long texts, and those with each byte changed, or cut at each place.
 
 ghost use Rattle.object_table.specs.WellFormed.{IsWellFormed};
 

@@ -1,5 +1,6 @@
-//! The externals of the kit and the text tools, each in a box: how they begin, and conversations that no run of the program
-//! shows. The text tools aren't in the program of the rows, and the kit gets no answer there to what it hasn't asked.
+//! The externals of the kit and the text tools, each in a box: how they begin, and conversations that no run of the
+//! program shows. The text tools aren't in the program of the rows, and the kit gets no answer there to what it hasn't
+//! asked.
 
 use crate::boxed_externals::{Made, begins, make_external};
 use crate::conversations::{Asked, Profile, Told, Turn, other_turn, takes};

@@ -1,5 +1,6 @@
-//! Examples of the crates of objects and of externals, and of the desk over a file, with ample memory. A crate that has tests
-//! is proved a second time for them, so they stand here, above the crates that they try, where nothing else is to be proved.
+//! Examples of the crates of objects and of externals, and of the desk over a file, with ample memory. A crate that has
+//! tests is proved a second time for them, so they stand here, above the crates that they try, where nothing else is to
+//! be proved.
 #![tactic(auto)]
 
 #[cfg(test)]

@@ -1,5 +1,5 @@
-//! Examples, with ample memory: the blank stack, the empty stack, and the stack Demo, whose background 1 has the field 3 Note
-//! and whose cards are 2 A and 4 B.
+//! Examples, with ample memory: the blank stack, the empty stack, and the stack Demo, whose background 1 has the field
+//! 3 Note and whose cards are 2 A and 4 B.
 
 use crate::stacks::{Change, Fact, Setting, Step, changed_stack, takes, takes_blank};
 use ht_values::PartKind;

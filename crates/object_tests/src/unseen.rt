@@ -1,6 +1,7 @@
-//! References and properties, with ample memory, as far as no run of the program shows them: ids without an object, layers
-//! of the other kind, a card's field that is met by name alone, the card that is meant with a card or a background, the
-//! properties that no text sets, and the text that a refusal hands back. The stack is that of the rows, `two_backgrounds`.
+//! References and properties, with ample memory, as far as no run of the program shows them: ids without an object,
+//! layers of the other kind, a card's field that is met by name alone, the card that is meant with a card or a
+//! background, the properties that no text sets, and the text that a refusal hands back. The stack is that of the rows,
+//! `two_backgrounds`.
 
 use crate::files::stack_of;
 use crate::plain_texts::{Bytes, is_text, text};

@@ -70,8 +70,8 @@ fn come_to<W: Write>(out: &mut Watched<W>, calls: &[Call]) -> bool {
     true
 }
 
-/// A device that takes at most so many bytes a call and fails at a call, what is called on it, the bytes that it has then
-/// taken, and how many calls it has answered, where that is known.
+/// A device that takes at most so many bytes a call and fails at a call, what is called on it, the bytes that it has
+/// then taken, and how many calls it has answered, where that is known.
 struct Row {
     most: usize,
     fails_at: usize,

@@ -7,8 +7,8 @@ use Rattle.journal_entries.specs.declared.change.Change.{Change}
 use Rattle.change_journal.specs.History.{Open}
 use Rattle.change_journal.specs.Rising.{Rises, trail_after, trail_after_turn}
 
--- The trail after changes and turns that replaced these, one after the other. A change adds the marks of its places, but
--- for those that the last segment holds already; a turn that changed cells adds one mark for them all.
+-- The trail after changes and turns that replaced these, one after the other. A change adds the marks of its places,
+-- but for those that the last segment holds already; a turn that changed cells adds one mark for them all.
 pub data TrailAfter : List Replacement → List Mark → List Mark → Type 0 where
   nothing : {replaced : List Replacement} {old new : List Mark} →
       replaced ≡ [] → new ≡ old → TrailAfter replaced old new
@@ -26,7 +26,7 @@ RisesIn replaced (Some old) (Some new) =
 RisesIn replaced None None = Unit {0}
 RisesIn replaced _ _ = ⊥
 
--- The batch that is open before is open after these were replaced: it goes back to the same state and belongs to the same
--- line, each weight rises by at most theirs, and its trail is the one after them.
+-- The batch that is open before is open after these were replaced: it goes back to the same state and belongs to the
+-- same line, each weight rises by at most theirs, and its trail is the one after them.
 pub record RisesBy (replaced : List Replacement) (old new : Option Open) : Type 0 where
   pub by : RisesIn replaced old new

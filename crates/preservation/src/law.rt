@@ -1,5 +1,5 @@
-//! Laws over the rules of HyperTalk. Each holds of lines, of a message, of an action, of the reference of a dot line and
-//! of an expression.
+//! Laws over the rules of HyperTalk. Each holds of lines, of a message, of an action, of the reference of a dot line
+//! and of an expression.
 
 ghost use Rattle.preservation.specs.Laws.{LinesKeepBases, MessagesKeepBases, ActionsKeepBases, ReferencesKeepBases};
 ghost use Rattle.preservation.specs.Laws.{ValuesKeepBases};
@@ -9,8 +9,8 @@ ghost use Rattle.preservation.specs.Laws.{LinesStayWhole, MessagesStayWhole, Act
 ghost use Rattle.preservation.specs.Laws.{ValuesStayWhole};
 ghost use Rattle.preservation.specs.Laws.{BatchesAreShort};
 
-/// A run that doesn't run out of memory leaves what stands round the open batch: the states before and after the cursor,
-/// their numbers, the state that the batch began with, and which externals there are.
+/// A run that doesn't run out of memory leaves what stands round the open batch: the states before and after the
+/// cursor, their numbers, the state that the batch began with, and which externals there are.
 #[tactic(auto, using(crate::proofs::Bases::base_line, crate::proofs::Bases::base_message, crate::proofs::Bases::base_acts, crate::proofs::Bases::base_refers, crate::proofs::Bases::base_val))]
 pub fn runs_keep_bases()
     ensures lines { LinesKeepBases }
@@ -40,8 +40,8 @@ pub fn runs_go_on()
     ensures values { ValuesGoOn }
 {}
 
-/// A run leads from whole states to whole states, if what it wrote is texts, whatever the externals are: the stack stays
-/// well formed, globals keep folded names, the current card is there, and externals are as their kinds have them.
+/// A run leads from whole states to whole states, if what it wrote is texts, whatever the externals are: the stack
+/// stays well formed, globals keep folded names, the current card is there, and externals are as their kinds have them.
 #[tactic(auto, using(crate::proofs::Wholes::whole_line, crate::proofs::Wholes::whole_message, crate::proofs::Wholes::whole_acts, crate::proofs::Wholes::whole_refers, crate::proofs::Wholes::whole_val))]
 pub fn runs_keep_states_whole()
     ensures lines { LinesStayWhole }

@@ -54,4 +54,5 @@ module _ {f : Frame} {op : Op} {x y : tree.Expr} (p q : ℤ) (left : IsNumber f 
       → binary op (numeral p) (numeral q) ≡ Ok (word_of b)
       → (w : History) (r : RunState) (d : ℕ) → TruthVal w r f d e (Ok b) w r
   truth_is b is h w r d =
-      TruthVal.a_truth (Val.two_operands is (left w r d) (right w r d) (Yields.yields h)) (Yields.yields (word_is_true b))
+      TruthVal.a_truth (Val.two_operands is (left w r d) (right w r d) (Yields.yields h))
+      (Yields.yields (word_is_true b))

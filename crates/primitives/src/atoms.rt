@@ -16,7 +16,8 @@ use ht_tree::{Count, Expr, ExprKind};
 use ht_values::Value;
 use meaning::{Budget, Frame, Stop};
 
-/// The value of an expression that has no other one, and no reference, in it; fault 3 where it is `the target`, which is gone.
+/// The value of an expression that has no other one, and no reference, in it; fault 3 where it is `the target`, which
+/// is gone.
 #[tactic(auto, using(meaning::proofs::Rules::val_rules))]
 #[inline(never)]
 pub fn atom<E: External>(

@@ -7,8 +7,8 @@ use externals::External;
 use ht_values::{Fault, Name, Prop, Text, Value, truth_of};
 use meaning::{Budget, Frame};
 
-/// The operand of arithmetic, to be told if the edit ends by a fault. A number takes no memory; what is no number is copied, as it
-/// can only be told.
+/// The operand of arithmetic, to be told if the edit ends by a fault. A number takes no memory; what is no number is
+/// copied, as it can only be told.
 pub(crate) fn operand_of(run: &Budget, edit: &Edit) -> Option<Value> {
     let Edit::Alter(_, operand) = edit else {
         return None;
@@ -19,7 +19,8 @@ pub(crate) fn operand_of(run: &Budget, edit: &Edit) -> Option<Value> {
     }
 }
 
-/// Remembers what an edit meant that ended by a fault: the bounds of a chunk that isn't taken, or the two numbers of arithmetic.
+/// Remembers what an edit meant that ended by a fault: the bounds of a chunk that isn't taken, or the two numbers of
+/// arithmetic.
 #[inline(never)]
 pub(crate) fn mean_edit<E: External>(
     world: &World<E>,

@@ -27,8 +27,8 @@ use msg_path::{FoundHandler, external_named, first_handler, is_system_message};
 use object_table::Id;
 use std::alloc::AllocError;
 
-/// The first handler of a kind and a name on a path; `None` where there is none. A script on the way that isn't in the grammar
-/// is the fault of syntax.
+/// The first handler of a kind and a name on a path; `None` where there is none. A script on the way that isn't in the
+/// grammar is the fault of syntax.
 #[tactic(auto, using(meaning::proofs::Rules::finds_rules))]
 #[inline(never)]
 pub fn find<E: External>(
@@ -260,7 +260,8 @@ fn push(texts: &mut Texts, text: Text) -> Result<(), AllocError>
     }
 }
 
-/// A turn of an external, in the open batch. Where it is out of memory, the state at the start of the batch is kept all the same.
+/// A turn of an external, in the open batch. Where it is out of memory, the state at the start of the batch is kept all
+/// the same.
 #[tactic(auto, using(containers::proofs::Bases::took_keeps, containers::proofs::Bases::is_open, crate::proofs::Turns::is_there))]
 #[inline(never)]
 pub fn take_turn<E: External>(

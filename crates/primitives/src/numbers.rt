@@ -22,7 +22,8 @@ use meaning::{Budget, Frame, How, Stop};
 #[tactic(auto, using(meaning::proofs::Rules::val_rules))]
 #[inline]
 fn kept_number(frame: &Frame, e: &Expr) -> Option<i64>
-    ensures { IfSome result (λ n. (w : History) (r : RunState) (d : ℕ) → Val w r frame.now d e.now (Ok (numeral_of n)) w r) }
+    ensures { IfSome result (λ n. (w : History) (r : RunState) (d : ℕ)
+        → Val w r frame.now d e.now (Ok (numeral_of n)) w r) }
 {
     match e.kind() {
         ExprKind::Name(name) => frame.variables.number(name),
@@ -41,7 +42,8 @@ pub fn known_number(frame: &Frame, e: &Expr) -> Option<i64>
     number.number().ok()
 }
 
-/// What an operator gives of two operands that are kept as numbers, where that is a number or a truth value. It takes no memory.
+/// What an operator gives of two operands that are kept as numbers, where that is a number or a truth value. It takes
+/// no memory.
 #[tactic(auto, using(meaning::proofs::Rules::val_binary_rules))]
 fn known_value(frame: &Frame, op: Op, left: &Expr, right: &Expr) -> Option<Value>
     ensures { IfSome result (λ v. (w : History) (r : RunState) (d : ℕ)
@@ -87,8 +89,8 @@ pub fn is_plain(e: &Expr) -> bool
     }
 }
 
-/// What an operator gives of two operands that ask for no other's value. Those that are kept as numbers are computed with at
-/// once.
+/// What an operator gives of two operands that ask for no other's value. Those that are kept as numbers are computed
+/// with at once.
 #[tactic(auto, using(meaning::proofs::Rules::val_binary_rules))]
 #[inline(never)]
 pub fn binary_of_plain<E: External>(
@@ -113,8 +115,8 @@ pub fn binary_of_plain<E: External>(
     apply(run, op, &x, &y)
 }
 
-/// Arithmetic on a variable by an operand that is kept as a number; `None` where the operand isn't kept so, or the container is
-/// no variable, and then nothing changes.
+/// Arithmetic on a variable by an operand that is kept as a number; `None` where the operand isn't kept so, or the
+/// container is no variable, and then nothing changes.
 #[tactic(auto, using(meaning::proofs::Rules::alters_rules, meaning::proofs::Rules::resolves_rules))]
 #[inline(never)]
 pub fn alter_by_number<E: External>(
@@ -126,7 +128,8 @@ pub fn alter_by_number<E: External>(
     container: &Container,
 ) -> Option<Result<How, Stop>>
     requires open { IsSome (base world.old.history).start }
-    ensures meaning { IfSome result (λ o. (d : ℕ) → Alters world.old.history run.now frame.old d op value.now container.now o
+    ensures meaning { IfSome result (λ o. (d : ℕ)
+        → Alters world.old.history run.now frame.old d op value.now container.now o
         world.new.history run.now frame.new) }
     ensures none { IfNone result ((world.new ≡ world.old) × (frame.new ≡ frame.old)) }
     ensures base { base world.new.history ≡ base world.old.history }

@@ -72,7 +72,8 @@ pub(crate) fn parts_here<E: External>(
     layer: Option<Layer>,
     kind: PartKind,
 ) -> usize
-    ensures { result ≡ length (settings.parts_here world.now.history.now.stack world.now.history.now.current layer kind) }
+    ensures { result ≡ length (settings.parts_here world.now.history.now.stack
+        world.now.history.now.current layer kind) }
 {
     let scope = scope_by(world.stack(), layer_meant(layer, kind), world.current());
     part_count(world.stack(), scope.layer, kind)
@@ -266,7 +267,8 @@ pub fn is_other(background: Id, other: Id) -> bool
 
 /// Whether a card is of another background than the current one.
 pub fn has_other_background<E: External>(world: &World<E>, card: Id) -> bool
-    ensures { result ≡ differ world.now.history.now.stack world.now.history.now.current world.now.history.now.stack card }
+    ensures { result ≡ differ world.now.history.now.stack world.now.history.now.current
+        world.now.history.now.stack card }
 {
     is_other(
         home_of(world.stack(), world.current()),
@@ -292,7 +294,8 @@ pub fn new_layer<E: External>(world: &World<E>, run: &Budget) -> LayerId
     }
 }
 
-/// Makes a change that fits, in the open batch. Where it is out of memory, the history round the batch is kept all the same.
+/// Makes a change that fits, in the open batch. Where it is out of memory, the history round the batch is kept all the
+/// same.
 #[tactic(auto, using(containers::proofs::Bases::made_keeps, containers::proofs::Bases::is_open))]
 pub fn make<E: External>(world: &mut World<E>, change: Change) -> Result<(), AllocError>
     requires open { IsSome (base world.old.history).start }

@@ -85,7 +85,8 @@ fn count_in(run: &Budget, standing: Standing<'_>, kind: ChunkKind) -> Result<Val
     Ok(Value::of_number(number as i64))
 }
 
-/// The value of an operand; fault 3 where it is a field that keeps no text for its card. A name's and a field's are copied.
+/// The value of an operand; fault 3 where it is a field that keeps no text for its card. A name's and a field's are
+/// copied.
 #[tactic(auto, using(meaning::proofs::Rules::yields_rules))]
 fn operand_value<E: External>(
     world: &World<E>,
@@ -143,7 +144,8 @@ pub fn value_part(run: &Budget, value: &Value, pieces: &Chunk) -> Result<Value, 
     Ok(Standing::Value(value).part(run.alloc(), pieces, run.delimiter())?)
 }
 
-/// How many pieces of a kind an operand has, which is lent; fault 3 where it is a field that keeps no text for its card.
+/// How many pieces of a kind an operand has, which is lent; fault 3 where it is a field that keeps no text for its
+/// card.
 #[tactic(auto, using(meaning::proofs::Rules::yields_rules))]
 #[inline(never)]
 pub fn operand_count<E: External>(
@@ -174,8 +176,8 @@ pub fn call_of_value(run: &Budget, function: Func, value: Value) -> Result<Value
     }
 }
 
-/// What a function gives of one operand, or its first fault; fault 3 where the operand is a field that keeps no text for its
-/// card. For its length an operand is lent.
+/// What a function gives of one operand, or its first fault; fault 3 where the operand is a field that keeps no text
+/// for its card. For its length an operand is lent.
 #[tactic(auto, using(meaning::proofs::Rules::yields_rules))]
 #[inline(never)]
 pub fn call_of_operand<E: External>(

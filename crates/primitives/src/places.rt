@@ -111,8 +111,8 @@ pub fn variable_place<'a, E: External>(
     }
 }
 
-/// The place of a field's text, for the card with which it was met; fault 3 where it keeps no text for that card. It takes no
-/// memory.
+/// The place of a field's text, for the card with which it was met; fault 3 where it keeps no text for that card. It
+/// takes no memory.
 #[tactic(auto, using(meaning::proofs::Rules::yields_rules))]
 #[inline(never)]
 pub fn field_place<'a, E: External>(
@@ -221,7 +221,8 @@ pub fn edit_variable<E: External>(
     }
 }
 
-/// Computes with a variable, in the open batch. Two numbers of which one is the handler's own are computed with where it stands.
+/// Computes with a variable, in the open batch. Two numbers of which one is the handler's own are computed with where
+/// it stands.
 #[tactic(auto, using(meaning::proofs::Rules::edits_rules))]
 pub(crate) fn alter_variable<E: External>(
     world: &mut World<E>,
@@ -242,7 +243,8 @@ pub(crate) fn alter_variable<E: External>(
     edit_named(world, run, frame, name, Edit::Alter(op, operand))
 }
 
-/// Computes with a variable of the handler's own, where it and the operand are kept as numbers, and says whether they are.
+/// Computes with a variable of the handler's own, where it and the operand are kept as numbers, and says whether they
+/// are.
 #[tactic(auto, using(meaning::proofs::Rules::edits_rules))]
 fn alter_kept(frame: &mut Frame, name: &Name, op: Op, operand: &Value) -> bool
     ensures altered { result ≡ true → (w : History) (d : ℕ) → Edits w frame.old d
@@ -373,7 +375,8 @@ fn declare_one<E: External>(
     name: &Name,
 ) -> Result<(), AllocError>
     requires open { IsSome (base world.old.history).start }
-    ensures ok { OnOk result (Declares world.old.history frame.old.variables name.now world.new.history frame.new.variables) }
+    ensures ok { OnOk result (Declares world.old.history frame.old.variables name.now world.new.history
+        frame.new.variables) }
     ensures frame { OnOk result (frame.new ≡ record frame.old { variables = frame.new.variables }) }
     ensures base { base world.new.history ≡ base world.old.history }
 {

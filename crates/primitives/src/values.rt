@@ -183,8 +183,8 @@ pub(crate) fn run_property(run: &Budget, property: RunProp) -> Result<Value, All
     }
 }
 
-/// Sets a property of the run. `BadArgument` where the delimiter isn't one byte, `NotLogical` where another property isn't
-/// `true` or `false`; then nothing changes. It takes no memory.
+/// Sets a property of the run. `BadArgument` where the delimiter isn't one byte, `NotLogical` where another property
+/// isn't `true` or `false`; then nothing changes. It takes no memory.
 pub fn set_run_property(run: &mut Budget, property: RunProp, text: &Text) -> Result<(), Fault>
     ensures ok { OnOk result (run_property_set run.old property text.now ≡ Ok run.new) }
     ensures fault { IfErr result (λ e. run_property_set run.old property text.now ≡ Err e) }

@@ -28,7 +28,8 @@ enum Call {
     There(usize),
 }
 
-/// The names of the externals of a session and of those at hand, the calls, and how many externals come back at its close.
+/// The names of the externals of a session and of those at hand, the calls, and how many externals come back at its
+/// close.
 struct Calls {
     name: &'static str,
     externals: &'static [&'static [u8]],

@@ -1,5 +1,6 @@
-//! Examples of the session and of the program's library, with ample memory: what no row shows. A crate that has tests is proved a
-//! second time for them, so they stand here, above the crates that they try, where nothing else is to be proved.
+//! Examples of the session and of the program's library, with ample memory: what no row shows. A crate that has tests
+//! is proved a second time for them, so they stand here, above the crates that they try, where nothing else is to be
+//! proved.
 #![tactic(auto)]
 
 #[cfg(test)]

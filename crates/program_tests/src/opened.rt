@@ -1,4 +1,5 @@
-//! Sessions on the stack of two cards, and why one isn't opened. A session stands in a box, which is dropped by one call.
+//! Sessions on the stack of two cards, and why one isn't opened. A session stands in a box, which is dropped by one
+//! call.
 
 ghost use Rattle.std.specs.Prelude.{IfSome};
 ghost use Rattle.object_table.specs.WellFormed.{IsWellFormed};

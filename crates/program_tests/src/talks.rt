@@ -1,4 +1,5 @@
-//! Runs over devices that may fail, with externals that answer freely: what is written, what the desk keeps, and who is blamed.
+//! Runs over devices that may fail, with externals that answer freely: what is written, what the desk keeps, and who is
+//! blamed.
 
 use crate::drip::Drip;
 use crate::free::{Boxed, Manner, external_of};
@@ -42,8 +43,8 @@ impl Write for Sip {
 /// Never reached.
 const NEVER: usize = 10_000_000;
 
-/// The devices of a run: the reader and the writer take as many bytes at a time and fail at a call, from 0, and the desk
-/// fails at a save, from 1.
+/// The devices of a run: the reader and the writer take as many bytes at a time and fail at a call, from 0, and the
+/// desk fails at a save, from 1.
 #[derive(Clone, Copy)]
 pub(crate) struct Devices {
     pub(crate) most_read: usize,

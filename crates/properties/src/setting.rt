@@ -9,9 +9,9 @@ use crate::flag::{cant_delete, shared_hilite, shared_text};
 use ht_values::{Fault, Prop, Text, truth_of};
 use object_table::{Id, Kind, PropValue, Stack};
 
-/// The value that a text is for a property that may be set, or the text handed back with a fault: `NoSuchProperty` where
-/// there is no such object, it has no such property or it may not be set, else `NotLogical` where the property is a
-/// truth value and the text is none. It takes no memory.
+/// The value that a text is for a property that may be set, or the text handed back with a fault: `NoSuchProperty`
+/// where there is no such object, it has no such property or it may not be set, else `NotLogical` where the property is
+/// a truth value and the text is none. It takes no memory.
 pub fn check(stack: &Stack, id: Id, prop: Prop, text: Text) -> Result<PropValue, (Text, Fault)>
     ensures { result ≡ setting.handed_back text (setting.value_for stack.now.content id prop text) }
 {

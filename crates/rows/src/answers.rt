@@ -200,7 +200,8 @@ impl<'a> Comparison<'a> {
         passes(alloc, check, shown.as_str(), stack, &mut self.kept)
     }
 
-    /// Whether the next answers, or the next message, are those of a line of the row; an input line has none of its own.
+    /// Whether the next answers, or the next message, are those of a line of the row; an input line has none of its
+    /// own.
     fn meets(&mut self, alloc: Global, line: &str, stack: &str) -> Result<bool, AllocError> {
         if let Some(wanted) = line.strip_prefix("= ") {
             return Ok(self.is_next_line(wanted));
@@ -216,8 +217,8 @@ impl<'a> Comparison<'a> {
     }
 }
 
-/// The first line `? TEXT` of a row that isn't the next line of what was explained, or none. Where a row has such lines, they are
-/// all that was explained.
+/// The first line `? TEXT` of a row that isn't the next line of what was explained, or none. Where a row has such
+/// lines, they are all that was explained.
 pub fn first_unexplained<'a>(body: &'a str, explained: &str) -> Option<&'a str> {
     let mut rest = explained.lines();
     let mut has_any = false;

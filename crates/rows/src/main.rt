@@ -1,4 +1,5 @@
-//! The trees of a table of texts, then the worked rows and those of the pages, each run as the program would, over memory.
+//! The trees of a table of texts, then the worked rows and those of the pages, each run as the program would, over
+//! memory.
 //!
 //! Each line of standard input is a text, whose tree is printed, or `syntax`; the trees that are wanted were written by
 //! hand. `rows.txt` lists the rows. A line for each says whether it passed. The rows of the pages are their sessions;
@@ -150,8 +151,8 @@ fn wrong_answer<'a>(
     }
 }
 
-/// What is wrong with a run whose desk hears why lines fault or are refused, beside one whose desk doesn't, if anything: it has
-/// other answers, or other lines are explained than the row has.
+/// What is wrong with a run whose desk hears why lines fault or are refused, beside one whose desk doesn't, if
+/// anything: it has other answers, or other lines are explained than the row has.
 fn wrong_explained<'a>(row: &Row<'a>, ended: &Ended, heard: &Ended) -> Option<Wrong<'a>> {
     if heard.status != ended.status || heard.answers.as_slice() != ended.answers.as_slice() {
         return Some(Wrong::Text("with explanations it differs"));
@@ -162,7 +163,8 @@ fn wrong_explained<'a>(row: &Row<'a>, ended: &Ended, heard: &Ended) -> Option<Wr
     }
 }
 
-/// Runs a row once more, at a desk that hears why lines fault or are refused, and tells what is wrong with that, or none.
+/// Runs a row once more, at a desk that hears why lines fault or are refused, and tells what is wrong with that, or
+/// none.
 fn unexplained_on<'a>(
     alloc: Global,
     row: &Row<'a>,

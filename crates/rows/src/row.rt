@@ -17,9 +17,9 @@ pub struct Row<'a> {
     pub status: &'a str,
     /// The line that is wanted on standard error; `*` is any line.
     pub stderr: &'a str,
-    /// The lines of the row: what is typed (`< LINE`), each line of the answer (`= LINE`), what a shown stack text has to be
-    /// (`~ CHECK`), each message that the run sends, in their order, with the id of its object (`! NAME ID`), and each line that
-    /// says why a line faulted or was refused (`? LINE`).
+    /// The lines of the row: what is typed (`< LINE`), each line of the answer (`= LINE`), what a shown stack text has
+    /// to be (`~ CHECK`), each message that the run sends, in their order, with the id of its object (`! NAME ID`), and
+    /// each line that says why a line faulted or was refused (`? LINE`).
     pub body: &'a str,
 }
 

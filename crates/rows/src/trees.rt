@@ -1,6 +1,6 @@
-//! Texts and their trees. A line `KIND TEXT` says what its text is read as. In a text `|` stands for a return and `~` for the
-//! byte 0xC2, and `[`, `]` and `#` for 0xB2, 0xB3 and 0xAD. A line `nested N M` is the expression of N opening parentheses,
-//! a 1, and M closing ones.
+//! Texts and their trees. A line `KIND TEXT` says what its text is read as. In a text `|` stands for a return and `~`
+//! for the byte 0xC2, and `[`, `]` and `#` for 0xB2, 0xB3 and 0xAD. A line `nested N M` is the expression of N opening
+//! parentheses, a 1, and M closing ones.
 
 mod expression;
 mod printed;

@@ -136,7 +136,8 @@ module _ (steps number : ℕ) (does : Action) (old w0 w : History) (run0 run : R
       → ending_of (end_of end) ≡ Some ending → reply ≡ reply_of run ending
       → IfSome w.start (λ o. IsOnce o.trail) → new ≡ committed w → Does steps does number old reply new
   finishes end ending reply new is ends told once joined =
-      let added : Adds steps does number old (reply_of run ending) new = adds steps number does old w new run (end_of end) ending
+      let added : Adds steps does number old (reply_of run ending) new =
+      adds steps number does old w new run (end_of end) ending
       (acted (begun old number) w (fresh_run steps) run does end (from_here (some_end end) is)) kept_base ends once
       joined in
       inl (subst (λ (r : Reply). Adds steps does number old r new) (sym told) added)

@@ -8,7 +8,8 @@ use Rattle.meaning.specs.Actions.{Action}
 use Rattle.externals.specs.Cells.{Seen}
 use Rattle.externals.specs.Log.{Log}
 use Rattle.journal_entries.specs.State.{titles_of, index_of}
-use Rattle.change_journal.specs.History.{History, Neighbour, stamp_at, step_with_external, plugged, unplugged, unplugged_at}
+use Rattle.change_journal.specs.History.{History, Neighbour, stamp_at, step_with_external, plugged, unplugged}
+use Rattle.change_journal.specs.History.{unplugged_at}
 use Rattle.change_journal.specs.History.{flipped_back, flipped_back_from, flipped_forth, flipped_forth_from}
 use Rattle.session.specs.Moves.{MovesTo, back_by, forth_by, stamps, undone, redone, undone_to, undone_by, places_to}
 use Rattle.session.specs.Commands.{behind_name, second, words}
@@ -77,7 +78,8 @@ here_back n h d = descend-behind n (reverse (numbers_of h.future)) (stamps h) d
 pub stamped-past : (n : ℕ) (h : History) → AreStamped n h → DescendFrom h.stamp (numbers_of h.past)
 stamped-past n h d = (here_back n h d).1
 
-all_back : (h : History) (steps : List Neighbour) → h.past ≡ steps → all_stamps (flipped_back_from h steps) ≡ all_stamps h
+all_back : (h : History) (steps : List Neighbour) → h.past ≡ steps
+    → all_stamps (flipped_back_from h steps) ≡ all_stamps h
 all_back h [] e = refl
 all_back h (s ∷ ss) e =
     let front = reverse (numbers_of h.future) in

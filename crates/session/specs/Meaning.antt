@@ -12,7 +12,8 @@ use Rattle.session.specs.declared.reply.Ending.TheVariants as endings
 use Rattle.session.specs.declared.reply.Reply.{Reply}
 use Rattle.meaning.specs.Locked.{MeetsLock}
 
--- How a command is answered that ended so: `exit to HyperCard` is no fault. One that is out of memory isn't a fresh command.
+-- How a command is answered that ended so: `exit to HyperCard` is no fault. One that is out of memory isn't a fresh
+-- command.
 abbrev pub ending_of : Result (Unit {0}) Stop → Option Ending
 ending_of (Ok _) = Some endings.Ok
 ending_of (Err stop.Exited) = Some endings.Ok
@@ -22,9 +23,9 @@ ending_of (Err stop.Memory) = None
 abbrev pub reply_of : RunState → Ending → Reply
 reply_of run ending = record { shown = run.shown; sent = run.sent; ending = ending }
 
--- What a user does leads from one history to the other, by the written meaning of HyperTalk, as a command with so many steps.
--- The run begins with its properties as they are at first and with an empty result. The reply has what it showed and sent,
--- and how it ended.
+-- What a user does leads from one history to the other, by the written meaning of HyperTalk, as a command with so many
+-- steps. The run begins with its properties as they are at first and with an empty result. The reply has what it showed
+-- and sent, and how it ended.
 pub record Runs (old : History) (steps : ℕ) (does : Action) (reply : Reply) (new : History) : Type 0 where
   pub run : RunState
   pub end : Result (Unit {0}) Stop

@@ -62,8 +62,8 @@ pub record Refuses {S : Type 0} (refusal : Refusal) (old : S) (reply : Reply) (n
   pub answer : reply ≡ refused refusal
   pub same : new ≡ old
 
--- A text is read as what a user does, which is done so; or it is nothing of that kind and is refused. Or it is given up, for
--- memory.
+-- A text is read as what a user does, which is done so; or it is nothing of that kind and is refused. Or it is given
+-- up, for memory.
 pub data Obeys {S : Type 0} (IsRead : List ℕ → Action → Type 0) (IsDone : Action → Type 0) (GivenUp : Type 0)
     (text : List ℕ) (old : S) (reply : Reply) (new : S) : Type 0 where
   obeys : {does : Action} → IsRead text does → IsDone does → Obeys IsRead IsDone GivenUp text old reply new

@@ -26,8 +26,8 @@ use Rattle.session.specs.declared.reply.Ending.TheVariants as endings
 use Rattle.session.specs.declared.reply.Reply.{Reply}
 use Rattle.meaning.specs.Locked.{MeetsLock}
 
--- A fresh command adds the state that it leaves, in place of all after the cursor. The step to it weighs no more
--- than what the command replaced, and has each place once between what is made, removed or an external's: so with t turns
+-- A fresh command adds the state that it leaves, in place of all after the cursor. The step to it weighs no more than
+-- what the command replaced, and has each place once between what is made, removed or an external's: so with t turns
 -- and s entries that make or remove an object it has at most t + s + (s + 1) * p entries, where p is how many different
 -- places were replaced.
 pub record Adds (steps : ℕ) (does : Action) (number : ℕ) (old : History) (reply : Reply) (new : History) : Type 0 where

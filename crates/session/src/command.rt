@@ -187,8 +187,8 @@ pub fn behind_name(line: &[u8]) -> &[u8]
     &line[word_length(line)..]
 }
 
-/// The text of a line that says what a user does, and how it is read: a line without a dot whole, of `.click` and `.type` what
-/// stands behind the name, of `.open` nothing that is read. `None` for every other dot line.
+/// The text of a line that says what a user does, and how it is read: a line without a dot whole, of `.click` and
+/// `.type` what stands behind the name, of `.open` nothing that is read. `None` for every other dot line.
 pub fn acted_in(line: &[u8]) -> Option<(Reading, &[u8])>
     ensures { option_map (λ read. (read.0, read.1.now)) result ≡ acted_by line.now }
 {

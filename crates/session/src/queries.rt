@@ -129,7 +129,8 @@ pub fn globals_shown<E: External>(alloc: Global, world: &World<E>) -> Result<Sho
 
 /// The number of the external of a name, which is an unreserved word; case is ignored.
 pub fn external_named<E: External>(world: &World<E>, name: &[u8]) -> Option<usize>
-    ensures value { result ≡ (if is_unreserved name.now then index_of name.now (titles_of world.now.history.now.externals) else
+    ensures value { result ≡ (if is_unreserved name.now then index_of name.now
+        (titles_of world.now.history.now.externals) else
         None) }
     ensures there { IfSome result (λ i. i < length world.now.history.now.externals) }
 {

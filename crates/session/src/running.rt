@@ -41,7 +41,8 @@ fn refusal_of(error: ParseError) -> Refusal
     }
 }
 
-/// What a text says that a user does. `BadCommand` where it isn't in the grammar, `NoMemory` where a growth was refused.
+/// What a text says that a user does. `BadCommand` where it isn't in the grammar, `NoMemory` where a growth was
+/// refused.
 fn action_in(alloc: Global, reading: Reading, bytes: &[u8]) -> Result<Action, Refusal>
     requires { length bytes.now ≤ LONGEST_LINE }
     ensures ok { IfOk result (λ action. ReadsAction reading bytes.now (action_of action)) }
@@ -100,8 +101,8 @@ fn kept_out<E: External>(alloc: Global, world: &mut World<E>) -> Reply
     refused(alloc, Refusal::FieldLocked)
 }
 
-/// Does what a user does, with so many steps, as the command of the line of this number. Where it is out of memory nothing is
-/// left of what it did, but for the logs of externals, and so where a text is typed into a locked field.
+/// Does what a user does, with so many steps, as the command of the line of this number. Where it is out of memory
+/// nothing is left of what it did, but for the logs of externals, and so where a text is typed into a locked field.
 fn perform<E: External>(
     alloc: Global,
     world: &mut World<E>,
@@ -111,7 +112,8 @@ fn perform<E: External>(
 ) -> Result<Reply, AllocError>
     requires closed { world.old.history.start ≡ None }
     requires fits { Fits (action_of action.now) }
-    ensures ok { IfOk result (λ reply. Does steps (action_of action.now) number world.old.history reply world.new.history) }
+    ensures ok { IfOk result (λ reply. Does steps
+        (action_of action.now) number world.old.history reply world.new.history) }
     ensures err { OnErr result (world.new.history ≡ record world.old.history { logs = world.new.history.logs }) }
     ensures closed { world.new.history.start ≡ None }
 {
@@ -129,9 +131,9 @@ fn perform<E: External>(
     }
 }
 
-/// Reads a text and does what it says that a user does, with so many steps, as the line of this number. `BadCommand` where it
-/// isn't in the grammar. `NoMemory` where a growth was refused; then nothing is left of what it did, but for the turns of
-/// externals.
+/// Reads a text and does what it says that a user does, with so many steps, as the line of this number. `BadCommand`
+/// where it isn't in the grammar. `NoMemory` where a growth was refused; then nothing is left of what it did, but for
+/// the turns of externals.
 pub fn obey<E: External>(
     alloc: Global,
     world: &mut World<E>,

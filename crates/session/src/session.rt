@@ -67,7 +67,8 @@ impl<E: External> Model for Session<E> {
 
     ghost view = { λ s. record { history = s.world.history; lines = s.lines; steps = s.steps } };
 
-    ghost invariant = { λ s. (s.world.history.start ≡ None) × (s.lines ≤ LAST_NUMBER) × AreStamped s.lines s.world.history };
+    ghost invariant = { λ s. (s.world.history.start ≡ None) × (s.lines ≤ LAST_NUMBER)
+        × AreStamped s.lines s.world.history };
 }
 
 fn moved(alloc: Global, outcome: Result<(), Refusal>) -> Reply
@@ -140,7 +141,8 @@ fn perform<E: External>(
     requires closed { world.old.history.start ≡ None }
     requires stamped { DescendFrom world.old.history.stamp (numbers_of world.old.history.past) }
     requires short { length line.now ≤ LONGEST_LINE }
-    ensures performed { Performs steps line.now number (command_by line.now) world.old.history result world.new.history }
+    ensures performed { Performs steps line.now number
+        (command_by line.now) world.old.history result world.new.history }
     ensures closed { world.new.history.start ≡ None }
 {
     let Some(command) = command_in(line) else {
@@ -232,8 +234,8 @@ impl<E: External> Session<E> {
         stack_text(self.alloc, &self.world)
     }
 
-    /// What holds of every state of the list, at any time: the stack is well formed, the globals have folded names and texts,
-    /// the current card is one of the stack's, and each external is as its kind has it. It does nothing.
+    /// What holds of every state of the list, at any time: the stack is well formed, the globals have folded names and
+    /// texts, the current card is one of the stack's, and each external is as its kind has it. It does nothing.
     pub fn law_of_states(&self)
         ensures { IsHistory self.now.history }
     {
@@ -287,12 +289,12 @@ impl<E: External> Session<E> {
         world.close()
     }
 
-    /// Answers a line: a dot line, or each other one as HyperTalk, with the steps of a command. Each line is counted, up
-    /// to 9,999,999. A command that is run adds a place, also where it changes nothing or ends by a fault, which keeps
-    /// what was done before it. The refusals: 5 for a line over 30,000 bytes, then 3 for a dot line that says nothing and
-    /// for another that isn't in the grammar, 1 and 2 where there is no such place, 6 where a text is typed into a locked
-    /// field, and 4 where a growth of memory was refused; after 4 and 6 nothing is left of what the line did, but for turns
-    /// that externals took.
+    /// Answers a line: a dot line, or each other one as HyperTalk, with the steps of a command. Each line is counted,
+    /// up to 9,999,999. A command that is run adds a place, also where it changes nothing or ends by a fault, which
+    /// keeps what was done before it. The refusals: 5 for a line over 30,000 bytes, then 3 for a dot line that says
+    /// nothing and for another that isn't in the grammar, 1 and 2 where there is no such place, 6 where a text is typed
+    /// into a locked field, and 4 where a growth of memory was refused; after 4 and 6 nothing is left of what the line
+    /// did, but for turns that externals took.
     pub fn line(&mut self, line: &[u8]) -> Reply
         ensures step { TakesLine line.now self.old result self.new }
         ensures memory { result.ending ≡ Ending.Refused Refusal.NoMemory → LineMayRunOut line.now }

@@ -170,7 +170,8 @@ impl<'a> Lines<'a> {
         alone: bool,
         room: usize,
     ) -> Result<Vec<u8>, ReadError>
-        ensures value { Gives (λ x. (x.items, self.new)) result (line_after (codes "|") (piece_at alone room) self.old) }
+        ensures value { Gives (λ x. (x.items, self.new)) result
+            (line_after (codes "|") (piece_at alone room) self.old) }
         ensures short { IfOk result (λ x. length x.items < room) }
     {
         let line = self.next_line()?;

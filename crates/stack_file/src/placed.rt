@@ -24,7 +24,8 @@ impl Model for PlacedIds {
 
     ghost view = { λ p. p.ids.items };
 
-    ghost invariant = { λ p. (id : ℕ) → lookup (eq_by_cmp nat_cmp id) p.places.entries ≡ position (λ x. x == id) p.ids.items };
+    ghost invariant = { λ p. (id : ℕ) → lookup (eq_by_cmp nat_cmp id) p.places.entries
+        ≡ position (λ x. x == id) p.ids.items };
 }
 
 impl PlacedIds {

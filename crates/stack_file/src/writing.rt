@@ -196,7 +196,8 @@ fn put_keeping(out: &mut Vec<u8>, stack: &Stack, card: Id, id: Id) -> Result<(),
 
 fn put_keepings(out: &mut Vec<u8>, stack: &Stack, card: Id, ids: &[Id]) -> Result<(), AllocError>
     ensures { OnOk result (out.new.items
-        ≡ with_lines out.old.items (flat_map (keeping_lines second) (map (keeping_of stack.now.content card) ids.now))) }
+        ≡ with_lines out.old.items (flat_map (keeping_lines second)
+        (map (keeping_of stack.now.content card) ids.now))) }
 {
     for id in ids {
         put_keeping(out, stack, card, *id)?;

@@ -73,8 +73,10 @@ impl BoxedText {
     pub(crate) fn exchange(&mut self, stack: &mut Stack, field: Id, card: Id)
         requires { set.contains stack.old.room.texts (field, card) ≡ true }
         ensures value { self.new ≡ text_at stack.old.content field card }
-        ensures stack { stack.new ≡ record stack.old
-            { content = record stack.old.content { texts = put_option stack.old.content.texts (field, card) self.old } } }
+        ensures stack { stack.new ≡ record stack.old {
+          content = record stack.old.content
+              { texts = put_option stack.old.content.texts (field, card) self.old };
+        } }
     {
         stack.swap_text(field, card, &mut self.text);
     }

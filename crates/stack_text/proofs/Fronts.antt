@@ -1,4 +1,5 @@
--- What a reader does with the first lines of its bytes: it reads them so whatever stands behind, and fewer are truncated.
+-- What a reader does with the first lines of its bytes: it reads them so whatever stands behind, and fewer are
+-- truncated.
 use Rattle.std.proofs.Common.{◌≡◌, ℕ, zero, suc, ◌+◌, ◌-◌, ◌<◌, ◌≤◌, ◌⊎◌, inl, inr, Bool, true, false, eqb, List, []}
 use Rattle.std.proofs.Common.{◌∷◌, ◌++◌, Result, Ok, Err, Option, Some, None, refl, sym, ap, subst, ◌∙◌, arith}
 use Rattle.std.proofs.Common.{append_assoc, add_assoc, add-zero, zero-add, one-add}

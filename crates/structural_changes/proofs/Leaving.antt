@@ -62,7 +62,8 @@ total-lost g id (x ∷ xs) h = by (λ k. total-lost g id xs k) (nat_eq x id) ref
         let others = rest few in
         omega arith
 
-pub total-among : (g h : ℕ → ℕ) (xs : List ℕ) → ((x : ℕ) → contains_id x xs ≡ true → g x ≡ h x) → total g xs ≡ total h xs
+pub total-among : (g h : ℕ → ℕ) (xs : List ℕ) → ((x : ℕ) → contains_id x xs ≡ true → g x ≡ h x)
+    → total g xs ≡ total h xs
 total-among g h [] e = refl
 total-among g h (x ∷ xs) e =
     let first : g x ≡ h x =

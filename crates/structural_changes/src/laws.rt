@@ -24,8 +24,8 @@ pub fn laws_of_changes()
         → has_kind is_card s card ≡ true → IsWellFormed (put_each s (writes_of_deletion s card)) }
 {}
 
-/// What is current then is a card: any card after a new part, the new card, the new background's card, and the card that
-/// follows the one that goes.
+/// What is current then is a card: any card after a new part, the new card, the new background's card, and the card
+/// that follows the one that goes.
 #[tactic(auto, using(crate::proofs::Parts::cards_stay, crate::proofs::Cards::new_card_is_there, crate::proofs::Backgrounds::new_background_fits, crate::proofs::Deletion::following_is_there))]
 pub fn laws_of_current_cards()
     ensures new_part { (s : Content) (layer : LayerId) (kind : PartKind) → IsWellFormed s → fits_new_part s layer ≡ true

@@ -1,5 +1,5 @@
-//! The changes that make and remove objects: where each fits, what it writes, and that a stack stays well formed. Each is
-//! prepared here: all that grows is taken first, so that the exchanges can't fail.
+//! The changes that make and remove objects: where each fits, what it writes, and that a stack stays well formed. Each
+//! is prepared here: all that grows is taken first, so that the exchanges can't fail.
 #![tactic(auto)]
 
 mod clearing;

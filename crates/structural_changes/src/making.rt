@@ -158,8 +158,8 @@ fn card_on(alloc: Global, background: Id) -> Object
     Object::empty(alloc, kind)
 }
 
-/// The entries of a new card on the background of another card, behind which it stands, with all the room that they need.
-/// The stack holds what it held; where a growth is refused its room may be wider.
+/// The entries of a new card on the background of another card, behind which it stands, with all the room that they
+/// need. The stack holds what it held; where a growth is refused its room may be wider.
 pub fn prepare_new_card(
     alloc: Global,
     stack: &mut Stack,
@@ -169,7 +169,8 @@ pub fn prepare_new_card(
     requires fits { has_room_for 1 stack.old.content ≡ true }
     requires card { has_kind is_card stack.old.content card ≡ true }
     ensures opens { Opens stack.old stack.new }
-    ensures entries { IfOk result (λ entries. Adds stack.old stack.new [] entries.items (writes_of_new_card stack.old.content card)) }
+    ensures entries { IfOk result (λ entries. Adds stack.old stack.new [] entries.items
+        (writes_of_new_card stack.old.content card)) }
 {
     let new = stack.next_id();
     let background = home_of(stack, card);
@@ -204,8 +205,8 @@ pub fn home_of(stack: &Stack, card: Id) -> Id
     }
 }
 
-/// The entries of a new background, which is the last one, and of its card, which stands behind another card, with all the
-/// room that they need. The stack holds what it held; where a growth is refused its room may be wider.
+/// The entries of a new background, which is the last one, and of its card, which stands behind another card, with all
+/// the room that they need. The stack holds what it held; where a growth is refused its room may be wider.
 pub fn prepare_new_background(
     alloc: Global,
     stack: &mut Stack,

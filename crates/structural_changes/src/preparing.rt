@@ -69,7 +69,8 @@ pub(crate) fn add_texts(
     field: Id,
     cards: &[Id],
 ) -> Result<(), AllocError>
-    ensures adds { OnOk result (Adds stack.old stack.new entries.old.items entries.new.items (empty_texts field cards.now)) }
+    ensures adds { OnOk result (Adds stack.old stack.new entries.old.items entries.new.items
+        (empty_texts field cards.now)) }
     ensures opens { Opens stack.old stack.new }
 {
     entries.reserve(cards.len())?;
@@ -86,7 +87,8 @@ pub(crate) fn add_hilites(
     button: Id,
     cards: &[Id],
 ) -> Result<(), AllocError>
-    ensures adds { OnOk result (Adds stack.old stack.new entries.old.items entries.new.items (false_hilites button cards.now)) }
+    ensures adds { OnOk result (Adds stack.old stack.new entries.old.items entries.new.items
+        (false_hilites button cards.now)) }
     ensures opens { Opens stack.old stack.new }
 {
     entries.reserve(cards.len())?;
@@ -114,7 +116,8 @@ pub fn is_on(stack: &Stack, background: Id, id: Id) -> bool
 /// The cards of a background, by their ids.
 pub(crate) fn cards_of(alloc: Global, stack: &Stack, background: Id) -> Result<Vec<Id>, AllocError>
     requires { IsWellFormed stack.now.content }
-    ensures { IfOk result (λ cards. cards.items ≡ ids_where stack.now.content (is_card_of stack.now.content background)) }
+    ensures { IfOk result (λ cards. cards.items
+        ≡ ids_where stack.now.content (is_card_of stack.now.content background)) }
 {
     let mut cards = Vec::new(alloc);
     for card in stack.cards().as_slice() {
@@ -127,7 +130,8 @@ pub(crate) fn cards_of(alloc: Global, stack: &Stack, background: Id) -> Result<V
     Ok(cards)
 }
 
-/// Whether an object is a part of a background that keeps something for each card: a field its texts, a button its hilites.
+/// Whether an object is a part of a background that keeps something for each card: a field its texts, a button its
+/// hilites.
 fn is_kept(stack: &Stack, kind: PartKind, id: Id) -> bool
     ensures { result ≡ has_kind (keeps kind) stack.now.content id }
 {
@@ -181,7 +185,8 @@ pub(crate) fn add_texts_of(
     fields: &[Id],
     card: Id,
 ) -> Result<(), AllocError>
-    ensures adds { OnOk result (Adds stack.old stack.new entries.old.items entries.new.items (texts_of fields.now card)) }
+    ensures adds { OnOk result (Adds stack.old stack.new entries.old.items entries.new.items
+        (texts_of fields.now card)) }
     ensures opens { Opens stack.old stack.new }
 {
     entries.reserve(fields.len())?;
@@ -198,7 +203,8 @@ pub(crate) fn add_hilites_of(
     buttons: &[Id],
     card: Id,
 ) -> Result<(), AllocError>
-    ensures adds { OnOk result (Adds stack.old stack.new entries.old.items entries.new.items (hilites_of buttons.now card)) }
+    ensures adds { OnOk result (Adds stack.old stack.new entries.old.items entries.new.items
+        (hilites_of buttons.now card)) }
     ensures opens { Opens stack.old stack.new }
 {
     entries.reserve(buttons.len())?;

@@ -215,8 +215,8 @@ fn leave_background(
     add_entry(stack, entries, StackEntry::BackgroundOrder(backgrounds))
 }
 
-/// The entries of a card that goes, and of its background where no other card is on it, with all the room that they need.
-/// The stack holds what it held, and has more room, also where a growth is refused.
+/// The entries of a card that goes, and of its background where no other card is on it, with all the room that they
+/// need. The stack holds what it held, and has more room, also where a growth is refused.
 pub fn prepare_deletion(
     alloc: Global,
     stack: &mut Stack,
@@ -226,7 +226,8 @@ pub fn prepare_deletion(
     requires fits { fits_deletion stack.old.content ≡ true }
     requires card { has_kind is_card stack.old.content card ≡ true }
     ensures opens { Opens stack.old stack.new }
-    ensures entries { IfOk result (λ entries. Adds stack.old stack.new [] entries.items (writes_of_deletion stack.old.content card)) }
+    ensures entries { IfOk result (λ entries. Adds stack.old stack.new [] entries.items
+        (writes_of_deletion stack.old.content card)) }
 {
     let last = is_last_of_background(stack, card);
     let cards = without(alloc, stack.cards(), card)?;

@@ -13,9 +13,9 @@ use ht_values::{Failure, Fault, Text};
 use std::alloc::{AllocError, Global};
 use xkit::{Cells, TurnLog};
 
-/// The function `Replace(text, old, new)`: the text with each occurrence of `old` replaced by `new`, byte for byte, from
-/// left to right, none overlapping. An empty `old` occurs nowhere. It fails where the value would be over 30,000 bytes,
-/// and for another number of arguments. It keeps no cells, and its kind is 0.
+/// The function `Replace(text, old, new)`: the text with each occurrence of `old` replaced by `new`, byte for byte,
+/// from left to right, none overlapping. An empty `old` occurs nowhere. It fails where the value would be over 30,000
+/// bytes, and for another number of arguments. It keeps no cells, and its kind is 0.
 #[derive(Drop)]
 pub struct Replace {
     name: Text,
@@ -132,8 +132,8 @@ fn replace_all(alloc: Global, text: &Text, old: &Text, new: &Text) -> Result<Tex
     Ok(made)
 }
 
-/// What stands for the next bytes of a text, and where those after them begin: an occurrence of the run is replaced, any
-/// other byte stays.
+/// What stands for the next bytes of a text, and where those after them begin: an occurrence of the run is replaced,
+/// any other byte stays.
 fn next_piece<'a>(text: &'a [u8], at: usize, old: &[u8], new: &'a [u8]) -> (&'a [u8], usize)
     requires at { at < length text.now }
     requires old { 0 < length old.now }

@@ -17,10 +17,10 @@ use xkit::{Cells, Step, TurnLog, changed, unchanged};
 /// How many keys there are at most.
 const PLACES: usize = 32;
 
-/// The command `Table`, which keeps up to 32 values under keys. `Table "put",key,value` keeps a value, in place of the one
-/// that the key has; it fails for an empty key, and for a new one while no place is free. `Table "get",key` gives the
-/// value in `the result`, empty where there is none. `Table "delete",key` forgets the key. Verbs and keys are compared
-/// without case, and a key stays as it was first spelled. Its kind is 0.
+/// The command `Table`, which keeps up to 32 values under keys. `Table "put",key,value` keeps a value, in place of the
+/// one that the key has; it fails for an empty key, and for a new one while no place is free. `Table "get",key` gives
+/// the value in `the result`, empty where there is none. `Table "delete",key` forgets the key. Verbs and keys are
+/// compared without case, and a key stays as it was first spelled. Its kind is 0.
 #[derive(Drop)]
 pub struct Table {
     name: Text,
@@ -78,7 +78,8 @@ impl External for Table {
     }
 
     fn turn(&mut self, alloc: Global, input: &Input) -> Result<(Ask, Patch), AllocError>
-        ensures takes { IfOk result (λ r. Takes (table_turn self.old.cells input.now) self.old.cells self.new.cells r.0 r.1) }
+        ensures takes { IfOk result (λ r. Takes
+            (table_turn self.old.cells input.now) self.old.cells self.new.cells r.0 r.1) }
         ensures answers { IfOk result (λ r. Answers 0 self.old.cells input.now r.0 self.new.cells) }
         ensures patch { IfOk result (λ r. IsPatch self.old.cells self.new.cells r.1) }
         ensures err { OnErr result (self.new.cells ≡ self.old.cells) }
@@ -182,7 +183,8 @@ fn put(cells: &mut Cells, alloc: Global, key: &Text, value: &Text) -> Step
 /// A new key takes the first free place.
 fn enter(cells: &mut Cells, alloc: Global, key: &Text, value: &Text) -> Step
     requires { length cells.old ≡ 64 }
-    ensures ok { IfOk result (λ r. Takes (entered cells.old key.now value.now (place_of_key [] cells.old)) cells.old cells.new
+    ensures ok { IfOk result (λ r. Takes
+        (entered cells.old key.now value.now (place_of_key [] cells.old)) cells.old cells.new
         r.0 r.1) }
     ensures err { OnErr result (cells.new ≡ cells.old) }
     ensures count { length cells.new ≡ length cells.old }
@@ -214,7 +216,8 @@ fn set_entry(cells: &mut Cells, alloc: Global, place: usize, key: Text, value: T
 
 fn get(cells: &Cells, alloc: Global, key: &Text) -> Step
     requires { length cells.now ≡ 64 }
-    ensures { IfOk result (λ r. Takes (get_turn cells.now (place_of_key key.now cells.now)) cells.now cells.now r.0 r.1) }
+    ensures { IfOk result (λ r. Takes (get_turn cells.now (place_of_key key.now cells.now)) cells.now
+        cells.now r.0 r.1) }
 {
     let value = match place_of(cells, key.as_slice()) {
         Some(place) => cells.at(PLACES + place).try_clone(alloc)?,
@@ -225,7 +228,8 @@ fn get(cells: &Cells, alloc: Global, key: &Text) -> Step
 
 fn delete(cells: &mut Cells, alloc: Global, key: &Text) -> Step
     requires { length cells.old ≡ 64 }
-    ensures ok { IfOk result (λ r. Takes (delete_turn cells.old (place_of_key key.now cells.old)) cells.old cells.new r.0 r.1) }
+    ensures ok { IfOk result (λ r. Takes
+        (delete_turn cells.old (place_of_key key.now cells.old)) cells.old cells.new r.0 r.1) }
     ensures err { OnErr result (cells.new ≡ cells.old) }
     ensures count { length cells.new ≡ length cells.old }
 {

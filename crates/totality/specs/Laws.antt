@@ -52,8 +52,8 @@ ActionsHaveAnOutcome =
 
 -- ---- outcomes for each behaviour of the externals
 
--- What externals of nondeterministic kinds do: what the one of a number asks, and its cells after that, by its log so far, its
--- cells and what it is handed.
+-- What externals of nondeterministic kinds do: what the one of a number asks, and its cells after that, by its log so
+-- far, its cells and what it is handed.
 abbrev pub Behaviour : Type 0
 Behaviour = ℕ → Log → List (List ℕ) → Input → Turn
 
@@ -67,8 +67,8 @@ abbrev pub IsTurnOf : Behaviour → History → History → ℕ → Input → As
 IsTurnOf behaviour old new i input ask = turn_of (seen_at old.now i).sort (seen_at old.now i).cells input ≡ None →
     behaviour i (slice_index_or old.logs i []) (seen_at old.now i).cells input ≡ (ask, (seen_at new.now i).cells)
 
--- Changes and turns, one after the other, lead from a history to this one. Each turn of a nondeterministic external, by which its
--- log has one turn more, is that of the behaviour.
+-- Changes and turns, one after the other, lead from a history to this one. Each turn of a nondeterministic external, by
+-- which its log has one turn more, is that of the behaviour.
 pub data Follows (behaviour : Behaviour) (begin : History) : History → Type 0 where
   begins : Follows behaviour begin begin
   made : {old new : History} {change : Change} → Follows behaviour begin old → Made old new change →
@@ -76,7 +76,8 @@ pub data Follows (behaviour : Behaviour) (begin : History) : History → Type 0 
   took_turn : {old new : History} {i : ℕ} {input : Input} {ask : Ask} → Follows behaviour begin old →
       TookTurn old new i input ask → IsTurnOf behaviour old new i input ask → Follows behaviour begin new
 
--- an end that a rule allows and that isn't out of memory, where each turn of a nondeterministic external is that of the behaviour
+-- an end that a rule allows and that isn't out of memory, where each turn of a nondeterministic external is that of the
+-- behaviour
 pub data HasOutcomeBy {A : Type 0} (behaviour : Behaviour) (begin : History)
     (Rule : Result A Stop → History → RunState → Type 0) : Type 0 where
   outcome_by : (o : Result A Stop) (w : History) (r : RunState) → HasMemory o → Rule o w r →
@@ -138,7 +139,8 @@ pub data HasWholeOutcome {A : Type 0} (Rule : Result A Stop → History → RunS
   whole_outcome : (o : Result A Stop) (w : History) (r : RunState) → HasMemory o → Rule o w r → IsWhole w →
       HasWholeOutcome Rule
 
--- Where each state of the history is whole, each external is deterministic, and the lines have texts, they have such an outcome.
+-- Where each state of the history is whole, each external is deterministic, and the lines have texts, they have such an
+-- outcome.
 abbrev pub LinesHaveAWholeOutcome : Type 0
 LinesHaveAWholeOutcome = (w : History) (r : RunState) (ss : stm.Stmts) → IsSome w.start → IsWhole w → RunTexts r →
     StmtsTexts ss → HasWholeOutcome (Line w r ss)

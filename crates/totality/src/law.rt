@@ -14,9 +14,9 @@ use ht_grammar::{
 use ht_lex::texts_are_cut_exactly;
 use whole_states::runs_lead_to_whole_states;
 
-/// For each behaviour of the externals of nondeterministic kinds, lines, a message, an action, the reference of a dot line or the
-/// value of an expression have an end that the rules allow and that isn't out of memory, while a batch is open, and
-/// each turn of such an external is that of the behaviour; but for a text that is typed into a locked field.
+/// For each behaviour of the externals of nondeterministic kinds, lines, a message, an action, the reference of a dot
+/// line or the value of an expression have an end that the rules allow and that isn't out of memory, while a batch is
+/// open, and each turn of such an external is that of the behaviour; but for a text that is typed into a locked field.
 pub fn behaviours_have_an_outcome()
     ensures lines { LinesHaveAnOutcomeBy }
     ensures messages { MessagesHaveAnOutcomeBy }
@@ -31,8 +31,8 @@ pub fn behaviours_have_an_outcome()
     messages_are_read_exactly();
 }
 
-/// Where a behaviour is followed, the log of each external of a nondeterministic kind is the one before with turns more, each of
-/// which is that of the behaviour by the log and the cells before it.
+/// Where a behaviour is followed, the log of each external of a nondeterministic kind is the one before with turns
+/// more, each of which is that of the behaviour by the log and the cells before it.
 pub fn behaviours_are_logged()
     ensures { BehavioursAreLogged }
 {}
@@ -49,8 +49,8 @@ pub fn runs_have_an_outcome()
     behaviours_have_an_outcome();
 }
 
-/// Where each state of the history is whole, each external is deterministic, and what runs has texts, each of these has such an end
-/// after which each state is whole.
+/// Where each state of the history is whole, each external is deterministic, and what runs has texts, each of these has
+/// such an end after which each state is whole.
 pub fn runs_have_a_whole_outcome()
     ensures lines { LinesHaveAWholeOutcome }
     ensures messages { MessagesHaveAWholeOutcome }

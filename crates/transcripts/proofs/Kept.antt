@@ -143,12 +143,14 @@ module _ (P : State → Type 0) (IsSuch : Action → Type 0)
 
 -- a command keeps the kinds of the externals
 fresh_kept : (does : Action) (state : State) (steps : ℕ) (reply : Reply) (after : State) → Unit {0} →
-    AreDeterministic (sorts_of state.externals) → Fresh state steps does reply after → AreDeterministic (sorts_of after.externals)
+    AreDeterministic (sorts_of state.externals) → Fresh state steps does reply after
+    → AreDeterministic (sorts_of after.externals)
 fresh_kept does state steps reply after such free fresh =
     let kept : sorts fresh.end ≡ sorts fresh.old =
     (acts_comes {g = all_logs} fresh.runs.means (answered fresh.runs.ends)).kept.kinds in
     subst (λ (s : State). AreDeterministic (sorts_of s.externals)) (sym fresh.leaves)
-    (subst AreDeterministic (sym kept) (subst (λ (s : State). AreDeterministic (sorts_of s.externals)) (sym fresh.here) free))
+    (subst AreDeterministic (sym kept)
+    (subst (λ (s : State). AreDeterministic (sorts_of s.externals)) (sym fresh.here) free))
 
 pub line_kept : (line : List ℕ) (old : Timeline) {reply : Reply} {new : Timeline} →
     AllByRecursion IsDetermined old.snapshots → LineMoves line old reply new →

@@ -146,7 +146,8 @@ no_logs = fixed_sight (λ logs. [])
 -- two references from one state find the same
 one_reference : AreExact →
     (w v : History) {w2 v2 : History} {r r2 q2 : RunState} {pa : tree.Part} {o p : Result ℕ Stop} →
-    v.now ≡ w.now → AreDeterministic (sorts w) → HasMemory o → HasMemory p → Refers w r pa o w2 r2 → Refers v r pa p v2 q2
+    v.now ≡ w.now → AreDeterministic (sorts w) → HasMemory o → HasMemory p → Refers w r pa o w2 r2
+    → Refers v r pa p v2 q2
     → (o ≡ p) × (w2.now ≡ v2.now)
 one_reference exact w v {w2} {v2} {r} {r2} {q2} {pa} {o} {p} same free has had a b =
     let begins : sight no_logs v ≡ sight no_logs w = ap (λ s. record { now = s; logs = []; turns = [] }) same in

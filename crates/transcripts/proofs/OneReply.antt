@@ -14,7 +14,8 @@ use Rattle.transcripts.specs.Replies.{RepliesAreOne}
 answered : (o : Result (Unit {0}) Stop) (e : Ending) → ending_of o ≡ Some e → HasMemory o
 answered o e is never = let gone : ending_of o ≡ None = ap ending_of never in cc
 
-same_ending : (o p : Result (Unit {0}) Stop) (e f : Ending) → o ≡ p → ending_of o ≡ Some e → ending_of p ≡ Some f → e ≡ f
+same_ending : (o p : Result (Unit {0}) Stop) (e f : Ending) → o ≡ p → ending_of o ≡ Some e → ending_of p ≡ Some f
+    → e ≡ f
 same_ending o p e f same is was = let both : ending_of o ≡ ending_of p = ap ending_of same in cc
 
 same_reply : (r q : RunState) (e f : Ending) → r ≡ q → e ≡ f → reply_of r e ≡ reply_of q f

@@ -1,5 +1,5 @@
-//! An input has an output, and where each external is deterministic just one: laws over the headline, each the contract of a
-//! function that does nothing.
+//! An input has an output, and where each external is deterministic just one: laws over the headline, each the contract
+//! of a function that does nothing.
 #![tactic(auto)]
 
 mod law;

@@ -21,8 +21,9 @@ pub enum Action {
     OpenStack,
     /// mouseDown is sent to a part, and mouseUp where it is still there.
     Click(Part),
-    /// openField is sent to a field. Where it and the card that was current as it was found are still there, the text becomes its
-    /// text for that card, or its shared text; then closeField is sent if a byte changed, and exitField if none did.
+    /// openField is sent to a field. Where it and the card that was current as it was found are still there, the text
+    /// becomes its text for that card, or its shared text; then closeField is sent if a byte changed, and exitField if
+    /// none did.
     TypeText(Typing),
 }
 
@@ -38,12 +39,12 @@ impl Drop for Action {
     }
 }
 
-/// Does in the open batch what a user wants, as its meaning says: up to the first message that ends by a fault or by `exit to
-/// HyperCard`. A message takes a step, and the system sends none while lockMessages is true. `None` where a text is typed into a
-/// field that is locked: then all that the reference did is to be rolled back. What it shows and sends, and the steps that are
-/// left, stand in the budget, also where it ends by a fault; a fault keeps what was changed before it. Where it is out of
-/// memory nothing is said of the present state: the batch is to be rolled back. Whatever it answers, the history round the
-/// batch and the state at its start are kept.
+/// Does in the open batch what a user wants, as its meaning says: up to the first message that ends by a fault or by
+/// `exit to HyperCard`. A message takes a step, and the system sends none while lockMessages is true. `None` where a
+/// text is typed into a field that is locked: then all that the reference did is to be rolled back. What it shows and
+/// sends, and the steps that are left, stand in the budget, also where it ends by a fault; a fault keeps what was
+/// changed before it. Where it is out of memory nothing is said of the present state: the batch is to be rolled back.
+/// Whatever it answers, the history round the batch and the state at its start are kept.
 #[tactic(auto, using(meaning::proofs::Rules::acts_rules))]
 pub fn act<E: External>(
     world: &mut World<E>,

@@ -65,8 +65,8 @@ fn leaving_message(old: &Text, new: &Text) -> SystemMessage
     }
 }
 
-/// A text takes the place of the one that a field has for a card, and the field is left. Nothing happens where the field or the
-/// card is gone.
+/// A text takes the place of the one that a field has for a card, and the field is left. Nothing happens where the
+/// field or the card is gone.
 #[tactic(auto, using(meaning::proofs::Rules::typesover_rules))]
 fn type_over<E: External>(
     world: &mut World<E>,
@@ -106,7 +106,8 @@ pub(crate) fn type_text<E: External>(
 ) -> Result<Option<Ended>, Stop>
     requires deep { part_depth (part_of part.now) ≤ max_depth }
     requires open { IsSome (base world.old.history).start }
-    ensures meaning { TypingEnds world.old.history run.old text.now (part_of part.now) result world.new.history run.new }
+    ensures meaning { TypingEnds world.old.history run.old text.now
+        (part_of part.now) result world.new.history run.new }
     ensures fewer { run.new.left ≤ run.old.left }
     ensures base { base world.new.history ≡ base world.old.history }
 {

@@ -115,7 +115,11 @@ pub sound_made : {w w2 : History} {c : Change} → fits w.now c ≡ true → Has
 sound_made {w} {w2} {c} fit texts made q =
     let same : sorts_of w2.now.externals ≡ sorts_of w.now.externals =
     ap (λ h. sorts_of h.now.externals) made.history ∙ ap sorts_of (externals-changed w.now c) in
-    record { history = IsHistory-made w w2 c fit texts made q.history; fixed = subst (All IsDeterministic) (sym same) q.fixed }
+    record {
+      history = IsHistory-made w w2 c fit texts made q.history;
+      fixed = subst (All IsDeterministic) (sym same)
+          q.fixed;
+    }
 
 same_world : {w w2 : History} → w2 ≡ w → IsWhole w → IsWhole w2
 same_world same q = subst IsWhole (sym same) q
@@ -145,7 +149,8 @@ stands_after w w2 kept there =
     ap (λ b. length b.titles) kept in
     omega (arith, there, titles, length-map w.now.externals (λ e. e.title), length-map w2.now.externals (λ e. e.title))
 
-known_turn : (cells2 : List (List ℕ)) (ask : Ask) (sort : ℕ) (cells : List (List ℕ)) (input : Input) → IsDeterministic sort
+known_turn : (cells2 : List (List ℕ)) (ask : Ask) (sort : ℕ) (cells : List (List ℕ)) (input : Input)
+    → IsDeterministic sort
     → AreTexts cells → InputTexts input →
     IfSome (turn_of sort cells input) (λ turn. (ask ≡ turn.0) × (cells2 ≡ turn.1)) → AskTexts ask × AreTexts cells2
 known_turn cells2 ask sort cells input fixed h k known =

@@ -1,4 +1,5 @@
--- Laws over the rules: where each external is deterministic, a run whose trees are of texts leads from whole states to whole states.
+-- Laws over the rules: where each external is deterministic, a run whose trees are of texts leads from whole states to
+-- whole states.
 use Rattle.std.specs.Prelude.{ℕ, List, Result, IfOk}
 use Rattle.std.specs.List.{AllByRecursion}
 use Rattle.ht_values.specs.Text.{IsText}
@@ -13,7 +14,8 @@ use Rattle.meaning.specs.declared.frame.Frame.{Frame}
 use Rattle.preservation.specs.Laws.{HasMemory}
 use Rattle.whole_states.specs.Texts.{IsWhole, RunTexts, FrameTexts, ExprTexts, PartTexts, StmtsTexts, ActionTexts}
 
--- The lines of a command, whatever the handlers and externals that they reach: each state of the history after them is whole.
+-- The lines of a command, whatever the handlers and externals that they reach: each state of the history after them is
+-- whole.
 abbrev pub LinesLeadToWhole : Type 0
 LinesLeadToWhole =
     (w w2 : History) (r r2 : RunState) (ss : stm.Stmts) (o : Result (Unit {0}) Stop) →

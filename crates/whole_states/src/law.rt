@@ -1,4 +1,5 @@
-//! Where each external is deterministic, what is read, computed and written of texts is texts, and whole states lead to whole states.
+//! Where each external is deterministic, what is read, computed and written of texts is texts, and whole states lead to
+//! whole states.
 
 ghost use Rattle.whole_states.specs.Laws.{LinesLeadToWhole, MessagesLeadToWhole, ActionsLeadToWhole};
 ghost use Rattle.whole_states.specs.Laws.{ReferencesLeadToWhole, ValuesLeadToWhole};
@@ -7,8 +8,8 @@ ghost use Rattle.whole_states.specs.Texts.{ScriptsHaveTexts, ClickedPartsHaveTex
 
 use chunks::parts_cut;
 
-/// A text that is read as a tree gives it texts alone: an expression, lines, a message, a script, a part that is clicked, and
-/// a text that is typed into a field.
+/// A text that is read as a tree gives it texts alone: an expression, lines, a message, a script, a part that is
+/// clicked, and a text that is typed into a field.
 pub fn trees_have_texts()
     ensures expressions { ExpressionsHaveTexts }
     ensures lines { TypedLinesHaveTexts }
@@ -18,9 +19,9 @@ pub fn trees_have_texts()
     ensures typed { TypedTextsHaveTexts }
 {}
 
-/// From a history each state of which is whole, and whose externals are deterministic, each run that the rules allow leads to one
-/// each state of which is whole, unless it is out of memory: lines, a message, an action, the reference of a dot line and
-/// an expression, whose trees and arguments are texts.
+/// From a history each state of which is whole, and whose externals are deterministic, each run that the rules allow
+/// leads to one each state of which is whole, unless it is out of memory: lines, a message, an action, the reference of
+/// a dot line and an expression, whose trees and arguments are texts.
 pub fn runs_lead_to_whole_states()
     ensures lines { LinesLeadToWhole }
     ensures messages { MessagesLeadToWhole }

@@ -1,5 +1,5 @@
-//! That each run of HyperTalk leads from whole states to whole states, as laws over the rules: each is the contract of a
-//! function that does nothing.
+//! That each run of HyperTalk leads from whole states to whole states, as laws over the rules: each is the contract of
+//! a function that does nothing.
 #![tactic(auto)]
 
 mod law;

@@ -1,5 +1,5 @@
-//! An exchange that changes nothing, and which entries are structural. That the values of all other places go to and fro, the
-//! rows show, which compare the whole stack on the way back and forth.
+//! An exchange that changes nothing, and which entries are structural. That the values of all other places go to and
+//! fro, the rows show, which compare the whole stack on the way back and forth.
 
 use object_table::{Kind, Object, PropValue, Stack};
 use stack_places::{BoxedObject, StackEntry};

@@ -1,6 +1,6 @@
-//! What no run of the program shows: what laws promise, trees that are kept, a batch that is given up, a name and fields to
-//! which no line leads, what a run tells of itself while it lasts, and a message by itself that isn't of the system. What owns
-//! much hands it to a function that borrows it.
+//! What no run of the program shows: what laws promise, trees that are kept, a batch that is given up, a name and
+//! fields to which no line leads, what a run tells of itself while it lasts, and a message by itself that isn't of the
+//! system. What owns much hands it to a function that borrows it.
 
 ghost use Rattle.std.specs.Prelude.{◌≡◌, IfSome, IsSome, None};
 

@@ -1,4 +1,5 @@
-//! Worlds without externals, and which changes fit that no line makes. A world stands in a box, which is dropped by one call.
+//! Worlds without externals, and which changes fit that no line makes. A world stands in a box, which is dropped by one
+//! call.
 
 ghost use Rattle.std.specs.Prelude.{◌≡◌, None, IfSome};
 ghost use Rattle.object_table.specs.WellFormed.{IsWellFormed};

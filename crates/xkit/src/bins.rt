@@ -118,7 +118,8 @@ fn kept(cells: &mut Cells, alloc: Global, args: &Texts) -> Step
 /// Keeps a text in a cell, from 0, and tells the one that was there.
 fn exchanged(cells: &mut Cells, alloc: Global, cell: usize, text: &Text) -> Step
     requires { cell < length cells.old }
-    ensures ok { IfOk result (λ r. Takes (Ask.Done (slice_index_or cells.old cell []) false, slice_set cells.old cell text.now)
+    ensures ok { IfOk result (λ r. Takes
+        (Ask.Done (slice_index_or cells.old cell []) false, slice_set cells.old cell text.now)
         cells.old cells.new r.0 r.1) }
     ensures err { OnErr result (cells.new ≡ cells.old) }
     ensures count { length cells.new ≡ length cells.old }

@@ -11,10 +11,10 @@ use externals::{Ask, External, Input, Patch, Texts};
 use ht_values::Text;
 use std::alloc::{AllocError, Global};
 
-/// The command that uses each of the four call-backs once, of kind 3. Started with the names of a global and of a field,
-/// an expression and a message, it puts `relay` into the global, the global's name into the background field, computes
-/// the expression and sends the message; its value is that of the expression. Its cells are the name of the global and
-/// the value.
+/// The command that uses each of the four call-backs once, of kind 3. Started with the names of a global and of a
+/// field, an expression and a message, it puts `relay` into the global, the global's name into the background field,
+/// computes the expression and sends the message; its value is that of the expression. Its cells are the name of the
+/// global and the value.
 #[derive(Drop)]
 pub struct Relay {
     name: Text,
@@ -161,7 +161,8 @@ fn answered(cells: &mut Cells, alloc: Global, note: &Texts, value: &Text) -> Ste
 /// The value of the expression is kept, and the message is sent.
 fn computed(cells: &mut Cells, alloc: Global, message: &Text, value: &Text) -> Step
     requires { length cells.old ≡ 2 }
-    ensures ok { IfOk result (λ r. Takes (relay_answer cells.old (codes "3" ∷ message.now ∷ []) value.now) cells.old cells.new
+    ensures ok { IfOk result (λ r. Takes
+        (relay_answer cells.old (codes "3" ∷ message.now ∷ []) value.now) cells.old cells.new
         r.0 r.1) }
     ensures err { OnErr result (cells.new ≡ cells.old) }
     ensures count { length cells.new ≡ length cells.old }

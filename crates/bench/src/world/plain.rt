@@ -5,8 +5,8 @@ use std::alloc::{AllocError, Global};
 use std::collections::HashMap;
 use std::mem;
 
-/// Values by name and by field, a text that grows and is made anew each time, as a world makes it, and ids in order with the
-/// orders that came before, as a history keeps them.
+/// Values by name and by field, a text that grows and is made anew each time, as a world makes it, and ids in order
+/// with the orders that came before, as a history keeps them.
 #[derive(Drop)]
 pub(crate) struct Plain {
     globals: HashMap<Vec<u8>, Vec<u8>>,

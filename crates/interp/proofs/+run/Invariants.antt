@@ -1,5 +1,5 @@
--- What falls in each call of the cycle, and what its loops keep. A message, a turn of an external and `value` take a step;
--- `do` and what they run goes one level deeper; all else goes into a part of a tree.
+-- What falls in each call of the cycle, and what its loops keep. A message, a turn of an external and `value` take a
+-- step; `do` and what they run goes one level deeper; all else goes into a part of a tree.
 use Rattle.std.proofs.Common.{◌≡◌, ◌≤◌, ℕ, List, drop, ◌+◌, ◌-◌, ◌*◌, max, Result, option_copied}
 use Rattle.ht_grammar.specs.Depth.{depth, depths, chunk_depth, container_depth, destination_depth, owner_depth}
 use Rattle.ht_grammar.specs.Depth.{part_depth, ref_depth, selector_depth, stmt_depth, stmts_depth}
@@ -15,9 +15,9 @@ use Rattle.meaning.specs.State.{RunState}
 use Rattle.meaning.specs.Meaning.{Vals, Block, Endless, While, Counts, Along, Systems, Converses, Talks}
 use Rattle.interp.proofs.+run.Given as goal
 
--- A step that is left counts for more than the calls that may be nested, a call for more than a tree is deep, and a level of a
--- tree for more than the order of the functions that work at one place of it: what an expression is asked, 100 and more;
--- what a statement is, 2001 and more; what asks for neither, below 20.
+-- A step that is left counts for more than the calls that may be nested, a call for more than a tree is deep, and a
+-- level of a tree for more than the order of the functions that work at one place of it: what an expression is asked,
+-- 100 and more; what a statement is, 2001 and more; what asks for neither, below 20.
 abbrev rank : RunState → ℕ → ℕ → ℕ → ℕ
 rank run nested depth order = 1000000 * run.left + 4000 * (100 - nested) + 8 * depth + order
 
@@ -213,7 +213,8 @@ decreases-stmt::run_go g l = rank l.run.now l.nested (destination_depth (destina
 
 abbrev pub decreases-stmt::when : goal.decreases-stmt::when
 decreases-stmt::when g l =
-    rank l.run.now l.nested (max (depth l.condition.now) (max (stmts_depth (stmts_of l.lines.now)) (stmts_depth (stmts_of l.otherwise.now)))) 2005
+    rank l.run.now l.nested (max (depth l.condition.now)
+    (max (stmts_depth (stmts_of l.lines.now)) (stmts_depth (stmts_of l.otherwise.now)))) 2005
 
 abbrev pub decreases-repeat::repeat_times : goal.decreases-repeat::repeat_times
 decreases-repeat::repeat_times g l =
@@ -221,7 +222,8 @@ decreases-repeat::repeat_times g l =
 
 abbrev pub decreases-repeat::repeat_counted : goal.decreases-repeat::repeat_counted
 decreases-repeat::repeat_counted g l =
-    rank l.run.now l.nested (max (max (depth l.from.now) (depth l.to.now)) (stmts_depth (stmts_of l.lines.now.items.items))) 2006
+    rank l.run.now l.nested (max (max (depth l.from.now) (depth l.to.now))
+    (stmts_depth (stmts_of l.lines.now.items.items))) 2006
 
 abbrev pub decreases-repeat::bounds : goal.decreases-repeat::bounds
 decreases-repeat::bounds g l = rank l.run.now l.nested (max (depth l.from.now) (depth l.to.now)) 103

@@ -1,5 +1,5 @@
-//! The text of a stack of two cards on one background, which has one field: with each byte changed, and cut at each place.
-//! And the text of the empty stack.
+//! The text of a stack of two cards on one background, which has one field: with each byte changed, and cut at each
+//! place. And the text of the empty stack.
 
 use super::pieces::{Piece, text_of};
 use super::{fault_of, is_written, writes};

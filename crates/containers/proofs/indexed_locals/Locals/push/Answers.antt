@@ -22,7 +22,8 @@ invariant_of-self-then-len-lt-MOST_SCANNED c =
     let grown : names c.push.new.self.items ≡ names ls ++ c.in_ok-of.field-0 ∷ [] =
     ap names c.in_ok-push.ensures.items ∙ map-append (λ l. l.name) ls _ in
     rw grown
-    (near_added MOST_SCANNED (names ls) c.in_ok-of.field-0 (place_kept c.self.inside.places.entries) c.self.invariant few)
+    (near_added MOST_SCANNED (names ls) c.in_ok-of.field-0 (place_kept c.self.inside.places.entries) c.self.invariant
+    few)
 
 pub invariant_of-self-2 : goal.invariant_of-self-2
 invariant_of-self-2 c =

@@ -25,7 +25,8 @@ returns-in-Some-clause-global c =
     let global = ap (λ v. is_global v c.args.name.now) (sym c.self.view_is)
     ∙ global_found c.self.inside.all_global c.args.name.now ls c.in-Some.i nobody found in (
       global ∙ (λ k. c.if-self.false k || is_none (local k).value)
-          ∙ lacks (get_or c.as_slice.result.now c.in-Some.i c.index-as_slice-i.result).value c.is_none.result c.is_none.ensures ∙ c.if-is_none.true,
+          ∙ lacks (get_or c.as_slice.result.now c.in-Some.i c.index-as_slice-i.result).value c.is_none.result
+          c.is_none.ensures ∙ c.if-is_none.true,
       refl,
       refl,
     )
@@ -42,7 +43,8 @@ returns-in-Some-2-clause-own c =
     let set : c.set_value.new.self ≡ with_value c.args.name.now (Some c.args.value) ls =
     c.set_value.ensures nobody ∙ sym (value_set _ _ _ _ nobody found) in (
       global ∙ (λ k. c.if-self.false k || is_none (local k).value)
-          ∙ lacks (get_or c.as_slice.result.now c.in-Some.i c.index-as_slice-i.result).value c.is_none.result c.is_none.ensures ∙ c.if-is_none.false,
+          ∙ lacks (get_or c.as_slice.result.now c.in-Some.i c.index-as_slice-i.result).value c.is_none.result
+          c.is_none.ensures ∙ c.if-is_none.false,
       (λ k. record { all_global = c.self.inside.all_global; locals = set k })
           ∙ ap (λ v. with_local v c.args.name.now (Some c.args.value)) c.self.view_is,
     )
