@@ -20,7 +20,8 @@ from . import lanes, sums
 from .forecast import Forecast, cost
 from .progress import Teller, left_of, say, slots, time_of
 
-PROVED = re.compile(rb"^rt: (\w+) proved$", re.MULTILINE)
+# What rt says of a crate: it is proved now, or an earlier call or build has proved it.
+PROVED = re.compile(rb"^rt: (\w+) (?:proved$|is (kept):)", re.MULTILINE)
 LOG = os.path.join("out", "build", "gate.log")
 LOG_BESIDE = os.path.join("out", "build", "beside.log")
 # What `rt ci` runs the program with, beside its sources.
@@ -70,14 +71,15 @@ class Anew:
 
     def look(self) -> None:
         """Takes up which crates are proved by now, from what rt has said."""
+        found: Dict[str, bool] = {}
         for path in (LOG, LOG_BESIDE):
-            if not os.path.exists(os.path.join(self.root, path)):
-                continue
-            with open(os.path.join(self.root, path), "rb") as log:
-                found = {name.decode() for name in PROVED.findall(log.read())}
-            for crate in found - self.done:
-                self.forecast.ended(crate, time.time())
-            self.done |= found
+            if os.path.exists(os.path.join(self.root, path)):
+                with open(os.path.join(self.root, path), "rb") as log:
+                    for name, kept in PROVED.findall(log.read()):
+                        found[name.decode()] = bool(kept) and found.get(name.decode(), True)
+        for crate in found.keys() - self.done:
+            self.forecast.ended(crate, time.time(), was_kept=found[crate])
+        self.done |= found.keys()
 
     def begin(self, top: str, log: str, names: Sequence[str], **more: str) -> "subprocess.Popen[bytes]":
         """Calls rt for these crates and those below them, or for all, in the copy. What it says goes to a log."""

@@ -13,7 +13,7 @@ from tree import HERE, KIT, TreeTest
 
 sys.path.insert(0, os.path.join(HERE, "tools"))
 
-from making import lanes  # noqa: E402
+from making import anew, lanes  # noqa: E402
 from making.progress import slots  # noqa: E402
 
 BUILT = "crates/card_cli/out/card_cli"
@@ -47,6 +47,11 @@ class Building(TreeTest):
             "HANDLES", "crates.txt", "crates/card_cli/args", "crates/card_cli/data/demo.stack",
             "crates/card_cli/src/main.rt", "crates/low/specs/Lib.antt", "crates/low/src/lib.rt",
             "crates/middle/specs/Lib.antt", "crates/middle/src/lib.rt")))
+
+    def test_what_rt_says_of_crates(self) -> None:
+        said = (b"fn low::f: proved\nrt: low proved\nrt: middle is kept: an earlier run\nrt: top NOT PROVED\n"
+                b"rt: low: its tests are proved\n")
+        self.assertEqual(anew.PROVED.findall(said), [(b"low", b""), (b"middle", b"kept")])
 
     def test_nothing_is_done_where_it_stands(self) -> None:
         self.build()
