@@ -12,8 +12,9 @@ from typing import List, Mapping, Sequence
 
 from .forecast import way_up
 
-# The part of all cost from which on a crate of the longest way is asked for alone: a call costs some ten seconds.
-LEAST_ALONE = 1 / 25
+# The part of all cost from which on a crate of the longest way is asked for alone: a call costs some ten seconds. One that
+# waits while the other call proves what it uses holds cores for nothing.
+LEAST_ALONE = 3 / 100
 # The crates beside the way may use this part of it: what comes behind would keep them waiting.
 PART_TO_USE = 1 / 4
 # With fewer cores there is nothing to share out.
