@@ -14,7 +14,7 @@ import signal
 import subprocess
 import tempfile
 import time
-from typing import Dict, List, Sequence, Set
+from typing import Dict, List, Optional, Sequence, Set
 
 from . import lanes, sums
 from .forecast import Forecast, cost
@@ -55,7 +55,9 @@ class Anew:
         self.root, self.crates, self.log = root, crates, os.path.join(root, LOG)
         self.start = time.time()
         self.done: Set[str] = set()
+        self.top = ""
         self.running: List["subprocess.Popen[bytes]"] = []
+        self.side: Optional["subprocess.Popen[bytes]"] = None
         costs = {crate: cost(root, crate) for crate in crates}
         is_shared = slots() >= lanes.LEAST_CORES and lanes.is_kept()
         self.alone = lanes.alone(uses, costs) if is_shared else []
@@ -81,36 +83,40 @@ class Anew:
             self.forecast.ended(crate, time.time(), was_kept=found[crate])
         self.done |= found.keys()
 
-    def begin(self, top: str, log: str, names: Sequence[str], **more: str) -> "subprocess.Popen[bytes]":
+    def begin(self, log: str, names: Sequence[str], **more: str) -> "subprocess.Popen[bytes]":
         """Calls rt for these crates and those below them, or for all, in the copy. What it says goes to a log."""
         with open(os.path.join(self.root, log), "ab") as said:
             process = subprocess.Popen(
-                ["rt", "ci", *names], cwd=os.path.join(top, "tree"), stdin=subprocess.DEVNULL, stdout=said,
-                env={**os.environ, "TMPDIR": os.path.join(top, "room"), **more}, stderr=subprocess.STDOUT,
+                ["rt", "ci", *names], cwd=os.path.join(self.top, "tree"), stdin=subprocess.DEVNULL, stdout=said,
+                env={**os.environ, "TMPDIR": os.path.join(self.top, "room"), **more}, stderr=subprocess.STDOUT,
                 start_new_session=True)
         self.running.append(process)
         return process
 
+    def go_on_beside(self) -> None:
+        """Calls rt for the next crates beside the way, where the last such call has ended."""
+        if self.beside and (self.side is None or self.side.poll() is not None):
+            self.side = self.begin(LOG_BESIDE, self.beside.pop(0), RT_JOBS=str(slots() // 2))
+
     def wait(self, process: "subprocess.Popen[bytes]") -> int:
         """Tells how far it is until a call of rt ends, and gives its status."""
         while process.poll() is None:
+            self.go_on_beside()
             self.look()
             self.teller.tell()
             time.sleep(0.2)
         self.running.remove(process)
         return process.returncode
 
-    def prove(self, top: str) -> int:
+    def prove(self) -> int:
         """Proves the larger crates of the longest way, each alone, and the early others beside, and then all.
 
         Gives the status of rt.
         """
         status = 0
         try:
-            if self.beside:
-                self.begin(top, LOG_BESIDE, self.beside, RT_JOBS="1")
             for names in [*([crate] for crate in self.alone), []]:
-                status = self.wait(self.begin(top, LOG, names))
+                status = self.wait(self.begin(LOG, names))
                 if status != 0:
                     break
             return status
@@ -131,23 +137,23 @@ class Anew:
         for path in (LOG, LOG_BESIDE):
             with contextlib.suppress(FileNotFoundError):
                 os.remove(os.path.join(self.root, path))
-        top = tempfile.mkdtemp(prefix="card-build-")
+        self.top = tempfile.mkdtemp(prefix="card-build-")
         try:
-            tree, room = os.path.join(top, "tree"), os.path.join(top, "room")
+            tree, room = os.path.join(self.top, "tree"), os.path.join(self.top, "room")
             for folder in (tree, room):
                 os.mkdir(folder)
-            for folder in (top, room):
+            for folder in (self.top, room):
                 # As root, rt runs the program as nobody, who has to come through.
                 os.chmod(folder, 0o711)
             copy_of(self.root, tree)
-            status = self.prove(top)
+            status = self.prove()
             if status != 0:
                 say("%s was not built; what rt says stands in %s" % (sums.PROGRAM, os.path.relpath(self.log)))
                 return status
             self.keep(tree)
             return 0
         finally:
-            shutil.rmtree(top, ignore_errors=True)
+            shutil.rmtree(self.top, ignore_errors=True)
 
     def keep(self, tree: str) -> None:
         """Takes the program out of the copy, with the record of the sources that stand in the copy."""

@@ -3,7 +3,8 @@
 `rt ci` gives a proof the cores that no other proof waits for when it begins, and never more. So a crate of the longest
 way that begins beside others goes on with one core while the rest have long ended. Asked for that crate alone, rt gives
 it all of them. What is proved is kept on the machine, and the next call takes it over. So the larger crates of the way
-are asked for one after another, and beside them, with one core, those that soon can be proved.
+are asked for one after another, and beside them, with half of the cores, those that soon can be proved, as the way
+needs them.
 """
 
 import os
@@ -47,14 +48,23 @@ def below(uses: Mapping[str, Sequence[str]], crate: str) -> List[str]:
     return found
 
 
-def beside(uses: Mapping[str, Sequence[str]], costs: Mapping[str, float]) -> List[str]:
-    """The crates off the longest way that use no crate of it but the first ones."""
-    long, so_far, late = way(uses, costs), 0.0, []
+def beside(uses: Mapping[str, Sequence[str]], costs: Mapping[str, float]) -> List[List[str]]:
+    """The crates off the longest way that use no crate of it but the first ones, in the order in which it needs them.
+
+    Those that the same crate of the way is the first to use stand together.
+    """
+    long, so_far, late = way(uses, costs), 0.0, set()
     for crate in long:
         so_far += costs[crate]
         if so_far > PART_TO_USE * sum(costs[it] for it in long):
-            late.append(crate)
-    return [it for it in costs if it not in long and not set(late) & set(below(uses, it))]
+            late.add(crate)
+    early = [it for it in costs if it not in long and not late & set(below(uses, it))]
+    groups = []
+    for crate in long:
+        group = [it for it in early if it in below(uses, crate)]
+        early = [it for it in early if it not in group]
+        groups.append(group)
+    return [group for group in groups if group]
 
 
 def is_kept() -> bool:

@@ -25,7 +25,12 @@ class Lanes(unittest.TestCase):
         self.assertEqual(lanes.alone(USES, COSTS), ["a", "c", "d"])
 
     def test_beside_stand_those_that_use_the_first_alone(self) -> None:
-        self.assertEqual(lanes.beside(USES, COSTS), ["b", "g"])
+        self.assertEqual(lanes.beside(USES, COSTS), [["b", "g"]])
+
+    def test_what_the_way_needs_first_comes_first(self) -> None:
+        uses = {**USES, "d": ["c", "g"], "k": ["a"], "f": ["e", "g", "h", "k"]}
+        costs = {"k": 3.0, **COSTS}
+        self.assertEqual(lanes.beside(uses, costs), [["b", "g"], ["k"]])
 
     def test_what_stands_below(self) -> None:
         self.assertEqual(sorted(lanes.below(USES, "f")), ["a", "b", "c", "d", "e", "g", "h"])
@@ -34,7 +39,7 @@ class Lanes(unittest.TestCase):
         uses = sums.dependencies(HERE)
         crates = sums.needed(uses)
         costs = {crate: 1.0 for crate in crates}
-        for found in (lanes.alone(uses, costs), lanes.beside(uses, costs)):
+        for found in (lanes.alone(uses, costs), *lanes.beside(uses, costs)):
             self.assertTrue(set(found) <= set(crates), found)
 
 
