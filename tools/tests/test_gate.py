@@ -37,7 +37,7 @@ class Gates(TreeTest):
         lines = self.gate(0)
         self.assertEqual(lines[-1], "%d passed, 0 failed" % (self.steps + 3 + LATER))
         self.assertTrue(any("byte for byte" in line for line in lines))
-        self.assertIn("rt: low proved", lines)
+        self.assertIn("rt: low is kept: an earlier run", lines)
 
     def test_a_stale_release_fails(self) -> None:
         self.release()
