@@ -114,7 +114,7 @@ current-put : (card : ℕ) (t : State) → (put_all t (makes_current card ∷ []
 unfolding put
 current-put card t = refl
 
-externals-changed : (s : State) (c : Change) → (changed s c).externals ≡ s.externals
+pub externals-changed : (s : State) (c : Change) → (changed s c).externals ≡ s.externals
 unfolding put
 externals-changed s (changes.Global name v) = refl
 externals-changed s (changes.FieldText field card t) = refl

@@ -1,5 +1,5 @@
 -- The logs of nondeterministic externals tell the turns of a behaviour that was followed.
-use Rattle.std.proofs.Common.{◌≡◌, ◌⊎◌, inl, inr, ℕ, zero, suc, ◌+◌, ◌<◌, List, [], ◌∷◌, ◌++◌, length, map, None}
+use Rattle.std.proofs.Common.{◌≡◌, ◌⊎◌, inl, inr, ℕ, zero, suc, ◌+◌, ◌<◌, List, [], ◌∷◌, ◌++◌, length, None}
 use Rattle.std.proofs.Common.{refl, sym, ap, subst, ◌∙◌}
 use Rattle.std.specs.Prelude.{slice_index_or, slice_set}
 use Rattle.std.proofs.lemmas.Bool.{cases_eq}
@@ -9,56 +9,13 @@ use Rattle.externals.specs.Log.{Log, LoggedTurn, log_after}
 use Rattle.externals.specs.Table.{Turn, turn_of}
 use Rattle.externals.specs.declared.external.Ask.{Ask}
 use Rattle.externals.specs.declared.external.Input.{Input}
-use Rattle.structural_changes.specs.Writes.{StackWrite, following, writes_of_new_part, writes_of_new_card}
-use Rattle.structural_changes.specs.Writes.{writes_of_new_background, writes_of_deletion}
 use Rattle.journal_entries.specs.declared.change.Change.{Change}
-use Rattle.journal_entries.specs.declared.change.Change.TheVariants as changes
-use Rattle.journal_entries.specs.Changes.{changed, makes_current}
 use Rattle.journal_entries.specs.Exchange.{with_cells}
-use Rattle.journal_entries.specs.Places.{Write, put, put_all, in_stack, in_the_stack}
-use Rattle.journal_entries.specs.State.{State, seen_at}
+use Rattle.journal_entries.specs.State.{seen_at}
 use Rattle.change_journal.specs.History.{History}
 use Rattle.change_journal.specs.Rising.{Made, TookTurn}
+use Rattle.definitional_interpreter.proofs.Leaves.{externals-changed}
 use Rattle.totality.specs.Laws.{Behaviour, IsTurnOf, Follows, IsFree, AreTurnsOf, BehavioursAreLogged}
-
--- ---- changes keep the externals
-
--- writes in the stack, and then others
-externals-put : (s : State) (ws : List StackWrite) (more : List Write) →
-    ((t : State) → (put_all t more).externals ≡ t.externals) →
-    (put_all s (map in_the_stack ws ++ more)).externals ≡ s.externals
-unfolding put
-externals-put s [] more rest = rest s
-externals-put s (w ∷ ws) more rest = externals-put (put s (in_stack w.place) w.value) ws more rest
-
-externals-stack : (s : State) (ws : List StackWrite) → (put_all s (map in_the_stack ws)).externals ≡ s.externals
-unfolding put
-externals-stack s [] = refl
-externals-stack s (w ∷ ws) = externals-stack (put s (in_stack w.place) w.value) ws
-
-externals-current : (card : ℕ) (t : State) → (put_all t (makes_current card ∷ [])).externals ≡ t.externals
-unfolding put
-externals-current card t = refl
-
-externals-behind : (s : State) (card : ℕ) (ws : List StackWrite) →
-    (put_all s (makes_current card ∷ map in_the_stack ws)).externals ≡ s.externals
-unfolding put
-externals-behind s card ws = externals-stack (put s (makes_current card).place (makes_current card).value) ws
-
-externals-changed : (s : State) (c : Change) → (changed s c).externals ≡ s.externals
-unfolding put
-externals-changed s (changes.Global name v) = refl
-externals-changed s (changes.FieldText field card t) = refl
-externals-changed s (changes.Hilite button card b) = refl
-externals-changed s (changes.Prop id v) = refl
-externals-changed s (changes.Current card) = refl
-externals-changed s changes.NewCard = externals-put s (writes_of_new_card s.stack s.current)
-    (makes_current s.stack.next ∷ []) (externals-current s.stack.next)
-externals-changed s changes.NewBackground = externals-put s (writes_of_new_background s.stack s.current)
-    (makes_current (s.stack.next + 1) ∷ []) (externals-current (s.stack.next + 1))
-externals-changed s (changes.NewPart layer kind) = externals-stack s (writes_of_new_part s.stack layer kind)
-externals-changed s changes.DeleteCard =
-    externals-behind s (following s.current s.stack.cards) (writes_of_deletion s.stack s.current)
 
 -- ---- turns of a behaviour
 

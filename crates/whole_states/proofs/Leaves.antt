@@ -1,7 +1,7 @@
 -- What the changes, turns and steps in a rule keep: whole states, and texts.
 use Rattle.std.specs.Prelude.{IfSome, unwrap_or}
 use Rattle.std.specs.List.{All, AllByRecursion}
-use Rattle.std.proofs.Common.{◌≡◌, ◌+◌, ◌<◌, ℕ, zero, suc, List, [], ◌∷◌, ◌++◌, length, map, get_or, set, Bool, true}
+use Rattle.std.proofs.Common.{◌≡◌, ◌+◌, ◌<◌, ℕ, zero, suc, List, [], ◌∷◌, ◌++◌, length, get_or, set, Bool, true}
 use Rattle.std.proofs.Common.{false, cond, Option, Some, None, option_map, is_some, Result, Ok, Err, IfOk, refl, sym}
 use Rattle.std.proofs.Common.{ap, subst, ◌∙◌, arith}
 use Rattle.std.proofs.lemmas.List.{length-map, get_or-map, get_or-set_same}
@@ -31,14 +31,10 @@ use Rattle.object_table.specs.WellFormed.{IsWellFormed}
 use Rattle.object_table.specs.declared.object.Object.{Object}
 use Rattle.journal_entries.specs.ScriptTrees.{object_script}
 use Rattle.journal_entries.specs.State.{State, seen_at, titles_of}
-use Rattle.journal_entries.specs.Changes.{changed, fits, HasTexts, makes_current}
-use Rattle.journal_entries.specs.Places.{Write, put, put_all, in_stack, current_card, in_the_stack}
+use Rattle.journal_entries.specs.Changes.{fits, HasTexts}
 use Rattle.stack_places.specs.Places.{number}
-use Rattle.structural_changes.specs.Writes.{StackWrite, following, writes_of_new_part, writes_of_new_card}
-use Rattle.structural_changes.specs.Writes.{writes_of_new_background, writes_of_deletion}
 use Rattle.journal_entries.specs.Exchange.{with_cells}
 use Rattle.journal_entries.specs.declared.change.Change.{Change}
-use Rattle.journal_entries.specs.declared.change.Change.TheVariants as change
 use Rattle.change_journal.specs.History.{History}
 use Rattle.change_journal.specs.Rising.{Made, TookTurn}
 use Rattle.change_journal.proofs.Making.{IsHistory-made, IsHistory-turned}
@@ -69,6 +65,7 @@ use Rattle.meaning.specs.Values.{Yields, Parses}
 use Rattle.preservation.specs.Laws.{HasMemory}
 use Rattle.whole_states.specs.Texts.{RunTexts, LocalsTexts, FrameTexts, StorageTexts, HowTexts, InputTexts, AskTexts}
 use Rattle.definitional_interpreter.specs.Laws.{IsDeterministic, sorts_of}
+use Rattle.definitional_interpreter.proofs.Leaves.{externals-changed}
 use Rattle.whole_states.specs.Texts.{IsWhole, HandlerTexts, HandlersTexts, StmtsTexts}
 use Rattle.whole_states.specs.Texts.{TreesHaveTexts}
 use Rattle.whole_states.proofs.TreeTexts.{scripts_have_texts}
@@ -77,39 +74,6 @@ use Rattle.whole_states.proofs.Turns.{AreTexts, turn_texts}
 use Rattle.whole_states.proofs.StateTexts.{folded_text, named_texts, due_is_text, with_value_texts, setting_texts}
 
 -- ---- a change
-
-externals-put : (s : State) (ws : List StackWrite) (more : List Write) →
-    ((t : State) → (put_all t more).externals ≡ t.externals) → (put_all s (map in_the_stack ws ++ more)).externals
-    ≡ s.externals
-unfolding put
-externals-put s [] more rest = rest s
-externals-put s (w ∷ ws) more rest = externals-put (put s (in_stack w.place) w.value) ws more rest
-
-externals-stack : (s : State) (ws : List StackWrite) → (put_all s (map in_the_stack ws)).externals ≡ s.externals
-unfolding put
-externals-stack s [] = refl
-externals-stack s (w ∷ ws) = externals-stack (put s (in_stack w.place) w.value) ws
-
-current-put : (card : ℕ) (t : State) → (put_all t (makes_current card ∷ [])).externals ≡ t.externals
-unfolding put
-current-put card t = refl
-
-externals-changed : (s : State) (c : Change) → (changed s c).externals ≡ s.externals
-unfolding put
-externals-changed s (change.Global name v) = refl
-externals-changed s (change.FieldText field card t) = refl
-externals-changed s (change.Hilite button card b) = refl
-externals-changed s (change.Prop id v) = refl
-externals-changed s (change.Current card) = refl
-externals-changed s change.NewCard =
-    externals-put s (writes_of_new_card s.stack s.current) (makes_current s.stack.next ∷ []) (current-put s.stack.next)
-externals-changed s change.NewBackground =
-    externals-put s (writes_of_new_background s.stack s.current) (makes_current (s.stack.next + 1) ∷ [])
-    (current-put (s.stack.next + 1))
-externals-changed s (change.NewPart layer kind) = externals-stack s (writes_of_new_part s.stack layer kind)
-externals-changed s change.DeleteCard =
-    externals-stack (put s current_card (Some (number (following s.current s.stack.cards))))
-    (writes_of_deletion s.stack s.current)
 
 pub sound_made : {w w2 : History} {c : Change} → fits w.now c ≡ true → HasTexts c → Made w w2 c → IsWhole w → IsWhole w2
 sound_made {w} {w2} {c} fit texts made q =
