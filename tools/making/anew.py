@@ -2,8 +2,8 @@
 
 `rt ci` proves a copy of the crates that the program needs, and no others, without their must-fail edits. It hands the
 crates above a library what that states, and not its proofs, which takes half the processor time of `rt lib`. It is
-called several times, so that crates of the longest way get all cores (lanes). Where rt keeps what it proves, a build
-that was interrupted goes on from there. The copy lies in a temporary folder outside the repository.
+called for one crate after another, in two lanes, so that each gets the cores that are free (lanes). Where rt keeps what
+it proves, a build that was interrupted goes on from there. The copy lies in a temporary folder outside the repository.
 """
 
 import contextlib
@@ -14,7 +14,7 @@ import signal
 import subprocess
 import tempfile
 import time
-from typing import Dict, List, Optional, Sequence, Set
+from typing import Dict, List, Optional, Set
 
 from . import lanes, sums
 from .forecast import Forecast, cost
@@ -58,10 +58,10 @@ class Anew:
         self.top = ""
         self.running: List["subprocess.Popen[bytes]"] = []
         self.side: Optional["subprocess.Popen[bytes]"] = None
+        self.asked: Set[str] = set()
         costs = {crate: cost(root, crate) for crate in crates}
         is_shared = slots() >= lanes.LEAST_CORES and lanes.is_kept()
-        self.alone = lanes.alone(uses, costs) if is_shared else []
-        self.beside = lanes.beside(uses, costs) if is_shared else []
+        self.lanes = lanes.Lanes(uses, costs) if is_shared else None
         self.forecast = Forecast(uses, costs, slots(), self.start)
         self.teller = Teller(self.line)
 
@@ -83,43 +83,46 @@ class Anew:
             self.forecast.ended(crate, time.time(), was_kept=found[crate])
         self.done |= found.keys()
 
-    def begin(self, log: str, names: Sequence[str], **more: str) -> "subprocess.Popen[bytes]":
-        """Calls rt for these crates and those below them, or for all, in the copy. What it says goes to a log."""
+    def begin(self, log: str, crate: Optional[str]) -> "subprocess.Popen[bytes]":
+        """Calls rt for a crate and those below it, or for all, in the copy. What it says goes to a log."""
         with open(os.path.join(self.root, log), "ab") as said:
             process = subprocess.Popen(
-                ["rt", "ci", *names], cwd=os.path.join(self.top, "tree"), stdin=subprocess.DEVNULL, stdout=said,
-                env={**os.environ, "TMPDIR": os.path.join(self.top, "room"), **more}, stderr=subprocess.STDOUT,
+                ["rt", "ci", *([crate] if crate else [])], cwd=os.path.join(self.top, "tree"), stdin=subprocess.DEVNULL, stdout=said,
+                env={**os.environ, "TMPDIR": os.path.join(self.top, "room")}, stderr=subprocess.STDOUT,
                 start_new_session=True)
         self.running.append(process)
         return process
 
     def go_on_beside(self) -> None:
-        """Calls rt for the next crates beside the way, where the last such call has ended."""
-        if self.beside and (self.side is None or self.side.poll() is not None):
-            self.side = self.begin(LOG_BESIDE, self.beside.pop(0), RT_JOBS=str(slots() // 2))
+        """Calls rt for the next crate beside the way, where the last such call has ended."""
+        if self.lanes and (self.side is None or self.side.poll() is not None):
+            crate = self.lanes.next_beside(self.done, self.asked)
+            if crate:
+                self.asked.add(crate)
+                self.side = self.begin(LOG_BESIDE, crate)
 
     def wait(self, process: "subprocess.Popen[bytes]") -> int:
         """Tells how far it is until a call of rt ends, and gives its status."""
         while process.poll() is None:
-            self.go_on_beside()
             self.look()
+            self.go_on_beside()
             self.teller.tell()
             time.sleep(0.2)
+        self.look()
         self.running.remove(process)
         return process.returncode
 
     def prove(self) -> int:
-        """Proves the larger crates of the longest way, each alone, and the early others beside, and then all.
+        """Proves the larger crates of the longest way, each alone, and the others beside, and then all.
 
         Gives the status of rt.
         """
-        status = 0
         try:
-            for names in [*([crate] for crate in self.alone), []]:
-                status = self.wait(self.begin(LOG, names))
-                if status != 0:
-                    break
-            return status
+            while True:
+                crate = self.lanes.next_of_way(self.done) if self.lanes else None
+                status = self.wait(self.begin(LOG, crate))
+                if status != 0 or not crate:
+                    return status
         finally:
             self.end()
 

@@ -1,70 +1,64 @@
 """In which order a build from nothing asks the gate for crates.
 
-`rt ci` gives a proof the cores that no other proof waits for when it begins, and never more. So a crate of the longest
-way that begins beside others goes on with one core while the rest have long ended. Asked for that crate alone, rt gives
-it all of them. What is proved is kept on the machine, and the next call takes it over. So the larger crates of the way
-are asked for one after another, and beside them, with half of the cores, those that soon can be proved, as the way
-needs them.
+`rt ci` gives a proof the cores that no other proof waits for when it begins, and never more. So a crate that begins
+beside others goes on with one core while the rest have long ended. Asked for one crate alone, or for some of which each
+waits for the one before, rt gives each of them all cores. What is proved is kept on the machine, and the next call takes
+it over. So one lane goes up the longest way: each call goes as far up as nothing off the way is lacking. Beside it,
+another asks for a crate off the way as soon as its libraries are proved: first for the one with the longest way up.
 """
 
+import itertools
 import os
 import shutil
-from typing import List, Mapping, Sequence
+from typing import Collection, Dict, List, Mapping, Optional, Sequence
 
 from .forecast import way_up
 
-# The part of all cost from which on a crate of the longest way is asked for alone: a call costs some ten seconds. One that
-# waits while the other call proves what it uses holds cores for nothing.
-LEAST_ALONE = 3 / 100
-# The crates beside the way may use this part of it: what comes behind would keep them waiting.
-PART_TO_USE = 1 / 4
 # With fewer cores there is nothing to share out.
 LEAST_CORES = 3
 KEPT = "rattle-kept"
 
 
-def way(uses: Mapping[str, Sequence[str]], costs: Mapping[str, float]) -> List[str]:
-    """The crates of the longest way, the lowest first. `costs` has each crate after those that it uses."""
-    up = way_up(uses, costs)
+def way_of(uses: Mapping[str, Sequence[str]], up: Mapping[str, float]) -> List[str]:
+    """The crates of the longest way, the lowest first. `up` has the way up of each crate, after those that it uses."""
     found = [max(up, key=lambda it: up[it])]
     while True:
-        above = [it for it in costs if found[-1] in uses[it]]
+        above = [it for it in up if found[-1] in uses[it]]
         if not above:
             return found
         found.append(max(above, key=lambda it: up[it]))
 
 
-def alone(uses: Mapping[str, Sequence[str]], costs: Mapping[str, float]) -> List[str]:
-    """The crates of the longest way that are asked for alone, one after another. The last of the way comes with all."""
-    least = LEAST_ALONE * sum(costs.values())
-    return [it for it in way(uses, costs)[:-1] if costs[it] >= least]
+class Lanes:
+    """Which crate is asked for next, in each lane. `costs` has each crate after those that it uses."""
 
+    def __init__(self, uses: Mapping[str, Sequence[str]], costs: Mapping[str, float]) -> None:
+        self.uses, self.costs = uses, costs
+        ways: Dict[str, float] = way_up(uses, costs)
+        # Those of `costs`, in its order.
+        self.up = {crate: ways[crate] for crate in costs}
+        self.way = way_of(uses, self.up)
 
-def below(uses: Mapping[str, Sequence[str]], crate: str) -> List[str]:
-    """The crates that a crate uses, and those that these use."""
-    found = list(uses[crate])
-    for each in found:
-        found.extend(it for it in uses[each] if it not in found)
-    return found
+    def off_the_way(self, done: Collection[str]) -> List[str]:
+        """The crates off the longest way that aren't proved."""
+        return [it for it in self.costs if it not in self.way and it not in done]
 
+    def next_of_way(self, done: Collection[str]) -> Optional[str]:
+        """How far up the way the next call goes; None where it proves all that is left.
 
-def beside(uses: Mapping[str, Sequence[str]], costs: Mapping[str, float]) -> List[List[str]]:
-    """The crates off the longest way that use no crate of it but the first ones, in the order in which it needs them.
+        It goes up to a crate that lacks a library off the way, and where the first one does, it proves that one.
+        """
+        left = [it for it in self.way if it not in done]
+        lacking = set(self.off_the_way(done))
+        whole = list(itertools.takewhile(lambda it: not lacking & set(self.uses[it]), left))
+        if whole == left or len(left) == 1:
+            return None
+        return whole[-1] if whole else left[0]
 
-    Those that the same crate of the way is the first to use stand together.
-    """
-    long, so_far, late = way(uses, costs), 0.0, set()
-    for crate in long:
-        so_far += costs[crate]
-        if so_far > PART_TO_USE * sum(costs[it] for it in long):
-            late.add(crate)
-    early = [it for it in costs if it not in long and not late & set(below(uses, it))]
-    groups = []
-    for crate in long:
-        group = [it for it in early if it in below(uses, crate)]
-        early = [it for it in early if it not in group]
-        groups.append(group)
-    return [group for group in groups if group]
+    def next_beside(self, done: Collection[str], asked: Collection[str]) -> Optional[str]:
+        """The crate off the way to ask for beside it: its libraries are proved, and it wasn't asked for; None where none is."""
+        ready = [it for it in self.off_the_way(done) if it not in asked and all(each in done for each in self.uses[it])]
+        return max(ready, key=lambda it: self.up[it], default=None)
 
 
 def is_kept() -> bool:

@@ -18,8 +18,10 @@ from making.progress import slots  # noqa: E402
 
 BUILT = "crates/card_cli/out/card_cli"
 RECORD = BUILT + ".json"
-# With some cores the crates of the longest way, here all, are asked for one after another.
-ALL = [*(["tree ci low", "tree ci middle"] if slots() >= lanes.LEAST_CORES else []), "tree ci"]
+# All crates stand on the longest way, so one call proves them.
+ALL = ["tree ci"]
+# With some cores a crate beside it is asked for alone.
+BESIDE = ["tree ci middle", "tree ci side", "tree ci"] if slots() >= lanes.LEAST_CORES else ALL
 
 
 class Building(TreeTest):
@@ -38,6 +40,13 @@ class Building(TreeTest):
         self.assertIn("card_cli is proved and built", said)
         self.assertIn("fn main", self.text(BUILT))
         self.assertEqual(json.loads(self.text(RECORD))["kit"], KIT)
+
+    def test_crates_off_the_way_are_proved_beside_it(self) -> None:
+        self.put("crates.txt", "low: itoa\nmiddle: low\nside: low\ncard_cli: middle side clap\n")
+        self.put("crates/side/src/lib.rt", "//\n")
+        self.assertIn("from nothing, 4 crates", self.build())
+        called = self.called()
+        self.assertEqual((called[0], sorted(called)), (BESIDE[0], sorted(BESIDE)))
 
     def test_the_gate_sees_the_programs_crates_alone(self) -> None:
         self.build()
