@@ -107,6 +107,7 @@ fn fits_unfolded(alloc: Global, world: &PlainWorld) -> Option<bool> {
 fn outcome(alloc: Global) -> Option<(usize, Option<bool>)> {
     let world = world_of(alloc, BUTTON_AND_FIELD)?;
     world.law_of_states();
+    world.law_of_table();
     Some((right_steps(alloc, &world), fits_unfolded(alloc, &world)))
 }
 

@@ -8,13 +8,10 @@ ghost use Rattle.xkit.specs.Table.{kit_table};
 ghost use Rattle.xkit.specs.Members.{answers_calls_of, cell_count_of, kind_of};
 
 use crate::before::Before;
-use crate::bins;
 use crate::cells::Cells;
-use crate::count;
-use crate::gate;
-use crate::relay;
 use crate::step::{Step, text};
 use crate::turn_log::TurnLog;
+use crate::{bins, count, gate, relay};
 use externals::{Ask, External, HasTable, Input, Patch};
 use ht_values::{Text, text_of};
 use std::alloc::{AllocError, Global};
