@@ -1,6 +1,5 @@
 -- Laws over the rules: a run whose trees are of texts leads from whole states to whole states, whatever the externals do.
 use Rattle.std.specs.Prelude.{ℕ, List, Result, IfOk, All}
-use Rattle.std.specs.List.{AllByRecursion}
 use Rattle.ht_values.specs.Text.{IsText}
 use Rattle.ht_grammar.specs.Statements as stm
 use Rattle.ht_grammar.specs.Trees as tree
@@ -12,7 +11,8 @@ use Rattle.meaning.specs.State.{RunState}
 use Rattle.meaning.specs.declared.end.Stop.{Stop}
 use Rattle.meaning.specs.declared.frame.Frame.{Frame}
 use Rattle.preservation.specs.Laws.{HasMemory}
-use Rattle.whole_states.specs.Texts.{RunTexts, FrameTexts, ExprTexts, PartTexts, StmtsTexts, ActionTexts, LoggedTexts}
+use Rattle.whole_states.specs.Texts.{AreTexts, RunTexts, FrameTexts, ExprTexts, PartTexts, StmtsTexts, ActionTexts}
+use Rattle.whole_states.specs.Texts.{LoggedTexts}
 
 -- Each state of the history after a run is whole, and the turns that externals took in it are of texts.
 pub record LeadsToWhole (w w2 : History) : Type 0 where
@@ -30,7 +30,7 @@ LinesLeadToWhole =
 abbrev pub MessagesLeadToWhole : Type 0
 MessagesLeadToWhole =
     (w w2 : History) (r r2 : RunState) (i : ℕ) (n : List ℕ) (vs : List (List ℕ)) (o : Result (Unit {0}) Stop) →
-    Message w r i n vs o w2 r2 → HasMemory o → IsHistory w → RunTexts r → AllByRecursion IsText vs →
+    Message w r i n vs o w2 r2 → HasMemory o → IsHistory w → RunTexts r → AreTexts vs →
     LeadsToWhole w w2 × RunTexts r2
 
 -- of what a user does

@@ -160,6 +160,9 @@ TypedTexts (stm.typed x0 x1) = IsText x0 × PartTexts x1
 
 -- ---- what runs work on
 
+abbrev pub AreTexts : List (List ℕ) → Type 0
+AreTexts = AllByRecursion IsText
+
 -- the item delimiter is a byte, and the result is a text
 pub record RunTexts (r : RunState) : Type 0 where
   pub delimiter : r.delimiter < 256
@@ -182,8 +185,8 @@ HowTexts (Returns v) = IsText v
 HowTexts _ = Unit {0}
 
 abbrev pub InputTexts : Input → Type 0
-InputTexts (Start vs) = AllByRecursion IsText vs
-InputTexts (Answer note v) = AllByRecursion IsText note × IsText v
+InputTexts (Start vs) = AreTexts vs
+InputTexts (Answer note v) = AreTexts note × IsText v
 
 -- a turn of an external of texts
 pub record LoggedTexts (turn : LoggedTurn) : Type 0 where
