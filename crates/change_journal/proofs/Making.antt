@@ -1,10 +1,13 @@
 -- A change, and a turn of an external, in an open batch.
 use Rattle.std.proofs.Common.{Bool, ◌≡◌, ◌++◌, ℕ, ◌+◌, ◌<◌, ◌≤◌, true, false, if◌then◌else◌, List, [], ◌∷◌, length}
 use Rattle.std.proofs.Common.{get_or, set, take, drop, reverse, refl, sym, subst, ap, ◌∙◌, arith, Option, Some, None}
+use Rattle.std.proofs.Common.{All}
 use Rattle.std.proofs.lemmas.List.{get_or-set_same}
 use Rattle.std.proofs.lemmas.List.Sums.{sum_by-cons}
-use Rattle.std.proofs.lemmas.List.Elements.{All-set}
+use Rattle.std.proofs.lemmas.List.Elements.{All-get_or, All-set}
+use Rattle.ht_values.specs.Text.{IsText}
 use Rattle.externals.specs.Cells.{Changes, IsPatch, IsExternal, none_seen}
+use Rattle.externals.specs.Turns.{AskTexts}
 use Rattle.externals.specs.declared.external.Input.{Input}
 use Rattle.externals.specs.declared.external.Ask.{Ask}
 use Rattle.object_table.specs.Content.{Content}
@@ -389,22 +392,22 @@ turned_trail : (rs : List Replacement) (trail : List Mark) → 0 < length rs →
 turned_trail [] trail h = absurd (omega arith)
 turned_trail (r ∷ rs) trail h = refl
 
-rises-turned : (h : PresentView) (batch : BatchView) (k : PresentView) (i : ℕ) (input : Input) (ask : Ask) (p : Changes)
-    → k.names ≡ h.names → i < length h.state.externals → Turns h.state k.state i input ask
+rises-turned : (h : PresentView) (batch : BatchView) (k : PresentView) (i : ℕ) (p : Changes) → k.names ≡ h.names
+    → i < length h.state.externals → Turns h.state k.state i
     → IsPatch (seen_at h.state i).cells (seen_at k.state i).cells p
     → (let o = open_of h.names h.state batch in let rs = replaced_by_turn i (seen_at h.state i).cells
     (seen_at k.state i).cells in Rises rs (trail_after_turn rs o.trail) o
     (open_of h.names k.state (record batch { entries = kept_turn batch.entries i p })))
 unfolding entry_weight taken mark_of
-rises-turned h batch k i input ask [] names there turn patch =
-    let same : k.state ≡ h.state = unmoved h.names h.state k.state i input ask there turn patch in
+rises-turned h batch k i [] names there turn patch =
+    let same : k.state ≡ h.state = unmoved h.names h.state k.state i there turn patch in
     let none = ap (λ s. replaced_by_turn i (seen_at h.state i).cells (seen_at s i).cells) same
     ∙ replaced-same i 0 (seen_at h.state i).cells in
     rw (none, same) (record { state = refl; number = refl; undo = omega arith; redo = omega arith; trail = refl })
-rises-turned h batch k i input ask (e ∷ p) names there turn patch =
+rises-turned h batch k i (e ∷ p) names there turn patch =
     let whole : Changes = e ∷ p in
     let rs = replaced_by_turn i (seen_at h.state i).cells (seen_at k.state i).cells in
-    let undone = turned_back h.names h.state k.state i input ask whole there turn patch in
+    let undone = turned_back h.names h.state k.state i whole there turn patch in
     record {
       state = back-push h.names k.state batch.entries (External i whole)
           ∙ ap (λ x. back h.names x batch.entries) undone;
@@ -427,21 +430,24 @@ rises-turned h batch k i input ask (e ∷ p) names there turn patch =
     }
 
 pub turned-all : (b : Journal) (k : PresentView) (batch more : BatchView) (i : ℕ) (input : Input) (ask : Ask)
-    (p : Changes) → i < length b.present.state.externals → Turns b.present.state k.state i input ask
+    (p : Changes) → i < length b.present.state.externals → Turns b.present.state k.state i → AskTexts ask
+    → All IsText (seen_at k.state i).cells
     → IsPatch (seen_at b.present.state i).cells (seen_at k.state i).cells p
     → more ≡ record batch { entries = kept_turn batch.entries i p }
     → k ≡ record b.present
     { state = k.state; logs = logs_after b.present.logs b.present.state k.state i input ask }
     → TookTurn (history_of b (Some batch)) (history_of (with_present b k) (Some more)) i input ask
-turned-all b k batch more i input ask p there turn patch batch_is present_is =
+turned-all b k batch more i input ask p there turn asks cells patch batch_is present_is =
     let h = b.present in
     let names : k.names ≡ h.names = ap (λ x. x.names) present_is in
     let logs : k.logs ≡ logs_after h.logs h.state k.state i input ask = ap (λ x. x.logs) present_is in
     let new : BatchView = record batch { entries = kept_turn batch.entries i p } in
-    let up = rises-turned h batch k i input ask p names there turn patch in
+    let up = rises-turned h batch k i p names there turn patch in
     let round = history-round b k batch new names up.state in
     rw batch_is (record {
       turn = turn;
+      asks = asks;
+      cells = cells;
       history = round ∙ ap (λ ls. record (history_of b (Some batch))
           { now = k.state; start = Some (open_of k.names k.state new); logs = ls }) logs;
       start = rw names up;
@@ -452,19 +458,22 @@ ready-turned : (h : Shape) (es : List Entry) (i : ℕ) (p : Changes) → AreRead
 ready-turned h es i [] r q = r
 ready-turned h es i (e ∷ p) r q = AreReady-push h es (External i (e ∷ p)) r q
 
+-- what a turn leaves of the i-th external
+seen-turned : (old new : State) (i : ℕ) → i < length old.externals
+    → new ≡ with_cells_at old i (seen_at new i).cells → seen_at new i ≡ with_cells (seen_at old i) (seen_at new i).cells
+seen-turned old new i there is =
+    ap (λ s. seen_at s i) is
+    ∙ get_or-set_same old.externals i (with_cells (seen_at old i) (seen_at new i).cells) none_seen there
+
 -- a turn puts what is seen of the i-th external in the place of what was seen
 set-seen : (old new : State) (i : ℕ) → i < length old.externals → new ≡ with_cells_at old i (seen_at new i).cells
     → new.externals ≡ set old.externals i (seen_at new i)
 set-seen old new i there is =
-    let e = with_cells (seen_at old i) (seen_at new i).cells in
-    let whole : new.externals ≡ set old.externals i e = ap (λ s. s.externals) is in
-    let found : seen_at new i ≡ e =
-    ap (λ es. get_or es i none_seen) whole ∙ get_or-set_same old.externals i e none_seen there in
-    whole ∙ ap (set old.externals i) (sym found)
+    ap (λ s. s.externals) is ∙ ap (set old.externals i) (sym (seen-turned old new i there is))
 
 pub IsHistory-turned : (old new : History) (i : ℕ) (input : Input) (ask : Ask) → i < length old.now.externals
-    → IsExternal (seen_at new.now i) → TookTurn old new i input ask → IsHistory old → IsHistory new
-IsHistory-turned old new i input ask there known took q =
+    → TookTurn old new i input ask → IsHistory old → IsHistory new
+IsHistory-turned old new i input ask there took q =
     let cells = (seen_at new.now i).cells in
     let replaced = replaced_by_turn i (seen_at old.now i).cells cells in
     let same : titles_of new.now.externals ≡ titles_of old.now.externals =
@@ -474,6 +483,11 @@ IsHistory-turned old new i input ask there known took q =
     let current : new.now.current ≡ old.now.current = ap (λ s. s.current) took.turn.state in
     let externals : new.now.externals ≡ set old.now.externals i (seen_at new.now i) =
     set-seen old.now new.now i there took.turn.state in
+    let was : IsExternal (seen_at old.now i) =
+    All-get_or IsExternal old.now.externals i none_seen there q.now.state.externals in
+    let known : IsExternal (seen_at new.now i) =
+    subst IsExternal (sym (seen-turned old.now new.now i there took.turn.state))
+    (record { title = was.title; cells = took.cells }) in
     rw took.history (record {
       titles = q.titles;
       past = q.past;
@@ -494,18 +508,18 @@ IsHistory-turned old new i input ask there known took q =
     })
 
 pub IsSound-turned : (b : Journal) (k : PresentView) (room : ℕ) (batch more : BatchView) (i : ℕ) (input : Input)
-    (ask : Ask) (p : Changes) → i < length b.present.state.externals → IsExternal (seen_at k.state i)
-    → Turns b.present.state k.state i input ask → IsPatch (seen_at b.present.state i).cells (seen_at k.state i).cells p
+    (ask : Ask) (p : Changes) → i < length b.present.state.externals → Turns b.present.state k.state i → AskTexts ask
+    → All IsText (seen_at k.state i).cells → IsPatch (seen_at b.present.state i).cells (seen_at k.state i).cells p
     → more ≡ record batch { entries = kept_turn batch.entries i p }
     → k ≡ record b.present
     { state = k.state; logs = logs_after b.present.logs b.present.state k.state i input ask }
     → IsSound b room (Some batch) → IsSound (with_present b k) room (Some more)
-IsSound-turned b k room batch more i input ask p there known turn patch batch_is present_is sound =
+IsSound-turned b k room batch more i input ask p there turn asks cells patch batch_is present_is sound =
     let h = shape_of b.present in
     let shape : shape_of k ≡ h = λ x.
     record {
       names = length (present_is x).names;
-      counts = counts-turned b.present.state k.state i input ask turn x;
+      counts = counts-turned b.present.state k.state i turn x;
       room = (present_is x).room;
     } in
     let entries : more.entries ≡ kept_turn batch.entries i p = ap (λ l. l.entries) batch_is in
@@ -520,5 +534,5 @@ IsSound-turned b k room batch more i input ask p there known turn patch batch_is
         sound.opened.1,
       );
       history = IsHistory-turned (history_of b (Some batch)) (history_of (with_present b k) (Some more)) i input ask
-          there known (turned-all b k batch more i input ask p there turn patch batch_is present_is) sound.history;
+          there (turned-all b k batch more i input ask p there turn asks cells patch batch_is present_is) sound.history;
     }

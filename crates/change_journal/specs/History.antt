@@ -1,10 +1,11 @@
 -- A history: whole states with a cursor, and each call's move.
-use Rattle.std.specs.Prelude.{◌≡◌, ℕ, ◌+◌, List, [], ◌∷◌, ◌++◌, map, take, drop, reverse, Option, Some, None}
-use Rattle.std.specs.Prelude.{slice_index_or, refl}
+use Rattle.std.specs.Prelude.{◌≡◌, ℕ, ◌+◌, ◌<◌, List, [], ◌∷◌, ◌++◌, length, map, take, drop, reverse, Option, Some}
+use Rattle.std.specs.Prelude.{None, slice_index_or, refl}
 use Rattle.std.specs.Coded.{Coded, code_by, coded×, coded_list, coded_ℕ, coded_option}
 use Rattle.externals.specs.Cells.{Seen}
-use Rattle.externals.specs.Log.{Log, coded_log}
-use Rattle.journal_entries.specs.State.{State, IsState, coded_state, titles_of, index_of}
+use Rattle.externals.specs.Turns.{TurnTable}
+use Rattle.externals.specs.Log.{Log, Follows, coded_log}
+use Rattle.journal_entries.specs.State.{State, IsState, coded_state, seen_at, titles_of, index_of}
 use Rattle.journal_entries.specs.Trails.{Mark, IsOnce}
 use Rattle.change_journal.specs.Marks.{coded_trail}
 
@@ -189,6 +190,11 @@ pub record IsHistory (h : History) : Type 0 where
   pub now : IsStateOf titles h.now
   pub future : AreStates titles h.future
   pub start : IsStart titles h.start
+
+-- each turn of each log is the one that the table has for the external's kind, where it has one
+abbrev pub FollowTable : TurnTable → History → Type 0
+FollowTable table h = (i : ℕ) → i < length h.now.externals
+    → Follows table (seen_at h.now i).sort (slice_index_or h.logs i [])
 
 -- A history as World shows it, beside it the globals that have a value in an order of their own: nothing that
 -- is said of histories speaks of that order.

@@ -1,5 +1,7 @@
 -- What a change and a turn make of an open history.
-use Rattle.std.specs.Prelude.{◌≡◌, ℕ, ◌+◌, ◌≤◌, List, [], ◌∷◌, Option, Some}
+use Rattle.std.specs.Prelude.{◌≡◌, ℕ, ◌+◌, ◌≤◌, List, [], ◌∷◌, Option, Some, All}
+use Rattle.ht_values.specs.Text.{IsText}
+use Rattle.externals.specs.Turns.{AskTexts}
 use Rattle.externals.specs.declared.external.Input.{Input}
 use Rattle.externals.specs.declared.external.Ask.{Ask}
 use Rattle.journal_entries.specs.State.{seen_at}
@@ -40,10 +42,12 @@ pub record Made (old new : History) (change : Change) : Type 0 where
   pub start : BothOpen old.start new.start
       (λ o p. Rises (replaced_by old.now change) (trail_after (replaced_by old.now change) o.trail) o p)
 
--- A turn of the i-th external in an open batch. Where its kind is nondeterministic, its log has this turn more at its
--- end; all other logs stay.
+-- A turn of the i-th external in an open batch: what it asks and its cells are texts. Its log has this turn more at its
+-- end, and all other logs stay.
 pub record TookTurn (old new : History) (i : ℕ) (input : Input) (ask : Ask) : Type 0 where
-  pub turn : Turns old.now new.now i input ask
+  pub turn : Turns old.now new.now i
+  pub asks : AskTexts ask
+  pub cells : All IsText (seen_at new.now i).cells
   pub history : new ≡ record old
       { now = new.now; start = new.start; logs = logs_after old.logs old.now new.now i input ask }
   pub start : BothOpen old.start new.start

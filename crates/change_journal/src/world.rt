@@ -16,14 +16,14 @@ ghost use Rattle.journal_entries.specs.ScriptTrees.{object_script};
 ghost use Rattle.journal_entries.specs.declared.change.Change.TheVariants as made_change;
 ghost use Rattle.journal_entries.specs.Trails.{IsOnce, IsShort, different, places_in};
 ghost use Rattle.change_journal.specs.History.{IsHistory, alone, begun, committed, rolled_back, flipped_back};
-ghost use Rattle.change_journal.specs.History.{flipped_forth, plugged, unplugged, stamp_at};
+ghost use Rattle.change_journal.specs.History.{flipped_forth, plugged, unplugged, stamp_at, FollowTable};
 ghost use Rattle.std.specs.VecDeque.{deque_len, deque_capacity};
 ghost use Rattle.change_journal.specs.Batches.{newest, oldest_of};
 ghost use Rattle.change_journal.specs.Rising.{Made, TookTurn};
 ghost use Rattle.change_journal.specs.declared.world.TheConstants.{MOST_DEPTH};
 
 use crate::fault::{PlugError, WorldError};
-use externals::{Ask, External, Input, law_of_external};
+use externals::{Ask, External, HasTable, Input, law_of_ask, law_of_external};
 use ht_tree::Script;
 use ht_values::Text;
 use journal_entries::{
@@ -316,8 +316,7 @@ impl<E: External> World<E> {
         }
     }
 
-    /// Gives the i-th external one turn, which the log of one that answers freely has then at its end. Where memory was
-    /// refused nothing changes.
+    /// Gives the i-th external one turn, which its log has then at its end. Where memory was refused nothing changes.
     pub fn turn_external(&mut self, i: usize, input: &Input) -> Result<Ask, AllocError>
         requires open { IsSome self.old.history.start }
         requires there { i < length self.old.history.now.externals }
@@ -329,6 +328,7 @@ impl<E: External> World<E> {
             None => unreachable!(),
         };
         law_of_external(self.present.external(i));
+        law_of_ask(&ask);
         Ok(ask)
     }
 
@@ -454,6 +454,16 @@ impl<E: External> World<E> {
             alloc: _,
         } = self;
         present.into_externals()
+    }
+}
+
+impl<E: HasTable> World<E> {
+    /// Each turn of a log is the one that the table of the externals' type has, where it has one, at any time. It does
+    /// nothing.
+    pub fn law_of_table(&self)
+        ensures { FollowTable E.turn_table self.now.history }
+    {
+        self.present.law_of_table();
     }
 }
 

@@ -1,1 +1,2 @@
 pub mod Flipping
+pub mod ReadTexts

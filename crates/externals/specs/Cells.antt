@@ -1,6 +1,6 @@
 -- Cells of an external, patches of them, and their flips.
 use Rattle.std.specs.Coded.{Coded, code_by, coded×, coded_ℕ, coded_bool, coded_list}
-use Rattle.std.specs.Prelude.{refl, true, false, Bool, ◌≡◌, ◌≢◌, ℕ, ◌<◌, List, [], ◌∷◌, length}
+use Rattle.std.specs.Prelude.{refl, false, Bool, ◌≡◌, ◌≢◌, ℕ, ◌<◌, List, [], ◌∷◌, length}
 use Rattle.std.specs.Prelude.{All, slice_set, slice_index_or, slice_get, Some}
 use Rattle.ht_values.specs.Text.{IsText}
 
@@ -46,13 +46,6 @@ pub record IsPatch (old new : List (List ℕ)) (patch : Changes) : Type 0 where
   pub rest : (i : ℕ) → Avoids i patch → slice_get new i ≡ slice_get old i
   pub changed : DiffersFrom new patch
 
--- what the kind fixes of the flag for functions and of the number of cells; another kind fixes nothing
-pub record IsKind (kind : ℕ) (flag : Bool) (count : ℕ) : Type 0 where
-  pub counter : kind ≡ 1 → (flag ≡ true) × (count ≡ 1)
-  pub bins : kind ≡ 2 → (flag ≡ false) × (count ≡ 16)
-  pub relay : kind ≡ 3 → (flag ≡ false) × (count ≡ 2)
-  pub gate : kind ≡ 4 → (flag ≡ false) × (count ≡ 1)
-
 -- what is seen of an external: its name, kind, flag and cells
 pub record Seen : Type 0 where
   pub title : List ℕ
@@ -70,9 +63,7 @@ coded_seen = code_by (List ℕ × (ℕ × (Bool × List (List ℕ))))
 abbrev pub none_seen : Seen
 none_seen = record { title = []; sort = 0; answers_calls = false; cells = [] }
 
--- what holds of an external: its name and its cells are texts, and its flag and its number of cells are those of
--- its kind
+-- what holds of an external: its name and its cells are texts
 pub record IsExternal (e : Seen) : Type 0 where
   pub title : IsText e.title
   pub cells : All IsText e.cells
-  pub form : IsKind e.sort e.answers_calls (length e.cells)

@@ -1,5 +1,4 @@
 pub mod Cells
-pub mod Number
-pub mod Table
+pub mod Turns
 pub mod Log
 pub mod Patches

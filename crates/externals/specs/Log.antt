@@ -1,15 +1,16 @@
 -- The log of an external: the turns that it took, the first one first.
 use Rattle.std.specs.Coded.{Coded, code_by, coded×, coded_ℕ, coded_bool, coded_list, coded_option}
-use Rattle.std.specs.Prelude.{◌≡◌, refl, ℕ, zero, suc, Bool, false, List, [], ◌∷◌, ◌++◌, Option, Some, None}
-use Rattle.externals.specs.Table.{Turn}
+use Rattle.std.specs.Prelude.{◌≡◌, refl, ℕ, zero, suc, Bool, false, List, [], ◌∷◌, Option, Some, None, IfSome, All}
+use Rattle.externals.specs.Turns.{TurnTable}
 use Rattle.externals.specs.declared.external.Input.{Input}
 use Rattle.externals.specs.declared.external.Input.TheVariants.{Start, Answer}
 use Rattle.externals.specs.declared.external.Ask.{Ask}
 use Rattle.externals.specs.declared.external.Ask.TheVariants.{SendCardMessage, EvalExpr, SetGlobal, SetFieldByName}
 use Rattle.externals.specs.declared.external.Ask.TheVariants.{Done, Fail}
 
--- a turn: what the external was handed, what it asked or how it ended, and its cells after it
+-- a turn: the external's cells before it, what it was handed, what it asked or how it ended, and its cells after it
 pub record LoggedTurn : Type 0 where
+  pub before : List (List ℕ)
   pub input : Input
   pub ask : Ask
   pub cells : List (List ℕ)
@@ -17,11 +18,14 @@ pub record LoggedTurn : Type 0 where
 abbrev pub Log : Type 0
 Log = List LoggedTurn
 
--- The log after a turn. Where the table has the turn, it follows from the cells and the input, and the log stays; else
--- it has this turn more at its end.
-abbrev pub log_after : Option Turn → Log → LoggedTurn → Log
-log_after (Some _) log turn = log
-log_after None log turn = log ++ turn ∷ []
+-- the turn is the one that the table has for it, where it has one
+abbrev pub IsTurnOf : TurnTable → ℕ → LoggedTurn → Type 0
+IsTurnOf table kind turn =
+    IfSome (table kind turn.before turn.input) (λ due. (turn.ask ≡ due.0) × (turn.cells ≡ due.1))
+
+-- each turn of an external of this kind is that of the table
+abbrev pub Follows : TurnTable → ℕ → Log → Type 0
+Follows table kind = All (IsTurnOf table kind)
 
 -- ---- codes
 
@@ -76,6 +80,7 @@ coded_ask = code_by (ℕ × (List (List ℕ) × (List ℕ × (List ℕ × Bool))
     numbered_ask (λ p. ask_numbered p.0 p.1.0 p.1.1.0 p.1.1.1.0 p.1.1.1.1) ask_back
 
 abbrev pub coded_log : Coded Log
-coded_log = coded_list (code_by (Input × (Ask × List (List ℕ)))
-    (coded× coded_input (coded× coded_ask (coded_list coded_text)))
-    (λ t. (t.input, (t.ask, t.cells))) (λ p. record { input = p.0; ask = p.1.0; cells = p.1.1 }) (λ _. refl))
+coded_log = coded_list (code_by (List (List ℕ) × (Input × (Ask × List (List ℕ))))
+    (coded× (coded_list coded_text) (coded× coded_input (coded× coded_ask (coded_list coded_text))))
+    (λ t. (t.before, (t.input, (t.ask, t.cells))))
+    (λ p. record { before = p.0; input = p.1.0; ask = p.1.1.0; cells = p.1.1.1 }) (λ _. refl))

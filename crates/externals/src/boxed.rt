@@ -1,6 +1,6 @@
 //! A boxed external of any type is an external.
 
-use crate::external::{Ask, External, Input};
+use crate::external::{Ask, External, HasTable, Input};
 use crate::patch::Patch;
 use ht_values::Text;
 use std::alloc::{AllocError, Global};
@@ -43,4 +43,13 @@ impl External for Box<dyn External> {
     fn flip(&mut self, patch: &mut Patch) {
         (**self).flip(patch)
     }
+}
+
+/// A box hides the type that it holds, so it says nothing of turns.
+impl HasTable for Box<dyn External> {
+    ghost use Rattle.externals.specs.Turns.{no_table};
+
+    ghost turn_table = { no_table };
+
+    ghost follows = { λ _ i d within. tt };
 }

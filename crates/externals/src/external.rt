@@ -1,7 +1,7 @@
 //! What an external is: its name, kind and cells, and what it does at a turn.
 
-ghost use Rattle.std.specs.Prelude.{◌≡◌, ℕ, ◌<◌, Bool, List, length, IfOk, OnErr, slice_get, Some};
-ghost use Rattle.externals.specs.Cells.{flipped, taken_out, IsProper, IsPatch, IsKind};
+ghost use Rattle.std.specs.Prelude.{◌≡◌, ℕ, ◌<◌, ◌++◌, Bool, List, [], ◌∷◌, length, IfOk, OnErr, slice_get, Some};
+ghost use Rattle.externals.specs.Cells.{flipped, taken_out, IsProper, IsPatch};
 
 use crate::patch::Patch;
 use crate::texts::Texts;
@@ -47,14 +47,12 @@ pub enum Ask {
 /// An object with cells of text, its lasting state, that is called by name from a handler.
 ///
 /// Its name, its kind, whether it is a function and how many cells it has never change. Only `turn` and
-/// `flip` change cells. Kinds 1 to 4 answer as the table of kinds says; any other kind answers freely.
+/// `flip` change cells.
 ///
-/// Its log is what a nondeterministic kind did: each of its turns, with what it was handed, what it asked and its cells
-/// after it. Only proofs read it. It is no cell, and no flip takes a turn out of it. A kind of the table adds nothing
-/// to it, since its turns follow from its cells and what it is handed.
+/// Its log is what it did: each of its turns, with its cells before it, what it was handed, what it asked and its cells
+/// after it. Only proofs read it. It is no cell, and no flip takes a turn out of it.
 pub trait External: Drop {
-    ghost use Rattle.externals.specs.Table.{Answers, turn_of};
-    ghost use Rattle.externals.specs.Log.{Log, log_after};
+    ghost use Rattle.externals.specs.Log.{Log};
 
     ghost title: { Self → List ℕ };
 
@@ -70,11 +68,9 @@ pub trait External: Drop {
     fn name(&self) -> &Text
         ensures { result.now ≡ title self.now };
 
-    /// Its kind, 0 where its answers are free. Kinds 1 to 4 have 1, 16, 2 and 1 cells, and of these only kind 1
-    /// answers function calls.
+    /// Its kind, which never changes: 1 to 4 for those of the kit.
     fn kind(&self) -> u32
-        ensures value { result ≡ sort self.now }
-        ensures form { IsKind result (answers_calls self.now) (length (cells self.now)) };
+        ensures { result ≡ sort self.now };
 
     /// Whether it answers function calls; else it answers commands.
     fn is_function(&self) -> bool
@@ -89,15 +85,17 @@ pub trait External: Drop {
         requires { i < length (cells self.now) }
         ensures { slice_get (cells self.now) i ≡ Some result.now };
 
-    /// One turn of a conversation. The patch names just the cells that changed, each once, with its old text. A free
-    /// kind has then this turn more at the end of its log. Where memory was refused the cells and the log are as
-    /// before.
+    /// One turn of a conversation. The patch names just the cells that changed, each once, with its old text. The log
+    /// has then this turn more at its end. Where memory was refused the cells and the log are as before.
     fn turn(&mut self, alloc: Global, input: &Input) -> Result<(Ask, Patch), AllocError>
-        ensures answers { IfOk result (λ r. Answers (sort self.old) (cells self.old) input.now r.0 (cells self.new)) }
         ensures patch { IfOk result (λ r. IsPatch (cells self.old) (cells self.new) r.1) }
         ensures err { OnErr result (cells self.new ≡ cells self.old) }
-        ensures log { IfOk result (λ r. log self.new ≡ log_after (turn_of (sort self.old) (cells self.old) input.now)
-            (log self.old) (record { input = input.now; ask = r.0; cells = cells self.new })) }
+        ensures log { IfOk result (λ r. log self.new ≡ log self.old ++ (record {
+          before = cells self.old;
+          input = input.now;
+          ask = r.0;
+          cells = cells self.new;
+        }) ∷ []) }
         ensures log_err { OnErr result (log self.new ≡ log self.old) }
         ensures title { title self.new ≡ title self.old }
         ensures sort { sort self.new ≡ sort self.old }
@@ -112,4 +110,16 @@ pub trait External: Drop {
         ensures title { title self.new ≡ title self.old }
         ensures sort { sort self.new ≡ sort self.old }
         ensures flag { answers_calls self.new ≡ answers_calls self.old };
+}
+
+/// What the type of an external says of turns, in one table for all externals of the type: where the table has a turn
+/// for a kind, cells and an input, this is the one that is taken, so each turn of a log is that of the table. A type
+/// that says nothing has `no_table`.
+pub trait HasTable: External {
+    ghost use Rattle.externals.specs.Turns.{TurnTable};
+    ghost use Rattle.externals.specs.Log.{Follows};
+
+    ghost turn_table: { TurnTable };
+
+    ghost follows: { (x : Self) → Follows turn_table (Self.External.sort x) (Self.External.log x) };
 }

@@ -7,7 +7,7 @@ mod laws;
 mod patch;
 mod texts;
 
-pub use external::{Ask, External, Input};
-pub use laws::{law_of_external, laws_of_flips};
+pub use external::{Ask, External, HasTable, Input};
+pub use laws::{law_of_ask, law_of_external, laws_of_flips};
 pub use patch::Patch;
 pub use texts::Texts;

@@ -3,8 +3,8 @@ use Rattle.std.proofs.Common.{take, drop, ◌≡◌, ◌++◌, ℕ, zero, suc, �
 use Rattle.std.proofs.Common.{refl, sym, ap, ◌∙◌, arith, length-set, Result, Ok, Err, OnErr, OnOk}
 use Rattle.std.proofs.lemmas.List.{map-set, get_or-map, get_or-set_same, set-get_or}
 use Rattle.externals.specs.Cells.{Seen, none_seen, Changes, IsPatch, flipped}
-use Rattle.externals.specs.Table.{Answers, turn_of}
-use Rattle.externals.specs.Log.{Log, log_after}
+use Rattle.externals.specs.Turns.{TurnTable}
+use Rattle.externals.specs.Log.{Log, Follows}
 use Rattle.externals.specs.declared.external.Input.{Input}
 use Rattle.externals.specs.declared.external.Ask.{Ask}
 use Rattle.journal_entries.specs.State.{State, seen_at}
@@ -19,15 +19,14 @@ pub seen_new : {X : Type 0} (f : X → Seen) (xs : List X) (i : ℕ) (y : X) →
 seen_new f xs i y h =
     get_or-map f (set xs i y) i y none_seen (omega (arith, length-set xs i y)) ∙ ap f (get_or-set_same xs i y y h)
 
-pub turned : {X : Type 0} (f : X → Seen) (xs : List X) (i : ℕ) (x y : X) (s : State) (input : Input) (ask : Ask)
-    → i < length xs → x ≡ get_or xs i x → s.externals ≡ map f xs → f y ≡ with_cells (f x) (f y).cells
-    → Answers (f x).sort (f x).cells input ask (f y).cells
-    → Turns s (record s { externals = map f (set xs i y) }) i input ask
-turned f xs i x y s input ask h e is same a =
+pub turned : {X : Type 0} (f : X → Seen) (xs : List X) (i : ℕ) (x y : X) (s : State) → i < length xs
+    → x ≡ get_or xs i x → s.externals ≡ map f xs → f y ≡ with_cells (f x) (f y).cells
+    → length (f y).cells ≡ length (f x).cells → Turns s (record s { externals = map f (set xs i y) }) i
+turned f xs i x y s h e is same count =
     let new = seen_new f xs i y h in
     let old = ap (λ es. get_or es i none_seen) is ∙ get_or-seen f xs i x h e in
     record {
-      answers = rw (new, old) a;
+      count = rw (new, old) count;
       state = ap (λ es. record s { externals = es })
           (map_seen-set f xs i x y (f y).cells h e same
           ∙ ap (λ es. set es i (with_cells (get_or es i none_seen) (f y).cells)) (sym is)
@@ -47,9 +46,9 @@ unturned f xs i x y h e same = map-set f xs i y ∙ ap (λ z. set (map f xs) i z
 
 -- the log of the i-th has the turn
 pub logs_more : {X : Type 0} (f : X → Seen) (log : X → Log) (xs : List X) (i : ℕ) (x y : X) (input : Input) (ask : Ask)
-    → i < length xs → x ≡ get_or xs i x → log y ≡ log_after (turn_of (f x).sort (f x).cells input) (log x)
-    (record { input = input; ask = ask; cells = (f y).cells }) → (s : State) → s.externals ≡ map f xs
-    → map log (set xs i y)
+    → i < length xs → x ≡ get_or xs i x
+    → log y ≡ log x ++ (record { before = (f x).cells; input = input; ask = ask; cells = (f y).cells }) ∷ []
+    → (s : State) → s.externals ≡ map f xs → map log (set xs i y)
     ≡ logs_after (map log xs) s (record s { externals = map f (set xs i y) }) i input ask
 logs_more f log xs i x y input ask h e is s seen =
     let old : seen_at s i ≡ f x = ap (λ es. get_or es i none_seen) seen ∙ get_or-seen f xs i x h e in
@@ -64,16 +63,24 @@ logs_same log xs i x y h e same =
     map-set log xs i y ∙ ap (λ z. set (map log xs) i z) (same ∙ sym (get_or-map log xs i x [] h ∙ ap log (sym e)))
     ∙ set-get_or (map log xs) i []
 
+-- a law of each external's log, by its number
+pub each_follows : {X : Type 0} (table : TurnTable) (f : X → Seen) (log : X → Log)
+    → ((x : X) → Follows table (f x).sort (log x)) → (xs : List X) (i : ℕ) → i < length (map f xs)
+    → Follows table (get_or (map f xs) i none_seen).sort (get_or (map log xs) i [])
+each_follows table f log told [] i h = absurd (omega (arith, h))
+each_follows table f log told (x ∷ xs) zero h = told x
+each_follows table f log told (x ∷ xs) (suc i) h = each_follows table f log told xs i (omega (arith, h))
+
 pub on_err : {T E P : Type 0} (r : Result T E) → P → OnErr r P
 on_err (Ok x) p = tt
 on_err (Err e) p = p
 
 -- going back over a turn
-pub turned_back : (names : List (List ℕ)) (old new : State) (i : ℕ) (input : Input) (ask : Ask) (p : Changes)
-    → i < length old.externals → Turns old new i input ask → IsPatch (seen_at old i).cells (seen_at new i).cells p
+pub turned_back : (names : List (List ℕ)) (old new : State) (i : ℕ) (p : Changes) → i < length old.externals
+    → Turns old new i → IsPatch (seen_at old i).cells (seen_at new i).cells p
     → exchanged names new (External i p) ≡ old
 unfolding exchanged
-turned_back names old new i input ask p h t q =
+turned_back names old new i p h t q =
     let e = seen_at old i in
     let cells = (seen_at new i).cells in
     let mid = with_cells e cells in
@@ -87,18 +94,18 @@ turned_back names old new i input ask p h t q =
     ∙ set-get_or old.externals i none_seen))
 
 -- a patch of no cell: nothing changed
-pub unmoved : (names : List (List ℕ)) (old new : State) (i : ℕ) (input : Input) (ask : Ask) → i < length old.externals
-    → Turns old new i input ask → IsPatch (seen_at old i).cells (seen_at new i).cells [] → new ≡ old
+pub unmoved : (names : List (List ℕ)) (old new : State) (i : ℕ) → i < length old.externals → Turns old new i
+    → IsPatch (seen_at old i).cells (seen_at new i).cells [] → new ≡ old
 unfolding exchanged
-unmoved names old new i input ask h t q = sym
+unmoved names old new i h t q = sym
     (ap (λ es. record new { externals = es }) (set-get_or new.externals i none_seen))
-    ∙ turned_back names old new i input ask [] h t q
+    ∙ turned_back names old new i [] h t q
 
 -- a turn keeps the counts of cells
-pub counts-turned : (old new : State) (i : ℕ) (input : Input) (ask : Ask) → Turns old new i input ask
+pub counts-turned : (old new : State) (i : ℕ) → Turns old new i
     → counts_of new.externals ≡ counts_of old.externals
-counts-turned old new i input ask t =
-    ap (λ s. counts_of s.externals) t.state ∙ counts_of-set old.externals i (seen_at new i).cells t.answers.count
+counts-turned old new i t =
+    ap (λ s. counts_of s.externals) t.state ∙ counts_of-set old.externals i (seen_at new i).cells t.count
 
 -- its patch may be flipped
 pub IsReady-turned : (h : Shape) (old new : State) (i : ℕ) (p : Changes) → h.counts ≡ counts_of old.externals

@@ -1,7 +1,6 @@
 -- Turns of externals, and changes that have grown what they need.
-use Rattle.std.specs.Prelude.{◌≡◌, ◌<◌, ◌+◌, ℕ, List, [], ◌∷◌, length, slice_index_or, slice_set}
-use Rattle.externals.specs.Table.{Answers, turn_of}
-use Rattle.externals.specs.Log.{Log, log_after}
+use Rattle.std.specs.Prelude.{◌≡◌, ◌<◌, ◌+◌, ℕ, List, [], ◌∷◌, ◌++◌, length, slice_index_or, slice_set}
+use Rattle.externals.specs.Log.{Log}
 use Rattle.externals.specs.declared.external.Input.{Input}
 use Rattle.externals.specs.declared.external.Ask.{Ask}
 use Rattle.stack_places.specs.Exchange.{IsWider}
@@ -23,15 +22,19 @@ use Rattle.journal_entries.specs.declared.change.Change.{Change}
 abbrev pub with_cells_at : State → ℕ → List (List ℕ) → State
 with_cells_at s i cells = record s { externals = slice_set s.externals i (with_cells (seen_at s i) cells) }
 
--- the logs after a turn of the i-th external, which led from the old state to the new one: the others stay
+-- the logs after a turn of the i-th external, which led from the old state to the new one: its own has this turn more
+-- at its end, the others stay
 abbrev pub logs_after : List Log → State → State → ℕ → Input → Ask → List Log
-logs_after logs old new i input ask =
-    slice_set logs i (log_after (turn_of (seen_at old i).sort (seen_at old i).cells input) (slice_index_or logs i [])
-    (record { input = input; ask = ask; cells = (seen_at new i).cells }))
+logs_after logs old new i input ask = slice_set logs i (slice_index_or logs i [] ++ (record {
+      before = (seen_at old i).cells;
+      input = input;
+      ask = ask;
+      cells = (seen_at new i).cells;
+    }) ∷ [])
 
--- a turn of the i-th external leads from the old state to the new one
-pub record Turns (old new : State) (i : ℕ) (input : Input) (ask : Ask) : Type 0 where
-  pub answers : Answers (seen_at old i).sort (seen_at old i).cells input ask (seen_at new i).cells
+-- a turn of the i-th external leads from the old state to the new one: it has as many cells, and nothing else changes
+pub record Turns (old new : State) (i : ℕ) : Type 0 where
+  pub count : length (seen_at new i).cells ≡ length (seen_at old i).cells
   pub state : new ≡ with_cells_at old i (seen_at new i).cells
 
 -- only the names and the stack's room grow

@@ -193,7 +193,7 @@ impl OpenBatch {
         input: &Input,
     ) -> Result<Ask, AllocError>
         requires { i < length present.old.state.externals }
-        ensures turn { IfOk result (λ ask. Turns present.old.state present.new.state i input.now ask) }
+        ensures turn { OnOk result (Turns present.old.state present.new.state i) }
         ensures entry { OnOk result ((p : Changes) × IsPatch (seen_at present.old.state i).cells
             (seen_at present.new.state i).cells p
             × (self.new ≡ record self.old { entries = kept_turn self.old.entries i p })) }

@@ -7,6 +7,7 @@ ghost use Rattle.std.specs.FinMap as finite;
 ghost use Rattle.ht_grammar.specs.Reads.{Reads, ReadsScript};
 ghost use Rattle.ht_tree.specs.ScriptView.{script_of};
 ghost use Rattle.externals.specs.Cells.{IsPatch};
+ghost use Rattle.externals.specs.Log.{Follows};
 ghost use Rattle.stack_places.specs.Exchange as places;
 ghost use Rattle.journal_entries.specs.State.{IsState, seen_by, seen_at, first_state, titles_of, has_name as has_title};
 ghost use Rattle.journal_entries.specs.State.{index_of as index_of_title};
@@ -24,7 +25,7 @@ use crate::entry::{Entry, Prepared};
 use crate::globals::Globals;
 use crate::names::{has_name, index_of};
 use crate::script_trees::ScriptTrees;
-use externals::{Ask, External, Input, Patch};
+use externals::{Ask, External, HasTable, Input, Patch};
 use ht_tree::Script;
 use ht_values::{PartKind, Text};
 use object_table::{Id, LayerId, Stack};
@@ -306,7 +307,7 @@ impl<E: External> Present<E> {
         input: &Input,
     ) -> Result<(Ask, Patch), AllocError>
         requires { i < length self.old.state.externals }
-        ensures turn { IfOk result (λ r. Turns self.old.state self.new.state i input.now r.0) }
+        ensures turn { OnOk result (Turns self.old.state self.new.state i) }
         ensures patch { IfOk result (λ r. IsPatch (seen_at self.old.state i).cells
             (seen_at self.new.state i).cells r.1) }
         ensures present { IfOk result (λ r. self.new ≡ record self.old {
@@ -557,4 +558,14 @@ fn add_each(entries: &mut Vec<Entry>, more: Vec<StackEntry>) -> Result<(), Alloc
         entries.push_reserved(Entry::Stack(entry));
     }
     Ok(())
+}
+
+impl<E: HasTable> Present<E> {
+    /// Each turn of a log is the one that the table of the externals' type has, where it has one. It does nothing.
+    pub fn law_of_table(&self)
+        ensures { (i : ℕ) → i < length self.now.state.externals
+            → Follows E.turn_table (seen_at self.now.state i).sort (slice_index_or self.now.logs i []) }
+    {
+        let _ = &self.externals;
+    }
 }

@@ -1,2 +1,3 @@
 pub mod Plans
 pub mod Steps
+pub mod Table

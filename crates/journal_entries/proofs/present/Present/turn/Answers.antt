@@ -3,7 +3,7 @@ use Rattle.std.proofs.lemmas.List.{length-map}
 use Rattle.std.proofs.lemmas.Result.{IfOk-weaker}
 use Rattle.journal_entries.specs.State.{State, seen_by}
 use Rattle.journal_entries.specs.Exchange.{with_cells}
-use Rattle.journal_entries.proofs.Turned.{turned, patched, unturned, logs_more, logs_same, on_err_both}
+use Rattle.journal_entries.proofs.Turned.{turned, patched, unturned, logs_more, logs_same, on_ok, on_err_both}
 use Rattle.journal_entries.proofs.present.Present.turn.Goals as goal
 
 pub returns-clause-turn : goal.returns-clause-turn
@@ -17,8 +17,9 @@ returns-clause-turn g c =
     omega (arith, c.requires, ap (λ w. length w.state.externals) c.self.view_is, length-map xs f) in
     let same : f y ≡ with_cells (f x) (f y).cells =
     λ k. record { title = h.title k; sort = h.sort k; answers_calls = h.flag k; cells = (f y).cells } in
-    rw (← c.self.view_is) (IfOk-weaker c.turn.result _ _
-    (λ r a. turned f xs c.args.i x y _ c.args.input.now r.0 there c.index_mut.ensures.value refl same a) h.answers)
+    rw (← c.self.view_is) (on_ok c.turn.result
+    (λ a. turned f xs c.args.i x y _ there c.index_mut.ensures.value refl same a) (IfOk-weaker c.turn.result _ _
+    (λ r p. p.count) h.patch))
 
 pub returns-clause-patch : goal.returns-clause-patch
 returns-clause-patch g c =

@@ -1,25 +1,19 @@
--- What externals of the known kinds answer.
-use Rattle.std.specs.Prelude.{◌≡◌, ℕ, suc, ◌+◌, ℤ, pos, negsuc, ◌+ℤ◌, ◌^◌, Bool, true, false, bytes_eq, codes, nat_eq}
-use Rattle.std.specs.Prelude.{nat_lt, if◌then◌else◌, List, [], ◌∷◌, length, slice_index_or, slice_set, Option, Some}
-use Rattle.std.specs.Prelude.{None, IfSome}
+-- What the externals of the kit do at a turn, by their kind.
+use Rattle.std.specs.Prelude.{ℕ, suc, ◌+◌, ℤ, pos, negsuc, ◌+ℤ◌, ◌^◌, Bool, true, false, bytes_eq, codes, nat_eq}
+use Rattle.std.specs.Prelude.{nat_lt, if◌then◌else◌, ◌&&◌, List, [], ◌∷◌, length, slice_index_or, slice_set, Option}
+use Rattle.std.specs.Prelude.{Some, None}
 use Rattle.ht_values.specs.Text.{numeral}
-use Rattle.externals.specs.Number.{number_in}
+use Rattle.ht_values.specs.Number.{is_numeral, value_of}
+use Rattle.externals.specs.Turns.{Turn, TurnTable}
 use Rattle.externals.specs.declared.external.Input.{Input}
 use Rattle.externals.specs.declared.external.Input.TheVariants.{Start, Answer}
-use Rattle.externals.specs.declared.external.Ask.{Ask}
 use Rattle.externals.specs.declared.external.Ask.TheVariants.{SendCardMessage, EvalExpr, SetGlobal, SetFieldByName}
-use Rattle.externals.specs.declared.external.Ask.TheVariants.{Done, Fail}
+use Rattle.externals.specs.declared.external.Ask.TheVariants.{Done}
+use Rattle.xkit.specs.Steps.{cell, fails}
 
--- what is asked, and the cells after it
-abbrev pub Turn : Type 0
-Turn = Ask × List (List ℕ)
-
-abbrev pub cell : List (List ℕ) → ℕ → List ℕ
-cell cells i = slice_index_or cells i []
-
--- an input that isn't named below
-abbrev pub fails : List (List ℕ) → Turn
-fails cells = (Fail, cells)
+-- the number of a numeral
+unfoldable pub number_in : List ℕ → Option ℤ
+number_in t = if is_numeral t then Some (value_of t) else None
 
 -- below the greatest number
 abbrev pub may_count : ℤ → Bool
@@ -79,16 +73,27 @@ gate_turn cells (Start args) =
     else fails cells
 gate_turn cells (Answer note value) = fails cells
 
--- the one turn of an external of a known kind
-abbrev pub turn_of : ℕ → List (List ℕ) → Input → Option Turn
-turn_of kind cells input =
+-- the turn of an external of the kit; another kind has none
+abbrev pub kit_table : TurnTable
+kit_table kind cells input =
     if nat_eq kind 1 then Some (counter_turn cells input)
     else if nat_eq kind 2 then Some (bins_turn cells input)
     else if nat_eq kind 3 then Some (relay_turn cells input)
     else if nat_eq kind 4 then Some (gate_turn cells input)
     else None
 
--- A turn leaves equally many cells. Of a known kind it is the one of the table; other kinds answer anything.
-pub record Answers (kind : ℕ) (old : List (List ℕ)) (input : Input) (ask : Ask) (new : List (List ℕ)) : Type 0 where
-  pub count : length new ≡ length old
-  pub known : IfSome (turn_of kind old input) (λ turn. (ask ≡ turn.0) × (new ≡ turn.1))
+-- ---- what the code computes
+
+-- the number after a number, below the greatest
+abbrev pub after : Option ℤ → Option ℤ
+after None = None
+after (Some n) = if may_count n then Some (n +ℤ pos 1) else None
+
+-- the cell of a bin from 1 to 16
+abbrev pub bin_of : Option ℤ → Option ℕ
+bin_of (Some (pos (suc i))) = if nat_lt i 16 then Some i else None
+bin_of _ = None
+
+-- a note of so many texts, the first of which is the stage
+abbrev pub is_note : ℕ → List ℕ → List (List ℕ) → Bool
+is_note count stage note = nat_eq (length note) count && bytes_eq (slice_index_or note 0 []) stage
