@@ -17,6 +17,6 @@ abbrev pub turns_since : (old new : List Log) → ℕ → Log
 turns_since old new i = drop (length (log_at old i)) (log_at new i)
 
 -- each turn that an external of the state took since is that of the table, where this has one
-abbrev pub FollowTable : TurnTable → State → (old new : List Log) → Type 0
-FollowTable table s old new =
+abbrev pub FollowSince : TurnTable → State → (old new : List Log) → Type 0
+FollowSince table s old new =
     (i : ℕ) → i < length s.externals → Follows table (seen_at s i).sort (turns_since old new i)

@@ -6,7 +6,7 @@ use Rattle.externals.specs.Log.{Log}
 use Rattle.externals.specs.Turns.{TurnTable, no_table}
 use Rattle.journal_entries.specs.State.{seen_at}
 use Rattle.change_journal.specs.History.{History}
-use Rattle.change_journal.specs.Logs.{HaveLogs, FollowTable, turns_since}
+use Rattle.change_journal.specs.Logs.{HaveLogs, FollowSince, turns_since}
 use Rattle.meaning.specs.declared.end.Stop.{Stop}
 use Rattle.meaning.specs.declared.frame.Frame.{Frame}
 use Rattle.meaning.specs.Actions.{Action}
@@ -22,7 +22,7 @@ use Rattle.definitional_interpreter.specs.Meanings.{meanings}
 -- the table, where this has one, and the others are the head of those beside it.
 pub record AreTold (table : TurnTable) (turns : ℕ → Log) (w w2 : History) : Type 0 where
   pub logs : HaveLogs w.now w.logs
-  pub follow : FollowTable table w.now w.logs w2.logs
+  pub follow : FollowSince table w.now w.logs w2.logs
   pub free : (i : ℕ) → i < length w.now.externals
       → IsPrefix (free_turns table (seen_at w.now i).sort (turns_since w.logs w2.logs i)) (turns i)
 

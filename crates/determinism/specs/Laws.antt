@@ -5,7 +5,7 @@ use Rattle.ht_grammar.specs.Trees as tree
 use Rattle.externals.specs.Turns.{TurnTable}
 use Rattle.journal_entries.specs.State.{seen_at}
 use Rattle.change_journal.specs.History.{History}
-use Rattle.change_journal.specs.Logs.{HaveLogs, FollowTable, turns_since}
+use Rattle.change_journal.specs.Logs.{HaveLogs, FollowSince, turns_since}
 use Rattle.meaning.specs.declared.end.Stop.{Stop}
 use Rattle.meaning.specs.declared.frame.Frame.{Frame}
 use Rattle.meaning.specs.Actions.{Action}
@@ -21,8 +21,8 @@ pub record AreAlike (table : TurnTable) (w v w2 v2 : History) : Type 0 where
   pub state : v.now ≡ w.now
   pub logs : HaveLogs w.now w.logs
   pub other_logs : HaveLogs v.now v.logs
-  pub follow : FollowTable table w.now w.logs w2.logs
-  pub others_follow : FollowTable table v.now v.logs v2.logs
+  pub follow : FollowSince table w.now w.logs w2.logs
+  pub others_follow : FollowSince table v.now v.logs v2.logs
   pub free : (i : ℕ) → i < length w.now.externals
       → free_turns table (seen_at w.now i).sort (turns_since v.logs v2.logs i)
       ≡ free_turns table (seen_at w.now i).sort (turns_since w.logs w2.logs i)

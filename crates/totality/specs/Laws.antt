@@ -1,7 +1,6 @@
 -- Laws of outcomes that exist.
 use Rattle.std.specs.Prelude.{◌≡◌, ◌⊎◌, ℕ, ◌≤◌, ◌<◌, List, [], ◌∷◌, ◌++◌, length, All, IfSome, IsSome}
 use Rattle.std.specs.Prelude.{Result}
-use Rattle.std.specs.List.{AllByRecursion}
 use Rattle.ht_values.specs.Text.{IsText}
 use Rattle.ht_grammar.specs.Statements as stm
 use Rattle.ht_grammar.specs.Trees as tree
@@ -12,7 +11,7 @@ use Rattle.externals.specs.declared.external.Input.{Input}
 use Rattle.journal_entries.specs.State.{seen_at}
 use Rattle.journal_entries.specs.declared.change.Change.{Change}
 use Rattle.change_journal.specs.History.{History, IsHistory}
-use Rattle.change_journal.specs.Logs.{HaveLogs, FollowTable, log_at, turns_since}
+use Rattle.change_journal.specs.Logs.{HaveLogs, FollowSince, log_at, turns_since}
 use Rattle.change_journal.specs.Rising.{Made, TookTurn}
 use Rattle.meaning.specs.declared.end.Stop.{Stop}
 use Rattle.meaning.specs.declared.frame.Frame.{Frame}
@@ -21,7 +20,8 @@ use Rattle.meaning.specs.Meaning.{Val, Line, Message, Refers, Acts}
 use Rattle.meaning.specs.State.{RunState}
 use Rattle.preservation.specs.Laws.{HasMemory}
 use Rattle.meaning.specs.Locked.{MeetsLock}
-use Rattle.whole_states.specs.Texts.{RunTexts, FrameTexts, ExprTexts, PartTexts, StmtsTexts, ActionTexts, InputTexts}
+use Rattle.whole_states.specs.Texts.{AreTexts, RunTexts, FrameTexts, ExprTexts, PartTexts, StmtsTexts, ActionTexts}
+use Rattle.whole_states.specs.Texts.{InputTexts}
 
 -- an end that a rule allows and that isn't out of memory, with the history and the run after it
 pub data HasOutcome {A : Type 0} (Rule : Result A Stop → History → RunState → Type 0) : Type 0 where
@@ -76,7 +76,8 @@ pub data Behaves (behaviour : Behaviour) (begin : History) : History → Type 0 
   made : {old new : History} {change : Change} → Behaves behaviour begin old → Made old new change →
       Behaves behaviour begin new
   took_turn : {old new : History} {i : ℕ} {input : Input} {ask : Ask} → Behaves behaviour begin old →
-      TookTurn old new i input ask → IsTurnBy behaviour old new i input ask → Behaves behaviour begin new
+      i < length old.now.externals → TookTurn old new i input ask → IsTurnBy behaviour old new i input ask →
+      Behaves behaviour begin new
 
 -- a batch is open, each state of the history is whole, each external has a log, and the run has texts
 pub record IsReady (w : History) (r : RunState) : Type 0 where
@@ -101,7 +102,7 @@ LinesHaveAnOutcomeBy = (behaviour : Behaviour) (w : History) (r : RunState) (ss 
 abbrev pub MessagesHaveAnOutcomeBy : Type 0
 MessagesHaveAnOutcomeBy = (behaviour : Behaviour) (w : History) (r : RunState) (i : ℕ) (n : List ℕ) (vs : List (List ℕ))
     →
-    IsBehaviour behaviour → IsReady w r → AllByRecursion IsText vs → HasOutcomeBy behaviour w (Message w r i n vs)
+    IsBehaviour behaviour → IsReady w r → AreTexts vs → HasOutcomeBy behaviour w (Message w r i n vs)
 
 -- and the reference of a dot line
 abbrev pub ReferencesHaveAnOutcomeBy : Type 0
@@ -153,4 +154,4 @@ IsByTable table behaviour w = (i : ℕ) (log : Log) (cells : List (List ℕ)) (i
 -- Such a behaviour leaves turns that follow the table.
 abbrev pub BehavioursFollowTables : Type 0
 BehavioursFollowTables = (table : TurnTable) (behaviour : Behaviour) (w w2 : History) → HaveLogs w.now w.logs →
-    IsByTable table behaviour w → Behaves behaviour w w2 → FollowTable table w.now w.logs w2.logs
+    IsByTable table behaviour w → Behaves behaviour w w2 → FollowSince table w.now w.logs w2.logs

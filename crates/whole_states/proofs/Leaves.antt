@@ -144,10 +144,10 @@ sound_turn {begin} {w} {w2} {k} {input} {ask} there texts took q =
     let found : seen_at w2.now k ≡ with_cells old cells = ap (λ s. seen_at s k) took.turn.state
     ∙ get_or-set_same w.now.externals k (with_cells old cells) none_seen there in
     let is : IsExternal (seen_at w2.now k) = subst IsExternal (sym found)
-    (record { title = was.title; cells = took.turn.cells }) in
+    (record { title = was.title; cells = took.cells }) in
     let turn : LoggedTurn = record { before = old.cells; input = input; ask = ask; cells = cells } in
     let logged : LoggedTexts turn = record
-    { before = was.cells; input = texts; ask = took.turn.ask; cells = took.turn.cells } in
+    { before = was.cells; input = texts; ask = took.asks; cells = took.cells } in
     let more = q.turns k in (
       record {
         history = IsHistory-turned w w2 k input ask there is took q.history;
@@ -160,7 +160,7 @@ sound_turn {begin} {w} {w2} {k} {input} {ask} there texts took q =
                   (All-cons LoggedTexts turn [] logged (All-nil LoggedTexts)),
             ));
       },
-      took.turn.ask,
+      took.asks,
     )
 
 -- ---- writes
