@@ -48,7 +48,7 @@ prefix_free table sort xs ys h = (
 
 -- what is behind a front
 pub rest_is : {A : Type 0} (xs ys zs : List A) → ys ≡ xs ++ zs → drop (length xs) ys ≡ zs
-rest_is xs ys zs is = ap (drop (length xs)) is ∙ behind xs
+rest_is {A = A} xs ys zs is = ap (drop (length xs)) is ∙ behind xs
   where
     behind : (xs : List A) → drop (length xs) (xs ++ zs) ≡ zs
     behind [] = refl

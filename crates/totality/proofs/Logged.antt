@@ -55,9 +55,9 @@ log_after {old} {new} {i} {input} {ask} there took = ap (λ h. log_at h.logs i) 
     ∙ get_or-set_same old.logs i (log_at old.logs i ++ taken old new i input ask ∷ []) [] there
 
 -- the turns before are a front of those after
-earlier : {w old new : History} → Kept old new → ((i : ℕ) → All LoggedTexts (turns_since w.logs new.logs i)) →
+earlier : (w : History) {old new : History} → Kept old new → ((i : ℕ) → All LoggedTexts (turns_since w.logs new.logs i)) →
     (i : ℕ) → All LoggedTexts (turns_since w.logs old.logs i)
-earlier {w} {old} {new} kept texts i =
+earlier w {old} {new} kept texts i =
     all_of_prefix LoggedTexts (turns_since w.logs old.logs i) (turns_since w.logs new.logs i)
     (prefix_drop (length (log_at w.logs i)) (log_at old.logs i) (log_at new.logs i) (kept.logs i)) (texts i)
 
@@ -88,14 +88,14 @@ last_texts {w} {old} {new} {i} {input} {ask} kept there took texts =
 pub behaves_so : {behaviour : Behaviour} {w w2 : History} → IsBehaviour behaviour → HaveLogs w.now w.logs →
     ((i : ℕ) → All LoggedTexts (turns_since w.logs w2.logs i)) → Behaves (safe behaviour) w w2 → Behaves behaviour w w2
 behaves_so is logs texts Behaves.begins = Behaves.begins
-behaves_so is logs texts (Behaves.made behaves m) =
-    Behaves.made (behaves_so is logs (earlier (kept_made m) texts) behaves) m
+behaves_so {w = w} is logs texts (Behaves.made behaves m) =
+    Behaves.made (behaves_so is logs (earlier w (kept_made m) texts) behaves) m
 behaves_so {behaviour} {w} is logs texts
     (Behaves.took_turn {old = old} {i = i} {input = input} behaves there took turn) =
     let kept = kept_so behaves in
     let last = last_texts kept (log_there logs kept there) took (texts i) in
     let same = safe_is behaviour is i (log_at old.logs i) (seen_at old.now i).cells input last.before last.input in
-    Behaves.took_turn (behaves_so is logs (earlier (kept_took took) texts) behaves) there took (sym same ∙ turn)
+    Behaves.took_turn (behaves_so is logs (earlier w (kept_took took) texts) behaves) there took (sym same ∙ turn)
 
 -- ---- what it leaves in the logs
 
@@ -113,8 +113,8 @@ one_more gives log cells [] turn are before is =
     (before, subst (λ l. gives l cells turn.input ≡ (turn.ask, turn.cells)) (append-nil log) is, tt)
 one_more gives log cells (first ∷ turns) turn are before is = (
   are.0,
-  are.1.0,
-  one_more gives (log ++ first ∷ []) first.cells turns turn are.1.1 before
+  are.1,
+  one_more gives (log ++ first ∷ []) first.cells turns turn are.2 before
       (subst (λ l. gives l (cells_then first.cells turns) turn.input ≡ (turn.ask, turn.cells))
       (sym (append_assoc log (first ∷ []) turns)) is),
 )
@@ -214,8 +214,8 @@ all_turns : (table : TurnTable) (sort : ℕ) (gives : Log → List (List ℕ) �
 all_turns table sort gives by log cells [] are = tt
 all_turns table sort gives by log cells (turn ∷ turns) are = (
   one_turn (table sort turn.before turn.input) (gives log turn.before turn.input) turn
-      (ap (λ before. gives log before turn.input) are.0 ∙ are.1.0) (by log turn.before turn.input),
-  all_turns table sort gives by (log ++ turn ∷ []) turn.cells turns are.1.1,
+      (ap (λ before. gives log before turn.input) are.0 ∙ are.1) (by log turn.before turn.input),
+  all_turns table sort gives by (log ++ turn ∷ []) turn.cells turns are.2,
 )
 
 pub behaviours_follow_tables : BehavioursFollowTables
