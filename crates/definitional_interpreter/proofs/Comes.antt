@@ -69,8 +69,8 @@ pub record Sight : Type 0 where
 abbrev pub sight : Sight → History → Visible
 sight g w = seen_since g.table g.turns g.old w
 
--- What is asked of a part of a run: that each external has a log that goes on from the old one, and that the turns up to
--- its end are told.
+-- What is asked of a part of a run: that each external has a log that goes on from the old one, and that the turns up
+-- to its end are told.
 pub record Asks (g : Sight) (w w2 : History) : Type 0 where
   pub logs : length w.logs ≡ length (sorts w)
   pub count : length g.old ≡ length w.logs

@@ -130,8 +130,8 @@ asks_told {table} {turns} {w} {w2} h = record {
   logs = h.logs ∙ sym (length-map w.now.externals (λ e. e.sort));
   count = refl;
   grown = λ i. prefix_same (log_at w.logs i) (log_at w.logs i) refl;
-  follow = λ i there. subst (λ sort. Follows table sort (turns_since w.logs w2.logs i)) (sym (sort_at w.now.externals i))
-      (h.follow i (within i there));
+  follow = λ i there. subst (λ sort. Follows table sort (turns_since w.logs w2.logs i))
+      (sym (sort_at w.now.externals i)) (h.follow i (within i there));
   free = λ i there. subst (λ sort. IsPrefix (free_turns table sort (turns_since w.logs w2.logs i)) (turns i))
       (sym (sort_at w.now.externals i)) (h.free i (within i there));
 }

@@ -1,5 +1,6 @@
 -- Turns of externals that a table has, and those that it hasn't.
-use Rattle.std.specs.Prelude.{◌≡◌, ℕ, ◌<◌, Bool, is_none, List, [], ◌∷◌, filter, length, map, drop, slice_index_or, Some}
+use Rattle.std.specs.Prelude.{◌≡◌, ℕ, ◌<◌, Bool, is_none, List, [], ◌∷◌, filter, length, map, drop, slice_index_or}
+use Rattle.std.specs.Prelude.{Some}
 use Rattle.externals.specs.Cells.{Seen}
 use Rattle.externals.specs.Log.{Log, LoggedTurn}
 use Rattle.externals.specs.Turns.{Turn, TurnTable}

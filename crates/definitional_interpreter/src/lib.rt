@@ -4,4 +4,6 @@
 
 mod law;
 
-pub use law::{expressions_are_allowed, free_turns_are_known, runs_are_computed, worked_rows_are_computed};
+pub use law::{
+    expressions_are_allowed, free_turns_are_known, runs_are_computed, worked_rows_are_computed,
+};

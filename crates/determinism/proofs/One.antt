@@ -28,8 +28,9 @@ none_since : (old new : List Log) → length old ≡ length new → logs_since o
 none_since [] [] same = refl
 none_since [] (y ∷ new) same = let no : ⊥ = cc in absurd no
 none_since (x ∷ old) [] same = let no : ⊥ = cc in absurd no
-none_since (x ∷ old) (y ∷ new) same = λ i.
-    (rest_is x x [] (sym (append-nil x)) ∙ sym (rest_is y y [] (sym (append-nil y)))) i ∷ none_since old new (omega (arith, same)) i
+none_since (x ∷ old) (y ∷ new) same =
+    let first = rest_is x x [] (sym (append-nil x)) ∙ sym (rest_is y y [] (sym (append-nil y))) in
+    let rest = none_since old new (omega (arith, same)) in λ i. first i ∷ rest i
 
 -- a log is the one before and the turns since
 log_goes_on : {w w2 : History} → Kept w w2 → (i : ℕ) → log_at w2.logs i
@@ -67,7 +68,13 @@ module _ {A : Type 0} (table : TurnTable) {w v w2 v2 : History} {r2 q2 : RunStat
   as_many = alike.logs ∙ sym (alike.other_logs ∙ ap (λ (s : State). length s.externals) alike.state)
 
   begins : sight (from table turns v) v ≡ sight (from table turns w) w
-  begins = λ i. record { now = alike.state i; logs = sym (none_since w.logs v.logs as_many) i; table = table; turns = turns }
+  begins = λ i.
+      record {
+        now = alike.state i;
+        logs = sym (none_since w.logs v.logs as_many) i;
+        table = table;
+        turns = turns;
+      }
 
   -- both come to one thing
   same : told o (sight (from table turns w) w2) r2 ≡ told p (sight (from table turns v) v2) q2

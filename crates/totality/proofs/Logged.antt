@@ -39,8 +39,15 @@ log_there : {w old : History} {i : ℕ} → HaveLogs w.now w.logs → Kept w old
 log_there {w} {old} logs kept there =
     let kinds = ap length kept.kinds in
     let count = kept.count in
-    omega (arith, there, logs, kinds, count, length-map w.now.externals (λ e. e.sort),
-    length-map old.now.externals (λ e. e.sort))
+    omega (
+      arith,
+      there,
+      logs,
+      kinds,
+      count,
+      length-map w.now.externals (λ e. e.sort),
+      length-map old.now.externals (λ e. e.sort),
+    )
 
 -- ---- which behaviour it was
 
@@ -55,8 +62,9 @@ log_after {old} {new} {i} {input} {ask} there took = ap (λ h. log_at h.logs i) 
     ∙ get_or-set_same old.logs i (log_at old.logs i ++ taken old new i input ask ∷ []) [] there
 
 -- the turns before are a front of those after
-earlier : (w : History) {old new : History} → Kept old new → ((i : ℕ) → All LoggedTexts (turns_since w.logs new.logs i)) →
-    (i : ℕ) → All LoggedTexts (turns_since w.logs old.logs i)
+earlier : (w : History) {old new : History} → Kept old new →
+    ((i : ℕ) → All LoggedTexts (turns_since w.logs new.logs i)) → (i : ℕ) →
+    All LoggedTexts (turns_since w.logs old.logs i)
 earlier w {old} {new} kept texts i =
     all_of_prefix LoggedTexts (turns_since w.logs old.logs i) (turns_since w.logs new.logs i)
     (prefix_drop (length (log_at w.logs i)) (log_at old.logs i) (log_at new.logs i) (kept.logs i)) (texts i)

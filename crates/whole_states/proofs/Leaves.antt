@@ -186,7 +186,8 @@ module _ (cut : PartsCut) where
       Edits w f delimiter p e o w2 f2 → HasMemory o → IsWhole begin w → FrameTexts f → IsWhole begin w2 × FrameTexts f2
   sound_edits placed texts byte Edits.edit_memory has q h = absurd (has refl)
   sound_edits placed texts byte (Edits.edit_faults _ same frame) has q h = (same_world same q, same_frame frame h)
-  sound_edits {begin} {w} {w2} {f} {f2} {delimiter} {p} {e} placed texts byte (Edits.edited {v = v} written frame) has q h =
+  sound_edits {begin} {w} {w2} {f} {f2} {delimiter} {p} {e} placed texts byte (Edits.edited {v = v} written frame) has
+      q h =
       let due_texts = due_is_text cut w.now f.variables delimiter p e q.history.now.state h byte texts in
       let both = writes written in
       (both.0, same_frame frame both.1)
@@ -211,7 +212,8 @@ module _ (cut : PartsCut) where
 
   pub sound_assigns : {begin w w2 : History} {f f2 : Frame} {delimiter : ℕ} {variable : Option (List ℕ)} {t : List ℕ}
       {o : Result (Unit {0}) Stop} → IfSome variable IsText → IsText t → delimiter < 256 →
-      Assigns w f delimiter variable t o w2 f2 → HasMemory o → IsWhole begin w → FrameTexts f → IsWhole begin w2 × FrameTexts f2
+      Assigns w f delimiter variable t o w2 f2 → HasMemory o → IsWhole begin w → FrameTexts f
+      → IsWhole begin w2 × FrameTexts f2
   sound_assigns name texts byte Assigns.assign_memory has q h = absurd (has refl)
   sound_assigns name texts byte (Assigns.no_variable _) has q h = (q, h)
   sound_assigns {f = f} name texts byte (Assigns.assigns {name = n} is edits) has q h =
@@ -235,8 +237,8 @@ sound_declares_all {begin} {f = f} texts (DeclaresAll.declared {name = name} {v 
     let first = declare declares all.0 q h in
     sound_declares_all all.1 rest has first.0 (same_frame frame first.1)
   where
-    declare : {w w3 : History} {n : List ℕ} {v3 : VariablesView} → Declares w f.variables n w3 v3 → IsText n → IsWhole begin w
-        → LocalsTexts f.variables.locals → IsWhole begin w3 × LocalsTexts v3.locals
+    declare : {w w3 : History} {n : List ℕ} {v3 : VariablesView} → Declares w f.variables n w3 v3 → IsText n
+        → IsWhole begin w → LocalsTexts f.variables.locals → IsWhole begin w3 × LocalsTexts v3.locals
     declare {n = n} (Declares.has_value _ same) name q h =
         (q, subst (λ (x : VariablesView). LocalsTexts x.locals) (sym same) (declared_texts f.variables n h))
     declare {n = n} (Declares.is_new _ made same) name q h = (
@@ -245,16 +247,16 @@ sound_declares_all {begin} {f = f} texts (DeclaresAll.declared {name = name} {v 
           (λ (x : VariablesView). LocalsTexts x.locals) (sym same) (declared_texts f.variables n h),
     )
 
-pub sound_sets : {begin w w2 : History} {m : Referent} {prop : Prop} {t : List ℕ} {o : Result (Unit {0}) Stop} → IsText t
-    → Sets w m prop t o w2 → HasMemory o → IsWhole begin w → IsWhole begin w2
+pub sound_sets : {begin w w2 : History} {m : Referent} {prop : Prop} {t : List ℕ} {o : Result (Unit {0}) Stop}
+    → IsText t → Sets w m prop t o w2 → HasMemory o → IsWhole begin w → IsWhole begin w2
 sound_sets texts Sets.set_memory has q = absurd (has refl)
 sound_sets texts (Sets.set_faults _ same) has q = same_world same q
 sound_sets {w = w} {w2} {m} {prop} {t} texts (Sets.set_made is made) has q =
     let fit = subst (λ x. IfOk x (FitsIn w.now.stack)) is (setting_fits w.now.stack m prop t) in
     sound_made (fit w.now refl) (subst (λ x. IfOk x HasTexts) is (setting_texts w.now.stack m prop t texts)) made q
 
-pub sound_adds : {begin w w2 : History} {c : Change} {o : Result (Unit {0}) Stop} → HasTexts c → Adds w c o w2 → HasMemory o
-    → IsWhole begin w → IsWhole begin w2
+pub sound_adds : {begin w w2 : History} {c : Change} {o : Result (Unit {0}) Stop} → HasTexts c → Adds w c o w2
+    → HasMemory o → IsWhole begin w → IsWhole begin w2
 sound_adds texts Adds.add_memory has q = absurd (has refl)
 sound_adds texts (Adds.too_many _) has q = q
 sound_adds texts (Adds.adds fit made) has q = sound_made fit texts made q

@@ -1,4 +1,5 @@
--- Laws over the rules: a run whose trees are of texts leads from whole states to whole states, whatever the externals do.
+-- Laws over the rules: a run whose trees are of texts leads from whole states to whole states, whatever its externals
+-- do.
 use Rattle.std.specs.Prelude.{ℕ, List, Result, IfOk, All}
 use Rattle.ht_values.specs.Text.{IsText}
 use Rattle.ht_grammar.specs.Statements as stm
