@@ -3,13 +3,12 @@
 
 use command_line::{CliFault, MOST_OF_STACK, Options, cut, options_of, play};
 use devices::{Watched, bytes_of};
-use externals::External;
 use file_desk::{FileDesk, FileState, Plain};
 use log::{LevelFilter, Logged};
 use std::env;
 use std::fs::File;
 use std::process::ExitCode;
-use text_tools::{Replace, Table};
+use text_tools::TextTool;
 
 /// What the words of the program say.
 fn options(rt: &HostRuntime) -> Result<Options, CliFault> {
@@ -31,11 +30,11 @@ fn perform(rt: &HostRuntime) -> Result<(), CliFault> {
     };
     let state = FileState::new(metadata);
     let bytes = bytes_of(rt.alloc(), &mut Watched::new(file), MOST_OF_STACK)?;
-    let replace = Replace::new(rt.alloc(), cut(rt.alloc(), b"Replace")?)?;
-    let table = Table::new(rt.alloc(), cut(rt.alloc(), b"Table")?)?;
-    let mut externals: Vec<Box<dyn External>> = Vec::new(rt.alloc());
-    externals.push(Box::new(rt.alloc(), replace)?)?;
-    externals.push(Box::new(rt.alloc(), table)?)?;
+    let replace = TextTool::replace(rt.alloc(), cut(rt.alloc(), b"Replace")?)?;
+    let table = TextTool::table(rt.alloc(), cut(rt.alloc(), b"Table")?)?;
+    let mut externals = Vec::new(rt.alloc());
+    externals.push(replace)?;
+    externals.push(table)?;
     let mut reader = Watched::new(rt.stdin().lock());
     let mut writer = Watched::new(rt.stdout().lock());
     let logger = Logged::new(rt, LevelFilter::Warn, Plain(rt));

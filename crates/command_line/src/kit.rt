@@ -17,64 +17,52 @@ use externals::External;
 use headline::Ran;
 use std::alloc::{AllocError, Global};
 use std::io::{Read, Write};
-use xkit::{Bins, Count, Gate, Relay};
-
-/// The four externals of the kit, each in a box.
-#[derive(Drop)]
-struct Kit {
-    count: Box<Count>,
-    bins: Box<Bins>,
-    relay: Box<Relay>,
-    gate: Box<Gate>,
-}
+use xkit::KitExternal;
 
 // Each external of the kit as it begins, under its name.
 
-fn count_of(alloc: Global) -> Result<Box<Count>, AllocError>
-    ensures { IfOk result (λ c. seen_by ⟦<Count as External>⟧.title ⟦<Count as External>⟧.sort
-        ⟦<Count as External>⟧.answers_calls ⟦<Count as External>⟧.cells c.value ≡ count) }
+fn count_of(alloc: Global) -> Result<KitExternal, AllocError>
+    ensures { IfOk result (λ e. seen_by ⟦<KitExternal as External>⟧.title ⟦<KitExternal as External>⟧.sort
+        ⟦<KitExternal as External>⟧.answers_calls ⟦<KitExternal as External>⟧.cells e ≡ count) }
 {
-    Ok(Box::new(alloc, Count::new(alloc, cut(alloc, b"Count")?, 0)?)?)
+    KitExternal::count(alloc, cut(alloc, b"Count")?, 0)
 }
 
-fn bins_of(alloc: Global) -> Result<Box<Bins>, AllocError>
-    ensures { IfOk result (λ b. seen_by ⟦<Bins as External>⟧.title ⟦<Bins as External>⟧.sort
-        ⟦<Bins as External>⟧.answers_calls ⟦<Bins as External>⟧.cells b.value ≡ bins) }
+fn bins_of(alloc: Global) -> Result<KitExternal, AllocError>
+    ensures { IfOk result (λ e. seen_by ⟦<KitExternal as External>⟧.title ⟦<KitExternal as External>⟧.sort
+        ⟦<KitExternal as External>⟧.answers_calls ⟦<KitExternal as External>⟧.cells e ≡ bins) }
 {
-    Ok(Box::new(alloc, Bins::new(alloc, cut(alloc, b"Bins")?)?)?)
+    KitExternal::bins(alloc, cut(alloc, b"Bins")?)
 }
 
-fn relay_of(alloc: Global) -> Result<Box<Relay>, AllocError>
-    ensures { IfOk result (λ r. seen_by ⟦<Relay as External>⟧.title ⟦<Relay as External>⟧.sort
-        ⟦<Relay as External>⟧.answers_calls ⟦<Relay as External>⟧.cells r.value ≡ relay) }
+fn relay_of(alloc: Global) -> Result<KitExternal, AllocError>
+    ensures { IfOk result (λ e. seen_by ⟦<KitExternal as External>⟧.title ⟦<KitExternal as External>⟧.sort
+        ⟦<KitExternal as External>⟧.answers_calls ⟦<KitExternal as External>⟧.cells e ≡ relay) }
 {
-    Ok(Box::new(alloc, Relay::new(alloc, cut(alloc, b"Relay")?)?)?)
+    KitExternal::relay(alloc, cut(alloc, b"Relay")?)
 }
 
-fn gate_of(alloc: Global) -> Result<Box<Gate>, AllocError>
-    ensures { IfOk result (λ g. seen_by ⟦<Gate as External>⟧.title ⟦<Gate as External>⟧.sort
-        ⟦<Gate as External>⟧.answers_calls ⟦<Gate as External>⟧.cells g.value ≡ gate) }
+fn gate_of(alloc: Global) -> Result<KitExternal, AllocError>
+    ensures { IfOk result (λ e. seen_by ⟦<KitExternal as External>⟧.title ⟦<KitExternal as External>⟧.sort
+        ⟦<KitExternal as External>⟧.answers_calls ⟦<KitExternal as External>⟧.cells e ≡ gate) }
 {
-    Ok(Box::new(alloc, Gate::new(alloc, cut(alloc, b"Gate")?)?)?)
+    KitExternal::gate(alloc, cut(alloc, b"Gate")?)
 }
 
 /// The four as they begin, each under its name.
-fn kit_of(alloc: Global) -> Result<Kit, AllocError>
-    ensures count { IfOk result (λ k. seen_by ⟦<Count as External>⟧.title ⟦<Count as External>⟧.sort
-        ⟦<Count as External>⟧.answers_calls ⟦<Count as External>⟧.cells k.count.value ≡ count) }
-    ensures bins { IfOk result (λ k. seen_by ⟦<Bins as External>⟧.title ⟦<Bins as External>⟧.sort
-        ⟦<Bins as External>⟧.answers_calls ⟦<Bins as External>⟧.cells k.bins.value ≡ bins) }
-    ensures relay { IfOk result (λ k. seen_by ⟦<Relay as External>⟧.title ⟦<Relay as External>⟧.sort
-        ⟦<Relay as External>⟧.answers_calls ⟦<Relay as External>⟧.cells k.relay.value ≡ relay) }
-    ensures gate { IfOk result (λ k. seen_by ⟦<Gate as External>⟧.title ⟦<Gate as External>⟧.sort
-        ⟦<Gate as External>⟧.answers_calls ⟦<Gate as External>⟧.cells k.gate.value ≡ gate) }
+fn kit_of(alloc: Global) -> Result<Vec<KitExternal>, AllocError>
+    ensures seen { IfOk result (λ externals. map
+        (seen_by ⟦<KitExternal as External>⟧.title ⟦<KitExternal as External>⟧.sort
+        ⟦<KitExternal as External>⟧.answers_calls ⟦<KitExternal as External>⟧.cells) externals.items ≡ kit) }
+    ensures apart { IfOk result (λ externals. are_apart
+        (map ⟦<KitExternal as External>⟧.title externals.items) ≡ true) }
 {
-    Ok(Kit {
-        count: count_of(alloc)?,
-        bins: bins_of(alloc)?,
-        relay: relay_of(alloc)?,
-        gate: gate_of(alloc)?,
-    })
+    let count = count_of(alloc)?;
+    let bins = bins_of(alloc)?;
+    let relay = relay_of(alloc)?;
+    let gate = gate_of(alloc)?;
+    let externals = listed(alloc, count, bins, relay, gate)?;
+    Ok(externals)
 }
 
 /// Four externals in a list.
@@ -95,36 +83,11 @@ fn listed<E: External>(
     Ok(externals)
 }
 
-/// Four externals that begin as those of the kit, in a list.
-fn kit_listed<E: External>(
-    alloc: Global,
-    first: E,
-    second: E,
-    third: E,
-    fourth: E,
-) -> Result<Vec<E>, AllocError>
-    requires count { seen_by E.title E.sort E.answers_calls E.cells first ≡ count }
-    requires bins { seen_by E.title E.sort E.answers_calls E.cells second ≡ bins }
-    requires relay { seen_by E.title E.sort E.answers_calls E.cells third ≡ relay }
-    requires gate { seen_by E.title E.sort E.answers_calls E.cells fourth ≡ gate }
-    ensures seen { IfOk result (λ externals. map
-        (seen_by E.title E.sort E.answers_calls E.cells) externals.items ≡ kit) }
-    ensures apart { IfOk result (λ externals. are_apart (map E.title externals.items) ≡ true) }
-{
-    let externals = listed(alloc, first, second, third, fourth)?;
-    Ok(externals)
-}
-
 /// Looks at the scripts of a stack text and runs nothing, as `check` of `explain` does, beside the four externals of
 /// the kit. `Refused` where the bytes are no stack text, `Memory` where a growth was refused.
 pub fn check_with_kit(alloc: Global, bytes: &[u8]) -> Result<Checked, CliFault> {
     let stack = stack_of(alloc, bytes)?;
-    let kit = kit_of(alloc)?;
-    let count: Box<dyn External> = kit.count;
-    let bins: Box<dyn External> = kit.bins;
-    let relay: Box<dyn External> = kit.relay;
-    let gate: Box<dyn External> = kit.gate;
-    let externals = listed(alloc, count, bins, relay, gate)?;
+    let externals = kit_of(alloc)?;
     Ok(check(alloc, &stack, &externals)?)
 }
 
@@ -155,11 +118,6 @@ pub fn play_with_kit<R: Read, W: Write, D: Desk>(
     ensures write_failed { IsErrOf result CliFault.Write → Rose (failures_of writer.old) (failures_of writer.new) }
     ensures write_sound { ¬ IsErrOf result CliFault.Write → failures_of writer.new ≡ failures_of writer.old }
 {
-    let kit = kit_of(alloc)?;
-    let count: Box<dyn External> = kit.count;
-    let bins: Box<dyn External> = kit.bins;
-    let relay: Box<dyn External> = kit.relay;
-    let gate: Box<dyn External> = kit.gate;
-    let externals = kit_listed(alloc, count, bins, relay, gate)?;
+    let externals = kit_of(alloc)?;
     play(alloc, options, bytes, externals, reader, writer, desk)
 }

@@ -1,7 +1,9 @@
 -- The log of an external: the turns that it took, the first one first.
-use Rattle.std.specs.Coded.{Coded, code_by, coded×, coded_ℕ, coded_bool, coded_list, coded_option}
+use Rattle.std.specs.Coded.{Coded, Coded-set, code_by, coded×, coded_ℕ, coded_bool, coded_list, coded_option, ×_prop}
+use Rattle.std.specs.Coded.{Π_prop, Unit-prop}
 use Rattle.std.specs.Prelude.{◌≡◌, refl, ℕ, zero, suc, Bool, false, List, [], ◌∷◌, Option, Some, None, IfSome, All}
-use Rattle.externals.specs.Turns.{TurnTable}
+use Rattle.std.specs.Prelude.{slice_index_or}
+use Rattle.externals.specs.Turns.{Turn, TurnTable}
 use Rattle.externals.specs.declared.external.Input.{Input}
 use Rattle.externals.specs.declared.external.Input.TheVariants.{Start, Answer}
 use Rattle.externals.specs.declared.external.Ask.{Ask}
@@ -84,3 +86,15 @@ coded_log = coded_list (code_by (List (List ℕ) × (Input × (Ask × List (List
     (coded× (coded_list coded_text) (coded× coded_input (coded× coded_ask (coded_list coded_text))))
     (λ t. (t.before, (t.input, (t.ask, t.cells))))
     (λ p. record { before = p.0; input = p.1.0; ask = p.1.1.0; cells = p.1.1.1 }) (λ _. refl))
+
+-- ---- a log follows a table in one way at most, so a struct can keep that it does
+
+is_turn-prop : (turn : LoggedTurn) (due : Option Turn)
+    → IsProp (IfSome due (λ d. (turn.ask ≡ d.0) × (turn.cells ≡ d.1)))
+is_turn-prop turn None = Unit-prop
+is_turn-prop turn (Some d) =
+    ×_prop (Coded-set coded_ask turn.ask d.0) (Coded-set (coded_list coded_text) turn.cells d.1)
+
+pub Follows-prop : (table : TurnTable) (kind : ℕ) (log : Log) → IsProp (Follows table kind log)
+Follows-prop table kind log = Π_prop (λ i. Π_prop (λ d. Π_prop (λ within.
+    let turn = slice_index_or log i d in is_turn-prop turn (table kind turn.before turn.input))))

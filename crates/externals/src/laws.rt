@@ -44,7 +44,9 @@ pub fn law_of_ask(ask: &Ask)
     ensures { AskTexts ask.now }
 {
     match ask {
-        Ask::SendCardMessage(note, text) | Ask::EvalExpr(note, text) => law_of_call_back(note, text),
+        Ask::SendCardMessage(note, text) | Ask::EvalExpr(note, text) => law_of_call_back(
+            note, text,
+        ),
         Ask::SetGlobal(note, name, value) | Ask::SetFieldByName(note, _, name, value) => {
             law_of_text(name);
             law_of_call_back(note, value);

@@ -26,11 +26,11 @@ with_cells_at s i cells = record s { externals = slice_set s.externals i (with_c
 -- at its end, the others stay
 abbrev pub logs_after : List Log → State → State → ℕ → Input → Ask → List Log
 logs_after logs old new i input ask = slice_set logs i (slice_index_or logs i [] ++ (record {
-      before = (seen_at old i).cells;
-      input = input;
-      ask = ask;
-      cells = (seen_at new i).cells;
-    }) ∷ [])
+  before = (seen_at old i).cells;
+  input = input;
+  ask = ask;
+  cells = (seen_at new i).cells;
+}) ∷ [])
 
 -- a turn of the i-th external leads from the old state to the new one: it has as many cells, and nothing else changes
 pub record Turns (old new : State) (i : ℕ) : Type 0 where

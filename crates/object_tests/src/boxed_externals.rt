@@ -4,9 +4,9 @@ use crate::conversations::{Profile, has_profile};
 use crate::plain_texts::{Bytes, text};
 use externals::External;
 use ht_values::Text;
-use std::alloc::Global;
-use text_tools::{Replace, Table};
-use xkit::{Bins, Count, Gate, Relay};
+use std::alloc::{AllocError, Global};
+use text_tools::TextTool;
+use xkit::KitExternal;
 
 pub(crate) type Boxed = Box<dyn External>;
 
@@ -21,39 +21,8 @@ pub(crate) enum Made {
     Table,
 }
 
-fn count(alloc: Global, name: Text, start: i64) -> Option<Boxed> {
-    let count = Count::new(alloc, name, start).ok()?;
-    let external: Boxed = Box::new(alloc, count).ok()?;
-    Some(external)
-}
-
-fn bins(alloc: Global, name: Text) -> Option<Boxed> {
-    let bins = Bins::new(alloc, name).ok()?;
-    let external: Boxed = Box::new(alloc, bins).ok()?;
-    Some(external)
-}
-
-fn relay(alloc: Global, name: Text) -> Option<Boxed> {
-    let relay = Relay::new(alloc, name).ok()?;
-    let external: Boxed = Box::new(alloc, relay).ok()?;
-    Some(external)
-}
-
-fn gate(alloc: Global, name: Text) -> Option<Boxed> {
-    let gate = Gate::new(alloc, name).ok()?;
-    let external: Boxed = Box::new(alloc, gate).ok()?;
-    Some(external)
-}
-
-fn replace(alloc: Global, name: Text) -> Option<Boxed> {
-    let replace = Replace::new(alloc, name).ok()?;
-    let external: Boxed = Box::new(alloc, replace).ok()?;
-    Some(external)
-}
-
-fn table(alloc: Global, name: Text) -> Option<Boxed> {
-    let table = Table::new(alloc, name).ok()?;
-    let external: Boxed = Box::new(alloc, table).ok()?;
+fn boxed<E: External>(alloc: Global, made: Result<E, AllocError>) -> Option<Boxed> {
+    let external: Boxed = Box::new(alloc, made.ok()?).ok()?;
     Some(external)
 }
 
@@ -72,12 +41,12 @@ fn name_of(which: Made) -> Bytes {
 pub(crate) fn make_external(alloc: Global, which: Made) -> Option<Boxed> {
     let name = text(alloc, name_of(which))?;
     match which {
-        Made::Count(start) => count(alloc, name, start),
-        Made::Bins => bins(alloc, name),
-        Made::Relay => relay(alloc, name),
-        Made::Gate => gate(alloc, name),
-        Made::Replace => replace(alloc, name),
-        Made::Table => table(alloc, name),
+        Made::Count(start) => boxed(alloc, KitExternal::count(alloc, name, start)),
+        Made::Bins => boxed(alloc, KitExternal::bins(alloc, name)),
+        Made::Relay => boxed(alloc, KitExternal::relay(alloc, name)),
+        Made::Gate => boxed(alloc, KitExternal::gate(alloc, name)),
+        Made::Replace => boxed(alloc, TextTool::replace(alloc, name)),
+        Made::Table => boxed(alloc, TextTool::table(alloc, name)),
     }
 }
 

@@ -6,12 +6,12 @@ ghost use Rattle.externals.specs.Cells.{IsPatch};
 use crate::boxed_externals::Boxed;
 use crate::conversations::*;
 use crate::plain_texts::text;
-use externals::{Ask, External, Input, Patch, Texts, law_of_external, laws_of_flips};
+use externals::{Ask, External, Input, Patch, Texts, law_of_ask, law_of_external, laws_of_flips};
 use ht_values::Text;
 use std::alloc::{AllocError, Global};
-use xkit::{Cells, Step, TurnLog, changed, unchanged};
+use xkit::{Before, Cells, Step, TurnLog, changed, unchanged};
 
-/// Of no known kind, a command that echoes what it is handed: at each start its cell becomes the first argument, and it
+/// A command that echoes what it is handed: at each start its cell becomes the first argument, and it
 /// asks for its value. An answer ends the conversation with its value. Its log has each turn.
 #[derive(Drop)]
 struct Echo {
@@ -55,8 +55,9 @@ impl External for Echo {
     }
 
     fn turn(&mut self, alloc: Global, input: &Input) -> Result<(Ask, Patch), AllocError> {
+        let before = Before::of(&self.cells);
         let (ask, patch) = echoed(&mut self.cells, alloc, input)?;
-        self.log.record(input, &ask, &self.cells);
+        self.log.record(&before, input, &ask, &self.cells);
         Ok((ask, patch))
     }
 
@@ -127,6 +128,7 @@ const AFTER: Profile = Profile {
 
 fn keeps_laws<E: External>(external: &E) {
     law_of_external(external);
+    law_of_ask(&Ask::Fail);
     laws_of_flips();
 }
 

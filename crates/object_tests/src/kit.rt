@@ -62,7 +62,7 @@ const BEGUN: &[(Made, Profile)] = &[
         Made::Replace,
         Profile {
             name: b"Replace",
-            kind: 0,
+            kind: 5,
             is_function: true,
             cells: 0,
             text: b"",
@@ -72,7 +72,7 @@ const BEGUN: &[(Made, Profile)] = &[
         Made::Table,
         Profile {
             name: b"Table",
-            kind: 0,
+            kind: 6,
             is_function: false,
             cells: 64,
             text: b"",

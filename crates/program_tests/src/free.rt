@@ -7,7 +7,7 @@ use externals::{Ask, External, Input, Patch, Texts};
 use ht_values::{Text, numeral, text_of};
 use std::alloc::{AllocError, Global};
 use std::rc::Rc;
-use xkit::{Cells, Gate, Step, TurnLog, changed};
+use xkit::{Before, Cells, KitExternal, Step, TurnLog, changed};
 
 /// What an external asks at each turn.
 #[derive(Clone, Copy)]
@@ -18,13 +18,21 @@ pub(crate) enum Manner {
     Set,
     /// At a start, to send the message that starts it; that the conversation ends once it was sent.
     Send,
+    /// At a start, to compute its first argument, which is the note too; that the conversation ends with the note, an
+    /// equals sign and the value.
+    Echo,
+    /// That the conversation ends, and the message is passed on.
+    Pass,
+    /// At a start, to put its first argument into the field `Note` of the background; that the conversation ends once
+    /// that was done.
+    SetField,
     /// It fails.
     Fail,
     /// It is none of these, but the gate of the kit.
     Gate,
 }
 
-/// Of no known kind, a command whose one cell counts its turns. It holds a mark while it is there.
+/// A command whose one cell counts its turns. It holds a mark while it is there.
 #[derive(Drop)]
 struct Free {
     name: Text,
@@ -69,8 +77,9 @@ impl External for Free {
     }
 
     fn turn(&mut self, alloc: Global, input: &Input) -> Result<(Ask, Patch), AllocError> {
+        let before = Before::of(&self.cells);
         let (ask, patch) = turned(self.manner, &mut self.cells, alloc, input)?;
-        self.log.record(input, &ask, &self.cells);
+        self.log.record(&before, input, &ask, &self.cells);
         Ok((ask, patch))
     }
 
@@ -101,12 +110,51 @@ fn send_message(alloc: Global) -> Result<Ask, AllocError> {
     Ok(Ask::SendCardMessage(Texts::new(alloc), message))
 }
 
+/// Starts to compute a text, which is the note too.
+fn compute(alloc: Global, expression: &Text) -> Result<Ask, AllocError> {
+    let mut note = Texts::new(alloc);
+    note.push(expression.try_clone(alloc)?)
+        .map_err(|_| AllocError)?;
+    Ok(Ask::EvalExpr(note, expression.try_clone(alloc)?))
+}
+
+/// Ends a conversation with a note and a value, with an equals sign between.
+fn tell(alloc: Global, note: &Text, value: &Text) -> Result<Ask, AllocError> {
+    let mut told = note.try_clone(alloc)?;
+    told.append(b"=").map_err(|_| AllocError)?;
+    told.append(value.as_slice()).map_err(|_| AllocError)?;
+    Ok(Ask::Done(told, false))
+}
+
+fn echo(alloc: Global, input: &Input) -> Result<Ask, AllocError> {
+    match input {
+        Input::Start(args) if args.len() > 0 => compute(alloc, args.at(0)),
+        Input::Answer(note, value) if note.len() > 0 => tell(alloc, note.at(0), value),
+        _ => Ok(Ask::Fail),
+    }
+}
+
+fn set_field(alloc: Global, input: &Input) -> Result<Ask, AllocError> {
+    match input {
+        Input::Start(args) if args.len() > 0 => Ok(Ask::SetFieldByName(
+            Texts::new(alloc),
+            false,
+            text(alloc, b"Note")?,
+            args.at(0).try_clone(alloc)?,
+        )),
+        _ => Ok(Ask::Done(Text::new(alloc), false)),
+    }
+}
+
 /// What is asked at a turn of this number.
 fn asked(manner: Manner, alloc: Global, input: &Input, count: &Text) -> Result<Ask, AllocError> {
     match manner {
         Manner::Set => set_global(alloc, count),
         Manner::Send if matches!(input, Input::Start(_)) => send_message(alloc),
         Manner::Send | Manner::End => Ok(Ask::Done(Text::new(alloc), false)),
+        Manner::Echo => echo(alloc, input),
+        Manner::Pass => Ok(Ask::Done(Text::new(alloc), true)),
+        Manner::SetField => set_field(alloc, input),
         Manner::Fail | Manner::Gate => Ok(Ask::Fail),
     }
 }
@@ -150,7 +198,7 @@ fn boxed_free(alloc: Global, name: Text, manner: Manner, mark: &Rc<u8>) -> Optio
 }
 
 fn boxed_gate(alloc: Global, name: Text) -> Option<Boxed> {
-    let boxed: Boxed = Box::new(alloc, Gate::new(alloc, name).ok()?).ok()?;
+    let boxed: Boxed = Box::new(alloc, KitExternal::gate(alloc, name).ok()?).ok()?;
     Some(boxed)
 }
 

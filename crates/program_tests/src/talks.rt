@@ -294,6 +294,35 @@ const CONVERSATIONS: &[Talk<'static, 'static>] = &[
         ..EMPTY
     },
     Talk {
+        name: "Echo",
+        manner: Some(Manner::Echo),
+        input: b"do \"Echo\" && quote & \"6 * 7\" & quote & return & \"put the result\"\n.cells Echo\n",
+        written: b"> 6 * 7=42\nok\n> 2\nok\n",
+        ..EMPTY
+    },
+    Talk {
+        // What is passed on comes to what is built in.
+        name: "doMenu",
+        manner: Some(Manner::Pass),
+        input: b"doMenu \"New Card\"\n.where\n.cells doMenu\n.undo\n.where\n.cells doMenu\n",
+        written: b"ok\n> 5\nok\n> 1\nok\nok\n> 2\nok\n> 0\nok\n",
+        ..EMPTY
+    },
+    Talk {
+        name: "Other",
+        manner: Some(Manner::Pass),
+        input: b"Other\n.cells Other\n",
+        written: b"fault 2\n> 1\nok\n",
+        ..EMPTY
+    },
+    Talk {
+        name: "Fill",
+        manner: Some(Manner::SetField),
+        input: b"Fill \"new\"\nput field \"Note\"\n.cells Fill\n.undo\nput field \"Note\"\n.cells Fill\n",
+        written: b"ok\n> new\nok\n> 2\nok\nok\n> \nok\n> 0\nok\n",
+        ..EMPTY
+    },
+    Talk {
         name: "Mute",
         manner: Some(Manner::Fail),
         input: b"Mute\n.cells Mute\n.history\n.undo\n.cells Mute\n.redo\n.cells Mute\n",

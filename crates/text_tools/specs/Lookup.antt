@@ -2,10 +2,11 @@
 use Rattle.std.specs.Prelude.{ℕ, ◌+◌, false, nat_eq, List, [], ◌∷◌, codes, length, take, position, slice_set}
 use Rattle.std.specs.Prelude.{if◌then◌else◌, Option, Some, None}
 use Rattle.ht_values.specs.Text.{same}
-use Rattle.externals.specs.Table.{Turn, cell, fails}
+use Rattle.externals.specs.Turns.{Turn}
 use Rattle.externals.specs.declared.external.Input.{Input}
 use Rattle.externals.specs.declared.external.Input.TheVariants.{Start}
 use Rattle.externals.specs.declared.external.Ask.TheVariants.{Done}
+use Rattle.xkit.specs.Steps.{cell, fails}
 
 -- The first 32 cells are keys, and the value of the i-th is 32 cells further on. An empty key marks a free place.
 abbrev pub value_at : ℕ → ℕ

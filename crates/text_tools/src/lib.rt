@@ -3,6 +3,6 @@
 
 mod replace;
 mod table;
+mod text_tool;
 
-pub use replace::Replace;
-pub use table::Table;
+pub use text_tool::TextTool;

@@ -1,107 +1,18 @@
 //! Table: a command that keeps values under keys.
 
-ghost use Rattle.std.specs.Prelude.{◌≡◌, ◌<◌, [], ◌∷◌, ◌++◌, length, false, position, replicate, take, IfOk, IfSome};
-ghost use Rattle.std.specs.Prelude.{OnErr};
+ghost use Rattle.std.specs.Prelude.{◌≡◌, ◌<◌, [], ◌∷◌, length, position, take, IfOk, IfSome, OnErr};
 ghost use Rattle.ht_values.specs.Text.{same};
-ghost use Rattle.externals.specs.Cells.{IsPatch};
-ghost use Rattle.externals.specs.Table.{Answers};
 ghost use Rattle.xkit.specs.Steps.{Takes};
 ghost use Rattle.text_tools.specs.Lookup.{delete_turn, done, entered, get_turn, place_of as place_of_key, put_turn};
 ghost use Rattle.text_tools.specs.Lookup.{table_turn, with_entry};
 
-use externals::{Ask, External, Input, Patch, Texts};
+use externals::{Ask, Input, Patch, Texts};
 use ht_values::Text;
-use std::alloc::{AllocError, Global};
-use xkit::{Cells, Step, TurnLog, changed, unchanged};
+use std::alloc::Global;
+use xkit::{Cells, Step, changed, unchanged};
 
 /// How many keys there are at most.
 const PLACES: usize = 32;
-
-/// The command `Table`, which keeps up to 32 values under keys. `Table "put",key,value` keeps a value, in place of the
-/// one that the key has; it fails for an empty key, and for a new one while no place is free. `Table "get",key` gives
-/// the value in `the result`, empty where there is none. `Table "delete",key` forgets the key. Verbs and keys are
-/// compared without case, and a key stays as it was first spelled. Its kind is 0.
-#[derive(Drop)]
-pub struct Table {
-    name: Text,
-    cells: Cells,
-    log: TurnLog,
-    ghost two_cells_each: { length cells ≡ 64 },
-}
-
-impl Table {
-    /// A table of this name with no key.
-    pub fn new(alloc: Global, name: Text) -> Result<Table, AllocError>
-        ensures title { IfOk result (λ e. ⟦<Table as External>⟧.title e ≡ name) }
-        ensures kind { IfOk result (λ e. ⟦<Table as External>⟧.sort e ≡ 0) }
-        ensures flag { IfOk result (λ e. ⟦<Table as External>⟧.answers_calls e ≡ false) }
-        ensures cells { IfOk result (λ e. ⟦<Table as External>⟧.cells e ≡ replicate 64 []) }
-        ensures log { IfOk result (λ e. ⟦<Table as External>⟧.log e ≡ []) }
-    {
-        Ok(Table {
-            name,
-            cells: Cells::empty(alloc, 64)?,
-            log: TurnLog::new(),
-        })
-    }
-}
-
-impl External for Table {
-    ghost title = { λ e. e.name };
-
-    ghost sort = { λ _. 0 };
-
-    ghost answers_calls = { λ _. false };
-
-    ghost cells = { λ e. e.cells };
-
-    ghost log = { λ e. e.log.turns };
-
-    fn name(&self) -> &Text {
-        &self.name
-    }
-
-    fn kind(&self) -> u32 {
-        0
-    }
-
-    fn is_function(&self) -> bool {
-        false
-    }
-
-    fn cell_count(&self) -> usize {
-        self.cells.len()
-    }
-
-    fn cell(&self, i: usize) -> &Text {
-        self.cells.at(i)
-    }
-
-    fn turn(&mut self, alloc: Global, input: &Input) -> Result<(Ask, Patch), AllocError>
-        ensures takes { IfOk result (λ r. Takes
-            (table_turn self.old.cells input.now) self.old.cells self.new.cells r.0 r.1) }
-        ensures answers { IfOk result (λ r. Answers 0 self.old.cells input.now r.0 self.new.cells) }
-        ensures patch { IfOk result (λ r. IsPatch self.old.cells self.new.cells r.1) }
-        ensures err { OnErr result (self.new.cells ≡ self.old.cells) }
-        ensures log { IfOk result (λ r. self.new.log.turns ≡ self.old.log.turns
-            ++ (record { input = input.now; ask = r.0; cells = self.new.cells }) ∷ []) }
-        ensures log_err { OnErr result (self.new.log.turns ≡ self.old.log.turns) }
-        ensures title { self.new.name ≡ self.old.name }
-        ensures sort { ⟦<Table as External>⟧.sort self.new ≡ ⟦<Table as External>⟧.sort self.old }
-        ensures flag { ⟦<Table as External>⟧.answers_calls self.new ≡ ⟦<Table as External>⟧.answers_calls self.old }
-    {
-        let (ask, patch) = match input {
-            Input::Start(args) => started(&mut self.cells, alloc, args)?,
-            Input::Answer(_, _) => unchanged(alloc, Ask::Fail),
-        };
-        self.log.record(input, &ask, &self.cells);
-        Ok((ask, patch))
-    }
-
-    fn flip(&mut self, patch: &mut Patch) {
-        self.cells.flip(patch);
-    }
-}
 
 /// Whether two texts are the same, case ignored.
 fn is_same(a: &[u8], b: &[u8]) -> bool
@@ -137,7 +48,19 @@ fn first_with(keys: &[Text], key: &[u8]) -> Option<usize>
     keys.iter().position(|other| is_same(other.as_slice(), key))
 }
 
-/// A start, by its verb.
+/// One turn, by the verb of the start.
+pub(crate) fn turned(cells: &mut Cells, alloc: Global, input: &Input) -> Step
+    requires { length cells.old ≡ 64 }
+    ensures ok { IfOk result (λ r. Takes (table_turn cells.old input.now) cells.old cells.new r.0 r.1) }
+    ensures err { OnErr result (cells.new ≡ cells.old) }
+    ensures count { length cells.new ≡ length cells.old }
+{
+    match input {
+        Input::Start(args) => started(cells, alloc, args),
+        Input::Answer(_, _) => Ok(unchanged(alloc, Ask::Fail)),
+    }
+}
+
 fn started(cells: &mut Cells, alloc: Global, args: &Texts) -> Step
     requires { length cells.old ≡ 64 }
     ensures ok { IfOk result (λ r. Takes (table_turn cells.old (Input.Start args.now)) cells.old cells.new r.0 r.1) }

@@ -19,7 +19,7 @@ use primitives::places::{field_place, field_text};
 use stack_places::laws_of_exchanges;
 use std::alloc::Global;
 use structural_changes::{laws_of_changes, laws_of_current_cards, laws_of_places};
-use xkit::Gate;
+use xkit::KitExternal;
 
 #[test]
 fn laws_are_promised(_rt: HostRuntime) {
@@ -31,7 +31,7 @@ fn laws_are_promised(_rt: HostRuntime) {
     laws_of_places();
     laws_of_exchanges();
     law_of_trails();
-    law_of_externals::<Gate>(&[]);
+    law_of_externals::<KitExternal>(&[]);
 }
 
 /// The stack of two cards: the stack is 0, its background 1 with field 3, and its cards are 2 and 4.

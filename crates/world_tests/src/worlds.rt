@@ -9,10 +9,10 @@ use ht_values::{PartKind, Text};
 use object_table::{LayerId, PropValue, Stack};
 use stack_file::read;
 use std::alloc::Global;
-use xkit::Gate;
+use xkit::KitExternal;
 
-/// A world whose externals would be gates; it has none.
-pub(crate) type PlainWorld = World<Gate>;
+/// A world whose externals would be those of the kit; it has none.
+pub(crate) type PlainWorld = World<KitExternal>;
 
 fn stack_of(alloc: Global, text: &[u8]) -> Option<Stack>
     ensures { IfSome result (λ s. IsWellFormed s.content) }
@@ -107,6 +107,7 @@ fn fits_unfolded(alloc: Global, world: &PlainWorld) -> Option<bool> {
 fn outcome(alloc: Global) -> Option<(usize, Option<bool>)> {
     let world = world_of(alloc, BUTTON_AND_FIELD)?;
     world.law_of_states();
+    world.law_of_table();
     Some((right_steps(alloc, &world), fits_unfolded(alloc, &world)))
 }
 

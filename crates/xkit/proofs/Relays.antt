@@ -2,9 +2,10 @@
 use Rattle.std.proofs.Common.{◌≡◌, ℕ, arith, Bool, true, false, ◌&&◌, nat_eq, bytes_eq, length, List, [], ◌∷◌, codes}
 use Rattle.std.proofs.Common.{drop, slice_index_or, refl}
 use Rattle.std.proofs.lemmas.Bool.{eqb-true}
-use Rattle.externals.specs.Table.{cell, relay_answer}
+use Rattle.xkit.specs.Table.{relay_answer}
 use Rattle.externals.specs.declared.external.Ask.TheVariants.{SetFieldByName}
-use Rattle.xkit.specs.Steps.{is_note}
+use Rattle.xkit.specs.Steps.{cell}
+use Rattle.xkit.specs.Table.{is_note}
 
 first_of_both : (a b : Bool) → (a && b) ≡ true → a ≡ true
 first_of_both true b h = refl

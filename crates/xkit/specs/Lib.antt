@@ -1,3 +1,4 @@
 pub mod Plans
 pub mod Steps
 pub mod Table
+pub mod Members

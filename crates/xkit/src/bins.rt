@@ -1,81 +1,14 @@
 //! Bins: a command that keeps texts under numbers.
 
-ghost use Rattle.std.specs.Prelude.{◌≡◌, ◌<◌, [], length, false, replicate, IfOk, OnErr, slice_index_or, slice_set};
-ghost use Rattle.externals.specs.Number.{number_in};
-ghost use Rattle.externals.specs.Table.{bins_turn};
-ghost use Rattle.xkit.specs.Steps.{Takes, bin_of};
+ghost use Rattle.std.specs.Prelude.{◌≡◌, ◌<◌, [], length, false, IfOk, OnErr, slice_index_or, slice_set};
+ghost use Rattle.xkit.specs.Table.{bin_of, bins_turn, number_in};
+ghost use Rattle.xkit.specs.Steps.{Takes};
 
 use crate::cells::Cells;
 use crate::step::{Step, changed, number, unchanged};
-use externals::{Ask, External, Input, Patch, Texts};
+use externals::{Ask, Input, Texts};
 use ht_values::Text;
-use std::alloc::{AllocError, Global};
-
-/// The command that keeps texts in 16 bins, of kind 2. Started with a number from 1 to 16 and a text, it keeps the text
-/// in the cell of that number, and its value is the text that was there.
-#[derive(Drop)]
-pub struct Bins {
-    name: Text,
-    cells: Cells,
-    ghost sixteen_cells: { length cells ≡ 16 },
-}
-
-impl Bins {
-    /// Empty bins of this name.
-    pub fn new(alloc: Global, name: Text) -> Result<Bins, AllocError>
-        ensures title { IfOk result (λ e. ⟦<Bins as External>⟧.title e ≡ name) }
-        ensures kind { IfOk result (λ e. ⟦<Bins as External>⟧.sort e ≡ 2) }
-        ensures flag { IfOk result (λ e. ⟦<Bins as External>⟧.answers_calls e ≡ false) }
-        ensures cells { IfOk result (λ e. ⟦<Bins as External>⟧.cells e ≡ replicate 16 []) }
-    {
-        Ok(Bins {
-            name,
-            cells: Cells::empty(alloc, 16)?,
-        })
-    }
-}
-
-impl External for Bins {
-    ghost use Rattle.std.specs.Prelude.{false};
-
-    ghost title = { λ e. e.name };
-
-    ghost sort = { λ _. 2 };
-
-    ghost answers_calls = { λ _. false };
-
-    ghost cells = { λ e. e.cells };
-
-    ghost log = { λ _. [] };
-
-    fn name(&self) -> &Text {
-        &self.name
-    }
-
-    fn kind(&self) -> u32 {
-        2
-    }
-
-    fn is_function(&self) -> bool {
-        false
-    }
-
-    fn cell_count(&self) -> usize {
-        self.cells.len()
-    }
-
-    fn cell(&self, i: usize) -> &Text {
-        self.cells.at(i)
-    }
-
-    fn turn(&mut self, alloc: Global, input: &Input) -> Result<(Ask, Patch), AllocError> {
-        turned(&mut self.cells, alloc, input)
-    }
-
-    fn flip(&mut self, patch: &mut Patch) {
-        self.cells.flip(patch);
-    }
-}
+use std::alloc::Global;
 
 /// The cell of the bin that a text numbers from 1 to 16.
 fn bin(text: &Text) -> Option<usize>
@@ -90,7 +23,7 @@ fn bin(text: &Text) -> Option<usize>
 }
 
 /// One turn: a start with a bin and a text keeps the text there and tells the old one.
-fn turned(cells: &mut Cells, alloc: Global, input: &Input) -> Step
+pub(crate) fn turned(cells: &mut Cells, alloc: Global, input: &Input) -> Step
     requires { length cells.old ≡ 16 }
     ensures ok { IfOk result (λ r. Takes (bins_turn cells.old input.now) cells.old cells.new r.0 r.1) }
     ensures err { OnErr result (cells.new ≡ cells.old) }

@@ -3,7 +3,7 @@
 ghost use Rattle.std.specs.Prelude.{◌≡◌, ◌≢◌, ℕ, ◌<◌, List, [], ◌∷◌, ◌++◌, bytes_eq, length, IfOk, OnOk, OnErr};
 ghost use Rattle.std.specs.Prelude.{replicate, slice_get, slice_set, Some};
 ghost use Rattle.externals.specs.Cells.{Avoids, flipped, taken_out, IsProper, IsPatch};
-ghost use Rattle.externals.specs.Table.{cell};
+ghost use Rattle.xkit.specs.Steps.{cell};
 ghost use Rattle.xkit.specs.Plans.{IsPlan};
 
 use externals::Patch;

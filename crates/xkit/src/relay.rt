@@ -1,83 +1,15 @@
 //! Relay: a command that uses each of the four call-backs once.
 
-ghost use Rattle.std.specs.Prelude.{◌≡◌, ℕ, ◌<◌, ◌≤◌, [], ◌∷◌, codes, drop, length, false, replicate, IfOk, OnErr};
+ghost use Rattle.std.specs.Prelude.{◌≡◌, ℕ, ◌<◌, ◌≤◌, [], ◌∷◌, codes, drop, length, IfOk, OnErr};
 ghost use Rattle.ht_values.specs.declared.text.TheConstants.{LIMIT};
-ghost use Rattle.externals.specs.Table.{relay_start, relay_answer, relay_turn};
-ghost use Rattle.xkit.specs.Steps.{Takes, is_note};
+ghost use Rattle.xkit.specs.Table.{is_note, relay_start, relay_answer, relay_turn};
+ghost use Rattle.xkit.specs.Steps.{Takes};
 
 use crate::cells::Cells;
 use crate::step::{Step, add, changed, text, unchanged};
-use externals::{Ask, External, Input, Patch, Texts};
+use externals::{Ask, Input, Texts};
 use ht_values::Text;
 use std::alloc::{AllocError, Global};
-
-/// The command that uses each of the four call-backs once, of kind 3. Started with the names of a global and of a
-/// field, an expression and a message, it puts `relay` into the global, the global's name into the background field,
-/// computes the expression and sends the message; its value is that of the expression. Its cells are the name of the
-/// global and the value.
-#[derive(Drop)]
-pub struct Relay {
-    name: Text,
-    cells: Cells,
-    ghost two_cells: { length cells ≡ 2 },
-}
-
-impl Relay {
-    /// A relay of this name that was never started.
-    pub fn new(alloc: Global, name: Text) -> Result<Relay, AllocError>
-        ensures title { IfOk result (λ e. ⟦<Relay as External>⟧.title e ≡ name) }
-        ensures kind { IfOk result (λ e. ⟦<Relay as External>⟧.sort e ≡ 3) }
-        ensures flag { IfOk result (λ e. ⟦<Relay as External>⟧.answers_calls e ≡ false) }
-        ensures cells { IfOk result (λ e. ⟦<Relay as External>⟧.cells e ≡ replicate 2 []) }
-    {
-        Ok(Relay {
-            name,
-            cells: Cells::empty(alloc, 2)?,
-        })
-    }
-}
-
-impl External for Relay {
-    ghost use Rattle.std.specs.Prelude.{false};
-
-    ghost title = { λ e. e.name };
-
-    ghost sort = { λ _. 3 };
-
-    ghost answers_calls = { λ _. false };
-
-    ghost cells = { λ e. e.cells };
-
-    ghost log = { λ _. [] };
-
-    fn name(&self) -> &Text {
-        &self.name
-    }
-
-    fn kind(&self) -> u32 {
-        3
-    }
-
-    fn is_function(&self) -> bool {
-        false
-    }
-
-    fn cell_count(&self) -> usize {
-        self.cells.len()
-    }
-
-    fn cell(&self, i: usize) -> &Text {
-        self.cells.at(i)
-    }
-
-    fn turn(&mut self, alloc: Global, input: &Input) -> Result<(Ask, Patch), AllocError> {
-        turned(&mut self.cells, alloc, input)
-    }
-
-    fn flip(&mut self, patch: &mut Patch) {
-        self.cells.flip(patch);
-    }
-}
 
 /// Whether a note has so many texts, and this one first.
 fn is_note_of(note: &Texts, count: usize, stage: &[u8]) -> bool
@@ -103,7 +35,7 @@ fn note_of(alloc: Global, stage: &[u8], texts: &Texts, from: usize) -> Result<Te
 }
 
 /// One turn.
-fn turned(cells: &mut Cells, alloc: Global, input: &Input) -> Step
+pub(crate) fn turned(cells: &mut Cells, alloc: Global, input: &Input) -> Step
     requires { length cells.old ≡ 2 }
     ensures ok { IfOk result (λ r. Takes (relay_turn cells.old input.now) cells.old cells.new r.0 r.1) }
     ensures err { OnErr result (cells.new ≡ cells.old) }

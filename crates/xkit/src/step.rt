@@ -2,7 +2,7 @@
 
 ghost use Rattle.std.specs.Prelude.{◌≡◌, ℕ, ◌<◌, ◌≤◌, ◌++◌, List, [], ◌∷◌, length, IfOk, OnOk, OnErr, slice_set};
 ghost use Rattle.ht_values.specs.declared.text.TheConstants.{LIMIT};
-ghost use Rattle.externals.specs.Number.{number_in};
+ghost use Rattle.xkit.specs.Table.{number_in};
 ghost use Rattle.xkit.specs.Steps.{Takes};
 
 use crate::cells::Cells;
@@ -41,7 +41,7 @@ pub(crate) fn text(alloc: Global, bytes: &[u8]) -> Result<Text, AllocError>
 }
 
 /// The number that a text spells.
-#[tactic(auto, unfolding(externals::specs::Number::number_in))]
+#[tactic(auto, unfolding(crate::specs::Table::number_in))]
 pub(crate) fn number(text: &Text) -> Option<i64>
     ensures { result ≡ number_in text.now }
 {

@@ -1,17 +1,19 @@
-//! The log of an external that answers freely. It takes no memory, and its methods do nothing at run time.
+//! The log of an external. It takes no memory, and its methods do nothing at run time.
 
-ghost use Rattle.std.specs.Prelude.{◌≡◌, List, [], ◌∷◌, ◌++◌};
+ghost use Rattle.std.specs.Prelude.{◌≡◌, ℕ, List, [], ◌∷◌, ◌++◌};
 ghost use Rattle.std.specs.Borrow.{ftrue};
-ghost use Rattle.externals.specs.Log.{Log, coded_log};
+ghost use Rattle.externals.specs.Turns.{TurnTable};
+ghost use Rattle.externals.specs.Log.{Log, Follows, IsTurnOf, coded_log};
 
+use crate::before::Before;
 use crate::cells::Cells;
 use externals::{Ask, Input};
 use std::marker::Model;
 
 /// The turns that an external took, the first one first, which contracts see as `turns`. Only proofs read them.
 ///
-/// An external whose kind is in no table holds one, which it makes with `new`. It gives `turns` as its log, and records
-/// each turn once its cells are those after it.
+/// An external holds one, which it makes with `new`. It gives `turns` as its log, and records each turn once its cells
+/// are those after it.
 #[derive(Drop)]
 #[non_exhaustive]
 pub struct TurnLog {
@@ -23,25 +25,30 @@ impl Model for TurnLog {
 }
 
 impl TurnLog {
-    /// A log of no turn.
+    /// A log of no turn, which follows each table.
     pub fn new() -> TurnLog
         ensures { result.turns ≡ [] }
     {
         TurnLog {}
     }
 
-    /// Adds a turn at the end: what came in, what was asked, and the cells after it.
-    pub fn record(&mut self, input: &Input, ask: &Ask, cells: &Cells)
-        ensures { self.new.turns
-            ≡ self.old.turns ++ (record { input = input.now; ask = ask.now; cells = cells.now }) ∷ [] }
+    /// Adds a turn at the end: the cells before it, what came in, what was asked, and the cells after it. A log that
+    /// follows a table still does, if the turn is that of the table.
+    pub fn record(&mut self, before: &Before, input: &Input, ask: &Ask, cells: &Cells)
+        ensures turns { self.new.turns ≡ self.old.turns
+            ++ (record { before = before.now.cells; input = input.now; ask = ask.now; cells = cells.now }) ∷ [] }
+        ensures follows { (table : TurnTable) (kind : ℕ) → Follows table kind self.old.turns
+            → IsTurnOf table kind
+            (record { before = before.now.cells; input = input.now; ask = ask.now; cells = cells.now })
+            → Follows table kind self.new.turns }
     {
-        *self = TurnLog::with(self, input, ask, cells);
+        *self = TurnLog::with(self, before, input, ask, cells);
     }
 
     /// The log with a turn more at its end.
-    fn with(_before: &TurnLog, _input: &Input, _ask: &Ask, _cells: &Cells) -> TurnLog
-        ensures { result.turns
-            ≡ _before.now.turns ++ (record { input = _input.now; ask = _ask.now; cells = _cells.now }) ∷ [] }
+    fn with(_log: &TurnLog, _before: &Before, _input: &Input, _ask: &Ask, _cells: &Cells) -> TurnLog
+        ensures { result.turns ≡ _log.now.turns
+            ++ (record { before = _before.now.cells; input = _input.now; ask = _ask.now; cells = _cells.now }) ∷ [] }
     {
         TurnLog {}
     }

@@ -3,14 +3,9 @@ use Rattle.std.proofs.lemmas.Result.{err_from_is_err_and}
 use Rattle.command_line.proofs.Kits.{plays_with, ends_with, idles}
 use Rattle.command_line.proofs.kit.play_with_kit.Goals as goal
 
-pub returns-in_err-kit-clause-err : goal.returns-in_err-kit-clause-err
-returns-in_err-kit-clause-err g c =
-    let p = err_from_is_err_and c.from_residual.result c.from_residual.ensures.1 in
-    idles _ _ _ _ _ _ _ (p.1 ∙ ap Err p.2)
-
 pub returns-in_err-externals-clause-err : goal.returns-in_err-externals-clause-err
 returns-in_err-externals-clause-err g c =
-    let p = err_from_is_err_and c.from_residual-in_err-externals.result c.from_residual-in_err-externals.ensures.1 in
+    let p = err_from_is_err_and c.from_residual.result c.from_residual.ensures.1 in
     idles _ _ _ _ _ _ _ (p.1 ∙ ap Err p.2)
 
 pub returns-clause-ok : goal.returns-clause-ok

@@ -1,6 +1,6 @@
 use Rattle.std.proofs.Common.{◌≡◌, [], sym, ◌∙◌, slice_index_or}
 use Rattle.std.proofs.lemmas.Option.{get_or_from_slice_get}
-use Rattle.externals.specs.Table.{cell}
+use Rattle.xkit.specs.Steps.{cell}
 use Rattle.xkit.proofs.Relays.{global_was_set}
 use Rattle.xkit.proofs.relay.answered.Goals as goal
 

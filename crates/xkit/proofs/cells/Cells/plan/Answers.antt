@@ -1,5 +1,5 @@
 use Rattle.std.proofs.Common.{bytes_eq, sym, ◌∙◌, ap}
-use Rattle.externals.specs.Table.{cell}
+use Rattle.xkit.specs.Steps.{cell}
 use Rattle.xkit.proofs.Planning.{IsPlan-push, Avoids-push, flipped-push, flipped-has, has_text, has_other}
 use Rattle.xkit.proofs.cells.Cells.plan.Goals as goal
 

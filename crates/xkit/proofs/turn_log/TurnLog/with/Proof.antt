@@ -30,6 +30,7 @@ use denote.Triple.Walked.{says, stay_none_ref, Stays, walk_of, Walks, ends_at, w
 use Rattle.externals.specs.Log.{Log}
 use Rattle.externals.specs.contracts.external.Input as input
 use Rattle.externals.specs.contracts.external.Ask as ask
+use Rattle.xkit.specs.contracts.before.Before as before
 use Rattle.xkit.specs.contracts.cells.Cells as cells
 use Rattle.xkit.specs.contracts.turn_log.TurnLog as turn_log
 use Rattle.xkit.specs.contracts.turn_log.TurnLog.with.Key.{name as key}
@@ -41,10 +42,13 @@ abbrev stayed : Stays (f.ended).signature.params (f.ended).kept
 stayed = (
   stay_none_ref (0 ∷ []) tt (plain (λ _. turn_log.the_row)) yes,
   (
-    stay_none_ref (1 ∷ []) tt (plain (λ _. input.the_row)) yes,
+    stay_none_ref (1 ∷ []) tt (plain (λ _. before.the_row)) yes,
     (
-      stay_none_ref (2 ∷ []) tt (plain (λ _. ask.the_row)) yes,
-      (stay_none_ref (3 ∷ []) tt (plain (λ _. cells.the_row)) yes, tt),
+      stay_none_ref (2 ∷ []) tt (plain (λ _. input.the_row)) yes,
+      (
+        stay_none_ref (3 ∷ []) tt (plain (λ _. ask.the_row)) yes,
+        (stay_none_ref (4 ∷ []) tt (plain (λ _. cells.the_row)) yes, tt),
+      ),
     ),
   ),
 )
@@ -53,39 +57,53 @@ module _ {M : Type 1} {𝓤 : Ura M} (𝓛 : Logic 𝓤) (mem : Memory → SProp
     (C : Calls 𝓤 𝓛.H) (Λ : Loops 𝓤 𝓛.H) where
   open 𝓛 use {H}
 
-  module _ (κs : Lfts 4) (qs : Shares 4) (a : Args f.signature κs) where
+  module _ (κs : Lfts 5) (qs : Shares 5) (a : Args f.signature κs) where
     abbrev earlier : Val
     earlier = vptr a.0.ref_ptr.0 a.0.ref_ptr.1
 
+    abbrev old_cells : Val
+    old_cells = vptr a.1.0.ref_ptr.0 a.1.0.ref_ptr.1
+
     abbrev handed : Val
-    handed = vptr a.1.0.ref_ptr.0 a.1.0.ref_ptr.1
+    handed = vptr a.1.1.0.ref_ptr.0 a.1.1.0.ref_ptr.1
 
     abbrev asked : Val
-    asked = vptr a.1.1.0.ref_ptr.0 a.1.1.0.ref_ptr.1
+    asked = vptr a.1.1.1.0.ref_ptr.0 a.1.1.1.0.ref_ptr.1
 
     abbrev kept : Val
-    kept = vptr a.1.1.1.0.ref_ptr.0 a.1.1.1.0.ref_ptr.1
+    kept = vptr a.1.1.1.1.0.ref_ptr.0 a.1.1.1.1.0.ref_ptr.1
 
     abbrev bound : (walk_of 𝓛 f.ended stayed (f.clauses 𝓛 mem run)).Ghost
-    bound = ((κs, qs, tt, a, (earlier ∷ [], (handed ∷ [], (asked ∷ [], (kept ∷ [], tt))))), tt)
+    bound = (
+      (κs, qs, tt, a, (earlier ∷ [], (old_cells ∷ [], (handed ∷ [], (asked ∷ [], (kept ∷ [], tt)))))),
+      tt,
+    )
 
     abbrev passed : Fml
-    passed = owns (types_at f.signature.params κs) a (earlier ∷ [], (handed ∷ [], (asked ∷ [], (kept ∷ [], tt))))
+    passed = owns (types_at f.signature.params κs) a
+        (earlier ∷ [], (old_cells ∷ [], (handed ∷ [], (asked ∷ [], (kept ∷ [], tt)))))
 
     abbrev more : Log
-    more = a.0.now.turns ++ (record { input = a.1.0.now; ask = a.1.1.0.now; cells = a.1.1.1.0.now }) ∷ []
+    more = a.0.now.turns ++ (record {
+      before = a.1.0.now.cells;
+      input = a.1.1.0.now;
+      ask = a.1.1.1.0.now;
+      cells = a.1.1.1.1.0.now;
+    }) ∷ []
 
-    walk : ent 𝓤 (on_entry 𝓛 f.signature κs qs a (earlier ∷ [], (handed ∷ [], (asked ∷ [], (kept ∷ [], tt)))))
-        (WpFn 𝓤 H C Λ code.function (earlier ∷ handed ∷ asked ∷ kept ∷ [])
+    walk : ent 𝓤
+        (on_entry 𝓛 f.signature κs qs a
+        (earlier ∷ [], (old_cells ∷ [], (handed ∷ [], (asked ∷ [], (kept ∷ [], tt))))))
+        (WpFn 𝓤 H C Λ code.function (earlier ∷ old_cells ∷ handed ∷ asked ∷ kept ∷ [])
         ((walk_of 𝓛 f.ended stayed (f.clauses 𝓛 mem run)).post bound))
     walk =
         qed 𝓛 (raw (alive 𝓛 f.signature κs qs) ∷ ‵ passed ∷ []) ∵
-        enter ! C Λ code.function (earlier ∷ handed ∷ asked ∷ kept ∷ []) _ $
-        alloc_all ! (λ l. pass_all ! refl ((tt, tt), ((tt, tt), ((tt, tt), ((tt, tt), tt)))) $
+        enter ! C Λ code.function (earlier ∷ old_cells ∷ handed ∷ asked ∷ kept ∷ []) _ $
+        alloc_all ! (λ l. pass_all ! refl ((tt, tt), ((tt, tt), ((tt, tt), ((tt, tt), ((tt, tt), tt))))) $
         sets ! (agg ! (no_more !)) refl (tt, tt) $
         returns ! (look_at ! 0 refl) $ free_all ! refl $
         suffices ! _ (ends_at 𝓛 f.ended stayed (f.clauses 𝓛 mem run) bound (vstruct vnil) (record { turns = more })
-        (tt, (tt, (tt, (tt, tt)))) (tt, (tt, (tt, (tt, tt))))) $
+        (tt, (tt, (tt, (tt, (tt, tt))))) (tt, (tt, (tt, (tt, (tt, tt)))))) $
         says ! refl $
         pure_i ! (turn_log.the_row.own_val (record { turns = more }) (vstruct vnil ∷ [])) ((λ vss. (tt, tt)), tt)
         ((tt, (refl, tt)), tt) $
@@ -94,12 +112,15 @@ module _ {M : Type 1} {𝓤 : Ura M} (𝓛 : Logic 𝓤) (mem : Memory → SProp
   walks : Walks 𝓛 f.ended stayed (WpFn 𝓤 H C Λ code.function) (f.clauses 𝓛 mem run)
   walks =
       walked 𝓛 f.ended stayed (f.clauses 𝓛 mem run) (WpFn 𝓤 H C Λ code.function)
-      (λ κs. (shr_vals, (shr_vals, (shr_vals, (shr_vals, tt)))))
+      (λ κs. (shr_vals, (shr_vals, (shr_vals, (shr_vals, (shr_vals, tt))))))
       (λ κs. (
         shr_Tells (named 0) κs.0 turn_log.the_row,
         (
-          shr_Tells (named 1) κs.1.0 input.the_row,
-          (shr_Tells (named 2) κs.1.1.0 ask.the_row, (shr_Tells (named 3) κs.1.1.1.0 cells.the_row, tt)),
+          shr_Tells (named 1) κs.1.0 before.the_row,
+          (
+            shr_Tells (named 2) κs.1.1.0 input.the_row,
+            (shr_Tells (named 3) κs.1.1.1.0 ask.the_row, (shr_Tells (named 4) κs.1.1.1.1.0 cells.the_row, tt)),
+          ),
         ),
       ))
       (λ κs qs bounds a g are. via 𝓤 _ (fst∗ 𝓤 _ (emp 𝓤)) (walk κs qs a))
@@ -108,12 +129,15 @@ meets : {M : Type 1} {𝓤 : Ura M} (𝓛 : Logic 𝓤) (mem : Memory → SProp 
     → Meets 𝓛 f.signature (WpFn 𝓤 𝓛.H 𝓣.C 𝓣.Λ code.function) (f.spec 𝓛 mem run)
 meets {𝓤 = 𝓤} 𝓛 mem run 𝓣 =
     walk_Meets 𝓛 f.ended stayed (
-      Goes-none_ref 𝓛 4 (0 ∷ []) tt (plain (λ _. turn_log.the_row)) yes,
+      Goes-none_ref 𝓛 5 (0 ∷ []) tt (plain (λ _. turn_log.the_row)) yes,
       (
-        Goes-none_ref 𝓛 4 (1 ∷ []) tt (plain (λ _. input.the_row)) yes,
+        Goes-none_ref 𝓛 5 (1 ∷ []) tt (plain (λ _. before.the_row)) yes,
         (
-          Goes-none_ref 𝓛 4 (2 ∷ []) tt (plain (λ _. ask.the_row)) yes,
-          (Goes-none_ref 𝓛 4 (3 ∷ []) tt (plain (λ _. cells.the_row)) yes, tt),
+          Goes-none_ref 𝓛 5 (2 ∷ []) tt (plain (λ _. input.the_row)) yes,
+          (
+            Goes-none_ref 𝓛 5 (3 ∷ []) tt (plain (λ _. ask.the_row)) yes,
+            (Goes-none_ref 𝓛 5 (4 ∷ []) tt (plain (λ _. cells.the_row)) yes, tt),
+          ),
         ),
       ),
     ) (f.clauses 𝓛 mem run) (WpFn 𝓤 𝓛.H 𝓣.C 𝓣.Λ code.function)
