@@ -4,7 +4,7 @@ use Rattle.std.specs.List.{All, AllByRecursion}
 use Rattle.std.proofs.Common.{◌≡◌, ◌+◌, ◌<◌, ℕ, zero, suc, List, [], ◌∷◌, ◌++◌, length, get_or, set, Bool, true}
 use Rattle.std.proofs.Common.{false, cond, Option, Some, None, option_map, is_some, Result, Ok, Err, IfOk, refl, sym}
 use Rattle.std.proofs.Common.{ap, subst, ◌∙◌, arith}
-use Rattle.std.proofs.lemmas.List.{append-nil, append_assoc, length-map, get_or-set_same}
+use Rattle.std.proofs.lemmas.List.{append-nil, append_assoc, length-map}
 use Rattle.std.proofs.lemmas.List.Elements.{All-append, All-cons, All-get_or, All-nil, recursion_from_All}
 use Rattle.ht_values.specs.declared.fault.Fault.{Fault}
 use Rattle.ht_values.specs.declared.word.Prop.{Prop}
@@ -34,7 +34,6 @@ use Rattle.journal_entries.specs.ScriptTrees.{object_script}
 use Rattle.journal_entries.specs.State.{State, seen_at, titles_of}
 use Rattle.journal_entries.specs.Changes.{fits, HasTexts}
 use Rattle.stack_places.specs.Places.{number}
-use Rattle.journal_entries.specs.Exchange.{with_cells}
 use Rattle.journal_entries.specs.declared.change.Change.{Change}
 use Rattle.change_journal.specs.History.{History, IsHistory}
 use Rattle.change_journal.specs.Logs.{log_at, turns_since}
@@ -88,7 +87,7 @@ pub record IsWhole (begin w : History) : Type 0 where
 
 pub whole_begins : {w : History} → IsHistory w → IsWhole w w
 whole_begins {w} q =
-    record { history = q; turns = λ i. ([], sym (append-nil (log_at w.logs i)), All-nil LoggedTexts) }
+    record { history = q; turns = λ i. ([], (sym (append-nil (log_at w.logs i)), All-nil LoggedTexts)) }
 
 pub leads : {w w2 : History} → IsWhole w w2 → LeadsToWhole w w2
 leads {w} {w2} h = record {
@@ -139,25 +138,23 @@ pub sound_turn : {begin w w2 : History} {k : ℕ} {input : Input} {ask : Ask} �
     → InputTexts input → TookTurn w w2 k input ask → IsWhole begin w → IsWhole begin w2 × AskTexts ask
 sound_turn {begin} {w} {w2} {k} {input} {ask} there texts took q =
     let old = seen_at w.now k in
-    let cells = (seen_at w2.now k).cells in
     let was : IsExternal old = All-get_or IsExternal w.now.externals k none_seen there q.history.now.state.externals in
-    let found : seen_at w2.now k ≡ with_cells old cells = ap (λ s. seen_at s k) took.turn.state
-    ∙ get_or-set_same w.now.externals k (with_cells old cells) none_seen there in
-    let is : IsExternal (seen_at w2.now k) = subst IsExternal (sym found)
-    (record { title = was.title; cells = took.cells }) in
-    let turn : LoggedTurn = record { before = old.cells; input = input; ask = ask; cells = cells } in
+    let turn : LoggedTurn = record
+    { before = old.cells; input = input; ask = ask; cells = (seen_at w2.now k).cells } in
     let logged : LoggedTexts turn = record
     { before = was.cells; input = texts; ask = took.asks; cells = took.cells } in
     let more = q.turns k in (
       record {
-        history = IsHistory-turned w w2 k input ask there is took q.history;
+        history = IsHistory-turned w w2 k input ask there took q.history;
         turns = subst (λ (logs : List Log). (i : ℕ) → GoesOn (log_at begin.logs i) (log_at logs i))
             (sym (ap (λ h. h.logs) took.history))
             (set_keeps (λ i. GoesOn (log_at begin.logs i)) w.logs k (log_at w.logs k ++ turn ∷ []) q.turns (
               more.0 ++ turn ∷ [],
-              ap (λ log. log ++ turn ∷ []) more.1.0 ∙ append_assoc (log_at begin.logs k) more.0 (turn ∷ []),
-              All-append LoggedTexts more.0 (turn ∷ []) more.1.1
-                  (All-cons LoggedTexts turn [] logged (All-nil LoggedTexts)),
+              (
+                ap (λ log. log ++ turn ∷ []) more.1.0 ∙ append_assoc (log_at begin.logs k) more.0 (turn ∷ []),
+                All-append LoggedTexts more.0 (turn ∷ []) more.1.1
+                    (All-cons LoggedTexts turn [] logged (All-nil LoggedTexts)),
+              ),
             ));
       },
       took.asks,
