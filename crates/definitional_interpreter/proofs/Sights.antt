@@ -1,10 +1,10 @@
 -- What is told of a run is told of each of its parts, and then a turn of it is the computed one.
-use Rattle.std.proofs.Common.{◌≡◌, ℕ, zero, suc, ◌<◌, ◌≤◌, List, [], ◌∷◌, ◌++◌, length, Bool, true, Option, Some, None}
+use Rattle.std.proofs.Common.{◌≡◌, ℕ, zero, suc, ◌<◌, ◌≤◌, List, [], ◌∷◌, ◌++◌, length, Option, Some, None}
 use Rattle.std.proofs.Common.{Ok, refl, sym, ap, subst, ◌∙◌, cond, arith}
 use Rattle.std.proofs.lemmas.List.{drop-append-le, get_or-set_same, get_or_append_left, get_or_push, length-append}
 use Rattle.std.proofs.lemmas.List.{length-map}
 use Rattle.std.proofs.lemmas.List.Elements.{filter-append}
-use Rattle.std.specs.Prelude.{All, drop, filter, is_none, slice_get, slice_index_or, slice_set, IfSome}
+use Rattle.std.specs.Prelude.{All, drop, is_none, slice_get, slice_index_or, slice_set, IfSome}
 use Rattle.externals.specs.Cells.{Seen, none_seen}
 use Rattle.externals.specs.Log.{Log, LoggedTurn, IsTurnOf, Follows}
 use Rattle.externals.specs.Turns.{Turn, TurnTable}

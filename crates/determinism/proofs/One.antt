@@ -1,5 +1,5 @@
 -- Two runs of one thing have one outcome.
-use Rattle.std.proofs.Common.{◌≡◌, ◌+◌, ◌++◌, ℕ, zero, suc, ◌<◌, List, [], ◌∷◌, length, Result, refl, sym, ap, subst}
+use Rattle.std.proofs.Common.{◌≡◌, ◌+◌, ◌++◌, ℕ, ◌<◌, List, [], ◌∷◌, length, Result, refl, sym, ap, subst}
 use Rattle.std.proofs.Common.{◌∙◌, arith}
 use Rattle.std.proofs.lemmas.List.{append-nil, ext_get_or}
 use Rattle.externals.specs.Log.{Log}

@@ -1,19 +1,18 @@
 -- What a behaviour leaves in the logs; and which behaviour it was.
-use Rattle.std.proofs.Common.{◌≡◌, ◌⊎◌, inl, inr, ℕ, zero, suc, ◌<◌, List, [], ◌∷◌, ◌++◌, length, Option, Some, None}
+use Rattle.std.proofs.Common.{◌≡◌, ◌⊎◌, inl, inr, ℕ, ◌<◌, List, [], ◌∷◌, ◌++◌, length, Option, Some, None}
 use Rattle.std.proofs.Common.{refl, sym, ap, subst, ◌∙◌, arith}
-use Rattle.std.specs.Prelude.{All, IfSome, drop, slice_index_or, slice_set}
+use Rattle.std.specs.Prelude.{All, IfSome, drop, slice_index_or}
 use Rattle.std.specs.List.{AllByRecursion}
 use Rattle.std.proofs.lemmas.Bool.{cases_eq}
 use Rattle.std.proofs.lemmas.List.{append_assoc, append-nil, get_or-set_same, get_or-set_other, get_or_push}
 use Rattle.std.proofs.lemmas.List.{length-append, length-map}
 use Rattle.std.proofs.lemmas.List.Elements.{All-from_recursion}
-use Rattle.externals.specs.Cells.{Seen, none_seen}
+use Rattle.externals.specs.Cells.{none_seen}
 use Rattle.externals.specs.Log.{Log, LoggedTurn, IsTurnOf}
 use Rattle.externals.specs.Turns.{Turn, TurnTable}
 use Rattle.externals.specs.declared.external.Ask.{Ask}
 use Rattle.externals.specs.declared.external.Input.{Input}
 use Rattle.journal_entries.specs.declared.change.Change.{Change}
-use Rattle.journal_entries.specs.Exchange.{with_cells}
 use Rattle.journal_entries.specs.State.{seen_at}
 use Rattle.change_journal.specs.History.{History}
 use Rattle.change_journal.specs.Logs.{HaveLogs, log_at, turns_since}
@@ -23,7 +22,7 @@ use Rattle.definitional_interpreter.proofs.Leaves.{externals-changed, kept_made,
 use Rattle.definitional_interpreter.proofs.Sights.{all_of_prefix, goes_on, prefix_drop, rest_is}
 use Rattle.whole_states.specs.Texts.{LoggedTexts}
 use Rattle.totality.specs.Laws.{Behaviour, IsBehaviour, IsTurnBy, Behaves, AreTurnsBy, BehavioursAreLogged}
-use Rattle.totality.specs.Laws.{IsByTable, BehavioursFollowTables}
+use Rattle.totality.specs.Laws.{BehavioursFollowTables}
 use Rattle.totality.proofs.Behaving.{safe, safe_is}
 
 -- ---- what stays

@@ -114,7 +114,7 @@ actions_have_an_outcome_by exact leads refers behaviour w r ac is ready texts = 
     locked_by : (ac : Action) (w2 : History) (r2 : RunState) → ActionTexts ac → IsLocked begun w r ac w2 r2 →
         IsLockedBy behaviour w r ac
     locked_by (act.type_text t pa) w2 r2 texts locked =
-        let led = (refers w w2 r r2 pa (Ok locked.0.0) locked.0.1.0 (λ e. cc) ready.whole ready.run texts.1).0 in
+        let led = (refers w w2 r r2 pa (Ok locked.0.0) locked.0.1 (λ e. cc) ready.whole ready.run texts.1).0 in
         record {
           history = w2;
           run = r2;

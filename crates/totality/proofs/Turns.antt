@@ -4,7 +4,7 @@ use Rattle.std.proofs.Common.{arith}
 use Rattle.std.specs.Prelude.{All, slice_index_or, slice_set}
 use Rattle.ht_values.specs.Text.{IsText}
 use Rattle.externals.specs.Cells.{Seen, none_seen}
-use Rattle.externals.specs.Turns.{AskTexts, Turn}
+use Rattle.externals.specs.Turns.{Turn}
 use Rattle.externals.specs.declared.external.Ask.{Ask}
 use Rattle.externals.specs.declared.external.Input.{Input}
 use Rattle.journal_entries.specs.Exchange.{with_cells}

@@ -1,7 +1,7 @@
 -- What the changes, turns and steps in a rule keep: whole states, and texts.
 use Rattle.std.specs.Prelude.{IfSome, unwrap_or}
 use Rattle.std.specs.List.{All, AllByRecursion}
-use Rattle.std.proofs.Common.{◌≡◌, ◌+◌, ◌<◌, ℕ, zero, suc, List, [], ◌∷◌, ◌++◌, length, get_or, set, Bool, true}
+use Rattle.std.proofs.Common.{◌≡◌, ◌+◌, ◌<◌, ℕ, suc, List, [], ◌∷◌, ◌++◌, length, Bool, true}
 use Rattle.std.proofs.Common.{false, cond, Option, Some, None, option_map, is_some, Result, Ok, Err, IfOk, refl, sym}
 use Rattle.std.proofs.Common.{ap, subst, ◌∙◌, arith}
 use Rattle.std.proofs.lemmas.List.{append-nil, append_assoc, length-map}
@@ -36,7 +36,7 @@ use Rattle.journal_entries.specs.Changes.{fits, HasTexts}
 use Rattle.stack_places.specs.Places.{number}
 use Rattle.journal_entries.specs.declared.change.Change.{Change}
 use Rattle.change_journal.specs.History.{History, IsHistory}
-use Rattle.change_journal.specs.Logs.{log_at, turns_since}
+use Rattle.change_journal.specs.Logs.{log_at}
 use Rattle.change_journal.specs.Rising.{Made, TookTurn}
 use Rattle.change_journal.proofs.Making.{IsHistory-made, IsHistory-turned}
 use Rattle.object_references.specs.declared.referent.Referent.{Referent}
