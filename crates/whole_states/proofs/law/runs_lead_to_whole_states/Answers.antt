@@ -20,4 +20,5 @@ returns-clause-references c w w2 r r2 pa o met has whole run texts =
 
 pub returns-clause-values : goal.returns-clause-values
 returns-clause-values c w w2 r r2 f d e o value has whole run frame texts =
-    let h = sound_val w c.parts_cut.ensures value has (whole_begins whole) run frame texts in (leads h.0, h.1)
+    let h = sound_val w c.parts_cut.ensures value has (whole_begins whole) run frame texts in
+    (leads h.0, h.1, h.2)
