@@ -5,13 +5,14 @@ use Rattle.std.proofs.KnownBytes.{Appends-nil, Consumes-nil}
 use Rattle.std.specs.Io.KnownBytes.{Appends, Consumes}
 use Rattle.devices.specs.Desks.{SeenDesk}
 use Rattle.externals.specs.Cells.{Seen}
+use Rattle.externals.specs.Log.{Log}
 use Rattle.object_table.specs.Content.{Content}
 use Rattle.journal_entries.specs.State.{seen_by, titles_of, are_apart}
 use Rattle.headline.specs.Headline.{Timeline, beginning}
 use Rattle.headline.specs.declared.transcript.Ran.{Ran}
 use Rattle.command_line.specs.declared.fault.CliFault.{CliFault}
 use Rattle.command_line.specs.declared.fault.CliFault.TheVariants.{Memory}
-use Rattle.command_line.specs.Kit.{kit, count, bins, relay, gate}
+use Rattle.command_line.specs.Kit.{kit, kit_logs, count, bins, relay, gate}
 use Rattle.command_line.specs.Plays.{Plays, Ends}
 
 module _ {X : Type 0} (title : X → List ℕ) (sort : X → ℕ) (answers_calls : X → Bool) (cells : X → List (List ℕ))
@@ -31,6 +32,13 @@ module _ {X : Type 0} (title : X → List ℕ) (sort : X → ℕ) (answers_calls
 
   pub apart : are_apart (map title xs) ≡ true
   apart = ap (λ ys. are_apart (map title ys)) is ∙ ap (λ ss. are_apart (titles_of ss)) four
+
+-- their logs, of whichever type they are
+pub logs_of : {X : Type 0} (log : X → Log) {a b c d : X} {xs : List X} → xs ≡ a ∷ b ∷ c ∷ d ∷ [] → log a ≡ []
+    → log b ≡ [] → log c ≡ [] → log d ≡ [] → map log xs ≡ kit_logs
+logs_of log {b = b} {c} {d} is p q r s = ap (map log) is ∙ ap (λ l. l ∷ log b ∷ log c ∷ log d ∷ []) p
+    ∙ ap (λ l. [] ∷ l ∷ log c ∷ log d ∷ []) q ∙ ap (λ l. [] ∷ [] ∷ l ∷ log d ∷ []) r
+    ∙ ap (λ l. [] ∷ [] ∷ [] ∷ l ∷ []) s
 
 module _ (result : Result Ran CliFault) (ends : Type 0) (bytes : List ℕ) (steps depth : ℕ) (old new : SeenDesk)
     (a b c d : Option (List ℕ)) where

@@ -2,6 +2,7 @@
 use Rattle.std.specs.Prelude.{true, false, codes, List, [], ◌∷◌, pos, replicate}
 use Rattle.ht_values.specs.Text.{numeral}
 use Rattle.externals.specs.Cells.{Seen}
+use Rattle.externals.specs.Log.{Log}
 
 -- each of the kit as it begins, under its name
 abbrev pub count : Seen
@@ -19,3 +20,7 @@ gate = record { title = codes "Gate"; sort = 4; answers_calls = false; cells = c
 -- the four of them
 abbrev pub kit : List Seen
 kit = count ∷ bins ∷ relay ∷ gate ∷ []
+
+-- none of them has taken a turn
+abbrev pub kit_logs : List Log
+kit_logs = [] ∷ [] ∷ [] ∷ [] ∷ []

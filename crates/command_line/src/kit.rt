@@ -5,7 +5,7 @@ ghost use Rattle.std.specs.Io.KnownBytes.{Appends, Consumes, IsAtEnd};
 ghost use Rattle.journal_entries.specs.State.{are_apart, seen_by};
 ghost use Rattle.headline.specs.Headline.{beginning};
 ghost use Rattle.devices.specs.Watching.{device_of, failures_of, Rose};
-ghost use Rattle.command_line.specs.Kit.{bins, count, gate, kit, relay};
+ghost use Rattle.command_line.specs.Kit.{bins, count, gate, kit, kit_logs, relay};
 ghost use Rattle.command_line.specs.Plays.{Plays, Ends};
 
 use crate::fault::{CliFault, cut};
@@ -22,38 +22,43 @@ use xkit::KitExternal;
 // Each external of the kit as it begins, under its name.
 
 fn count_of(alloc: Global) -> Result<KitExternal, AllocError>
-    ensures { IfOk result (λ e. seen_by ⟦<KitExternal as External>⟧.title ⟦<KitExternal as External>⟧.sort
+    ensures seen { IfOk result (λ e. seen_by ⟦<KitExternal as External>⟧.title ⟦<KitExternal as External>⟧.sort
         ⟦<KitExternal as External>⟧.answers_calls ⟦<KitExternal as External>⟧.cells e ≡ count) }
+    ensures log { IfOk result (λ e. ⟦<KitExternal as External>⟧.log e ≡ []) }
 {
     KitExternal::count(alloc, cut(alloc, b"Count")?, 0)
 }
 
 fn bins_of(alloc: Global) -> Result<KitExternal, AllocError>
-    ensures { IfOk result (λ e. seen_by ⟦<KitExternal as External>⟧.title ⟦<KitExternal as External>⟧.sort
+    ensures seen { IfOk result (λ e. seen_by ⟦<KitExternal as External>⟧.title ⟦<KitExternal as External>⟧.sort
         ⟦<KitExternal as External>⟧.answers_calls ⟦<KitExternal as External>⟧.cells e ≡ bins) }
+    ensures log { IfOk result (λ e. ⟦<KitExternal as External>⟧.log e ≡ []) }
 {
     KitExternal::bins(alloc, cut(alloc, b"Bins")?)
 }
 
 fn relay_of(alloc: Global) -> Result<KitExternal, AllocError>
-    ensures { IfOk result (λ e. seen_by ⟦<KitExternal as External>⟧.title ⟦<KitExternal as External>⟧.sort
+    ensures seen { IfOk result (λ e. seen_by ⟦<KitExternal as External>⟧.title ⟦<KitExternal as External>⟧.sort
         ⟦<KitExternal as External>⟧.answers_calls ⟦<KitExternal as External>⟧.cells e ≡ relay) }
+    ensures log { IfOk result (λ e. ⟦<KitExternal as External>⟧.log e ≡ []) }
 {
     KitExternal::relay(alloc, cut(alloc, b"Relay")?)
 }
 
 fn gate_of(alloc: Global) -> Result<KitExternal, AllocError>
-    ensures { IfOk result (λ e. seen_by ⟦<KitExternal as External>⟧.title ⟦<KitExternal as External>⟧.sort
+    ensures seen { IfOk result (λ e. seen_by ⟦<KitExternal as External>⟧.title ⟦<KitExternal as External>⟧.sort
         ⟦<KitExternal as External>⟧.answers_calls ⟦<KitExternal as External>⟧.cells e ≡ gate) }
+    ensures log { IfOk result (λ e. ⟦<KitExternal as External>⟧.log e ≡ []) }
 {
     KitExternal::gate(alloc, cut(alloc, b"Gate")?)
 }
 
-/// The four as they begin, each under its name.
+/// The four as they begin, each under its name. None has taken a turn.
 fn kit_of(alloc: Global) -> Result<Vec<KitExternal>, AllocError>
     ensures seen { IfOk result (λ externals. map
         (seen_by ⟦<KitExternal as External>⟧.title ⟦<KitExternal as External>⟧.sort
         ⟦<KitExternal as External>⟧.answers_calls ⟦<KitExternal as External>⟧.cells) externals.items ≡ kit) }
+    ensures logs { IfOk result (λ externals. map ⟦<KitExternal as External>⟧.log externals.items ≡ kit_logs) }
     ensures apart { IfOk result (λ externals. are_apart
         (map ⟦<KitExternal as External>⟧.title externals.items) ≡ true) }
 {

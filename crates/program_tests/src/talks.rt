@@ -318,7 +318,7 @@ const CONVERSATIONS: &[Talk<'static, 'static>] = &[
     Talk {
         name: "Fill",
         manner: Some(Manner::SetField),
-        input: b"Fill \"new\"\nput field \"Note\"\n.cells Fill\n.undo\nput field \"Note\"\n.cells Fill\n",
+        input: b"Fill \"new\"\nput field \"Note\"\n.cells Fill\n.undo 2\nput field \"Note\"\n.cells Fill\n",
         written: b"ok\n> new\nok\n> 2\nok\nok\n> \nok\n> 0\nok\n",
         ..EMPTY
     },

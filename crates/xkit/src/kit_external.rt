@@ -33,13 +33,13 @@ pub struct KitExternal {
     cells: Cells,
     log: TurnLog,
     ghost count: { length cells ≡ cell_count_of member },
-    ghost follows: { Follows kit_table (kind_of member) log.turns } by { Follows-prop kit_table (kind_of member) log.turns },
+    ghost follows: { Follows kit_table (kind_of member) log.turns } by { Follows-prop _ _ _ },
 }
 
 impl KitExternal {
-    /// The function that counts its calls, of kind 1, under this name. Its cell is the number of the last call, at first
-    /// the start, and a call's value is its number. It fails at the greatest number of 64 bits, and where the cell is no
-    /// number.
+    /// The function that counts its calls, of kind 1, under this name. Its cell is the number of the last call, at
+    /// first the start, and a call's value is its number. It fails at the greatest number of 64 bits, and where the
+    /// cell is no number.
     pub fn count(alloc: Global, name: Text, start: i64) -> Result<KitExternal, AllocError>
         ensures title { IfOk result (λ e. ⟦<KitExternal as External>⟧.title e ≡ name) }
         ensures kind { IfOk result (λ e. ⟦<KitExternal as External>⟧.sort e ≡ 1) }

@@ -1,12 +1,17 @@
-use Rattle.command_line.proofs.Kits.{seen, apart}
+use Rattle.command_line.proofs.Kits.{seen, apart, logs_of}
 use Rattle.command_line.proofs.kit.kit_of.Goals as goal
 
 pub returns-clause-seen : goal.returns-clause-seen
 returns-clause-seen c =
-    seen _ _ _ _ c.in_ok-externals.ensures c.in_ok-count.ensures c.in_ok-bins.ensures c.in_ok-relay.ensures
-    c.in_ok-gate.ensures
+    seen _ _ _ _ c.in_ok-externals.ensures c.in_ok-count.ensures.seen c.in_ok-bins.ensures.seen
+    c.in_ok-relay.ensures.seen c.in_ok-gate.ensures.seen
+
+pub returns-clause-logs : goal.returns-clause-logs
+returns-clause-logs c =
+    logs_of _ c.in_ok-externals.ensures c.in_ok-count.ensures.log c.in_ok-bins.ensures.log c.in_ok-relay.ensures.log
+    c.in_ok-gate.ensures.log
 
 pub returns-clause-apart : goal.returns-clause-apart
 returns-clause-apart c =
-    apart _ _ _ _ c.in_ok-externals.ensures c.in_ok-count.ensures c.in_ok-bins.ensures c.in_ok-relay.ensures
-    c.in_ok-gate.ensures
+    apart _ _ _ _ c.in_ok-externals.ensures c.in_ok-count.ensures.seen c.in_ok-bins.ensures.seen
+    c.in_ok-relay.ensures.seen c.in_ok-gate.ensures.seen
