@@ -27,7 +27,7 @@ pub struct TextTool {
     cells: Cells,
     log: TurnLog,
     ghost count: { length cells ≡ cell_count_of tool },
-    ghost follows: { Follows tool_table (kind_of tool) log.turns } by { Follows-prop _ _ _ },
+    ghost follows: { Follows tool_table (kind_of tool) log.turns } by { Follows-prop tool_table (kind_of tool) log.turns },
 }
 
 impl TextTool {

@@ -33,7 +33,7 @@ pub struct KitExternal {
     cells: Cells,
     log: TurnLog,
     ghost count: { length cells ≡ cell_count_of member },
-    ghost follows: { Follows kit_table (kind_of member) log.turns } by { Follows-prop _ _ _ },
+    ghost follows: { Follows kit_table (kind_of member) log.turns } by { Follows-prop kit_table (kind_of member) log.turns },
 }
 
 impl KitExternal {
