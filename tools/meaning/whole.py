@@ -128,8 +128,7 @@ ENDS = {
     "Pass": "tt",
 }
 
-TITLE = """-- Each run leads from whole states to whole states, where its lines are texts and each external is deterministic: an induction over
--- the rules.
+TITLE = """-- Each run leads from whole states to whole states, where its lines are texts: an induction over the rules.
 """
 USES = """use Rattle.std.specs.Prelude.{IfSome}
 use Rattle.std.proofs.Common.{◌≡◌, ◌<◌, length, refl, sym, subst, IfOk, [], ◌++◌, ◌∷◌}
@@ -142,21 +141,25 @@ use Rattle.preservation.proofs.Bases.{base_calls_back}
 use Rattle.containers.proofs.Bases.{took_keeps as base_turn}
 use Rattle.preservation.proofs.Ends.{given, stopped, faulted, exited}
 use Rattle.preservation.proofs.StaysWhole.{may_go}
-use Rattle.whole_states.specs.Texts.{IsWhole, RunTexts, FrameTexts, StorageTexts, HowTexts, InputTexts, AskTexts, ActionTexts, ExprTexts, ExprsTexts, ChunkTexts, ContainerTexts, WhichTexts, SelectorTexts, OwnerTexts, PartTexts, RefTexts, StmtTexts, StmtsTexts, DestinationTexts, MessageTexts}
+use Rattle.change_journal.specs.History.{History}
+use Rattle.externals.specs.Turns.{AskTexts}
+use Rattle.whole_states.specs.Texts.{AreTexts, RunTexts, FrameTexts, StorageTexts, HowTexts, InputTexts, ActionTexts, ExprTexts, ExprsTexts, ChunkTexts, ContainerTexts, WhichTexts, SelectorTexts, OwnerTexts, PartTexts, RefTexts, StmtTexts, StmtsTexts, DestinationTexts, MessageTexts}
 use Rattle.whole_states.proofs.TreeTexts.{expressions_have_texts, lines_have_texts, messages_have_texts}
 use Rattle.whole_states.proofs.ValueTexts.{empty_text, word_text, constant_is, numeral_text, binary_text, unary_text, built_in_text, read_text}
-use Rattle.whole_states.proofs.Turns.{AreTexts}
 use Rattle.whole_states.proofs.StateTexts.{named_texts, read_name_text, field_is_text, property_text, name_text}
-use Rattle.whole_states.proofs.Leaves.{sound_made, sound_turn, stands_after, named_stands, same_frame, sound_edits, sound_assigns, sound_declares_all, sound_sets, sound_adds, sound_step, sound_shows, sound_noted, sound_property, property_read, sound_returned, sound_ends, sound_leaves, sound_yields, sound_parses, sound_finds, sound_handler_frame, sound_only, field_place_texts, named_place_texts, lines_texts, texts_push, it_text, return_text}"""
+use Rattle.whole_states.proofs.Leaves.{IsWhole, sound_made, sound_turn, stands_after, named_stands, same_frame, sound_edits, sound_assigns, sound_declares_all, sound_sets, sound_adds, sound_step, sound_shows, sound_noted, sound_property, property_read, sound_returned, sound_ends, sound_leaves, sound_yields, sound_parses, sound_finds, sound_handler_frame, sound_only, field_place_texts, named_place_texts, lines_texts, texts_push, it_text, return_text}"""
 
 
 def shapes():
-    """Which arguments of a constructor have texts, in the order of the evidence, as the crate's specs/Texts.antt says it."""
-    with open(os.path.join(CRATES, "whole_states", "specs", "Texts.antt"), encoding="utf-8") as file:
-        lines = re.findall(r"^ *\w+Texts \(?(\w+\.\w+|[A-Z]\w*)((?: \w+)*)\)? = (.*)$", file.read(), re.M)
-    return {
-        name: [args.split().index(part.split()[-1]) for part in says.split(" × ") if part.split()[-1] in args.split()]
-        for name, args, says in lines}
+    """Which arguments of a constructor have texts, in the order of the evidence, as the specs of these crates say it."""
+    found = {}
+    for crate, name in (("whole_states", "Texts.antt"), ("externals", "Turns.antt")):
+        with open(os.path.join(CRATES, crate, "specs", name), encoding="utf-8") as file:
+            lines = re.findall(r"^ *\w+Texts \(?(\w+\.\w+|[A-Z]\w*)((?: \w+)*)\)? = (.*)$", file.read(), re.M)
+        for constructor, args, says in lines:
+            named = [part.split()[-1] for part in says.split(" × ")]
+            found[constructor] = [args.split().index(each) for each in named if each in args.split()]
+    return found
 
 
 SHAPES = shapes()
@@ -367,7 +370,7 @@ class Clause:
 def conclusions(family):
     """What a family's function tells."""
     _, end, left = split(family)
-    told = ["IsWhole " + left[0], "RunTexts " + left[1], *("FrameTexts " + frame for frame in left[2:])]
+    told = ["IsWhole begin " + left[0], "RunTexts " + left[1], *("FrameTexts " + frame for frame in left[2:])]
     return told + ["IfOk %s %s" % (end, KNOWN[letters(end)])] if has_value(family) else told
 
 
@@ -377,7 +380,7 @@ def function(family):
              for start in givens(family)]
     given = [
         binders([" ".join(indices)]), " ".join([family["name"], *indices]), "HasMemory " + split(family)[1],
-        "IsWhole w", "RunTexts r", *needs]
+        "IsWhole begin w", "RunTexts r", *needs]
     lines = ["pub sound_%s : %s" % (name, " → ".join([*given, " × ".join(conclusions(family))]))]
     lines += ["sound_%s %s" % (name, Clause(family, rule).text()) for rule in family["rules"]]
     return "".join("    %s\n" % line for line in lines)
@@ -385,7 +388,7 @@ def function(family):
 
 def main():
     blocks = ["\n  mutual\n" + "\n".join(map(function, block)) for block in BLOCKS]
-    text = "\nmodule _ (cut : PartsCut) where" + "".join(blocks)
+    text = "\nmodule _ (begin : History) (cut : PartsCut) where" + "".join(blocks)
     write("whole_states", {"proofs/Sound.antt": TITLE + imports(USES, text, [MEANING]) + text}, "whole.py")
     print("a law over %d families" % len(TABLE))
 

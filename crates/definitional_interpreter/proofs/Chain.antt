@@ -21,6 +21,7 @@ use Rattle.definitional_interpreter.specs.Families.{Meanings}
 use Rattle.definitional_interpreter.specs.Meanings.{meanings, one_more}
 use Rattle.definitional_interpreter.specs.Laws.{Enough}
 use Rattle.definitional_interpreter.proofs.Comes.{kept_refl, kept_trans, Sight, sight, Comes}
+use Rattle.definitional_interpreter.proofs.Sights.{asks_first, asks_rest}
 
 both : (P Q R : Meanings → Type 0) → ((parts : Meanings) → P parts → Q parts → R parts) → Enough P → Enough Q → Enough R
 both P Q R f a b =
@@ -33,8 +34,8 @@ before {g = g} {w = w} {w1 = w1} {w2 = w2} {F = F} {x = x} {y = y} K first rest 
   kept = kept_trans first.kept rest.kept;
   gives =
       λ exact asked. both (λ parts. F parts ≡ x) (λ parts. K parts x ≡ y) (λ parts. K parts (F parts) ≡ y)
-      (λ parts p q. ap (K parts) p ∙ q) (first.gives exact (g.first w w1 w2 rest.kept asked))
-      (rest.gives exact (g.rest w w1 w2 first.kept asked));
+      (λ parts p q. ap (K parts) p ∙ q) (first.gives exact (asks_first rest.kept asked))
+      (rest.gives exact (asks_rest first.kept asked));
 }
 
 -- nothing is left to be computed

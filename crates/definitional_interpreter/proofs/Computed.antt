@@ -1,4 +1,6 @@
 -- What the rules allow is what the function gives.
+use Rattle.std.proofs.Common.{refl, ap, ◌∙◌, cond, [], ◌∷◌}
+use Rattle.std.specs.Prelude.{is_none}
 use Rattle.ht_lex.specs.Cutting.{spans_of, CutsExactly}
 use Rattle.ht_grammar.specs.Laws.{ReadsExactly}
 use Rattle.ht_grammar.specs.Lines.{typed_lines}
@@ -7,33 +9,46 @@ use Rattle.ht_grammar.specs.Reads.{ReadsExpr, ReadsLines, ReadsMessage, ReadsScr
 use Rattle.ht_grammar.specs.Whole.{script, sent_message}
 use Rattle.definitional_interpreter.specs.Laws.{LinesAreComputed, MessagesAreComputed}
 use Rattle.definitional_interpreter.specs.Laws.{ActionsAreComputed, ReferencesAreComputed, ValuesAreComputed}
-use Rattle.definitional_interpreter.proofs.Sights.{fixed_sight}
-use Rattle.definitional_interpreter.proofs.Comes.{AreExact, Sight}
+use Rattle.definitional_interpreter.specs.Laws.{DeterministicKindsHaveNoFreeTurns, WithNoTableAllTurnsAreFree}
+use Rattle.definitional_interpreter.specs.Turns.{free_turns}
+use Rattle.definitional_interpreter.proofs.Sights.{from, asks_told}
+use Rattle.definitional_interpreter.proofs.Comes.{AreExact}
 use Rattle.definitional_interpreter.proofs.Outcomes.{val_comes, line_comes, message_comes, refers_comes, acts_comes}
 
 pub exactly : CutsExactly spans_of → ReadsExactly expression ReadsExpr → ReadsExactly typed_lines ReadsLines →
     ReadsExactly script ReadsScript → ReadsExactly sent_message ReadsMessage → AreExact
 exactly c e l s m = record { cuts = c; expressions = e; lines = l; messages = m; scripts = s }
 
--- the logs as they are
-abbrev pub all_logs : Sight
-all_logs = fixed_sight (λ logs. logs)
-
 -- ---- what the function gives
 
 pub line_is_computed : AreExact → LinesAreComputed
-line_is_computed exact w w2 r r2 ss o free line has = (line_comes {g = all_logs} line has).gives exact free
+line_is_computed exact table turns w w2 r r2 ss o are line has =
+    (line_comes {g = from table turns w} line has).gives exact (asks_told are)
 
 pub message_is_computed : AreExact → MessagesAreComputed
-message_is_computed exact w w2 r r2 i n vs o free message has =
-    (message_comes {g = all_logs} message has).gives exact free
+message_is_computed exact table turns w w2 r r2 i n vs o are message has =
+    (message_comes {g = from table turns w} message has).gives exact (asks_told are)
 
 pub action_is_computed : AreExact → ActionsAreComputed
-action_is_computed exact w w2 r r2 ac o free acts has = (acts_comes {g = all_logs} acts has).gives exact free
+action_is_computed exact table turns w w2 r r2 ac o are acts has =
+    (acts_comes {g = from table turns w} acts has).gives exact (asks_told are)
 
 pub reference_is_computed : AreExact → ReferencesAreComputed
-reference_is_computed exact w w2 r r2 pa o free refers has =
-    (refers_comes {g = all_logs} refers has).gives exact free
+reference_is_computed exact table turns w w2 r r2 pa o are refers has =
+    (refers_comes {g = from table turns w} refers has).gives exact (asks_told are)
 
 pub value_is_computed : AreExact → ValuesAreComputed
-value_is_computed exact w w2 r r2 f d e o free value has = (val_comes {g = all_logs} value has).gives exact free
+value_is_computed exact table turns w w2 r r2 f d e o are value has =
+    (val_comes {g = from table turns w} value has).gives exact (asks_told are)
+
+-- ---- special cases
+
+pub none_free : DeterministicKindsHaveNoFreeTurns
+none_free table sort [] fixed = refl
+none_free table sort (turn ∷ log) fixed =
+    ap (λ o. cond (is_none o) (turn ∷ free_turns table sort log) (free_turns table sort log))
+    (fixed turn.before turn.input).1 ∙ none_free table sort log fixed
+
+pub all_free : WithNoTableAllTurnsAreFree
+all_free sort [] = refl
+all_free sort (turn ∷ log) = ap (λ l. turn ∷ l) (all_free sort log)

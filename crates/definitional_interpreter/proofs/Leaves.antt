@@ -12,8 +12,7 @@ use Rattle.externals.specs.declared.external.Ask.{Ask}
 use Rattle.externals.specs.declared.external.Ask.TheVariants.{SendCardMessage, EvalExpr, SetGlobal, SetFieldByName}
 use Rattle.externals.specs.declared.external.Ask.TheVariants.{Done, Fail}
 use Rattle.externals.specs.declared.external.Input.{Input}
-use Rattle.externals.specs.Log.{Log, LoggedTurn, log_after}
-use Rattle.externals.specs.Table.{Turn, turn_of}
+use Rattle.externals.specs.Log.{Log}
 use Rattle.journal_entries.specs.declared.change.Change.{Change}
 use Rattle.journal_entries.specs.declared.change.Change.TheVariants as changes
 use Rattle.stack_places.specs.Places.{number}
@@ -24,6 +23,7 @@ use Rattle.journal_entries.specs.Places.{Write, put, put_all, in_stack, current_
 use Rattle.journal_entries.specs.State.{State, seen_at}
 use Rattle.journal_entries.specs.Exchange.{with_cells}
 use Rattle.change_journal.specs.History.{History}
+use Rattle.change_journal.specs.Logs.{log_at}
 use Rattle.change_journal.specs.Rising.{Made, TookTurn}
 use Rattle.containers.specs.declared.edit.Edit.{Edit}
 use Rattle.containers.specs.Places.{StorageView, PlaceView}
@@ -42,10 +42,11 @@ use Rattle.definitional_interpreter.specs.Changes.{with_global, yielded, step_by
 use Rattle.definitional_interpreter.specs.Changes.{written, edit_by}
 use Rattle.definitional_interpreter.specs.Changes.{edit, assign, declare_all, set_property, add_objects, turn}
 use Rattle.definitional_interpreter.specs.Families.{Meanings}
-use Rattle.definitional_interpreter.specs.Laws.{sorts_of, sorts}
+use Rattle.definitional_interpreter.specs.Turns.{sorts_of, sorts}
 use Rattle.definitional_interpreter.proofs.Comes.{AreExact, Sight, sight, Comes, Kept, HasExternal, kept_refl}
 use Rattle.definitional_interpreter.proofs.Comes.{kept_same}
 use Rattle.definitional_interpreter.proofs.Comes.{kept_trans, prefix_same}
+use Rattle.definitional_interpreter.proofs.Sights.{asks_rest, computes}
 use Rattle.ht_lex.specs.declared.tokens.Span.{Span}
 use Rattle.ht_lex.specs.Cutting.{spans_of, CutsExactly}
 use Rattle.ht_lex.specs.Token.{Token, token_in}
@@ -131,12 +132,12 @@ externals-changed s changes.DeleteCard =
     externals-stack (put s current_card (Some (number (following s.current s.stack.cards))))
     (writes_of_deletion s.stack s.current)
 
-kept_made : {w w1 : History} {c : Change} → Made w w1 c → Kept w w1
+pub kept_made : {w w1 : History} {c : Change} → Made w w1 c → Kept w w1
 kept_made {w} {w1} {c} m = record {
   kinds = ap (λ h. sorts h) m.history ∙ ap sorts_of (externals-changed w.now c);
   count = ap (λ h. length h.logs) m.history;
-  logs = λ i. prefix_same (slice_index_or w.logs i []) (slice_index_or w1.logs i [])
-      (ap (λ h. slice_index_or h.logs i []) m.history);
+  logs = λ i. prefix_same (log_at w.logs i) (log_at w1.logs i)
+      (ap (λ h. log_at h.logs i) m.history);
 }
 
 present_made : (g : Sight) {w w1 : History} {c : Change} → Made w w1 c → made (sight g w) c ≡ sight g w1
@@ -204,7 +205,7 @@ declares g {w} {name = name} (Declares.is_new is m new) =
 moved : {g : Sight} {X : Type 0} {w w1 w2 : History} {F : Meanings → X} {x : X} → Kept w w1 →
     Comes g w1 F x w2 → Comes g w F x w2
 moved {g} {w = w} {w1 = w1} {w2 = w2} kept h =
-    record { kept = kept_trans kept h.kept; gives = λ exact asked. h.gives exact (g.rest w w1 w2 kept asked) }
+    record { kept = kept_trans kept h.kept; gives = λ exact asked. h.gives exact (asks_rest kept asked) }
 
 pub declares_all : {g : Sight} {w w1 : History} {f f1 : Frame} {r : RunState} {names : List (List ℕ)}
     {o : Result (Unit {0}) Stop} → DeclaresAll w f names o w1 f1 → HasMemory o →
@@ -274,11 +275,6 @@ pub named_there : (w : History) (is_function : Bool) (name : List ℕ) {k : ℕ}
     external_named w.now.externals is_function name ≡ Some k → HasExternal w k
 named_there w is_function name {k} is = record { there = within w.now.externals is_function name k is }
 
-pub sort_at : (es : List Seen) (k : ℕ) → slice_index_or (sorts_of es) k 0 ≡ (slice_index_or es k none_seen).sort
-sort_at [] k = refl
-sort_at (e ∷ es) zero = refl
-sort_at (e ∷ es) (suc k) = sort_at es k
-
 sorts-turned : (es : List Seen) (k : ℕ) (cells : List (List ℕ)) →
     sorts_of (slice_set es k (with_cells (slice_index_or es k none_seen) cells)) ≡ sorts_of es
 sorts-turned [] k cells = refl
@@ -289,30 +285,23 @@ sorts_took : {w w1 : History} {k : ℕ} {input : Input} {ask : Ask} → TookTurn
 sorts_took {w} {w1} {k} t = ap (λ s. sorts_of s.externals) t.turn.state
     ∙ sorts-turned w.now.externals k (seen_at w1.now k).cells
 
-after_grows : (due : Option Turn) (log : Log) (turn : LoggedTurn) → IsPrefix log (log_after due log turn)
-after_grows (Some t) log turn = prefix_same log log refl
-after_grows None log turn = (turn ∷ [], refl)
+-- what holds of each log holds of each after one was set to another of which it holds
+pub set_keeps : (P : ℕ → Log → Type 0) (logs : List Log) (k : ℕ) (log : Log) → ((i : ℕ) → P i (log_at logs i)) →
+    P k log → (i : ℕ) → P i (log_at (slice_set logs k log) i)
+set_keeps P [] k log all it i = all i
+set_keeps P (l ∷ ls) zero log all it zero = it
+set_keeps P (l ∷ ls) zero log all it (suc i) = all (suc i)
+set_keeps P (l ∷ ls) (suc k) log all it zero = all zero
+set_keeps P (l ∷ ls) (suc k) log all it (suc i) = set_keeps (λ i. P (suc i)) ls k log (λ i. all (suc i)) it i
 
-grown_at : (logs : List Log) (k : ℕ) (log : Log) → IsPrefix (slice_index_or logs k []) log → (i : ℕ) →
-    IsPrefix (slice_index_or logs i []) (slice_index_or (slice_set logs k log) i [])
-grown_at [] k log grown i = prefix_same [] [] refl
-grown_at (l ∷ ls) zero log grown zero = grown
-grown_at (l ∷ ls) zero log grown (suc i) = prefix_same (slice_index_or ls i []) (slice_index_or ls i []) refl
-grown_at (l ∷ ls) (suc k) log grown zero = prefix_same l l refl
-grown_at (l ∷ ls) (suc k) log grown (suc i) = grown_at ls k log grown i
-
-kept_took : {w w1 : History} {k : ℕ} {input : Input} {ask : Ask} → TookTurn w w1 k input ask → Kept w w1
-kept_took {w} {w1} {k} {input} {ask} t =
-    let due = turn_of (seen_at w.now k).sort (seen_at w.now k).cells input in
-    let turn : LoggedTurn = record { input = input; ask = ask; cells = (seen_at w1.now k).cells } in
-    let log = log_after due (slice_index_or w.logs k []) turn in
-    let logs_are : w1.logs ≡ slice_set w.logs k log = ap (λ h. h.logs) t.history in
-    record {
-      kinds = sorts_took t;
-      count = ap length logs_are ∙ length-set w.logs k log;
-      logs = λ i. subst (λ ls. IsPrefix (slice_index_or w.logs i []) (slice_index_or ls i [])) (sym logs_are)
-          (grown_at w.logs k log (after_grows due (slice_index_or w.logs k []) turn) i);
-    }
+pub kept_took : {w w1 : History} {k : ℕ} {input : Input} {ask : Ask} → TookTurn w w1 k input ask → Kept w w1
+kept_took {w} {w1} {k} t = record {
+  kinds = sorts_took t;
+  count = ap (λ h. length h.logs) t.history ∙ length-set w.logs k _;
+  logs = λ i. subst (λ ls. IsPrefix (log_at w.logs i) (log_at ls i)) (sym (ap (λ h. h.logs) t.history))
+      (set_keeps (λ i. IsPrefix (log_at w.logs i)) w.logs k _
+      (λ i. prefix_same (log_at w.logs i) (log_at w.logs i) refl) (_, refl) i);
+}
 
 pub there_after : {w w1 w2 : History} {k j : ℕ} {input : Input} {ask : Ask} → HasExternal w k →
     TookTurn w w1 j input ask → Kept w1 w2 → HasExternal w2 k
@@ -323,7 +312,7 @@ pub takes_turn : {g : Sight} {w w1 : History} {k : ℕ} {input : Input} {ask : A
     TookTurn w w1 k input ask → HasExternal w k →
     Comes g w (λ parts. turn (sight g w) r k input) (told (Ok ask) (sight g w1) r) w1
 takes_turn {g} {w} {w1} {k} {input} {ask} {r} t h =
-    record { kept = kept_took t; gives = λ exact asked. (0, λ fuel le. g.computes w w1 k input ask r t h asked) }
+    record { kept = kept_took t; gives = λ exact asked. (0, λ fuel le. computes g w w1 k input ask t h asked r) }
 
 -- Done and Fail are no call-backs
 abbrev pub IsCall : Ask → Type 0

@@ -1,7 +1,7 @@
 pub mod Comes
+pub mod Sights
 pub mod Chain
 pub mod Leaves
-pub mod Sights
 pub mod Outcomes
 pub mod Computed
 pub mod Allowed

@@ -1,5 +1,5 @@
 -- The worked rows, by computation.
-use Rattle.std.proofs.Common.{◌≡◌, ℕ, List, [], ◌∷◌, codes, Option, Some, None, Result, Ok, refl, ap, ◌∙◌}
+use Rattle.std.proofs.Common.{false, ◌≡◌, ℕ, List, [], ◌∷◌, codes, Option, Some, None, Result, Ok, refl, ap, ◌∙◌}
 use Rattle.std.proofs.lemmas.Cmp.{nat_list_cmp_total}
 use Rattle.std.specs.Cmp.Lexicographic.{slice_cmp}
 use Rattle.std.specs.FinMap.{empty, get, insert, get-empty, get-insert}
@@ -55,7 +55,9 @@ use Rattle.ht_grammar.specs.Reading.{power_at, join_at, asked_at, chain_at, rank
 use Rattle.ht_grammar.specs.Whole.{handlers_at}
 use Rattle.stack_places.specs.Places.{put as put_in_stack}
 use Rattle.stack_text.specs.Words.{unspelled_within}
-use Rattle.externals.specs.Number.{number_in}
+use Rattle.externals.specs.Log.{Log, LoggedTurn}
+use Rattle.externals.specs.declared.external.Ask.TheVariants.{Done}
+use Rattle.externals.specs.declared.external.Input.TheVariants.{Start}
 use Rattle.journal_entries.specs.Places.{put as put_in_state}
 use Rattle.definitional_interpreter.specs.Changes.{make}
 use Rattle.definitional_interpreter.specs.Meanings.{meanings}
@@ -73,7 +75,7 @@ unfolding digits function_named built_in number_of binary unary first_place put 
     destination_at simple_at head_at stmt_at lines_at block_at blocks closed referenced_layer part_front article
     list_at primary_at which_at selector_at owner_at part_end nth_end part_at field_at ref_at inner_ref count_at
     chunk_at chunk_form number_form factor_at prefixed_at power_end power_at join_at asked_at chain_at rank_at
-    level_at read handlers_at put_in_stack unspelled_within number_in put_in_state make meanings
+    level_at read handlers_at put_in_stack unspelled_within put_in_state make meanings
 computing = tt
 
 pub sum : Sum
@@ -228,24 +230,28 @@ passed k =
 abbrev open_gate : Seen
 open_gate = record gate { cells = codes "1" ∷ [] }
 
+-- the turn by which it opens
+abbrev opens : LoggedTurn
+opens = record { before = gate.cells; input = Start []; ask = Done [] false; cells = open_gate.cells }
+
 gate_read : parsed typed_lines (codes "Gate") ≡ Ok (stm.also (stm.command (codes "Gate") tree.none) stm.stop)
 unfolding computing
 gate_read = refl
 
 -- the answer of Gate, which no script has, and then the rest
-abbrev by_gate : (k : ℕ) → Seen → (Visible → List (List ℕ)) → List (List ℕ)
-by_gate k e rest = answered (command_ends k (on_card [] [] [] empty (e ∷ []) ([] ∷ []))
-    (by_found (and_more 34 k) (on_card [] [] [] empty (e ∷ []) ([] ∷ []))
+abbrev by_gate : (k : ℕ) → Seen → Log → (Visible → List (List ℕ)) → List (List ℕ)
+by_gate k e log rest = answered (command_ends k (on_card [] [] [] empty (e ∷ []) (log ∷ []))
+    (by_found (and_more 34 k) (on_card [] [] [] empty (e ∷ []) (log ∷ []))
     (noted (run_at 999998 [] []) (codes "Gate") 2)
     (typed_frame_at 2) 0 (codes "Gate") [] Command
     (found_among ((2, []) ∷ (1, []) ∷ (0, []) ∷ []) Command (codes "Gate")))) rest
 
-gate_once : (k : ℕ) (rest : Visible → List (List ℕ)) → by_gate k gate rest ≡ codes "ok"
-    ∷ rest (on_card [] [] [] empty (open_gate ∷ []) ([] ∷ []))
+gate_once : (k : ℕ) (rest : Visible → List (List ℕ)) → by_gate k gate [] rest ≡ codes "ok"
+    ∷ rest (on_card [] [] [] empty (open_gate ∷ []) ((opens ∷ []) ∷ []))
 unfolding computing
 gate_once k rest = refl
 
-gate_again : (k : ℕ) → by_gate k open_gate (λ w. []) ≡ codes "fault 2" ∷ []
+gate_again : (k : ℕ) → by_gate k open_gate (opens ∷ []) (λ w. []) ≡ codes "fault 2" ∷ []
 unfolding computing
 gate_again k = refl
 
@@ -256,8 +262,8 @@ conversation k =
     (no_values k _ _ _))
     ∙ gate_once k (λ w. answers (and_more 40 k) w (codes "Gate" ∷ []))
     ∙ ap (λ t. codes "ok" ∷ answered t (λ w. []))
-    (typed_command k [] [] [] empty (open_gate ∷ []) ([] ∷ []) (codes "Gate") (codes "Gate") tree.none [] gate_read
-    (no_values k _ _ _))
+    (typed_command k [] [] [] empty (open_gate ∷ []) ((opens ∷ []) ∷ []) (codes "Gate") (codes "Gate") tree.none []
+    gate_read (no_values k _ _ _))
     ∙ ap (λ rest. codes "ok" ∷ rest) (gate_again k)
 
 -- ---- globals

@@ -1,115 +1,206 @@
--- Ways to see logs: where each external is deterministic, and where the logs tell what free ones did.
-use Rattle.std.proofs.Common.{◌≡◌, ℕ, ◌<◌, List, [], ◌∷◌, ◌++◌, length, Option, Some, None, Ok, refl, sym, ap}
-use Rattle.std.proofs.Common.{subst, ◌∙◌}
-use Rattle.std.proofs.lemmas.List.{set-get_or, get_or-set_same}
-use Rattle.std.specs.Prelude.{slice_get, slice_index_or, slice_set, IfSome}
-use Rattle.externals.specs.Cells.{Seen}
-use Rattle.externals.specs.Log.{Log, LoggedTurn, log_after}
-use Rattle.externals.specs.Table.{Turn, turn_of}
+-- What is told of a run is told of each of its parts, and then a turn of it is the computed one.
+use Rattle.std.proofs.Common.{◌≡◌, ℕ, zero, suc, ◌<◌, ◌≤◌, List, [], ◌∷◌, ◌++◌, length, Option, Some, None}
+use Rattle.std.proofs.Common.{Ok, refl, sym, ap, subst, ◌∙◌, cond, arith}
+use Rattle.std.proofs.lemmas.List.{drop-append-le, get_or-set_same, get_or_append_left, get_or_push, length-append}
+use Rattle.std.proofs.lemmas.List.{length-map}
+use Rattle.std.proofs.lemmas.List.Elements.{filter-append}
+use Rattle.std.specs.Prelude.{All, drop, is_none, slice_get, slice_index_or, slice_set, IfSome}
+use Rattle.externals.specs.Cells.{Seen, none_seen}
+use Rattle.externals.specs.Log.{Log, LoggedTurn, IsTurnOf, Follows}
+use Rattle.externals.specs.Turns.{Turn, TurnTable}
 use Rattle.externals.specs.declared.external.Ask.{Ask}
 use Rattle.externals.specs.declared.external.Input.{Input}
 use Rattle.journal_entries.specs.State.{seen_at}
-use Rattle.journal_entries.specs.Turning.{with_cells_at}
 use Rattle.change_journal.specs.History.{History}
+use Rattle.change_journal.specs.Logs.{log_at, turns_since}
 use Rattle.change_journal.specs.Rising.{TookTurn}
 use Rattle.meaning.specs.State.{RunState}
 use Rattle.preservation.specs.Laws.{IsPrefix}
 use Rattle.definitional_interpreter.specs.Told.{Visible, told}
-use Rattle.definitional_interpreter.specs.Changes.{turn, turn_by, free_turn}
-use Rattle.definitional_interpreter.specs.Laws.{sorts, IsDeterministic, AreDeterministic, AreTold}
-use Rattle.definitional_interpreter.proofs.Comes.{HasExternal, Sight, prefix_trans}
-use Rattle.definitional_interpreter.proofs.Leaves.{sort_at}
+use Rattle.definitional_interpreter.specs.Changes.{turn, take_turn, due_turn}
+use Rattle.definitional_interpreter.specs.Turns.{sorts_of, sorts, is_free, free_turns, logs_since}
+use Rattle.definitional_interpreter.specs.Laws.{AreTold}
+use Rattle.definitional_interpreter.proofs.Comes.{Kept, HasExternal, Sight, sight, Asks, prefix_same, prefix_trans}
+
+pub sort_at : (es : List Seen) (k : ℕ) → slice_index_or (sorts_of es) k 0 ≡ (slice_index_or es k none_seen).sort
+sort_at [] k = refl
+sort_at (e ∷ es) zero = refl
+sort_at (e ∷ es) (suc k) = sort_at es k
+
+-- ---- fronts
+
+pub prefix_length : {A : Type 0} (xs ys : List A) → IsPrefix xs ys → length xs ≤ length ys
+prefix_length xs ys h = omega (arith, ap length h.1, length-append xs h.0)
+
+pub prefix_drop : {A : Type 0} (n : ℕ) (xs ys : List A) → IsPrefix xs ys → IsPrefix (drop n xs) (drop n ys)
+prefix_drop zero xs ys h = h
+prefix_drop (suc n) [] ys h = (drop (suc n) ys, refl)
+prefix_drop (suc n) (x ∷ xs) [] h = let no : ⊥ = cc in absurd no
+prefix_drop (suc n) (x ∷ xs) (y ∷ ys) h =
+    let same : ys ≡ xs ++ h.0 = ap (drop 1) h.1 in prefix_drop n xs ys (h.0, same)
+
+prefix_free : (table : TurnTable) (sort : ℕ) (xs ys : Log) → IsPrefix xs ys →
+    IsPrefix (free_turns table sort xs) (free_turns table sort ys)
+prefix_free table sort xs ys h = (
+  free_turns table sort h.0,
+  ap (free_turns table sort) h.1 ∙ filter-append (is_free table sort) xs h.0,
+)
+
+-- what is behind a front
+pub rest_is : {A : Type 0} (xs ys zs : List A) → ys ≡ xs ++ zs → drop (length xs) ys ≡ zs
+rest_is {A = A} xs ys zs is = ap (drop (length xs)) is ∙ behind xs
+  where
+    behind : (xs : List A) → drop (length xs) (xs ++ zs) ≡ zs
+    behind [] = refl
+    behind (x ∷ xs) = behind xs
+
+pub goes_on : {A : Type 0} (xs ys : List A) → IsPrefix xs ys → ys ≡ xs ++ drop (length xs) ys
+goes_on xs ys h = h.1 ∙ ap (λ l. xs ++ l) (sym (rest_is xs ys h.0 h.1))
+
+pub all_of_prefix : {A : Type 0} (P : A → Type 0) (xs ys : List A) → IsPrefix xs ys → All P ys → All P xs
+all_of_prefix P xs ys h all k d within =
+    subst P (ap (λ l. slice_index_or l k d) h.1 ∙ get_or_append_left xs h.0 d k within)
+    (all k d (let longer = prefix_length xs ys h in omega (arith, within, longer)))
+
+-- ---- turns since the beginning
+
+-- the logs since, one by one
+pub at_since : (old new : List Log) → length old ≡ length new → (i : ℕ) → log_at (logs_since old new) i
+    ≡ turns_since old new i
+at_since [] [] same i = refl
+at_since [] (y ∷ new) same i = let no : ⊥ = cc in absurd no
+at_since (x ∷ old) [] same i = let no : ⊥ = cc in absurd no
+at_since (x ∷ old) (y ∷ new) same zero = refl
+at_since (x ∷ old) (y ∷ new) same (suc i) = at_since old new (omega (arith, same)) i
+
+-- with one turn more
+since_set : (old new : List Log) (k : ℕ) (t : LoggedTurn) → length old ≡ length new → length (log_at old k)
+    ≤ length (log_at new k) → logs_since old (slice_set new k (log_at new k ++ t ∷ []))
+    ≡ slice_set (logs_since old new) k (log_at (logs_since old new) k ++ t ∷ [])
+since_set [] [] k t same le = refl
+since_set [] (y ∷ new) k t same le = let no : ⊥ = cc in absurd no
+since_set (x ∷ old) [] k t same le = let no : ⊥ = cc in absurd no
+since_set (x ∷ old) (y ∷ new) zero t same le =
+    ap (λ l. l ∷ logs_since old new) (drop-append-le (length x) y (t ∷ []) le)
+since_set (x ∷ old) (y ∷ new) (suc k) t same le =
+    ap (λ ls. drop (length x) y ∷ ls) (since_set old new k t (omega (arith, same)) le)
+
+-- ---- what is asked
+
+pub asks_first : {g : Sight} {w w1 w2 : History} → Kept w1 w2 → Asks g w w2 → Asks g w w1
+asks_first {g} {w} {w1} {w2} kept asked = record {
+  logs = asked.logs;
+  count = asked.count;
+  grown = asked.grown;
+  follow = λ i there. all_of_prefix (IsTurnOf g.table (slice_index_or (sorts w) i 0)) (turns_since g.old w1.logs i)
+      (turns_since g.old w2.logs i) (since i) (asked.follow i there);
+  free = λ i there. let sort = slice_index_or (sorts w) i 0 in
+      prefix_trans (free_turns g.table sort (turns_since g.old w1.logs i))
+      (free_turns g.table sort (turns_since g.old w2.logs i)) (g.turns i)
+      (prefix_free g.table sort (turns_since g.old w1.logs i) (turns_since g.old w2.logs i) (since i))
+      (asked.free i there);
+}
+  where
+    since : (i : ℕ) → IsPrefix (turns_since g.old w1.logs i) (turns_since g.old w2.logs i)
+    since i = prefix_drop (length (log_at g.old i)) (log_at w1.logs i) (log_at w2.logs i) (kept.logs i)
+
+pub asks_rest : {g : Sight} {w w1 w2 : History} → Kept w w1 → Asks g w w2 → Asks g w1 w2
+asks_rest {g} {w} {w1} {w2} kept asked = record {
+  logs = kept.count ∙ asked.logs ∙ ap length (sym kept.kinds);
+  count = asked.count ∙ sym kept.count;
+  grown = λ i. prefix_trans (log_at g.old i) (log_at w.logs i) (log_at w1.logs i) (asked.grown i) (kept.logs i);
+  follow =
+      subst
+      (λ (kinds : List ℕ). (i : ℕ) → i < length kinds
+      → Follows g.table (slice_index_or kinds i 0) (turns_since g.old w2.logs i)) (sym kept.kinds) asked.follow;
+  free =
+      subst
+      (λ (kinds : List ℕ). (i : ℕ) → i < length kinds
+      → IsPrefix (free_turns g.table (slice_index_or kinds i 0) (turns_since g.old w2.logs i)) (g.turns i))
+      (sym kept.kinds) asked.free;
+}
+
+-- the sight of a run from its beginning
+abbrev pub from : TurnTable → (ℕ → Log) → History → Sight
+from table turns w = record { table = table; turns = turns; old = w.logs }
+
+pub asks_told : {table : TurnTable} {turns : ℕ → Log} {w w2 : History} → AreTold table turns w w2
+    → Asks (from table turns w) w w2
+asks_told {table} {turns} {w} {w2} h = record {
+  logs = h.logs ∙ sym (length-map w.now.externals (λ e. e.sort));
+  count = refl;
+  grown = λ i. prefix_same (log_at w.logs i) (log_at w.logs i) refl;
+  follow = λ i there. subst (λ sort. Follows table sort (turns_since w.logs w2.logs i))
+      (sym (sort_at w.now.externals i)) (h.follow i (within i there));
+  free = λ i there. subst (λ sort. IsPrefix (free_turns table sort (turns_since w.logs w2.logs i)) (turns i))
+      (sym (sort_at w.now.externals i)) (h.free i (within i there));
+}
+  where
+    within : (i : ℕ) → i < length (sorts w) → i < length w.now.externals
+    within i there = subst (λ n. i < n) (length-map w.now.externals (λ e. e.sort)) there
+
+-- ---- a turn
 
 next_is : (xs ys : Log) (x : LoggedTurn) → slice_get ((xs ++ x ∷ []) ++ ys) (length xs) ≡ Some x
 next_is [] ys x = refl
 next_is (y ∷ xs) ys x = next_is xs ys x
 
--- a turn that was taken
-module _ (w w1 : History) (k : ℕ) (input : Input) (ask : Ask) (r : RunState) (t : TookTurn w w1 k input ask) where
+-- a turn that was taken is the one that is due
+module _ (g : Sight) (w w1 : History) (k : ℕ) (input : Input) (ask : Ask) (t : TookTurn w w1 k input ask)
+    (there : HasExternal w k) (asked : Asks g w w1) where
   abbrev seen : Seen
   seen = seen_at w.now k
 
   abbrev taken : LoggedTurn
-  taken = record { input = input; ask = ask; cells = (seen_at w1.now k).cells }
+  taken = record { before = seen.cells; input = input; ask = ask; cells = (seen_at w1.now k).cells }
 
-  -- the logs after it, by the turn that the table has
-  logs_by : (due : Option Turn) → turn_of seen.sort seen.cells input ≡ due →
-      w1.logs ≡ slice_set w.logs k (log_after due (slice_index_or w.logs k []) taken)
-  logs_by due is = ap (λ h. h.logs) t.history
-      ∙ ap (λ d. slice_set w.logs k (log_after d (slice_index_or w.logs k []) taken)) is
+  logs_are : w1.logs ≡ slice_set w.logs k (log_at w.logs k ++ taken ∷ [])
+  logs_are = ap (λ h. h.logs) t.history
 
-  -- the table has it
-  pub by_table : (of_logs : List Log → List Log) (turns : List Log) (due : Turn) →
-      turn_of seen.sort seen.cells input ≡ Some due →
-      turn (record { now = w.now; logs = of_logs w.logs; turns = turns }) r k input
-      ≡ told (Ok ask) (record { now = w1.now; logs = of_logs w1.logs; turns = turns }) r
-  by_table of_logs turns due is =
-      let u : Visible = record { now = w.now; logs = of_logs w.logs; turns = turns } in
-      let known =
-      subst (λ o. IfSome o (λ turn. (ask ≡ turn.0) × ((seen_at w1.now k).cells ≡ turn.1))) is t.turn.answers.known in
-      let now_is : with_cells_at w.now k due.1 ≡ w1.now = ap (with_cells_at w.now k) (sym known.1) ∙ sym t.turn.state in
-      let logs_are : w1.logs ≡ w.logs = logs_by (Some due) is ∙ set-get_or w.logs k [] in
-      ap (turn_by u r k) is
-      ∙ ap (λ a. told (Ok a) (record u { now = with_cells_at w.now k due.1 }) r) (sym known.0)
-      ∙ ap (λ s. told (Ok ask) (record u { now = s }) r) now_is
-      ∙ ap (λ ls. told (Ok ask) (record { now = w1.now; logs = of_logs ls; turns = turns }) r) (sym logs_are)
+  longer : length (log_at g.old k) ≤ length (log_at w.logs k)
+  longer = prefix_length (log_at g.old k) (log_at w.logs k) (asked.grown k)
 
-  -- the turns have it
-  by_turns : (turns : List Log) → turn_of seen.sort seen.cells input ≡ None → k < length w.logs →
-      IsPrefix (slice_index_or w1.logs k []) (slice_index_or turns k []) →
-      turn (record { now = w.now; logs = w.logs; turns = turns }) r k input
-      ≡ told (Ok ask) (record { now = w1.now; logs = w1.logs; turns = turns }) r
-  by_turns turns is there more =
-      let u : Visible = record { now = w.now; logs = w.logs; turns = turns } in
-      let before : Log = slice_index_or w.logs k [] in
-      let logs_are : w1.logs ≡ slice_set w.logs k (before ++ taken ∷ []) = logs_by None is in
-      let log_is : slice_index_or w1.logs k [] ≡ before ++ taken ∷ [] = ap (λ ls. slice_index_or ls k []) logs_are
-      ∙ get_or-set_same w.logs k (before ++ taken ∷ []) [] there in
-      let next : slice_get (slice_index_or turns k []) (length before) ≡ Some taken =
-      ap (λ log. slice_get log (length before)) (more.1 ∙ ap (λ log. log ++ more.0) log_is)
-      ∙ next_is before more.0 taken in
-      ap (turn_by u r k) is ∙ ap (free_turn u r k) next
-      ∙ ap (λ s. told (Ok ask) (record u { now = s; logs = slice_set w.logs k (before ++ taken ∷ []) }) r)
-      (sym t.turn.state)
-      ∙ ap (λ ls. told (Ok ask) (record u { now = w1.now; logs = ls }) r) (sym logs_are)
+  since_are : turns_since g.old w1.logs k ≡ turns_since g.old w.logs k ++ taken ∷ []
+  since_are = ap (λ logs. turns_since g.old logs k) logs_are
+      ∙ ap (drop (length (log_at g.old k)))
+      (get_or-set_same w.logs k (log_at w.logs k ++ taken ∷ []) []
+      (subst (λ n. k < n) (sym asked.logs) there.there))
+      ∙ drop-append-le (length (log_at g.old k)) (log_at w.logs k) (taken ∷ []) longer
 
--- where each external is deterministic
-abbrev pub fixed_sight : (List Log → List Log) → Sight
-fixed_sight of_logs = record {
-  of_logs = of_logs;
-  turns = [];
-  Asks = λ w w2. AreDeterministic (sorts w);
-  first = λ w w1 w2 kept asked. asked;
-  rest = λ w w1 w2 kept asked. subst AreDeterministic (sym kept.kinds) asked;
-  computes = λ w w1 k input ask r t h asked.
-      let given = subst IsDeterministic (sort_at w.now.externals k) (asked k h.there) (seen_at w.now k).cells input in
-      by_table w w1 k input ask r t of_logs [] given.0 given.1;
-}
+  follows : IsTurnOf g.table seen.sort taken
+  follows =
+      let since = turns_since g.old w.logs k in
+      let all : Follows g.table seen.sort (since ++ taken ∷ []) =
+      subst (Follows g.table seen.sort) since_are
+      (subst (λ sort. Follows g.table sort (turns_since g.old w1.logs k)) (sort_at w.now.externals k)
+      (asked.follow k there.there)) in
+      subst (IsTurnOf g.table seen.sort) (get_or_push since taken taken (length since) refl)
+      (all (length since) taken (omega (arith, length-append since (taken ∷ []))))
 
-log_there : (w : History) (k : ℕ) → length w.logs ≡ length (sorts w) → k < length (sorts w) → k < length w.logs
-log_there w k same there = subst (λ n. k < n) (sym same) there
+  is_due : (due : Option Turn) → g.table seen.sort seen.cells input ≡ due → due_turn (sight g w) k input due
+      ≡ Some taken
+  is_due (Some d) is =
+      let same : (ask ≡ d.0) × ((seen_at w1.now k).cells ≡ d.1) =
+      subst (λ o. IfSome o (λ d. (ask ≡ d.0) × ((seen_at w1.now k).cells ≡ d.1))) is follows in
+      λ i. Some (record { before = seen.cells; input = input; ask = sym same.0 i; cells = sym same.1 i })
+  is_due None is =
+      let since = turns_since g.old w.logs k in
+      let free = free_turns g.table seen.sort since in
+      let head : IsPrefix (free_turns g.table seen.sort (turns_since g.old w1.logs k)) (g.turns k) =
+      subst (λ sort. IsPrefix (free_turns g.table sort (turns_since g.old w1.logs k)) (g.turns k))
+      (sort_at w.now.externals k) (asked.free k there.there) in
+      let free_are : free_turns g.table seen.sort (turns_since g.old w1.logs k) ≡ free ++ taken ∷ [] =
+      ap (free_turns g.table seen.sort) since_are ∙ filter-append (is_free g.table seen.sort) since (taken ∷ [])
+      ∙ ap (λ o. free ++ cond (is_none o) (taken ∷ []) []) is in
+      ap (λ (log : Log). slice_get (g.turns k) (length (free_turns g.table seen.sort log)))
+      (at_since g.old w.logs asked.count k)
+      ∙ ap (λ (log : Log). slice_get log (length free)) (head.1 ∙ ap (λ log. log ++ head.0) free_are)
+      ∙ next_is free head.0 taken
 
-pub by_due : (turns : List Log) (w w1 : History) (k : ℕ) (input : Input) (ask : Ask) (r : RunState) →
-    TookTurn w w1 k input ask → HasExternal w k → (length w.logs ≡ length (sorts w)) × AreTold turns w1.logs →
-    (due : Option Turn) → turn_of (seen_at w.now k).sort (seen_at w.now k).cells input ≡ due →
-    turn (record { now = w.now; logs = w.logs; turns = turns }) r k input
-    ≡ told (Ok ask) (record { now = w1.now; logs = w1.logs; turns = turns }) r
-by_due turns w w1 k input ask r t h asked (Some due) is = by_table w w1 k input ask r t (λ logs. logs) turns due is
-by_due turns w w1 k input ask r t h asked None is =
-    by_turns w w1 k input ask r t turns is (log_there w k asked.0 h.there) (asked.1 k)
-
--- where each log has no turn that isn't one of these
-abbrev pub told_sight : List Log → Sight
-told_sight turns = record {
-  of_logs = λ logs. logs;
-  turns = turns;
-  Asks = λ w w2. (length w.logs ≡ length (sorts w)) × AreTold turns w2.logs;
-  first = λ w w1 w2 kept asked. (
-    asked.0,
-    λ i. prefix_trans (slice_index_or w1.logs i []) (slice_index_or w2.logs i []) (slice_index_or turns i [])
-        (kept.logs i) (asked.1 i),
-  );
-  rest = λ w w1 w2 kept asked. (kept.count ∙ asked.0 ∙ ap length (sym kept.kinds), asked.1);
-  computes = λ w w1 k input ask r t h asked.
-      by_due turns w w1 k input ask r t h asked (turn_of (seen_at w.now k).sort (seen_at w.now k).cells input) refl;
-}
+  pub computes : (r : RunState) → turn (sight g w) r k input ≡ told (Ok ask) (sight g w1) r
+  computes r =
+      let u : Visible = sight g w in
+      let logs : slice_set u.logs k (log_at u.logs k ++ taken ∷ []) ≡ logs_since g.old w1.logs =
+      sym (since_set g.old w.logs k taken asked.count longer) ∙ ap (logs_since g.old) (sym logs_are) in
+      ap (take_turn u r k) (is_due (g.table seen.sort seen.cells input) refl)
+      ∙ (λ i. told (Ok ask) (record u { now = sym t.turn.state i; logs = logs i }) r)

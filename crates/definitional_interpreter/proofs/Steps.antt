@@ -33,7 +33,7 @@ use Rattle.definitional_interpreter.specs.Changes.{step}
 use Rattle.definitional_interpreter.specs.Texts.{read_by, parsed, handled, first_found}
 use Rattle.definitional_interpreter.specs.Messages.{met_by}
 use Rattle.definitional_interpreter.specs.Meanings.{meanings}
-use Rattle.definitional_interpreter.specs.Rows.{and_more, objects_of, two_cards, typed}
+use Rattle.definitional_interpreter.specs.Rows.{and_more, objects_of, two_cards, every_other, typed}
 
 -- the stack in a state, with its first card as the current one
 abbrev pub on_card : (card background stack : List ℕ) → Globals → List Seen → List Log → Visible
@@ -41,7 +41,8 @@ on_card c b s globals externals logs =
     record {
       now = record { stack = two_cards c b s; globals = globals; current = 2; externals = externals };
       logs = logs;
-      turns = [];
+      table = every_other;
+      turns = λ i. [];
     }
 
 object_is : (c b s : List ℕ) (id : ℕ) → object_at (two_cards c b s) id ≡ find nat_cmp id (objects_of c b s)

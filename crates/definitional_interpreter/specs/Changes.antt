@@ -9,7 +9,7 @@ use Rattle.ht_values.specs.declared.word.Where.TheVariants.{Into}
 use Rattle.ht_values.specs.Text.{folded}
 use Rattle.externals.specs.declared.external.Ask.{Ask}
 use Rattle.externals.specs.declared.external.Input.{Input}
-use Rattle.externals.specs.Table.{Turn, turn_of}
+use Rattle.externals.specs.Turns.{Turn}
 use Rattle.externals.specs.Log.{LoggedTurn}
 use Rattle.journal_entries.specs.State.{seen_at}
 use Rattle.journal_entries.specs.Changes.{changed, fits}
@@ -28,6 +28,7 @@ use Rattle.meaning.specs.declared.end.Stop.TheVariants.{Fault as Faults}
 use Rattle.meaning.specs.declared.frame.Frame.{Frame}
 use Rattle.meaning.specs.Places.{variable_place}
 use Rattle.meaning.specs.State.{RunState}
+use Rattle.definitional_interpreter.specs.Turns.{free_turns}
 use Rattle.definitional_interpreter.specs.Told.{Visible, Told, unknown, told, ToldIn, told_in, choose, computed}
 
 -- a computed value, or its fault
@@ -98,19 +99,22 @@ add_objects w r c = choose (fits w.now c) (λ _. make w r c) (λ _. told (Err (F
 
 -- ---- externals
 
--- a turn of the i-th external, which its log has then at its end; it is unknown where none is left
-abbrev pub free_turn : Visible → RunState → ℕ → Option LoggedTurn → Told Ask
-free_turn w r i (Some t) = told (Ok t.ask) (record w {
+-- The turn of the i-th external that is due: that of the table, or else the first of those beside it that its log
+-- doesn't have.
+abbrev pub due_turn : Visible → ℕ → Input → Option Turn → Option LoggedTurn
+due_turn w i input (Some t) =
+    Some (record { before = (seen_at w.now i).cells; input = input; ask = t.0; cells = t.1 })
+due_turn w i input None =
+    slice_get (w.turns i) (length (free_turns w.table (seen_at w.now i).sort (slice_index_or w.logs i [])))
+
+-- a turn, which its log has then at its end; it is unknown where none is due
+abbrev pub take_turn : Visible → RunState → ℕ → Option LoggedTurn → Told Ask
+take_turn w r i (Some t) = told (Ok t.ask) (record w {
   now = with_cells_at w.now i t.cells;
   logs = slice_set w.logs i (slice_index_or w.logs i [] ++ t ∷ []);
 }) r
-free_turn w r i None = unknown
-
--- a turn of the i-th external: what it asks. The table has that of a deterministic kind, and then all logs stay.
-abbrev pub turn_by : Visible → RunState → ℕ → Option Turn → Told Ask
-turn_by w r i (Some t) = told (Ok t.0) (record w { now = with_cells_at w.now i t.1 }) r
-turn_by w r i None =
-    free_turn w r i (slice_get (slice_index_or w.turns i []) (length (slice_index_or w.logs i [])))
+take_turn w r i None = unknown
 
 abbrev pub turn : Visible → RunState → ℕ → Input → Told Ask
-turn w r i input = turn_by w r i (turn_of (seen_at w.now i).sort (seen_at w.now i).cells input)
+turn w r i input =
+    take_turn w r i (due_turn w i input (w.table (seen_at w.now i).sort (seen_at w.now i).cells input))

@@ -1,3 +1,4 @@
+pub mod Turns
 pub mod Told
 pub mod Texts
 pub mod Changes

@@ -1,6 +1,7 @@
 -- Worked rows of the language: what is typed, and what is answered. With so many nested parts, or more, the function
 -- gives each answer.
 use Rattle.std.specs.Prelude.{zero, suc, ◌≡◌, ℕ, List, [], ◌∷◌, ◌++◌, map, codes, decimal, true, false, Result, Ok, Err}
+use Rattle.std.specs.Prelude.{bytes_eq, if◌then◌else◌, slice_index_or, Some}
 use Rattle.std.specs.FinMap.{empty, from_sorted}
 use Rattle.ht_values.specs.Faults.{number_of_fault}
 use Rattle.ht_grammar.specs.Lines.{typed_lines}
@@ -8,6 +9,8 @@ use Rattle.object_table.specs.Content.{Content}
 use Rattle.object_table.specs.declared.object.Object.{Object}
 use Rattle.object_table.specs.declared.object.Kind.TheVariants.{Stack, Background, Card, BackgroundField}
 use Rattle.externals.specs.Cells.{Seen}
+use Rattle.externals.specs.Turns.{TurnTable}
+use Rattle.externals.specs.declared.external.Ask.TheVariants.{Done}
 use Rattle.journal_entries.specs.State.{first_state}
 use Rattle.meaning.specs.declared.end.Stop.{Stop}
 use Rattle.meaning.specs.declared.end.Stop.TheVariants.{Fault as Faults, Exited}
@@ -70,13 +73,24 @@ two_cards card background stack = record {
   next = 5;
 }
 
+-- externals that pass every other message on, and keep in a cell which one they passed last
+abbrev pub every_other : TurnTable
+every_other sort cells input =
+    if bytes_eq (slice_index_or cells 0 []) (codes "0") then Some (Done [] false, codes "1" ∷ [])
+    else Some (Done [] true, codes "0" ∷ [])
+
 -- its first state, with these scripts of the first card, of the background and of the stack
 abbrev pub first_card : (card background stack : List ℕ) → List Seen → Visible
 first_card card background stack externals =
-    record { now = first_state (two_cards card background stack) externals; logs = map (λ e. []) externals; turns = [] }
+    record {
+      now = first_state (two_cards card background stack) externals;
+      logs = map (λ e. []) externals;
+      table = every_other;
+      turns = λ i. [];
+    }
 
 abbrev pub gate : Seen
-gate = record { title = codes "Gate"; sort = 4; answers_calls = false; cells = codes "0" ∷ [] }
+gate = record { title = codes "Gate"; sort = 0; answers_calls = false; cells = codes "0" ∷ [] }
 
 -- ---- rows of any state
 

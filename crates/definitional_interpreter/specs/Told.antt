@@ -3,6 +3,7 @@ use Rattle.std.specs.Prelude.{ℕ, Bool, true, false, List, [], Option, Some, No
 use Rattle.ht_values.specs.declared.fault.Fault.{Fault}
 use Rattle.ht_values.specs.declared.fault.Fault.TheVariants.{NoSuchObject}
 use Rattle.externals.specs.Log.{Log}
+use Rattle.externals.specs.Turns.{TurnTable, no_table}
 use Rattle.journal_entries.specs.State.{State}
 use Rattle.change_journal.specs.History.{History}
 use Rattle.object_references.specs.declared.referent.Referent.{Referent}
@@ -13,20 +14,25 @@ use Rattle.meaning.specs.declared.end.Stop.TheVariants.{Fault as Faults}
 use Rattle.meaning.specs.declared.frame.Frame.{Frame}
 use Rattle.meaning.specs.Repeats.{Outcome}
 use Rattle.meaning.specs.State.{RunState}
+use Rattle.definitional_interpreter.specs.Turns.{logs_since}
 
--- What a run sees of a history: the present state and the logs of the externals, and no weights. Beside them stand the
--- turns of each external, the first one first: one that is free takes the first of them that its log doesn't have.
+-- What a run sees of a history: the present state and the turns that each external took since the run began, and no
+-- weights. Beside them stands where its turns come from: a table, and for each external those that the table doesn't
+-- have, the first one first.
 pub record Visible : Type 0 where
   pub now : State
   pub logs : List Log
-  pub turns : List Log
+  pub table : TurnTable
+  pub turns : ℕ → Log
 
-abbrev pub present_with : List Log → History → Visible
-present_with turns w = record { now = w.now; logs = w.logs; turns = turns }
+-- what a run that began with these logs sees of a history
+abbrev pub seen_since : TurnTable → (ℕ → Log) → List Log → History → Visible
+seen_since table turns old w =
+    record { now = w.now; logs = logs_since old w.logs; table = table; turns = turns }
 
--- no free external has a turn
+-- no external has a turn
 abbrev pub visible : History → Visible
-visible w = present_with [] w
+visible w = record { now = w.now; logs = []; table = no_table; turns = λ i. [] }
 
 -- what an expression comes to; it is unknown where the fuel is out
 pub data Told (A : Type 0) : Type 0 where

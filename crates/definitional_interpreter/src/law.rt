@@ -1,8 +1,9 @@
-//! Where each external is deterministic, a function computes a run.
+//! A function computes a run, by what is told of its externals.
 
 ghost use Rattle.definitional_interpreter.specs.Alone.{ExpressionsAreAllowed};
 ghost use Rattle.definitional_interpreter.specs.Laws.{LinesAreComputed, MessagesAreComputed, ActionsAreComputed};
 ghost use Rattle.definitional_interpreter.specs.Laws.{ReferencesAreComputed, ValuesAreComputed};
+ghost use Rattle.definitional_interpreter.specs.Laws.{DeterministicKindsHaveNoFreeTurns, WithNoTableAllTurnsAreFree};
 ghost use Rattle.definitional_interpreter.specs.Rows.{Sum, Quotient, NoNumber, FaultAfterLines, Choice, Repeated};
 ghost use Rattle.definitional_interpreter.specs.Rows.{Chunks, NoExpression, ExitToHyperCard, Delimiter};
 ghost use Rattle.definitional_interpreter.specs.Rows.{GlobalVariable, Repeats, Function, Passed, FaultThreeDeep};
@@ -15,7 +16,8 @@ use ht_grammar::{
 use ht_lex::texts_are_cut_exactly;
 
 /// What the rules allow of lines, a message, an action, the reference of a dot line or an expression is what the
-/// function gives, with enough fuel, where each plugged external is deterministic and the run isn't out of memory.
+/// function gives, with enough fuel, where the run isn't out of memory, and each turn of its externals is told: by a
+/// table, which the turns follow, or else by the turns that stand beside it.
 pub fn runs_are_computed()
     ensures lines { LinesAreComputed }
     ensures messages { MessagesAreComputed }
@@ -29,6 +31,12 @@ pub fn runs_are_computed()
     scripts_are_read_exactly();
     messages_are_read_exactly();
 }
+
+/// Where an external is deterministic by the table, no turn of it has to be told beside it; with no table each has.
+pub fn free_turns_are_known()
+    ensures deterministic { DeterministicKindsHaveNoFreeTurns }
+    ensures no_table { WithNoTableAllTurnsAreFree }
+{}
 
 /// What an expression that sends no message comes to by the function, the rules allow, and nothing changes.
 pub fn expressions_are_allowed()

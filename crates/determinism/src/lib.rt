@@ -1,7 +1,7 @@
-//! Determinism: where each external is deterministic, a run of HyperTalk has one outcome, and whatever the externals
-//! are, their logs tell it. These are laws over the rules, each the contract of a function that does nothing.
+//! Determinism: a run of HyperTalk has one outcome by what a table and the logs tell of the turns of its externals.
+//! These are laws over the rules, each the contract of a function that does nothing.
 #![tactic(auto)]
 
 mod law;
 
-pub use law::{logs_tell_outcomes, runs_have_one_outcome};
+pub use law::runs_have_one_outcome;

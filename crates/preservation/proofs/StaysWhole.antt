@@ -1,32 +1,24 @@
 -- What the changes and the turn in a rule keep of whole states.
-use Rattle.std.specs.List.{All, AllByRecursion}
 use Rattle.std.proofs.Common.{◌≡◌, ◌+◌, ◌<◌, ◌≤◌, ◌⊎◌, inl, inr, ℕ, zero, suc, List, [], ◌∷◌, ◌++◌, length, set}
-use Rattle.std.proofs.Common.{Option, Some, None, Result, Ok, IfOk, Bool, true, false, bytes_eq, is_some}
-use Rattle.std.proofs.Common.{if◌then◌else◌, refl, sym, ap, subst, ◌∙◌, arith}
+use Rattle.std.proofs.Common.{Option, Some, None, Result, Ok, IfOk, true, is_some}
+use Rattle.std.proofs.Common.{refl, sym, ap, subst, ◌∙◌, arith}
 use Rattle.std.specs.Option.{ok_or}
 use Rattle.std.proofs.lemmas.Bool.{and_parts}
-use Rattle.std.proofs.lemmas.List.{get_or-set_same}
-use Rattle.std.proofs.lemmas.List.Elements.{All-get_or, All-from_recursion, recursion_from_All}
-use Rattle.std.proofs.lemmas.Slice.Eq.{bytes_eq-Decides}
 use Rattle.ht_values.specs.declared.fault.Fault.{Fault}
 use Rattle.ht_values.specs.declared.fault.Fault.TheVariants.{NoSuchObject}
 use Rattle.ht_values.specs.declared.word.Prop.{Prop}
 use Rattle.ht_values.specs.Outcome.{and_then}
-use Rattle.ht_values.specs.Text.{IsText}
 use Rattle.ht_values.proofs.Folding.{folded_is_folded}
-use Rattle.externals.specs.Cells.{Seen, none_seen, IsExternal, IsKind}
+use Rattle.externals.specs.Cells.{Seen}
 use Rattle.externals.specs.declared.external.Ask.{Ask}
 use Rattle.externals.specs.declared.external.Input.{Input}
 use Rattle.object_table.specs.PartContents.{text_at}
-use Rattle.stack_places.specs.Places.{text}
 use Rattle.structural_changes.specs.Writes.{fits_deletion}
 use Rattle.journal_entries.specs.State.{State, seen_at}
 use Rattle.journal_entries.specs.Changes.{fits, HasTexts}
 use Rattle.journal_entries.specs.Exchange.{with_cells}
-use Rattle.journal_entries.specs.Places.{cell}
-use Rattle.journal_entries.specs.Replaced.{Replacement, replaced_by, replaced_from, replaced_by_turn}
+use Rattle.journal_entries.specs.Replaced.{Replacement, replaced_by, replaced_by_turn}
 use Rattle.journal_entries.specs.Trails.{IsOnce}
-use Rattle.journal_entries.specs.Turning.{with_cells_at}
 use Rattle.journal_entries.specs.declared.change.Change.{Change}
 use Rattle.journal_entries.specs.declared.change.Change.TheVariants as change
 use Rattle.change_journal.specs.History.{History, Open, IsStart, IsHistory}
@@ -95,39 +87,6 @@ may_go s may = (and_parts (fits_deletion s.stack) _ may).0
 
 -- ---- a turn
 
-abbrev exchanged_cell : ℕ → ℕ → List ℕ → List ℕ → Replacement
-exchanged_cell i c t u = record { place = cell i c; old = Some (text t); new = Some (text u) }
-
-cells_are : (i c : ℕ) (old new : List (List ℕ)) → AllByRecursion IsText old → length new ≡ length old
-    → AreTexts (replaced_from i c old new) → AllByRecursion IsText new
-cells_are i c [] [] all same h = tt
-cells_are i c [] (u ∷ us) all same h = absurd (omega (arith, same))
-cells_are i c (t ∷ ts) [] all same h = absurd (omega (arith, same))
-cells_are i c (t ∷ ts) (u ∷ us) all same h =
-    by (cells_are i (c + 1) ts us all.1 (omega (arith, same))) (bytes_eq t u) refl h
-  where
-    by : (AreTexts (replaced_from i (c + 1) ts us) → AllByRecursion IsText us) → (b : Bool) → bytes_eq t u ≡ b
-        → AreTexts ((if b then [] else exchanged_cell i c t u ∷ []) ++ replaced_from i (c + 1) ts us)
-        → AllByRecursion IsText (u ∷ us)
-    by rest true equal k = (subst IsText ((bytes_eq-Decides t u).0 equal) all.0, rest k)
-    by rest false differ k = (k.0.1, rest k.1)
-
--- what is seen of the external after its turn, whose cells are texts
-known_after : (old new : State) (i : ℕ) → i < length old.externals → new ≡ with_cells_at old i (seen_at new i).cells
-    → length (seen_at new i).cells ≡ length (seen_at old i).cells
-    → AreTexts (replaced_by_turn i (seen_at old i).cells (seen_at new i).cells) → All IsExternal old.externals
-    → IsExternal (seen_at new i)
-known_after old new i there is count texts each =
-    let was = All-get_or IsExternal old.externals i none_seen there each in
-    let cells = (seen_at new i).cells in
-    let found : seen_at new i ≡ with_cells (seen_at old i) cells = ap (λ s. seen_at s i) is
-    ∙ get_or-set_same old.externals i (with_cells (seen_at old i) cells) none_seen there in
-    let of_kind = subst (IsKind (seen_at old i).sort (seen_at old i).answers_calls) (sym count) was.form in
-    let all = All-from_recursion IsText cells
-    (cells_are i 0 (seen_at old i).cells cells (recursion_from_All IsText (seen_at old i).cells was.cells) count
-    texts) in
-    subst IsExternal (sym found) (record { title = was.title; cells = all; form = of_kind })
-
 -- past the last external a turn changes no state
 set_past : (es : List Seen) (i : ℕ) (e : Seen) → length es ≤ i → set es i e ≡ es
 set_past [] i e h = refl
@@ -173,13 +132,11 @@ below_or_past (suc k) (suc n) = by (below_or_past k n)
 pub whole_turn : {w w2 : History} {k : ℕ} {input : Input} {ask : Ask} (turn : TookTurn w w2 k input ask)
     → KeepsWhole (replaced_turn turn) w w2
 whole_turn {w} {w2} {k} {input} {ask} took =
-    record { whole = λ texts q. by texts q (below_or_past k (length w.now.externals)) }
+    record { whole = λ texts q. by q (below_or_past k (length w.now.externals)) }
   where
-    by : AreTexts (replaced_by_turn k (seen_at w.now k).cells (seen_at w2.now k).cells) → IsHistory w
-        → (k < length w.now.externals) ⊎ (length w.now.externals ≤ k) → IsHistory w2
-    by texts q (inl there) = IsHistory-turned w w2 k input ask there
-        (known_after w.now w2.now k there took.turn.state took.turn.answers.count texts q.now.state.externals) took q
-    by texts q (inr past) = unmoved past took q
+    by : IsHistory w → (k < length w.now.externals) ⊎ (length w.now.externals ≤ k) → IsHistory w2
+    by q (inl there) = IsHistory-turned w w2 k input ask there took q
+    by q (inr past) = unmoved past took q
 
 -- ---- what writes, declares, sets and makes
 

@@ -15,19 +15,20 @@ use Rattle.meaning.specs.declared.frame.Frame.{Frame}
 use Rattle.meaning.specs.State.{RunState}
 use Rattle.meaning.specs.Values.{Yields}
 use Rattle.preservation.specs.Laws.{HasMemory}
-use Rattle.totality.specs.Laws.{Behaviour, KeepsCounts, Follows}
+use Rattle.totality.specs.Laws.{Behaviour, Behaves}
+use Rattle.totality.proofs.Behaving.{IsSafe}
 
 -- the behaviour of externals that a run is to follow, and the history from which it does
 pub record Begun : Type 0 where
   pub behaviour : Behaviour
-  pub keeps_counts : KeepsCounts behaviour
+  pub safe : IsSafe behaviour
   pub history : History
 
--- the batch that is open, in which a run can change the state, and that the behaviour was followed up to here
+-- the batch that is open, in which a run can change the state, and that each turn up to here is that of the behaviour
 pub record IsOpen (begun : Begun) (w : History) : Type 0 where
   pub batch : Open
   pub is : w.start ≡ Some batch
-  pub follows : Follows begun.behaviour begun.history w
+  pub behaves : Behaves begun.behaviour begun.history w
 
 -- a batch is open, and fewer than n steps are left
 pub record Underway (begun : Begun) (n : ℕ) (w : History) (r : RunState) : Type 0 where

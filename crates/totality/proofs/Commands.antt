@@ -22,7 +22,7 @@ use Rattle.meaning.specs.Menu.{message_name}
 use Rattle.meaning.specs.Places.{field_text, field_place}
 use Rattle.meaning.specs.State.{RunState, typed_frame}
 use Rattle.meaning.specs.Locked.{MeetsLock}
-use Rattle.totality.specs.Laws.{Follows}
+use Rattle.totality.specs.Laws.{Behaves}
 use Rattle.totality.proofs.Chain.{Begun}
 use Rattle.totality.proofs.Chain.{Underway, Has, has, ok, same, stops_too, then, then_lines, choose, computed}
 use Rattle.definitional_interpreter.proofs.Comes.{AreExact}
@@ -89,9 +89,9 @@ types_over_has h w r o t k =
     (sym (ap (λ c. and_then c (λ p. read_at w.now (typed_frame w).variables r.delimiter p)) at) ∙ is))))
     (λ fa gone. ok _ k (TypesOver.typed_field_goes refl gone))
 
--- an action is to type into a locked field, and the behaviour was followed up to there
+-- an action is to type into a locked field, and each turn up to there is that of the behaviour
 abbrev pub IsLocked : Begun → History → RunState → Action → History → RunState → Type 0
-IsLocked begun w r ac w2 r2 = MeetsLock w r ac w2 r2 × Follows begun.behaviour begun.history w2
+IsLocked begun w r ac w2 r2 = MeetsLock w r ac w2 r2 × Behaves begun.behaviour begun.history w2
 
 -- a text is typed, unless the field is locked
 types_into_has : {begun : Begun} {n : ℕ} → AreExact → Level begun n →
@@ -106,7 +106,7 @@ types_into_has {begun} {n} exact h w r t pa k = by_part (refers_has exact h w r 
     by_part (has (Err z) w1 r1 has_memory k1 g) = inl
         (has (Err z) w1 r1 (stops_too has_memory) k1 (TypesInto.type_misses g))
     by_part (has (Ok i) w1 r1 has_memory k1 g) =
-        choose (locks_text w1.now.stack i) (λ locked. inr (w1, (r1, ((i, g, locked), k1.is_open.follows)))) (λ free. inl
+        choose (locks_text w1.now.stack i) (λ locked. inr (w1, (r1, ((i, g, locked), k1.is_open.behaves)))) (λ free. inl
         (then (tells_has h w1 r1 i OpenField k1) (λ z w2 r2 g2. TypesInto.field_open_stops g free g2) (λ _ w2 r2 k2 g2.
         same (types_over_has h w2 r2 (met_here w1.now.current i) t k2)
         (λ o w3 r3 g3. TypesInto.types_into g free g2 refl g3))))

@@ -45,7 +45,7 @@ use Rattle.meaning.specs.State.{RunState, Step}
 use Rattle.meaning.specs.Values.{Yields, Parses}
 use Rattle.preservation.specs.Laws.{HasMemory}
 use Rattle.definitional_interpreter.proofs.Comes.{AreExact}
-use Rattle.totality.specs.Laws.{Follows}
+use Rattle.totality.specs.Laws.{Behaves}
 use Rattle.totality.proofs.Chain.{Begun, IsOpen, Underway, Has, has, HasRun, has_run, up, stops_too, maybe}
 
 -- ---- steps
@@ -189,7 +189,7 @@ makes w batch c e = record {
 
 -- the batch is open after it too
 after : {begun : Begun} {w : History} (k : IsOpen begun w) (c : Change) → IsOpen begun (with_change w k.batch c)
-after {w = w} k c = record { batch = _; is = refl; follows = Follows.made k.follows (makes w k.batch c k.is) }
+after {w = w} k c = record { batch = _; is = refl; behaves = Behaves.made k.behaves (makes w k.batch c k.is) }
 
 -- a change, and then
 pub then_made : {X : Type 0} {begun : Begun} {n : ℕ} {r : RunState} (w : History) (c : Change) → Underway begun n w r →

@@ -1,5 +1,5 @@
 -- Which parts of a run have an outcome while fewer than so many steps are left.
-use Rattle.std.specs.Prelude.{ℕ, ◌≤◌, List, Bool, Option}
+use Rattle.std.specs.Prelude.{ℕ, ◌<◌, ◌≤◌, List, length, Bool, Option}
 use Rattle.ht_grammar.specs.declared.vocabulary.HandlerKind.{HandlerKind}
 use Rattle.ht_grammar.specs.Statements as stm
 use Rattle.ht_grammar.specs.Trees as tree
@@ -35,7 +35,7 @@ pub record Level (begun : Begun) (n : ℕ) : Type 0 where
       (ss : stm.Stmts) → d ≤ 100 → Underway begun n w r → HasRun begun n (Counts w r f d name c ss)
   pub along : (w : History) (r : RunState) (f : Frame) (d i : ℕ) (is name : List ℕ) (vs : List (List ℕ))
       (kind : HandlerKind) → d ≤ 100 → Underway begun n w r → Has begun n (Along w r f d i is name vs kind)
-  pub talks : (w : History) (r : RunState) (d e : ℕ) (input : Input) → d ≤ 100 → Underway begun n w r →
-      Has begun n (Talks w r d e input)
+  pub talks : (w : History) (r : RunState) (d e : ℕ) (input : Input) → e < length w.now.externals → d ≤ 100 →
+      Underway begun n w r → Has begun n (Talks w r d e input)
   pub calls_back : (w : History) (r : RunState) (d : ℕ) (ask : Ask) → IsCallBack ask → d ≤ 100 → Underway begun n w r →
       Has begun n (CallsBack w r d ask)

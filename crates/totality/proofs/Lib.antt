@@ -1,6 +1,8 @@
+pub mod Behaving
 pub mod Chain
 pub mod Leaves
 pub mod Turns
+pub mod Logged
 pub mod Levels
 pub mod Expressions
 pub mod Blocks
@@ -8,5 +10,3 @@ pub mod Messages
 pub mod Statements
 pub mod Commands
 pub mod Outcomes
-pub mod Logged
-mod Whole

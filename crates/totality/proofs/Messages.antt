@@ -1,5 +1,5 @@
 -- Messages, the messages of the system, `go`, the menu and conversations with externals have an outcome.
-use Rattle.std.proofs.Common.{◌≡◌, ℕ, suc, ◌+◌, ◌≤◌, ◌<◌, List, [], ◌∷◌, length, true, false, Option, Some, None}
+use Rattle.std.proofs.Common.{◌≡◌, ℕ, suc, ◌+◌, ◌≤◌, ◌<◌, List, [], ◌∷◌, length, true, false, Option, Some, None, ◌∙◌}
 use Rattle.std.proofs.Common.{Result, Ok, refl, ap}
 use Rattle.std.specs.Prelude.{nat_eq, nat_lt}
 use Rattle.std.proofs.lemmas.Bool.{ltb-true, ltb-false}
@@ -53,6 +53,10 @@ use Rattle.totality.proofs.Chain.{nested}
 use Rattle.definitional_interpreter.proofs.Comes.{AreExact}
 use Rattle.totality.proofs.Leaves.{then_step, lift, Passes, then_parsed, then_found, then_field, then_made, then_ends}
 use Rattle.totality.proofs.Leaves.{then_edited_lines, edits, adds}
+use Rattle.containers.proofs.Bases.{took_keeps as base_turn}
+use Rattle.preservation.proofs.Bases.{base_calls_back}
+use Rattle.preservation.proofs.Ends.{given}
+use Rattle.whole_states.proofs.Leaves.{named_stands, stands_after}
 use Rattle.totality.proofs.Turns.{then_turn}
 use Rattle.totality.proofs.Levels.{IsCallBack, Level}
 use Rattle.totality.proofs.Expressions.{sends_has, text_val_has, val_has, calls_has}
@@ -119,38 +123,40 @@ menu_has h w r f d DeleteCardItem le k =
 
 -- a call-back, and the turn that gets its answer
 goes_on_talking : {begun : Begun} {n : ℕ} → Level begun n → (w : History) (r : RunState) (d e : ℕ) (input : Input)
-    (ask : Ask) (r1 : RunState) (w1 : History) → IsCallBack ask → Step r (Ok tt) r1 → TookTurn w w1 e input ask →
-    d ≤ 100 → Underway begun n w1 r1 → Has begun n (Talks w r d e input)
-goes_on_talking h w r d e input ask r1 w1 calls st took le k1 =
+    (ask : Ask) (r1 : RunState) (w1 : History) → e < length w.now.externals → IsCallBack ask → Step r (Ok tt) r1 →
+    TookTurn w w1 e input ask → d ≤ 100 → Underway begun n w1 r1 → Has begun n (Talks w r d e input)
+goes_on_talking h w r d e input ask r1 w1 there calls st took le k1 =
     then (h.calls_back w1 r1 d ask calls le k1) (λ z w2 r2 g. Talks.talk_stops st took g)
-    (λ answer w2 r2 k2 g. same (h.talks w2 r2 d e answer le k2) (λ o w3 r3 g2. Talks.talk_goes_on st took g g2))
+    (λ answer w2 r2 k2 g.
+    same (h.talks w2 r2 d e answer (stands_after w w2 (base_calls_back g given ∙ base_turn took) there) le k2)
+    (λ o w3 r3 g2. Talks.talk_goes_on st took g g2))
 
 talk_by : {begun : Begun} {n : ℕ} → Level begun n → (w : History) (r : RunState) (d e : ℕ) (input : Input) (ask : Ask)
-    (r1 : RunState) (w1 : History) → Step r (Ok tt) r1 → TookTurn w w1 e input ask → d ≤ 100 → Underway begun n w1 r1 →
-    Has begun n (Talks w r d e input)
-talk_by h w r d e input (Done v passes) r1 w1 st took le k1 = ok _ k1 (Talks.talk_done st took refl refl)
-talk_by h w r d e input Fail r1 w1 st took le k1 = fault _ k1 (Talks.talk_fails st took refl)
-talk_by h w r d e input (SendCardMessage note t) r1 w1 st took le k1 = goes_on_talking h w r d e input _ r1 w1 tt st
-    took le k1
-talk_by h w r d e input (EvalExpr note t) r1 w1 st took le k1 = goes_on_talking h w r d e input _ r1 w1 tt st took le
-    k1
-talk_by h w r d e input (SetGlobal note name v) r1 w1 st took le k1 = goes_on_talking h w r d e input _ r1 w1 tt st
-    took le k1
-talk_by h w r d e input (SetFieldByName note on_card name v) r1 w1 st took le k1 = goes_on_talking h w r d e input _
-    r1 w1 tt st took le k1
+    (r1 : RunState) (w1 : History) → e < length w.now.externals → Step r (Ok tt) r1 → TookTurn w w1 e input ask →
+    d ≤ 100 → Underway begun n w1 r1 → Has begun n (Talks w r d e input)
+talk_by h w r d e input (Done v passes) r1 w1 there st took le k1 = ok _ k1 (Talks.talk_done st took refl refl)
+talk_by h w r d e input Fail r1 w1 there st took le k1 = fault _ k1 (Talks.talk_fails st took refl)
+talk_by h w r d e input (SendCardMessage note t) r1 w1 there st took le k1 = goes_on_talking h w r d e input _ r1 w1
+    there tt st took le k1
+talk_by h w r d e input (EvalExpr note t) r1 w1 there st took le k1 = goes_on_talking h w r d e input _ r1 w1 there tt
+    st took le k1
+talk_by h w r d e input (SetGlobal note name v) r1 w1 there st took le k1 = goes_on_talking h w r d e input _ r1 w1
+    there tt st took le k1
+talk_by h w r d e input (SetFieldByName note on_card name v) r1 w1 there st took le k1 = goes_on_talking h w r d e
+    input _ r1 w1 there tt st took le k1
 
 pub talks_has : {begun : Begun} {n : ℕ} → Level begun n → (w : History) (r : RunState) (d e : ℕ) (input : Input) →
-    d ≤ 100 → Underway begun (suc n) w r → Has begun (suc n) (Talks w r d e input)
-talks_has h w r d e input le k =
+    e < length w.now.externals → d ≤ 100 → Underway begun (suc n) w r → Has begun (suc n) (Talks w r d e input)
+talks_has h w r d e input there le k =
     then_step w r k (λ z r1 st. Talks.talk_no_step st)
-    (λ r1 k1 st. lift (then_turn w r1 e input k1
-    (λ ask w1 k2 took. talk_by h w r d e input ask r1 w1 st took le k2)))
+    (λ r1 k1 st. lift (then_turn w r1 e input there k1
+    (λ ask w1 k2 took. talk_by h w r d e input ask r1 w1 there st took le k2)))
 
 converses_has : {begun : Begun} {n : ℕ} → Level begun n → (w : History) (r : RunState) (d e : ℕ) (vs : List (List ℕ)) →
-    d ≤ 100 → Underway begun (suc n) w r → Has begun (suc n) (Converses w r d e vs)
-converses_has h w r d e vs le k =
+    e < length w.now.externals → d ≤ 100 → Underway begun (suc n) w r → Has begun (suc n) (Converses w r d e vs)
+converses_has h w r d e vs there le k =
     choose (nat_lt 16 (length vs)) (λ many. fault _ k (Converses.too_many_arguments (ltb-true 16 (length vs) many)))
-    (λ few. deep d le (λ lt. same (talks_has h w r (d + 1) e (Start vs) (nested lt) k)
+    (λ few. deep d le (λ lt. same (talks_has h w r (d + 1) e (Start vs) there (nested lt) k)
     (λ o w1 r1 g. Converses.converses (ltb-false 16 (length vs) few) lt refl g))
     (λ at. fault _ k (Converses.conversation_too_deep (ltb-false 16 (length vs) few) at)))
 
@@ -208,7 +214,8 @@ outside_has : {begun : Begun} {n : ℕ} → AreExact → Level begun n → (w : 
     Has begun (suc n) (Outside w r f d name vs kind)
 outside_has exact h w r f d name vs kind le k =
     maybe (external_named w.now.externals (calls_function kind) name)
-    (λ e is. then (converses_has h w r d e vs le k) (λ z w1 r1 g. Outside.external_stops is g) (λ c w1 r1 k1 g.
+    (λ e is. then (converses_has h w r d e vs (named_stands w _ _ is) le k)
+    (λ z w1 r1 g. Outside.external_stops is g) (λ c w1 r1 k1 g.
     choose c.passes (λ passes. same (built_in_has exact h w1 r1 f d name vs kind le k1)
     (λ o w2 r2 g2. Outside.external_passes is g passes g2))
     (λ ends. ended kind c.value k1 (λ v r2 gives. Outside.external_ends is g ends gives))))

@@ -4,7 +4,4 @@
 
 mod law;
 
-pub use law::{
-    behaviours_are_logged, behaviours_have_an_outcome, runs_have_a_whole_outcome,
-    runs_have_an_outcome,
-};
+pub use law::{behaviours_are_logged, behaviours_have_an_outcome, runs_have_an_outcome};

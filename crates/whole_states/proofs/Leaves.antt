@@ -1,11 +1,11 @@
 -- What the changes, turns and steps in a rule keep: whole states, and texts.
 use Rattle.std.specs.Prelude.{IfSome, unwrap_or}
 use Rattle.std.specs.List.{All, AllByRecursion}
-use Rattle.std.proofs.Common.{◌≡◌, ◌+◌, ◌<◌, ℕ, zero, suc, List, [], ◌∷◌, ◌++◌, length, get_or, set, Bool, true}
+use Rattle.std.proofs.Common.{◌≡◌, ◌+◌, ◌<◌, ℕ, suc, List, [], ◌∷◌, ◌++◌, length, Bool, true}
 use Rattle.std.proofs.Common.{false, cond, Option, Some, None, option_map, is_some, Result, Ok, Err, IfOk, refl, sym}
 use Rattle.std.proofs.Common.{ap, subst, ◌∙◌, arith}
-use Rattle.std.proofs.lemmas.List.{length-map, get_or-map, get_or-set_same}
-use Rattle.std.proofs.lemmas.List.Elements.{All-get_or, All-from_recursion, recursion_from_All}
+use Rattle.std.proofs.lemmas.List.{append-nil, append_assoc, length-map}
+use Rattle.std.proofs.lemmas.List.Elements.{All-append, All-cons, All-get_or, All-nil, recursion_from_All}
 use Rattle.ht_values.specs.declared.fault.Fault.{Fault}
 use Rattle.ht_values.specs.declared.word.Prop.{Prop}
 use Rattle.ht_values.specs.Operators.{truth_of}
@@ -20,8 +20,9 @@ use Rattle.ht_grammar.specs.declared.vocabulary.RunProp.TheVariants.{ItemDelimit
 use Rattle.ht_grammar.specs.Handlers.{takes, handler_in}
 use Rattle.ht_grammar.specs.Statements as stm
 use Rattle.chunks.specs.Laws.{PartsCut}
-use Rattle.externals.specs.Cells.{Seen, none_seen, IsExternal, IsKind}
-use Rattle.externals.specs.Table.{turn_of}
+use Rattle.externals.specs.Cells.{Seen, none_seen, IsExternal}
+use Rattle.externals.specs.Log.{Log, LoggedTurn}
+use Rattle.externals.specs.Turns.{AskTexts}
 use Rattle.externals.specs.declared.external.Ask.{Ask}
 use Rattle.externals.specs.declared.external.Input.{Input}
 use Rattle.object_table.specs.Content.{Content}
@@ -33,9 +34,9 @@ use Rattle.journal_entries.specs.ScriptTrees.{object_script}
 use Rattle.journal_entries.specs.State.{State, seen_at, titles_of}
 use Rattle.journal_entries.specs.Changes.{fits, HasTexts}
 use Rattle.stack_places.specs.Places.{number}
-use Rattle.journal_entries.specs.Exchange.{with_cells}
 use Rattle.journal_entries.specs.declared.change.Change.{Change}
-use Rattle.change_journal.specs.History.{History}
+use Rattle.change_journal.specs.History.{History, IsHistory}
+use Rattle.change_journal.specs.Logs.{log_at}
 use Rattle.change_journal.specs.Rising.{Made, TookTurn}
 use Rattle.change_journal.proofs.Making.{IsHistory-made, IsHistory-turned}
 use Rattle.object_references.specs.declared.referent.Referent.{Referent}
@@ -63,30 +64,50 @@ use Rattle.meaning.specs.Repeats.{Outcome, returned, ends, leaves_repeat}
 use Rattle.meaning.specs.State.{RunState, Step, shows, noted, run_property_set, run_property, bound, handler_frame}
 use Rattle.meaning.specs.Values.{Yields, Parses}
 use Rattle.preservation.specs.Laws.{HasMemory}
-use Rattle.whole_states.specs.Texts.{RunTexts, LocalsTexts, FrameTexts, StorageTexts, HowTexts, InputTexts, AskTexts}
-use Rattle.definitional_interpreter.specs.Laws.{IsDeterministic, sorts_of}
-use Rattle.definitional_interpreter.proofs.Leaves.{externals-changed}
-use Rattle.whole_states.specs.Texts.{IsWhole, HandlerTexts, HandlersTexts, StmtsTexts}
+use Rattle.whole_states.specs.Texts.{RunTexts, LocalsTexts, FrameTexts, StorageTexts, HowTexts, InputTexts}
+use Rattle.definitional_interpreter.proofs.Leaves.{set_keeps}
+use Rattle.definitional_interpreter.proofs.Sights.{rest_is}
+use Rattle.whole_states.specs.Laws.{LeadsToWhole}
+use Rattle.whole_states.specs.Texts.{AreTexts, HandlerTexts, HandlersTexts, LoggedTexts, StmtsTexts}
 use Rattle.whole_states.specs.Texts.{TreesHaveTexts}
 use Rattle.whole_states.proofs.TreeTexts.{scripts_have_texts}
 use Rattle.whole_states.proofs.ValueTexts.{given_text, empty_text, word_text, byte_text, EditTexts}
-use Rattle.whole_states.proofs.Turns.{AreTexts, turn_texts}
 use Rattle.whole_states.proofs.StateTexts.{folded_text, named_texts, due_is_text, with_value_texts, setting_texts}
+
+-- ---- whole states from a history on
+
+-- a log goes on with turns of texts
+abbrev GoesOn : Log → Log → Type 0
+GoesOn old new = (more : Log) × ((new ≡ old ++ more) × All LoggedTexts more)
+
+-- each state is whole, and each external took turns of texts since
+pub record IsWhole (begin w : History) : Type 0 where
+  pub history : IsHistory w
+  pub turns : (i : ℕ) → GoesOn (log_at begin.logs i) (log_at w.logs i)
+
+pub whole_begins : {w : History} → IsHistory w → IsWhole w w
+whole_begins {w} q =
+    record { history = q; turns = λ i. ([], (sym (append-nil (log_at w.logs i)), All-nil LoggedTexts)) }
+
+pub leads : {w w2 : History} → IsWhole w w2 → LeadsToWhole w w2
+leads {w} {w2} h = record {
+  whole = h.history;
+  turns = λ i. let more = h.turns i in
+      subst (All LoggedTexts) (sym (rest_is (log_at w.logs i) (log_at w2.logs i) more.0 more.1.0)) more.1.1;
+}
 
 -- ---- a change
 
-pub sound_made : {w w2 : History} {c : Change} → fits w.now c ≡ true → HasTexts c → Made w w2 c → IsWhole w → IsWhole w2
-sound_made {w} {w2} {c} fit texts made q =
-    let same : sorts_of w2.now.externals ≡ sorts_of w.now.externals =
-    ap (λ h. sorts_of h.now.externals) made.history ∙ ap sorts_of (externals-changed w.now c) in
-    record {
-      history = IsHistory-made w w2 c fit texts made q.history;
-      fixed = subst (All IsDeterministic) (sym same)
-          q.fixed;
-    }
+pub sound_made : {begin w w2 : History} {c : Change} → fits w.now c ≡ true → HasTexts c → Made w w2 c → IsWhole begin w
+    → IsWhole begin w2
+sound_made {begin} {w} {w2} {c} fit texts made q = record {
+  history = IsHistory-made w w2 c fit texts made q.history;
+  turns = subst (λ (logs : List Log). (i : ℕ) → GoesOn (log_at begin.logs i) (log_at logs i))
+      (sym (ap (λ h. h.logs) made.history)) q.turns;
+}
 
-same_world : {w w2 : History} → w2 ≡ w → IsWhole w → IsWhole w2
-same_world same q = subst IsWhole (sym same) q
+same_world : {begin w w2 : History} → w2 ≡ w → IsWhole begin w → IsWhole begin w2
+same_world {begin} same q = subst (IsWhole begin) (sym same) q
 
 -- ---- a turn
 
@@ -113,56 +134,31 @@ stands_after w w2 kept there =
     ap (λ b. length b.titles) kept in
     omega (arith, there, titles, length-map w.now.externals (λ e. e.title), length-map w2.now.externals (λ e. e.title))
 
-known_turn : (cells2 : List (List ℕ)) (ask : Ask) (sort : ℕ) (cells : List (List ℕ)) (input : Input)
-    → IsDeterministic sort
-    → AreTexts cells → InputTexts input →
-    IfSome (turn_of sort cells input) (λ turn. (ask ≡ turn.0) × (cells2 ≡ turn.1)) → AskTexts ask × AreTexts cells2
-known_turn cells2 ask sort cells input fixed h k known =
-    let turn = (fixed cells input).0 in
-    let is = (fixed cells input).1 in
-    let told : (ask ≡ turn.0) × (cells2 ≡ turn.1) =
-    subst (λ o. IfSome o (λ t. (ask ≡ t.0) × (cells2 ≡ t.1))) is known in
-    let texts : AskTexts turn.0 × AreTexts turn.1 =
-    subst (λ o. IfSome o (λ t. AskTexts t.0 × AreTexts t.1)) is (turn_texts sort cells input h k) in
-    (subst AskTexts (sym told.0) texts.0, subst AreTexts (sym told.1) texts.1)
-
-pub sound_turn : {w w2 : History} {k : ℕ} {input : Input} {ask : Ask} → k < length w.now.externals → InputTexts input
-    → TookTurn w w2 k input ask → IsWhole w → IsWhole w2 × AskTexts ask
-sound_turn {w} {w2} {k} {input} {ask} there texts took q =
+pub sound_turn : {begin w w2 : History} {k : ℕ} {input : Input} {ask : Ask} → k < length w.now.externals
+    → InputTexts input → TookTurn w w2 k input ask → IsWhole begin w → IsWhole begin w2 × AskTexts ask
+sound_turn {begin} {w} {w2} {k} {input} {ask} there texts took q =
     let old = seen_at w.now k in
-    let cells = (seen_at w2.now k).cells in
     let was : IsExternal old = All-get_or IsExternal w.now.externals k none_seen there q.history.now.state.externals in
-    let sort : get_or (sorts_of w.now.externals) k 0 ≡ old.sort =
-    get_or-map (λ e. e.sort) w.now.externals k none_seen 0 there in
-    let fixed : IsDeterministic old.sort = subst IsDeterministic sort
-    (All-get_or IsDeterministic (sorts_of w.now.externals) k 0
-    (omega (arith, there, length-map w.now.externals (λ e. e.sort))) q.fixed) in
-    let known = known_turn cells ask old.sort old.cells input fixed (recursion_from_All IsText old.cells was.cells)
-    texts took.turn.answers.known in
-    let found : seen_at w2.now k ≡ with_cells old cells = ap (λ s. seen_at s k) took.turn.state
-    ∙ get_or-set_same w.now.externals k (with_cells old cells) none_seen there in
-    let is : IsExternal (seen_at w2.now k) = subst IsExternal (sym found)
-    (record {
-      title = was.title;
-      cells = All-from_recursion IsText cells known.1;
-      form = subst
-          (IsKind old.sort old.answers_calls) (sym took.turn.answers.count) was.form;
-    }) in
-    let sorts : sorts_of w2.now.externals ≡ sorts_of w.now.externals =
-    ap (λ s. sorts_of s.externals) took.turn.state ∙ kept w.now.externals k cells in (
+    let turn : LoggedTurn = record
+    { before = old.cells; input = input; ask = ask; cells = (seen_at w2.now k).cells } in
+    let logged : LoggedTexts turn = record
+    { before = was.cells; input = texts; ask = took.asks; cells = took.cells } in
+    let more = q.turns k in (
       record {
-        history = IsHistory-turned w w2 k input ask there is took q.history;
-        fixed = subst (All IsDeterministic)
-            (sym sorts) q.fixed;
+        history = IsHistory-turned w w2 k input ask there took q.history;
+        turns = subst (λ (logs : List Log). (i : ℕ) → GoesOn (log_at begin.logs i) (log_at logs i))
+            (sym (ap (λ h. h.logs) took.history))
+            (set_keeps (λ i. GoesOn (log_at begin.logs i)) w.logs k (log_at w.logs k ++ turn ∷ []) q.turns (
+              more.0 ++ turn ∷ [],
+              (
+                ap (λ log. log ++ turn ∷ []) more.1.0 ∙ append_assoc (log_at begin.logs k) more.0 (turn ∷ []),
+                All-append LoggedTexts more.0 (turn ∷ []) more.1.1
+                    (All-cons LoggedTexts turn [] logged (All-nil LoggedTexts)),
+              ),
+            ));
       },
-      known.0,
+      took.asks,
     )
-  where
-    kept : (es : List Seen) (i : ℕ) (cells : List (List ℕ))
-        → sorts_of (set es i (with_cells (get_or es i none_seen) cells)) ≡ sorts_of es
-    kept [] i cells = refl
-    kept (e ∷ es) zero cells = refl
-    kept (e ∷ es) (suc i) cells = ap (λ xs. e.sort ∷ xs) (kept es i cells)
 
 -- ---- writes
 
@@ -182,12 +178,13 @@ pub same_frame : {f f2 : Frame} → f2 ≡ f → FrameTexts f → FrameTexts f2
 same_frame same h = subst FrameTexts (sym same) h
 
 module _ (cut : PartsCut) where
-  pub sound_edits : {w w2 : History} {f f2 : Frame} {delimiter : ℕ} {p : PlaceView} {e : Edit}
+  pub sound_edits : {begin w w2 : History} {f f2 : Frame} {delimiter : ℕ} {p : PlaceView} {e : Edit}
       {o : Result (Unit {0}) Stop} → StorageTexts p.storage → EditTexts e → delimiter < 256 →
-      Edits w f delimiter p e o w2 f2 → HasMemory o → IsWhole w → FrameTexts f → IsWhole w2 × FrameTexts f2
+      Edits w f delimiter p e o w2 f2 → HasMemory o → IsWhole begin w → FrameTexts f → IsWhole begin w2 × FrameTexts f2
   sound_edits placed texts byte Edits.edit_memory has q h = absurd (has refl)
   sound_edits placed texts byte (Edits.edit_faults _ same frame) has q h = (same_world same q, same_frame frame h)
-  sound_edits {w} {w2} {f} {f2} {delimiter} {p} {e} placed texts byte (Edits.edited {v = v} written frame) has q h =
+  sound_edits {begin} {w} {w2} {f} {f2} {delimiter} {p} {e} placed texts byte (Edits.edited {v = v} written frame) has
+      q h =
       let due_texts = due_is_text cut w.now f.variables delimiter p e q.history.now.state h byte texts in
       let both = writes written in
       (both.0, same_frame frame both.1)
@@ -198,7 +195,7 @@ module _ (cut : PartsCut) where
 
       writes : {w3 : History} {v3 : VariablesView}
           → Writes w f.variables p.storage (due w.now f.variables delimiter p e) w3 v3
-          → IsWhole w3 × LocalsTexts v3.locals
+          → IsWhole begin w3 × LocalsTexts v3.locals
       writes (Writes.nothing_due _) = (q, h)
       writes (Writes.to_global {name = name} {t = t} at is made) =
           let named = subst StorageTexts at placed in (sound_made named.0 (named.1, is_text t is) made q, h)
@@ -210,9 +207,10 @@ module _ (cut : PartsCut) where
       writes (Writes.to_field {field = field} {card = card} {t = t} at is made) =
           (sound_made (due_stood w.now f.variables delimiter p e t field card at is) (is_text t is) made q, h)
 
-  pub sound_assigns : {w w2 : History} {f f2 : Frame} {delimiter : ℕ} {variable : Option (List ℕ)} {t : List ℕ}
+  pub sound_assigns : {begin w w2 : History} {f f2 : Frame} {delimiter : ℕ} {variable : Option (List ℕ)} {t : List ℕ}
       {o : Result (Unit {0}) Stop} → IfSome variable IsText → IsText t → delimiter < 256 →
-      Assigns w f delimiter variable t o w2 f2 → HasMemory o → IsWhole w → FrameTexts f → IsWhole w2 × FrameTexts f2
+      Assigns w f delimiter variable t o w2 f2 → HasMemory o → IsWhole begin w → FrameTexts f
+      → IsWhole begin w2 × FrameTexts f2
   sound_assigns name texts byte Assigns.assign_memory has q h = absurd (has refl)
   sound_assigns name texts byte (Assigns.no_variable _) has q h = (q, h)
   sound_assigns {f = f} name texts byte (Assigns.assigns {name = n} is edits) has q h =
@@ -226,18 +224,18 @@ declared_texts v name h = by v.all_global
     by true = h
     by false = with_value_texts name None v.locals h tt
 
-pub sound_declares_all : {w w2 : History} {f f2 : Frame} {names : List (List ℕ)} {o : Result (Unit {0}) Stop}
-    → AllByRecursion IsText names → DeclaresAll w f names o w2 f2 → HasMemory o → IsWhole w → FrameTexts f
-    → IsWhole w2 × FrameTexts f2
+pub sound_declares_all : {begin w w2 : History} {f f2 : Frame} {names : List (List ℕ)} {o : Result (Unit {0}) Stop}
+    → AllByRecursion IsText names → DeclaresAll w f names o w2 f2 → HasMemory o → IsWhole begin w → FrameTexts f
+    → IsWhole begin w2 × FrameTexts f2
 sound_declares_all texts DeclaresAll.declare_memory has q h = absurd (has refl)
 sound_declares_all texts (DeclaresAll.none_declared _) has q h = (q, h)
-sound_declares_all {f = f} texts (DeclaresAll.declared {name = name} {v = v} is declares frame rest) has q h =
+sound_declares_all {begin} {f = f} texts (DeclaresAll.declared {name = name} {v = v} is declares frame rest) has q h =
     let all = subst (AllByRecursion IsText) is texts in
     let first = declare declares all.0 q h in
     sound_declares_all all.1 rest has first.0 (same_frame frame first.1)
   where
-    declare : {w w3 : History} {n : List ℕ} {v3 : VariablesView} → Declares w f.variables n w3 v3 → IsText n → IsWhole w
-        → LocalsTexts f.variables.locals → IsWhole w3 × LocalsTexts v3.locals
+    declare : {w w3 : History} {n : List ℕ} {v3 : VariablesView} → Declares w f.variables n w3 v3 → IsText n
+        → IsWhole begin w → LocalsTexts f.variables.locals → IsWhole begin w3 × LocalsTexts v3.locals
     declare {n = n} (Declares.has_value _ same) name q h =
         (q, subst (λ (x : VariablesView). LocalsTexts x.locals) (sym same) (declared_texts f.variables n h))
     declare {n = n} (Declares.is_new _ made same) name q h = (
@@ -246,16 +244,16 @@ sound_declares_all {f = f} texts (DeclaresAll.declared {name = name} {v = v} is 
           (λ (x : VariablesView). LocalsTexts x.locals) (sym same) (declared_texts f.variables n h),
     )
 
-pub sound_sets : {w w2 : History} {m : Referent} {prop : Prop} {t : List ℕ} {o : Result (Unit {0}) Stop} → IsText t
-    → Sets w m prop t o w2 → HasMemory o → IsWhole w → IsWhole w2
+pub sound_sets : {begin w w2 : History} {m : Referent} {prop : Prop} {t : List ℕ} {o : Result (Unit {0}) Stop}
+    → IsText t → Sets w m prop t o w2 → HasMemory o → IsWhole begin w → IsWhole begin w2
 sound_sets texts Sets.set_memory has q = absurd (has refl)
 sound_sets texts (Sets.set_faults _ same) has q = same_world same q
-sound_sets {w} {w2} {m} {prop} {t} texts (Sets.set_made is made) has q =
+sound_sets {w = w} {w2} {m} {prop} {t} texts (Sets.set_made is made) has q =
     let fit = subst (λ x. IfOk x (FitsIn w.now.stack)) is (setting_fits w.now.stack m prop t) in
     sound_made (fit w.now refl) (subst (λ x. IfOk x HasTexts) is (setting_texts w.now.stack m prop t texts)) made q
 
-pub sound_adds : {w w2 : History} {c : Change} {o : Result (Unit {0}) Stop} → HasTexts c → Adds w c o w2 → HasMemory o
-    → IsWhole w → IsWhole w2
+pub sound_adds : {begin w w2 : History} {c : Change} {o : Result (Unit {0}) Stop} → HasTexts c → Adds w c o w2
+    → HasMemory o → IsWhole begin w → IsWhole begin w2
 sound_adds texts Adds.add_memory has q = absurd (has refl)
 sound_adds texts (Adds.too_many _) has q = q
 sound_adds texts (Adds.adds fit made) has q = sound_made fit texts made q

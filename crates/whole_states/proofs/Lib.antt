@@ -1,6 +1,5 @@
 pub mod TreeTexts
 pub mod ValueTexts
-pub mod Turns
 pub mod StateTexts
 pub mod Leaves
 pub mod Sound

@@ -1,7 +1,5 @@
 -- Written by tools/meaning/whole.py from tools/meaning/meaning.rules.
--- Each run leads from whole states to whole states, where its lines are texts and each external is deterministic: an
--- induction over
--- the rules.
+-- Each run leads from whole states to whole states, where its lines are texts: an induction over the rules.
 use Rattle.std.specs.Prelude.{IfSome, ℕ, ℤ, pos, List, Bool, not, Option, Result}
 use Rattle.std.proofs.Common.{◌<◌, length, refl, sym, subst, IfOk, [], ◌∷◌}
 use Rattle.ht_values.specs.Text.{IsText}
@@ -13,21 +11,22 @@ use Rattle.preservation.proofs.Bases.{base_calls_back}
 use Rattle.containers.proofs.Bases.{took_keeps as base_turn}
 use Rattle.preservation.proofs.Ends.{given, stopped, faulted}
 use Rattle.preservation.proofs.StaysWhole.{may_go}
-use Rattle.whole_states.specs.Texts.{IsWhole, RunTexts, FrameTexts, StorageTexts, HowTexts, InputTexts, AskTexts}
-use Rattle.whole_states.specs.Texts.{ActionTexts, ExprTexts, ExprsTexts, ChunkTexts, ContainerTexts, WhichTexts}
-use Rattle.whole_states.specs.Texts.{SelectorTexts, OwnerTexts, PartTexts, RefTexts, StmtTexts, StmtsTexts}
-use Rattle.whole_states.specs.Texts.{DestinationTexts, MessageTexts}
+use Rattle.change_journal.specs.History.{History}
+use Rattle.externals.specs.Turns.{AskTexts}
+use Rattle.whole_states.specs.Texts.{AreTexts, RunTexts, FrameTexts, StorageTexts, HowTexts, InputTexts, ActionTexts}
+use Rattle.whole_states.specs.Texts.{ExprTexts, ExprsTexts, ChunkTexts, ContainerTexts, WhichTexts, SelectorTexts}
+use Rattle.whole_states.specs.Texts.{OwnerTexts, PartTexts, RefTexts, StmtTexts, StmtsTexts, DestinationTexts}
+use Rattle.whole_states.specs.Texts.{MessageTexts}
 use Rattle.whole_states.proofs.TreeTexts.{expressions_have_texts, lines_have_texts, messages_have_texts}
 use Rattle.whole_states.proofs.ValueTexts.{empty_text, word_text, constant_is, numeral_text, binary_text, unary_text}
 use Rattle.whole_states.proofs.ValueTexts.{built_in_text, read_text}
-use Rattle.whole_states.proofs.Turns.{AreTexts}
 use Rattle.whole_states.proofs.StateTexts.{named_texts, read_name_text, field_is_text, property_text, name_text}
-use Rattle.whole_states.proofs.Leaves.{sound_made, sound_turn, stands_after, named_stands, same_frame, sound_edits}
-use Rattle.whole_states.proofs.Leaves.{sound_assigns, sound_declares_all, sound_sets, sound_adds, sound_step}
-use Rattle.whole_states.proofs.Leaves.{sound_shows, sound_noted, sound_property, property_read, sound_returned}
-use Rattle.whole_states.proofs.Leaves.{sound_ends, sound_leaves, sound_yields, sound_parses, sound_finds}
-use Rattle.whole_states.proofs.Leaves.{sound_handler_frame, sound_only, field_place_texts, named_place_texts}
-use Rattle.whole_states.proofs.Leaves.{lines_texts, texts_push, it_text, return_text}
+use Rattle.whole_states.proofs.Leaves.{IsWhole, sound_made, sound_turn, stands_after, named_stands, same_frame}
+use Rattle.whole_states.proofs.Leaves.{sound_edits, sound_assigns, sound_declares_all, sound_sets, sound_adds}
+use Rattle.whole_states.proofs.Leaves.{sound_step, sound_shows, sound_noted, sound_property, property_read}
+use Rattle.whole_states.proofs.Leaves.{sound_returned, sound_ends, sound_leaves, sound_yields, sound_parses}
+use Rattle.whole_states.proofs.Leaves.{sound_finds, sound_handler_frame, sound_only, field_place_texts}
+use Rattle.whole_states.proofs.Leaves.{named_place_texts, lines_texts, texts_push, it_text, return_text}
 use Rattle.ht_values.specs.declared.operator.Op.{Op}
 use Rattle.ht_values.specs.declared.word.Prop.TheVariants.{Number}
 use Rattle.ht_grammar.specs.declared.vocabulary.HandlerKind.{HandlerKind}
@@ -38,7 +37,6 @@ use Rattle.chunks.specs.declared.chunk.Chunk.{Chunk}
 use Rattle.chunks.specs.Pieces.{count}
 use Rattle.externals.specs.declared.external.Ask.{Ask}
 use Rattle.externals.specs.declared.external.Input.{Input}
-use Rattle.change_journal.specs.History.{History}
 use Rattle.object_references.specs.declared.referent.PartScope.{PartScope}
 use Rattle.object_references.specs.declared.referent.Pick.{Pick}
 use Rattle.object_references.specs.declared.referent.Referent.{Referent}
@@ -61,11 +59,11 @@ use Rattle.meaning.specs.Meaning.{Calls, SendsText, Sends, Along, Outside, Built
 use Rattle.meaning.specs.Meaning.{Converses, Talks, CallsBack, Line, Message, Refers, Tells, TellsAll, Clicks}
 use Rattle.meaning.specs.Meaning.{TypesOver, TypesInto, Acts}
 
-module _ (cut : PartsCut) where
+module _ (begin : History) (cut : PartsCut) where
   mutual
     pub sound_val : {w w2 : History} {r r2 : RunState} {f : Frame} {d : ℕ} {e : tree.Expr} {o : Result (List ℕ) Stop}
-        → Val w r f d e o w2 r2 → HasMemory o → IsWhole w → RunTexts r → FrameTexts f → ExprTexts e
-        → IsWhole w2 × RunTexts r2 × IfOk o IsText
+        → Val w r f d e o w2 r2 → HasMemory o → IsWhole begin w → RunTexts r → FrameTexts f → ExprTexts e
+        → IsWhole begin w2 × RunTexts r2 × IfOk o IsText
     sound_val Val.memory has _ _ _ _ = absurd (has refl)
     sound_val (Val.number p1) has whole run given1 given2 = (whole, run, (subst ExprTexts p1 given2))
     sound_val (Val.quoted p1) has whole run given1 given2 = (whole, run, (subst ExprTexts p1 given2))
@@ -180,8 +178,8 @@ module _ (cut : PartsCut) where
         sound_calls p3 has whole run given1 (subst ExprTexts p1 given2).1
 
     pub sound_vals : {w w2 : History} {r r2 : RunState} {f : Frame} {d : ℕ} {es : tree.Exprs} {vs : List (List ℕ)}
-        {os : Result (List (List ℕ)) Stop} → Vals w r f d es vs os w2 r2 → HasMemory os → IsWhole w → RunTexts r
-        → FrameTexts f → ExprsTexts es → AreTexts vs → IsWhole w2 × RunTexts r2 × IfOk os AreTexts
+        {os : Result (List (List ℕ)) Stop} → Vals w r f d es vs os w2 r2 → HasMemory os → IsWhole begin w → RunTexts r
+        → FrameTexts f → ExprsTexts es → AreTexts vs → IsWhole begin w2 × RunTexts r2 × IfOk os AreTexts
     sound_vals Vals.vals_memory has _ _ _ _ _ = absurd (has refl)
     sound_vals (Vals.vals_done p1) has whole run given1 given2 given3 = (whole, run, given3)
     sound_vals (Vals.vals_stop p1 p2) has whole run given1 given2 given3 =
@@ -192,8 +190,8 @@ module _ (cut : PartsCut) where
         sound_vals p3 has after2.0 after2.1 given1 (subst ExprsTexts p1 given2).1 (texts_push vs v given3 after2.2)
 
     pub sound_number_val : {w w2 : History} {r r2 : RunState} {f : Frame} {d : ℕ} {e : tree.Expr} {ou : Result ℤ Stop}
-        → NumberVal w r f d e ou w2 r2 → HasMemory ou → IsWhole w → RunTexts r → FrameTexts f → ExprTexts e
-        → IsWhole w2 × RunTexts r2
+        → NumberVal w r f d e ou w2 r2 → HasMemory ou → IsWhole begin w → RunTexts r → FrameTexts f → ExprTexts e
+        → IsWhole begin w2 × RunTexts r2
     sound_number_val NumberVal.number_memory has _ _ _ _ = absurd (has refl)
     sound_number_val (NumberVal.no_number p1) has whole run given1 given2 =
         let after1 = sound_val p1 (stopped has) whole run given1 given2 in
@@ -203,8 +201,8 @@ module _ (cut : PartsCut) where
         (after1.0, after1.1)
 
     pub sound_truth_val : {w w2 : History} {r r2 : RunState} {f : Frame} {d : ℕ} {e : tree.Expr} {ob : Result Bool Stop}
-        → TruthVal w r f d e ob w2 r2 → HasMemory ob → IsWhole w → RunTexts r → FrameTexts f → ExprTexts e
-        → IsWhole w2 × RunTexts r2
+        → TruthVal w r f d e ob w2 r2 → HasMemory ob → IsWhole begin w → RunTexts r → FrameTexts f → ExprTexts e
+        → IsWhole begin w2 × RunTexts r2
     sound_truth_val TruthVal.truth_memory has _ _ _ _ = absurd (has refl)
     sound_truth_val (TruthVal.no_truth p1) has whole run given1 given2 =
         let after1 = sound_val p1 (stopped has) whole run given1 given2 in
@@ -214,8 +212,8 @@ module _ (cut : PartsCut) where
         (after1.0, after1.1)
 
     pub sound_text_val : {w w2 : History} {r r2 : RunState} {f : Frame} {d : ℕ} {t : List ℕ} {o : Result (List ℕ) Stop}
-        → TextVal w r f d t o w2 r2 → HasMemory o → IsWhole w → RunTexts r → FrameTexts f → IsText t
-        → IsWhole w2 × RunTexts r2 × IfOk o IsText
+        → TextVal w r f d t o w2 r2 → HasMemory o → IsWhole begin w → RunTexts r → FrameTexts f → IsText t
+        → IsWhole begin w2 × RunTexts r2 × IfOk o IsText
     sound_text_val TextVal.value_memory has _ _ _ _ = absurd (has refl)
     sound_text_val (TextVal.value_no_step p1) has whole run given1 given2 = (whole, (sound_step p1 run), tt)
     sound_text_val (TextVal.value_too_deep p1 _) has whole run given1 given2 = (whole, (sound_step p1 run), tt)
@@ -225,8 +223,8 @@ module _ (cut : PartsCut) where
         (sound_parses {P = ExprTexts} expressions_have_texts p3 given2)
 
     pub sound_chunk_of : {w w2 : History} {r r2 : RunState} {f : Frame} {d : ℕ} {hd : tree.Chunk}
-        {oc : Result Chunk Stop} → ChunkOf w r f d hd oc w2 r2 → HasMemory oc → IsWhole w → RunTexts r → FrameTexts f
-        → ChunkTexts hd → IsWhole w2 × RunTexts r2
+        {oc : Result Chunk Stop} → ChunkOf w r f d hd oc w2 r2 → HasMemory oc → IsWhole begin w → RunTexts r
+        → FrameTexts f → ChunkTexts hd → IsWhole begin w2 × RunTexts r2
     sound_chunk_of ChunkOf.chunk_memory has _ _ _ _ = absurd (has refl)
     sound_chunk_of (ChunkOf.one_stops p1 p2) has whole run given1 given2 =
         sound_number_val p2 (stopped has) whole run given1 (subst ChunkTexts p1 given2)
@@ -243,8 +241,8 @@ module _ (cut : PartsCut) where
     sound_chunk_of (ChunkOf.ordinal p1 _) has whole run given1 given2 = (whole, run)
 
     pub sound_resolves : {w w2 : History} {r r2 : RunState} {f : Frame} {d : ℕ} {ct : tree.Container}
-        {opl : Result PlaceView Stop} → Resolves w r f d ct opl w2 r2 → HasMemory opl → IsWhole w → RunTexts r
-        → FrameTexts f → ContainerTexts ct → IsWhole w2 × RunTexts r2 × IfOk opl (λ p. StorageTexts p.storage)
+        {opl : Result PlaceView Stop} → Resolves w r f d ct opl w2 r2 → HasMemory opl → IsWhole begin w → RunTexts r
+        → FrameTexts f → ContainerTexts ct → IsWhole begin w2 × RunTexts r2 × IfOk opl (λ p. StorageTexts p.storage)
     sound_resolves Resolves.place_memory has _ _ _ _ = absurd (has refl)
     sound_resolves (Resolves.place_variable {n = n} {f = f} p1 p2) has whole run given1 given2 = (
       whole,
@@ -271,8 +269,8 @@ module _ (cut : PartsCut) where
         (after3.0, after3.1, (subst (λ (x : PlaceView). StorageTexts x.storage) (sym p4) after3.2))
 
     pub sound_picks : {w w2 : History} {r r2 : RunState} {f : Frame} {d : ℕ} {wh : tree.Which} {opi : Result Pick Stop}
-        → Picks w r f d wh opi w2 r2 → HasMemory opi → IsWhole w → RunTexts r → FrameTexts f → WhichTexts wh
-        → IsWhole w2 × RunTexts r2
+        → Picks w r f d wh opi w2 r2 → HasMemory opi → IsWhole begin w → RunTexts r → FrameTexts f → WhichTexts wh
+        → IsWhole begin w2 × RunTexts r2
     sound_picks Picks.pick_memory has _ _ _ _ = absurd (has refl)
     sound_picks (Picks.pick_id_stops p1 p2) has whole run given1 given2 =
         let after2 = sound_val p2 (stopped has) whole run given1 (subst WhichTexts p1 given2) in
@@ -288,8 +286,8 @@ module _ (cut : PartsCut) where
         (after2.0, after2.1)
 
     pub sound_seeks : {w w2 : History} {r r2 : RunState} {f : Frame} {d : ℕ} {sl : tree.Selector}
-        {osk : Result Sought Stop} → Seeks w r f d sl osk w2 r2 → HasMemory osk → IsWhole w → RunTexts r → FrameTexts f
-        → SelectorTexts sl → IsWhole w2 × RunTexts r2
+        {osk : Result Sought Stop} → Seeks w r f d sl osk w2 r2 → HasMemory osk → IsWhole begin w → RunTexts r
+        → FrameTexts f → SelectorTexts sl → IsWhole begin w2 × RunTexts r2
     sound_seeks Seeks.seek_memory has _ _ _ _ = absurd (has refl)
     sound_seeks (Seeks.seek_this p1 _) has whole run given1 given2 = (whole, run)
     sound_seeks (Seeks.seek_next p1 _) has whole run given1 given2 = (whole, run)
@@ -301,8 +299,8 @@ module _ (cut : PartsCut) where
         sound_picks p2 given whole run given1 (subst SelectorTexts p1 given2)
 
     pub sound_owns : {w w2 : History} {r r2 : RunState} {f : Frame} {d : ℕ} {ly : Layer} {ow : tree.Owner}
-        {osc : Result PartScope Stop} → Owns w r f d ly ow osc w2 r2 → HasMemory osc → IsWhole w → RunTexts r
-        → FrameTexts f → OwnerTexts ow → IsWhole w2 × RunTexts r2
+        {osc : Result PartScope Stop} → Owns w r f d ly ow osc w2 r2 → HasMemory osc → IsWhole begin w → RunTexts r
+        → FrameTexts f → OwnerTexts ow → IsWhole begin w2 × RunTexts r2
     sound_owns Owns.own_memory has _ _ _ _ = absurd (has refl)
     sound_owns (Owns.no_owner p1 _) has whole run given1 given2 = (whole, run)
     sound_owns (Owns.owner_card_stops p1 p2) has whole run given1 given2 =
@@ -315,8 +313,8 @@ module _ (cut : PartsCut) where
         sound_seeks p2 given whole run given1 (subst OwnerTexts p1 given2)
 
     pub sound_part_met : {w w2 : History} {r r2 : RunState} {f : Frame} {d : ℕ} {pa : tree.Part}
-        {om : Result Referent Stop} → PartMet w r f d pa om w2 r2 → HasMemory om → IsWhole w → RunTexts r → FrameTexts f
-        → PartTexts pa → IsWhole w2 × RunTexts r2
+        {om : Result Referent Stop} → PartMet w r f d pa om w2 r2 → HasMemory om → IsWhole begin w → RunTexts r
+        → FrameTexts f → PartTexts pa → IsWhole begin w2 × RunTexts r2
     sound_part_met PartMet.part_memory has _ _ _ _ = absurd (has refl)
     sound_part_met (PartMet.part_stops p1 p2) has whole run given1 given2 =
         sound_picks p2 (stopped has) whole run given1 (subst PartTexts p1 given2).0
@@ -332,8 +330,8 @@ module _ (cut : PartsCut) where
         sound_owns p3 given whole run given1 (subst PartTexts p1 given2)
 
     pub sound_meets : {w w2 : History} {r r2 : RunState} {f : Frame} {d : ℕ} {rf : tree.Ref} {om : Result Referent Stop}
-        → Meets w r f d rf om w2 r2 → HasMemory om → IsWhole w → RunTexts r → FrameTexts f → RefTexts rf
-        → IsWhole w2 × RunTexts r2
+        → Meets w r f d rf om w2 r2 → HasMemory om → IsWhole begin w → RunTexts r → FrameTexts f → RefTexts rf
+        → IsWhole begin w2 × RunTexts r2
     sound_meets Meets.meet_memory has _ _ _ _ = absurd (has refl)
     sound_meets (Meets.meet_me p1 _) has whole run given1 given2 = (whole, run)
     sound_meets (Meets.meet_target p1 _) has whole run given1 given2 = (whole, run)
@@ -350,8 +348,8 @@ module _ (cut : PartsCut) where
         sound_part_met p2 has whole run given1 (subst RefTexts p1 given2)
 
     pub sound_leads : {w w2 : History} {r r2 : RunState} {f : Frame} {d : ℕ} {de : stm.Destination} {oi : Result ℕ Stop}
-        → Leads w r f d de oi w2 r2 → HasMemory oi → IsWhole w → RunTexts r → FrameTexts f → DestinationTexts de
-        → IsWhole w2 × RunTexts r2
+        → Leads w r f d de oi w2 r2 → HasMemory oi → IsWhole begin w → RunTexts r → FrameTexts f → DestinationTexts de
+        → IsWhole begin w2 × RunTexts r2
     sound_leads Leads.lead_memory has _ _ _ _ = absurd (has refl)
     sound_leads (Leads.lead_card_stops p1 p2) has whole run given1 given2 =
         sound_seeks p2 (stopped has) whole run given1 (subst DestinationTexts p1 given2)
@@ -363,8 +361,8 @@ module _ (cut : PartsCut) where
         sound_seeks p2 given whole run given1 (subst DestinationTexts p1 given2)
 
     pub sound_form : {w w2 : History} {r r2 : RunState} {f f2 : Frame} {d : ℕ} {s : stm.Stmt} {oh : Result How Stop}
-        → Form w r f d s oh w2 r2 f2 → HasMemory oh → IsWhole w → RunTexts r → FrameTexts f → StmtTexts s
-        → IsWhole w2 × RunTexts r2 × FrameTexts f2 × IfOk oh HowTexts
+        → Form w r f d s oh w2 r2 f2 → HasMemory oh → IsWhole begin w → RunTexts r → FrameTexts f → StmtTexts s
+        → IsWhole begin w2 × RunTexts r2 × FrameTexts f2 × IfOk oh HowTexts
     sound_form Form.form_memory has _ _ _ _ = absurd (has refl)
     sound_form (Form.show_stops p1 p2) has whole run given1 given2 =
         let after2 = sound_val p2 (stopped has) whole run given1 (subst StmtTexts p1 given2) in
@@ -550,9 +548,9 @@ module _ (cut : PartsCut) where
         sound_counts p3 has after2.0 after2.1 given1 (subst StmtTexts p1 given2).0.0 (subst StmtTexts p1 given2).1
 
     pub sound_alters : {w w2 : History} {r r2 : RunState} {f f2 : Frame} {d : ℕ} {op : Op} {e : tree.Expr}
-        {ct : tree.Container} {oh : Result How Stop} → Alters w r f d op e ct oh w2 r2 f2 → HasMemory oh → IsWhole w
-        → RunTexts r → FrameTexts f → ExprTexts e → ContainerTexts ct
-        → IsWhole w2 × RunTexts r2 × FrameTexts f2 × IfOk oh HowTexts
+        {ct : tree.Container} {oh : Result How Stop} → Alters w r f d op e ct oh w2 r2 f2 → HasMemory oh
+        → IsWhole begin w → RunTexts r → FrameTexts f → ExprTexts e → ContainerTexts ct
+        → IsWhole begin w2 × RunTexts r2 × FrameTexts f2 × IfOk oh HowTexts
     sound_alters Alters.alter_memory has _ _ _ _ _ = absurd (has refl)
     sound_alters (Alters.alter_stops p1) has whole run given1 given2 given3 =
         let after1 = sound_val p1 (stopped has) whole run given1 given2 in
@@ -573,8 +571,8 @@ module _ (cut : PartsCut) where
         (after3.0, after2.1, after3.1, tt)
 
     pub sound_block : {w w2 : History} {r r2 : RunState} {f f2 : Frame} {d : ℕ} {ss : stm.Stmts} {oh : Result How Stop}
-        → Block w r f d ss oh w2 r2 f2 → HasMemory oh → IsWhole w → RunTexts r → FrameTexts f → StmtsTexts ss
-        → IsWhole w2 × RunTexts r2 × FrameTexts f2 × IfOk oh HowTexts
+        → Block w r f d ss oh w2 r2 f2 → HasMemory oh → IsWhole begin w → RunTexts r → FrameTexts f → StmtsTexts ss
+        → IsWhole begin w2 × RunTexts r2 × FrameTexts f2 × IfOk oh HowTexts
     sound_block Block.block_memory has _ _ _ _ = absurd (has refl)
     sound_block (Block.block_end p1) has whole run given1 given2 = (whole, run, given1, tt)
     sound_block (Block.block_no_step p1 p2) has whole run given1 given2 = (whole, (sound_step p2 run), given1, tt)
@@ -588,8 +586,8 @@ module _ (cut : PartsCut) where
         sound_block p4 has after3.0 after3.1 after3.2 (subst StmtsTexts p1 given2).1
 
     pub sound_do_text : {w w2 : History} {r r2 : RunState} {f f2 : Frame} {d : ℕ} {t : List ℕ} {oh : Result How Stop}
-        → DoText w r f d t oh w2 r2 f2 → HasMemory oh → IsWhole w → RunTexts r → FrameTexts f → IsText t
-        → IsWhole w2 × RunTexts r2 × FrameTexts f2 × IfOk oh HowTexts
+        → DoText w r f d t oh w2 r2 f2 → HasMemory oh → IsWhole begin w → RunTexts r → FrameTexts f → IsText t
+        → IsWhole begin w2 × RunTexts r2 × FrameTexts f2 × IfOk oh HowTexts
     sound_do_text DoText.do_memory has _ _ _ _ = absurd (has refl)
     sound_do_text (DoText.do_too_deep _) has whole run given1 given2 = (whole, run, given1, tt)
     sound_do_text (DoText.do_syntax _ _) has whole run given1 given2 = (whole, run, given1, tt)
@@ -597,8 +595,8 @@ module _ (cut : PartsCut) where
         sound_block p3 has whole run given1 (sound_parses {P = StmtsTexts} lines_have_texts p2 given2)
 
     pub sound_endless : {w w2 : History} {r r2 : RunState} {f f2 : Frame} {d : ℕ} {ss : stm.Stmts}
-        {oh : Result How Stop} → Endless w r f d ss oh w2 r2 f2 → HasMemory oh → IsWhole w → RunTexts r → FrameTexts f
-        → StmtsTexts ss → IsWhole w2 × RunTexts r2 × FrameTexts f2 × IfOk oh HowTexts
+        {oh : Result How Stop} → Endless w r f d ss oh w2 r2 f2 → HasMemory oh → IsWhole begin w → RunTexts r
+        → FrameTexts f → StmtsTexts ss → IsWhole begin w2 × RunTexts r2 × FrameTexts f2 × IfOk oh HowTexts
     sound_endless Endless.endless_memory has _ _ _ _ = absurd (has refl)
     sound_endless (Endless.endless_no_step p1) has whole run given1 given2 = (whole, (sound_step p1 run), given1, tt)
     sound_endless (Endless.endless_stops p1 p2) has whole run given1 given2 =
@@ -612,9 +610,9 @@ module _ (cut : PartsCut) where
         sound_endless p4 has after2.0 after2.1 after2.2 given2
 
     pub sound_while : {w w2 : History} {r r2 : RunState} {f f2 : Frame} {d : ℕ} {b : Bool} {e : tree.Expr}
-        {ss : stm.Stmts} {oh : Result How Stop} → While w r f d b e ss oh w2 r2 f2 → HasMemory oh → IsWhole w
+        {ss : stm.Stmts} {oh : Result How Stop} → While w r f d b e ss oh w2 r2 f2 → HasMemory oh → IsWhole begin w
         → RunTexts r → FrameTexts f → ExprTexts e → StmtsTexts ss
-        → IsWhole w2 × RunTexts r2 × FrameTexts f2 × IfOk oh HowTexts
+        → IsWhole begin w2 × RunTexts r2 × FrameTexts f2 × IfOk oh HowTexts
     sound_while While.while_memory has _ _ _ _ _ = absurd (has refl)
     sound_while (While.while_no_step p1) has whole run given1 given2 given3 = (whole, (sound_step p1 run), given1, tt)
     sound_while (While.while_test_stops p1 p2) has whole run given1 given2 given3 =
@@ -637,8 +635,8 @@ module _ (cut : PartsCut) where
         sound_while p6 has after4.0 after4.1 after4.2 given2 given3
 
     pub sound_bounds : {w w2 : History} {r r2 : RunState} {f : Frame} {d : ℕ} {e e2 : tree.Expr} {b : Bool}
-        {oco : Result CounterState Stop} → Bounds w r f d e e2 b oco w2 r2 → HasMemory oco → IsWhole w → RunTexts r
-        → FrameTexts f → ExprTexts e → ExprTexts e2 → IsWhole w2 × RunTexts r2
+        {oco : Result CounterState Stop} → Bounds w r f d e e2 b oco w2 r2 → HasMemory oco → IsWhole begin w
+        → RunTexts r → FrameTexts f → ExprTexts e → ExprTexts e2 → IsWhole begin w2 × RunTexts r2
     sound_bounds Bounds.bounds_memory has _ _ _ _ _ = absurd (has refl)
     sound_bounds (Bounds.start_stops p1) has whole run given1 given2 given3 =
         let after1 = sound_val p1 (stopped has) whole run given1 given2 in
@@ -654,8 +652,8 @@ module _ (cut : PartsCut) where
 
     pub sound_counts : {w w2 : History} {r r2 : RunState} {f f2 : Frame} {d : ℕ} {on : Option (List ℕ)}
         {co : CounterState} {ss : stm.Stmts} {oh : Result How Stop} → Counts w r f d on co ss oh w2 r2 f2 → HasMemory oh
-        → IsWhole w → RunTexts r → FrameTexts f → IfSome on IsText → StmtsTexts ss
-        → IsWhole w2 × RunTexts r2 × FrameTexts f2 × IfOk oh HowTexts
+        → IsWhole begin w → RunTexts r → FrameTexts f → IfSome on IsText → StmtsTexts ss
+        → IsWhole begin w2 × RunTexts r2 × FrameTexts f2 × IfOk oh HowTexts
     sound_counts Counts.counts_memory has _ _ _ _ _ = absurd (has refl)
     sound_counts (Counts.counts_no_step p1) has whole run given1 given2 given3 =
         (whole, (sound_step p1 run), given1, tt)
@@ -681,8 +679,8 @@ module _ (cut : PartsCut) where
         sound_counts p7 has after4.0 after4.1 after4.2 given2 given3
 
     pub sound_calls : {w w2 : History} {r r2 : RunState} {f : Frame} {d i : ℕ} {n : List ℕ} {es : tree.Exprs}
-        {cl : HandlerKind} {o : Result (List ℕ) Stop} → Calls w r f d i n es cl o w2 r2 → HasMemory o → IsWhole w
-        → RunTexts r → FrameTexts f → ExprsTexts es → IsWhole w2 × RunTexts r2 × IfOk o IsText
+        {cl : HandlerKind} {o : Result (List ℕ) Stop} → Calls w r f d i n es cl o w2 r2 → HasMemory o → IsWhole begin w
+        → RunTexts r → FrameTexts f → ExprsTexts es → IsWhole begin w2 × RunTexts r2 × IfOk o IsText
     sound_calls Calls.calls_memory has _ _ _ _ = absurd (has refl)
     sound_calls (Calls.calls_stop p1) has whole run given1 given2 =
         let after1 = sound_vals p1 (stopped has) whole run given1 given2 tt in
@@ -692,24 +690,24 @@ module _ (cut : PartsCut) where
         sound_sends p2 has after1.0 after1.1 given1 after1.2
 
     pub sound_sends_text : {w w2 : History} {r r2 : RunState} {f : Frame} {d i : ℕ} {t : List ℕ}
-        {o : Result (List ℕ) Stop} → SendsText w r f d i t o w2 r2 → HasMemory o → IsWhole w → RunTexts r → FrameTexts f
-        → IsText t → IsWhole w2 × RunTexts r2 × IfOk o IsText
+        {o : Result (List ℕ) Stop} → SendsText w r f d i t o w2 r2 → HasMemory o → IsWhole begin w → RunTexts r
+        → FrameTexts f → IsText t → IsWhole begin w2 × RunTexts r2 × IfOk o IsText
     sound_sends_text SendsText.send_memory has _ _ _ _ = absurd (has refl)
     sound_sends_text (SendsText.send_syntax _) has whole run given1 given2 = (whole, run, tt)
     sound_sends_text (SendsText.sends_text p1 p2) has whole run given1 given2 =
         sound_calls p2 has whole run given1 (sound_parses {P = MessageTexts} messages_have_texts p1 given2).1
 
     pub sound_sends : {w w2 : History} {r r2 : RunState} {f : Frame} {d i : ℕ} {n : List ℕ} {vs : List (List ℕ)}
-        {cl : HandlerKind} {o : Result (List ℕ) Stop} → Sends w r f d i n vs cl o w2 r2 → HasMemory o → IsWhole w
-        → RunTexts r → FrameTexts f → AreTexts vs → IsWhole w2 × RunTexts r2 × IfOk o IsText
+        {cl : HandlerKind} {o : Result (List ℕ) Stop} → Sends w r f d i n vs cl o w2 r2 → HasMemory o → IsWhole begin w
+        → RunTexts r → FrameTexts f → AreTexts vs → IsWhole begin w2 × RunTexts r2 × IfOk o IsText
     sound_sends Sends.sends_memory has _ _ _ _ = absurd (has refl)
     sound_sends (Sends.sends_no_step p1) has whole run given1 given2 = (whole, (sound_step p1 run), tt)
     sound_sends (Sends.sends {n = n} {i = i} p1 p2 _ p4) has whole run given1 given2 =
         sound_along p4 has whole (sound_noted n i p2 (sound_step p1 run)) given1 given2
 
     pub sound_along : {w w2 : History} {r r2 : RunState} {f : Frame} {d i : ℕ} {is n : List ℕ} {vs : List (List ℕ)}
-        {cl : HandlerKind} {o : Result (List ℕ) Stop} → Along w r f d i is n vs cl o w2 r2 → HasMemory o → IsWhole w
-        → RunTexts r → FrameTexts f → AreTexts vs → IsWhole w2 × RunTexts r2 × IfOk o IsText
+        {cl : HandlerKind} {o : Result (List ℕ) Stop} → Along w r f d i is n vs cl o w2 r2 → HasMemory o
+        → IsWhole begin w → RunTexts r → FrameTexts f → AreTexts vs → IsWhole begin w2 × RunTexts r2 × IfOk o IsText
     sound_along Along.along_memory has _ _ _ _ = absurd (has refl)
     sound_along (Along.along_broken _) has whole run given1 given2 = (whole, run, tt)
     sound_along (Along.along_too_deep p1 _) has whole run given1 given2 = (whole, run, tt)
@@ -733,8 +731,8 @@ module _ (cut : PartsCut) where
     sound_along (Along.along_unhandled _ p2) has whole run given1 given2 = sound_outside p2 has whole run given1 given2
 
     pub sound_outside : {w w2 : History} {r r2 : RunState} {f : Frame} {d : ℕ} {n : List ℕ} {vs : List (List ℕ)}
-        {cl : HandlerKind} {o : Result (List ℕ) Stop} → Outside w r f d n vs cl o w2 r2 → HasMemory o → IsWhole w
-        → RunTexts r → FrameTexts f → AreTexts vs → IsWhole w2 × RunTexts r2 × IfOk o IsText
+        {cl : HandlerKind} {o : Result (List ℕ) Stop} → Outside w r f d n vs cl o w2 r2 → HasMemory o → IsWhole begin w
+        → RunTexts r → FrameTexts f → AreTexts vs → IsWhole begin w2 × RunTexts r2 × IfOk o IsText
     sound_outside Outside.outside_memory has _ _ _ _ = absurd (has refl)
     sound_outside (Outside.no_external _ p2) has whole run given1 given2 =
         sound_built_in_gives p2 has whole run given1 given2
@@ -750,8 +748,8 @@ module _ (cut : PartsCut) where
         sound_built_in_gives p4 has after2.0 after2.1 given1 given2
 
     pub sound_built_in_gives : {w w2 : History} {r r2 : RunState} {f : Frame} {d : ℕ} {n : List ℕ} {vs : List (List ℕ)}
-        {cl : HandlerKind} {o : Result (List ℕ) Stop} → BuiltInGives w r f d n vs cl o w2 r2 → HasMemory o → IsWhole w
-        → RunTexts r → FrameTexts f → AreTexts vs → IsWhole w2 × RunTexts r2 × IfOk o IsText
+        {cl : HandlerKind} {o : Result (List ℕ) Stop} → BuiltInGives w r f d n vs cl o w2 r2 → HasMemory o
+        → IsWhole begin w → RunTexts r → FrameTexts f → AreTexts vs → IsWhole begin w2 × RunTexts r2 × IfOk o IsText
     sound_built_in_gives BuiltInGives.built_in_memory has _ _ _ _ = absurd (has refl)
     sound_built_in_gives (BuiltInGives.value_call {vs = vs} _ p2 p3) has whole run given1 given2 =
         sound_text_val p3 has whole run given1 (sound_only vs p2 given2)
@@ -765,15 +763,15 @@ module _ (cut : PartsCut) where
     sound_built_in_gives (BuiltInGives.not_understood _ _) has whole run given1 given2 = (whole, run, tt)
 
     pub sound_system : {w w2 : History} {r r2 : RunState} {f : Frame} {d i : ℕ} {mg : SystemMessage}
-        {o : Result (List ℕ) Stop} → System w r f d i mg o w2 r2 → HasMemory o → IsWhole w → RunTexts r → FrameTexts f
-        → IsWhole w2 × RunTexts r2 × IfOk o IsText
+        {o : Result (List ℕ) Stop} → System w r f d i mg o w2 r2 → HasMemory o → IsWhole begin w → RunTexts r
+        → FrameTexts f → IsWhole begin w2 × RunTexts r2 × IfOk o IsText
     sound_system System.system_memory has _ _ _ = absurd (has refl)
     sound_system (System.system_locked _) has whole run given1 = (whole, run, empty_text)
     sound_system (System.system _ _ p3) has whole run given1 = sound_sends p3 has whole run given1 tt
 
     pub sound_systems : {w w2 : History} {r r2 : RunState} {f : Frame} {d : ℕ} {ms : List SystemMessage}
-        {o : Result (List ℕ) Stop} → Systems w r f d ms o w2 r2 → HasMemory o → IsWhole w → RunTexts r → FrameTexts f
-        → IsWhole w2 × RunTexts r2 × IfOk o IsText
+        {o : Result (List ℕ) Stop} → Systems w r f d ms o w2 r2 → HasMemory o → IsWhole begin w → RunTexts r
+        → FrameTexts f → IsWhole begin w2 × RunTexts r2 × IfOk o IsText
     sound_systems Systems.systems_memory has _ _ _ = absurd (has refl)
     sound_systems (Systems.systems_done _) has whole run given1 = (whole, run, empty_text)
     sound_systems (Systems.systems_stop _ _ p3) has whole run given1 =
@@ -784,8 +782,8 @@ module _ (cut : PartsCut) where
         sound_systems p4 has after3.0 after3.1 given1
 
     pub sound_goes : {w w2 : History} {r r2 : RunState} {f : Frame} {d i : ℕ} {o : Result (List ℕ) Stop}
-        → Goes w r f d i o w2 r2 → HasMemory o → IsWhole w → RunTexts r → FrameTexts f
-        → IsWhole w2 × RunTexts r2 × IfOk o IsText
+        → Goes w r f d i o w2 r2 → HasMemory o → IsWhole begin w → RunTexts r → FrameTexts f
+        → IsWhole begin w2 × RunTexts r2 × IfOk o IsText
     sound_goes Goes.go_memory has _ _ _ = absurd (has refl)
     sound_goes (Goes.go_stays _) has whole run given1 = (whole, run, empty_text)
     sound_goes (Goes.go_close_stops _ _ p3) has whole run given1 =
@@ -799,8 +797,8 @@ module _ (cut : PartsCut) where
         sound_systems p6 has (sound_made p4 tt p5 after3.0) after3.1 given1
 
     pub sound_menu : {w w2 : History} {r r2 : RunState} {f : Frame} {d : ℕ} {it : Item} {o : Result (List ℕ) Stop}
-        → Menu w r f d it o w2 r2 → HasMemory o → IsWhole w → RunTexts r → FrameTexts f
-        → IsWhole w2 × RunTexts r2 × IfOk o IsText
+        → Menu w r f d it o w2 r2 → HasMemory o → IsWhole begin w → RunTexts r → FrameTexts f
+        → IsWhole begin w2 × RunTexts r2 × IfOk o IsText
     sound_menu Menu.menu_memory has _ _ _ = absurd (has refl)
     sound_menu (Menu.card_close_stops _ p2) has whole run given1 =
         let after2 = sound_systems p2 has whole run given1 in
@@ -827,8 +825,8 @@ module _ (cut : PartsCut) where
         sound_systems p5 has (sound_made (may_go w.now p2) tt p3 whole) run given1
 
     pub sound_converses : {w w2 : History} {r r2 : RunState} {d k : ℕ} {vs : List (List ℕ)}
-        {odn : Result Conversed Stop} → Converses w r d k vs odn w2 r2 → HasMemory odn → IsWhole w → RunTexts r
-        → k < length w.now.externals → AreTexts vs → IsWhole w2 × RunTexts r2 × IfOk odn (λ dn. IsText dn.value)
+        {odn : Result Conversed Stop} → Converses w r d k vs odn w2 r2 → HasMemory odn → IsWhole begin w → RunTexts r
+        → k < length w.now.externals → AreTexts vs → IsWhole begin w2 × RunTexts r2 × IfOk odn (λ dn. IsText dn.value)
     sound_converses Converses.converse_memory has _ _ _ _ = absurd (has refl)
     sound_converses (Converses.too_many_arguments _) has whole run given1 given2 = (whole, run, tt)
     sound_converses (Converses.conversation_too_deep _ _) has whole run given1 given2 = (whole, run, tt)
@@ -836,8 +834,8 @@ module _ (cut : PartsCut) where
         sound_talks p4 has whole run given1 (subst InputTexts (sym p3) given2)
 
     pub sound_talks : {w w2 : History} {r r2 : RunState} {d k : ℕ} {inp : Input} {odn : Result Conversed Stop}
-        → Talks w r d k inp odn w2 r2 → HasMemory odn → IsWhole w → RunTexts r → k < length w.now.externals
-        → InputTexts inp → IsWhole w2 × RunTexts r2 × IfOk odn (λ dn. IsText dn.value)
+        → Talks w r d k inp odn w2 r2 → HasMemory odn → IsWhole begin w → RunTexts r → k < length w.now.externals
+        → InputTexts inp → IsWhole begin w2 × RunTexts r2 × IfOk odn (λ dn. IsText dn.value)
     sound_talks Talks.talk_memory has _ _ _ _ = absurd (has refl)
     sound_talks (Talks.talk_no_step p1) has whole run given1 given2 = (whole, (sound_step p1 run), tt)
     sound_talks (Talks.talk_done p1 p2 p3 p4) has whole run given1 given2 =
@@ -860,8 +858,8 @@ module _ (cut : PartsCut) where
         (stands_after w1 w2 (base_calls_back p3 given) (stands_after w w1 (base_turn p2) given1)) after3.2
 
     pub sound_calls_back : {w w2 : History} {r r2 : RunState} {d : ℕ} {ask : Ask} {oin : Result Input Stop}
-        → CallsBack w r d ask oin w2 r2 → HasMemory oin → IsWhole w → RunTexts r → AskTexts ask
-        → IsWhole w2 × RunTexts r2 × IfOk oin InputTexts
+        → CallsBack w r d ask oin w2 r2 → HasMemory oin → IsWhole begin w → RunTexts r → AskTexts ask
+        → IsWhole begin w2 × RunTexts r2 × IfOk oin InputTexts
     sound_calls_back CallsBack.call_back_memory has _ _ _ = absurd (has refl)
     sound_calls_back (CallsBack.message_syntax p1 _) has whole run given1 = (whole, run, tt)
     sound_calls_back (CallsBack.message_stops p1 p2 p3 p4) has whole run given1 =
@@ -893,15 +891,16 @@ module _ (cut : PartsCut) where
     sound_calls_back (CallsBack.no_such_field p1 p2) has whole run given1 = (whole, run, tt)
     sound_calls_back (CallsBack.field_fails {b = b} {n = n} {w = w} p1 p2 p3 p4) has whole run given1 =
         let after4 = sound_edits cut (sound_yields (λ p. StorageTexts p.storage) (named_place_texts w.now b n) p2)
-        (subst AskTexts p1 given1).1 run.delimiter p4 (stopped has) whole (same_frame p3 tt) in
+        (subst AskTexts p1 given1).2 run.delimiter p4 (stopped has) whole (same_frame p3 tt) in
         (after4.0, run, tt)
     sound_calls_back (CallsBack.field_set {b = b} {n = n} {w = w} p1 p2 p3 p4 p5) has whole run given1 =
         let after4 = sound_edits cut (sound_yields (λ p. StorageTexts p.storage) (named_place_texts w.now b n) p2)
-        (subst AskTexts p1 given1).1 run.delimiter p4 given whole (same_frame p3 tt) in
+        (subst AskTexts p1 given1).2 run.delimiter p4 given whole (same_frame p3 tt) in
         (after4.0, run, (subst InputTexts (sym p5) ((subst AskTexts p1 given1).0, empty_text)))
 
     pub sound_line : {w w2 : History} {r r2 : RunState} {ss : stm.Stmts} {ot : Result (Unit {0}) Stop}
-        → Line w r ss ot w2 r2 → HasMemory ot → IsWhole w → RunTexts r → StmtsTexts ss → IsWhole w2 × RunTexts r2
+        → Line w r ss ot w2 r2 → HasMemory ot → IsWhole begin w → RunTexts r → StmtsTexts ss
+        → IsWhole begin w2 × RunTexts r2
     sound_line Line.line_memory has _ _ _ = absurd (has refl)
     sound_line (Line.line_stops p1 p2) has whole run given1 =
         let after2 = sound_block p2 (stopped has) whole run (same_frame p1 tt) given1 in
@@ -911,8 +910,8 @@ module _ (cut : PartsCut) where
         (after2.0, after2.1)
 
     pub sound_message : {w w2 : History} {r r2 : RunState} {i : ℕ} {n : List ℕ} {vs : List (List ℕ)}
-        {ot : Result (Unit {0}) Stop} → Message w r i n vs ot w2 r2 → HasMemory ot → IsWhole w → RunTexts r
-        → AreTexts vs → IsWhole w2 × RunTexts r2
+        {ot : Result (Unit {0}) Stop} → Message w r i n vs ot w2 r2 → HasMemory ot → IsWhole begin w → RunTexts r
+        → AreTexts vs → IsWhole begin w2 × RunTexts r2
     sound_message Message.message_memory has _ _ _ = absurd (has refl)
     sound_message (Message.sent_alone_stops p1 p2) has whole run given1 =
         let after2 = sound_sends p2 (stopped has) whole run (same_frame p1 tt) given1 in
@@ -923,7 +922,7 @@ module _ (cut : PartsCut) where
 
   mutual
     pub sound_refers : {w w2 : History} {r r2 : RunState} {pa : tree.Part} {oi : Result ℕ Stop} → Refers w r pa oi w2 r2
-        → HasMemory oi → IsWhole w → RunTexts r → PartTexts pa → IsWhole w2 × RunTexts r2
+        → HasMemory oi → IsWhole begin w → RunTexts r → PartTexts pa → IsWhole begin w2 × RunTexts r2
     sound_refers Refers.refer_memory has _ _ _ = absurd (has refl)
     sound_refers (Refers.refer_stops p1 p2) has whole run given1 =
         sound_part_met p2 (stopped has) whole run (same_frame p1 tt) given1
@@ -931,13 +930,13 @@ module _ (cut : PartsCut) where
         sound_part_met p2 given whole run (same_frame p1 tt) given1
 
     pub sound_tells : {w w2 : History} {r r2 : RunState} {i : ℕ} {mg : SystemMessage} {ot : Result (Unit {0}) Stop}
-        → Tells w r i mg ot w2 r2 → HasMemory ot → IsWhole w → RunTexts r → IsWhole w2 × RunTexts r2
+        → Tells w r i mg ot w2 r2 → HasMemory ot → IsWhole begin w → RunTexts r → IsWhole begin w2 × RunTexts r2
     sound_tells Tells.tell_memory has _ _ = absurd (has refl)
     sound_tells (Tells.tells_nothing _) has whole run = (whole, run)
     sound_tells (Tells.tells _ _ p3) has whole run = sound_message p3 has whole run tt
 
     pub sound_tells_all : {w w2 : History} {r r2 : RunState} {ms : List SystemMessage} {ot : Result (Unit {0}) Stop}
-        → TellsAll w r ms ot w2 r2 → HasMemory ot → IsWhole w → RunTexts r → IsWhole w2 × RunTexts r2
+        → TellsAll w r ms ot w2 r2 → HasMemory ot → IsWhole begin w → RunTexts r → IsWhole begin w2 × RunTexts r2
     sound_tells_all TellsAll.tell_all_memory has _ _ = absurd (has refl)
     sound_tells_all (TellsAll.none_to_tell _) has whole run = (whole, run)
     sound_tells_all (TellsAll.tell_stops _ p2) has whole run = sound_tells p2 has whole run
@@ -946,7 +945,8 @@ module _ (cut : PartsCut) where
         sound_tells_all p3 has after2.0 after2.1
 
     pub sound_clicks : {w w2 : History} {r r2 : RunState} {pa : tree.Part} {ot : Result (Unit {0}) Stop}
-        → Clicks w r pa ot w2 r2 → HasMemory ot → IsWhole w → RunTexts r → PartTexts pa → IsWhole w2 × RunTexts r2
+        → Clicks w r pa ot w2 r2 → HasMemory ot → IsWhole begin w → RunTexts r → PartTexts pa
+        → IsWhole begin w2 × RunTexts r2
     sound_clicks Clicks.click_memory has _ _ _ = absurd (has refl)
     sound_clicks (Clicks.click_misses p1) has whole run given1 = sound_refers p1 (stopped has) whole run given1
     sound_clicks (Clicks.press_stops p1 p2) has whole run given1 =
@@ -961,7 +961,8 @@ module _ (cut : PartsCut) where
         sound_tells p4 has after2.0 after2.1
 
     pub sound_types_over : {w w2 : History} {r r2 : RunState} {m : Referent} {t : List ℕ} {ot : Result (Unit {0}) Stop}
-        → TypesOver w r m t ot w2 r2 → HasMemory ot → IsWhole w → RunTexts r → IsText t → IsWhole w2 × RunTexts r2
+        → TypesOver w r m t ot w2 r2 → HasMemory ot → IsWhole begin w → RunTexts r → IsText t
+        → IsWhole begin w2 × RunTexts r2
     sound_types_over TypesOver.type_over_memory has _ _ _ = absurd (has refl)
     sound_types_over (TypesOver.typed_field_goes p1 _) has whole run given1 = (whole, run)
     sound_types_over (TypesOver.type_over_stops {w = w} {m = m} p1 _ p3 p4) has whole run given1 =
@@ -974,8 +975,8 @@ module _ (cut : PartsCut) where
         sound_tells p7 has after4.0 run
 
     pub sound_types_into : {w w2 : History} {r r2 : RunState} {t : List ℕ} {pa : tree.Part}
-        {ot : Result (Unit {0}) Stop} → TypesInto w r t pa ot w2 r2 → HasMemory ot → IsWhole w → RunTexts r → IsText t
-        → PartTexts pa → IsWhole w2 × RunTexts r2
+        {ot : Result (Unit {0}) Stop} → TypesInto w r t pa ot w2 r2 → HasMemory ot → IsWhole begin w → RunTexts r
+        → IsText t → PartTexts pa → IsWhole begin w2 × RunTexts r2
     sound_types_into TypesInto.type_memory has _ _ _ _ = absurd (has refl)
     sound_types_into (TypesInto.type_misses p1) has whole run given1 given2 =
         sound_refers p1 (stopped has) whole run given2
@@ -988,7 +989,8 @@ module _ (cut : PartsCut) where
         sound_types_over p5 has after3.0 after3.1 given1
 
     pub sound_acts : {w w2 : History} {r r2 : RunState} {ac : Action} {ot : Result (Unit {0}) Stop}
-        → Acts w r ac ot w2 r2 → HasMemory ot → IsWhole w → RunTexts r → ActionTexts ac → IsWhole w2 × RunTexts r2
+        → Acts w r ac ot w2 r2 → HasMemory ot → IsWhole begin w → RunTexts r → ActionTexts ac
+        → IsWhole begin w2 × RunTexts r2
     sound_acts (Acts.acts_by_lines p1 p2) has whole run given1 =
         sound_line p2 has whole run (subst ActionTexts p1 given1)
     sound_acts (Acts.acts_by_opening p1 p2) has whole run given1 = sound_tells_all p2 has whole run

@@ -2,12 +2,10 @@
 use Rattle.std.specs.Prelude.{◌≡◌, ◌<◌, ℕ, true, List, [], ◌∷◌, IfSome}
 use Rattle.std.specs.List.{All, AllByRecursion}
 use Rattle.ht_values.specs.Text.{IsText, is_folded}
-use Rattle.externals.specs.declared.external.Ask.{Ask}
-use Rattle.externals.specs.declared.external.Ask.TheVariants.{SendCardMessage, EvalExpr, SetGlobal, SetFieldByName}
-use Rattle.externals.specs.declared.external.Ask.TheVariants.{Done, Fail}
+use Rattle.externals.specs.Log.{LoggedTurn}
+use Rattle.externals.specs.Turns.{AskTexts}
 use Rattle.externals.specs.declared.external.Input.{Input}
 use Rattle.externals.specs.declared.external.Input.TheVariants.{Start, Answer}
-use Rattle.change_journal.specs.History.{History, IsHistory}
 use Rattle.containers.specs.Places.{StorageView, global}
 use Rattle.containers.specs.declared.variables.Local.{Local}
 use Rattle.meaning.specs.Actions as act
@@ -21,7 +19,6 @@ use Rattle.ht_lex.specs.Token as token
 use Rattle.ht_grammar.specs.Reads.{Reads, ReadsExpr, ReadsLines, ReadsMessage, ReadsPart, ReadsScript, ReadsType}
 use Rattle.ht_grammar.specs.Statements as stm
 use Rattle.ht_grammar.specs.Trees as tree
-use Rattle.definitional_interpreter.specs.Laws.{IsDeterministic, sorts_of}
 
 -- a name, a number and what stands between quotes
 abbrev pub TokenTexts : Token → Type 0
@@ -163,6 +160,9 @@ TypedTexts (stm.typed x0 x1) = IsText x0 × PartTexts x1
 
 -- ---- what runs work on
 
+abbrev pub AreTexts : List (List ℕ) → Type 0
+AreTexts = AllByRecursion IsText
+
 -- the item delimiter is a byte, and the result is a text
 pub record RunTexts (r : RunState) : Type 0 where
   pub delimiter : r.delimiter < 256
@@ -185,27 +185,21 @@ HowTexts (Returns v) = IsText v
 HowTexts _ = Unit {0}
 
 abbrev pub InputTexts : Input → Type 0
-InputTexts (Start vs) = AllByRecursion IsText vs
-InputTexts (Answer note v) = AllByRecursion IsText note × IsText v
+InputTexts (Start vs) = AreTexts vs
+InputTexts (Answer note v) = AreTexts note × IsText v
 
-abbrev pub AskTexts : Ask → Type 0
-AskTexts (SendCardMessage note t) = AllByRecursion IsText note × IsText t
-AskTexts (EvalExpr note t) = AllByRecursion IsText note × IsText t
-AskTexts (SetGlobal note n v) = AllByRecursion IsText note × IsText n × IsText v
-AskTexts (SetFieldByName note on_card n v) = AllByRecursion IsText note × IsText v
-AskTexts (Done v passes) = IsText v
-AskTexts Fail = Unit {0}
+-- a turn of an external of texts
+pub record LoggedTexts (turn : LoggedTurn) : Type 0 where
+  pub before : All IsText turn.before
+  pub input : InputTexts turn.input
+  pub ask : AskTexts turn.ask
+  pub cells : All IsText turn.cells
 
 abbrev pub ActionTexts : Action → Type 0
 ActionTexts (act.run_lines ss) = StmtsTexts ss
 ActionTexts act.open_stack = Unit {0}
 ActionTexts (act.click pa) = PartTexts pa
 ActionTexts (act.type_text t pa) = IsText t × PartTexts pa
-
--- each state of a history is whole, and each external is deterministic
-pub record IsWhole (w : History) : Type 0 where
-  pub history : IsHistory w
-  pub fixed : All IsDeterministic (sorts_of w.now.externals)
 
 -- ---- what a text is read as
 

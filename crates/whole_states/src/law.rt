@@ -1,5 +1,4 @@
-//! Where each external is deterministic, what is read, computed and written of texts is texts, and whole states lead to
-//! whole states.
+//! What is read, computed and written of texts is texts, and whole states lead to whole states.
 
 ghost use Rattle.whole_states.specs.Laws.{LinesLeadToWhole, MessagesLeadToWhole, ActionsLeadToWhole};
 ghost use Rattle.whole_states.specs.Laws.{ReferencesLeadToWhole, ValuesLeadToWhole};
@@ -19,9 +18,9 @@ pub fn trees_have_texts()
     ensures typed { TypedTextsHaveTexts }
 {}
 
-/// From a history each state of which is whole, and whose externals are deterministic, each run that the rules allow
-/// leads to one each state of which is whole, unless it is out of memory: lines, a message, an action, the reference of
-/// a dot line and an expression, whose trees and arguments are texts.
+/// From a history each state of which is whole, whatever its externals do, each run that the rules allow leads to one
+/// each state of which is whole, and the turns of its externals are of texts, unless it is out of memory: lines, a
+/// message, an action, the reference of a dot line and an expression, whose trees and arguments are texts.
 pub fn runs_lead_to_whole_states()
     ensures lines { LinesLeadToWhole }
     ensures messages { MessagesLeadToWhole }

@@ -1,7 +1,7 @@
-use Rattle.totality.proofs.law.behaviours_have_an_outcome.Goals as goal
 use Rattle.definitional_interpreter.proofs.Computed.{exactly}
 use Rattle.totality.proofs.Outcomes.{lines_have_an_outcome_by, messages_have_an_outcome_by, actions_have_an_outcome_by}
 use Rattle.totality.proofs.Outcomes.{references_have_an_outcome_by, values_have_an_outcome_by}
+use Rattle.totality.proofs.law.behaviours_have_an_outcome.Goals as goal
 
 pub returns-clause-lines : goal.returns-clause-lines
 returns-clause-lines c =
@@ -9,6 +9,7 @@ returns-clause-lines c =
     (exactly c.texts_are_cut_exactly.ensures c.expressions_are_read_exactly.ensures.exact
     c.lines_are_read_exactly.ensures.exact
     c.scripts_are_read_exactly.ensures.exact c.messages_are_read_exactly.ensures.exact)
+    c.runs_lead_to_whole_states.ensures.lines
 
 pub returns-clause-messages : goal.returns-clause-messages
 returns-clause-messages c =
@@ -16,6 +17,7 @@ returns-clause-messages c =
     (exactly c.texts_are_cut_exactly.ensures c.expressions_are_read_exactly.ensures.exact
     c.lines_are_read_exactly.ensures.exact
     c.scripts_are_read_exactly.ensures.exact c.messages_are_read_exactly.ensures.exact)
+    c.runs_lead_to_whole_states.ensures.messages
 
 pub returns-clause-actions : goal.returns-clause-actions
 returns-clause-actions c =
@@ -23,13 +25,8 @@ returns-clause-actions c =
     (exactly c.texts_are_cut_exactly.ensures c.expressions_are_read_exactly.ensures.exact
     c.lines_are_read_exactly.ensures.exact
     c.scripts_are_read_exactly.ensures.exact c.messages_are_read_exactly.ensures.exact)
-
-pub returns-clause-values : goal.returns-clause-values
-returns-clause-values c =
-    values_have_an_outcome_by
-    (exactly c.texts_are_cut_exactly.ensures c.expressions_are_read_exactly.ensures.exact
-    c.lines_are_read_exactly.ensures.exact
-    c.scripts_are_read_exactly.ensures.exact c.messages_are_read_exactly.ensures.exact)
+    c.runs_lead_to_whole_states.ensures.actions
+    c.runs_lead_to_whole_states.ensures.references
 
 pub returns-clause-references : goal.returns-clause-references
 returns-clause-references c =
@@ -37,3 +34,12 @@ returns-clause-references c =
     (exactly c.texts_are_cut_exactly.ensures c.expressions_are_read_exactly.ensures.exact
     c.lines_are_read_exactly.ensures.exact
     c.scripts_are_read_exactly.ensures.exact c.messages_are_read_exactly.ensures.exact)
+    c.runs_lead_to_whole_states.ensures.references
+
+pub returns-clause-values : goal.returns-clause-values
+returns-clause-values c =
+    values_have_an_outcome_by
+    (exactly c.texts_are_cut_exactly.ensures c.expressions_are_read_exactly.ensures.exact
+    c.lines_are_read_exactly.ensures.exact
+    c.scripts_are_read_exactly.ensures.exact c.messages_are_read_exactly.ensures.exact)
+    c.runs_lead_to_whole_states.ensures.values

@@ -1,18 +1,39 @@
-use Rattle.totality.proofs.law.runs_have_an_outcome.Goals as goal
+use Rattle.definitional_interpreter.proofs.Computed.{exactly}
 use Rattle.totality.proofs.Outcomes.{lines_have_an_outcome, messages_have_an_outcome, actions_have_an_outcome}
 use Rattle.totality.proofs.Outcomes.{references_have_an_outcome, values_have_an_outcome}
+use Rattle.totality.proofs.law.runs_have_an_outcome.Goals as goal
 
 pub returns-clause-lines : goal.returns-clause-lines
-returns-clause-lines c = lines_have_an_outcome c.behaviours_have_an_outcome.ensures.lines
+returns-clause-lines c =
+    lines_have_an_outcome
+    (exactly c.texts_are_cut_exactly.ensures c.expressions_are_read_exactly.ensures.exact
+    c.lines_are_read_exactly.ensures.exact
+    c.scripts_are_read_exactly.ensures.exact c.messages_are_read_exactly.ensures.exact)
 
 pub returns-clause-messages : goal.returns-clause-messages
-returns-clause-messages c = messages_have_an_outcome c.behaviours_have_an_outcome.ensures.messages
+returns-clause-messages c =
+    messages_have_an_outcome
+    (exactly c.texts_are_cut_exactly.ensures c.expressions_are_read_exactly.ensures.exact
+    c.lines_are_read_exactly.ensures.exact
+    c.scripts_are_read_exactly.ensures.exact c.messages_are_read_exactly.ensures.exact)
 
 pub returns-clause-actions : goal.returns-clause-actions
-returns-clause-actions c = actions_have_an_outcome c.behaviours_have_an_outcome.ensures.actions
+returns-clause-actions c =
+    actions_have_an_outcome
+    (exactly c.texts_are_cut_exactly.ensures c.expressions_are_read_exactly.ensures.exact
+    c.lines_are_read_exactly.ensures.exact
+    c.scripts_are_read_exactly.ensures.exact c.messages_are_read_exactly.ensures.exact)
 
 pub returns-clause-references : goal.returns-clause-references
-returns-clause-references c = references_have_an_outcome c.behaviours_have_an_outcome.ensures.references
+returns-clause-references c =
+    references_have_an_outcome
+    (exactly c.texts_are_cut_exactly.ensures c.expressions_are_read_exactly.ensures.exact
+    c.lines_are_read_exactly.ensures.exact
+    c.scripts_are_read_exactly.ensures.exact c.messages_are_read_exactly.ensures.exact)
 
 pub returns-clause-values : goal.returns-clause-values
-returns-clause-values c = values_have_an_outcome c.behaviours_have_an_outcome.ensures.values
+returns-clause-values c =
+    values_have_an_outcome
+    (exactly c.texts_are_cut_exactly.ensures c.expressions_are_read_exactly.ensures.exact
+    c.lines_are_read_exactly.ensures.exact
+    c.scripts_are_read_exactly.ensures.exact c.messages_are_read_exactly.ensures.exact)

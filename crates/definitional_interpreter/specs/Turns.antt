@@ -1,0 +1,37 @@
+-- Turns of externals that a table has, and those that it hasn't.
+use Rattle.std.specs.Prelude.{◌≡◌, ℕ, ◌<◌, Bool, is_none, List, [], ◌∷◌, filter, length, map, drop, slice_index_or}
+use Rattle.std.specs.Prelude.{Some}
+use Rattle.externals.specs.Cells.{Seen}
+use Rattle.externals.specs.Log.{Log, LoggedTurn}
+use Rattle.externals.specs.Turns.{Turn, TurnTable}
+use Rattle.externals.specs.declared.external.Input.{Input}
+use Rattle.change_journal.specs.History.{History}
+
+-- a deterministic kind: the table has each of its turns
+abbrev pub IsDeterministic : TurnTable → ℕ → Type 0
+IsDeterministic table sort =
+    (cells : List (List ℕ)) (input : Input) → (turn : Turn) × (table sort cells input ≡ Some turn)
+
+abbrev pub sorts_of : List Seen → List ℕ
+sorts_of = map (λ e. e.sort)
+
+abbrev pub sorts : History → List ℕ
+sorts w = sorts_of w.now.externals
+
+-- each external is deterministic
+abbrev pub AreDeterministic : TurnTable → List ℕ → Type 0
+AreDeterministic table kinds = (i : ℕ) → i < length kinds → IsDeterministic table (slice_index_or kinds i 0)
+
+-- the table doesn't have the turn
+abbrev pub is_free : TurnTable → ℕ → LoggedTurn → Bool
+is_free table sort turn = is_none (table sort turn.before turn.input)
+
+-- the turns of an external of this kind that the table doesn't have
+abbrev pub free_turns : TurnTable → ℕ → Log → Log
+free_turns table sort = filter (is_free table sort)
+
+-- what each log has behind what it had
+abbrev pub logs_since : (old new : List Log) → List Log
+logs_since [] new = []
+logs_since (log ∷ old) [] = []
+logs_since (log ∷ old) (grown ∷ new) = drop (length log) grown ∷ logs_since old new
