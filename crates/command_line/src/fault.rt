@@ -7,7 +7,7 @@ ghost use Rattle.command_line.specs.declared.fault.TheConstants.{MOST_OF_NAME};
 ghost use Rattle.command_line.specs.Verdicts.{fault_of_bytes, status_of, message_of, refusal_of};
 
 use devices::BytesFault;
-use ht_values::{LIMIT, Text, TextError};
+use ht_values::{LIMIT, Text};
 use itoa::Buffer;
 use stack_file::FileError;
 use std::alloc::{AllocError, AllocFailed, Global};
@@ -80,11 +80,7 @@ fn first(bytes: &[u8], most: usize) -> &[u8]
 pub fn cut(alloc: Global, bytes: &[u8]) -> Result<Text, AllocError>
     ensures { IfOk result (λ t. t ≡ take LIMIT bytes.now) }
 {
-    match Text::from_slice(alloc, first(bytes, LIMIT)) {
-        Ok(text) => Ok(text),
-        Err(TextError::Memory) => Err(AllocError),
-        Err(TextError::TooLong) => unreachable!(),
-    }
+    Text::fitting(alloc, first(bytes, LIMIT))
 }
 
 /// `card_cli: cannot read` and the name, cut.

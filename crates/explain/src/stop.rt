@@ -114,14 +114,6 @@ fn write_call(page: &mut Page, view: View<'_>, call: &OpenCall, is_first: bool) 
     }
 }
 
-/// The place from which a script can't be read on.
-fn unread_script_at(alloc: Global, script: &Text) -> Option<usize> {
-    match parse_script(alloc, script) {
-        Err(ParseError::Syntax(at)) => Some(at),
-        Err(ParseError::Memory) | Ok(_) => None,
-    }
-}
-
 /// Where the script of an object isn't in the grammar, and whether it isn't.
 pub(crate) fn write_unread_script(
     page: &mut Page,
@@ -133,7 +125,7 @@ pub(crate) fn write_unread_script(
     let Some(found) = stack.object(object) else {
         return false;
     };
-    let Some(at) = unread_script_at(alloc, &found.script) else {
+    let Err(ParseError::Syntax(at)) = parse_script(alloc, &found.script) else {
         return false;
     };
     let place = place_in(found.script.as_slice(), at);

@@ -22,17 +22,14 @@ fn unread_at(alloc: Global, reading: Reading, text: &Text) -> Option<usize> {
     }
 }
 
-/// A dot line that says nothing.
-fn write_dot_line(page: &mut Page) {
-    page.word(
-        b"\n  no dot line says this, or no external has that name; dot lines are .open, .click PART, .type \"TEXT\" into FIELD, .undo [K], .undo to N, .redo [K], .show, .globals, .where, .cells NAME, .history, .save and .quit",
-    );
-}
+/// What is told of a dot line that says nothing.
+const DOT_LINES: &[u8] =
+    b"\n  no dot line says this, or no external has that name; dot lines are .open, .click PART, .type \"TEXT\" into FIELD, .undo [K], .undo to N, .redo [K], .show, .globals, .where, .cells NAME, .history, .save and .quit";
 
 /// Where a typed line isn't in the grammar.
 pub(crate) fn write_unread(page: &mut Page, alloc: Global, line: &[u8]) {
     let Some((reading, behind)) = acted_in(line) else {
-        write_dot_line(page);
+        page.word(DOT_LINES);
         return;
     };
     let Ok(text) = Text::from_slice(alloc, behind) else {

@@ -25,5 +25,3 @@ mod spelling;
 mod stacks;
 #[cfg(test)]
 mod unseen;
-#[cfg(test)]
-mod watched_devices;

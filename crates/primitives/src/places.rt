@@ -22,7 +22,6 @@ ghost use Rattle.meaning.specs.Values.{Yields};
 
 use crate::meant::{mean_edit, mean_edit_of_variable, mean_untrue, operand_of, untrue_text};
 use crate::objects::make;
-use crate::values::short_text;
 use change_journal::{Change, World};
 use chunks::{Chunk, Index};
 use containers::{
@@ -324,7 +323,7 @@ fn put_into<E: External>(
 fn it(alloc: Global) -> Result<Name, AllocError>
     ensures { IfOk result (λ n. n ≡ it_name) }
 {
-    Name::new(alloc, short_text(alloc, b"it")?)
+    Name::new(alloc, Text::fitting(alloc, b"it")?)
 }
 
 /// Puts a value into `it`, in the open batch.

@@ -1,7 +1,6 @@
 //! Values and parsing. A call that computes or parses may also be out of memory, which is `Stop::Memory`.
 
-ghost use Rattle.std.specs.Prelude.{◌≡◌, ℕ, ℤ, pos, [], ◌∷◌, List, Ok, Err, IfOk, IfErr, IfSome, OnOk, OnErr, length};
-ghost use Rattle.std.specs.Prelude.{◌≤◌};
+ghost use Rattle.std.specs.Prelude.{◌≡◌, ℕ, ℤ, pos, [], ◌∷◌, List, Ok, Err, IfOk, IfErr, IfSome, OnOk, OnErr};
 ghost use Rattle.ht_values.specs.Functions.{built_in as built_in_of};
 ghost use Rattle.ht_values.specs.Number.{number_of as number_of_text};
 ghost use Rattle.ht_values.specs.Operators.{binary as binary_of, unary as unary_of, truth_of as truth_of_text};
@@ -32,7 +31,7 @@ use ht_values::{
 use itoa::Buffer;
 use meaning::{Budget, Counter, How, Stop, TextUse};
 use object_references::Referent;
-use std::alloc::{AllocError, Global};
+use std::alloc::AllocError;
 
 /// What an operator gives of two operands that are kept as numbers, where that is a number or a truth value.
 #[inline]
@@ -165,11 +164,8 @@ pub(crate) fn numeral(run: &Budget, count: usize) -> Result<Value, AllocError>
     ensures { IfOk result (λ t. t ≡ numeral_of (pos count)) }
 {
     let mut buffer = Buffer::new();
-    let digits = Vec::from_slice(run.alloc(), buffer.format(count).as_bytes())?;
-    match Text::from_vec(digits) {
-        Ok(text) => Ok(Value::of_text(text)),
-        Err(_) => unreachable!(),
-    }
+    let text = Text::fitting(run.alloc(), buffer.format(count).as_bytes())?;
+    Ok(Value::of_text(text))
 }
 
 /// A property of the run as a value.
@@ -196,17 +192,6 @@ pub fn set_run_property(run: &mut Budget, property: RunProp, text: &Text) -> Res
             run.trace().mean_text(text);
             Err(fault)
         }
-    }
-}
-
-/// A text of these bytes, at most 100.
-pub(crate) fn short_text(alloc: Global, bytes: &[u8]) -> Result<Text, AllocError>
-    requires { length bytes.now ≤ 100 }
-    ensures { IfOk result (λ t. t ≡ bytes.now) }
-{
-    match Text::from_vec(Vec::from_slice(alloc, bytes)?) {
-        Ok(text) => Ok(text),
-        Err(_) => unreachable!(),
     }
 }
 
@@ -238,14 +223,14 @@ pub fn there(run: &Budget, is_no: bool, met: Result<Referent, Stop>) -> Result<V
 pub(crate) fn constant_value(run: &Budget, constant: Constant) -> Result<Value, AllocError>
     ensures { IfOk result (λ v. v ≡ text_of_constant constant) }
 {
-    Ok(Value::of_text(short_text(run.alloc(), constant.bytes())?))
+    Ok(Value::of_text(Text::fitting(run.alloc(), constant.bytes())?))
 }
 
 /// The value of the constant `return`.
 pub(crate) fn return_sign(run: &Budget) -> Result<Value, AllocError>
     ensures { IfOk result (λ v. v ≡ 13 ∷ []) }
 {
-    Ok(Value::of_text(short_text(run.alloc(), b"\r")?))
+    Ok(Value::of_text(Text::fitting(run.alloc(), b"\r")?))
 }
 
 /// Whether a repeat goes on that wants its condition to be so.

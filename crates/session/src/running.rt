@@ -15,22 +15,10 @@ use crate::reply::{Ending, Refusal, Reply, refused};
 use change_journal::World;
 use externals::External;
 use ht_parse::{ParseError, parse_lines, parse_part, parse_type};
-use ht_values::{Text, TextError};
+use ht_values::Text;
 use meaning::{Budget, Stop};
 use std::alloc::{AllocError, Global};
 use user_actions::{Action, act};
-
-/// A text of bytes that are no more than a line's.
-fn text_of(alloc: Global, bytes: &[u8]) -> Result<Text, AllocError>
-    requires { length bytes.now ≤ LONGEST_LINE }
-    ensures { IfOk result (λ text. text ≡ bytes.now) }
-{
-    match Text::from_slice(alloc, bytes) {
-        Ok(text) => Ok(text),
-        Err(TextError::Memory) => Err(AllocError),
-        Err(TextError::TooLong) => unreachable!(),
-    }
-}
 
 fn refusal_of(error: ParseError) -> Refusal
     ensures { result ≡ refusal_by error }
@@ -49,7 +37,7 @@ fn action_in(alloc: Global, reading: Reading, bytes: &[u8]) -> Result<Action, Re
     ensures fits { IfOk result (λ action. Fits (action_of action)) }
     ensures err { IfErr result (λ refusal. IsUnread (ReadsAction reading) bytes.now refusal) }
 {
-    let Ok(text) = text_of(alloc, bytes) else {
+    let Ok(text) = Text::fitting(alloc, bytes) else {
         return Err(Refusal::NoMemory);
     };
     match reading {

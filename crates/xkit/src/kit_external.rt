@@ -9,7 +9,7 @@ ghost use Rattle.xkit.specs.Members.{answers_calls_of, cell_count_of, kind_of};
 
 use crate::before::Before;
 use crate::cells::Cells;
-use crate::step::{Step, text};
+use crate::step::Step;
 use crate::turn_log::TurnLog;
 use crate::{bins, count, gate, relay};
 use externals::{Ask, External, HasTable, Input, Patch};
@@ -101,7 +101,7 @@ impl KitExternal {
         ensures cells { IfOk result (λ e. ⟦<KitExternal as External>⟧.cells e ≡ codes "0" ∷ []) }
         ensures log { IfOk result (λ e. ⟦<KitExternal as External>⟧.log e ≡ []) }
     {
-        let shut = text(alloc, b"0")?;
+        let shut = Text::fitting(alloc, b"0")?;
         Ok(KitExternal {
             member: Member::Gate,
             name,
