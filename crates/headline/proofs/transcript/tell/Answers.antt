@@ -5,7 +5,7 @@ use Rattle.devices.proofs.Hearing.{hears_nothing}
 use Rattle.headline.specs.Saving.{as_heard}
 use Rattle.headline.proofs.Heard.{heard_more}
 use Rattle.headline.proofs.transcript.tell.Goals as goal
-use Rattle.meaning.specs.declared.sent.SentMessage.{SentMessage}
+use Rattle.meaning.specs.Sent.{SentMessage}
 
 pub loop-i-init : goal.loop-i-init
 loop-i-init g c = hears_nothing (g.D.Desk.seen c.args.desk.now)
