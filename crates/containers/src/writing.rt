@@ -1,7 +1,7 @@
 //! Writing containers.
 
 ghost use Rattle.std.specs.Prelude.{◌≡◌, List, ℕ, [], true, false, Option, Some, IsSome, IfSome, unwrap_or, OnOk};
-ghost use Rattle.std.specs.Prelude.{OnErr, IfErr, Ok, Err};
+ghost use Rattle.std.specs.Prelude.{OnErr, IfErr, IfOk, Ok, Err};
 ghost use Rattle.std.specs.FinMap as finite;
 ghost use Rattle.std.specs.Option.{ok_or};
 ghost use Rattle.ht_values.specs.declared.fault.Fault.TheVariants.{NoSuchObject};
@@ -127,33 +127,31 @@ fn global_computed<W: Store>(world: &W, name: &Name, op: Op, operand: &Value) ->
     number_by(op, number, operand.kept_number()?)
 }
 
-/// Computes with a global. Two numbers are computed with as such.
+/// Computes with a global, where two numbers are computed with as such, and says whether they are; else nothing changes.
 #[tactic(auto, using(crate::proofs::Rules::writes_rules))]
 fn alter_global<W: Store>(
     alloc: Global,
     world: &mut W,
     name: &Name,
     op: Op,
-    operand: Value,
-    delimiter: u8,
-) -> Result<(), Failure>
+    operand: &Value,
+) -> Result<bool, AllocError>
     requires { IsSome (base (W.history world.old)).start }
-    ensures ok { OnOk result ((v : VariablesView)
+    ensures altered { IfOk result (λ b. b ≡ true → (v : VariablesView) (d : ℕ)
         → Writes (W.history world.old) v (global (folded name.now))
-        (edited_text delimiter [] (Alter op operand)
+        (edited_text d [] (Alter op operand.now)
         (unwrap_or (finite.get (W.history world.old).now.globals (folded name.now)) [])) (W.history world.new) v) }
-    ensures fault { IfErr result (λ e. Gives {A = Option (List ℕ)} (Err e)
-        (edited_text delimiter [] (Alter op operand)
-        (unwrap_or (finite.get (W.history world.old).now.globals (folded name.now)) []))) }
+    ensures not { IfOk result (λ b. b ≡ false → W.history world.new ≡ W.history world.old) }
     ensures err { OnErr result (W.history world.new ≡ W.history world.old) }
     ensures base { base (W.history world.new) ≡ base (W.history world.old) }
 {
-    if let Some(number) = global_computed(world, name, op, &operand) {
-        let value = Value::of_number(number);
-        law_of_value(&value);
-        return Ok(put_into_global(alloc, world, name, value)?);
-    }
-    edit_global(alloc, world, name, Edit::Alter(op, operand), &[], delimiter)
+    let Some(number) = global_computed(world, name, op, operand) else {
+        return Ok(false);
+    };
+    let value = Value::of_number(number);
+    law_of_value(&value);
+    put_into_global(alloc, world, name, value)?;
+    Ok(true)
 }
 
 /// Puts a value into a text of a field.
@@ -228,7 +226,7 @@ pub fn put_number(variables: &mut Variables, name: &Name, number: i64) -> bool
 /// and the operator gives a number of them, and says whether it does; else nothing changes. It takes no memory.
 #[tactic(auto, using(crate::proofs::Rules::writes_rules))]
 #[inline]
-pub fn alter_number(variables: &mut Variables, name: &Name, op: Op, operand: &Value) -> bool
+fn alter_own(variables: &mut Variables, name: &Name, op: Op, operand: &Value) -> bool
     ensures altered { result ≡ true → (h : History) (d : ℕ)
         → Writes h variables.old (named variables.old name.now)
         (due h.now variables.old d (record { storage = named variables.old name.now; chunks = [] })
@@ -242,6 +240,38 @@ pub fn alter_number(variables: &mut Variables, name: &Name, op: Op, operand: &Va
         }
         None => false,
     }
+}
+
+/// Computes with a variable, as `edit_variable` does, where two numbers are computed with as such, and says whether they
+/// are; else, and where memory was refused, nothing changes. The handler's own variables take no memory.
+#[tactic(auto, using(crate::proofs::Rules::writes_rules))]
+#[inline]
+pub fn alter_number<W: Store>(
+    alloc: Global,
+    world: &mut W,
+    variables: &mut Variables,
+    name: &Name,
+    op: Op,
+    operand: &Value,
+) -> Result<bool, AllocError>
+    requires { IsSome (base (W.history world.old)).start }
+    ensures altered { IfOk result (λ b. b ≡ true → (d : ℕ)
+        → Writes (W.history world.old) variables.old (named variables.old name.now)
+        (due (W.history world.old).now variables.old d
+        (record { storage = named variables.old name.now; chunks = [] }) (Alter op operand.now))
+        (W.history world.new) variables.new) }
+    ensures not { IfOk result (λ b. b ≡ false
+        → (W.history world.new ≡ W.history world.old) × (variables.new ≡ variables.old)) }
+    ensures err { OnErr result ((W.history world.new ≡ W.history world.old) × (variables.new ≡ variables.old)) }
+    ensures base { base (W.history world.new) ≡ base (W.history world.old) }
+{
+    if alter_own(variables, name, op, operand) {
+        return Ok(true);
+    }
+    if !variables.is_global(name) {
+        return Ok(false);
+    }
+    alter_global(alloc, world, name, op, operand)
 }
 
 /// Puts a value into a variable, whatever stands there.
@@ -292,9 +322,6 @@ pub fn edit_variable<W: Store>(
             law_of_value(&value);
             Ok(put_variable(alloc, world, variables, name, value)?)
         }
-        Edit::Alter(op, operand) => {
-            alter_variable(alloc, world, variables, name, op, operand, delimiter)
-        }
         edit => edit_named(alloc, world, variables, name, edit, delimiter),
     }
 }
@@ -324,39 +351,6 @@ fn edit_named<W: Store>(
         edit_global(alloc, world, name, edit, &[], delimiter)
     } else {
         variables.edit_whole(alloc, name, edit, delimiter)
-    }
-}
-
-/// Computes with a variable: in its place where it is the handler's own and kept as a number, as its operand is.
-#[tactic(auto, using(crate::proofs::Rules::writes_rules))]
-fn alter_variable<W: Store>(
-    alloc: Global,
-    world: &mut W,
-    variables: &mut Variables,
-    name: &Name,
-    op: Op,
-    operand: Value,
-    delimiter: u8,
-) -> Result<(), Failure>
-    requires { IsSome (base (W.history world.old)).start }
-    ensures ok { OnOk result (Writes (W.history world.old) variables.old (named variables.old name.now)
-        (due (W.history world.old).now variables.old delimiter
-        (record { storage = named variables.old name.now; chunks = [] }) (Alter op operand)) (W.history world.new)
-        variables.new) }
-    ensures fault { IfErr result (λ e. Gives {A = Option (List ℕ)} (Err e)
-        (due (W.history world.old).now variables.old delimiter
-        (record { storage = named variables.old name.now; chunks = [] }) (Alter op operand))) }
-    ensures err { OnErr result ((W.history world.new ≡ W.history world.old) × (variables.new ≡ variables.old)) }
-    ensures base { base (W.history world.new) ≡ base (W.history world.old) }
-{
-    if let Some(number) = variables.compute(name, op, &operand) {
-        law_of_value(&Value::of_number(number));
-        return Ok(());
-    }
-    if variables.is_global(name) {
-        alter_global(alloc, world, name, op, operand, delimiter)
-    } else {
-        variables.edit_whole(alloc, name, Edit::Alter(op, operand), delimiter)
     }
 }
 

@@ -12,7 +12,7 @@ use Rattle.containers.specs.Variables.{declared}
 use Rattle.msg_path.specs.Handlers.{HandlerFound}
 use Rattle.meaning.specs.declared.end.How.{How}
 use Rattle.meaning.specs.declared.end.Stop.{Stop}
-use Rattle.meaning.specs.declared.sent.SentMessage.{SentMessage}
+use Rattle.meaning.specs.Sent.{SentMessage}
 use Rattle.meaning.specs.Repeats.{ends}
 use Rattle.ht_grammar.specs.declared.vocabulary.HandlerKind.TheVariants.{Command, Function}
 use Rattle.ht_grammar.specs.Statements as stm

@@ -25,7 +25,7 @@ use Rattle.meaning.specs.declared.end.How.TheVariants.{Next}
 use Rattle.meaning.specs.declared.end.Stop.{Stop}
 use Rattle.meaning.specs.declared.end.Stop.TheVariants.{Fault as Faults}
 use Rattle.meaning.specs.declared.frame.Frame.{Frame}
-use Rattle.meaning.specs.declared.sent.SentMessage.{SentMessage}
+use Rattle.meaning.specs.Sent.{SentMessage}
 use Rattle.meaning.specs.State.{RunState, fresh_run, noted, typed_frame_at}
 use Rattle.definitional_interpreter.specs.Told.{Visible, Told, told, told_in, after, after_in, after_next, maybe}
 use Rattle.definitional_interpreter.specs.Told.{after_lines}

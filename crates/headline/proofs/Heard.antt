@@ -5,7 +5,7 @@ use Rattle.std.proofs.Common.{ap, subst, ◌∙◌, add-one}
 use Rattle.std.specs.Prelude.{MatchBool, Some, None, option_map, slice_get}
 use Rattle.std.proofs.lemmas.List.{map-append}
 use Rattle.std.proofs.lemmas.Option.{none-some}
-use Rattle.meaning.specs.declared.sent.SentMessage.{SentMessage}
+use Rattle.meaning.specs.Sent.{SentMessage}
 use Rattle.devices.proofs.Hearing.{hears_on}
 use Rattle.devices.specs.Desks.{SeenDesk, Hears, HearsOrForgets}
 use Rattle.devices.specs.declared.desk.HeardMessage.{HeardMessage}

@@ -4,7 +4,7 @@ use Rattle.devices.specs.Desks.{SeenDesk, Hears, HearsOrForgets}
 use Rattle.devices.specs.Watching.{counted}
 use Rattle.change_journal.specs.History.{IsHistory}
 use Rattle.devices.specs.declared.desk.HeardMessage.{HeardMessage}
-use Rattle.meaning.specs.declared.sent.SentMessage.{SentMessage}
+use Rattle.meaning.specs.Sent.{SentMessage}
 use Rattle.session.specs.SessionView.{SessionView}
 use Rattle.session.specs.TakesLine.{TakesLine}
 use Rattle.session.specs.declared.reply.Ending.{Ending}

@@ -70,7 +70,7 @@ fn tell<D: Desk>(desk: &mut D, sent: &Sent)
 {
     for i in 0..sent.len() {
         let message = sent.at(i);
-        desk.sent(&message.name, message.object);
+        desk.sent(message.name(), message.object());
     }
 }
 

@@ -60,3 +60,6 @@ holds_one-last e t (f ∷ g ∷ es) is same =
 
 pub kept-new : (es : List Entry) (e t : Entry) → holds_one e es ≡ false → kept es e t ≡ es ++ t ∷ []
 kept-new es e t h = rw h refl
+
+pub kept-held : (es : List Entry) (e t : Entry) → holds_one e es ≡ true → kept es e t ≡ es
+kept-held es e t h = rw h refl

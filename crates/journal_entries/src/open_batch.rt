@@ -1,7 +1,7 @@
 //! The batch of the line that runs.
 
 ghost use Rattle.std.specs.Prelude.{◌≡◌, ℕ, ◌<◌, ◌≤◌, ◌+◌, max, vec_len, vec_capacity, true, false, List, [], ◌∷◌};
-ghost use Rattle.std.specs.Prelude.{◌++◌, length, IfOk, OnErr, OnOk};
+ghost use Rattle.std.specs.Prelude.{◌++◌, length, IfOk, OnErr, OnOk, Option};
 ghost use Rattle.externals.specs.Cells.{IsPatch, Changes};
 ghost use Rattle.journal_entries.specs.State.{IsState, seen_at};
 ghost use Rattle.journal_entries.specs.Changes.{fits};
@@ -180,8 +180,13 @@ impl OpenBatch {
         ensures ok { OnOk result (Makes present.old present.new self.old self.new (made_change.Global name.now value)) }
         ensures err { OnErr result (Grows present.old present.new × (self.new ≡ self.old)) }
     {
-        let entry = present.prepare_global(name, value)?;
-        self.write(present, entry)
+        let i = present.number_global(name)?;
+        let mut value = value;
+        if is_last_global(&self.entries, i) {
+            present.swap_global(i, &mut value);
+            return Ok(());
+        }
+        self.write(present, Entry::Global(i, value))
     }
 
     /// Gives an external one turn and keeps its patch, if that names a cell. Where memory was refused nothing changes.
@@ -241,9 +246,6 @@ fn make_room(
     ensures place { IfOk result (λ held. held ≡ false → vec_len entries.new < vec_capacity entries.new) }
     ensures room { IfOk result (λ held. held ≡ false → vec_len places.new.waiting < vec_capacity places.new.waiting) }
 {
-    if is_last(entries, entry) {
-        return Ok(true);
-    }
     sort_for(places, entry)?;
     if is_found(places, entry) {
         return Ok(true);
@@ -278,22 +280,23 @@ fn is_held(entries: &[Entry], places: &PlaceSet, entry: &Entry) -> bool
     is_found(places, entry)
 }
 
-/// Whether the latest entry is of the same global, as it is where a loop changes one. Then the places needn't be asked.
-fn is_last(entries: &[Entry], entry: &Entry) -> bool
-    ensures { result ≡ true → holds_one entry.now entries.now ≡ true }
+/// Whether the latest entry is of the numbered global, as it is where a loop changes one. Then it is exchanged alone.
+fn is_last_global(entries: &[Entry], i: usize) -> bool
+    ensures { result ≡ true → (v : Option (List ℕ)) → holds_one (Entry.Global i v) entries.now ≡ true }
 {
     match entries.last() {
-        Some(last) => are_one_global(entry, last),
+        Some(last) => is_of_global(last, i),
         None => false,
     }
 }
 
+/// Whether an entry is of the numbered global.
 #[tactic(auto, unfolding(crate::specs::Exchange::of_one_place))]
-fn are_one_global(entry: &Entry, other: &Entry) -> bool
-    ensures { result ≡ true → of_one_place entry.now other.now ≡ true }
+fn is_of_global(entry: &Entry, i: usize) -> bool
+    ensures { result ≡ true → (v : Option (List ℕ)) → of_one_place (Entry.Global i v) entry.now ≡ true }
 {
-    match (entry, other) {
-        (Entry::Global(i, _), Entry::Global(j, _)) => i == j,
+    match entry {
+        Entry::Global(j, _) => i == *j,
         _ => false,
     }
 }

@@ -2,7 +2,7 @@
 
 ghost use Rattle.std.specs.Prelude.{◌≡◌, ℕ, ◌<◌, ◌≤◌, List, [], ◌∷◌, ◌++◌, length, ◌+◌, true, take, drop, IfOk, IfErr};
 ghost use Rattle.std.specs.Prelude.{IfSome, OnErr, OnOk, slice_index_or, option_copied, option_map, map, slice_get};
-ghost use Rattle.std.specs.Prelude.{Some};
+ghost use Rattle.std.specs.Prelude.{Option, Some};
 ghost use Rattle.std.specs.FinMap as finite;
 ghost use Rattle.ht_grammar.specs.Reads.{Reads, ReadsScript};
 ghost use Rattle.ht_tree.specs.ScriptView.{script_of};
@@ -173,18 +173,23 @@ impl<E: External> Present<E> {
         }
     }
 
-    /// The entry that gives a global a value, or none. It takes no memory where the name has a number.
+    /// The number of a global's name, which gets one if it has none. It takes no memory where the name has one.
     #[tactic(auto, unfolding(crate::specs::Exchange::exchanged, crate::specs::Exchange::taken, crate::specs::Exchange::mark_of, crate::specs::Exchange::entry_weight, crate::specs::Exchange::IsReady, crate::specs::Places::put, crate::specs::Turning::IsNumbered))]
-    pub(crate) fn prepare_global(
-        &mut self,
-        name: &Text,
-        value: Option<Text>,
-    ) -> Result<Entry, AllocError>
-        requires { fits self.old.state (made_change.Global name.now value) ≡ true }
+    pub(crate) fn number_global(&mut self, name: &Text) -> Result<usize, AllocError>
+        ensures entry { IfOk result (λ i. (v : Option (List ℕ))
+            → Prepares self.new (made_change.Global name.now v) (Entry.Global i v ∷ [])) }
+        ensures there { IfOk result (λ i. i < length self.new.names) }
+        ensures grows { Grows self.old self.new }
+    {
+        self.globals.number(name)
+    }
+
+    /// The entry that gives a global a value, or none. It takes no memory where the name has a number.
+    fn prepare_global(&mut self, name: &Text, value: Option<Text>) -> Result<Entry, AllocError>
         ensures entry { IfOk result (λ e. Prepares self.new (made_change.Global name.now value) (e ∷ [])) }
         ensures grows { Grows self.old self.new }
     {
-        Ok(Entry::Global(self.globals.number(name)?, value))
+        Ok(Entry::Global(self.number_global(name)?, value))
     }
 
     /// The entry that gives a field a text for a card.

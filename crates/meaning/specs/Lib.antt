@@ -1,4 +1,5 @@
 pub mod Values
+pub mod Sent
 pub mod State
 pub mod Places
 pub mod Repeats

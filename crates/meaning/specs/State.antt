@@ -12,7 +12,7 @@ use Rattle.containers.specs.Variables.{VariablesView, with_local}
 use Rattle.meaning.specs.declared.frame.Frame.{Frame}
 use Rattle.meaning.specs.declared.end.Stop.{Stop}
 use Rattle.meaning.specs.declared.end.Stop.TheVariants as stop
-use Rattle.meaning.specs.declared.sent.SentMessage.{SentMessage}
+use Rattle.meaning.specs.Sent.{SentMessage}
 
 -- A run: the item delimiter, whether the system sends no messages, whether new parts stand on the background, `the
 -- result`, the steps that are left, the lines shown, and the messages sent.

@@ -6,7 +6,7 @@ ghost use Rattle.stack_text.specs.Words.{spelled};
 ghost use Rattle.meaning.specs.State.{Step, delimiter_set, fresh_run, noted, run_property, run_property_set, shows};
 
 use crate::end::Stop;
-use crate::sent::{Line, Sent, SentMessage, Shown};
+use crate::sent::{Line, Sent, Shown};
 use crate::trace::Trace;
 use ht_grammar::RunProp;
 use ht_values::{Failure, Fault, Text, Value, in_word, truth_of};
@@ -182,8 +182,7 @@ impl Budget {
         ensures ok { OnOk result (self.new ≡ noted self.old name.now object) }
         ensures err { OnErr result (self.new ≡ self.old) }
     {
-        let name = name.try_clone(self.alloc)?;
-        self.sent.push(SentMessage { name, object })
+        self.sent.note(self.alloc, name, object)
     }
 
     /// Sets `the result`.

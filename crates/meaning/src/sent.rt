@@ -1,12 +1,13 @@
 //! What a run shows, and the messages that it sends.
 
-ghost use Rattle.std.specs.Prelude.{◌≡◌, ◌<◌, ◌==◌, [], ◌∷◌, ◌++◌, length, OnOk, OnErr, Some, slice_get};
+ghost use Rattle.std.specs.Prelude.{◌≡◌, ◌<◌, ◌==◌, [], ◌∷◌, ◌++◌, length, IfOk, OnOk, OnErr, Some, slice_get};
 
 use crate::trace::Trace;
 use ht_values::Text;
 use object_table::Id;
 use std::alloc::{AllocError, Global};
 use std::marker::Model;
+use std::rc::Rc;
 
 /// A line that is shown: the bytes after `> `, as they are answered. A text stands there as it is spelled in a stack
 /// text.
@@ -102,11 +103,42 @@ impl Shown {
     }
 }
 
-/// A message that was sent, and the id of the object that it was sent to.
-#[derive(Drop)]
+/// A message that was sent, and the id of the object that it was sent to. Messages of one name that follow each other
+/// share it.
 pub struct SentMessage {
-    pub name: Text,
-    pub object: Id,
+    name: Rc<Text>,
+    object: Id,
+}
+
+/// Written here and not derived, so that it is proved once how it is dropped.
+impl Drop for SentMessage {
+    fn drop(self) {
+        let SentMessage { name: _, object: _ } = self;
+    }
+}
+
+impl Model for SentMessage {
+    ghost use Rattle.meaning.specs.Sent.{SentMessage};
+
+    ghost Value = { SentMessage };
+
+    ghost view = { λ m. record { name = m.name.value; object = m.object } };
+}
+
+impl SentMessage {
+    /// Its name, as it was written.
+    pub fn name(&self) -> &Text
+        ensures { result.now ≡ self.now.name }
+    {
+        &self.name
+    }
+
+    /// The id of the object that it was sent to.
+    pub fn object(&self) -> Id
+        ensures { result ≡ self.now.object }
+    {
+        self.object
+    }
 }
 
 /// Messages that were sent, in their order. Beside them, where contracts don't see it, stands where their run stopped.
@@ -127,7 +159,7 @@ impl Drop for Sent {
 
 impl Model for Sent {
     ghost use Rattle.std.specs.Prelude.{List};
-    ghost use Rattle.meaning.specs.declared.sent.SentMessage.{SentMessage};
+    ghost use Rattle.meaning.specs.Sent.{SentMessage};
 
     ghost Value = { List SentMessage };
 
@@ -172,12 +204,28 @@ impl Sent {
         &self.messages[i]
     }
 
-    /// Adds a message. Where memory was refused nothing changes.
-    pub fn push(&mut self, message: SentMessage) -> Result<(), AllocError>
-        ensures ok { OnOk result (self.new ≡ self.old ++ message ∷ []) }
+    /// Adds a message, with its name as it is written, which takes no memory where the latest one has it. Where memory
+    /// was refused nothing changes.
+    pub fn note(&mut self, alloc: Global, name: &Text, object: Id) -> Result<(), AllocError>
+        ensures ok { OnOk result (self.new ≡ self.old ++ record { name = name.now; object = object } ∷ []) }
         ensures err { OnErr result (self.new ≡ self.old) }
     {
-        self.messages.push(message)?;
+        let name = shared_name(alloc, self.messages.last(), name)?;
+        self.messages.push(SentMessage { name, object })?;
         Ok(())
+    }
+}
+
+/// A name, shared with a message that has it, or as a copy.
+fn shared_name(
+    alloc: Global,
+    latest: Option<&SentMessage>,
+    name: &Text,
+) -> Result<Rc<Text>, AllocError>
+    ensures { IfOk result (λ shared. shared.value ≡ name.now) }
+{
+    match latest {
+        Some(message) if message.name.as_slice() == name.as_slice() => Ok(message.name.clone()?),
+        _ => Ok(Rc::new(alloc, name.try_clone(alloc)?)?),
     }
 }

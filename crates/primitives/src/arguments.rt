@@ -2,6 +2,7 @@
 
 ghost use Rattle.std.specs.Prelude.{◌≡◌, [], ◌∷◌, ◌++◌, IfOk, OnOk, length, option_copied};
 ghost use Rattle.meaning.specs.Messages.{only as only_of};
+ghost use Rattle.primitives.specs.Listed.{listed};
 
 use ht_values::Value;
 use std::alloc::{AllocError, Global};
@@ -59,11 +60,14 @@ impl Arguments {
     pub fn push(&mut self, value: Value) -> Result<(), AllocError>
         ensures { OnOk result (self.new ≡ self.old ++ value ∷ []) }
     {
-        match mem::replace(&mut self.values, Listed::All(Vec::new(self.alloc))) {
-            Listed::All(items) if items.is_empty() => self.values = Listed::One(value),
-            Listed::All(items) => self.values = Listed::All(with_last(items, value)?),
-            Listed::One(first) => self.values = Listed::All(both(self.alloc, first, value)?),
+        if let Listed::All(items) = &mut self.values {
+            if !items.is_empty() {
+                items.push(value)?;
+                return Ok(());
+            }
         }
+        let values = mem::replace(&mut self.values, Listed::All(Vec::new(self.alloc)));
+        self.values = with_last(self.alloc, values, value)?;
         Ok(())
     }
 
@@ -103,12 +107,18 @@ impl Arguments {
     }
 }
 
-/// Values with another at their end.
-fn with_last(mut items: Vec<Value>, value: Value) -> Result<Vec<Value>, AllocError>
-    ensures { IfOk result (λ v. v.items ≡ items.items ++ value ∷ []) }
+/// Values with another at their end. The first takes no memory.
+fn with_last(alloc: Global, values: Listed, value: Value) -> Result<Listed, AllocError>
+    ensures { IfOk result (λ l. listed l ≡ listed values ++ value ∷ []) }
 {
-    items.push(value)?;
-    Ok(items)
+    match values {
+        Listed::One(first) => Ok(Listed::All(both(alloc, first, value)?)),
+        Listed::All(items) if items.is_empty() => Ok(Listed::One(value)),
+        Listed::All(mut items) => {
+            items.push(value)?;
+            Ok(Listed::All(items))
+        }
+    }
 }
 
 /// Two values.

@@ -236,21 +236,30 @@ pub(crate) fn alter_variable<E: External>(
         (place_of_variable frame.old.variables name.now) (Alter op operand) result world.new.history frame.new }
     ensures base { base world.new.history ≡ base world.old.history }
 {
-    if alter_kept(frame, name, op, &operand) {
+    if alter_numbers(world, run, frame, name, op, &operand)? {
         return Ok(());
     }
     edit_named(world, run, frame, name, Edit::Alter(op, operand))
 }
 
-/// Computes with a variable of the handler's own, where it and the operand are kept as numbers, and says whether they
-/// are.
+/// Computes with a variable, where two numbers are computed with as such, and says whether they are.
 #[tactic(auto, using(meaning::proofs::Rules::edits_rules))]
-fn alter_kept(frame: &mut Frame, name: &Name, op: Op, operand: &Value) -> bool
-    ensures altered { result ≡ true → (w : History) (d : ℕ) → Edits w frame.old d
-        (place_of_variable frame.old.variables name.now) (Alter op operand.now) (Ok tt) w frame.new }
-    ensures not { result ≡ false → frame.new ≡ frame.old }
+fn alter_numbers<E: External>(
+    world: &mut World<E>,
+    run: &Budget,
+    frame: &mut Frame,
+    name: &Name,
+    op: Op,
+    operand: &Value,
+) -> Result<bool, AllocError>
+    requires open { IsSome (base world.old.history).start }
+    ensures altered { IfOk result (λ b. b ≡ true → (d : ℕ) → Edits world.old.history frame.old d
+        (place_of_variable frame.old.variables name.now) (Alter op operand.now) (Ok tt) world.new.history frame.new) }
+    ensures not { IfOk result (λ b. b ≡ false
+        → (world.new.history ≡ world.old.history) × (frame.new ≡ frame.old)) }
+    ensures base { base world.new.history ≡ base world.old.history }
 {
-    alter_number(&mut frame.variables, name, op, operand)
+    alter_number(run.alloc(), world, &mut frame.variables, name, op, operand)
 }
 
 /// Edits a variable by what stands there.

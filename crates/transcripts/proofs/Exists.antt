@@ -13,7 +13,7 @@ use Rattle.ht_grammar.specs.Reads.{ReadsLines, ReadsPart, ReadsType}
 use Rattle.ht_grammar.specs.Whole.{clicked_part, typed_text}
 use Rattle.journal_entries.specs.State.{State}
 use Rattle.meaning.specs.declared.end.Stop.{Stop}
-use Rattle.meaning.specs.declared.sent.SentMessage.{SentMessage}
+use Rattle.meaning.specs.Sent.{SentMessage}
 use Rattle.meaning.specs.declared.end.Stop.TheVariants.{Fault as Faults, Exited, Memory}
 use Rattle.meaning.specs.Actions as act
 use Rattle.meaning.specs.Actions.{Action}

@@ -311,7 +311,7 @@ fn notes_one(run: &mut Budget, name: &Text) -> bool {
         && run.note(name, 4).is_ok()
         && !run.sent().is_empty()
         && run.sent().len() == 1
-        && run.sent().at(0).object == 4
+        && run.sent().at(0).object() == 4
 }
 
 /// Whether a run of one step tells what it did.

@@ -5,7 +5,7 @@ use Rattle.devices.proofs.Hearing.{hears_nothing}
 use Rattle.headline.specs.Saving.{as_heard}
 use Rattle.headline.proofs.Heard.{heard_more}
 use Rattle.headline.proofs.transcript.tell.Goals as goal
-use Rattle.meaning.specs.declared.sent.SentMessage.{SentMessage}
+use Rattle.meaning.specs.Sent.{SentMessage}
 
 pub loop-i-init : goal.loop-i-init
 loop-i-init g c = hears_nothing (g.D.Desk.seen c.args.desk.now)
@@ -15,7 +15,7 @@ pub loop-i-preserved : goal.loop-i-preserved
 loop-i-preserved g c =
     heard_more c.args.sent.now c.loop-i.i c.at-message.result.now (g.D.Desk.seen c.args.desk.now)
     (g.D.Desk.seen c.loop-i.desk) (g.D.Desk.seen c.sent.new.self) c.at-message.ensures c.loop-i.invariant
-    c.sent.ensures
+    (rw (c.name.ensures, c.object.ensures) at c.sent.ensures)
 
 pub returns : goal.returns
 returns g c =
