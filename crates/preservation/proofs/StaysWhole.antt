@@ -218,8 +218,8 @@ whole_edits {w} {w2} {f} {f2} {delimiter} {p} {e} named (Edits.edited written _)
 text_stood : (s : State) (v : VariablesView) (h : StorageView) (t : List ℕ) (field card : ℕ)
     → h ≡ field_text field card → whole s v h ≡ Ok t → is_some (text_at s.stack field card) ≡ true
 text_stood s v h t field card at is =
-    stood (text_at s.stack field card) Ok t
-    (subst (λ h. and_then (whole s v h) Ok ≡ Ok t) at (ap (λ o. and_then o Ok) is))
+    stood (text_at s.stack field card) (λ u. Ok u) t
+    (subst (λ h. and_then (whole s v h) (λ u. Ok u) ≡ Ok t) at (ap (λ o. and_then o (λ u. Ok u)) is))
 
 pub whole_stores : {w w2 : History} {f f2 : Frame} {h : StorageView} {t : List ℕ} → IsPlaced h
     → (stores : Stores w f h t w2 f2) → KeepsWhole (replaced_stores stores) w w2

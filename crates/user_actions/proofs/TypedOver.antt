@@ -28,10 +28,10 @@ failed {c} is y = of_fault (subst (λ z. Yields c (Err z)) is y)
     of_fault : {n : Fault} → Yields c (Err (stop.Fault n)) → c ≡ Err n
     of_fault (faults e) = e
 
-was_read : {chunks : List Chunk} {delimiter : ℕ} {old : List ℕ} (u : Result (List ℕ) Fault)
+was_read : (chunks : List Chunk) (delimiter : ℕ) (old : List ℕ) (u : Result (List ℕ) Fault)
     → and_then u (λ x. Ok (read_within delimiter chunks x)) ≡ Ok old → IsOk u
-was_read (Ok x) is = tt
-was_read (Err n) is = cc
+was_read chunks delimiter old (Ok x) is = refl
+was_read chunks delimiter old (Err n) is = cc
 
 module _ (w : History) (r : RunState) (m : Referent) (t : List ℕ) (f : Frame) (typed : f ≡ typed_frame w) where
   -- the field or the card is gone
@@ -53,7 +53,7 @@ module _ (w : History) (r : RunState) (m : Referent) (t : List ℕ) (f : Frame) 
     stands =
         let read = ap (λ (p : Result PlaceView Fault). and_then p (λ q. read_at w.now f.variables r.delimiter q))
         (yielded found) in
-        was_read (whole w.now f.variables place.storage) (sym read ∙ yielded text)
+        was_read place.chunks r.delimiter old (whole w.now f.variables place.storage) (sym read ∙ yielded text)
 
     pub types : (w1 w2 : History) (f1 : Frame) (r1 : RunState) (message : SystemMessage) (end : Result (Unit {0}) Stop)
         → Stores w f place.storage t1 w1 f1

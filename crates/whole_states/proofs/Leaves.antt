@@ -214,8 +214,8 @@ module _ (cut : PartsCut) where
 text_stood : (s : State) (v : VariablesView) (h : StorageView) (t : List ℕ) (field card : ℕ)
     → h ≡ field_text field card → whole s v h ≡ Ok t → is_some (text_at s.stack field card) ≡ true
 text_stood s v h t field card at is =
-    stood (text_at s.stack field card) Ok t
-    (subst (λ h. and_then (whole s v h) Ok ≡ Ok t) at (ap (λ o. and_then o Ok) is))
+    stood (text_at s.stack field card) (λ u. Ok u) t
+    (subst (λ h. and_then (whole s v h) (λ u. Ok u) ≡ Ok t) at (ap (λ o. and_then o (λ u. Ok u)) is))
 
 pub sound_stores : {w w2 : History} {f f2 : Frame} {h : StorageView} {t : List ℕ} → StorageTexts h → IsText t
     → Stores w f h t w2 f2 → IsWhole w → FrameTexts f → IsWhole w2 × FrameTexts f2
@@ -223,21 +223,22 @@ sound_stores {w} {w2} {f} {f2} {h} {t} placed texts (Stores.stores {t1 = t1} {v 
     let both = writes written in
     (both.0, same_frame frame both.1)
   where
-    is_text : (u : List ℕ) → Ok {E = Fault} (Some t) ≡ Ok (Some u) → IsText u
-    is_text u is = subst (λ (o : Result (Option (List ℕ)) Fault). IfOk o (λ x. IfSome x IsText)) is texts
+    is_text : {c : Result (Option (List ℕ)) Fault} (u : List ℕ) → c ≡ Ok (Some u) → IfOk c (λ x. IfSome x IsText)
+        → IsText u
+    is_text u is h = subst (λ o. IfOk o (λ x. IfSome x IsText)) is h
 
     writes : {w3 : History} {v3 : VariablesView} → Writes w f.variables h (Ok (Some t)) w3 v3
         → IsWhole w3 × LocalsTexts v3.locals
     writes (Writes.nothing_due is) = cc
     writes (Writes.to_global {name = name} {t = u} at is made) =
-        let named = subst StorageTexts at placed in (sound_made named.0 (named.1, is_text u is) made q, k)
+        let named = subst StorageTexts at placed in (sound_made named.0 (named.1, is_text u is texts) made q, k)
     writes (Writes.to_own {name = name} {t = u} _ is same) = (
       q,
       subst (λ (x : VariablesView). LocalsTexts x.locals)
-          (sym same) (with_value_texts name (Some u) f.variables.locals k (is_text u is)),
+          (sym same) (with_value_texts name (Some u) f.variables.locals k (is_text u is texts)),
     )
     writes (Writes.to_field {field = field} {card = card} {t = u} at is made) =
-        (sound_made (text_stood w.now f.variables h t1 field card at stands) (is_text u is) made q, k)
+        (sound_made (text_stood w.now f.variables h t1 field card at stands) (is_text u is texts) made q, k)
 
 pub sound_assigns : {w w2 : History} {f f2 : Frame} {variable : Option (List ℕ)} {t : List ℕ}
     → IfSome variable IsText → IsText t → Assigns w f variable t w2 f2 → IsWhole w → FrameTexts f
