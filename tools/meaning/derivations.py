@@ -6,8 +6,8 @@ from table import TYPES, families, letters, snake, words
 
 # The changes and turns of a rule: their name in functions, and which word says how they end, where they may fail.
 LEAVES = {
-    "Made": ("made", None), "TookTurn": ("turn", None), "Edits": ("edits", 6), "Assigns": ("assigns", 6),
-    "DeclaresAll": ("declares_all", 4), "Sets": ("sets", 5), "Adds": ("adds", 3),
+    "Made": ("made", None), "TookTurn": ("turn", None), "Stores": ("stores", None), "Assigns": ("assigns", None),
+    "DeclaresAll": ("declares_all", None), "Edits": ("edits", 6), "Sets": ("sets", 5), "Adds": ("adds", 3),
 }
 
 TABLE = families()

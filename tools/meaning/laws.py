@@ -80,7 +80,7 @@ class Replaced(Law):
     title = "-- What a run replaces, in order: its derivation says it.\npub use Rattle.preservation.specs.Rising.{RisesBy}\n"
     uses = """use Rattle.std.specs.Prelude.{List, [], ◌++◌}
 use Rattle.journal_entries.specs.Replaced.{Replacement}
-use Rattle.preservation.specs.Changes.{replaced_made, replaced_turn, replaced_edits, replaced_assigns, replaced_declares_all, replaced_sets, replaced_adds}"""
+use Rattle.preservation.specs.Changes.{replaced_made, replaced_turn, replaced_edits, replaced_stores, replaced_assigns, replaced_declares_all, replaced_sets, replaced_adds}"""
     says = "{binders} → {derivation} → List Replacement"
     nothing = "[]"
 
@@ -96,7 +96,7 @@ use Rattle.containers.specs.Base.{base}
 use Rattle.containers.proofs.Bases.{made_keeps as base_made, took_keeps as base_turn}
 use Rattle.preservation.specs.Laws.{HasMemory}
 use Rattle.preservation.proofs.Ends.{given, stopped, faulted, exited}
-use Rattle.preservation.proofs.Kept.{base_edits, base_assigns, base_declares_all, base_sets, base_adds}"""
+use Rattle.preservation.proofs.Kept.{base_edits, base_stores, base_assigns, base_declares_all, base_sets, base_adds}"""
     says = "{binders} → {derivation} → HasMemory {end} → base w2 ≡ base w"
     nothing, join = "refl", "{rest} ∙ {part}"
 
@@ -109,7 +109,7 @@ use Rattle.preservation.specs.Laws.{HasMemory}
 use Rattle.preservation.specs.Rising.{RisesBy}
 use Rattle.preservation.specs.Replaced.{%s}
 use Rattle.preservation.proofs.Ends.{given, stopped, faulted, exited}
-use Rattle.preservation.proofs.Risen.{rises_nothing, rises_trans, rises_made, rises_turn, rises_edits, rises_assigns, rises_declares_all, rises_sets, rises_adds}""" % ", ".join("replaced_" + snake(name) for name in FAMILIES)
+use Rattle.preservation.proofs.Risen.{rises_nothing, rises_trans, rises_made, rises_turn, rises_edits, rises_stores, rises_assigns, rises_declares_all, rises_sets, rises_adds}""" % ", ".join("replaced_" + snake(name) for name in FAMILIES)
     says = "{binders} (v : {derivation}) → HasMemory {end} → RisesBy (replaced_{name} v) w.start w2.start"
     nothing, join = "rises_nothing", "rises_trans ({part}) ({rest})"
 
@@ -158,16 +158,17 @@ use Rattle.preservation.specs.Replaced.{%s}
 use Rattle.preservation.proofs.Ends.{given, stopped, faulted, exited}
 use Rattle.meaning.specs.Places.{it_name}
 use Rattle.preservation.proofs.Placed.{placed_variable, placed, placed_at, placed_by_name, placed_part}
-use Rattle.preservation.proofs.StaysWhole.{whole_nothing, whole_trans, may_go, whole_made, whole_turn, whole_edits, whole_assigns, whole_declares_all, whole_sets, whole_adds}""" % ", ".join("replaced_" + snake(name) for name in FAMILIES)
+use Rattle.preservation.proofs.StaysWhole.{whole_nothing, whole_trans, may_go, whole_made, whole_turn, whole_edits, whole_stores, whole_assigns, whole_declares_all, whole_sets, whole_adds}""" % ", ".join("replaced_" + snake(name) for name in FAMILIES)
     says = "{binders} (v : {derivation}) → HasMemory {end} → KeepsWhole (replaced_{name} v) w w2"
     nothing, join = "whole_nothing", "whole_trans ({part}) ({rest})"
     # What tells of a place that a global there is named by a folded name, and of a change that it fits: a premise, or the
     # place itself; the variables that the term names are its groups. P is the premise, INNER is told of another place.
     PLACES = (
-        (r"\(variable_place (f\d*)\.variables (\w+)\)$", "(placed_variable {0}.variables {1})"),
+        (r"\(named (f\d*)\.variables (\w+)\)$", "(placed_variable {0}.variables {1})"),
         (r"Resolves .* \(Ok PLACE\) \S+ \S+$", "(placed P)"),
         (r"field_place (w\d*)\.now (m\d*) ≡ Ok PLACE$", "(placed_at {0}.now {1} P)"),
-        (r"Yields \(field_named_place (w\d*)\.now (b\d*) (n\d*)\) \(Ok PLACE\)$", "(placed_by_name {0}.now {1} {2} P)"),
+        (r"Yields \(field_named_place (w\d*)\.now (f\d*)\.variables (b\d*) (n\d*)\) \(Ok PLACE\)$",
+         "(placed_by_name {0}.now {1}.variables {2} {3} P)"),
         (r"PLACE ≡ chunk_of_place (pl\d*) (c\d*)$", "(placed_part {0} {1} P INNER)"),
     )
     CHANGES = {
@@ -190,8 +191,9 @@ use Rattle.preservation.proofs.StaysWhole.{whole_nothing, whole_trans, may_go, w
     def evidence(self, premise, premises):
         """What is told of an edit or a change before it, and the variables that this names."""
         head, *rest = words(premise)
-        if head == "Edits":
-            return self.told(rest[3], self.PLACES, premises)
+        if head in ("Edits", "Stores"):
+            place = rest[3] if head == "Edits" else re.sub(r"\.storage$", "", rest[2])
+            return self.told(place, self.PLACES, premises)
         return self.told(rest[2], self.CHANGES[rest[2]], premises) if head == "Made" else None
 
     def before(self, premise, premises):

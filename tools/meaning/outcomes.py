@@ -109,10 +109,12 @@ def leaf(premise, run, w):
         return "adds", told("add_objects (sight g %s) %s %s" % (rest[0], run, rest[1]), rest[2], rest[3])
     if head == "Edits":
         return "edits", ("told_in", "edit (sight g %s) %s %s %s %s" % (rest[0], run, rest[1], rest[3], rest[4]), rest[5], rest[6], run, rest[7])
+    if head == "Stores":
+        return "stores", ("told_in", "written (sight g %s) %s %s %s %s" % (rest[0], run, *rest[1:4]), "(Ok tt)", rest[4], run, rest[5])
     if head == "Assigns":
-        return "assigns", ("told_in", "assign (sight g %s) %s %s %s %s" % (rest[0], run, rest[1], rest[3], rest[4]), rest[5], rest[6], run, rest[7])
+        return "assigns", ("told_in", "assign (sight g %s) %s %s %s %s" % (rest[0], run, *rest[1:4]), "(Ok tt)", rest[4], run, rest[5])
     if head == "DeclaresAll":
-        return "declares_all", ("told_in", "declare_all (sight g %s) %s %s %s" % (rest[0], run, rest[1], rest[2]), rest[3], rest[4], run, rest[5])
+        return "declares_all", ("told_in", "declare_all (sight g %s) %s %s %s" % (rest[0], run, rest[1], rest[2]), "(Ok tt)", rest[3], run, rest[4])
     return None
 
 
@@ -139,6 +141,8 @@ def swap(variable, term, text):
     return re.sub(r"(?<![\w.])%s(?![\w(])" % variable, bracketed(term), text)
 
 
+# The leaves that always go well.
+SURE = ("makes", "takes_turn", "stores", "assigns", "declares_all")
 DEFINES = re.compile(r"^([a-z]+\d*) ≡ (.*)$")
 OPS = {("told", "told"): "after", ("told", "told_in"): "after_in", ("told_in", "told_in"): "after_run", ("told_in", "told"): "after_lines"}
 
@@ -173,7 +177,7 @@ def end_type(premise):
 
 def memory_of(premise, lemma, end, whole_end, whole_type):
     """Why a part had memory, where the whole has it."""
-    if lemma.startswith(("makes", "takes_turn")):
+    if lemma.startswith(SURE):
         return ""
     if end.startswith("(Ok"):
         return " given"
@@ -327,11 +331,11 @@ use Rattle.ht_grammar.specs.Whole.{sent_message}
 use Rattle.preservation.specs.Laws.{HasMemory}
 use Rattle.preservation.proofs.Ends.{given, stopped, faulted, exited}
 use Rattle.definitional_interpreter.specs.Told.{told, told_in}
-use Rattle.definitional_interpreter.specs.Changes.{yielded, step, make, edit, assign, declare_all, set_property, add_objects, turn}
+use Rattle.definitional_interpreter.specs.Changes.{yielded, step, make, edit, written, assign, declare_all, set_property, add_objects, turn}
 use Rattle.definitional_interpreter.specs.Texts.{parsed, first_found}
 use Rattle.definitional_interpreter.proofs.Comes.{Sight, sight, Comes, HasExternal}
 use Rattle.definitional_interpreter.proofs.Chain.{done, later, after_ok, after_stop, after_in_ok, after_in_stop, after_run_ok, after_run_stop, after_lines_ok, after_lines_stop, after_next_ok, after_next_stop, after_next_leaves, choose_true, choose_false, maybe_some, maybe_none, computed_ok, computed_err, below, at_least, at_limit, gives_outcome, there_ok, there_none, there_stop}
-use Rattle.definitional_interpreter.proofs.Leaves.{yields, parses_expression, parses_typed_lines, parses_sent_message, steps, finds, makes, takes_turn, sets, adds, edits, assigns, declares_all, named_there, there_after, asks_back, talk_back}
+use Rattle.definitional_interpreter.proofs.Leaves.{yields, parses_expression, parses_typed_lines, parses_sent_message, steps, finds, makes, takes_turn, sets, adds, edits, stores, assigns, declares_all, named_there, there_after, asks_back, talk_back}
 use Rattle.meaning.specs.Meaning.{%s}""" % ", ".join(FAMILIES)
     return "-- What the rules allow is what the meanings come to.\n" + imports(uses, text) + text
 

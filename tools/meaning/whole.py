@@ -47,7 +47,8 @@ TERMS = (
     (r"it_name", "it_text"),
     (r"\(Some (\w+)\)", "[0]"),
     (r"\((?:Put|Alter) \w+ (\w+)\)", "[0]"),
-    (r"\(variable_place (\w+)\.variables (\w+)\)", "(named_texts {0}.variables {1} [1])"),
+    (r"\(named (\w+)\.variables (\w+)\)", "(named_texts {0}.variables {1} [1])"),
+    (r"(\w+)\.storage", "[0]"),
     (r"\((\w+) \+\+ (\w+) ∷ \[\]\)", "(texts_push {0} {1} [0] [1])"),
     (r"\(lines_of (\w+)\.handler\)", "(lines_texts {0}.handler [0])"),
 )
@@ -60,9 +61,10 @@ TOLD = (
     (r"TookTurn (\w+) (\w+) (\w+) (\w+) (\w+)", "stands_after {0} {1} (base_turn HERE) [2 in 0]", "2 in 1"),
     (r"Edits (\w+) (\w+) (\w+)\.delimiter (\w+|\(.*?\)) (\w+|\(.*?\)) \(.*\) (\w+) (\w+)",
      "sound_edits cut [3] [4] [2].delimiter HERE HAS [0] [1]", "5", "6"),
-    (r"Assigns (\w+) (\w+) (\w+)\.delimiter (\w+) \(numeral (\w+)\.at\) \(.*\) (\w+) (\w+)",
-     "sound_assigns cut [3] (numeral_text {4}.at) [2].delimiter HERE HAS [0] [1]", "5", "6"),
-    (r"DeclaresAll (\w+) (\w+) (\w+) \(.*\) (\w+) (\w+)", "sound_declares_all [2] HERE HAS [0] [1]", "3", "4"),
+    (r"Stores (\w+) (\w+) (\w+\.storage|\(.*?\)) (\w+) (\w+) (\w+)", "sound_stores [2] [3] HERE [0] [1]", "4", "5"),
+    (r"Assigns (\w+) (\w+) (\w+) \(numeral (\w+)\.at\) (\w+) (\w+)",
+     "sound_assigns [2] (numeral_text {3}.at) HERE [0] [1]", "4", "5"),
+    (r"DeclaresAll (\w+) (\w+) (\w+) (\w+) (\w+)", "sound_declares_all [2] HERE [0] [1]", "3", "4"),
     (r"Sets (\w+) \w+ \w+ (\w+) \(.*\) (\w+)", "sound_sets [1] HERE HAS [0]", "2"),
     (r"Adds (\w+) .* (\w+)", "sound_adds tt HERE HAS [0]", "1"),
     (r"Parses ReadsExpr (\w+) \(Ok (.+)\)", "sound_parses {P = ExprTexts} expressions_have_texts HERE [0]", "1"),
@@ -120,7 +122,8 @@ COMPUTED = (
     (r"property_of (\w+)\.now\.stack (\w+)\.card \S+ (\w+)", "IsText",
      "property_text {0}.now.stack {1}.card {1}.object {2} [0].history.now.state.stack"),
     (r"field_place (\w+)\.now (\w+)", PLACE, "field_place_texts {0}.now {1}"),
-    (r"field_named_place (\w+)\.now (\w+) (\w+)", PLACE, "named_place_texts {0}.now {1} {2}"),
+    (r"field_named_place (\w+)\.now (\w+)\.variables (\w+) (\w+)", PLACE,
+     "named_place_texts {0}.now {1}.variables {2} {3}"),
 )
 # The ends that go well and have no text of their own.
 ENDS = {
@@ -147,7 +150,7 @@ use Rattle.whole_states.specs.Texts.{AreTexts, RunTexts, FrameTexts, StorageText
 use Rattle.whole_states.proofs.TreeTexts.{expressions_have_texts, lines_have_texts, messages_have_texts}
 use Rattle.whole_states.proofs.ValueTexts.{empty_text, word_text, constant_is, numeral_text, binary_text, unary_text, built_in_text, read_text}
 use Rattle.whole_states.proofs.StateTexts.{named_texts, read_name_text, field_is_text, property_text, name_text}
-use Rattle.whole_states.proofs.Leaves.{IsWhole, sound_made, sound_turn, stands_after, named_stands, same_frame, sound_edits, sound_assigns, sound_declares_all, sound_sets, sound_adds, sound_step, sound_shows, sound_noted, sound_property, property_read, sound_returned, sound_ends, sound_leaves, sound_yields, sound_parses, sound_finds, sound_handler_frame, sound_only, field_place_texts, named_place_texts, lines_texts, texts_push, it_text, return_text}"""
+use Rattle.whole_states.proofs.Leaves.{IsWhole, sound_made, sound_turn, stands_after, named_stands, same_frame, sound_edits, sound_stores, sound_assigns, sound_declares_all, sound_sets, sound_adds, sound_step, sound_shows, sound_noted, sound_property, property_read, sound_returned, sound_ends, sound_leaves, sound_yields, sound_parses, sound_finds, sound_handler_frame, sound_only, field_place_texts, named_place_texts, lines_texts, texts_push, it_text, return_text}"""
 
 
 def shapes():

@@ -33,14 +33,14 @@ use Rattle.object_references.specs.declared.referent.Referent.{Referent}
 use Rattle.meaning.specs.declared.end.Stop.{Stop}
 use Rattle.meaning.specs.declared.end.Stop.TheVariants.{Fault as Faults}
 use Rattle.meaning.specs.declared.frame.Frame.{Frame}
-use Rattle.meaning.specs.Places.{Edits, Assigns, DeclaresAll, Sets, Adds}
+use Rattle.meaning.specs.Places.{Edits, Stores, Assigns, DeclaresAll, Sets, Adds}
 use Rattle.meaning.specs.State.{RunState, Step}
 use Rattle.meaning.specs.Values.{Yields}
 use Rattle.preservation.specs.Laws.{HasMemory, IsPrefix}
 use Rattle.definitional_interpreter.specs.Told.{Visible, Told, told, told_in, after, maybe, computed, choose}
 use Rattle.definitional_interpreter.specs.Changes.{with_global, yielded, step_by, step, made, make, with_variables}
 use Rattle.definitional_interpreter.specs.Changes.{written, edit_by}
-use Rattle.definitional_interpreter.specs.Changes.{edit, assign, declare_all, set_property, add_objects, turn}
+use Rattle.definitional_interpreter.specs.Changes.{edit, written, assign, declare_all, set_property, add_objects, turn}
 use Rattle.definitional_interpreter.specs.Families.{Meanings}
 use Rattle.definitional_interpreter.specs.Turns.{sorts_of, sorts}
 use Rattle.definitional_interpreter.proofs.Comes.{AreExact, Sight, sight, Comes, Kept, HasExternal, kept_refl}
@@ -185,15 +185,21 @@ edits {g} {w} {w1} {f} {f1} {r} {p} {e} (Edits.edited done_by frame) has =
     let both =
     writes g {r = r} {f = f} done_by in leaf both.0 (both.1 ∙ ap (told_in (Ok tt) (sight g w1) r) (sym frame))
 
-pub assigns : {g : Sight} {w w1 : History} {f f1 : Frame} {r : RunState} {name : Option (List ℕ)} {v : List ℕ}
-    {o : Result (Unit {0}) Stop} → Assigns w f r.delimiter name v o w1 f1 → HasMemory o →
-    Comes g w (λ parts. assign (sight g w) r f name v) (told_in o (sight g w1) r f1) w1
-assigns Assigns.assign_memory has = absurd (has refl)
-assigns {g} {w} {f = f} {r = r} {v = v} (Assigns.no_variable is) has =
+pub stores : {g : Sight} {w w1 : History} {f f1 : Frame} {r : RunState} {h : StorageView} {t : List ℕ} →
+    Stores w f h t w1 f1 →
+    Comes g w (λ parts. written (sight g w) r f h t) (told_in (Ok tt) (sight g w1) r f1) w1
+stores {g} {w1 = w1} {f = f} {r = r} (Stores.stores _ done_by frame) =
+    let both = writes g {r = r} {f = f} done_by in leaf both.0
+    (both.1 ∙ ap (told_in (Ok tt) (sight g w1) r) (sym frame))
+
+pub assigns : {g : Sight} {w w1 : History} {f f1 : Frame} {r : RunState} {name : Option (List ℕ)} {v : List ℕ} →
+    Assigns w f name v w1 f1 →
+    Comes g w (λ parts. assign (sight g w) r f name v) (told_in (Ok tt) (sight g w1) r f1) w1
+assigns {g} {w} {f = f} {r = r} {v = v} (Assigns.no_variable is) =
     leaf kept_refl (ap (λ name. assign (sight g w) r f name v) is)
-assigns {g} {w} {w1} {f} {f1} {r} {v = v} {o = o} (Assigns.assigns is e) has =
-    subst (λ name. Comes g w (λ parts. assign (sight g w) r f name v) (told_in o (sight g w1) r f1) w1) (sym is)
-    (edits e has)
+assigns {g} {w} {w1} {f} {f1} {r} {v = v} (Assigns.assigns is e) =
+    subst (λ name. Comes g w (λ parts. assign (sight g w) r f name v) (told_in (Ok tt) (sight g w1) r f1) w1) (sym is)
+    (stores e)
 
 declares : (g : Sight) {w w1 : History} {v v1 : VariablesView} {name : List ℕ} → Declares w v name w1 v1 →
     Kept w w1 × (with_global (sight g w) name (get w.now.globals (folded name))
@@ -207,23 +213,22 @@ moved : {g : Sight} {X : Type 0} {w w1 w2 : History} {F : Meanings → X} {x : X
 moved {g} {w = w} {w1 = w1} {w2 = w2} kept h =
     record { kept = kept_trans kept h.kept; gives = λ exact asked. h.gives exact (asks_rest kept asked) }
 
-pub declares_all : {g : Sight} {w w1 : History} {f f1 : Frame} {r : RunState} {names : List (List ℕ)}
-    {o : Result (Unit {0}) Stop} → DeclaresAll w f names o w1 f1 → HasMemory o →
-    Comes g w (λ parts. declare_all (sight g w) r f names) (told_in o (sight g w1) r f1) w1
-declares_all DeclaresAll.declare_memory has = absurd (has refl)
-declares_all {g} {w} {f = f} {r = r} (DeclaresAll.none_declared is) has =
+pub declares_all : {g : Sight} {w w1 : History} {f f1 : Frame} {r : RunState} {names : List (List ℕ)} →
+    DeclaresAll w f names w1 f1 →
+    Comes g w (λ parts. declare_all (sight g w) r f names) (told_in (Ok tt) (sight g w1) r f1) w1
+declares_all {g} {w} {f = f} {r = r} (DeclaresAll.none_declared is) =
     leaf kept_refl (ap (declare_all (sight g w) r f) is)
-declares_all {g} {w} {w1 = w2} {f} {f1 = f2} {r} {o = o}
-    (DeclaresAll.declared {w1 = w1} {f1 = f1} {names1 = names} {name = name} {v = v} is d frame rest) has =
+declares_all {g} {w} {w1 = w2} {f} {f1 = f2} {r}
+    (DeclaresAll.declared {w1 = w1} {f1 = f1} {names1 = names} {name = name} {v = v} is d frame rest) =
     let all = declares g d in
     let f_is : f1 ≡ with_variables f (declared f.variables name) = frame ∙ ap (with_variables f) (sym all.2) in
-    let h = moved all.0 (declares_all {r = r} rest has) in
-    subst (λ ns. Comes g w (λ parts. declare_all (sight g w) r f ns) (told_in o (sight g w2) r f2) w2) (sym is)
+    let h = moved all.0 (declares_all {r = r} rest) in
+    subst (λ ns. Comes g w (λ parts. declare_all (sight g w) r f ns) (told_in (Ok tt) (sight g w2) r f2) w2) (sym is)
     (subst
     (λ f1. Comes g w
     (λ parts. declare_all (with_global (sight g w) name (get w.now.globals (folded name))) r f1 names)
-    (told_in o (sight g w2) r f2) w2) f_is
-    (subst (λ u. Comes g w (λ parts. declare_all u r f1 names) (told_in o (sight g w2) r f2) w2) (sym all.1) h))
+    (told_in (Ok tt) (sight g w2) r f2) w2) f_is
+    (subst (λ u. Comes g w (λ parts. declare_all u r f1 names) (told_in (Ok tt) (sight g w2) r f2) w2) (sym all.1) h))
 
 pub sets : {g : Sight} {w w1 : History} {m : Referent} {p : Prop} {t : List ℕ} {o : Result (Unit {0}) Stop}
     {r : RunState} → Sets w m p t o w1 → HasMemory o →

@@ -4,7 +4,7 @@ use Rattle.std.proofs.Common.{◌≡◌, refl, sym, subst}
 use Rattle.preservation.specs.Laws.{HasMemory}
 use Rattle.preservation.proofs.Ends.{given, stopped, faulted}
 use Rattle.definitional_interpreter.specs.Told.{told, told_in}
-use Rattle.definitional_interpreter.specs.Changes.{edit, add_objects, turn}
+use Rattle.definitional_interpreter.specs.Changes.{yielded, edit, written, add_objects, turn}
 use Rattle.definitional_interpreter.proofs.Comes.{Sight, sight, Comes, HasExternal}
 use Rattle.definitional_interpreter.proofs.Chain.{done, later, after_ok, after_stop, after_in_ok, after_in_stop}
 use Rattle.definitional_interpreter.proofs.Chain.{after_run_ok, after_run_stop, after_lines_ok, after_lines_stop}
@@ -12,7 +12,7 @@ use Rattle.definitional_interpreter.proofs.Chain.{after_next_ok, after_next_stop
 use Rattle.definitional_interpreter.proofs.Chain.{choose_false, maybe_some, maybe_none, computed_ok, computed_err}
 use Rattle.definitional_interpreter.proofs.Chain.{below, at_least, gives_outcome, there_ok, there_none, there_stop}
 use Rattle.definitional_interpreter.proofs.Leaves.{yields, parses_expression, parses_typed_lines, parses_sent_message}
-use Rattle.definitional_interpreter.proofs.Leaves.{steps, finds, makes, takes_turn, sets, adds, edits, assigns}
+use Rattle.definitional_interpreter.proofs.Leaves.{steps, finds, makes, takes_turn, sets, adds, edits, stores, assigns}
 use Rattle.definitional_interpreter.proofs.Leaves.{declares_all, named_there, there_after, asks_back, talk_back}
 use Rattle.meaning.specs.Meaning.{Val, Vals, NumberVal, TruthVal, TextVal, ChunkOf, Resolves, Picks, Seeks, Owns}
 use Rattle.meaning.specs.Meaning.{PartMet, Meets, Leads, Form, Alters, Block, DoText, Endless, While, Bounds, Counts}
@@ -22,7 +22,6 @@ use Rattle.meaning.specs.Meaning.{TypesOver, TypesInto, Acts}
 use Rattle.std.specs.Prelude.{ℕ, ◌+◌, ℤ, List, [], Bool, Option, None, Result, Ok, Err}
 use Rattle.ht_values.specs.declared.fault.Fault.TheVariants.{TooDeep, CantDelete, BadArgument}
 use Rattle.ht_values.specs.declared.operator.Op.{Op}
-use Rattle.ht_values.specs.declared.word.Where.TheVariants.{Into}
 use Rattle.ht_grammar.specs.declared.vocabulary.HandlerKind.{HandlerKind}
 use Rattle.ht_grammar.specs.declared.vocabulary.HandlerKind.TheVariants.{Command, Function}
 use Rattle.ht_grammar.specs.declared.vocabulary.Layer.{Layer}
@@ -39,8 +38,8 @@ use Rattle.object_references.specs.declared.referent.PartScope.{PartScope}
 use Rattle.object_references.specs.declared.referent.Pick.{Pick}
 use Rattle.object_references.specs.declared.referent.Referent.{Referent}
 use Rattle.object_references.specs.declared.referent.Sought.{Sought}
-use Rattle.containers.specs.declared.edit.Edit.TheVariants.{Put, Delete}
-use Rattle.containers.specs.Places.{PlaceView}
+use Rattle.containers.specs.declared.edit.Edit.TheVariants.{Delete}
+use Rattle.containers.specs.Places.{PlaceView, named}
 use Rattle.meaning.specs.declared.end.Conversed.{Conversed}
 use Rattle.meaning.specs.declared.frame.Frame.{Frame}
 use Rattle.meaning.specs.declared.end.How.{How}
@@ -51,7 +50,7 @@ use Rattle.meaning.specs.declared.system.SystemMessage.{SystemMessage}
 use Rattle.meaning.specs.declared.item.Item.{Item}
 use Rattle.meaning.specs.Actions.{Action}
 use Rattle.meaning.specs.State.{RunState, noted}
-use Rattle.meaning.specs.Places.{variable_place, field_text}
+use Rattle.meaning.specs.Places.{field_text, field_named_place}
 use Rattle.meaning.specs.Repeats.{CounterState}
 use Rattle.meaning.specs.Menu.{closing, opening}
 use Rattle.meaning.specs.Messages.{lines_of}
@@ -470,13 +469,9 @@ mutual
   form_comes {g} (Form.get_stops {s = s} {w = w} {w1 = w1} {r = r} {r1 = r1} {f = f} {d = d} {z = z} p1 p2) has = subst
       (λ (s : stm.Stmt). Comes g w (λ parts. parts.form (sight g w) r f d s) (told_in (Err z) (sight g w1) r1 f) w1)
       (sym p1) (later (after_in_stop _ _ (val_comes p2 (stopped has))))
-  form_comes {g} (Form.get_fails {s = s} {w = w} {w2 = w2} {r = r} {r1 = r1} {f = f} {f1 = f1} {d = d} {z = z} p1 p2 p3)
-      has = subst (λ (s : stm.Stmt). Comes g w (λ parts. parts.form (sight g w) r f d s)
-      (told_in (Err z) (sight g w2) r1 f1) w2) (sym p1)
-      (later (after_in_ok _ _ (val_comes p2 given) (after_run_stop _ (edits p3 (stopped has)))))
   form_comes {g} (Form.get {s = s} {w = w} {w2 = w2} {r = r} {r1 = r1} {f = f} {f1 = f1} {d = d} p1 p2 p3) has = subst
       (λ (s : stm.Stmt). Comes g w (λ parts. parts.form (sight g w) r f d s) (told_in (Ok Next) (sight g w2) r1 f1) w2)
-      (sym p1) (later (after_in_ok _ _ (val_comes p2 given) (after_run_ok _ (edits p3 given) (done))))
+      (sym p1) (later (after_in_ok _ _ (val_comes p2 given) (after_run_ok _ (stores p3) (done))))
   form_comes {g} (Form.set_stops {s = s} {w = w} {w1 = w1} {r = r} {r1 = r1} {f = f} {d = d} {z = z} p1 p2) has = subst
       (λ (s : stm.Stmt). Comes g w (λ parts. parts.form (sight g w) r f d s) (told_in (Err z) (sight g w1) r1 f) w1)
       (sym p1) (later (after_in_stop _ _ (val_comes p2 (stopped has))))
@@ -568,12 +563,9 @@ mutual
   form_comes {g} (Form.go {s = s} {w = w} {w2 = w2} {r = r} {r2 = r2} {f = f} {d = d} p1 p2 p3) has = subst
       (λ (s : stm.Stmt). Comes g w (λ parts. parts.form (sight g w) r f d s) (told_in (Ok Next) (sight g w2) r2 f) w2)
       (sym p1) (later (after_in_ok _ _ (leads_comes p2 given) (after_in_ok _ _ (goes_comes p3 given) (done))))
-  form_comes {g} (Form.global_stops {s = s} {w = w} {w1 = w1} {f = f} {f1 = f1} {z = z} {r = r} {d = d} p1 p2)
-      has = subst (λ (s : stm.Stmt). Comes g w (λ parts. parts.form (sight g w) r f d s)
-      (told_in (Err z) (sight g w1) r f1) w1) (sym p1) (later (after_run_stop _ (declares_all p2 (stopped has))))
   form_comes {g} (Form.global {s = s} {w = w} {w1 = w1} {f = f} {f1 = f1} {r = r} {d = d} p1 p2) has = subst
       (λ (s : stm.Stmt). Comes g w (λ parts. parts.form (sight g w) r f d s) (told_in (Ok Next) (sight g w1) r f1) w1)
-      (sym p1) (later (after_run_ok _ (declares_all p2 given) (done)))
+      (sym p1) (later (after_run_ok _ (declares_all p2) (done)))
   form_comes {g} (Form.exit_repeat {s = s} {w = w} {r = r} {f = f} {d = d} p1) has = subst
       (λ (s : stm.Stmt). Comes g w (λ parts. parts.form (sight g w) r f d s) (told_in (Ok ExitRepeat) (sight g w) r f)
       w) (sym p1) (later (done))
@@ -751,19 +743,17 @@ mutual
   counts_comes Counts.counts_memory has = absurd (has refl)
   counts_comes (Counts.counts_no_step p1) has = later (after_in_stop _ _ (steps p1 (stopped has)))
   counts_comes (Counts.counts_end p1 p2) has = later (after_in_ok _ _ (steps p1 given) (choose_true _ _ p2 (done)))
-  counts_comes (Counts.counts_fail p1 p2 p3) has =
-      later (after_in_ok _ _ (steps p1 given) (choose_false _ _ p2 (after_run_stop _ (assigns p3 (stopped has)))))
   counts_comes (Counts.counts_stop p1 p2 p3 p4) has = later
       (after_in_ok _ _ (steps p1 given)
-      (choose_false _ _ p2 (after_run_ok _ (assigns p3 given) (after_run_stop _ (block_comes p4 has)))))
+      (choose_false _ _ p2 (after_run_ok _ (assigns p3) (after_run_stop _ (block_comes p4 has)))))
   counts_comes (Counts.counts_leave p1 p2 p3 p4 p5) has = later
       (after_in_ok _ _ (steps p1 given)
-      (choose_false _ _ p2 (after_run_ok _ (assigns p3 given)
+      (choose_false _ _ p2 (after_run_ok _ (assigns p3)
       (after_run_ok _ (block_comes p4 given) (maybe_some _ _ p5 (done))))))
   counts_comes {g} (Counts.counts_go_on {r2 = r2} {r3 = r3} {co1 = co1} {w2 = w2} {w3 = w3} {f2 = f2} {f3 = f3}
       {on = on} {d = d} {ss = ss} {oh = oh} p1 p2 p3 p4 p5 p6 p7) has = later
       (after_in_ok _ _ (steps p1 given)
-      (choose_false _ _ p2 (after_run_ok _ (assigns p3 given)
+      (choose_false _ _ p2 (after_run_ok _ (assigns p3)
       (after_run_ok _ (block_comes p4 given)
       (maybe_none _ _ p5 (subst (λ (co1 : CounterState). Comes g w2
       (λ parts. parts.counts (sight g w2) r2 f2 d on co1 ss) (told_in oh (sight g w3) r3 f3) w3) p6
@@ -1026,38 +1016,30 @@ mutual
   calls_back_comes {g} (CallsBack.bad_global {ask = ask} {w = w} {r = r} {d = d} p1 p2) has = subst
       (λ (ask : Ask). Comes g w (λ parts. parts.calls_back (sight g w) r d ask)
       (told (Err (Faults BadArgument)) (sight g w) r) w) (sym p1) (later (choose_false _ _ p2 (done)))
-  calls_back_comes {g} (CallsBack.global_fails {ask = ask} {n = n} {v = v} {f = f} {f1 = f1} {w = w} {w1 = w1} {r = r}
-      {z = z} {d = d} p1 p2 p3 p4) has = subst
-      (λ (ask : Ask). Comes g w (λ parts. parts.calls_back (sight g w) r d ask) (told (Err z) (sight g w1) r) w1)
-      (sym p1) (later (choose_true _ _ p2
-      (after_lines_stop _ (subst (λ (f : Frame). Comes g w
-      (λ parts. edit (sight g w) r f (variable_place f.variables n) (Put Into v)) (told_in (Err z) (sight g w1) r f1)
-      w1) p3 (edits p4 (stopped has))))))
   calls_back_comes {g} (CallsBack.global_set {ask = ask} {vs = vs} {n = n} {v = v} {f = f} {f1 = f1} {w = w} {w1 = w1}
-      {r = r} {inp = inp} {d = d} p1 p2 p3 p4 p5) has = subst
+      {inp = inp} {r = r} {d = d} p1 p2 p3 p4 p5) has = subst
       (λ (ask : Ask). Comes g w (λ parts. parts.calls_back (sight g w) r d ask) (told (Ok inp) (sight g w1) r) w1)
       (sym p1) (subst (λ (inp : Input). Comes g w (λ parts. parts.calls_back (sight g w) r d (SetGlobal vs n v))
       (told (Ok inp) (sight g w1) r) w1) (sym p5)
       (later (choose_true _ _ p2 (after_lines_ok _
-      (subst (λ (f : Frame). Comes g w (λ parts. edit (sight g w) r f (variable_place f.variables n) (Put Into v))
-      (told_in (Ok tt) (sight g w1) r f1) w1) p3 (edits p4 given)) (done)))))
-  calls_back_comes {g} (CallsBack.no_such_field {ask = ask} {w = w} {z = z} {r = r} {d = d} p1 p2) has = subst
-      (λ (ask : Ask). Comes g w (λ parts. parts.calls_back (sight g w) r d ask) (told (Err z) (sight g w) r) w) (sym p1)
-      (later (after_stop _ (yields p2 (stopped has))))
-  calls_back_comes {g} (CallsBack.field_fails {ask = ask} {v = v} {w = w} {w1 = w1} {pl = pl} {f = f} {f1 = f1} {r = r}
-      {z = z} {d = d} p1 p2 p3 p4) has = subst
-      (λ (ask : Ask). Comes g w (λ parts. parts.calls_back (sight g w) r d ask) (told (Err z) (sight g w1) r) w1)
-      (sym p1) (later (after_ok _ (yields p2 given)
-      (after_lines_stop _ (subst (λ (f : Frame). Comes g w (λ parts. edit (sight g w) r f pl (Put Into v))
-      (told_in (Err z) (sight g w1) r f1) w1) p3 (edits p4 (stopped has))))))
-  calls_back_comes {g} (CallsBack.field_set {ask = ask} {vs = vs} {b = b} {n = n} {v = v} {w = w} {w1 = w1} {pl = pl}
-      {f = f} {f1 = f1} {r = r} {inp = inp} {d = d} p1 p2 p3 p4 p5) has = subst
+      (subst (λ (f : Frame). Comes g w (λ parts. written (sight g w) r f (named f.variables n) v)
+      (told_in (Ok tt) (sight g w1) r f1) w1) p3 (stores p4)) (done)))))
+  calls_back_comes {g} (CallsBack.no_such_field {ask = ask} {b = b} {n = n} {f = f} {w = w} {z = z} {r = r} {d = d} p1
+      p2 p3) has = subst (λ (ask : Ask). Comes g w (λ parts. parts.calls_back (sight g w) r d ask)
+      (told (Err z) (sight g w) r) w) (sym p1)
+      (later (after_stop _ (subst (λ (f : Frame). Comes g w
+      (λ parts. told (yielded (field_named_place w.now f.variables b n)) (sight g w) r) (told (Err z) (sight g w) r) w)
+      p2 (yields p3 (stopped has)))))
+  calls_back_comes {g} (CallsBack.field_set {ask = ask} {vs = vs} {b = b} {n = n} {v = v} {f = f} {f1 = f1} {w = w}
+      {w1 = w1} {pl = pl} {inp = inp} {r = r} {d = d} p1 p2 p3 p4 p5) has = subst
       (λ (ask : Ask). Comes g w (λ parts. parts.calls_back (sight g w) r d ask) (told (Ok inp) (sight g w1) r) w1)
       (sym p1) (subst (λ (inp : Input). Comes g w (λ parts. parts.calls_back (sight g w) r d (SetFieldByName vs b n v))
       (told (Ok inp) (sight g w1) r) w1) (sym p5)
-      (later (after_ok _ (yields p2 given)
-      (after_lines_ok _ (subst (λ (f : Frame). Comes g w (λ parts. edit (sight g w) r f pl (Put Into v))
-      (told_in (Ok tt) (sight g w1) r f1) w1) p3 (edits p4 given)) (done)))))
+      (later (after_ok _ (subst (λ (f : Frame). Comes g w
+      (λ parts. told (yielded (field_named_place w.now f.variables b n)) (sight g w) r) (told (Ok pl) (sight g w) r) w)
+      p2 (yields p3 given)) (after_lines_ok _
+      (subst (λ (f : Frame). Comes g w (λ parts. written (sight g w) r f pl.storage v)
+      (told_in (Ok tt) (sight g w1) r f1) w1) p2 (stores p4)) (done)))))
 
   pub line_comes : {g : Sight} {w w2 : History} {r r2 : RunState} {ss : stm.Stmts} {ot : Result (Unit {0}) Stop}
       → Line w r ss ot w2 r2 → HasMemory ot
@@ -1139,18 +1121,12 @@ mutual
   types_over_comes TypesOver.type_over_memory has = absurd (has refl)
   types_over_comes (TypesOver.typed_field_goes {f = f} {w = w} {r = r} {m = m} {fa = fa} p1 p2) has = later
       (computed_err _ _ (subst (λ (f : Frame). field_text w.now f.variables r.delimiter m ≡ Err fa) p1 p2) (done))
-  types_over_comes {g} (TypesOver.type_over_stops {f = f} {f1 = f1} {w = w} {w1 = w1} {r = r} {m = m} {v = v} {t = t}
-      {pl = pl} {z = z} p1 p2 p3 p4) has = later
-      (computed_ok _ _ (subst (λ (f : Frame). field_text w.now f.variables r.delimiter m ≡ Ok v) p1 p2)
-      (computed_ok _ _ p3 (after_lines_stop _
-      (subst (λ (f : Frame). Comes g w (λ parts. edit (sight g w) r f pl (Put Into t))
-      (told_in (Err z) (sight g w1) r f1) w1) p1 (edits p4 (stopped has))))))
   types_over_comes {g} (TypesOver.types_over {f = f} {f1 = f1} {w = w} {w1 = w1} {w2 = w2} {r = r} {r1 = r1} {m = m}
       {v = v} {t = t} {pl = pl} {i = i} {mg = mg} {ot = ot} p1 p2 p3 p4 p5 p6 p7) has = later
       (computed_ok _ _ (subst (λ (f : Frame). field_text w.now f.variables r.delimiter m ≡ Ok v) p1 p2)
       (computed_ok _ _ p3 (after_lines_ok _
-      (subst (λ (f : Frame). Comes g w (λ parts. edit (sight g w) r f pl (Put Into t))
-      (told_in (Ok tt) (sight g w1) r f1) w1) p1 (edits p4 given))
+      (subst (λ (f : Frame). Comes g w (λ parts. written (sight g w) r f pl.storage t)
+      (told_in (Ok tt) (sight g w1) r f1) w1) p1 (stores p4))
       (subst (λ (mg : SystemMessage). Comes g w1 (λ parts. parts.tells (sight g w1) r m.object mg)
       (told ot (sight g w2) r1) w2) p6
       (subst (λ (i : ℕ). Comes g w1 (λ parts. parts.tells (sight g w1) r i mg) (told ot (sight g w2) r1) w2) p5

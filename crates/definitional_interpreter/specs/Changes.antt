@@ -5,7 +5,6 @@ use Rattle.std.specs.FinMap.{get}
 use Rattle.ht_values.specs.declared.fault.Fault.{Fault}
 use Rattle.ht_values.specs.declared.fault.Fault.TheVariants.{StepLimit, TooMany}
 use Rattle.ht_values.specs.declared.word.Prop.{Prop}
-use Rattle.ht_values.specs.declared.word.Where.TheVariants.{Into}
 use Rattle.ht_values.specs.Text.{folded}
 use Rattle.externals.specs.declared.external.Ask.{Ask}
 use Rattle.externals.specs.declared.external.Input.{Input}
@@ -19,14 +18,12 @@ use Rattle.journal_entries.specs.declared.change.Change.TheVariants.{Global, Fie
 use Rattle.object_references.specs.declared.referent.Referent.{Referent}
 use Rattle.object_references.specs.Settings.{setting}
 use Rattle.containers.specs.declared.edit.Edit.{Edit}
-use Rattle.containers.specs.declared.edit.Edit.TheVariants.{Put}
 use Rattle.containers.specs.Edits.{due}
-use Rattle.containers.specs.Places.{StorageView, PlaceView, global, own, field_text}
+use Rattle.containers.specs.Places.{StorageView, PlaceView, global, own, field_text, named}
 use Rattle.containers.specs.Variables.{VariablesView, declared, with_local}
 use Rattle.meaning.specs.declared.end.Stop.{Stop}
 use Rattle.meaning.specs.declared.end.Stop.TheVariants.{Fault as Faults}
 use Rattle.meaning.specs.declared.frame.Frame.{Frame}
-use Rattle.meaning.specs.Places.{variable_place}
 use Rattle.meaning.specs.State.{RunState}
 use Rattle.definitional_interpreter.specs.Turns.{free_turns}
 use Rattle.definitional_interpreter.specs.Told.{Visible, Told, unknown, told, ToldIn, told_in, choose, computed}
@@ -74,7 +71,7 @@ edit w r f p e = edit_by w r f p.storage (due w.now f.variables r.delimiter p e)
 -- the number of a turn is put into the variable of a repeat
 abbrev pub assign : Visible → RunState → Frame → Option (List ℕ) → List ℕ → ToldIn (Unit {0})
 assign w r f None v = told_in (Ok tt) w r f
-assign w r f (Some name) v = edit w r f (variable_place f.variables name) (Put Into v)
+assign w r f (Some name) v = written w r f (named f.variables name) v
 
 -- a name means a global from here on, which has a value
 abbrev pub with_global : Visible → List ℕ → Option (List ℕ) → Visible

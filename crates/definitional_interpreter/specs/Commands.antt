@@ -1,13 +1,11 @@
 -- Commands and dot lines, computed.
 use Rattle.std.specs.Prelude.{ℕ, List, [], ◌∷◌, is_some, Ok}
-use Rattle.ht_values.specs.declared.word.Where.TheVariants.{Into}
 use Rattle.ht_grammar.specs.declared.vocabulary.HandlerKind.TheVariants.{Command}
 use Rattle.ht_grammar.specs.Statements as stm
 use Rattle.ht_grammar.specs.Trees as tree
 use Rattle.object_table.specs.Objects.{object_at}
 use Rattle.object_references.specs.declared.referent.Referent.{Referent}
 use Rattle.object_references.specs.References.{met_here}
-use Rattle.containers.specs.declared.edit.Edit.TheVariants.{Put}
 use Rattle.meaning.specs.declared.system.SystemMessage.{SystemMessage}
 use Rattle.meaning.specs.declared.system.SystemMessage.TheVariants.{MouseDown, MouseUp, OpenField}
 use Rattle.meaning.specs.Actions as act
@@ -16,7 +14,7 @@ use Rattle.meaning.specs.Menu.{message_name}
 use Rattle.meaning.specs.Places.{field_place, field_text}
 use Rattle.meaning.specs.State.{RunState, typed_frame_at}
 use Rattle.definitional_interpreter.specs.Told.{Visible, Told, unknown, told, after, after_lines, choose, computed}
-use Rattle.definitional_interpreter.specs.Changes.{edit}
+use Rattle.definitional_interpreter.specs.Changes.{written}
 use Rattle.definitional_interpreter.specs.Families.{Meanings}
 
 abbrev pub line_of : Meanings → Visible → RunState → stm.Stmts → Told (Unit {0})
@@ -51,7 +49,7 @@ abbrev pub types_over_of : Meanings → Visible → RunState → Referent → Li
 types_over_of m w r o t =
     computed (field_text w.now (typed_frame_at w.now.current).variables r.delimiter o)
     (λ old. computed (field_place w.now o)
-    (λ p. after_lines (edit w r (typed_frame_at w.now.current) p (Put Into t))
+    (λ p. after_lines (written w r (typed_frame_at w.now.current) p.storage t)
     (λ _ w r. m.tells w r o.object (leaving_message old t)))
     (λ _. unknown))
     (λ _. told (Ok tt) w r)

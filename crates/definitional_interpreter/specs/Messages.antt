@@ -4,7 +4,6 @@ use Rattle.std.specs.Prelude.{ℕ, ◌+◌, List, [], ◌∷◌, length, nat_lt,
 use Rattle.std.specs.Prelude.{Err}
 use Rattle.ht_values.specs.declared.fault.Fault.TheVariants.{CantUnderstand, NoSuchObject, TooDeep, ExternalFault}
 use Rattle.ht_values.specs.declared.fault.Fault.TheVariants.{CantDelete, BadArgument}
-use Rattle.ht_values.specs.declared.word.Where.TheVariants.{Into}
 use Rattle.ht_values.specs.Functions.{built_in}
 use Rattle.ht_lex.specs.Words.{is_name}
 use Rattle.ht_grammar.specs.declared.vocabulary.HandlerKind.{HandlerKind}
@@ -23,7 +22,7 @@ use Rattle.externals.specs.declared.external.Input.TheVariants.{Start, Answer}
 use Rattle.journal_entries.specs.declared.change.Change.TheVariants.{Current, NewCard, NewBackground, NewPart}
 use Rattle.journal_entries.specs.declared.change.Change.TheVariants.{DeleteCard}
 use Rattle.object_references.specs.Deletion.{may_delete}
-use Rattle.containers.specs.declared.edit.Edit.TheVariants.{Put}
+use Rattle.containers.specs.Places.{named}
 use Rattle.msg_path.specs.BuiltIns.{calls_function, external_named, built_in_named}
 use Rattle.msg_path.specs.declared.built_in.BuiltIn.{BuiltIn}
 use Rattle.msg_path.specs.declared.built_in.BuiltIn.TheVariants.{DoMenu, Value, Function as BuiltInFunction}
@@ -36,14 +35,14 @@ use Rattle.meaning.specs.declared.system.SystemMessage.{SystemMessage}
 use Rattle.meaning.specs.declared.item.Item.{Item}
 use Rattle.meaning.specs.declared.item.Item.TheVariants.{NewCard as NewCardItem, NewBackground as NewBackgroundItem}
 use Rattle.meaning.specs.declared.item.Item.TheVariants.{NewPart as NewPartItem, DeleteCard as DeleteCardItem}
-use Rattle.meaning.specs.Places.{variable_place, field_named_place}
+use Rattle.meaning.specs.Places.{field_named_place}
 use Rattle.meaning.specs.Repeats.{returned, ends}
 use Rattle.meaning.specs.Menu.{item_named, new_layer, closing, opening, differ, new_card_messages}
 use Rattle.meaning.specs.Menu.{new_background_messages, message_name}
 use Rattle.meaning.specs.Messages.{parameters_of, lines_of, is_ignored, only}
 use Rattle.meaning.specs.State.{RunState, noted, typed_frame_at, handler_frame}
 use Rattle.definitional_interpreter.specs.Told.{Visible, Told, unknown, told, after, after_lines, choose, maybe, gave}
-use Rattle.definitional_interpreter.specs.Changes.{yielded, step, make, edit, add_objects, turn}
+use Rattle.definitional_interpreter.specs.Changes.{yielded, step, make, written, add_objects, turn}
 use Rattle.definitional_interpreter.specs.Texts.{parsed, first_found}
 use Rattle.definitional_interpreter.specs.Families.{Meanings}
 
@@ -173,11 +172,11 @@ calls_back_of m w r d (EvalExpr note t) =
 calls_back_of m w r d (SetGlobal note n v) =
     choose (is_name n)
     (λ _. after_lines
-    (edit w r (typed_frame_at w.now.current) (variable_place (typed_frame_at w.now.current).variables n) (Put Into v))
+    (written w r (typed_frame_at w.now.current) (named (typed_frame_at w.now.current).variables n) v)
     (λ _ w r. told (Ok (Answer note [])) w r))
     (λ _. told (Err (Faults BadArgument)) w r)
 calls_back_of m w r d (SetFieldByName note on_card n v) =
-    after (told (yielded (field_named_place w.now on_card n)) w r) (λ p w r.
-    after_lines (edit w r (typed_frame_at w.now.current) p (Put Into v)) (λ _ w r. told (Ok (Answer note [])) w r))
+    after (told (yielded (field_named_place w.now (typed_frame_at w.now.current).variables on_card n)) w r) (λ p w r.
+    after_lines (written w r (typed_frame_at w.now.current) p.storage v) (λ _ w r. told (Ok (Answer note [])) w r))
 calls_back_of m w r d (Done v passes) = unknown
 calls_back_of m w r d Fail = unknown

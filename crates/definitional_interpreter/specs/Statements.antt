@@ -3,25 +3,25 @@ use Rattle.std.specs.Prelude.{ℕ, ◌+◌, List, [], nat_lt, Bool, true, false,
 use Rattle.ht_values.specs.declared.fault.Fault.TheVariants.{TooDeep}
 use Rattle.ht_values.specs.declared.operator.Op.{Op}
 use Rattle.ht_values.specs.declared.operator.Op.TheVariants.{Add, Subtract, Multiply, Divide}
-use Rattle.ht_values.specs.declared.word.Where.TheVariants.{Into}
 use Rattle.ht_values.specs.Text.{numeral}
 use Rattle.ht_grammar.specs.declared.vocabulary.HandlerKind.TheVariants.{Command}
 use Rattle.ht_grammar.specs.Lines.{typed_lines}
 use Rattle.ht_grammar.specs.Statements as stm
 use Rattle.ht_grammar.specs.Trees as tree
 use Rattle.containers.specs.declared.edit.Edit.TheVariants.{Put, Alter, Delete}
+use Rattle.containers.specs.Places.{named}
 use Rattle.meaning.specs.declared.frame.Frame.{Frame}
 use Rattle.meaning.specs.declared.end.How.{How}
 use Rattle.meaning.specs.declared.end.How.TheVariants.{Next, ExitRepeat, NextRepeat, Exit, Pass, Returns}
 use Rattle.meaning.specs.declared.end.Stop.TheVariants.{Fault as Faults, Exited}
-use Rattle.meaning.specs.Places.{variable_place, it_name, chunk_of_place}
+use Rattle.meaning.specs.Places.{it_name, chunk_of_place}
 use Rattle.meaning.specs.Repeats.{leaves_repeat, goes_on, CounterState, counter_of, is_over, stepped, turns}
 use Rattle.meaning.specs.State.{RunState, shows, run_property_set}
 use Rattle.definitional_interpreter.specs.Told.{Visible, Told, told, ToldIn, told_in, after, after_in, after_run}
 use Rattle.definitional_interpreter.specs.Told.{after_next}
 use Rattle.definitional_interpreter.specs.Told.{choose, maybe}
 use Rattle.definitional_interpreter.specs.Told.{computed}
-use Rattle.definitional_interpreter.specs.Changes.{yielded, step, edit, assign, declare_all, set_property}
+use Rattle.definitional_interpreter.specs.Changes.{yielded, step, edit, written, assign, declare_all, set_property}
 use Rattle.definitional_interpreter.specs.Texts.{parsed}
 use Rattle.definitional_interpreter.specs.Families.{Meanings}
 
@@ -43,8 +43,7 @@ form_of m w r f d (stm.put_in place x ct) =
     (λ p w r. after_run (edit w r f p (Put place v)) (λ _ w r f. told_in (Ok Next) w r f)))
 form_of m w r f d (stm.get x) =
     after_in f (m.val w r f d x)
-    (λ v w r. after_run (edit w r f (variable_place f.variables it_name) (Put Into v))
-    (λ _ w r f. told_in (Ok Next) w r f))
+    (λ v w r. after_run (written w r f (named f.variables it_name) v) (λ _ w r f. told_in (Ok Next) w r f))
 form_of m w r f d (stm.set p ref x) =
     after_in f (m.val w r f d x)
     (λ v w r. after_in f (m.meets w r f d ref)

@@ -9,9 +9,7 @@ ghost use Rattle.containers.specs.Base.{base};
 ghost use Rattle.meaning.specs.declared.frame.Frame.{Frame};
 ghost use Rattle.meaning.specs.State.{RunState};
 ghost use Rattle.meaning.specs.Meaning.{NumberVal, TextVal, TruthVal, Val, Vals};
-ghost use Rattle.chunks.specs.Pieces.{read as read_pieces};
 ghost use Rattle.meaning.specs.Places.{pieces_at as pieces_at_numbers};
-ghost use Rattle.meaning.specs.Values.{Yields};
 ghost use Rattle.interp.specs.Operands.{MeetsOperand, TakesNumber, TakesPart};
 ghost use Rattle.interp.specs.Keeps.{Keeps};
 ghost use Rattle.interp.specs.Lists.{listed};
@@ -34,9 +32,7 @@ use primitives::operands::{
     value_part,
 };
 use primitives::places::{field_text, nth_piece, pieces_at};
-use primitives::values::{
-    apply, apply_one, expression, function_named, leaving_text, number, there, truth,
-};
+use primitives::values::{apply, apply_one, expression, leaving_text, number, there, truth};
 use std::alloc::AllocError;
 
 /// The value of an expression.
@@ -391,15 +387,7 @@ fn part_met(
         → TakesPart w r f d (pieces_at_numbers kind from to) x result w1 run.now }
 {
     let value = met?;
-    part_at(run, &value, kind, from, to)
-}
-
-/// Pieces of a value, from one number to another.
-#[inline(never)]
-fn part_at(run: &Budget, value: &Value, kind: ChunkKind, from: i64, to: i64) -> Result<Value, Stop>
-    ensures { Yields (Ok (read_pieces run.now.delimiter (pieces_at_numbers kind from to) value.now)) result }
-{
-    value_part(run, value, &pieces_at(kind, from, to))
+    value_part(run, &value, &pieces_at(kind, from, to))
 }
 
 /// Pieces of an operand, which is met now.
@@ -522,7 +510,7 @@ pub(crate) fn lent_function<E: External>(
     ensures keeps { Keeps world.old.history run.old world.new.history run.new }
 {
     let x = meet_operand(world, run, frame, nested, operand)?;
-    match function_named(word) {
+    match word.func() {
         Some(function) => call_of_operand(world, run, frame, function, x),
         None => {
             let text = operand_into_text(world, run, frame, x)?;
@@ -551,7 +539,7 @@ pub(crate) fn function_met<E: External>(
     ensures keeps { Keeps world.old.history run.old world.new.history run.new }
 {
     let value = met?;
-    match function_named(word) {
+    match word.func() {
         Some(function) => call_of_value(run, function, value),
         None => {
             let text = text_of(run, value)?;

@@ -22,11 +22,12 @@ use ht_lex::Ordinal;
 use ht_tree::{Destination, Expr, Owner, Part, Ref, Selector, Which};
 use ht_values::{PartKind, Value};
 use meaning::{Budget, Frame, Stop};
-use object_references::{PartScope, Pick, Referent, Sought, layer_meant, met_here};
+use object_references::{
+    PartScope, Pick, Referent, Sought, layer_meant, met_here, met_if_there, scope_by,
+};
 use object_table::Id;
 use primitives::objects::{
-    background_scope, background_there, background_to, card_scope, card_there, card_to,
-    object_there, part_in, scope_here,
+    background_scope, background_there, background_to, card_scope, card_there, card_to, part_in,
 };
 
 /// What a reference to a card or a background looks for.
@@ -79,7 +80,7 @@ pub(crate) fn scope<E: External>(
     ensures keeps { Keeps world.old.history run.old world.new.history run.new }
 {
     match owner {
-        Owner::NoOwner => Ok(scope_here(world, layer)),
+        Owner::NoOwner => Ok(scope_by(world.stack(), layer, world.current())),
         Owner::OnCard(card) => {
             let card = seek(world, run, frame, nested, card);
             on_card(world, run, layer, card)
@@ -247,7 +248,7 @@ pub(crate) fn nth_part<E: External>(
 
 /// The object of a reference, and the card that is meant with it.
 #[cycle(run)]
-#[tactic(auto, using(meaning::proofs::Rules::meets_rules))]
+#[tactic(auto, using(meaning::proofs::Rules::meets_rules, meaning::proofs::Rules::yields_rules))]
 #[inline(never)]
 pub(crate) fn meet<E: External>(
     world: &mut World<E>,
@@ -264,8 +265,8 @@ pub(crate) fn meet<E: External>(
     ensures keeps { Keeps world.old.history run.old world.new.history run.new }
 {
     match reference {
-        Ref::Me => object_there(world, frame.me),
-        Ref::Target => object_there(world, frame.target),
+        Ref::Me => Ok(met_if_there(world.stack(), world.current(), frame.me)?),
+        Ref::Target => Ok(met_if_there(world.stack(), world.current(), frame.target)?),
         Ref::ThisStack => Ok(met_here(world.current(), 0)),
         Ref::Card(selector) => {
             let sought = seek(world, run, frame, nested, selector)?;

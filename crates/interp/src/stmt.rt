@@ -186,7 +186,10 @@ pub(crate) fn run_plain<E: External>(
         StmtKind::Do(text) => run_do(world, run, frame, nested, text),
         StmtKind::Send(text, reference) => run_send(world, run, frame, nested, text, reference),
         StmtKind::Go(destination) => run_go(world, run, frame, nested, destination),
-        StmtKind::Global(names) => declare_globals(world, run, frame, &names.items),
+        StmtKind::Global(names) => {
+            declare_globals(world, run, frame, &names.items)?;
+            Ok(How::Next)
+        }
         StmtKind::ExitRepeat => Ok(How::ExitRepeat),
         StmtKind::NextRepeat => Ok(How::NextRepeat),
         StmtKind::ExitToHyperCard => Err(Stop::Exited),
@@ -365,10 +368,8 @@ pub(crate) fn set_run<E: External>(
     ensures keeps { Keeps world.old.history run.old world.new.history run.new }
 {
     let value = eval_text(world, run, frame, nested, value)?;
-    match set_run_property(run, property, &value) {
-        Ok(()) => Ok(How::Next),
-        Err(fault) => Err(Stop::Fault(fault)),
-    }
+    set_run_property(run, property, &value)?;
+    Ok(How::Next)
 }
 
 /// Arithmetic on a container. An operand that is kept as a number alters a variable at once.

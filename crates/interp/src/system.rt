@@ -15,8 +15,8 @@ use object_references::may_delete;
 use object_table::Id;
 use primitives::arguments::Arguments;
 use primitives::objects::{
-    add, closing, has_other_background, is_card_there, is_current, is_other, make,
-    new_background_messages, new_card_messages, new_layer, opening,
+    add, closing, has_other_background, make, new_background_messages, new_card_messages,
+    new_layer, opening,
 };
 use primitives::values::empty;
 use structural_changes::home_of;
@@ -93,15 +93,16 @@ pub(crate) fn go<E: External>(
     ensures meaning { Goes world.old.history run.old frame.now nested card result world.new.history run.new }
     ensures keeps { Keeps world.old.history run.old world.new.history run.new }
 {
-    if is_current(world, card) {
+    if card == world.current() {
         return Ok(empty(run));
     }
     let differs = has_other_background(world, card);
     let _ = systems(world, run, frame, nested, closing(differs))?;
-    if !is_card_there(world, card) {
+    let arrives = Change::Current(card);
+    if !world.fits(&arrives) {
         return Err(Stop::Fault(Fault::NoSuchObject));
     }
-    make(world, Change::Current(card))?;
+    make(world, arrives)?;
     systems(world, run, frame, nested, opening(differs))
 }
 
@@ -142,7 +143,7 @@ pub(crate) fn menu<E: External>(
                 return Err(Stop::Fault(Fault::CantDelete));
             }
             make(world, Change::DeleteCard)?;
-            let differs = is_other(background, home_of(world.stack(), world.current()));
+            let differs = background != home_of(world.stack(), world.current());
             systems(world, run, frame, nested, opening(differs))
         }
     }

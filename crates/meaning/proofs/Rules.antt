@@ -2,7 +2,7 @@
 -- The rules of the meaning, for `search`.
 use Rattle.meaning.specs.State.{Step}
 use Rattle.meaning.specs.Values.{Yields, Parses}
-use Rattle.meaning.specs.Places.{Edits, Assigns, DeclaresAll, Sets, Adds}
+use Rattle.meaning.specs.Places.{Edits, Stores, Assigns, DeclaresAll, Sets, Adds}
 use Rattle.meaning.specs.Messages.{Finds}
 use Rattle.meaning.specs.Meaning.{Val, Vals, NumberVal, TruthVal, TextVal, ChunkOf, Resolves, Picks, Seeks, Owns}
 use Rattle.meaning.specs.Meaning.{PartMet, Meets, Leads, Form, Alters, Block, DoText, Endless, While, Bounds, Counts}
@@ -16,9 +16,11 @@ pub ruleset yields_rules = (Yields.yields_memory, Yields.yields, Yields.faults)
 
 pub ruleset edits_rules = (Edits.edit_memory, Edits.edit_faults, Edits.edited)
 
-pub ruleset assigns_rules = (Assigns.assign_memory, Assigns.no_variable, Assigns.assigns)
+pub ruleset stores_rules = (Stores.stores)
 
-pub ruleset declares_rules = (DeclaresAll.declare_memory, DeclaresAll.none_declared, DeclaresAll.declared)
+pub ruleset assigns_rules = (Assigns.no_variable, Assigns.assigns)
+
+pub ruleset declares_rules = (DeclaresAll.none_declared, DeclaresAll.declared)
 
 pub ruleset sets_rules = (Sets.set_memory, Sets.set_faults, Sets.set_made)
 
@@ -232,7 +234,6 @@ pub ruleset form_rules = (
   Form.put_fails,
   Form.put,
   Form.get_stops,
-  Form.get_fails,
   Form.get,
   Form.set_stops,
   Form.set_nowhere,
@@ -258,7 +259,6 @@ pub ruleset form_rules = (
   Form.go_nowhere,
   Form.go_stops,
   Form.go,
-  Form.global_stops,
   Form.global,
   Form.exit_repeat,
   Form.next_repeat,
@@ -288,7 +288,7 @@ pub ruleset form_put_rules = (Form.form_memory, Form.show_stops, Form.show)
 
 pub ruleset form_put_in_rules = (Form.form_memory, Form.put_stops, Form.put_nowhere, Form.put_fails, Form.put)
 
-pub ruleset form_get_rules = (Form.form_memory, Form.get_stops, Form.get_fails, Form.get)
+pub ruleset form_get_rules = (Form.form_memory, Form.get_stops, Form.get)
 
 pub ruleset form_set_rules = (Form.form_memory, Form.set_stops, Form.set_nowhere, Form.set_fails, Form.set)
 
@@ -316,7 +316,7 @@ pub ruleset form_send_rules = (Form.form_memory, Form.send_text_stops, Form.send
 
 pub ruleset form_go_rules = (Form.form_memory, Form.go_nowhere, Form.go_stops, Form.go)
 
-pub ruleset form_global_rules = (Form.form_memory, Form.global_stops, Form.global)
+pub ruleset form_global_rules = (Form.form_memory, Form.global)
 
 pub ruleset form_exit_repeat_rules = (Form.form_memory, Form.exit_repeat)
 
@@ -391,7 +391,6 @@ pub ruleset counts_rules = (
   Counts.counts_memory,
   Counts.counts_no_step,
   Counts.counts_end,
-  Counts.counts_fail,
   Counts.counts_stop,
   Counts.counts_leave,
   Counts.counts_go_on,
@@ -490,10 +489,8 @@ pub ruleset callsback_rules = (
   CallsBack.eval_stops,
   CallsBack.evaluates,
   CallsBack.bad_global,
-  CallsBack.global_fails,
   CallsBack.global_set,
   CallsBack.no_such_field,
-  CallsBack.field_fails,
   CallsBack.field_set,
 )
 
@@ -511,19 +508,9 @@ pub ruleset callsback_evalexpr_rules = (
   CallsBack.evaluates,
 )
 
-pub ruleset callsback_setglobal_rules = (
-  CallsBack.call_back_memory,
-  CallsBack.bad_global,
-  CallsBack.global_fails,
-  CallsBack.global_set,
-)
+pub ruleset callsback_setglobal_rules = (CallsBack.call_back_memory, CallsBack.bad_global, CallsBack.global_set)
 
-pub ruleset callsback_setfieldbyname_rules = (
-  CallsBack.call_back_memory,
-  CallsBack.no_such_field,
-  CallsBack.field_fails,
-  CallsBack.field_set,
-)
+pub ruleset callsback_setfieldbyname_rules = (CallsBack.call_back_memory, CallsBack.no_such_field, CallsBack.field_set)
 
 pub ruleset line_rules = (Line.line_memory, Line.line_stops, Line.line)
 
@@ -543,12 +530,7 @@ pub ruleset clicks_rules = (
   Clicks.clicks,
 )
 
-pub ruleset typesover_rules = (
-  TypesOver.type_over_memory,
-  TypesOver.typed_field_goes,
-  TypesOver.type_over_stops,
-  TypesOver.types_over,
-)
+pub ruleset typesover_rules = (TypesOver.type_over_memory, TypesOver.typed_field_goes, TypesOver.types_over)
 
 pub ruleset typesinto_rules = (
   TypesInto.type_memory,

@@ -20,7 +20,6 @@ use Rattle.ht_values.specs.declared.word.PartKind.{PartKind}
 use Rattle.ht_values.specs.declared.word.Prop.{Prop}
 use Rattle.ht_values.specs.declared.word.Prop.TheVariants.{Number}
 use Rattle.ht_values.specs.declared.word.Where.{Where}
-use Rattle.ht_values.specs.declared.word.Where.TheVariants.{Into}
 use Rattle.ht_values.specs.Functions.{built_in}
 use Rattle.ht_values.specs.Number.{number_of}
 use Rattle.ht_values.specs.Operators.{binary, unary, truth_of, word_of}
@@ -64,7 +63,7 @@ use Rattle.object_references.specs.References.{scope_of_background, part_met}
 use Rattle.object_references.specs.Deletion.{may_delete}
 use Rattle.object_references.specs.Settings.{name_of, parts_here}
 use Rattle.containers.specs.declared.edit.Edit.TheVariants.{Put, Alter, Delete}
-use Rattle.containers.specs.Places.{PlaceView, read_name}
+use Rattle.containers.specs.Places.{PlaceView, named, read_name}
 use Rattle.msg_path.specs.BuiltIns.{calls_function, external_named, built_in_named}
 use Rattle.msg_path.specs.declared.built_in.BuiltIn.TheVariants.{DoMenu, Value, Function as BuiltInFunction}
 use Rattle.msg_path.specs.Handlers.{HandlerFound}
@@ -86,7 +85,7 @@ use Rattle.meaning.specs.Values.{Yields, Parses}
 use Rattle.meaning.specs.State.{RunState, Step, shows, noted, run_property, run_property_set, typed_frame}
 use Rattle.meaning.specs.State.{handler_frame}
 use Rattle.meaning.specs.Places.{pieces_at, nth_piece, variable_place, field_place, field_text, field_named_place}
-use Rattle.meaning.specs.Places.{it_name, chunk_of_place, Edits, Assigns, DeclaresAll, Sets, Adds}
+use Rattle.meaning.specs.Places.{it_name, chunk_of_place, Edits, Stores, Assigns, DeclaresAll, Sets, Adds}
 use Rattle.meaning.specs.Repeats.{leaves_repeat, goes_on, CounterState, counter_of, is_over, stepped, turns, returned}
 use Rattle.meaning.specs.Repeats.{ends}
 use Rattle.meaning.specs.Menu.{item_named, new_layer, closing, opening, differ, new_card_messages}
@@ -678,16 +677,10 @@ mutual
         s ≡ stm.get e →
         Val w r f d e (Err z) w1 r1 →
         Form w r f d s (Err z) w1 r1 f
-    get_fails : {s : stm.Stmt} {e : tree.Expr} {w w1 w2 : History} {r r1 : RunState} {f f1 : Frame} {d : ℕ} {v : List ℕ}
-        {z : Stop} →
-        s ≡ stm.get e →
-        Val w r f d e (Ok v) w1 r1 →
-        Edits w1 f r1.delimiter (variable_place f.variables it_name) (Put Into v) (Err z) w2 f1 →
-        Form w r f d s (Err z) w2 r1 f1
     get : {s : stm.Stmt} {e : tree.Expr} {w w1 w2 : History} {r r1 : RunState} {f f1 : Frame} {d : ℕ} {v : List ℕ} →
         s ≡ stm.get e →
         Val w r f d e (Ok v) w1 r1 →
-        Edits w1 f r1.delimiter (variable_place f.variables it_name) (Put Into v) (Ok tt) w2 f1 →
+        Stores w1 f (named f.variables it_name) v w2 f1 →
         Form w r f d s (Ok Next) w2 r1 f1
     set_stops : {s : stm.Stmt} {pr : Prop} {rf : tree.Ref} {e : tree.Expr} {w w1 : History} {r r1 : RunState}
         {f : Frame} {d : ℕ} {z : Stop} →
@@ -830,14 +823,9 @@ mutual
         Leads w r f d de (Ok i) w1 r1 →
         Goes w1 r1 f d i (Ok v) w2 r2 →
         Form w r f d s (Ok Next) w2 r2 f
-    global_stops : {s : stm.Stmt} {vs : List (List ℕ)} {w w1 : History} {f f1 : Frame} {z : Stop} {r : RunState} {d : ℕ}
-        →
-        s ≡ stm.global vs →
-        DeclaresAll w f vs (Err z) w1 f1 →
-        Form w r f d s (Err z) w1 r f1
     global : {s : stm.Stmt} {vs : List (List ℕ)} {w w1 : History} {f f1 : Frame} {r : RunState} {d : ℕ} →
         s ≡ stm.global vs →
-        DeclaresAll w f vs (Ok tt) w1 f1 →
+        DeclaresAll w f vs w1 f1 →
         Form w r f d s (Ok Next) w1 r f1
     exit_repeat : {s : stm.Stmt} {w : History} {r : RunState} {f : Frame} {d : ℕ} →
         s ≡ stm.exit_repeat →
@@ -1133,24 +1121,18 @@ mutual
         Step r (Ok tt) r1 →
         is_over co ≡ true →
         Counts w r f d on co ss (Ok Next) w r1 f
-    counts_fail : {r r1 : RunState} {co : CounterState} {w w1 : History} {f f1 : Frame} {on : Option (List ℕ)}
-        {z : Stop} {d : ℕ} {ss : stm.Stmts} →
-        Step r (Ok tt) r1 →
-        is_over co ≡ false →
-        Assigns w f r1.delimiter on (numeral co.at) (Err z) w1 f1 →
-        Counts w r f d on co ss (Err z) w1 r1 f1
     counts_stop : {r r1 r2 : RunState} {co : CounterState} {w w1 w2 : History} {f f1 f2 : Frame} {on : Option (List ℕ)}
         {d : ℕ} {ss : stm.Stmts} {z : Stop} →
         Step r (Ok tt) r1 →
         is_over co ≡ false →
-        Assigns w f r1.delimiter on (numeral co.at) (Ok tt) w1 f1 →
+        Assigns w f on (numeral co.at) w1 f1 →
         Block w1 r1 f1 d ss (Err z) w2 r2 f2 →
         Counts w r f d on co ss (Err z) w2 r2 f2
     counts_leave : {r r1 r2 : RunState} {co : CounterState} {w w1 w2 : History} {f f1 f2 : Frame} {on : Option (List ℕ)}
         {d : ℕ} {ss : stm.Stmts} {h h1 : How} →
         Step r (Ok tt) r1 →
         is_over co ≡ false →
-        Assigns w f r1.delimiter on (numeral co.at) (Ok tt) w1 f1 →
+        Assigns w f on (numeral co.at) w1 f1 →
         Block w1 r1 f1 d ss (Ok h) w2 r2 f2 →
         leaves_repeat h ≡ Some h1 →
         Counts w r f d on co ss (Ok h1) w2 r2 f2
@@ -1158,7 +1140,7 @@ mutual
         {on : Option (List ℕ)} {d : ℕ} {ss : stm.Stmts} {h : How} {oh : Result How Stop} →
         Step r (Ok tt) r1 →
         is_over co ≡ false →
-        Assigns w f r1.delimiter on (numeral co.at) (Ok tt) w1 f1 →
+        Assigns w f on (numeral co.at) w1 f1 →
         Block w1 r1 f1 d ss (Ok h) w2 r2 f2 →
         leaves_repeat h ≡ None →
         co1 ≡ stepped co →
@@ -1562,39 +1544,26 @@ mutual
         ask ≡ SetGlobal vs n v →
         is_name n ≡ false →
         CallsBack w r d ask (Err (Faults BadArgument)) w r
-    global_fails : {ask : Ask} {vs : List (List ℕ)} {n v : List ℕ} {f f1 : Frame} {w w1 : History} {r : RunState}
-        {z : Stop} {d : ℕ} →
+    global_set : {ask : Ask} {vs : List (List ℕ)} {n v : List ℕ} {f f1 : Frame} {w w1 : History} {inp : Input}
+        {r : RunState} {d : ℕ} →
         ask ≡ SetGlobal vs n v →
         is_name n ≡ true →
         f ≡ typed_frame w →
-        Edits w f r.delimiter (variable_place f.variables n) (Put Into v) (Err z) w1 f1 →
-        CallsBack w r d ask (Err z) w1 r
-    global_set : {ask : Ask} {vs : List (List ℕ)} {n v : List ℕ} {f f1 : Frame} {w w1 : History} {r : RunState}
-        {inp : Input} {d : ℕ} →
-        ask ≡ SetGlobal vs n v →
-        is_name n ≡ true →
-        f ≡ typed_frame w →
-        Edits w f r.delimiter (variable_place f.variables n) (Put Into v) (Ok tt) w1 f1 →
+        Stores w f (named f.variables n) v w1 f1 →
         inp ≡ Answer vs [] →
         CallsBack w r d ask (Ok inp) w1 r
-    no_such_field : {ask : Ask} {vs : List (List ℕ)} {b : Bool} {n v : List ℕ} {w : History} {z : Stop} {r : RunState}
-        {d : ℕ} →
+    no_such_field : {ask : Ask} {vs : List (List ℕ)} {b : Bool} {n v : List ℕ} {f : Frame} {w : History} {z : Stop}
+        {r : RunState} {d : ℕ} →
         ask ≡ SetFieldByName vs b n v →
-        Yields (field_named_place w.now b n) (Err z) →
+        f ≡ typed_frame w →
+        Yields (field_named_place w.now f.variables b n) (Err z) →
         CallsBack w r d ask (Err z) w r
-    field_fails : {ask : Ask} {vs : List (List ℕ)} {b : Bool} {n v : List ℕ} {w w1 : History} {pl : PlaceView}
-        {f f1 : Frame} {r : RunState} {z : Stop} {d : ℕ} →
+    field_set : {ask : Ask} {vs : List (List ℕ)} {b : Bool} {n v : List ℕ} {f f1 : Frame} {w w1 : History}
+        {pl : PlaceView} {inp : Input} {r : RunState} {d : ℕ} →
         ask ≡ SetFieldByName vs b n v →
-        Yields (field_named_place w.now b n) (Ok pl) →
         f ≡ typed_frame w →
-        Edits w f r.delimiter pl (Put Into v) (Err z) w1 f1 →
-        CallsBack w r d ask (Err z) w1 r
-    field_set : {ask : Ask} {vs : List (List ℕ)} {b : Bool} {n v : List ℕ} {w w1 : History} {pl : PlaceView}
-        {f f1 : Frame} {r : RunState} {inp : Input} {d : ℕ} →
-        ask ≡ SetFieldByName vs b n v →
-        Yields (field_named_place w.now b n) (Ok pl) →
-        f ≡ typed_frame w →
-        Edits w f r.delimiter pl (Put Into v) (Ok tt) w1 f1 →
+        Yields (field_named_place w.now f.variables b n) (Ok pl) →
+        Stores w f pl.storage v w1 f1 →
         inp ≡ Answer vs [] →
         CallsBack w r d ask (Ok inp) w1 r
 
@@ -1709,19 +1678,12 @@ mutual
         f ≡ typed_frame w →
         field_text w.now f.variables r.delimiter m ≡ Err fa →
         TypesOver w r m t (Ok tt) w r
-    type_over_stops : {f f1 : Frame} {w w1 : History} {r : RunState} {m : Referent} {v t : List ℕ} {pl : PlaceView}
-        {z : Stop} →
-        f ≡ typed_frame w →
-        field_text w.now f.variables r.delimiter m ≡ Ok v →
-        field_place w.now m ≡ Ok pl →
-        Edits w f r.delimiter pl (Put Into t) (Err z) w1 f1 →
-        TypesOver w r m t (Err z) w1 r
     types_over : {f f1 : Frame} {w w1 w2 : History} {r r1 : RunState} {m : Referent} {v t : List ℕ} {pl : PlaceView}
         {i : ℕ} {mg : SystemMessage} {ot : Result (Unit {0}) Stop} →
         f ≡ typed_frame w →
         field_text w.now f.variables r.delimiter m ≡ Ok v →
         field_place w.now m ≡ Ok pl →
-        Edits w f r.delimiter pl (Put Into t) (Ok tt) w1 f1 →
+        Stores w f pl.storage t w1 f1 →
         i ≡ m.object →
         mg ≡ leaving_message v t →
         Tells w1 r i mg ot w2 r1 →

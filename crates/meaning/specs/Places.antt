@@ -5,7 +5,6 @@ use Rattle.ht_values.specs.declared.fault.Fault.{Fault}
 use Rattle.ht_values.specs.declared.fault.Fault.TheVariants.{TooMany}
 use Rattle.ht_values.specs.declared.word.ChunkKind.{ChunkKind}
 use Rattle.ht_values.specs.declared.word.Prop.{Prop}
-use Rattle.ht_values.specs.declared.word.Where.TheVariants.{Into}
 use Rattle.ht_values.specs.Outcome.{and_then}
 use Rattle.ht_lex.specs.declared.key.Ordinal.{Ordinal}
 use Rattle.ht_lex.specs.Ordinals.{from_first}
@@ -22,12 +21,11 @@ use Rattle.ht_grammar.specs.declared.vocabulary.Layer.TheVariants as layer
 use Rattle.object_references.specs.declared.referent.Referent.{Referent}
 use Rattle.object_references.specs.References.{field_named}
 use Rattle.object_references.specs.Settings.{setting}
-use Rattle.containers.specs.Places.{PlaceView, text_met, named}
+use Rattle.containers.specs.Places.{PlaceView, StorageView, text_met, named, whole}
 use Rattle.containers.specs.Edits.{due, read_at}
 use Rattle.containers.specs.Variables.{VariablesView}
 use Rattle.containers.specs.Writes.{Writes, Declares}
 use Rattle.containers.specs.declared.edit.Edit.{Edit}
-use Rattle.containers.specs.declared.edit.Edit.TheVariants.{Put}
 use Rattle.meaning.specs.declared.end.Stop.{Stop}
 use Rattle.meaning.specs.declared.end.Stop.TheVariants as stop
 use Rattle.meaning.specs.declared.frame.Frame.{Frame}
@@ -65,10 +63,11 @@ abbrev pub layer_of_field : Bool → Layer
 layer_of_field true = layer.Card
 layer_of_field false = layer.Background
 
--- the place of the first field of a name, on the current card or on its background
-abbrev pub field_named_place : State → Bool → List ℕ → Result PlaceView Fault
-field_named_place s on_card name =
-    and_then (field_named s.stack s.current (layer_of_field on_card) name) (field_place s)
+-- the place of the first field of a name, on the current card or on its background, where its text stands
+abbrev pub field_named_place : State → VariablesView → Bool → List ℕ → Result PlaceView Fault
+field_named_place s v on_card name =
+    and_then (field_named s.stack s.current (layer_of_field on_card) name) (λ m. and_then (field_place s m)
+    (λ p. and_then (whole s v p.storage) (λ t. Ok p)))
 
 -- a chunk of a place
 abbrev pub chunk_of_place : PlaceView → Chunk → PlaceView
@@ -84,27 +83,25 @@ pub data Edits : History → Frame → ℕ → PlaceView → Edit → Result (Un
       Writes w f.variables p.storage (due w.now f.variables delimiter p e) w1 v → f1 ≡ record f { variables = v } →
       Edits w f delimiter p e (Ok tt) w1 f1
 
+-- A value takes the place of the text that stands in a storage. It fits there, as no value is too long.
+pub data Stores : History → Frame → StorageView → List ℕ → History → Frame → Type 0 where
+  stores : {w w1 : History} {f f1 : Frame} {h : StorageView} {t t1 : List ℕ} {v : VariablesView} →
+      whole w.now f.variables h ≡ Ok t1 → Writes w f.variables h (Ok (Some t)) w1 v →
+      f1 ≡ record f { variables = v } → Stores w f h t w1 f1
+
 -- the number of a turn is put into the variable of a repeat, where it has one
-pub data Assigns : History → Frame → ℕ → Option (List ℕ) → List ℕ → Result (Unit {0}) Stop → History → Frame
-    → Type 0 where
-  assign_memory : {w w1 : History} {f f1 : Frame} {delimiter : ℕ} {variable : Option (List ℕ)} {v : List ℕ} →
-      Assigns w f delimiter variable v (Err stop.Memory) w1 f1
-  no_variable : {w : History} {f : Frame} {delimiter : ℕ} {variable : Option (List ℕ)} {v : List ℕ} →
-      variable ≡ None → Assigns w f delimiter variable v (Ok tt) w f
-  assigns : {w w1 : History} {f f1 : Frame} {delimiter : ℕ} {variable : Option (List ℕ)} {name v : List ℕ}
-      {o : Result (Unit {0}) Stop} →
-      variable ≡ Some name → Edits w f delimiter (variable_place f.variables name) (Put Into v) o w1 f1 →
-      Assigns w f delimiter variable v o w1 f1
+pub data Assigns : History → Frame → Option (List ℕ) → List ℕ → History → Frame → Type 0 where
+  no_variable : {w : History} {f : Frame} {variable : Option (List ℕ)} {t : List ℕ} →
+      variable ≡ None → Assigns w f variable t w f
+  assigns : {w w1 : History} {f f1 : Frame} {variable : Option (List ℕ)} {name t : List ℕ} →
+      variable ≡ Some name → Stores w f (named f.variables name) t w1 f1 → Assigns w f variable t w1 f1
 
 -- names mean globals from here on, from left to right
-pub data DeclaresAll : History → Frame → List (List ℕ) → Result (Unit {0}) Stop → History → Frame → Type 0 where
-  declare_memory : {w w1 : History} {f f1 : Frame} {names : List (List ℕ)}
-      → DeclaresAll w f names (Err stop.Memory) w1 f1
-  none_declared : {w : History} {f : Frame} {names : List (List ℕ)} → names ≡ [] → DeclaresAll w f names (Ok tt) w f
-  declared : {w w1 w2 : History} {f f1 f2 : Frame} {names names1 : List (List ℕ)} {name : List ℕ} {v : VariablesView}
-      {o : Result (Unit {0}) Stop} →
+pub data DeclaresAll : History → Frame → List (List ℕ) → History → Frame → Type 0 where
+  none_declared : {w : History} {f : Frame} {names : List (List ℕ)} → names ≡ [] → DeclaresAll w f names w f
+  declared : {w w1 w2 : History} {f f1 f2 : Frame} {names names1 : List (List ℕ)} {name : List ℕ} {v : VariablesView} →
       names ≡ name ∷ names1 → Declares w f.variables name w1 v → f1 ≡ record f { variables = v } →
-      DeclaresAll w1 f1 names1 o w2 f2 → DeclaresAll w f names o w2 f2
+      DeclaresAll w1 f1 names1 w2 f2 → DeclaresAll w f names w2 f2
 
 -- a property of an object is set; after a fault nothing has changed
 pub data Sets : History → Referent → Prop → List ℕ → Result (Unit {0}) Stop → History → Type 0 where

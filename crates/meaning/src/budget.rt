@@ -1,7 +1,6 @@
 //! What a command has and gives while it runs: its properties, its result, its steps, what it shows and what it sends.
 
 ghost use Rattle.std.specs.Prelude.{◌≡◌, ◌<◌, ◌≤◌, [], false, Ok, Err, IfOk, IfErr, OnOk, OnErr};
-ghost use Rattle.ht_values.specs.Outcome.{Gives};
 ghost use Rattle.stack_text.specs.Words.{spelled};
 ghost use Rattle.meaning.specs.State.{Step, delimiter_set, fresh_run, noted, run_property, run_property_set, shows};
 
@@ -9,7 +8,7 @@ use crate::end::Stop;
 use crate::sent::{Line, Sent, Shown};
 use crate::trace::Trace;
 use ht_grammar::RunProp;
-use ht_values::{Failure, Fault, Text, Value, in_word, truth_of};
+use ht_values::{Fault, Text, Value, truth_of};
 use object_table::Id;
 use stack_text::spell_into;
 use std::alloc::{AllocError, Global};
@@ -192,14 +191,16 @@ impl Budget {
         self.result = value;
     }
 
-    /// A property of the run as a text.
-    pub fn property(&self, property: RunProp) -> Result<Text, Failure>
-        ensures { Gives result (Ok (run_property self.now property)) }
+    /// A property of the run as a value.
+    pub fn property(&self, property: RunProp) -> Result<Value, AllocError>
+        ensures { IfOk result (λ v. v ≡ run_property self.now property) }
     {
         match property {
-            RunProp::ItemDelimiter => Ok(Text::fitting(self.alloc, &[self.delimiter])?),
-            RunProp::LockMessages => in_word(self.alloc, self.lock_messages),
-            RunProp::EditBkgnd => in_word(self.alloc, self.edit_background),
+            RunProp::ItemDelimiter => {
+                Ok(Value::of_text(Text::fitting(self.alloc, &[self.delimiter])?))
+            }
+            RunProp::LockMessages => Ok(Value::of_truth(self.lock_messages)),
+            RunProp::EditBkgnd => Ok(Value::of_truth(self.edit_background)),
         }
     }
 

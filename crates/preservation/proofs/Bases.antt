@@ -5,7 +5,7 @@ use Rattle.containers.specs.Base.{base}
 use Rattle.containers.proofs.Bases.{made_keeps as base_made, took_keeps as base_turn}
 use Rattle.preservation.specs.Laws.{HasMemory}
 use Rattle.preservation.proofs.Ends.{given, stopped, faulted}
-use Rattle.preservation.proofs.Kept.{base_edits, base_assigns, base_declares_all, base_sets, base_adds}
+use Rattle.preservation.proofs.Kept.{base_edits, base_stores, base_assigns, base_declares_all, base_sets, base_adds}
 use Rattle.std.specs.Prelude.{ℕ, ℤ, List, Bool, Option, Result}
 use Rattle.ht_values.specs.declared.operator.Op.{Op}
 use Rattle.ht_grammar.specs.declared.vocabulary.HandlerKind.{HandlerKind}
@@ -189,8 +189,7 @@ mutual
   base_form (Form.put_fails _ p2 p3 p4) has = base_edits p4 (stopped has) ∙ base_resolves p3 given ∙ base_val p2 given
   base_form (Form.put _ p2 p3 p4) has = base_edits p4 given ∙ base_resolves p3 given ∙ base_val p2 given
   base_form (Form.get_stops _ p2) has = base_val p2 (stopped has)
-  base_form (Form.get_fails _ p2 p3) has = base_edits p3 (stopped has) ∙ base_val p2 given
-  base_form (Form.get _ p2 p3) has = base_edits p3 given ∙ base_val p2 given
+  base_form (Form.get _ p2 p3) has = base_stores p3 ∙ base_val p2 given
   base_form (Form.set_stops _ p2) has = base_val p2 (stopped has)
   base_form (Form.set_nowhere _ p2 p3) has = base_meets p3 (stopped has) ∙ base_val p2 given
   base_form (Form.set_fails _ p2 p3 p4) has = base_sets p4 (stopped has) ∙ base_meets p3 given ∙ base_val p2 given
@@ -217,8 +216,7 @@ mutual
   base_form (Form.go_nowhere _ p2) has = base_leads p2 (stopped has)
   base_form (Form.go_stops _ p2 p3) has = base_goes p3 (stopped has) ∙ base_leads p2 given
   base_form (Form.go _ p2 p3) has = base_goes p3 given ∙ base_leads p2 given
-  base_form (Form.global_stops _ p2) has = base_declares_all p2 (stopped has)
-  base_form (Form.global _ p2) has = base_declares_all p2 given
+  base_form (Form.global _ p2) has = base_declares_all p2
   base_form (Form.exit_repeat _) has = refl
   base_form (Form.next_repeat _) has = refl
   base_form (Form.exit_to_hypercard _) has = refl
@@ -299,11 +297,9 @@ mutual
   base_counts Counts.counts_memory has = absurd (has refl)
   base_counts (Counts.counts_no_step _) has = refl
   base_counts (Counts.counts_end _ _) has = refl
-  base_counts (Counts.counts_fail _ _ p3) has = base_assigns p3 (stopped has)
-  base_counts (Counts.counts_stop _ _ p3 p4) has = base_block p4 has ∙ base_assigns p3 given
-  base_counts (Counts.counts_leave _ _ p3 p4 _) has = base_block p4 given ∙ base_assigns p3 given
-  base_counts (Counts.counts_go_on _ _ p3 p4 _ _ p7) has =
-      base_counts p7 has ∙ base_block p4 given ∙ base_assigns p3 given
+  base_counts (Counts.counts_stop _ _ p3 p4) has = base_block p4 has ∙ base_assigns p3
+  base_counts (Counts.counts_leave _ _ p3 p4 _) has = base_block p4 given ∙ base_assigns p3
+  base_counts (Counts.counts_go_on _ _ p3 p4 _ _ p7) has = base_counts p7 has ∙ base_block p4 given ∙ base_assigns p3
 
   pub base_calls : {w w2 : History} {r r2 : RunState} {f : Frame} {d i : ℕ} {n : List ℕ} {es : tree.Exprs}
       {cl : HandlerKind} {o : Result (List ℕ) Stop} → Calls w r f d i n es cl o w2 r2 → HasMemory o → base w2 ≡ base w
@@ -415,11 +411,9 @@ mutual
   base_calls_back (CallsBack.eval_stops _ _ _ p4) has = base_val p4 (stopped has)
   base_calls_back (CallsBack.evaluates _ _ _ p4 _) has = base_val p4 given
   base_calls_back (CallsBack.bad_global _ _) has = refl
-  base_calls_back (CallsBack.global_fails _ _ _ p4) has = base_edits p4 (stopped has)
-  base_calls_back (CallsBack.global_set _ _ _ p4 _) has = base_edits p4 given
-  base_calls_back (CallsBack.no_such_field _ _) has = refl
-  base_calls_back (CallsBack.field_fails _ _ _ p4) has = base_edits p4 (stopped has)
-  base_calls_back (CallsBack.field_set _ _ _ p4 _) has = base_edits p4 given
+  base_calls_back (CallsBack.global_set _ _ _ p4 _) has = base_stores p4
+  base_calls_back (CallsBack.no_such_field _ _ _) has = refl
+  base_calls_back (CallsBack.field_set _ _ _ p4 _) has = base_stores p4
 
   pub base_line : {w w2 : History} {r r2 : RunState} {ss : stm.Stmts} {ot : Result (Unit {0}) Stop}
       → Line w r ss ot w2 r2 → HasMemory ot → base w2 ≡ base w
@@ -465,8 +459,7 @@ mutual
       → TypesOver w r m t ot w2 r2 → HasMemory ot → base w2 ≡ base w
   base_types_over TypesOver.type_over_memory has = absurd (has refl)
   base_types_over (TypesOver.typed_field_goes _ _) has = refl
-  base_types_over (TypesOver.type_over_stops _ _ _ p4) has = base_edits p4 has
-  base_types_over (TypesOver.types_over _ _ _ p4 _ _ p7) has = base_tells p7 has ∙ base_edits p4 given
+  base_types_over (TypesOver.types_over _ _ _ p4 _ _ p7) has = base_tells p7 has ∙ base_stores p4
 
   pub base_types_into : {w w2 : History} {r r2 : RunState} {t : List ℕ} {pa : tree.Part} {ot : Result (Unit {0}) Stop}
       → TypesInto w r t pa ot w2 r2 → HasMemory ot → base w2 ≡ base w

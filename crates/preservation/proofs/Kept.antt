@@ -13,7 +13,7 @@ use Rattle.containers.specs.Writes.{Writes, Declares}
 use Rattle.containers.proofs.Bases.{made_keeps}
 use Rattle.meaning.specs.declared.end.Stop.{Stop}
 use Rattle.meaning.specs.declared.frame.Frame.{Frame}
-use Rattle.meaning.specs.Places.{Edits, Assigns, DeclaresAll, Sets, Adds}
+use Rattle.meaning.specs.Places.{Edits, Stores, Assigns, DeclaresAll, Sets, Adds}
 use Rattle.preservation.specs.Laws.{HasMemory}
 
 base_writes : {w w2 : History} {v v2 : VariablesView} {p : StorageView} {due : Result (Option (List ℕ)) Fault}
@@ -29,21 +29,23 @@ base_edits Edits.edit_memory has = absurd (has refl)
 base_edits (Edits.edit_faults _ same _) has = ap base same
 base_edits (Edits.edited written _) has = base_writes written
 
-pub base_assigns : {w w2 : History} {f f2 : Frame} {delimiter : ℕ} {variable : Option (List ℕ)} {t : List ℕ}
-    {o : Result (Unit {0}) Stop} → Assigns w f delimiter variable t o w2 f2 → HasMemory o → base w2 ≡ base w
-base_assigns Assigns.assign_memory has = absurd (has refl)
-base_assigns (Assigns.no_variable _) has = refl
-base_assigns (Assigns.assigns _ edits) has = base_edits edits has
+pub base_stores : {w w2 : History} {f f2 : Frame} {h : StorageView} {t : List ℕ} → Stores w f h t w2 f2
+    → base w2 ≡ base w
+base_stores (Stores.stores _ written _) = base_writes written
+
+pub base_assigns : {w w2 : History} {f f2 : Frame} {variable : Option (List ℕ)} {t : List ℕ}
+    → Assigns w f variable t w2 f2 → base w2 ≡ base w
+base_assigns (Assigns.no_variable _) = refl
+base_assigns (Assigns.assigns _ stores) = base_stores stores
 
 base_declares : {w w2 : History} {v v2 : VariablesView} {name : List ℕ} → Declares w v name w2 v2 → base w2 ≡ base w
 base_declares (Declares.has_value _ _) = refl
 base_declares (Declares.is_new _ made _) = made_keeps made
 
-pub base_declares_all : {w w2 : History} {f f2 : Frame} {names : List (List ℕ)} {o : Result (Unit {0}) Stop}
-    → DeclaresAll w f names o w2 f2 → HasMemory o → base w2 ≡ base w
-base_declares_all DeclaresAll.declare_memory has = absurd (has refl)
-base_declares_all (DeclaresAll.none_declared _) has = refl
-base_declares_all (DeclaresAll.declared _ declares _ rest) has = base_declares_all rest has ∙ base_declares declares
+pub base_declares_all : {w w2 : History} {f f2 : Frame} {names : List (List ℕ)} → DeclaresAll w f names w2 f2
+    → base w2 ≡ base w
+base_declares_all (DeclaresAll.none_declared _) = refl
+base_declares_all (DeclaresAll.declared _ declares _ rest) = base_declares_all rest ∙ base_declares declares
 
 pub base_sets : {w w2 : History} {m : Referent} {prop : Prop} {t : List ℕ} {o : Result (Unit {0}) Stop}
     → Sets w m prop t o w2 → HasMemory o → base w2 ≡ base w

@@ -11,7 +11,7 @@ use Rattle.journal_entries.specs.State.{State}
 use Rattle.change_journal.specs.History.{History}
 use Rattle.object_references.specs.declared.referent.Referent.{Referent}
 use Rattle.object_references.specs.References.{field_named}
-use Rattle.containers.specs.Places.{StorageView, PlaceView, global, own, field_text, named, keeps_for, is_shared}
+use Rattle.containers.specs.Places.{StorageView, PlaceView, global, own, field_text, named, keeps_for, is_shared, whole}
 use Rattle.containers.specs.Variables.{VariablesView, is_global}
 use Rattle.meaning.specs.declared.end.Stop.{Stop}
 use Rattle.meaning.specs.declared.frame.Frame.{Frame}
@@ -43,11 +43,21 @@ placed_field s m = by (keeps_for s.stack m.object m.card)
     by true = tt
     by false = tt
 
-placed_named : (s : State) (b : Bool) (name : List ℕ) → IfPlaced (field_named_place s b name)
-placed_named s b name = by (field_named s.stack s.current (layer_of_field b) name)
+placed_named : (s : State) (v : VariablesView) (b : Bool) (name : List ℕ) → IfPlaced (field_named_place s v b name)
+placed_named s v b name = by (field_named s.stack s.current (layer_of_field b) name)
   where
-    by : (r : Result Referent Fault) → IfPlaced (and_then r (field_place s))
-    by (Ok m) = placed_field s m
+    filled : (p : PlaceView) (t : Result (List ℕ) Fault) → IsPlaced p.storage → IfPlaced (and_then t (λ u. Ok p))
+    filled p (Ok u) h = h
+    filled p (Err fault) h = tt
+
+    at : (r : Result PlaceView Fault) → IfPlaced r
+        → IfPlaced (and_then r (λ p. and_then (whole s v p.storage) (λ t. Ok p)))
+    at (Ok p) h = filled p (whole s v p.storage) h
+    at (Err fault) h = tt
+
+    by : (r : Result Referent Fault) → IfPlaced (and_then r (λ m. and_then (field_place s m)
+        (λ p. and_then (whole s v p.storage) (λ t. Ok p))))
+    by (Ok m) = at (field_place s m) (placed_field s m)
     by (Err fault) = tt
 
 yields_placed : {c : Result PlaceView Fault} {o : Result PlaceView Stop} → IfPlaced c → Yields c o → IfPlaced o
@@ -58,9 +68,9 @@ yields_placed h (Yields.faults _) = tt
 pub placed_at : {p : PlaceView} (s : State) (m : Referent) → field_place s m ≡ Ok p → IsPlaced p.storage
 placed_at s m is = subst IfPlaced is (placed_field s m)
 
-pub placed_by_name : {p : PlaceView} (s : State) (b : Bool) (name : List ℕ) → Yields (field_named_place s b name) (Ok p)
-    → IsPlaced p.storage
-placed_by_name s b name found = yields_placed (placed_named s b name) found
+pub placed_by_name : {p : PlaceView} (s : State) (v : VariablesView) (b : Bool) (name : List ℕ)
+    → Yields (field_named_place s v b name) (Ok p) → IsPlaced p.storage
+placed_by_name s v b name found = yields_placed (placed_named s v b name) found
 
 pub placed_part : {q : PlaceView} (p : PlaceView) (c : Chunk) → q ≡ chunk_of_place p c → IsPlaced p.storage
     → IsPlaced q.storage

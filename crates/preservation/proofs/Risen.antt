@@ -19,9 +19,9 @@ use Rattle.containers.specs.Variables.{VariablesView}
 use Rattle.containers.specs.Writes.{Writes, Declares}
 use Rattle.meaning.specs.declared.end.Stop.{Stop}
 use Rattle.meaning.specs.declared.frame.Frame.{Frame}
-use Rattle.meaning.specs.Places.{Edits, Assigns, DeclaresAll, Sets, Adds}
+use Rattle.meaning.specs.Places.{Edits, Stores, Assigns, DeclaresAll, Sets, Adds}
 use Rattle.preservation.specs.Rising.{TrailAfter, RisesIn, RisesBy}
-use Rattle.preservation.specs.Changes.{replaced_made, replaced_turn, replaced_writes, replaced_edits, replaced_assigns}
+use Rattle.preservation.specs.Changes.{replaced_made, replaced_turn, replaced_writes, replaced_edits, replaced_stores, replaced_assigns}
 use Rattle.preservation.specs.Changes.{replaced_declares, replaced_declares_all, replaced_sets, replaced_adds}
 use Rattle.preservation.specs.Laws.{HasMemory}
 use Rattle.preservation.proofs.Trails.{trail_trans}
@@ -126,24 +126,25 @@ rises_edits Edits.edit_memory has = absurd (has refl)
 rises_edits (Edits.edit_faults _ same _) has = rises_same same
 rises_edits (Edits.edited written _) has = rises_writes written
 
-pub rises_assigns : {w w2 : History} {f f2 : Frame} {delimiter : ℕ} {variable : Option (List ℕ)} {t : List ℕ}
-    {o : Result (Unit {0}) Stop} (assigns : Assigns w f delimiter variable t o w2 f2) → HasMemory o
-    → RisesBy (replaced_assigns assigns) w.start w2.start
-rises_assigns Assigns.assign_memory has = absurd (has refl)
-rises_assigns (Assigns.no_variable _) has = rises_nothing
-rises_assigns (Assigns.assigns _ edits) has = rises_edits edits has
+pub rises_stores : {w w2 : History} {f f2 : Frame} {h : StorageView} {t : List ℕ} (stores : Stores w f h t w2 f2)
+    → RisesBy (replaced_stores stores) w.start w2.start
+rises_stores (Stores.stores _ written _) = rises_writes written
+
+pub rises_assigns : {w w2 : History} {f f2 : Frame} {variable : Option (List ℕ)} {t : List ℕ}
+    (assigns : Assigns w f variable t w2 f2) → RisesBy (replaced_assigns assigns) w.start w2.start
+rises_assigns (Assigns.no_variable _) = rises_nothing
+rises_assigns (Assigns.assigns _ stores) = rises_stores stores
 
 rises_declares : {w w2 : History} {v v2 : VariablesView} {name : List ℕ} (declares : Declares w v name w2 v2)
     → RisesBy (replaced_declares declares) w.start w2.start
 rises_declares (Declares.has_value _ _) = rises_nothing
 rises_declares (Declares.is_new _ made _) = rises_made made
 
-pub rises_declares_all : {w w2 : History} {f f2 : Frame} {names : List (List ℕ)} {o : Result (Unit {0}) Stop}
-    (declares : DeclaresAll w f names o w2 f2) → HasMemory o → RisesBy (replaced_declares_all declares) w.start w2.start
-rises_declares_all DeclaresAll.declare_memory has = absurd (has refl)
-rises_declares_all (DeclaresAll.none_declared _) has = rises_nothing
-rises_declares_all (DeclaresAll.declared _ declares _ rest) has =
-    rises_trans (rises_declares declares) (rises_declares_all rest has)
+pub rises_declares_all : {w w2 : History} {f f2 : Frame} {names : List (List ℕ)}
+    (declares : DeclaresAll w f names w2 f2) → RisesBy (replaced_declares_all declares) w.start w2.start
+rises_declares_all (DeclaresAll.none_declared _) = rises_nothing
+rises_declares_all (DeclaresAll.declared _ declares _ rest) =
+    rises_trans (rises_declares declares) (rises_declares_all rest)
 
 pub rises_sets : {w w2 : History} {m : Referent} {prop : Prop} {t : List ℕ} {o : Result (Unit {0}) Stop}
     (sets : Sets w m prop t o w2) → HasMemory o → RisesBy (replaced_sets sets) w.start w2.start

@@ -15,8 +15,8 @@ use Rattle.preservation.specs.Replaced.{replaced_talks, replaced_calls_back, rep
 use Rattle.preservation.specs.Replaced.{replaced_refers, replaced_tells, replaced_tells_all, replaced_clicks}
 use Rattle.preservation.specs.Replaced.{replaced_types_over, replaced_types_into, replaced_acts}
 use Rattle.preservation.proofs.Ends.{given, stopped, faulted}
-use Rattle.preservation.proofs.Risen.{rises_nothing, rises_trans, rises_made, rises_turn, rises_edits, rises_assigns}
-use Rattle.preservation.proofs.Risen.{rises_declares_all, rises_sets, rises_adds}
+use Rattle.preservation.proofs.Risen.{rises_nothing, rises_trans, rises_made, rises_turn, rises_edits, rises_stores}
+use Rattle.preservation.proofs.Risen.{rises_assigns, rises_declares_all, rises_sets, rises_adds}
 use Rattle.std.specs.Prelude.{ℕ, ℤ, List, Bool, Option, Result}
 use Rattle.ht_values.specs.declared.operator.Op.{Op}
 use Rattle.ht_grammar.specs.declared.vocabulary.HandlerKind.{HandlerKind}
@@ -210,8 +210,7 @@ mutual
   rises_form (Form.put _ p2 p3 p4) has =
       rises_trans (rises_val p2 given) (rises_trans (rises_resolves p3 given) (rises_edits p4 given))
   rises_form (Form.get_stops _ p2) has = rises_val p2 (stopped has)
-  rises_form (Form.get_fails _ p2 p3) has = rises_trans (rises_val p2 given) (rises_edits p3 (stopped has))
-  rises_form (Form.get _ p2 p3) has = rises_trans (rises_val p2 given) (rises_edits p3 given)
+  rises_form (Form.get _ p2 p3) has = rises_trans (rises_val p2 given) (rises_stores p3)
   rises_form (Form.set_stops _ p2) has = rises_val p2 (stopped has)
   rises_form (Form.set_nowhere _ p2 p3) has = rises_trans (rises_val p2 given) (rises_meets p3 (stopped has))
   rises_form (Form.set_fails _ p2 p3 p4) has =
@@ -242,8 +241,7 @@ mutual
   rises_form (Form.go_nowhere _ p2) has = rises_leads p2 (stopped has)
   rises_form (Form.go_stops _ p2 p3) has = rises_trans (rises_leads p2 given) (rises_goes p3 (stopped has))
   rises_form (Form.go _ p2 p3) has = rises_trans (rises_leads p2 given) (rises_goes p3 given)
-  rises_form (Form.global_stops _ p2) has = rises_declares_all p2 (stopped has)
-  rises_form (Form.global _ p2) has = rises_declares_all p2 given
+  rises_form (Form.global _ p2) has = rises_declares_all p2
   rises_form (Form.exit_repeat _) has = rises_nothing
   rises_form (Form.next_repeat _) has = rises_nothing
   rises_form (Form.exit_to_hypercard _) has = rises_nothing
@@ -328,11 +326,10 @@ mutual
   rises_counts Counts.counts_memory has = absurd (has refl)
   rises_counts (Counts.counts_no_step _) has = rises_nothing
   rises_counts (Counts.counts_end _ _) has = rises_nothing
-  rises_counts (Counts.counts_fail _ _ p3) has = rises_assigns p3 (stopped has)
-  rises_counts (Counts.counts_stop _ _ p3 p4) has = rises_trans (rises_assigns p3 given) (rises_block p4 has)
-  rises_counts (Counts.counts_leave _ _ p3 p4 _) has = rises_trans (rises_assigns p3 given) (rises_block p4 given)
+  rises_counts (Counts.counts_stop _ _ p3 p4) has = rises_trans (rises_assigns p3) (rises_block p4 has)
+  rises_counts (Counts.counts_leave _ _ p3 p4 _) has = rises_trans (rises_assigns p3) (rises_block p4 given)
   rises_counts (Counts.counts_go_on _ _ p3 p4 _ _ p7) has =
-      rises_trans (rises_assigns p3 given) (rises_trans (rises_block p4 given) (rises_counts p7 has))
+      rises_trans (rises_assigns p3) (rises_trans (rises_block p4 given) (rises_counts p7 has))
 
   pub rises_calls : {w w2 : History} {r r2 : RunState} {f : Frame} {d i : ℕ} {n : List ℕ} {es : tree.Exprs}
       {cl : HandlerKind} {o : Result (List ℕ) Stop} (v : Calls w r f d i n es cl o w2 r2) → HasMemory o
@@ -455,11 +452,9 @@ mutual
   rises_calls_back (CallsBack.eval_stops _ _ _ p4) has = rises_val p4 (stopped has)
   rises_calls_back (CallsBack.evaluates _ _ _ p4 _) has = rises_val p4 given
   rises_calls_back (CallsBack.bad_global _ _) has = rises_nothing
-  rises_calls_back (CallsBack.global_fails _ _ _ p4) has = rises_edits p4 (stopped has)
-  rises_calls_back (CallsBack.global_set _ _ _ p4 _) has = rises_edits p4 given
-  rises_calls_back (CallsBack.no_such_field _ _) has = rises_nothing
-  rises_calls_back (CallsBack.field_fails _ _ _ p4) has = rises_edits p4 (stopped has)
-  rises_calls_back (CallsBack.field_set _ _ _ p4 _) has = rises_edits p4 given
+  rises_calls_back (CallsBack.global_set _ _ _ p4 _) has = rises_stores p4
+  rises_calls_back (CallsBack.no_such_field _ _ _) has = rises_nothing
+  rises_calls_back (CallsBack.field_set _ _ _ p4 _) has = rises_stores p4
 
   pub rises_line : {w w2 : History} {r r2 : RunState} {ss : stm.Stmts} {ot : Result (Unit {0}) Stop}
       (v : Line w r ss ot w2 r2) → HasMemory ot → RisesBy (replaced_line v) w.start w2.start
@@ -507,8 +502,7 @@ mutual
       (v : TypesOver w r m t ot w2 r2) → HasMemory ot → RisesBy (replaced_types_over v) w.start w2.start
   rises_types_over TypesOver.type_over_memory has = absurd (has refl)
   rises_types_over (TypesOver.typed_field_goes _ _) has = rises_nothing
-  rises_types_over (TypesOver.type_over_stops _ _ _ p4) has = rises_edits p4 has
-  rises_types_over (TypesOver.types_over _ _ _ p4 _ _ p7) has = rises_trans (rises_edits p4 given) (rises_tells p7 has)
+  rises_types_over (TypesOver.types_over _ _ _ p4 _ _ p7) has = rises_trans (rises_stores p4) (rises_tells p7 has)
 
   pub rises_types_into : {w w2 : History} {r r2 : RunState} {t : List ℕ} {pa : tree.Part} {ot : Result (Unit {0}) Stop}
       (v : TypesInto w r t pa ot w2 r2) → HasMemory ot → RisesBy (replaced_types_into v) w.start w2.start

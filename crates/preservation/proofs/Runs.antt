@@ -189,7 +189,6 @@ mutual
   goes_form (Form.put_fails _ p2 p3 _) has = goes_trans (goes_val p2 given) (goes_resolves p3 given)
   goes_form (Form.put _ p2 p3 _) has = goes_trans (goes_val p2 given) (goes_resolves p3 given)
   goes_form (Form.get_stops _ p2) has = goes_val p2 (stopped has)
-  goes_form (Form.get_fails _ p2 _) has = goes_val p2 given
   goes_form (Form.get _ p2 _) has = goes_val p2 given
   goes_form (Form.set_stops _ p2) has = goes_val p2 (stopped has)
   goes_form (Form.set_nowhere _ p2 p3) has = goes_trans (goes_val p2 given) (goes_meets p3 (stopped has))
@@ -217,7 +216,6 @@ mutual
   goes_form (Form.go_nowhere _ p2) has = goes_leads p2 (stopped has)
   goes_form (Form.go_stops _ p2 p3) has = goes_trans (goes_leads p2 given) (goes_goes p3 (stopped has))
   goes_form (Form.go _ p2 p3) has = goes_trans (goes_leads p2 given) (goes_goes p3 given)
-  goes_form (Form.global_stops _ _) has = goes_nowhere
   goes_form (Form.global _ _) has = goes_nowhere
   goes_form (Form.exit_repeat _) has = goes_nowhere
   goes_form (Form.next_repeat _) has = goes_nowhere
@@ -301,7 +299,6 @@ mutual
   goes_counts Counts.counts_memory has = absurd (has refl)
   goes_counts (Counts.counts_no_step p1) has = goes_by_step p1
   goes_counts (Counts.counts_end p1 _) has = goes_by_step p1
-  goes_counts (Counts.counts_fail p1 _ _) has = goes_by_step p1
   goes_counts (Counts.counts_stop p1 _ _ p4) has = goes_trans (goes_by_step p1) (goes_block p4 has)
   goes_counts (Counts.counts_leave p1 _ _ p4 _) has = goes_trans (goes_by_step p1) (goes_block p4 given)
   goes_counts (Counts.counts_go_on p1 _ _ p4 _ _ p7) has =
@@ -420,10 +417,8 @@ mutual
   goes_calls_back (CallsBack.eval_stops _ _ _ p4) has = goes_val p4 (stopped has)
   goes_calls_back (CallsBack.evaluates _ _ _ p4 _) has = goes_val p4 given
   goes_calls_back (CallsBack.bad_global _ _) has = goes_nowhere
-  goes_calls_back (CallsBack.global_fails _ _ _ _) has = goes_nowhere
   goes_calls_back (CallsBack.global_set _ _ _ _ _) has = goes_nowhere
-  goes_calls_back (CallsBack.no_such_field _ _) has = goes_nowhere
-  goes_calls_back (CallsBack.field_fails _ _ _ _) has = goes_nowhere
+  goes_calls_back (CallsBack.no_such_field _ _ _) has = goes_nowhere
   goes_calls_back (CallsBack.field_set _ _ _ _ _) has = goes_nowhere
 
   pub goes_line : {w w2 : History} {r r2 : RunState} {ss : stm.Stmts} {ot : Result (Unit {0}) Stop}
@@ -471,7 +466,6 @@ mutual
       → TypesOver w r m t ot w2 r2 → HasMemory ot → GoesOn r r2
   goes_types_over TypesOver.type_over_memory has = absurd (has refl)
   goes_types_over (TypesOver.typed_field_goes _ _) has = goes_nowhere
-  goes_types_over (TypesOver.type_over_stops _ _ _ _) has = goes_nowhere
   goes_types_over (TypesOver.types_over _ _ _ _ _ _ p7) has = goes_tells p7 has
 
   pub goes_types_into : {w w2 : History} {r r2 : RunState} {t : List ℕ} {pa : tree.Part} {ot : Result (Unit {0}) Stop}

@@ -35,9 +35,9 @@ use Rattle.containers.specs.Variables.{VariablesView}
 use Rattle.containers.specs.Writes.{Writes, Declares}
 use Rattle.meaning.specs.declared.end.Stop.{Stop}
 use Rattle.meaning.specs.declared.frame.Frame.{Frame}
-use Rattle.meaning.specs.Places.{Edits, Assigns, DeclaresAll, Sets, Adds}
-use Rattle.preservation.specs.Changes.{replaced_made, replaced_turn, replaced_writes, replaced_edits, replaced_assigns}
-use Rattle.preservation.specs.Changes.{replaced_declares, replaced_declares_all, replaced_sets, replaced_adds}
+use Rattle.meaning.specs.Places.{Edits, Stores, Assigns, DeclaresAll, Sets, Adds}
+use Rattle.preservation.specs.Changes.{replaced_made, replaced_turn, replaced_writes, replaced_edits}
+use Rattle.preservation.specs.Changes.{replaced_stores, replaced_assigns, replaced_declares, replaced_declares_all, replaced_sets, replaced_adds}
 use Rattle.preservation.specs.Laws.{HasMemory}
 use Rattle.preservation.specs.Whole.{AreTexts, KeepsWhole}
 use Rattle.preservation.proofs.Placed.{IsPlaced, placed_variable}
@@ -171,25 +171,33 @@ whole_edits named (Edits.edit_faults _ same _) has = whole_same same
 whole_edits {w} {w2} {f} {f2} {delimiter} {p} {e} named (Edits.edited written _) has =
     whole_writes named (λ field card t at is. due_stood w.now f.variables delimiter p e t field card at is) written
 
-pub whole_assigns : {w w2 : History} {f f2 : Frame} {delimiter : ℕ} {variable : Option (List ℕ)} {t : List ℕ}
-    {o : Result (Unit {0}) Stop} (assigns : Assigns w f delimiter variable t o w2 f2) → HasMemory o
-    → KeepsWhole (replaced_assigns assigns) w w2
-whole_assigns Assigns.assign_memory has = absurd (has refl)
-whole_assigns (Assigns.no_variable _) has = whole_nothing
-whole_assigns {f = f} (Assigns.assigns {name = name} _ edits) has =
-    whole_edits (placed_variable f.variables name) edits has
+-- and so did one in whose place a value comes
+text_stood : (s : State) (v : VariablesView) (h : StorageView) (t : List ℕ) (field card : ℕ)
+    → h ≡ field_text field card → whole s v h ≡ Ok t → is_some (text_at s.stack field card) ≡ true
+text_stood s v h t field card at is =
+    stood (text_at s.stack field card) (λ u. Ok u) t
+    (subst (λ h. and_then (whole s v h) (λ u. Ok u) ≡ Ok t) at (ap (λ o. and_then o (λ u. Ok u)) is))
+
+pub whole_stores : {w w2 : History} {f f2 : Frame} {h : StorageView} {t : List ℕ} → IsPlaced h
+    → (stores : Stores w f h t w2 f2) → KeepsWhole (replaced_stores stores) w w2
+whole_stores {w} {f = f} {h = h} named (Stores.stores {t1 = t1} stands written _) =
+    whole_writes named (λ field card t at _. text_stood w.now f.variables h t1 field card at stands) written
+
+pub whole_assigns : {w w2 : History} {f f2 : Frame} {variable : Option (List ℕ)} {t : List ℕ}
+    (assigns : Assigns w f variable t w2 f2) → KeepsWhole (replaced_assigns assigns) w w2
+whole_assigns (Assigns.no_variable _) = whole_nothing
+whole_assigns {f = f} (Assigns.assigns {name = name} _ stores) = whole_stores (placed_variable f.variables name) stores
 
 whole_declares : {w w2 : History} {v v2 : VariablesView} {name : List ℕ} (declares : Declares w v name w2 v2)
     → KeepsWhole (replaced_declares declares) w w2
 whole_declares (Declares.has_value _ _) = whole_nothing
 whole_declares {name = name} (Declares.is_new _ made _) = whole_made (folded_is_folded name) made
 
-pub whole_declares_all : {w w2 : History} {f f2 : Frame} {names : List (List ℕ)} {o : Result (Unit {0}) Stop}
-    (declares : DeclaresAll w f names o w2 f2) → HasMemory o → KeepsWhole (replaced_declares_all declares) w w2
-whole_declares_all DeclaresAll.declare_memory has = absurd (has refl)
-whole_declares_all (DeclaresAll.none_declared _) has = whole_nothing
-whole_declares_all (DeclaresAll.declared _ declares _ rest) has =
-    whole_trans (whole_declares declares) (whole_declares_all rest has)
+pub whole_declares_all : {w w2 : History} {f f2 : Frame} {names : List (List ℕ)}
+    (declares : DeclaresAll w f names w2 f2) → KeepsWhole (replaced_declares_all declares) w w2
+whole_declares_all (DeclaresAll.none_declared _) = whole_nothing
+whole_declares_all (DeclaresAll.declared _ declares _ rest) =
+    whole_trans (whole_declares declares) (whole_declares_all rest)
 
 pub whole_sets : {w w2 : History} {m : Referent} {prop : Prop} {t : List ℕ} {o : Result (Unit {0}) Stop}
     (sets : Sets w m prop t o w2) → HasMemory o → KeepsWhole (replaced_sets sets) w w2

@@ -18,7 +18,7 @@ use Rattle.preservation.proofs.Ends.{given, stopped, faulted}
 use Rattle.meaning.specs.Places.{it_name}
 use Rattle.preservation.proofs.Placed.{placed_variable, placed, placed_at, placed_by_name, placed_part}
 use Rattle.preservation.proofs.StaysWhole.{whole_nothing, whole_trans, may_go, whole_made, whole_turn, whole_edits}
-use Rattle.preservation.proofs.StaysWhole.{whole_assigns, whole_declares_all, whole_sets, whole_adds}
+use Rattle.preservation.proofs.StaysWhole.{whole_stores, whole_assigns, whole_declares_all, whole_sets, whole_adds}
 use Rattle.std.specs.Prelude.{ℕ, ℤ, List, Bool, Option, Result}
 use Rattle.ht_values.specs.declared.operator.Op.{Op}
 use Rattle.ht_grammar.specs.declared.vocabulary.HandlerKind.{HandlerKind}
@@ -211,10 +211,8 @@ mutual
   whole_form (Form.put _ p2 p3 p4) has =
       whole_trans (whole_val p2 given) (whole_trans (whole_resolves p3 given) (whole_edits (placed p3) p4 given))
   whole_form (Form.get_stops _ p2) has = whole_val p2 (stopped has)
-  whole_form (Form.get_fails {f = f} _ p2 p3) has =
-      whole_trans (whole_val p2 given) (whole_edits (placed_variable f.variables it_name) p3 (stopped has))
   whole_form (Form.get {f = f} _ p2 p3) has =
-      whole_trans (whole_val p2 given) (whole_edits (placed_variable f.variables it_name) p3 given)
+      whole_trans (whole_val p2 given) (whole_stores (placed_variable f.variables it_name) p3)
   whole_form (Form.set_stops _ p2) has = whole_val p2 (stopped has)
   whole_form (Form.set_nowhere _ p2 p3) has = whole_trans (whole_val p2 given) (whole_meets p3 (stopped has))
   whole_form (Form.set_fails _ p2 p3 p4) has =
@@ -245,8 +243,7 @@ mutual
   whole_form (Form.go_nowhere _ p2) has = whole_leads p2 (stopped has)
   whole_form (Form.go_stops _ p2 p3) has = whole_trans (whole_leads p2 given) (whole_goes p3 (stopped has))
   whole_form (Form.go _ p2 p3) has = whole_trans (whole_leads p2 given) (whole_goes p3 given)
-  whole_form (Form.global_stops _ p2) has = whole_declares_all p2 (stopped has)
-  whole_form (Form.global _ p2) has = whole_declares_all p2 given
+  whole_form (Form.global _ p2) has = whole_declares_all p2
   whole_form (Form.exit_repeat _) has = whole_nothing
   whole_form (Form.next_repeat _) has = whole_nothing
   whole_form (Form.exit_to_hypercard _) has = whole_nothing
@@ -331,11 +328,10 @@ mutual
   whole_counts Counts.counts_memory has = absurd (has refl)
   whole_counts (Counts.counts_no_step _) has = whole_nothing
   whole_counts (Counts.counts_end _ _) has = whole_nothing
-  whole_counts (Counts.counts_fail _ _ p3) has = whole_assigns p3 (stopped has)
-  whole_counts (Counts.counts_stop _ _ p3 p4) has = whole_trans (whole_assigns p3 given) (whole_block p4 has)
-  whole_counts (Counts.counts_leave _ _ p3 p4 _) has = whole_trans (whole_assigns p3 given) (whole_block p4 given)
+  whole_counts (Counts.counts_stop _ _ p3 p4) has = whole_trans (whole_assigns p3) (whole_block p4 has)
+  whole_counts (Counts.counts_leave _ _ p3 p4 _) has = whole_trans (whole_assigns p3) (whole_block p4 given)
   whole_counts (Counts.counts_go_on _ _ p3 p4 _ _ p7) has =
-      whole_trans (whole_assigns p3 given) (whole_trans (whole_block p4 given) (whole_counts p7 has))
+      whole_trans (whole_assigns p3) (whole_trans (whole_block p4 given) (whole_counts p7 has))
 
   pub whole_calls : {w w2 : History} {r r2 : RunState} {f : Frame} {d i : ℕ} {n : List ℕ} {es : tree.Exprs}
       {cl : HandlerKind} {o : Result (List ℕ) Stop} (v : Calls w r f d i n es cl o w2 r2) → HasMemory o
@@ -457,15 +453,11 @@ mutual
   whole_calls_back (CallsBack.eval_stops _ _ _ p4) has = whole_val p4 (stopped has)
   whole_calls_back (CallsBack.evaluates _ _ _ p4 _) has = whole_val p4 given
   whole_calls_back (CallsBack.bad_global _ _) has = whole_nothing
-  whole_calls_back (CallsBack.global_fails {n = n} {f = f} _ _ _ p4) has =
-      whole_edits (placed_variable f.variables n) p4 (stopped has)
   whole_calls_back (CallsBack.global_set {n = n} {f = f} _ _ _ p4 _) has =
-      whole_edits (placed_variable f.variables n) p4 given
-  whole_calls_back (CallsBack.no_such_field _ _) has = whole_nothing
-  whole_calls_back (CallsBack.field_fails {b = b} {n = n} {w = w} _ p2 _ p4) has =
-      whole_edits (placed_by_name w.now b n p2) p4 (stopped has)
-  whole_calls_back (CallsBack.field_set {b = b} {n = n} {w = w} _ p2 _ p4 _) has =
-      whole_edits (placed_by_name w.now b n p2) p4 given
+      whole_stores (placed_variable f.variables n) p4
+  whole_calls_back (CallsBack.no_such_field _ _ _) has = whole_nothing
+  whole_calls_back (CallsBack.field_set {b = b} {n = n} {f = f} {w = w} _ _ p3 p4 _) has =
+      whole_stores (placed_by_name w.now f.variables b n p3) p4
 
   pub whole_line : {w w2 : History} {r r2 : RunState} {ss : stm.Stmts} {ot : Result (Unit {0}) Stop}
       (v : Line w r ss ot w2 r2) → HasMemory ot → KeepsWhole (replaced_line v) w w2
@@ -513,9 +505,8 @@ mutual
       (v : TypesOver w r m t ot w2 r2) → HasMemory ot → KeepsWhole (replaced_types_over v) w w2
   whole_types_over TypesOver.type_over_memory has = absurd (has refl)
   whole_types_over (TypesOver.typed_field_goes _ _) has = whole_nothing
-  whole_types_over (TypesOver.type_over_stops {w = w} {m = m} _ _ p3 p4) has = whole_edits (placed_at w.now m p3) p4 has
   whole_types_over (TypesOver.types_over {w = w} {m = m} _ _ p3 p4 _ _ p7) has =
-      whole_trans (whole_edits (placed_at w.now m p3) p4 given) (whole_tells p7 has)
+      whole_trans (whole_stores (placed_at w.now m p3) p4) (whole_tells p7 has)
 
   pub whole_types_into : {w w2 : History} {r r2 : RunState} {t : List ℕ} {pa : tree.Part} {ot : Result (Unit {0}) Stop}
       (v : TypesInto w r t pa ot w2 r2) → HasMemory ot → KeepsWhole (replaced_types_into v) w w2

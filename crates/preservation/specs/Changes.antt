@@ -16,7 +16,7 @@ use Rattle.containers.specs.Variables.{VariablesView}
 use Rattle.containers.specs.Writes.{Writes, Declares}
 use Rattle.meaning.specs.declared.end.Stop.{Stop}
 use Rattle.meaning.specs.declared.frame.Frame.{Frame}
-use Rattle.meaning.specs.Places.{Edits, Assigns, DeclaresAll, Sets, Adds}
+use Rattle.meaning.specs.Places.{Edits, Stores, Assigns, DeclaresAll, Sets, Adds}
 
 abbrev pub replaced_made : {w w2 : History} {c : Change} → Made w w2 c → List Replacement
 replaced_made {w} {w2} {c} made = replaced_by w.now c
@@ -40,20 +40,22 @@ replaced_edits Edits.edit_memory = []
 replaced_edits (Edits.edit_faults _ _ _) = []
 replaced_edits (Edits.edited written _) = replaced_writes written
 
-abbrev pub replaced_assigns : {w w2 : History} {f f2 : Frame} {delimiter : ℕ} {variable : Option (List ℕ)} {t : List ℕ}
-    {o : Result (Unit {0}) Stop} → Assigns w f delimiter variable t o w2 f2 → List Replacement
-replaced_assigns Assigns.assign_memory = []
+abbrev pub replaced_stores : {w w2 : History} {f f2 : Frame} {h : StorageView} {t : List ℕ} → Stores w f h t w2 f2
+    → List Replacement
+replaced_stores (Stores.stores _ written _) = replaced_writes written
+
+abbrev pub replaced_assigns : {w w2 : History} {f f2 : Frame} {variable : Option (List ℕ)} {t : List ℕ}
+    → Assigns w f variable t w2 f2 → List Replacement
 replaced_assigns (Assigns.no_variable _) = []
-replaced_assigns (Assigns.assigns _ edits) = replaced_edits edits
+replaced_assigns (Assigns.assigns _ stores) = replaced_stores stores
 
 abbrev pub replaced_declares : {w w2 : History} {v v2 : VariablesView} {name : List ℕ} → Declares w v name w2 v2
     → List Replacement
 replaced_declares (Declares.has_value _ _) = []
 replaced_declares (Declares.is_new _ made _) = replaced_made made
 
-abbrev pub replaced_declares_all : {w w2 : History} {f f2 : Frame} {names : List (List ℕ)} {o : Result (Unit {0}) Stop}
-    → DeclaresAll w f names o w2 f2 → List Replacement
-replaced_declares_all DeclaresAll.declare_memory = []
+abbrev pub replaced_declares_all : {w w2 : History} {f f2 : Frame} {names : List (List ℕ)}
+    → DeclaresAll w f names w2 f2 → List Replacement
 replaced_declares_all (DeclaresAll.none_declared _) = []
 replaced_declares_all (DeclaresAll.declared _ declares _ rest) =
     replaced_declares declares ++ replaced_declares_all rest

@@ -3,7 +3,7 @@
 pub use Rattle.preservation.specs.Rising.{RisesBy}
 use Rattle.std.specs.Prelude.{List, [], ◌++◌, ℕ, ℤ, Bool, Option, Result}
 use Rattle.journal_entries.specs.Replaced.{Replacement}
-use Rattle.preservation.specs.Changes.{replaced_made, replaced_turn, replaced_edits, replaced_assigns}
+use Rattle.preservation.specs.Changes.{replaced_made, replaced_turn, replaced_edits, replaced_stores, replaced_assigns}
 use Rattle.preservation.specs.Changes.{replaced_declares_all, replaced_sets, replaced_adds}
 use Rattle.ht_values.specs.declared.operator.Op.{Op}
 use Rattle.ht_grammar.specs.declared.vocabulary.HandlerKind.{HandlerKind}
@@ -187,8 +187,7 @@ abbrev mutual
   replaced_form (Form.put_fails _ p2 p3 p4) = replaced_val p2 ++ (replaced_resolves p3 ++ replaced_edits p4)
   replaced_form (Form.put _ p2 p3 p4) = replaced_val p2 ++ (replaced_resolves p3 ++ replaced_edits p4)
   replaced_form (Form.get_stops _ p2) = replaced_val p2
-  replaced_form (Form.get_fails _ p2 p3) = replaced_val p2 ++ replaced_edits p3
-  replaced_form (Form.get _ p2 p3) = replaced_val p2 ++ replaced_edits p3
+  replaced_form (Form.get _ p2 p3) = replaced_val p2 ++ replaced_stores p3
   replaced_form (Form.set_stops _ p2) = replaced_val p2
   replaced_form (Form.set_nowhere _ p2 p3) = replaced_val p2 ++ replaced_meets p3
   replaced_form (Form.set_fails _ p2 p3 p4) = replaced_val p2 ++ (replaced_meets p3 ++ replaced_sets p4)
@@ -213,7 +212,6 @@ abbrev mutual
   replaced_form (Form.go_nowhere _ p2) = replaced_leads p2
   replaced_form (Form.go_stops _ p2 p3) = replaced_leads p2 ++ replaced_goes p3
   replaced_form (Form.go _ p2 p3) = replaced_leads p2 ++ replaced_goes p3
-  replaced_form (Form.global_stops _ p2) = replaced_declares_all p2
   replaced_form (Form.global _ p2) = replaced_declares_all p2
   replaced_form (Form.exit_repeat _) = []
   replaced_form (Form.next_repeat _) = []
@@ -294,7 +292,6 @@ abbrev mutual
   replaced_counts Counts.counts_memory = []
   replaced_counts (Counts.counts_no_step _) = []
   replaced_counts (Counts.counts_end _ _) = []
-  replaced_counts (Counts.counts_fail _ _ p3) = replaced_assigns p3
   replaced_counts (Counts.counts_stop _ _ p3 p4) = replaced_assigns p3 ++ replaced_block p4
   replaced_counts (Counts.counts_leave _ _ p3 p4 _) = replaced_assigns p3 ++ replaced_block p4
   replaced_counts (Counts.counts_go_on _ _ p3 p4 _ _ p7) =
@@ -408,11 +405,9 @@ abbrev mutual
   replaced_calls_back (CallsBack.eval_stops _ _ _ p4) = replaced_val p4
   replaced_calls_back (CallsBack.evaluates _ _ _ p4 _) = replaced_val p4
   replaced_calls_back (CallsBack.bad_global _ _) = []
-  replaced_calls_back (CallsBack.global_fails _ _ _ p4) = replaced_edits p4
-  replaced_calls_back (CallsBack.global_set _ _ _ p4 _) = replaced_edits p4
-  replaced_calls_back (CallsBack.no_such_field _ _) = []
-  replaced_calls_back (CallsBack.field_fails _ _ _ p4) = replaced_edits p4
-  replaced_calls_back (CallsBack.field_set _ _ _ p4 _) = replaced_edits p4
+  replaced_calls_back (CallsBack.global_set _ _ _ p4 _) = replaced_stores p4
+  replaced_calls_back (CallsBack.no_such_field _ _ _) = []
+  replaced_calls_back (CallsBack.field_set _ _ _ p4 _) = replaced_stores p4
 
   pub replaced_line : {w w2 : History} {r r2 : RunState} {ss : stm.Stmts} {ot : Result (Unit {0}) Stop}
       → Line w r ss ot w2 r2 → List Replacement
@@ -458,8 +453,7 @@ abbrev mutual
       → TypesOver w r m t ot w2 r2 → List Replacement
   replaced_types_over TypesOver.type_over_memory = []
   replaced_types_over (TypesOver.typed_field_goes _ _) = []
-  replaced_types_over (TypesOver.type_over_stops _ _ _ p4) = replaced_edits p4
-  replaced_types_over (TypesOver.types_over _ _ _ p4 _ _ p7) = replaced_edits p4 ++ replaced_tells p7
+  replaced_types_over (TypesOver.types_over _ _ _ p4 _ _ p7) = replaced_stores p4 ++ replaced_tells p7
 
   pub replaced_types_into : {w w2 : History} {r r2 : RunState} {t : List ℕ} {pa : tree.Part}
       {ot : Result (Unit {0}) Stop} → TypesInto w r t pa ot w2 r2 → List Replacement

@@ -1,7 +1,6 @@
 //! The values of arguments.
 
-ghost use Rattle.std.specs.Prelude.{◌≡◌, [], ◌∷◌, ◌++◌, IfOk, OnOk, length, option_copied};
-ghost use Rattle.meaning.specs.Messages.{only as only_of};
+ghost use Rattle.std.specs.Prelude.{◌≡◌, [], ◌∷◌, ◌++◌, IfOk, OnOk, length};
 ghost use Rattle.primitives.specs.Listed.{listed};
 
 use ht_values::Value;
@@ -71,12 +70,14 @@ impl Arguments {
         Ok(())
     }
 
-    /// The arguments with another at their end.
-    pub fn with(mut self, value: Value) -> Result<Arguments, AllocError>
-        ensures { IfOk result (λ a. a ≡ self ++ value ∷ []) }
+    /// One argument. It takes no memory.
+    pub fn of_one(alloc: Global, value: Value) -> Arguments
+        ensures { result ≡ value ∷ [] }
     {
-        self.push(value)?;
-        Ok(self)
+        Arguments {
+            values: Listed::One(value),
+            alloc,
+        }
     }
 
     /// How many there are.
@@ -93,16 +94,6 @@ impl Arguments {
         match &self.values {
             Listed::One(value) => slice::from_ref(value),
             Listed::All(items) => items,
-        }
-    }
-
-    /// The one argument, where there is just one.
-    pub fn only(&self) -> Option<&Value>
-        ensures { option_copied result ≡ only_of self.now }
-    {
-        match self.as_slice() {
-            [value] => Some(value),
-            _ => None,
         }
     }
 }

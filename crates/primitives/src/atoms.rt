@@ -9,7 +9,7 @@ ghost use Rattle.primitives.specs.Atoms.{counts_objects, is_atom};
 
 use crate::objects::{parts_here, target_name};
 use crate::places::variable;
-use crate::values::{constant_value, numeral, return_sign, run_property};
+use crate::values::{constant_value, numeral, return_sign};
 use change_journal::World;
 use externals::External;
 use ht_tree::{Count, Expr, ExprKind};
@@ -37,7 +37,7 @@ pub fn atom<E: External>(
         ExprKind::Name(name) => Ok(variable(world, run, frame, name)?),
         ExprKind::Result => Ok(run.result().try_clone(run.alloc())?),
         ExprKind::Target => target_name(world, run, frame),
-        ExprKind::RunProperty(property) => Ok(run_property(run, *property)?),
+        ExprKind::RunProperty(property) => Ok(run.property(*property)?),
         _ => unreachable!(),
     }
 }

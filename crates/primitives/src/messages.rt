@@ -207,9 +207,9 @@ pub fn item_named(run: &Budget, values: &Arguments) -> Result<Option<Item>, Allo
 pub fn only_text(run: &Budget, values: &Arguments) -> Result<Option<Text>, AllocError>
     ensures { IfOk result (λ t. t ≡ only_of values.now) }
 {
-    match values.only() {
-        Some(value) => Ok(Some(copied_text(run, value)?)),
-        None => Ok(None),
+    match values.as_slice() {
+        [value] => Ok(Some(copied_text(run, value)?)),
+        _ => Ok(None),
     }
 }
 

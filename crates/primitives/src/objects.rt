@@ -1,7 +1,6 @@
 //! Objects, as the rules find and change them. Where no such object is there, that is fault 3.
 
-ghost use Rattle.std.specs.Prelude.{◌≡◌, ◌<◌, nat_eq, not, true, false, length, IsSome, IfOk, IfErr, OnOk, OnErr};
-ghost use Rattle.object_table.specs.Objects.{has_kind, is_card};
+ghost use Rattle.std.specs.Prelude.{◌≡◌, true, length, IsSome, OnOk};
 ghost use Rattle.properties.specs.PropertyText.{property_of as property_text};
 ghost use Rattle.journal_entries.specs.Changes.{fits as fits_state};
 ghost use Rattle.change_journal.specs.Rising.{Made};
@@ -19,12 +18,11 @@ ghost use Rattle.meaning.specs.Values.{Yields};
 use change_journal::{Change, World};
 use externals::External;
 use ht_grammar::Layer;
-use ht_values::{Failure, Fault, PartKind, Prop, Value};
+use ht_values::{Fault, PartKind, Prop, Value};
 use meaning::{Budget, Frame, Stop, SystemMessage};
 use object_references::{
     PartScope, Pick, Referent, Sought, background_met, card_found, card_met, first_card_found,
-    layer_meant, met_if_there, name_of, part_count, part_met, scope_by, scope_of_background,
-    scope_of_card,
+    layer_meant, name_of, part_count, part_met, scope_by, scope_of_background, scope_of_card,
 };
 use object_table::{Id, LayerId};
 use properties::get;
@@ -41,11 +39,8 @@ pub(crate) fn target_name<E: External>(
     ensures { Yields (settings.name_of world.now.history.now.stack world.now.history.now.current frame.now.target)
         result }
 {
-    match name_of(run.alloc(), world.stack(), world.current(), frame.target) {
-        Ok(name) => Ok(Value::of_text(name)),
-        Err(Failure::Fault(fault)) => Err(Stop::Fault(fault)),
-        Err(Failure::Memory) => Err(Stop::Memory),
-    }
+    let name = name_of(run.alloc(), world.stack(), world.current(), frame.target)?;
+    Ok(Value::of_text(name))
 }
 
 /// A property of an object, or the fault in its place.
@@ -59,11 +54,8 @@ pub fn property<E: External>(
 ) -> Result<Value, Stop>
     ensures { Yields (property_text world.now.history.now.stack object.card object.object name) result }
 {
-    match get(run.alloc(), world.stack(), object.card, object.object, name) {
-        Ok(text) => Ok(Value::of_text(text)),
-        Err(Failure::Fault(fault)) => Err(Stop::Fault(fault)),
-        Err(Failure::Memory) => Err(Stop::Memory),
-    }
+    let text = get(run.alloc(), world.stack(), object.card, object.object, name)?;
+    Ok(Value::of_text(text))
 }
 
 /// How many parts of a kind there are on the current card or on its background.
@@ -93,13 +85,6 @@ fn mean_sought(run: &Budget, sought: &Sought) {
         Sought::Picked(pick) => mean_pick(run, pick),
         Sought::This | Sought::Next | Sought::Previous => {}
     }
-}
-
-/// Where a part without an owner is looked for.
-pub fn scope_here<E: External>(world: &World<E>, layer: Layer) -> PartScope
-    ensures { result ≡ references.scope_by world.now.history.now.stack layer world.now.history.now.current }
-{
-    scope_by(world.stack(), layer, world.current())
 }
 
 /// Where a part of a card is looked for.
@@ -162,18 +147,6 @@ pub fn part_in<E: External>(
             mean_pick(run, pick);
             Err(Stop::Fault(fault))
         }
-    }
-}
-
-/// An object that may have been deleted.
-#[tactic(auto, using(meaning::proofs::Rules::yields_rules))]
-#[inline(never)]
-pub fn object_there<E: External>(world: &World<E>, object: Id) -> Result<Referent, Stop>
-    ensures { Yields (references.met_if_there world.now.history.now.stack world.now.history.now.current object) result }
-{
-    match met_if_there(world.stack(), world.current(), object) {
-        Ok(object) => Ok(object),
-        Err(fault) => Err(Stop::Fault(fault)),
     }
 }
 
@@ -251,36 +224,12 @@ pub fn background_to<E: External>(
     }
 }
 
-/// Whether a card is current.
-pub fn is_current<E: External>(world: &World<E>, card: Id) -> bool
-    ensures { result ≡ nat_eq card world.now.history.now.current }
-{
-    card == world.current()
-}
-
-/// Whether two backgrounds are different ones.
-pub fn is_other(background: Id, other: Id) -> bool
-    ensures { result ≡ not (nat_eq background other) }
-{
-    background != other
-}
-
 /// Whether a card is of another background than the current one.
 pub fn has_other_background<E: External>(world: &World<E>, card: Id) -> bool
     ensures { result ≡ differ world.now.history.now.stack world.now.history.now.current
         world.now.history.now.stack card }
 {
-    is_other(
-        home_of(world.stack(), world.current()),
-        home_of(world.stack(), card),
-    )
-}
-
-/// Whether an object is there and is a card.
-pub fn is_card_there<E: External>(world: &World<E>, card: Id) -> bool
-    ensures { result ≡ has_kind is_card world.now.history.now.stack card }
-{
-    world.fits(&Change::Current(card))
+    home_of(world.stack(), world.current()) != home_of(world.stack(), card)
 }
 
 /// Where a new part stands.

@@ -9,8 +9,9 @@ ghost use Rattle.containers.specs.Standing.{standing_text};
 ghost use Rattle.meaning.specs.Values.{Yields};
 ghost use Rattle.primitives.specs.Operands.{operand_text};
 
+use crate::arguments::Arguments;
 use crate::places::{field_text, variable};
-use crate::values::call_of_one;
+use crate::values::call_function;
 use change_journal::World;
 use chunks::{Chunk, count};
 use containers::{Container, Standing, read_name, resolve, standing_in};
@@ -172,7 +173,7 @@ pub fn call_of_value(run: &Budget, function: Func, value: Value) -> Result<Value
 {
     match function {
         Func::Length => Ok(length_of(run, Standing::Value(&value))?),
-        _ => call_of_one(run, function, value),
+        _ => call_function(run, function, &Arguments::of_one(run.alloc(), value)),
     }
 }
 
@@ -197,7 +198,7 @@ pub fn call_of_operand<E: External>(
         },
         _ => {
             let value = operand_value(world, run, frame, operand)?;
-            call_of_one(run, function, value)
+            call_function(run, function, &Arguments::of_one(run.alloc(), value))
         }
     }
 }

@@ -1,38 +1,35 @@
 //! Variables, fields and containers, as the rules read and write them.
 
-ghost use Rattle.std.specs.Prelude.{◌≡◌, ◌++◌, ◌∷◌, ℕ, [], IsSome, IfOk, OnOk, Ok, option_copied, false, true};
+ghost use Rattle.std.specs.Prelude.{◌≡◌, ◌++◌, ◌∷◌, ℕ, [], IsSome, IsOk, IfOk, OnOk, Ok, option_copied, false, true};
 ghost use Rattle.ht_values.specs.Text.{numeral as numeral_of};
 ghost use Rattle.ht_values.specs.declared.word.Where.TheVariants.{Into};
-ghost use Rattle.journal_entries.specs.Changes.{fits as fits_state};
-ghost use Rattle.object_references.specs.Settings.{setting as change_that_sets};
 ghost use Rattle.containers.specs.Base.{base};
 ghost use Rattle.containers.specs.declared.edit.Edit.TheVariants.{Alter, Put};
-ghost use Rattle.containers.specs.Places.{read_name as read_name_of};
-ghost use Rattle.meaning.specs.Places.{Assigns, DeclaresAll, Edits, Sets, field_named_place as place_of_field_named};
+ghost use Rattle.containers.specs.Places.{named, read_name as read_name_of, whole as whole_text};
+ghost use Rattle.meaning.specs.Places.{Assigns, DeclaresAll, Edits, Sets, Stores};
+ghost use Rattle.meaning.specs.Places.{field_named_place as place_of_field_named};
 ghost use Rattle.meaning.specs.Places.{field_place as place_of_field, field_text as text_of_field, it_name};
 ghost use Rattle.meaning.specs.Places.{nth_piece as nth_piece_of, pieces_at as pieces_at_numbers};
 ghost use Rattle.meaning.specs.Places.{variable_place as place_of_variable};
-ghost use Rattle.containers.specs.Writes.{Declares};
 ghost use Rattle.change_journal.specs.History.{History};
 ghost use Rattle.externals.specs.declared.external.Ask.TheVariants as ask;
-ghost use Rattle.ht_grammar.specs.Statements as stm;
-ghost use Rattle.meaning.specs.Meaning.{CallsBack, Form};
+ghost use Rattle.meaning.specs.Meaning.{CallsBack};
 ghost use Rattle.meaning.specs.Repeats.{is_over};
 ghost use Rattle.meaning.specs.Values.{Yields};
 
 use crate::meant::{mean_edit, mean_edit_of_variable, mean_untrue, operand_of, untrue_text};
 use crate::objects::make;
-use change_journal::{Change, World};
+use change_journal::World;
 use chunks::{Chunk, Index};
 use containers::{
     Container, Edit, Place, Standing, alter_number, declare, put_number, read, read_name, resolve,
-    write,
+    standing_in, write,
 };
 use externals::{External, Input, Texts};
 use ht_grammar::Layer;
 use ht_lex::{Ordinal, is_name};
-use ht_values::{ChunkKind, Failure, Fault, Name, Op, Prop, Text, Value, Where};
-use meaning::{Budget, Counter, Frame, How, Stop};
+use ht_values::{ChunkKind, Failure, Fault, Name, Op, Prop, Text, Value, Where, law_of_value};
+use meaning::{Budget, Counter, Frame, Stop};
 use object_references::{Referent, field_named, set_change};
 use std::alloc::{AllocError, Global};
 
@@ -120,17 +117,11 @@ pub fn field_place<'a, E: External>(
     frame: &Frame,
     field: Referent,
 ) -> Result<Place<'a>, Stop>
-    ensures { Yields (place_of_field world.now.history.now field) result }
+    ensures place { Yields (place_of_field world.now.history.now field) result }
+    ensures whole { IfOk result (λ p. p.chunks ≡ []) }
 {
-    match resolve(
-        run.alloc(),
-        world,
-        &frame.variables,
-        Container::Field(field.object, field.card),
-    ) {
-        Ok(place) => Ok(place),
-        Err(fault) => Err(Stop::Fault(fault)),
-    }
+    let container = Container::Field(field.object, field.card);
+    Ok(resolve(run.alloc(), world, &frame.variables, container)?)
 }
 
 /// The text of a field for the card with which it was met; fault 3 where it keeps none.
@@ -144,25 +135,16 @@ pub fn field_text<E: External>(
 ) -> Result<Value, Stop>
     ensures { Yields (text_of_field world.now.history.now frame.now.variables run.now.delimiter field) result }
 {
-    match resolve(
+    let container = Container::Field(field.object, field.card);
+    let place = resolve(run.alloc(), world, &frame.variables, container)?;
+    let text = read(
         run.alloc(),
         world,
         &frame.variables,
-        Container::Field(field.object, field.card),
-    ) {
-        Ok(place) => match read(
-            run.alloc(),
-            world,
-            &frame.variables,
-            &place,
-            run.delimiter(),
-        ) {
-            Ok(value) => Ok(value),
-            Err(Failure::Fault(fault)) => Err(Stop::Fault(fault)),
-            Err(Failure::Memory) => Err(Stop::Memory),
-        },
-        Err(fault) => Err(Stop::Fault(fault)),
-    }
+        &place,
+        run.delimiter(),
+    )?;
+    Ok(text)
 }
 
 /// Edits a container in the open batch. After a fault nothing has changed.
@@ -199,7 +181,7 @@ pub fn edit<E: External>(
 }
 
 /// Edits a variable in the open batch. After a fault nothing has changed.
-#[tactic(auto, using(meaning::proofs::Rules::edits_rules))]
+#[tactic(auto, using(meaning::proofs::Rules::edits_rules, crate::proofs::Stored::stores_edit))]
 #[inline(never)]
 pub fn edit_variable<E: External>(
     world: &mut World<E>,
@@ -214,7 +196,10 @@ pub fn edit_variable<E: External>(
     ensures base { base world.new.history ≡ base world.old.history }
 {
     match edit {
-        Edit::Put(Where::Into, value) => put_into(world, run, frame, name, value),
+        Edit::Put(Where::Into, value) => {
+            law_of_value(&value);
+            Ok(put_into(world, run, frame, name, value)?)
+        }
         Edit::Alter(op, operand) => alter_variable(world, run, frame, name, op, operand),
         edit => edit_named(world, run, frame, name, edit),
     }
@@ -308,24 +293,67 @@ fn put_kept(frame: &mut Frame, name: &Name, new: &Value) -> bool
     }
 }
 
-/// Puts a value into a variable. A number goes into its place, without an edit.
-#[tactic(auto, using(meaning::proofs::Rules::edits_rules))]
+/// Puts a value into a variable, in the open batch. A number goes into its place, without an edit.
 fn put_into<E: External>(
     world: &mut World<E>,
     run: &Budget,
     frame: &mut Frame,
     name: &Name,
     new: Value,
-) -> Result<(), Stop>
+) -> Result<(), AllocError>
     requires open { IsSome (base world.old.history).start }
-    ensures meaning { Edits world.old.history frame.old run.now.delimiter
-        (place_of_variable frame.old.variables name.now) (Put Into new) result world.new.history frame.new }
+    ensures meaning { OnOk result (Stores world.old.history frame.old (named frame.old.variables name.now) new
+        world.new.history frame.new) }
     ensures base { base world.new.history ≡ base world.old.history }
 {
+    law_of_value(&new);
     if put_kept(frame, name, &new) {
         return Ok(());
     }
-    edit_named(world, run, frame, name, Edit::Put(Where::Into, new))
+    let put = Edit::Put(Where::Into, new);
+    match containers::edit_variable(
+        run.alloc(),
+        world,
+        &mut frame.variables,
+        name,
+        put,
+        run.delimiter(),
+    ) {
+        Ok(()) => Ok(()),
+        Err(Failure::Memory) => Err(AllocError),
+        Err(Failure::Fault(_)) => unreachable!(),
+    }
+}
+
+/// Puts a value in place of the text that stands at a place without chunks, in the open batch.
+#[inline(never)]
+pub fn put_at<E: External>(
+    world: &mut World<E>,
+    run: &Budget,
+    frame: &mut Frame,
+    place: &Place<'_>,
+    new: Value,
+) -> Result<(), AllocError>
+    requires open { IsSome (base world.old.history).start }
+    requires whole { place.now.chunks ≡ [] }
+    requires stands { IsOk (whole_text world.old.history.now frame.old.variables place.now.storage) }
+    ensures meaning { OnOk result (Stores world.old.history frame.old place.now.storage new world.new.history frame.new) }
+    ensures base { base world.new.history ≡ base world.old.history }
+{
+    law_of_value(&new);
+    let put = Edit::Put(Where::Into, new);
+    match write(
+        run.alloc(),
+        world,
+        &mut frame.variables,
+        place,
+        put,
+        run.delimiter(),
+    ) {
+        Ok(()) => Ok(()),
+        Err(Failure::Memory) => Err(AllocError),
+        Err(Failure::Fault(_)) => unreachable!(),
+    }
 }
 
 /// `it`.
@@ -336,17 +364,16 @@ fn it(alloc: Global) -> Result<Name, AllocError>
 }
 
 /// Puts a value into `it`, in the open batch.
-#[tactic(auto, using(meaning::proofs::Rules::edits_rules))]
 #[inline(never)]
 pub fn put_into_it<E: External>(
     world: &mut World<E>,
     run: &Budget,
     frame: &mut Frame,
     new: Value,
-) -> Result<(), Stop>
+) -> Result<(), AllocError>
     requires open { IsSome (base world.old.history).start }
-    ensures meaning { Edits world.old.history frame.old run.now.delimiter
-        (place_of_variable frame.old.variables it_name) (Put Into new) result world.new.history frame.new }
+    ensures meaning { OnOk result (Stores world.old.history frame.old (named frame.old.variables it_name) new
+        world.new.history frame.new) }
     ensures base { base world.new.history ≡ base world.old.history }
 {
     let it = it(run.alloc())?;
@@ -362,11 +389,11 @@ pub fn assign<E: External>(
     frame: &mut Frame,
     variable: Option<&Name>,
     turn: &Counter,
-) -> Result<(), Stop>
+) -> Result<(), AllocError>
     requires open { IsSome (base world.old.history).start }
     requires turns { is_over turn.now ≡ false }
-    ensures meaning { Assigns world.old.history frame.old run.now.delimiter (option_copied variable.entry)
-        (numeral_of turn.now.at) result world.new.history frame.new }
+    ensures meaning { OnOk result (Assigns world.old.history frame.old (option_copied variable.entry)
+        (numeral_of turn.now.at) world.new.history frame.new) }
     ensures base { base world.new.history ≡ base world.old.history }
 {
     match variable {
@@ -375,69 +402,23 @@ pub fn assign<E: External>(
     }
 }
 
-/// A name means a global from here on.
-fn declare_one<E: External>(
-    world: &mut World<E>,
-    run: &Budget,
-    frame: &mut Frame,
-    name: &Name,
-) -> Result<(), AllocError>
-    requires open { IsSome (base world.old.history).start }
-    ensures ok { OnOk result (Declares world.old.history frame.old.variables name.now world.new.history
-        frame.new.variables) }
-    ensures frame { OnOk result (frame.new ≡ record frame.old { variables = frame.new.variables }) }
-    ensures base { base world.new.history ≡ base world.old.history }
-{
-    declare(run.alloc(), world, &mut frame.variables, name)
-}
-
-/// Names mean globals from here on in this handler.
-#[tactic(auto, using(meaning::proofs::Rules::declares_rules))]
-fn declare_all<E: External>(
-    world: &mut World<E>,
-    run: &Budget,
-    frame: &mut Frame,
-    names: &[Name],
-) -> Result<(), Stop>
-    requires open { IsSome (base world.old.history).start }
-    ensures meaning { DeclaresAll world.old.history frame.old names.now result world.new.history frame.new }
-    ensures base { base world.new.history ≡ base world.old.history }
-{
-    for name in names {
-        declare_one(world, run, frame, name)?;
-    }
-    Ok(())
-}
-
 /// `global`: names mean globals from here on in this handler.
-#[tactic(auto, using(meaning::proofs::Rules::form_global_rules))]
+#[tactic(auto, using(meaning::proofs::Rules::declares_rules))]
 #[inline(never)]
 pub fn declare_globals<E: External>(
     world: &mut World<E>,
     run: &Budget,
     frame: &mut Frame,
     names: &[Name],
-) -> Result<How, Stop>
+) -> Result<(), AllocError>
     requires open { IsSome (base world.old.history).start }
-    ensures meaning { (d : ℕ) → Form world.old.history run.now frame.old d (stm.global names.now) result
-        world.new.history run.now frame.new }
+    ensures meaning { OnOk result (DeclaresAll world.old.history frame.old names.now world.new.history frame.new) }
     ensures base { base world.new.history ≡ base world.old.history }
 {
-    declare_all(world, run, frame, names)?;
-    Ok(How::Next)
-}
-
-/// The change that sets a property of an object, which fits.
-fn setting<E: External>(
-    world: &World<E>,
-    object: Referent,
-    property: Prop,
-    text: Text,
-) -> Result<Change, Fault>
-    ensures change { result ≡ change_that_sets world.now.history.now.stack object property text }
-    ensures fits { IfOk result (λ c. fits_state world.now.history.now c ≡ true) }
-{
-    set_change(world.stack(), object, property, text)
+    for name in names {
+        declare(run.alloc(), world, &mut frame.variables, name)?;
+    }
+    Ok(())
 }
 
 /// Sets a property of an object, in the open batch, or is the first fault of the property and its value.
@@ -455,7 +436,7 @@ pub fn set_property<E: External>(
     ensures base { base world.new.history ≡ base world.old.history }
 {
     let untrue = untrue_text(run, property, &text);
-    match setting(world, object, property, text) {
+    match set_change(world.stack(), object, property, text) {
         Ok(change) => {
             make(world, change)?;
             Ok(())
@@ -492,7 +473,8 @@ pub fn set_global<E: External>(
     Ok(Input::Answer(note, Text::new(run.alloc())))
 }
 
-/// The place of the first field of a name, on the current card or on its background.
+/// The place of the first field of a name, on the current card or on its background; fault 3 where there is none, or
+/// no text stands there.
 #[tactic(auto, using(meaning::proofs::Rules::yields_rules))]
 fn field_named_place<'a, E: External>(
     world: &World<E>,
@@ -501,16 +483,19 @@ fn field_named_place<'a, E: External>(
     on_card: bool,
     name: &Text,
 ) -> Result<Place<'a>, Stop>
-    ensures { Yields (place_of_field_named world.now.history.now on_card name.now) result }
+    ensures place { Yields (place_of_field_named world.now.history.now frame.now.variables on_card name.now) result }
+    ensures whole { IfOk result (λ p. p.chunks ≡ []) }
 {
     let layer = if on_card {
         Layer::Card
     } else {
         Layer::Background
     };
-    match field_named(world.stack(), world.current(), layer, name) {
-        Ok(field) => field_place(world, run, frame, field),
-        Err(fault) => Err(Stop::Fault(fault)),
+    let field = field_named(world.stack(), world.current(), layer, name)?;
+    let place = field_place(world, run, frame, field)?;
+    match standing_in(world, &frame.variables, &place) {
+        Some(_) => Ok(place),
+        None => Err(Stop::Fault(Fault::NoSuchObject)),
     }
 }
 
@@ -533,7 +518,6 @@ pub fn set_field<E: External>(
 {
     let mut frame = Frame::typed(run.alloc(), world.current());
     let place = field_named_place(world, run, &frame, on_card, name)?;
-    let put = Edit::Put(Where::Into, Value::of_text(value));
-    edit(world, run, &mut frame, place, put)?;
+    put_at(world, run, &mut frame, &place, Value::of_text(value))?;
     Ok(Input::Answer(note, Text::new(run.alloc())))
 }

@@ -7,7 +7,6 @@ ghost use Rattle.ht_values.specs.Operators.{binary as binary_of, unary as unary_
 ghost use Rattle.ht_values.specs.Outcome.{Gives};
 ghost use Rattle.ht_values.specs.Text.{numeral as numeral_of};
 ghost use Rattle.ht_lex.specs.Constants.{constant_text as text_of_constant};
-ghost use Rattle.ht_grammar.specs.Functions.{func_of};
 ghost use Rattle.ht_grammar.specs.Trees as tree;
 ghost use Rattle.ht_grammar.specs.Reads.{ReadsExpr, ReadsLines, ReadsMessage};
 ghost use Rattle.ht_tree.specs.ScriptView.{message_of};
@@ -15,13 +14,13 @@ ghost use Rattle.ht_tree.specs.StatementView.{stmts_of};
 ghost use Rattle.change_journal.specs.History.{History};
 ghost use Rattle.meaning.specs.declared.frame.Frame.{Frame};
 ghost use Rattle.meaning.specs.Meaning.{Meets, Val};
-ghost use Rattle.meaning.specs.State.{RunState, run_property as run_property_of, run_property_set};
+ghost use Rattle.meaning.specs.State.{RunState, run_property_set};
 ghost use Rattle.meaning.specs.Repeats.{counter_of, goes_on as goes_on_of, leaves_repeat as leaves_repeat_of};
 ghost use Rattle.meaning.specs.Values.{Parses, Yields};
 ghost use Rattle.primitives.specs.Views.{read_as};
 
 use crate::arguments::Arguments;
-use ht_grammar::{FunctionWord, RunProp};
+use ht_grammar::RunProp;
 use ht_lex::Constant;
 use ht_parse::{ParseError, parse_expr, parse_lines, parse_message};
 use ht_tree::{Expr, Message, Stmt, Stmts};
@@ -113,22 +112,6 @@ fn mean_all(run: &Budget, values: &Arguments) {
     }
 }
 
-/// What a function gives of one argument, or its first fault.
-#[tactic(auto, using(meaning::proofs::Rules::yields_rules))]
-pub(crate) fn call_of_one(run: &Budget, function: Func, value: Value) -> Result<Value, Stop>
-    ensures { Yields (built_in_of function (value ∷ [])) result }
-{
-    let values = Arguments::new(run.alloc()).with(value)?;
-    call_function(run, function, &values)
-}
-
-/// The function that a word calls; none for `value`.
-pub fn function_named(word: FunctionWord) -> Option<Func>
-    ensures { result ≡ func_of word }
-{
-    word.func()
-}
-
 /// The number that a value means, or the fault that it means none. It takes no memory.
 #[tactic(auto, using(meaning::proofs::Rules::yields_rules))]
 #[inline(never)]
@@ -166,17 +149,6 @@ pub(crate) fn numeral(run: &Budget, count: usize) -> Result<Value, AllocError>
     let mut buffer = Buffer::new();
     let text = Text::fitting(run.alloc(), buffer.format(count).as_bytes())?;
     Ok(Value::of_text(text))
-}
-
-/// A property of the run as a value.
-pub(crate) fn run_property(run: &Budget, property: RunProp) -> Result<Value, AllocError>
-    ensures { IfOk result (λ t. t ≡ run_property_of run.now property) }
-{
-    match run.property(property) {
-        Ok(text) => Ok(Value::of_text(text)),
-        Err(Failure::Memory) => Err(AllocError),
-        Err(Failure::Fault(_)) => unreachable!(),
-    }
 }
 
 /// Sets a property of the run. `BadArgument` where the delimiter isn't one byte, `NotLogical` where another property

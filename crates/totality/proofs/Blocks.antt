@@ -10,7 +10,7 @@ use Rattle.meaning.specs.Repeats.{leaves_repeat, goes_on, CounterState, is_over,
 use Rattle.meaning.specs.State.{RunState}
 use Rattle.totality.proofs.Chain.{Begun, Underway, HasRun, run_ok, same_run, then_in, then_run, then_next, choose}
 use Rattle.totality.proofs.Chain.{maybe}
-use Rattle.totality.proofs.Leaves.{then_step_in, lift_run, Passes, passes, then_edited, assigns}
+use Rattle.totality.proofs.Leaves.{then_step_in, lift_run, Passes, passes, then_done, assigns}
 use Rattle.totality.proofs.Levels.{Level}
 use Rattle.totality.proofs.Expressions.{truth_by}
 
@@ -56,8 +56,7 @@ pub counts_has : {begun : Begun} {n : ℕ} → Level begun n → (w : History) (
 counts_has h w r f d name c ss le k =
     then_step_in w r f k (λ z r1 st. Counts.counts_no_step st) (λ r1 k1 st. lift_run
     (choose (is_over c) (λ over. run_ok _ _ k1 (Counts.counts_end st over)) (λ on.
-    then_edited k1 (assigns w f r1.delimiter name (numeral c.at) k1.is_open) (λ z w1 f1 g. Counts.counts_fail st on g)
-    (λ w1 f1 k2 g.
+    then_done k1 (assigns w f name (numeral c.at) k1.is_open) (λ w1 f1 k2 g.
     then_run (h.block w1 r1 f1 d ss le k2) (λ z w2 r2 f2 g2. Counts.counts_stop st on g g2) (λ how w2 r2 f2 k3 g2.
     maybe (leaves_repeat how) (λ h1 is. run_ok _ _ k3 (Counts.counts_leave st on g g2 is))
     (λ is. same_run (h.counts w2 r2 f2 d name (stepped c) ss le k3)

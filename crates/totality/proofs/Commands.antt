@@ -1,16 +1,15 @@
 -- Typed commands and dot lines have an outcome.
-use Rattle.std.proofs.Common.{◌≡◌, ◌⊎◌, inl, inr, ℕ, suc, List, [], ◌∷◌, Ok, Err, refl, sym, ap, ◌∙◌, arith}
+use Rattle.std.proofs.Common.{◌≡◌, ◌⊎◌, inl, inr, ℕ, suc, List, [], ◌∷◌, Result, Ok, Err, refl, sym, ap, ◌∙◌, arith}
 use Rattle.std.specs.Prelude.{is_some}
 use Rattle.ht_values.specs.declared.fault.Fault.{Fault}
-use Rattle.ht_values.specs.declared.word.Where.TheVariants.{Into}
 use Rattle.ht_values.specs.Outcome.{and_then}
 use Rattle.ht_grammar.specs.declared.vocabulary.HandlerKind.TheVariants.{Command}
 use Rattle.ht_grammar.specs.Statements as stm
 use Rattle.ht_grammar.specs.Trees as tree
 use Rattle.object_table.specs.Objects.{object_at}
 use Rattle.change_journal.specs.History.{History}
-use Rattle.containers.specs.declared.edit.Edit.TheVariants.{Put}
 use Rattle.containers.specs.Edits.{read_at}
+use Rattle.containers.specs.Places.{PlaceView}
 use Rattle.object_references.specs.declared.referent.Referent.{Referent}
 use Rattle.object_references.specs.References.{met_here}
 use Rattle.meaning.specs.Actions as act
@@ -26,7 +25,7 @@ use Rattle.totality.specs.Laws.{Behaves}
 use Rattle.totality.proofs.Chain.{Begun}
 use Rattle.totality.proofs.Chain.{Underway, Has, has, ok, same, stops_too, then, then_lines, choose, computed}
 use Rattle.definitional_interpreter.proofs.Comes.{AreExact}
-use Rattle.totality.proofs.Leaves.{then_edited_lines, edits}
+use Rattle.totality.proofs.Leaves.{then_done_lines, place_stands, stores}
 use Rattle.totality.proofs.Levels.{Level}
 use Rattle.totality.proofs.Expressions.{part_has, sends_has}
 use Rattle.totality.proofs.Blocks.{block_has}
@@ -81,13 +80,17 @@ types_over_has : {begun : Begun} {n : ℕ} → Level begun n → (w : History) (
 types_over_has h w r o t k =
     computed (field_text w.now (typed_frame w).variables r.delimiter o)
     (λ old is. computed (field_place w.now o) (λ p at.
-    then_edited_lines k (edits w (typed_frame w) r.delimiter p (Put Into t) k.is_open)
-    (λ z w1 f1 g. TypesOver.type_over_stops refl is at g) (λ w1 f1 k1 g.
+    let stands = place_stands w.now (typed_frame w).variables r.delimiter p (read_there at ∙ is) in
+    then_done_lines k (stores w (typed_frame w) p.storage t stands k.is_open) (λ w1 f1 k1 g.
     same (tells_has h w1 r o.object (leaving_message old t) k1)
     (λ o w2 r1 g2. TypesOver.types_over refl is at g refl refl g2)))
-    (λ fa at. absurd (no_value
-    (sym (ap (λ c. and_then c (λ p. read_at w.now (typed_frame w).variables r.delimiter p)) at) ∙ is))))
+    (λ fa at. absurd (no_value (read_there at ∙ is))))
     (λ fa gone. ok _ k (TypesOver.typed_field_goes refl gone))
+  where
+    read_there : {c : Result PlaceView Fault} → field_place w.now o ≡ c →
+        and_then c (λ p. read_at w.now (typed_frame w).variables r.delimiter p)
+        ≡ field_text w.now (typed_frame w).variables r.delimiter o
+    read_there at = sym (ap (λ c. and_then c (λ p. read_at w.now (typed_frame w).variables r.delimiter p)) at)
 
 -- an action is to type into a locked field, and each turn up to there is that of the behaviour
 abbrev pub IsLocked : Begun → History → RunState → Action → History → RunState → Type 0

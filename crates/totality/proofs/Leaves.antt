@@ -1,13 +1,15 @@
 -- What a rule makes beside its parts can be made: steps, texts, edits, changes.
 use Rattle.std.proofs.Common.{◌≡◌, ℕ, zero, suc, ◌-◌, ◌<◌, List, [], ◌∷◌, map, Bool, true, false}
-use Rattle.std.proofs.Common.{Option, Some, None, Result, Ok, Err, refl, sym, ap, subst, ◌∙◌, arith}
+use Rattle.std.proofs.Common.{Option, Some, None, Result, Ok, Err, IfOk, refl, sym, ap, subst, ◌∙◌, arith}
+use Rattle.std.specs.Prelude.{if◌then◌else◌}
 use Rattle.std.specs.FinMap.{get}
 use Rattle.std.proofs.lemmas.Option.{none-some}
 use Rattle.ht_values.specs.declared.fault.Fault.{Fault}
 use Rattle.ht_values.specs.declared.fault.Fault.TheVariants.{StepLimit, Syntax, TooMany}
 use Rattle.ht_values.specs.declared.word.Prop.{Prop}
-use Rattle.ht_values.specs.declared.word.Where.TheVariants.{Into}
+use Rattle.ht_values.specs.Outcome.{and_then}
 use Rattle.ht_values.specs.Text.{folded}
+use Rattle.chunks.specs.Nested.{read_within}
 use Rattle.ht_lex.specs.declared.tokens.Span.{Span}
 use Rattle.ht_lex.specs.Cutting.{spans_of, CutsExactly}
 use Rattle.ht_lex.specs.Token.{Token, token_in}
@@ -22,16 +24,17 @@ use Rattle.journal_entries.specs.declared.change.Change.{Change}
 use Rattle.journal_entries.specs.declared.change.Change.TheVariants.{Global, FieldText}
 use Rattle.journal_entries.specs.Changes.{changed, fits}
 use Rattle.journal_entries.specs.Replaced.{replaced_by}
+use Rattle.journal_entries.specs.State.{State}
 use Rattle.journal_entries.specs.ScriptTrees.{object_script}
 use Rattle.change_journal.specs.History.{Open, History}
 use Rattle.change_journal.specs.Rising.{BothOpen, Rises, Made, trail_after}
 use Rattle.object_references.specs.declared.referent.Referent.{Referent}
+use Rattle.object_references.specs.References.{field_named}
 use Rattle.object_references.specs.Settings.{setting}
 use Rattle.containers.specs.declared.edit.Edit.{Edit}
-use Rattle.containers.specs.declared.edit.Edit.TheVariants.{Put}
-use Rattle.containers.specs.Edits.{due}
-use Rattle.containers.specs.Places.{StorageView, PlaceView, global, own, field_text}
-use Rattle.containers.specs.Variables.{declared}
+use Rattle.containers.specs.Edits.{due, read_at}
+use Rattle.containers.specs.Places.{StorageView, PlaceView, global, own, field_text, named, whole}
+use Rattle.containers.specs.Variables.{VariablesView, declared, is_global, with_local}
 use Rattle.containers.specs.Writes.{Writes, Declares}
 use Rattle.msg_path.specs.Handlers.{HandlerFound, First}
 use Rattle.meaning.specs.declared.end.How.{How}
@@ -40,7 +43,8 @@ use Rattle.meaning.specs.declared.end.Stop.{Stop}
 use Rattle.meaning.specs.declared.end.Stop.TheVariants.{Fault as Faults}
 use Rattle.meaning.specs.declared.frame.Frame.{Frame}
 use Rattle.meaning.specs.Messages.{Finds}
-use Rattle.meaning.specs.Places.{Edits, Assigns, DeclaresAll, Sets, Adds, variable_place}
+use Rattle.meaning.specs.Places.{Edits, Stores, Assigns, DeclaresAll, Sets, Adds, field_place, field_named_place}
+use Rattle.meaning.specs.Places.{layer_of_field}
 use Rattle.meaning.specs.State.{RunState, Step}
 use Rattle.meaning.specs.Values.{Yields, Parses}
 use Rattle.preservation.specs.Laws.{HasMemory}
@@ -235,18 +239,6 @@ then_edited k (ends_in (Ok u) w1 f1 has_memory is_open h) stops goes_on = goes_o
 then_edited {r = r} k (ends_in (Err z) w1 f1 has_memory is_open h) stops goes_on = has_run (Err z) w1 r f1
     (stops_too has_memory) (still w1 k is_open) (stops z w1 f1 h)
 
-pub then_edited_lines : {B : Type 0} {begun : Begun} {n : ℕ} {P : Result (Unit {0}) Stop → History → Frame → Type 0}
-    {Q : Result B Stop → History → RunState → Type 0} {w : History} {r : RunState} → Underway begun n w r →
-    EndsIn begun P → ((z : Stop) (w : History) (f : Frame) → P (Err z) w f → Q (Err z) w r) →
-    ((w : History) (f : Frame) → Underway begun n w r → P (Ok tt) w f → Has begun n Q) → Has begun n Q
-then_edited_lines k (ends_in (Ok u) w1 f1 has_memory is_open h) stops goes_on = goes_on w1 f1 (still w1 k is_open) h
-then_edited_lines {r = r} k (ends_in (Err z) w1 f1 has_memory is_open h) stops goes_on = has (Err z) w1 r
-    (stops_too has_memory) (still w1 k is_open) (stops z w1 f1 h)
-
-in_same : {begun : Begun} {P Q : Result (Unit {0}) Stop → History → Frame → Type 0} → EndsIn begun P →
-    ((o : Result (Unit {0}) Stop) (w : History) (f : Frame) → P o w f → Q o w f) → EndsIn begun Q
-in_same (ends_in o w f has_memory is_open h) rule = ends_in o w f has_memory is_open (rule o w f h)
-
 -- ---- containers
 
 -- a container is edited
@@ -269,30 +261,106 @@ edits {begun} w f delimiter p e k = by_due (due w.now f.variables delimiter p e)
     by_due (Ok None) is = ends_in (Ok tt) w f (λ e. cc) k (Edits.edited (Writes.nothing_due is) refl)
     by_due (Err fa) is = ends_in (Err (Faults fa)) w f (λ e. cc) k (Edits.edit_faults is refl refl)
 
+-- what stays as it is of the run, and always goes well: with the history and the frame after it
+pub data Done (begun : Begun) (Rule : History → Frame → Type 0) : Type 0 where
+  done : (w : History) (f : Frame) → IsOpen begun w → Rule w f → Done begun Rule
+
+pub then_done : {B : Type 0} {begun : Begun} {n : ℕ} {P : History → Frame → Type 0}
+    {Q : Result B Stop → History → RunState → Frame → Type 0} {w : History} {r : RunState} → Underway begun n w r →
+    Done begun P → ((w : History) (f : Frame) → Underway begun n w r → P w f → HasRun begun n Q) → HasRun begun n Q
+then_done k (done w1 f1 is_open h) goes_on = goes_on w1 f1 (still w1 k is_open) h
+
+pub then_done_lines : {B : Type 0} {begun : Begun} {n : ℕ} {P : History → Frame → Type 0}
+    {Q : Result B Stop → History → RunState → Type 0} {w : History} {r : RunState} → Underway begun n w r →
+    Done begun P → ((w : History) (f : Frame) → Underway begun n w r → P w f → Has begun n Q) → Has begun n Q
+then_done_lines k (done w1 f1 is_open h) goes_on = goes_on w1 f1 (still w1 k is_open) h
+
+done_same : {begun : Begun} {P Q : History → Frame → Type 0} → Done begun P →
+    ((w : History) (f : Frame) → P w f → Q w f) → Done begun Q
+done_same (done w f is_open h) rule = done w f is_open (rule w f h)
+
+-- a text stands in a storage
+pub data Stands (s : State) (v : VariablesView) (h : StorageView) : Type 0 where
+  stands : (t : List ℕ) → whole s v h ≡ Ok t → Stands s v h
+
+-- in a variable, where it is empty if it has no value
+variable_stands : (s : State) (v : VariablesView) (name : List ℕ) → Stands s v (named v name)
+variable_stands s v name = by (is_global v name)
+  where
+    by : (b : Bool) → Stands s v (if b then global (folded name) else own name)
+    by true = stands _ refl
+    by false = stands _ refl
+
+-- in a place that is read
+pub place_stands : {t : List ℕ} (s : State) (v : VariablesView) (delimiter : ℕ) (p : PlaceView) →
+    read_at s v delimiter p ≡ Ok t → Stands s v p.storage
+place_stands {t} s v delimiter p read = by (whole s v p.storage) refl read
+  where
+    by : (u : Result (List ℕ) Fault) → whole s v p.storage ≡ u →
+        and_then u (λ x. Ok (read_within delimiter p.chunks x)) ≡ Ok t → Stands s v p.storage
+    by (Ok x) is e = stands x is
+    by (Err fa) is e = cc
+
+-- and in a field that is found by its name
+pub field_stands : {p : PlaceView} (s : State) (v : VariablesView) (on_card : Bool) (name : List ℕ) →
+    Yields (field_named_place s v on_card name) (Ok p) → Stands s v p.storage
+field_stands {p} s v on_card name (Yields.yields found) =
+    of_field (field_named s.stack s.current (layer_of_field on_card) name) found
+  where
+    of_text : (q : PlaceView) (u : Result (List ℕ) Fault) → whole s v q.storage ≡ u → and_then u (λ x. Ok q) ≡ Ok p →
+        Stands s v p.storage
+    of_text q (Ok x) is e =
+        subst (λ (o : Result PlaceView Fault). IfOk o (λ p. Stands s v p.storage)) e (stands x is)
+    of_text q (Err fa) is e = cc
+
+    of_place : (c : Result PlaceView Fault) → and_then c (λ q. and_then (whole s v q.storage) (λ x. Ok q)) ≡ Ok p →
+        Stands s v p.storage
+    of_place (Ok q) e = of_text q (whole s v q.storage) refl e
+    of_place (Err fa) e = cc
+
+    of_field : (c : Result Referent Fault) → and_then c (λ m. and_then (field_place s m)
+        (λ q. and_then (whole s v q.storage) (λ x. Ok q))) ≡ Ok p → Stands s v p.storage
+    of_field (Ok m) e = of_place (field_place s m) e
+    of_field (Err fa) e = cc
+
+-- a value takes the place of the text that stands in a storage
+pub stores : {begun : Begun} (w : History) (f : Frame) (h : StorageView) (t : List ℕ) → Stands w.now f.variables h →
+    IsOpen begun w → Done begun (Stores w f h t)
+stores w f (global name) t (stands t1 is) k = done (with_change w k.batch (Global name (Some t))) f
+    (after k (Global name (Some t))) (Stores.stores is (Writes.to_global refl refl (makes w k.batch _ k.is)) refl)
+stores w f (own name) t (stands t1 is) k = done w (record f { variables = with_local f.variables name (Some t) }) k
+    (Stores.stores is (Writes.to_own refl refl refl) refl)
+stores w f (field_text field card) t (stands t1 is) k = done (with_change w k.batch (FieldText field card t)) f
+    (after k (FieldText field card t)) (Stores.stores is (Writes.to_field refl refl (makes w k.batch _ k.is)) refl)
+
+-- that of a variable
+pub stores_named : {begun : Begun} (w : History) (f : Frame) (name t : List ℕ) → IsOpen begun w →
+    Done begun (Stores w f (named f.variables name) t)
+stores_named w f name t k = stores w f (named f.variables name) t (variable_stands w.now f.variables name) k
+
 -- the number of a turn is put into the variable of a repeat
-pub assigns : {begun : Begun} (w : History) (f : Frame) (delimiter : ℕ) (name : Option (List ℕ)) (v : List ℕ) →
-    IsOpen begun w → EndsIn begun (Assigns w f delimiter name v)
-assigns w f delimiter None v k = ends_in (Ok tt) w f (λ e. cc) k (Assigns.no_variable refl)
-assigns w f delimiter (Some name) v k = in_same (edits w f delimiter (variable_place f.variables name) (Put Into v) k)
-    (λ o w1 f1 h. Assigns.assigns refl h)
+pub assigns : {begun : Begun} (w : History) (f : Frame) (name : Option (List ℕ)) (v : List ℕ) → IsOpen begun w →
+    Done begun (Assigns w f name v)
+assigns w f None v k = done w f k (Assigns.no_variable refl)
+assigns w f (Some name) v k = done_same (stores_named w f name v k) (λ w1 f1 h. Assigns.assigns refl h)
 
 -- names mean globals from here on
 pub declares_all : {begun : Begun} (names : List (List ℕ)) (w : History) (f : Frame) → IsOpen begun w →
-    EndsIn begun (DeclaresAll w f names)
-declares_all [] w f k = ends_in (Ok tt) w f (λ e. cc) k (DeclaresAll.none_declared refl)
+    Done begun (DeclaresAll w f names)
+declares_all [] w f k = done w f k (DeclaresAll.none_declared refl)
 declares_all {begun} (name ∷ names) w f k = by_value (get w.now.globals (folded name)) refl
     (λ w k. declares_all names w (record f { variables = declared f.variables name }) k)
   where
     by_value : (v : Option (List ℕ)) → get w.now.globals (folded name) ≡ v →
         ((w : History) → IsOpen begun w →
-        EndsIn begun (DeclaresAll w (record f { variables = declared f.variables name }) names)) →
-        EndsIn begun (DeclaresAll w f (name ∷ names))
-    by_value (Some t) is later = in_same (later w k)
-        (λ o w1 f2 h. DeclaresAll.declared refl (Declares.has_value is refl) refl h)
+        Done begun (DeclaresAll w (record f { variables = declared f.variables name }) names)) →
+        Done begun (DeclaresAll w f (name ∷ names))
+    by_value (Some t) is later = done_same (later w k)
+        (λ w1 f2 h. DeclaresAll.declared refl (Declares.has_value is refl) refl h)
     by_value None is later =
         let change : Change = Global (folded name) (Some []) in
-        in_same (later (with_change w k.batch change) (after k change))
-        (λ o w1 f2 h. DeclaresAll.declared refl (Declares.is_new is (makes w k.batch _ k.is) refl) refl h)
+        done_same (later (with_change w k.batch change) (after k change))
+        (λ w1 f2 h. DeclaresAll.declared refl (Declares.is_new is (makes w k.batch _ k.is) refl) refl h)
 
 -- ---- objects
 

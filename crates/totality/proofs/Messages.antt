@@ -3,7 +3,6 @@ use Rattle.std.proofs.Common.{◌≡◌, ℕ, suc, ◌+◌, ◌≤◌, ◌<◌, 
 use Rattle.std.proofs.Common.{Result, Ok, refl, ap}
 use Rattle.std.specs.Prelude.{nat_eq, nat_lt}
 use Rattle.std.proofs.lemmas.Bool.{ltb-true, ltb-false}
-use Rattle.ht_values.specs.declared.word.Where.TheVariants.{Into}
 use Rattle.ht_values.specs.Functions.{built_in}
 use Rattle.ht_lex.specs.Words.{is_name}
 use Rattle.ht_grammar.specs.declared.vocabulary.HandlerKind.{HandlerKind}
@@ -24,7 +23,6 @@ use Rattle.journal_entries.specs.declared.change.Change.TheVariants.{DeleteCard}
 use Rattle.change_journal.specs.History.{History}
 use Rattle.change_journal.specs.Rising.{TookTurn}
 use Rattle.object_references.specs.Deletion.{may_delete}
-use Rattle.containers.specs.declared.edit.Edit.TheVariants.{Put}
 use Rattle.msg_path.specs.BuiltIns.{calls_function, external_named, built_in_named}
 use Rattle.msg_path.specs.declared.built_in.BuiltIn.{BuiltIn}
 use Rattle.msg_path.specs.declared.built_in.BuiltIn.TheVariants.{DoMenu, Value, Function as BuiltInFunction}
@@ -43,7 +41,7 @@ use Rattle.meaning.specs.Meaning.{Converses, Talks, CallsBack}
 use Rattle.meaning.specs.Menu.{item_named, new_layer, closing, opening, differ, new_card_messages}
 use Rattle.meaning.specs.Menu.{new_background_messages, message_name}
 use Rattle.meaning.specs.Messages.{Finds, parameters_of, lines_of, is_ignored, only}
-use Rattle.meaning.specs.Places.{variable_place, field_named_place}
+use Rattle.meaning.specs.Places.{field_named_place}
 use Rattle.meaning.specs.Repeats.{returned}
 use Rattle.meaning.specs.State.{RunState, Step, typed_frame, handler_frame}
 use Rattle.meaning.specs.Values.{Parses}
@@ -52,7 +50,7 @@ use Rattle.totality.proofs.Chain.{Underway, Has, has, ok, fault, yield, same, th
 use Rattle.totality.proofs.Chain.{nested}
 use Rattle.definitional_interpreter.proofs.Comes.{AreExact}
 use Rattle.totality.proofs.Leaves.{then_step, lift, Passes, then_parsed, then_found, then_field, then_made, then_ends}
-use Rattle.totality.proofs.Leaves.{then_edited_lines, edits, adds}
+use Rattle.totality.proofs.Leaves.{then_done_lines, field_stands, stores, stores_named, adds}
 use Rattle.containers.proofs.Bases.{took_keeps as base_turn}
 use Rattle.preservation.proofs.Bases.{base_calls_back}
 use Rattle.preservation.proofs.Ends.{given}
@@ -173,16 +171,15 @@ calls_back_has exact h w r d (EvalExpr note t) calls le k =
     (λ v w1 r1 k1 g. ok _ k1 (CallsBack.evaluates refl p refl g refl)))
 calls_back_has exact h w r d (SetGlobal note name v) calls le k =
     choose (is_name name)
-    (λ named. then_edited_lines k
-    (edits w (typed_frame w) r.delimiter (variable_place (typed_frame w).variables name) (Put Into v) k.is_open)
-    (λ z w1 f1 g. CallsBack.global_fails refl named refl g)
+    (λ named. then_done_lines k (stores_named w (typed_frame w) name v k.is_open)
     (λ w1 f1 k1 g. ok _ k1 (CallsBack.global_set refl named refl g refl)))
     (λ bad. fault _ k (CallsBack.bad_global refl bad))
 calls_back_has exact h w r d (SetFieldByName note on_card name v) calls le k =
-    then_field (field_named_place w.now on_card name) k (λ z y. CallsBack.no_such_field refl y) (λ p y.
-    then_edited_lines k (edits w (typed_frame w) r.delimiter p (Put Into v) k.is_open)
-    (λ z w1 f1 g. CallsBack.field_fails refl y refl g)
-    (λ w1 f1 k1 g. ok _ k1 (CallsBack.field_set refl y refl g refl)))
+    then_field (field_named_place w.now (typed_frame w).variables on_card name) k
+    (λ z y. CallsBack.no_such_field refl refl y) (λ p y.
+    let stands = field_stands w.now (typed_frame w).variables on_card name y in
+    then_done_lines k (stores w (typed_frame w) p.storage v stands k.is_open)
+    (λ w1 f1 k1 g. ok _ k1 (CallsBack.field_set refl refl y g refl)))
 calls_back_has exact h w r d (Done v passes) calls le k = absurd calls
 calls_back_has exact h w r d Fail calls le k = absurd calls
 

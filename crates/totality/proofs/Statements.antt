@@ -4,7 +4,6 @@ use Rattle.std.proofs.Common.{Err, refl, sym, ap, subst, ◌∙◌}
 use Rattle.ht_values.specs.declared.fault.Fault.{Fault}
 use Rattle.ht_values.specs.declared.operator.Op.{Op}
 use Rattle.ht_values.specs.declared.operator.Op.TheVariants.{Add, Subtract, Multiply, Divide}
-use Rattle.ht_values.specs.declared.word.Where.TheVariants.{Into}
 use Rattle.ht_values.specs.Operators.{truth_of}
 use Rattle.ht_values.specs.Outcome.{and_then}
 use Rattle.ht_grammar.specs.declared.vocabulary.HandlerKind.TheVariants.{Command}
@@ -18,14 +17,15 @@ use Rattle.change_journal.specs.History.{History}
 use Rattle.containers.specs.declared.edit.Edit.TheVariants.{Put, Alter, Delete}
 use Rattle.meaning.specs.declared.frame.Frame.{Frame}
 use Rattle.meaning.specs.Meaning.{Form, Alters, DoText, Bounds}
-use Rattle.meaning.specs.Places.{variable_place, it_name, chunk_of_place}
+use Rattle.meaning.specs.Places.{it_name, chunk_of_place}
 use Rattle.meaning.specs.Repeats.{counter_of, turns}
 use Rattle.meaning.specs.State.{RunState, delimiter_set, run_property_set}
 use Rattle.totality.proofs.Chain.{Begun}
 use Rattle.totality.proofs.Chain.{Underway, Has, HasRun, run_ok, run_fault, run_exited, yield, same_run, then, then_in}
 use Rattle.totality.proofs.Chain.{choose, computed, deep, nested}
 use Rattle.definitional_interpreter.proofs.Comes.{AreExact}
-use Rattle.totality.proofs.Leaves.{then_parsed_in, then_ends_in, then_edited, edits, declares_all, sets}
+use Rattle.totality.proofs.Leaves.{then_parsed_in, then_ends_in, then_edited, then_done, edits, stores_named, sets}
+use Rattle.totality.proofs.Leaves.{declares_all}
 use Rattle.totality.proofs.Levels.{Level}
 use Rattle.totality.proofs.Expressions.{val_has, number_by, truth_by, chunk_has, resolves_has, meets_has, leads_has}
 use Rattle.totality.proofs.Expressions.{calls_has}
@@ -120,8 +120,7 @@ form_has exact h w r f d (stm.put_in place x ct) le k =
     (λ w3 f1 k3 g3. run_ok _ _ k3 (Form.put refl g g2 g3))))
 form_has exact h w r f d (stm.get x) le k =
     then_in f (val_has exact h w r f d x le k) (λ z w1 r1 g. Form.get_stops refl g) (λ v w1 r1 k1 g.
-    then_edited k1 (edits w1 f r1.delimiter (variable_place f.variables it_name) (Put Into v) k1.is_open)
-    (λ z w2 f1 g2. Form.get_fails refl g g2) (λ w2 f1 k2 g2. run_ok _ _ k2 (Form.get refl g g2)))
+    then_done k1 (stores_named w1 f it_name v k1.is_open) (λ w2 f1 k2 g2. run_ok _ _ k2 (Form.get refl g g2)))
 form_has exact h w r f d (stm.set p ref x) le k =
     then_in f (val_has exact h w r f d x le k) (λ z w1 r1 g. Form.set_stops refl g) (λ v w1 r1 k1 g.
     then_in f (meets_has exact h w1 r1 f d ref le k1) (λ z w2 r2 g2. Form.set_nowhere refl g g2) (λ m w2 r2 k2 g2.
@@ -158,8 +157,8 @@ form_has exact h w r f d (stm.go de) le k =
     then_in f (leads_has exact h w r f d de le k) (λ z w1 r1 g. Form.go_nowhere refl g) (λ card w1 r1 k1 g.
     then_in f (goes_has h w1 r1 f d card le k1) (λ z w2 r2 g2. Form.go_stops refl g g2)
     (λ v w2 r2 k2 g2. run_ok _ _ k2 (Form.go refl g g2)))
-form_has exact h w r f d (stm.global names) le k = then_edited k (declares_all names w f k.is_open)
-    (λ z w1 f1 g. Form.global_stops refl g) (λ w1 f1 k1 g. run_ok _ _ k1 (Form.global refl g))
+form_has exact h w r f d (stm.global names) le k = then_done k (declares_all names w f k.is_open)
+    (λ w1 f1 k1 g. run_ok _ _ k1 (Form.global refl g))
 form_has exact h w r f d stm.exit_repeat le k = run_ok _ _ k (Form.exit_repeat refl)
 form_has exact h w r f d stm.next_repeat le k = run_ok _ _ k (Form.next_repeat refl)
 form_has exact h w r f d stm.exit_to_hypercard le k = run_exited _ k (Form.exit_to_hypercard refl)

@@ -1,12 +1,13 @@
 -- A text that is typed over another, by what its calls gave.
-use Rattle.std.proofs.Common.{◌≡◌, ℕ, List, Result, Ok, Err, refl, ap, subst}
+use Rattle.std.proofs.Common.{◌≡◌, ℕ, List, Result, Ok, Err, refl, sym, ap, subst, ◌∙◌}
+use Rattle.std.specs.Prelude.{IsOk}
 use Rattle.ht_values.specs.declared.fault.Fault.{Fault}
-use Rattle.ht_values.specs.declared.word.Where.TheVariants.{Into}
 use Rattle.ht_values.specs.Outcome.{and_then}
+use Rattle.chunks.specs.declared.chunk.Chunk.{Chunk}
+use Rattle.chunks.specs.Nested.{read_within}
 use Rattle.change_journal.specs.History.{History}
-use Rattle.containers.specs.declared.edit.Edit.TheVariants.{Put}
 use Rattle.containers.specs.Edits.{read_at}
-use Rattle.containers.specs.Places.{PlaceView}
+use Rattle.containers.specs.Places.{PlaceView, whole}
 use Rattle.object_references.specs.declared.referent.Referent.{Referent}
 use Rattle.meaning.specs.Actions.{leaving_message}
 use Rattle.meaning.specs.declared.end.Stop.{Stop}
@@ -14,7 +15,7 @@ use Rattle.meaning.specs.declared.end.Stop.TheVariants as stop
 use Rattle.meaning.specs.declared.frame.Frame.{Frame}
 use Rattle.meaning.specs.declared.system.SystemMessage.{SystemMessage}
 use Rattle.meaning.specs.Meaning.{TypesOver, Tells}
-use Rattle.meaning.specs.Places.{Edits, field_place, field_text}
+use Rattle.meaning.specs.Places.{Stores, field_place, field_text}
 use Rattle.meaning.specs.State.{RunState, typed_frame}
 use Rattle.meaning.specs.Values.{Yields, yields, faults}
 
@@ -26,6 +27,11 @@ failed {c} is y = of_fault (subst (λ z. Yields c (Err z)) is y)
   where
     of_fault : {n : Fault} → Yields c (Err (stop.Fault n)) → c ≡ Err n
     of_fault (faults e) = e
+
+was_read : (chunks : List Chunk) (delimiter : ℕ) (old : List ℕ) (u : Result (List ℕ) Fault)
+    → and_then u (λ x. Ok (read_within delimiter chunks x)) ≡ Ok old → IsOk u
+was_read chunks delimiter old (Ok x) is = refl
+was_read chunks delimiter old (Err n) is = cc
 
 module _ (w : History) (r : RunState) (m : Referent) (t : List ℕ) (f : Frame) (typed : f ≡ typed_frame w) where
   -- the field or the card is gone
@@ -42,16 +48,16 @@ module _ (w : History) (r : RunState) (m : Referent) (t : List ℕ) (f : Frame) 
 
   module _ (old t1 : List ℕ) (place : PlaceView) (text : Yields (field_text w.now f.variables r.delimiter m) (Ok old))
       (found : Yields (field_place w.now m) (Ok place)) (same : t1 ≡ t) where
-    edited : {w1 : History} {f1 : Frame} {end : Result (Unit {0}) Stop}
-        → Edits w f r.delimiter place (Put Into t1) end w1 f1 → Edits w f r.delimiter place (Put Into t) end w1 f1
-    edited {w1} {f1} {end} edits = subst (λ (u : List ℕ). Edits w f r.delimiter place (Put Into u) end w1 f1) same edits
-
-    pub stops : (w1 : History) (f1 : Frame) (z : Stop) → Edits w f r.delimiter place (Put Into t1) (Err z) w1 f1
-        → TypesOver w r m t (Err z) w1 r
-    stops w1 f1 z edits = TypesOver.type_over_stops typed (yielded text) (yielded found) (edited edits)
+    -- a text that was read stands at its place
+    pub stands : IsOk (whole w.now f.variables place.storage)
+    stands =
+        let read = ap (λ (p : Result PlaceView Fault). and_then p (λ q. read_at w.now f.variables r.delimiter q))
+        (yielded found) in
+        was_read place.chunks r.delimiter old (whole w.now f.variables place.storage) (sym read ∙ yielded text)
 
     pub types : (w1 w2 : History) (f1 : Frame) (r1 : RunState) (message : SystemMessage) (end : Result (Unit {0}) Stop)
-        → Edits w f r.delimiter place (Put Into t1) (Ok tt) w1 f1
+        → Stores w f place.storage t1 w1 f1
         → message ≡ leaving_message old t → Tells w1 r m.object message end w2 r1 → TypesOver w r m t end w2 r1
-    types w1 w2 f1 r1 message end edits leaves told =
-        TypesOver.types_over typed (yielded text) (yielded found) (edited edits) refl leaves told
+    types w1 w2 f1 r1 message end stores leaves told =
+        TypesOver.types_over typed (yielded text) (yielded found)
+        (subst (λ (u : List ℕ). Stores w f place.storage u w1 f1) same stores) refl leaves told

@@ -13,15 +13,14 @@ ghost use Rattle.user_actions.specs.Views.{TypingEnds};
 
 use crate::messages::tell;
 use change_journal::World;
-use containers::Edit;
 use externals::External;
 use ht_tree::Part;
-use ht_values::{Text, Value, Where};
+use ht_values::{Text, Value};
 use interp::find_ref;
 use meaning::{Budget, Ended, Frame, Stop, SystemMessage};
 use object_references::{Referent, met_here};
 use object_table::{Id, Kind, Stack};
-use primitives::places::{edit, field_place, field_text};
+use primitives::places::{field_place, field_text, put_at};
 
 /// Whether the text of a field is locked against typing.
 fn is_locked(stack: &Stack, field: Id) -> bool
@@ -92,7 +91,7 @@ fn type_over<E: External>(
     };
     let message = leaving_message(&old, text);
     let new = Value::copied(run.alloc(), text)?;
-    edit(world, run, &mut frame, place, Edit::Put(Where::Into, new))?;
+    put_at(world, run, &mut frame, &place, new)?;
     tell(world, run, field.object, message)
 }
 

@@ -46,7 +46,7 @@ use Rattle.object_references.proofs.Fitting.{setting_fits}
 use Rattle.containers.specs.Base.{base}
 use Rattle.containers.specs.declared.edit.Edit.{Edit}
 use Rattle.containers.specs.Edits.{due, edited}
-use Rattle.containers.specs.Places.{PlaceView, field_text, whole, keeps_for, is_shared}
+use Rattle.containers.specs.Places.{StorageView, PlaceView, field_text, whole, keeps_for, is_shared}
 use Rattle.std.specs.Option.{ok_or}
 use Rattle.ht_values.specs.declared.fault.Fault.TheVariants.{NoSuchObject}
 use Rattle.containers.specs.Variables.{VariablesView, declared, with_local}
@@ -58,7 +58,7 @@ use Rattle.meaning.specs.declared.end.How.TheVariants.{Next, ExitRepeat, NextRep
 use Rattle.meaning.specs.declared.end.Stop.{Stop}
 use Rattle.meaning.specs.declared.frame.Frame.{Frame}
 use Rattle.meaning.specs.Messages.{Finds, only, lines_of}
-use Rattle.meaning.specs.Places.{Edits, Assigns, DeclaresAll, Sets, Adds, field_place, field_named_place}
+use Rattle.meaning.specs.Places.{Edits, Stores, Assigns, DeclaresAll, Sets, Adds, field_place, field_named_place}
 use Rattle.meaning.specs.Places.{layer_of_field, it_name}
 use Rattle.meaning.specs.Repeats.{Outcome, returned, ends, leaves_repeat}
 use Rattle.meaning.specs.State.{RunState, Step, shows, noted, run_property_set, run_property, bound, handler_frame}
@@ -207,15 +207,43 @@ module _ (cut : PartsCut) where
       writes (Writes.to_field {field = field} {card = card} {t = t} at is made) =
           (sound_made (due_stood w.now f.variables delimiter p e t field card at is) (is_text t is) made q, h)
 
-  pub sound_assigns : {begin w w2 : History} {f f2 : Frame} {delimiter : ℕ} {variable : Option (List ℕ)} {t : List ℕ}
-      {o : Result (Unit {0}) Stop} → IfSome variable IsText → IsText t → delimiter < 256 →
-      Assigns w f delimiter variable t o w2 f2 → HasMemory o → IsWhole begin w → FrameTexts f
-      → IsWhole begin w2 × FrameTexts f2
-  sound_assigns name texts byte Assigns.assign_memory has q h = absurd (has refl)
-  sound_assigns name texts byte (Assigns.no_variable _) has q h = (q, h)
-  sound_assigns {f = f} name texts byte (Assigns.assigns {name = n} is edits) has q h =
-      let named = subst (λ o. IfSome o IsText) is name in
-      sound_edits (named_texts f.variables n named) texts byte edits has q h
+-- and so did one in whose place a value comes
+text_stood : (s : State) (v : VariablesView) (h : StorageView) (t : List ℕ) (field card : ℕ)
+    → h ≡ field_text field card → whole s v h ≡ Ok t → is_some (text_at s.stack field card) ≡ true
+text_stood s v h t field card at is =
+    stood (text_at s.stack field card) (λ u. Ok u) t
+    (subst (λ h. and_then (whole s v h) (λ u. Ok u) ≡ Ok t) at (ap (λ o. and_then o (λ u. Ok u)) is))
+
+pub sound_stores : {begin w w2 : History} {f f2 : Frame} {h : StorageView} {t : List ℕ} → StorageTexts h → IsText t
+    → Stores w f h t w2 f2 → IsWhole begin w → FrameTexts f → IsWhole begin w2 × FrameTexts f2
+sound_stores {begin} {w} {w2} {f} {f2} {h} {t} placed texts (Stores.stores {t1 = t1} {v = v} stands written frame) q k =
+    let both = writes written in
+    (both.0, same_frame frame both.1)
+  where
+    is_text : {c : Result (Option (List ℕ)) Fault} (u : List ℕ) → c ≡ Ok (Some u) → IfOk c (λ x. IfSome x IsText)
+        → IsText u
+    is_text u is h = subst (λ o. IfOk o (λ x. IfSome x IsText)) is h
+
+    writes : {w3 : History} {v3 : VariablesView} → Writes w f.variables h (Ok (Some t)) w3 v3
+        → IsWhole begin w3 × LocalsTexts v3.locals
+    writes (Writes.nothing_due is) = cc
+    writes (Writes.to_global {name = name} {t = u} at is made) =
+        let named = subst StorageTexts at placed in (sound_made named.0 (named.1, is_text u is texts) made q, k)
+    writes (Writes.to_own {name = name} {t = u} _ is same) = (
+      q,
+      subst (λ (x : VariablesView). LocalsTexts x.locals)
+          (sym same) (with_value_texts name (Some u) f.variables.locals k (is_text u is texts)),
+    )
+    writes (Writes.to_field {field = field} {card = card} {t = u} at is made) =
+        (sound_made (text_stood w.now f.variables h t1 field card at stands) (is_text u is texts) made q, k)
+
+pub sound_assigns : {begin w w2 : History} {f f2 : Frame} {variable : Option (List ℕ)} {t : List ℕ}
+    → IfSome variable IsText → IsText t → Assigns w f variable t w2 f2 → IsWhole begin w → FrameTexts f
+    → IsWhole begin w2 × FrameTexts f2
+sound_assigns name texts (Assigns.no_variable _) q h = (q, h)
+sound_assigns {f = f} name texts (Assigns.assigns {name = n} is stores) q h =
+    let named = subst (λ o. IfSome o IsText) is name in
+    sound_stores (named_texts f.variables n named) texts stores q h
 
 declared_texts : (v : VariablesView) (name : List ℕ) → LocalsTexts v.locals → LocalsTexts (declared v name).locals
 declared_texts v name h = by v.all_global
@@ -224,15 +252,13 @@ declared_texts v name h = by v.all_global
     by true = h
     by false = with_value_texts name None v.locals h tt
 
-pub sound_declares_all : {begin w w2 : History} {f f2 : Frame} {names : List (List ℕ)} {o : Result (Unit {0}) Stop}
-    → AllByRecursion IsText names → DeclaresAll w f names o w2 f2 → HasMemory o → IsWhole begin w → FrameTexts f
-    → IsWhole begin w2 × FrameTexts f2
-sound_declares_all texts DeclaresAll.declare_memory has q h = absurd (has refl)
-sound_declares_all texts (DeclaresAll.none_declared _) has q h = (q, h)
-sound_declares_all {begin} {f = f} texts (DeclaresAll.declared {name = name} {v = v} is declares frame rest) has q h =
+pub sound_declares_all : {begin w w2 : History} {f f2 : Frame} {names : List (List ℕ)} → AllByRecursion IsText names
+    → DeclaresAll w f names w2 f2 → IsWhole begin w → FrameTexts f → IsWhole begin w2 × FrameTexts f2
+sound_declares_all texts (DeclaresAll.none_declared _) q h = (q, h)
+sound_declares_all {begin} {f = f} texts (DeclaresAll.declared {name = name} {v = v} is declares frame rest) q h =
     let all = subst (AllByRecursion IsText) is texts in
     let first = declare declares all.0 q h in
-    sound_declares_all all.1 rest has first.0 (same_frame frame first.1)
+    sound_declares_all all.1 rest first.0 (same_frame frame first.1)
   where
     declare : {w w3 : History} {n : List ℕ} {v3 : VariablesView} → Declares w f.variables n w3 v3 → IsText n
         → IsWhole begin w → LocalsTexts f.variables.locals → IsWhole begin w3 × LocalsTexts v3.locals
@@ -421,10 +447,20 @@ field_place_texts s m = by (keeps_for s.stack m.object m.card)
     by true = tt
     by false = tt
 
-pub named_place_texts : (s : State) (b : Bool) (name : List ℕ)
-    → IfOk (field_named_place s b name) (λ p. StorageTexts p.storage)
-named_place_texts s b name = by (field_named s.stack s.current (layer_of_field b) name)
+pub named_place_texts : (s : State) (v : VariablesView) (b : Bool) (name : List ℕ)
+    → IfOk (field_named_place s v b name) (λ p. StorageTexts p.storage)
+named_place_texts s v b name = by (field_named s.stack s.current (layer_of_field b) name)
   where
-    by : (r : Result Referent Fault) → IfPlaces (and_then r (field_place s))
-    by (Ok m) = field_place_texts s m
+    filled : (p : PlaceView) (t : Result (List ℕ) Fault) → StorageTexts p.storage → IfPlaces (and_then t (λ u. Ok p))
+    filled p (Ok u) h = h
+    filled p (Err fault) h = tt
+
+    at : (r : Result PlaceView Fault) → IfPlaces r
+        → IfPlaces (and_then r (λ p. and_then (whole s v p.storage) (λ t. Ok p)))
+    at (Ok p) h = filled p (whole s v p.storage) h
+    at (Err fault) h = tt
+
+    by : (r : Result Referent Fault) → IfPlaces (and_then r (λ m. and_then (field_place s m)
+        (λ p. and_then (whole s v p.storage) (λ t. Ok p))))
+    by (Ok m) = at (field_place s m) (field_place_texts s m)
     by (Err fault) = tt

@@ -22,8 +22,8 @@ use Rattle.whole_states.proofs.ValueTexts.{empty_text, word_text, constant_is, n
 use Rattle.whole_states.proofs.ValueTexts.{built_in_text, read_text}
 use Rattle.whole_states.proofs.StateTexts.{named_texts, read_name_text, field_is_text, property_text, name_text}
 use Rattle.whole_states.proofs.Leaves.{IsWhole, sound_made, sound_turn, stands_after, named_stands, same_frame}
-use Rattle.whole_states.proofs.Leaves.{sound_edits, sound_assigns, sound_declares_all, sound_sets, sound_adds}
-use Rattle.whole_states.proofs.Leaves.{sound_step, sound_shows, sound_noted, sound_property, property_read}
+use Rattle.whole_states.proofs.Leaves.{sound_edits, sound_stores, sound_assigns, sound_declares_all, sound_sets}
+use Rattle.whole_states.proofs.Leaves.{sound_adds, sound_step, sound_shows, sound_noted, sound_property, property_read}
 use Rattle.whole_states.proofs.Leaves.{sound_returned, sound_ends, sound_leaves, sound_yields, sound_parses}
 use Rattle.whole_states.proofs.Leaves.{sound_finds, sound_handler_frame, sound_only, field_place_texts}
 use Rattle.whole_states.proofs.Leaves.{named_place_texts, lines_texts, texts_push, it_text, return_text}
@@ -390,15 +390,9 @@ module _ (begin : History) (cut : PartsCut) where
     sound_form (Form.get_stops p1 p2) has whole run given1 given2 =
         let after2 = sound_val p2 (stopped has) whole run given1 (subst StmtTexts p1 given2) in
         (after2.0, after2.1, given1, tt)
-    sound_form (Form.get_fails {f = f} p1 p2 p3) has whole run given1 given2 =
-        let after2 = sound_val p2 given whole run given1 (subst StmtTexts p1 given2) in
-        let after3 = sound_edits cut (named_texts f.variables it_name it_text) after2.2 after2.1.delimiter p3
-        (stopped has) after2.0 given1 in
-        (after3.0, after2.1, after3.1, tt)
     sound_form (Form.get {f = f} p1 p2 p3) has whole run given1 given2 =
         let after2 = sound_val p2 given whole run given1 (subst StmtTexts p1 given2) in
-        let after3 = sound_edits cut (named_texts f.variables it_name it_text) after2.2 after2.1.delimiter p3 given
-        after2.0 given1 in
+        let after3 = sound_stores (named_texts f.variables it_name it_text) after2.2 p3 after2.0 given1 in
         (after3.0, after2.1, after3.1, tt)
     sound_form (Form.set_stops p1 p2) has whole run given1 given2 =
         let after2 = sound_val p2 (stopped has) whole run given1 (subst StmtTexts p1 given2).1 in
@@ -485,11 +479,8 @@ module _ (begin : History) (cut : PartsCut) where
         let after2 = sound_leads p2 given whole run given1 (subst StmtTexts p1 given2) in
         let after3 = sound_goes p3 given after2.0 after2.1 given1 in
         (after3.0, after3.1, given1, tt)
-    sound_form (Form.global_stops p1 p2) has whole run given1 given2 =
-        let after2 = sound_declares_all (subst StmtTexts p1 given2) p2 (stopped has) whole given1 in
-        (after2.0, run, after2.1, tt)
     sound_form (Form.global p1 p2) has whole run given1 given2 =
-        let after2 = sound_declares_all (subst StmtTexts p1 given2) p2 given whole given1 in
+        let after2 = sound_declares_all (subst StmtTexts p1 given2) p2 whole given1 in
         (after2.0, run, after2.1, tt)
     sound_form (Form.exit_repeat p1) has whole run given1 given2 = (whole, run, given1, tt)
     sound_form (Form.next_repeat p1) has whole run given1 given2 = (whole, run, given1, tt)
@@ -658,23 +649,16 @@ module _ (begin : History) (cut : PartsCut) where
     sound_counts (Counts.counts_no_step p1) has whole run given1 given2 given3 =
         (whole, (sound_step p1 run), given1, tt)
     sound_counts (Counts.counts_end p1 _) has whole run given1 given2 given3 = (whole, (sound_step p1 run), given1, tt)
-    sound_counts (Counts.counts_fail {co = co} p1 _ p3) has whole run given1 given2 given3 =
-        let after3 = sound_assigns cut given2 (numeral_text co.at) (sound_step p1 run).delimiter p3 (stopped has) whole
-        given1 in
-        (after3.0, (sound_step p1 run), after3.1, tt)
     sound_counts (Counts.counts_stop {co = co} p1 _ p3 p4) has whole run given1 given2 given3 =
-        let after3 =
-        sound_assigns cut given2 (numeral_text co.at) (sound_step p1 run).delimiter p3 given whole given1 in
+        let after3 = sound_assigns given2 (numeral_text co.at) p3 whole given1 in
         let after4 = sound_block p4 has after3.0 (sound_step p1 run) after3.1 given3 in
         (after4.0, after4.1, after4.2, tt)
     sound_counts (Counts.counts_leave {co = co} {h = h} p1 _ p3 p4 p5) has whole run given1 given2 given3 =
-        let after3 =
-        sound_assigns cut given2 (numeral_text co.at) (sound_step p1 run).delimiter p3 given whole given1 in
+        let after3 = sound_assigns given2 (numeral_text co.at) p3 whole given1 in
         let after4 = sound_block p4 given after3.0 (sound_step p1 run) after3.1 given3 in
         (after4.0, after4.1, after4.2, (sound_leaves h p5 after4.3))
     sound_counts (Counts.counts_go_on {co = co} p1 _ p3 p4 _ _ p7) has whole run given1 given2 given3 =
-        let after3 =
-        sound_assigns cut given2 (numeral_text co.at) (sound_step p1 run).delimiter p3 given whole given1 in
+        let after3 = sound_assigns given2 (numeral_text co.at) p3 whole given1 in
         let after4 = sound_block p4 given after3.0 (sound_step p1 run) after3.1 given3 in
         sound_counts p7 has after4.0 after4.1 after4.2 given2 given3
 
@@ -880,22 +864,14 @@ module _ (begin : History) (cut : PartsCut) where
         (sound_parses {P = ExprTexts} expressions_have_texts p2 (subst AskTexts p1 given1).1) in
         (after4.0, after4.1, (subst InputTexts (sym p5) ((subst AskTexts p1 given1).0, after4.2)))
     sound_calls_back (CallsBack.bad_global p1 _) has whole run given1 = (whole, run, tt)
-    sound_calls_back (CallsBack.global_fails {n = n} {f = f} p1 _ p3 p4) has whole run given1 =
-        let after4 = sound_edits cut (named_texts f.variables n (subst AskTexts p1 given1).1)
-        (subst AskTexts p1 given1).2 run.delimiter p4 (stopped has) whole (same_frame p3 tt) in
-        (after4.0, run, tt)
     sound_calls_back (CallsBack.global_set {n = n} {f = f} p1 _ p3 p4 p5) has whole run given1 =
-        let after4 = sound_edits cut (named_texts f.variables n (subst AskTexts p1 given1).1)
-        (subst AskTexts p1 given1).2 run.delimiter p4 given whole (same_frame p3 tt) in
+        let after4 = sound_stores (named_texts f.variables n (subst AskTexts p1 given1).1) (subst AskTexts p1 given1).2
+        p4 whole (same_frame p3 tt) in
         (after4.0, run, (subst InputTexts (sym p5) ((subst AskTexts p1 given1).0, empty_text)))
-    sound_calls_back (CallsBack.no_such_field p1 p2) has whole run given1 = (whole, run, tt)
-    sound_calls_back (CallsBack.field_fails {b = b} {n = n} {w = w} p1 p2 p3 p4) has whole run given1 =
-        let after4 = sound_edits cut (sound_yields (λ p. StorageTexts p.storage) (named_place_texts w.now b n) p2)
-        (subst AskTexts p1 given1).2 run.delimiter p4 (stopped has) whole (same_frame p3 tt) in
-        (after4.0, run, tt)
-    sound_calls_back (CallsBack.field_set {b = b} {n = n} {w = w} p1 p2 p3 p4 p5) has whole run given1 =
-        let after4 = sound_edits cut (sound_yields (λ p. StorageTexts p.storage) (named_place_texts w.now b n) p2)
-        (subst AskTexts p1 given1).2 run.delimiter p4 given whole (same_frame p3 tt) in
+    sound_calls_back (CallsBack.no_such_field p1 p2 p3) has whole run given1 = (whole, run, tt)
+    sound_calls_back (CallsBack.field_set {b = b} {n = n} {f = f} {w = w} p1 p2 p3 p4 p5) has whole run given1 =
+        let after4 = sound_stores (sound_yields (λ p. StorageTexts p.storage) (named_place_texts w.now f.variables b n)
+        p3) (subst AskTexts p1 given1).2 p4 whole (same_frame p2 tt) in
         (after4.0, run, (subst InputTexts (sym p5) ((subst AskTexts p1 given1).0, empty_text)))
 
     pub sound_line : {w w2 : History} {r r2 : RunState} {ss : stm.Stmts} {ot : Result (Unit {0}) Stop}
@@ -965,13 +941,9 @@ module _ (begin : History) (cut : PartsCut) where
         → IsWhole begin w2 × RunTexts r2
     sound_types_over TypesOver.type_over_memory has _ _ _ = absurd (has refl)
     sound_types_over (TypesOver.typed_field_goes p1 _) has whole run given1 = (whole, run)
-    sound_types_over (TypesOver.type_over_stops {w = w} {m = m} p1 _ p3 p4) has whole run given1 =
-        let after4 = sound_edits cut (subst (λ o. IfOk o (λ p. StorageTexts p.storage)) p3 (field_place_texts w.now m))
-        given1 run.delimiter p4 has whole (same_frame p1 tt) in
-        (after4.0, run)
     sound_types_over (TypesOver.types_over {w = w} {m = m} p1 _ p3 p4 _ _ p7) has whole run given1 =
-        let after4 = sound_edits cut (subst (λ o. IfOk o (λ p. StorageTexts p.storage)) p3 (field_place_texts w.now m))
-        given1 run.delimiter p4 given whole (same_frame p1 tt) in
+        let after4 = sound_stores (subst (λ o. IfOk o (λ p. StorageTexts p.storage)) p3 (field_place_texts w.now m))
+        given1 p4 whole (same_frame p1 tt) in
         sound_tells p7 has after4.0 run
 
     pub sound_types_into : {w w2 : History} {r r2 : RunState} {t : List ℕ} {pa : tree.Part}

@@ -181,7 +181,7 @@ expr::count_of_pieces-returns-clause-meaning g t c =
 
 pub expr::lent_function-returns-in-Some-clause-meaning : goal.expr::lent_function-returns-in-Some-clause-meaning
 expr::lent_function-returns-in-Some-clause-meaning g t c =
-    let named = sym c.function_named.ensures ∙ c.in-Some.is in
+    let named = sym c.func.ensures ∙ c.in-Some.is in
     computed c.in_ok-x.x c.in_ok-x.ensures.meaning named c.call_of_operand.ensures
 
 pub expr::nth_piece_of-returns-clause-meaning : goal.expr::nth_piece_of-returns-clause-meaning
