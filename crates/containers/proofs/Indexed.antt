@@ -1,6 +1,6 @@
 -- Where a name stands, by the places that are kept.
 use Rattle.std.proofs.Common.{◌≡◌, ℕ, zero, suc, ◌+◌, ◌<◌, ◌≤◌, Bool, true, false, cond, List, [], ◌∷◌, ◌++◌, length}
-use Rattle.std.proofs.Common.{refl, sym, ◌∙◌, ap, arith, add-zero, take, subst}
+use Rattle.std.proofs.Common.{refl, sym, ◌∙◌, ap, arith, take, subst}
 use Rattle.std.specs.Prelude.{Option, Some, None, IfSome, position, map}
 use Rattle.std.specs.List.{position_from}
 use Rattle.std.specs.Str.{bytes_eq}
@@ -18,29 +18,8 @@ use Rattle.std.specs.declared.vec.Vec.{Vec}
 use Rattle.std.proofs.Common.{drop_of_length-le, append-nil}
 use Rattle.ht_values.specs.Text.{folded, same}
 use Rattle.ht_values.proofs.Folding.{folded_is_folded, folded_stays}
+use Rattle.ht_values.proofs.Positions.{placed, position-push}
 use Rattle.containers.specs.Indexed.{place_of_name}
-
--- a place before the end, or the end, or none
-abbrev placed : Bool → Option ℕ → ℕ → Option ℕ
-placed here (Some i) n = Some i
-placed here None n = cond here (Some n) None
-
-from_push : {X : Type 0} (p : X → Bool) (i : ℕ) (xs : List X) (y : X)
-    → position_from p i (xs ++ y ∷ []) ≡ placed (p y) (position_from p i xs) (i + length xs)
-from_push p i [] y = ap (λ n. cond (p y) (Some n) None) (sym (add-zero i))
-from_push p i (x ∷ xs) y =
-    elim (p x) as (λ b. cond b (Some i) (position_from p (i + 1) (xs ++ y ∷ []))
-    ≡ placed (p y) (cond b (Some i) (position_from p (i + 1) xs)) (i + length (x ∷ xs))) [
-      | true ↦ refl
-      | false ↦ from_push p (i + 1) xs y ∙ ap (placed (p y) (position_from p (i + 1) xs)) (omega arith)
-    ]
-
-position-push : {X : Type 0} (p : X → Bool) (xs : List X) (y : X)
-    → position p (xs ++ y ∷ []) ≡ placed (p y) (position p xs) (length xs)
-position-push p xs y =
-    position_from-zero p (xs ++ y ∷ []) ∙ from_push p 0 xs y
-    ∙ ap (λ o. placed (p y) o (0 + length xs)) (sym (position_from-zero p xs))
-    ∙ ap (placed (p y) (position p xs)) (omega arith)
 
 from_map : {X Y : Type 0} (f : X → Y) (p : Y → Bool) (i : ℕ) (xs : List X)
     → position_from (λ x. p (f x)) i xs ≡ position_from p i (map f xs)

@@ -4,6 +4,7 @@ pub mod Folding
 mod Numerals
 mod OnNumbers
 mod Orders
+pub mod Positions
 mod Powers
 mod ReadBack
 mod Sames

@@ -1,6 +1,6 @@
 -- Where an id stands first.
 use Rattle.std.proofs.Common.{◌≡◌, ℕ, ◌+◌, ◌<◌, Bool, true, false, cond, List, [], ◌∷◌, ◌++◌, length, refl, sym, ◌∙◌}
-use Rattle.std.proofs.Common.{ap, arith, ltb, add-zero, inl, inr}
+use Rattle.std.proofs.Common.{ap, arith, ltb, inl, inr}
 use Rattle.std.specs.Prelude.{Option, Some, None, position, is_some, not, ◌==◌, ◌||◌}
 use Rattle.std.specs.Prelude.{find, slice_get, option_and_then, map}
 use Rattle.std.specs.List.{position_from, position_or_len, list_any}
@@ -8,33 +8,12 @@ use Rattle.std.proofs.lemmas.List.{length-map}
 use Rattle.std.proofs.lemmas.List.Quantifiers.{position-Some}
 use Rattle.std.proofs.lemmas.Option.{slice_get-map, slice_get_cases}
 use Rattle.std.proofs.lemmas.List.Folds.{find_at}
+use Rattle.ht_values.proofs.Positions.{placed, position-push}
 use Rattle.stack_text.specs.Document.{Sheet, sheet_ids, parts_of}
 use Rattle.stack_file.specs.Views.{sheet_seen}
 use Rattle.stack_file.specs.declared.sheets.SheetLines.{SheetLines}
 use Rattle.std.proofs.lemmas.Iterator.Adapters.{position_from-zero}
 use Rattle.std.proofs.lemmas.Bool.Decides.{nat_tests}
-
--- a place before the end, or the end, or none
-abbrev pub placed : Bool → Option ℕ → ℕ → Option ℕ
-placed here (Some i) n = Some i
-placed here None n = cond here (Some n) None
-
-from_push : {X : Type 0} (p : X → Bool) (i : ℕ) (xs : List X) (y : X)
-    → position_from p i (xs ++ y ∷ []) ≡ placed (p y) (position_from p i xs) (i + length xs)
-from_push p i [] y = ap (λ n. cond (p y) (Some n) None) (sym (add-zero i))
-from_push p i (x ∷ xs) y =
-    elim (p x) as (λ b. cond b (Some i) (position_from p (i + 1) (xs ++ y ∷ []))
-    ≡ placed (p y) (cond b (Some i) (position_from p (i + 1) xs)) (i + length (x ∷ xs))) [
-      | true ↦ refl
-      | false ↦ from_push p (i + 1) xs y ∙ ap (placed (p y) (position_from p (i + 1) xs)) (omega arith)
-    ]
-
-pub position-push : {X : Type 0} (p : X → Bool) (xs : List X) (y : X)
-    → position p (xs ++ y ∷ []) ≡ placed (p y) (position p xs) (length xs)
-position-push p xs y =
-    position_from-zero p (xs ++ y ∷ []) ∙ from_push p 0 xs y
-    ∙ ap (λ o. placed (p y) o (0 + length xs)) (sym (position_from-zero p xs))
-    ∙ ap (placed (p y) (position p xs)) (omega arith)
 
 from_is_some : {X : Type 0} (p : X → Bool) (i : ℕ) (xs : List X) → is_some (position_from p i xs) ≡ list_any p xs
 from_is_some p i [] = refl
