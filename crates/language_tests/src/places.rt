@@ -36,19 +36,13 @@ fn error_of(alloc: Global, whole: Whole, text: &Text) -> Option<ParseError> {
 /// What a text is not, and from one place to another where its error is told.
 struct Broken(Whole, &'static [u8], usize, usize);
 
-fn is_broken(alloc: Global, text: &Text, row: &Broken) -> bool {
-    match error_of(alloc, row.0, text) {
-        Some(ParseError::Syntax(place)) => row.2 <= place && place <= row.3,
-        _ => false,
-    }
-}
-
 impl Case for Broken {
     fn is_met(&self, alloc: Global) -> bool {
-        match text_of(alloc, self.1) {
-            Some(text) => is_broken(alloc, &text, self),
-            None => false,
-        }
+        let error = match text_of(alloc, self.1) {
+            Some(text) => error_of(alloc, self.0, &text),
+            None => None,
+        };
+        matches!(error, Some(ParseError::Syntax(place)) if self.2 <= place && place <= self.3)
     }
 }
 
@@ -82,17 +76,10 @@ fn is_among(tokens: &Tokens<'_>, row: &Placed) -> bool {
     token.start == row.2 && token.kind == row.3 && token.text == row.4
 }
 
-fn is_placed(alloc: Global, text: &Text, row: &Placed) -> bool {
-    match lex(alloc, text) {
-        Ok(tokens) => is_among(&tokens, row),
-        Err(_) => false,
-    }
-}
-
 impl Case for Placed {
     fn is_met(&self, alloc: Global) -> bool {
         match text_of(alloc, self.0) {
-            Some(text) => is_placed(alloc, &text, self),
+            Some(text) => matches!(lex(alloc, &text), Ok(tokens) if is_among(&tokens, self)),
             None => false,
         }
     }

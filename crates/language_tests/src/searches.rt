@@ -19,30 +19,22 @@ fn value_of(alloc: Global, long: &Long) -> Option<Value> {
 /// A run, a text, and the number of the byte at which the run stands first in the text; 0 for none.
 struct Sought(Long, Long, i64);
 
-fn is_offset(alloc: Global, arguments: &[Value], place: i64) -> bool {
-    match built_in(alloc, Func::Offset, arguments) {
-        Ok(value) => value.number() == Ok(place),
-        Err(_) => false,
-    }
-}
-
-fn is_in(alloc: Global, run: &Value, text: &Value, truth: bool) -> bool {
-    match binary(alloc, Op::IsIn, run, text) {
-        Ok(value) => value.truth() == Ok(truth),
-        Err(_) => false,
-    }
-}
-
-fn is_found(alloc: Global, row: &Sought) -> Option<bool> {
-    let run = value_of(alloc, &row.0)?;
-    let text = value_of(alloc, &row.1)?;
-    let is_right = is_in(alloc, &run, &text, 0 < row.2);
-    Some(is_offset(alloc, &[run, text], row.2) && is_right)
+/// Whether the run, which is the first of the two, stands in the text just where it is wanted.
+fn is_found(alloc: Global, run_and_text: &[Value; 2], place: i64) -> bool {
+    let [run, text] = run_and_text;
+    matches!(binary(alloc, Op::IsIn, run, text), Ok(value) if value.truth() == Ok(0 < place))
+        && matches!(
+            built_in(alloc, Func::Offset, run_and_text),
+            Ok(value) if value.number() == Ok(place)
+        )
 }
 
 impl Case for Sought {
     fn is_met(&self, alloc: Global) -> bool {
-        is_found(alloc, self) == Some(true)
+        match (value_of(alloc, &self.0), value_of(alloc, &self.1)) {
+            (Some(run), Some(text)) => is_found(alloc, &[run, text], self.2),
+            _ => false,
+        }
     }
 }
 

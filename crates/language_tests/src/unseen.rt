@@ -6,30 +6,17 @@ use ht_parse::{ParseError, parse_message, parse_script};
 use ht_values::{Failure, Func, LIMIT, Name, Text, TextError, Value, law_of_text, law_of_value};
 use std::alloc::Global;
 
-fn is_folded(alloc: Global, text: &Text, want: &[u8]) -> bool {
-    match text.folded(alloc) {
-        Ok(folded) => folded.as_slice() == want,
-        Err(_) => false,
-    }
-}
-
 fn is_name(name: &Name, bytes: &[u8], want: &[u8]) -> bool {
     name.text().as_slice() == bytes && name.folded().as_slice() == want
-}
-
-fn names(alloc: Global, text: Text, bytes: &[u8], want: &[u8]) -> bool {
-    match Name::new(alloc, text) {
-        Ok(name) => is_name(&name, bytes, want),
-        Err(_) => false,
-    }
 }
 
 /// Whether the text of these bytes, and the name that it spells, is folded to those, which are others.
 fn is_folded_to(alloc: Global, bytes: &[u8], want: &[u8]) -> bool {
     match text_of(alloc, bytes) {
         Some(text) => {
-            let is_right = !text.is_folded() && is_folded(alloc, &text, want);
-            names(alloc, text, bytes, want) && is_right
+            let is_right = !text.is_folded()
+                && matches!(text.folded(alloc), Ok(folded) if folded.as_slice() == want);
+            matches!(Name::new(alloc, text), Ok(name) if is_name(&name, bytes, want)) && is_right
         }
         None => false,
     }
@@ -67,26 +54,12 @@ const SCRIPT: &[u8] = b"on mouseUp a, b\r  if a then\r    put b into it\r  end i
 /// A message whose deepest argument has two levels.
 const MESSAGE: &[u8] = b"greet \"you\", 1 + 2";
 
-fn script_depth(alloc: Global, text: &Text) -> usize {
-    match parse_script(alloc, text) {
-        Ok(script) => script.depth(),
-        Err(_) => 0,
-    }
+fn is_script_of_depth(alloc: Global, text: &Text, depth: usize) -> bool {
+    matches!(parse_script(alloc, text), Ok(script) if script.depth() == depth)
 }
 
-fn message_depth(alloc: Global, text: &Text) -> usize {
-    match parse_message(alloc, text) {
-        Ok(message) => message.depth(),
-        Err(_) => 0,
-    }
-}
-
-fn has_depth(alloc: Global, bytes: &[u8], is_script: bool, depth: usize) -> bool {
-    match text_of(alloc, bytes) {
-        Some(text) if is_script => script_depth(alloc, &text) == depth,
-        Some(text) => message_depth(alloc, &text) == depth,
-        None => false,
-    }
+fn is_message_of_depth(alloc: Global, text: &Text, depth: usize) -> bool {
+    matches!(parse_message(alloc, text), Ok(message) if message.depth() == depth)
 }
 
 /// Whether no call has this name, and nothing of it is deleted without a chunk.
@@ -94,19 +67,17 @@ fn is_left(alloc: Global, text: &Text) -> bool {
     Func::named(text).is_none() && matches!(delete_within(alloc, text, &[], b','), Ok(None))
 }
 
-/// Whether no call is named `value`, or without a name.
-fn is_unnamed(alloc: Global) -> bool {
-    match text_of(alloc, b"value") {
-        Some(value) => is_left(alloc, &value) && Func::named(&Text::new(alloc)).is_none(),
-        None => false,
-    }
-}
-
 /// No call is without a name, or gets as far as the name `value`; nothing is deleted without a chunk.
 #[test]
 fn answers_that_no_run_shows(rt: HostRuntime) {
-    assert!(rt; is_unnamed(rt.alloc()));
+    let alloc = rt.alloc();
+    assert!(rt; Func::named(&Text::new(alloc)).is_none());
     assert!(rt; Failure::from(ParseError::Memory) == Failure::Memory);
-    assert!(rt; has_depth(rt.alloc(), SCRIPT, true, 3));
-    assert!(rt; has_depth(rt.alloc(), MESSAGE, false, 2));
+    assert!(rt; matches!(text_of(alloc, b"value"), Some(text) if is_left(alloc, &text)));
+    assert!(rt;
+        matches!(text_of(alloc, SCRIPT), Some(text) if is_script_of_depth(alloc, &text, 3))
+    );
+    assert!(rt;
+        matches!(text_of(alloc, MESSAGE), Some(text) if is_message_of_depth(alloc, &text, 2))
+    );
 }
