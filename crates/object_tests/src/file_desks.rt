@@ -25,24 +25,7 @@ enum Step<'a> {
 }
 
 fn has_text<R: Files + AllocGlobal>(rt: &R, path: &str, due: &str) -> bool {
-    match fs::read_to_string(rt, path) {
-        Ok(text) => text.as_str() == due,
-        Err(_) => false,
-    }
-}
-
-fn is_link<R: Files>(rt: &R, path: &str) -> bool {
-    match fs::symlink_metadata(rt, path) {
-        Ok(metadata) => metadata.is_symlink(),
-        Err(_) => false,
-    }
-}
-
-fn is_there<R: Files>(rt: &R, path: &str, due: bool) -> bool {
-    match fs::exists(rt, path) {
-        Ok(is_there) => is_there == due,
-        Err(_) => false,
-    }
+    matches!(fs::read_to_string(rt, path), Ok(text) if text.as_str() == due)
 }
 
 /// Whether a step on files alone is done, or holds.
@@ -52,8 +35,11 @@ fn is_done<R: Files + AllocGlobal>(rt: &R, step: &Step<'_>) -> bool {
         Step::Folder(path) => fs::create_dir(rt, path).is_ok(),
         Step::Link(file, path) => rt.symlink(file, path).is_ok(),
         Step::Text(path, due) => has_text(rt, path, due),
-        Step::IsThere(path, due) => is_there(rt, path, *due),
-        Step::IsLink(path) => is_link(rt, path),
+        Step::IsThere(path, due) =>
+            matches!(fs::exists(rt, path), Ok(is_there) if is_there == *due),
+        Step::IsLink(path) => {
+            matches!(fs::symlink_metadata(rt, path), Ok(metadata) if metadata.is_symlink())
+        }
         Step::Remove(path) => fs::remove_file(rt, path).is_ok(),
         Step::RemoveFolder(path) => fs::remove_dir(rt, path).is_ok(),
         Step::Keep(_, _) | Step::Failures(_) => false,

@@ -9,7 +9,6 @@ mod pieces;
 
 use crate::stacks::{Fact, hold};
 use object_table::Stack;
-use pieces::{Piece, text_of};
 use stack_file::*;
 use std::alloc::Global;
 
@@ -37,38 +36,22 @@ fn fault_of(alloc: Global, text: &[u8]) -> Option<FileError> {
 fn writes(alloc: Global, stack: &Stack, due: &[u8]) -> bool
     requires { IsWellFormed stack.now.content }
 {
-    match write(alloc, stack) {
-        Ok(text) => text.as_slice() == due,
-        Err(_) => false,
-    }
+    matches!(write(alloc, stack), Ok(text) if text.as_slice() == due)
 }
 
-/// Whether the stack of a text is written so.
-fn is_written(alloc: Global, text: &[u8], due: &[u8]) -> bool {
-    match read(alloc, text) {
-        Ok(stack) => writes(alloc, &stack, due),
-        Err(_) => false,
-    }
+/// Whether the stack of a text is written as that text.
+fn is_written(alloc: Global, text: &[u8]) -> bool {
+    matches!(read(alloc, text), Ok(stack) if writes(alloc, &stack, text))
 }
 
 fn reads(alloc: Global, text: &[u8], facts: &[Fact]) -> bool {
-    match stack_of(alloc, text) {
-        Some(stack) => hold(alloc, &stack, facts),
-        None => false,
-    }
+    matches!(stack_of(alloc, text), Some(stack) if hold(alloc, &stack, facts))
 }
 
-fn is_due(alloc: Global, text: &[u8], due: &Due) -> bool {
+fn comes_to(alloc: Global, text: &[u8], due: &Due) -> bool {
     match due {
         Due::Stack(facts) => reads(alloc, text, facts),
-        Due::Kept(facts) => reads(alloc, text, facts) && is_written(alloc, text, text),
+        Due::Kept(facts) => reads(alloc, text, facts) && is_written(alloc, text),
         Due::Fault(fault) => fault_of(alloc, text) == Some(*fault),
-    }
-}
-
-fn comes_to(alloc: Global, pieces: &[Piece], due: &Due) -> bool {
-    match text_of(alloc, pieces) {
-        Some(text) => is_due(alloc, &text, due),
-        None => false,
     }
 }

@@ -55,13 +55,6 @@ fn is_object(object: Option<&Object>, name: &[u8], script: &[u8]) -> bool {
     }
 }
 
-fn has_script_length(object: Option<&Object>, length: usize) -> bool {
-    match object {
-        Some(object) => object.script.len() == length,
-        None => false,
-    }
-}
-
 fn are_every_byte(bytes: &[u8]) -> bool {
     for (i, byte) in bytes.iter().enumerate() {
         if i != *byte as usize {
@@ -69,41 +62,6 @@ fn are_every_byte(bytes: &[u8]) -> bool {
         }
     }
     bytes.len() == 256
-}
-
-fn has_every_byte(object: Option<&Object>) -> bool {
-    match object {
-        Some(object) => are_every_byte(object.script.as_slice()),
-        None => false,
-    }
-}
-
-fn is_locked(object: Option<&Object>) -> bool {
-    match object {
-        Some(object) => matches!(object.kind, Kind::Background { cant_delete: true }),
-        None => false,
-    }
-}
-
-fn are_ids(list: Option<&IdList>, ids: &[Id]) -> bool {
-    match list {
-        Some(list) => list.as_slice() == ids,
-        None => false,
-    }
-}
-
-fn is_named_part(
-    alloc: Global,
-    stack: &Stack,
-    layer: LayerId,
-    kind: PartKind,
-    name: &[u8],
-    due: Option<Id>,
-) -> bool {
-    match text(alloc, name) {
-        Some(name) => stack.find_part(layer, kind, Which::Name(&name)) == due,
-        None => false,
-    }
 }
 
 fn value_of(alloc: Global, setting: Setting) -> PropValue {
@@ -116,29 +74,36 @@ fn value_of(alloc: Global, setting: Setting) -> PropValue {
     }
 }
 
-fn may_set(alloc: Global, stack: &Stack, id: Id, setting: Setting) -> bool {
-    let value = value_of(alloc, setting);
-    stack.may_set(id, &value)
-}
-
 fn holds(alloc: Global, stack: &Stack, fact: &Fact) -> bool {
     match fact {
         Fact::Object(id, name, script) => is_object(stack.object(*id), name, script),
         Fact::NoObject(id) => stack.object(*id).is_none(),
-        Fact::Locked(id) => is_locked(stack.object(*id)),
-        Fact::Parts(layer, parts) => are_ids(stack.parts(*layer), parts),
+        Fact::Locked(id) => matches!(
+            stack.object(*id),
+            Some(Object {
+                kind: Kind::Background { cant_delete: true },
+                ..
+            })
+        ),
+        Fact::Parts(layer, parts) => {
+            matches!(stack.parts(*layer), Some(list) if list.as_slice() == *parts)
+        }
         Fact::NoLayer(layer) => stack.parts(*layer).is_none(),
         Fact::Text(field, card, due) => is_text_or_none(stack.text(*field, *card), *due),
         Fact::Hilite(button, card, due) => stack.hilite(*button, *card) == *due,
         Fact::Orders(backgrounds, cards) => {
-            are_ids(Some(stack.backgrounds()), backgrounds) && are_ids(Some(stack.cards()), cards)
+            stack.backgrounds().as_slice() == *backgrounds && stack.cards().as_slice() == *cards
         }
         Fact::Counts(objects, next) => {
             stack.object_count() == *objects && stack.next_id() == *next
         }
         Fact::BackgroundCount(count) => stack.backgrounds().len() == *count,
-        Fact::ScriptLength(id, length) => has_script_length(stack.object(*id), *length),
-        Fact::EveryByte(id) => has_every_byte(stack.object(*id)),
+        Fact::ScriptLength(id, length) => {
+            matches!(stack.object(*id), Some(object) if object.script.len() == *length)
+        }
+        Fact::EveryByte(id) => {
+            matches!(stack.object(*id), Some(object) if are_every_byte(object.script.as_slice()))
+        }
         Fact::CardAt(number, due) => stack.card_at(*number) == *due,
         Fact::Number(id, due) => stack.number(*id) == *due,
         Fact::PartAt(layer, kind, number, due) => {
@@ -147,10 +112,11 @@ fn holds(alloc: Global, stack: &Stack, fact: &Fact) -> bool {
         Fact::PartOfId(layer, kind, id, due) => {
             stack.find_part(*layer, *kind, Which::Id(*id)) == *due
         }
-        Fact::PartOfName(layer, kind, name, due) => {
-            is_named_part(alloc, stack, *layer, *kind, name, *due)
-        }
-        Fact::MaySet(id, setting, due) => may_set(alloc, stack, *id, *setting) == *due,
+        Fact::PartOfName(layer, kind, name, due) => matches!(
+            text(alloc, name),
+            Some(name) if stack.find_part(*layer, *kind, Which::Name(&name)) == *due
+        ),
+        Fact::MaySet(id, setting, due) => stack.may_set(*id, &value_of(alloc, *setting)) == *due,
     }
 }
 
@@ -199,28 +165,12 @@ fn object(alloc: Global, name: &[u8], kind: Kind) -> Option<Object> {
     Some(object)
 }
 
-fn swap_object(stack: &mut Stack, id: Id, object: &mut Option<Object>) -> bool {
-    match stack.open_slot(id) {
-        Ok(()) => {
-            stack.swap_object(id, object);
-            true
-        }
-        Err(_) => false,
-    }
-}
-
 fn takes_object(stack: &mut Stack, id: Id, mut object: Option<Object>, was: Option<&[u8]>) -> bool {
-    swap_object(stack, id, &mut object) && is_named(&object, was)
-}
-
-fn swap_text(stack: &mut Stack, field: Id, card: Id, text: &mut Option<Text>) -> bool {
-    match stack.open_text(field, card) {
-        Ok(()) => {
-            stack.swap_text(field, card, text);
-            true
-        }
-        Err(_) => false,
+    if stack.open_slot(id).is_err() {
+        return false;
     }
+    stack.swap_object(id, &mut object);
+    is_named(&object, was)
 }
 
 fn takes_text(
@@ -230,23 +180,17 @@ fn takes_text(
     mut text: Option<Text>,
     was: Option<&[u8]>,
 ) -> bool {
-    swap_text(stack, field, card, &mut text) && is_text_or_none(text.as_ref(), was)
+    if stack.open_text(field, card).is_err() {
+        return false;
+    }
+    stack.swap_text(field, card, &mut text);
+    is_text_or_none(text.as_ref(), was)
 }
 
 fn text_or_none(alloc: Global, bytes: Option<&[u8]>) -> Option<Text> {
     match bytes {
         Some(bytes) => text(alloc, bytes),
         None => None,
-    }
-}
-
-fn swap_hilite(stack: &mut Stack, button: Id, card: Id, hilite: &mut Option<bool>) -> bool {
-    match stack.open_hilite(button, card) {
-        Ok(()) => {
-            stack.swap_hilite(button, card, hilite);
-            true
-        }
-        Err(_) => false,
     }
 }
 
@@ -257,7 +201,11 @@ fn takes_hilite(
     mut hilite: Option<bool>,
     was: Option<bool>,
 ) -> bool {
-    swap_hilite(stack, button, card, &mut hilite) && hilite == was
+    if stack.open_hilite(button, card).is_err() {
+        return false;
+    }
+    stack.swap_hilite(button, card, &mut hilite);
+    hilite == was
 }
 
 fn id_list(alloc: Global, ids: &[Id]) -> Option<IdList> {
@@ -286,7 +234,7 @@ fn takes_cards(stack: &mut Stack, cards: Option<IdList>) -> bool {
 
 fn takes_backgrounds(stack: &mut Stack, mut backgrounds: IdList, was: &[Id]) -> bool {
     stack.swap_backgrounds(&mut backgrounds);
-    are_ids(Some(&backgrounds), was)
+    backgrounds.as_slice() == was
 }
 
 fn takes_next(stack: &mut Stack, mut next: Id, was: Id) -> bool {

@@ -9,7 +9,7 @@ use ht_grammar::Layer;
 use ht_lex::Ordinal;
 use ht_values::{Failure, Fault, PartKind, Prop, Text};
 use object_references::*;
-use object_table::{Id, LayerId, PropValue, Stack};
+use object_table::{Id, LayerId, Stack};
 use properties::{check, get};
 use std::alloc::Global;
 
@@ -41,14 +41,6 @@ fn is_met(met: Result<Referent, Fault>, object: Id, card: Id) -> bool {
 fn means_current(stack: &Stack) -> bool {
     is_met(card_met(stack, 2, &Sought::Next), 4, 2)
         && is_met(background_met(stack, 4, &Sought::Next), 1, 4)
-}
-
-/// Whether the field 12 is met by its name 2 on card 9.
-fn meets_card_field(alloc: Global, stack: &Stack) -> bool {
-    match text(alloc, b"2") {
-        Some(name) => is_met(field_named(stack, 9, Layer::Card, &name), 12, 9),
-        None => false,
-    }
 }
 
 /// Whether a background's id names no layer of a card.
@@ -87,50 +79,34 @@ const REFUSED: &[Refused] = &[
 ];
 
 /// Whether a text is handed back with the fault of a row.
-fn is_handed_back(checked: Result<PropValue, (Text, Fault)>, row: &Refused) -> bool {
-    match checked {
+fn is_handed_back(stack: &Stack, row: &Refused, text: Text) -> bool {
+    match check(stack, row.0, row.1, text) {
         Ok(_) => false,
         Err((text, fault)) => is_text(&text, row.2) && fault == row.3,
     }
 }
 
+/// Whether a text is handed back, and not set.
 fn is_refused(alloc: Global, stack: &Stack, row: &Refused) -> bool {
-    match text(alloc, row.2) {
-        Some(text) => is_handed_back(check(stack, row.0, row.1, text), row),
-        None => false,
-    }
-}
-
-fn is_not_set(alloc: Global, stack: &Stack, row: &Refused) -> bool {
-    match text(alloc, row.2) {
-        Some(text) => { set_change(stack, met_here(2, row.0), row.1, text).err() == Some(row.3) }
-        None => false,
-    }
-}
-
-fn are_refused(alloc: Global, stack: &Stack) -> bool {
-    for row in REFUSED {
-        if !is_refused(alloc, stack, row) || !is_not_set(alloc, stack, row) {
-            return false;
+    match (text(alloc, row.2), text(alloc, row.2)) {
+        (Some(checked), Some(set)) => {
+            is_handed_back(stack, row, checked)
+                && set_change(stack, met_here(2, row.0), row.1, set).err() == Some(row.3)
         }
-    }
-    true
-}
-
-fn holds_unseen(alloc: Global) -> bool {
-    match stack_of(alloc, STACK) {
-        Some(stack) => {
-            means_current(&stack)
-                && meets_card_field(alloc, &stack)
-                && has_no_layer(&stack)
-                && lacks_properties(alloc, &stack)
-                && are_refused(alloc, &stack)
-        }
-        None => false,
+        _ => false,
     }
 }
 
 #[test]
 fn what_no_run_shows_holds(rt: HostRuntime) {
-    assert!(rt; holds_unseen(rt.alloc()));
+    let stack = stack_of(rt.alloc(), STACK).expect(&rt, "the stack is read");
+    let name = text(rt.alloc(), b"2").expect(&rt, "there is memory");
+    assert!(rt; means_current(&stack));
+    // The field 12 is met by its name on card 9.
+    assert!(rt; is_met(field_named(&stack, 9, Layer::Card, &name), 12, 9));
+    assert!(rt; has_no_layer(&stack));
+    assert!(rt; lacks_properties(rt.alloc(), &stack));
+    for row in REFUSED {
+        assert!(rt; is_refused(rt.alloc(), &stack, row));
+    }
 }

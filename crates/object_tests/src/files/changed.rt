@@ -19,17 +19,13 @@ const FIRST: &[Piece] = &[Piece::Text(b"htstack 1\n"), Piece::Text(TWO_CARDS)];
 
 const SECOND: &[Piece] = &[Piece::Text(b"htstack 2\n"), Piece::Text(TWO_CARDS)];
 
-/// Whether a text is refused for what is in it, or is written as it is.
-fn is_refused_or_written(alloc: Global, text: &[u8]) -> bool {
-    fault_of(alloc, text).is_some() || is_written(alloc, text, text)
-}
-
-/// The first place at which a text with this byte is neither, if there is one.
+/// The first place at which a text with this byte is neither refused for what is in it nor written as it is, if there
+/// is one.
 fn first_other_place(alloc: Global, text: &mut Vec<u8>, byte: u8) -> Option<usize> {
     for place in 0..text.len() {
         let old = text[place];
         text[place] = byte;
-        if !is_refused_or_written(alloc, text) {
+        if fault_of(alloc, text).is_none() && !is_written(alloc, text) {
             return Some(place);
         }
         text[place] = old;
@@ -37,19 +33,16 @@ fn first_other_place(alloc: Global, text: &mut Vec<u8>, byte: u8) -> Option<usiz
     None
 }
 
-fn place_of_other(alloc: Global, byte: u8) -> Option<usize> {
-    match text_of(alloc, SECOND) {
-        Some(mut text) => first_other_place(alloc, &mut text, byte),
-        None => Some(0),
-    }
-}
-
 const BYTES: &[u8] = &[0, b'\r', b'|', b'9', 255];
 
 #[test]
 fn a_changed_text_is_refused_or_written_as_it_is(rt: HostRuntime) {
+    let mut text = text_of(rt.alloc(), SECOND).expect(&rt, "there is memory");
     for byte in BYTES {
-        assert!(rt; place_of_other(rt.alloc(), *byte).is_none(), "byte {byte}");
+        assert!(rt;
+            first_other_place(rt.alloc(), &mut text, *byte).is_none(),
+            "byte {byte}"
+        );
     }
 }
 
@@ -63,30 +56,18 @@ fn are_truncated(alloc: Global, text: &[u8]) -> bool {
     true
 }
 
-fn parts_are_truncated(alloc: Global) -> bool {
-    match text_of(alloc, FIRST) {
-        Some(text) => are_truncated(alloc, &text),
-        None => false,
-    }
-}
-
 #[test]
 fn each_part_of_a_text_is_truncated(rt: HostRuntime) {
-    assert!(rt; parts_are_truncated(rt.alloc()));
+    let text = text_of(rt.alloc(), FIRST).expect(&rt, "there is memory");
+    assert!(rt; are_truncated(rt.alloc(), &text));
 }
 
 const EMPTY: Bytes = b"htstack 2\nnext 3\nname |\nscript 0\nbackgrounds 1\n\
 background 1\nname |\ncantDelete false\nscript 0\nparts 0\n\
 cards 1\ncard 2 1\nname |\ncantDelete false\nscript 0\nparts 0\nend\n";
 
-fn writes_empty(alloc: Global) -> bool {
-    match Stack::new(alloc) {
-        Ok(stack) => writes(alloc, &stack, EMPTY),
-        Err(_) => false,
-    }
-}
-
 #[test]
 fn the_empty_stack_is_written_in_version_2(rt: HostRuntime) {
-    assert!(rt; writes_empty(rt.alloc()));
+    let alloc = rt.alloc();
+    assert!(rt; matches!(Stack::new(alloc), Ok(stack) if writes(alloc, &stack, EMPTY)));
 }

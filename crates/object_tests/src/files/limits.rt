@@ -1,6 +1,6 @@
 //! Stack texts at their limits.
 
-use super::pieces::{LAYER, Piece};
+use super::pieces::{LAYER, Piece, text_of};
 use super::{Due, comes_to};
 use crate::stacks::Fact;
 use stack_file::*;
@@ -108,6 +108,7 @@ const LIMITS: &[(&[Piece], Due)] = &[
 #[test]
 fn limits_are_kept(rt: HostRuntime) {
     for (i, (pieces, due)) in LIMITS.iter().enumerate() {
-        assert!(rt; comes_to(rt.alloc(), pieces, due), "{i}");
+        let text = text_of(rt.alloc(), pieces).expect(&rt, "there is memory");
+        assert!(rt; comes_to(rt.alloc(), &text, due), "{i}");
     }
 }
