@@ -16,18 +16,13 @@ bench parser: times of parsing scripts\n\
 bench stack: times of reading and writing stacks\n\
 bench world: times and bytes of writes, and times of undo and redo";
 
-/// Times what a word says, or prints the words.
-fn measure(rt: &HostRuntime, word: &str) -> anyhow::Result<()> {
-    match word {
-        "values" => values::measure(rt, rt.alloc()),
-        "parser" => parser::measure(rt, rt.alloc()),
-        "stack" => stack::measure(rt, rt.alloc()),
-        "world" => world::measure(rt),
-        _ => Ok(println!(rt; "{WORDS}")?),
-    }
-}
-
 fn main(rt: HostRuntime) -> anyhow::Result<()> {
     let word = env::args(&rt)?.nth(1);
-    measure(&rt, word.as_ref().map_or("", |word| word.as_str()))
+    match word.as_ref().map_or("", |word| word.as_str()) {
+        "values" => values::measure(&rt, rt.alloc()),
+        "parser" => parser::measure(&rt, rt.alloc()),
+        "stack" => stack::measure(&rt, rt.alloc()),
+        "world" => world::measure(&rt),
+        _ => Ok(println!(rt; "{WORDS}")?),
+    }
 }

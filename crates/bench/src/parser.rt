@@ -36,18 +36,12 @@ const NESTED: Line = &[
 /// The shapes of the scripts.
 const SHAPES: &[(&str, Line)] = &[("flat", FLAT), ("chained", CHAINED), ("nested", NESTED)];
 
-/// Writes a piece so many times.
-fn push_times(out: &mut Vec<u8>, piece: &[u8], times: u32) -> Result<(), AllocError> {
-    for _ in 0..times {
-        out.extend_from_slice(piece)?;
-    }
-    Ok(())
-}
-
 /// Writes the line that a script repeats.
 fn push_line(out: &mut Vec<u8>, line: Line) -> Result<(), AllocError> {
     for (piece, times) in line {
-        push_times(out, piece, *times)?;
+        for _ in 0..*times {
+            out.extend_from_slice(piece)?;
+        }
     }
     Ok(())
 }

@@ -95,16 +95,6 @@ fn show(rt: &HostRuntime, name: &str, bytes: u64, time: u64, copy: u64) -> io::R
     )
 }
 
-/// Prints what is read and written.
-fn print_size(rt: &HostRuntime, given: &Given) -> io::Result<()> {
-    println!(rt;
-        "{} objects, {} bytes, next id {}",
-        given.stack.object_count(),
-        given.text.len(),
-        given.stack.next_id()
-    )
-}
-
 /// The nanoseconds of so many rounds of a call.
 fn time(
     rt: &HostRuntime,
@@ -133,10 +123,16 @@ fn print_time(
     Ok(show(rt, name, given.bytes(), time, copy)?)
 }
 
-/// Prints the times of the calls on a stack.
+/// Prints what is read and written, and the times of the calls on it.
 fn print_times(rt: &HostRuntime, alloc: Global, given: &Given) -> anyhow::Result<()>
     requires { IsWellFormed given.now.stack.content }
 {
+    println!(rt;
+        "{} objects, {} bytes, next id {}",
+        given.stack.object_count(),
+        given.text.len(),
+        given.stack.next_id()
+    )?;
     let copy = time(rt, alloc, given.rounds(), Call::Copy, given)?;
     show(rt, "copy", given.bytes(), copy, copy)?;
     print_time(rt, alloc, "read", Call::Read, given, copy)?;
@@ -146,7 +142,6 @@ fn print_times(rt: &HostRuntime, alloc: Global, given: &Given) -> anyhow::Result
 /// Prints the times of a stack.
 fn measure_one(rt: &HostRuntime, alloc: Global, groups: u32, step: u32) -> anyhow::Result<()> {
     let given = inputs(alloc, groups, step)?;
-    print_size(rt, &given)?;
     print_times(rt, alloc, &given)
 }
 

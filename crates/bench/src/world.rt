@@ -356,19 +356,12 @@ fn spend<E: External>(
     })
 }
 
-/// Prints what the writes took, for one each.
+/// Prints the time and the bytes that the writes took, for one each.
 fn show_writes(rt: &HostRuntime, name: &str, count: u64, spent: &Spent) -> io::Result<()> {
     print!(rt;
-        "{name:<15} {count:>9} {:>7} ns {} plain",
+        "{name:<15} {count:>9} {:>7} ns {} plain {:>6} bytes {:>6} plain",
         ratio(spent.writes.time, count, 1),
-        Tenths::new(spent.writes.time, spent.plain.time)
-    )
-}
-
-/// Prints the bytes that the writes took, for one each.
-fn show_bytes(rt: &HostRuntime, count: u64, spent: &Spent) -> io::Result<()> {
-    print!(rt;
-        " {:>6} bytes {:>6} plain",
+        Tenths::new(spent.writes.time, spent.plain.time),
         ratio(spent.writes.bytes, count, 1),
         ratio(spent.plain.bytes, count, 1)
     )
@@ -387,7 +380,6 @@ fn show_way(rt: &HostRuntime, way: &str, count: u64, time: u64, plain: u64) -> i
 fn show(rt: &HostRuntime, name: &str, count: u32, spent: &Spent) -> io::Result<()> {
     let count = u64::from(count);
     show_writes(rt, name, count, spent)?;
-    show_bytes(rt, count, spent)?;
     show_way(rt, "undo", count, spent.back, spent.plain.time)?;
     show_way(rt, "redo", count, spent.forth, spent.plain.time)?;
     println!(rt)

@@ -99,23 +99,17 @@ struct Layer {
     step: u32,
 }
 
-/// Writes an id, behind so many others.
-fn push_id(out: &mut String, before: u32, step: u32) -> Result<(), AllocError> {
-    let id = before.wrapping_add(1).wrapping_mul(step);
-    write!(out, "{id}")
-}
-
 /// Writes a piece of a layer.
 fn push_piece(out: &mut String, piece: Piece, layer: Layer) -> Result<(), AllocError> {
-    match piece {
-        Piece::Text(text) => out.push_str(text),
-        Piece::Script => out.push_str(SCRIPT),
-        Piece::Notes => out.push_str(NOTES),
-        Piece::OfBackground(place) => {
-            push_id(out, layer.before_background.wrapping_add(place), layer.step)
-        }
-        Piece::OfCard(place) => push_id(out, layer.before_card.wrapping_add(place), layer.step),
-    }
+    let before = match piece {
+        Piece::Text(text) => return out.push_str(text),
+        Piece::Script => return out.push_str(SCRIPT),
+        Piece::Notes => return out.push_str(NOTES),
+        Piece::OfBackground(place) => layer.before_background.wrapping_add(place),
+        Piece::OfCard(place) => layer.before_card.wrapping_add(place),
+    };
+    let id = before.wrapping_add(1).wrapping_mul(layer.step);
+    write!(out, "{id}")
 }
 
 /// Writes a layer.
@@ -126,18 +120,14 @@ fn push_layer(out: &mut String, pieces: &[Piece], layer: Layer) -> Result<(), Al
     Ok(())
 }
 
-/// Writes what stands before the layers.
-fn push_head(out: &mut String, groups: u32, step: u32) -> Result<(), AllocError> {
+/// Writes what stands before the layers, and the backgrounds, which take the first ids.
+fn push_backgrounds(out: &mut String, groups: u32, step: u32) -> Result<(), AllocError> {
     let greatest = groups.wrapping_mul(100).wrapping_mul(step);
     let next = greatest.wrapping_add(1);
     write!(
         out,
         "htstack 2\nnext {next}\nname |Addresses\n{SCRIPT}backgrounds {groups}\n"
-    )
-}
-
-/// Writes the backgrounds, which take the first ids.
-fn push_backgrounds(out: &mut String, groups: u32, step: u32) -> Result<(), AllocError> {
+    )?;
     for group in 0..groups {
         let layer = Layer {
             before_background: group.wrapping_mul(BACKGROUND_IDS),
@@ -166,17 +156,11 @@ fn push_cards(out: &mut String, groups: u32, step: u32) -> Result<(), AllocError
     Ok(())
 }
 
-/// Writes a stack of so many groups of 100 objects, whose ids lie a step apart.
-fn push_stack(out: &mut String, groups: u32, step: u32) -> Result<(), AllocError> {
-    push_head(out, groups, step)?;
-    push_backgrounds(out, groups, step)?;
-    push_cards(out, groups, step)?;
-    out.push_str("end\n")
-}
-
 /// The text of a stack of so many groups of 100 objects, whose ids lie a step apart.
 pub(crate) fn text_of(alloc: Global, groups: u32, step: u32) -> Result<String, AllocError> {
     let mut text = String::new(alloc);
-    push_stack(&mut text, groups, step)?;
+    push_backgrounds(&mut text, groups, step)?;
+    push_cards(&mut text, groups, step)?;
+    text.push_str("end\n")?;
     Ok(text)
 }

@@ -44,21 +44,6 @@ impl Plain {
         }
     }
 
-    fn put_global(&mut self, name: Vec<u8>, value: Vec<u8>) -> Result<(), AllocError> {
-        self.globals.insert(name, value)?;
-        Ok(())
-    }
-
-    fn put_text(&mut self, value: Vec<u8>) -> Result<(), AllocError> {
-        self.texts.insert(FIELD, value)?;
-        Ok(())
-    }
-
-    fn append(&mut self, alloc: Global, value: &[u8]) -> Result<(), AllocError> {
-        self.grown = joined(alloc, self.grown.as_slice(), value)?;
-        Ok(())
-    }
-
     fn add_card(&mut self, alloc: Global, at: u32, value: Vec<u8>) -> Result<(), AllocError> {
         self.cards.insert(at, value)?;
         let order = with(alloc, self.order.as_slice(), at)?;
@@ -76,11 +61,12 @@ impl Plain {
         value: Vec<u8>,
     ) -> Result<(), AllocError> {
         match call {
-            Call::OneGlobal | Call::EachGlobal => self.put_global(name, value),
-            Call::FieldText => self.put_text(value),
-            Call::After => self.append(alloc, value.as_slice()),
-            Call::NewCard => self.add_card(alloc, at, value),
+            Call::OneGlobal | Call::EachGlobal => drop(self.globals.insert(name, value)?),
+            Call::FieldText => drop(self.texts.insert(FIELD, value)?),
+            Call::After => self.grown = joined(alloc, self.grown.as_slice(), value.as_slice())?,
+            Call::NewCard => self.add_card(alloc, at, value)?,
         }
+        Ok(())
     }
 
     /// Takes so many values.
