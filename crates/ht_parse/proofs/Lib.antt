@@ -1,2 +1,3 @@
 pub mod Deeper
 pub mod Lists
+pub mod Ranks
