@@ -5,7 +5,9 @@ ghost use Rattle.ht_grammar.specs.Reads.{ReadsScript, ReadsLines, ReadsExpr, Rea
 ghost use Rattle.ht_grammar.specs.Reading.{expression};
 ghost use Rattle.ht_grammar.specs.Lines.{typed_lines};
 ghost use Rattle.ht_grammar.specs.Whole.{script, clicked_part, typed_text, sent_message};
-ghost use Rattle.ht_grammar.specs.Laws.{ReadsExactly, OneTree, OneTreePerText};
+ghost use Rattle.ht_grammar.specs.Laws.{ReadsExactly, OneTree, OneTreePerText, TextsAreReadExactly};
+
+use ht_lex::texts_are_cut_exactly;
 
 /// Expressions.
 pub fn expressions_are_read_exactly()
@@ -48,3 +50,16 @@ pub fn messages_are_read_exactly()
     ensures one { OneTree ReadsMessage }
     ensures text { OneTreePerText ReadsMessage }
 {}
+
+/// Texts of all of these kinds, from their bytes on.
+pub fn texts_are_read_exactly()
+    ensures { TextsAreReadExactly }
+{
+    texts_are_cut_exactly();
+    expressions_are_read_exactly();
+    lines_are_read_exactly();
+    scripts_are_read_exactly();
+    messages_are_read_exactly();
+    parts_are_read_exactly();
+    typing_is_read_exactly();
+}

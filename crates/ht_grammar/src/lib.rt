@@ -6,6 +6,7 @@ mod vocabulary;
 
 pub use law::{
     expressions_are_read_exactly, lines_are_read_exactly, messages_are_read_exactly,
-    parts_are_read_exactly, scripts_are_read_exactly, typing_is_read_exactly,
+    parts_are_read_exactly, scripts_are_read_exactly, texts_are_read_exactly,
+    typing_is_read_exactly,
 };
 pub use vocabulary::{FunctionWord, HandlerKind, Layer, RunProp};
