@@ -4,7 +4,7 @@ ghost use Rattle.std.specs.Prelude.{◌≡◌, ◌≤◌, length};
 ghost use Rattle.ht_values.specs.declared.text.TheConstants.{LIMIT};
 ghost use Rattle.ht_lex.specs.Stops.{Gives};
 
-use ht_values::{Name, Text, TextError};
+use ht_values::{Name, Text};
 use std::alloc::{AllocError, Global};
 
 /// Why no tree is read: the tokens are none, or a growth of memory was refused.
@@ -30,11 +30,7 @@ pub fn to_text(alloc: Global, bytes: &[u8]) -> Result<Text, Stop>
     requires { length bytes.now ≤ LIMIT }
     ensures { Gives bytes.now result }
 {
-    match Text::from_slice(alloc, bytes) {
-        Ok(text) => Ok(text),
-        Err(TextError::Memory) => Err(Stop::Memory),
-        Err(TextError::TooLong) => Err(Stop::Syntax),
-    }
+    Ok(Text::fitting(alloc, bytes)?)
 }
 
 /// A name of these bytes, unless memory is refused.

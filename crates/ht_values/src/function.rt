@@ -70,8 +70,7 @@ fn character(alloc: Global, number: i64) -> Result<Value, Failure>
     if number < 0 || 255 < number {
         return Err(Failure::Fault(Fault::BadArgument));
     }
-    let text = Text::from_vec(Vec::from_slice(alloc, &[number as u8])?)?;
-    Ok(Value::of_text(text))
+    Ok(Value::of_text(Text::fitting(alloc, &[number as u8])?))
 }
 
 /// The first place, counted from 1, at which a run of the text is the same as the other; 0 for none, and for an empty

@@ -29,10 +29,7 @@ pub(crate) fn word_text(alloc: Global, truth: bool) -> Result<Text, AllocError>
     ensures { IfOk result (λ t. t ≡ word_of truth) }
 {
     let word: &[u8] = if truth { b"true" } else { b"false" };
-    match Text::from_vec(Vec::from_slice(alloc, word)?) {
-        Ok(text) => Ok(text),
-        Err(_) => unreachable!(),
-    }
+    Text::fitting(alloc, word)
 }
 
 /// A truth value as a text, `true` or `false`; `Memory` where a growth was refused.

@@ -61,6 +61,16 @@ impl Text {
         }
     }
 
+    /// A text of these bytes, which are known to fit.
+    pub fn fitting(alloc: Global, bytes: &[u8]) -> Result<Text, AllocError>
+        requires { length bytes.now ≤ LIMIT }
+        ensures { IfOk result (λ t. t ≡ bytes.now) }
+    {
+        Ok(Text {
+            bytes: Vec::from_slice(alloc, bytes)?,
+        })
+    }
+
     /// The text of these bytes, which it takes over: it takes no memory. `TooLong` where they are over 30,000.
     pub fn from_vec(bytes: Vec<u8>) -> Result<Text, Fault>
         ensures { result ≡ within_limit bytes.items }
@@ -75,9 +85,7 @@ impl Text {
     pub fn try_clone(&self, alloc: Global) -> Result<Text, AllocError>
         ensures { IfOk result (λ t. t ≡ self.now) }
     {
-        Ok(Text {
-            bytes: Vec::from_slice(alloc, &self.bytes)?,
-        })
+        Text::fitting(alloc, &self.bytes)
     }
 
     /// The text with A-Z folded to a-z, and nothing else.
@@ -184,7 +192,5 @@ pub fn text_of(alloc: Global, number: i64) -> Result<Text, AllocError>
     ensures { IfOk result (λ t. t ≡ numeral number) }
 {
     let mut digits = Buffer::new();
-    Ok(Text {
-        bytes: Vec::from_slice(alloc, digits.format(number).as_bytes())?,
-    })
+    Text::fitting(alloc, digits.format(number).as_bytes())
 }

@@ -53,7 +53,7 @@ fn part_of(alloc: Global, layer: LayerId, kind: PartKind) -> Result<Object, Allo
     ensures { IfOk result (λ o. o ≡ new_part layer kind) }
 {
     let name = match kind {
-        PartKind::Button => Text::from_slice(alloc, b"New Button").map_err(|_| AllocError)?,
+        PartKind::Button => Text::fitting(alloc, b"New Button")?,
         PartKind::Field => Text::new(alloc),
     };
     let kind = match (layer, kind) {

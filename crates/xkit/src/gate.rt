@@ -5,7 +5,7 @@ ghost use Rattle.externals.specs.Table.{gate_turn};
 ghost use Rattle.xkit.specs.Steps.{Takes};
 
 use crate::cells::Cells;
-use crate::step::{Step, changed, text, unchanged};
+use crate::step::{Step, changed, unchanged};
 use externals::{Ask, External, Input, Patch};
 use ht_values::Text;
 use std::alloc::{AllocError, Global};
@@ -27,7 +27,7 @@ impl Gate {
         ensures flag { IfOk result (λ e. ⟦<Gate as External>⟧.answers_calls e ≡ false) }
         ensures cells { IfOk result (λ e. ⟦<Gate as External>⟧.cells e ≡ codes "0" ∷ []) }
     {
-        let shut = text(alloc, b"0")?;
+        let shut = Text::fitting(alloc, b"0")?;
         Ok(Gate {
             name,
             cells: Cells::one(alloc, shut)?,
@@ -88,10 +88,10 @@ fn turned(cells: &mut Cells, alloc: Global, input: &Input) -> Step
         return Ok(unchanged(alloc, Ask::Fail));
     }
     if cells.has(0, b"0") {
-        let passing = text(alloc, b"1")?;
+        let passing = Text::fitting(alloc, b"1")?;
         changed(cells, alloc, 0, passing, Ask::Done(Text::new(alloc), false))
     } else if cells.has(0, b"1") {
-        let stopping = text(alloc, b"0")?;
+        let stopping = Text::fitting(alloc, b"0")?;
         changed(cells, alloc, 0, stopping, Ask::Done(Text::new(alloc), true))
     } else {
         Ok(unchanged(alloc, Ask::Fail))

@@ -6,7 +6,7 @@ ghost use Rattle.externals.specs.Table.{relay_start, relay_answer, relay_turn};
 ghost use Rattle.xkit.specs.Steps.{Takes, is_note};
 
 use crate::cells::Cells;
-use crate::step::{Step, add, changed, text, unchanged};
+use crate::step::{Step, add, changed, unchanged};
 use externals::{Ask, External, Input, Patch, Texts};
 use ht_values::Text;
 use std::alloc::{AllocError, Global};
@@ -93,7 +93,7 @@ fn note_of(alloc: Global, stage: &[u8], texts: &Texts, from: usize) -> Result<Te
     ensures { IfOk result (λ n. n ≡ stage.now ∷ drop from texts.now) }
 {
     let mut note = Texts::new(alloc);
-    let first = text(alloc, stage)?;
+    let first = Text::fitting(alloc, stage)?;
     add(&mut note, first)?;
     for i in from..texts.len() {
         let copy = texts.at(i).try_clone(alloc)?;
@@ -128,7 +128,7 @@ fn started(cells: &mut Cells, alloc: Global, args: &Texts) -> Step
     let note = note_of(alloc, b"1", args, 1)?;
     let global = args.at(0).try_clone(alloc)?;
     let kept = args.at(0).try_clone(alloc)?;
-    let value = text(alloc, b"relay")?;
+    let value = Text::fitting(alloc, b"relay")?;
     changed(cells, alloc, 0, kept, Ask::SetGlobal(note, global, value))
 }
 
@@ -168,7 +168,7 @@ fn computed(cells: &mut Cells, alloc: Global, message: &Text, value: &Text) -> S
     ensures count { length cells.new ≡ length cells.old }
 {
     let mut note = Texts::new(alloc);
-    let stage = text(alloc, b"4")?;
+    let stage = Text::fitting(alloc, b"4")?;
     add(&mut note, stage)?;
     let told = value.try_clone(alloc)?;
     add(&mut note, told)?;

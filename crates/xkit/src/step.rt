@@ -1,7 +1,6 @@
 //! What a turn answers: what is asked, with the patch of what changed.
 
-ghost use Rattle.std.specs.Prelude.{◌≡◌, ℕ, ◌<◌, ◌≤◌, ◌++◌, List, [], ◌∷◌, length, IfOk, OnOk, OnErr, slice_set};
-ghost use Rattle.ht_values.specs.declared.text.TheConstants.{LIMIT};
+ghost use Rattle.std.specs.Prelude.{◌≡◌, ℕ, ◌<◌, ◌++◌, List, [], ◌∷◌, length, IfOk, OnOk, OnErr, slice_set};
 ghost use Rattle.externals.specs.Number.{number_in};
 ghost use Rattle.xkit.specs.Steps.{Takes};
 
@@ -30,14 +29,6 @@ pub fn changed(cells: &mut Cells, alloc: Global, cell: usize, text: Text, ask: A
 {
     let patch = cells.change(alloc, cell, text)?;
     Ok((ask, patch))
-}
-
-/// A text of few bytes.
-pub(crate) fn text(alloc: Global, bytes: &[u8]) -> Result<Text, AllocError>
-    requires { length bytes.now ≤ LIMIT }
-    ensures { IfOk result (λ t. t ≡ bytes.now) }
-{
-    Text::from_slice(alloc, bytes).map_err(|_| AllocError)
 }
 
 /// The number that a text spells.
