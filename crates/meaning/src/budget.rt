@@ -198,9 +198,7 @@ impl Budget {
         ensures { Gives result (Ok (run_property self.now property)) }
     {
         match property {
-            RunProp::ItemDelimiter => {
-                Ok(Text::from_vec(Vec::from_slice(self.alloc, &[self.delimiter])?)?)
-            }
+            RunProp::ItemDelimiter => Ok(Text::fitting(self.alloc, &[self.delimiter])?),
             RunProp::LockMessages => in_word(self.alloc, self.lock_messages),
             RunProp::EditBkgnd => in_word(self.alloc, self.edit_background),
         }

@@ -50,9 +50,6 @@ impl SystemMessage {
     pub fn text(self, alloc: Global) -> Result<Text, AllocError>
         ensures { IfOk result (λ t. t ≡ message_name self) }
     {
-        match Text::from_vec(Vec::from_slice(alloc, self.name())?) {
-            Ok(text) => Ok(text),
-            Err(_) => unreachable!(),
-        }
+        Text::fitting(alloc, self.name())
     }
 }
