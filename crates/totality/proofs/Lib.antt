@@ -10,3 +10,4 @@ pub mod Messages
 pub mod Statements
 pub mod Commands
 pub mod Outcomes
+pub mod Tables

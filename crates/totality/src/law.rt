@@ -5,6 +5,7 @@ ghost use Rattle.totality.specs.Laws.{ReferencesHaveAnOutcome, ValuesHaveAnOutco
 ghost use Rattle.totality.specs.Laws.{LinesHaveAnOutcomeBy, MessagesHaveAnOutcomeBy, ActionsHaveAnOutcomeBy};
 ghost use Rattle.totality.specs.Laws.{ReferencesHaveAnOutcomeBy, ValuesHaveAnOutcomeBy};
 ghost use Rattle.totality.specs.Laws.{BehavioursAreLogged, BehavioursFollowTables};
+ghost use Rattle.totality.specs.Tables.{TablesAreBehaviours};
 
 use ht_grammar::{
     expressions_are_read_exactly, lines_are_read_exactly, messages_are_read_exactly,
@@ -37,6 +38,12 @@ pub fn behaviours_have_an_outcome()
 pub fn behaviours_are_logged()
     ensures turns { BehavioursAreLogged }
     ensures tables { BehavioursFollowTables }
+{}
+
+/// A table whose turns leave as many cells and make texts of texts is a behaviour, for externals of any kinds: so there
+/// is an outcome whose turns follow the table.
+pub fn tables_are_behaviours()
+    ensures { TablesAreBehaviours }
 {}
 
 /// Lines, a message, an action, the reference of a dot line or the value of an expression have an end that the rules

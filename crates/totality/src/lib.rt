@@ -4,4 +4,6 @@
 
 mod law;
 
-pub use law::{behaviours_are_logged, behaviours_have_an_outcome, runs_have_an_outcome};
+pub use law::{
+    behaviours_are_logged, behaviours_have_an_outcome, runs_have_an_outcome, tables_are_behaviours,
+};
