@@ -6,6 +6,7 @@ use Rattle.std.specs.Io.KnownBytes.{Appends, Consumes}
 use Rattle.devices.specs.Desks.{SeenDesk}
 use Rattle.externals.specs.Cells.{Seen}
 use Rattle.externals.specs.Log.{Log}
+use Rattle.externals.specs.Turns.{TurnTable}
 use Rattle.object_table.specs.Content.{Content}
 use Rattle.journal_entries.specs.State.{seen_by, titles_of, are_apart}
 use Rattle.headline.specs.Headline.{Timeline, beginning}
@@ -40,32 +41,33 @@ logs_of log {b = b} {c} {d} is p q r s = ap (map log) is ∙ ap (λ l. l ∷ log
     ∙ ap (λ l. [] ∷ l ∷ log c ∷ log d ∷ []) q ∙ ap (λ l. [] ∷ [] ∷ l ∷ log d ∷ []) r
     ∙ ap (λ l. [] ∷ [] ∷ [] ∷ l ∷ []) s
 
-module _ (result : Result Ran CliFault) (ends : Type 0) (bytes : List ℕ) (steps depth : ℕ) (old new : SeenDesk)
-    (a b c d : Option (List ℕ)) where
-  pub plays_with : {xs ys : List Seen} → xs ≡ ys
-      → IfOk result (λ ran. (read : List ℕ) × (written : List ℕ) × Consumes a b read × Appends c d written
-      × Plays ends ran bytes (λ stack. beginning stack xs steps depth) old read written new)
-      → IfOk result (λ ran. (read : List ℕ) × (written : List ℕ) × Consumes a b read × Appends c d written
-      × Plays ends ran bytes (λ stack. beginning stack ys steps depth) old read written new)
-  plays_with is = subst (λ zs. IfOk result
-      (λ ran. (read : List ℕ) × (written : List ℕ) × Consumes a b read × Appends c d written
-      × Plays ends ran bytes (λ stack. beginning stack zs steps depth) old read written new)) is
+module _ (result : Result Ran CliFault) (ends : Type 0) (bytes : List ℕ) (steps depth : ℕ) (table : TurnTable)
+    (old new : SeenDesk) (a b c d : Option (List ℕ)) where
+  -- a run that plays, and one that ends by a fault, where the session began with these externals and logs
+  abbrev PlaysWith : List Seen → List Log → Type 0
+  PlaysWith xs logs = IfOk result (λ ran. (read : List ℕ) × (written : List ℕ) × Consumes a b read × Appends c d written
+      × Plays ends ran bytes (λ stack. beginning stack xs logs steps depth) table old read written new)
 
-  pub ends_with : {xs ys : List Seen} → xs ≡ ys
-      → IfErr result (λ fault. (read : List ℕ) × (written : List ℕ) × Consumes a b read × Appends c d written
-      × Ends ends fault bytes (λ stack. beginning stack xs steps depth) old read written new)
-      → IfErr result (λ fault. (read : List ℕ) × (written : List ℕ) × Consumes a b read × Appends c d written
-      × Ends ends fault bytes (λ stack. beginning stack ys steps depth) old read written new)
-  ends_with is = subst (λ zs. IfErr result
+  abbrev EndsWith : List Seen → List Log → Type 0
+  EndsWith xs logs = IfErr result
       (λ fault. (read : List ℕ) × (written : List ℕ) × Consumes a b read × Appends c d written
-      × Ends ends fault bytes (λ stack. beginning stack zs steps depth) old read written new)) is
+      × Ends ends fault bytes (λ stack. beginning stack xs logs steps depth) table old read written new)
+
+  pub plays_with : {xs ys : List Seen} {logs logs2 : List Log} → xs ≡ ys → logs ≡ logs2 → PlaysWith xs logs
+      → PlaysWith ys logs2
+  plays_with {ys = ys} {logs} is same plays =
+      subst (PlaysWith ys) same (subst (λ zs. PlaysWith zs logs) is plays)
+
+  pub ends_with : {xs ys : List Seen} {logs logs2 : List Log} → xs ≡ ys → logs ≡ logs2 → EndsWith xs logs
+      → EndsWith ys logs2
+  ends_with {ys = ys} {logs} is same ends = subst (EndsWith ys) same (subst (λ zs. EndsWith zs logs) is ends)
 
 -- nothing was read or written where memory was refused before the run
 pub idles : (result : Result Ran CliFault) (ends : Type 0) (bytes : List ℕ) (first : Content → Timeline)
-    (desk : SeenDesk) (a c : Option (List ℕ)) → result ≡ Err Memory
+    (table : TurnTable) (desk : SeenDesk) (a c : Option (List ℕ)) → result ≡ Err Memory
     → IfErr result (λ fault. (read : List ℕ) × (written : List ℕ) × Consumes a a read × Appends c c written
-    × Ends ends fault bytes first desk read written desk)
-idles result ends bytes first desk a c is =
+    × Ends ends fault bytes first table desk read written desk)
+idles result ends bytes first table desk a c is =
     subst (λ x. IfErr x (λ fault. (read : List ℕ) × (written : List ℕ) × Consumes a a read × Appends c c written
-    × Ends ends fault bytes first desk read written desk)) (sym is)
+    × Ends ends fault bytes first table desk read written desk)) (sym is)
     ([], [], Consumes-nil a, Appends-nil c, record { unread = refl; unwritten = refl; same = refl })

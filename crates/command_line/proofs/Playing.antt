@@ -4,14 +4,16 @@ use Rattle.std.specs.Io.KnownBytes.{IsAtEnd}
 use Rattle.devices.specs.Desks.{SeenDesk}
 use Rattle.externals.specs.Cells.{Seen}
 use Rattle.externals.specs.Log.{Log}
+use Rattle.externals.specs.Turns.{TurnTable}
 use Rattle.object_table.specs.Content.{Content}
+use Rattle.change_journal.specs.History.{FollowTable}
 use Rattle.stack_text.specs.Laws.{Spells}
 use Rattle.headline.specs.Headline.{beginning}
 use Rattle.session.specs.Opening.{opened}
 use Rattle.headline.specs.Saving.{Takes}
 use Rattle.session.specs.SessionView.{SessionView}
 use Rattle.headline.specs.Stops.{Ended, Stopped}
-use Rattle.headline.specs.Unzipped.{timeline_of, RunsFollow}
+use Rattle.headline.specs.Unzipped.{timeline_of, TablesFollow, RunsFollow}
 use Rattle.headline.specs.Whole.{RunsStayWhole, StopsStayWhole}
 use Rattle.headline.specs.declared.transcript.Ran.{Ran}
 use Rattle.headline.specs.declared.transcript.RunFault.{RunFault}
@@ -21,10 +23,11 @@ use Rattle.command_line.specs.Plays.{Plays, Stops, Ends, fault_of_run}
 
 module _ (bytes : List ℕ) (stack : Content) (externals : List Seen) (logs : List Log) (steps depth : ℕ)
     (left : Option (List ℕ)) (old : SessionView) (desk : SeenDesk) (read written : List ℕ)
-    (last : SessionView × SeenDesk)
-    (spelled : Spells bytes stack) (is : old ≡ opened stack externals logs steps depth) where
+    (last : SessionView × SeenDesk) (table : TurnTable) (tables : TablesFollow)
+    (turns : FollowTable table last.0.history) (spelled : Spells bytes stack)
+    (is : old ≡ opened stack externals logs steps depth) where
   pub plays : (ran : Ran) → RunsFollow → RunsStayWhole → Ended Takes (IsAtEnd left) ran (old, desk) read written last
-      → Plays (IsAtEnd left) ran bytes (λ s. beginning s externals steps depth) desk read written last.1
+      → Plays (IsAtEnd left) ran bytes (λ s. beginning s externals logs steps depth) table desk read written last.1
   plays ran follow stay e =
       let first : Ended Takes (IsAtEnd left) ran (opened stack externals logs steps depth, desk) read written last =
       subst (λ (s : SessionView). Ended Takes (IsAtEnd left) ran (s, desk) read written last) is e in
@@ -38,10 +41,11 @@ module _ (bytes : List ℕ) (stack : Content) (externals : List Seen) (logs : Li
         lines = followed.1.0;
         input = followed.1.1;
         headline = followed.1.2;
+        follows = tables table last.0 turns;
       }
 
   stops : (fault : RunFault) → StopsStayWhole → Stopped Takes (IsAtEnd left) fault (old, desk) read written last
-      → Stops (IsAtEnd left) fault bytes (λ s. beginning s externals steps depth) desk read written last.1
+      → Stops (IsAtEnd left) fault bytes (λ s. beginning s externals logs steps depth) table desk read written last.1
   stops fault law e =
       let first : Stopped Takes (IsAtEnd left) fault (opened stack externals logs steps depth, desk) read written
       last = subst (λ (s : SessionView). Stopped Takes (IsAtEnd left) fault (s, desk) read written last) is e in
@@ -51,10 +55,12 @@ module _ (bytes : List ℕ) (stack : Content) (externals : List Seen) (logs : Li
         last = timeline_of last.0;
         stopped = law left fault
             (opened stack externals logs steps depth, desk) read written last first;
+        follows = tables table last.0 turns;
       }
 
   pub ends : (fault : RunFault) → StopsStayWhole → Stopped Takes (IsAtEnd left) fault (old, desk) read written last
-      → Ends (IsAtEnd left) (fault_of_run fault) bytes (λ s. beginning s externals steps depth) desk read written last.1
+      → Ends (IsAtEnd left) (fault_of_run fault) bytes (λ s. beginning s externals logs steps depth) table desk read
+      written last.1
   ends runs.Memory law e =
       record { unread = e.unread; unwritten = e.unwritten; same = ap (λ (s : SessionView × SeenDesk). s.1) e.same }
   ends runs.Read law e = stops runs.Read law e

@@ -7,6 +7,7 @@ ghost use Rattle.headline.specs.Headline.{beginning};
 ghost use Rattle.devices.specs.Watching.{device_of, failures_of, Rose};
 ghost use Rattle.command_line.specs.Kit.{bins, count, gate, kit, kit_logs, relay};
 ghost use Rattle.command_line.specs.Plays.{Plays, Ends};
+ghost use Rattle.xkit.specs.Table.{kit_table};
 
 use crate::fault::{CliFault, cut};
 use crate::options::Options;
@@ -97,7 +98,7 @@ pub fn check_with_kit(alloc: Global, bytes: &[u8]) -> Result<Checked, CliFault> 
 }
 
 /// Runs as `play` does, with the four externals of the kit under their names: `Count`, which begins at 0, `Bins`,
-/// `Relay` and `Gate`.
+/// `Relay` and `Gate`. Each turn that one of them takes is that of the kit's table.
 pub fn play_with_kit<R: Read, W: Write, D: Desk>(
     alloc: Global,
     options: &Options,
@@ -110,14 +111,14 @@ pub fn play_with_kit<R: Read, W: Write, D: Desk>(
         × Consumes (R.remaining (device_of reader.old)) (R.remaining (device_of reader.new)) read
         × Appends (W.contents (device_of writer.old)) (W.contents (device_of writer.new)) written
         × Plays (IsAtEnd (R.remaining (device_of reader.new))) ran bytes.now
-        (λ stack. beginning stack kit options.now.steps options.now.depth) (D.seen desk.old) read written
-        (D.seen desk.new)) }
+        (λ stack. beginning stack kit kit_logs options.now.steps options.now.depth) kit_table
+        (D.seen desk.old) read written (D.seen desk.new)) }
     ensures err { IfErr result (λ fault. (read : List ℕ) × (written : List ℕ)
         × Consumes (R.remaining (device_of reader.old)) (R.remaining (device_of reader.new)) read
         × Appends (W.contents (device_of writer.old)) (W.contents (device_of writer.new)) written
         × Ends (IsAtEnd (R.remaining (device_of reader.new))) fault bytes.now
-        (λ stack. beginning stack kit options.now.steps options.now.depth) (D.seen desk.old) read written
-        (D.seen desk.new)) }
+        (λ stack. beginning stack kit kit_logs options.now.steps options.now.depth) kit_table
+        (D.seen desk.old) read written (D.seen desk.new)) }
     ensures read_failed { IsErrOf result CliFault.Read → Rose (failures_of reader.old) (failures_of reader.new) }
     ensures read_sound { ¬ IsErrOf result CliFault.Read → failures_of reader.new ≡ failures_of reader.old }
     ensures write_failed { IsErrOf result CliFault.Write → Rose (failures_of writer.old) (failures_of writer.new) }

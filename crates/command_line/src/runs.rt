@@ -11,8 +11,8 @@ ghost use Rattle.command_line.specs.Plays.{Plays, Ends, IsRefusal, fault_of_run}
 use crate::fault::CliFault;
 use crate::options::Options;
 use devices::{Desk, Watched};
-use externals::External;
-use headline::{Ran, RunFault, run, runs_follow, runs_stay_whole};
+use externals::{External, HasTable};
+use headline::{Ran, RunFault, run, runs_follow, runs_stay_whole, tables_follow};
 use object_table::Stack;
 use session::Session;
 use stack_file::{ReadError, read, write};
@@ -78,10 +78,11 @@ fn leave<E: External, D: Desk>(session: &Session<E>, alloc: Global, given: &[u8]
 /// at the end, however the run ended, with which text of the stack the session ends.
 ///
 /// What is written is the answers to the lines that are read, those of a list of states with a cursor, each of which is
-/// whole before each line and after it, however the run ends. `Refused` where the bytes are no stack text, and `Read`,
-/// `Write` and `TooManyLines` as `run` has them; `Memory` only where a growth was refused before the first line was
-/// read, so that nothing is read, written or kept. A device is blamed where it failed, and nowhere else.
-pub fn play<E: External, R: Read, W: Write, D: Desk>(
+/// whole before each line and after it, however the run ends; the turns in the logs of the externals follow the table
+/// of their type. `Refused` where the bytes are no stack text, and `Read`, `Write` and `TooManyLines` as `run` has them;
+/// `Memory` only where a growth was refused before the first line was read, so that nothing is read, written or kept. A
+/// device is blamed where it failed, and nowhere else.
+pub fn play<E: HasTable, R: Read, W: Write, D: Desk>(
     alloc: Global,
     options: &Options,
     bytes: &[u8],
@@ -96,13 +97,15 @@ pub fn play<E: External, R: Read, W: Write, D: Desk>(
         × Appends (W.contents (device_of writer.old)) (W.contents (device_of writer.new)) written
         × Plays (IsAtEnd (R.remaining (device_of reader.new))) ran bytes.now
         (λ stack. beginning stack (map (seen_by E.title E.sort E.answers_calls E.cells) externals.items)
-        options.now.steps options.now.depth) (D.seen desk.old) read written (D.seen desk.new)) }
+        (map E.log externals.items) options.now.steps options.now.depth) E.turn_table
+        (D.seen desk.old) read written (D.seen desk.new)) }
     ensures err { IfErr result (λ fault. (read : List ℕ) × (written : List ℕ)
         × Consumes (R.remaining (device_of reader.old)) (R.remaining (device_of reader.new)) read
         × Appends (W.contents (device_of writer.old)) (W.contents (device_of writer.new)) written
         × Ends (IsAtEnd (R.remaining (device_of reader.new))) fault bytes.now
         (λ stack. beginning stack (map (seen_by E.title E.sort E.answers_calls E.cells) externals.items)
-        options.now.steps options.now.depth) (D.seen desk.old) read written (D.seen desk.new)) }
+        (map E.log externals.items) options.now.steps options.now.depth) E.turn_table
+        (D.seen desk.old) read written (D.seen desk.new)) }
     ensures read_failed { IsErrOf result CliFault.Read → Rose (failures_of reader.old) (failures_of reader.new) }
     ensures read_sound { ¬ IsErrOf result CliFault.Read → failures_of reader.new ≡ failures_of reader.old }
     ensures write_failed { IsErrOf result CliFault.Write → Rose (failures_of writer.old) (failures_of writer.new) }
@@ -115,12 +118,15 @@ pub fn play<E: External, R: Read, W: Write, D: Desk>(
     };
     runs_follow();
     runs_stay_whole();
+    tables_follow();
     match run(&mut session, alloc, reader, writer, desk) {
         Ok(ran) => {
+            session.law_of_table();
             leave(&session, alloc, bytes, desk);
             Ok(ran)
         }
         Err(fault) => {
+            session.law_of_table();
             leave(&session, alloc, bytes, desk);
             Err(fault_of(fault))
         }

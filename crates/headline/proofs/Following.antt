@@ -3,7 +3,7 @@ use Rattle.std.proofs.Common.{◌≡◌, ℕ, zero, suc, ◌+◌, ◌-◌, ◌<�
 use Rattle.std.proofs.Common.{◌∷◌, ◌++◌, length, map, take, drop, refl, sym, ◌∙◌, ap, ap₂, subst, arith, append_assoc}
 use Rattle.std.proofs.Common.{length-append, length-take, length-drop}
 use Rattle.std.specs.Prelude.{◌⊎◌, Option, Some, None, option_map, Result, IsErrOf, ◌==◌, slice_get, nat_le, nat_lt}
-use Rattle.std.specs.Prelude.{reverse, not, MatchBool}
+use Rattle.std.specs.Prelude.{reverse, not, MatchBool, slice_index_or}
 use Rattle.std.proofs.lemmas.List.{reverse-append, length-reverse, length-map, map-append, drop-append-le}
 use Rattle.std.proofs.lemmas.List.{take-append-drop}
 use Rattle.std.specs.Io.KnownBytes.{IsAtEnd}
@@ -14,24 +14,25 @@ use Rattle.std.proofs.Math.Seq.{take-append-add, drop-append_seam}
 use Rattle.devices.specs.Desks.{SeenDesk}
 use Rattle.meaning.specs.Actions.{Action}
 use Rattle.externals.specs.Cells.{Seen}
-use Rattle.externals.specs.Log.{Log}
-use Rattle.journal_entries.specs.State.{State, titles_of, index_of}
+use Rattle.externals.specs.Log.{Log, Follows}
+use Rattle.journal_entries.specs.State.{State, seen_at, titles_of, index_of}
 use Rattle.change_journal.specs.History.{History, Neighbour, begun, step_with_external, plugged, unplugged_at}
-use Rattle.change_journal.specs.History.{flipped_back}
-use Rattle.change_journal.specs.History.{flipped_back_from, flipped_forth, flipped_forth_from}
+use Rattle.change_journal.specs.History.{flipped_back, flipped_back_from, flipped_forth, flipped_forth_from, without_at}
 use Rattle.session.specs.declared.limits.TheConstants.{LONGEST_LINE}
 use Rattle.session.specs.Commands.{is_dot_line, command_in, behind_name, second, words}
 use Rattle.headline.specs.Headline.{Snapshot, Timeline, LineMoves, Does, DoesLine, Replaces, KeepsOut, Commands, Moved}
 use Rattle.headline.specs.Headline.{at_cursor, cursor_back, cursor_forth, cursor_back_to, before, later_or_here}
-use Rattle.headline.specs.Headline.{last_numbered, with_one_more, without_one, line_counted}
+use Rattle.headline.specs.Headline.{last_numbered, with_one_more, without_one, line_counted, GivesUp}
 use Rattle.session.specs.Moves.{MovesTo, back_by, forth_by, stamps, undone, redone, undone_to, undone_by, places_to}
 use Rattle.session.specs.Replies.{Refuses, obeys, nothing, given_up, Moves, Looks, ShowsCells, cells_named}
 use Rattle.headline.specs.Saving.{Settles, Takes}
 use Rattle.session.specs.SessionView.{SessionView, next_number}
 use Rattle.session.specs.TakesLine as taken
-use Rattle.session.specs.TakesLine.{Adds, GivesUp, Performs, Says}
+use Rattle.session.specs.TakesLine.{Adds, Performs, Says}
+use Rattle.session.specs.Meaning.{moment}
 use Rattle.headline.specs.Unzipped.{snapshots_of, all_snapshots, timeline_of, timeline_beside, LinesFollow}
-use Rattle.headline.specs.Unzipped.{MovesFollow, PlugsFollow, OpensFollow, RunsFollow, StopsFollow, without_if}
+use Rattle.headline.specs.Unzipped.{MovesFollow, PlugsFollow, OpensFollow, TablesFollow, RunsFollow, StopsFollow}
+use Rattle.headline.specs.Unzipped.{without_if}
 use Rattle.session.specs.declared.command.Command.{Command}
 use Rattle.session.specs.declared.command.Command.TheVariants as commands
 use Rattle.session.specs.declared.command.Reading.{Reading}
@@ -72,25 +73,30 @@ all_forth h (s ∷ ss) e =
     ∙ append_assoc front (present_of h ∷ []) (snapshot_of s ∷ snapshots_of ss)
     ∙ sym (ap (λ (steps : List Neighbour). front ++ present_of h ∷ snapshots_of steps) e)
 
-depth_back : (h : History) (steps : List Neighbour) → (flipped_back_from h steps).depth ≡ h.depth
-depth_back h [] = refl
-depth_back h (s ∷ ss) = refl
+-- the bound of the list, and the logs
+abbrev beside : History → ℕ × List Log
+beside h = (h.depth, h.logs)
 
-depth_forth : (h : History) (steps : List Neighbour) → (flipped_forth_from h steps).depth ≡ h.depth
-depth_forth h [] = refl
-depth_forth h (s ∷ ss) = refl
+beside_back : (h : History) (steps : List Neighbour) → beside (flipped_back_from h steps) ≡ beside h
+beside_back h [] = refl
+beside_back h (s ∷ ss) = refl
 
--- flips leave the list and its bound
-all_back_by : (k : ℕ) (h : History) → (all_snapshots (back_by k h) ≡ all_snapshots h) × ((back_by k h).depth ≡ h.depth)
+beside_forth : (h : History) (steps : List Neighbour) → beside (flipped_forth_from h steps) ≡ beside h
+beside_forth h [] = refl
+beside_forth h (s ∷ ss) = refl
+
+-- flips leave the list, its bound and the logs
+all_back_by : (k : ℕ) (h : History)
+    → (all_snapshots (back_by k h) ≡ all_snapshots h) × (beside (back_by k h) ≡ beside h)
 all_back_by zero h = (refl, refl)
 all_back_by (suc k) h =
-    let rest = all_back_by k (flipped_back h) in (rest.0 ∙ all_back h h.past refl, rest.1 ∙ depth_back h h.past)
+    let rest = all_back_by k (flipped_back h) in (rest.0 ∙ all_back h h.past refl, rest.1 ∙ beside_back h h.past)
 
 all_forth_by : (k : ℕ) (h : History)
-    → (all_snapshots (forth_by k h) ≡ all_snapshots h) × ((forth_by k h).depth ≡ h.depth)
+    → (all_snapshots (forth_by k h) ≡ all_snapshots h) × (beside (forth_by k h) ≡ beside h)
 all_forth_by zero h = (refl, refl)
 all_forth_by (suc k) h = let rest = all_forth_by k (flipped_forth h) in
-    (rest.0 ∙ all_forth h h.future refl, rest.1 ∙ depth_forth h h.future)
+    (rest.0 ∙ all_forth h h.future refl, rest.1 ∙ beside_forth h h.future)
 
 -- and move the cursor
 cursor_back_by : (k : ℕ) (h : History) → k ≤ length h.past → length (back_by k h).past ≡ length h.past - k
@@ -132,20 +138,20 @@ module _ (lines steps : ℕ) where
   back_moves k h le = λ i. record {
     snapshots = (all_back_by k h).0 i;
     cursor = cursor_back_by k h le i;
-    depth =
-        (all_back_by k h).1 i;
+    depth = ((all_back_by k h).1 i).0;
     lines = lines;
     steps = steps;
+    logs = ((all_back_by k h).1 i).1;
   }
 
   forth_moves : (k : ℕ) (h : History) → k ≤ length h.future → at (forth_by k h) ≡ at_cursor (at h) (length h.past + k)
   forth_moves k h le = λ i. record {
     snapshots = (all_forth_by k h).0 i;
     cursor = cursor_forth_by k h le i;
-    depth =
-        (all_forth_by k h).1 i;
+    depth = ((all_forth_by k h).1 i).0;
     lines = lines;
     steps = steps;
+    logs = ((all_forth_by k h).1 i).1;
   }
 
   -- ---- undo and redo
@@ -376,10 +382,17 @@ module _ (lines steps : ℕ) where
       ap (λ (s : Snapshot). reverse (snapshots_of (take old.depth (step ∷ old.past))) ++ s ∷ []) same
       ∙ joined_list old.depth old step added is in
       record {
-        after = a.end.now;
-        allowed = record { old = begun old lines; end = a.end; runs = a.runs; here = refl; leaves = refl };
+        after = moment a.end;
+        allowed = record { begin = begun old lines; end = a.end; runs = a.runs; here = refl; leaves = refl };
         list = ap (at lines steps) a.joined
-            ∙ (λ i. record { snapshots = all i; cursor = size i; depth = old.depth; lines = lines; steps = steps });
+            ∙ (λ i. record {
+              snapshots = all i;
+              cursor = size i;
+              depth = old.depth;
+              lines = lines;
+              steps = steps;
+              logs = a.end.logs;
+            });
       }
 
   refuses_follow : (refusal : Refusal) (old : History) (reply : Reply) (new : History) → Refuses refusal old reply new
@@ -408,8 +421,8 @@ module _ (lines steps : ℕ) where
   after_cursor : (h : History) → length (all_snapshots h) - (length h.past + 1) ≡ length h.future
   after_cursor h = omega (arith, length-all h)
 
-  gives_up_follows : (old : History) (reply : Reply) (new : History) → GivesUp old reply new
-      → Refuses refusals.NoMemory (at lines steps old) reply (at lines steps new)
+  gives_up_follows : (old : History) (reply : Reply) (new : History) → taken.GivesUp old reply new
+      → GivesUp (at lines steps old) reply (at lines steps new)
   gives_up_follows old reply new g = record { answer = g.answer; same = ap (at lines steps) g.same }
 
   does_follow : (does : Action) (old : History) (reply : Reply) (new : History)
@@ -418,7 +431,15 @@ module _ (lines steps : ℕ) where
       ⊎ KeepsOut does old.now (at lines steps old) reply (at lines steps new)
   does_follow does old reply new (inl a) = inl (adds_follow does old reply new a)
   does_follow does old reply new (inr k) = inr (record {
-    locked = record { old = begun old lines; end = k.end; run = k.run; meets = k.meets; here = refl };
+    logs = k.end.logs;
+    locked = record {
+      begin = begun old lines;
+      end = k.end;
+      run = k.run;
+      meets = k.meets;
+      here = refl;
+      leaves = refl;
+    };
     refuses = record { answer = k.answer; same = ap (at lines steps) k.same };
   })
 
@@ -541,6 +562,7 @@ unplug_follows lines steps h (Some i) =
       depth = h.depth;
       lines = lines;
       steps = steps;
+      logs = without_at i h.logs;
     } in
     ap alone (sym (from_cursor h))
 
@@ -553,12 +575,30 @@ plugs_follow s x log name = (
     depth = s.history.depth;
     lines = s.lines;
     steps = s.steps;
+    logs = s.history.logs ++ log ∷ [];
   }),
   unplug_follows s.lines s.steps s.history (index_of name (titles_of s.history.now.externals)),
 )
 
 pub opens_follow : OpensFollow
 opens_follow stack externals logs steps depth = refl
+
+-- ---- the table of the externals
+
+state_in : State → Option Snapshot → State
+state_in s None = s
+state_in s (Some snapshot) = snapshot.state
+
+present_now : (h : History) (state : State) (number : ℕ)
+    → slice_get (all_snapshots h) (length h.past) ≡ Some (record { state = state; number = number }) → h.now ≡ state
+unfolding state_in
+present_now h state number here = ap (state_in state) (sym (present_is h) ∙ here)
+
+pub tables_follow : TablesFollow
+tables_follow table s follows state (number, here) =
+    subst (λ (u : State). (i : ℕ) → i < length u.externals
+    → Follows table (seen_at u i).sort (slice_index_or s.history.logs i []))
+    (present_now s.history state number here) follows
 
 -- ---- runs
 

@@ -1,16 +1,18 @@
 -- The headline: a list of whole states with a cursor, and what each line and each call does to it.
 use Rattle.std.specs.Prelude.{◌≡◌, ◌⊎◌, ℕ, suc, ◌+◌, ◌-◌, min, Bool, List, [], ◌∷◌, ◌++◌, length, map, take, drop}
-use Rattle.std.specs.Prelude.{decimal, Option, Some, None, option_map, Result, IsOk, IsErrOf, ◌==◌, slice_get, nat_le}
-use Rattle.std.specs.Prelude.{nat_lt, if◌then◌else◌, MatchBool}
+use Rattle.std.specs.Prelude.{decimal, Option, Some, None, option_map, Result, IsOk, IsErrOf, ◌==◌, ◌<◌, slice_get}
+use Rattle.std.specs.Prelude.{slice_index_or, nat_le, nat_lt, if◌then◌else◌, MatchBool}
 use Rattle.devices.specs.Desks.{SeenDesk}
 use Rattle.externals.specs.Cells.{Seen}
+use Rattle.externals.specs.Log.{Log, Follows}
+use Rattle.externals.specs.Turns.{TurnTable}
 use Rattle.object_table.specs.Content.{Content}
-use Rattle.journal_entries.specs.State.{State, first_state}
+use Rattle.journal_entries.specs.State.{State, first_state, seen_at}
 use Rattle.change_journal.specs.History.{with_external, without_at}
 use Rattle.meaning.specs.Actions.{Action}
 use Rattle.session.specs.Commands.{is_dot_line, command_in, behind_name, second, words, ReadsAction}
 use Rattle.headline.specs.Answering.{Session}
-use Rattle.session.specs.Meaning.{Fresh, Locked}
+use Rattle.session.specs.Meaning.{Moment, Fresh, Locked}
 use Rattle.session.specs.Replies.{ended, Refuses, Obeys, Moves, Looks, ShowsStack, ShowsCells, Saves, cells_named}
 use Rattle.session.specs.Replies.{global_lines, history_line}
 use Rattle.headline.specs.Saving.{Settles}
@@ -34,13 +36,15 @@ pub record Snapshot : Type 0 where
   pub number : ℕ
 
 -- The states from the oldest on, and a cursor that stands on one of them. At most depth states stand before the
--- cursor. Beside them, how many lines were taken, and how many steps a command may take.
+-- cursor. Beside them, how many lines were taken, how many steps a command may take, and the log of each external: the
+-- turns that it took, none of which undo takes back.
 pub record Timeline : Type 0 where
   pub snapshots : List Snapshot
   pub cursor : ℕ
   pub depth : ℕ
   pub lines : ℕ
   pub steps : ℕ
+  pub logs : List Log
 
 -- the state at the cursor
 abbrev pub IsPresent : State → Timeline → Type 0
@@ -48,29 +52,40 @@ IsPresent state t = (number : ℕ) × (slice_get t.snapshots t.cursor ≡ Some (
 
 -- ---- a fresh command
 
--- A state takes the place of all after the cursor, and the cursor stands on it. Where more than depth states would
--- then stand before the cursor, the oldest falls away.
-abbrev pub followed_by : Timeline → Snapshot → Timeline
+-- A state takes the place of all after the cursor, and the cursor stands on it; the logs are those that come with it.
+-- Where more than depth states would then stand before the cursor, the oldest falls away.
+abbrev pub followed_by : Timeline → Moment → Timeline
 followed_by t after = record t {
-  snapshots = drop (t.cursor + 1 - t.depth) (take (t.cursor + 1) t.snapshots ++ after ∷ []);
+  snapshots = drop (t.cursor + 1 - t.depth)
+      (take (t.cursor + 1) t.snapshots ++ record { state = after.state; number = t.lines } ∷ []);
   cursor = min t.depth (t.cursor + 1);
+  logs = after.logs;
 }
+
+-- the state of now with the logs, from which a command goes on
+abbrev pub moment_in : State → Timeline → Moment
+moment_in state t = record { state = state; logs = t.logs }
 
 -- A fresh command, however it ended, replaces all after the cursor by a state that its meaning allows.
 pub record Replaces (does : Action) (state : State) (old : Timeline) (reply : Reply) (new : Timeline) : Type 0 where
-  pub after : State
-  pub allowed : Fresh state old.steps does reply after
-  pub list : new ≡ followed_by old (record { state = after; number = old.lines })
+  pub after : Moment
+  pub allowed : Fresh (moment_in state old) old.steps does reply after
+  pub list : new ≡ followed_by old after
 
--- Typing into a field that is locked changes nothing.
+-- Typing into a field that is locked changes nothing, but for the turns that externals took to find the field.
 pub record KeepsOut (does : Action) (state : State) (old : Timeline) (reply : Reply) (new : Timeline) : Type 0 where
-  pub locked : Locked state old.steps does
-  pub refuses : Refuses FieldLocked old reply new
+  pub logs : List Log
+  pub locked : Locked (moment_in state old) old.steps does logs
+  pub refuses : Refuses FieldLocked (record old { logs = logs }) reply new
+
+-- a command that is refused for memory changes nothing, but for the turns that externals took
+abbrev pub GivesUp : Timeline → Reply → Timeline → Type 0
+GivesUp old reply new = Refuses NoMemory (record old { logs = new.logs }) reply new
 
 -- what a user does
 abbrev pub Commands : Reading → List ℕ → State → Timeline → Reply → Timeline → Type 0
 Commands reading text state old reply new = Obeys (ReadsAction reading)
-    (λ does. Replaces does state old reply new ⊎ KeepsOut does state old reply new) (Refuses NoMemory old reply new)
+    (λ does. Replaces does state old reply new ⊎ KeepsOut does state old reply new) (GivesUp old reply new)
     text old reply new
 
 -- ---- undo and redo
@@ -162,29 +177,41 @@ Redoes k old result new = MatchBool (k == 0) (IsErrOf result BadCommand × (new 
 abbrev pub UndoesTo : ℕ → Timeline → Result (Unit {0}) Refusal → Timeline → Type 0
 UndoesTo n old result new = Moved (cursor_back_to n old) NothingToUndo old result new
 
--- a session begins with one state: the stack, no global, its first card, and the externals with their cells of now
-abbrev pub beginning : Content → List Seen → ℕ → ℕ → Timeline
-beginning stack externals steps depth = record {
+-- a session begins with one state: the stack, no global, its first card, and the externals with their cells and logs of
+-- now
+abbrev pub beginning : Content → List Seen → List Log → ℕ → ℕ → Timeline
+beginning stack externals logs steps depth = record {
   snapshots = record { state = first_state stack externals; number = 0 } ∷ [];
   cursor = 0;
   depth = depth;
   lines = 0;
   steps = steps;
+  logs = logs;
 }
 
--- an external that is plugged in joins each state, with its cells of now
+-- an external that is plugged in joins each state, with its cells of now, and its log joins the others
 abbrev pub with_one_more : Seen → Snapshot → Snapshot
 with_one_more x s = record s { state = with_external x s.state }
 
-abbrev pub with_plugged : Seen → Timeline → Timeline
-with_plugged x t = record t { snapshots = map (with_one_more x) t.snapshots }
+abbrev pub with_plugged : Seen → Log → Timeline → Timeline
+with_plugged x log t = record t { snapshots = map (with_one_more x) t.snapshots; logs = t.logs ++ log ∷ [] }
 
--- one that is unplugged leaves the state at the cursor alone, without it; the state keeps its number
+-- one that is unplugged leaves the state at the cursor alone, without it; the state keeps its number, and each other
+-- external its log
 abbrev pub without_one : ℕ → Snapshot → Snapshot
 without_one i s = record s { state = record s.state { externals = without_at i s.state.externals } }
 
 abbrev pub without_plugged : ℕ → Timeline → Timeline
-without_plugged i t = record t { snapshots = map (without_one i) (take 1 (drop t.cursor t.snapshots)); cursor = 0 }
+without_plugged i t = record t {
+  snapshots = map (without_one i) (take 1 (drop t.cursor t.snapshots));
+  cursor = 0;
+  logs = without_at i t.logs;
+}
+
+-- each turn in the log of an external of the state at the cursor is the one that the table has, where it has one
+abbrev pub FollowsTable : TurnTable → Timeline → Type 0
+FollowsTable table t = (state : State) → IsPresent state t → (i : ℕ) → i < length state.externals
+    → Follows table (seen_at state i).sort (slice_index_or t.logs i [])
 
 -- ---- the headline
 

@@ -7,12 +7,13 @@ use Rattle.devices.specs.Desks.{SeenDesk, HearsOrForgets}
 use Rattle.devices.specs.Watching.{Rose}
 use Rattle.externals.specs.Cells.{Seen}
 use Rattle.externals.specs.Log.{Log}
+use Rattle.externals.specs.Turns.{TurnTable}
 use Rattle.object_table.specs.Content.{Content}
 use Rattle.journal_entries.specs.State.{titles_of, index_of}
-use Rattle.change_journal.specs.History.{History, Neighbour, plugged, unplugged}
+use Rattle.change_journal.specs.History.{History, Neighbour, FollowTable, plugged, unplugged}
 use Rattle.headline.specs.Answering.{Session}
 use Rattle.headline.specs.Headline.{Snapshot, Timeline, LineMoves, Headline, Undoes, Redoes, UndoesTo, beginning}
-use Rattle.headline.specs.Headline.{with_plugged, without_plugged}
+use Rattle.headline.specs.Headline.{with_plugged, without_plugged, FollowsTable}
 use Rattle.session.specs.Moves.{MovesTo, undone, redone, undone_to}
 use Rattle.session.specs.Opening.{opened}
 use Rattle.headline.specs.Saving.{Kept, Beside, Settles, SettlesHeard, Takes}
@@ -40,6 +41,7 @@ timeline_of s = record {
   depth = s.history.depth;
   lines = s.lines;
   steps = s.steps;
+  logs = s.history.logs;
 }
 
 -- a session whose history is this one
@@ -72,13 +74,18 @@ without_if (Some i) t = without_plugged i t
 
 abbrev pub PlugsFollow : Type 0
 PlugsFollow = (s : SessionView) (x : Seen) (log : Log) (name : List ℕ)
-    → (timeline_of (with_history s (plugged s.history x log)) ≡ with_plugged x (timeline_of s))
+    → (timeline_of (with_history s (plugged s.history x log)) ≡ with_plugged x log (timeline_of s))
     × (timeline_of (with_history s (unplugged name s.history))
     ≡ without_if (index_of name (titles_of s.history.now.externals)) (timeline_of s))
 
 abbrev pub OpensFollow : Type 0
 OpensFollow = (stack : Content) (externals : List Seen) (logs : List Log) (steps depth : ℕ)
-    → timeline_of (opened stack externals logs steps depth) ≡ beginning stack externals steps depth
+    → timeline_of (opened stack externals logs steps depth) ≡ beginning stack externals logs steps depth
+
+-- where the turns of a session's externals follow a table, those of the list do
+abbrev pub TablesFollow : Type 0
+TablesFollow =
+    (table : TurnTable) (s : SessionView) → FollowTable table s.history → FollowsTable table (timeline_of s)
 
 -- a session beside a desk
 abbrev pub timeline_beside : SessionView × SeenDesk → Timeline × SeenDesk

@@ -1,7 +1,7 @@
 //! What lines, calls and runs do to the list of whole states: the headline as laws over the definitions.
 
 ghost use Rattle.headline.specs.Unzipped.{LinesFollow, MovesFollow, PlugsFollow, OpensFollow, RunsFollow, StopsFollow};
-ghost use Rattle.headline.specs.Unzipped.{SavesFollow, MessagesFollow};
+ghost use Rattle.headline.specs.Unzipped.{TablesFollow, SavesFollow, MessagesFollow};
 ghost use Rattle.headline.specs.Whole.{RunsStayWhole, StopsStayWhole, SavesSpell};
 
 use stack_text::law::written_is_read;
@@ -25,6 +25,11 @@ pub fn plugs_follow()
 /// A session begins with one state.
 pub fn opens_follow()
     ensures { OpensFollow }
+{}
+
+/// Where the turns of a session's externals follow a table, those of the list do.
+pub fn tables_follow()
+    ensures { TablesFollow }
 {}
 
 /// A run that ended did to the list what the headline says, line after line.

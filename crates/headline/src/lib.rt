@@ -8,7 +8,7 @@ mod transcript;
 
 pub use law::{
     lines_follow, messages_follow, moves_follow, opens_follow, plugs_follow, runs_follow,
-    runs_stay_whole, saves_follow, saves_spell, stops_follow,
+    runs_stay_whole, saves_follow, saves_spell, stops_follow, tables_follow,
 };
 pub use limits::{MOST_BYTES, MOST_LINES};
 pub use transcript::{Ran, RunFault, run};

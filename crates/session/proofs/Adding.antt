@@ -4,7 +4,7 @@ use Rattle.std.specs.Prelude.{Option, Some, None, IfSome, IsSome, Result, Ok, Er
 use Rattle.externals.specs.Log.{Log}
 use Rattle.journal_entries.specs.State.{State}
 use Rattle.journal_entries.specs.Trails.{IsOnce}
-use Rattle.change_journal.specs.History.{History, Open, begun, committed, rolled_back, rolled_back_from}
+use Rattle.change_journal.specs.History.{History, Open, IsHistory, begun, committed, rolled_back, rolled_back_from}
 use Rattle.containers.specs.Base.{base, began}
 use Rattle.containers.proofs.Bases.{is_open}
 use Rattle.meaning.specs.State.{RunState, fresh_run}
@@ -63,15 +63,24 @@ has_memory end ending is = λ out. let none : None ≡ Some ending = sym (ap end
 -- what it adds
 pub adds : (steps number : ℕ) (does : Action) (old w new : History) (run : RunState)
     (end : Result (Unit {0}) Stop) (ending : Ending)
-    → Acts (begun old number) (fresh_run steps) does end w run → base w ≡ base (begun old number)
+    → IsHistory (begun old number) → Acts (begun old number) (fresh_run steps) does end w run
+    → base w ≡ base (begun old number)
     → ending_of end ≡ Some ending → IfSome w.start (λ o. IsOnce o.trail) → new ≡ committed w
     → Adds steps does number old (reply_of run ending) new
-adds steps number does old w new run end ending means keeps ends once joined =
+adds steps number does old w new run end ending whole means keeps ends once joined =
     let b = risen (rises_acts means (has_memory end ending ends)) in
     let is_once : IsOnce b.0.trail = rw b.1 at once in
     record {
       end = w;
-      runs = record { run = run; end = end; means = means; ending = ending; ends = ends; answer = refl };
+      runs = record {
+        run = run;
+        end = end;
+        means = means;
+        ending = ending;
+        ends = ends;
+        answer = refl;
+        whole = λ now. whole;
+      };
       batch = b.0;
       began = b.3.state;
       numbered = b.3.number;
@@ -96,11 +105,15 @@ rolled old w number keeps closed (Some o) is =
     ap (λ (h : History). record h { now = o.state; start = None }) (kept (begun old number) w keeps)
     ∙ (λ i. record old { now = here i; start = sym closed i; logs = w.logs })
 
+taken_back : (old w new : History) (number : ℕ) → base w ≡ base (begun old number) → old.start ≡ None
+    → new ≡ rolled_back w → new ≡ record old { logs = w.logs }
+taken_back old w new number keeps closed joined =
+    joined ∙ rolled old w number keeps closed w.start (begin_kept (begun old number) w keeps)
+
 pub given_back : (old w new : History) (number : ℕ) → base w ≡ base (begun old number) → old.start ≡ None
     → new ≡ rolled_back w → new ≡ record old { logs = new.logs }
 given_back old w new number keeps closed joined =
-    let is : new ≡ record old { logs = w.logs } =
-    joined ∙ rolled old w number keeps closed w.start (begin_kept (begun old number) w keeps) in
+    let is : new ≡ record old { logs = w.logs } = taken_back old w new number keeps closed joined in
     is ∙ ap (λ (logs : List Log). record old { logs = logs }) (sym (ap (λ (h : History). h.logs) is))
 
 -- ---- what a user does
@@ -132,12 +145,12 @@ module _ (steps number : ℕ) (does : Action) (old w0 w : History) (run0 run : R
   kept_base : base w ≡ base (begun old number)
   kept_base = keeps ∙ ap base begins
 
-  pub finishes : (end : Result Ended Stop) (ending : Ending) (reply : Reply) (new : History) → o ≡ some_end end
-      → ending_of (end_of end) ≡ Some ending → reply ≡ reply_of run ending
+  pub finishes : (end : Result Ended Stop) (ending : Ending) (reply : Reply) (new : History) → IsHistory w0
+      → o ≡ some_end end → ending_of (end_of end) ≡ Some ending → reply ≡ reply_of run ending
       → IfSome w.start (λ o. IsOnce o.trail) → new ≡ committed w → Does steps does number old reply new
-  finishes end ending reply new is ends told once joined =
+  finishes end ending reply new whole is ends told once joined =
       let added : Adds steps does number old (reply_of run ending) new =
-      adds steps number does old w new run (end_of end) ending
+      adds steps number does old w new run (end_of end) ending (subst IsHistory begins whole)
       (acted (begun old number) w (fresh_run steps) run does end (from_here (some_end end) is)) kept_base ends once
       joined in
       inl (subst (λ (r : Reply). Adds steps does number old r new) (sym told) added)
@@ -149,5 +162,5 @@ module _ (steps number : ℕ) (does : Action) (old w0 w : History) (run0 run : R
     end = w;
     run = run;
     meets = from_here (Ok None) is;
-    same = given_back old w new number kept_base closed joined;
+    same = taken_back old w new number kept_base closed joined;
   })

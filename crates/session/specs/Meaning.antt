@@ -1,7 +1,8 @@
 -- What a fresh command means.
-use Rattle.std.specs.Prelude.{◌≡◌, ℕ, Option, Some, None, Result, Ok, Err}
-use Rattle.journal_entries.specs.State.{State}
-use Rattle.change_journal.specs.History.{History}
+use Rattle.std.specs.Prelude.{◌≡◌, ℕ, List, Option, Some, None, Result, Ok, Err}
+use Rattle.externals.specs.Log.{Log}
+use Rattle.journal_entries.specs.State.{State, IsState}
+use Rattle.change_journal.specs.History.{History, IsHistory}
 use Rattle.meaning.specs.State.{RunState, fresh_run}
 use Rattle.meaning.specs.Actions.{Action}
 use Rattle.meaning.specs.Meaning.{Acts}
@@ -25,7 +26,7 @@ reply_of run ending = record { shown = run.shown; sent = run.sent; ending = endi
 
 -- What a user does leads from one history to the other, by the written meaning of HyperTalk, as a command with so many
 -- steps. The run begins with its properties as they are at first and with an empty result. The reply has what it showed
--- and sent, and how it ended.
+-- and sent, and how it ended. If the state that it begins with is whole, so is each state round it.
 pub record Runs (old : History) (steps : ℕ) (does : Action) (reply : Reply) (new : History) : Type 0 where
   pub run : RunState
   pub end : Result (Unit {0}) Stop
@@ -33,19 +34,30 @@ pub record Runs (old : History) (steps : ℕ) (does : Action) (reply : Reply) (n
   pub ending : Ending
   pub ends : ending_of end ≡ Some ending
   pub answer : reply ≡ reply_of run ending
+  pub whole : IsState old.now → IsHistory old
 
--- A fresh command, in a state and with so many steps, is answered so and leaves this state.
-pub record Fresh (s : State) (steps : ℕ) (does : Action) (reply : Reply) (new : State) : Type 0 where
-  pub old : History
+-- a state, and the logs of the externals then
+pub record Moment : Type 0 where
+  pub state : State
+  pub logs : List Log
+
+abbrev pub moment : History → Moment
+moment h = record { state = h.now; logs = h.logs }
+
+-- A fresh command, at a moment and with so many steps, is answered so and leaves this moment.
+pub record Fresh (old : Moment) (steps : ℕ) (does : Action) (reply : Reply) (new : Moment) : Type 0 where
+  pub begin : History
   pub end : History
-  pub runs : Runs old steps does reply end
-  pub here : old.now ≡ s
-  pub leaves : new ≡ end.now
+  pub runs : Runs begin steps does reply end
+  pub here : moment begin ≡ old
+  pub leaves : new ≡ moment end
 
--- A text is typed, in a state and with so many steps, into a field that is locked.
-pub record Locked (s : State) (steps : ℕ) (does : Action) : Type 0 where
-  pub old : History
+-- A text is typed, at a moment and with so many steps, into a field that is locked. The reference to the field leaves
+-- these logs.
+pub record Locked (old : Moment) (steps : ℕ) (does : Action) (logs : List Log) : Type 0 where
+  pub begin : History
   pub end : History
   pub run : RunState
-  pub meets : MeetsLock old (fresh_run steps) does end run
-  pub here : old.now ≡ s
+  pub meets : MeetsLock begin (fresh_run steps) does end run
+  pub here : moment begin ≡ old
+  pub leaves : logs ≡ end.logs

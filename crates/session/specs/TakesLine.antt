@@ -48,14 +48,15 @@ pub record GivesUp (old : History) (reply : Reply) (new : History) : Type 0 wher
   pub answer : reply ≡ refused NoMemory
   pub same : new ≡ record old { logs = new.logs }
 
--- Typing into a field that is locked is refused, and what its reference did is taken back.
+-- Typing into a field that is locked is refused, and what its reference did is taken back, but for the turns that
+-- externals took.
 pub record KeepsOut (steps : ℕ) (does : Action) (number : ℕ) (old : History) (reply : Reply) (new : History) : Type 0
   where
     pub answer : reply ≡ refused FieldLocked
     pub end : History
     pub run : RunState
     pub meets : MeetsLock (begun old number) (fresh_run steps) does end run
-    pub same : new ≡ record old { logs = new.logs }
+    pub same : new ≡ record old { logs = end.logs }
 
 -- what a user does is a fresh command, but for typing into a locked field
 abbrev pub Does : ℕ → Action → ℕ → History → Reply → History → Type 0

@@ -106,6 +106,7 @@ fn perform<E: External>(
     ensures closed { world.new.history.start ≡ None }
 {
     world.begin(number)?;
+    world.law_of_states();
     let mut run = Budget::new(alloc, steps);
     match act(world, &mut run, action) {
         Ok(Some(_)) => Ok(finished(world, run, Ending::Ok)),

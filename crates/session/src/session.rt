@@ -4,7 +4,7 @@ ghost use Rattle.std.specs.Prelude.{◌≡◌, ◌≤◌, ◌==◌, ◌&&◌, �
 ghost use Rattle.std.specs.Prelude.{IsErr, IsErrOf, IsOk, MatchBool, Some, None, map, option_map, slice_index_or};
 ghost use Rattle.object_table.specs.WellFormed.{IsWellFormed};
 ghost use Rattle.journal_entries.specs.State.{seen_by, seen_at, titles_of, has_name, index_of};
-ghost use Rattle.change_journal.specs.History.{IsHistory, plugged, unplugged};
+ghost use Rattle.change_journal.specs.History.{IsHistory, FollowTable, plugged, unplugged};
 ghost use Rattle.session.specs.Moves.{MovesTo, undone, redone, undone_to};
 ghost use Rattle.session.specs.Opening.{open_fault, opened};
 ghost use Rattle.session.specs.Stamped.{numbers_of, DescendFrom};
@@ -27,7 +27,7 @@ use crate::queries::{
 use crate::reply::{Bytes, Ending, Refusal, Reply, ended, refused};
 use crate::running::obey;
 use change_journal::{MOST_DEPTH, PlugError, World};
-use externals::External;
+use externals::{External, HasTable};
 use ht_values::Text;
 use meaning::{Sent, Shown};
 use object_table::{Id, Stack};
@@ -242,6 +242,13 @@ impl<E: External> Session<E> {
         self.world.law_of_states();
     }
 
+    /// Each external has a log, at any time. It does nothing.
+    pub fn law_of_logs(&self)
+        ensures { length self.now.history.logs ≡ length self.now.history.now.externals }
+    {
+        self.world.law_of_logs();
+    }
+
     /// Adds an external, with its cells of now, to every place of the history. `DuplicateName` where
     /// another has a name that is the same, `Memory` where it is out of memory; either hands the external
     /// back, and then nothing changes.
@@ -353,5 +360,15 @@ impl<E: External> Session<E> {
         ensures rest { self.new ≡ record self.old { history = self.new.history } }
     {
         go_back_to(&mut self.world, line)
+    }
+}
+
+impl<E: HasTable> Session<E> {
+    /// Each turn of a log is the one that the table of the externals' type has, where it has one, at any time. It does
+    /// nothing.
+    pub fn law_of_table(&self)
+        ensures { FollowTable E.turn_table self.now.history }
+    {
+        self.world.law_of_table();
     }
 }

@@ -1,14 +1,11 @@
--- What fresh commands keep of each state lines keep. No external becomes free, whatever a line does.
-use Rattle.std.proofs.Common.{◌≡◌, inl, inr, ℕ, zero, suc, ◌+◌, ◌-◌, List, [], ◌∷◌, ◌++◌, Bool, true, false, Option}
-use Rattle.std.proofs.Common.{Some, None, refl, sym, subst}
-use Rattle.std.specs.Prelude.{take, drop, MatchBool, nat_lt, length, option_map}
+-- What steps keep of each list of states lines keep.
+use Rattle.std.proofs.Common.{◌≡◌, ◌≢◌, ◌⊎◌, inl, inr, ℕ, zero, suc, ◌+◌, ◌-◌, ◌<◌, List, [], ◌∷◌, ◌++◌, Bool, true, false}
+use Rattle.std.proofs.Common.{Option, Some, None, refl, sym, ap, subst}
+use Rattle.std.specs.Prelude.{take, drop, MatchBool, nat_lt, length, option_map, slice_get}
 use Rattle.std.specs.List.{AllByRecursion}
+use Rattle.std.proofs.lemmas.Option.{none-some}
 use Rattle.journal_entries.specs.State.{State}
 use Rattle.meaning.specs.Actions.{Action}
-use Rattle.definitional_interpreter.specs.Laws.{sorts_of, sorts, AreDeterministic}
-use Rattle.definitional_interpreter.proofs.Comes.{Sight}
-use Rattle.definitional_interpreter.proofs.Outcomes.{acts_comes}
-use Rattle.definitional_interpreter.proofs.Sights.{fixed_sight}
 use Rattle.session.specs.Commands.{ReadsAction, is_dot_line, command_in, behind_name, second as second_word, words}
 use Rattle.session.specs.declared.command.Command.{Command}
 use Rattle.session.specs.declared.command.Command.TheVariants.{Undo, Redo, UndoTo, Show, Globals, Where, Cells}
@@ -16,20 +13,25 @@ use Rattle.session.specs.declared.command.Command.TheVariants.{History as Histor
 use Rattle.session.specs.declared.command.Reading.{Reading}
 use Rattle.session.specs.declared.command.Reading.TheVariants.{Lines}
 use Rattle.session.specs.declared.limits.TheConstants.{LONGEST_LINE}
+use Rattle.session.specs.declared.reply.Ending.TheVariants as endings
 use Rattle.session.specs.declared.reply.Refusal.{Refusal}
-use Rattle.session.specs.declared.reply.Refusal.TheVariants.{LineTooLong}
+use Rattle.session.specs.declared.reply.Refusal.TheVariants.{LineTooLong, NoMemory}
 use Rattle.session.specs.declared.reply.Reply.{Reply}
-use Rattle.session.specs.Meaning.{Fresh}
+use Rattle.session.specs.Meaning.{Moment}
 use Rattle.session.specs.Replies.{Refuses, Obeys, Moves, ShowsCells, cells_named}
 use Rattle.session.proofs.LineFeeds.{all-append}
-use Rattle.headline.specs.Headline.{Snapshot, Timeline, Commands, at_cursor, cursor_back, cursor_forth, cursor_back_to}
-use Rattle.headline.specs.Headline.{Does, DoesLine, line_counted, LineMoves}
-use Rattle.transcripts.specs.Laws.{IsDetermined}
-use Rattle.transcripts.proofs.Once.{answered, of_each}
+use Rattle.headline.specs.Headline.{Snapshot, Timeline, IsPresent, followed_by, Replaces, KeepsOut, Commands, at_cursor}
+use Rattle.headline.specs.Headline.{cursor_back, cursor_forth, cursor_back_to, last_numbered, Does, DoesLine}
+use Rattle.headline.specs.Headline.{line_counted, LineMoves}
+use Rattle.transcripts.proofs.Cursors.{present_within, back_within, forth_within, before_within}
 
--- the logs as they are
-abbrev all_logs : Sight
-all_logs = fixed_sight (λ logs. logs)
+-- a reply isn't refused for memory
+abbrev pub HasRoom : Reply → Type 0
+HasRoom reply = reply.ending ≢ endings.Refused NoMemory
+
+pub refused_room : {old : Timeline} {reply : Reply} {new : Timeline} → Refuses NoMemory old reply new → HasRoom reply →
+    ⊥
+refused_room a room = room (ap (λ (r : Reply). r.ending) a.answer)
 
 -- ---- lists
 
@@ -44,11 +46,23 @@ all_of_rest P zero xs all = all
 all_of_rest P (suc n) [] all = tt
 all_of_rest P (suc n) (x ∷ xs) all = all_of_rest P n xs all.1
 
--- ---- a line
+-- the state that stands there
+pub of_each : {X : Type 0} (P : X → Type 0) (xs : List X) (i : ℕ) (x : X) → AllByRecursion P xs →
+    slice_get xs i ≡ Some x → P x
+of_each P [] i x all e = absurd (none-some x e)
+of_each P (y ∷ ys) zero x all e = let same : y ≡ x = cc in subst P same all.0
+of_each P (y ∷ ys) (suc i) x all e = of_each P ys i x all.1 e
 
--- of each state of a list
-abbrev pub OfEach : (State → Type 0) → Timeline → Type 0
-OfEach P t = AllByRecursion (λ (s : Snapshot). P s.state) t.snapshots
+-- each member of a list that a state joins
+pub of_joined : (P : Snapshot → Type 0) (t : Timeline) (after : Moment) → AllByRecursion P t.snapshots →
+    P (record { state = after.state; number = t.lines }) → AllByRecursion P (followed_by t after).snapshots
+of_joined P t after all last =
+    let front : List Snapshot = take (t.cursor + 1) t.snapshots in
+    let added : Snapshot = record { state = after.state; number = t.lines } in
+    all_of_rest P (t.cursor + 1 - t.depth) (front ++ added ∷ [])
+    (all-append P front (added ∷ []) (all_of_front P (t.cursor + 1) t.snapshots all) (last, tt))
+
+-- ---- a line
 
 -- what a text does, read whole or behind its first word, is of this kind
 abbrev pub SaysSuch : (Action → Type 0) → List ℕ → Type 0
@@ -56,105 +70,88 @@ SaysSuch IsSuch line =
     (reading : Reading) (does : Action) →
     (ReadsAction reading line does → IsSuch does) × (ReadsAction reading (behind_name line) does → IsSuch does)
 
--- P is kept by each fresh command of this kind
-module _ (P : State → Type 0) (IsSuch : Action → Type 0)
-    (fresh_keeps : (does : Action) (state : State) (steps : ℕ) (reply : Reply) (after : State) → IsSuch does →
-    P state → Fresh state steps does reply after → P after) where
-  same_keeps : {old new : Timeline} → OfEach P old → new ≡ old → OfEach P new
-  same_keeps all is = subst (OfEach P) (sym is) all
+-- and so of each line that isn't too long
+abbrev pub ShortSaysSuch : (Action → Type 0) → List ℕ → Type 0
+ShortSaysSuch IsSuch line = nat_lt LONGEST_LINE (length line) ≡ false → SaysSuch IsSuch line
 
-  moved_keeps : (t : Timeline) (x : Refusal) (place : Option ℕ) (reply : Reply) (new : Timeline) → OfEach P t →
-      Moves (option_map (at_cursor t) place) x t reply new → OfEach P new
-  moved_keeps t x (Some place) reply new all a = subst (OfEach P) (sym a.1) all
-  moved_keeps t x None reply new all a = same_keeps all a.same
+-- Where the cursor moves, where all stays, and where a command of this kind is done, this holds of the lists before and
+-- after.
+module _ (Leads : Timeline → Timeline → Type 0) (IsSuch : Action → Type 0)
+    (stays : (t : Timeline) → Leads t t)
+    (goes : (t : Timeline) (place : ℕ) → place < length t.snapshots → Leads t (at_cursor t place))
+    (done : (does : Action) (state : State) (old : Timeline) (reply : Reply) (new : Timeline) → IsSuch does →
+    IsPresent state old → Replaces does state old reply new ⊎ KeepsOut does state old reply new → Leads old new) where
+  same_leads : {old new : Timeline} → new ≡ old → Leads old new
+  same_leads {old = old} is = subst (Leads old) (sym is) (stays old)
 
-  command_keeps : (reading : Reading) (text : List ℕ) (state : State) (old : Timeline) {reply : Reply}
-      {new : Timeline} → ((does : Action) → ReadsAction reading text does → IsSuch does) → P state → OfEach P old →
-      Commands reading text state old reply new → OfEach P new
-  command_keeps reading text state old {reply} such here all (Obeys.obeys {does = does} reads (inl a)) =
-      let front : List Snapshot = take (old.cursor + 1) old.snapshots in
-      let last : Snapshot = record { state = a.after; number = old.lines } in
-      subst (OfEach P) (sym a.list)
-      (all_of_rest (λ (s : Snapshot). P s.state) (old.cursor + 1 - old.depth) (front ++ last ∷ [])
-      (all-append (λ (s : Snapshot). P s.state) front (last ∷ [])
-      (all_of_front (λ (s : Snapshot). P s.state) (old.cursor + 1) old.snapshots all)
-      (fresh_keeps does state old.steps reply a.after (such does reads) here a.allowed, tt)))
-  command_keeps reading text state old such here all (Obeys.obeys reads (inr a)) = same_keeps all a.refuses.same
-  command_keeps reading text state old such here all (Obeys.nothing none refuses) = same_keeps all refuses.same
-  command_keeps reading text state old such here all (Obeys.given_up refuses) = same_keeps all refuses.same
+  moved_leads : (t : Timeline) (x : Refusal) (place : Option ℕ) (reply : Reply) (new : Timeline) →
+      ((p : ℕ) → place ≡ Some p → p < length t.snapshots) → Moves (option_map (at_cursor t) place) x t reply new →
+      Leads t new
+  moved_leads t x (Some place) reply new within a = subst (Leads t) (sym a.1) (goes t place (within place refl))
+  moved_leads t x None reply new within a = same_leads a.same
 
-  cells_keep : (old : Timeline) (cells : Option (List (List ℕ))) (reply : Reply) (new : Timeline) → OfEach P old →
-      ShowsCells cells old reply new → OfEach P new
-  cells_keep old (Some cells) reply new all (inl a) = same_keeps all a.same
-  cells_keep old (Some cells) reply new all (inr a) = same_keeps all a.same
-  cells_keep old None reply new all a = same_keeps all a.same
+  command_leads : (reading : Reading) (text : List ℕ) (state : State) (old : Timeline) (reply : Reply)
+      (new : Timeline) → ((does : Action) → ReadsAction reading text does → IsSuch does) → IsPresent state old →
+      HasRoom reply → Commands reading text state old reply new → Leads old new
+  command_leads reading text state old reply new such here room (Obeys.obeys {does = does} reads a) =
+      done does state old reply new (such does reads) here a
+  command_leads reading text state old reply new such here room (Obeys.nothing none refuses) = same_leads refuses.same
+  command_leads reading text state old reply new such here room (Obeys.given_up refuses) =
+      absurd (refused_room refuses room)
 
-  dot_line_keeps : (line : List ℕ) (command : Option Command) (state : State) (old : Timeline) (reply : Reply)
-      (new : Timeline) → SaysSuch IsSuch line → P state → OfEach P old → Does line command state old reply new →
-      OfEach P new
-  dot_line_keeps line None state old reply new such here all a = same_keeps all a.same
-  dot_line_keeps line (Some (Undo k)) state old reply new such here all a =
-      moved_keeps old _ (cursor_back k old) reply new all a
-  dot_line_keeps line (Some (Redo k)) state old reply new such here all a =
-      moved_keeps old _ (cursor_forth k old) reply new all a
-  dot_line_keeps line (Some (UndoTo n)) state old reply new such here all a =
-      moved_keeps old _ (cursor_back_to n old) reply new all a
-  dot_line_keeps line (Some Show) state old reply new such here all (inl a) = same_keeps all a.look.same
-  dot_line_keeps line (Some Show) state old reply new such here all (inr a) = same_keeps all a.same
-  dot_line_keeps line (Some Globals) state old reply new such here all (inl a) = same_keeps all a.same
-  dot_line_keeps line (Some Globals) state old reply new such here all (inr a) = same_keeps all a.same
-  dot_line_keeps line (Some Where) state old reply new such here all (inl a) = same_keeps all a.same
-  dot_line_keeps line (Some Where) state old reply new such here all (inr a) = same_keeps all a.same
-  dot_line_keeps line (Some HistoryCommand) state old reply new such here all (inl a) = same_keeps all a.same
-  dot_line_keeps line (Some HistoryCommand) state old reply new such here all (inr a) = same_keeps all a.same
-  dot_line_keeps line (Some Cells) state old reply new such here all a =
-      cells_keep old (cells_named state (second_word (words line))) reply new all a
-  dot_line_keeps line (Some Save) state old reply new such here all (inl a) = same_keeps all a.1
-  dot_line_keeps line (Some Save) state old reply new such here all (inr a) = same_keeps all a.same
-  dot_line_keeps line (Some (Act reading)) state old reply new such here all a =
-      command_keeps reading (behind_name line) state old (λ does. (such reading does).1) here all a
-  dot_line_keeps line (Some Quit) state old reply new such here all a = same_keeps all a.1
+  cells_lead : (old : Timeline) (cells : Option (List (List ℕ))) (reply : Reply) (new : Timeline) →
+      ShowsCells cells old reply new → Leads old new
+  cells_lead old (Some cells) reply new (inl a) = same_leads a.same
+  cells_lead old (Some cells) reply new (inr a) = same_leads a.same
+  cells_lead old None reply new a = same_leads a.same
 
-  short_line_keeps : (line : List ℕ) (dot : Bool) (state : State) (old : Timeline) (reply : Reply) (new : Timeline) →
-      SaysSuch IsSuch line → P state → OfEach P old →
+  dot_line_leads : (line : List ℕ) (command : Option Command) (state : State) (old : Timeline) (reply : Reply)
+      (new : Timeline) → SaysSuch IsSuch line → IsPresent state old → HasRoom reply →
+      Does line command state old reply new → Leads old new
+  dot_line_leads line None state old reply new such here room a = same_leads a.same
+  dot_line_leads line (Some (Undo k)) state old reply new such here room a =
+      moved_leads old _ (cursor_back k old) reply new (back_within k old (present_within state old here)) a
+  dot_line_leads line (Some (Redo k)) state old reply new such here room a =
+      moved_leads old _ (cursor_forth k old) reply new (forth_within k old) a
+  dot_line_leads line (Some (UndoTo n)) state old reply new such here room a =
+      moved_leads old _ (cursor_back_to n old) reply new
+      (before_within old.cursor (length old.snapshots) (last_numbered n (take (old.cursor + 1) old.snapshots))
+      (present_within state old here)) a
+  dot_line_leads line (Some Show) state old reply new such here room (inl a) = same_leads a.look.same
+  dot_line_leads line (Some Show) state old reply new such here room (inr a) = same_leads a.same
+  dot_line_leads line (Some Globals) state old reply new such here room (inl a) = same_leads a.same
+  dot_line_leads line (Some Globals) state old reply new such here room (inr a) = same_leads a.same
+  dot_line_leads line (Some Where) state old reply new such here room (inl a) = same_leads a.same
+  dot_line_leads line (Some Where) state old reply new such here room (inr a) = same_leads a.same
+  dot_line_leads line (Some HistoryCommand) state old reply new such here room (inl a) = same_leads a.same
+  dot_line_leads line (Some HistoryCommand) state old reply new such here room (inr a) = same_leads a.same
+  dot_line_leads line (Some Cells) state old reply new such here room a =
+      cells_lead old (cells_named state (second_word (words line))) reply new a
+  dot_line_leads line (Some Save) state old reply new such here room (inl a) = same_leads a.1
+  dot_line_leads line (Some Save) state old reply new such here room (inr a) = same_leads a.same
+  dot_line_leads line (Some (Act reading)) state old reply new such here room a =
+      command_leads reading (behind_name line) state old reply new (λ does. (such reading does).1) here room a
+  dot_line_leads line (Some Quit) state old reply new such here room a = same_leads a.1
+
+  short_line_leads : (line : List ℕ) (dot : Bool) (state : State) (old : Timeline) (reply : Reply) (new : Timeline) →
+      SaysSuch IsSuch line → IsPresent state old → HasRoom reply →
       MatchBool dot (Does line (command_in line) state old reply new) (Commands Lines line state old reply new) →
-      OfEach P new
-  short_line_keeps line true state old reply new such here all a =
-      dot_line_keeps line (command_in line) state old reply new such here all a
-  short_line_keeps line false state old reply new such here all a =
-      command_keeps Lines line state old (λ does. (such Lines does).0) here all a
+      Leads old new
+  short_line_leads line true state old reply new such here room a =
+      dot_line_leads line (command_in line) state old reply new such here room a
+  short_line_leads line false state old reply new such here room a =
+      command_leads Lines line state old reply new (λ does. (such Lines does).0) here room a
 
-  line_of_keeps : (line : List ℕ) (long : Bool) (state : State) (old : Timeline) (reply : Reply) (new : Timeline) →
-      (long ≡ false → SaysSuch IsSuch line) → P state → OfEach P old →
-      MatchBool long (Refuses LineTooLong old reply new) (DoesLine line state old reply new) → OfEach P new
-  line_of_keeps line true state old reply new such here all a = same_keeps all a.same
-  line_of_keeps line false state old reply new such here all a =
-      short_line_keeps line (is_dot_line line) state old reply new (such refl) here all a
+  line_of_leads : (line : List ℕ) (long : Bool) (state : State) (old : Timeline) (reply : Reply) (new : Timeline) →
+      (long ≡ false → SaysSuch IsSuch line) → IsPresent state old → HasRoom reply →
+      MatchBool long (Refuses LineTooLong old reply new) (DoesLine line state old reply new) → Leads old new
+  line_of_leads line true state old reply new such here room a = same_leads a.same
+  line_of_leads line false state old reply new such here room a =
+      short_line_leads line (is_dot_line line) state old reply new (such refl) here room a
 
-  pub line_keeps : (line : List ℕ) (old : Timeline) {reply : Reply} {new : Timeline} →
-      (nat_lt LONGEST_LINE (length line) ≡ false → SaysSuch IsSuch line) → OfEach P old →
-      LineMoves line old reply new → OfEach P new
-  line_keeps line old such all a =
-      line_of_keeps line (nat_lt LONGEST_LINE (length line)) a.state (line_counted old) _ _ such
-      (of_each (λ (s : Snapshot). P s.state) old.snapshots old.cursor (record { state = a.state; number = a.present.0 })
-      all a.present.1) all a.does
-
--- ---- no external becomes free
-
--- a command keeps the kinds of the externals
-fresh_kept : (does : Action) (state : State) (steps : ℕ) (reply : Reply) (after : State) → Unit {0} →
-    AreDeterministic (sorts_of state.externals) → Fresh state steps does reply after
-    → AreDeterministic (sorts_of after.externals)
-fresh_kept does state steps reply after such free fresh =
-    let kept : sorts fresh.end ≡ sorts fresh.old =
-    (acts_comes {g = all_logs} fresh.runs.means (answered fresh.runs.ends)).kept.kinds in
-    subst (λ (s : State). AreDeterministic (sorts_of s.externals)) (sym fresh.leaves)
-    (subst AreDeterministic (sym kept)
-    (subst (λ (s : State). AreDeterministic (sorts_of s.externals)) (sym fresh.here) free))
-
-pub line_kept : (line : List ℕ) (old : Timeline) {reply : Reply} {new : Timeline} →
-    AllByRecursion IsDetermined old.snapshots → LineMoves line old reply new →
-    AllByRecursion IsDetermined new.snapshots
-line_kept line old all a =
-    line_keeps (λ state. AreDeterministic (sorts_of state.externals)) (λ does. Unit {0}) fresh_kept line old
-    (λ short reading does. (λ reads. tt, λ reads. tt)) all a
+  pub line_leads : (line : List ℕ) (old : Timeline) (reply : Reply) (new : Timeline) →
+      ShortSaysSuch IsSuch line → HasRoom reply →
+      LineMoves line old reply new → Leads (line_counted old) new
+  line_leads line old reply new such room a =
+      line_of_leads line (nat_lt LONGEST_LINE (length line)) a.state (line_counted old) reply new such a.present room
+      a.does

@@ -1,9 +1,10 @@
--- A line is taken in one way.
-use Rattle.std.proofs.Common.{◌≡◌, ◌≢◌, ◌⊎◌, inl, inr, ℕ, zero, suc, ◌+◌, List, [], ◌∷◌, ◌++◌, Bool, true, false}
-use Rattle.std.proofs.Common.{Option, Some, None, Result, Ok, Err, refl, sym, ap, subst, ◌∙◌, arith, append_assoc}
-use Rattle.std.specs.Prelude.{slice_get, MatchBool, length, nat_lt}
+-- A line is taken in one way, by the turns of the externals.
+use Rattle.std.proofs.Common.{◌≡◌, ◌⊎◌, inl, inr, ℕ, List, [], ◌∷◌, ◌++◌, Bool, true, false, Option, Some, None, Result}
+use Rattle.std.proofs.Common.{Ok, Err, refl, sym, ap, subst, ◌∙◌, append_assoc}
+use Rattle.std.specs.Prelude.{MatchBool, length, nat_lt}
 use Rattle.std.specs.List.{AllByRecursion}
-use Rattle.std.proofs.lemmas.Option.{none-some}
+use Rattle.externals.specs.Log.{Log}
+use Rattle.externals.specs.Turns.{TurnTable}
 use Rattle.ht_grammar.specs.Laws.{OneTreePerText}
 use Rattle.ht_grammar.specs.Reads.{ReadsLines, ReadsPart, ReadsType}
 use Rattle.ht_grammar.specs.Trees as tree
@@ -13,17 +14,12 @@ use Rattle.meaning.specs.declared.end.Stop.{Stop}
 use Rattle.meaning.specs.declared.end.Stop.TheVariants.{Fault as Faults, Exited, Memory}
 use Rattle.meaning.specs.Actions as act
 use Rattle.meaning.specs.Actions.{Action, locks_text}
+use Rattle.meaning.specs.Locked.{MeetsLock}
 use Rattle.meaning.specs.Meaning.{Refers, TypesInto, Acts}
 use Rattle.meaning.specs.State.{RunState}
 use Rattle.preservation.specs.Laws.{HasMemory}
-use Rattle.meaning.specs.Locked.{MeetsLock}
-use Rattle.definitional_interpreter.specs.Laws.{sorts_of, sorts, AreDeterministic}
-use Rattle.definitional_interpreter.specs.Meanings.{meanings}
-use Rattle.transcripts.specs.Replies.{RepliesAreOne}
-use Rattle.definitional_interpreter.specs.Told.{told}
-use Rattle.definitional_interpreter.proofs.Comes.{AreExact, Sight, sight}
-use Rattle.definitional_interpreter.proofs.Outcomes.{refers_comes}
-use Rattle.definitional_interpreter.proofs.Sights.{fixed_sight}
+use Rattle.definitional_interpreter.specs.Laws.{ReferencesAreComputed}
+use Rattle.definitional_interpreter.specs.Turns.{sorts_of}
 use Rattle.session.specs.Commands.{ReadsAction, typing, is_dot_line, command_in, behind_name, second as second_word}
 use Rattle.session.specs.Commands.{words}
 use Rattle.session.specs.declared.command.Command.{Command}
@@ -32,21 +28,24 @@ use Rattle.session.specs.declared.command.Command.TheVariants.{History as Histor
 use Rattle.session.specs.declared.command.Reading.{Reading}
 use Rattle.session.specs.declared.command.Reading.TheVariants.{Lines, Opening, Reference, Typing}
 use Rattle.session.specs.declared.limits.TheConstants.{LONGEST_LINE}
-use Rattle.session.specs.declared.reply.Ending.{Ending}
 use Rattle.session.specs.declared.reply.Ending.TheVariants as endings
 use Rattle.session.specs.declared.reply.Refusal.{Refusal}
 use Rattle.session.specs.declared.reply.Refusal.TheVariants.{NoMemory, LineTooLong}
 use Rattle.session.specs.declared.reply.Reply.{Reply}
-use Rattle.session.specs.Meaning.{ending_of, Fresh, Locked}
+use Rattle.session.specs.Meaning.{Moment, moment, Fresh, Locked}
 use Rattle.session.specs.Replies.{Refuses, Obeys, Moves, Looks, ShowsStack, ShowsCells, cells_named}
 use Rattle.session.specs.Splits.{IsLine, Splits, ended_lines}
-use Rattle.headline.specs.Headline.{Snapshot, Timeline, IsPresent, followed_by, Replaces, KeepsOut, Commands, Does}
-use Rattle.headline.specs.Headline.{DoesLine, line_counted, LineMoves}
-use Rattle.transcripts.specs.Laws.{IsDetermined}
+use Rattle.headline.specs.Headline.{Snapshot, Timeline, IsPresent, followed_by, moment_in, Replaces, KeepsOut, Commands}
+use Rattle.headline.specs.Headline.{Does, DoesLine, line_counted, LineMoves}
+use Rattle.transcripts.specs.Laws.{HasKinds}
+use Rattle.transcripts.specs.Replies.{IsOfKinds, AreToldBy, RepliesAreOne}
+use Rattle.transcripts.proofs.Grown.{answered, tells_grow, typing_grows}
+use Rattle.transcripts.proofs.Kept.{HasRoom, refused_room, of_each}
+use Rattle.transcripts.proofs.OneReply.{Begin, one_reference}
+use Rattle.transcripts.proofs.Told.{told_before}
 
 -- what the readings of texts give
 pub record Texts : Type 0 where
-  pub exact : AreExact
   pub lines : OneTreePerText ReadsLines
   pub parts : OneTreePerText ReadsPart
   pub typing : OneTreePerText ReadsType
@@ -55,16 +54,9 @@ pub record Texts : Type 0 where
 abbrev pub Same : {S : Type 0} → Reply → S → Reply → S → Type 0
 Same reply new reply2 new2 = (reply ≡ reply2) × (new ≡ new2)
 
--- a reply isn't refused for memory
-abbrev pub HasRoom : Reply → Type 0
-HasRoom reply = reply.ending ≢ endings.Refused NoMemory
-
 one_refusal : {x : Refusal} {old : Timeline} {reply reply2 : Reply} {new new2 : Timeline} → Refuses x old reply new →
     Refuses x old reply2 new2 → Same reply new reply2 new2
 one_refusal a b = (a.answer ∙ sym b.answer, a.same ∙ sym b.same)
-
-refused_room : {old : Timeline} {reply : Reply} {new : Timeline} → Refuses NoMemory old reply new → HasRoom reply → ⊥
-refused_room a room = room (ap (λ (r : Reply). r.ending) a.answer)
 
 one_move : {reply reply2 : Reply} {new new2 : Timeline} (x : Refusal) (old : Timeline) (there : Option Timeline) →
     Moves there x old reply new → Moves there x old reply2 new2 → Same reply new reply2 new2
@@ -139,27 +131,6 @@ one_show state {reply = reply} {reply2 = reply2} a b =
 
 -- ---- a fresh command
 
--- the logs of externals aren't compared
-abbrev no_logs : Sight
-no_logs = fixed_sight (λ logs. [])
-
--- two references from one state find the same
-one_reference : AreExact →
-    (w v : History) {w2 v2 : History} {r r2 q2 : RunState} {pa : tree.Part} {o p : Result ℕ Stop} →
-    v.now ≡ w.now → AreDeterministic (sorts w) → HasMemory o → HasMemory p → Refers w r pa o w2 r2
-    → Refers v r pa p v2 q2
-    → (o ≡ p) × (w2.now ≡ v2.now)
-one_reference exact w v {w2} {v2} {r} {r2} {q2} {pa} {o} {p} same free has had a b =
-    let begins : sight no_logs v ≡ sight no_logs w = ap (λ s. record { now = s; logs = []; turns = [] }) same in
-    let first = (refers_comes {g = no_logs} a has).gives exact free in
-    let later = (refers_comes {g = no_logs} b had).gives exact
-    (subst (λ (s : State). AreDeterministic (sorts_of s.externals)) (sym same) free) in
-    let fuel = first.0 + later.0 in
-    let is : told o (sight no_logs w2) r2 ≡ told p (sight no_logs v2) q2 =
-    sym (first.1 fuel (omega arith)) ∙ ap (λ u. (meanings fuel).refers u r pa) (sym begins) ∙ later.1 fuel
-    (omega arith) in
-    let there : sight no_logs w2 ≡ sight no_logs v2 = cc in (cc, ap (λ u. u.now) there)
-
 true_false : true ≡ false → ⊥
 true_false e = cc
 
@@ -171,45 +142,60 @@ misses_too (Faults fa) has = λ e. cc
 no_value : {A : Type 0} {z : Stop} {a : A} → ◌≡◌ {A = Result A Stop} (Err z) (Ok a) → ⊥
 no_value e = cc
 
--- a field that two references find is locked for both
-is_locked : AreExact → (w v : History) {w2 v2 : History} {r r2 q2 : RunState} {pa : tree.Part} {i field : ℕ} →
-    v.now ≡ w.now → AreDeterministic (sorts w) → Refers w r pa (Ok i) w2 r2 → Refers v r pa (Ok field) v2 q2
-    → locks_text w2.now.stack i ≡ false → locks_text v2.now.stack field ≡ true → ⊥
-is_locked exact w v {w2} {v2} {i = i} {field} same free a b unlocked locked =
-    let both = one_reference exact w v same free (λ e. cc) (λ e. cc) a b in
-    let field_is : i ≡ field = cc in
-    true_false (sym locked ∙ ap (λ (s : State). locks_text s.stack field) (sym both.1) ∙ ap (locks_text w2.now.stack)
-    (sym field_is) ∙ unlocked)
+-- two runs from one moment, whose turns are told alike
+module _ (references : ReferencesAreComputed) (table : TurnTable) (turns : ℕ → Log) (kinds : List ℕ) (w v : History)
+    (begin : Begin kinds w v) where
+  abbrev Told : History → Type 0
+  Told w2 = AreToldBy table turns kinds w2.logs
 
--- a text that is typed into a field which was locked when it was found
-typed_unlocked : AreExact →
-    (w v : History) {w2 v2 : History} {r r2 q2 : RunState} {t : List ℕ} {pa : tree.Part} {field : ℕ}
-    {o : Result (Unit {0}) Stop} → v.now ≡ w.now → AreDeterministic (sorts w) → HasMemory o → TypesInto w r t pa o w2 r2
-    → Refers v r pa (Ok field) v2 q2 → locks_text v2.now.stack field ≡ true → ⊥
-typed_unlocked exact w v same free has TypesInto.type_memory found locked = has refl
-typed_unlocked exact w v same free has (TypesInto.type_misses {z = z} g) found locked = let both = one_reference exact
-    w v same free (misses_too z has) (λ e. cc) g found in no_value both.0
-typed_unlocked exact w v same free has (TypesInto.field_open_stops g unlocked rest) found locked = is_locked exact w v
-    same free g found unlocked locked
-typed_unlocked exact w v same free has (TypesInto.types_into g unlocked opens here over) found locked = is_locked
-    exact w v same free g found unlocked locked
+  -- a field that two references find is locked for both
+  is_locked : {w1 v2 : History} {r r1 q2 : RunState} {pa : tree.Part} {i field : ℕ} → Told w1 → Told v2 →
+      Refers w r pa (Ok i) w1 r1 → Refers v r pa (Ok field) v2 q2 → locks_text w1.now.stack i ≡ false →
+      locks_text v2.now.stack field ≡ true → ⊥
+  is_locked {w1} {v2} {i = i} {field} are others_are a b unlocked locked =
+      let both = one_reference references table turns kinds w v begin are others_are (λ e. cc) (λ e. cc) a b in
+      let field_is : i ≡ field = cc in
+      true_false (sym locked ∙ ap (λ (m : Moment). locks_text m.state.stack field) (sym both.1)
+      ∙ ap (locks_text w1.now.stack) (sym field_is) ∙ unlocked)
 
--- a command that has memory isn't one for a locked field
-fresh_is_unlocked : AreExact →
-    (w v : History) {w2 : History} {r r2 : RunState} (v2 : History) (q2 : RunState) (ac : Action)
-    {o : Result (Unit {0}) Stop} → v.now ≡ w.now → AreDeterministic (sorts w) → HasMemory o → Acts w r ac o w2 r2 →
-    MeetsLock v r ac v2 q2 → ⊥
-fresh_is_unlocked exact w v {w2} {r} {r2} v2 q2 (act.type_text text reference) {o} same free has
-    (Acts.acts_by_typing {t = t} {pa = pa} p typed) (field, found, locked) =
-    let part : pa ≡ reference = cc in
-    typed_unlocked exact w v same free has (subst (λ pa. TypesInto w r t pa o w2 r2) part typed) found locked
-fresh_is_unlocked exact w v v2 q2 (act.type_text text reference) same free has (Acts.acts_by_lines p line) lock = cc
-fresh_is_unlocked exact w v v2 q2 (act.type_text text reference) same free has (Acts.acts_by_opening p sent) lock = cc
-fresh_is_unlocked exact w v v2 q2 (act.type_text text reference) same free has (Acts.acts_by_click p clicked) lock =
-    cc
-fresh_is_unlocked exact w v v2 q2 (act.run_lines ss) same free has acts lock = absurd lock
-fresh_is_unlocked exact w v v2 q2 act.open_stack same free has acts lock = absurd lock
-fresh_is_unlocked exact w v v2 q2 (act.click pa) same free has acts lock = absurd lock
+  -- a text that is typed into a field which was locked when it was found
+  typed_unlocked : {w2 v2 : History} {r r2 q2 : RunState} {t : List ℕ} {pa : tree.Part} {field : ℕ}
+      {o : Result (Unit {0}) Stop} → Told w2 → Told v2 → HasMemory o → TypesInto w r t pa o w2 r2 →
+      Refers v r pa (Ok field) v2 q2 → locks_text v2.now.stack field ≡ true → ⊥
+  typed_unlocked are others_are has TypesInto.type_memory found locked = has refl
+  typed_unlocked are others_are has (TypesInto.type_misses {z = z} g) found locked =
+      let both = one_reference references table turns kinds w v begin are others_are (misses_too z has) (λ e. cc) g
+      found in no_value both.0
+  typed_unlocked are others_are has (TypesInto.field_open_stops {w1 = w1} {w2 = w2} g unlocked rest) found locked =
+      is_locked (told_before w1.logs w2.logs (tells_grow rest has) are) others_are g found unlocked locked
+  typed_unlocked are others_are has
+      (TypesInto.types_into {w1 = w1} {w2 = w2} {w3 = w3} g unlocked opens here over) found locked =
+      is_locked
+      (told_before w1.logs w2.logs (tells_grow opens (λ e. cc))
+      (told_before w2.logs w3.logs (typing_grows over has) are)) others_are g found unlocked locked
+
+  -- two that find a locked field leave the same
+  one_lock : {w2 v2 : History} {r r2 q2 : RunState} (ac : Action) → Told w2 → Told v2 → MeetsLock w r ac w2 r2 →
+      MeetsLock v r ac v2 q2 → moment w2 ≡ moment v2
+  one_lock (act.type_text text reference) are others_are (field, found, locked) (field2, found2, locked2) =
+      (one_reference references table turns kinds w v begin are others_are (λ e. cc) (λ e. cc) found found2).1
+  one_lock (act.run_lines ss) are others_are a b = absurd a
+  one_lock act.open_stack are others_are a b = absurd a
+  one_lock (act.click pa) are others_are a b = absurd a
+
+  -- a command that has memory isn't one for a locked field
+  fresh_is_unlocked : {w2 : History} {r r2 : RunState} (v2 : History) (q2 : RunState) (ac : Action)
+      {o : Result (Unit {0}) Stop} → Told w2 → Told v2 → HasMemory o → Acts w r ac o w2 r2 → MeetsLock v r ac v2 q2 → ⊥
+  fresh_is_unlocked {w2} {r} {r2} v2 q2 (act.type_text text reference) {o} are others_are has
+      (Acts.acts_by_typing {t = t} {pa = pa} p typed) (field, found, locked) =
+      let part : pa ≡ reference = cc in
+      typed_unlocked are others_are has (subst (λ pa. TypesInto w r t pa o w2 r2) part typed) found locked
+  fresh_is_unlocked v2 q2 (act.type_text text reference) are others_are has (Acts.acts_by_lines p line) lock = cc
+  fresh_is_unlocked v2 q2 (act.type_text text reference) are others_are has (Acts.acts_by_opening p sent) lock = cc
+  fresh_is_unlocked v2 q2 (act.type_text text reference) are others_are has (Acts.acts_by_click p clicked) lock = cc
+  fresh_is_unlocked v2 q2 (act.run_lines ss) are others_are has acts lock = absurd lock
+  fresh_is_unlocked v2 q2 act.open_stack are others_are has acts lock = absurd lock
+  fresh_is_unlocked v2 q2 (act.click pa) are others_are has acts lock = absurd lock
 
 -- ---- a line
 
@@ -227,98 +213,7 @@ one_action texts Typing text (tree, reads, is) (tree2, reads2, is2) = is ∙ ap 
 pub record Laws : Type 0 where
   pub texts : Texts
   pub replies : RepliesAreOne
-
-pub answered : {o : Result (Unit {0}) Stop} {e : Ending} → ending_of o ≡ Some e → HasMemory o
-answered {o} {e} is never = let gone : ending_of o ≡ None = ap ending_of never in none-some e (sym gone ∙ is)
-
-pub fresh_or_locked : Laws → {state : State} {steps : ℕ} (does : Action) {reply : Reply} {new : State} →
-    AreDeterministic (sorts_of state.externals) → Fresh state steps does reply new → Locked state steps does → ⊥
-fresh_or_locked laws does free fresh locked =
-    fresh_is_unlocked laws.texts.exact fresh.old locked.old locked.end locked.run does (locked.here ∙ sym fresh.here)
-    (subst (λ (s : State). AreDeterministic (sorts_of s.externals)) (sym fresh.here) free) (answered fresh.runs.ends)
-    fresh.runs.means locked.meets
-
-one_deed : Laws → (does : Action) (state : State) (old : Timeline) {reply reply2 : Reply} {new new2 : Timeline} →
-    AreDeterministic (sorts_of state.externals)
-    → Replaces does state old reply new ⊎ KeepsOut does state old reply new →
-    Replaces does state old reply2 new2 ⊎ KeepsOut does state old reply2 new2 → Same reply new reply2 new2
-one_deed laws does state old {reply} {reply2} free (inl a) (inl b) =
-    let both = laws.replies state old.steps does reply reply2 a.after b.after free a.allowed b.allowed in
-    (both.0, a.list ∙ ap (λ s. followed_by old (record { state = s; number = old.lines })) both.1 ∙ sym b.list)
-one_deed laws does state old free (inl a) (inr b) = absurd (fresh_or_locked laws does free a.allowed b.locked)
-one_deed laws does state old free (inr a) (inl b) = absurd (fresh_or_locked laws does free b.allowed a.locked)
-one_deed laws does state old free (inr a) (inr b) = one_refusal a.refuses b.refuses
-
-one_command : Laws → (reading : Reading) (text : List ℕ) (state : State) (old : Timeline) {reply reply2 : Reply}
-    {new new2 : Timeline} → AreDeterministic (sorts_of state.externals)
-    → Commands reading text state old reply new → Commands reading text state old reply2 new2 → HasRoom reply →
-    HasRoom reply2 → Same reply new reply2 new2
-one_command laws reading text state old {reply} {reply2} {new} {new2} free (Obeys.obeys {does = does} reads done)
-    (Obeys.obeys {does = does2} reads2 done2) room room2 =
-    one_deed laws does state old free done
-    (subst (λ does. Replaces does state old reply2 new2 ⊎ KeepsOut does state old reply2 new2)
-    (one_action laws.texts reading text reads2 reads) done2)
-one_command laws reading text state old free (Obeys.obeys {does = does} reads done) (Obeys.nothing none refuses) room
-    room2 = absurd (none does reads)
-one_command laws reading text state old free (Obeys.nothing none refuses) (Obeys.obeys {does = does} reads done) room
-    room2 = absurd (none does reads)
-one_command laws reading text state old free (Obeys.nothing none refuses) (Obeys.nothing none2 refuses2) room room2 =
-    one_refusal refuses refuses2
-one_command laws reading text state old free (Obeys.given_up refuses) b room room2 = absurd
-    (refused_room refuses room)
-one_command laws reading text state old free (Obeys.obeys reads done) (Obeys.given_up refuses) room room2 = absurd
-    (refused_room refuses room2)
-one_command laws reading text state old free (Obeys.nothing none refuses) (Obeys.given_up refuses2) room room2 =
-    absurd (refused_room refuses2 room2)
-
-one_dot_line : Laws → (line : List ℕ) (command : Option Command) (state : State) (old : Timeline)
-    {reply reply2 : Reply} {new new2 : Timeline} → AreDeterministic (sorts_of state.externals)
-    → Does line command state old reply new → Does line command state old reply2 new2 → HasRoom reply →
-    HasRoom reply2 →
-    Same reply new reply2 new2
-one_dot_line laws line None state old free a b room room2 = one_refusal a b
-one_dot_line laws line (Some (Undo k)) state old free a b room room2 = one_move _ old _ a b
-one_dot_line laws line (Some (Redo k)) state old free a b room room2 = one_move _ old _ a b
-one_dot_line laws line (Some (UndoTo n)) state old free a b room room2 = one_move _ old _ a b
-one_dot_line laws line (Some Show) state old free a b room room2 = one_show state (roomy a room) (roomy b room2)
-one_dot_line laws line (Some Globals) state old free a b room room2 = one_look (roomy a room) (roomy b room2)
-one_dot_line laws line (Some Where) state old free a b room room2 = one_look (roomy a room) (roomy b room2)
-one_dot_line laws line (Some HistoryCommand) state old free a b room room2 = one_look (roomy a room) (roomy b room2)
-one_dot_line laws line (Some Cells) state old free a b room room2 = one_show_of_cells old
-    (cells_named state (second_word (words line))) a b room room2
-one_dot_line laws line (Some Save) state old free a b room room2 = let p = roomy a room in let q = roomy b room2 in
-    (p.0 ∙ sym q.0, p.1 ∙ sym q.1)
-one_dot_line laws line (Some (Act reading)) state old free a b room room2 = one_command laws reading
-    (behind_name line) state old free a b room room2
-one_dot_line laws line (Some Quit) state old free a b room room2 = (a.0 ∙ sym b.0, a.1 ∙ sym b.1)
-
--- a line that isn't too long
-one_short_line : Laws →
-    (line : List ℕ) (dot : Bool) (state : State) (old : Timeline) {reply reply2 : Reply} {new new2 : Timeline} →
-    AreDeterministic (sorts_of state.externals)
-    → MatchBool dot (Does line (command_in line) state old reply new) (Commands Lines line state old reply new)
-    → MatchBool dot (Does line (command_in line) state old reply2 new2) (Commands Lines line state old reply2 new2) →
-    HasRoom reply → HasRoom reply2 → Same reply new reply2 new2
-one_short_line laws line true state old free a b room room2 = one_dot_line laws line (command_in line) state old free
-    a b room room2
-one_short_line laws line false state old free a b room room2 = one_command laws Lines line state old free a b room
-    room2
-
-one_line_of : Laws → (line : List ℕ) (long : Bool) (state : State) (old : Timeline) {reply reply2 : Reply}
-    {new new2 : Timeline} → AreDeterministic (sorts_of state.externals)
-    → MatchBool long (Refuses LineTooLong old reply new) (DoesLine line state old reply new) →
-    MatchBool long (Refuses LineTooLong old reply2 new2) (DoesLine line state old reply2 new2) → HasRoom reply →
-    HasRoom reply2 → Same reply new reply2 new2
-one_line_of laws line true state old free a b room room2 = one_refusal a b
-one_line_of laws line false state old free a b room room2 = one_short_line laws line (is_dot_line line) state old free
-    a b room room2
-
--- the state that stands there
-pub of_each : {X : Type 0} (P : X → Type 0) (xs : List X) (i : ℕ) (x : X) → AllByRecursion P xs →
-    slice_get xs i ≡ Some x → P x
-of_each P [] i x all e = absurd (none-some x e)
-of_each P (y ∷ ys) zero x all e = let same : y ≡ x = cc in subst P same all.0
-of_each P (y ∷ ys) (suc i) x all e = of_each P ys i x all.1 e
+  pub references : ReferencesAreComputed
 
 state_in : State → Option Snapshot → State
 state_in s None = s
@@ -328,14 +223,150 @@ same_state : (t : Timeline) {s u : State} → IsPresent s t → IsPresent u t �
 unfolding state_in
 same_state t {s} {u} a b = ap (state_in s) (sym a.1 ∙ b.1)
 
-pub one_line : Laws → (line : List ℕ) (old : Timeline) {reply reply2 : Reply} {new new2 : Timeline} →
-    AllByRecursion IsDetermined old.snapshots → LineMoves line old reply new → LineMoves line old reply2 new2 →
-    HasRoom reply → HasRoom reply2
-    → Same reply new reply2 new2
-one_line laws line old {reply} {reply2} {new} {new2} all a b room room2 =
-    let state : a.state ≡ b.state = same_state old a.present b.present in
-    one_line_of laws line (nat_lt LONGEST_LINE (length line)) a.state (line_counted old)
-    (of_each IsDetermined old.snapshots old.cursor (record { state = a.state; number = a.present.0 }) all
-    a.present.1) a.does
-    (subst (λ s. MatchBool (nat_lt LONGEST_LINE (length line)) (Refuses LineTooLong (line_counted old) reply2 new2)
-    (DoesLine line s (line_counted old) reply2 new2)) (sym state) b.does) room room2
+-- the turns of the externals after a line are told
+module _ (laws : Laws) (table : TurnTable) (turns : ℕ → Log) (kinds : List ℕ) where
+  abbrev Tells : Timeline → Type 0
+  Tells t = AreToldBy table turns kinds t.logs
+
+  fresh_or_locked : {old : Moment} {steps : ℕ} (does : Action) {reply : Reply} {new : Moment} {logs : List Log} →
+      IsOfKinds kinds old → AreToldBy table turns kinds new.logs → AreToldBy table turns kinds logs →
+      Fresh old steps does reply new → Locked old steps does logs → ⊥
+  fresh_or_locked does of_kinds are others_are fresh locked =
+      fresh_is_unlocked laws.references table turns kinds fresh.begin locked.begin
+      (record {
+        same = locked.here ∙ sym fresh.here;
+        sorts = ap (λ (m : Moment). sorts_of m.state.externals) fresh.here ∙ of_kinds.sorts;
+        logs = ap (λ (m : Moment). length m.logs) fresh.here ∙ of_kinds.logs;
+      }) locked.end locked.run does
+      (subst (λ (m : Moment). AreToldBy table turns kinds m.logs) fresh.leaves are)
+      (subst (AreToldBy table turns kinds) locked.leaves others_are) (answered fresh.runs.ends) fresh.runs.means
+      locked.meets
+
+  one_locked : {old : Moment} {steps : ℕ} (does : Action) {logs logs2 : List Log} → IsOfKinds kinds old →
+      AreToldBy table turns kinds logs → AreToldBy table turns kinds logs2 → Locked old steps does logs →
+      Locked old steps does logs2 → logs ≡ logs2
+  one_locked does of_kinds are others_are a b =
+      a.leaves
+      ∙ ap (λ (m : Moment). m.logs)
+      (one_lock laws.references table turns kinds a.begin b.begin
+      (record {
+        same = b.here ∙ sym a.here;
+        sorts = ap (λ (m : Moment). sorts_of m.state.externals) a.here ∙ of_kinds.sorts;
+        logs = ap (λ (m : Moment). length m.logs) a.here ∙ of_kinds.logs;
+      }) does (subst (AreToldBy table turns kinds) a.leaves are)
+      (subst (AreToldBy table turns kinds) b.leaves others_are) a.meets b.meets) ∙ sym b.leaves
+
+  -- two lists that come after one, in which the command begins with this state
+  record Alike (state : State) (old new new2 : Timeline) : Type 0 where
+    of_kinds : IsOfKinds kinds (moment_in state old)
+    first : Tells new
+    second : Tells new2
+
+  one_deed : (does : Action) (state : State) (old : Timeline) {reply reply2 : Reply} {new new2 : Timeline} →
+      Alike state old new new2 → Replaces does state old reply new ⊎ KeepsOut does state old reply new →
+      Replaces does state old reply2 new2 ⊎ KeepsOut does state old reply2 new2 → Same reply new reply2 new2
+  one_deed does state old {reply} {reply2} alike (inl a) (inl b) =
+      let both = laws.replies table turns kinds (moment_in state old) old.steps does reply reply2 a.after b.after
+      alike.of_kinds (subst Tells a.list alike.first) (subst Tells b.list alike.second) a.allowed b.allowed in
+      (both.0, a.list ∙ ap (followed_by old) both.1 ∙ sym b.list)
+  one_deed does state old alike (inl a) (inr b) =
+      absurd (fresh_or_locked does alike.of_kinds (subst Tells a.list alike.first)
+      (subst Tells b.refuses.same alike.second) a.allowed b.locked)
+  one_deed does state old alike (inr a) (inl b) =
+      absurd (fresh_or_locked does alike.of_kinds (subst Tells b.list alike.second)
+      (subst Tells a.refuses.same alike.first) b.allowed a.locked)
+  one_deed does state old alike (inr a) (inr b) =
+      let same = one_locked does alike.of_kinds (subst Tells a.refuses.same alike.first)
+      (subst Tells b.refuses.same alike.second) a.locked b.locked in (
+        a.refuses.answer ∙ sym b.refuses.answer,
+        a.refuses.same ∙ ap (λ logs. record old { logs = logs }) same ∙ sym b.refuses.same,
+      )
+
+  one_command : (reading : Reading) (text : List ℕ) (state : State) (old : Timeline) {reply reply2 : Reply}
+      {new new2 : Timeline} → Alike state old new new2
+      → Commands reading text state old reply new → Commands reading text state old reply2 new2 → HasRoom reply →
+      HasRoom reply2 → Same reply new reply2 new2
+  one_command reading text state old {reply} {reply2} {new} {new2} alike (Obeys.obeys {does = does} reads done)
+      (Obeys.obeys {does = does2} reads2 done2) room room2 =
+      one_deed does state old alike done
+      (subst (λ does. Replaces does state old reply2 new2 ⊎ KeepsOut does state old reply2 new2)
+      (one_action laws.texts reading text reads2 reads) done2)
+  one_command reading text state old alike (Obeys.obeys {does = does} reads done) (Obeys.nothing none refuses) room
+      room2 = absurd (none does reads)
+  one_command reading text state old alike (Obeys.nothing none refuses) (Obeys.obeys {does = does} reads done) room
+      room2 = absurd (none does reads)
+  one_command reading text state old alike (Obeys.nothing none refuses) (Obeys.nothing none2 refuses2) room room2 =
+      one_refusal refuses refuses2
+  one_command reading text state old alike (Obeys.given_up refuses) b room room2 = absurd
+      (refused_room refuses room)
+  one_command reading text state old alike (Obeys.obeys reads done) (Obeys.given_up refuses) room room2 = absurd
+      (refused_room refuses room2)
+  one_command reading text state old alike (Obeys.nothing none refuses) (Obeys.given_up refuses2) room room2 =
+      absurd (refused_room refuses2 room2)
+
+  one_dot_line : (line : List ℕ) (command : Option Command) (state : State) (old : Timeline)
+      {reply reply2 : Reply} {new new2 : Timeline} → Alike state old new new2
+      → Does line command state old reply new → Does line command state old reply2 new2 → HasRoom reply →
+      HasRoom reply2 →
+      Same reply new reply2 new2
+  one_dot_line line None state old alike a b room room2 = one_refusal a b
+  one_dot_line line (Some (Undo k)) state old alike a b room room2 = one_move _ old _ a b
+  one_dot_line line (Some (Redo k)) state old alike a b room room2 = one_move _ old _ a b
+  one_dot_line line (Some (UndoTo n)) state old alike a b room room2 = one_move _ old _ a b
+  one_dot_line line (Some Show) state old alike a b room room2 = one_show state (roomy a room) (roomy b room2)
+  one_dot_line line (Some Globals) state old alike a b room room2 = one_look (roomy a room) (roomy b room2)
+  one_dot_line line (Some Where) state old alike a b room room2 = one_look (roomy a room) (roomy b room2)
+  one_dot_line line (Some HistoryCommand) state old alike a b room room2 = one_look (roomy a room) (roomy b room2)
+  one_dot_line line (Some Cells) state old alike a b room room2 = one_show_of_cells old
+      (cells_named state (second_word (words line))) a b room room2
+  one_dot_line line (Some Save) state old alike a b room room2 = let p = roomy a room in let q = roomy b room2 in
+      (p.0 ∙ sym q.0, p.1 ∙ sym q.1)
+  one_dot_line line (Some (Act reading)) state old alike a b room room2 = one_command reading
+      (behind_name line) state old alike a b room room2
+  one_dot_line line (Some Quit) state old alike a b room room2 = (a.0 ∙ sym b.0, a.1 ∙ sym b.1)
+
+  -- a line that isn't too long
+  one_short_line : (line : List ℕ) (dot : Bool) (state : State) (old : Timeline) {reply reply2 : Reply}
+      {new new2 : Timeline} →
+      Alike state old new new2
+      → MatchBool dot (Does line (command_in line) state old reply new) (Commands Lines line state old reply new)
+      → MatchBool dot (Does line (command_in line) state old reply2 new2) (Commands Lines line state old reply2 new2) →
+      HasRoom reply → HasRoom reply2 → Same reply new reply2 new2
+  one_short_line line true state old alike a b room room2 = one_dot_line line (command_in line) state old alike
+      a b room room2
+  one_short_line line false state old alike a b room room2 = one_command Lines line state old alike a b room
+      room2
+
+  one_line_of : (line : List ℕ) (long : Bool) (state : State) (old : Timeline) {reply reply2 : Reply}
+      {new new2 : Timeline} → Alike state old new new2
+      → MatchBool long (Refuses LineTooLong old reply new) (DoesLine line state old reply new) →
+      MatchBool long (Refuses LineTooLong old reply2 new2) (DoesLine line state old reply2 new2) → HasRoom reply →
+      HasRoom reply2 → Same reply new reply2 new2
+  one_line_of line true state old alike a b room room2 = one_refusal a b
+  one_line_of line false state old alike a b room room2 = one_short_line line (is_dot_line line) state old alike
+      a b room room2
+
+  one_line_from : (line : List ℕ) (old : Timeline) {reply reply2 : Reply} {new new2 : Timeline} →
+      HasKinds kinds old → Tells new → Tells new2 → LineMoves line old reply new → LineMoves line old reply2 new2 →
+      HasRoom reply → HasRoom reply2 → Same reply new reply2 new2
+  one_line_from line old {reply} {reply2} {new} {new2} has are others_are a b room room2 =
+      let state : a.state ≡ b.state = same_state old a.present b.present in
+      one_line_of line (nat_lt LONGEST_LINE (length line)) a.state (line_counted old)
+      (record {
+        of_kinds = record {
+          sorts = of_each (λ (s : Snapshot). sorts_of s.state.externals ≡ kinds) old.snapshots old.cursor
+              (record { state = a.state; number = a.present.0 }) has.sorts a.present.1;
+          logs = has.logs;
+        };
+        first = are;
+        second = others_are;
+      }) a.does
+      (subst (λ s. MatchBool (nat_lt LONGEST_LINE (length line)) (Refuses LineTooLong (line_counted old) reply2 new2)
+      (DoesLine line s (line_counted old) reply2 new2)) (sym state) b.does) room room2
+
+pub one_line : Laws → (table : TurnTable) (turns : ℕ → Log) (kinds : List ℕ) (line : List ℕ) (old : Timeline)
+    {reply reply2 : Reply} {new new2 : Timeline} → HasKinds kinds old → AreToldBy table turns kinds new.logs →
+    AreToldBy table turns kinds new2.logs → LineMoves line old reply new → LineMoves line old reply2 new2 →
+    HasRoom reply → HasRoom reply2 → Same reply new reply2 new2
+one_line laws table turns kinds line old has are others_are a b room room2 =
+    one_line_from laws table turns kinds line old has are others_are a b room room2

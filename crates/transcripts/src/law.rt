@@ -1,24 +1,23 @@
 //! Laws of transcripts.
 
-ghost use Rattle.transcripts.specs.Laws.{TranscriptsExist, OutputsExist, TranscriptsAreOne, OutputsAreOne};
-ghost use Rattle.transcripts.specs.Laws.{KitIsDeterministic, TranscriptsStayWhole, OutputsStayWhole};
-ghost use Rattle.transcripts.specs.Replies.{RepliesAreOne, RepliesExist, WholeRepliesExist};
+ghost use Rattle.transcripts.specs.Laws.{TranscriptsExist, OutputsExist, TranscriptsExistBy, OutputsExistBy};
+ghost use Rattle.transcripts.specs.Laws.{BehavioursFollowTables, TranscriptsAreOne, OutputsAreOne};
+ghost use Rattle.transcripts.specs.Laws.{TablesTellTurns, LogsTellTurns, KitIsDeterministic, TranscriptsStayWhole};
+ghost use Rattle.transcripts.specs.Laws.{OutputsStayWhole, TranscriptsGoOn, TablesTellTranscripts};
+ghost use Rattle.transcripts.specs.Replies.{RepliesAreOne, RepliesExist, RepliesExistBy, RepliesStayWhole};
 
-use determinism::runs_have_one_outcome;
-use ht_grammar::{
-    expressions_are_read_exactly, lines_are_read_exactly, messages_are_read_exactly,
-    parts_are_read_exactly, scripts_are_read_exactly, typing_is_read_exactly,
-};
+use definitional_interpreter::{free_turns_are_known, runs_are_computed};
+use ht_grammar::{lines_are_read_exactly, parts_are_read_exactly, typing_is_read_exactly};
 use ht_lex::texts_are_cut_exactly;
-use totality::{runs_have_a_whole_outcome, runs_have_an_outcome};
-use whole_states::trees_have_texts;
+use totality::{behaviours_are_logged, behaviours_have_an_outcome, runs_have_an_outcome};
+use whole_states::{runs_lead_to_whole_states, trees_have_texts};
 
-/// Two replies to one fresh command, in one state where each external is deterministic, are the same, and so are the
-/// states after it.
+/// Two replies to one fresh command, at one moment, whose turns of externals are told by one table and the same turns
+/// beside it, are the same, and so is what they leave.
 pub fn replies_are_one()
     ensures { RepliesAreOne }
 {
-    runs_have_one_outcome();
+    runs_are_computed();
 }
 
 /// Each fresh command has a reply, with a state after it, in any state and with any number of steps; but for a text
@@ -29,16 +28,24 @@ pub fn replies_exist()
     runs_have_an_outcome();
 }
 
-/// In a whole state where each external is deterministic each fresh command whose texts are texts has a reply after
-/// which the state is such again; but for a text that is typed into a locked field.
-pub fn whole_replies_exist()
-    ensures { WholeRepliesExist }
+/// For each behaviour of the externals, in a whole state each fresh command whose texts are texts has a reply in which
+/// each turn is that of the behaviour; but for a text that is typed into a locked field.
+pub fn replies_exist_by_behaviours()
+    ensures { RepliesExistBy }
 {
-    runs_have_a_whole_outcome();
+    behaviours_have_an_outcome();
+    behaviours_are_logged();
+}
+
+/// Whatever the externals do, a fresh command whose texts are texts leads from a whole state to a whole one.
+pub fn replies_stay_whole()
+    ensures { RepliesStayWhole }
+{
+    runs_lead_to_whole_states();
 }
 
 /// Each list of lines, and so each input, has answers none of which is refused for memory or for its file, from any
-/// list of whole states on, if the cursor stands on one of them, and from any desk.
+/// list of states on, if the cursor stands on one of them, and from any desk.
 pub fn transcripts_exist()
     ensures lines { TranscriptsExist }
     ensures input { OutputsExist }
@@ -50,36 +57,51 @@ pub fn transcripts_exist()
     typing_is_read_exactly();
 }
 
-/// Such answers are the same each time, and so are the states, the cursor and the saved text after them, where no
-/// external of the states is free. None of the kit's four is.
-pub fn transcripts_are_one()
-    ensures lines { TranscriptsAreOne }
-    ensures input { OutputsAreOne }
-    ensures kit { KitIsDeterministic }
+/// Whatever behaviour the externals have, from whole states lines of bytes have such answers in which each turn is that
+/// of the behaviour. Where the behaviour is as a table says, logs that follow the table go on to follow it.
+pub fn transcripts_exist_by_behaviours()
+    ensures lines { TranscriptsExistBy }
+    ensures input { OutputsExistBy }
+    ensures tables { BehavioursFollowTables }
 {
-    replies_are_one();
+    replies_exist_by_behaviours();
+    replies_stay_whole();
+    trees_have_texts();
     texts_are_cut_exactly();
-    expressions_are_read_exactly();
     lines_are_read_exactly();
-    scripts_are_read_exactly();
-    messages_are_read_exactly();
     parts_are_read_exactly();
     typing_is_read_exactly();
 }
 
-/// From whole states none of whose externals is free such answers lead to whole states none of whose externals is free.
+/// Along such answers the externals stay, and each log only grows.
+pub fn transcripts_go_on()
+    ensures { TranscriptsGoOn }
+{}
+
+/// Such answers are the same each time, and so are the states, the cursor, the logs and the saved text after them,
+/// where the turns of the externals are told by one table and the same turns beside it. The table alone tells them where
+/// it has each turn of each kind, as that of the kit's four has, and without a table the logs do.
+pub fn transcripts_are_one()
+    ensures lines { TranscriptsAreOne }
+    ensures input { OutputsAreOne }
+    ensures tables { TablesTellTurns }
+    ensures table { TablesTellTranscripts }
+    ensures kit { KitIsDeterministic }
+    ensures logs { LogsTellTurns }
+{
+    replies_are_one();
+    runs_are_computed();
+    free_turns_are_known();
+    lines_are_read_exactly();
+    parts_are_read_exactly();
+    typing_is_read_exactly();
+}
+
+/// Whatever the externals do, such answers to lines of bytes lead from whole states to whole states.
 pub fn transcripts_stay_whole()
     ensures lines { TranscriptsStayWhole }
     ensures input { OutputsStayWhole }
 {
-    whole_replies_exist();
+    replies_stay_whole();
     trees_have_texts();
-    replies_are_one();
-    texts_are_cut_exactly();
-    expressions_are_read_exactly();
-    lines_are_read_exactly();
-    scripts_are_read_exactly();
-    messages_are_read_exactly();
-    parts_are_read_exactly();
-    typing_is_read_exactly();
 }

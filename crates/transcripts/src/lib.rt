@@ -1,10 +1,11 @@
-//! An input has an output, and where each external is deterministic just one: laws over the headline, each the contract
-//! of a function that does nothing.
+//! An input has an output, for each behaviour of the externals, and by their turns just one: laws over the headline,
+//! each the contract of a function that does nothing.
 #![tactic(auto)]
 
 mod law;
 
 pub use law::{
-    replies_are_one, replies_exist, transcripts_are_one, transcripts_exist, transcripts_stay_whole,
-    whole_replies_exist,
+    replies_are_one, replies_exist, replies_exist_by_behaviours, replies_stay_whole,
+    transcripts_are_one, transcripts_exist, transcripts_exist_by_behaviours, transcripts_go_on,
+    transcripts_stay_whole,
 };

@@ -10,8 +10,8 @@ returns-in-Ok-run-clause-ok g c =
       p.1,
       p.2,
       p.3,
-      plays _ _ _ _ _ _ (g.R.Read.remaining c.run.new.reader.device) _ _ _ _ _
-          c.in_ok-stack.ensures.ok c.in-Ok.ensures.ok.1 c.in-Ok-run.ran c.runs_follow.ensures
+      plays _ _ _ _ _ _ (g.R.Read.remaining c.run.new.reader.device) _ _ _ _ _ _ c.tables_follow.ensures
+          c.law_of_table.ensures c.in_ok-stack.ensures.ok c.in-Ok.ensures.ok.1 c.in-Ok-run.ran c.runs_follow.ensures
           c.runs_stay_whole.ensures.ended p.4,
     )
 
@@ -23,8 +23,9 @@ returns-clause-err g c =
       p.1,
       p.2,
       p.3,
-      ends _ _ _ _ _ _ (g.R.Read.remaining c.run.new.reader.device) _ _ _ _ _
-          c.in_ok-stack.ensures.ok c.in-Ok.ensures.ok.1 c.in-Err-run.fault c.runs_stay_whole.ensures.stopped p.4,
+      ends _ _ _ _ _ _ (g.R.Read.remaining c.run.new.reader.device) _ _ _ _ _ _ c.tables_follow.ensures
+          c.law_of_table-in-Err-run.ensures c.in_ok-stack.ensures.ok c.in-Ok.ensures.ok.1 c.in-Err-run.fault
+          c.runs_stay_whole.ensures.stopped p.4,
     )
 
 pub returns-clause-read_failed : goal.returns-clause-read_failed

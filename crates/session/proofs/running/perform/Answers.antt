@@ -33,7 +33,8 @@ pub returns-in-Ok-Some-clause-ok : goal.returns-in-Ok-Some-clause-ok
 returns-in-Ok-Some-clause-ok g c =
     finishes c.args.steps c.args.number _ c.args.world.now.history _ c.act.new.world.history _ c.act.new.run
     c.act.result c.in_ok-begin.ensures.ok c.new-run.ensures c.act.ensures.base c.act.ensures.meaning
-    (Ok c.in-Ok-Some.field-0-0) ending.Ok _ _ (c.in-Ok-Some.is ∙ ap Ok c.in-Ok-Some.field-0-is)
+    (Ok c.in-Ok-Some.field-0-0) ending.Ok _ _ c.law_of_states.ensures
+    (c.in-Ok-Some.is ∙ ap Ok c.in-Ok-Some.field-0-is)
     (ends_well c.in-Ok-Some.field-0-0)
     c.finished.ensures.answer c.finished.ensures.once c.finished.ensures.history
 
@@ -48,7 +49,8 @@ pub returns-in-Err-Exited-clause-ok : goal.returns-in-Err-Exited-clause-ok
 returns-in-Err-Exited-clause-ok g c =
     finishes c.args.steps c.args.number _ c.args.world.now.history _ c.act.new.world.history _ c.act.new.run
     c.act.result c.in_ok-begin.ensures.ok c.new-run.ensures c.act.ensures.base c.act.ensures.meaning
-    (Err stop.Exited) ending.Ok _ _ (c.in-Err-Exited.is ∙ ap Err c.in-Err-Exited.field-0-is) refl
+    (Err stop.Exited) ending.Ok _ _ c.law_of_states.ensures
+    (c.in-Err-Exited.is ∙ ap Err c.in-Err-Exited.field-0-is) refl
     c.finished-in-Err-Exited.ensures.answer c.finished-in-Err-Exited.ensures.once
     c.finished-in-Err-Exited.ensures.history
 
@@ -57,6 +59,7 @@ returns-in-Err-Fault-clause-ok g c =
     finishes c.args.steps c.args.number _ c.args.world.now.history _ c.act.new.world.history _ c.act.new.run
     c.act.result c.in_ok-begin.ensures.ok c.new-run.ensures c.act.ensures.base c.act.ensures.meaning
     (Err (stop.Fault c.in-Err-Fault.fault)) (ending.Fault c.in-Err-Fault.fault) _ _
+    c.law_of_states.ensures
     (c.in-Err-Fault.is ∙ ap Err c.in-Err-Fault.field-0-is) refl
     (c.finished-in-Err-Fault.ensures.answer
     ∙ ap (λ n. reply_of c.act.new.run (ending.Fault n)) c.in-Err-Fault.fault-is)

@@ -1,5 +1,5 @@
-use Rattle.transcripts.proofs.law.replies_are_one.Goals as goal
 use Rattle.transcripts.proofs.OneReply.{one_reply}
+use Rattle.transcripts.proofs.law.replies_are_one.Goals as goal
 
 pub returns : goal.returns
-returns c = one_reply c.runs_have_one_outcome.ensures.actions
+returns c = one_reply c.runs_are_computed.ensures.actions

@@ -1,5 +1,6 @@
-use Rattle.definitional_interpreter.proofs.Computed.{exactly}
-use Rattle.transcripts.proofs.One.{one_transcript, one_output, kit_is_fixed}
+use Rattle.transcripts.proofs.One.{one_transcript, one_output}
+use Rattle.transcripts.proofs.Tables.{tables_tell_transcripts}
+use Rattle.transcripts.proofs.Told.{tables_tell, logs_tell, kit_is_fixed}
 use Rattle.transcripts.proofs.law.transcripts_are_one.Goals as goal
 
 pub returns-clause-lines : goal.returns-clause-lines
@@ -7,19 +8,25 @@ returns-clause-lines c =
     one_transcript
     (record {
       texts = record {
-        exact =
-            exactly c.texts_are_cut_exactly.ensures c.expressions_are_read_exactly.ensures.exact
-            c.lines_are_read_exactly.ensures.exact c.scripts_are_read_exactly.ensures.exact
-            c.messages_are_read_exactly.ensures.exact;
         lines = c.lines_are_read_exactly.ensures.text;
         parts = c.parts_are_read_exactly.ensures.text;
         typing = c.typing_is_read_exactly.ensures.text;
       };
       replies = c.replies_are_one.ensures;
+      references = c.runs_are_computed.ensures.references;
     })
 
 pub returns-clause-input : goal.returns-clause-input
 returns-clause-input c = one_output (returns-clause-lines c)
 
+pub returns-clause-tables : goal.returns-clause-tables
+returns-clause-tables c = tables_tell c.free_turns_are_known.ensures.deterministic
+
+pub returns-clause-table : goal.returns-clause-table
+returns-clause-table c = tables_tell_transcripts (returns-clause-tables c) (returns-clause-lines c)
+
 pub returns-clause-kit : goal.returns-clause-kit
 returns-clause-kit c = kit_is_fixed
+
+pub returns-clause-logs : goal.returns-clause-logs
+returns-clause-logs c = logs_tell c.free_turns_are_known.ensures.no_table

@@ -1,11 +1,10 @@
-use Rattle.transcripts.proofs.Exists.{transcript, output}
+use Rattle.transcripts.proofs.Ways.{transcript, output}
 use Rattle.transcripts.proofs.law.transcripts_exist.Goals as goal
 
 pub returns-clause-lines : goal.returns-clause-lines
 returns-clause-lines c =
-    transcript
+    transcript c.replies_exist.ensures
     (record {
-      replies = c.replies_exist.ensures;
       cuts = c.texts_are_cut_exactly.ensures;
       lines = c.lines_are_read_exactly.ensures.exact;
       parts = c.parts_are_read_exactly.ensures.exact;
