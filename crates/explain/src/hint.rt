@@ -18,43 +18,39 @@ fn needed(first: TokenKind) -> Option<(Key, &'static [u8])> {
     }
 }
 
+/// The operators and words that a value has to follow.
+const BEFORE_VALUES: &[Key] = &[
+    Key::Plus,
+    Key::Minus,
+    Key::Star,
+    Key::Slash,
+    Key::Caret,
+    Key::Ampersand,
+    Key::DoubleAmpersand,
+    Key::Equal,
+    Key::NotEqual,
+    Key::Less,
+    Key::Greater,
+    Key::LessEqual,
+    Key::GreaterEqual,
+    Key::And,
+    Key::Or,
+    Key::Div,
+    Key::Mod,
+    Key::Contains,
+    Key::CommaSign,
+    Key::LeftParen,
+    Key::Of,
+    Key::If,
+    Key::Put,
+    Key::Get,
+    Key::Until,
+    Key::While,
+];
+
 /// Whether a value has to follow a token.
 fn wants_value(kind: TokenKind) -> bool {
-    let TokenKind::Key(key) = kind else {
-        return false;
-    };
-    is_operator(key) || is_preposition(key)
-}
-
-fn is_operator(key: Key) -> bool {
-    let operators: &[Key] = &[
-        Key::Plus,
-        Key::Minus,
-        Key::Star,
-        Key::Slash,
-        Key::Caret,
-        Key::Ampersand,
-        Key::DoubleAmpersand,
-        Key::Equal,
-        Key::NotEqual,
-        Key::Less,
-        Key::Greater,
-        Key::LessEqual,
-        Key::GreaterEqual,
-        Key::And,
-        Key::Or,
-        Key::Div,
-        Key::Mod,
-        Key::Contains,
-        Key::CommaSign,
-        Key::LeftParen,
-    ];
-    operators.contains(&key)
-}
-
-fn is_preposition(key: Key) -> bool {
-    let prepositions: &[Key] = &[Key::Of, Key::If, Key::Put, Key::Get, Key::Until, Key::While];
-    prepositions.contains(&key)
+    matches!(kind, TokenKind::Key(key) if BEFORE_VALUES.contains(&key))
 }
 
 /// The tokens of a line that stand before a place.
@@ -72,11 +68,6 @@ fn count_of(line: &[Span], key: Key) -> usize {
     line.iter()
         .filter(|span| span.kind == TokenKind::Key(key))
         .count()
-}
-
-fn write_expected(page: &mut Page, word: &[u8]) {
-    page.word(b"; expected ");
-    page.word(word);
 }
 
 /// What the tokens of a line want behind them, where that is known.
@@ -203,11 +194,6 @@ fn is_end(line: &[Span]) -> bool {
     }
 }
 
-/// Up to where blocks are counted: up to `end`, where a line begins with that.
-fn end_of(line: &[Span], first: &Span, at: usize) -> usize {
-    if is_end(line) { first.start } else { at }
-}
-
 /// What no token begins with.
 fn write_strange(page: &mut Page, rest: &[u8]) {
     match rest.first() {
@@ -232,9 +218,14 @@ pub(crate) fn write_hint(page: &mut Page, alloc: Global, text: &Text, at: usize)
             write_found(page, text.as_slice(), found);
             let line = line_before(spans, at);
             if let Some(word) = wanted(line) {
-                write_expected(page, word);
+                page.word(b"; expected ");
+                page.word(word);
             } else if ends_block(found) || is_end(line) {
-                let end = line.first().map_or(at, |span| end_of(line, span, at));
+                // Blocks are counted up to `end`, where the line begins with that.
+                let end = match line.first() {
+                    Some(first) if is_end(line) => first.start,
+                    _ => at,
+                };
                 if let Some(block) = open_block(alloc, spans, end) {
                     write_open(page, text.as_slice(), spans, block);
                 }

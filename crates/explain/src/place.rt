@@ -39,12 +39,6 @@ pub(crate) fn place_in(text: &[u8], at: usize) -> Place<'_> {
     place
 }
 
-/// How many bytes of a line are left out at its front where this column is shown.
-fn front_of(place: Place<'_>) -> usize {
-    let before = place.column.saturating_sub(1).min(place.text.len());
-    if before <= BEFORE { 0 } else { before - BEFORE }
-}
-
 /// The bytes from one place up to another, as far as they are there.
 fn part(text: &[u8], from: usize, to: usize) -> &[u8] {
     let to = to.min(text.len());
@@ -80,8 +74,8 @@ pub(crate) fn write_statement(page: &mut Page, place: Place<'_>) {
 /// The line of a place, indented by four spaces, and below it a caret at the place; of a long line what stands round
 /// it.
 pub(crate) fn write_pointed(page: &mut Page, place: Place<'_>) {
-    let front = front_of(place);
     let at = place.column.saturating_sub(1);
+    let front = at.min(place.text.len()).saturating_sub(BEFORE);
     let end = at.saturating_add(AFTER);
     page.word(b"\n    ");
     if 0 < front {

@@ -53,10 +53,6 @@ fn objects(alloc: Global, stack: &Stack) -> Result<Vec<Id>, AllocError> {
     Ok(found)
 }
 
-fn end_line(page: &mut Page) {
-    page.word(b"\n");
-}
-
 impl<E: External> Survey<'_, E> {
     /// Adds the handlers of a script to the names that are known.
     fn learn(&mut self, script: &Script) -> Result<(), AllocError> {
@@ -81,7 +77,7 @@ impl<E: External> Survey<'_, E> {
         page.word(b": not in the grammar");
         write_pointed(page, place);
         write_hint(page, self.alloc, script, at);
-        end_line(page);
+        page.word(b"\n");
     }
 
     /// Reads the script of an object: its handlers are known then, or it is told of.
@@ -115,7 +111,7 @@ impl<E: External> Survey<'_, E> {
         write_place(page, place_in(script, at), false);
         page.word(b": nothing handles ");
         page.spelled(name.as_slice());
-        end_line(page);
+        page.word(b"\n");
     }
 
     /// Looks at the messages that a script sends.
