@@ -1,5 +1,5 @@
 -- Turns of externals: what a type says of them, and that what is asked is texts.
-use Rattle.std.specs.Prelude.{◌≡◌, ℕ, List, Option, None}
+use Rattle.std.specs.Prelude.{ℕ, List, Option, None}
 use Rattle.std.specs.List.{AllByRecursion}
 use Rattle.ht_values.specs.Text.{IsText}
 use Rattle.externals.specs.declared.external.Input.{Input}

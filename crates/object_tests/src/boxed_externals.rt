@@ -21,7 +21,12 @@ pub(crate) enum Made {
     Table,
 }
 
-fn boxed<E: External>(alloc: Global, made: Result<E, AllocError>) -> Option<Boxed> {
+fn kit(alloc: Global, made: Result<KitExternal, AllocError>) -> Option<Boxed> {
+    let external: Boxed = Box::new(alloc, made.ok()?).ok()?;
+    Some(external)
+}
+
+fn tool(alloc: Global, made: Result<TextTool, AllocError>) -> Option<Boxed> {
     let external: Boxed = Box::new(alloc, made.ok()?).ok()?;
     Some(external)
 }
@@ -41,12 +46,12 @@ fn name_of(which: Made) -> Bytes {
 pub(crate) fn make_external(alloc: Global, which: Made) -> Option<Boxed> {
     let name = text(alloc, name_of(which))?;
     match which {
-        Made::Count(start) => boxed(alloc, KitExternal::count(alloc, name, start)),
-        Made::Bins => boxed(alloc, KitExternal::bins(alloc, name)),
-        Made::Relay => boxed(alloc, KitExternal::relay(alloc, name)),
-        Made::Gate => boxed(alloc, KitExternal::gate(alloc, name)),
-        Made::Replace => boxed(alloc, TextTool::replace(alloc, name)),
-        Made::Table => boxed(alloc, TextTool::table(alloc, name)),
+        Made::Count(start) => kit(alloc, KitExternal::count(alloc, name, start)),
+        Made::Bins => kit(alloc, KitExternal::bins(alloc, name)),
+        Made::Relay => kit(alloc, KitExternal::relay(alloc, name)),
+        Made::Gate => kit(alloc, KitExternal::gate(alloc, name)),
+        Made::Replace => tool(alloc, TextTool::replace(alloc, name)),
+        Made::Table => tool(alloc, TextTool::table(alloc, name)),
     }
 }
 

@@ -5,7 +5,7 @@ ghost use Rattle.ht_values.specs.Text.{numeral as numeral_of};
 ghost use Rattle.externals.specs.Cells.{IsPatch};
 ghost use Rattle.externals.specs.Log.{Follows, Follows-prop, IsTurnOf};
 ghost use Rattle.xkit.specs.Table.{kit_table};
-ghost use Rattle.xkit.specs.Members.{answers_calls_of, cell_count_of, kind_of};
+ghost use Rattle.xkit.specs.Members.{cell_count_of, kind_of};
 
 use crate::before::Before;
 use crate::cells::Cells;

@@ -1,4 +1,4 @@
-use Rattle.std.proofs.Common.{length, All, subst, arith}
+use Rattle.std.proofs.Common.{All, subst, arith}
 use Rattle.std.proofs.lemmas.List.{take_all}
 use Rattle.ht_values.specs.Text.{IsText}
 use Rattle.externals.proofs.ReadTexts.{texts_more}
