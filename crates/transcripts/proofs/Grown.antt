@@ -80,11 +80,11 @@ acts_grow acts has = logs_kept (acts_comes {g = any_sight} acts has).kept
 
 pub refers_grow : {w w2 : History} {r r2 : RunState} {pa : tree.Part} {o : Result ℕ Stop} →
     Refers w r pa o w2 r2 → HasMemory o → Grows w.logs w2.logs
-refers_grow refers has = logs_kept (refers_comes {g = any_sight} refers has).kept
+refers_grow found has = logs_kept (refers_comes {g = any_sight} found has).kept
 
 pub tells_grow : {w w2 : History} {r r2 : RunState} {i : ℕ} {message : SystemMessage} {o : Result (Unit {0}) Stop} →
     Tells w r i message o w2 r2 → HasMemory o → Grows w.logs w2.logs
-tells_grow tells has = logs_kept (tells_comes {g = any_sight} tells has).kept
+tells_grow sent has = logs_kept (tells_comes {g = any_sight} sent has).kept
 
 pub typing_grows : {w w2 : History} {r r2 : RunState} {m : Referent} {t : List ℕ} {o : Result (Unit {0}) Stop} →
     TypesOver w r m t o w2 r2 → HasMemory o → Grows w.logs w2.logs

@@ -16,7 +16,7 @@ use Rattle.meaning.specs.Actions as act
 use Rattle.meaning.specs.Actions.{Action, locks_text}
 use Rattle.meaning.specs.Locked.{MeetsLock}
 use Rattle.meaning.specs.Meaning.{Refers, TypesInto, Acts}
-use Rattle.meaning.specs.State.{RunState}
+use Rattle.meaning.specs.State.{RunState, fresh_run}
 use Rattle.preservation.specs.Laws.{HasMemory}
 use Rattle.definitional_interpreter.specs.Laws.{ReferencesAreComputed}
 use Rattle.definitional_interpreter.specs.Turns.{sorts_of}
@@ -167,21 +167,23 @@ module _ (references : ReferencesAreComputed) (table : TurnTable) (turns : ℕ �
       let both = one_reference references table turns kinds w v begin are others_are (misses_too z has) (λ e. cc) g
       found in no_value both.0
   typed_unlocked are others_are has (TypesInto.field_open_stops {w1 = w1} {w2 = w2} g unlocked rest) found locked =
-      is_locked (told_before w1.logs w2.logs (tells_grow rest has) are) others_are g found unlocked locked
+      is_locked (told_before table turns kinds w1.logs w2.logs (tells_grow rest has) are) others_are g found unlocked
+      locked
   typed_unlocked are others_are has
       (TypesInto.types_into {w1 = w1} {w2 = w2} {w3 = w3} g unlocked opens here over) found locked =
       is_locked
-      (told_before w1.logs w2.logs (tells_grow opens (λ e. cc))
-      (told_before w2.logs w3.logs (typing_grows over has) are)) others_are g found unlocked locked
+      (told_before table turns kinds w1.logs w2.logs (tells_grow opens (λ e. cc))
+      (told_before table turns kinds w2.logs w3.logs (typing_grows over has) are)) others_are g found unlocked locked
 
   -- two that find a locked field leave the same
-  one_lock : {w2 v2 : History} {r r2 q2 : RunState} (ac : Action) → Told w2 → Told v2 → MeetsLock w r ac w2 r2 →
+  one_lock : (w2 v2 : History) (r r2 q2 : RunState) (ac : Action) → Told w2 → Told v2 → MeetsLock w r ac w2 r2 →
       MeetsLock v r ac v2 q2 → moment w2 ≡ moment v2
-  one_lock (act.type_text text reference) are others_are (field, found, locked) (field2, found2, locked2) =
+  one_lock w2 v2 r r2 q2 (act.type_text text reference) are others_are (field, found, locked)
+      (field2, found2, locked2) =
       (one_reference references table turns kinds w v begin are others_are (λ e. cc) (λ e. cc) found found2).1
-  one_lock (act.run_lines ss) are others_are a b = absurd a
-  one_lock act.open_stack are others_are a b = absurd a
-  one_lock (act.click pa) are others_are a b = absurd a
+  one_lock w2 v2 r r2 q2 (act.run_lines ss) are others_are a b = absurd a
+  one_lock w2 v2 r r2 q2 act.open_stack are others_are a b = absurd a
+  one_lock w2 v2 r r2 q2 (act.click pa) are others_are a b = absurd a
 
   -- a command that has memory isn't one for a locked field
   fresh_is_unlocked : {w2 : History} {r r2 : RunState} (v2 : History) (q2 : RunState) (ac : Action)
@@ -245,7 +247,7 @@ module _ (laws : Laws) (table : TurnTable) (turns : ℕ → Log) (kinds : List �
   one_locked : {old : Moment} {steps : ℕ} (does : Action) {logs logs2 : List Log} → IsOfKinds kinds old →
       AreToldBy table turns kinds logs → AreToldBy table turns kinds logs2 → Locked old steps does logs →
       Locked old steps does logs2 → logs ≡ logs2
-  one_locked does of_kinds are others_are a b =
+  one_locked {steps = steps} does of_kinds are others_are a b =
       a.leaves
       ∙ ap (λ (m : Moment). m.logs)
       (one_lock laws.references table turns kinds a.begin b.begin
@@ -253,7 +255,7 @@ module _ (laws : Laws) (table : TurnTable) (turns : ℕ → Log) (kinds : List �
         same = b.here ∙ sym a.here;
         sorts = ap (λ (m : Moment). sorts_of m.state.externals) a.here ∙ of_kinds.sorts;
         logs = ap (λ (m : Moment). length m.logs) a.here ∙ of_kinds.logs;
-      }) does (subst (AreToldBy table turns kinds) a.leaves are)
+      }) a.end b.end (fresh_run steps) a.run b.run does (subst (AreToldBy table turns kinds) a.leaves are)
       (subst (AreToldBy table turns kinds) b.leaves others_are) a.meets b.meets) ∙ sym b.leaves
 
   -- two lists that come after one, in which the command begins with this state

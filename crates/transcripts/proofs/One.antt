@@ -65,8 +65,9 @@ one_transcript laws table turns kinds old (line ∷ lines) text text2 new new2 h
     let kept = (step_goes kinds line old reply mid taken has).0 in
     let kept2 = (step_goes kinds line old reply2 mid2 taken2 has).0 in
     let step = one_step laws table turns kinds line old has
-    (told_before mid.0.logs new.0.logs (rest_grows kinds lines (is_quit reply.ending) mid new more kept rest) are)
-    (told_before mid2.0.logs new2.0.logs
+    (told_before table turns kinds mid.0.logs new.0.logs
+    (rest_grows kinds lines (is_quit reply.ending) mid new more kept rest) are)
+    (told_before table turns kinds mid2.0.logs new2.0.logs
     (rest_grows kinds lines (is_quit reply2.ending) mid2 new2 more2 kept2 rest2) others_are)
     taken taken2 in
     let later =

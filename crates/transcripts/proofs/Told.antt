@@ -32,9 +32,10 @@ told_head {table} {turns} {kind} log new head told = record {
   );
 }
 
-pub told_before : {table : TurnTable} {turns : ℕ → Log} {kinds : List ℕ} (old new : List Log) → Grows old new →
+pub told_before : (table : TurnTable) (turns : ℕ → Log) (kinds : List ℕ) (old new : List Log) → Grows old new →
     AreToldBy table turns kinds new → AreToldBy table turns kinds old
-told_before old new grown told i there = told_head (log_at old i) (log_at new i) (grown.logs i) (told i there)
+told_before table turns kinds old new grown told i there =
+    told_head (log_at old i) (log_at new i) (grown.logs i) (told i there)
 
 -- ---- since a run began
 
