@@ -68,22 +68,17 @@ fn framed_part(alloc: Global, part: &str) -> Result<String, AllocError> {
     Ok(framed)
 }
 
-/// Whether the lines stand one after the other in the part.
-fn has_run(alloc: Global, part: &str, lines: &str) -> Result<bool, AllocError> {
-    let run = framed_run(alloc, lines)?;
-    Ok(framed_part(alloc, part)?.as_str().contains(run.as_str()))
-}
-
 /// Whether the lines A and B of `HEADER: A / B` stand one after the other in the part of a stack text that the
 /// line HEADER begins; one line alone stands there.
 fn stands_in(alloc: Global, text: &str, wanted: &str) -> Result<bool, AllocError> {
     let Some((header, lines)) = wanted.split_once(": ") else {
         return Ok(false);
     };
-    match part_below(alloc, text, header)? {
-        Some(part) => has_run(alloc, part, lines),
-        None => Ok(false),
-    }
+    let Some(part) = part_below(alloc, text, header)? else {
+        return Ok(false);
+    };
+    let run = framed_run(alloc, lines)?;
+    Ok(framed_part(alloc, part)?.as_str().contains(run.as_str()))
 }
 
 /// Whether the text that was kept under a name is this one.
@@ -96,19 +91,6 @@ fn is_kept(kept: &[NamedText], name: &str, shown: &str) -> bool {
     false
 }
 
-/// Keeps a text under a name.
-fn keep(
-    alloc: Global,
-    name: &str,
-    text: &str,
-    kept: &mut Vec<NamedText>,
-) -> Result<(), AllocError> {
-    let name = String::from_str(alloc, name)?;
-    let text = String::from_str(alloc, text)?;
-    kept.push(NamedText { name, text })?;
-    Ok(())
-}
-
 /// Whether a shown stack text passes a check of a row; `keep` keeps it.
 fn passes(
     alloc: Global,
@@ -118,7 +100,9 @@ fn passes(
     kept: &mut Vec<NamedText>,
 ) -> Result<bool, AllocError> {
     if let Some(name) = check.strip_prefix("keep ") {
-        keep(alloc, name, shown, kept)?;
+        let name = String::from_str(alloc, name)?;
+        let text = String::from_str(alloc, shown)?;
+        kept.push(NamedText { name, text })?;
         return Ok(true);
     }
     if let Some(wanted) = check.strip_prefix("in ") {
@@ -128,16 +112,6 @@ fn passes(
         Some(name) => is_kept(kept.as_slice(), name, shown),
         None => check == "stack" && shown == stack,
     })
-}
-
-/// Whether a message is the one of a line: its name, and the id of its object.
-fn is_message(message: &HeardMessage, wanted: &str) -> bool {
-    match wanted.split_once(" ") {
-        Some((name, object)) => {
-            message.name.as_slice() == name.as_bytes() && object.parse() == Ok(message.object)
-        }
-        None => false,
-    }
 }
 
 /// The answers that are still to be compared, and what is kept of those before.
@@ -163,13 +137,15 @@ impl<'a> Comparison<'a> {
         self.checked
     }
 
-    /// Whether the next message is the one of a line.
+    /// Whether the next message is the one of a line: its name, and the id of its object.
     fn is_next_message(&mut self, wanted: &str) -> bool {
         let next = self.messages.get(self.compared);
         self.compared = self.compared.saturating_add(1);
-        match next {
-            Some(message) => is_message(message, wanted),
-            None => false,
+        match (next, wanted.split_once(" ")) {
+            (Some(message), Some((name, object))) => {
+                message.name.as_slice() == name.as_bytes() && object.parse() == Ok(message.object)
+            }
+            _ => false,
         }
     }
 
@@ -182,13 +158,6 @@ impl<'a> Comparison<'a> {
             return Some("no more messages");
         }
         None
-    }
-
-    /// Whether the next line of the answers is this one.
-    fn is_next_line(&mut self, wanted: &str) -> bool {
-        let (answer, after) = self.rest.split_once("\n").unwrap_or(("", ""));
-        self.rest = after;
-        answer == wanted
     }
 
     /// Whether the next answer passes a check.
@@ -204,7 +173,9 @@ impl<'a> Comparison<'a> {
     /// own.
     fn meets(&mut self, alloc: Global, line: &str, stack: &str) -> Result<bool, AllocError> {
         if let Some(wanted) = line.strip_prefix("= ") {
-            return Ok(self.is_next_line(wanted));
+            let (answer, after) = self.rest.split_once("\n").unwrap_or(("", ""));
+            self.rest = after;
+            return Ok(answer == wanted);
         }
         if let Some(wanted) = line.strip_prefix("! ") {
             return Ok(self.is_next_message(wanted));

@@ -58,8 +58,12 @@ fn push_cut(out: &mut String, stack: &str, count: &str) -> Result<(), AllocError
     Ok(())
 }
 
-/// A stack's text with another line of this number, from 1.
-fn push_changed(out: &mut String, stack: &str, number: &str, new: &str) -> Result<(), AllocError> {
+/// A stack's text after an edit `line N TEXT`: with this line of this number, from 1. Another edit changes nothing.
+fn push_changed(out: &mut String, stack: &str, edit: &str) -> Result<(), AllocError> {
+    let (number, new) = edit
+        .strip_prefix("line ")
+        .and_then(|rest| rest.split_once(" "))
+        .unwrap_or(("0", ""));
     let number: usize = number.parse().unwrap_or(0);
     let mut at: usize = 0;
     for line in stack.lines() {
@@ -70,22 +74,13 @@ fn push_changed(out: &mut String, stack: &str, number: &str, new: &str) -> Resul
     Ok(())
 }
 
-/// A stack's text after an edit: `cut N`, or `line N TEXT`.
-fn push_edited(out: &mut String, stack: &str, edit: &str) -> Result<(), AllocError> {
-    if let Some(count) = edit.strip_prefix("cut ") {
-        return push_cut(out, stack, count);
-    }
-    let (number, new) = edit
-        .strip_prefix("line ")
-        .and_then(|rest| rest.split_once(" "))
-        .unwrap_or(("0", ""));
-    push_changed(out, stack, number, new)
-}
-
-/// The text of the stack after the edit.
+/// The text of the stack after the edit: `cut N`, or `line N TEXT`.
 pub fn edited(alloc: Global, stack: &str, edit: &str) -> Result<String, AllocError> {
     let mut out = String::new(alloc);
-    push_edited(&mut out, stack, edit)?;
+    match edit.strip_prefix("cut ") {
+        Some(count) => push_cut(&mut out, stack, count)?,
+        None => push_changed(&mut out, stack, edit)?,
+    }
     Ok(out)
 }
 

@@ -56,56 +56,6 @@ fn nested(alloc: Global, counts: &str) -> Result<Vec<u8>, AllocError> {
     Ok(bytes)
 }
 
-/// Prints that a text isn't in the grammar.
-fn refused(out: &mut Printed, error: ParseError) {
-    match error {
-        ParseError::Syntax(_) => out.word("syntax"),
-        ParseError::Memory => out.cut(),
-    }
-}
-
-fn print_read_expr(alloc: Global, text: &Text, out: &mut Printed) {
-    match parse_expr(alloc, text) {
-        Ok(expr) => print_expr(out, &expr),
-        Err(error) => refused(out, error),
-    }
-}
-
-fn print_read_lines(alloc: Global, text: &Text, out: &mut Printed) {
-    match parse_lines(alloc, text) {
-        Ok(lines) => print_lines(out, &lines),
-        Err(error) => refused(out, error),
-    }
-}
-
-fn print_read_script(alloc: Global, text: &Text, out: &mut Printed) {
-    match parse_script(alloc, text) {
-        Ok(script) => print_script(out, &script),
-        Err(error) => refused(out, error),
-    }
-}
-
-fn print_read_part(alloc: Global, text: &Text, out: &mut Printed) {
-    match parse_part(alloc, text) {
-        Ok(part) => print_part(out, &part),
-        Err(error) => refused(out, error),
-    }
-}
-
-fn print_read_type(alloc: Global, text: &Text, out: &mut Printed) {
-    match parse_type(alloc, text) {
-        Ok(typing) => print_typing(out, &typing),
-        Err(error) => refused(out, error),
-    }
-}
-
-fn print_read_message(alloc: Global, text: &Text, out: &mut Printed) {
-    match parse_message(alloc, text) {
-        Ok(message) => print_message(out, &message),
-        Err(error) => refused(out, error),
-    }
-}
-
 /// The text of a line of this kind.
 fn text_in(alloc: Global, kind: &str, rest: &str) -> anyhow::Result<Text> {
     let bytes = if kind == "nested" {
@@ -117,16 +67,17 @@ fn text_in(alloc: Global, kind: &str, rest: &str) -> anyhow::Result<Text> {
 }
 
 /// Prints the tree of a text that is read as its kind says, or that there is no such kind.
-fn print_as(alloc: Global, kind: &str, text: &Text, out: &mut Printed) {
+fn print_as(alloc: Global, kind: &str, text: &Text, out: &mut Printed) -> Result<(), ParseError> {
     match kind {
-        "expr" | "nested" => print_read_expr(alloc, text, out),
-        "lines" => print_read_lines(alloc, text, out),
-        "script" => print_read_script(alloc, text, out),
-        "part" => print_read_part(alloc, text, out),
-        "type" => print_read_type(alloc, text, out),
-        "message" => print_read_message(alloc, text, out),
+        "expr" | "nested" => print_expr(out, &parse_expr(alloc, text)?),
+        "lines" => print_lines(out, &parse_lines(alloc, text)?),
+        "script" => print_script(out, &parse_script(alloc, text)?),
+        "part" => print_part(out, &parse_part(alloc, text)?),
+        "type" => print_typing(out, &parse_type(alloc, text)?),
+        "message" => print_message(out, &parse_message(alloc, text)?),
         _ => out.word("no such kind"),
     }
+    Ok(())
 }
 
 /// The tree of a line's text, `syntax` where the text isn't in the grammar, or that the line's first word is no kind.
@@ -134,6 +85,10 @@ pub fn tree_of(alloc: Global, line: &str) -> anyhow::Result<Vec<u8>> {
     let (kind, rest) = line.split_once(" ").unwrap_or((line, ""));
     let text = text_in(alloc, kind, rest)?;
     let mut out = Printed::new(alloc);
-    print_as(alloc, kind, &text, &mut out);
+    match print_as(alloc, kind, &text, &mut out) {
+        Ok(()) => {}
+        Err(ParseError::Syntax(_)) => out.word("syntax"),
+        Err(ParseError::Memory) => out.cut(),
+    }
     Ok(out.into_bytes()?)
 }
