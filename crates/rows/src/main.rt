@@ -42,20 +42,14 @@ fn push_word(alloc: Global, word: &str, words: &mut Vec<String>) -> Result<(), A
     Ok(words.push(word)?)
 }
 
-/// Lists the words of the program: its name, the stack's and those of the row.
-fn push_words(alloc: Global, row: &Row<'_>, words: &mut Vec<String>) -> Result<(), AllocError> {
-    push_word(alloc, "card_cli", words)?;
-    push_word(alloc, row.stack, words)?;
-    for word in row.args.split_whitespace() {
-        push_word(alloc, word, words)?;
-    }
-    Ok(())
-}
-
-/// What the words of the program say.
+/// What the words of the program say: its name, the stack's and those of the row.
 fn options(alloc: Global, row: &Row<'_>) -> Result<Options, CliFault> {
     let mut words = Vec::new(alloc);
-    push_words(alloc, row, &mut words)?;
+    push_word(alloc, "card_cli", &mut words)?;
+    push_word(alloc, row.stack, &mut words)?;
+    for word in row.args.split_whitespace() {
+        push_word(alloc, word, &mut words)?;
+    }
     options_of(alloc, words.as_slice())
 }
 
@@ -194,72 +188,37 @@ fn unmet_after<'a>(
     }
 }
 
-/// What a row wants and didn't get on a stack, or none.
-fn unmet_on<'a>(
-    alloc: Global,
-    row: &Row<'a>,
-    stack: &str,
-    shown: &str,
-) -> Result<Option<Wrong<'a>>, AllocError> {
-    let mut ended = begun(alloc, desk_of(alloc, row.desk));
-    unmet_after(alloc, row, stack, shown, &mut ended)
-}
-
 /// What a row wants and didn't get, or none, where this is the text of its stack before the edit.
 fn unmet<'a>(alloc: Global, row: &Row<'a>, base: &str) -> Result<Option<Wrong<'a>>, AllocError> {
     let shown = edited(alloc, base, "line 1 htstack 2")?;
     let stack = edited(alloc, base, row.edit)?;
-    unmet_on(alloc, row, stack.as_str(), shown.as_str())
-}
-
-/// The text of a row of the list.
-fn text_of(rt: &HostRuntime, name: &str) -> io::Result<String> {
-    let file = format!(in rt.alloc(); "{}.row", name)?;
-    fs::read_to_string(rt, file.as_str())
-}
-
-/// Prints what a row of the list didn't get.
-fn print_wrong(rt: &HostRuntime, name: &str, wrong: Wrong<'_>) -> io::Result<()> {
-    match wrong {
-        Wrong::Status(status) => println!(rt; "{} failed: status {}", name, status),
-        Wrong::Text(text) => println!(rt; "{} failed: {}", name, text),
-    }
+    let mut ended = begun(alloc, desk_of(alloc, row.desk));
+    unmet_after(alloc, row, stack.as_str(), shown.as_str(), &mut ended)
 }
 
 /// Runs a row, and prints how it went.
 fn report_row(rt: &HostRuntime, name: &str, row: &Row<'_>) -> io::Result<()> {
     let base = fs::read_to_string(rt, row.stack)?;
     match unmet(rt.alloc(), row, base.as_str())? {
-        Some(wrong) => print_wrong(rt, name, wrong),
+        Some(Wrong::Status(status)) => println!(rt; "{} failed: status {}", name, status),
+        Some(Wrong::Text(text)) => println!(rt; "{} failed: {}", name, text),
         None => println!(rt; "{} passed", name),
     }
 }
 
 /// Runs a row of the list, and prints how it went.
 fn report(rt: &HostRuntime, name: &str) -> io::Result<()> {
-    let text = text_of(rt, name)?;
+    let file = format!(in rt.alloc(); "{}.row", name)?;
+    let text = fs::read_to_string(rt, file.as_str())?;
     report_row(rt, name, &row_of(text.as_str()))
-}
-
-/// Prints the tree of a text.
-fn print_tree(rt: &HostRuntime, line: &str) -> anyhow::Result<()> {
-    let mut answer = tree_of(rt.alloc(), line)?;
-    answer.push(b'\n')?;
-    Ok(io::writer(rt).write_all(&answer)?)
 }
 
 /// Prints the trees of the texts of standard input.
 fn print_trees(rt: &HostRuntime) -> anyhow::Result<()> {
     for line in rt.lines(rt.alloc()) {
-        print_tree(rt, line?.as_str())?;
-    }
-    Ok(())
-}
-
-/// Runs the rows of a list.
-fn report_all(rt: &HostRuntime, list: &str) -> io::Result<()> {
-    for name in list.lines() {
-        report(rt, name)?;
+        let mut answer = tree_of(rt.alloc(), line?.as_str())?;
+        answer.push(b'\n')?;
+        io::writer(rt).write_all(&answer)?;
     }
     Ok(())
 }
@@ -267,5 +226,8 @@ fn report_all(rt: &HostRuntime, list: &str) -> io::Result<()> {
 fn main(rt: HostRuntime) -> anyhow::Result<()> {
     print_trees(&rt)?;
     let list = fs::read_to_string(&rt, "rows.txt")?;
-    Ok(report_all(&rt, list.as_str())?)
+    for name in list.lines() {
+        report(&rt, name)?;
+    }
+    Ok(())
 }
