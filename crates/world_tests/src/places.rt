@@ -29,30 +29,15 @@ fn leaves_hilite(stack: &mut Stack) -> bool {
     matches!(&entry, StackEntry::Prop(3, PropValue::HiliteIs(true)))
 }
 
-/// The empty stack. It stands in a box, which is dropped by one call.
-fn empty_stack(alloc: Global) -> Option<Box<Stack>> {
-    Box::new(alloc, Stack::new(alloc).ok()?).ok()
-}
-
-fn field_leaves_hilite(alloc: Global) -> bool {
-    match empty_stack(alloc) {
-        Some(mut stack) => put_field(alloc, &mut stack) && leaves_hilite(&mut stack),
-        None => false,
-    }
-}
-
 #[test]
 fn a_property_that_is_not_there_stays_in_its_entry(rt: HostRuntime) {
-    assert!(rt; field_leaves_hilite(rt.alloc()));
-}
-
-/// Whether the entry of an object is structural, and the one of the next id.
-fn structural(alloc: Global) -> Option<[bool; 2]> {
-    let gone = StackEntry::Object(3, BoxedObject::new(alloc, None).ok()?);
-    Some([gone.is_structural(), StackEntry::NextId(7).is_structural()])
+    let mut stack = Stack::new(rt.alloc()).expect(&rt, "there is memory");
+    assert!(rt; put_field(rt.alloc(), &mut stack) && leaves_hilite(&mut stack));
 }
 
 #[test]
 fn objects_alone_are_structural(rt: HostRuntime) {
-    assert!(rt; structural(rt.alloc()) == Some([true, false]));
+    let object = BoxedObject::new(rt.alloc(), None).expect(&rt, "there is memory");
+    assert!(rt; StackEntry::Object(3, object).is_structural());
+    assert!(rt; !StackEntry::NextId(7).is_structural());
 }

@@ -38,13 +38,6 @@ fn laws_are_promised(_rt: HostRuntime) {
 const TWO_CARDS: &[u8] =
     b"htstack 2\nnext 5\nname |Demo\nscript 0\nbackgrounds 1\nbackground 1\nname |\ncantDelete false\nscript 0\nparts 1\nfield 3\nname |Note\nvisible true\nlockText false\nsharedText false\nscript 0\nshared 0\ncards 2\ncard 2 1\nname |A\ncantDelete false\nscript 0\nparts 0\ntext 3 0\ncard 4 1\nname |B\ncantDelete false\nscript 0\nparts 0\ntext 3 0\nend\n";
 
-/// A world of the two cards.
-fn opened(alloc: Global) -> Option<Box<PlainWorld>>
-    ensures { IfSome result (λ w. w.value.history.start ≡ None) }
-{
-    world_of(alloc, TWO_CARDS)
-}
-
 fn text(alloc: Global, bytes: &[u8]) -> Option<Text> {
     Text::from_slice(alloc, bytes).ok()
 }
@@ -73,15 +66,6 @@ fn set_script(alloc: Global, world: &mut PlainWorld, id: Id, script: &[u8]) -> O
     make(world, Change::Prop(id, PropValue::ScriptIs(script)))
 }
 
-/// Gives card 2 a name, in the open batch.
-fn set_name(alloc: Global, world: &mut PlainWorld, name: &[u8]) -> Option<()>
-    requires { IsSome world.old.history.start }
-    ensures { IfSome result (λ _. IsSome world.new.history.start) }
-{
-    let name = text(alloc, name)?;
-    make(world, Change::Prop(2, PropValue::NameIs(name)))
-}
-
 /// Begins a batch, and gives card 2 a script.
 fn begin_with(alloc: Global, world: &mut PlainWorld, script: &[u8]) -> Option<()>
     requires { world.old.history.start ≡ None }
@@ -91,30 +75,16 @@ fn begin_with(alloc: Global, world: &mut PlainWorld, script: &[u8]) -> Option<()
     set_script(alloc, world, 2, script)
 }
 
-/// Whether a message met the handler of one line in the script of card 2.
-fn is_foo(found: &Found) -> bool {
-    match found {
-        Found::Handler(found) => { found.object() == 2 && found.handler().lines.items.len() == 1 }
-        _ => false,
-    }
-}
-
-/// Whether a name meets the handler of one line in the script of card 2.
-fn meets(alloc: Global, world: &mut PlainWorld, name: &Text) -> bool
-    ensures { world.new.history ≡ world.old.history }
-{
-    match next_handler(alloc, world, &[2], HandlerKind::Command, name) {
-        Ok(found) => is_foo(&found),
-        Err(_) => false,
-    }
-}
-
-/// Whether `foo` meets it.
+/// Whether `foo` meets the handler of one line in the script of card 2.
 fn meets_foo(alloc: Global, world: &mut PlainWorld) -> Option<bool>
     ensures { world.new.history ≡ world.old.history }
 {
     let name = text(alloc, b"foo")?;
-    Some(meets(alloc, world, &name))
+    let met = next_handler(alloc, world, &[2], HandlerKind::Command, &name);
+    Some(match &met {
+        Ok(Found::Handler(found)) => found.object() == 2 && found.handler().lines.items.len() == 1,
+        _ => false,
+    })
 }
 
 /// Makes a card with a script of 30,000 bytes, which is read as a message comes along.
@@ -144,7 +114,8 @@ fn add_read_scripts(alloc: Global, world: &mut PlainWorld, count: u32) -> Option
 /// What changes beside a script that was parsed.
 #[derive(Clone, Copy)]
 enum Beside {
-    Name,
+    /// The card loses its name.
+    NoName,
     ScriptOf(Id),
     /// So many other scripts are read, of 30,000 bytes each.
     Reading(u32),
@@ -157,7 +128,7 @@ fn is_kept_over(alloc: Global, world: &mut PlainWorld, beside: Beside) -> Option
     begin_with(alloc, world, FOO)?;
     let is_met = meets_foo(alloc, world)?;
     match beside {
-        Beside::Name => set_name(alloc, world, b"a")?,
+        Beside::NoName => make(world, Change::Prop(2, PropValue::NameIs(Text::new(alloc))))?,
         Beside::ScriptOf(id) => set_script(alloc, world, id, FOO)?,
         Beside::Reading(count) => add_read_scripts(alloc, world, count)?,
     }
@@ -165,27 +136,17 @@ fn is_kept_over(alloc: Global, world: &mut PlainWorld, beside: Beside) -> Option
 }
 
 fn keeps(alloc: Global, beside: Beside) -> Option<bool> {
-    let mut world = opened(alloc)?;
+    let mut world = world_of(alloc, TWO_CARDS)?;
     is_kept_over(alloc, &mut world, beside)
 }
 
 #[test]
 fn a_tree_is_kept_until_its_script_changes_or_many_are_read(rt: HostRuntime) {
-    assert!(rt; keeps(rt.alloc(), Beside::Name) == Some(true));
+    assert!(rt; keeps(rt.alloc(), Beside::NoName) == Some(true));
     assert!(rt; keeps(rt.alloc(), Beside::ScriptOf(1)) == Some(true));
     assert!(rt; keeps(rt.alloc(), Beside::ScriptOf(2)) == Some(false));
     assert!(rt; keeps(rt.alloc(), Beside::Reading(33)) == Some(true));
     assert!(rt; keeps(rt.alloc(), Beside::Reading(34)) == Some(false));
-}
-
-/// Whether `foo` is met while card 2 has another script, which is then given up.
-fn meets_other(alloc: Global, world: &mut PlainWorld, script: &[u8]) -> Option<bool>
-    requires { world.old.history.start ≡ None }
-{
-    begin_with(alloc, world, script)?;
-    let is_met = meets_foo(alloc, world)?;
-    world.roll_back();
-    Some(is_met)
 }
 
 /// Whether `foo` is met while card 2 has another script, and once that was given up.
@@ -194,12 +155,14 @@ fn meets_in_turn(alloc: Global, world: &mut PlainWorld, script: &[u8]) -> Option
 {
     begin_with(alloc, world, FOO)?;
     world.commit();
-    let is_met = meets_other(alloc, world, script)?;
+    begin_with(alloc, world, script)?;
+    let is_met = meets_foo(alloc, world)?;
+    world.roll_back();
     Some([is_met, meets_foo(alloc, world)?])
 }
 
 fn met_and_given_up(alloc: Global, script: &[u8]) -> Option<[bool; 2]> {
-    let mut world = opened(alloc)?;
+    let mut world = world_of(alloc, TWO_CARDS)?;
     meets_in_turn(alloc, &mut world, script)
 }
 
@@ -217,35 +180,19 @@ fn sum_read(alloc: Global, world: &PlainWorld, variables: &Variables) -> Option<
     read.into_text(alloc).ok()
 }
 
-/// Declares `SUM` in a handler, where the global has no value.
-fn declare_sum(alloc: Global, variables: &mut Variables) -> Option<()> {
-    let declared = Name::new(alloc, text(alloc, b"SUM")?).ok()?;
-    variables.set(alloc, &declared, None).ok()
-}
-
+/// What it reads as where a handler has declared `SUM`, and the global has no value.
 fn declared_read(alloc: Global, world: &PlainWorld) -> Option<Text> {
+    let declared = Name::new(alloc, text(alloc, b"SUM")?).ok()?;
     let mut variables = Variables::of_handler(alloc);
-    declare_sum(alloc, &mut variables)?;
+    variables.set(alloc, &declared, None).ok()?;
     sum_read(alloc, world, &variables)
-}
-
-fn declared_read_in_two_cards(alloc: Global) -> Option<Text> {
-    let world = opened(alloc)?;
-    declared_read(alloc, &world)
 }
 
 #[test]
 fn a_declared_name_without_a_value_reads_as_its_spelling(rt: HostRuntime) {
-    let read = declared_read_in_two_cards(rt.alloc());
+    let world = world_of(rt.alloc(), TWO_CARDS).expect(&rt, "the stack is read");
+    let read = declared_read(rt.alloc(), &world);
     assert!(rt; matches!(&read, Some(read) if read.as_slice() == b"Sum".as_slice()));
-}
-
-fn place_fault(world: &PlainWorld, run: &Budget, frame: &Frame, field: Referent) -> Option<Stop> {
-    field_place(world, run, frame, field).err()
-}
-
-fn text_fault(world: &PlainWorld, run: &Budget, frame: &Frame, field: Referent) -> Option<Stop> {
-    field_text(world, run, frame, field).err()
 }
 
 /// A field, a card, and the fault of the field's place and of its text for that card.
@@ -265,7 +212,8 @@ const FIELDS: &[FieldRow] = &[
 fn has_due_faults(world: &PlainWorld, run: &Budget, frame: &Frame, row: &FieldRow) -> bool {
     let (object, card, due) = *row;
     let field = Referent { object, card };
-    place_fault(world, run, frame, field) == due && text_fault(world, run, frame, field) == due
+    field_place(world, run, frame, field).err() == due
+        && field_text(world, run, frame, field).err() == due
 }
 
 /// The first field that has another fault.
@@ -278,16 +226,11 @@ fn wrong_field(world: &PlainWorld, run: &Budget, frame: &Frame) -> Option<Id> {
     None
 }
 
-fn wrong_field_of_two_cards(alloc: Global) -> Option<Option<Id>> {
-    let world = opened(alloc)?;
-    let run = run_of(alloc, 1)?;
-    let frame = Frame::typed(alloc, 2);
-    Some(wrong_field(&world, &run, &frame))
-}
-
 #[test]
 fn fields_that_keep_no_text(rt: HostRuntime) {
-    assert!(rt; wrong_field_of_two_cards(rt.alloc()) == Some(None));
+    let world = world_of(rt.alloc(), TWO_CARDS).expect(&rt, "the stack is read");
+    let run = run_of(rt.alloc(), 1).expect(&rt, "there is memory");
+    assert!(rt; wrong_field(&world, &run, &Frame::typed(rt.alloc(), 2)).is_none());
 }
 
 /// Whether a run of one step takes it, and no other.
@@ -314,25 +257,16 @@ fn notes_one(run: &mut Budget, name: &Text) -> bool {
         && run.sent().at(0).object() == 4
 }
 
-/// Whether a run of one step tells what it did.
-fn tells(run: &mut Budget, name: &Text) -> bool {
-    takes_one_step(run) && shows_seven(run) && notes_one(run, name)
-}
-
 /// The run of a command with so many steps, in a box.
 fn run_of(alloc: Global, steps: u32) -> Option<Box<Budget>> {
     Box::new(alloc, Budget::new(alloc, steps)).ok()
 }
 
-fn is_told(alloc: Global) -> Option<bool> {
-    let name = text(alloc, b"f")?;
-    let mut run = run_of(alloc, 1)?;
-    Some(tells(&mut run, &name))
-}
-
 #[test]
 fn a_run_tells_what_it_did(rt: HostRuntime) {
-    assert!(rt; is_told(rt.alloc()) == Some(true));
+    let name = text(rt.alloc(), b"f").expect(&rt, "there is memory");
+    let mut run = run_of(rt.alloc(), 1).expect(&rt, "there is memory");
+    assert!(rt; takes_one_step(&mut run) && shows_seven(&mut run) && notes_one(&mut run, &name));
 }
 
 /// Whether a message that is sent to card 2 by itself ends well, and is noted.
@@ -350,7 +284,7 @@ fn is_noted(world: &mut PlainWorld, run: &mut Budget, name: &Text) -> bool
 fn is_sent(alloc: Global, name: &[u8]) -> Option<bool> {
     let name = text(alloc, name)?;
     let mut run = run_of(alloc, 10)?;
-    let mut world = opened(alloc)?;
+    let mut world = world_of(alloc, TWO_CARDS)?;
     Some(is_noted(&mut world, &mut run, &name))
 }
 

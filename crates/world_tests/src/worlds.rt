@@ -2,11 +2,10 @@
 //! call.
 
 ghost use Rattle.std.specs.Prelude.{◌≡◌, None, IfSome};
-ghost use Rattle.object_table.specs.WellFormed.{IsWellFormed};
 
 use change_journal::{Change, World};
 use ht_values::{PartKind, Text};
-use object_table::{LayerId, PropValue, Stack};
+use object_table::{LayerId, PropValue};
 use stack_file::read;
 use std::alloc::Global;
 use xkit::KitExternal;
@@ -14,20 +13,13 @@ use xkit::KitExternal;
 /// A world whose externals would be those of the kit; it has none.
 pub(crate) type PlainWorld = World<KitExternal>;
 
-fn stack_of(alloc: Global, text: &[u8]) -> Option<Stack>
-    ensures { IfSome result (λ s. IsWellFormed s.content) }
-{
-    match read(alloc, text) {
-        Ok(stack) => Some(stack),
-        Err(_) => None,
-    }
-}
-
 /// A world of the stack that a text spells.
 pub(crate) fn world_of(alloc: Global, text: &[u8]) -> Option<Box<PlainWorld>>
     ensures { IfSome result (λ w. w.value.history.start ≡ None) }
 {
-    let stack = stack_of(alloc, text)?;
+    let Ok(stack) = read(alloc, text) else {
+        return None;
+    };
     match World::open(alloc, stack, Vec::new(alloc), 9) {
         Ok(world) => Box::new(alloc, world).ok(),
         Err(_) => None,
@@ -80,16 +72,11 @@ fn change_of(alloc: Global, step: Step) -> Change {
     }
 }
 
-/// Whether the change fits where it is wanted, and nowhere else.
-fn fits_so(world: &PlainWorld, change: Change, wanted: bool) -> bool {
-    world.fits(&change) == wanted
-}
-
 /// How many steps fit, or don't, as it is wanted, before the first that goes otherwise.
 fn right_steps(alloc: Global, world: &PlainWorld) -> usize {
     let mut right: usize = 0;
     for (step, wanted) in STEPS {
-        if !fits_so(world, change_of(alloc, *step), *wanted) {
+        if world.fits(&change_of(alloc, *step)) != *wanted {
             break;
         }
         right = right.saturating_add(1);
@@ -100,7 +87,7 @@ fn right_steps(alloc: Global, world: &PlainWorld) -> usize {
 /// Whether a global whose name isn't folded fits.
 fn fits_unfolded(alloc: Global, world: &PlainWorld) -> Option<bool> {
     let name = Text::from_slice(alloc, b"G").ok()?;
-    Some(fits_so(world, Change::Global(name, None), true))
+    Some(world.fits(&Change::Global(name, None)))
 }
 
 /// How many steps go as it is wanted, and whether the global fits. What holds of a world's states can be called.
