@@ -1,6 +1,6 @@
 //! Bytes up to a limit, over readers that give one byte a call and fail in mid-stream.
 
-use crate::drip::Drip;
+use crate::slow_devices::Drip;
 use devices::{BytesFault, Watched, bytes_of};
 use std::alloc::Global;
 use std::io::Read;

@@ -149,37 +149,26 @@ fn undone_to<E: External>(session: &mut Session<E>, line: u32) -> Result<(), Ref
 }
 
 fn saves<E: External>(session: &Session<E>, text: &[u8]) -> bool {
-    match session.saved() {
-        Ok(saved) => saved.as_slice() == text,
-        Err(_) => false,
-    }
-}
-
-/// Why an external isn't plugged in, or none.
-fn plugged<E: External>(session: &mut Session<E>, external: E) -> Option<PlugError> {
-    match session.plug(external) {
-        Ok(()) => None,
-        Err((error, _)) => Some(error),
-    }
+    matches!(session.saved(), Ok(saved) if saved.as_slice() == text)
 }
 
 /// Whether the last external at hand is plugged in, or isn't for this reason.
 fn plugs<E: External>(
     session: &mut Session<E>,
     at_hand: &mut Vec<E>,
-    error: Option<PlugError>,
+    due: Option<PlugError>,
 ) -> bool {
-    match at_hand.pop() {
-        Some(external) => plugged(session, external) == error,
-        None => false,
+    let Some(external) = at_hand.pop() else {
+        return false;
+    };
+    match session.plug(external) {
+        Ok(()) => due.is_none(),
+        Err((error, _)) => due == Some(error),
     }
 }
 
 fn unplugs<E: External>(alloc: Global, session: &mut Session<E>, name: &[u8]) -> bool {
-    match Text::from_slice(alloc, name) {
-        Ok(name) => session.unplug(&name).is_some(),
-        Err(_) => false,
-    }
+    matches!(Text::from_slice(alloc, name), Ok(name) if session.unplug(&name).is_some())
 }
 
 /// Whether a call answers what is wanted. The mark is held once by each external, and once more.
@@ -202,58 +191,49 @@ fn is_answered<E: External>(
     }
 }
 
-/// How many calls answer what is wanted, before the first that doesn't.
-fn walked<E: External>(
+/// Whether all calls answer what is wanted.
+fn are_answered<E: External>(
     alloc: Global,
     session: &mut Session<E>,
     at_hand: &mut Vec<E>,
     mark: &Rc<u8>,
     calls: &[Call],
-) -> usize {
-    let mut number: usize = 0;
+) -> bool {
     for call in calls {
         if !is_answered(alloc, session, at_hand, mark, call) {
-            break;
+            return false;
         }
-        number = number.saturating_add(1);
     }
-    number
+    true
 }
 
-fn count_at_close<E: External>(session: Session<E>) -> usize {
-    session.close().len()
-}
-
-/// How many calls answer what is wanted, and how many externals come back at the close.
-fn came_of<E: External>(
+/// Whether all calls answer what is wanted, and as many externals come back at the close.
+fn goes_so<E: External>(
     alloc: Global,
     externals: Vec<E>,
     at_hand: &mut Vec<E>,
     mark: &Rc<u8>,
-    calls: &[Call],
-) -> Option<(usize, usize)> {
+    row: &Calls,
+) -> Option<bool> {
     let mut session = session_of(alloc, externals, 100)?;
-    let number = walked(alloc, &mut session, at_hand, mark, calls);
-    Some((number, count_at_close(Box::into_inner(session))))
+    let answered = are_answered(alloc, &mut session, at_hand, mark, row.calls);
+    Some(answered && Box::into_inner(session).close().len() == row.closed)
 }
 
-fn came(alloc: Global, mark: &Rc<u8>, row: &Calls) -> Option<(usize, usize)> {
+/// Whether a row goes so with its externals.
+fn goes(alloc: Global, mark: &Rc<u8>, row: &Calls) -> Option<bool> {
     let mut at_hand = all_externals(alloc, row.at_hand, mark)?;
     let externals = all_externals(alloc, row.externals, mark)?;
-    came_of(alloc, externals, &mut at_hand, mark, row.calls)
-}
-
-/// Whether all calls answer what is wanted, and each external is dropped once in the end.
-fn is_met(alloc: Global, row: &Calls) -> Option<bool> {
-    let mark = Rc::new(alloc, 0u8).ok()?;
-    let (answered, closed) = came(alloc, &mark, row)?;
-    Some(answered == row.calls.len() && closed == row.closed && Rc::strong_count(&mark) == 1)
+    goes_so(alloc, externals, &mut at_hand, mark, row)
 }
 
 #[test]
 fn calls_of_a_session_are_answered(rt: HostRuntime) {
     for row in SESSIONS {
-        assert!(rt; is_met(rt.alloc(), row) == Some(true), "{}", row.name);
+        let mark = Rc::new(rt.alloc(), 0u8).expect(&rt, "there is memory");
+        assert!(rt; goes(rt.alloc(), &mark, row) == Some(true), "{}", row.name);
+        // Each external is dropped once in the end.
+        assert!(rt; Rc::strong_count(&mark) == 1, "{}", row.name);
     }
 }
 

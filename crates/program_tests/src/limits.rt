@@ -56,16 +56,13 @@ fn unwritten(calls: usize) -> Talk<'static, 'static> {
     }
 }
 
+/// A line that is cut off saves nothing.
 #[test]
 fn a_reader_that_fails_cuts_a_line_off(rt: HostRuntime) {
     for calls in 0..=LINES.len() {
         let talk = unread(LINES, calls, written_after(calls));
         assert!(rt; is_met(rt.alloc(), &talk) == Some(true), "call {calls}");
     }
-}
-
-#[test]
-fn a_line_that_a_read_fault_cuts_off_saves_nothing(rt: HostRuntime) {
     for calls in 0..6 {
         let talk = unread(b".save\n", calls, 0);
         assert!(rt; is_met(rt.alloc(), &talk) == Some(true), "call {calls}");

@@ -1,44 +1,15 @@
 //! Runs over devices that may fail, with externals that answer freely: what is written, what the desk keeps, and who is
 //! blamed.
 
-use crate::drip::Drip;
 use crate::free::{Boxed, Manner, external_of};
 use crate::opened::{TWO_CARDS, session_of};
+use crate::slow_devices::{Drip, Sip};
 use devices::{Desk, Shelf, Watched};
 use externals::External;
 use headline::{Ran, RunFault, run};
 use session::Session;
 use std::alloc::Global;
-use std::io;
-use std::io::Write;
 use std::rc::Rc;
-
-/// Takes as many bytes at a time, and fails at a call.
-#[derive(Drop)]
-struct Sip {
-    taken: Vec<u8>,
-    most: usize,
-    calls: usize,
-    fails_at: usize,
-}
-
-impl Write for Sip {
-    fn write(&mut self, buf: &[u8]) -> io::Result<usize> {
-        if self.calls == self.fails_at {
-            return Err(io::Error::from(io::ErrorKind::Other));
-        }
-        self.calls = self.calls.saturating_add(1);
-        let count = buf.len().min(self.most);
-        match self.taken.extend_from_slice(&buf[..count]) {
-            Ok(()) => Ok(count),
-            Err(_) => Err(io::Error::from(io::ErrorKind::OutOfMemory)),
-        }
-    }
-
-    fn flush(&mut self) -> io::Result<()> {
-        Ok(())
-    }
-}
 
 /// Never reached.
 const NEVER: usize = 10_000_000;
@@ -112,25 +83,19 @@ fn ends_so<E: External>(
     ran == talk.ran && reader.failures() == reads && writer.failures() == writes
 }
 
-/// Whether the writer took what is wanted, and the desk keeps it and counted so.
-fn leaves_so(talk: &Talk<'_, '_>, taken: &Sip, desk: &Shelf) -> bool {
-    let (_, _, saves) = talk.failures;
-    taken.taken.as_slice() == talk.written && desk.text() == talk.kept && desk.failures() == saves
-}
-
-fn sip_of(alloc: Global, devices: Devices) -> Sip {
-    Sip {
-        taken: Vec::new(alloc),
-        most: devices.most_written,
-        calls: 0,
-        fails_at: devices.write_fails_at,
-    }
-}
-
+/// Whether the run ends so, the writer took what is wanted, and the desk keeps it and counted so.
 fn goes_in<E: External>(alloc: Global, session: &mut Session<E>, talk: &Talk<'_, '_>) -> bool {
-    let mut taken = sip_of(alloc, talk.devices);
+    let mut taken = Sip::new(
+        alloc,
+        talk.devices.most_written,
+        talk.devices.write_fails_at,
+    );
     let mut desk = Shelf::new(alloc).failing_at(talk.devices.save_fails_at);
-    ends_so(alloc, session, talk, &mut taken, &mut desk) && leaves_so(talk, &taken, &desk)
+    let ends = ends_so(alloc, session, talk, &mut taken, &mut desk);
+    let (_, _, saves) = talk.failures;
+    ends && taken.taken.as_slice() == talk.written
+        && desk.text() == talk.kept
+        && desk.failures() == saves
 }
 
 /// The external of a talk, which goes by the talk's name, or none.

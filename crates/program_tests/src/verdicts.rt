@@ -70,21 +70,14 @@ const FAULTS: &[(Plain, u8, &str)] = &[
     (Plain::Memory, 1, "card_cli: no memory"),
 ];
 
-fn is_met(alloc: Global, plain: Plain, status: u8, line: &str) -> bool {
-    tells(alloc, &fault_of(plain), status, line)
-}
-
 #[test]
 fn each_fault_has_its_status_and_line(rt: HostRuntime) {
     for (plain, status, line) in FAULTS {
-        assert!(rt; is_met(rt.alloc(), *plain, *status, line), "{line}");
+        assert!(rt;
+            tells(rt.alloc(), &fault_of(*plain), *status, line),
+            "{line}"
+        );
     }
-}
-
-/// Whether a usage fault has its own text.
-fn tells_usage(alloc: Global) -> Option<bool> {
-    let usage = CliFault::Usage(cut(alloc, b"error: no").ok()?);
-    Some(tells(alloc, &usage, 2, "error: no"))
 }
 
 /// How long the line is of a stack with a name of 5,000 bytes that can't be read.
@@ -96,22 +89,15 @@ fn length_told(alloc: Global) -> Option<usize> {
 
 #[test]
 fn a_usage_fault_has_its_own_text_and_a_long_name_is_cut_after_4096_bytes(rt: HostRuntime) {
-    assert!(rt; tells_usage(rt.alloc()) == Some(true));
+    let usage = cut(rt.alloc(), b"error: no").expect(&rt, "there is memory");
+    assert!(rt; tells(rt.alloc(), &CliFault::Usage(usage), 2, "error: no"));
     assert!(rt; length_told(rt.alloc()) == Some(22 + 4_096));
 }
 
-/// Whether a fault of a file's bytes is told as one of memory, or as a file that can't be read.
-fn is_of_memory(fault: BytesFault) -> Option<bool> {
-    match CliFault::from(fault) {
-        CliFault::Memory => Some(true),
-        CliFault::CannotRead => Some(false),
-        _ => None,
-    }
-}
-
+/// Of the faults of a file's bytes, one alone is told as such.
 #[test]
-fn only_want_of_memory_is_told_as_such(rt: HostRuntime) {
-    assert!(rt; is_of_memory(BytesFault::TooMany) == Some(false));
-    assert!(rt; is_of_memory(BytesFault::Device) == Some(false));
-    assert!(rt; is_of_memory(BytesFault::Memory) == Some(true));
+fn out_of_memory_is_told_as_such(rt: HostRuntime) {
+    assert!(rt; matches!(CliFault::from(BytesFault::TooMany), CliFault::CannotRead));
+    assert!(rt; matches!(CliFault::from(BytesFault::Device), CliFault::CannotRead));
+    assert!(rt; matches!(CliFault::from(BytesFault::Memory), CliFault::Memory));
 }

@@ -1,49 +1,9 @@
 //! Examples, with devices that take a byte a call, take nothing, or fail at a call.
 
+use crate::slow_devices::Sip;
 use devices::*;
 use std::alloc::Global;
-use std::io;
 use std::io::{Read, Write};
-
-/// Takes at most so many bytes a call, and fails at a call.
-#[derive(Drop)]
-struct Slow {
-    taken: Vec<u8>,
-    most: usize,
-    calls: usize,
-    fails_at: usize,
-}
-
-impl Write for Slow {
-    fn write(&mut self, buf: &[u8]) -> io::Result<usize> {
-        if self.calls == self.fails_at {
-            return Err(io::Error::from(io::ErrorKind::Other));
-        }
-        self.calls = self.calls.saturating_add(1);
-        let n = buf.len().min(self.most);
-        match self.taken.extend_from_slice(&buf[..n]) {
-            Ok(()) => Ok(n),
-            Err(_) => Err(io::Error::from(io::ErrorKind::OutOfMemory)),
-        }
-    }
-
-    fn flush(&mut self) -> io::Result<()> {
-        if self.calls == self.fails_at {
-            return Err(io::Error::from(io::ErrorKind::Other));
-        }
-        self.calls = self.calls.saturating_add(1);
-        Ok(())
-    }
-}
-
-fn device(alloc: Global, most: usize, fails_at: usize) -> Slow {
-    Slow {
-        taken: Vec::new(alloc),
-        most,
-        calls: 0,
-        fails_at,
-    }
-}
 
 /// A call of a watched device: what it comes to, and how many calls have failed by then.
 enum Call {
@@ -52,18 +12,13 @@ enum Call {
     Flush(bool, u64),
 }
 
-fn comes_to<W: Write>(out: &mut Watched<W>, call: &Call) -> bool {
-    match call {
-        Call::Write(bytes, due, failures) => {
-            write_to(bytes, out) == *due && out.failures() == *failures
-        }
-        Call::Flush(due, failures) => { out.flush().is_ok() == *due && out.failures() == *failures }
-    }
-}
-
 fn come_to<W: Write>(out: &mut Watched<W>, calls: &[Call]) -> bool {
     for call in calls {
-        if !comes_to(out, call) {
+        let (comes, due) = match call {
+            Call::Write(bytes, outcome, failures) => (write_to(bytes, out) == *outcome, *failures),
+            Call::Flush(is_done, failures) => (out.flush().is_ok() == *is_done, *failures),
+        };
+        if !comes || out.failures() != due {
             return false;
         }
     }
@@ -114,10 +69,10 @@ const ROWS: &[Row] = &[
 ];
 
 fn is_so(alloc: Global, row: &Row) -> bool {
-    let mut slow = device(alloc, row.most, row.fails_at);
-    let came = come_to(&mut Watched::new(&mut slow), row.calls);
-    came && slow.taken.as_slice() == row.taken
-        && (row.answered == Some(slow.calls) || row.answered.is_none())
+    let mut sip = Sip::new(alloc, row.most, row.fails_at);
+    let came = come_to(&mut Watched::new(&mut sip), row.calls);
+    came && sip.taken.as_slice() == row.taken
+        && (row.answered == Some(sip.calls) || row.answered.is_none())
 }
 
 #[test]

@@ -45,16 +45,10 @@ fn gives(alloc: Global, words: &[String], wanted: Option<Given>) -> bool {
     }
 }
 
-fn is_met(alloc: Global, words: &str, wanted: Option<Given>) -> bool {
-    match words_of(alloc, words) {
-        Some(words) => gives(alloc, &words, wanted),
-        None => false,
-    }
-}
-
 #[test]
 fn words_give_options_or_a_usage_fault(rt: HostRuntime) {
     for (words, wanted) in ROWS {
-        assert!(rt; is_met(rt.alloc(), words, *wanted), "{words}");
+        let given = words_of(rt.alloc(), words).expect(&rt, "there is memory");
+        assert!(rt; gives(rt.alloc(), &given, *wanted), "{words}");
     }
 }
