@@ -79,9 +79,9 @@ fn leave<E: External, D: Desk>(session: &Session<E>, alloc: Global, given: &[u8]
 ///
 /// What is written is the answers to the lines that are read, those of a list of states with a cursor, each of which is
 /// whole before each line and after it, however the run ends; the turns in the logs of the externals follow the table
-/// of their type. `Refused` where the bytes are no stack text, and `Read`, `Write` and `TooManyLines` as `run` has them;
-/// `Memory` only where a growth was refused before the first line was read, so that nothing is read, written or kept. A
-/// device is blamed where it failed, and nowhere else.
+/// of their type. `Refused` where the bytes are no stack text, and `Read`, `Write` and `TooManyLines` as `run` has
+/// them; `Memory` only where a growth was refused before the first line was read, so that nothing is read, written or
+/// kept. A device is blamed where it failed, and nowhere else.
 pub fn play<E: HasTable, R: Read, W: Write, D: Desk>(
     alloc: Global,
     options: &Options,

@@ -42,7 +42,8 @@ from replies old (line ∷ lines) text new such all (reply, mid, more, taken, is
   where
     here : AreWholeStates mid.0
     here = line_leads StaysWhole ActionTexts (λ t whole. whole) (λ t place within whole. whole) (done_whole replies)
-        line old.0 (record reply { ending = taken.taken.ending }) mid.0 such.0 (room_of_step taken) taken.taken.taken all
+        line old.0 (record reply { ending = taken.taken.ending }) mid.0 such.0 (room_of_step taken)
+        taken.taken.taken all
 
     by_rest : (quits : Bool) → MatchBool quits ((more ≡ []) × (new ≡ mid)) (Transcript mid lines more new) →
         (Transcript mid lines more new → AreWholeStates new.0) → AreWholeStates new.0

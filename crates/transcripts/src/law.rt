@@ -79,8 +79,8 @@ pub fn transcripts_go_on()
 {}
 
 /// Such answers are the same each time, and so are the states, the cursor, the logs and the saved text after them,
-/// where the turns of the externals are told by one table and the same turns beside it. The table alone tells them where
-/// it has each turn of each kind, as that of the kit's four has, and without a table the logs do.
+/// where the turns of the externals are told by one table and the same turns beside it. The table alone tells them
+/// where it has each turn of each kind, as that of the kit's four has, and without a table the logs do.
 pub fn transcripts_are_one()
     ensures lines { TranscriptsAreOne }
     ensures input { OutputsAreOne }
