@@ -3,8 +3,6 @@ use Rattle.std.proofs.Common.{◌≡◌, ℕ, List, Result, Ok, Err, refl, sym, 
 use Rattle.std.specs.Prelude.{IsOk}
 use Rattle.ht_values.specs.declared.fault.Fault.{Fault}
 use Rattle.ht_values.specs.Outcome.{and_then}
-use Rattle.chunks.specs.declared.chunk.Chunk.{Chunk}
-use Rattle.chunks.specs.Nested.{read_within}
 use Rattle.change_journal.specs.History.{History}
 use Rattle.containers.specs.Edits.{read_at}
 use Rattle.containers.specs.Places.{PlaceView, whole}
@@ -28,10 +26,10 @@ failed {c} is y = of_fault (subst (λ z. Yields c (Err z)) is y)
     of_fault : {n : Fault} → Yields c (Err (stop.Fault n)) → c ≡ Err n
     of_fault (faults e) = e
 
-was_read : (chunks : List Chunk) (delimiter : ℕ) (old : List ℕ) (u : Result (List ℕ) Fault)
-    → and_then u (λ x. Ok (read_within delimiter chunks x)) ≡ Ok old → IsOk u
-was_read chunks delimiter old (Ok x) is = refl
-was_read chunks delimiter old (Err n) is = cc
+was_read : (pieces : List ℕ → List ℕ) (old : List ℕ) (u : Result (List ℕ) Fault)
+    → and_then u (λ x. Ok (pieces x)) ≡ Ok old → IsOk u
+was_read pieces old (Ok x) is = refl
+was_read pieces old (Err n) is = cc
 
 module _ (w : History) (r : RunState) (m : Referent) (t : List ℕ) (f : Frame) (typed : f ≡ typed_frame w) where
   -- the field or the card is gone
@@ -53,7 +51,7 @@ module _ (w : History) (r : RunState) (m : Referent) (t : List ℕ) (f : Frame) 
     stands =
         let read = ap (λ (p : Result PlaceView Fault). and_then p (λ q. read_at w.now f.variables r.delimiter q))
         (yielded found) in
-        was_read place.chunks r.delimiter old (whole w.now f.variables place.storage) (sym read ∙ yielded text)
+        was_read _ old (whole w.now f.variables place.storage) (sym read ∙ yielded text)
 
     pub types : (w1 w2 : History) (f1 : Frame) (r1 : RunState) (message : SystemMessage) (end : Result (Unit {0}) Stop)
         → Stores w f place.storage t1 w1 f1
