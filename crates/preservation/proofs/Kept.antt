@@ -36,7 +36,7 @@ base_stores (Stores.stores _ written _) = base_writes written
 pub base_assigns : {w w2 : History} {f f2 : Frame} {variable : Option (List ℕ)} {t : List ℕ}
     → Assigns w f variable t w2 f2 → base w2 ≡ base w
 base_assigns (Assigns.no_variable _) = refl
-base_assigns (Assigns.assigns _ stores) = base_stores stores
+base_assigns (Assigns.assigns _ stored) = base_stores stored
 
 base_declares : {w w2 : History} {v v2 : VariablesView} {name : List ℕ} → Declares w v name w2 v2 → base w2 ≡ base w
 base_declares (Declares.has_value _ _) = refl

@@ -133,7 +133,7 @@ rises_stores (Stores.stores _ written _) = rises_writes written
 pub rises_assigns : {w w2 : History} {f f2 : Frame} {variable : Option (List ℕ)} {t : List ℕ}
     (assigns : Assigns w f variable t w2 f2) → RisesBy (replaced_assigns assigns) w.start w2.start
 rises_assigns (Assigns.no_variable _) = rises_nothing
-rises_assigns (Assigns.assigns _ stores) = rises_stores stores
+rises_assigns (Assigns.assigns _ stored) = rises_stores stored
 
 rises_declares : {w w2 : History} {v v2 : VariablesView} {name : List ℕ} (declares : Declares w v name w2 v2)
     → RisesBy (replaced_declares declares) w.start w2.start

@@ -186,7 +186,7 @@ whole_stores {w} {f = f} {h = h} named (Stores.stores {t1 = t1} stands written _
 pub whole_assigns : {w w2 : History} {f f2 : Frame} {variable : Option (List ℕ)} {t : List ℕ}
     (assigns : Assigns w f variable t w2 f2) → KeepsWhole (replaced_assigns assigns) w w2
 whole_assigns (Assigns.no_variable _) = whole_nothing
-whole_assigns {f = f} (Assigns.assigns {name = name} _ stores) = whole_stores (placed_variable f.variables name) stores
+whole_assigns {f = f} (Assigns.assigns {name = name} _ stored) = whole_stores (placed_variable f.variables name) stored
 
 whole_declares : {w w2 : History} {v v2 : VariablesView} {name : List ℕ} (declares : Declares w v name w2 v2)
     → KeepsWhole (replaced_declares declares) w w2

@@ -47,7 +47,7 @@ replaced_stores (Stores.stores _ written _) = replaced_writes written
 abbrev pub replaced_assigns : {w w2 : History} {f f2 : Frame} {variable : Option (List ℕ)} {t : List ℕ}
     → Assigns w f variable t w2 f2 → List Replacement
 replaced_assigns (Assigns.no_variable _) = []
-replaced_assigns (Assigns.assigns _ stores) = replaced_stores stores
+replaced_assigns (Assigns.assigns _ stored) = replaced_stores stored
 
 abbrev pub replaced_declares : {w w2 : History} {v v2 : VariablesView} {name : List ℕ} → Declares w v name w2 v2
     → List Replacement

@@ -56,6 +56,6 @@ module _ (w : History) (r : RunState) (m : Referent) (t : List ℕ) (f : Frame) 
     pub types : (w1 w2 : History) (f1 : Frame) (r1 : RunState) (message : SystemMessage) (end : Result (Unit {0}) Stop)
         → Stores w f place.storage t1 w1 f1
         → message ≡ leaving_message old t → Tells w1 r m.object message end w2 r1 → TypesOver w r m t end w2 r1
-    types w1 w2 f1 r1 message end stores leaves told =
+    types w1 w2 f1 r1 message end stored leaves told =
         TypesOver.types_over typed (yielded text) (yielded found)
-        (subst (λ (u : List ℕ). Stores w f place.storage u w1 f1) same stores) refl leaves told
+        (subst (λ (u : List ℕ). Stores w f place.storage u w1 f1) same stored) refl leaves told

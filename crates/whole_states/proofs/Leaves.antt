@@ -241,9 +241,9 @@ pub sound_assigns : {begin w w2 : History} {f f2 : Frame} {variable : Option (Li
     → IfSome variable IsText → IsText t → Assigns w f variable t w2 f2 → IsWhole begin w → FrameTexts f
     → IsWhole begin w2 × FrameTexts f2
 sound_assigns name texts (Assigns.no_variable _) q h = (q, h)
-sound_assigns {f = f} name texts (Assigns.assigns {name = n} is stores) q h =
+sound_assigns {f = f} name texts (Assigns.assigns {name = n} is stored) q h =
     let named = subst (λ o. IfSome o IsText) is name in
-    sound_stores (named_texts f.variables n named) texts stores q h
+    sound_stores (named_texts f.variables n named) texts stored q h
 
 declared_texts : (v : VariablesView) (name : List ℕ) → LocalsTexts v.locals → LocalsTexts (declared v name).locals
 declared_texts v name h = by v.all_global
