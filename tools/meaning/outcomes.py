@@ -110,7 +110,7 @@ def leaf(premise, run, w):
     if head == "Edits":
         return "edits", ("told_in", "edit (sight g %s) %s %s %s %s" % (rest[0], run, rest[1], rest[3], rest[4]), rest[5], rest[6], run, rest[7])
     if head == "Stores":
-        return "stores", ("told_in", "written (sight g %s) %s %s %s %s" % (rest[0], run, *rest[1:4]), "(Ok tt)", rest[4], run, rest[5])
+        return "stores", ("told_in", "store (sight g %s) %s %s %s %s" % (rest[0], run, *rest[1:4]), "(Ok tt)", rest[4], run, rest[5])
     if head == "Assigns":
         return "assigns", ("told_in", "assign (sight g %s) %s %s %s %s" % (rest[0], run, *rest[1:4]), "(Ok tt)", rest[4], run, rest[5])
     if head == "DeclaresAll":
@@ -331,7 +331,7 @@ use Rattle.ht_grammar.specs.Whole.{sent_message}
 use Rattle.preservation.specs.Laws.{HasMemory}
 use Rattle.preservation.proofs.Ends.{given, stopped, faulted, exited}
 use Rattle.definitional_interpreter.specs.Told.{told, told_in}
-use Rattle.definitional_interpreter.specs.Changes.{yielded, step, make, edit, written, assign, declare_all, set_property, add_objects, turn}
+use Rattle.definitional_interpreter.specs.Changes.{yielded, step, make, edit, store, assign, declare_all, set_property, add_objects, turn}
 use Rattle.definitional_interpreter.specs.Texts.{parsed, first_found}
 use Rattle.definitional_interpreter.proofs.Comes.{Sight, sight, Comes, HasExternal}
 use Rattle.definitional_interpreter.proofs.Chain.{done, later, after_ok, after_stop, after_in_ok, after_in_stop, after_run_ok, after_run_stop, after_lines_ok, after_lines_stop, after_next_ok, after_next_stop, after_next_leaves, choose_true, choose_false, maybe_some, maybe_none, computed_ok, computed_err, below, at_least, at_limit, gives_outcome, there_ok, there_none, there_stop}

@@ -40,7 +40,7 @@ use Rattle.preservation.specs.Laws.{HasMemory, IsPrefix}
 use Rattle.definitional_interpreter.specs.Told.{Visible, Told, told, told_in, after, maybe, computed, choose}
 use Rattle.definitional_interpreter.specs.Changes.{with_global, yielded, step_by, step, made, make, with_variables}
 use Rattle.definitional_interpreter.specs.Changes.{written, edit_by}
-use Rattle.definitional_interpreter.specs.Changes.{edit, written, assign, declare_all, set_property, add_objects, turn}
+use Rattle.definitional_interpreter.specs.Changes.{edit, store, assign, declare_all, set_property, add_objects, turn}
 use Rattle.definitional_interpreter.specs.Families.{Meanings}
 use Rattle.definitional_interpreter.specs.Turns.{sorts_of, sorts}
 use Rattle.definitional_interpreter.proofs.Comes.{AreExact, Sight, sight, Comes, Kept, HasExternal, kept_refl}
@@ -187,7 +187,8 @@ edits {g} {w} {w1} {f} {f1} {r} {p} {e} (Edits.edited done_by frame) has =
 
 pub stores : {g : Sight} {w w1 : History} {f f1 : Frame} {r : RunState} {h : StorageView} {t : List ℕ} →
     Stores w f h t w1 f1 →
-    Comes g w (λ parts. written (sight g w) r f h t) (told_in (Ok tt) (sight g w1) r f1) w1
+    Comes g w (λ parts. store (sight g w) r f h t) (told_in (Ok tt) (sight g w1) r f1) w1
+unfolding store
 stores {g} {w1 = w1} {f = f} {r = r} (Stores.stores _ done_by frame) =
     let both = writes g {r = r} {f = f} done_by in leaf both.0
     (both.1 ∙ ap (told_in (Ok tt) (sight g w1) r) (sym frame))
@@ -335,10 +336,8 @@ asks_back (CallsBack.eval_syntax p _) has = subst IsCall (sym p) tt
 asks_back (CallsBack.eval_stops p _ _ _) has = subst IsCall (sym p) tt
 asks_back (CallsBack.evaluates p _ _ _ _) has = subst IsCall (sym p) tt
 asks_back (CallsBack.bad_global p _) has = subst IsCall (sym p) tt
-asks_back (CallsBack.global_fails p _ _ _) has = subst IsCall (sym p) tt
 asks_back (CallsBack.global_set p _ _ _ _) has = subst IsCall (sym p) tt
-asks_back (CallsBack.no_such_field p _) has = subst IsCall (sym p) tt
-asks_back (CallsBack.field_fails p _ _ _) has = subst IsCall (sym p) tt
+asks_back (CallsBack.no_such_field p _ _) has = subst IsCall (sym p) tt
 asks_back (CallsBack.field_set p _ _ _ _) has = subst IsCall (sym p) tt
 
 pub talk_back : {g : Sight} {w w2 : History} {r : RunState} {d k : ℕ} {ask : Ask} {x : Told Conversed} → IsCall ask →

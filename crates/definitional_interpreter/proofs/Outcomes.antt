@@ -4,7 +4,7 @@ use Rattle.std.proofs.Common.{◌≡◌, refl, sym, subst}
 use Rattle.preservation.specs.Laws.{HasMemory}
 use Rattle.preservation.proofs.Ends.{given, stopped, faulted}
 use Rattle.definitional_interpreter.specs.Told.{told, told_in}
-use Rattle.definitional_interpreter.specs.Changes.{yielded, edit, written, add_objects, turn}
+use Rattle.definitional_interpreter.specs.Changes.{yielded, edit, store, add_objects, turn}
 use Rattle.definitional_interpreter.proofs.Comes.{Sight, sight, Comes, HasExternal}
 use Rattle.definitional_interpreter.proofs.Chain.{done, later, after_ok, after_stop, after_in_ok, after_in_stop}
 use Rattle.definitional_interpreter.proofs.Chain.{after_run_ok, after_run_stop, after_lines_ok, after_lines_stop}
@@ -1022,7 +1022,7 @@ mutual
       (sym p1) (subst (λ (inp : Input). Comes g w (λ parts. parts.calls_back (sight g w) r d (SetGlobal vs n v))
       (told (Ok inp) (sight g w1) r) w1) (sym p5)
       (later (choose_true _ _ p2 (after_lines_ok _
-      (subst (λ (f : Frame). Comes g w (λ parts. written (sight g w) r f (named f.variables n) v)
+      (subst (λ (f : Frame). Comes g w (λ parts. store (sight g w) r f (named f.variables n) v)
       (told_in (Ok tt) (sight g w1) r f1) w1) p3 (stores p4)) (done)))))
   calls_back_comes {g} (CallsBack.no_such_field {ask = ask} {b = b} {n = n} {f = f} {w = w} {z = z} {r = r} {d = d} p1
       p2 p3) has = subst (λ (ask : Ask). Comes g w (λ parts. parts.calls_back (sight g w) r d ask)
@@ -1038,8 +1038,8 @@ mutual
       (later (after_ok _ (subst (λ (f : Frame). Comes g w
       (λ parts. told (yielded (field_named_place w.now f.variables b n)) (sight g w) r) (told (Ok pl) (sight g w) r) w)
       p2 (yields p3 given)) (after_lines_ok _
-      (subst (λ (f : Frame). Comes g w (λ parts. written (sight g w) r f pl.storage v)
-      (told_in (Ok tt) (sight g w1) r f1) w1) p2 (stores p4)) (done)))))
+      (subst (λ (f : Frame). Comes g w (λ parts. store (sight g w) r f pl.storage v) (told_in (Ok tt) (sight g w1) r f1)
+      w1) p2 (stores p4)) (done)))))
 
   pub line_comes : {g : Sight} {w w2 : History} {r r2 : RunState} {ss : stm.Stmts} {ot : Result (Unit {0}) Stop}
       → Line w r ss ot w2 r2 → HasMemory ot
@@ -1125,9 +1125,8 @@ mutual
       {v = v} {t = t} {pl = pl} {i = i} {mg = mg} {ot = ot} p1 p2 p3 p4 p5 p6 p7) has = later
       (computed_ok _ _ (subst (λ (f : Frame). field_text w.now f.variables r.delimiter m ≡ Ok v) p1 p2)
       (computed_ok _ _ p3 (after_lines_ok _
-      (subst (λ (f : Frame). Comes g w (λ parts. written (sight g w) r f pl.storage t)
-      (told_in (Ok tt) (sight g w1) r f1) w1) p1 (stores p4))
-      (subst (λ (mg : SystemMessage). Comes g w1 (λ parts. parts.tells (sight g w1) r m.object mg)
+      (subst (λ (f : Frame). Comes g w (λ parts. store (sight g w) r f pl.storage t) (told_in (Ok tt) (sight g w1) r f1)
+      w1) p1 (stores p4)) (subst (λ (mg : SystemMessage). Comes g w1 (λ parts. parts.tells (sight g w1) r m.object mg)
       (told ot (sight g w2) r1) w2) p6
       (subst (λ (i : ℕ). Comes g w1 (λ parts. parts.tells (sight g w1) r i mg) (told ot (sight g w2) r1) w2) p5
       (tells_comes p7 has))))))

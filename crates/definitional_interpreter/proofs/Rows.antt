@@ -59,7 +59,7 @@ use Rattle.externals.specs.Log.{Log, LoggedTurn}
 use Rattle.externals.specs.declared.external.Ask.TheVariants.{Done}
 use Rattle.externals.specs.declared.external.Input.TheVariants.{Start}
 use Rattle.journal_entries.specs.Places.{put as put_in_state}
-use Rattle.definitional_interpreter.specs.Changes.{make}
+use Rattle.definitional_interpreter.specs.Changes.{make, store}
 use Rattle.definitional_interpreter.specs.Meanings.{meanings}
 use Rattle.definitional_interpreter.specs.Rows.{Sum, Quotient, NoNumber, FaultAfterLines, Choice, Repeated, Chunks}
 use Rattle.definitional_interpreter.specs.Rows.{NoExpression}
@@ -75,7 +75,7 @@ unfolding digits function_named built_in number_of binary unary first_place put 
     destination_at simple_at head_at stmt_at lines_at block_at blocks closed referenced_layer part_front article
     list_at primary_at which_at selector_at owner_at part_end nth_end part_at field_at ref_at inner_ref count_at
     chunk_at chunk_form number_form factor_at prefixed_at power_end power_at join_at asked_at chain_at rank_at
-    level_at read handlers_at put_in_stack unspelled_within put_in_state make meanings
+    level_at read handlers_at put_in_stack unspelled_within put_in_state make meanings store
 computing = tt
 
 pub sum : Sum

@@ -68,10 +68,14 @@ edit_by w r f storage (Err n) = told_in (Err (Faults n)) w r f
 abbrev pub edit : Visible → RunState → Frame → PlaceView → Edit → ToldIn (Unit {0})
 edit w r f p e = edit_by w r f p.storage (due w.now f.variables r.delimiter p e)
 
+-- a value takes the place of a text
+unfoldable pub store : Visible → RunState → Frame → StorageView → List ℕ → ToldIn (Unit {0})
+store w r f storage t = written w r f storage t
+
 -- the number of a turn is put into the variable of a repeat
 abbrev pub assign : Visible → RunState → Frame → Option (List ℕ) → List ℕ → ToldIn (Unit {0})
 assign w r f None v = told_in (Ok tt) w r f
-assign w r f (Some name) v = written w r f (named f.variables name) v
+assign w r f (Some name) v = store w r f (named f.variables name) v
 
 -- a name means a global from here on, which has a value
 abbrev pub with_global : Visible → List ℕ → Option (List ℕ) → Visible

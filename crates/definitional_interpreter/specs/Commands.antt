@@ -14,7 +14,7 @@ use Rattle.meaning.specs.Menu.{message_name}
 use Rattle.meaning.specs.Places.{field_place, field_text}
 use Rattle.meaning.specs.State.{RunState, typed_frame_at}
 use Rattle.definitional_interpreter.specs.Told.{Visible, Told, unknown, told, after, after_lines, choose, computed}
-use Rattle.definitional_interpreter.specs.Changes.{written}
+use Rattle.definitional_interpreter.specs.Changes.{store}
 use Rattle.definitional_interpreter.specs.Families.{Meanings}
 
 abbrev pub line_of : Meanings → Visible → RunState → stm.Stmts → Told (Unit {0})
@@ -49,7 +49,7 @@ abbrev pub types_over_of : Meanings → Visible → RunState → Referent → Li
 types_over_of m w r o t =
     computed (field_text w.now (typed_frame_at w.now.current).variables r.delimiter o)
     (λ old. computed (field_place w.now o)
-    (λ p. after_lines (written w r (typed_frame_at w.now.current) p.storage t)
+    (λ p. after_lines (store w r (typed_frame_at w.now.current) p.storage t)
     (λ _ w r. m.tells w r o.object (leaving_message old t)))
     (λ _. unknown))
     (λ _. told (Ok tt) w r)

@@ -42,7 +42,7 @@ use Rattle.meaning.specs.Menu.{new_background_messages, message_name}
 use Rattle.meaning.specs.Messages.{parameters_of, lines_of, is_ignored, only}
 use Rattle.meaning.specs.State.{RunState, noted, typed_frame_at, handler_frame}
 use Rattle.definitional_interpreter.specs.Told.{Visible, Told, unknown, told, after, after_lines, choose, maybe, gave}
-use Rattle.definitional_interpreter.specs.Changes.{yielded, step, make, written, add_objects, turn}
+use Rattle.definitional_interpreter.specs.Changes.{yielded, step, make, store, add_objects, turn}
 use Rattle.definitional_interpreter.specs.Texts.{parsed, first_found}
 use Rattle.definitional_interpreter.specs.Families.{Meanings}
 
@@ -172,11 +172,11 @@ calls_back_of m w r d (EvalExpr note t) =
 calls_back_of m w r d (SetGlobal note n v) =
     choose (is_name n)
     (λ _. after_lines
-    (written w r (typed_frame_at w.now.current) (named (typed_frame_at w.now.current).variables n) v)
+    (store w r (typed_frame_at w.now.current) (named (typed_frame_at w.now.current).variables n) v)
     (λ _ w r. told (Ok (Answer note [])) w r))
     (λ _. told (Err (Faults BadArgument)) w r)
 calls_back_of m w r d (SetFieldByName note on_card n v) =
     after (told (yielded (field_named_place w.now (typed_frame_at w.now.current).variables on_card n)) w r) (λ p w r.
-    after_lines (written w r (typed_frame_at w.now.current) p.storage v) (λ _ w r. told (Ok (Answer note [])) w r))
+    after_lines (store w r (typed_frame_at w.now.current) p.storage v) (λ _ w r. told (Ok (Answer note [])) w r))
 calls_back_of m w r d (Done v passes) = unknown
 calls_back_of m w r d Fail = unknown

@@ -21,7 +21,7 @@ use Rattle.definitional_interpreter.specs.Told.{Visible, Told, told, ToldIn, tol
 use Rattle.definitional_interpreter.specs.Told.{after_next}
 use Rattle.definitional_interpreter.specs.Told.{choose, maybe}
 use Rattle.definitional_interpreter.specs.Told.{computed}
-use Rattle.definitional_interpreter.specs.Changes.{yielded, step, edit, written, assign, declare_all, set_property}
+use Rattle.definitional_interpreter.specs.Changes.{yielded, step, edit, store, assign, declare_all, set_property}
 use Rattle.definitional_interpreter.specs.Texts.{parsed}
 use Rattle.definitional_interpreter.specs.Families.{Meanings}
 
@@ -43,7 +43,7 @@ form_of m w r f d (stm.put_in place x ct) =
     (λ p w r. after_run (edit w r f p (Put place v)) (λ _ w r f. told_in (Ok Next) w r f)))
 form_of m w r f d (stm.get x) =
     after_in f (m.val w r f d x)
-    (λ v w r. after_run (written w r f (named f.variables it_name) v) (λ _ w r f. told_in (Ok Next) w r f))
+    (λ v w r. after_run (store w r f (named f.variables it_name) v) (λ _ w r f. told_in (Ok Next) w r f))
 form_of m w r f d (stm.set p ref x) =
     after_in f (m.val w r f d x)
     (λ v w r. after_in f (m.meets w r f d ref)
