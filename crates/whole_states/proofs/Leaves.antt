@@ -1,7 +1,7 @@
 -- What the changes, turns and steps in a rule keep: whole states, and texts.
 use Rattle.std.specs.Prelude.{IfSome, unwrap_or}
 use Rattle.std.specs.List.{All, AllByRecursion}
-use Rattle.std.proofs.Common.{◌≡◌, ◌+◌, ◌<◌, ℕ, zero, suc, List, [], ◌∷◌, ◌++◌, length, get_or, set, Bool, true}
+use Rattle.std.proofs.Common.{◌≡◌, ◌<◌, ℕ, zero, suc, List, [], ◌∷◌, ◌++◌, length, get_or, set, Bool, true}
 use Rattle.std.proofs.Common.{false, cond, Option, Some, None, option_map, is_some, Result, Ok, Err, IfOk, refl, sym}
 use Rattle.std.proofs.Common.{ap, subst, ◌∙◌, arith}
 use Rattle.std.proofs.lemmas.List.{length-map, get_or-map, get_or-set_same}
@@ -32,7 +32,6 @@ use Rattle.object_table.specs.declared.object.Object.{Object}
 use Rattle.journal_entries.specs.ScriptTrees.{object_script}
 use Rattle.journal_entries.specs.State.{State, seen_at, titles_of}
 use Rattle.journal_entries.specs.Changes.{fits, HasTexts}
-use Rattle.stack_places.specs.Places.{number}
 use Rattle.journal_entries.specs.Exchange.{with_cells}
 use Rattle.journal_entries.specs.declared.change.Change.{Change}
 use Rattle.change_journal.specs.History.{History}
