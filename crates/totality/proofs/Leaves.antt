@@ -9,7 +9,6 @@ use Rattle.ht_values.specs.declared.fault.Fault.TheVariants.{StepLimit, Syntax, 
 use Rattle.ht_values.specs.declared.word.Prop.{Prop}
 use Rattle.ht_values.specs.Outcome.{and_then}
 use Rattle.ht_values.specs.Text.{folded}
-use Rattle.chunks.specs.Nested.{read_within}
 use Rattle.ht_lex.specs.declared.tokens.Span.{Span}
 use Rattle.ht_lex.specs.Cutting.{spans_of, CutsExactly}
 use Rattle.ht_lex.specs.Token.{Token, token_in}
@@ -294,12 +293,12 @@ variable_stands s v name = by (is_global v name)
 -- in a place that is read
 pub place_stands : {t : List ℕ} (s : State) (v : VariablesView) (delimiter : ℕ) (p : PlaceView) →
     read_at s v delimiter p ≡ Ok t → Stands s v p.storage
-place_stands {t} s v delimiter p read = by (whole s v p.storage) refl read
+place_stands {t} s v delimiter p read = by _ (whole s v p.storage) refl read
   where
-    by : (u : Result (List ℕ) Fault) → whole s v p.storage ≡ u →
-        and_then u (λ x. Ok (read_within delimiter p.chunks x)) ≡ Ok t → Stands s v p.storage
-    by (Ok x) is e = stands x is
-    by (Err fa) is e = cc
+    by : (pieces : List ℕ → List ℕ) (u : Result (List ℕ) Fault) → whole s v p.storage ≡ u →
+        and_then u (λ x. Ok (pieces x)) ≡ Ok t → Stands s v p.storage
+    by pieces (Ok x) is e = stands x is
+    by pieces (Err fa) is e = cc
 
 -- and in a field that is found by its name
 pub field_stands : {p : PlaceView} (s : State) (v : VariablesView) (on_card : Bool) (name : List ℕ) →
