@@ -10,6 +10,7 @@ pub mod OneReply
 pub mod Said
 pub mod SomeReply
 pub mod Told
+mod KitTable
 mod Tables
 mod Ways
 mod Whole

@@ -5,6 +5,8 @@ ghost use Rattle.transcripts.specs.Laws.{BehavioursFollowTables, TranscriptsAreO
 ghost use Rattle.transcripts.specs.Laws.{TablesTellTurns, LogsTellTurns, KitIsDeterministic, TranscriptsStayWhole};
 ghost use Rattle.transcripts.specs.Laws.{OutputsStayWhole, TranscriptsGoOn, TablesTellTranscripts};
 ghost use Rattle.transcripts.specs.Replies.{RepliesAreOne, RepliesExist, RepliesExistBy, RepliesStayWhole};
+ghost use Rattle.totality.specs.Tables.{IsTable};
+ghost use Rattle.xkit.specs.Table.{kit_table};
 
 use definitional_interpreter::{free_turns_are_known, runs_are_computed};
 use ht_grammar::{lines_are_read_exactly, parts_are_read_exactly, typing_is_read_exactly};
@@ -105,3 +107,9 @@ pub fn transcripts_stay_whole()
     replies_stay_whole();
     trees_have_texts();
 }
+
+/// Each turn of the kit's table leaves as many cells and makes texts of texts: so the table is a behaviour of the kit's
+/// externals, by which lines have answers.
+pub fn kit_is_a_table()
+    ensures { IsTable kit_table }
+{}

@@ -5,7 +5,7 @@
 mod law;
 
 pub use law::{
-    replies_are_one, replies_exist, replies_exist_by_behaviours, replies_stay_whole,
-    transcripts_are_one, transcripts_exist, transcripts_exist_by_behaviours, transcripts_go_on,
-    transcripts_stay_whole,
+    kit_is_a_table, replies_are_one, replies_exist, replies_exist_by_behaviours,
+    replies_stay_whole, transcripts_are_one, transcripts_exist, transcripts_exist_by_behaviours,
+    transcripts_go_on, transcripts_stay_whole,
 };
