@@ -105,26 +105,42 @@ const OPENINGS: &[Opening] = &[
     },
 ];
 
+/// Why a session isn't opened on the stack, and how many externals come back.
+fn refused<E: External>(
+    alloc: Global,
+    stack: Stack,
+    externals: Vec<E>,
+    row: &Opening,
+) -> Option<(OpenError, usize)>
+    requires { IsWellFormed stack.content }
+{
+    match Session::open(alloc, stack, externals, row.steps, row.depth) {
+        Ok(_) => None,
+        Err((error, _, externals)) => Some((error, externals.len())),
+    }
+}
+
 /// Whether a session is opened, or refused with all externals handed back, as it is wanted.
 fn opens_so<E: External>(alloc: Global, externals: Vec<E>, row: &Opening) -> Option<bool> {
     let stack = two_cards(alloc)?;
-    Some(
-        match Session::open(alloc, stack, externals, row.steps, row.depth) {
-            Ok(_) => row.refusal.is_none(),
-            Err((error, _, externals)) => {
-                row.refusal == Some(error) && externals.len() == row.names.len()
-            }
-        },
-    )
+    let refused = refused(alloc, stack, externals, row);
+    Some(match row.refusal {
+        Some(error) => refused == Some((error, row.names.len())),
+        None => refused.is_none(),
+    })
+}
+
+fn is_met(alloc: Global, row: &Opening) -> Option<bool> {
+    let mark = Rc::new(alloc, 0u8).ok()?;
+    let externals = all_externals(alloc, row.names, &mark)?;
+    opens_so(alloc, externals, row)
 }
 
 #[test]
 fn steps_come_before_depth_and_names_are_apart(rt: HostRuntime) {
-    let mark = Rc::new(rt.alloc(), 0u8).expect(&rt, "there is memory");
     for row in OPENINGS {
-        let externals = all_externals(rt.alloc(), row.names, &mark).expect(&rt, "there is memory");
         assert!(rt;
-            opens_so(rt.alloc(), externals, row) == Some(true),
+            is_met(rt.alloc(), row) == Some(true),
             "{} {}",
             row.steps,
             row.depth
