@@ -22,6 +22,8 @@ from .progress import Teller, left_of, say, slots, time_of
 
 # What rt says of a crate: it is proved now, or an earlier call or build has proved it.
 PROVED = re.compile(rb"^rt: (\w+) (?:proved$|is (kept):)", re.MULTILINE)
+# Where Python starts with this folder, rt gives a proof that nothing stands beside all cores.
+ALL_CORES = os.path.join(os.path.dirname(os.path.realpath(__file__)), "all_cores")
 LOG = os.path.join("out", "build", "gate.log")
 LOG_BESIDE = os.path.join("out", "build", "beside.log")
 # What `rt ci` runs the program with, beside its sources.
@@ -83,13 +85,15 @@ class Anew:
             self.forecast.ended(crate, time.time(), was_kept=found[crate])
         self.done |= found.keys()
 
-    def begin(self, log: str, crate: Optional[str]) -> "subprocess.Popen[bytes]":
+    def begin(self, log: str, crate: Optional[str], is_alone: bool = False) -> "subprocess.Popen[bytes]":
         """Calls rt for a crate and those below it, or for all, in the copy. What it says goes to a log."""
+        env = {**os.environ, "TMPDIR": os.path.join(self.top, "room")}
+        if is_alone:
+            env["PYTHONPATH"] = ALL_CORES
         with open(os.path.join(self.root, log), "ab") as said:
             process = subprocess.Popen(
                 ["rt", "ci", *([crate] if crate else [])], cwd=os.path.join(self.top, "tree"), stdin=subprocess.DEVNULL, stdout=said,
-                env={**os.environ, "TMPDIR": os.path.join(self.top, "room")}, stderr=subprocess.STDOUT,
-                start_new_session=True)
+                env=env, stderr=subprocess.STDOUT, start_new_session=True)
         self.running.append(process)
         return process
 
@@ -120,7 +124,8 @@ class Anew:
         try:
             while True:
                 crate = self.lanes.next_of_way(self.done) if self.lanes else None
-                status = self.wait(self.begin(LOG, crate))
+                is_alone = self.lanes is not None and self.lanes.is_alone(self.done)
+                status = self.wait(self.begin(LOG, crate, is_alone))
                 if status != 0 or not crate:
                     return status
         finally:

@@ -2,9 +2,10 @@
 
 `rt ci` gives a proof the cores that no other proof waits for when it begins, and never more. So a crate that begins
 beside others goes on with one core while the rest have long ended. Asked for one crate alone, or for some of which each
-waits for the one before, rt gives each of them all cores. What is proved is kept on the machine, and the next call takes
-it over. So one lane goes up the longest way: each call goes as far up as nothing off the way is lacking. Beside it,
-another asks for a crate off the way as soon as its libraries are proved: first for the one with the longest way up.
+waits for the one before, rt gives each of them half of the cores, and all where it is told of more (all_cores). What is
+proved is kept on the machine, and the next call takes it over. So one lane goes up the longest way: each call goes as
+far up as nothing off the way is lacking. Beside it, another asks for a crate off the way as soon as its libraries are
+proved: first for the one with the longest way up.
 """
 
 import itertools
@@ -46,14 +47,20 @@ class Lanes:
     def next_of_way(self, done: Collection[str]) -> Optional[str]:
         """How far up the way the next call goes; None where it proves all that is left.
 
-        It goes up to a crate that lacks a library off the way, and where the first one does, it proves that one.
+        While crates off the way aren't proved, it goes up to a crate that lacks one of them. It proves one crate alone
+        where the first one lacks one, where nothing can stand beside it, since something may once it is proved, and
+        where it would go up to the top, since it would keep half of the cores to itself all the way.
         """
         left = [it for it in self.way if it not in done]
         lacking = set(self.off_the_way(done))
-        whole = list(itertools.takewhile(lambda it: not lacking & set(self.uses[it]), left))
-        if whole == left or len(left) == 1:
+        if not lacking or len(left) == 1:
             return None
-        return whole[-1] if whole else left[0]
+        whole = list(itertools.takewhile(lambda it: not lacking & set(self.uses[it]), left))
+        return left[0] if not whole or whole == left or self.is_alone(done) else whole[-1]
+
+    def is_alone(self, done: Collection[str]) -> bool:
+        """Whether nothing off the way can be proved now, so that the next call has nothing beside it."""
+        return not any(all(each in done for each in self.uses[it]) for it in self.off_the_way(done))
 
     def next_beside(self, done: Collection[str], asked: Collection[str]) -> Optional[str]:
         """The crate off the way to ask for beside it: its libraries are proved, and it wasn't asked for; None where none is."""

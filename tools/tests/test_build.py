@@ -20,8 +20,8 @@ BUILT = "crates/card_cli/out/card_cli"
 RECORD = BUILT + ".json"
 # All crates stand on the longest way, so one call proves them.
 ALL = ["tree ci"]
-# With some cores a crate beside it is asked for alone.
-BESIDE = ["tree ci middle", "tree ci side", "tree ci"] if slots() >= lanes.LEAST_CORES else ALL
+# With some cores the lowest crate, which has nothing beside it, is asked for alone, and so is a crate off the way.
+BESIDE = ["tree ci low", "tree ci middle", "tree ci side", "tree ci"] if slots() >= lanes.LEAST_CORES else ALL
 
 
 class Building(TreeTest):

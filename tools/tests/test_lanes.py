@@ -26,10 +26,18 @@ class Order(unittest.TestCase):
         self.assertEqual(LANES.way, ["a", "c", "d", "e", "f"])
 
     def test_a_call_goes_up_to_what_lacks_a_library_off_the_way(self) -> None:
-        self.assertEqual(LANES.next_of_way(set()), "e")
+        self.assertEqual(LANES.next_of_way({"a"}), "e")
         uses = {**USES, "d": ["c", "g"]}
-        found = [lanes.Lanes(uses, COSTS).next_of_way(done) for done in (set(), {"a", "c"}, {"a", "c", "b", "g"})]
-        self.assertEqual(found, ["c", "d", "e"])
+        found = [lanes.Lanes(uses, COSTS).next_of_way(done) for done in ({"a"}, {"a", "c"})]
+        self.assertEqual(found, ["c", "d"])
+
+    def test_a_crate_with_nothing_beside_it_is_asked_for_alone(self) -> None:
+        self.assertEqual(LANES.next_of_way(set()), "a")
+        self.assertEqual([LANES.is_alone(done) for done in (set(), {"a"}, {"a", "b", "g"})], [True, False, True])
+
+    def test_no_call_goes_up_to_the_top_beside_others(self) -> None:
+        uses = {**USES, "f": ["e"]}
+        self.assertEqual(lanes.Lanes(uses, COSTS).next_of_way({"a"}), "c")
 
     def test_the_last_comes_with_all_the_rest(self) -> None:
         self.assertIsNone(LANES.next_of_way({"a", "c", "d", "e"}))
