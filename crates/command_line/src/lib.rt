@@ -1,6 +1,7 @@
 //! The program's words, a whole run over a reader and a writer, and the verdict on each fault that ends it.
 #![tactic(auto)]
 
+mod explaining;
 mod fault;
 mod kit;
 mod options;
