@@ -1,5 +1,7 @@
 //! Times of calls, by one word: `values`, `parser`, `stack` or `world`. Without one of these it says what each word
 //! times, so that what it prints stays the same.
+//!
+//! - It promises no more than to be safe and to end.
 #![tactic(auto)]
 
 mod parser;

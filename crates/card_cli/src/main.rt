@@ -1,5 +1,8 @@
 //! A stack's session over standard input and output: `card_cli STACK [--steps N] [--depth D] [--watch] [--explain]
 //! [--check]`.
+//!
+//! - It opens files and streams, runs `play_with_kit` on them, and promises no more than to be safe and to end.
+//! - Only tested: what it writes to standard error, and its statuses, beyond `verdict`.
 #![tactic(auto)]
 
 use command_line::{

@@ -1,4 +1,7 @@
-//! A stack's session with two externals, `Replace` and `Table`: `card_tools STACK`, with the options of `card_cli`.
+//! A stack's session with two externals, `Replace` and `Table`: `card_tools STACK`, with the options of `card_cli`. It
+//! is an example of a program of one's own.
+//!
+//! - It promises no more than to be safe and to end.
 #![tactic(auto)]
 
 use command_line::{CliFault, MOST_OF_STACK, Options, cut, options_of, play};

@@ -1,4 +1,10 @@
-//! Chunks of texts: characters, words, items and lines.
+//! Chunks of texts: chars, words, items and lines.
+//!
+//! - Reading, putting and deleting them give exactly their texts (`find`, `count`, `part`, `take`, `put`, `delete`),
+//!   and so do chunks of chunks (`part_within`, `take_within`, `put_within`, `delete_within`).
+//! - Laws: what stands between delimiters is the one list whose join gives the text; a piece that is put stands there,
+//!   the other pieces are as they were, and it is read back where its number is reached; a delete that finds nothing
+//!   changes nothing.
 #![tactic(auto)]
 
 mod change;

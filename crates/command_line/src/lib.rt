@@ -1,6 +1,15 @@
 //! The program's words, a whole run over a reader and a writer, and the verdict on each fault that ends it.
+//!
+//! - `options_of` gives what `clap` finds in the words, exactly, and never a usage fault for words that it takes.
+//! - `play` goes from the bytes of a stack to the headline on its run and how that ended, or to the fault; each state
+//!   of the list is whole before each line and after it. Where it ends for want of memory, nothing was read, written or
+//!   kept.
+//! - `play_with_kit` promises the same of a run with the four externals of the kit plugged in, with their first cells:
+//!   it is what `card_cli` runs.
+//! - `verdict` gives the status and the line of each fault.
 #![tactic(auto)]
 
+mod explaining;
 mod fault;
 mod kit;
 mod options;

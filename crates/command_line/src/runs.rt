@@ -8,6 +8,7 @@ ghost use Rattle.devices.specs.Watching.{device_of, failures_of, Rose};
 ghost use Rattle.stack_text.specs.Laws.{Spells};
 ghost use Rattle.command_line.specs.Plays.{Plays, Ends, IsRefusal, fault_of_run};
 
+use crate::explaining::InWords;
 use crate::fault::CliFault;
 use crate::options::Options;
 use devices::{Desk, Watched};
@@ -119,7 +120,7 @@ pub fn play<E: HasTable, R: Read, W: Write, D: Desk>(
     runs_follow();
     runs_stay_whole();
     tables_follow();
-    match run(&mut session, alloc, reader, writer, desk) {
+    match run(&mut session, alloc, reader, writer, desk, &InWords) {
         Ok(ran) => {
             session.law_of_table();
             leave(&session, alloc, bytes, desk);

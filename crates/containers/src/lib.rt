@@ -1,4 +1,13 @@
-//! The places of HyperTalk that hold a text, variables and fields with chunks of them: reading and writing.
+//! The places of HyperTalk that hold a text, as values: a global, a handler's own variable, a field's own text or the
+//! shared one, and chunks of these.
+//!
+//! - `resolve` gives exactly the place, or says that a field keeps no text for its card. `read` gives exactly what is
+//!   read, and `read_name` and `standing_in` lend it.
+//! - `write` puts, computes or deletes, as one change of the world's or in the variables, and so does `edit_variable`
+//!   for a variable by its name; where it answers a fault or is out of memory nothing has changed. `declare` makes a
+//!   name mean a global.
+//! - Laws: a write has one outcome, and what it replaces is that of its change (`writes_are_due`); what is written is
+//!   what is read there next (`written_is_read`).
 #![tactic(auto)]
 
 mod edit;

@@ -1,6 +1,8 @@
-//! Why a line faulted or was refused, and where, in words; and what of a stack's scripts isn't in the grammar. It
-//! promises nothing but that it returns: no answer, state or saved text depends on what it writes, and rows try what
-//! that is.
+//! Why a line faulted or was refused, and where, in words; and what of a stack's scripts isn't in the grammar.
+//!
+//! - It promises nothing but that it is safe and ends: what it writes is for people, and no answer, state or saved text
+//!   depends on it.
+//! - Only tested: what it writes, by rows.
 #![tactic(auto)]
 
 mod hint;

@@ -26,6 +26,15 @@ impl Page {
         if self.is_cut { b"" } else { &self.bytes }
     }
 
+    /// What is written, by itself; nothing where memory was refused.
+    pub fn into_bytes(self) -> Vec<u8> {
+        let Page { mut bytes, is_cut } = self;
+        if is_cut {
+            bytes.clear();
+        }
+        bytes
+    }
+
     /// Whether memory was refused.
     pub fn is_cut(&self) -> bool {
         self.is_cut

@@ -21,9 +21,9 @@ ghost use Rattle.headline.specs.declared.limits.TheConstants.{MOST_BYTES, MOST_L
 ghost use Rattle.session.specs.declared.reply.Reply.{Reply};
 
 use crate::answer::{Cut, write_answer};
+use crate::explainer::Explainer;
 use crate::limits::{MOST_BYTES, MOST_LINES};
 use devices::{Desk, Watched};
-use explain::explain;
 use externals::External;
 use session::{Ending, LONGEST_LINE, Refusal, Reply, Sent, Session};
 use std::alloc::{AllocError, Global};
@@ -94,30 +94,32 @@ fn settle<D: Desk>(desk: &mut D, ending: Ending) -> Ending
 }
 
 /// Tells the desk why a line faulted or was refused, if it wants to hear it.
-fn tell_why<E: External, D: Desk>(
+fn tell_why<E: External, D: Desk, X: Explainer>(
     session: &Session<E>,
     alloc: Global,
     line: &[u8],
     reply: &Reply,
     desk: &mut D,
+    explainer: &X,
 )
     ensures { D.seen desk.new ≡ D.seen desk.old }
 {
     if !desk.explains() {
         return;
     }
-    let page = explain(alloc, session, line, reply);
-    if !page.as_slice().is_empty() {
-        desk.explain(page.as_slice());
+    let words = explainer.explain(alloc, session, line, reply);
+    if !words.is_empty() {
+        desk.explain(&words);
     }
 }
 
 /// Takes a line, and has the desk hear of its messages and of why it faulted or was refused, and keep what it saves.
-fn take_line<E: External, D: Desk>(
+fn take_line<E: External, D: Desk, X: Explainer>(
     session: &mut Session<E>,
     alloc: Global,
     line: &[u8],
     desk: &mut D,
+    explainer: &X,
 ) -> Reply
     ensures { Takes line.now (session.old, D.seen desk.old) result
         (session.new, D.seen desk.new) }
@@ -136,17 +138,18 @@ fn take_line<E: External, D: Desk>(
         sent,
         ending,
     };
-    tell_why(session, alloc, line, &reply, desk);
+    tell_why(session, alloc, line, &reply, desk, explainer);
     reply
 }
 
 /// Answers a line, and says whether it quits.
-fn answer_line<E: External, W: Write, D: Desk>(
+fn answer_line<E: External, W: Write, D: Desk, X: Explainer>(
     session: &mut Session<E>,
     alloc: Global,
     line: &[u8],
     writer: &mut Watched<W>,
     desk: &mut D,
+    explainer: &X,
 ) -> Result<bool, Cut>
     ensures ok { IfOk result (λ quits. (reply : Reply)
         × Takes line.now (session.old, D.seen desk.old) reply (session.new, D.seen desk.new)
@@ -159,7 +162,7 @@ fn answer_line<E: External, W: Write, D: Desk>(
     ensures failed { OnErr result (Rose (failures_of writer.old) (failures_of writer.new)) }
     ensures sound { OnOk result (failures_of writer.new ≡ failures_of writer.old) }
 {
-    let reply = take_line(session, alloc, line, desk);
+    let reply = take_line(session, alloc, line, desk, explainer);
     write_answer(alloc, &reply, writer)?;
     Ok(matches!(reply.ending, Ending::Quit))
 }
@@ -197,13 +200,14 @@ impl Intake {
 }
 
 /// Takes one byte of the input, and answers the line that it ends.
-fn take_byte<E: External, W: Write, D: Desk>(
+fn take_byte<E: External, W: Write, D: Desk, X: Explainer>(
     session: &mut Session<E>,
     alloc: Global,
     intake: &mut Intake,
     byte: u8,
     writer: &mut Watched<W>,
     desk: &mut D,
+    explainer: &X,
 ) -> Result<bool, Cut>
     requires lines { intake.old.lines < MOST_LINES }
     requires bytes { intake.old.bytes < MOST_BYTES }
@@ -231,6 +235,7 @@ fn take_byte<E: External, W: Write, D: Desk>(
             without_return(&intake.pending),
             writer,
             desk,
+            explainer,
         )?;
         intake.pending.clear();
         intake.lines += 1;
@@ -243,13 +248,14 @@ fn take_byte<E: External, W: Write, D: Desk>(
 }
 
 /// Takes the bytes of one read.
-fn take_block<E: External, W: Write, D: Desk>(
+fn take_block<E: External, W: Write, D: Desk, X: Explainer>(
     session: &mut Session<E>,
     alloc: Global,
     intake: &mut Intake,
     block: &[u8],
     writer: &mut Watched<W>,
     desk: &mut D,
+    explainer: &X,
 ) -> Result<bool, RunFault>
     requires { length block.now ≤ BLOCK }
     ensures ok { IfOk result (λ quits. (text : List ℕ)
@@ -275,7 +281,7 @@ fn take_block<E: External, W: Write, D: Desk>(
         if intake.is_full() {
             return Err(RunFault::TooManyLines);
         }
-        if take_byte(session, alloc, intake, *byte, writer, desk)? {
+        if take_byte(session, alloc, intake, *byte, writer, desk, explainer)? {
             return Ok(true);
         }
     }
@@ -283,12 +289,13 @@ fn take_block<E: External, W: Write, D: Desk>(
 }
 
 /// Answers the last line, which nothing ended, if it is not empty.
-fn take_last<E: External, W: Write, D: Desk>(
+fn take_last<E: External, W: Write, D: Desk, X: Explainer>(
     session: &mut Session<E>,
     alloc: Global,
     intake: &Intake,
     writer: &mut Watched<W>,
     desk: &mut D,
+    explainer: &X,
 ) -> Result<Ran, Cut>
     ensures ok { IfOk result (λ ran. (text : List ℕ)
         × Appends (W.contents (device_of writer.old)) (W.contents (device_of writer.new)) text
@@ -308,7 +315,7 @@ fn take_last<E: External, W: Write, D: Desk>(
     if intake.pending.is_empty() {
         return Ok(Ran::EndOfInput);
     }
-    if answer_line(session, alloc, &intake.pending, writer, desk)? {
+    if answer_line(session, alloc, &intake.pending, writer, desk, explainer)? {
         return Ok(Ran::Quit);
     }
     Ok(Ran::EndOfInput)
@@ -324,19 +331,20 @@ const BLOCK: usize = 4_096;
 /// of at most 4,096 bytes.
 ///
 /// The desk hears of each message that a line sent, in their order, once the line is done, and then, if it wants to,
-/// why the line faulted or was refused. The text of a line that saves is handed to it then: the answer is `ok` where it
+/// why the line faulted or was refused, in the words of the explainer. The text of a line that saves is handed to it then: the answer is `ok` where it
 /// keeps the text. Where it doesn't, its `failures` rose, what it kept before stands, and the answer is `refused 7`.
 /// Both come before the answer is written.
 ///
 /// `TooManyLines` where a byte comes after 1,000,000 lines or 1,000,000,000 bytes; `Read` and `Write`
 /// only where the device failed, and then no line is done further; `Memory` only where none was there to
 /// begin, and then nothing is read, done or written.
-pub fn run<E: External, R: Read, W: Write, D: Desk>(
+pub fn run<E: External, R: Read, W: Write, D: Desk, X: Explainer>(
     session: &mut Session<E>,
     alloc: Global,
     reader: &mut Watched<R>,
     writer: &mut Watched<W>,
     desk: &mut D,
+    explainer: &X,
 ) -> Result<Ran, RunFault>
     // The headline: what is written is the answers to the lines that are read, those of a list of
     // whole states with a cursor, beside a desk that keeps what is saved.
@@ -379,10 +387,18 @@ pub fn run<E: External, R: Read, W: Write, D: Desk>(
             Err(_) => return Err(RunFault::Read),
         };
         if count == 0 {
-            let ran = take_last(session, alloc, &intake, writer, desk)?;
+            let ran = take_last(session, alloc, &intake, writer, desk, explainer)?;
             return Ok(ran);
         }
-        if take_block(session, alloc, &mut intake, &block[..count], writer, desk)? {
+        if take_block(
+            session,
+            alloc,
+            &mut intake,
+            &block[..count],
+            writer,
+            desk,
+            explainer,
+        )? {
             return Ok(Ran::Quit);
         }
     }

@@ -1,5 +1,8 @@
 //! Expressions and references, read from tokens. Each rule is a method over a reader of the parts of an expression, and
 //! is proved by itself.
+//!
+//! - They are read exactly as the grammar's reading does (`read`, `arguments`, `chunk_head`, `part`, `field`,
+//!   `reference`, `selector`).
 #![tactic(auto)]
 
 mod chunk;

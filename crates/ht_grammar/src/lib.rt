@@ -1,4 +1,8 @@
-//! The grammar of HyperTalk: its trees, which tokens are which tree, and the reading of tokens as a function.
+//! The grammar of HyperTalk as rules: its trees, which tokens are which tree, and the reading of tokens as a function.
+//! It is a crate of definitions and laws.
+//!
+//! - Laws: a reading of tokens answers exactly the trees of the rules, and no text has two trees
+//!   (`texts_are_read_exactly`).
 #![tactic(auto)]
 
 mod law;

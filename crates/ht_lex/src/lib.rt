@@ -1,4 +1,9 @@
 //! The words, symbols and tokens of HyperTalk.
+//!
+//! - A text is cut into exactly its longest tokens, or the first place where none begins is told (`lex`).
+//! - Which words are names (`is_name`), and what a constant stands for (`Constant::bytes`), is exact.
+//! - A cursor goes over the tokens, which contracts see as the grammar does (`Cursor`).
+//! - Only tested: where a token begins in its text (`Cursor::place`).
 #![tactic(auto)]
 
 mod cursor;

@@ -1,4 +1,10 @@
-//! Scripts, typed lines, expressions and references: a text is read to the tree that the grammar gives it.
+//! Whole texts are read to trees: scripts, typed lines, expressions, references and messages.
+//!
+//! - `parse_script`, `parse_lines`, `parse_expr`, `parse_part`, `parse_type` and `parse_message` give the tree that the
+//!   grammar gives a text, and no other tree reads it.
+//! - They answer `Syntax` exactly where there is no tree; in a command that is the fault of syntax. Nesting is refused
+//!   past 100 levels.
+//! - Only tested: the place in the text that a `Syntax` tells.
 #![tactic(auto)]
 
 mod container;

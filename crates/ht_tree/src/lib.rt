@@ -1,4 +1,8 @@
-//! The trees of HyperTalk.
+//! The trees of HyperTalk in memory, which contracts see as the grammar's.
+//!
+//! - Expressions, containers and statements know their depth, and their types bound it by 100.
+//! - `Script::first` is the first handler of a kind and a name in a script.
+//! - Only tested: where a statement begins in its text (`Stmt::place`).
 #![tactic(auto)]
 
 mod container;

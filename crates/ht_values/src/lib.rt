@@ -1,4 +1,12 @@
-//! Texts, the values of HyperTalk, and the faults that end a command.
+//! The values of HyperTalk: texts of at most 30,000 bytes, names with their folded form, numbers and truth values, and
+//! the faults that end a command.
+//!
+//! - Each operator and each function gives exactly its value or its first fault (`number_of`, `Value::number`,
+//!   `Value::truth`, `binary`, `unary`, `built_in`). `Func::named` is the function of a name.
+//! - A value that is kept as a number or as a truth value (`Value`) means what its text means. To it another can be
+//!   added where its text stands (`Value::append`).
+//! - Laws: numerals read back; quotient and remainder make the dividend; the order is total among numbers and among
+//!   texts.
 #![tactic(auto)]
 
 mod applied;

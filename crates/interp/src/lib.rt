@@ -1,4 +1,9 @@
-//! The interpreter of HyperTalk: expressions, statements, messages and conversations on a world, as their meaning says.
+//! The interpreter of HyperTalk: expressions, statements, messages and conversations on a world.
+//!
+//! - `run_line` runs the lines of a command, `send_message` sends a message to an object by itself, and `find_ref`
+//!   finds the object of a dot line's reference.
+//! - Each ends as the rules of `meaning` allow, in that history and that run, and keeps the history round the open
+//!   batch.
 #![tactic(auto)]
 
 mod conversation;

@@ -1,6 +1,7 @@
-//! Examples of the crates of the language that no run of the program and no printed tree shows, with ample memory; all
-//! others are rows and trees of `rows`. A crate that has tests is proved a second time for them, so they stand here,
-//! above the crates that they try, where nothing else is to be proved.
+//! Tests of the crates of the language, with ample memory, where no run of the program and no printed tree shows what
+//! they do. A crate with tests is proved a second time for them, so they stand here.
+//!
+//! - It promises no more than to be safe and to end.
 #![tactic(auto)]
 
 #[cfg(test)]

@@ -1,4 +1,11 @@
-//! What HyperTalk means: rules for each form of the language, and the run, the frame and the ends of which they speak.
+//! What HyperTalk means: a rule for each form of the language and each way in which it ends, and the run, the frame and
+//! the ends of which the rules speak.
+//!
+//! - The rules are of expressions, containers, references, statements, repeats, messages along their path, `go`, the
+//!   menu, and conversations with externals.
+//! - The run of a command, with its steps, properties, lines and messages, is exactly as the rules see it (`Budget`,
+//!   `Counter`, `Frame`).
+//! - Only tested: what a run remembers of its stop (`Trace`).
 #![tactic(auto)]
 
 mod budget;

@@ -1,5 +1,11 @@
 //! References to objects: which card, background, button or field is meant, what may be set in it, and whether a card
-//! may go. Nothing here takes memory but a name that is read.
+//! may go.
+//!
+//! - A reference finds exactly the object that it means, with the card that is meant, or there is no such object
+//!   (`card_found`, `background_found`, `part_met`, `field_named`).
+//! - A property is set by exactly one change, which fits each state with the stack, or has its first fault
+//!   (`set_change`).
+//! - The name of an object is told until it goes (`name_of`), and so is whether a card may go (`may_delete`).
 #![tactic(auto)]
 
 mod cards;

@@ -1,4 +1,9 @@
-//! The objects of a stack, their orders and the parts of its layers, with exchanges that take no memory.
+//! The objects of a stack, their orders and the parts of its layers, texts and hilites, with exchanges that take no
+//! memory.
+//!
+//! - Each reader is its definition. Each of the eight exchanges is an exchange at its place and nothing else; memory is
+//!   never its answer. Opening room changes nothing else.
+//! - The empty stack is well formed, and the blank one holds nothing.
 #![tactic(auto)]
 
 mod ids;

@@ -1,6 +1,7 @@
-//! Examples of the crates of objects and of externals, and of the desk over a file, with ample memory. A crate that has
-//! tests is proved a second time for them, so they stand here, above the crates that they try, where nothing else is to
-//! be proved.
+//! Tests of the crates of objects and of externals, and of the desk over a file, with ample memory. A crate with tests
+//! is proved a second time for them, so they stand here, above the crates that they try.
+//!
+//! - It promises no more than to be safe and to end.
 #![tactic(auto)]
 
 #[cfg(test)]

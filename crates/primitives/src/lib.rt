@@ -1,6 +1,13 @@
-//! What a run of HyperTalk does between the calls of the interpreter to itself, each step by itself: values and
-//! parsing, variables and fields, objects, messages and externals. What a function gives is what a premise of the rules
-//! asks for.
+//! What a run of HyperTalk computes or changes between the calls of the interpreter to itself, each step by itself, as
+//! the premises of the rules ask for it. What changes a world keeps the history round the open batch.
+//!
+//! - Values and parsing: expressions with no other one in them (`atom`, `object_count`), and `apply`, `call_function`,
+//!   `counter`, `expression`, `lines`, `message`.
+//! - Places: those of variables and fields and their edits (`field_place`, `edit`, `assign`, `declare_globals`), and
+//!   what is read of an operand where it stands (`operand_part`, `operand_count`, `operand_into_text`,
+//!   `call_of_operand`).
+//! - Objects and messages: objects and changes (`part_in`, `card_to`, `make`, `add`), handlers and externals (`find`,
+//!   `handler_frame`, `outcome`, `take_turn`).
 #![tactic(auto)]
 
 pub mod arguments;

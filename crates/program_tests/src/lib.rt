@@ -1,6 +1,7 @@
-//! Examples of devices, of the session and of the program's library, with ample memory: what no row shows. A crate that
-//! has tests is proved a second time for them, so they stand here, above the crates that they try, where nothing else
-//! is to be proved.
+//! Tests of devices, of the session and of the program's library, with ample memory, where no row shows what they do. A
+//! crate with tests is proved a second time for them, so they stand here.
+//!
+//! - It promises no more than to be safe and to end.
 #![tactic(auto)]
 
 #[cfg(test)]

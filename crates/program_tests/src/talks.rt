@@ -6,7 +6,7 @@ use crate::opened::{TWO_CARDS, session_of};
 use crate::slow_devices::{Drip, Sip};
 use devices::{Desk, Shelf, Watched};
 use externals::External;
-use headline::{Ran, RunFault, run};
+use headline::{Ran, RunFault, Silent, run};
 use session::Session;
 use std::alloc::Global;
 use std::rc::Rc;
@@ -78,7 +78,7 @@ fn ends_so<E: External>(
         fails_at: talk.devices.read_fails_at,
     });
     let mut writer = Watched::new(taken);
-    let ran = run(session, alloc, &mut reader, &mut writer, desk);
+    let ran = run(session, alloc, &mut reader, &mut writer, desk, &Silent);
     let (reads, writes, _) = talk.failures;
     ran == talk.ran && reader.failures() == reads && writer.failures() == writes
 }

@@ -1,9 +1,11 @@
 //! The trees of a table of texts, then the worked rows and those of the pages, each run as the program would, over
 //! memory.
 //!
-//! Each line of standard input is a text, whose tree is printed, or `syntax`; the trees that are wanted were written by
-//! hand. `rows.txt` lists the rows. A line for each says whether it passed. The rows of the pages are their sessions;
-//! `tools/pages` writes them.
+//! - Each line of standard input is a text, whose tree is printed, or `syntax`; the trees that are wanted were written
+//!   by hand.
+//! - `rows.txt` lists the rows, and a line for each says whether it passed. The rows of the pages are their sessions,
+//!   which `tools/pages` writes.
+//! - It promises no more than to be safe and to end.
 #![tactic(auto)]
 
 mod answers;

@@ -1,4 +1,7 @@
 //! Stack texts, read and written.
+//!
+//! - `read` gives the stack that the bytes spell, whole, in version 1 or 2, and the first fault where they spell none.
+//! - `write` gives the one text of version 2.
 #![tactic(auto)]
 
 mod backgrounds;

@@ -1,5 +1,12 @@
-//! The changes that make and remove objects: where each fits, what it writes, and that a stack stays well formed. Each
-//! is prepared here: all that grows is taken first, so that the exchanges can't fail.
+//! What makes and removes objects: a new part, a new card, a new background with its card, and a card that goes, with
+//! its background if it was the last card there.
+//!
+//! - It says where each fits, and what it writes, place by place. Each change is prepared with all the room that it
+//!   needs, or is out of memory with the stack as it was (`prepare_new_part`, `prepare_new_card`,
+//!   `prepare_new_background`, `prepare_deletion`).
+//! - `following_card` is the card that follows one that goes.
+//! - Laws: a stack stays well formed (`laws_of_changes`), what becomes current is a card (`laws_of_current_cards`), and
+//!   no place is written twice (`laws_of_places`).
 #![tactic(auto)]
 
 mod clearing;

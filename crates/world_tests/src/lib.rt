@@ -1,6 +1,7 @@
-//! Examples of the crates of the world, with ample memory: what no run of the program shows of them, of the message
-//! path and of what runs the language; the worked rows try the rest. A crate that has tests is proved a second time for
-//! them, so they stand here, above the crates that they try, where nothing else is to be proved.
+//! Tests of the crates of the world, of the message path and of what runs the language, with ample memory, where no row
+//! shows what they do. A crate with tests is proved a second time for them, so they stand here.
+//!
+//! - It promises no more than to be safe and to end.
 #![tactic(auto)]
 
 #[cfg(test)]

@@ -195,6 +195,31 @@ fn a_declared_name_without_a_value_reads_as_its_spelling(rt: HostRuntime) {
     assert!(rt; matches!(&read, Some(read) if read.as_slice() == b"Sum".as_slice()));
 }
 
+/// Gives the global `g` a value, in a batch of its own.
+fn put_g(alloc: Global, world: &mut PlainWorld) -> Option<()>
+    requires { world.old.history.start ≡ None }
+{
+    let change = Change::Global(text(alloc, b"g")?, text(alloc, b"1"));
+    world.begin(1).ok()?;
+    make(world, change)
+}
+
+/// Whether the globals that have a value are `g` alone.
+fn lists_g(world: &PlainWorld) -> bool {
+    if world.global_count() != 1 {
+        return false;
+    }
+    let (name, value) = world.global_at(0);
+    name == b"g".as_slice() && value.as_slice() == b"1".as_slice()
+}
+
+#[test]
+fn a_global_is_listed(rt: HostRuntime) {
+    let mut world = world_of(rt.alloc(), TWO_CARDS).expect(&rt, "the stack is read");
+    put_g(rt.alloc(), &mut world).expect(&rt, "there is memory");
+    assert!(rt; lists_g(&world));
+}
+
 /// A field, a card, and the fault of the field's place and of its text for that card.
 type FieldRow = (Id, Id, Option<Stop>);
 
