@@ -9,7 +9,7 @@ from tree import HERE
 
 sys.path[:0] = [HERE, os.path.join(HERE, "tools")]
 from front import stack_text  # noqa: E402
-from timing import slow  # noqa: E402
+from timing import slow, start  # noqa: E402
 from timing.asked import Asked, Broken, is_end  # noqa: E402
 
 # It answers each line with itself, and `ok`, but for a few.
@@ -46,6 +46,22 @@ class Stacks(unittest.TestCase):
         count = slow.most_in_a_statement("abc")
         length = len("hear " + ",".join(["abc"] * count))
         self.assertTrue(length <= slow.MOST_BYTES < length + len(",abc"))
+
+
+class Openings(unittest.TestCase):
+    """How long a stack takes to open."""
+
+    def test_the_large_stack_has_four_megabytes(self) -> None:
+        self.assertAlmostEqual(len(start.large()) / 4e6, 1, delta=0.02)
+
+    def test_the_first_answer_is_waited_for(self) -> None:
+        self.assertGreater(start.once(["/bin/sh", "-c", "read line; sleep 0.05; echo ok"]), 50)
+        with self.assertRaises(ValueError):
+            start.once(["/bin/sh", "-c", "read line; echo no"])
+
+    def test_a_row_has_a_star_past_its_bound(self) -> None:
+        self.assertTrue(start.row("x", 3.5, 1.0, 2.0).endswith("2.5 ms, at most 2.0 *"))
+        self.assertTrue(start.row("x", 3.0, 1.0, 2.0).endswith("2.0 ms, at most 2.0"))
 
 
 class Tables(unittest.TestCase):
