@@ -1,7 +1,7 @@
 //! The grammar of HyperTalk as rules: its trees, which tokens are which tree, and the reading of tokens as a function.
 //! It is a crate of definitions and laws.
 //!
-//! - Laws: a reading of tokens answers exactly the trees of the rules, and no text has two trees
+//! - Laws: a text is cut into tokens and read as a tree exactly as the rules say, and no text has two trees
 //!   (`texts_are_read_exactly`).
 #![tactic(auto)]
 
