@@ -4,6 +4,7 @@ ghost use Rattle.std.specs.Prelude.{◌≡◌, ℕ, ◌<◌, ◌≤◌, List, []
 ghost use Rattle.std.specs.Prelude.{IsSome, IfSome, IsTrue, IfOk, IfErr, OnErr, OnOk, is_ok, map, option_map};
 ghost use Rattle.std.specs.Prelude.{option_copied, slice_index_or, slice_get};
 ghost use Rattle.std.specs.FinMap as finite;
+ghost use Rattle.ht_values.specs.Text.{numeral};
 ghost use Rattle.ht_grammar.specs.Reads.{Reads, ReadsScript};
 ghost use Rattle.ht_tree.specs.ScriptView.{script_of};
 ghost use Rattle.object_table.specs.WellFormed.{IsWellFormed};
@@ -25,7 +26,7 @@ ghost use Rattle.change_journal.specs.declared.world.TheConstants.{MOST_DEPTH};
 use crate::fault::{PlugError, WorldError};
 use externals::{Ask, External, HasTable, Input, law_of_ask, law_of_external};
 use ht_tree::Script;
-use ht_values::Text;
+use ht_values::{Text, text_of};
 use journal_entries::{
     Batch, Change, OpenBatch, Present, are_apart, law_of_externals, law_of_global, law_of_texts,
 };
@@ -150,10 +151,11 @@ impl<E: External> World<E> {
         self.present.stack()
     }
 
-    /// The tree of an object's script, if it is kept: that of the script of now.
-    pub fn script_tree(&self, id: Id) -> Option<&Rc<Script>>
-        ensures { IfSome result (λ tree. Reads ReadsScript (object_script self.now.history.now.stack id)
-            (script_of tree.now.value)) }
+    /// The tree of an object's script, if it is kept: that of the script of now. With it comes the number of the first
+    /// reading of that script, as `script_reading` tells it.
+    pub fn script_tree(&self, id: Id) -> Option<(u64, &Rc<Script>)>
+        ensures { IfSome result (λ r. Reads ReadsScript (object_script self.now.history.now.stack id)
+            (script_of r.1.now.value)) }
     {
         self.present.script_tree(id)
     }
@@ -178,6 +180,14 @@ impl<E: External> World<E> {
         ensures { option_copied result ≡ finite.get self.now.history.now.globals name.now }
     {
         self.present.global(name)
+    }
+
+    /// The number whose numeral the value of a global is, by its folded name, where that is known without reading the
+    /// value: that of the global to which `put_global_number` gave one last, until another global gets a value.
+    pub fn known_number(&self, name: &Text) -> Option<i64>
+        ensures { IfSome result (λ n. finite.get self.now.history.now.globals name.now ≡ Some (numeral n)) }
+    {
+        self.present.known_number(name)
     }
 
     /// How many globals have a value. `global_at` gives each of them once, in an order that isn't fixed.
@@ -309,9 +319,38 @@ impl<E: External> World<E> {
         ensures ok { OnOk result (Made self.old.history self.new.history (made_change.Global name.now value)) }
         ensures err { OnErr result (self.new.history ≡ self.old.history) }
     {
+        self.put(name, value, None)
+    }
+
+    /// Gives a global the numeral of a number, by its folded name, as its change does. Where memory was refused nothing
+    /// changes.
+    pub fn put_global_number(&mut self, name: &Text, number: i64) -> Result<(), AllocError>
+        requires open { IsSome self.old.history.start }
+        requires fits { fits self.old.history.now (made_change.Global name.now (Some (numeral number))) ≡ true }
+        ensures ok { OnOk result (Made self.old.history self.new.history
+            (made_change.Global name.now (Some (numeral number)))) }
+        ensures err { OnErr result (self.new.history ≡ self.old.history) }
+    {
+        let value = text_of(self.alloc, number)?;
+        self.put(name, Some(value), Some(number))
+    }
+
+    /// Gives a global a value, or none. Where a number is handed over, the value is its numeral.
+    fn put(
+        &mut self,
+        name: &Text,
+        value: Option<Text>,
+        number: Option<i64>,
+    ) -> Result<(), AllocError>
+        requires open { IsSome self.old.history.start }
+        requires fits { fits self.old.history.now (made_change.Global name.now value) ≡ true }
+        requires known { IfSome number (λ n. value ≡ Some (numeral n)) }
+        ensures ok { OnOk result (Made self.old.history self.new.history (made_change.Global name.now value)) }
+        ensures err { OnErr result (self.new.history ≡ self.old.history) }
+    {
         law_of_global(name, &value);
         match &mut self.open {
-            Some(batch) => batch.put_global(&mut self.present, name, value),
+            Some(batch) => batch.put_global(&mut self.present, name, value, number),
             None => unreachable!(),
         }
     }

@@ -17,7 +17,7 @@ ghost use Rattle.containers.specs.Base.{base};
 ghost use Rattle.containers.specs.declared.edit.Edit.TheVariants.{Alter, Put};
 ghost use Rattle.containers.specs.Edits.{due, edited as edited_text};
 ghost use Rattle.containers.specs.Places.{global, named};
-ghost use Rattle.containers.specs.Variables.{VariablesView};
+ghost use Rattle.containers.specs.Variables.{VariablesView, is_global};
 ghost use Rattle.containers.specs.Writes.{Declares, Writes};
 
 use crate::edit::Edit;
@@ -116,27 +116,65 @@ fn edit_global<W: Store>(
     }
 }
 
-/// The number that an operator gives of a global and of an operand, where the one is a numeral without a sign and the
-/// other is kept as a number.
-fn global_computed<W: Store>(world: &W, name: &Name, op: Op, operand: &Value) -> Option<i64>
-    ensures { IfSome result (λ n. binary_of op
-        (unwrap_or (finite.get (W.history world.now).now.globals (folded name.now)) []) operand.now
-        ≡ Ok (numeral_of n)) }
+/// Puts the numeral of a number into a global.
+#[tactic(auto, using(crate::proofs::Bases::made_keeps, crate::proofs::Bases::is_open, ht_values::proofs::Folding::folded_is_folded))]
+fn put_number_into_global<W: Store>(
+    world: &mut W,
+    name: &Name,
+    number: i64,
+) -> Result<(), AllocError>
+    requires { IsSome (base (W.history world.old)).start }
+    ensures ok { OnOk result (Made (W.history world.old) (W.history world.new)
+        (made_change.Global (folded name.now) (Some (numeral_of number)))) }
+    ensures err { OnErr result (W.history world.new ≡ W.history world.old) }
+    ensures base { base (W.history world.new) ≡ base (W.history world.old) }
 {
-    let number = plain_number(world.global(name.folded())?.as_slice())?;
+    world.put_global_number(name.folded(), number)
+}
+
+/// The number whose numeral the value of a name is that means a global, where it is known without reading the value.
+fn known_global<W: Store>(world: &W, variables: &Variables, name: &Name) -> Option<i64>
+    ensures global { IfSome result (λ n. is_global variables.now name.now ≡ true) }
+    ensures value { IfSome result (λ n. finite.get (W.history world.now).now.globals (folded name.now)
+        ≡ Some (numeral_of n)) }
+{
+    match world.known_number(name.folded()) {
+        Some(number) if variables.is_global(name) => Some(number),
+        _ => None,
+    }
+}
+
+/// The number whose numeral the value of a name is that means a global, where that has no sign.
+fn read_global<W: Store>(world: &W, variables: &Variables, name: &Name) -> Option<i64>
+    ensures global { IfSome result (λ n. is_global variables.now name.now ≡ true) }
+    ensures value { IfSome result (λ n. finite.get (W.history world.now).now.globals (folded name.now)
+        ≡ Some (numeral_of n)) }
+{
+    if !variables.is_global(name) {
+        return None;
+    }
+    plain_number(world.global(name.folded())?.as_slice())
+}
+
+/// The number that an operator gives of a number and of an operand that is kept as one.
+fn computed(op: Op, number: i64, operand: &Value) -> Option<i64>
+    ensures { IfSome result (λ n. binary_of op (numeral_of number) operand.now ≡ Ok (numeral_of n)) }
+{
     number_by(op, number, operand.kept_number()?)
 }
 
-/// Computes with a global, where two numbers are computed with as such, and says whether they are; else nothing changes.
+/// Computes with a global whose value is the numeral of a number, where the operand is kept as one and the operator
+/// gives a number, and says whether it does; else nothing changes.
 #[tactic(auto, using(crate::proofs::Rules::writes_rules))]
 fn alter_global<W: Store>(
-    alloc: Global,
     world: &mut W,
     name: &Name,
+    number: i64,
     op: Op,
     operand: &Value,
 ) -> Result<bool, AllocError>
-    requires { IsSome (base (W.history world.old)).start }
+    requires open { IsSome (base (W.history world.old)).start }
+    requires value { finite.get (W.history world.old).now.globals (folded name.now) ≡ Some (numeral_of number) }
     ensures altered { IfOk result (λ b. b ≡ true → (v : VariablesView) (d : ℕ)
         → Writes (W.history world.old) v (global (folded name.now))
         (edited_text d [] (Alter op operand.now)
@@ -145,12 +183,11 @@ fn alter_global<W: Store>(
     ensures err { OnErr result (W.history world.new ≡ W.history world.old) }
     ensures base { base (W.history world.new) ≡ base (W.history world.old) }
 {
-    let Some(number) = global_computed(world, name, op, operand) else {
+    let Some(number) = computed(op, number, operand) else {
         return Ok(false);
     };
-    let value = Value::of_number(number);
-    law_of_value(&value);
-    put_into_global(alloc, world, name, value)?;
+    law_of_value(&Value::of_number(number));
+    put_number_into_global(world, name, number)?;
     Ok(true)
 }
 
@@ -247,7 +284,6 @@ fn alter_own(variables: &mut Variables, name: &Name, op: Op, operand: &Value) ->
 #[tactic(auto, using(crate::proofs::Rules::writes_rules))]
 #[inline]
 pub fn alter_number<W: Store>(
-    alloc: Global,
     world: &mut W,
     variables: &mut Variables,
     name: &Name,
@@ -265,13 +301,16 @@ pub fn alter_number<W: Store>(
     ensures err { OnErr result ((W.history world.new ≡ W.history world.old) × (variables.new ≡ variables.old)) }
     ensures base { base (W.history world.new) ≡ base (W.history world.old) }
 {
+    if let Some(number) = known_global(world, variables, name) {
+        return alter_global(world, name, number, op, operand);
+    }
     if alter_own(variables, name, op, operand) {
         return Ok(true);
     }
-    if !variables.is_global(name) {
-        return Ok(false);
+    match read_global(world, variables, name) {
+        Some(number) => alter_global(world, name, number, op, operand),
+        None => Ok(false),
     }
-    alter_global(alloc, world, name, op, operand)
 }
 
 /// Puts a value into a variable, whatever stands there.

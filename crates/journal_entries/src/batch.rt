@@ -166,7 +166,7 @@ fn swapped<E: External>(present: &mut Present<E>, i: u32, value: Option<Text>) -
     ensures entry { entries_in result ≡ taken present.old.names present.old.state (Entry.Global i value) ∷ [] }
 {
     let mut value = value;
-    present.swap_global(i as usize, &mut value);
+    present.swap_global(i as usize, &mut value, None);
     of_global(i, value)
 }
 

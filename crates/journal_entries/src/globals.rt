@@ -3,6 +3,7 @@
 ghost use Rattle.std.specs.Prelude.{◌≡◌, ◌≢◌, ℕ, ◌<◌, [], length, true, IfOk, IfSome, IfNone, slice_index_or};
 ghost use Rattle.std.specs.Prelude.{slice_get, Some, option_copied, option_map};
 ghost use Rattle.std.specs.FinMap as finite;
+ghost use Rattle.ht_values.specs.Text.{numeral};
 ghost use Rattle.object_table.specs.Maps.{put_option};
 ghost use Rattle.journal_entries.specs.Named.{Named, Extends, Lists, listed, numbered};
 
@@ -12,19 +13,22 @@ use std::alloc::{AllocError, Global};
 use std::marker::Model;
 use std::mem;
 
-/// Texts by name. A name keeps its number from the time it is first met, also while it has no value. The number that
-/// was exchanged last is kept, since a loop tends to read and write one global.
+/// Texts by name. A name keeps its number from the time it is first met, also while it has no value. The name that
+/// was exchanged last is remembered, since a loop tends to read and write one global, and with it the number whose
+/// numeral its value is, where that was known.
 #[derive(Drop)]
 pub struct Globals {
     names: IndexSet<Vec<u8>>,
     values: Vec<Option<Text>>,
     live: usize,
     last: usize,
+    last_number: Option<i64>,
     alloc: Global,
 }
 
 impl Model for Globals {
-    ghost use Rattle.std.specs.Prelude.{◌≡◌, length, map, count_by, is_some};
+    ghost use Rattle.std.specs.Prelude.{◌≡◌, length, map, count_by, is_some, slice_index_or, IfSome, Some, None};
+    ghost use Rattle.ht_values.specs.Text.{numeral};
     ghost use Rattle.std.specs.FinMap as finite;
     ghost use Rattle.journal_entries.specs.Named.{Named, coded_named, entries_of, AreDistinct};
 
@@ -36,7 +40,8 @@ impl Model for Globals {
         record { texts = finite.from_entries (entries_of names g.values.items); names = names } };
 
     ghost invariant = { λ g. let names = map (λ k. k.items) g.names.keys in (length names ≡ length g.values.items)
-        × AreDistinct names × (g.live ≡ count_by is_some g.values.items) };
+        × AreDistinct names × (g.live ≡ count_by is_some g.values.items)
+        × IfSome g.last_number (λ n. slice_index_or g.values.items g.last None ≡ Some (numeral n)) };
 }
 
 impl Globals {
@@ -48,6 +53,7 @@ impl Globals {
             values: Vec::new(alloc),
             live: 0,
             last: 0,
+            last_number: None,
             alloc,
         }
     }
@@ -93,13 +99,16 @@ impl Globals {
         self.values.reserve(1)?;
         let bytes = Vec::from_slice(self.alloc, name.as_slice())?;
         self.names.insert_full(bytes)?;
+        self.last_number = None;
         self.values.push_reserved(None);
         Ok(i)
     }
 
-    /// Exchanges the value of the numbered name.
-    pub fn swap(&mut self, i: usize, value: &mut Option<Text>)
-        requires { i < length self.old.names }
+    /// Exchanges the value of the numbered name. Where a number is handed over, the value is its numeral, and
+    /// `known_number` tells it until the next exchange.
+    pub fn swap(&mut self, i: usize, value: &mut Option<Text>, number: Option<i64>)
+        requires there { i < length self.old.names }
+        requires known { IfSome number (λ n. value.old ≡ Some (numeral n)) }
         ensures value { value.new ≡ finite.get self.old.texts (slice_index_or self.old.names i []) }
         ensures texts { self.new ≡ record self.old
             { texts = put_option self.old.texts (slice_index_or self.old.names i []) value.old } }
@@ -107,6 +116,7 @@ impl Globals {
         let added = value.is_some();
         mem::swap(&mut self.values[i], value);
         self.last = i;
+        self.last_number = number;
         self.live = self.live - usize::from(value.is_some()) + usize::from(added);
     }
 
@@ -117,6 +127,17 @@ impl Globals {
         match self.number_of(name) {
             Some(i) => self.values[i].as_ref(),
             None => None,
+        }
+    }
+
+    /// The number whose numeral the value of a name is, where that is known without reading the value.
+    pub fn known_number(&self, name: &Text) -> Option<i64>
+        ensures { IfSome result (λ n. finite.get self.now.texts name.now ≡ Some (numeral n)) }
+    {
+        if self.last_number.is_some() && self.is_at(self.last, name) {
+            self.last_number
+        } else {
+            None
         }
     }
 

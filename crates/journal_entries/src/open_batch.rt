@@ -1,7 +1,8 @@
 //! The batch of the line that runs.
 
 ghost use Rattle.std.specs.Prelude.{◌≡◌, ℕ, ◌<◌, ◌≤◌, ◌+◌, max, vec_len, vec_capacity, true, false, List, [], ◌∷◌};
-ghost use Rattle.std.specs.Prelude.{◌++◌, length, IfOk, OnErr, OnOk, Option};
+ghost use Rattle.std.specs.Prelude.{◌++◌, length, IfOk, IfSome, OnErr, OnOk, Option, Some};
+ghost use Rattle.ht_values.specs.Text.{numeral};
 ghost use Rattle.externals.specs.Cells.{IsPatch, Changes};
 ghost use Rattle.journal_entries.specs.State.{IsState, seen_at};
 ghost use Rattle.journal_entries.specs.Changes.{fits};
@@ -169,21 +170,23 @@ impl OpenBatch {
         }
     }
 
-    /// Gives a global a value, or none, as its change does.
+    /// Gives a global a value, or none, as its change does. Where a number is handed over, the value is its numeral.
     pub fn put_global<E: External>(
         &mut self,
         present: &mut Present<E>,
         name: &Text,
         value: Option<Text>,
+        number: Option<i64>,
     ) -> Result<(), AllocError>
-        requires { fits present.old.state (made_change.Global name.now value) ≡ true }
+        requires fits { fits present.old.state (made_change.Global name.now value) ≡ true }
+        requires known { IfSome number (λ n. value ≡ Some (numeral n)) }
         ensures ok { OnOk result (Makes present.old present.new self.old self.new (made_change.Global name.now value)) }
         ensures err { OnErr result (Grows present.old present.new × (self.new ≡ self.old)) }
     {
         let i = present.number_global(name)?;
         let mut value = value;
         if is_last_global(&self.entries, i) {
-            present.swap_global(i, &mut value);
+            present.swap_global(i, &mut value, number);
             return Ok(());
         }
         self.write(present, Entry::Global(i, value))

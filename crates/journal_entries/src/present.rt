@@ -6,6 +6,7 @@ ghost use Rattle.std.specs.Prelude.{Option, Some};
 ghost use Rattle.std.specs.FinMap as finite;
 ghost use Rattle.ht_grammar.specs.Reads.{Reads, ReadsScript};
 ghost use Rattle.ht_tree.specs.ScriptView.{script_of};
+ghost use Rattle.ht_values.specs.Text.{numeral};
 ghost use Rattle.externals.specs.Cells.{IsPatch};
 ghost use Rattle.externals.specs.Log.{Follows};
 ghost use Rattle.stack_places.specs.Exchange as places;
@@ -120,7 +121,7 @@ impl<E: External> Present<E> {
         ensures entry { entry.new ≡ taken self.old.names self.old.state entry.old }
     {
         match entry {
-            Entry::Global(i, value) => self.swap_global(*i, value),
+            Entry::Global(i, value) => self.swap_global(*i, value, None),
             Entry::Current(current) => mem::swap(&mut self.current, current),
             Entry::Stack(entry) => self.exchange_in_stack(entry),
             Entry::External(i, patch) => self.externals[*i].flip(patch),
@@ -138,15 +139,16 @@ impl<E: External> Present<E> {
         entry.exchange(&mut self.stack);
     }
 
-    /// Exchanges the value of the numbered global.
+    /// Exchanges the value of the numbered global. Where a number is handed over, the value is its numeral.
     #[tactic(auto, unfolding(crate::specs::Exchange::exchanged, crate::specs::Exchange::taken))]
-    pub(crate) fn swap_global(&mut self, i: usize, value: &mut Option<Text>)
-        requires { i < length self.old.names }
+    pub(crate) fn swap_global(&mut self, i: usize, value: &mut Option<Text>, number: Option<i64>)
+        requires there { i < length self.old.names }
+        requires known { IfSome number (λ n. value.old ≡ Some (numeral n)) }
         ensures state { self.new ≡ record self.old
             { state = exchanged self.old.names self.old.state (Entry.Global i value.old) } }
         ensures entry { Entry.Global i value.new ≡ taken self.old.names self.old.state (Entry.Global i value.old) }
     {
-        self.globals.swap(i, value);
+        self.globals.swap(i, value, number);
     }
 
     /// Exchanges the entries from the last to the first.
@@ -324,10 +326,11 @@ impl<E: External> Present<E> {
         self.externals[i].turn(alloc, input)
     }
 
-    /// The tree of an object's script, if it is kept: that of the script of now.
-    pub fn script_tree(&self, id: Id) -> Option<&Rc<Script>>
-        ensures { IfSome result (λ tree. Reads ReadsScript (object_script self.now.state.stack id)
-            (script_of tree.now.value)) }
+    /// The tree of an object's script, if it is kept: that of the script of now. With it comes the number of the first
+    /// reading of that script, as `script_reading` tells it.
+    pub fn script_tree(&self, id: Id) -> Option<(u64, &Rc<Script>)>
+        ensures { IfSome result (λ r. Reads ReadsScript (object_script self.now.state.stack id)
+            (script_of r.1.now.value)) }
     {
         self.trees.get(id)
     }
@@ -367,6 +370,13 @@ impl<E: External> Present<E> {
         ensures { option_copied result ≡ finite.get self.now.state.globals name.now }
     {
         self.globals.get(name)
+    }
+
+    /// The number whose numeral the value of a global is, where that is known without reading the value.
+    pub fn known_number(&self, name: &Text) -> Option<i64>
+        ensures { IfSome result (λ n. finite.get self.now.state.globals name.now ≡ Some (numeral n)) }
+    {
+        self.globals.known_number(name)
     }
 
     /// How many globals have a value.

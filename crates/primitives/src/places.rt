@@ -221,7 +221,7 @@ pub(crate) fn alter_variable<E: External>(
         (place_of_variable frame.old.variables name.now) (Alter op operand) result world.new.history frame.new }
     ensures base { base world.new.history ≡ base world.old.history }
 {
-    if alter_numbers(world, run, frame, name, op, &operand)? {
+    if alter_numbers(world, frame, name, op, &operand)? {
         return Ok(());
     }
     edit_named(world, run, frame, name, Edit::Alter(op, operand))
@@ -231,7 +231,6 @@ pub(crate) fn alter_variable<E: External>(
 #[tactic(auto, using(meaning::proofs::Rules::edits_rules))]
 fn alter_numbers<E: External>(
     world: &mut World<E>,
-    run: &Budget,
     frame: &mut Frame,
     name: &Name,
     op: Op,
@@ -244,7 +243,7 @@ fn alter_numbers<E: External>(
         → (world.new.history ≡ world.old.history) × (frame.new ≡ frame.old)) }
     ensures base { base world.new.history ≡ base world.old.history }
 {
-    alter_number(run.alloc(), world, &mut frame.variables, name, op, operand)
+    alter_number(world, &mut frame.variables, name, op, operand)
 }
 
 /// Edits a variable by what stands there.

@@ -24,6 +24,7 @@ invariant_of-self-2 c =
       rw (n, v, length-append, length-append) (omega (arith, c.self.invariant.0)),
       rw n (AreDistinct-push ns c.args.name.now c.self.invariant.1 absent),
       rw (v, count_by-none) c.self.invariant.2,
+      tt,
     )
 
 pub returns-clause-number : goal.returns-clause-number

@@ -3,7 +3,7 @@ use Rattle.journal_entries.specs.declared.change.Change.TheVariants.{Global}
 use Rattle.change_journal.proofs.Journal.{journal}
 use Rattle.change_journal.proofs.Growth.{history-grown, IsSound-grown}
 use Rattle.change_journal.proofs.Making.{made-all, IsSound-made}
-use Rattle.change_journal.proofs.world.World.put_global.Goals as goal
+use Rattle.change_journal.proofs.world.World.put.Goals as goal
 
 pub invariant_of-self : goal.invariant_of-self
 invariant_of-self g c =
