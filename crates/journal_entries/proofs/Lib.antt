@@ -1,3 +1,4 @@
+pub mod Alone
 pub mod Naming
 pub mod Going
 pub mod Turned

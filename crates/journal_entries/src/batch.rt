@@ -1,6 +1,6 @@
 //! A batch: what goes back over the changes and turns of one command.
 
-ghost use Rattle.std.specs.Prelude.{◌≡◌, [], ◌∷◌, true};
+ghost use Rattle.std.specs.Prelude.{◌≡◌, [], ◌∷◌, true, IfOk, IfErr};
 ghost use Rattle.journal_entries.specs.Exchange.{back, back_taken, exchanged, forth, forth_taken, taken, shape_of};
 ghost use Rattle.journal_entries.specs.Exchange.{AreReady, IsReady};
 ghost use Rattle.journal_entries.specs.BatchEntries.{entries_in, needs_no_list};
@@ -9,16 +9,21 @@ use crate::entry::Entry;
 use crate::present::Present;
 use externals::External;
 use ht_values::Text;
+use object_table::Id;
+use stack_places::{BoxedText, StackEntry};
 use std::marker::Model;
 use std::mem;
 
-/// Most lines that change something write one global or go to a card. Such an entry needs no list: a global's, with a
-/// value or without, where a `u32` numbers it, or that of the current card. `Several` may hold any number of entries.
+/// Most lines that change something write one global or one field, or go to a card. Such an entry needs no list: a
+/// global's, with a value or without, where a `u32` numbers it, that of the current card, of a field's text or of a
+/// hilite. `Several` may hold any number of entries.
 #[derive(Drop)]
 enum BatchEntries {
     Value(u32, Text),
     NoValue(u32),
     Current(u32),
+    FieldText(Id, Id, BoxedText),
+    Hilite(Id, Id, Option<bool>),
     Several(Vec<Entry>),
 }
 
@@ -77,11 +82,9 @@ impl Batch {
             { entries = back_taken present.old.names present.old.state self.old.entries } }
     {
         let entries = mem::replace(&mut self.entries, BatchEntries::NoValue(0));
-        self.entries = match entries {
-            BatchEntries::Value(i, value) => swapped(present, i, Some(value)),
-            BatchEntries::NoValue(i) => swapped(present, i, None),
-            BatchEntries::Current(card) => swapped_current(present, card),
-            BatchEntries::Several(mut entries) => {
+        self.entries = match alone_in(entries) {
+            Ok(entry) => swapped(present, entry),
+            Err(mut entries) => {
                 present.go_back(&mut entries);
                 BatchEntries::Several(entries)
             }
@@ -97,25 +100,13 @@ impl Batch {
             { entries = forth_taken present.old.names present.old.state self.old.entries } }
     {
         let entries = mem::replace(&mut self.entries, BatchEntries::NoValue(0));
-        self.entries = match entries {
-            BatchEntries::Value(i, value) => swapped(present, i, Some(value)),
-            BatchEntries::NoValue(i) => swapped(present, i, None),
-            BatchEntries::Current(card) => swapped_current(present, card),
-            BatchEntries::Several(mut entries) => {
+        self.entries = match alone_in(entries) {
+            Ok(entry) => swapped(present, entry),
+            Err(mut entries) => {
                 present.go_forth(&mut entries);
                 BatchEntries::Several(entries)
             }
         };
-    }
-}
-
-/// A global's entry.
-fn of_global(i: u32, value: Option<Text>) -> BatchEntries
-    ensures { entries_in result ≡ Entry.Global i value ∷ [] }
-{
-    match value {
-        Some(value) => BatchEntries::Value(i, value),
-        None => BatchEntries::NoValue(i),
     }
 }
 
@@ -141,47 +132,63 @@ fn is_alone(entries: &[Entry]) -> bool
     match entries {
         [Entry::Global(i, _)] => *i <= u32::MAX as usize,
         [Entry::Current(_)] => true,
+        [Entry::Stack(entry)] => matches!(
+            entry,
+            StackEntry::FieldText(_, _, _) | StackEntry::Hilite(_, _, _)
+        ),
         _ => false,
     }
 }
 
-/// An entry that needs no list.
+/// An entry that needs no list, as a batch keeps it.
 fn alone(entry: Entry) -> BatchEntries
     requires { needs_no_list (entry ∷ []) ≡ true }
     ensures { entries_in result ≡ entry ∷ [] }
 {
     match entry {
-        Entry::Global(i, value) => of_global(i as u32, value),
+        Entry::Global(i, Some(value)) => BatchEntries::Value(i as u32, value),
+        Entry::Global(i, None) => BatchEntries::NoValue(i as u32),
         Entry::Current(card) => BatchEntries::Current(card),
+        Entry::Stack(StackEntry::FieldText(field, card, text)) => {
+            BatchEntries::FieldText(field, card, text)
+        }
+        Entry::Stack(StackEntry::Hilite(button, card, hilite)) => {
+            BatchEntries::Hilite(button, card, hilite)
+        }
         _ => unreachable!(),
     }
 }
 
-/// A global's entry after its exchange.
-#[tactic(auto, unfolding(crate::specs::Exchange::IsReady))]
-fn swapped<E: External>(present: &mut Present<E>, i: u32, value: Option<Text>) -> BatchEntries
-    requires { IsReady (shape_of present.old) (Entry.Global i value) }
-    ensures state { present.new ≡ record present.old
-        { state = exchanged present.old.names present.old.state (Entry.Global i value) } }
-    ensures entry { entries_in result ≡ taken present.old.names present.old.state (Entry.Global i value) ∷ [] }
+/// The entry that a batch holds without a list; else the list.
+fn alone_in(entries: BatchEntries) -> Result<Entry, Vec<Entry>>
+    ensures entry { IfOk result (λ e. entries_in entries ≡ e ∷ []) }
+    ensures alone { IfOk result (λ e. needs_no_list (e ∷ []) ≡ true) }
+    ensures list { IfErr result (λ list. entries_in entries ≡ list.items) }
 {
-    let mut value = value;
-    present.swap_global(i as usize, &mut value, None);
-    of_global(i, value)
+    match entries {
+        BatchEntries::Value(i, value) => Ok(Entry::Global(i as usize, Some(value))),
+        BatchEntries::NoValue(i) => Ok(Entry::Global(i as usize, None)),
+        BatchEntries::Current(card) => Ok(Entry::Current(card)),
+        BatchEntries::FieldText(field, card, text) => {
+            Ok(Entry::Stack(StackEntry::FieldText(field, card, text)))
+        }
+        BatchEntries::Hilite(button, card, hilite) => {
+            Ok(Entry::Stack(StackEntry::Hilite(button, card, hilite)))
+        }
+        BatchEntries::Several(entries) => Err(entries),
+    }
 }
 
-/// The entry of the current card after its exchange.
-#[tactic(auto, unfolding(crate::specs::Exchange::taken))]
-fn swapped_current<E: External>(present: &mut Present<E>, card: u32) -> BatchEntries
-    requires { IsReady (shape_of present.old) (Entry.Current card) }
+/// An entry that needs no list after its exchange.
+#[tactic(auto, using(crate::proofs::Alone::stays_alone))]
+fn swapped<E: External>(present: &mut Present<E>, entry: Entry) -> BatchEntries
+    requires alone { needs_no_list (entry ∷ []) ≡ true }
+    requires ready { IsReady (shape_of present.old) entry }
     ensures state { present.new ≡ record present.old
-        { state = exchanged present.old.names present.old.state (Entry.Current card) } }
-    ensures entry { entries_in result ≡ taken present.old.names present.old.state (Entry.Current card) ∷ [] }
+        { state = exchanged present.old.names present.old.state entry } }
+    ensures entry { entries_in result ≡ taken present.old.names present.old.state entry ∷ [] }
 {
-    let mut entry = Entry::Current(card);
+    let mut entry = entry;
     present.exchange(&mut entry);
-    match entry {
-        Entry::Current(card) => BatchEntries::Current(card),
-        _ => unreachable!(),
-    }
+    alone(entry)
 }

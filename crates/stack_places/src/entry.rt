@@ -9,6 +9,7 @@ use object_table::{Id, IdList, PropValue, Stack};
 
 /// A place of a stack, with the value that isn't there now. A value that would make every entry larger stands in a box,
 /// which is made before the exchange.
+#[derive(Drop)]
 pub enum StackEntry {
     /// An object and a value of one of its properties. Where there is no such object, or it has no such property,
     /// the exchange changes nothing.
@@ -23,22 +24,6 @@ pub enum StackEntry {
     /// A card or a background, and the list of its parts.
     Parts(Id, Option<IdList>),
     NextId(Id),
-}
-
-/// Written here and not derived, so that no crate above proves anew how it is dropped.
-impl Drop for StackEntry {
-    fn drop(self) {
-        match self {
-            StackEntry::Prop(_, _) => {}
-            StackEntry::FieldText(_, _, _) => {}
-            StackEntry::Hilite(_, _, _) => {}
-            StackEntry::Object(_, _) => {}
-            StackEntry::CardOrder(_) => {}
-            StackEntry::BackgroundOrder(_) => {}
-            StackEntry::Parts(_, _) => {}
-            StackEntry::NextId(_) => {}
-        }
-    }
 }
 
 impl StackEntry {
