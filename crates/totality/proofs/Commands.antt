@@ -3,6 +3,7 @@ use Rattle.std.proofs.Common.{◌≡◌, ◌⊎◌, inl, inr, ℕ, suc, List, []
 use Rattle.std.specs.Prelude.{is_some}
 use Rattle.ht_values.specs.declared.fault.Fault.{Fault}
 use Rattle.ht_values.specs.Outcome.{and_then}
+use Rattle.ht_grammar.specs.Laws.{TextsAreReadExactly}
 use Rattle.ht_grammar.specs.declared.vocabulary.HandlerKind.TheVariants.{Command}
 use Rattle.ht_grammar.specs.Statements as stm
 use Rattle.ht_grammar.specs.Trees as tree
@@ -24,7 +25,6 @@ use Rattle.meaning.specs.Locked.{MeetsLock}
 use Rattle.totality.specs.Laws.{Behaves}
 use Rattle.totality.proofs.Chain.{Begun}
 use Rattle.totality.proofs.Chain.{Underway, Has, has, ok, same, stops_too, then, then_lines, choose, computed}
-use Rattle.definitional_interpreter.proofs.Comes.{AreExact}
 use Rattle.totality.proofs.Leaves.{then_done_lines, place_stands, stores}
 use Rattle.totality.proofs.Levels.{Level}
 use Rattle.totality.proofs.Expressions.{part_has, sends_has}
@@ -44,8 +44,8 @@ message_has h w r i name vs k =
 
 -- ---- dot lines that send messages
 
-pub refers_has : {begun : Begun} {n : ℕ} → AreExact → Level begun n → (w : History) (r : RunState) (pa : tree.Part) →
-    Underway begun (suc n) w r → Has begun (suc n) (Refers w r pa)
+pub refers_has : {begun : Begun} {n : ℕ} → TextsAreReadExactly → Level begun n → (w : History) (r : RunState)
+    (pa : tree.Part) → Underway begun (suc n) w r → Has begun (suc n) (Refers w r pa)
 refers_has exact h w r pa k =
     then (part_has exact h w r (typed_frame w) 0 pa (omega arith) k) (λ z w1 r1 g. Refers.refer_stops refl g)
     (λ met w1 r1 k1 g. ok _ k1 (Refers.refers refl g refl))
@@ -63,8 +63,8 @@ tells_all_has h w r (mg ∷ ms) k =
     then (tells_has h w r w.now.current mg k) (λ z w1 r1 g. TellsAll.tell_stops refl g)
     (λ _ w1 r1 k1 g. same (tells_all_has h w1 r1 ms k1) (λ o w2 r2 g2. TellsAll.tells_on refl g g2))
 
-clicks_has : {begun : Begun} {n : ℕ} → AreExact → Level begun n → (w : History) (r : RunState) (pa : tree.Part) →
-    Underway begun (suc n) w r → Has begun (suc n) (Clicks w r pa)
+clicks_has : {begun : Begun} {n : ℕ} → TextsAreReadExactly → Level begun n → (w : History) (r : RunState)
+    (pa : tree.Part) → Underway begun (suc n) w r → Has begun (suc n) (Clicks w r pa)
 clicks_has exact h w r pa k =
     then (refers_has exact h w r pa k) (λ z w1 r1 g. Clicks.click_misses g) (λ i w1 r1 k1 g.
     then (tells_has h w1 r1 i MouseDown k1) (λ z w2 r2 g2. Clicks.press_stops g g2) (λ _ w2 r2 k2 g2.
@@ -97,9 +97,8 @@ abbrev pub IsLocked : Begun → History → RunState → Action → History → 
 IsLocked begun w r ac w2 r2 = MeetsLock w r ac w2 r2 × Behaves begun.behaviour begun.history w2
 
 -- a text is typed, unless the field is locked
-types_into_has : {begun : Begun} {n : ℕ} → AreExact → Level begun n →
-    (w : History) (r : RunState) (t : List ℕ) (pa : tree.Part) → Underway begun (suc n) w r →
-    Has begun (suc n) (TypesInto w r t pa) ⊎
+types_into_has : {begun : Begun} {n : ℕ} → TextsAreReadExactly → Level begun n → (w : History) (r : RunState)
+    (t : List ℕ) (pa : tree.Part) → Underway begun (suc n) w r → Has begun (suc n) (TypesInto w r t pa) ⊎
     ((w2 : History) × ((r2 : RunState) × IsLocked begun w r (act.type_text t pa) w2 r2))
 types_into_has {begun} {n} exact h w r t pa k = by_part (refers_has exact h w r pa k)
   where
@@ -114,9 +113,9 @@ types_into_has {begun} {n} exact h w r t pa k = by_part (refers_has exact h w r 
         same (types_over_has h w2 r2 (met_here w1.now.current i) t k2)
         (λ o w3 r3 g3. TypesInto.types_into g free g2 refl g3))))
 
-pub acts_has : {begun : Begun} {n : ℕ} → AreExact → Level begun n → (w : History) (r : RunState) (ac : Action) →
-    Underway begun (suc n) w r →
-    Has begun (suc n) (Acts w r ac) ⊎ ((w2 : History) × ((r2 : RunState) × IsLocked begun w r ac w2 r2))
+pub acts_has : {begun : Begun} {n : ℕ} → TextsAreReadExactly → Level begun n → (w : History) (r : RunState)
+    (ac : Action) → Underway begun (suc n) w r → Has begun (suc n) (Acts w r ac) ⊎
+    ((w2 : History) × ((r2 : RunState) × IsLocked begun w r ac w2 r2))
 acts_has exact h w r (act.run_lines ss) k = inl (same (line_has h w r ss k) (λ o w1 r1 g. Acts.acts_by_lines refl g))
 acts_has exact h w r act.open_stack k = inl
     (same (tells_all_has h w r opening_stack k) (λ o w1 r1 g. Acts.acts_by_opening refl g))

@@ -3,6 +3,7 @@ use Rattle.std.proofs.Common.{ℕ, suc, ◌+◌, ◌≤◌, List, [], ◌∷◌,
 use Rattle.ht_values.specs.Functions.{built_in}
 use Rattle.ht_values.specs.Number.{number_of}
 use Rattle.ht_values.specs.Operators.{unary, binary, truth_of}
+use Rattle.ht_grammar.specs.Laws.{TextsAreReadExactly}
 use Rattle.ht_grammar.specs.declared.vocabulary.HandlerKind.{HandlerKind}
 use Rattle.ht_grammar.specs.declared.vocabulary.Layer.{Layer}
 use Rattle.ht_grammar.specs.Functions.{func_of}
@@ -17,7 +18,6 @@ use Rattle.meaning.specs.Meaning.{Val, Vals, NumberVal, TruthVal, TextVal, Chunk
 use Rattle.meaning.specs.Meaning.{PartMet, Meets, Leads, Calls, Sends}
 use Rattle.meaning.specs.State.{RunState, noted}
 use Rattle.totality.proofs.Chain.{Begun, Underway, Has, ok, fault, yield, same, then, maybe, there, deep, nested}
-use Rattle.definitional_interpreter.proofs.Comes.{AreExact}
 use Rattle.totality.proofs.Leaves.{then_step, lift, then_parsed}
 use Rattle.totality.proofs.Levels.{Level}
 
@@ -32,8 +32,8 @@ sends_has h w r f d i name vs kind le k =
     (h.along w (noted r1 name i) f d i (path w.now.stack w.now.current i) name vs kind le
     (record { is_open = k1.is_open; left = k1.left })) (λ o w1 r3 g. Sends.sends st refl refl g)))
 
-pub text_val_has : {begun : Begun} {n : ℕ} → AreExact → Level begun n → (w : History) (r : RunState) (f : Frame) (d : ℕ)
-    (t : List ℕ) → d ≤ 100 → Underway begun (suc n) w r → Has begun (suc n) (TextVal w r f d t)
+pub text_val_has : {begun : Begun} {n : ℕ} → TextsAreReadExactly → Level begun n → (w : History) (r : RunState)
+    (f : Frame) (d : ℕ) (t : List ℕ) → d ≤ 100 → Underway begun (suc n) w r → Has begun (suc n) (TextVal w r f d t)
 text_val_has exact h w r f d t le k =
     then_step w r k (λ z r1 st. TextVal.value_no_step st) (λ r1 k1 st. lift
     (deep d le (λ lt. then_parsed expression ReadsExpr t exact.cuts exact.expressions k1
@@ -63,8 +63,8 @@ calls_by {f = f} {d} {i} {name} {kind = kind} h le values = then values (λ z w1
 -- ---- all others
 
 mutual
-  pub val_has : {begun : Begun} {n : ℕ} → AreExact → Level begun n → (w : History) (r : RunState) (f : Frame) (d : ℕ)
-      (e : tree.Expr) → d ≤ 100 → Underway begun (suc n) w r → Has begun (suc n) (Val w r f d e)
+  pub val_has : {begun : Begun} {n : ℕ} → TextsAreReadExactly → Level begun n → (w : History) (r : RunState) (f : Frame)
+      (d : ℕ) (e : tree.Expr) → d ≤ 100 → Underway begun (suc n) w r → Has begun (suc n) (Val w r f d e)
   val_has exact h w r f d (tree.number v) le k = ok _ k (Val.number refl)
   val_has exact h w r f d (tree.quoted v) le k = ok _ k (Val.quoted refl)
   val_has exact h w r f d (tree.constant c) le k = ok _ k (Val.constant refl refl)
@@ -107,8 +107,8 @@ mutual
   val_has exact h w r f d (tree.call n es) le k = same (calls_by h le (vals_has exact h w r f d es [] le k))
       (λ o w1 r1 g. Val.call refl refl g)
 
-  pub vals_has : {begun : Begun} {n : ℕ} → AreExact → Level begun n → (w : History) (r : RunState) (f : Frame) (d : ℕ)
-      (es : tree.Exprs) (vs : List (List ℕ)) → d ≤ 100 → Underway begun (suc n) w r →
+  pub vals_has : {begun : Begun} {n : ℕ} → TextsAreReadExactly → Level begun n → (w : History) (r : RunState)
+      (f : Frame) (d : ℕ) (es : tree.Exprs) (vs : List (List ℕ)) → d ≤ 100 → Underway begun (suc n) w r →
       Has begun (suc n) (Vals w r f d es vs)
   vals_has exact h w r f d tree.none vs le k = ok _ k (Vals.vals_done refl)
   vals_has exact h w r f d (tree.more x xs) vs le k =
@@ -116,8 +116,9 @@ mutual
       (λ v w1 r1 k1 g. same (vals_has exact h w1 r1 f d xs (vs ++ v ∷ []) le k1)
       (λ o w2 r2 g2. Vals.vals_more refl g g2))
 
-  pub chunk_has : {begun : Begun} {n : ℕ} → AreExact → Level begun n → (w : History) (r : RunState) (f : Frame) (d : ℕ)
-      (head : tree.Chunk) → d ≤ 100 → Underway begun (suc n) w r → Has begun (suc n) (ChunkOf w r f d head)
+  pub chunk_has : {begun : Begun} {n : ℕ} → TextsAreReadExactly → Level begun n → (w : History) (r : RunState)
+      (f : Frame) (d : ℕ) (head : tree.Chunk) → d ≤ 100 → Underway begun (suc n) w r →
+      Has begun (suc n) (ChunkOf w r f d head)
   chunk_has exact h w r f d (tree.piece kind x) le k = then (number_by (val_has exact h w r f d x le k))
       (λ z w1 r1 g. ChunkOf.one_stops refl g) (λ u w1 r1 k1 g. ok _ k1 (ChunkOf.one refl g refl))
   chunk_has exact h w r f d (tree.pieces kind x y) le k =
@@ -126,15 +127,17 @@ mutual
       (λ v w2 r2 k2 g2. ok _ k2 (ChunkOf.range refl g g2 refl)))
   chunk_has exact h w r f d (tree.nth_piece od kind) le k = ok _ k (ChunkOf.ordinal refl refl)
 
-  pub picks_has : {begun : Begun} {n : ℕ} → AreExact → Level begun n → (w : History) (r : RunState) (f : Frame) (d : ℕ)
-      (wh : tree.Which) → d ≤ 100 → Underway begun (suc n) w r → Has begun (suc n) (Picks w r f d wh)
+  pub picks_has : {begun : Begun} {n : ℕ} → TextsAreReadExactly → Level begun n → (w : History) (r : RunState)
+      (f : Frame) (d : ℕ) (wh : tree.Which) → d ≤ 100 → Underway begun (suc n) w r →
+      Has begun (suc n) (Picks w r f d wh)
   picks_has exact h w r f d (tree.by_id x) le k = then (val_has exact h w r f d x le k)
       (λ z w1 r1 g. Picks.pick_id_stops refl g) (λ t w1 r1 k1 g. ok _ k1 (Picks.pick_id refl g refl))
   picks_has exact h w r f d (tree.by_text x) le k = then (val_has exact h w r f d x le k)
       (λ z w1 r1 g. Picks.pick_text_stops refl g) (λ t w1 r1 k1 g. ok _ k1 (Picks.pick_text refl g refl))
 
-  pub seeks_has : {begun : Begun} {n : ℕ} → AreExact → Level begun n → (w : History) (r : RunState) (f : Frame) (d : ℕ)
-      (sl : tree.Selector) → d ≤ 100 → Underway begun (suc n) w r → Has begun (suc n) (Seeks w r f d sl)
+  pub seeks_has : {begun : Begun} {n : ℕ} → TextsAreReadExactly → Level begun n → (w : History) (r : RunState)
+      (f : Frame) (d : ℕ) (sl : tree.Selector) → d ≤ 100 → Underway begun (suc n) w r →
+      Has begun (suc n) (Seeks w r f d sl)
   seeks_has exact h w r f d tree.this le k = ok _ k (Seeks.seek_this refl refl)
   seeks_has exact h w r f d tree.next le k = ok _ k (Seeks.seek_next refl refl)
   seeks_has exact h w r f d tree.previous le k = ok _ k (Seeks.seek_previous refl refl)
@@ -142,8 +145,8 @@ mutual
   seeks_has exact h w r f d (tree.which wh) le k = then (picks_has exact h w r f d wh le k)
       (λ z w1 r1 g. Seeks.seek_stops refl g) (λ p w1 r1 k1 g. ok _ k1 (Seeks.seek_which refl g refl))
 
-  pub owns_has : {begun : Begun} {n : ℕ} → AreExact → Level begun n → (w : History) (r : RunState) (f : Frame) (d : ℕ)
-      (layer : Layer) (owner : tree.Owner) → d ≤ 100 → Underway begun (suc n) w r →
+  pub owns_has : {begun : Begun} {n : ℕ} → TextsAreReadExactly → Level begun n → (w : History) (r : RunState)
+      (f : Frame) (d : ℕ) (layer : Layer) (owner : tree.Owner) → d ≤ 100 → Underway begun (suc n) w r →
       Has begun (suc n) (Owns w r f d layer owner)
   owns_has exact h w r f d layer tree.no_owner le k = ok _ k (Owns.no_owner refl refl)
   owns_has exact h w r f d layer (tree.on_card sl) le k = then (seeks_has exact h w r f d sl le k)
@@ -152,8 +155,9 @@ mutual
       (λ z w1 r1 g. Owns.owner_background_stops refl g)
       (λ s w1 r1 k1 g. yield _ k1 (λ o y. Owns.owner_background refl g y))
 
-  pub part_has : {begun : Begun} {n : ℕ} → AreExact → Level begun n → (w : History) (r : RunState) (f : Frame) (d : ℕ)
-      (pa : tree.Part) → d ≤ 100 → Underway begun (suc n) w r → Has begun (suc n) (PartMet w r f d pa)
+  pub part_has : {begun : Begun} {n : ℕ} → TextsAreReadExactly → Level begun n → (w : History) (r : RunState)
+      (f : Frame) (d : ℕ) (pa : tree.Part) → d ≤ 100 → Underway begun (suc n) w r →
+      Has begun (suc n) (PartMet w r f d pa)
   part_has exact h w r f d (tree.part layer kind wh owner) le k =
       then (picks_has exact h w r f d wh le k) (λ z w1 r1 g. PartMet.part_stops refl g) (λ p w1 r1 k1 g.
       then (owns_has exact h w1 r1 f d _ owner le k1) (λ z w2 r2 g2. PartMet.part_owner_stops refl g refl g2)
@@ -162,8 +166,9 @@ mutual
       then (owns_has exact h w r f d _ owner le k) (λ z w1 r1 g. PartMet.nth_owner_stops refl refl g)
       (λ s w1 r1 k1 g. yield _ k1 (λ o y. PartMet.nth_of_owner refl refl g y))
 
-  pub meets_has : {begun : Begun} {n : ℕ} → AreExact → Level begun n → (w : History) (r : RunState) (f : Frame) (d : ℕ)
-      (ref : tree.Ref) → d ≤ 100 → Underway begun (suc n) w r → Has begun (suc n) (Meets w r f d ref)
+  pub meets_has : {begun : Begun} {n : ℕ} → TextsAreReadExactly → Level begun n → (w : History) (r : RunState)
+      (f : Frame) (d : ℕ) (ref : tree.Ref) → d ≤ 100 → Underway begun (suc n) w r →
+      Has begun (suc n) (Meets w r f d ref)
   meets_has exact h w r f d tree.me le k = yield _ k (λ o y. Meets.meet_me refl y)
   meets_has exact h w r f d tree.the_target le k = yield _ k (λ o y. Meets.meet_target refl y)
   meets_has exact h w r f d tree.this_stack le k = ok _ k (Meets.meet_stack refl refl)
@@ -175,8 +180,9 @@ mutual
   meets_has exact h w r f d (tree.a_part pa) le k = same (part_has exact h w r f d pa le k)
       (λ o w1 r1 g. Meets.meet_part refl g)
 
-pub resolves_has : {begun : Begun} {n : ℕ} → AreExact → Level begun n → (w : History) (r : RunState) (f : Frame) (d : ℕ)
-    (ct : tree.Container) → d ≤ 100 → Underway begun (suc n) w r → Has begun (suc n) (Resolves w r f d ct)
+pub resolves_has : {begun : Begun} {n : ℕ} → TextsAreReadExactly → Level begun n → (w : History) (r : RunState)
+    (f : Frame) (d : ℕ) (ct : tree.Container) → d ≤ 100 → Underway begun (suc n) w r →
+    Has begun (suc n) (Resolves w r f d ct)
 resolves_has exact h w r f d (tree.variable n) le k = ok _ k (Resolves.place_variable refl refl)
 resolves_has exact h w r f d (tree.in_field pa) le k = then (part_has exact h w r f d pa le k)
     (λ z w1 r1 g. Resolves.place_field_stops refl g)
@@ -186,15 +192,15 @@ resolves_has exact h w r f d (tree.in_chunk head ct) le k =
     then (resolves_has exact h w1 r1 f d ct le k1) (λ z w2 r2 g2. Resolves.place_chunk_of_stops refl g g2)
     (λ p w2 r2 k2 g2. ok _ k2 (Resolves.place_chunk refl g g2 refl)))
 
-pub leads_has : {begun : Begun} {n : ℕ} → AreExact → Level begun n → (w : History) (r : RunState) (f : Frame) (d : ℕ)
-    (de : stm.Destination) → d ≤ 100 → Underway begun (suc n) w r → Has begun (suc n) (Leads w r f d de)
+pub leads_has : {begun : Begun} {n : ℕ} → TextsAreReadExactly → Level begun n → (w : History) (r : RunState) (f : Frame)
+    (d : ℕ) (de : stm.Destination) → d ≤ 100 → Underway begun (suc n) w r → Has begun (suc n) (Leads w r f d de)
 leads_has exact h w r f d (stm.to_card sl) le k = then (seeks_has exact h w r f d sl le k)
     (λ z w1 r1 g. Leads.lead_card_stops refl g) (λ s w1 r1 k1 g. yield _ k1 (λ o y. Leads.lead_card refl g y))
 leads_has exact h w r f d (stm.to_background sl) le k = then (seeks_has exact h w r f d sl le k)
     (λ z w1 r1 g. Leads.lead_background_stops refl g)
     (λ s w1 r1 k1 g. yield _ k1 (λ o y. Leads.lead_background refl g y))
 
-pub calls_has : {begun : Begun} {n : ℕ} → AreExact → Level begun n → (w : History) (r : RunState) (f : Frame) (d i : ℕ)
-    (name : List ℕ) (es : tree.Exprs) (kind : HandlerKind) → d ≤ 100 → Underway begun (suc n) w r →
+pub calls_has : {begun : Begun} {n : ℕ} → TextsAreReadExactly → Level begun n → (w : History) (r : RunState) (f : Frame)
+    (d i : ℕ) (name : List ℕ) (es : tree.Exprs) (kind : HandlerKind) → d ≤ 100 → Underway begun (suc n) w r →
     Has begun (suc n) (Calls w r f d i name es kind)
 calls_has exact h w r f d i name es kind le k = calls_by h le (vals_has exact h w r f d es [] le k)

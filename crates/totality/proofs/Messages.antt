@@ -5,6 +5,7 @@ use Rattle.std.specs.Prelude.{nat_eq, nat_lt}
 use Rattle.std.proofs.lemmas.Bool.{ltb-true, ltb-false}
 use Rattle.ht_values.specs.Functions.{built_in}
 use Rattle.ht_lex.specs.Words.{is_name}
+use Rattle.ht_grammar.specs.Laws.{TextsAreReadExactly}
 use Rattle.ht_grammar.specs.declared.vocabulary.HandlerKind.{HandlerKind}
 use Rattle.ht_grammar.specs.declared.vocabulary.HandlerKind.TheVariants.{Command, Function}
 use Rattle.ht_grammar.specs.Lines.{typed_lines}
@@ -48,7 +49,6 @@ use Rattle.meaning.specs.Values.{Parses}
 use Rattle.totality.proofs.Chain.{Begun}
 use Rattle.totality.proofs.Chain.{Underway, Has, has, ok, fault, yield, same, then, then_lines, choose, maybe, deep}
 use Rattle.totality.proofs.Chain.{nested}
-use Rattle.definitional_interpreter.proofs.Comes.{AreExact}
 use Rattle.totality.proofs.Leaves.{then_step, lift, Passes, then_parsed, then_found, then_field, then_made, then_ends}
 use Rattle.totality.proofs.Leaves.{then_done_lines, field_stands, stores, stores_named, adds}
 use Rattle.containers.proofs.Bases.{took_keeps as base_turn}
@@ -158,8 +158,8 @@ converses_has h w r d e vs there le k =
     (λ o w1 r1 g. Converses.converses (ltb-false 16 (length vs) few) lt refl g))
     (λ at. fault _ k (Converses.conversation_too_deep (ltb-false 16 (length vs) few) at)))
 
-pub calls_back_has : {begun : Begun} {n : ℕ} → AreExact → Level begun n →
-    (w : History) (r : RunState) (d : ℕ) (ask : Ask) → IsCallBack ask → d ≤ 100 → Underway begun (suc n) w r →
+pub calls_back_has : {begun : Begun} {n : ℕ} → TextsAreReadExactly → Level begun n → (w : History) (r : RunState)
+    (d : ℕ) (ask : Ask) → IsCallBack ask → d ≤ 100 → Underway begun (suc n) w r →
     Has begun (suc n) (CallsBack w r d ask)
 calls_back_has exact h w r d (SendCardMessage note t) calls le k =
     then_parsed typed_lines ReadsLines t exact.cuts exact.lines k (λ z p. CallsBack.message_syntax refl p) (λ ss p.
@@ -185,9 +185,10 @@ calls_back_has exact h w r d Fail calls le k = absurd calls
 
 -- ---- messages
 
-built_in_by : {begun : Begun} {n : ℕ} → AreExact → Level begun n → (w : History) (r : RunState) (f : Frame) (d : ℕ)
-    (name : List ℕ) (vs : List (List ℕ)) (kind : HandlerKind) (b : BuiltIn) → built_in_named kind name ≡ Some b →
-    d ≤ 100 → Underway begun (suc n) w r → Has begun (suc n) (BuiltInGives w r f d name vs kind)
+built_in_by : {begun : Begun} {n : ℕ} → TextsAreReadExactly → Level begun n → (w : History) (r : RunState) (f : Frame)
+    (d : ℕ) (name : List ℕ) (vs : List (List ℕ)) (kind : HandlerKind) (b : BuiltIn) →
+    built_in_named kind name ≡ Some b → d ≤ 100 → Underway begun (suc n) w r →
+    Has begun (suc n) (BuiltInGives w r f d name vs kind)
 built_in_by exact h w r f d name vs kind Value is le k =
     maybe (only vs) (λ t one. same (text_val_has exact h w r f d t le k)
     (λ o w1 r1 g. BuiltInGives.value_call is one g)) (λ none. fault _ k (BuiltInGives.value_arguments is none))
@@ -198,16 +199,16 @@ built_in_by exact h w r f d name vs kind DoMenu is le k =
     (λ item named. same (menu_has h w r f d item le k) (λ o w1 r1 g. BuiltInGives.menu_item is named g))
     (λ none. fault _ k (BuiltInGives.menu_unknown is none))
 
-built_in_has : {begun : Begun} {n : ℕ} → AreExact → Level begun n → (w : History) (r : RunState) (f : Frame) (d : ℕ)
-    (name : List ℕ) (vs : List (List ℕ)) (kind : HandlerKind) → d ≤ 100 → Underway begun (suc n) w r →
+built_in_has : {begun : Begun} {n : ℕ} → TextsAreReadExactly → Level begun n → (w : History) (r : RunState) (f : Frame)
+    (d : ℕ) (name : List ℕ) (vs : List (List ℕ)) (kind : HandlerKind) → d ≤ 100 → Underway begun (suc n) w r →
     Has begun (suc n) (BuiltInGives w r f d name vs kind)
 built_in_has exact h w r f d name vs kind le k =
     maybe (built_in_named kind name) (λ b is. built_in_by exact h w r f d name vs kind b is le k)
     (λ isnt. choose (is_ignored kind name) (λ ignored. ok _ k (BuiltInGives.ignored_message isnt ignored))
     (λ unknown. fault _ k (BuiltInGives.not_understood isnt unknown)))
 
-outside_has : {begun : Begun} {n : ℕ} → AreExact → Level begun n → (w : History) (r : RunState) (f : Frame) (d : ℕ)
-    (name : List ℕ) (vs : List (List ℕ)) (kind : HandlerKind) → d ≤ 100 → Underway begun (suc n) w r →
+outside_has : {begun : Begun} {n : ℕ} → TextsAreReadExactly → Level begun n → (w : History) (r : RunState) (f : Frame)
+    (d : ℕ) (name : List ℕ) (vs : List (List ℕ)) (kind : HandlerKind) → d ≤ 100 → Underway begun (suc n) w r →
     Has begun (suc n) (Outside w r f d name vs kind)
 outside_has exact h w r f d name vs kind le k =
     maybe (external_named w.now.externals (calls_function kind) name)
@@ -241,8 +242,8 @@ handler_ends h w r f d i is name vs kind found Exit w1 r1 f1 le k1 g lt b = ok _
 handler_ends h w r f d i is name vs kind found (Returns v) w1 r1 f1 le k1 g lt b = ended kind v k1
     (λ v r2 gives. Along.along_ends g lt refl b.ends (ap Some gives))
 
-met_by : {begun : Begun} {n : ℕ} → AreExact → Level begun n → (w : History) (r : RunState) (f : Frame) (d i : ℕ)
-    (is name : List ℕ) (vs : List (List ℕ)) (kind : HandlerKind) (found : Option HandlerFound) →
+met_by : {begun : Begun} {n : ℕ} → TextsAreReadExactly → Level begun n → (w : History) (r : RunState) (f : Frame)
+    (d i : ℕ) (is name : List ℕ) (vs : List (List ℕ)) (kind : HandlerKind) (found : Option HandlerFound) →
     Finds w.now.stack is kind name (Ok found) → d ≤ 100 → Underway begun (suc n) w r →
     Has begun (suc n) (Along w r f d i is name vs kind)
 met_by exact h w r f d i is name vs kind (Some found) g le k =
@@ -254,20 +255,20 @@ met_by exact h w r f d i is name vs kind (Some found) g le k =
 met_by exact h w r f d i is name vs kind None g le k = same (outside_has exact h w r f d name vs kind le k)
     (λ o w1 r1 g2. Along.along_unhandled g g2)
 
-pub along_has : {begun : Begun} {n : ℕ} → AreExact → Level begun n → (w : History) (r : RunState) (f : Frame) (d i : ℕ)
-    (is name : List ℕ) (vs : List (List ℕ)) (kind : HandlerKind) → d ≤ 100 → Underway begun (suc n) w r →
+pub along_has : {begun : Begun} {n : ℕ} → TextsAreReadExactly → Level begun n → (w : History) (r : RunState) (f : Frame)
+    (d i : ℕ) (is name : List ℕ) (vs : List (List ℕ)) (kind : HandlerKind) → d ≤ 100 → Underway begun (suc n) w r →
     Has begun (suc n) (Along w r f d i is name vs kind)
 along_has exact h w r f d i is name vs kind le k = then_found w is kind name exact k (λ z g. Along.along_broken g)
     (λ met g. met_by exact h w r f d i is name vs kind met g le k)
 
-called_by : {begun : Begun} {n : ℕ} → AreExact → Level begun n → (w : History) (r : RunState) (f : Frame) (d i : ℕ)
-    (t : List ℕ) (message : stm.Message) → Parses ReadsMessage t (Ok message) → d ≤ 100 → Underway begun (suc n) w r →
-    Has begun (suc n) (SendsText w r f d i t)
+called_by : {begun : Begun} {n : ℕ} → TextsAreReadExactly → Level begun n → (w : History) (r : RunState) (f : Frame)
+    (d i : ℕ) (t : List ℕ) (message : stm.Message) → Parses ReadsMessage t (Ok message) → d ≤ 100 →
+    Underway begun (suc n) w r → Has begun (suc n) (SendsText w r f d i t)
 called_by exact h w r f d i t (stm.message name es) p le k = same (calls_has exact h w r f d i name es Command le k)
     (λ o w1 r1 g. SendsText.sends_text p g)
 
-pub sends_text_has : {begun : Begun} {n : ℕ} → AreExact → Level begun n →
-    (w : History) (r : RunState) (f : Frame) (d i : ℕ) (t : List ℕ) → d ≤ 100 → Underway begun (suc n) w r →
+pub sends_text_has : {begun : Begun} {n : ℕ} → TextsAreReadExactly → Level begun n → (w : History) (r : RunState)
+    (f : Frame) (d i : ℕ) (t : List ℕ) → d ≤ 100 → Underway begun (suc n) w r →
     Has begun (suc n) (SendsText w r f d i t)
 sends_text_has exact h w r f d i t le k =
     then_parsed sent_message ReadsMessage t exact.cuts exact.messages k (λ z p. SendsText.send_syntax p)

@@ -6,6 +6,7 @@ use Rattle.ht_values.specs.declared.operator.Op.{Op}
 use Rattle.ht_values.specs.declared.operator.Op.TheVariants.{Add, Subtract, Multiply, Divide}
 use Rattle.ht_values.specs.Operators.{truth_of}
 use Rattle.ht_values.specs.Outcome.{and_then}
+use Rattle.ht_grammar.specs.Laws.{TextsAreReadExactly}
 use Rattle.ht_grammar.specs.declared.vocabulary.HandlerKind.TheVariants.{Command}
 use Rattle.ht_grammar.specs.declared.vocabulary.RunProp.{RunProp}
 use Rattle.ht_grammar.specs.declared.vocabulary.RunProp.TheVariants.{ItemDelimiter, LockMessages, EditBkgnd}
@@ -23,7 +24,6 @@ use Rattle.meaning.specs.State.{RunState, delimiter_set, run_property_set}
 use Rattle.totality.proofs.Chain.{Begun}
 use Rattle.totality.proofs.Chain.{Underway, Has, HasRun, run_ok, run_fault, run_exited, yield, same_run, then, then_in}
 use Rattle.totality.proofs.Chain.{choose, computed, deep, nested}
-use Rattle.definitional_interpreter.proofs.Comes.{AreExact}
 use Rattle.totality.proofs.Leaves.{then_parsed_in, then_ends_in, then_edited, then_done, edits, stores_named, sets}
 use Rattle.totality.proofs.Leaves.{declares_all}
 use Rattle.totality.proofs.Levels.{Level}
@@ -65,8 +65,8 @@ goes_after {begun} {n} {w} {r} {r2} p t k is = record {
       k.left;
 }
 
-pub alters_has : {begun : Begun} {n : ℕ} → AreExact → Level begun n → (w : History) (r : RunState) (f : Frame) (d : ℕ)
-    (op : Op) (x : tree.Expr) (ct : tree.Container) → d ≤ 100 → Underway begun (suc n) w r →
+pub alters_has : {begun : Begun} {n : ℕ} → TextsAreReadExactly → Level begun n → (w : History) (r : RunState)
+    (f : Frame) (d : ℕ) (op : Op) (x : tree.Expr) (ct : tree.Container) → d ≤ 100 → Underway begun (suc n) w r →
     HasRun begun (suc n) (Alters w r f d op x ct)
 alters_has exact h w r f d op x ct le k =
     then_in f (val_has exact h w r f d x le k) (λ z w1 r1 g. Alters.alter_stops g) (λ v w1 r1 k1 g.
@@ -74,23 +74,24 @@ alters_has exact h w r f d op x ct le k =
     then_edited k2 (edits w2 f r2.delimiter p (Alter op v) k2.is_open) (λ z w3 f1 g3. Alters.alter_fails g g2 g3)
     (λ w3 f1 k3 g3. run_ok _ _ k3 (Alters.alter g g2 g3))))
 
-pub do_text_has : {begun : Begun} {n : ℕ} → AreExact → Level begun n → (w : History) (r : RunState) (f : Frame) (d : ℕ)
-    (t : List ℕ) → d ≤ 100 → Underway begun (suc n) w r → HasRun begun (suc n) (DoText w r f d t)
+pub do_text_has : {begun : Begun} {n : ℕ} → TextsAreReadExactly → Level begun n → (w : History) (r : RunState)
+    (f : Frame) (d : ℕ) (t : List ℕ) → d ≤ 100 → Underway begun (suc n) w r → HasRun begun (suc n) (DoText w r f d t)
 do_text_has exact h w r f d t le k =
     deep d le (λ lt. then_parsed_in f typed_lines ReadsLines t exact.cuts exact.lines k (λ z p. DoText.do_syntax lt p)
     (λ ss p.
     same_run (block_has h w r f (d + 1) ss (nested lt) k) (λ o w1 r1 f1 g. DoText.do_lines lt p g)))
     (λ is. run_fault _ _ k (DoText.do_too_deep is))
 
-pub bounds_has : {begun : Begun} {n : ℕ} → AreExact → Level begun n → (w : History) (r : RunState) (f : Frame) (d : ℕ)
-    (x y : tree.Expr) (down : Bool) → d ≤ 100 → Underway begun (suc n) w r → Has begun (suc n) (Bounds w r f d x y down)
+pub bounds_has : {begun : Begun} {n : ℕ} → TextsAreReadExactly → Level begun n → (w : History) (r : RunState)
+    (f : Frame) (d : ℕ) (x y : tree.Expr) (down : Bool) → d ≤ 100 → Underway begun (suc n) w r →
+    Has begun (suc n) (Bounds w r f d x y down)
 bounds_has exact h w r f d x y down le k =
     then (val_has exact h w r f d x le k) (λ z w1 r1 g. Bounds.start_stops g) (λ p w1 r1 k1 g.
     then (val_has exact h w1 r1 f d y le k1) (λ z w2 r2 g2. Bounds.bound_stops g g2)
     (λ q w2 r2 k2 g2. yield (counter_of p q down) k2 (λ o c. Bounds.bounds g g2 c)))
 
-repeat_has : {begun : Begun} {n : ℕ} → AreExact → Level begun n → (w : History) (r : RunState) (f : Frame) (d : ℕ)
-    (head : stm.Head) (ss : stm.Stmts) → d ≤ 100 → Underway begun (suc n) w r →
+repeat_has : {begun : Begun} {n : ℕ} → TextsAreReadExactly → Level begun n → (w : History) (r : RunState) (f : Frame)
+    (d : ℕ) (head : stm.Head) (ss : stm.Stmts) → d ≤ 100 → Underway begun (suc n) w r →
     HasRun begun (suc n) (Form w r f d (stm.repeat head ss))
 repeat_has exact h w r f d stm.forever ss le k = same_run (endless_has h w r f d ss le k)
     (λ o w1 r1 f1 g. Form.forever refl g)
@@ -108,8 +109,8 @@ repeat_has exact h w r f d (stm.counted_down n x y) ss le k =
     then_in f (bounds_has exact h w r f d x y true le k) (λ z w1 r1 g. Form.down_stops refl g) (λ c w1 r1 k1 g.
     same_run (counts_has h w1 r1 f d (Some n) c ss le k1) (λ o w2 r2 f1 g2. Form.down refl g g2))
 
-pub form_has : {begun : Begun} {n : ℕ} → AreExact → Level begun n → (w : History) (r : RunState) (f : Frame) (d : ℕ)
-    (s : stm.Stmt) → d ≤ 100 → Underway begun (suc n) w r → HasRun begun (suc n) (Form w r f d s)
+pub form_has : {begun : Begun} {n : ℕ} → TextsAreReadExactly → Level begun n → (w : History) (r : RunState) (f : Frame)
+    (d : ℕ) (s : stm.Stmt) → d ≤ 100 → Underway begun (suc n) w r → HasRun begun (suc n) (Form w r f d s)
 form_has exact h w r f d (stm.put x) le k = then_in f (val_has exact h w r f d x le k)
     (λ z w1 r1 g. Form.show_stops refl g)
     (λ v w1 r1 k1 g. run_ok _ _ (record { is_open = k1.is_open; left = k1.left }) (Form.show refl g refl))
