@@ -1,7 +1,6 @@
 //! The four externals of the kit, and the cells and the log that any external can keep.
 #![tactic(auto)]
 
-mod before;
 mod bins;
 mod cells;
 mod count;
@@ -11,7 +10,6 @@ mod relay;
 mod step;
 mod turn_log;
 
-pub use before::Before;
 pub use cells::Cells;
 pub use kit_external::KitExternal;
 pub use step::{Step, changed, unchanged};
