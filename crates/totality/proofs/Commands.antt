@@ -3,7 +3,6 @@ use Rattle.std.proofs.Common.{◌≡◌, ◌⊎◌, inl, inr, ℕ, suc, List, []
 use Rattle.std.specs.Prelude.{is_some}
 use Rattle.ht_values.specs.declared.fault.Fault.{Fault}
 use Rattle.ht_values.specs.Outcome.{and_then}
-use Rattle.ht_grammar.specs.Laws.{TextsAreReadExactly}
 use Rattle.ht_grammar.specs.declared.vocabulary.HandlerKind.TheVariants.{Command}
 use Rattle.ht_grammar.specs.Statements as stm
 use Rattle.ht_grammar.specs.Trees as tree
@@ -44,10 +43,10 @@ message_has h w r i name vs k =
 
 -- ---- dot lines that send messages
 
-pub refers_has : {begun : Begun} {n : ℕ} → TextsAreReadExactly → Level begun n → (w : History) (r : RunState)
-    (pa : tree.Part) → Underway begun (suc n) w r → Has begun (suc n) (Refers w r pa)
-refers_has exact h w r pa k =
-    then (part_has exact h w r (typed_frame w) 0 pa (omega arith) k) (λ z w1 r1 g. Refers.refer_stops refl g)
+pub refers_has : {begun : Begun} {n : ℕ} → Level begun n → (w : History) (r : RunState) (pa : tree.Part) →
+    Underway begun (suc n) w r → Has begun (suc n) (Refers w r pa)
+refers_has h w r pa k =
+    then (part_has h w r (typed_frame w) 0 pa (omega arith) k) (λ z w1 r1 g. Refers.refer_stops refl g)
     (λ met w1 r1 k1 g. ok _ k1 (Refers.refers refl g refl))
 
 tells_has : {begun : Begun} {n : ℕ} → Level begun n → (w : History) (r : RunState) (i : ℕ) (mg : SystemMessage) →
@@ -63,10 +62,10 @@ tells_all_has h w r (mg ∷ ms) k =
     then (tells_has h w r w.now.current mg k) (λ z w1 r1 g. TellsAll.tell_stops refl g)
     (λ _ w1 r1 k1 g. same (tells_all_has h w1 r1 ms k1) (λ o w2 r2 g2. TellsAll.tells_on refl g g2))
 
-clicks_has : {begun : Begun} {n : ℕ} → TextsAreReadExactly → Level begun n → (w : History) (r : RunState)
-    (pa : tree.Part) → Underway begun (suc n) w r → Has begun (suc n) (Clicks w r pa)
-clicks_has exact h w r pa k =
-    then (refers_has exact h w r pa k) (λ z w1 r1 g. Clicks.click_misses g) (λ i w1 r1 k1 g.
+clicks_has : {begun : Begun} {n : ℕ} → Level begun n → (w : History) (r : RunState) (pa : tree.Part) →
+    Underway begun (suc n) w r → Has begun (suc n) (Clicks w r pa)
+clicks_has h w r pa k =
+    then (refers_has h w r pa k) (λ z w1 r1 g. Clicks.click_misses g) (λ i w1 r1 k1 g.
     then (tells_has h w1 r1 i MouseDown k1) (λ z w2 r2 g2. Clicks.press_stops g g2) (λ _ w2 r2 k2 g2.
     choose (is_some (object_at w2.now.stack i))
     (λ there. same (tells_has h w2 r2 i MouseUp k2) (λ o w3 r3 g3. Clicks.clicks g g2 there g3))
@@ -97,10 +96,10 @@ abbrev pub IsLocked : Begun → History → RunState → Action → History → 
 IsLocked begun w r ac w2 r2 = MeetsLock w r ac w2 r2 × Behaves begun.behaviour begun.history w2
 
 -- a text is typed, unless the field is locked
-types_into_has : {begun : Begun} {n : ℕ} → TextsAreReadExactly → Level begun n → (w : History) (r : RunState)
-    (t : List ℕ) (pa : tree.Part) → Underway begun (suc n) w r → Has begun (suc n) (TypesInto w r t pa) ⊎
+types_into_has : {begun : Begun} {n : ℕ} → Level begun n → (w : History) (r : RunState) (t : List ℕ) (pa : tree.Part) →
+    Underway begun (suc n) w r → Has begun (suc n) (TypesInto w r t pa) ⊎
     ((w2 : History) × ((r2 : RunState) × IsLocked begun w r (act.type_text t pa) w2 r2))
-types_into_has {begun} {n} exact h w r t pa k = by_part (refers_has exact h w r pa k)
+types_into_has {begun} {n} h w r t pa k = by_part (refers_has h w r pa k)
   where
     by_part : Has begun (suc n) (Refers w r pa) →
         Has begun (suc n) (TypesInto w r t pa) ⊎
@@ -113,15 +112,15 @@ types_into_has {begun} {n} exact h w r t pa k = by_part (refers_has exact h w r 
         same (types_over_has h w2 r2 (met_here w1.now.current i) t k2)
         (λ o w3 r3 g3. TypesInto.types_into g free g2 refl g3))))
 
-pub acts_has : {begun : Begun} {n : ℕ} → TextsAreReadExactly → Level begun n → (w : History) (r : RunState)
-    (ac : Action) → Underway begun (suc n) w r → Has begun (suc n) (Acts w r ac) ⊎
+pub acts_has : {begun : Begun} {n : ℕ} → Level begun n → (w : History) (r : RunState) (ac : Action) →
+    Underway begun (suc n) w r → Has begun (suc n) (Acts w r ac) ⊎
     ((w2 : History) × ((r2 : RunState) × IsLocked begun w r ac w2 r2))
-acts_has exact h w r (act.run_lines ss) k = inl (same (line_has h w r ss k) (λ o w1 r1 g. Acts.acts_by_lines refl g))
-acts_has exact h w r act.open_stack k = inl
+acts_has h w r (act.run_lines ss) k = inl (same (line_has h w r ss k) (λ o w1 r1 g. Acts.acts_by_lines refl g))
+acts_has h w r act.open_stack k = inl
     (same (tells_all_has h w r opening_stack k) (λ o w1 r1 g. Acts.acts_by_opening refl g))
-acts_has exact h w r (act.click pa) k = inl
-    (same (clicks_has exact h w r pa k) (λ o w1 r1 g. Acts.acts_by_click refl g))
-acts_has {begun} {n} exact h w r (act.type_text t pa) k = by_typing (types_into_has exact h w r t pa k)
+acts_has h w r (act.click pa) k = inl
+    (same (clicks_has h w r pa k) (λ o w1 r1 g. Acts.acts_by_click refl g))
+acts_has {begun} {n} h w r (act.type_text t pa) k = by_typing (types_into_has h w r t pa k)
   where
     by_typing : Has begun (suc n) (TypesInto w r t pa) ⊎
         ((w2 : History) × ((r2 : RunState) × IsLocked begun w r (act.type_text t pa) w2 r2)) →

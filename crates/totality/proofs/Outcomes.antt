@@ -35,6 +35,7 @@ no_fewer k = let fewer = k.left in omega (arith, fewer)
 -- by the number of steps that are left
 level : {begun : Begun} → TextsAreReadExactly → (n : ℕ) → Level begun n
 level exact zero = record {
+  texts = exact;
   val = λ w r f d e le k. absurd (no_fewer k);
   form = λ w r f d s le k. absurd (no_fewer k);
   block = λ w r f d ss le k. absurd (no_fewer k);
@@ -47,15 +48,16 @@ level exact zero = record {
 }
 level exact (suc n) =
     let h = level exact n in record {
-      val = val_has exact h;
-      form = form_has exact h;
+      texts = exact;
+      val = val_has h;
+      form = form_has h;
       block = block_has h;
       endless = endless_has h;
       while = while_has h;
       counts = counts_has h;
-      along = along_has exact h;
+      along = along_has h;
       talks = talks_has h;
-      calls_back = calls_back_has exact h;
+      calls_back = calls_back_has h;
     }
 
 -- the batch that is open
@@ -97,17 +99,17 @@ messages_have_an_outcome_by exact leads behaviour w r i name vs is ready texts =
 pub references_have_an_outcome_by : TextsAreReadExactly → ReferencesLeadToWhole → ReferencesHaveAnOutcomeBy
 references_have_an_outcome_by exact leads behaviour w r pa is ready texts = known is ready.logs
     (λ o w2 r2 g has_memory. (leads w w2 r r2 pa o g has_memory ready.whole ready.run texts).0)
-    (refers_has exact (level exact r.left) w r pa (begins (safe behaviour) (safe_is_safe is) w r ready.batch))
+    (refers_has (level exact r.left) w r pa (begins (safe behaviour) (safe_is_safe is) w r ready.batch))
 
 pub values_have_an_outcome_by : TextsAreReadExactly → ValuesLeadToWhole → ValuesHaveAnOutcomeBy
 values_have_an_outcome_by exact leads behaviour w r f d e is ready frame texts le = known is ready.logs
     (λ o w2 r2 g has_memory. (leads w w2 r r2 f d e o g has_memory ready.whole ready.run frame texts).0)
-    (val_has exact (level exact r.left) w r f d e le (begins (safe behaviour) (safe_is_safe is) w r ready.batch))
+    (val_has (level exact r.left) w r f d e le (begins (safe behaviour) (safe_is_safe is) w r ready.batch))
 
 pub actions_have_an_outcome_by : TextsAreReadExactly → ActionsLeadToWhole → ReferencesLeadToWhole →
     ActionsHaveAnOutcomeBy
 actions_have_an_outcome_by exact leads refers behaviour w r ac is ready texts = by_lock
-    (acts_has exact (level exact r.left) w r ac (begins (safe behaviour) (safe_is_safe is) w r ready.batch))
+    (acts_has (level exact r.left) w r ac (begins (safe behaviour) (safe_is_safe is) w r ready.batch))
   where
     begun : Begun
     begun = record { behaviour = safe behaviour; safe = safe_is_safe is; history = w }
@@ -153,15 +155,15 @@ messages_have_an_outcome exact w r i name vs is_open = whatever
 
 pub references_have_an_outcome : TextsAreReadExactly → ReferencesHaveAnOutcome
 references_have_an_outcome exact w r pa is_open = whatever
-    (refers_has exact (level exact r.left) w r pa (failing w r is_open))
+    (refers_has (level exact r.left) w r pa (failing w r is_open))
 
 pub values_have_an_outcome : TextsAreReadExactly → ValuesHaveAnOutcome
 values_have_an_outcome exact w r f d e is_open le = whatever
-    (val_has exact (level exact r.left) w r f d e le (failing w r is_open))
+    (val_has (level exact r.left) w r f d e le (failing w r is_open))
 
 pub actions_have_an_outcome : TextsAreReadExactly → ActionsHaveAnOutcome
 actions_have_an_outcome exact w r ac is_open = by_lock
-    (acts_has exact (level exact r.left) w r ac (failing w r is_open))
+    (acts_has (level exact r.left) w r ac (failing w r is_open))
   where
     by_lock : {begun : Begun} → Has begun (suc r.left) (Acts w r ac) ⊎
         ((w2 : History) × ((r2 : RunState) × IsLocked begun w r ac w2 r2)) →
