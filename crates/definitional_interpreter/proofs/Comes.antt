@@ -1,12 +1,7 @@
 -- That the meanings come to something, with enough fuel.
 use Rattle.std.proofs.Common.{◌≡◌, ℕ, ◌<◌, List, [], ◌++◌, length, refl, sym, ap, ◌∙◌, append-nil, append_assoc}
 use Rattle.std.specs.Prelude.{slice_index_or}
-use Rattle.ht_lex.specs.Cutting.{spans_of, CutsExactly}
-use Rattle.ht_grammar.specs.Laws.{ReadsExactly}
-use Rattle.ht_grammar.specs.Lines.{typed_lines}
-use Rattle.ht_grammar.specs.Reading.{expression}
-use Rattle.ht_grammar.specs.Reads.{ReadsExpr, ReadsLines, ReadsMessage, ReadsScript}
-use Rattle.ht_grammar.specs.Whole.{script, sent_message}
+use Rattle.ht_grammar.specs.Laws.{TextsAreReadExactly}
 use Rattle.externals.specs.Log.{Log, Follows}
 use Rattle.externals.specs.Turns.{TurnTable}
 use Rattle.change_journal.specs.History.{History}
@@ -16,14 +11,6 @@ use Rattle.definitional_interpreter.specs.Told.{Visible, seen_since}
 use Rattle.definitional_interpreter.specs.Turns.{sorts, free_turns}
 use Rattle.definitional_interpreter.specs.Families.{Meanings}
 use Rattle.definitional_interpreter.specs.Laws.{Enough}
-
--- texts are cut and read exactly
-pub record AreExact : Type 0 where
-  pub cuts : CutsExactly spans_of
-  pub expressions : ReadsExactly expression ReadsExpr
-  pub lines : ReadsExactly typed_lines ReadsLines
-  pub messages : ReadsExactly sent_message ReadsMessage
-  pub scripts : ReadsExactly script ReadsScript
 
 -- the externals that there are stay, and each log has what it had
 pub record Kept (w w2 : History) : Type 0 where
@@ -83,4 +70,4 @@ pub record Asks (g : Sight) (w w2 : History) : Type 0 where
 -- From one history to another, with the same externals, the meanings come to this where that is so which is asked.
 pub record Comes {X : Type 0} (g : Sight) (w : History) (F : Meanings → X) (x : X) (w2 : History) : Type 0 where
   pub kept : Kept w w2
-  pub gives : AreExact → Asks g w w2 → Enough (λ parts. F parts ≡ x)
+  pub gives : TextsAreReadExactly → Asks g w w2 → Enough (λ parts. F parts ≡ x)

@@ -1,43 +1,33 @@
 -- What the rules allow is what the function gives.
 use Rattle.std.proofs.Common.{refl, ap, ◌∙◌, cond, [], ◌∷◌}
 use Rattle.std.specs.Prelude.{is_none}
-use Rattle.ht_lex.specs.Cutting.{spans_of, CutsExactly}
-use Rattle.ht_grammar.specs.Laws.{ReadsExactly}
-use Rattle.ht_grammar.specs.Lines.{typed_lines}
-use Rattle.ht_grammar.specs.Reading.{expression}
-use Rattle.ht_grammar.specs.Reads.{ReadsExpr, ReadsLines, ReadsMessage, ReadsScript}
-use Rattle.ht_grammar.specs.Whole.{script, sent_message}
+use Rattle.ht_grammar.specs.Laws.{TextsAreReadExactly}
 use Rattle.definitional_interpreter.specs.Laws.{LinesAreComputed, MessagesAreComputed}
 use Rattle.definitional_interpreter.specs.Laws.{ActionsAreComputed, ReferencesAreComputed, ValuesAreComputed}
 use Rattle.definitional_interpreter.specs.Laws.{DeterministicKindsHaveNoFreeTurns, WithNoTableAllTurnsAreFree}
 use Rattle.definitional_interpreter.specs.Turns.{free_turns}
 use Rattle.definitional_interpreter.proofs.Sights.{from, asks_told}
-use Rattle.definitional_interpreter.proofs.Comes.{AreExact}
 use Rattle.definitional_interpreter.proofs.Outcomes.{val_comes, line_comes, message_comes, refers_comes, acts_comes}
-
-pub exactly : CutsExactly spans_of → ReadsExactly expression ReadsExpr → ReadsExactly typed_lines ReadsLines →
-    ReadsExactly script ReadsScript → ReadsExactly sent_message ReadsMessage → AreExact
-exactly c e l s m = record { cuts = c; expressions = e; lines = l; messages = m; scripts = s }
 
 -- ---- what the function gives
 
-pub line_is_computed : AreExact → LinesAreComputed
+pub line_is_computed : TextsAreReadExactly → LinesAreComputed
 line_is_computed exact table turns w w2 r r2 ss o are line has =
     (line_comes {g = from table turns w} line has).gives exact (asks_told are)
 
-pub message_is_computed : AreExact → MessagesAreComputed
+pub message_is_computed : TextsAreReadExactly → MessagesAreComputed
 message_is_computed exact table turns w w2 r r2 i n vs o are message has =
     (message_comes {g = from table turns w} message has).gives exact (asks_told are)
 
-pub action_is_computed : AreExact → ActionsAreComputed
+pub action_is_computed : TextsAreReadExactly → ActionsAreComputed
 action_is_computed exact table turns w w2 r r2 ac o are acts has =
     (acts_comes {g = from table turns w} acts has).gives exact (asks_told are)
 
-pub reference_is_computed : AreExact → ReferencesAreComputed
+pub reference_is_computed : TextsAreReadExactly → ReferencesAreComputed
 reference_is_computed exact table turns w w2 r r2 pa o are refers has =
     (refers_comes {g = from table turns w} refers has).gives exact (asks_told are)
 
-pub value_is_computed : AreExact → ValuesAreComputed
+pub value_is_computed : TextsAreReadExactly → ValuesAreComputed
 value_is_computed exact table turns w w2 r r2 f d e o are value has =
     (val_comes {g = from table turns w} value has).gives exact (asks_told are)
 

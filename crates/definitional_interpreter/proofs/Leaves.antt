@@ -43,7 +43,7 @@ use Rattle.definitional_interpreter.specs.Changes.{written, edit_by}
 use Rattle.definitional_interpreter.specs.Changes.{edit, store, assign, declare_all, set_property, add_objects, turn}
 use Rattle.definitional_interpreter.specs.Families.{Meanings}
 use Rattle.definitional_interpreter.specs.Turns.{sorts_of, sorts}
-use Rattle.definitional_interpreter.proofs.Comes.{AreExact, Sight, sight, Comes, Kept, HasExternal, kept_refl}
+use Rattle.definitional_interpreter.proofs.Comes.{Sight, sight, Comes, Kept, HasExternal, kept_refl}
 use Rattle.definitional_interpreter.proofs.Comes.{kept_same}
 use Rattle.definitional_interpreter.proofs.Comes.{kept_trans, prefix_same}
 use Rattle.definitional_interpreter.proofs.Sights.{asks_rest, computes}
@@ -52,7 +52,7 @@ use Rattle.ht_lex.specs.Cutting.{spans_of, CutsExactly}
 use Rattle.ht_lex.specs.Token.{Token, token_in}
 use Rattle.ht_grammar.specs.declared.vocabulary.HandlerKind.{HandlerKind}
 use Rattle.ht_grammar.specs.Handlers.{handler_in}
-use Rattle.ht_grammar.specs.Laws.{ReadsExactly}
+use Rattle.ht_grammar.specs.Laws.{ReadsExactly, TextsAreReadExactly}
 use Rattle.ht_grammar.specs.Lines.{typed_lines}
 use Rattle.ht_grammar.specs.Reading.{expression}
 use Rattle.ht_grammar.specs.Reads.{Reads, ReadsExpr, ReadsLines, ReadsMessage, ReadsScript}
@@ -376,7 +376,7 @@ is_unread {A} read IsRead text cuts exact none = by_spans (spans_of text) refl
     by_spans (Some spans) e = by_tree spans (read (map (token_in text) spans)) e refl
 
 parses : {g : Sight} {A : Type 0} (read : List Token → Option A) (IsRead : List Token → A → Type 0) →
-    (AreExact → ReadsExactly read IsRead) → {t : List ℕ} {o : Result A Stop} {w : History} {r : RunState} →
+    (TextsAreReadExactly → ReadsExactly read IsRead) → {t : List ℕ} {o : Result A Stop} {w : History} {r : RunState} →
     Parses IsRead t o → HasMemory o →
     Comes g w (λ parts. told (parsed read t) (sight g w) r) (told o (sight g w) r) w
 parses read IsRead exactly Parses.parse_memory has = absurd (has refl)
@@ -410,9 +410,8 @@ pub parses_sent_message : {g : Sight} {t : List ℕ} {o : Result Message Stop} {
     Comes g w (λ parts. told (parsed sent_message t) (sight g w) r) (told o (sight g w) r) w
 parses_sent_message p has = parses sent_message ReadsMessage (λ e. e.messages) p has
 
-first_is : {s : Content} {path name : List ℕ} {kind : HandlerKind} {out : Result (Option HandlerFound) Fault} → AreExact
-    →
-    First s path kind name out → first_found s path kind name ≡ yielded out
+first_is : {s : Content} {path name : List ℕ} {kind : HandlerKind} {out : Result (Option HandlerFound) Fault} →
+    TextsAreReadExactly → First s path kind name out → first_found s path kind name ≡ yielded out
 first_is {s} {path} {name} {kind} exact (First.nothing_left e a) = ap (λ p. first_found s p kind name) e
     ∙ ap yielded (sym a)
 first_is {s} {path} {name} {kind} exact (First.here {rest = rest} {id = id} e r h a) =

@@ -9,11 +9,7 @@ ghost use Rattle.definitional_interpreter.specs.Rows.{Chunks, NoExpression, Exit
 ghost use Rattle.definitional_interpreter.specs.Rows.{GlobalVariable, Repeats, Function, Passed, FaultThreeDeep};
 ghost use Rattle.definitional_interpreter.specs.Rows.{Conversation};
 
-use ht_grammar::{
-    expressions_are_read_exactly, lines_are_read_exactly, messages_are_read_exactly,
-    scripts_are_read_exactly,
-};
-use ht_lex::texts_are_cut_exactly;
+use ht_grammar::texts_are_read_exactly;
 
 /// What the rules allow of lines, a message, an action, the reference of a dot line or an expression is what the
 /// function gives, with enough fuel, where the run isn't out of memory, and each turn of its externals is told: by a
@@ -25,11 +21,7 @@ pub fn runs_are_computed()
     ensures references { ReferencesAreComputed }
     ensures values { ValuesAreComputed }
 {
-    texts_are_cut_exactly();
-    expressions_are_read_exactly();
-    lines_are_read_exactly();
-    scripts_are_read_exactly();
-    messages_are_read_exactly();
+    texts_are_read_exactly();
 }
 
 /// Where an external is deterministic by the table, no turn of it has to be told beside it; with no table each has.

@@ -2,6 +2,7 @@
 use Rattle.std.proofs.Common.{◌≡◌, ◌+◌, ◌++◌, ℕ, ◌<◌, List, [], ◌∷◌, length, Result, refl, sym, ap, subst}
 use Rattle.std.proofs.Common.{◌∙◌, arith}
 use Rattle.std.proofs.lemmas.List.{append-nil, ext_get_or}
+use Rattle.ht_grammar.specs.Laws.{TextsAreReadExactly}
 use Rattle.externals.specs.Log.{Log}
 use Rattle.externals.specs.Turns.{TurnTable}
 use Rattle.journal_entries.specs.State.{State, seen_at}
@@ -17,7 +18,7 @@ use Rattle.definitional_interpreter.specs.Laws.{AreTold}
 use Rattle.determinism.specs.Laws.{AreAlike, SameOutcome}
 use Rattle.determinism.specs.Laws.{LinesHaveOneOutcome, MessagesHaveOneOutcome, ActionsHaveOneOutcome}
 use Rattle.determinism.specs.Laws.{ReferencesHaveOneOutcome, ValuesHaveOneOutcome}
-use Rattle.definitional_interpreter.proofs.Comes.{AreExact, Kept, Sight, sight, Comes, prefix_same}
+use Rattle.definitional_interpreter.proofs.Comes.{Kept, Sight, sight, Comes, prefix_same}
 use Rattle.definitional_interpreter.proofs.Outcomes.{val_comes, line_comes, message_comes, refers_comes, acts_comes}
 use Rattle.definitional_interpreter.proofs.Sights.{asks_told, at_since, from, goes_on, rest_is}
 
@@ -45,7 +46,7 @@ parts_of : {A : Type 0} {u v : Visible} {r q : RunState} {o p : Result A Stop} �
 parts_of is = (cc, cc, cc)
 
 module _ {A : Type 0} (table : TurnTable) {w v w2 v2 : History} {r2 q2 : RunState} {o p : Result A Stop}
-    (F : Visible → Meanings → Told A) (exact : AreExact) (alike : AreAlike table w v w2 v2)
+    (F : Visible → Meanings → Told A) (exact : TextsAreReadExactly) (alike : AreAlike table w v w2 v2)
     (runs : (g : Sight) → Comes g w (F (sight g w)) (told o (sight g w2) r2) w2)
     (others : (g : Sight) → Comes g v (F (sight g v)) (told p (sight g v2) q2) v2) where
   -- the turns of which the table tells nothing
@@ -112,24 +113,24 @@ module _ {A : Type 0} (table : TurnTable) {w v w2 v2 : History} {r2 q2 : RunStat
         logs = logs_same;
       }
 
-pub one_line : AreExact → LinesHaveOneOutcome
+pub one_line : TextsAreReadExactly → LinesHaveOneOutcome
 one_line exact table w v w2 v2 r r2 q2 ss o p alike first second has had =
     one table (λ u parts. parts.line u r ss) exact alike (λ g. line_comes first has) (λ g. line_comes second had)
 
-pub one_message : AreExact → MessagesHaveOneOutcome
+pub one_message : TextsAreReadExactly → MessagesHaveOneOutcome
 one_message exact table w v w2 v2 r r2 q2 i n vs o p alike first second has had =
     one table (λ u parts. parts.message u r i n vs) exact alike (λ g. message_comes first has)
     (λ g. message_comes second had)
 
-pub one_action : AreExact → ActionsHaveOneOutcome
+pub one_action : TextsAreReadExactly → ActionsHaveOneOutcome
 one_action exact table w v w2 v2 r r2 q2 ac o p alike first second has had =
     one table (λ u parts. parts.acts u r ac) exact alike (λ g. acts_comes first has) (λ g. acts_comes second had)
 
-pub one_reference : AreExact → ReferencesHaveOneOutcome
+pub one_reference : TextsAreReadExactly → ReferencesHaveOneOutcome
 one_reference exact table w v w2 v2 r r2 q2 pa o p alike first second has had =
     one table (λ u parts. parts.refers u r pa) exact alike (λ g. refers_comes first has)
     (λ g. refers_comes second had)
 
-pub one_value : AreExact → ValuesHaveOneOutcome
+pub one_value : TextsAreReadExactly → ValuesHaveOneOutcome
 one_value exact table w v w2 v2 r r2 q2 f d e o p alike first second has had =
     one table (λ u parts. parts.val u r f d e) exact alike (λ g. val_comes first has) (λ g. val_comes second had)

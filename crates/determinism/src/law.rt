@@ -3,11 +3,7 @@
 ghost use Rattle.determinism.specs.Laws.{LinesHaveOneOutcome, MessagesHaveOneOutcome, ActionsHaveOneOutcome};
 ghost use Rattle.determinism.specs.Laws.{ReferencesHaveOneOutcome, ValuesHaveOneOutcome};
 
-use ht_grammar::{
-    expressions_are_read_exactly, lines_are_read_exactly, messages_are_read_exactly,
-    scripts_are_read_exactly,
-};
-use ht_lex::texts_are_cut_exactly;
+use ht_grammar::texts_are_read_exactly;
 
 /// For any table of turns, two runs of the same lines, message, action, reference of a dot line or expression from the
 /// same state, neither of which is out of memory, have the same end, state, run and turns of externals, where these
@@ -20,9 +16,5 @@ pub fn runs_have_one_outcome()
     ensures references { ReferencesHaveOneOutcome }
     ensures values { ValuesHaveOneOutcome }
 {
-    texts_are_cut_exactly();
-    expressions_are_read_exactly();
-    lines_are_read_exactly();
-    scripts_are_read_exactly();
-    messages_are_read_exactly();
+    texts_are_read_exactly();
 }

@@ -1,6 +1,6 @@
 //! What a run shows, and the messages that it sends.
 
-ghost use Rattle.std.specs.Prelude.{◌≡◌, ◌<◌, ◌==◌, [], ◌∷◌, ◌++◌, length, IfOk, OnOk, OnErr, Some, slice_get};
+ghost use Rattle.std.specs.Prelude.{◌≡◌, ◌<◌, [], ◌∷◌, ◌++◌, length, IfOk, OnOk, OnErr, Some, slice_get};
 
 use crate::trace::Trace;
 use ht_values::Text;
@@ -64,33 +64,11 @@ impl Shown {
         }
     }
 
-    /// How many lines there are.
-    pub fn len(&self) -> usize
-        ensures { result ≡ length self.now }
-    {
-        self.lines.len()
-    }
-
-    /// Whether there is no line.
-    pub fn is_empty(&self) -> bool
-        ensures { result ≡ (length self.now == 0) }
-    {
-        self.lines.is_empty()
-    }
-
     /// The lines as a slice.
     pub fn as_slice(&self) -> &[Line]
         ensures { result.now ≡ self.now }
     {
         &self.lines
-    }
-
-    /// The line at a place, from 0.
-    pub fn at(&self, i: usize) -> &Line
-        requires { i < length self.now }
-        ensures { slice_get self.now i ≡ Some result.now }
-    {
-        &self.lines[i]
     }
 
     /// Adds a line. Where memory was refused nothing changes.
@@ -187,13 +165,6 @@ impl Sent {
         ensures { result ≡ length self.now }
     {
         self.messages.len()
-    }
-
-    /// Whether there is no message.
-    pub fn is_empty(&self) -> bool
-        ensures { result ≡ (length self.now == 0) }
-    {
-        self.messages.is_empty()
     }
 
     /// The message at a place, from 0.

@@ -9,7 +9,8 @@ use crate::plain_texts::text;
 use externals::{Ask, External, Input, Patch, Texts, law_of_ask, law_of_external, laws_of_flips};
 use ht_values::Text;
 use std::alloc::{AllocError, Global};
-use xkit::{Before, Cells, Step, TurnLog, changed, unchanged};
+use std::snapshot::Snapshot;
+use xkit::{Cells, Step, TurnLog, changed, unchanged};
 
 /// A command that echoes what it is handed: at each start its cell becomes the first argument, and it
 /// asks for its value. An answer ends the conversation with its value. Its log has each turn.
@@ -55,7 +56,7 @@ impl External for Echo {
     }
 
     fn turn(&mut self, alloc: Global, input: &Input) -> Result<(Ask, Patch), AllocError> {
-        let before = Before::of(&self.cells);
+        let before = Snapshot::of(&self.cells);
         let (ask, patch) = echoed(&mut self.cells, alloc, input)?;
         self.log.record(&before, input, &ask, &self.cells);
         Ok((ask, patch))

@@ -34,31 +34,40 @@ placed_variable v name = by (is_global v name)
     by true = folded_is_folded name
     by false = tt
 
+-- What holds of each text of a field holds where a place is one.
+module _ (Holds : StorageView → Type 0) (of_fields : (field card : ℕ) → Holds (field_text field card)) where
+  abbrev IfHolds : Result PlaceView Fault → Type 0
+  IfHolds o = IfOk o (λ p. Holds p.storage)
+
+  pub of_field : (s : State) (m : Referent) → IfOk (field_place s m) (λ p. Holds p.storage)
+  of_field s m = by (keeps_for s.stack m.object m.card)
+    where
+      by : (b : Bool) → IfHolds
+          (and_then (if b then Ok (field_text m.object (if is_shared s.stack m.object then 0 else m.card)) else Err
+          NoSuchObject) (λ h. Ok (record { storage = h; chunks = [] })))
+      by true = of_fields m.object (if is_shared s.stack m.object then 0 else m.card)
+      by false = tt
+
+  pub of_field_named : (s : State) (v : VariablesView) (b : Bool) (name : List ℕ)
+      → IfOk (field_named_place s v b name) (λ p. Holds p.storage)
+  of_field_named s v b name = by (field_named s.stack s.current (layer_of_field b) name)
+    where
+      filled : (p : PlaceView) (t : Result (List ℕ) Fault) → Holds p.storage → IfHolds (and_then t (λ u. Ok p))
+      filled p (Ok u) h = h
+      filled p (Err fault) h = tt
+
+      at : (r : Result PlaceView Fault) → IfHolds r
+          → IfHolds (and_then r (λ p. and_then (whole s v p.storage) (λ t. Ok p)))
+      at (Ok p) h = filled p (whole s v p.storage) h
+      at (Err fault) h = tt
+
+      by : (r : Result Referent Fault) → IfHolds (and_then r (λ m. and_then (field_place s m)
+          (λ p. and_then (whole s v p.storage) (λ t. Ok p))))
+      by (Ok m) = at (field_place s m) (of_field s m)
+      by (Err fault) = tt
+
 placed_field : (s : State) (m : Referent) → IfPlaced (field_place s m)
-placed_field s m = by (keeps_for s.stack m.object m.card)
-  where
-    by : (b : Bool) → IfPlaced {E = Fault}
-        (and_then (if b then Ok (field_text m.object (if is_shared s.stack m.object then 0 else m.card)) else Err
-        NoSuchObject) (λ h. Ok (record { storage = h; chunks = [] })))
-    by true = tt
-    by false = tt
-
-placed_named : (s : State) (v : VariablesView) (b : Bool) (name : List ℕ) → IfPlaced (field_named_place s v b name)
-placed_named s v b name = by (field_named s.stack s.current (layer_of_field b) name)
-  where
-    filled : (p : PlaceView) (t : Result (List ℕ) Fault) → IsPlaced p.storage → IfPlaced (and_then t (λ u. Ok p))
-    filled p (Ok u) h = h
-    filled p (Err fault) h = tt
-
-    at : (r : Result PlaceView Fault) → IfPlaced r
-        → IfPlaced (and_then r (λ p. and_then (whole s v p.storage) (λ t. Ok p)))
-    at (Ok p) h = filled p (whole s v p.storage) h
-    at (Err fault) h = tt
-
-    by : (r : Result Referent Fault) → IfPlaced (and_then r (λ m. and_then (field_place s m)
-        (λ p. and_then (whole s v p.storage) (λ t. Ok p))))
-    by (Ok m) = at (field_place s m) (placed_field s m)
-    by (Err fault) = tt
+placed_field s m = of_field IsPlaced (λ field card. tt) s m
 
 yields_placed : {c : Result PlaceView Fault} {o : Result PlaceView Stop} → IfPlaced c → Yields c o → IfPlaced o
 yields_placed h Yields.yields_memory = tt
@@ -70,7 +79,7 @@ placed_at s m is = subst IfPlaced is (placed_field s m)
 
 pub placed_by_name : {p : PlaceView} (s : State) (v : VariablesView) (b : Bool) (name : List ℕ)
     → Yields (field_named_place s v b name) (Ok p) → IsPlaced p.storage
-placed_by_name s v b name found = yields_placed (placed_named s v b name) found
+placed_by_name s v b name found = yields_placed (of_field_named IsPlaced (λ field card. tt) s v b name) found
 
 pub placed_part : {q : PlaceView} (p : PlaceView) (c : Chunk) → q ≡ chunk_of_place p c → IsPlaced p.storage
     → IsPlaced q.storage

@@ -146,8 +146,8 @@ stood : {A : Type 0} (t : Option (List ℕ)) (k : List ℕ → Result A Fault) (
 stood (Some t) k a is = refl
 stood None k a is = cc
 
-due_stood : (s : State) (v : VariablesView) (delimiter : ℕ) (p : PlaceView) (e : Edit) (t : List ℕ) (field card : ℕ)
-    → p.storage ≡ field_text field card → due s v delimiter p e ≡ Ok (Some t)
+pub due_stood : (s : State) (v : VariablesView) (delimiter : ℕ) (p : PlaceView) (e : Edit) (t : List ℕ)
+    (field card : ℕ) → p.storage ≡ field_text field card → due s v delimiter p e ≡ Ok (Some t)
     → is_some (text_at s.stack field card) ≡ true
 due_stood s v delimiter p e t field card at is =
     let edit : List ℕ → Result (Option (List ℕ)) Fault = λ u. edited delimiter p.chunks e u in
@@ -172,7 +172,7 @@ whole_edits {w} {w2} {f} {f2} {delimiter} {p} {e} named (Edits.edited written _)
     whole_writes named (λ field card t at is. due_stood w.now f.variables delimiter p e t field card at is) written
 
 -- and so did one in whose place a value comes
-text_stood : (s : State) (v : VariablesView) (h : StorageView) (t : List ℕ) (field card : ℕ)
+pub text_stood : (s : State) (v : VariablesView) (h : StorageView) (t : List ℕ) (field card : ℕ)
     → h ≡ field_text field card → whole s v h ≡ Ok t → is_some (text_at s.stack field card) ≡ true
 text_stood s v h t field card at is =
     stood (text_at s.stack field card) (λ u. Ok u) t

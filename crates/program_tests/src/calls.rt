@@ -124,8 +124,8 @@ const SESSIONS: &[Calls] = &[
 /// Whether a reply ends well, with this line shown or none, and sends nothing.
 fn is_reply(reply: &Reply, shown: Option<&[u8]>) -> bool {
     let is_shown = match shown {
-        Some(line) => reply.shown.len() == 1 && reply.shown.at(0).as_slice() == line,
-        None => reply.shown.len() == 0,
+        Some(line) => matches!(reply.shown.as_slice(), [only] if only.as_slice() == line),
+        None => reply.shown.as_slice().is_empty(),
     };
     is_shown && reply.ending == Ending::Ok && reply.sent.len() == 0
 }

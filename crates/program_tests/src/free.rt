@@ -7,7 +7,8 @@ use externals::{Ask, External, Input, Patch, Texts};
 use ht_values::{Text, numeral, text_of};
 use std::alloc::{AllocError, Global};
 use std::rc::Rc;
-use xkit::{Before, Cells, KitExternal, Step, TurnLog, changed};
+use std::snapshot::Snapshot;
+use xkit::{Cells, KitExternal, Step, TurnLog, changed};
 
 /// What an external asks at each turn.
 #[derive(Clone, Copy)]
@@ -77,7 +78,7 @@ impl External for Free {
     }
 
     fn turn(&mut self, alloc: Global, input: &Input) -> Result<(Ask, Patch), AllocError> {
-        let before = Before::of(&self.cells);
+        let before = Snapshot::of(&self.cells);
         let (ask, patch) = turned(self.manner, &mut self.cells, alloc, input)?;
         self.log.record(&before, input, &ask, &self.cells);
         Ok((ask, patch))

@@ -23,21 +23,23 @@ pub lines_then : (a b d : List ℕ) (lines more : List (List ℕ)) → b ≡ wit
 lines_then a b d lines more e others =
     others ∙ ap (λ (x : List ℕ). with_lines x more) e ∙ sym (with_lines_append a lines more)
 
--- the lines of one more, and of those that are left
-pub each-step : {X Y : Type 0} (lines : Y → List (List ℕ)) (g : X → Y) (a b : List ℕ) (x : X) (xs : List X)
-    → b ≡ with_lines a (lines (g x))
-    → with_lines b (flat_map lines (map g xs)) ≡ with_lines a (flat_map lines (map g (x ∷ xs)))
-each-step lines g a b x xs e = ap (λ (t : List ℕ). with_lines t (flat_map lines (map g xs))) e
-    ∙ sym (with_lines_append a (lines (g x)) (flat_map lines (map g xs)))
-
 -- what an answer says once it is Ok
 pub on_ok : {P Q : Type 0} (r : Result (Unit {0}) AllocError) → (P → Q) → OnOk r P → OnOk r Q
 on_ok (Ok x) f h = f h
 on_ok (Err e) f h = tt
 
--- the one that is next, and those that are left
-pub next_is : (ids : List ℕ) (i x : ℕ) → i < length ids → x ≡ get_or ids i 0 → x ∷ drop (i + 1) ids ≡ drop i ids
-next_is ids i x within is = rw (is, add-one) (sym (drop-cons ids i 0 within))
+-- the lines of the one that is next, and of those that are left
+pub next_added : {Y : Type 0} (lines : Y → List (List ℕ)) (g : ℕ → Y) (a b whole : List ℕ) (ids : List ℕ) (i : ℕ)
+    → i < length ids → b ≡ with_lines a (lines (g (get_or ids i 0)))
+    → with_lines a (flat_map lines (map g (drop i ids))) ≡ whole
+    → with_lines b (flat_map lines (map g (drop (i + 1) ids))) ≡ whole
+next_added lines g a b whole ids i within e left =
+    let next = get_or ids i 0 in
+    let later = drop (i + 1) ids in
+    let is : next ∷ later ≡ drop i ids = rw add-one (sym (drop-cons ids i 0 within)) in
+    ap (λ (t : List ℕ). with_lines t (flat_map lines (map g later))) e
+    ∙ sym (with_lines_append a (lines (g next)) (flat_map lines (map g later)))
+    ∙ ap (λ (xs : List ℕ). with_lines a (flat_map lines (map g xs))) is ∙ left
 
 -- none is left
 pub all_done : {Y : Type 0} (lines : Y → List (List ℕ)) (g : ℕ → Y) (a whole : List ℕ) (ids : List ℕ) (i : ℕ)

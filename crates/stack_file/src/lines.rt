@@ -13,7 +13,7 @@ use crate::forms::{
     place_of, text_in, version_in,
 };
 use crate::placed::PlacedIds;
-use ht_values::{PartKind, Text};
+use ht_values::PartKind;
 use object_table::ObjectName;
 use stack_text::{FileError, ReadError, Version};
 use std::alloc::Global;

@@ -1,12 +1,12 @@
 //! Writing the text of a stack, line by line.
 
-ghost use Rattle.std.specs.Prelude.{◌≡◌, ◌∷◌, ◌++◌, [], List, ℕ, All, IsTrue, codes, flat_map, length, map, unwrap_or};
+ghost use Rattle.std.specs.Prelude.{◌≡◌, ◌∷◌, [], List, ℕ, All, IsTrue, codes, flat_map, map, unwrap_or};
 ghost use Rattle.std.specs.Prelude.{false, OnOk, IfOk};
 ghost use Rattle.object_table.specs.PartContents.{text_at, hilite_at};
 ghost use Rattle.object_table.specs.Objects.{has_kind, is_background, is_card, parts_at};
 ghost use Rattle.object_table.specs.WellFormed.{IsWellFormed};
 ghost use Rattle.stack_text.specs.Laws.{Spells, IsOfVersion};
-ghost use Rattle.stack_text.specs.Listing.{object_or, part_of, keeping_of, background_sheet, card_sheet, document_of};
+ghost use Rattle.stack_text.specs.Listing.{object_or, part_of, keeping_of, background_sheet, card_sheet};
 ghost use Rattle.stack_text.specs.Listing.{spelling};
 ghost use Rattle.stack_text.specs.Spelling.{header, name_line as name_spelled, script_lines, lines_by, part_lines};
 ghost use Rattle.stack_text.specs.Spelling.{keeping_lines, parts_lines, background_lines, card_lines};

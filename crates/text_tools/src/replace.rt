@@ -1,6 +1,6 @@
 //! Replace: a function that replaces each occurrence of a run of bytes.
 
-ghost use Rattle.std.specs.Prelude.{◌≡◌, ◌<◌, ◌++◌, drop, ℕ, List, [], length, IfOk};
+ghost use Rattle.std.specs.Prelude.{◌≡◌, ◌<◌, ◌++◌, drop, length, IfOk};
 ghost use Rattle.ht_values.specs.Outcome.{Gives, within_limit};
 ghost use Rattle.text_tools.specs.Replacing.{replaced, replaced_after, replace_turn};
 

@@ -1,6 +1,6 @@
 //! Table: a command that keeps values under keys.
 
-ghost use Rattle.std.specs.Prelude.{◌≡◌, ◌<◌, [], ◌∷◌, length, position, take, IfOk, IfSome, OnErr};
+ghost use Rattle.std.specs.Prelude.{◌≡◌, ◌<◌, [], length, position, take, IfOk, IfSome, OnErr};
 ghost use Rattle.ht_values.specs.Text.{same};
 ghost use Rattle.xkit.specs.Steps.{Takes};
 ghost use Rattle.text_tools.specs.Lookup.{delete_turn, done, entered, get_turn, place_of as place_of_key, put_turn};

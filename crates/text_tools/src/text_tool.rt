@@ -1,6 +1,6 @@
 //! The text tools: each takes its turn as their table says.
 
-ghost use Rattle.std.specs.Prelude.{◌≡◌, [], ◌∷◌, length, true, false, replicate, IfOk, OnErr};
+ghost use Rattle.std.specs.Prelude.{◌≡◌, [], length, true, false, replicate, IfOk, OnErr};
 ghost use Rattle.externals.specs.Cells.{IsPatch};
 ghost use Rattle.externals.specs.Log.{Follows, Follows-prop, IsTurnOf};
 ghost use Rattle.text_tools.specs.Tools.{cell_count_of, kind_of, tool_table};
@@ -10,7 +10,8 @@ use crate::table;
 use externals::{Ask, External, HasTable, Input, Patch};
 use ht_values::Text;
 use std::alloc::{AllocError, Global};
-use xkit::{Before, Cells, Step, TurnLog, unchanged};
+use std::snapshot::Snapshot;
+use xkit::{Cells, Step, TurnLog, unchanged};
 
 /// Which tool an external is.
 #[derive(Clone, Copy)]
@@ -106,7 +107,7 @@ impl External for TextTool {
     }
 
     fn turn(&mut self, alloc: Global, input: &Input) -> Result<(Ask, Patch), AllocError> {
-        let before = Before::of(&self.cells);
+        let before = Snapshot::of(&self.cells);
         let (ask, patch) = turned(self.tool, &mut self.cells, alloc, input)?;
         self.log.record(&before, input, &ask, &self.cells);
         Ok((ask, patch))

@@ -24,7 +24,6 @@ use Rattle.meaning.specs.Locked.{MeetsLock}
 use Rattle.totality.specs.Laws.{Behaves}
 use Rattle.totality.proofs.Chain.{Begun}
 use Rattle.totality.proofs.Chain.{Underway, Has, has, ok, same, stops_too, then, then_lines, choose, computed}
-use Rattle.definitional_interpreter.proofs.Comes.{AreExact}
 use Rattle.totality.proofs.Leaves.{then_done_lines, place_stands, stores}
 use Rattle.totality.proofs.Levels.{Level}
 use Rattle.totality.proofs.Expressions.{part_has, sends_has}
@@ -44,10 +43,10 @@ message_has h w r i name vs k =
 
 -- ---- dot lines that send messages
 
-pub refers_has : {begun : Begun} {n : ℕ} → AreExact → Level begun n → (w : History) (r : RunState) (pa : tree.Part) →
+pub refers_has : {begun : Begun} {n : ℕ} → Level begun n → (w : History) (r : RunState) (pa : tree.Part) →
     Underway begun (suc n) w r → Has begun (suc n) (Refers w r pa)
-refers_has exact h w r pa k =
-    then (part_has exact h w r (typed_frame w) 0 pa (omega arith) k) (λ z w1 r1 g. Refers.refer_stops refl g)
+refers_has h w r pa k =
+    then (part_has h w r (typed_frame w) 0 pa (omega arith) k) (λ z w1 r1 g. Refers.refer_stops refl g)
     (λ met w1 r1 k1 g. ok _ k1 (Refers.refers refl g refl))
 
 tells_has : {begun : Begun} {n : ℕ} → Level begun n → (w : History) (r : RunState) (i : ℕ) (mg : SystemMessage) →
@@ -63,10 +62,10 @@ tells_all_has h w r (mg ∷ ms) k =
     then (tells_has h w r w.now.current mg k) (λ z w1 r1 g. TellsAll.tell_stops refl g)
     (λ _ w1 r1 k1 g. same (tells_all_has h w1 r1 ms k1) (λ o w2 r2 g2. TellsAll.tells_on refl g g2))
 
-clicks_has : {begun : Begun} {n : ℕ} → AreExact → Level begun n → (w : History) (r : RunState) (pa : tree.Part) →
+clicks_has : {begun : Begun} {n : ℕ} → Level begun n → (w : History) (r : RunState) (pa : tree.Part) →
     Underway begun (suc n) w r → Has begun (suc n) (Clicks w r pa)
-clicks_has exact h w r pa k =
-    then (refers_has exact h w r pa k) (λ z w1 r1 g. Clicks.click_misses g) (λ i w1 r1 k1 g.
+clicks_has h w r pa k =
+    then (refers_has h w r pa k) (λ z w1 r1 g. Clicks.click_misses g) (λ i w1 r1 k1 g.
     then (tells_has h w1 r1 i MouseDown k1) (λ z w2 r2 g2. Clicks.press_stops g g2) (λ _ w2 r2 k2 g2.
     choose (is_some (object_at w2.now.stack i))
     (λ there. same (tells_has h w2 r2 i MouseUp k2) (λ o w3 r3 g3. Clicks.clicks g g2 there g3))
@@ -97,11 +96,10 @@ abbrev pub IsLocked : Begun → History → RunState → Action → History → 
 IsLocked begun w r ac w2 r2 = MeetsLock w r ac w2 r2 × Behaves begun.behaviour begun.history w2
 
 -- a text is typed, unless the field is locked
-types_into_has : {begun : Begun} {n : ℕ} → AreExact → Level begun n →
-    (w : History) (r : RunState) (t : List ℕ) (pa : tree.Part) → Underway begun (suc n) w r →
-    Has begun (suc n) (TypesInto w r t pa) ⊎
+types_into_has : {begun : Begun} {n : ℕ} → Level begun n → (w : History) (r : RunState) (t : List ℕ) (pa : tree.Part) →
+    Underway begun (suc n) w r → Has begun (suc n) (TypesInto w r t pa) ⊎
     ((w2 : History) × ((r2 : RunState) × IsLocked begun w r (act.type_text t pa) w2 r2))
-types_into_has {begun} {n} exact h w r t pa k = by_part (refers_has exact h w r pa k)
+types_into_has {begun} {n} h w r t pa k = by_part (refers_has h w r pa k)
   where
     by_part : Has begun (suc n) (Refers w r pa) →
         Has begun (suc n) (TypesInto w r t pa) ⊎
@@ -114,15 +112,15 @@ types_into_has {begun} {n} exact h w r t pa k = by_part (refers_has exact h w r 
         same (types_over_has h w2 r2 (met_here w1.now.current i) t k2)
         (λ o w3 r3 g3. TypesInto.types_into g free g2 refl g3))))
 
-pub acts_has : {begun : Begun} {n : ℕ} → AreExact → Level begun n → (w : History) (r : RunState) (ac : Action) →
-    Underway begun (suc n) w r →
-    Has begun (suc n) (Acts w r ac) ⊎ ((w2 : History) × ((r2 : RunState) × IsLocked begun w r ac w2 r2))
-acts_has exact h w r (act.run_lines ss) k = inl (same (line_has h w r ss k) (λ o w1 r1 g. Acts.acts_by_lines refl g))
-acts_has exact h w r act.open_stack k = inl
+pub acts_has : {begun : Begun} {n : ℕ} → Level begun n → (w : History) (r : RunState) (ac : Action) →
+    Underway begun (suc n) w r → Has begun (suc n) (Acts w r ac) ⊎
+    ((w2 : History) × ((r2 : RunState) × IsLocked begun w r ac w2 r2))
+acts_has h w r (act.run_lines ss) k = inl (same (line_has h w r ss k) (λ o w1 r1 g. Acts.acts_by_lines refl g))
+acts_has h w r act.open_stack k = inl
     (same (tells_all_has h w r opening_stack k) (λ o w1 r1 g. Acts.acts_by_opening refl g))
-acts_has exact h w r (act.click pa) k = inl
-    (same (clicks_has exact h w r pa k) (λ o w1 r1 g. Acts.acts_by_click refl g))
-acts_has {begun} {n} exact h w r (act.type_text t pa) k = by_typing (types_into_has exact h w r t pa k)
+acts_has h w r (act.click pa) k = inl
+    (same (clicks_has h w r pa k) (λ o w1 r1 g. Acts.acts_by_click refl g))
+acts_has {begun} {n} h w r (act.type_text t pa) k = by_typing (types_into_has h w r t pa k)
   where
     by_typing : Has begun (suc n) (TypesInto w r t pa) ⊎
         ((w2 : History) × ((r2 : RunState) × IsLocked begun w r (act.type_text t pa) w2 r2)) →

@@ -14,7 +14,7 @@ use Rattle.ht_lex.specs.Cutting.{spans_of, CutsExactly}
 use Rattle.ht_lex.specs.Token.{Token, token_in}
 use Rattle.ht_grammar.specs.declared.vocabulary.HandlerKind.{HandlerKind}
 use Rattle.ht_grammar.specs.Handlers.{handler_in}
-use Rattle.ht_grammar.specs.Laws.{ReadsExactly}
+use Rattle.ht_grammar.specs.Laws.{ReadsExactly, TextsAreReadExactly}
 use Rattle.ht_grammar.specs.Reads.{Reads, ReadsScript}
 use Rattle.ht_grammar.specs.Statements.{Handler, Handlers}
 use Rattle.ht_grammar.specs.Whole.{script}
@@ -47,7 +47,6 @@ use Rattle.meaning.specs.Places.{layer_of_field}
 use Rattle.meaning.specs.State.{RunState, Step}
 use Rattle.meaning.specs.Values.{Yields, Parses}
 use Rattle.preservation.specs.Laws.{HasMemory}
-use Rattle.definitional_interpreter.proofs.Comes.{AreExact}
 use Rattle.totality.specs.Laws.{Behaves}
 use Rattle.totality.proofs.Chain.{Begun, IsOpen, Underway, Has, has, HasRun, has_run, up, stops_too, maybe}
 
@@ -153,7 +152,7 @@ first_by s id rest kind n hs reads later (Some h) e = first_is (Ok (Some (record
     (First.here refl reads e refl)
 first_by s id rest kind n hs reads (first_is out first) None e = first_is out (First.further_on refl reads e first)
 
-first : AreExact → (s : Content) (is : List ℕ) (kind : HandlerKind) (n : List ℕ) → FirstIs s is kind n
+first : TextsAreReadExactly → (s : Content) (is : List ℕ) (kind : HandlerKind) (n : List ℕ) → FirstIs s is kind n
 first exact s [] kind n = first_is (Ok None) (First.nothing_left refl refl)
 first exact s (id ∷ rest) kind n =
     let later = first exact s rest kind n in
@@ -163,7 +162,7 @@ first exact s (id ∷ rest) kind n =
 
 -- a handler is looked for
 pub then_found : {B : Type 0} {begun : Begun} {n : ℕ} {Q : Result B Stop → History → RunState → Type 0} {r : RunState}
-    (w : History) (is : List ℕ) (kind : HandlerKind) (name : List ℕ) → AreExact → Underway begun n w r →
+    (w : History) (is : List ℕ) (kind : HandlerKind) (name : List ℕ) → TextsAreReadExactly → Underway begun n w r →
     ((z : Stop) → Finds w.now.stack is kind name (Err z) → Q (Err z) w r) →
     ((found : Option HandlerFound) → Finds w.now.stack is kind name (Ok found) → Has begun n Q) → Has begun n Q
 then_found {B} {begun} {n} {Q} {r} w is kind name exact k stops goes_on = by_first

@@ -1,6 +1,7 @@
 -- Which parts of a run have an outcome while fewer than so many steps are left.
 use Rattle.std.specs.Prelude.{ℕ, ◌<◌, ◌≤◌, List, length, Bool, Option}
 use Rattle.ht_grammar.specs.declared.vocabulary.HandlerKind.{HandlerKind}
+use Rattle.ht_grammar.specs.Laws.{TextsAreReadExactly}
 use Rattle.ht_grammar.specs.Statements as stm
 use Rattle.ht_grammar.specs.Trees as tree
 use Rattle.externals.specs.declared.external.Ask.{Ask}
@@ -19,8 +20,9 @@ IsCallBack (Done v passes) = ⊥
 IsCallBack Fail = ⊥
 IsCallBack _ = Unit {0}
 
--- the parts that begin behind a step
+-- how texts are read, and the parts that begin behind a step
 pub record Level (begun : Begun) (n : ℕ) : Type 0 where
+  pub texts : TextsAreReadExactly
   pub val : (w : History) (r : RunState) (f : Frame) (d : ℕ) (e : tree.Expr) → d ≤ 100 → Underway begun n w r →
       Has begun n (Val w r f d e)
   pub form : (w : History) (r : RunState) (f : Frame) (d : ℕ) (s : stm.Stmt) → d ≤ 100 → Underway begun n w r →

@@ -48,7 +48,6 @@ use Rattle.meaning.specs.Values.{Parses}
 use Rattle.totality.proofs.Chain.{Begun}
 use Rattle.totality.proofs.Chain.{Underway, Has, has, ok, fault, yield, same, then, then_lines, choose, maybe, deep}
 use Rattle.totality.proofs.Chain.{nested}
-use Rattle.definitional_interpreter.proofs.Comes.{AreExact}
 use Rattle.totality.proofs.Leaves.{then_step, lift, Passes, then_parsed, then_found, then_field, then_made, then_ends}
 use Rattle.totality.proofs.Leaves.{then_done_lines, field_stands, stores, stores_named, adds}
 use Rattle.containers.proofs.Bases.{took_keeps as base_turn}
@@ -158,65 +157,64 @@ converses_has h w r d e vs there le k =
     (λ o w1 r1 g. Converses.converses (ltb-false 16 (length vs) few) lt refl g))
     (λ at. fault _ k (Converses.conversation_too_deep (ltb-false 16 (length vs) few) at)))
 
-pub calls_back_has : {begun : Begun} {n : ℕ} → AreExact → Level begun n →
-    (w : History) (r : RunState) (d : ℕ) (ask : Ask) → IsCallBack ask → d ≤ 100 → Underway begun (suc n) w r →
-    Has begun (suc n) (CallsBack w r d ask)
-calls_back_has exact h w r d (SendCardMessage note t) calls le k =
-    then_parsed typed_lines ReadsLines t exact.cuts exact.lines k (λ z p. CallsBack.message_syntax refl p) (λ ss p.
+pub calls_back_has : {begun : Begun} {n : ℕ} → Level begun n → (w : History) (r : RunState) (d : ℕ) (ask : Ask) →
+    IsCallBack ask → d ≤ 100 → Underway begun (suc n) w r → Has begun (suc n) (CallsBack w r d ask)
+calls_back_has h w r d (SendCardMessage note t) calls le k =
+    then_parsed typed_lines ReadsLines t h.texts.cuts h.texts.lines k (λ z p. CallsBack.message_syntax refl p) (λ ss p.
     then_lines (block_has h w r (typed_frame w) d ss le k) (λ z w1 r1 f1 g. CallsBack.message_stops refl p refl g)
     (λ how w1 r1 f1 k1 g. ok _ k1 (CallsBack.message_runs refl p refl g refl)))
-calls_back_has exact h w r d (EvalExpr note t) calls le k =
-    then_parsed expression ReadsExpr t exact.cuts exact.expressions k (λ z p. CallsBack.eval_syntax refl p) (λ e p.
-    then (val_has exact h w r (typed_frame w) d e le k) (λ z w1 r1 g. CallsBack.eval_stops refl p refl g)
+calls_back_has h w r d (EvalExpr note t) calls le k =
+    then_parsed expression ReadsExpr t h.texts.cuts h.texts.expressions k (λ z p. CallsBack.eval_syntax refl p) (λ e p.
+    then (val_has h w r (typed_frame w) d e le k) (λ z w1 r1 g. CallsBack.eval_stops refl p refl g)
     (λ v w1 r1 k1 g. ok _ k1 (CallsBack.evaluates refl p refl g refl)))
-calls_back_has exact h w r d (SetGlobal note name v) calls le k =
+calls_back_has h w r d (SetGlobal note name v) calls le k =
     choose (is_name name)
     (λ named. then_done_lines k (stores_named w (typed_frame w) name v k.is_open)
     (λ w1 f1 k1 g. ok _ k1 (CallsBack.global_set refl named refl g refl)))
     (λ bad. fault _ k (CallsBack.bad_global refl bad))
-calls_back_has exact h w r d (SetFieldByName note on_card name v) calls le k =
+calls_back_has h w r d (SetFieldByName note on_card name v) calls le k =
     then_field (field_named_place w.now (typed_frame w).variables on_card name) k
     (λ z y. CallsBack.no_such_field refl refl y) (λ p y.
     let stands = field_stands w.now (typed_frame w).variables on_card name y in
     then_done_lines k (stores w (typed_frame w) p.storage v stands k.is_open)
     (λ w1 f1 k1 g. ok _ k1 (CallsBack.field_set refl refl y g refl)))
-calls_back_has exact h w r d (Done v passes) calls le k = absurd calls
-calls_back_has exact h w r d Fail calls le k = absurd calls
+calls_back_has h w r d (Done v passes) calls le k = absurd calls
+calls_back_has h w r d Fail calls le k = absurd calls
 
 -- ---- messages
 
-built_in_by : {begun : Begun} {n : ℕ} → AreExact → Level begun n → (w : History) (r : RunState) (f : Frame) (d : ℕ)
-    (name : List ℕ) (vs : List (List ℕ)) (kind : HandlerKind) (b : BuiltIn) → built_in_named kind name ≡ Some b →
-    d ≤ 100 → Underway begun (suc n) w r → Has begun (suc n) (BuiltInGives w r f d name vs kind)
-built_in_by exact h w r f d name vs kind Value is le k =
-    maybe (only vs) (λ t one. same (text_val_has exact h w r f d t le k)
+built_in_by : {begun : Begun} {n : ℕ} → Level begun n → (w : History) (r : RunState) (f : Frame) (d : ℕ) (name : List ℕ)
+    (vs : List (List ℕ)) (kind : HandlerKind) (b : BuiltIn) → built_in_named kind name ≡ Some b → d ≤ 100 →
+    Underway begun (suc n) w r → Has begun (suc n) (BuiltInGives w r f d name vs kind)
+built_in_by h w r f d name vs kind Value is le k =
+    maybe (only vs) (λ t one. same (text_val_has h w r f d t le k)
     (λ o w1 r1 g. BuiltInGives.value_call is one g)) (λ none. fault _ k (BuiltInGives.value_arguments is none))
-built_in_by exact h w r f d name vs kind (BuiltInFunction fu) is le k = yield (built_in fu vs) k
+built_in_by h w r f d name vs kind (BuiltInFunction fu) is le k = yield (built_in fu vs) k
     (λ o y. BuiltInGives.function_call is y)
-built_in_by exact h w r f d name vs kind DoMenu is le k =
+built_in_by h w r f d name vs kind DoMenu is le k =
     maybe (item_named vs)
     (λ item named. same (menu_has h w r f d item le k) (λ o w1 r1 g. BuiltInGives.menu_item is named g))
     (λ none. fault _ k (BuiltInGives.menu_unknown is none))
 
-built_in_has : {begun : Begun} {n : ℕ} → AreExact → Level begun n → (w : History) (r : RunState) (f : Frame) (d : ℕ)
+built_in_has : {begun : Begun} {n : ℕ} → Level begun n → (w : History) (r : RunState) (f : Frame) (d : ℕ)
     (name : List ℕ) (vs : List (List ℕ)) (kind : HandlerKind) → d ≤ 100 → Underway begun (suc n) w r →
     Has begun (suc n) (BuiltInGives w r f d name vs kind)
-built_in_has exact h w r f d name vs kind le k =
-    maybe (built_in_named kind name) (λ b is. built_in_by exact h w r f d name vs kind b is le k)
+built_in_has h w r f d name vs kind le k =
+    maybe (built_in_named kind name) (λ b is. built_in_by h w r f d name vs kind b is le k)
     (λ isnt. choose (is_ignored kind name) (λ ignored. ok _ k (BuiltInGives.ignored_message isnt ignored))
     (λ unknown. fault _ k (BuiltInGives.not_understood isnt unknown)))
 
-outside_has : {begun : Begun} {n : ℕ} → AreExact → Level begun n → (w : History) (r : RunState) (f : Frame) (d : ℕ)
-    (name : List ℕ) (vs : List (List ℕ)) (kind : HandlerKind) → d ≤ 100 → Underway begun (suc n) w r →
+outside_has : {begun : Begun} {n : ℕ} → Level begun n → (w : History) (r : RunState) (f : Frame) (d : ℕ) (name : List ℕ)
+    (vs : List (List ℕ)) (kind : HandlerKind) → d ≤ 100 → Underway begun (suc n) w r →
     Has begun (suc n) (Outside w r f d name vs kind)
-outside_has exact h w r f d name vs kind le k =
+outside_has h w r f d name vs kind le k =
     maybe (external_named w.now.externals (calls_function kind) name)
     (λ e is. then (converses_has h w r d e vs (named_stands w _ _ is) le k)
     (λ z w1 r1 g. Outside.external_stops is g) (λ c w1 r1 k1 g.
-    choose c.passes (λ passes. same (built_in_has exact h w1 r1 f d name vs kind le k1)
+    choose c.passes (λ passes. same (built_in_has h w1 r1 f d name vs kind le k1)
     (λ o w2 r2 g2. Outside.external_passes is g passes g2))
     (λ ends. ended kind c.value k1 (λ v r2 gives. Outside.external_ends is g ends gives))))
-    (λ isnt. same (built_in_has exact h w r f d name vs kind le k) (λ o w1 r1 g. Outside.no_external isnt g))
+    (λ isnt. same (built_in_has h w r f d name vs kind le k) (λ o w1 r1 g. Outside.no_external isnt g))
 
 -- how the lines of a handler end, and what becomes of the message: those that pass it have taken a step
 handler_ends : {begun : Begun} {n : ℕ} → Level begun n → (w : History) (r : RunState) (f : Frame) (d i : ℕ)
@@ -241,34 +239,33 @@ handler_ends h w r f d i is name vs kind found Exit w1 r1 f1 le k1 g lt b = ok _
 handler_ends h w r f d i is name vs kind found (Returns v) w1 r1 f1 le k1 g lt b = ended kind v k1
     (λ v r2 gives. Along.along_ends g lt refl b.ends (ap Some gives))
 
-met_by : {begun : Begun} {n : ℕ} → AreExact → Level begun n → (w : History) (r : RunState) (f : Frame) (d i : ℕ)
-    (is name : List ℕ) (vs : List (List ℕ)) (kind : HandlerKind) (found : Option HandlerFound) →
+met_by : {begun : Begun} {n : ℕ} → Level begun n → (w : History) (r : RunState) (f : Frame) (d i : ℕ) (is name : List ℕ)
+    (vs : List (List ℕ)) (kind : HandlerKind) (found : Option HandlerFound) →
     Finds w.now.stack is kind name (Ok found) → d ≤ 100 → Underway begun (suc n) w r →
     Has begun (suc n) (Along w r f d i is name vs kind)
-met_by exact h w r f d i is name vs kind (Some found) g le k =
+met_by h w r f d i is name vs kind (Some found) g le k =
     deep d le (λ lt. then_lines
     (block_ends h w r (handler_frame found.object i (parameters_of found.handler) vs) (d + 1)
     (lines_of found.handler) (nested lt) k) (λ z w1 r1 f1 b. Along.along_stops g lt refl b.ends)
     (λ how w1 r1 f1 k1 b. handler_ends h w r f d i is name vs kind found how w1 r1 f1 le k1 g lt b))
     (λ at. fault _ k (Along.along_too_deep g at))
-met_by exact h w r f d i is name vs kind None g le k = same (outside_has exact h w r f d name vs kind le k)
+met_by h w r f d i is name vs kind None g le k = same (outside_has h w r f d name vs kind le k)
     (λ o w1 r1 g2. Along.along_unhandled g g2)
 
-pub along_has : {begun : Begun} {n : ℕ} → AreExact → Level begun n → (w : History) (r : RunState) (f : Frame) (d i : ℕ)
+pub along_has : {begun : Begun} {n : ℕ} → Level begun n → (w : History) (r : RunState) (f : Frame) (d i : ℕ)
     (is name : List ℕ) (vs : List (List ℕ)) (kind : HandlerKind) → d ≤ 100 → Underway begun (suc n) w r →
     Has begun (suc n) (Along w r f d i is name vs kind)
-along_has exact h w r f d i is name vs kind le k = then_found w is kind name exact k (λ z g. Along.along_broken g)
-    (λ met g. met_by exact h w r f d i is name vs kind met g le k)
+along_has h w r f d i is name vs kind le k = then_found w is kind name h.texts k (λ z g. Along.along_broken g)
+    (λ met g. met_by h w r f d i is name vs kind met g le k)
 
-called_by : {begun : Begun} {n : ℕ} → AreExact → Level begun n → (w : History) (r : RunState) (f : Frame) (d i : ℕ)
-    (t : List ℕ) (message : stm.Message) → Parses ReadsMessage t (Ok message) → d ≤ 100 → Underway begun (suc n) w r →
+called_by : {begun : Begun} {n : ℕ} → Level begun n → (w : History) (r : RunState) (f : Frame) (d i : ℕ) (t : List ℕ)
+    (message : stm.Message) → Parses ReadsMessage t (Ok message) → d ≤ 100 → Underway begun (suc n) w r →
     Has begun (suc n) (SendsText w r f d i t)
-called_by exact h w r f d i t (stm.message name es) p le k = same (calls_has exact h w r f d i name es Command le k)
+called_by h w r f d i t (stm.message name es) p le k = same (calls_has h w r f d i name es Command le k)
     (λ o w1 r1 g. SendsText.sends_text p g)
 
-pub sends_text_has : {begun : Begun} {n : ℕ} → AreExact → Level begun n →
-    (w : History) (r : RunState) (f : Frame) (d i : ℕ) (t : List ℕ) → d ≤ 100 → Underway begun (suc n) w r →
-    Has begun (suc n) (SendsText w r f d i t)
-sends_text_has exact h w r f d i t le k =
-    then_parsed sent_message ReadsMessage t exact.cuts exact.messages k (λ z p. SendsText.send_syntax p)
-    (λ message p. called_by exact h w r f d i t message p le k)
+pub sends_text_has : {begun : Begun} {n : ℕ} → Level begun n → (w : History) (r : RunState) (f : Frame) (d i : ℕ)
+    (t : List ℕ) → d ≤ 100 → Underway begun (suc n) w r → Has begun (suc n) (SendsText w r f d i t)
+sends_text_has h w r f d i t le k =
+    then_parsed sent_message ReadsMessage t h.texts.cuts h.texts.messages k (λ z p. SendsText.send_syntax p)
+    (λ message p. called_by h w r f d i t message p le k)

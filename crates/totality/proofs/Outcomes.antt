@@ -1,6 +1,7 @@
 -- Each run has an outcome.
 use Rattle.std.specs.Prelude.{IsSome}
 use Rattle.std.proofs.Common.{◌≡◌, Option, Some, None, refl, ℕ, zero, suc, ◌⊎◌, inl, inr, Result, Ok, arith}
+use Rattle.ht_grammar.specs.Laws.{TextsAreReadExactly}
 use Rattle.change_journal.specs.History.{Open, History}
 use Rattle.meaning.specs.declared.end.Stop.{Stop}
 use Rattle.meaning.specs.Meaning.{Acts}
@@ -21,7 +22,6 @@ use Rattle.totality.specs.Laws.{ReferencesHaveAnOutcome, ValuesHaveAnOutcome}
 use Rattle.totality.proofs.Behaving.{IsSafe, always_fails, failing_is_safe, safe, safe_is_safe}
 use Rattle.totality.proofs.Logged.{behaves_so}
 use Rattle.totality.proofs.Chain.{Begun, Underway, Has, has}
-use Rattle.definitional_interpreter.proofs.Comes.{AreExact}
 use Rattle.totality.proofs.Levels.{Level}
 use Rattle.totality.proofs.Expressions.{val_has}
 use Rattle.totality.proofs.Blocks.{block_has, endless_has, while_has, counts_has}
@@ -33,8 +33,9 @@ no_fewer : {begun : Begun} {w : History} {r : RunState} → Underway begun zero 
 no_fewer k = let fewer = k.left in omega (arith, fewer)
 
 -- by the number of steps that are left
-level : {begun : Begun} → AreExact → (n : ℕ) → Level begun n
+level : {begun : Begun} → TextsAreReadExactly → (n : ℕ) → Level begun n
 level exact zero = record {
+  texts = exact;
   val = λ w r f d e le k. absurd (no_fewer k);
   form = λ w r f d s le k. absurd (no_fewer k);
   block = λ w r f d ss le k. absurd (no_fewer k);
@@ -47,15 +48,16 @@ level exact zero = record {
 }
 level exact (suc n) =
     let h = level exact n in record {
-      val = val_has exact h;
-      form = form_has exact h;
+      texts = exact;
+      val = val_has h;
+      form = form_has h;
       block = block_has h;
       endless = endless_has h;
       while = while_has h;
       counts = counts_has h;
-      along = along_has exact h;
+      along = along_has h;
       talks = talks_has h;
-      calls_back = calls_back_has exact h;
+      calls_back = calls_back_has h;
     }
 
 -- the batch that is open
@@ -84,29 +86,30 @@ known is logs leads (has o w2 r2 has_memory k h) =
     let led = leads o w2 r2 h has_memory in
     outcome_by o w2 r2 has_memory h led.whole (behaves_so is logs led.turns k.is_open.behaves)
 
-pub lines_have_an_outcome_by : AreExact → LinesLeadToWhole → LinesHaveAnOutcomeBy
+pub lines_have_an_outcome_by : TextsAreReadExactly → LinesLeadToWhole → LinesHaveAnOutcomeBy
 lines_have_an_outcome_by exact leads behaviour w r ss is ready texts = known is ready.logs
     (λ o w2 r2 g has_memory. (leads w w2 r r2 ss o g has_memory ready.whole ready.run texts).0)
     (line_has (level exact r.left) w r ss (begins (safe behaviour) (safe_is_safe is) w r ready.batch))
 
-pub messages_have_an_outcome_by : AreExact → MessagesLeadToWhole → MessagesHaveAnOutcomeBy
+pub messages_have_an_outcome_by : TextsAreReadExactly → MessagesLeadToWhole → MessagesHaveAnOutcomeBy
 messages_have_an_outcome_by exact leads behaviour w r i name vs is ready texts = known is ready.logs
     (λ o w2 r2 g has_memory. (leads w w2 r r2 i name vs o g has_memory ready.whole ready.run texts).0)
     (message_has (level exact r.left) w r i name vs (begins (safe behaviour) (safe_is_safe is) w r ready.batch))
 
-pub references_have_an_outcome_by : AreExact → ReferencesLeadToWhole → ReferencesHaveAnOutcomeBy
+pub references_have_an_outcome_by : TextsAreReadExactly → ReferencesLeadToWhole → ReferencesHaveAnOutcomeBy
 references_have_an_outcome_by exact leads behaviour w r pa is ready texts = known is ready.logs
     (λ o w2 r2 g has_memory. (leads w w2 r r2 pa o g has_memory ready.whole ready.run texts).0)
-    (refers_has exact (level exact r.left) w r pa (begins (safe behaviour) (safe_is_safe is) w r ready.batch))
+    (refers_has (level exact r.left) w r pa (begins (safe behaviour) (safe_is_safe is) w r ready.batch))
 
-pub values_have_an_outcome_by : AreExact → ValuesLeadToWhole → ValuesHaveAnOutcomeBy
+pub values_have_an_outcome_by : TextsAreReadExactly → ValuesLeadToWhole → ValuesHaveAnOutcomeBy
 values_have_an_outcome_by exact leads behaviour w r f d e is ready frame texts le = known is ready.logs
     (λ o w2 r2 g has_memory. (leads w w2 r r2 f d e o g has_memory ready.whole ready.run frame texts).0)
-    (val_has exact (level exact r.left) w r f d e le (begins (safe behaviour) (safe_is_safe is) w r ready.batch))
+    (val_has (level exact r.left) w r f d e le (begins (safe behaviour) (safe_is_safe is) w r ready.batch))
 
-pub actions_have_an_outcome_by : AreExact → ActionsLeadToWhole → ReferencesLeadToWhole → ActionsHaveAnOutcomeBy
+pub actions_have_an_outcome_by : TextsAreReadExactly → ActionsLeadToWhole → ReferencesLeadToWhole →
+    ActionsHaveAnOutcomeBy
 actions_have_an_outcome_by exact leads refers behaviour w r ac is ready texts = by_lock
-    (acts_has exact (level exact r.left) w r ac (begins (safe behaviour) (safe_is_safe is) w r ready.batch))
+    (acts_has (level exact r.left) w r ac (begins (safe behaviour) (safe_is_safe is) w r ready.batch))
   where
     begun : Begun
     begun = record { behaviour = safe behaviour; safe = safe_is_safe is; history = w }
@@ -143,24 +146,24 @@ failing : (w : History) (r : RunState) → IsSome w.start →
     Underway (record { behaviour = always_fails; safe = failing_is_safe; history = w }) (suc r.left) w r
 failing w r is_open = begins always_fails failing_is_safe w r is_open
 
-pub lines_have_an_outcome : AreExact → LinesHaveAnOutcome
+pub lines_have_an_outcome : TextsAreReadExactly → LinesHaveAnOutcome
 lines_have_an_outcome exact w r ss is_open = whatever (line_has (level exact r.left) w r ss (failing w r is_open))
 
-pub messages_have_an_outcome : AreExact → MessagesHaveAnOutcome
+pub messages_have_an_outcome : TextsAreReadExactly → MessagesHaveAnOutcome
 messages_have_an_outcome exact w r i name vs is_open = whatever
     (message_has (level exact r.left) w r i name vs (failing w r is_open))
 
-pub references_have_an_outcome : AreExact → ReferencesHaveAnOutcome
+pub references_have_an_outcome : TextsAreReadExactly → ReferencesHaveAnOutcome
 references_have_an_outcome exact w r pa is_open = whatever
-    (refers_has exact (level exact r.left) w r pa (failing w r is_open))
+    (refers_has (level exact r.left) w r pa (failing w r is_open))
 
-pub values_have_an_outcome : AreExact → ValuesHaveAnOutcome
+pub values_have_an_outcome : TextsAreReadExactly → ValuesHaveAnOutcome
 values_have_an_outcome exact w r f d e is_open le = whatever
-    (val_has exact (level exact r.left) w r f d e le (failing w r is_open))
+    (val_has (level exact r.left) w r f d e le (failing w r is_open))
 
-pub actions_have_an_outcome : AreExact → ActionsHaveAnOutcome
+pub actions_have_an_outcome : TextsAreReadExactly → ActionsHaveAnOutcome
 actions_have_an_outcome exact w r ac is_open = by_lock
-    (acts_has exact (level exact r.left) w r ac (failing w r is_open))
+    (acts_has (level exact r.left) w r ac (failing w r is_open))
   where
     by_lock : {begun : Begun} → Has begun (suc r.left) (Acts w r ac) ⊎
         ((w2 : History) × ((r2 : RunState) × IsLocked begun w r ac w2 r2)) →

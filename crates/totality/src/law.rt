@@ -7,11 +7,7 @@ ghost use Rattle.totality.specs.Laws.{ReferencesHaveAnOutcomeBy, ValuesHaveAnOut
 ghost use Rattle.totality.specs.Laws.{BehavioursAreLogged, BehavioursFollowTables};
 ghost use Rattle.totality.specs.Tables.{TablesAreBehaviours};
 
-use ht_grammar::{
-    expressions_are_read_exactly, lines_are_read_exactly, messages_are_read_exactly,
-    scripts_are_read_exactly,
-};
-use ht_lex::texts_are_cut_exactly;
+use ht_grammar::texts_are_read_exactly;
 use whole_states::runs_lead_to_whole_states;
 
 /// For each behaviour of the externals that keeps their number of cells and makes texts of texts, lines, a message, an
@@ -25,11 +21,7 @@ pub fn behaviours_have_an_outcome()
     ensures references { ReferencesHaveAnOutcomeBy }
     ensures values { ValuesHaveAnOutcomeBy }
 {
-    texts_are_cut_exactly();
-    expressions_are_read_exactly();
-    lines_are_read_exactly();
-    scripts_are_read_exactly();
-    messages_are_read_exactly();
+    texts_are_read_exactly();
     runs_lead_to_whole_states();
 }
 
@@ -56,9 +48,5 @@ pub fn runs_have_an_outcome()
     ensures references { ReferencesHaveAnOutcome }
     ensures values { ValuesHaveAnOutcome }
 {
-    texts_are_cut_exactly();
-    expressions_are_read_exactly();
-    lines_are_read_exactly();
-    scripts_are_read_exactly();
-    messages_are_read_exactly();
+    texts_are_read_exactly();
 }

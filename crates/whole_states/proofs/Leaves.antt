@@ -40,15 +40,11 @@ use Rattle.change_journal.specs.Logs.{log_at}
 use Rattle.change_journal.specs.Rising.{Made, TookTurn}
 use Rattle.change_journal.proofs.Making.{IsHistory-made, IsHistory-turned}
 use Rattle.object_references.specs.declared.referent.Referent.{Referent}
-use Rattle.object_references.specs.References.{field_named}
 use Rattle.object_references.specs.Settings.{FitsIn}
 use Rattle.object_references.proofs.Fitting.{setting_fits}
 use Rattle.containers.specs.Base.{base}
 use Rattle.containers.specs.declared.edit.Edit.{Edit}
-use Rattle.containers.specs.Edits.{due, edited}
-use Rattle.containers.specs.Places.{StorageView, PlaceView, field_text, whole, keeps_for, is_shared}
-use Rattle.std.specs.Option.{ok_or}
-use Rattle.ht_values.specs.declared.fault.Fault.TheVariants.{NoSuchObject}
+use Rattle.containers.specs.Places.{StorageView, PlaceView, field_text, whole}
 use Rattle.containers.specs.Variables.{VariablesView, declared, with_local}
 use Rattle.containers.specs.Writes.{Writes, Declares}
 use Rattle.msg_path.specs.BuiltIns.{answers, external_named}
@@ -59,11 +55,13 @@ use Rattle.meaning.specs.declared.end.Stop.{Stop}
 use Rattle.meaning.specs.declared.frame.Frame.{Frame}
 use Rattle.meaning.specs.Messages.{Finds, only, lines_of}
 use Rattle.meaning.specs.Places.{Edits, Stores, Assigns, DeclaresAll, Sets, Adds, field_place, field_named_place}
-use Rattle.meaning.specs.Places.{layer_of_field, it_name}
+use Rattle.meaning.specs.Places.{it_name}
 use Rattle.meaning.specs.Repeats.{Outcome, returned, ends, leaves_repeat}
 use Rattle.meaning.specs.State.{RunState, Step, shows, noted, run_property_set, run_property, bound, handler_frame}
 use Rattle.meaning.specs.Values.{Yields, Parses}
 use Rattle.preservation.specs.Laws.{HasMemory}
+use Rattle.preservation.proofs.Placed.{of_field, of_field_named}
+use Rattle.preservation.proofs.StaysWhole.{due_stood, text_stood}
 use Rattle.whole_states.specs.Texts.{RunTexts, LocalsTexts, FrameTexts, StorageTexts, HowTexts, InputTexts}
 use Rattle.definitional_interpreter.proofs.Leaves.{set_keeps}
 use Rattle.definitional_interpreter.proofs.Sights.{rest_is}
@@ -162,20 +160,34 @@ sound_turn {begin} {w} {w2} {k} {input} {ask} there texts took q =
 
 -- ---- writes
 
-stood : {A : Type 0} (t : Option (List ℕ)) (k : List ℕ → Result A Fault) (a : A)
-    → and_then (ok_or t NoSuchObject) k ≡ Ok a → is_some t ≡ true
-stood (Some t) k a is = refl
-stood None k a is = cc
-
-due_stood : (s : State) (v : VariablesView) (delimiter : ℕ) (p : PlaceView) (e : Edit) (t : List ℕ) (field card : ℕ)
-    → p.storage ≡ field_text field card → due s v delimiter p e ≡ Ok (Some t)
-    → is_some (text_at s.stack field card) ≡ true
-due_stood s v delimiter p e t field card at is =
-    let edit : List ℕ → Result (Option (List ℕ)) Fault = λ u. edited delimiter p.chunks e u in
-    stood (text_at s.stack field card) edit (Some t) (subst (λ h. and_then (whole s v h) edit ≡ Ok (Some t)) at is)
-
 pub same_frame : {f f2 : Frame} → f2 ≡ f → FrameTexts f → FrameTexts f2
 same_frame same h = subst FrameTexts (sym same) h
+
+-- a text that is due is a text, and a field's text in whose place it comes stands there
+record IsDue (w : History) (h : StorageView) (due : Result (Option (List ℕ)) Fault) : Type 0 where
+  texts : IfOk due (λ x. IfSome x IsText)
+  stands : (field card : ℕ) (t : List ℕ) → h ≡ field_text field card → due ≡ Ok (Some t)
+      → is_some (text_at w.now.stack field card) ≡ true
+
+sound_writes : {begin w w2 : History} {v v2 : VariablesView} {h : StorageView} {due : Result (Option (List ℕ)) Fault}
+    → StorageTexts h → IsDue w h due → Writes w v h due w2 v2 → IsWhole begin w → LocalsTexts v.locals
+    → IsWhole begin w2 × LocalsTexts v2.locals
+sound_writes {begin} {w} {v = v} {h = h} {due} placed is_due written q k = by written
+  where
+    is_text : (t : List ℕ) → due ≡ Ok (Some t) → IsText t
+    is_text t is = subst (λ o. IfOk o (λ x. IfSome x IsText)) is is_due.texts
+
+    by : {w2 : History} {v2 : VariablesView} → Writes w v h due w2 v2 → IsWhole begin w2 × LocalsTexts v2.locals
+    by (Writes.nothing_due _) = (q, k)
+    by (Writes.to_global {name = name} {t = t} at is made) =
+        let named = subst StorageTexts at placed in (sound_made named.0 (named.1, is_text t is) made q, k)
+    by (Writes.to_own {name = name} {t = t} _ is same) = (
+      q,
+      subst (λ (x : VariablesView). LocalsTexts x.locals)
+          (sym same) (with_value_texts name (Some t) v.locals k (is_text t is)),
+    )
+    by (Writes.to_field {field = field} {card = card} {t = t} at is made) =
+        (sound_made (is_due.stands field card t at is) (is_text t is) made q, k)
 
 module _ (cut : PartsCut) where
   pub sound_edits : {begin w w2 : History} {f f2 : Frame} {delimiter : ℕ} {p : PlaceView} {e : Edit}
@@ -183,59 +195,21 @@ module _ (cut : PartsCut) where
       Edits w f delimiter p e o w2 f2 → HasMemory o → IsWhole begin w → FrameTexts f → IsWhole begin w2 × FrameTexts f2
   sound_edits placed texts byte Edits.edit_memory has q h = absurd (has refl)
   sound_edits placed texts byte (Edits.edit_faults _ same frame) has q h = (same_world same q, same_frame frame h)
-  sound_edits {begin} {w} {w2} {f} {f2} {delimiter} {p} {e} placed texts byte (Edits.edited {v = v} written frame) has
-      q h =
-      let due_texts = due_is_text cut w.now f.variables delimiter p e q.history.now.state h byte texts in
-      let both = writes written in
+  sound_edits {w = w} {f = f} {delimiter = delimiter} {p} {e} placed texts byte (Edits.edited written frame) has q h =
+      let both = sound_writes placed (record {
+        texts = due_is_text cut w.now f.variables delimiter p e q.history.now.state h byte texts;
+        stands = λ field card t. due_stood w.now f.variables delimiter p e t field card;
+      }) written q h in
       (both.0, same_frame frame both.1)
-    where
-      is_text : (t : List ℕ) → due w.now f.variables delimiter p e ≡ Ok (Some t) → IsText t
-      is_text t is = subst (λ o. IfOk o (λ x. IfSome x IsText)) is
-          (due_is_text cut w.now f.variables delimiter p e q.history.now.state h byte texts)
-
-      writes : {w3 : History} {v3 : VariablesView}
-          → Writes w f.variables p.storage (due w.now f.variables delimiter p e) w3 v3
-          → IsWhole begin w3 × LocalsTexts v3.locals
-      writes (Writes.nothing_due _) = (q, h)
-      writes (Writes.to_global {name = name} {t = t} at is made) =
-          let named = subst StorageTexts at placed in (sound_made named.0 (named.1, is_text t is) made q, h)
-      writes (Writes.to_own {name = name} {t = t} _ is same) = (
-        q,
-        subst (λ (x : VariablesView). LocalsTexts x.locals)
-            (sym same) (with_value_texts name (Some t) f.variables.locals h (is_text t is)),
-      )
-      writes (Writes.to_field {field = field} {card = card} {t = t} at is made) =
-          (sound_made (due_stood w.now f.variables delimiter p e t field card at is) (is_text t is) made q, h)
-
--- and so did one in whose place a value comes
-text_stood : (s : State) (v : VariablesView) (h : StorageView) (t : List ℕ) (field card : ℕ)
-    → h ≡ field_text field card → whole s v h ≡ Ok t → is_some (text_at s.stack field card) ≡ true
-text_stood s v h t field card at is =
-    stood (text_at s.stack field card) (λ u. Ok u) t
-    (subst (λ h. and_then (whole s v h) (λ u. Ok u) ≡ Ok t) at (ap (λ o. and_then o (λ u. Ok u)) is))
 
 pub sound_stores : {begin w w2 : History} {f f2 : Frame} {h : StorageView} {t : List ℕ} → StorageTexts h → IsText t
     → Stores w f h t w2 f2 → IsWhole begin w → FrameTexts f → IsWhole begin w2 × FrameTexts f2
-sound_stores {begin} {w} {w2} {f} {f2} {h} {t} placed texts (Stores.stores {t1 = t1} {v = v} stands written frame) q k =
-    let both = writes written in
+sound_stores {w = w} {f = f} {h = h} placed texts (Stores.stores {t1 = t1} stands written frame) q k =
+    let both = sound_writes placed (record {
+      texts = texts;
+      stands = λ field card t at is. text_stood w.now f.variables h t1 field card at stands;
+    }) written q k in
     (both.0, same_frame frame both.1)
-  where
-    is_text : {c : Result (Option (List ℕ)) Fault} (u : List ℕ) → c ≡ Ok (Some u) → IfOk c (λ x. IfSome x IsText)
-        → IsText u
-    is_text u is h = subst (λ o. IfOk o (λ x. IfSome x IsText)) is h
-
-    writes : {w3 : History} {v3 : VariablesView} → Writes w f.variables h (Ok (Some t)) w3 v3
-        → IsWhole begin w3 × LocalsTexts v3.locals
-    writes (Writes.nothing_due is) = cc
-    writes (Writes.to_global {name = name} {t = u} at is made) =
-        let named = subst StorageTexts at placed in (sound_made named.0 (named.1, is_text u is texts) made q, k)
-    writes (Writes.to_own {name = name} {t = u} _ is same) = (
-      q,
-      subst (λ (x : VariablesView). LocalsTexts x.locals)
-          (sym same) (with_value_texts name (Some u) f.variables.locals k (is_text u is texts)),
-    )
-    writes (Writes.to_field {field = field} {card = card} {t = u} at is made) =
-        (sound_made (text_stood w.now f.variables h t1 field card at stands) (is_text u is texts) made q, k)
 
 pub sound_assigns : {begin w w2 : History} {f f2 : Frame} {variable : Option (List ℕ)} {t : List ℕ}
     → IfSome variable IsText → IsText t → Assigns w f variable t w2 f2 → IsWhole begin w → FrameTexts f
@@ -435,32 +409,9 @@ it_text = given_text it_name refl
 pub return_text : IsText (13 ∷ [])
 return_text = given_text (13 ∷ []) refl
 
-abbrev IfPlaces : Result PlaceView Fault → Type 0
-IfPlaces o = IfOk o (λ p. StorageTexts p.storage)
-
 pub field_place_texts : (s : State) (m : Referent) → IfOk (field_place s m) (λ p. StorageTexts p.storage)
-field_place_texts s m = by (keeps_for s.stack m.object m.card)
-  where
-    by : (b : Bool) → IfPlaces (and_then
-        (cond b (Ok (field_text m.object (cond (is_shared s.stack m.object) 0 m.card))) (Err NoSuchObject))
-        (λ h. Ok (record { storage = h; chunks = [] })))
-    by true = tt
-    by false = tt
+field_place_texts s m = of_field StorageTexts (λ field card. tt) s m
 
 pub named_place_texts : (s : State) (v : VariablesView) (b : Bool) (name : List ℕ)
     → IfOk (field_named_place s v b name) (λ p. StorageTexts p.storage)
-named_place_texts s v b name = by (field_named s.stack s.current (layer_of_field b) name)
-  where
-    filled : (p : PlaceView) (t : Result (List ℕ) Fault) → StorageTexts p.storage → IfPlaces (and_then t (λ u. Ok p))
-    filled p (Ok u) h = h
-    filled p (Err fault) h = tt
-
-    at : (r : Result PlaceView Fault) → IfPlaces r
-        → IfPlaces (and_then r (λ p. and_then (whole s v p.storage) (λ t. Ok p)))
-    at (Ok p) h = filled p (whole s v p.storage) h
-    at (Err fault) h = tt
-
-    by : (r : Result Referent Fault) → IfPlaces (and_then r (λ m. and_then (field_place s m)
-        (λ p. and_then (whole s v p.storage) (λ t. Ok p))))
-    by (Ok m) = at (field_place s m) (field_place_texts s m)
-    by (Err fault) = tt
+named_place_texts s v b name = of_field_named StorageTexts (λ field card. tt) s v b name

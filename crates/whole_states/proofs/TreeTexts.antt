@@ -14,7 +14,7 @@ use Rattle.ht_lex.specs.declared.key.Key.TheVariants as k
 use Rattle.ht_lex.specs.declared.key.TokenKind.{TokenKind}
 use Rattle.ht_lex.specs.declared.key.TokenKind.TheVariants as kind
 use Rattle.ht_lex.specs.declared.tokens.Span.{Span}
-use Rattle.ht_lex.specs.Token.{Token, key, eol, later, inner, token_by, token_in}
+use Rattle.ht_lex.specs.Token.{Token, key, eol, later, token_by, token_in}
 use Rattle.ht_lex.specs.Token as token
 use Rattle.ht_grammar.specs.declared.vocabulary.Layer.{Layer}
 use Rattle.ht_grammar.specs.Fronts.{LeadingOperator, infix_at, test_at, neither, leading_operator, operator_after_is}

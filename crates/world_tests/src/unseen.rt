@@ -267,17 +267,14 @@ fn takes_one_step(run: &mut Budget) -> bool {
 }
 
 fn shows_seven(run: &mut Budget) -> bool {
-    run.shown().is_empty()
+    run.shown().as_slice().is_empty()
         && run.show(&Value::of_number(7)).is_ok()
-        && !run.shown().is_empty()
-        && run.shown().len() == 1
-        && run.shown().at(0).as_slice() == b"7".as_slice()
+        && matches!(run.shown().as_slice(), [line] if line.as_slice() == b"7".as_slice())
 }
 
 fn notes_one(run: &mut Budget, name: &Text) -> bool {
-    run.sent().is_empty()
+    run.sent().len() == 0
         && run.note(name, 4).is_ok()
-        && !run.sent().is_empty()
         && run.sent().len() == 1
         && run.sent().at(0).object() == 4
 }

@@ -7,7 +7,6 @@ ghost use Rattle.externals.specs.Log.{Follows, Follows-prop, IsTurnOf};
 ghost use Rattle.xkit.specs.Table.{kit_table};
 ghost use Rattle.xkit.specs.Members.{cell_count_of, kind_of};
 
-use crate::before::Before;
 use crate::cells::Cells;
 use crate::step::Step;
 use crate::turn_log::TurnLog;
@@ -15,6 +14,7 @@ use crate::{bins, count, gate, relay};
 use externals::{Ask, External, HasTable, Input, Patch};
 use ht_values::{Text, text_of};
 use std::alloc::{AllocError, Global};
+use std::snapshot::Snapshot;
 
 /// Which of the four an external is.
 #[derive(Clone, Copy)]
@@ -150,7 +150,7 @@ impl External for KitExternal {
     }
 
     fn turn(&mut self, alloc: Global, input: &Input) -> Result<(Ask, Patch), AllocError> {
-        let before = Before::of(&self.cells);
+        let before = Snapshot::of(&self.cells);
         let (ask, patch) = turned(self.member, &mut self.cells, alloc, input)?;
         self.log.record(&before, input, &ask, &self.cells);
         Ok((ask, patch))

@@ -6,7 +6,6 @@
 //!   (`TurnLog`).
 #![tactic(auto)]
 
-mod before;
 mod bins;
 mod cells;
 mod count;
@@ -16,7 +15,6 @@ mod relay;
 mod step;
 mod turn_log;
 
-pub use before::Before;
 pub use cells::Cells;
 pub use kit_external::KitExternal;
 pub use step::{Step, changed, unchanged};

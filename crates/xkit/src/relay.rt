@@ -1,6 +1,6 @@
 //! Relay: a command that uses each of the four call-backs once.
 
-ghost use Rattle.std.specs.Prelude.{◌≡◌, ℕ, ◌<◌, ◌≤◌, [], ◌∷◌, codes, drop, length, IfOk, OnErr};
+ghost use Rattle.std.specs.Prelude.{◌≡◌, ◌<◌, ◌≤◌, [], ◌∷◌, codes, drop, length, IfOk, OnErr};
 ghost use Rattle.ht_values.specs.declared.text.TheConstants.{LIMIT};
 ghost use Rattle.xkit.specs.Table.{is_note, relay_start, relay_answer, relay_turn};
 ghost use Rattle.xkit.specs.Steps.{Takes};

@@ -1,14 +1,14 @@
 //! The log of an external. It takes no memory, and its methods do nothing at run time.
 
-ghost use Rattle.std.specs.Prelude.{◌≡◌, ℕ, List, [], ◌∷◌, ◌++◌};
+ghost use Rattle.std.specs.Prelude.{◌≡◌, ℕ, [], ◌∷◌, ◌++◌};
 ghost use Rattle.std.specs.Borrow.{ftrue};
 ghost use Rattle.externals.specs.Turns.{TurnTable};
 ghost use Rattle.externals.specs.Log.{Log, Follows, IsTurnOf, coded_log};
 
-use crate::before::Before;
 use crate::cells::Cells;
 use externals::{Ask, Input};
 use std::marker::Model;
+use std::snapshot::Snapshot;
 
 /// The turns that an external took, the first one first, which contracts see as `turns`. Only proofs read them.
 ///
@@ -32,23 +32,29 @@ impl TurnLog {
         TurnLog {}
     }
 
-    /// Adds a turn at the end: the cells before it, what came in, what was asked, and the cells after it. A log that
-    /// follows a table still does, if the turn is that of the table.
-    pub fn record(&mut self, before: &Before, input: &Input, ask: &Ask, cells: &Cells)
+    /// Adds a turn at the end: the cells before it, of which the turn made a snapshot first, what came in, what was
+    /// asked, and the cells after it. A log that follows a table still does, if the turn is that of the table.
+    pub fn record(&mut self, before: &Snapshot<Cells>, input: &Input, ask: &Ask, cells: &Cells)
         ensures turns { self.new.turns ≡ self.old.turns
-            ++ (record { before = before.now.cells; input = input.now; ask = ask.now; cells = cells.now }) ∷ [] }
+            ++ (record { before = before.now.value; input = input.now; ask = ask.now; cells = cells.now }) ∷ [] }
         ensures follows { (table : TurnTable) (kind : ℕ) → Follows table kind self.old.turns
             → IsTurnOf table kind
-            (record { before = before.now.cells; input = input.now; ask = ask.now; cells = cells.now })
+            (record { before = before.now.value; input = input.now; ask = ask.now; cells = cells.now })
             → Follows table kind self.new.turns }
     {
         *self = TurnLog::with(self, before, input, ask, cells);
     }
 
     /// The log with a turn more at its end.
-    fn with(_log: &TurnLog, _before: &Before, _input: &Input, _ask: &Ask, _cells: &Cells) -> TurnLog
+    fn with(
+        _log: &TurnLog,
+        _before: &Snapshot<Cells>,
+        _input: &Input,
+        _ask: &Ask,
+        _cells: &Cells,
+    ) -> TurnLog
         ensures { result.turns ≡ _log.now.turns
-            ++ (record { before = _before.now.cells; input = _input.now; ask = _ask.now; cells = _cells.now }) ∷ [] }
+            ++ (record { before = _before.now.value; input = _input.now; ask = _ask.now; cells = _cells.now }) ∷ [] }
     {
         TurnLog {}
     }

@@ -1,5 +1,5 @@
 use Rattle.std.proofs.lemmas.List.Elements.{All-push}
-use Rattle.externals.specs.Log.{Follows, IsTurnOf}
+use Rattle.externals.specs.Log.{IsTurnOf}
 use Rattle.xkit.proofs.turn_log.TurnLog.record.Goals as goal
 
 pub returns-clause-follows : goal.returns-clause-follows

@@ -30,7 +30,7 @@ use denote.Triple.Walked.{says, stay_none_ref, Stays, walk_of, Walks, ends_at, w
 use Rattle.externals.specs.Log.{Log}
 use Rattle.externals.specs.contracts.external.Input as input
 use Rattle.externals.specs.contracts.external.Ask as ask
-use Rattle.xkit.specs.contracts.before.Before as before
+use Rattle.std.specs.contracts.snapshot.Snapshot as snapshot
 use Rattle.xkit.specs.contracts.cells.Cells as cells
 use Rattle.xkit.specs.contracts.turn_log.TurnLog as turn_log
 use Rattle.xkit.specs.contracts.turn_log.TurnLog.with.Key.{name as key}
@@ -42,7 +42,7 @@ abbrev stayed : Stays (f.ended).signature.params (f.ended).kept
 stayed = (
   stay_none_ref (0 ∷ []) tt (plain (λ _. turn_log.the_row)) yes,
   (
-    stay_none_ref (1 ∷ []) tt (plain (λ _. before.the_row)) yes,
+    stay_none_ref (1 ∷ []) tt (plain (λ _. snapshot.the_row cells.the_row)) yes,
     (
       stay_none_ref (2 ∷ []) tt (plain (λ _. input.the_row)) yes,
       (
@@ -85,7 +85,7 @@ module _ {M : Type 1} {𝓤 : Ura M} (𝓛 : Logic 𝓤) (mem : Memory → SProp
 
     abbrev more : Log
     more = a.0.now.turns ++ (record {
-      before = a.1.0.now.cells;
+      before = a.1.0.now.value;
       input = a.1.1.0.now;
       ask = a.1.1.1.0.now;
       cells = a.1.1.1.1.0.now;
@@ -116,7 +116,7 @@ module _ {M : Type 1} {𝓤 : Ura M} (𝓛 : Logic 𝓤) (mem : Memory → SProp
       (λ κs. (
         shr_Tells (named 0) κs.0 turn_log.the_row,
         (
-          shr_Tells (named 1) κs.1.0 before.the_row,
+          shr_Tells (named 1) κs.1.0 (snapshot.the_row cells.the_row),
           (
             shr_Tells (named 2) κs.1.1.0 input.the_row,
             (shr_Tells (named 3) κs.1.1.1.0 ask.the_row, (shr_Tells (named 4) κs.1.1.1.1.0 cells.the_row, tt)),
@@ -131,7 +131,7 @@ meets {𝓤 = 𝓤} 𝓛 mem run 𝓣 =
     walk_Meets 𝓛 f.ended stayed (
       Goes-none_ref 𝓛 5 (0 ∷ []) tt (plain (λ _. turn_log.the_row)) yes,
       (
-        Goes-none_ref 𝓛 5 (1 ∷ []) tt (plain (λ _. before.the_row)) yes,
+        Goes-none_ref 𝓛 5 (1 ∷ []) tt (plain (λ _. snapshot.the_row cells.the_row)) yes,
         (
           Goes-none_ref 𝓛 5 (2 ∷ []) tt (plain (λ _. input.the_row)) yes,
           (
