@@ -8,7 +8,7 @@ use Rattle.change_journal.specs.History.{History}
 use Rattle.change_journal.specs.Logs.{log_at, turns_since}
 use Rattle.preservation.specs.Laws.{IsPrefix}
 use Rattle.definitional_interpreter.specs.Told.{Visible, seen_since}
-use Rattle.definitional_interpreter.specs.Turns.{sorts, free_turns}
+use Rattle.definitional_interpreter.specs.Turns.{sorts, nondeterministic}
 use Rattle.definitional_interpreter.specs.Families.{Meanings}
 use Rattle.definitional_interpreter.specs.Laws.{Enough}
 
@@ -64,8 +64,8 @@ pub record Asks (g : Sight) (w w2 : History) : Type 0 where
   pub grown : (i : ℕ) → IsPrefix (log_at g.old i) (log_at w.logs i)
   pub follow : (i : ℕ) → i < length (sorts w)
       → Follows g.table (slice_index_or (sorts w) i 0) (turns_since g.old w2.logs i)
-  pub free : (i : ℕ) → i < length (sorts w)
-      → IsPrefix (free_turns g.table (slice_index_or (sorts w) i 0) (turns_since g.old w2.logs i)) (g.turns i)
+  pub beside : (i : ℕ) → i < length (sorts w)
+      → IsPrefix (nondeterministic g.table (slice_index_or (sorts w) i 0) (turns_since g.old w2.logs i)) (g.turns i)
 
 -- From one history to another, with the same externals, the meanings come to this where that is so which is asked.
 pub record Comes {X : Type 0} (g : Sight) (w : History) (F : Meanings → X) (x : X) (w2 : History) : Type 0 where

@@ -5,7 +5,7 @@ use Rattle.ht_grammar.specs.Laws.{TextsAreReadExactly}
 use Rattle.definitional_interpreter.specs.Laws.{LinesAreComputed, MessagesAreComputed}
 use Rattle.definitional_interpreter.specs.Laws.{ActionsAreComputed, ReferencesAreComputed, ValuesAreComputed}
 use Rattle.definitional_interpreter.specs.Laws.{DeterministicKindsHaveNoFreeTurns, WithNoTableAllTurnsAreFree}
-use Rattle.definitional_interpreter.specs.Turns.{free_turns}
+use Rattle.definitional_interpreter.specs.Turns.{nondeterministic}
 use Rattle.definitional_interpreter.proofs.Sights.{from, asks_told}
 use Rattle.definitional_interpreter.proofs.Outcomes.{val_comes, line_comes, message_comes, refers_comes, acts_comes}
 
@@ -33,12 +33,12 @@ value_is_computed exact table turns w w2 r r2 f d e o are value has =
 
 -- ---- special cases
 
-pub none_free : DeterministicKindsHaveNoFreeTurns
-none_free table sort [] fixed = refl
-none_free table sort (turn ∷ log) fixed =
-    ap (λ o. cond (is_none o) (turn ∷ free_turns table sort log) (free_turns table sort log))
-    (fixed turn.before turn.input).1 ∙ none_free table sort log fixed
+pub none_nondeterministic : DeterministicKindsHaveNoFreeTurns
+none_nondeterministic table sort [] fixed = refl
+none_nondeterministic table sort (turn ∷ log) fixed =
+    ap (λ o. cond (is_none o) (turn ∷ nondeterministic table sort log) (nondeterministic table sort log))
+    (fixed turn.before turn.input).1 ∙ none_nondeterministic table sort log fixed
 
-pub all_free : WithNoTableAllTurnsAreFree
-all_free sort [] = refl
-all_free sort (turn ∷ log) = ap (λ l. turn ∷ l) (all_free sort log)
+pub all_nondeterministic : WithNoTableAllTurnsAreFree
+all_nondeterministic sort [] = refl
+all_nondeterministic sort (turn ∷ log) = ap (λ l. turn ∷ l) (all_nondeterministic sort log)

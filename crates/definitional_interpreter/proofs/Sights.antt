@@ -18,7 +18,7 @@ use Rattle.meaning.specs.State.{RunState}
 use Rattle.preservation.specs.Laws.{IsPrefix}
 use Rattle.definitional_interpreter.specs.Told.{Visible, told}
 use Rattle.definitional_interpreter.specs.Changes.{turn, take_turn, due_turn}
-use Rattle.definitional_interpreter.specs.Turns.{sorts_of, sorts, is_free, free_turns, logs_since}
+use Rattle.definitional_interpreter.specs.Turns.{sorts_of, sorts, is_nondeterministic, nondeterministic, logs_since}
 use Rattle.definitional_interpreter.specs.Laws.{AreTold}
 use Rattle.definitional_interpreter.proofs.Comes.{Kept, HasExternal, Sight, sight, Asks, prefix_same, prefix_trans}
 
@@ -39,11 +39,11 @@ prefix_drop (suc n) (x ∷ xs) [] h = let no : ⊥ = cc in absurd no
 prefix_drop (suc n) (x ∷ xs) (y ∷ ys) h =
     let same : ys ≡ xs ++ h.0 = ap (drop 1) h.1 in prefix_drop n xs ys (h.0, same)
 
-prefix_free : (table : TurnTable) (sort : ℕ) (xs ys : Log) → IsPrefix xs ys →
-    IsPrefix (free_turns table sort xs) (free_turns table sort ys)
-prefix_free table sort xs ys h = (
-  free_turns table sort h.0,
-  ap (free_turns table sort) h.1 ∙ filter-append (is_free table sort) xs h.0,
+prefix_of_nondeterministic : (table : TurnTable) (sort : ℕ) (xs ys : Log) → IsPrefix xs ys →
+    IsPrefix (nondeterministic table sort xs) (nondeterministic table sort ys)
+prefix_of_nondeterministic table sort xs ys h = (
+  nondeterministic table sort h.0,
+  ap (nondeterministic table sort) h.1 ∙ filter-append (is_nondeterministic table sort) xs h.0,
 )
 
 -- what is behind a front
@@ -94,11 +94,11 @@ asks_first {g} {w} {w1} {w2} kept asked = record {
   grown = asked.grown;
   follow = λ i there. all_of_prefix (IsTurnOf g.table (slice_index_or (sorts w) i 0)) (turns_since g.old w1.logs i)
       (turns_since g.old w2.logs i) (since i) (asked.follow i there);
-  free = λ i there. let sort = slice_index_or (sorts w) i 0 in
-      prefix_trans (free_turns g.table sort (turns_since g.old w1.logs i))
-      (free_turns g.table sort (turns_since g.old w2.logs i)) (g.turns i)
-      (prefix_free g.table sort (turns_since g.old w1.logs i) (turns_since g.old w2.logs i) (since i))
-      (asked.free i there);
+  beside = λ i there. let sort = slice_index_or (sorts w) i 0 in
+      prefix_trans (nondeterministic g.table sort (turns_since g.old w1.logs i))
+      (nondeterministic g.table sort (turns_since g.old w2.logs i)) (g.turns i)
+      (prefix_of_nondeterministic g.table sort (turns_since g.old w1.logs i) (turns_since g.old w2.logs i) (since i))
+      (asked.beside i there);
 }
   where
     since : (i : ℕ) → IsPrefix (turns_since g.old w1.logs i) (turns_since g.old w2.logs i)
@@ -113,11 +113,11 @@ asks_rest {g} {w} {w1} {w2} kept asked = record {
       subst
       (λ (kinds : List ℕ). (i : ℕ) → i < length kinds
       → Follows g.table (slice_index_or kinds i 0) (turns_since g.old w2.logs i)) (sym kept.kinds) asked.follow;
-  free =
+  beside =
       subst
       (λ (kinds : List ℕ). (i : ℕ) → i < length kinds
-      → IsPrefix (free_turns g.table (slice_index_or kinds i 0) (turns_since g.old w2.logs i)) (g.turns i))
-      (sym kept.kinds) asked.free;
+      → IsPrefix (nondeterministic g.table (slice_index_or kinds i 0) (turns_since g.old w2.logs i)) (g.turns i))
+      (sym kept.kinds) asked.beside;
 }
 
 -- the sight of a run from its beginning
@@ -132,8 +132,8 @@ asks_told {table} {turns} {w} {w2} h = record {
   grown = λ i. prefix_same (log_at w.logs i) (log_at w.logs i) refl;
   follow = λ i there. subst (λ sort. Follows table sort (turns_since w.logs w2.logs i))
       (sym (sort_at w.now.externals i)) (h.follow i (within i there));
-  free = λ i there. subst (λ sort. IsPrefix (free_turns table sort (turns_since w.logs w2.logs i)) (turns i))
-      (sym (sort_at w.now.externals i)) (h.free i (within i there));
+  beside = λ i there. subst (λ sort. IsPrefix (nondeterministic table sort (turns_since w.logs w2.logs i)) (turns i))
+      (sym (sort_at w.now.externals i)) (h.beside i (within i there));
 }
   where
     within : (i : ℕ) → i < length (sorts w) → i < length w.now.externals
@@ -185,17 +185,18 @@ module _ (g : Sight) (w w1 : History) (k : ℕ) (input : Input) (ask : Ask) (t :
       λ i. Some (record { before = seen.cells; input = input; ask = sym same.0 i; cells = sym same.1 i })
   is_due None is =
       let since = turns_since g.old w.logs k in
-      let free = free_turns g.table seen.sort since in
-      let head : IsPrefix (free_turns g.table seen.sort (turns_since g.old w1.logs k)) (g.turns k) =
-      subst (λ sort. IsPrefix (free_turns g.table sort (turns_since g.old w1.logs k)) (g.turns k))
-      (sort_at w.now.externals k) (asked.free k there.there) in
-      let free_are : free_turns g.table seen.sort (turns_since g.old w1.logs k) ≡ free ++ taken ∷ [] =
-      ap (free_turns g.table seen.sort) since_are ∙ filter-append (is_free g.table seen.sort) since (taken ∷ [])
-      ∙ ap (λ o. free ++ cond (is_none o) (taken ∷ []) []) is in
-      ap (λ (log : Log). slice_get (g.turns k) (length (free_turns g.table seen.sort log)))
+      let beside = nondeterministic g.table seen.sort since in
+      let head : IsPrefix (nondeterministic g.table seen.sort (turns_since g.old w1.logs k)) (g.turns k) =
+      subst (λ sort. IsPrefix (nondeterministic g.table sort (turns_since g.old w1.logs k)) (g.turns k))
+      (sort_at w.now.externals k) (asked.beside k there.there) in
+      let beside_are : nondeterministic g.table seen.sort (turns_since g.old w1.logs k) ≡ beside ++ taken ∷ [] =
+      ap (nondeterministic g.table seen.sort) since_are
+      ∙ filter-append (is_nondeterministic g.table seen.sort) since (taken ∷ [])
+      ∙ ap (λ o. beside ++ cond (is_none o) (taken ∷ []) []) is in
+      ap (λ (log : Log). slice_get (g.turns k) (length (nondeterministic g.table seen.sort log)))
       (at_since g.old w.logs asked.count k)
-      ∙ ap (λ (log : Log). slice_get log (length free)) (head.1 ∙ ap (λ log. log ++ head.0) free_are)
-      ∙ next_is free head.0 taken
+      ∙ ap (λ (log : Log). slice_get log (length beside)) (head.1 ∙ ap (λ log. log ++ head.0) beside_are)
+      ∙ next_is beside head.0 taken
 
   pub computes : (r : RunState) → turn (sight g w) r k input ≡ told (Ok ask) (sight g w1) r
   computes r =

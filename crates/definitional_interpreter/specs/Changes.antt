@@ -25,7 +25,7 @@ use Rattle.meaning.specs.declared.end.Stop.{Stop}
 use Rattle.meaning.specs.declared.end.Stop.TheVariants.{Fault as Faults}
 use Rattle.meaning.specs.declared.frame.Frame.{Frame}
 use Rattle.meaning.specs.State.{RunState}
-use Rattle.definitional_interpreter.specs.Turns.{free_turns}
+use Rattle.definitional_interpreter.specs.Turns.{nondeterministic}
 use Rattle.definitional_interpreter.specs.Told.{Visible, Told, unknown, told, ToldIn, told_in, choose, computed}
 
 -- a computed value, or its fault
@@ -106,7 +106,7 @@ abbrev pub due_turn : Visible → ℕ → Input → Option Turn → Option Logge
 due_turn w i input (Some t) =
     Some (record { before = (seen_at w.now i).cells; input = input; ask = t.0; cells = t.1 })
 due_turn w i input None =
-    slice_get (w.turns i) (length (free_turns w.table (seen_at w.now i).sort (slice_index_or w.logs i [])))
+    slice_get (w.turns i) (length (nondeterministic w.table (seen_at w.now i).sort (slice_index_or w.logs i [])))
 
 -- a turn, which its log has then at its end; it is unknown where none is due
 abbrev pub take_turn : Visible → RunState → ℕ → Option LoggedTurn → Told Ask

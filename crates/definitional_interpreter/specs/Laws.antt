@@ -14,7 +14,7 @@ use Rattle.meaning.specs.Meaning.{Val, Line, Message, Refers, Acts}
 use Rattle.meaning.specs.State.{RunState}
 use Rattle.preservation.specs.Laws.{HasMemory, IsPrefix}
 use Rattle.definitional_interpreter.specs.Told.{seen_since, told}
-use Rattle.definitional_interpreter.specs.Turns.{IsDeterministic, free_turns}
+use Rattle.definitional_interpreter.specs.Turns.{IsDeterministic, nondeterministic}
 use Rattle.definitional_interpreter.specs.Families.{Meanings}
 use Rattle.definitional_interpreter.specs.Meanings.{meanings}
 
@@ -23,8 +23,8 @@ use Rattle.definitional_interpreter.specs.Meanings.{meanings}
 pub record AreTold (table : TurnTable) (turns : ℕ → Log) (w w2 : History) : Type 0 where
   pub logs : HaveLogs w.now w.logs
   pub follow : FollowSince table w.now w.logs w2.logs
-  pub free : (i : ℕ) → i < length w.now.externals
-      → IsPrefix (free_turns table (seen_at w.now i).sort (turns_since w.logs w2.logs i)) (turns i)
+  pub beside : (i : ℕ) → i < length w.now.externals
+      → IsPrefix (nondeterministic table (seen_at w.now i).sort (turns_since w.logs w2.logs i)) (turns i)
 
 -- ---- the function gives what the rules allow
 
@@ -78,8 +78,8 @@ ValuesAreComputed =
 -- computed by the table alone.
 abbrev pub DeterministicKindsHaveNoFreeTurns : Type 0
 DeterministicKindsHaveNoFreeTurns =
-    (table : TurnTable) (sort : ℕ) (log : Log) → IsDeterministic table sort → free_turns table sort log ≡ []
+    (table : TurnTable) (sort : ℕ) (log : Log) → IsDeterministic table sort → nondeterministic table sort log ≡ []
 
 -- Where nothing is known of the externals, each turn has to be told: each run is computed by its logs.
 abbrev pub WithNoTableAllTurnsAreFree : Type 0
-WithNoTableAllTurnsAreFree = (sort : ℕ) (log : Log) → free_turns no_table sort log ≡ log
+WithNoTableAllTurnsAreFree = (sort : ℕ) (log : Log) → nondeterministic no_table sort log ≡ log

@@ -23,12 +23,12 @@ abbrev pub AreDeterministic : TurnTable → List ℕ → Type 0
 AreDeterministic table kinds = (i : ℕ) → i < length kinds → IsDeterministic table (slice_index_or kinds i 0)
 
 -- the table doesn't have the turn
-abbrev pub is_free : TurnTable → ℕ → LoggedTurn → Bool
-is_free table sort turn = is_none (table sort turn.before turn.input)
+abbrev pub is_nondeterministic : TurnTable → ℕ → LoggedTurn → Bool
+is_nondeterministic table sort turn = is_none (table sort turn.before turn.input)
 
 -- the turns of an external of this kind that the table doesn't have
-abbrev pub free_turns : TurnTable → ℕ → Log → Log
-free_turns table sort = filter (is_free table sort)
+abbrev pub nondeterministic : TurnTable → ℕ → Log → Log
+nondeterministic table sort = filter (is_nondeterministic table sort)
 
 -- what each log has behind what it had
 abbrev pub logs_since : (old new : List Log) → List Log

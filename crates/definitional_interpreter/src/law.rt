@@ -25,7 +25,7 @@ pub fn runs_are_computed()
 }
 
 /// Where an external is deterministic by the table, no turn of it has to be told beside it; with no table each has.
-pub fn free_turns_are_known()
+pub fn nondeterministic_turns_are_known()
     ensures deterministic { DeterministicKindsHaveNoFreeTurns }
     ensures no_table { WithNoTableAllTurnsAreFree }
 {}

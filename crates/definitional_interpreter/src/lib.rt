@@ -6,7 +6,7 @@
 //!   turns of a run follow the table, and its others are the first of those, it gives the run's end, state and turns,
 //!   from some fuel on, unless the run is out of memory (`runs_are_computed`).
 //! - A deterministic external needs none of these others, and with no table each turn is one of them
-//!   (`free_turns_are_known`).
+//!   (`nondeterministic_turns_are_known`).
 //! - The other way round it is shown for expressions: what it gives of one, with calls and `value` left unknown, the
 //!   rules allow, and nothing changes (`expressions_are_allowed`).
 //! - It gives the answers of sixteen worked rows, from the text of the lines and of the scripts, with 20 or 40 nested
@@ -19,5 +19,6 @@
 mod law;
 
 pub use law::{
-    expressions_are_allowed, free_turns_are_known, runs_are_computed, worked_rows_are_computed,
+    expressions_are_allowed, nondeterministic_turns_are_known, runs_are_computed,
+    worked_rows_are_computed,
 };

@@ -11,7 +11,7 @@ use Rattle.change_journal.specs.Logs.{log_at, turns_since}
 use Rattle.meaning.specs.declared.end.Stop.{Stop}
 use Rattle.meaning.specs.State.{RunState}
 use Rattle.definitional_interpreter.specs.Told.{Visible, Told, told}
-use Rattle.definitional_interpreter.specs.Turns.{free_turns, logs_since}
+use Rattle.definitional_interpreter.specs.Turns.{nondeterministic, logs_since}
 use Rattle.definitional_interpreter.specs.Families.{Meanings}
 use Rattle.definitional_interpreter.specs.Meanings.{meanings}
 use Rattle.definitional_interpreter.specs.Laws.{AreTold}
@@ -51,18 +51,23 @@ module _ {A : Type 0} (table : TurnTable) {w v w2 v2 : History} {r2 q2 : RunStat
     (others : (g : Sight) → Comes g v (F (sight g v)) (told p (sight g v2) q2) v2) where
   -- the turns of which the table tells nothing
   abbrev turns : ℕ → Log
-  turns i = free_turns table (seen_at w.now i).sort (turns_since w.logs w2.logs i)
+  turns i = nondeterministic table (seen_at w.now i).sort (turns_since w.logs w2.logs i)
 
   are_told : AreTold table turns w w2
-  are_told = record { logs = alike.logs; follow = alike.follow; free = λ i there. prefix_same (turns i) (turns i) refl }
+  are_told = record {
+    logs = alike.logs;
+    follow = alike.follow;
+    beside = λ i there. prefix_same (turns i) (turns i) refl;
+  }
 
   others_told : AreTold table turns v v2
   others_told = record {
     logs = alike.other_logs;
     follow = alike.others_follow;
-    free = λ i there. prefix_same (free_turns table (seen_at v.now i).sort (turns_since v.logs v2.logs i)) (turns i)
-        (sym (ap (λ (s : State). free_turns table (seen_at s i).sort (turns_since v.logs v2.logs i)) alike.state
-        ∙ alike.free i (subst (λ (s : State). i < length s.externals) alike.state there)));
+    beside = λ i there.
+        prefix_same (nondeterministic table (seen_at v.now i).sort (turns_since v.logs v2.logs i)) (turns i)
+        (sym (ap (λ (s : State). nondeterministic table (seen_at s i).sort (turns_since v.logs v2.logs i)) alike.state
+        ∙ alike.beside i (subst (λ (s : State). i < length s.externals) alike.state there)));
   }
 
   as_many : length w.logs ≡ length v.logs

@@ -12,7 +12,7 @@ use Rattle.meaning.specs.Actions.{Action}
 use Rattle.meaning.specs.Meaning.{Val, Line, Message, Refers, Acts}
 use Rattle.meaning.specs.State.{RunState}
 use Rattle.preservation.specs.Laws.{HasMemory}
-use Rattle.definitional_interpreter.specs.Turns.{free_turns}
+use Rattle.definitional_interpreter.specs.Turns.{nondeterministic}
 
 -- Two runs, from w to w2 and from v to v2, begin with the same state, their externals follow the table, and took the
 -- same turns of those that the table doesn't have. Where each external is deterministic by the table there are none of
@@ -23,9 +23,9 @@ pub record AreAlike (table : TurnTable) (w v w2 v2 : History) : Type 0 where
   pub other_logs : HaveLogs v.now v.logs
   pub follow : FollowSince table w.now w.logs w2.logs
   pub others_follow : FollowSince table v.now v.logs v2.logs
-  pub free : (i : ℕ) → i < length w.now.externals
-      → free_turns table (seen_at w.now i).sort (turns_since v.logs v2.logs i)
-      ≡ free_turns table (seen_at w.now i).sort (turns_since w.logs w2.logs i)
+  pub beside : (i : ℕ) → i < length w.now.externals
+      → nondeterministic table (seen_at w.now i).sort (turns_since v.logs v2.logs i)
+      ≡ nondeterministic table (seen_at w.now i).sort (turns_since w.logs w2.logs i)
 
 -- They end alike, with the same state and run, and each external took the same turns; so the logs are the same where
 -- they were the same.

@@ -9,9 +9,9 @@ mod all_bytes;
 #[cfg(test)]
 mod calls;
 #[cfg(test)]
-mod free;
-#[cfg(test)]
 mod limits;
+#[cfg(test)]
+mod nondeterministic;
 #[cfg(test)]
 mod opened;
 #[cfg(test)]

@@ -4,7 +4,7 @@
 ghost use Rattle.std.specs.Prelude.{IfSome};
 ghost use Rattle.object_table.specs.WellFormed.{IsWellFormed};
 
-use crate::free::{Boxed, Manner, external_of};
+use crate::nondeterministic::{Boxed, Manner, external_of};
 use externals::External;
 use object_table::Stack;
 use session::{OpenError, Session};

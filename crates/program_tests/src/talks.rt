@@ -1,7 +1,7 @@
-//! Runs over devices that may fail, with externals that answer freely: what is written, what the desk keeps, and who is
+//! Runs over devices that may fail, with nondeterministic externals: what is written, what the desk keeps, and who is
 //! blamed.
 
-use crate::free::{Boxed, Manner, external_of};
+use crate::nondeterministic::{Boxed, Manner, external_of};
 use crate::opened::{TWO_CARDS, session_of};
 use crate::slow_devices::{Drip, Sip};
 use devices::{Desk, Shelf, Watched};

@@ -12,7 +12,7 @@ use Rattle.change_journal.specs.History.{History}
 use Rattle.change_journal.specs.Logs.{log_at, turns_since}
 use Rattle.preservation.specs.Laws.{IsPrefix}
 use Rattle.definitional_interpreter.specs.Laws.{AreTold, DeterministicKindsHaveNoFreeTurns, WithNoTableAllTurnsAreFree}
-use Rattle.definitional_interpreter.specs.Turns.{sorts_of, is_free, free_turns, logs_since}
+use Rattle.definitional_interpreter.specs.Turns.{sorts_of, is_nondeterministic, nondeterministic, logs_since}
 use Rattle.definitional_interpreter.proofs.Comes.{prefix_same}
 use Rattle.definitional_interpreter.proofs.Sights.{sort_at, all_of_prefix, at_since}
 use Rattle.transcripts.specs.Laws.{TablesTellTurns, LogsTellTurns, KitIsDeterministic}
@@ -24,11 +24,11 @@ told_head : {table : TurnTable} {turns : Log} {kind : ℕ} (log new : Log) → I
     IsToldBy table turns kind new → IsToldBy table turns kind log
 told_head {table} {turns} {kind} log new head told = record {
   follows = all_of_prefix (IsTurnOf table kind) log new head told.follows;
-  free = (
-    free_turns table kind head.0 ++ told.free.0,
-    told.free.1 ∙ ap (λ l. free_turns table kind l ++ told.free.0) head.1
-        ∙ ap (λ l. l ++ told.free.0) (filter-append (is_free table kind) log head.0)
-        ∙ append_assoc (free_turns table kind log) (free_turns table kind head.0) told.free.0,
+  beside = (
+    nondeterministic table kind head.0 ++ told.beside.0,
+    told.beside.1 ∙ ap (λ l. nondeterministic table kind l ++ told.beside.0) head.1
+        ∙ ap (λ l. l ++ told.beside.0) (filter-append (is_nondeterministic table kind) log head.0)
+        ∙ append_assoc (nondeterministic table kind log) (nondeterministic table kind head.0) told.beside.0,
   );
 }
 
@@ -42,24 +42,25 @@ told_before table turns kinds old new grown told i there =
 -- the turns beside the table that come after those of a log
 abbrev pub turns_after : TurnTable → (ℕ → Log) → List ℕ → List Log → ℕ → Log
 turns_after table turns kinds old i =
-    drop (length (free_turns table (slice_index_or kinds i 0) (log_at old i))) (turns i)
+    drop (length (nondeterministic table (slice_index_or kinds i 0) (log_at old i))) (turns i)
 
 since_is : (xs ys : Log) (h : IsPrefix xs ys) → drop (length xs) ys ≡ h.0
 since_is xs ys h = ap (drop (length xs)) h.1 ∙ drop-append_seam xs h.0
 
-free_since : (table : TurnTable) (turns : Log) (kind : ℕ) (old new : Log) → IsPrefix old new →
-    IsPrefix (free_turns table kind new) turns →
-    IsPrefix (free_turns table kind (drop (length old) new)) (drop (length (free_turns table kind old)) turns)
-free_since table turns kind old new grown free =
-    let more : Log = free_turns table kind grown.0 in
-    let before : Log = free_turns table kind old in
-    let whole : turns ≡ before ++ (more ++ free.0) =
-    free.1 ∙ ap (λ l. free_turns table kind l ++ free.0) grown.1
-    ∙ ap (λ l. l ++ free.0) (filter-append (is_free table kind) old grown.0)
-    ∙ append_assoc before more free.0 in (
-      free.0,
-      ap (drop (length before)) whole ∙ drop-append_seam before (more ++ free.0)
-          ∙ ap (λ l. free_turns table kind l ++ free.0) (sym (since_is old new grown)),
+nondeterministic_since : (table : TurnTable) (turns : Log) (kind : ℕ) (old new : Log) → IsPrefix old new →
+    IsPrefix (nondeterministic table kind new) turns →
+    IsPrefix (nondeterministic table kind (drop (length old) new))
+    (drop (length (nondeterministic table kind old)) turns)
+nondeterministic_since table turns kind old new grown beside =
+    let more : Log = nondeterministic table kind grown.0 in
+    let before : Log = nondeterministic table kind old in
+    let whole : turns ≡ before ++ (more ++ beside.0) =
+    beside.1 ∙ ap (λ l. nondeterministic table kind l ++ beside.0) grown.1
+    ∙ ap (λ l. l ++ beside.0) (filter-append (is_nondeterministic table kind) old grown.0)
+    ∙ append_assoc before more beside.0 in (
+      beside.0,
+      ap (drop (length before)) whole ∙ drop-append_seam before (more ++ beside.0)
+          ∙ ap (λ l. nondeterministic table kind l ++ beside.0) (sym (since_is old new grown)),
     )
 
 -- the turns of a run are told, where those of its logs at the end are
@@ -72,11 +73,11 @@ told_since {table} {turns} {kinds} w w2 sorts logs grown told = record {
       subst (λ kind. Follows table kind (turns_since w.logs w2.logs i)) (kind_at i)
       (All-drop (IsTurnOf table (slice_index_or kinds i 0)) (length (log_at w.logs i)) (log_at w2.logs i)
       (told i (within i there)).follows);
-  free = λ i there.
-      subst (λ kind. IsPrefix (free_turns table kind (turns_since w.logs w2.logs i))
+  beside = λ i there.
+      subst (λ kind. IsPrefix (nondeterministic table kind (turns_since w.logs w2.logs i))
       (turns_after table turns kinds w.logs i)) (kind_at i)
-      (free_since table (turns i) (slice_index_or kinds i 0) (log_at w.logs i) (log_at w2.logs i) (grown.logs i)
-      (told i (within i there)).free);
+      (nondeterministic_since table (turns i) (slice_index_or kinds i 0) (log_at w.logs i) (log_at w2.logs i)
+      (grown.logs i) (told i (within i there)).beside);
 }
   where
     kind_at : (i : ℕ) → slice_index_or kinds i 0 ≡ (seen_at w.now i).sort
@@ -104,14 +105,14 @@ logs_by_since old a b first second same =
 pub tables_tell : DeterministicKindsHaveNoFreeTurns → TablesTellTurns
 tables_tell none table kinds logs fixed follow i there = record {
   follows = follow i there;
-  free = prefix_same (free_turns table (slice_index_or kinds i 0) (log_at logs i)) []
+  beside = prefix_same (nondeterministic table (slice_index_or kinds i 0) (log_at logs i)) []
       (sym (none table (slice_index_or kinds i 0) (log_at logs i) (fixed i there)));
 }
 
 pub logs_tell : WithNoTableAllTurnsAreFree → LogsTellTurns
 logs_tell all kinds logs i there = record {
   follows = λ k d within. tt;
-  free = prefix_same (free_turns no_table (slice_index_or kinds i 0) (log_at logs i)) (log_at logs i)
+  beside = prefix_same (nondeterministic no_table (slice_index_or kinds i 0) (log_at logs i)) (log_at logs i)
       (sym (all (slice_index_or kinds i 0) (log_at logs i)));
 }
 

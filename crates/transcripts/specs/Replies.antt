@@ -8,7 +8,7 @@ use Rattle.journal_entries.specs.State.{IsState}
 use Rattle.change_journal.specs.Logs.{HaveLogs, log_at}
 use Rattle.meaning.specs.Actions.{Action}
 use Rattle.preservation.specs.Laws.{IsPrefix}
-use Rattle.definitional_interpreter.specs.Turns.{sorts_of, free_turns}
+use Rattle.definitional_interpreter.specs.Turns.{sorts_of, nondeterministic}
 use Rattle.whole_states.specs.Texts.{ActionTexts}
 use Rattle.totality.specs.Laws.{Behaviour, IsBehaviour}
 use Rattle.session.specs.declared.reply.Reply.{Reply}
@@ -72,7 +72,7 @@ pub record IsOfKinds (kinds : List ℕ) (m : Moment) : Type 0 where
 -- others are the head of these.
 pub record IsToldBy (table : TurnTable) (turns : Log) (kind : ℕ) (log : Log) : Type 0 where
   pub follows : Follows table kind log
-  pub free : IsPrefix (free_turns table kind log) turns
+  pub beside : IsPrefix (nondeterministic table kind log) turns
 
 -- and so are the turns of each external
 abbrev pub AreToldBy : TurnTable → (ℕ → Log) → List ℕ → List Log → Type 0

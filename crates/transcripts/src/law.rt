@@ -8,7 +8,7 @@ ghost use Rattle.transcripts.specs.Replies.{RepliesAreOne, RepliesExist, Replies
 ghost use Rattle.totality.specs.Tables.{IsTable};
 ghost use Rattle.xkit.specs.Table.{kit_table};
 
-use definitional_interpreter::{free_turns_are_known, runs_are_computed};
+use definitional_interpreter::{nondeterministic_turns_are_known, runs_are_computed};
 use ht_grammar::{lines_are_read_exactly, parts_are_read_exactly, typing_is_read_exactly};
 use ht_lex::texts_are_cut_exactly;
 use totality::{behaviours_are_logged, behaviours_have_an_outcome, runs_have_an_outcome};
@@ -93,7 +93,7 @@ pub fn transcripts_are_one()
 {
     replies_are_one();
     runs_are_computed();
-    free_turns_are_known();
+    nondeterministic_turns_are_known();
     lines_are_read_exactly();
     parts_are_read_exactly();
     typing_is_read_exactly();

@@ -20,7 +20,7 @@ pub returns-clause-input : goal.returns-clause-input
 returns-clause-input c = one_output (returns-clause-lines c)
 
 pub returns-clause-tables : goal.returns-clause-tables
-returns-clause-tables c = tables_tell c.free_turns_are_known.ensures.deterministic
+returns-clause-tables c = tables_tell c.nondeterministic_turns_are_known.ensures.deterministic
 
 pub returns-clause-table : goal.returns-clause-table
 returns-clause-table c = tables_tell_transcripts (returns-clause-tables c) (returns-clause-lines c)
@@ -29,4 +29,4 @@ pub returns-clause-kit : goal.returns-clause-kit
 returns-clause-kit c = kit_is_fixed
 
 pub returns-clause-logs : goal.returns-clause-logs
-returns-clause-logs c = logs_tell c.free_turns_are_known.ensures.no_table
+returns-clause-logs c = logs_tell c.nondeterministic_turns_are_known.ensures.no_table

@@ -35,7 +35,7 @@ pub(crate) enum Manner {
 
 /// A command whose one cell counts its turns. It holds a mark while it is there.
 #[derive(Drop)]
-struct Free {
+struct Nondeterministic {
     name: Text,
     manner: Manner,
     cells: Cells,
@@ -44,7 +44,7 @@ struct Free {
     ghost one_cell: { length cells ≡ 1 },
 }
 
-impl External for Free {
+impl External for Nondeterministic {
     ghost use Rattle.std.specs.Prelude.{false};
 
     ghost title = { λ e. e.name };
@@ -178,10 +178,15 @@ fn cells_of(alloc: Global) -> Option<Cells>
     Cells::one(alloc, Text::from_slice(alloc, b"0").ok()?).ok()
 }
 
-fn free_of(alloc: Global, name: Text, manner: Manner, mark: &Rc<u8>) -> Option<Free> {
+fn external_with(
+    alloc: Global,
+    name: Text,
+    manner: Manner,
+    mark: &Rc<u8>,
+) -> Option<Nondeterministic> {
     let cells = cells_of(alloc)?;
     let mark = mark.clone().ok()?;
-    Some(Free {
+    Some(Nondeterministic {
         name,
         manner,
         cells,
@@ -193,8 +198,8 @@ fn free_of(alloc: Global, name: Text, manner: Manner, mark: &Rc<u8>) -> Option<F
 /// An external as the session holds it.
 pub(crate) type Boxed = Box<dyn External>;
 
-fn boxed_free(alloc: Global, name: Text, manner: Manner, mark: &Rc<u8>) -> Option<Boxed> {
-    let boxed: Boxed = Box::new(alloc, free_of(alloc, name, manner, mark)?).ok()?;
+fn boxed_external(alloc: Global, name: Text, manner: Manner, mark: &Rc<u8>) -> Option<Boxed> {
+    let boxed: Boxed = Box::new(alloc, external_with(alloc, name, manner, mark)?).ok()?;
     Some(boxed)
 }
 
@@ -213,6 +218,6 @@ pub(crate) fn external_of(
     let name = Text::from_slice(alloc, name).ok()?;
     match manner {
         Manner::Gate => boxed_gate(alloc, name),
-        _ => boxed_free(alloc, name, manner, mark),
+        _ => boxed_external(alloc, name, manner, mark),
     }
 }

@@ -1,8 +1,0 @@
-use Rattle.definitional_interpreter.proofs.law.free_turns_are_known.Goals as goal
-use Rattle.definitional_interpreter.proofs.Computed.{none_free, all_free}
-
-pub returns-clause-deterministic : goal.returns-clause-deterministic
-returns-clause-deterministic c = none_free
-
-pub returns-clause-no_table : goal.returns-clause-no_table
-returns-clause-no_table c = all_free
