@@ -151,10 +151,11 @@ impl<E: External> World<E> {
         self.present.stack()
     }
 
-    /// The tree of an object's script, if it is kept: that of the script of now.
-    pub fn script_tree(&self, id: Id) -> Option<&Rc<Script>>
-        ensures { IfSome result (λ tree. Reads ReadsScript (object_script self.now.history.now.stack id)
-            (script_of tree.now.value)) }
+    /// The tree of an object's script, if it is kept: that of the script of now. With it comes the number of the first
+    /// reading of that script, as `script_reading` tells it.
+    pub fn script_tree(&self, id: Id) -> Option<(u64, &Rc<Script>)>
+        ensures { IfSome result (λ r. Reads ReadsScript (object_script self.now.history.now.stack id)
+            (script_of r.1.now.value)) }
     {
         self.present.script_tree(id)
     }
@@ -181,7 +182,6 @@ impl<E: External> World<E> {
         self.present.global(name)
     }
 
-    /// How many globals have a value. `global_at` gives each of them once, in an order that isn't fixed.
     /// The number whose numeral the value of a global is, by its folded name, where that is known without reading the
     /// value: that of the global to which `put_global_number` gave one last, until another global gets a value.
     pub fn known_number(&self, name: &Text) -> Option<i64>
@@ -190,6 +190,7 @@ impl<E: External> World<E> {
         self.present.known_number(name)
     }
 
+    /// How many globals have a value. `global_at` gives each of them once, in an order that isn't fixed.
     pub fn global_count(&self) -> usize
         ensures count { result ≡ length (listed self.now.names self.now.history.now.globals) }
         ensures each { Lists (listed self.now.names self.now.history.now.globals) self.now.history.now.globals }
@@ -318,7 +319,6 @@ impl<E: External> World<E> {
         ensures ok { OnOk result (Made self.old.history self.new.history (made_change.Global name.now value)) }
         ensures err { OnErr result (self.new.history ≡ self.old.history) }
     {
-    {
         self.put(name, value, None)
     }
 
@@ -347,6 +347,7 @@ impl<E: External> World<E> {
         requires known { IfSome number (λ n. value ≡ Some (numeral n)) }
         ensures ok { OnOk result (Made self.old.history self.new.history (made_change.Global name.now value)) }
         ensures err { OnErr result (self.new.history ≡ self.old.history) }
+    {
         law_of_global(name, &value);
         match &mut self.open {
             Some(batch) => batch.put_global(&mut self.present, name, value, number),

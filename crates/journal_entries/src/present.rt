@@ -326,10 +326,11 @@ impl<E: External> Present<E> {
         self.externals[i].turn(alloc, input)
     }
 
-    /// The tree of an object's script, if it is kept: that of the script of now.
-    pub fn script_tree(&self, id: Id) -> Option<&Rc<Script>>
-        ensures { IfSome result (λ tree. Reads ReadsScript (object_script self.now.state.stack id)
-            (script_of tree.now.value)) }
+    /// The tree of an object's script, if it is kept: that of the script of now. With it comes the number of the first
+    /// reading of that script, as `script_reading` tells it.
+    pub fn script_tree(&self, id: Id) -> Option<(u64, &Rc<Script>)>
+        ensures { IfSome result (λ r. Reads ReadsScript (object_script self.now.state.stack id)
+            (script_of r.1.now.value)) }
     {
         self.trees.get(id)
     }
@@ -371,7 +372,6 @@ impl<E: External> Present<E> {
         self.globals.get(name)
     }
 
-    /// How many globals have a value.
     /// The number whose numeral the value of a global is, where that is known without reading the value.
     pub fn known_number(&self, name: &Text) -> Option<i64>
         ensures { IfSome result (λ n. finite.get self.now.state.globals name.now ≡ Some (numeral n)) }
@@ -379,6 +379,7 @@ impl<E: External> Present<E> {
         self.globals.known_number(name)
     }
 
+    /// How many globals have a value.
     pub fn global_count(&self) -> usize
         ensures count { result ≡ length (listed self.now.names self.now.state.globals) }
         ensures each { Lists (listed self.now.names self.now.state.globals) self.now.state.globals }

@@ -61,14 +61,14 @@ impl ScriptTrees {
         }
     }
 
-    /// The tree of an object's script, if it is kept.
-    pub(crate) fn get(&self, id: Id) -> Option<&Rc<Script>>
+    /// The tree of an object's script, if it is kept, and the number of the first reading of that script.
+    pub(crate) fn get(&self, id: Id) -> Option<(u64, &Rc<Script>)>
         ensures { (s : Content) → AreTrees s (trees_in self.now)
-            → IfSome result (λ tree. Reads ReadsScript (object_script s id) (script_of tree.now.value)) }
+            → IfSome result (λ r. Reads ReadsScript (object_script s id) (script_of r.1.now.value)) }
     {
         let readings = self.readings.get(&id)?;
         let kept = self.trees.get(&readings.last)?;
-        Some(&kept.tree)
+        Some((readings.first, &kept.tree))
     }
 
     /// The number of the first reading of an object's script, if it was read. It stays while the script does, also

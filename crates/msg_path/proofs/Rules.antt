@@ -35,8 +35,6 @@ pub leads_nowhere : (s : Content) (id : ℕ) (kind : HandlerKind) (name : List �
     → First s (id ∷ rest) kind name (Err fault)
 leads_nowhere s id kind name fault e n rest = first.no_script refl n (ap Err e)
 
-pub ruleset leading = (leads_to, leads_past)
-
 -- where the script of an object isn't read, a path stops there
 pub stops_there : (s : Content) (id : ℕ) (kind : HandlerKind) (name : List ℕ) (e : Failure)
     → IsNoTree (object_script s id) e → GivesDue (LeadsOn s id kind name) (Err e)

@@ -1,6 +1,10 @@
 //! What a message meets next.
 
 ghost use Rattle.std.specs.Prelude.{◌≡◌, ◌<◌, length, IfSome};
+ghost use Rattle.ht_grammar.specs.Reads.{Reads, ReadsScript};
+ghost use Rattle.ht_tree.specs.ScriptView.{script_of};
+ghost use Rattle.object_table.specs.Content.{Content};
+ghost use Rattle.journal_entries.specs.ScriptTrees.{object_script};
 ghost use Rattle.journal_entries.specs.State.{seen_by};
 ghost use Rattle.msg_path.specs.Handlers.{First};
 ghost use Rattle.msg_path.specs.BuiltIns.{answers as is_answering, calls_function as is_function_call};
@@ -9,13 +13,15 @@ ghost use Rattle.msg_path.specs.Meets.{GivesDue, LeadsOn, Meets};
 
 use crate::built_in::BuiltIn;
 use crate::found::FoundHandler;
-use crate::scripts::tree;
+use crate::scripts::parsed_tree;
 use change_journal::World;
 use externals::External;
 use ht_grammar::HandlerKind;
+use ht_tree::Script;
 use ht_values::{Failure, Text};
 use object_table::Id;
 use std::alloc::Global;
+use std::rc::Rc;
 
 /// What a message meets.
 pub enum Found {
@@ -39,8 +45,26 @@ impl Drop for Found {
     }
 }
 
+/// The first handler of a kind and a name in the tree of an object's script, with the number of the first reading of
+/// that script. The tree is shared only where it has one.
+#[inline(always)]
+fn handler_in_tree(
+    id: Id,
+    tree: &Rc<Script>,
+    reading: Option<u64>,
+    kind: HandlerKind,
+    name: &Text,
+) -> Result<Option<FoundHandler>, Failure>
+    ensures { (s : Content) → Reads ReadsScript (object_script s id) (script_of tree.now.value)
+        → GivesDue (LeadsOn s id kind name.now) result }
+{
+    match tree.first(kind, name) {
+        Some(place) => Ok(Some(FoundHandler::new(id, tree.clone()?, place, reading))),
+        None => Ok(None),
+    }
+}
+
 /// The first handler of a kind and a name in the script of an object. `Syntax` where the script isn't in the grammar.
-#[tactic(auto, using(crate::proofs::Rules::leading))]
 fn handler_here<E: External>(
     alloc: Global,
     world: &mut World<E>,
@@ -51,12 +75,11 @@ fn handler_here<E: External>(
     ensures due { GivesDue (LeadsOn world.old.history.now.stack id kind name.now) result }
     ensures world { world.new ≡ world.old }
 {
-    let script = tree(alloc, world, id)?;
-    let Some(place) = script.first(kind, name) else {
-        return Ok(None);
-    };
-    let reading = world.script_reading(id);
-    Ok(Some(FoundHandler::new(id, script, place, reading)))
+    if let Some((reading, tree)) = world.script_tree(id) {
+        return handler_in_tree(id, tree, Some(reading), kind, name);
+    }
+    let tree = parsed_tree(alloc, world, id)?;
+    handler_in_tree(id, &tree, world.script_reading(id), kind, name)
 }
 
 /// The first handler of a kind and a name on a path; `None` where no script on it has one. Scripts are parsed one after

@@ -53,9 +53,10 @@ fn kept<E: External>(
     Ok(tree)
 }
 
-/// The tree of an object's script, shared. It is parsed where the world doesn't keep it, and kept from then on.
-/// `Syntax` where the script isn't in the grammar.
-pub(crate) fn tree<E: External>(
+/// The tree of an object's script, shared. The script is parsed, and the world keeps its tree from then on. `Syntax`
+/// where the script isn't in the grammar.
+#[inline(never)]
+pub(crate) fn parsed_tree<E: External>(
     alloc: Global,
     world: &mut World<E>,
     id: Id,
@@ -63,9 +64,6 @@ pub(crate) fn tree<E: External>(
     ensures tree { GivesTree (λ tree. script_of tree.value) (object_script world.old.history.now.stack id) result }
     ensures world { world.new ≡ world.old }
 {
-    if let Some(tree) = world.script_tree(id) {
-        return Ok(tree.clone()?);
-    }
     let empty = Text::new(alloc);
     let script = parsed(alloc, script_text(world.stack(), id, &empty))?;
     Ok(kept(alloc, world, id, script)?)
