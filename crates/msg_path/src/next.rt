@@ -47,6 +47,7 @@ impl Drop for Found {
 
 /// The first handler of a kind and a name in the tree of an object's script, with the number of the first reading of
 /// that script. The tree is shared only where it has one.
+#[inline(always)]
 fn handler_in_tree(
     id: Id,
     tree: &Rc<Script>,

@@ -14,6 +14,7 @@ const ROOM: usize = 4;
 /// Values in their order: a single one takes no memory.
 #[derive(Drop)]
 pub(crate) enum Listed {
+    Nothing,
     One(Value),
     All(Vec<Value>),
 }
@@ -49,23 +50,35 @@ impl Arguments {
         ensures { result ≡ [] }
     {
         Arguments {
-            values: Listed::All(Vec::new(alloc)),
+            values: Listed::Nothing,
             alloc,
         }
     }
 
     /// Adds another at their end. The first takes no memory.
-    #[inline(never)]
+    #[inline]
     pub fn push(&mut self, value: Value) -> Result<(), AllocError>
         ensures { OnOk result (self.new ≡ self.old ++ value ∷ []) }
     {
-        if let Listed::All(items) = &mut self.values {
-            if !items.is_empty() {
-                items.push(value)?;
-                return Ok(());
+        match &self.values {
+            Listed::Nothing => {
+                self.values = Listed::One(value);
+                Ok(())
             }
+            Listed::One(_) | Listed::All(_) => self.push_behind(value),
         }
-        let values = mem::replace(&mut self.values, Listed::All(Vec::new(self.alloc)));
+    }
+
+    /// Adds another at their end, where there is one at least.
+    #[inline(never)]
+    fn push_behind(&mut self, value: Value) -> Result<(), AllocError>
+        ensures { OnOk result (self.new ≡ self.old ++ value ∷ []) }
+    {
+        if let Listed::All(items) = &mut self.values {
+            items.push(value)?;
+            return Ok(());
+        }
+        let values = mem::replace(&mut self.values, Listed::Nothing);
         self.values = with_last(self.alloc, values, value)?;
         Ok(())
     }
@@ -92,6 +105,7 @@ impl Arguments {
         ensures { result.now ≡ self.now }
     {
         match &self.values {
+            Listed::Nothing => &[],
             Listed::One(value) => slice::from_ref(value),
             Listed::All(items) => items,
         }
@@ -103,8 +117,8 @@ fn with_last(alloc: Global, values: Listed, value: Value) -> Result<Listed, Allo
     ensures { IfOk result (λ l. listed l ≡ listed values ++ value ∷ []) }
 {
     match values {
+        Listed::Nothing => Ok(Listed::One(value)),
         Listed::One(first) => Ok(Listed::All(both(alloc, first, value)?)),
-        Listed::All(items) if items.is_empty() => Ok(Listed::One(value)),
         Listed::All(mut items) => {
             items.push(value)?;
             Ok(Listed::All(items))

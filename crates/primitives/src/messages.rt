@@ -151,7 +151,7 @@ pub fn returned(run: &mut Budget, kind: HandlerKind, value: Value) -> Value
 }
 
 /// What a handler gives by the end of its lines; `None` where it passes the message.
-#[inline(never)]
+#[inline(always)]
 pub fn outcome(run: &mut Budget, kind: HandlerKind, how: How) -> Option<Value>
     ensures passed { result ≡ None → how ≡ How.Pass }
     ensures ended { IfSome result (λ v. ends kind how run.old ≡ Some (record { value = v; run = run.new })) }

@@ -107,9 +107,30 @@ pub fn binary_of_plain<E: External>(
     ensures { Val world.now.history run.now frame.now nested (tree.binary op left.now right.now) result
         world.now.history run.now }
 {
-    if let Some(value) = known_value(frame, op, left, right) {
-        return Ok(value);
+    match known_value(frame, op, left, right) {
+        Some(value) => Ok(value),
+        None => binary_of_atoms(world, run, frame, nested, op, left, right),
     }
+}
+
+/// What an operator gives of two operands that ask for no other's value, whatever they are. It stands for itself, so
+/// that numbers pay nothing for it.
+#[tactic(auto, using(meaning::proofs::Rules::val_binary_rules))]
+#[inline(never)]
+fn binary_of_atoms<E: External>(
+    world: &World<E>,
+    run: &Budget,
+    frame: &Frame,
+    nested: u32,
+    op: Op,
+    left: &Expr,
+    right: &Expr,
+) -> Result<Value, Stop>
+    requires left { is_atom left.now ≡ true }
+    requires right { is_atom right.now ≡ true }
+    ensures { Val world.now.history run.now frame.now nested (tree.binary op left.now right.now) result
+        world.now.history run.now }
+{
     let x = atom(world, run, frame, left)?;
     let y = atom(world, run, frame, right)?;
     apply(run, op, &x, &y)

@@ -1,7 +1,7 @@
 use Rattle.std.proofs.Common.{refl}
 use Rattle.std.proofs.lemmas.Result.{err_from_is_err_and}
 use Rattle.meaning.specs.Meaning.{Val}
-use Rattle.primitives.proofs.numbers.binary_of_plain.Goals as goal
+use Rattle.primitives.proofs.numbers.binary_of_atoms.Goals as goal
 
 pub returns-in_err-x : goal.returns-in_err-x
 returns-in_err-x g c =
