@@ -1,7 +1,7 @@
 -- What the changes, turns and steps in a rule keep: whole states, and texts.
 use Rattle.std.specs.Prelude.{IfSome, unwrap_or}
 use Rattle.std.specs.List.{All, AllByRecursion}
-use Rattle.std.proofs.Common.{◌≡◌, ◌+◌, ◌<◌, ℕ, suc, List, [], ◌∷◌, ◌++◌, length, Bool, true}
+use Rattle.std.proofs.Common.{◌≡◌, ◌<◌, ℕ, suc, List, [], ◌∷◌, ◌++◌, length, Bool, true}
 use Rattle.std.proofs.Common.{false, cond, Option, Some, None, option_map, is_some, Result, Ok, Err, IfOk, refl, sym}
 use Rattle.std.proofs.Common.{ap, subst, ◌∙◌, arith}
 use Rattle.std.proofs.lemmas.List.{append-nil, append_assoc, length-map}
@@ -33,7 +33,6 @@ use Rattle.object_table.specs.declared.object.Object.{Object}
 use Rattle.journal_entries.specs.ScriptTrees.{object_script}
 use Rattle.journal_entries.specs.State.{State, seen_at, titles_of}
 use Rattle.journal_entries.specs.Changes.{fits, HasTexts}
-use Rattle.stack_places.specs.Places.{number}
 use Rattle.journal_entries.specs.declared.change.Change.{Change}
 use Rattle.change_journal.specs.History.{History, IsHistory}
 use Rattle.change_journal.specs.Logs.{log_at}
@@ -44,7 +43,7 @@ use Rattle.object_references.specs.Settings.{FitsIn}
 use Rattle.object_references.proofs.Fitting.{setting_fits}
 use Rattle.containers.specs.Base.{base}
 use Rattle.containers.specs.declared.edit.Edit.{Edit}
-use Rattle.containers.specs.Places.{StorageView, PlaceView, field_text, whole}
+use Rattle.containers.specs.Places.{StorageView, PlaceView, field_text}
 use Rattle.containers.specs.Variables.{VariablesView, declared, with_local}
 use Rattle.containers.specs.Writes.{Writes, Declares}
 use Rattle.msg_path.specs.BuiltIns.{answers, external_named}
