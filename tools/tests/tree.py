@@ -11,7 +11,7 @@ from typing import Dict, List, Optional, Sequence
 HERE = os.path.dirname(os.path.dirname(os.path.dirname(os.path.realpath(__file__))))
 KIT = "pretended-kit 1"
 # The tests that need no program are left out of the copy of ./test: it would run these tests themselves.
-CHECKS = ("dependencies", "definitions", "pages", "faults", "meaning/gen.py", "meaning/laws.py", "meaning/whole.py",
+CHECKS = ("dependencies", "definitions", "pages", "faults", "promises", "meaning/gen.py", "meaning/laws.py", "meaning/whole.py",
           "meaning/outcomes.py", "meaning/manual.py")
 # The steps of the gate that need the program, beside the comparison: commands, and the tests of two folders.
 TRIALS = ("trial", "stress", "session")
