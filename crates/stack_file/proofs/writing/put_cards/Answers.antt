@@ -10,8 +10,8 @@ use Rattle.stack_file.proofs.writing.put_cards.Goals as goal
 pub loop-id-preserved : goal.loop-id-preserved
 loop-id-preserved c =
     let within : c.loop-id.id-index < length c.args.ids.now = grind (arith, common_steps, nat_tests) in
-    next_added (card_lines second) (card_sheet c.args.stack.now.content) c.loop-id.out.items c.put_card.new.out.items _
-    c.args.ids.now c.loop-id.id-index within c.in_ok-put_card.ensures c.loop-id.invariant
+    next_added (card_lines second) (card_sheet c.args.stack.now.content) c.loop-id.out.items
+    c.put_card.new.out.items _ c.args.ids.now c.loop-id.id-index within c.in_ok-put_card.ensures c.loop-id.invariant
 
 pub returns : goal.returns
 returns c =

@@ -10,8 +10,9 @@ use Rattle.stack_file.proofs.writing.put_keepings.Goals as goal
 pub loop-id-preserved : goal.loop-id-preserved
 loop-id-preserved c =
     let within : c.loop-id.id-index < length c.args.ids.now = grind (arith, common_steps, nat_tests) in
-    next_added (keeping_lines second) (keeping_of c.args.stack.now.content c.args.card) c.loop-id.out.items c.put_keeping.new.out.items _
-    c.args.ids.now c.loop-id.id-index within c.in_ok-put_keeping.ensures c.loop-id.invariant
+    next_added (keeping_lines second) (keeping_of c.args.stack.now.content c.args.card) c.loop-id.out.items
+    c.put_keeping.new.out.items _ c.args.ids.now c.loop-id.id-index within
+    c.in_ok-put_keeping.ensures c.loop-id.invariant
 
 pub returns : goal.returns
 returns c =
