@@ -6,8 +6,7 @@ use Rattle.std.specs.Prelude.{take, MatchBool, nat_lt, option_map}
 use Rattle.std.proofs.lemmas.Option.{none-some}
 use Rattle.devices.specs.Desks.{SeenDesk}
 use Rattle.externals.specs.Log.{Log}
-use Rattle.ht_lex.specs.Cutting.{spans_of, CutsExactly}
-use Rattle.ht_grammar.specs.Laws.{ReadsExactly}
+use Rattle.ht_grammar.specs.Laws.{TextsAreReadExactly}
 use Rattle.ht_grammar.specs.Lines.{typed_lines}
 use Rattle.ht_grammar.specs.Reads.{ReadsLines, ReadsPart, ReadsType}
 use Rattle.ht_grammar.specs.Whole.{clicked_part, typed_text}
@@ -48,13 +47,6 @@ use Rattle.totality.proofs.Leaves.{read_or_not}
 use Rattle.transcripts.specs.Laws.{Succeeds, Transcript, HasPresent}
 use Rattle.transcripts.proofs.Cursors.{standing, back_within, forth_within, before_within, followed_present}
 use Rattle.transcripts.proofs.Kept.{SaysSuch, ShortSaysSuch, of_each, of_joined}
-
--- what the readings of texts give
-pub record Readings : Type 0 where
-  pub cuts : CutsExactly spans_of
-  pub lines : ReadsExactly typed_lines ReadsLines
-  pub parts : ReadsExactly clicked_part ReadsPart
-  pub typing : ReadsExactly typed_text ReadsType
 
 -- A way in which commands of a kind have replies: what is asked of the moments before them, what the turns do to the
 -- logs, and that each has a reply, after which it is asked no more than before, or types into a locked field.
@@ -117,7 +109,7 @@ each_carried way old new grown [] fits = tt
 each_carried way old new grown (s ∷ ss) fits =
     (way.carried s.state old new grown fits.0, each_carried way old new grown ss fits.1)
 
-module _ (way : Way) (readings : Readings) where
+module _ (way : Way) (texts : TextsAreReadExactly) where
   -- the list stays
   still : (old : Timeline) → Stands way old → Leaves way old.logs old
   still old stands = record { stands = stands; grown = way.stays old.logs }
@@ -209,19 +201,19 @@ module _ (way : Way) (readings : Readings) where
       way.Fits (moment_in state old) → ((does : Action) → ReadsAction reading text does → way.IsSuch does) →
       Step way old.logs (Commands reading text state old)
   command Lines text state old stands fits such =
-      read_or_not typed_lines ReadsLines text readings.cuts readings.lines
+      read_or_not typed_lines ReadsLines text texts.cuts texts.lines
       (λ tree reads. let is : ReadsAction Lines text (act.run_lines tree) = (tree, reads, refl) in
       deed Lines text state old (act.run_lines tree) stands fits (such (act.run_lines tree) is) is)
       (λ none. nothing Lines text state old stands (λ does r. none r.0 r.1))
   command Opening text state old stands fits such =
       deed Opening text state old act.open_stack stands fits (such act.open_stack refl) refl
   command Reference text state old stands fits such =
-      read_or_not clicked_part ReadsPart text readings.cuts readings.parts
+      read_or_not clicked_part ReadsPart text texts.cuts texts.parts
       (λ tree reads. let is : ReadsAction Reference text (act.click tree) = (tree, reads, refl) in
       deed Reference text state old (act.click tree) stands fits (such (act.click tree) is) is)
       (λ none. nothing Reference text state old stands (λ does r. none r.0 r.1))
   command Typing text state old stands fits such =
-      read_or_not typed_text ReadsType text readings.cuts readings.typing
+      read_or_not typed_text ReadsType text texts.cuts texts.typing
       (λ tree reads. let is : ReadsAction Typing text (typing tree) = (tree, reads, refl) in
       deed Typing text state old (typing tree) stands fits (such (typing tree) is) is)
       (λ none. nothing Typing text state old stands (λ does r. none r.0 r.1))
@@ -308,9 +300,9 @@ data Settled (way : Way) (line : List ℕ) (old : Timeline × SeenDesk) : Type 0
   settled : (reply : Reply) (new : Timeline × SeenDesk) → Succeeds (SettlesHeard LineMoves) line old reply new →
       Leaves way old.0.logs new.0 → Settled way line old
 
-settles : (way : Way) → Readings → (line : List ℕ) (old : Timeline × SeenDesk) → Stands way old.0 →
+settles : (way : Way) → TextsAreReadExactly → (line : List ℕ) (old : Timeline × SeenDesk) → Stands way old.0 →
     ShortSaysSuch way.IsSuch line → Settled way line old
-settles way readings line old stands such = by_step (line_moves way readings line old.0 stands such)
+settles way texts line old stands such = by_step (line_moves way texts line old.0 stands such)
   where
     by_end : (reply : Reply) (new : Timeline) → LineMoves line old.0 reply new → Leaves way old.0.logs new →
         Told reply.ending (after_hearing reply.sent old.1) → Settled way line old
@@ -377,20 +369,20 @@ and_then way line lines old reply mid taken grown false q rest = record {
   grown = way.joined old.0.logs mid.0.logs rest.new.0.logs grown rest.grown;
 }
 
-from : (way : Way) → Readings → (old : Timeline × SeenDesk) (lines : List (List ℕ)) → Stands way old.0 →
+from : (way : Way) → TextsAreReadExactly → (old : Timeline × SeenDesk) (lines : List (List ℕ)) → Stands way old.0 →
     AllByRecursion (ShortSaysSuch way.IsSuch) lines → Transcribed way old lines
-from way readings old [] stands such =
+from way texts old [] stands such =
     record { text = []; new = old; transcript = (refl, refl); grown = way.stays old.0.logs }
-from way readings old (line ∷ lines) stands such = by_line (settles way readings line old stands such.0)
-    (λ mid stands. from way readings mid lines stands such.1)
+from way texts old (line ∷ lines) stands such = by_line (settles way texts line old stands such.0)
+    (λ mid stands. from way texts mid lines stands such.1)
   where
     by_line : Settled way line old → ((mid : Timeline × SeenDesk) → Stands way mid.0 → Transcribed way mid lines) →
         Transcribed way old (line ∷ lines)
     by_line (settled reply mid taken left) later = and_then way line lines old reply mid taken left.grown
         (is_quit reply.ending) refl (later mid left.stands)
 
-pub transcribed : (way : Way) → Readings → (old : Timeline × SeenDesk) (lines : List (List ℕ)) → HasPresent old.0 →
-    EachFits way old.0.logs old.0.snapshots → AllByRecursion (ShortSaysSuch way.IsSuch) lines →
-    Transcribed way old lines
-transcribed way readings old lines present fits such =
-    from way readings old lines (record { present = present; fits = fits }) such
+pub transcribed : (way : Way) → TextsAreReadExactly → (old : Timeline × SeenDesk) (lines : List (List ℕ)) → HasPresent
+    old.0 → EachFits way old.0.logs old.0.snapshots → AllByRecursion (ShortSaysSuch way.IsSuch) lines → Transcribed way
+    old lines
+transcribed way texts old lines present fits such =
+    from way texts old lines (record { present = present; fits = fits }) such

@@ -5,8 +5,7 @@ use Rattle.std.specs.Prelude.{MatchBool, length, nat_lt}
 use Rattle.std.specs.List.{AllByRecursion}
 use Rattle.externals.specs.Log.{Log}
 use Rattle.externals.specs.Turns.{TurnTable}
-use Rattle.ht_grammar.specs.Laws.{OneTreePerText}
-use Rattle.ht_grammar.specs.Reads.{ReadsLines, ReadsPart, ReadsType}
+use Rattle.ht_grammar.specs.Laws.{TextsAreReadExactly}
 use Rattle.ht_grammar.specs.Trees as tree
 use Rattle.journal_entries.specs.State.{State}
 use Rattle.change_journal.specs.History.{History}
@@ -43,12 +42,6 @@ use Rattle.transcripts.proofs.Grown.{answered, tells_grow, typing_grows}
 use Rattle.transcripts.proofs.Kept.{HasRoom, refused_room, of_each}
 use Rattle.transcripts.proofs.OneReply.{Begin, one_reference}
 use Rattle.transcripts.proofs.Told.{told_before}
-
--- what the readings of texts give
-pub record Texts : Type 0 where
-  pub lines : OneTreePerText ReadsLines
-  pub parts : OneTreePerText ReadsPart
-  pub typing : OneTreePerText ReadsType
 
 -- two replies with what they leave are the same
 abbrev pub Same : {S : Type 0} → Reply → S → Reply → S → Type 0
@@ -201,19 +194,19 @@ module _ (references : ReferencesAreComputed) (table : TurnTable) (turns : ℕ �
 
 -- ---- a line
 
-one_action : Texts → (reading : Reading) (text : List ℕ) {does does2 : Action} → ReadsAction reading text does →
-    ReadsAction reading text does2 → does ≡ does2
+one_action : TextsAreReadExactly → (reading : Reading) (text : List ℕ) {does does2 : Action} → ReadsAction reading text
+    does → ReadsAction reading text does2 → does ≡ does2
 one_action texts Lines text (tree, reads, is) (tree2, reads2, is2) = is ∙ ap act.run_lines
-    (texts.lines text tree tree2 reads reads2) ∙ sym is2
+    (texts.one_list_of_lines text tree tree2 reads reads2) ∙ sym is2
 one_action texts Opening text is is2 = is ∙ sym is2
 one_action texts Reference text (tree, reads, is) (tree2, reads2, is2) = is ∙ ap act.click
-    (texts.parts text tree tree2 reads reads2) ∙ sym is2
+    (texts.one_part text tree tree2 reads reads2) ∙ sym is2
 one_action texts Typing text (tree, reads, is) (tree2, reads2, is2) = is ∙ ap typing
-    (texts.typing text tree tree2 reads reads2) ∙ sym is2
+    (texts.one_typing text tree tree2 reads reads2) ∙ sym is2
 
 -- what the two laws below give a line
 pub record Laws : Type 0 where
-  pub texts : Texts
+  pub texts : TextsAreReadExactly
   pub replies : RepliesAreOne
   pub references : ReferencesAreComputed
 

@@ -7,7 +7,6 @@ use Rattle.std.proofs.lemmas.Bool.{ltb-false}
 use Rattle.std.proofs.lemmas.List.{length-drop}
 use Rattle.std.proofs.lemmas.List.Elements.{All-take, All-drop, All-from_recursion, recursion_from_All}
 use Rattle.ht_values.specs.Text.{IsText}
-use Rattle.ht_values.specs.declared.text.TheConstants.{LIMIT}
 use Rattle.ht_grammar.specs.Statements as stm
 use Rattle.meaning.specs.Actions.{Action}
 use Rattle.whole_states.specs.Texts.{ActionTexts, TypedTexts, TypedLinesHaveTexts, ClickedPartsHaveTexts}

@@ -18,7 +18,7 @@ use Rattle.headline.proofs.Sessions.{split_of}
 use Rattle.transcripts.specs.Laws.{TranscriptsExist, OutputsExist, TranscriptsExistBy, OutputsExistBy}
 use Rattle.transcripts.specs.Replies.{LogsFollow, HasReplyBy, IsLockedBy, RepliesExist, RepliesExistBy}
 use Rattle.transcripts.specs.Replies.{RepliesStayWhole}
-use Rattle.transcripts.proofs.Exists.{Readings, Way, EachFits, transcribed}
+use Rattle.transcripts.proofs.Exists.{Way, EachFits, transcribed}
 use Rattle.transcripts.proofs.Grown.{fresh_kept}
 use Rattle.transcripts.proofs.Kept.{ShortSaysSuch}
 use Rattle.transcripts.proofs.Logs.{follows_refl, follows_trans}
@@ -53,7 +53,7 @@ each_says : (lines : List (List ℕ)) → AllByRecursion (ShortSaysSuch (λ does
 each_says [] = tt
 each_says (line ∷ lines) = (λ short reading does. (λ reads. tt, λ reads. tt), each_says lines)
 
-pub transcript : RepliesExist → Readings → TranscriptsExist
+pub transcript : RepliesExist → TextsAreReadExactly → TranscriptsExist
 transcript replies readings old lines present =
     let is = transcribed (any_way replies) readings old lines present (each_fits replies old.0.logs old.0.snapshots)
     (each_says lines) in
@@ -112,7 +112,7 @@ way_by behaviour is replies whole = record {
       reply_by whole fits such (replies behaviour old steps does is fits.0 fits.1 such);
 }
 
-pub transcript_by : RepliesExistBy → RepliesStayWhole → Readings → TextReadings → TranscriptsExistBy
+pub transcript_by : RepliesExistBy → RepliesStayWhole → TextsAreReadExactly → TextReadings → TranscriptsExistBy
 transcript_by replies whole readings texts behaviour old lines is present fits bytes =
     let found = transcribed (way_by behaviour is replies whole) readings old lines present fits
     (each_says_texts texts lines bytes) in

@@ -9,8 +9,7 @@ ghost use Rattle.totality.specs.Tables.{IsTable};
 ghost use Rattle.xkit.specs.Table.{kit_table};
 
 use definitional_interpreter::{nondeterministic_turns_are_known, runs_are_computed};
-use ht_grammar::{lines_are_read_exactly, parts_are_read_exactly, typing_is_read_exactly};
-use ht_lex::texts_are_cut_exactly;
+use ht_grammar::texts_are_read_exactly;
 use totality::{behaviours_are_logged, behaviours_have_an_outcome, runs_have_an_outcome};
 use whole_states::{runs_lead_to_whole_states, trees_have_texts};
 
@@ -53,10 +52,7 @@ pub fn transcripts_exist()
     ensures input { OutputsExist }
 {
     replies_exist();
-    texts_are_cut_exactly();
-    lines_are_read_exactly();
-    parts_are_read_exactly();
-    typing_is_read_exactly();
+    texts_are_read_exactly();
 }
 
 /// Whatever behaviour the externals have, from whole states lines of bytes have such answers in which each turn is that
@@ -69,10 +65,7 @@ pub fn transcripts_exist_by_behaviours()
     replies_exist_by_behaviours();
     replies_stay_whole();
     trees_have_texts();
-    texts_are_cut_exactly();
-    lines_are_read_exactly();
-    parts_are_read_exactly();
-    typing_is_read_exactly();
+    texts_are_read_exactly();
 }
 
 /// Along such answers the externals stay, and each log only grows.
@@ -94,9 +87,7 @@ pub fn transcripts_are_one()
     replies_are_one();
     runs_are_computed();
     nondeterministic_turns_are_known();
-    lines_are_read_exactly();
-    parts_are_read_exactly();
-    typing_is_read_exactly();
+    texts_are_read_exactly();
 }
 
 /// Whatever the externals do, such answers to lines of bytes lead from whole states to whole states.

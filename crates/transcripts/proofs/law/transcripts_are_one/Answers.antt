@@ -7,11 +7,7 @@ pub returns-clause-lines : goal.returns-clause-lines
 returns-clause-lines c =
     one_transcript
     (record {
-      texts = record {
-        lines = c.lines_are_read_exactly.ensures.text;
-        parts = c.parts_are_read_exactly.ensures.text;
-        typing = c.typing_is_read_exactly.ensures.text;
-      };
+      texts = c.texts_are_read_exactly.ensures;
       replies = c.replies_are_one.ensures;
       references = c.runs_are_computed.ensures.references;
     })

@@ -4,13 +4,7 @@ use Rattle.transcripts.proofs.law.transcripts_exist_by_behaviours.Goals as goal
 
 pub returns-clause-lines : goal.returns-clause-lines
 returns-clause-lines c =
-    transcript_by c.replies_exist_by_behaviours.ensures c.replies_stay_whole.ensures
-    (record {
-      cuts = c.texts_are_cut_exactly.ensures;
-      lines = c.lines_are_read_exactly.ensures.exact;
-      parts = c.parts_are_read_exactly.ensures.exact;
-      typing = c.typing_is_read_exactly.ensures.exact;
-    })
+    transcript_by c.replies_exist_by_behaviours.ensures c.replies_stay_whole.ensures c.texts_are_read_exactly.ensures
     (record {
       lines = c.trees_have_texts.ensures.lines;
       parts = c.trees_have_texts.ensures.parts;
