@@ -309,6 +309,25 @@ fn put_into<E: External>(
     if put_kept(frame, name, &new) {
         return Ok(());
     }
+    put_by_edit(world, run, frame, name, new)
+}
+
+/// Puts a value into a variable, in the open batch, by an edit. It stands for itself, so that a number that has its
+/// place pays nothing for it.
+#[inline(never)]
+fn put_by_edit<E: External>(
+    world: &mut World<E>,
+    run: &Budget,
+    frame: &mut Frame,
+    name: &Name,
+    new: Value,
+) -> Result<(), AllocError>
+    requires open { IsSome (base world.old.history).start }
+    ensures meaning { OnOk result (Stores world.old.history frame.old (named frame.old.variables name.now) new
+        world.new.history frame.new) }
+    ensures base { base world.new.history ≡ base world.old.history }
+{
+    law_of_value(&new);
     let put = Edit::Put(Where::Into, new);
     match containers::edit_variable(
         run.alloc(),
