@@ -2,6 +2,7 @@
 use Rattle.std.proofs.Common.{◌⊎◌, inl, inr, ℕ, List, [], ◌∷◌, length, refl, sym, ap, subst, ◌∙◌}
 use Rattle.std.specs.List.{AllByRecursion}
 use Rattle.std.proofs.lemmas.List.{length-map}
+use Rattle.ht_grammar.specs.Laws.{TextsAreReadExactly}
 use Rattle.externals.specs.Log.{Log}
 use Rattle.journal_entries.specs.State.{IsState}
 use Rattle.change_journal.specs.History.{History}
