@@ -3,3 +3,4 @@ pub mod Deeper
 pub mod Chain
 pub mod Lists
 pub mod Ranks
+pub mod Leaves

@@ -3,13 +3,14 @@
 ghost use Rattle.std.specs.Prelude.{◌≡◌, ◌<◌, ◌≤◌, ◌+◌, length};
 ghost use Rattle.ht_values.specs.declared.text.TheConstants.{LIMIT};
 ghost use Rattle.ht_lex.specs.Stops.{Gives};
-ghost use Rattle.ht_lex.specs.Token.{first_kind};
+ghost use Rattle.ht_lex.specs.Token.{first_kind, first_text, later};
 ghost use Rattle.ht_grammar.specs.Trees as t;
 ghost use Rattle.ht_grammar.specs.Depth.{depth, depths, max_depth};
 ghost use Rattle.ht_grammar.specs.Expressions as e;
 ghost use Rattle.ht_grammar.specs.Reading as spec;
 ghost use Rattle.ht_tree.specs.View.{expr_of, exprs_of};
 ghost use Rattle.ht_expressions.specs.Answer.{Reads, ReadsExpr};
+ghost use Rattle.ht_expressions.specs.Fronts as f;
 ghost use Rattle.ht_expressions.specs.Nests.{Nests};
 
 use crate::grammar::{Grammar, Level, WHOLE, to_expr};
@@ -27,6 +28,50 @@ fn to_value(alloc: Global, digits: &[u8]) -> Result<Value, Stop>
     match plain_number(digits) {
         Some(number) => Ok(Value::of_number(number)),
         None => Ok(Value::of_text(to_text(alloc, digits)?)),
+    }
+}
+
+/// Goes past a number.
+#[inline(always)]
+fn take_number(alloc: Global, tokens: &mut Cursor<'_>) -> Result<Expr, Stop>
+    ensures value { Gives (t.number (first_text tokens.old)) result }
+    ensures after { tokens.new ≡ later tokens.old }
+{
+    let digits = to_value(alloc, tokens.take())?;
+    to_expr(alloc, ExprKind::Number(digits))
+}
+
+/// Goes past a text.
+#[inline(always)]
+fn take_quoted(alloc: Global, tokens: &mut Cursor<'_>) -> Result<Expr, Stop>
+    ensures value { Gives (t.quoted (first_text tokens.old)) result }
+    ensures after { tokens.new ≡ later tokens.old }
+{
+    let text = to_text(alloc, tokens.take())?;
+    to_expr(alloc, ExprKind::Quoted(text))
+}
+
+/// Goes past a name that isn't called.
+#[inline(always)]
+fn take_name(alloc: Global, tokens: &mut Cursor<'_>) -> Result<Expr, Stop>
+    ensures value { Gives (t.name (first_text tokens.old)) result }
+    ensures after { tokens.new ≡ later tokens.old }
+{
+    let name = to_name(alloc, tokens.take())?;
+    to_expr(alloc, ExprKind::Name(name))
+}
+
+/// Whether any expression of a list ends before a token of this kind.
+#[inline(always)]
+fn ends_element(next: Option<TokenKind>) -> bool
+    ensures { result ≡ f.ends_element next }
+{
+    match next {
+        None => true,
+        Some(TokenKind::Eol) => true,
+        Some(TokenKind::Key(Key::CommaSign)) => true,
+        Some(TokenKind::Key(Key::RightParen)) => true,
+        _ => false,
     }
 }
 
@@ -50,6 +95,23 @@ fn closed(alloc: Global, tokens: &mut Cursor<'_>, kind: ExprKind) -> Result<Expr
 }
 
 impl<F: Fn(Global, &mut Cursor<'_>, Level, usize) -> Result<Expr, Stop>> Grammar<F> {
+    /// An expression of a list. One of a single token, as most are in long lists, isn't read through the ranks.
+    #[tactic(auto, using(crate::proofs::Leaves::lone_number, crate::proofs::Leaves::lone_quoted, crate::proofs::Leaves::lone_name))]
+    fn element(&self, tokens: &mut Cursor<'_>) -> Result<Expr, Stop>
+        requires { Nests self.now.depth (F.pre self.now.read) (F.post self.now.read) }
+        ensures { ReadsExpr self.now.depth (spec.read self.now.depth e.whole tokens.old) result tokens.new }
+    {
+        if self.depth == 0 || !ends_element(tokens.second()) {
+            return self.read(tokens, WHOLE);
+        }
+        match tokens.peek() {
+            Some(TokenKind::Number) => take_number(self.alloc, tokens),
+            Some(TokenKind::Quoted) => take_quoted(self.alloc, tokens),
+            Some(TokenKind::Name) => take_name(self.alloc, tokens),
+            _ => self.read(tokens, WHOLE),
+        }
+    }
+
     /// Expressions with commas between, at most so many.
     pub(crate) fn list(&self, tokens: &mut Cursor<'_>, turns: usize) -> Result<Exprs, Stop>
         requires { Nests self.now.depth (F.pre self.now.read) (F.post self.now.read) }
@@ -58,7 +120,7 @@ impl<F: Fn(Global, &mut Cursor<'_>, Level, usize) -> Result<Expr, Stop>> Grammar
     {
         let mut found = Exprs::new(self.alloc);
         for _turn in 0..turns {
-            let expr = self.read(tokens, WHOLE)?;
+            let expr = self.element(tokens)?;
             found = found.with(expr)?;
             match tokens.peek() {
                 Some(TokenKind::Key(Key::CommaSign)) => tokens.skip(),
@@ -120,14 +182,8 @@ impl<F: Fn(Global, &mut Cursor<'_>, Level, usize) -> Result<Expr, Stop>> Grammar
             result tokens.new }
     {
         match tokens.peek() {
-            Some(TokenKind::Number) => {
-                let digits = to_value(self.alloc, tokens.take())?;
-                to_expr(self.alloc, ExprKind::Number(digits))
-            }
-            Some(TokenKind::Quoted) => {
-                let text = to_text(self.alloc, tokens.take())?;
-                to_expr(self.alloc, ExprKind::Quoted(text))
-            }
+            Some(TokenKind::Number) => take_number(self.alloc, tokens),
+            Some(TokenKind::Quoted) => take_quoted(self.alloc, tokens),
             Some(TokenKind::Name) => {
                 let name = tokens.take();
                 self.named(tokens, name)
