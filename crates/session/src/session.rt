@@ -131,7 +131,7 @@ fn stack_text<E: External>(alloc: Global, world: &World<E>) -> Result<Bytes, All
 }
 
 /// Does what a dot line says, as the line of this number, with so many steps where it is a command of a user.
-fn perform<E: External>(
+fn obey_dot_line<E: External>(
     alloc: Global,
     world: &mut World<E>,
     steps: u32,
@@ -311,7 +311,7 @@ impl<E: External> Session<E> {
             return refused(self.alloc, Refusal::LineTooLong);
         }
         if is_dot_line(line) {
-            return perform(self.alloc, &mut self.world, self.steps, self.lines, line);
+            return obey_dot_line(self.alloc, &mut self.world, self.steps, self.lines, line);
         }
         let outcome = obey(
             self.alloc,

@@ -13,17 +13,18 @@ invariant_of-self g c = (
       c.self.inside.world.history (omega (arith, c.self.invariant.1)) c.self.invariant.2,
 )
 
-pub perform-requires-clause-stamped : goal.perform-requires-clause-stamped
-perform-requires-clause-stamped g c = stamped-past c.self.inside.lines c.self.inside.world.history c.self.invariant.2
+pub obey_dot_line-requires-clause-stamped : goal.obey_dot_line-requires-clause-stamped
+obey_dot_line-requires-clause-stamped g c =
+    stamped-past c.self.inside.lines c.self.inside.world.history c.self.invariant.2
 
 pub invariant_of-self-then-is_dot_line : goal.invariant_of-self-then-is_dot_line
 invariant_of-self-then-is_dot_line g c =
     let counted = stamped-later c.self.inside.lines c.min-self-inside.result c.self.inside.world.history
     (omega (arith, c.self.invariant.1)) c.self.invariant.2 in (
-      c.perform.ensures.closed,
+      c.obey_dot_line.ensures.closed,
       omega (arith, c.self.invariant.1),
       stamped-performed c.self.inside.steps c.args.line.now _ c.min-self-inside.result c.self.inside.world.history
-          c.perform.new.world.history c.perform.result counted c.perform.ensures.performed,
+          c.obey_dot_line.new.world.history c.obey_dot_line.result counted c.obey_dot_line.ensures.performed,
     )
 
 pub invariant_of-self-2 : goal.invariant_of-self-2

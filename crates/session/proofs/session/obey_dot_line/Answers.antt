@@ -1,6 +1,6 @@
 use Rattle.std.proofs.Common.{Some, sym, ap, ◌∙◌}
 use Rattle.session.proofs.Performing.{performs_act}
-use Rattle.session.proofs.session.perform.Goals as goal
+use Rattle.session.proofs.session.obey_dot_line.Goals as goal
 
 pub returns-in-Act-clause-performed : goal.returns-in-Act-clause-performed
 returns-in-Act-clause-performed g c =
