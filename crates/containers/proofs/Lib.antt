@@ -1,6 +1,6 @@
 pub mod Bases
 mod Examples
-pub mod Indexed
+pub mod Given
 pub mod Locals
 mod Outcomes
 pub mod Rules

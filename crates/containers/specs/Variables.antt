@@ -1,7 +1,8 @@
 -- What names mean where a handler runs, or a typed line.
-use Rattle.std.specs.Prelude.{ℕ, Bool, false, ◌||◌, List, [], ◌∷◌, find, Option, None, option_map, option_and_then}
-use Rattle.std.specs.Prelude.{unwrap_or, is_none, if◌then◌else◌}
+use Rattle.std.specs.Prelude.{ℕ, Bool, false, ◌||◌, List, [], ◌∷◌, find, get_or, Option, Some, None, option_map}
+use Rattle.std.specs.Prelude.{option_and_then, unwrap_or, is_none, if◌then◌else◌}
 use Rattle.ht_values.specs.Text.{folded, same}
+use Rattle.name_lists.specs.declared.parameters.Binding.{Binding}
 use Rattle.containers.specs.declared.variables.Local.{Local}
 
 -- Whether every variable is global, as in a typed line, and the names that a handler has met, in the order in which
@@ -38,3 +39,13 @@ with_local v name value = record v { locals = with_value name value v.locals }
 -- the names where this one means a global, as each does in a typed line
 abbrev pub declared : VariablesView → List ℕ → VariablesView
 declared v name = if v.all_global then v else with_local v name None
+
+-- parameters get the arguments: a missing one is empty, a surplus one is dropped, and of one name the last counts
+abbrev pub bound : List (List ℕ) → List (List ℕ) → VariablesView → VariablesView
+bound [] arguments v = v
+bound (name ∷ names) [] v = bound names [] (with_local v name (Some []))
+bound (name ∷ names) (a ∷ arguments) v = bound names arguments (with_local v name (Some a))
+
+-- a name with its argument; one that is missing is empty
+abbrev pub local_given : List (List ℕ) → Binding → Local
+local_given arguments b = record { name = b.name; value = Some (get_or arguments b.argument []) }

@@ -1,8 +1,10 @@
 //! The names that a handler has met, and where each stands.
 
-ghost use Rattle.std.specs.Prelude.{◌≡◌, ◌<◌, ◌++◌, ◌∷◌, ℕ, Ok, List, [], true, false, length, Err, IfErr, OnOk};
+ghost use Rattle.std.specs.Prelude.{◌≡◌, ◌<◌, ◌++◌, ◌∷◌, ℕ, Ok, List, [], true, false, length, Err, IfErr, IfOk};
 ghost use Rattle.std.specs.Prelude.{
+  OnOk,
   OnErr,
+  get_or,
   IfNone,
   IfSome,
   find,
@@ -19,38 +21,37 @@ ghost use Rattle.ht_values.specs.Outcome.{Gives, within_limit};
 ghost use Rattle.ht_values.specs.Operators.{binary as binary_of};
 ghost use Rattle.ht_values.specs.Text.{folded, numeral as numeral_of, same};
 ghost use Rattle.containers.specs.declared.variables.Local.{Local};
-ghost use Rattle.containers.specs.declared.indexed_locals.TheConstants.{MOST_SCANNED};
+ghost use Rattle.name_lists.specs.declared.places.TheConstants.{MOST_SCANNED};
+ghost use Rattle.name_lists.specs.Parameters.{bindings_of};
+ghost use Rattle.containers.specs.Variables.{local_given};
 
-use crate::folded_name::FoldedName;
 use crate::variables::Local;
-use ht_values::{Failure, Name, Op, Value};
+use ht_values::{Failure, Name, Op, Text, Value};
+use name_lists::{Binding, FoldedName, MOST_SCANNED, NamePlaces, Parameters};
 use std::alloc::{AllocError, Global};
-use std::collections::BTreeMap;
 use std::marker::Model;
 
-/// How many names are looked at one by one.
-pub(crate) const MOST_SCANNED: usize = 16;
-
-const _: () = prove!(MOST_SCANNED == 16);
+/// For how many more names there is room where a handler with parameters begins.
+const MORE_NAMES: usize = 3;
 
 /// The names that a handler has met, in the order in which they came. The first few are looked at one by one; where
 /// another one stands is told in a few steps, however many there are and whichever came.
 #[derive(Drop)]
 pub(crate) struct Locals {
     items: Vec<Local>,
-    places: BTreeMap<Vec<u8>, usize>,
+    places: NamePlaces,
 }
 
 impl Model for Locals {
     ghost use Rattle.std.specs.Prelude.{List, map};
     ghost use Rattle.containers.specs.declared.variables.Local.{Local};
-    ghost use Rattle.containers.specs.Indexed.{AreIndexed};
+    ghost use Rattle.name_lists.specs.Places.{AreIndexed, place_kept};
 
     ghost Value = { List Local };
 
     ghost view = { λ l. l.items.items };
 
-    ghost invariant = { λ l. AreIndexed l.places.entries (map (λ x. x.name) l.items.items) };
+    ghost invariant = { λ l. AreIndexed (place_kept l.places) (map (λ x. x.name) l.items.items) };
 }
 
 impl Locals {
@@ -60,8 +61,23 @@ impl Locals {
     {
         Locals {
             items: Vec::new(alloc),
-            places: BTreeMap::new(alloc),
+            places: NamePlaces::new(alloc),
         }
+    }
+
+    /// The parameters of a handler, each with its argument. Where those stand that aren't among the first few is shared
+    /// by all calls.
+    pub(crate) fn of_parameters(
+        alloc: Global,
+        parameters: &Parameters,
+        arguments: &[Value],
+    ) -> Result<Locals, AllocError>
+        ensures { IfOk result (λ ls. ls ≡ map (local_given arguments.now) (bindings_of parameters.now)) }
+    {
+        Ok(Locals {
+            items: all_given(alloc, parameters.bindings(), arguments)?,
+            places: parameters.places(alloc)?,
+        })
     }
 
     /// The names and their values as a slice.
@@ -105,7 +121,7 @@ impl Locals {
     {
         match place_in(&self.items[..MOST_SCANNED], name) {
             Some(place) => Some(place),
-            None => self.places.get(name.folded().as_slice()).copied(),
+            None => self.places.get(name),
         }
     }
 
@@ -128,9 +144,8 @@ impl Locals {
             self.items.push(local)?;
             return Ok(());
         }
-        let key = Vec::from_slice(alloc, name.folded().as_slice())?;
         self.items.reserve(1)?;
-        self.places.insert(key, self.items.len())?;
+        self.places.keep(alloc, name, self.items.len())?;
         self.items.push_reserved(local);
         Ok(())
     }
@@ -191,6 +206,49 @@ fn place_in(locals: &[Local], name: &Name) -> Option<usize>
     ensures within { IfSome result (λ i. i < length locals.now) }
 {
     locals.iter().position(|local| local.name.is_of(name))
+}
+
+/// The names with their arguments, and room for a few more.
+fn all_given(
+    alloc: Global,
+    bindings: &[Binding],
+    arguments: &[Value],
+) -> Result<Vec<Local>, AllocError>
+    ensures { IfOk result (λ ls. ls.items ≡ map (local_given arguments.now) bindings.now) }
+{
+    let mut locals = Vec::with_capacity(alloc, room_for(bindings.len()))?;
+    for binding in bindings {
+        locals.push(given(alloc, binding, arguments)?)?;
+    }
+    Ok(locals)
+}
+
+/// For how many names there is room where a handler with so many parameters begins: without one for none.
+fn room_for(parameters: usize) -> usize {
+    match parameters {
+        0 => 0,
+        some => some.saturating_add(MORE_NAMES),
+    }
+}
+
+/// A name with its argument.
+fn given(alloc: Global, binding: &Binding, arguments: &[Value]) -> Result<Local, AllocError>
+    ensures { IfOk result (λ l. l ≡ local_given arguments.now binding.now) }
+{
+    Ok(Local {
+        name: binding.name.try_clone(alloc)?,
+        value: Some(argument(alloc, arguments, binding.argument)?),
+    })
+}
+
+/// A copy of the argument of this number; one that is missing is empty.
+fn argument(alloc: Global, arguments: &[Value], i: usize) -> Result<Value, AllocError>
+    ensures { IfOk result (λ v. v ≡ get_or arguments.now i []) }
+{
+    match arguments.get(i) {
+        Some(value) => value.try_clone(alloc),
+        None => Ok(Value::of_text(Text::new(alloc))),
+    }
 }
 
 /// Puts another value in the place of the one at a place, or none.

@@ -11,7 +11,6 @@
 #![tactic(auto)]
 
 mod edit;
-mod folded_name;
 mod indexed_locals;
 mod law;
 mod place;

@@ -11,16 +11,16 @@ ghost use Rattle.ht_values.specs.Text.{numeral as numeral_of, same};
 ghost use Rattle.change_journal.specs.History.{History};
 ghost use Rattle.containers.specs.Edits.{edited};
 ghost use Rattle.containers.specs.Places.{own};
-ghost use Rattle.containers.specs.Variables.{declared, local_of, is_global, own_text, own_value, with_local};
+ghost use Rattle.containers.specs.Variables.{bound, declared, local_of, is_global, own_text, own_value, with_local};
 ghost use Rattle.containers.specs.Writes.{Writes};
 ghost use Rattle.containers.specs.Standing.{IsMeaning};
 
 use crate::edit::Edit;
-use crate::folded_name::FoldedName;
 use crate::indexed_locals::Locals;
 use crate::standing::Standing;
 use chunks::Chunk;
 use ht_values::{Failure, Name, Op, Text, Value, Where, law_of_value, number_by};
+use name_lists::{FoldedName, Parameters};
 use std::alloc::{AllocError, Global};
 use std::marker::Model;
 
@@ -122,6 +122,22 @@ impl Variables {
             all_global: false,
             locals: Locals::new(alloc),
         }
+    }
+
+    /// Those of a handler that begins, whose parameters have the arguments: a missing one is empty, a surplus one is
+    /// dropped, and of one name the last counts. It takes no memory where there are no parameters.
+    pub fn of_parameters(
+        alloc: Global,
+        parameters: &Parameters,
+        arguments: &[Value],
+    ) -> Result<Variables, AllocError>
+        ensures { IfOk result (λ v. v
+            ≡ bound parameters.now arguments.now (record { all_global = false; locals = [] })) }
+    {
+        Ok(Variables {
+            all_global: false,
+            locals: Locals::of_parameters(alloc, parameters, arguments)?,
+        })
     }
 
     /// Those of a typed line: every variable is global. It takes no memory.

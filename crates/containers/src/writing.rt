@@ -279,8 +279,8 @@ fn alter_own(variables: &mut Variables, name: &Name, op: Op, operand: &Value) ->
     }
 }
 
-/// Computes with a variable, as `edit_variable` does, where two numbers are computed with as such, and says whether they
-/// are; else, and where memory was refused, nothing changes. The handler's own variables take no memory.
+/// Computes with a variable, as `edit_variable` does, where two numbers are computed with as such, and says whether
+/// they are; else, and where memory was refused, nothing changes. The handler's own variables take no memory.
 #[tactic(auto, using(crate::proofs::Rules::writes_rules))]
 #[inline]
 pub fn alter_number<W: Store>(

@@ -23,6 +23,7 @@ use ht_grammar::HandlerKind;
 use ht_lex::{Cursor, Key, Stop, TokenKind, is_same, to_text};
 use ht_tree::{Expr, Exprs, Handler, Message, Names, Owner, Part, Script, Stmts, Typing};
 use ht_values::{PartKind, Text};
+use name_lists::Parameters;
 use std::alloc::Global;
 
 /// How many levels a tree may have.
@@ -55,17 +56,18 @@ pub(crate) fn typed_lines(alloc: Global, tokens: &mut Cursor<'_>) -> Result<Stmt
     }
 }
 
-/// The names of parameters, if there are any.
-fn parameters(alloc: Global, tokens: &mut Cursor<'_>) -> Result<Names, Stop>
-    ensures { Reads (λ names. names.items.items) (λ names. 0) 0 (spec.params_by (first_kind tokens.old) tokens.old)
-        result tokens.new }
+/// Parameters, if there are any.
+fn parameters(alloc: Global, tokens: &mut Cursor<'_>) -> Result<Parameters, Stop>
+    ensures { Reads (λ names. names) (λ names. 0) 0 (spec.params_by (first_kind tokens.old) tokens.old) result
+        tokens.new }
 {
     match tokens.peek() {
         Some(TokenKind::Name) => {
             let turns = tokens.left();
-            names(alloc, tokens, turns)
+            let Names { items } = names(alloc, tokens, turns)?;
+            Ok(Parameters::new(alloc, items)?)
         }
-        _ => Ok(Names::new(alloc)),
+        _ => Ok(Parameters::none(alloc)),
     }
 }
 
@@ -95,10 +97,9 @@ fn body(
     tokens: &mut Cursor<'_>,
     kind: HandlerKind,
     name: Text,
-    parameters: Names,
+    parameters: Parameters,
 ) -> Result<Handler, Stop>
-    ensures { Reads handler_of handler_depth max_depth (spec.body_at kind name parameters.items.items tokens.old) result
-        tokens.new }
+    ensures { Reads handler_of handler_depth max_depth (spec.body_at kind name parameters tokens.old) result tokens.new }
 {
     if !eat_ends(tokens) {
         return Err(Stop::Syntax);

@@ -9,7 +9,7 @@ use Rattle.ht_tree.specs.View.{exprs_of, part_of}
 use Rattle.ht_tree.specs.StatementView.{stmts_of}
 
 abbrev pub handler_of : Handler → s.Handler
-handler_of h = s.handler h.kind h.name h.parameters.items.items (stmts_of h.lines.items.items)
+handler_of h = s.handler h.kind h.name h.parameters (stmts_of h.lines.items.items)
 
 abbrev pub handlers_of : List Handler → s.Handlers
 handlers_of [] = s.no_handlers

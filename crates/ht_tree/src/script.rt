@@ -7,16 +7,17 @@ ghost use Rattle.ht_grammar.specs.Handlers.{takes, handler_in};
 ghost use Rattle.ht_tree.specs.ScriptView.{handler_of, handler_at, script_of, message_of, with_handler};
 
 use crate::expr::{Exprs, Part};
-use crate::statement::{Names, Stmts};
+use crate::statement::Stmts;
 use ht_grammar::HandlerKind;
 use ht_values::Text;
+use name_lists::Parameters;
 use std::alloc::{AllocError, Global};
 
 /// A handler of a script.
 pub struct Handler {
     pub kind: HandlerKind,
     pub name: Text,
-    pub parameters: Names,
+    pub parameters: Parameters,
     pub lines: Stmts,
 }
 

@@ -7,6 +7,8 @@
 #[cfg(test)]
 mod cases;
 #[cfg(test)]
+mod parameters;
+#[cfg(test)]
 mod places;
 #[cfg(test)]
 mod searches;

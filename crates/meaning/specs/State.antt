@@ -1,5 +1,5 @@
 -- What a run works on beside the history: the run itself, and the frame of what runs.
-use Rattle.std.specs.Prelude.{◌≡◌, ℕ, ◌-◌, ◌<◌, List, [], ◌∷◌, ◌++◌, Bool, true, false, Some, Option, Result, Ok, Err}
+use Rattle.std.specs.Prelude.{◌≡◌, ℕ, ◌-◌, ◌<◌, List, [], ◌∷◌, ◌++◌, Bool, true, false, Option, Result, Ok, Err}
 use Rattle.ht_values.specs.declared.fault.Fault.{Fault}
 use Rattle.ht_values.specs.declared.fault.Fault.TheVariants.{StepLimit, BadArgument}
 use Rattle.ht_values.specs.Operators.{truth_of, word_of}
@@ -8,7 +8,7 @@ use Rattle.ht_grammar.specs.declared.vocabulary.RunProp.{RunProp}
 use Rattle.ht_grammar.specs.declared.vocabulary.RunProp.TheVariants.{ItemDelimiter, LockMessages, EditBkgnd}
 use Rattle.stack_text.specs.Words.{spelled}
 use Rattle.change_journal.specs.History.{History}
-use Rattle.containers.specs.Variables.{VariablesView, with_local}
+use Rattle.containers.specs.Variables.{bound}
 use Rattle.meaning.specs.declared.frame.Frame.{Frame}
 use Rattle.meaning.specs.declared.end.Stop.{Stop}
 use Rattle.meaning.specs.declared.end.Stop.TheVariants as stop
@@ -79,12 +79,6 @@ typed_frame w = typed_frame_at w.now.current
 -- the frame of a handler that has no variable yet
 abbrev pub frame_of : ℕ → ℕ → Frame
 frame_of me target = record { me = me; target = target; variables = record { all_global = false; locals = [] } }
-
--- parameters get the arguments: a missing one is empty, a surplus one is dropped, and of one name the last counts
-abbrev pub bound : List (List ℕ) → List (List ℕ) → VariablesView → VariablesView
-bound [] arguments v = v
-bound (name ∷ names) [] v = bound names [] (with_local v name (Some []))
-bound (name ∷ names) (a ∷ arguments) v = bound names arguments (with_local v name (Some a))
 
 -- the frame of a handler of an object, with its parameters
 abbrev pub handler_frame : ℕ → ℕ → List (List ℕ) → List (List ℕ) → Frame

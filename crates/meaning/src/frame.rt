@@ -1,11 +1,13 @@
 //! The frame of what runs: whose handler it is, to whom the message was sent, and its variables.
 
-ghost use Rattle.std.specs.Prelude.{◌≡◌};
-ghost use Rattle.meaning.specs.State.{frame_of, typed_frame_at};
+ghost use Rattle.std.specs.Prelude.{◌≡◌, IfOk};
+ghost use Rattle.meaning.specs.State.{handler_frame, typed_frame_at};
 
 use containers::Variables;
+use ht_values::Value;
+use name_lists::Parameters;
 use object_table::Id;
-use std::alloc::Global;
+use std::alloc::{AllocError, Global};
 
 /// The frame of a handler, or of a typed line.
 pub struct Frame {
@@ -40,14 +42,21 @@ impl Frame {
         }
     }
 
-    /// The frame of a handler of an object, without a variable yet. It takes no memory.
-    pub fn of_handler(alloc: Global, me: Id, target: Id) -> Frame
-        ensures { result ≡ frame_of me target }
+    /// The frame of a handler of an object, in which its parameters have the arguments. It takes no memory where there
+    /// are no parameters.
+    pub fn of_handler(
+        alloc: Global,
+        me: Id,
+        target: Id,
+        parameters: &Parameters,
+        arguments: &[Value],
+    ) -> Result<Frame, AllocError>
+        ensures { IfOk result (λ f. f ≡ handler_frame me target parameters.now arguments.now) }
     {
-        Frame {
+        Ok(Frame {
             me,
             target,
-            variables: Variables::of_handler(alloc),
-        }
+            variables: Variables::of_parameters(alloc, parameters, arguments)?,
+        })
     }
 }

@@ -1,6 +1,6 @@
 //! Messages, handlers and externals, as the rules find and end them.
 
-ghost use Rattle.std.specs.Prelude.{◌≡◌, ◌<◌, [], ◌∷◌, ◌++◌, length, get_or, drop, true, IsSome, IfOk, IfSome, IfErr};
+ghost use Rattle.std.specs.Prelude.{◌≡◌, ◌<◌, [], ◌∷◌, ◌++◌, length, true, IsSome, IfOk, IfSome, IfErr};
 ghost use Rattle.std.specs.Prelude.{OnOk, None, Some};
 ghost use Rattle.externals.specs.declared.external.Ask.TheVariants as ask;
 ghost use Rattle.externals.specs.declared.external.Input.TheVariants as input;
@@ -13,7 +13,7 @@ ghost use Rattle.ht_values.specs.Text.{entry};
 ghost use Rattle.meaning.specs.Menu.{item_named as item_by_name, items as menu_items};
 ghost use Rattle.meaning.specs.Messages.{Finds, is_ignored as ignores, only as only_of, parameters_of};
 ghost use Rattle.meaning.specs.Repeats.{ends, returned as returned_by};
-ghost use Rattle.meaning.specs.State.{handler_frame as frame_of_handler, bound as bound_to};
+ghost use Rattle.meaning.specs.State.{handler_frame as frame_of_handler};
 
 use crate::arguments::Arguments;
 use crate::values::empty;
@@ -21,7 +21,7 @@ use change_journal::World;
 use externals::{Ask, External, Input, Texts};
 use ht_grammar::HandlerKind;
 use ht_lex::is_same;
-use ht_values::{Failure, Fault, Name, PartKind, Text, Value};
+use ht_values::{Failure, Fault, PartKind, Text, Value};
 use meaning::{Budget, Frame, How, Item, Stop};
 use msg_path::{FoundHandler, external_named, first_handler, is_system_message};
 use object_table::Id;
@@ -91,48 +91,13 @@ pub fn handler_frame(
     ensures { IfOk result (λ f. f ≡ frame_of_handler found.now.object target (parameters_of found.now.handler)
         values.now) }
 {
-    let mut frame = Frame::of_handler(run.alloc(), found.object(), target);
-    bind(
-        run,
-        &mut frame,
-        &found.handler().parameters.items,
+    Frame::of_handler(
+        run.alloc(),
+        found.object(),
+        target,
+        &found.handler().parameters,
         values.as_slice(),
-    )?;
-    Ok(frame)
-}
-
-/// Gives parameters their arguments.
-fn bind(run: &Budget, frame: &mut Frame, names: &[Name], values: &[Value]) -> Result<(), AllocError>
-    ensures { OnOk result (frame.new
-        ≡ record frame.old { variables = bound_to names.now values.now frame.old.variables }) }
-{
-    let mut left = values;
-    for name in names {
-        let value = first_or_empty(run, left)?;
-        frame.variables.set(run.alloc(), name, Some(value))?;
-        left = behind_first(left);
-    }
-    Ok(())
-}
-
-/// A copy of the first value; where there is none, the empty one.
-fn first_or_empty(run: &Budget, values: &[Value]) -> Result<Value, AllocError>
-    ensures { IfOk result (λ v. v ≡ get_or values.now 0 []) }
-{
-    match values {
-        [first, ..] => first.try_clone(run.alloc()),
-        [] => Ok(empty(run)),
-    }
-}
-
-/// The values behind the first.
-fn behind_first(values: &[Value]) -> &[Value]
-    ensures { result.now ≡ drop 1 values.now }
-{
-    match values {
-        [_, behind @ ..] => behind,
-        [] => values,
-    }
+    )
 }
 
 /// What a value is that a handler or an external returns: that of a function, or `the result` of a command.

@@ -44,7 +44,7 @@ use Rattle.object_references.proofs.Fitting.{setting_fits}
 use Rattle.containers.specs.Base.{base}
 use Rattle.containers.specs.declared.edit.Edit.{Edit}
 use Rattle.containers.specs.Places.{StorageView, PlaceView, field_text}
-use Rattle.containers.specs.Variables.{VariablesView, declared, with_local}
+use Rattle.containers.specs.Variables.{VariablesView, bound, declared, with_local}
 use Rattle.containers.specs.Writes.{Writes, Declares}
 use Rattle.msg_path.specs.BuiltIns.{answers, external_named}
 use Rattle.msg_path.specs.Handlers.{HandlerFound, First}
@@ -56,7 +56,7 @@ use Rattle.meaning.specs.Messages.{Finds, only, lines_of}
 use Rattle.meaning.specs.Places.{Edits, Stores, Assigns, DeclaresAll, Sets, Adds, field_place, field_named_place}
 use Rattle.meaning.specs.Places.{it_name}
 use Rattle.meaning.specs.Repeats.{Outcome, returned, ends, leaves_repeat}
-use Rattle.meaning.specs.State.{RunState, Step, shows, noted, run_property_set, run_property, bound, handler_frame}
+use Rattle.meaning.specs.State.{RunState, Step, shows, noted, run_property_set, run_property, handler_frame}
 use Rattle.meaning.specs.Values.{Yields, Parses}
 use Rattle.preservation.specs.Laws.{HasMemory}
 use Rattle.preservation.proofs.Placed.{of_field, of_field_named}

@@ -13,7 +13,7 @@ fn print_handler(out: &mut Printed, handler: &Handler) {
     }
     out.text(&handler.name);
     out.word(" (");
-    print_names(out, &handler.parameters);
+    print_names(out, handler.parameters.written());
     out.word(") ");
     print_lines(out, &handler.lines);
     out.word(")");

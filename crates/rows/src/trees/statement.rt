@@ -5,7 +5,7 @@ use crate::trees::expression::{
 };
 use crate::trees::printed::Printed;
 use ht_tree::{
-    Chunk, Container, ContainerKind, Destination, Expr, Head, Names, Ref, Stmt, StmtKind, Stmts,
+    Chunk, Container, ContainerKind, Destination, Expr, Head, Ref, Stmt, StmtKind, Stmts,
 };
 use ht_values::{Name, Text};
 
@@ -29,9 +29,9 @@ fn print_container(out: &mut Printed, container: &Container) {
 }
 
 /// Prints names, with spaces between.
-pub fn print_names(out: &mut Printed, names: &Names) {
+pub fn print_names(out: &mut Printed, names: &[Name]) {
     let mut between = "";
-    for name in names.items.iter() {
+    for name in names {
         out.word(between);
         out.text(name.text());
         between = " ";
@@ -163,7 +163,7 @@ fn print_stmt(out: &mut Printed, stmt: &Stmt) {
         StmtKind::Go(destination) => print_go(out, destination),
         StmtKind::Global(names) => {
             out.word("(global ");
-            print_names(out, names);
+            print_names(out, &names.items);
             out.word(")");
         }
         StmtKind::ExitRepeat => out.word("(exit-repeat)"),

@@ -1,8 +1,9 @@
 -- Where a name stands, by the places that are kept.
-use Rattle.std.proofs.Common.{◌≡◌, ℕ, zero, suc, ◌+◌, ◌<◌, ◌≤◌, Bool, true, false, cond, List, [], ◌∷◌, ◌++◌, length}
+use Rattle.std.proofs.Common.{◌≡◌, ℕ, ◌+◌, ◌<◌, ◌≤◌, Bool, true, false, cond, List, [], ◌∷◌, ◌++◌, length}
 use Rattle.std.proofs.Common.{refl, sym, ◌∙◌, ap, arith, take, subst}
 use Rattle.std.specs.Prelude.{Option, Some, None, IfSome, position, map}
 use Rattle.std.specs.List.{position_from}
+use Rattle.std.specs.Option.{option_or}
 use Rattle.std.specs.Str.{bytes_eq}
 use Rattle.std.proofs.lemmas.List.{take-append-le, take-append-drop, take-map, length-append}
 use Rattle.std.proofs.lemmas.List.Quantifiers.{position-Some}
@@ -19,7 +20,7 @@ use Rattle.std.proofs.Common.{drop_of_length-le, append-nil}
 use Rattle.ht_values.specs.Text.{folded, same}
 use Rattle.ht_values.proofs.Folding.{folded_is_folded, folded_stays}
 use Rattle.ht_values.proofs.Positions.{placed, position-push}
-use Rattle.containers.specs.Indexed.{place_of_name}
+use Rattle.name_lists.specs.Places.{place_of_name}
 
 from_map : {X Y : Type 0} (f : X → Y) (p : Y → Bool) (i : ℕ) (xs : List X)
     → position_from (λ x. p (f x)) i xs ≡ position_from p i (map f xs)
@@ -31,28 +32,11 @@ pub position_of-map : {X Y : Type 0} (f : X → Y) (p : Y → Bool) (xs : List X
 position_of-map f p xs =
     position_from-zero (λ x. p (f x)) xs ∙ from_map f p 0 xs ∙ sym (position_from-zero p (map f xs))
 
-passed_on : (a b : Option ℕ) (here : Bool) (i n : ℕ) → (a ≡ Some n → b ≡ Some n) → cond here (Some i) a ≡ Some n
-    → cond here (Some i) b ≡ Some n
-passed_on a b true i n f h = h
-passed_on a b false i n f h = f h
-
-from_take : {X : Type 0} (p : X → Bool) (i k : ℕ) (xs : List X) (n : ℕ) → position_from p i (take k xs) ≡ Some n
-    → position_from p i xs ≡ Some n
-from_take p i zero xs n e = cc
-from_take p i (suc k) [] n e = cc
-from_take p i (suc k) (x ∷ xs) n e = passed_on _ _ (p x) i n (from_take p (i + 1) k xs n) e
-
 -- names that stand nowhere among the first
 pub near_missing : {X : Type 0} (f : X → List ℕ) (name : List ℕ) (k : ℕ) (xs : List X)
     → position (λ x. same (f x) name) (take k xs) ≡ None → place_of_name name (take k (map f xs)) ≡ None
 near_missing f name k xs e =
     ap (place_of_name name) (take-map f k xs) ∙ sym (position_of-map f (λ n. same n name) (take k xs)) ∙ e
-
--- what is found among the first is found
-pub position-take : {X : Type 0} (p : X → Bool) (k : ℕ) (xs : List X) (n : ℕ) → position p (take k xs) ≡ Some n
-    → position p xs ≡ Some n
-position-take p k xs n e =
-    position_from-zero p xs ∙ from_take p 0 k xs n (sym (position_from-zero p (take k xs)) ∙ e)
 
 -- a place is one of the list
 pub position_within : {X : Type 0} (p : X → Bool) (xs : List X) (i : ℕ) → position p xs ≡ Some i → i < length xs
@@ -145,3 +129,9 @@ kept_after bs cs old new w here h = by (bytes_eq bs cs) refl
     by : (b : Bool) → bytes_eq bs cs ≡ b → lookup (at_key cs) new ≡ cond b w (lookup (at_key cs) old)
     by true e = subst (λ ds. lookup (at_key ds) new ≡ w) ((bytes_eq-Decides bs cs).0 e) here
     by false e = others bs cs old new h e
+
+-- a place that is kept, where others are beside it
+pub or_kept : (b : Bool) (i : ℕ) (o shared : Option ℕ)
+    → option_or (cond b (Some i) o) shared ≡ cond b (Some i) (option_or o shared)
+or_kept true i o shared = refl
+or_kept false i o shared = refl

@@ -13,7 +13,7 @@ const MOST_INLINE: usize = 16;
 
 /// The folded form of a name, which contracts see as its bytes. So a name is known by a plain comparison. A short one
 /// takes no memory.
-pub(crate) struct FoldedName {
+pub struct FoldedName {
     bytes: SmallVec<u8, MOST_INLINE>,
 }
 
@@ -38,7 +38,7 @@ impl Model for FoldedName {
 impl FoldedName {
     /// The folded form of a name.
     #[tactic(auto, using(ht_values::proofs::Folding::folded_is_folded))]
-    pub(crate) fn of(alloc: Global, name: &Name) -> Result<FoldedName, AllocError>
+    pub fn of(alloc: Global, name: &Name) -> Result<FoldedName, AllocError>
         ensures { IfOk result (λ n. n ≡ folded name.now) }
     {
         Ok(FoldedName {
@@ -46,10 +46,20 @@ impl FoldedName {
         })
     }
 
+    /// A copy of it, which takes memory only where the name is longer than 16 bytes.
+    #[inline]
+    pub fn try_clone(&self, alloc: Global) -> Result<FoldedName, AllocError>
+        ensures { IfOk result (λ n. n ≡ self.now) }
+    {
+        Ok(FoldedName {
+            bytes: SmallVec::from_slice(alloc, self.bytes.as_slice())?,
+        })
+    }
+
     /// Whether a name is the same.
     #[tactic(auto, using(ht_values::proofs::Folding::folded_stays))]
     #[inline]
-    pub(crate) fn is_of(&self, name: &Name) -> bool
+    pub fn is_of(&self, name: &Name) -> bool
         ensures { result ≡ same self.now name.now }
     {
         self.bytes.as_slice() == name.folded().as_slice()

@@ -1,0 +1,2 @@
+pub mod Bindings
+pub mod Indexed

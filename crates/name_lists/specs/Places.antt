@@ -1,0 +1,32 @@
+-- Names whose places are kept beside them.
+use Rattle.std.specs.Prelude.{◌≡◌, ℕ, List, Option, None, take, position, option_and_then}
+use Rattle.std.specs.Option.{option_or}
+use Rattle.std.specs.Map.{lookup}
+use Rattle.std.specs.Ordering.{is_eq, nat_cmp}
+use Rattle.std.specs.Cmp.Lexicographic.{slice_cmp}
+use Rattle.ht_values.specs.Text.{folded, same}
+use Rattle.name_lists.specs.declared.places.PlaceMap.{PlaceMap}
+use Rattle.name_lists.specs.declared.places.SharedPlaces.{SharedPlaces}
+use Rattle.name_lists.specs.declared.places.NamePlaces.{NamePlaces}
+use Rattle.name_lists.specs.declared.places.TheConstants.{MOST_SCANNED}
+
+-- where the first name stands that is the same
+abbrev pub place_of_name : List ℕ → List (List ℕ) → Option ℕ
+place_of_name name names = position (λ n. same n name) names
+
+-- the place that is kept of a name, by its folded form
+abbrev pub place_in : PlaceMap → List ℕ → Option ℕ
+place_in places name = lookup (λ k. is_eq (slice_cmp nat_cmp (folded name) k.items)) places.entries.entries
+
+-- the same of places that are shared
+abbrev pub place_shared : SharedPlaces → List ℕ → Option ℕ
+place_shared places name = option_and_then (λ r. place_in r.value name) places.shared
+
+-- the same of places of which some are shared
+abbrev pub place_kept : NamePlaces → List ℕ → Option ℕ
+place_kept places name = option_or (place_in places.own name) (place_shared places.shared name)
+
+-- each name that isn't among the first few has its place kept, if it stands there
+abbrev pub AreIndexed : (List ℕ → Option ℕ) → List (List ℕ) → Type 0
+AreIndexed kept names = (name : List ℕ) → place_of_name name (take MOST_SCANNED names) ≡ None
+    → kept name ≡ place_of_name name names

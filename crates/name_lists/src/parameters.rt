@@ -1,0 +1,198 @@
+//! The parameters of a handler.
+
+ghost use Rattle.std.specs.Prelude.{◌≡◌, ◌<◌, ◌++◌, ◌∷◌, ℕ, [], None, length, map, position, slice_index_or, slice_set};
+ghost use Rattle.std.specs.Prelude.{IfOk, IfSome, OnOk};
+ghost use Rattle.ht_values.specs.Text.{folded, same};
+ghost use Rattle.name_lists.specs.Places.{AreIndexed, place_in, place_kept};
+ghost use Rattle.name_lists.specs.Parameters.{bindings_of, names_bound, with_argument};
+ghost use Rattle.name_lists.specs.declared.parameters.Binding.{Binding};
+
+use crate::folded_name::FoldedName;
+use crate::places::{MOST_SCANNED, NamePlaces, PlaceMap, SharedPlaces};
+use ht_values::Name;
+use std::alloc::{AllocError, Global};
+use std::marker::Model;
+
+/// A name of a parameter, and the number of the argument that it gets, counted from 0.
+#[derive(Drop)]
+pub struct Binding {
+    pub name: FoldedName,
+    pub argument: usize,
+}
+
+/// The names of a handler's parameters, as they are written. What a call needs of them is made once: each name that
+/// differs, with its argument, and where it stands.
+pub struct Parameters {
+    written: Vec<Name>,
+    bindings: Vec<Binding>,
+    places: SharedPlaces,
+}
+
+/// Written here and not derived, so that it is proved once how they are dropped.
+impl Drop for Parameters {
+    fn drop(self) {
+        let Parameters {
+            written: _,
+            bindings: _,
+            places: _,
+        } = self;
+    }
+}
+
+impl Model for Parameters {
+    ghost use Rattle.std.specs.Prelude.{◌≡◌, ℕ, List};
+    ghost use Rattle.name_lists.specs.Places.{AreIndexed, place_shared};
+    ghost use Rattle.name_lists.specs.Parameters.{bindings_of, names_bound};
+
+    ghost Value = { List (List ℕ) };
+
+    ghost view = { λ p. p.written.items };
+
+    ghost invariant = { λ p. (p.bindings.items ≡ bindings_of p.written.items)
+        × AreIndexed (place_shared p.places) (names_bound p.bindings.items) };
+}
+
+impl Parameters {
+    /// No parameters. It takes no memory.
+    pub fn none(alloc: Global) -> Parameters
+        ensures { result ≡ [] }
+    {
+        Parameters {
+            written: Vec::new(alloc),
+            bindings: Vec::new(alloc),
+            places: SharedPlaces::none(),
+        }
+    }
+
+    /// The parameters of these names.
+    pub fn new(alloc: Global, written: Vec<Name>) -> Result<Parameters, AllocError>
+        ensures { IfOk result (λ p. p ≡ written.items) }
+    {
+        let Bound { bindings, places } = all_bound(alloc, &written)?;
+        let places = SharedPlaces::new(alloc, places)?;
+        Ok(Parameters {
+            written,
+            bindings,
+            places,
+        })
+    }
+
+    /// The names as they are written.
+    pub fn written(&self) -> &[Name]
+        ensures { result.now ≡ self.now }
+    {
+        &self.written
+    }
+
+    /// Each name once, in the order in which they come, with the number of its argument: of a name that stands twice
+    /// the last counts.
+    #[inline]
+    pub fn bindings(&self) -> &[Binding]
+        ensures { result.now ≡ bindings_of self.now }
+    {
+        &self.bindings
+    }
+
+    /// Where the names stand that aren't among the first few. It takes no memory; an error where the calls that share
+    /// the places can't be counted any more.
+    #[inline]
+    pub fn places(&self, alloc: Global) -> Result<NamePlaces, AllocError>
+        ensures { IfOk result (λ p. AreIndexed (place_kept p) (names_bound (bindings_of self.now))) }
+    {
+        Ok(NamePlaces::of_shared(alloc, self.places.try_clone()?))
+    }
+}
+
+/// Names that get arguments, and where those stand that aren't among the first few.
+#[derive(Drop)]
+struct Bound {
+    bindings: Vec<Binding>,
+    places: PlaceMap,
+}
+
+/// The names with their arguments.
+fn all_bound(alloc: Global, names: &[Name]) -> Result<Bound, AllocError>
+    ensures bindings { IfOk result (λ b. b.bindings.items ≡ bindings_of names.now) }
+    ensures places { IfOk result (λ b. AreIndexed (place_in b.places) (names_bound b.bindings.items)) }
+{
+    let mut bound = Bound {
+        bindings: Vec::new(alloc),
+        places: PlaceMap::new(alloc),
+    };
+    for (i, name) in names.iter().enumerate() {
+        bind(alloc, &mut bound, name, i)?;
+    }
+    bound.bindings.shrink_to_fit();
+    Ok(bound)
+}
+
+/// Gives a name the argument of this number.
+fn bind(alloc: Global, bound: &mut Bound, name: &Name, argument: usize) -> Result<(), AllocError>
+    requires { AreIndexed (place_in bound.old.places) (names_bound bound.old.bindings.items) }
+    ensures bindings { OnOk result
+        (bound.new.bindings.items ≡ with_argument name.now argument bound.old.bindings.items) }
+    ensures places { OnOk result (AreIndexed (place_in bound.new.places) (names_bound bound.new.bindings.items)) }
+{
+    match number_of(bound, name) {
+        Some(i) => {
+            set_argument(&mut bound.bindings, i, argument);
+            Ok(())
+        }
+        None => add(alloc, bound, name, argument),
+    }
+}
+
+/// The place of the name that is the same.
+fn number_of(bound: &Bound, name: &Name) -> Option<usize>
+    requires { AreIndexed (place_in bound.now.places) (names_bound bound.now.bindings.items) }
+    ensures value { result ≡ position (λ b. same b.name name.now) bound.now.bindings.items }
+    ensures within { IfSome result (λ i. i < length bound.now.bindings.items) }
+{
+    if bound.bindings.len() <= MOST_SCANNED {
+        return number_among(&bound.bindings, name);
+    }
+    match number_among(&bound.bindings[..MOST_SCANNED], name) {
+        Some(i) => Some(i),
+        None => bound.places.get(name),
+    }
+}
+
+/// The place of the name that is the same, where these are looked at one by one.
+fn number_among(bindings: &[Binding], name: &Name) -> Option<usize>
+    ensures value { result ≡ position (λ b. same b.name name.now) bindings.now }
+    ensures within { IfSome result (λ i. i < length bindings.now) }
+{
+    bindings.iter().position(|binding| binding.name.is_of(name))
+}
+
+/// Gives the name at a place another argument.
+fn set_argument(bindings: &mut Vec<Binding>, i: usize, argument: usize)
+    requires { i < length bindings.old.items }
+    ensures value { (other : Binding) → bindings.new.items ≡ slice_set bindings.old.items i
+        (record (slice_index_or bindings.old.items i other) { argument = argument }) }
+    ensures names { names_bound bindings.new.items ≡ names_bound bindings.old.items }
+{
+    let binding = &mut bindings[i];
+    binding.argument = argument;
+}
+
+/// Adds a name that isn't there at the end.
+fn add(alloc: Global, bound: &mut Bound, name: &Name, argument: usize) -> Result<(), AllocError>
+    requires indexed { AreIndexed (place_in bound.old.places) (names_bound bound.old.bindings.items) }
+    requires absent { position (λ b. same b.name name.now) bound.old.bindings.items ≡ None }
+    ensures bindings { OnOk result (bound.new.bindings.items
+        ≡ bound.old.bindings.items ++ record { name = folded name.now; argument = argument } ∷ []) }
+    ensures places { OnOk result (AreIndexed (place_in bound.new.places) (names_bound bound.new.bindings.items)) }
+{
+    let binding = Binding {
+        name: FoldedName::of(alloc, name)?,
+        argument,
+    };
+    if bound.bindings.len() < MOST_SCANNED {
+        bound.bindings.push(binding)?;
+        return Ok(());
+    }
+    bound.places.keep(alloc, name, bound.bindings.len())?;
+    bound.bindings.push(binding)?;
+    Ok(())
+}

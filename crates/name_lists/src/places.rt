@@ -1,0 +1,173 @@
+//! Where names stand.
+
+ghost use Rattle.std.specs.Prelude.{◌≡◌, ℕ, List, Some, None, true, if◌then◌else◌, IfOk, OnOk, OnErr};
+ghost use Rattle.ht_values.specs.Text.{same};
+ghost use Rattle.name_lists.specs.Places.{place_in, place_kept, place_shared};
+
+use ht_values::Name;
+use std::alloc::{AllocError, Global};
+use std::collections::BTreeMap;
+use std::rc::Rc;
+
+/// How many names are looked at one by one.
+pub const MOST_SCANNED: usize = 16;
+
+const _: () = prove!(MOST_SCANNED == 16);
+
+/// Places of names, by their folded forms.
+#[derive(Drop)]
+pub(crate) struct PlaceMap {
+    entries: BTreeMap<Vec<u8>, usize>,
+}
+
+impl PlaceMap {
+    /// No places. It takes no memory.
+    pub(crate) fn new(alloc: Global) -> PlaceMap
+        ensures { (name : List ℕ) → place_in result name ≡ None }
+    {
+        PlaceMap {
+            entries: BTreeMap::new(alloc),
+        }
+    }
+
+    /// Whether there is no place.
+    fn is_empty(&self) -> bool
+        ensures { result ≡ true → (name : List ℕ) → place_in self.now name ≡ None }
+    {
+        self.entries.is_empty()
+    }
+
+    /// The place of a name, if one is kept.
+    pub(crate) fn get(&self, name: &Name) -> Option<usize>
+        ensures { result ≡ place_in self.now name.now }
+    {
+        self.entries.get(name.folded().as_slice()).copied()
+    }
+
+    /// Keeps the place of a name. Where memory was refused nothing changes.
+    pub(crate) fn keep(
+        &mut self,
+        alloc: Global,
+        name: &Name,
+        place: usize,
+    ) -> Result<(), AllocError>
+        ensures ok { OnOk result ((other : List ℕ) → place_in self.new other
+            ≡ (if same name.now other then Some place else place_in self.old other)) }
+        ensures err { OnErr result ((other : List ℕ) → place_in self.new other ≡ place_in self.old other) }
+    {
+        let key = Vec::from_slice(alloc, name.folded().as_slice())?;
+        self.entries.insert(key, place)?;
+        Ok(())
+    }
+}
+
+/// Places that are shared, which take no memory where there is none.
+pub(crate) struct SharedPlaces {
+    shared: Option<Rc<PlaceMap>>,
+}
+
+/// Written here and not derived, so that it is proved once how they are dropped.
+impl Drop for SharedPlaces {
+    fn drop(self) {
+        let SharedPlaces { shared: _ } = self;
+    }
+}
+
+impl SharedPlaces {
+    /// No places. It takes no memory.
+    pub(crate) fn none() -> SharedPlaces
+        ensures { (name : List ℕ) → place_shared result name ≡ None }
+    {
+        SharedPlaces { shared: None }
+    }
+
+    /// These places, to be shared.
+    pub(crate) fn new(alloc: Global, places: PlaceMap) -> Result<SharedPlaces, AllocError>
+        ensures { IfOk result (λ s. (name : List ℕ) → place_shared s name ≡ place_in places name) }
+    {
+        if places.is_empty() {
+            return Ok(SharedPlaces::none());
+        }
+        Ok(SharedPlaces {
+            shared: Some(Rc::new(alloc, places)?),
+        })
+    }
+
+    /// The same places, which are shared from now on.
+    #[inline]
+    pub(crate) fn try_clone(&self) -> Result<SharedPlaces, AllocError>
+        ensures { IfOk result (λ s. (name : List ℕ) → place_shared s name ≡ place_shared self.now name) }
+    {
+        match &self.shared {
+            Some(places) => Ok(SharedPlaces {
+                shared: Some(places.clone()?),
+            }),
+            None => Ok(SharedPlaces::none()),
+        }
+    }
+
+    /// The place of a name, if one is kept.
+    fn get(&self, name: &Name) -> Option<usize>
+        ensures { result ≡ place_shared self.now name.now }
+    {
+        match &self.shared {
+            Some(places) => places.get(name),
+            None => None,
+        }
+    }
+}
+
+/// Places of names, of which some are shared: of the parameters, with all calls of a handler.
+pub struct NamePlaces {
+    own: PlaceMap,
+    shared: SharedPlaces,
+}
+
+/// Written here and not derived, so that it is proved once how they are dropped.
+impl Drop for NamePlaces {
+    fn drop(self) {
+        let NamePlaces { own: _, shared: _ } = self;
+    }
+}
+
+impl NamePlaces {
+    /// No places. It takes no memory.
+    pub fn new(alloc: Global) -> NamePlaces
+        ensures { (name : List ℕ) → place_kept result name ≡ None }
+    {
+        NamePlaces {
+            own: PlaceMap::new(alloc),
+            shared: SharedPlaces::none(),
+        }
+    }
+
+    /// The shared ones alone. It takes no memory.
+    #[inline]
+    pub(crate) fn of_shared(alloc: Global, shared: SharedPlaces) -> NamePlaces
+        ensures { (name : List ℕ) → place_kept result name ≡ place_shared shared name }
+    {
+        NamePlaces {
+            own: PlaceMap::new(alloc),
+            shared,
+        }
+    }
+
+    /// The place of a name, if one is kept.
+    pub fn get(&self, name: &Name) -> Option<usize>
+        ensures { result ≡ place_kept self.now name.now }
+    {
+        match self.own.get(name) {
+            Some(place) => Some(place),
+            None => self.shared.get(name),
+        }
+    }
+
+    /// Keeps the place of a name, beside those that are shared. Where memory was refused nothing changes.
+    pub fn keep(&mut self, alloc: Global, name: &Name, place: usize) -> Result<(), AllocError>
+        ensures ok { OnOk result ((other : List ℕ) → place_kept self.new other
+            ≡ (if same name.now other then Some place else place_kept self.old other)) }
+        ensures err { OnErr result ((other : List ℕ) → place_kept self.new other ≡ place_kept self.old other) }
+    {
+        self.own.keep(alloc, name, place)
+    }
+}
