@@ -130,6 +130,8 @@ OPERATIONS: Sequence[Operation] = (
               "get value(t)", 5, "value(t)"),
     Operation("send with 14,900 arguments", with_hear, ['put "hear 1" into t', *repeated(",1", ARGUMENTS - 1, "t")],
               "send t to this stack", 3),
+    Operation("the same, each a name", with_hear, ['put "hear a" into t', *repeated(",a", ARGUMENTS - 1, "t")],
+              "send t to this stack", 3),
 )
 
 
