@@ -1,6 +1,6 @@
 //! A whole run: from the bytes of a stack, over a reader, a writer and a desk.
 
-ghost use Rattle.std.specs.Prelude.{◌≡◌, ℕ, List, map, true, OnOk, IfOk, IfErr, IsErrOf};
+ghost use Rattle.std.specs.Prelude.{◌≡◌, ℕ, List, map, true, IfOk, IfErr, IsErrOf};
 ghost use Rattle.std.specs.Io.KnownBytes.{Appends, Consumes, IsAtEnd};
 ghost use Rattle.journal_entries.specs.State.{seen_by, are_apart};
 ghost use Rattle.headline.specs.Headline.{beginning};

@@ -1,5 +1,5 @@
 -- That the meanings come to something, with enough fuel.
-use Rattle.std.proofs.Common.{◌≡◌, ℕ, ◌<◌, List, [], ◌++◌, length, refl, sym, ap, ◌∙◌, append-nil, append_assoc}
+use Rattle.std.proofs.Common.{◌≡◌, ℕ, ◌<◌, List, [], length, refl, sym, ap, ◌∙◌, append-nil}
 use Rattle.std.specs.Prelude.{slice_index_or}
 use Rattle.ht_grammar.specs.Laws.{TextsAreReadExactly}
 use Rattle.externals.specs.Log.{Log, Follows}
@@ -7,6 +7,7 @@ use Rattle.externals.specs.Turns.{TurnTable}
 use Rattle.change_journal.specs.History.{History}
 use Rattle.change_journal.specs.Logs.{log_at, turns_since}
 use Rattle.preservation.specs.Laws.{IsPrefix}
+pub use Rattle.preservation.proofs.Going.{prefix_trans}
 use Rattle.definitional_interpreter.specs.Told.{Visible, seen_since}
 use Rattle.definitional_interpreter.specs.Turns.{sorts, nondeterministic}
 use Rattle.definitional_interpreter.specs.Families.{Meanings}
@@ -20,9 +21,6 @@ pub record Kept (w w2 : History) : Type 0 where
 
 pub prefix_same : {A : Type 0} (xs ys : List A) → ys ≡ xs → IsPrefix xs ys
 prefix_same xs ys same = ([], same ∙ sym (append-nil xs))
-
-pub prefix_trans : {A : Type 0} (xs ys zs : List A) → IsPrefix xs ys → IsPrefix ys zs → IsPrefix xs zs
-prefix_trans xs ys zs h k = (h.0 ++ k.0, k.1 ∙ ap (λ l. l ++ k.0) h.1 ∙ append_assoc xs h.0 k.0)
 
 pub kept_same : {w w2 : History} → w2 ≡ w → Kept w w2
 kept_same {w} {w2} same = record {

@@ -20,7 +20,8 @@ use Rattle.definitional_interpreter.specs.Told.{Visible, told}
 use Rattle.definitional_interpreter.specs.Changes.{turn, take_turn, due_turn}
 use Rattle.definitional_interpreter.specs.Turns.{sorts_of, sorts, is_nondeterministic, nondeterministic, logs_since}
 use Rattle.definitional_interpreter.specs.Laws.{AreTold}
-use Rattle.definitional_interpreter.proofs.Comes.{Kept, HasExternal, Sight, sight, Asks, prefix_same, prefix_trans}
+use Rattle.preservation.proofs.Going.{prefix_trans}
+use Rattle.definitional_interpreter.proofs.Comes.{Kept, HasExternal, Sight, sight, Asks, prefix_same}
 
 pub sort_at : (es : List Seen) (k : ℕ) → slice_index_or (sorts_of es) k 0 ≡ (slice_index_or es k none_seen).sort
 sort_at [] k = refl

@@ -9,6 +9,7 @@ use Rattle.std.proofs.lemmas.List.{take-append-drop}
 use Rattle.std.specs.Io.KnownBytes.{IsAtEnd}
 use Rattle.std.specs.List.{position, position_or_len, take-map}
 use Rattle.std.proofs.lemmas.List.Quantifiers.{position-Some}
+use Rattle.std.proofs.lemmas.Option.{same_Some}
 use Rattle.std.proofs.lemmas.Bool.{leb-true, leb-false, lt-ltb, le-ltb, cases_lt}
 use Rattle.std.proofs.Math.Seq.{take-append-add, drop-append_seam}
 use Rattle.devices.specs.Desks.{SeenDesk}
@@ -585,14 +586,9 @@ opens_follow stack externals logs steps depth = refl
 
 -- ---- the table of the externals
 
-state_in : State → Option Snapshot → State
-state_in s None = s
-state_in s (Some snapshot) = snapshot.state
-
 present_now : (h : History) (state : State) (number : ℕ)
     → slice_get (all_snapshots h) (length h.past) ≡ Some (record { state = state; number = number }) → h.now ≡ state
-unfolding state_in
-present_now h state number here = ap (state_in state) (sym (present_is h) ∙ here)
+present_now h state number here = ap (λ (s : Snapshot). s.state) (same_Some _ _ (sym (present_is h) ∙ here))
 
 pub tables_follow : TablesFollow
 tables_follow table s follows state (number, here) =

@@ -5,6 +5,7 @@ use Rattle.std.proofs.Common.{length-take, get_or, add-one, drop-cons}
 use Rattle.std.specs.Prelude.{Option, Some, None, ◌==◌, slice_index}
 use Rattle.std.proofs.Math.Seq.{take-suc}
 use Rattle.std.proofs.lemmas.List.{take-append-drop, append-nil, length-map, take_all, length-take-le, take-append-le}
+use Rattle.std.proofs.lemmas.List.{nil_from_length}
 use Rattle.std.proofs.lemmas.Bool.{lt-ltb, cases_lt}
 use Rattle.std.specs.Io.KnownBytes.{Appends, Consumes}
 use Rattle.devices.specs.Desks.{SeenDesk}
@@ -31,6 +32,11 @@ Appends-nothing (Some xs) = sym (append-nil xs)
 pub Consumes-nothing : (a : Option (List ℕ)) → Consumes a a []
 Consumes-nothing None = tt
 Consumes-nothing (Some xs) = refl
+
+-- what a line does that is the kept one
+pub as_kept : (line kept : List ℕ) (old : SessionView × SeenDesk) (reply : Reply) (new : SessionView × SeenDesk)
+    → line ≡ kept → Takes line old reply new → Takes kept old reply new
+as_kept line kept old reply new is takes = subst (λ (t : List ℕ). Takes t old reply new) is takes
 
 -- a byte that ends no line goes on with the rest
 pub splits_more : (read : List ℕ) (lines : List (List ℕ)) (rest : List ℕ) (b : ℕ) → b ≢ 10 → Splits read lines rest
@@ -107,10 +113,6 @@ kept_line f size k big pending rest e old reply new s =
           let kept : length pending ≡ k = ap length e ∙ length-take-le k rest (omega arith) in
           Takes-long (f pending) (f rest) old reply new (omega (arith, size pending)) (omega (arith, size rest)) s
     ]
-
-length_zero : (xs : List ℕ) → length xs ≡ 0 → xs ≡ []
-length_zero [] e = refl
-length_zero (x ∷ xs) e = absurd (omega arith)
 
 module _ (old : SessionView × SeenDesk) (read written : List ℕ) (now : SessionView × SeenDesk) (pending : List ℕ)
     (lines bytes : ℕ) (r : Reached old read written now pending lines bytes) where
@@ -289,7 +291,7 @@ module _ (old : SessionView × SeenDesk) (read written : List ℕ) (now : Sessio
       → Finishes Takes old read (written ++ []) now
   none_finishes none few short =
       let size : length pending ≡ length (take KEPT r.rest) = ap length r.kept in
-      let no_rest : r.rest ≡ [] = length_zero r.rest (omega (arith, size, length-take KEPT r.rest)) in
+      let no_rest : r.rest ≡ [] = nil_from_length r.rest (omega (arith, size, length-take KEPT r.rest)) in
       record {
         lines = r.lines;
         rest = r.rest;

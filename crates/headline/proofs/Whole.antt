@@ -1,14 +1,13 @@
 -- Each state of the list is whole, all along a run.
-use Rattle.std.proofs.Common.{◌≡◌, ℕ, List, [], ◌∷◌, ◌++◌, Ok, refl, sym, subst}
+use Rattle.std.proofs.Common.{ℕ, List, [], ◌∷◌, ◌++◌, refl, sym, subst}
 use Rattle.std.specs.Prelude.{reverse}
 use Rattle.std.proofs.lemmas.List.{reverse-append}
 use Rattle.devices.specs.Desks.{SeenDesk}
-use Rattle.journal_entries.specs.State.{State, IsState}
 use Rattle.change_journal.specs.History.{History, Neighbour, AreStates, IsHistory}
 use Rattle.stack_text.specs.Laws.{Spells, WrittenIsRead}
 use Rattle.stack_text.specs.Listing.{spelling}
 use Rattle.stack_text.specs.declared.sheets.Version.TheVariants.{Second as second}
-use Rattle.headline.specs.Headline.{Snapshot, Timeline}
+use Rattle.headline.specs.Headline.{Snapshot}
 use Rattle.headline.specs.Saving.{Settles, TakesWhole, Takes}
 use Rattle.headline.specs.Unzipped.{snapshots_of, all_snapshots, timeline_of, timeline_beside}
 use Rattle.headline.specs.Whole.{AreWhole, MovesWhole, RunsStayWhole, StopsStayWhole, SavesSpell}

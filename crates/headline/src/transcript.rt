@@ -1,7 +1,7 @@
 //! A session over a reader, a writer and a desk: the headline.
 
 ghost use Rattle.std.specs.Prelude.{◌≡◌, ◌+◌, ◌-◌, ◌<◌, ◌≤◌, ◌≢◌, ◌↔◌, ◌⊎◌, ℕ, IsTrue, List, [], ◌∷◌, ◌++◌, length};
-ghost use Rattle.std.specs.Prelude.{take, IfOk, IfErr, OnOk, OnErr, IsErrOf, Ok, true, false};
+ghost use Rattle.std.specs.Prelude.{IfOk, IfErr, OnOk, OnErr, IsErrOf, Ok, true, false};
 ghost use Rattle.std.specs.Vec.{vec_capacity};
 ghost use Rattle.std.specs.Io.KnownBytes.{Appends, Consumes, IsAtEnd};
 ghost use Rattle.devices.specs.Desks.{SeenDesk, HearsOrForgets};
@@ -10,7 +10,7 @@ ghost use Rattle.headline.specs.Answers.{answer};
 ghost use Rattle.headline.specs.Saving.{KeptOrNot, Takes, as_heard};
 ghost use Rattle.session.specs.SessionView.{SessionView};
 ghost use Rattle.headline.specs.InputLines.{without_return as line_of_ended, AreLines};
-ghost use Rattle.headline.specs.Answering.{is_quit, Breaks, Finishes};
+ghost use Rattle.headline.specs.Answering.{is_quit, Breaks};
 ghost use Rattle.headline.specs.Writing.{IsCut};
 ghost use Rattle.headline.specs.Intake.{Reached, Onward, Broken};
 ghost use Rattle.headline.specs.Stops.{Ended, Stopped};
@@ -331,9 +331,9 @@ const BLOCK: usize = 4_096;
 /// of at most 4,096 bytes.
 ///
 /// The desk hears of each message that a line sent, in their order, once the line is done, and then, if it wants to,
-/// why the line faulted or was refused, in the words of the explainer. The text of a line that saves is handed to it then: the answer is `ok` where it
-/// keeps the text. Where it doesn't, its `failures` rose, what it kept before stands, and the answer is `refused 7`.
-/// Both come before the answer is written.
+/// why the line faulted or was refused, in the words of the explainer. The text of a line that saves is handed to it
+/// then: the answer is `ok` where it keeps the text. Where it doesn't, its `failures` rose, what it kept before stands,
+/// and the answer is `refused 7`. Both come before the answer is written.
 ///
 /// `TooManyLines` where a byte comes after 1,000,000 lines or 1,000,000,000 bytes; `Read` and `Write`
 /// only where the device failed, and then no line is done further; `Memory` only where none was there to

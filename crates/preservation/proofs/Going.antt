@@ -19,7 +19,7 @@ use Rattle.preservation.specs.Laws.{IsPrefix, GoesOn}
 whole : {A : Type 0} (xs : List A) → IsPrefix xs xs
 whole xs = ([], sym (append-nil xs))
 
-prefix_trans : {A : Type 0} (xs ys zs : List A) → IsPrefix xs ys → IsPrefix ys zs → IsPrefix xs zs
+pub prefix_trans : {A : Type 0} (xs ys zs : List A) → IsPrefix xs ys → IsPrefix ys zs → IsPrefix xs zs
 prefix_trans xs ys zs h k = (h.0 ++ k.0, k.1 ∙ ap (λ l. l ++ k.0) h.1 ∙ append_assoc xs h.0 k.0)
 
 pub goes_nowhere : {r : RunState} → GoesOn r r

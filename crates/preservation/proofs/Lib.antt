@@ -4,7 +4,7 @@ pub mod Bases
 pub mod Trails
 mod Risen
 pub mod Rises
-mod Going
+pub mod Going
 pub mod Runs
 pub mod Commands
 pub mod Placed

@@ -36,8 +36,9 @@ use Rattle.containers.specs.Writes.{Writes, Declares}
 use Rattle.meaning.specs.declared.end.Stop.{Stop}
 use Rattle.meaning.specs.declared.frame.Frame.{Frame}
 use Rattle.meaning.specs.Places.{Edits, Stores, Assigns, DeclaresAll, Sets, Adds}
-use Rattle.preservation.specs.Changes.{replaced_made, replaced_turn, replaced_writes, replaced_edits}
-use Rattle.preservation.specs.Changes.{replaced_stores, replaced_assigns, replaced_declares, replaced_declares_all, replaced_sets, replaced_adds}
+use Rattle.preservation.specs.Changes.{replaced_made, replaced_turn, replaced_writes, replaced_edits, replaced_stores}
+use Rattle.preservation.specs.Changes.{replaced_assigns, replaced_declares, replaced_declares_all, replaced_sets}
+use Rattle.preservation.specs.Changes.{replaced_adds}
 use Rattle.preservation.specs.Laws.{HasMemory}
 use Rattle.preservation.specs.Whole.{AreTexts, KeepsWhole}
 use Rattle.preservation.proofs.Placed.{IsPlaced, placed_variable}

@@ -1,6 +1,6 @@
 -- A value that takes the place of a text, as an edit makes it, and where a text stands.
-use Rattle.std.proofs.Common.{◌≡◌, ◌≤◌, ℕ, List, [], length, Bool, true, false, Option, Some, None, Result, Ok, Err, IfOk}
-use Rattle.std.proofs.Common.{refl, sym, ap, subst, ◌∙◌, arith}
+use Rattle.std.proofs.Common.{◌≡◌, ◌≤◌, ℕ, List, [], length, Bool, true, false, Some, None, Result, Ok, Err}
+use Rattle.std.proofs.Common.{IfOk, refl, sym, ap, subst, ◌∙◌, arith}
 use Rattle.std.specs.Prelude.{IsOk, nat_le, if◌then◌else◌}
 use Rattle.std.specs.Option.{ok_or}
 use Rattle.std.proofs.lemmas.Bool.Decides.{nat_tests}
@@ -50,7 +50,8 @@ pub place_stores : {w w1 : History} {f : Frame} {v : VariablesView} {t : List �
     → p.chunks ≡ [] → length t ≤ LIMIT → IsOk (whole w.now f.variables p.storage)
     → Writes w f.variables p.storage (due w.now f.variables delimiter p (Put Into t)) w1 v
     → Stores w f p.storage t w1 (record f { variables = v })
-place_stores {w} {w1} {f} {v} {t} p delimiter is_whole short stands written = by (whole w.now f.variables p.storage) refl
+place_stores {w} {w1} {f} {v} {t} p delimiter is_whole short stands written =
+    by (whole w.now f.variables p.storage) refl
   where
     by : (u : Result (List ℕ) Fault) → whole w.now f.variables p.storage ≡ u
         → Stores w f p.storage t w1 (record f { variables = v })

@@ -4,7 +4,6 @@ ghost use Rattle.std.specs.Prelude.{◌≡◌, true, length, IsSome, OnOk};
 ghost use Rattle.properties.specs.PropertyText.{property_of as property_text};
 ghost use Rattle.journal_entries.specs.Changes.{fits as fits_state};
 ghost use Rattle.change_journal.specs.Rising.{Made};
-ghost use Rattle.structural_changes.specs.Writes.{home};
 ghost use Rattle.object_references.specs.References as references;
 ghost use Rattle.object_references.specs.Settings as settings;
 ghost use Rattle.containers.specs.Base.{base};

@@ -1,6 +1,6 @@
 //! Operands, which are read where they stand.
 
-ghost use Rattle.std.specs.Prelude.{◌≡◌, ℕ, pos, [], ◌∷◌, Ok, Err, IfOk, MatchResult};
+ghost use Rattle.std.specs.Prelude.{◌≡◌, pos, [], ◌∷◌, Ok, Err, IfOk, MatchResult};
 ghost use Rattle.ht_values.specs.Functions.{built_in as built_in_of};
 ghost use Rattle.ht_values.specs.Outcome.{and_then};
 ghost use Rattle.ht_values.specs.Text.{numeral as numeral_of};

@@ -1,6 +1,6 @@
 //! Variables, fields and containers, as the rules read and write them.
 
-ghost use Rattle.std.specs.Prelude.{◌≡◌, ◌++◌, ◌∷◌, ℕ, [], IsSome, IsOk, IfOk, OnOk, Ok, option_copied, false, true};
+ghost use Rattle.std.specs.Prelude.{◌≡◌, ℕ, [], IsSome, IsOk, IfOk, OnOk, Ok, option_copied, false, true};
 ghost use Rattle.ht_values.specs.Text.{numeral as numeral_of};
 ghost use Rattle.ht_values.specs.declared.word.Where.TheVariants.{Into};
 ghost use Rattle.containers.specs.Base.{base};
@@ -355,7 +355,8 @@ pub fn put_at<E: External>(
     requires open { IsSome (base world.old.history).start }
     requires whole { place.now.chunks ≡ [] }
     requires stands { IsOk (whole_text world.old.history.now frame.old.variables place.now.storage) }
-    ensures meaning { OnOk result (Stores world.old.history frame.old place.now.storage new world.new.history frame.new) }
+    ensures meaning { OnOk result
+        (Stores world.old.history frame.old place.now.storage new world.new.history frame.new) }
     ensures base { base world.new.history ≡ base world.old.history }
 {
     law_of_value(&new);

@@ -1,10 +1,9 @@
 //! Values and parsing. A call that computes or parses may also be out of memory, which is `Stop::Memory`.
 
-ghost use Rattle.std.specs.Prelude.{◌≡◌, ℕ, ℤ, pos, [], ◌∷◌, List, Ok, Err, IfOk, IfErr, IfSome, OnOk, OnErr};
+ghost use Rattle.std.specs.Prelude.{◌≡◌, ℕ, pos, [], ◌∷◌, Ok, Err, IfOk, IfErr, IfSome, OnOk, OnErr};
 ghost use Rattle.ht_values.specs.Functions.{built_in as built_in_of};
 ghost use Rattle.ht_values.specs.Number.{number_of as number_of_text};
 ghost use Rattle.ht_values.specs.Operators.{binary as binary_of, unary as unary_of, truth_of as truth_of_text};
-ghost use Rattle.ht_values.specs.Outcome.{Gives};
 ghost use Rattle.ht_values.specs.Text.{numeral as numeral_of};
 ghost use Rattle.ht_lex.specs.Constants.{constant_text as text_of_constant};
 ghost use Rattle.ht_grammar.specs.Trees as tree;

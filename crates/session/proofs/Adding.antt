@@ -1,6 +1,7 @@
 -- Commands that are run, and commands that are given up.
 use Rattle.std.proofs.Common.{◌≡◌, ℕ, List, refl, sym, ap, subst, ◌∙◌, inl, inr, arith}
 use Rattle.std.specs.Prelude.{Option, Some, None, IfSome, IsSome, Result, Ok, Err, unwrap_or, option_map}
+use Rattle.std.proofs.lemmas.Option.{none-some}
 use Rattle.externals.specs.Log.{Log}
 use Rattle.journal_entries.specs.State.{State}
 use Rattle.journal_entries.specs.Trails.{IsOnce}
@@ -57,8 +58,8 @@ still_open old w number keeps = is_open w (subst (λ b. IsSome b.start) (sym kee
 
 -- ---- a command that ends
 
-has_memory : (end : Result (Unit {0}) Stop) (ending : Ending) → ending_of end ≡ Some ending → HasMemory end
-has_memory end ending is = λ out. let none : None ≡ Some ending = sym (ap ending_of out) ∙ is in cc
+pub answered : {end : Result (Unit {0}) Stop} {ending : Ending} → ending_of end ≡ Some ending → HasMemory end
+answered {ending = ending} is out = none-some ending (sym (ap ending_of out) ∙ is)
 
 -- what it adds
 pub adds : (steps number : ℕ) (does : Action) (old w new : History) (run : RunState)
@@ -68,7 +69,7 @@ pub adds : (steps number : ℕ) (does : Action) (old w new : History) (run : Run
     → ending_of end ≡ Some ending → IfSome w.start (λ o. IsOnce o.trail) → new ≡ committed w
     → Adds steps does number old (reply_of run ending) new
 adds steps number does old w new run end ending whole means keeps ends once joined =
-    let b = risen (rises_acts means (has_memory end ending ends)) in
+    let b = risen (rises_acts means (answered ends)) in
     let is_once : IsOnce b.0.trail = rw b.1 at once in
     record {
       end = w;

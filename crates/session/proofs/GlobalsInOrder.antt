@@ -13,6 +13,7 @@ use Rattle.std.specs.FinMap.Entries.{by_order}
 use Rattle.std.specs.Map.Iter.{deref_pair}
 use Rattle.std.specs.Ordering.{nat_cmp, is_eq, match_ordering}
 use Rattle.std.proofs.Math.Seq.{take-suc}
+use Rattle.std.proofs.lemmas.List.{nil_from_length}
 use Rattle.std.proofs.lemmas.Option.{slice_get_within, get_or_from_slice_get}
 use Rattle.journal_entries.specs.State.{Globals}
 use Rattle.journal_entries.specs.Named.{AreDistinct, IsNew, listed, numbered, with_value}
@@ -79,13 +80,9 @@ in_order_more es i ordered k v names at so_far =
     v.now new))
     ∙ ap (λ xs. entries (from_entries {R = slice_cmp nat_cmp} xs)) (sym pushed)
 
-none_listed : {A : Type 0} (xs : List A) → length xs ≡ 0 → xs ≡ []
-none_listed [] e = refl
-none_listed (x ∷ xs) e = absurd (omega arith)
-
 -- the map of no entries has none
 pub entries-empty : entries (empty {X = List ℕ} {R = slice_cmp nat_cmp}) ≡ []
-entries-empty = none_listed (entries empty) (sym (len-entries empty) ∙ len-empty (slice_cmp nat_cmp) (List ℕ))
+entries-empty = nil_from_length (entries empty) (sym (len-entries empty) ∙ len-empty (slice_cmp nat_cmp) (List ℕ))
 
 -- ---- the globals by the numbers of their names
 

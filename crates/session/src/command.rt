@@ -1,6 +1,6 @@
 //! What a dot line says.
 
-ghost use Rattle.std.specs.Prelude.{◌≡◌, ◌<◌, ◌≤◌, ◌==◌, ℕ, List, [], ◌∷◌, length, option_map};
+ghost use Rattle.std.specs.Prelude.{◌≡◌, ◌<◌, ◌≤◌, ◌==◌, ◌∷◌, length, option_map};
 ghost use Rattle.std.specs.List.{position, position_or_len};
 ghost use Rattle.session.specs.Commands as commands;
 ghost use Rattle.session.specs.Commands.{after_spaces as from_first_word, behind_name as from_first_space};

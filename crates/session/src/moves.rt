@@ -1,6 +1,6 @@
 //! Moves of the cursor to places of the history.
 
-ghost use Rattle.std.specs.Prelude.{◌≡◌, ◌<◌, ◌≤◌, ℕ, None, IfSome, length};
+ghost use Rattle.std.specs.Prelude.{◌≡◌, ◌<◌, ◌≤◌, None, IfSome, length};
 ghost use Rattle.session.specs.Moves.{back_by, forth_by, undone, redone, undone_to, places_to as places_back_to};
 ghost use Rattle.session.specs.Moves.{MovesTo};
 ghost use Rattle.session.specs.Stamped.{numbers_of, DescendFrom};

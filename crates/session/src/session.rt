@@ -1,7 +1,7 @@
 //! A session: a world, and the lines that it takes.
 
-ghost use Rattle.std.specs.Prelude.{◌≡◌, ◌≤◌, ◌==◌, ◌&&◌, ◌⊎◌, [], ◌∷◌, nat_le, length, true, OnOk, OnErr, IfOk, IfErr};
-ghost use Rattle.std.specs.Prelude.{IsErr, IsErrOf, IsOk, MatchBool, Some, None, map, option_map, slice_index_or};
+ghost use Rattle.std.specs.Prelude.{◌≡◌, ◌≤◌, ◌==◌, ◌&&◌, [], nat_le, length, true, OnOk, IfOk, IfErr};
+ghost use Rattle.std.specs.Prelude.{IsErr, IsErrOf, MatchBool, Some, None, map, option_map, slice_index_or};
 ghost use Rattle.object_table.specs.WellFormed.{IsWellFormed};
 ghost use Rattle.journal_entries.specs.State.{seen_by, seen_at, titles_of, has_name, index_of};
 ghost use Rattle.change_journal.specs.History.{IsHistory, FollowTable, plugged, unplugged};
@@ -14,7 +14,7 @@ ghost use Rattle.stack_text.specs.Listing.{spelling};
 ghost use Rattle.session.specs.TakesLine.{TakesLine, Performs, LineMayRunOut};
 ghost use Rattle.session.specs.Commands.{command_in as command_by};
 ghost use Rattle.session.specs.declared.limits.TheConstants.{LONGEST_LINE};
-ghost use Rattle.session.specs.Replies.{ShowsCells, cells_named, ended as ended_by, refused as refused_by};
+ghost use Rattle.session.specs.Replies.{ShowsCells, cells_named};
 ghost use Rattle.session.specs.Replies.{saving_reply, shown_reply, moved_reply, typed_reply};
 
 use crate::command::{Command, Reading, behind_name, command_in, is_dot_line, second_word};

@@ -1,5 +1,6 @@
 -- What the text tools do at a turn.
 use Rattle.std.specs.Prelude.{ℕ, Bool, true, false, nat_eq, if◌then◌else◌, Some, None}
+use Rattle.externals.specs.Log.{Log, Follows, Follows-prop}
 use Rattle.externals.specs.Turns.{TurnTable}
 use Rattle.text_tools.specs.Lookup.{table_turn}
 use Rattle.text_tools.specs.Replacing.{replace_turn}
@@ -26,3 +27,7 @@ tool_table kind cells input =
     if nat_eq kind 5 then Some (replace_turn input, cells)
     else if nat_eq kind 6 then Some (table_turn cells input)
     else None
+
+-- the turns of a tool follow the table in one way at most
+pub follows_once : (tool : Tool) (turns : Log) → IsProp (Follows tool_table (kind_of tool) turns)
+follows_once tool turns = Follows-prop tool_table (kind_of tool) turns

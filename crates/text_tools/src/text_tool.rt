@@ -2,8 +2,8 @@
 
 ghost use Rattle.std.specs.Prelude.{◌≡◌, [], length, true, false, replicate, IfOk, OnErr};
 ghost use Rattle.externals.specs.Cells.{IsPatch};
-ghost use Rattle.externals.specs.Log.{Follows, Follows-prop, IsTurnOf};
-ghost use Rattle.text_tools.specs.Tools.{cell_count_of, kind_of, tool_table};
+ghost use Rattle.externals.specs.Log.{Follows, IsTurnOf};
+ghost use Rattle.text_tools.specs.Tools.{cell_count_of, follows_once, kind_of, tool_table};
 
 use crate::replace::answer;
 use crate::table;
@@ -28,7 +28,7 @@ pub struct TextTool {
     cells: Cells,
     log: TurnLog,
     ghost count: { length cells ≡ cell_count_of tool },
-    ghost follows: { Follows tool_table (kind_of tool) log.turns } by { Follows-prop tool_table (kind_of tool) log.turns },
+    ghost follows: { Follows tool_table (kind_of tool) log.turns } by { follows_once tool log.turns },
 }
 
 impl TextTool {

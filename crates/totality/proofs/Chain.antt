@@ -15,6 +15,7 @@ use Rattle.meaning.specs.declared.frame.Frame.{Frame}
 use Rattle.meaning.specs.State.{RunState}
 use Rattle.meaning.specs.Values.{Yields}
 use Rattle.preservation.specs.Laws.{HasMemory}
+use Rattle.preservation.proofs.Ends.{stopped}
 use Rattle.totality.specs.Laws.{Behaviour, Behaves}
 use Rattle.totality.proofs.Behaving.{IsSafe}
 
@@ -92,24 +93,19 @@ same_run (has_run o w r f has_memory k h) rule = has_run o w r f has_memory k (r
 pub up : {begun : Begun} {n : ℕ} {w : History} {r : RunState} → Underway begun n w r → Underway begun (suc n) w r
 up k = let fewer = k.left in record { is_open = k.is_open; left = omega (arith, fewer) }
 
-pub stops_too : {A B : Type 0} {z : Stop} → HasMemory {A = A} (Err z) → HasMemory {A = B} (Err z)
-stops_too {z = Memory} has_memory = absurd (has_memory refl)
-stops_too {z = Exited} has_memory = λ e. cc
-stops_too {z = Faults n} has_memory = λ e. cc
-
 pub then : {A B : Type 0} {begun : Begun} {n : ℕ} {P : Result A Stop → History → RunState → Type 0}
     {Q : Result B Stop → History → RunState → Type 0} → Has begun n P →
     ((z : Stop) (w : History) (r : RunState) → P (Err z) w r → Q (Err z) w r) →
     ((a : A) (w : History) (r : RunState) → Underway begun n w r → P (Ok a) w r → Has begun n Q) → Has begun n Q
 then (has (Ok a) w r has_memory k h) stops goes_on = goes_on a w r k h
-then (has (Err z) w r has_memory k h) stops goes_on = has (Err z) w r (stops_too has_memory) k (stops z w r h)
+then (has (Err z) w r has_memory k h) stops goes_on = has (Err z) w r (stopped has_memory) k (stops z w r h)
 
 pub then_in : {A B : Type 0} {begun : Begun} {n : ℕ} {P : Result A Stop → History → RunState → Type 0}
     {Q : Result B Stop → History → RunState → Frame → Type 0} (f : Frame) → Has begun n P →
     ((z : Stop) (w : History) (r : RunState) → P (Err z) w r → Q (Err z) w r f) →
     ((a : A) (w : History) (r : RunState) → Underway begun n w r → P (Ok a) w r → HasRun begun n Q) → HasRun begun n Q
 then_in f (has (Ok a) w r has_memory k h) stops goes_on = goes_on a w r k h
-then_in f (has (Err z) w r has_memory k h) stops goes_on = has_run (Err z) w r f (stops_too has_memory) k
+then_in f (has (Err z) w r has_memory k h) stops goes_on = has_run (Err z) w r f (stopped has_memory) k
     (stops z w r h)
 
 pub then_run : {A B : Type 0} {begun : Begun} {n : ℕ} {P : Result A Stop → History → RunState → Frame → Type 0}
@@ -118,7 +114,7 @@ pub then_run : {A B : Type 0} {begun : Begun} {n : ℕ} {P : Result A Stop → H
     ((a : A) (w : History) (r : RunState) (f : Frame) → Underway begun n w r → P (Ok a) w r f → HasRun begun n Q) →
     HasRun begun n Q
 then_run (has_run (Ok a) w r f has_memory k h) stops goes_on = goes_on a w r f k h
-then_run (has_run (Err z) w r f has_memory k h) stops goes_on = has_run (Err z) w r f (stops_too has_memory) k
+then_run (has_run (Err z) w r f has_memory k h) stops goes_on = has_run (Err z) w r f (stopped has_memory) k
     (stops z w r f h)
 
 pub then_lines : {A B : Type 0} {begun : Begun} {n : ℕ} {P : Result A Stop → History → RunState → Frame → Type 0}
@@ -127,7 +123,7 @@ pub then_lines : {A B : Type 0} {begun : Begun} {n : ℕ} {P : Result A Stop →
     ((a : A) (w : History) (r : RunState) (f : Frame) → Underway begun n w r → P (Ok a) w r f → Has begun n Q) →
     Has begun n Q
 then_lines (has_run (Ok a) w r f has_memory k h) stops goes_on = goes_on a w r f k h
-then_lines (has_run (Err z) w r f has_memory k h) stops goes_on = has (Err z) w r (stops_too has_memory) k
+then_lines (has_run (Err z) w r f has_memory k h) stops goes_on = has (Err z) w r (stopped has_memory) k
     (stops z w r f h)
 
 -- a statement, and then the rest of its lines

@@ -21,9 +21,10 @@ use Rattle.meaning.specs.Menu.{message_name}
 use Rattle.meaning.specs.Places.{field_text, field_place}
 use Rattle.meaning.specs.State.{RunState, typed_frame}
 use Rattle.meaning.specs.Locked.{MeetsLock}
+use Rattle.preservation.proofs.Ends.{stopped}
 use Rattle.totality.specs.Laws.{Behaves}
 use Rattle.totality.proofs.Chain.{Begun}
-use Rattle.totality.proofs.Chain.{Underway, Has, has, ok, same, stops_too, then, then_lines, choose, computed}
+use Rattle.totality.proofs.Chain.{Underway, Has, has, ok, same, then, then_lines, choose, computed}
 use Rattle.totality.proofs.Leaves.{then_done_lines, place_stands, stores}
 use Rattle.totality.proofs.Levels.{Level}
 use Rattle.totality.proofs.Expressions.{part_has, sends_has}
@@ -71,8 +72,8 @@ clicks_has h w r pa k =
     (λ there. same (tells_has h w2 r2 i MouseUp k2) (λ o w3 r3 g3. Clicks.clicks g g2 there g3))
     (λ gone. ok _ k2 (Clicks.part_goes g g2 gone))))
 
-no_value : {A : Type 0} {fa : Fault} {a : A} → Err fa ≡ Ok a → ⊥
-no_value e = cc
+pub no_value : {A E : Type 0} {e : E} {a : A} → ◌≡◌ {A = Result A E} (Err e) (Ok a) → ⊥
+no_value is = cc
 
 types_over_has : {begun : Begun} {n : ℕ} → Level begun n → (w : History) (r : RunState) (o : Referent) (t : List ℕ) →
     Underway begun (suc n) w r → Has begun (suc n) (TypesOver w r o t)
@@ -105,7 +106,7 @@ types_into_has {begun} {n} h w r t pa k = by_part (refers_has h w r pa k)
         Has begun (suc n) (TypesInto w r t pa) ⊎
         ((w2 : History) × ((r2 : RunState) × IsLocked begun w r (act.type_text t pa) w2 r2))
     by_part (has (Err z) w1 r1 has_memory k1 g) = inl
-        (has (Err z) w1 r1 (stops_too has_memory) k1 (TypesInto.type_misses g))
+        (has (Err z) w1 r1 (stopped has_memory) k1 (TypesInto.type_misses g))
     by_part (has (Ok i) w1 r1 has_memory k1 g) =
         choose (locks_text w1.now.stack i) (λ locked. inr (w1, (r1, ((i, g, locked), k1.is_open.behaves)))) (λ free. inl
         (then (tells_has h w1 r1 i OpenField k1) (λ z w2 r2 g2. TypesInto.field_open_stops g free g2) (λ _ w2 r2 k2 g2.

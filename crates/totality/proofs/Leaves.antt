@@ -47,8 +47,9 @@ use Rattle.meaning.specs.Places.{layer_of_field}
 use Rattle.meaning.specs.State.{RunState, Step}
 use Rattle.meaning.specs.Values.{Yields, Parses}
 use Rattle.preservation.specs.Laws.{HasMemory}
+use Rattle.preservation.proofs.Ends.{stopped}
 use Rattle.totality.specs.Laws.{Behaves}
-use Rattle.totality.proofs.Chain.{Begun, IsOpen, Underway, Has, has, HasRun, has_run, up, stops_too, maybe}
+use Rattle.totality.proofs.Chain.{Begun, IsOpen, Underway, Has, has, HasRun, has_run, up, maybe}
 
 -- ---- steps
 
@@ -218,7 +219,7 @@ pub then_ends : {B : Type 0} {begun : Begun} {n : ℕ} {P : Result (Unit {0}) St
     Ends begun P → ((z : Stop) (w : History) → P (Err z) w → Q (Err z) w r) →
     ((w : History) → Underway begun n w r → P (Ok tt) w → Has begun n Q) → Has begun n Q
 then_ends k (ends (Ok u) w1 has_memory is_open h) stops goes_on = goes_on w1 (still w1 k is_open) h
-then_ends {r = r} k (ends (Err z) w1 has_memory is_open h) stops goes_on = has (Err z) w1 r (stops_too has_memory)
+then_ends {r = r} k (ends (Err z) w1 has_memory is_open h) stops goes_on = has (Err z) w1 r (stopped has_memory)
     (still w1 k is_open) (stops z w1 h)
 
 pub then_ends_in : {B : Type 0} {begun : Begun} {n : ℕ} {P : Result (Unit {0}) Stop → History → Type 0}
@@ -227,7 +228,7 @@ pub then_ends_in : {B : Type 0} {begun : Begun} {n : ℕ} {P : Result (Unit {0})
     ((w : History) → Underway begun n w r → P (Ok tt) w → HasRun begun n Q) → HasRun begun n Q
 then_ends_in f k (ends (Ok u) w1 has_memory is_open h) stops goes_on = goes_on w1 (still w1 k is_open) h
 then_ends_in {r = r} f k (ends (Err z) w1 has_memory is_open h) stops goes_on = has_run (Err z) w1 r f
-    (stops_too has_memory) (still w1 k is_open) (stops z w1 h)
+    (stopped has_memory) (still w1 k is_open) (stops z w1 h)
 
 pub then_edited : {B : Type 0} {begun : Begun} {n : ℕ} {P : Result (Unit {0}) Stop → History → Frame → Type 0}
     {Q : Result B Stop → History → RunState → Frame → Type 0} {w : History} {r : RunState} → Underway begun n w r →
@@ -235,7 +236,7 @@ pub then_edited : {B : Type 0} {begun : Begun} {n : ℕ} {P : Result (Unit {0}) 
     ((w : History) (f : Frame) → Underway begun n w r → P (Ok tt) w f → HasRun begun n Q) → HasRun begun n Q
 then_edited k (ends_in (Ok u) w1 f1 has_memory is_open h) stops goes_on = goes_on w1 f1 (still w1 k is_open) h
 then_edited {r = r} k (ends_in (Err z) w1 f1 has_memory is_open h) stops goes_on = has_run (Err z) w1 r f1
-    (stops_too has_memory) (still w1 k is_open) (stops z w1 f1 h)
+    (stopped has_memory) (still w1 k is_open) (stops z w1 f1 h)
 
 -- ---- containers
 

@@ -5,20 +5,14 @@ use Rattle.ht_grammar.specs.Laws.{TextsAreReadExactly}
 use Rattle.ht_grammar.specs.Statements as stm
 use Rattle.ht_grammar.specs.Trees as tree
 use Rattle.externals.specs.declared.external.Ask.{Ask}
-use Rattle.externals.specs.declared.external.Ask.TheVariants.{Done, Fail}
 use Rattle.externals.specs.declared.external.Input.{Input}
 use Rattle.change_journal.specs.History.{History}
 use Rattle.meaning.specs.declared.frame.Frame.{Frame}
 use Rattle.meaning.specs.Meaning.{Val, Form, Block, Endless, While, Counts, Along, Talks, CallsBack}
 use Rattle.meaning.specs.Repeats.{CounterState}
 use Rattle.meaning.specs.State.{RunState}
+use Rattle.definitional_interpreter.proofs.Leaves.{IsCall}
 use Rattle.totality.proofs.Chain.{Begun, Underway, Has, HasRun}
-
--- a turn that goes on: it is neither done nor failed
-abbrev pub IsCallBack : Ask → Type 0
-IsCallBack (Done v passes) = ⊥
-IsCallBack Fail = ⊥
-IsCallBack _ = Unit {0}
 
 -- how texts are read, and the parts that begin behind a step
 pub record Level (begun : Begun) (n : ℕ) : Type 0 where
@@ -39,5 +33,5 @@ pub record Level (begun : Begun) (n : ℕ) : Type 0 where
       (kind : HandlerKind) → d ≤ 100 → Underway begun n w r → Has begun n (Along w r f d i is name vs kind)
   pub talks : (w : History) (r : RunState) (d e : ℕ) (input : Input) → e < length w.now.externals → d ≤ 100 →
       Underway begun n w r → Has begun n (Talks w r d e input)
-  pub calls_back : (w : History) (r : RunState) (d : ℕ) (ask : Ask) → IsCallBack ask → d ≤ 100 → Underway begun n w r →
+  pub calls_back : (w : History) (r : RunState) (d : ℕ) (ask : Ask) → IsCall ask → d ≤ 100 → Underway begun n w r →
       Has begun n (CallsBack w r d ask)

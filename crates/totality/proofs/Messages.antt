@@ -45,6 +45,7 @@ use Rattle.meaning.specs.Places.{field_named_place}
 use Rattle.meaning.specs.Repeats.{returned}
 use Rattle.meaning.specs.State.{RunState, Step, typed_frame, handler_frame}
 use Rattle.meaning.specs.Values.{Parses}
+use Rattle.definitional_interpreter.proofs.Leaves.{IsCall}
 use Rattle.totality.proofs.Chain.{Begun}
 use Rattle.totality.proofs.Chain.{Underway, Has, has, ok, fault, yield, same, then, then_lines, choose, maybe, deep}
 use Rattle.totality.proofs.Chain.{nested}
@@ -55,7 +56,7 @@ use Rattle.preservation.proofs.Bases.{base_calls_back}
 use Rattle.preservation.proofs.Ends.{given}
 use Rattle.whole_states.proofs.Leaves.{named_stands, stands_after}
 use Rattle.totality.proofs.Turns.{then_turn}
-use Rattle.totality.proofs.Levels.{IsCallBack, Level}
+use Rattle.totality.proofs.Levels.{Level}
 use Rattle.totality.proofs.Expressions.{sends_has, text_val_has, val_has, calls_has}
 use Rattle.totality.proofs.Blocks.{block_ends, block_has}
 
@@ -120,7 +121,7 @@ menu_has h w r f d DeleteCardItem le k =
 
 -- a call-back, and the turn that gets its answer
 goes_on_talking : {begun : Begun} {n : ℕ} → Level begun n → (w : History) (r : RunState) (d e : ℕ) (input : Input)
-    (ask : Ask) (r1 : RunState) (w1 : History) → e < length w.now.externals → IsCallBack ask → Step r (Ok tt) r1 →
+    (ask : Ask) (r1 : RunState) (w1 : History) → e < length w.now.externals → IsCall ask → Step r (Ok tt) r1 →
     TookTurn w w1 e input ask → d ≤ 100 → Underway begun n w1 r1 → Has begun n (Talks w r d e input)
 goes_on_talking h w r d e input ask r1 w1 there calls st took le k1 =
     then (h.calls_back w1 r1 d ask calls le k1) (λ z w2 r2 g. Talks.talk_stops st took g)
@@ -158,7 +159,7 @@ converses_has h w r d e vs there le k =
     (λ at. fault _ k (Converses.conversation_too_deep (ltb-false 16 (length vs) few) at)))
 
 pub calls_back_has : {begun : Begun} {n : ℕ} → Level begun n → (w : History) (r : RunState) (d : ℕ) (ask : Ask) →
-    IsCallBack ask → d ≤ 100 → Underway begun (suc n) w r → Has begun (suc n) (CallsBack w r d ask)
+    IsCall ask → d ≤ 100 → Underway begun (suc n) w r → Has begun (suc n) (CallsBack w r d ask)
 calls_back_has h w r d (SendCardMessage note t) calls le k =
     then_parsed typed_lines ReadsLines t h.texts.cuts h.texts.lines k (λ z p. CallsBack.message_syntax refl p) (λ ss p.
     then_lines (block_has h w r (typed_frame w) d ss le k) (λ z w1 r1 f1 g. CallsBack.message_stops refl p refl g)

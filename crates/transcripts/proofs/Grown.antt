@@ -1,9 +1,8 @@
 -- The externals that there are stay, whatever lines do, and their logs only grow.
 use Rattle.std.proofs.Common.{◌≡◌, ◌⊎◌, inl, inr, ℕ, ◌<◌, List, [], ◌∷◌, Bool, true, false}
 use Rattle.std.proofs.Common.{length, refl, sym, ap, subst}
-use Rattle.std.proofs.Common.{◌∙◌, Some, None, Result}
+use Rattle.std.proofs.Common.{◌∙◌, Result}
 use Rattle.std.specs.Prelude.{MatchBool}
-use Rattle.std.proofs.lemmas.Option.{none-some}
 use Rattle.devices.specs.Desks.{SeenDesk}
 use Rattle.externals.specs.Log.{Log}
 use Rattle.externals.specs.Turns.{no_table}
@@ -21,11 +20,12 @@ use Rattle.object_references.specs.declared.referent.Referent.{Referent}
 use Rattle.meaning.specs.declared.end.Stop.{Stop}
 use Rattle.preservation.specs.Laws.{HasMemory, IsPrefix}
 use Rattle.definitional_interpreter.specs.Turns.{sorts_of}
-use Rattle.definitional_interpreter.proofs.Comes.{Kept, Sight, prefix_same, prefix_trans}
+use Rattle.preservation.proofs.Going.{prefix_trans}
+use Rattle.definitional_interpreter.proofs.Comes.{Kept, Sight, prefix_same}
 use Rattle.definitional_interpreter.proofs.Outcomes.{acts_comes, refers_comes, tells_comes, types_over_comes}
-use Rattle.session.specs.Meaning.{Moment, ending_of, Fresh}
-use Rattle.session.specs.declared.reply.Ending.{Ending}
+use Rattle.session.specs.Meaning.{Moment, Fresh}
 use Rattle.session.specs.declared.reply.Reply.{Reply}
+use Rattle.session.proofs.Adding.{answered}
 use Rattle.headline.specs.Answering.{is_quit}
 use Rattle.headline.specs.Headline.{Snapshot, Timeline, IsPresent, Replaces, KeepsOut, at_cursor, LineMoves}
 use Rattle.headline.specs.Saving.{SettlesHeard}
@@ -53,9 +53,6 @@ grows_trans {old} {mid} {new} first later = record {
 }
 
 -- ---- a command
-
-pub answered : {o : Result (Unit {0}) Stop} {e : Ending} → ending_of o ≡ Some e → HasMemory o
-answered {o} {e} is never = let gone : ending_of o ≡ None = ap ending_of never in none-some e (sym gone ∙ is)
 
 -- a sight of nothing, by which a run keeps what it keeps
 abbrev any_sight : Sight

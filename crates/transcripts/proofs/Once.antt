@@ -1,8 +1,9 @@
 -- A line is taken in one way, by the turns of the externals.
 use Rattle.std.proofs.Common.{◌≡◌, ◌⊎◌, inl, inr, ℕ, List, [], ◌∷◌, ◌++◌, Bool, true, false, Option, Some, None, Result}
-use Rattle.std.proofs.Common.{Ok, Err, refl, sym, ap, subst, ◌∙◌, append_assoc}
+use Rattle.std.proofs.Common.{Ok, refl, sym, ap, subst, ◌∙◌, append_assoc, true≢false}
 use Rattle.std.specs.Prelude.{MatchBool, length, nat_lt}
 use Rattle.std.specs.List.{AllByRecursion}
+use Rattle.std.proofs.lemmas.Option.{same_Some}
 use Rattle.externals.specs.Log.{Log}
 use Rattle.externals.specs.Turns.{TurnTable}
 use Rattle.ht_grammar.specs.Laws.{TextsAreReadExactly}
@@ -10,15 +11,16 @@ use Rattle.ht_grammar.specs.Trees as tree
 use Rattle.journal_entries.specs.State.{State}
 use Rattle.change_journal.specs.History.{History}
 use Rattle.meaning.specs.declared.end.Stop.{Stop}
-use Rattle.meaning.specs.declared.end.Stop.TheVariants.{Fault as Faults, Exited, Memory}
 use Rattle.meaning.specs.Actions as act
 use Rattle.meaning.specs.Actions.{Action, locks_text}
 use Rattle.meaning.specs.Locked.{MeetsLock}
 use Rattle.meaning.specs.Meaning.{Refers, TypesInto, Acts}
 use Rattle.meaning.specs.State.{RunState, fresh_run}
 use Rattle.preservation.specs.Laws.{HasMemory}
+use Rattle.preservation.proofs.Ends.{stopped}
 use Rattle.definitional_interpreter.specs.Laws.{ReferencesAreComputed}
 use Rattle.definitional_interpreter.specs.Turns.{sorts_of}
+use Rattle.totality.proofs.Commands.{no_value}
 use Rattle.session.specs.Commands.{ReadsAction, typing, is_dot_line, command_in, behind_name, second as second_word}
 use Rattle.session.specs.Commands.{words}
 use Rattle.session.specs.declared.command.Command.{Command}
@@ -34,11 +36,12 @@ use Rattle.session.specs.declared.reply.Reply.{Reply}
 use Rattle.session.specs.Meaning.{Moment, moment, Fresh, Locked}
 use Rattle.session.specs.Replies.{Refuses, Obeys, Moves, Looks, ShowsStack, ShowsCells, cells_named}
 use Rattle.session.specs.Splits.{IsLine, Splits, ended_lines}
+use Rattle.session.proofs.Adding.{answered}
 use Rattle.headline.specs.Headline.{Snapshot, Timeline, IsPresent, followed_by, moment_in, Replaces, KeepsOut, Commands}
 use Rattle.headline.specs.Headline.{Does, DoesLine, line_counted, LineMoves}
 use Rattle.transcripts.specs.Laws.{HasKinds}
 use Rattle.transcripts.specs.Replies.{IsOfKinds, AreToldBy, RepliesAreOne}
-use Rattle.transcripts.proofs.Grown.{answered, tells_grow, typing_grows}
+use Rattle.transcripts.proofs.Grown.{tells_grow, typing_grows}
 use Rattle.transcripts.proofs.Kept.{HasRoom, refused_room, of_each}
 use Rattle.transcripts.proofs.OneReply.{Begin, one_reference}
 use Rattle.transcripts.proofs.Told.{told_before}
@@ -124,17 +127,6 @@ one_show state {reply = reply} {reply2 = reply2} a b =
 
 -- ---- a fresh command
 
-true_false : true ≡ false → ⊥
-true_false e = cc
-
-misses_too : {A B : Type 0} (z : Stop) → HasMemory {A = A} (Err z) → HasMemory {A = B} (Err z)
-misses_too Memory has = absurd (has refl)
-misses_too Exited has = λ e. cc
-misses_too (Faults fa) has = λ e. cc
-
-no_value : {A : Type 0} {z : Stop} {a : A} → ◌≡◌ {A = Result A Stop} (Err z) (Ok a) → ⊥
-no_value e = cc
-
 -- two runs from one moment, whose turns are told alike
 module _ (references : ReferencesAreComputed) (table : TurnTable) (turns : ℕ → Log) (kinds : List ℕ) (w v : History)
     (begin : Begin kinds w v) where
@@ -148,7 +140,7 @@ module _ (references : ReferencesAreComputed) (table : TurnTable) (turns : ℕ �
   is_locked {w1} {v2} {i = i} {field} are others_are a b unlocked locked =
       let both = one_reference references table turns kinds w v begin are others_are (λ e. cc) (λ e. cc) a b in
       let field_is : i ≡ field = cc in
-      true_false (sym locked ∙ ap (λ (m : Moment). locks_text m.state.stack field) (sym both.1)
+      true≢false (sym locked ∙ ap (λ (m : Moment). locks_text m.state.stack field) (sym both.1)
       ∙ ap (locks_text w1.now.stack) (sym field_is) ∙ unlocked)
 
   -- a text that is typed into a field which was locked when it was found
@@ -157,7 +149,7 @@ module _ (references : ReferencesAreComputed) (table : TurnTable) (turns : ℕ �
       Refers v r pa (Ok field) v2 q2 → locks_text v2.now.stack field ≡ true → ⊥
   typed_unlocked are others_are has TypesInto.type_memory found locked = has refl
   typed_unlocked are others_are has (TypesInto.type_misses {z = z} g) found locked =
-      let both = one_reference references table turns kinds w v begin are others_are (misses_too z has) (λ e. cc) g
+      let both = one_reference references table turns kinds w v begin are others_are (stopped has) (λ e. cc) g
       found in no_value both.0
   typed_unlocked are others_are has (TypesInto.field_open_stops {w1 = w1} {w2 = w2} g unlocked rest) found locked =
       is_locked (told_before table turns kinds w1.logs w2.logs (tells_grow rest has) are) others_are g found unlocked
@@ -210,13 +202,8 @@ pub record Laws : Type 0 where
   pub replies : RepliesAreOne
   pub references : ReferencesAreComputed
 
-state_in : State → Option Snapshot → State
-state_in s None = s
-state_in s (Some snapshot) = snapshot.state
-
 same_state : (t : Timeline) {s u : State} → IsPresent s t → IsPresent u t → s ≡ u
-unfolding state_in
-same_state t {s} {u} a b = ap (state_in s) (sym a.1 ∙ b.1)
+same_state t a b = ap (λ (s : Snapshot). s.state) (same_Some _ _ (sym a.1 ∙ b.1))
 
 -- the turns of the externals after a line are told
 module _ (laws : Laws) (table : TurnTable) (turns : ℕ → Log) (kinds : List ℕ) where

@@ -15,8 +15,9 @@ use Rattle.definitional_interpreter.specs.Told.{Visible, Told, told, seen_since}
 use Rattle.definitional_interpreter.specs.Turns.{sorts_of, logs_since}
 use Rattle.session.specs.declared.reply.Ending.{Ending}
 use Rattle.session.specs.Meaning.{Moment, moment, ending_of, reply_of}
+use Rattle.session.proofs.Adding.{answered}
 use Rattle.transcripts.specs.Replies.{AreToldBy, RepliesAreOne}
-use Rattle.transcripts.proofs.Grown.{Grows, answered, fresh_kept, refers_grow, logs_kept}
+use Rattle.transcripts.proofs.Grown.{Grows, fresh_kept, refers_grow, logs_kept}
 use Rattle.transcripts.proofs.Told.{turns_after, told_since, logs_by_since}
 
 -- ---- two runs

@@ -1,16 +1,15 @@
 -- What lines of bytes do has texts.
 use Rattle.std.proofs.Common.{◌≡◌, ℕ, ◌-◌, ◌≤◌, ◌<◌, List, [], ◌∷◌, ◌++◌, Bool, true, false, sym, subst, append_assoc}
-use Rattle.std.proofs.Common.{arith}
-use Rattle.std.specs.Prelude.{nat_lt, length, take, drop, slice_index, ◌==◌, if◌then◌else◌}
+use Rattle.std.specs.Prelude.{nat_lt, length, take, slice_index, ◌==◌, if◌then◌else◌}
 use Rattle.std.specs.List.{AllByRecursion, position_or_len}
 use Rattle.std.proofs.lemmas.Bool.{ltb-false}
-use Rattle.std.proofs.lemmas.List.{length-drop}
-use Rattle.std.proofs.lemmas.List.Elements.{All-take, All-drop, All-from_recursion, recursion_from_All}
+use Rattle.std.proofs.lemmas.List.Elements.{All-take, All-from_recursion, recursion_from_All}
 use Rattle.ht_values.specs.Text.{IsText}
 use Rattle.ht_grammar.specs.Statements as stm
 use Rattle.meaning.specs.Actions.{Action}
 use Rattle.whole_states.specs.Texts.{ActionTexts, TypedTexts, TypedLinesHaveTexts, ClickedPartsHaveTexts}
 use Rattle.whole_states.specs.Texts.{TypedTextsHaveTexts}
+use Rattle.whole_states.proofs.TreeTexts.{dropped}
 use Rattle.session.specs.Commands.{ReadsAction, typing, behind_name}
 use Rattle.session.specs.declared.limits.TheConstants.{LONGEST_LINE}
 use Rattle.session.specs.declared.command.Reading.{Reading}
@@ -46,17 +45,11 @@ line_text line bytes short =
     let most : length line ≤ LONGEST_LINE = ltb-false LONGEST_LINE (length line) short in
     record { short = most; bytes = bytes }
 
-rest_text : (n : ℕ) (line : List ℕ) → IsText line → IsText (drop n line)
-rest_text n line is =
-    let fewer = length-drop n line in
-    let short = is.short in
-    record { short = omega (arith, fewer, short); bytes = All-drop (λ b. b < 256) n line is.bytes }
-
 pub says_texts : TextReadings → (line : List ℕ) → AreBytes line → ShortSaysSuch ActionTexts line
 says_texts readings line bytes short reading does =
     let is = line_text line bytes short in (
       action_texts readings reading line does is,
-      action_texts readings reading (behind_name line) does (rest_text (position_or_len (λ b. b == 32) line) line is),
+      action_texts readings reading (behind_name line) does (dropped line (position_or_len (λ b. b == 32) line) is),
     )
 
 -- ---- lines of bytes

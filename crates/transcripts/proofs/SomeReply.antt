@@ -18,12 +18,13 @@ use Rattle.session.specs.declared.reply.Ending.{Ending}
 use Rattle.session.specs.declared.reply.Ending.TheVariants as endings
 use Rattle.session.specs.declared.reply.Reply.{Reply}
 use Rattle.session.specs.Meaning.{Moment, ending_of, reply_of, Fresh, Locked}
+use Rattle.session.proofs.Adding.{answered}
 use Rattle.totality.specs.Laws.{Behaviour, Behaves, HasOutcome, outcome, ActionsHaveAnOutcome, HasOutcomeBy, outcome_by}
 use Rattle.totality.specs.Laws.{ActionsHaveAnOutcomeBy, BehavioursAreLogged, AreTurnsBy}
 use Rattle.totality.specs.Laws as total
 use Rattle.transcripts.specs.Replies.{AreTurnsOf, LogsFollow, HasReplyBy, IsLockedBy, RepliesExist, RepliesExistBy}
 use Rattle.transcripts.specs.Replies.{RepliesStayWhole}
-use Rattle.transcripts.proofs.Grown.{answered, acts_grow, lock_grows}
+use Rattle.transcripts.proofs.Grown.{acts_grow, lock_grows}
 use Rattle.whole_states.specs.Laws.{ActionsLeadToWhole}
 use Rattle.whole_states.specs.Texts.{RunTexts}
 use Rattle.whole_states.proofs.ValueTexts.{empty_text}

@@ -1,9 +1,8 @@
 //! Clicks on a part.
 
-ghost use Rattle.std.specs.Prelude.{◌≡◌, ◌≤◌, IsSome, is_some};
+ghost use Rattle.std.specs.Prelude.{◌≡◌, ◌≤◌, IsSome};
 ghost use Rattle.ht_grammar.specs.Depth.{max_depth, part_depth};
 ghost use Rattle.ht_tree.specs.View.{part_of};
-ghost use Rattle.object_table.specs.Objects.{object_at};
 ghost use Rattle.containers.specs.Base.{base};
 ghost use Rattle.meaning.specs.Ends.{end_of};
 ghost use Rattle.meaning.specs.Meaning.{Clicks};
@@ -14,14 +13,6 @@ use externals::External;
 use ht_tree::Part;
 use interp::find_ref;
 use meaning::{Budget, Ended, Stop, SystemMessage};
-use object_table::Id;
-
-/// Whether an object is still there.
-fn is_there<E: External>(world: &World<E>, object: Id) -> bool
-    ensures { result ≡ is_some (object_at world.now.history.now.stack object) }
-{
-    world.stack().object(object).is_some()
-}
 
 /// `.click`
 #[tactic(auto, using(meaning::proofs::Rules::clicks_rules))]
@@ -40,7 +31,7 @@ pub(crate) fn click<E: External>(
         return Ok(Ended::Exited);
     };
     match tell(world, run, object, SystemMessage::MouseDown)? {
-        Ended::Done if is_there(world, object) => {
+        Ended::Done if world.stack().object(object).is_some() => {
             tell(world, run, object, SystemMessage::MouseUp)
         }
         ended => Ok(ended),

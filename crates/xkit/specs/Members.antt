@@ -1,5 +1,7 @@
 -- The four externals of the kit.
 use Rattle.std.specs.Prelude.{ℕ, Bool, true, false}
+use Rattle.externals.specs.Log.{Log, Follows, Follows-prop}
+use Rattle.xkit.specs.Table.{kit_table}
 use Rattle.xkit.specs.declared.kit_external.Member.{Member}
 use Rattle.xkit.specs.declared.kit_external.Member.TheVariants.{Count, Bins, Relay, Gate}
 
@@ -22,3 +24,7 @@ cell_count_of Count = 1
 cell_count_of Bins = 16
 cell_count_of Relay = 2
 cell_count_of Gate = 1
+
+-- the turns of a member follow the table in one way at most
+pub follows_once : (member : Member) (turns : Log) → IsProp (Follows kit_table (kind_of member) turns)
+follows_once member turns = Follows-prop kit_table (kind_of member) turns

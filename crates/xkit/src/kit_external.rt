@@ -3,9 +3,9 @@
 ghost use Rattle.std.specs.Prelude.{◌≡◌, ◌∷◌, [], codes, length, replicate, true, false, IfOk, OnErr};
 ghost use Rattle.ht_values.specs.Text.{numeral as numeral_of};
 ghost use Rattle.externals.specs.Cells.{IsPatch};
-ghost use Rattle.externals.specs.Log.{Follows, Follows-prop, IsTurnOf};
+ghost use Rattle.externals.specs.Log.{Follows, IsTurnOf};
 ghost use Rattle.xkit.specs.Table.{kit_table};
-ghost use Rattle.xkit.specs.Members.{cell_count_of, kind_of};
+ghost use Rattle.xkit.specs.Members.{cell_count_of, follows_once, kind_of};
 
 use crate::cells::Cells;
 use crate::step::Step;
@@ -33,7 +33,7 @@ pub struct KitExternal {
     cells: Cells,
     log: TurnLog,
     ghost count: { length cells ≡ cell_count_of member },
-    ghost follows: { Follows kit_table (kind_of member) log.turns } by { Follows-prop kit_table (kind_of member) log.turns },
+    ghost follows: { Follows kit_table (kind_of member) log.turns } by { follows_once member log.turns },
 }
 
 impl KitExternal {

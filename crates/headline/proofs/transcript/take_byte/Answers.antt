@@ -1,4 +1,4 @@
-use Rattle.std.proofs.Common.{◌+◌, refl, ◌≡◌, ◌≢◌, ℕ, inl, inr, List, [], ◌∷◌, ◌++◌, ◌∙◌, ap, subst, arith, true, false}
+use Rattle.std.proofs.Common.{◌+◌, refl, ◌≡◌, ◌≢◌, inl, inr, [], ◌∷◌, ◌++◌, ◌∙◌, ap, arith, true, false}
 use Rattle.std.proofs.lemmas.Result.{err_from_is_err_and}
 use Rattle.headline.specs.Answers.{answer}
 use Rattle.devices.specs.Desks.{SeenDesk}
@@ -7,14 +7,8 @@ use Rattle.session.specs.SessionView.{SessionView}
 use Rattle.headline.specs.InputLines.{without_return}
 use Rattle.headline.specs.Answering.{is_quit}
 use Rattle.headline.specs.Intake.{Onward}
-use Rattle.headline.proofs.Intake.{Appends-nothing, reached_more, reached_line, reached_quit, reached_break}
-use Rattle.session.specs.declared.reply.Reply.{Reply}
+use Rattle.headline.proofs.Intake.{Appends-nothing, as_kept, reached_more, reached_line, reached_quit, reached_break}
 use Rattle.headline.proofs.transcript.take_byte.Goals as goal
-
--- the line that was answered
-as_kept : (line pending : List ℕ) (old : SessionView × SeenDesk) (reply : Reply) (new : SessionView × SeenDesk)
-    → line ≡ without_return pending → Takes line old reply new → Takes (without_return pending) old reply new
-as_kept line pending old reply new e s = subst (λ (t : List ℕ). Takes t old reply new) e s
 
 pub returns-in_err-quits-clause-err : goal.returns-in_err-quits-clause-err
 returns-in_err-quits-clause-err g c =
@@ -24,7 +18,7 @@ returns-in_err-quits-clause-err g c =
     c.without_return.ensures ∙ ap without_return c.deref.ensures.value in
     let kept : Takes (without_return old.pending.items) (c.args.session.now, g.D.Desk.seen c.args.desk.now) h.0
     (c.answer_line.new.session, g.D.Desk.seen c.answer_line.new.desk) =
-    as_kept _ old.pending.items _ _ _ line_is h.2 in
+    as_kept _ (without_return old.pending.items) _ _ _ line_is h.2 in
     let p = err_from_is_err_and c.from_residual.result c.from_residual.ensures.1 in
     rw p.1 (
       h.1,
@@ -44,7 +38,7 @@ returns-then-byte-eq10-clause-ok g c =
     let line_is : c.without_return.result.now ≡ without_return old.pending.items =
     c.without_return.ensures ∙ ap without_return c.deref.ensures.value in
     let kept : Takes (without_return old.pending.items) (c.args.session.now, g.D.Desk.seen c.args.desk.now) h.0 new =
-    as_kept _ old.pending.items _ _ _ line_is h.1 in (
+    as_kept _ (without_return old.pending.items) _ _ _ line_is h.1 in (
       answer h.0,
       h.3,
       λ start read written r.

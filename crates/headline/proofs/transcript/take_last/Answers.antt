@@ -1,19 +1,12 @@
-use Rattle.std.proofs.Common.{◌≡◌, ◌≤◌, ℕ, ◌<◌, List, [], length, subst, arith}
+use Rattle.std.proofs.Common.{◌≡◌, ◌≤◌, ◌<◌, [], length, arith}
 use Rattle.std.proofs.lemmas.Bool.Decides.{nat_tests}
 use Rattle.std.proofs.lemmas.Grind.{common_steps}
 use Rattle.std.proofs.lemmas.Result.{err_from_is_err_and}
 use Rattle.headline.specs.declared.limits.TheConstants.{MOST_BYTES, MOST_LINES}
 use Rattle.headline.specs.Answers.{answer}
-use Rattle.devices.specs.Desks.{SeenDesk}
 use Rattle.headline.specs.Saving.{Takes}
-use Rattle.session.specs.SessionView.{SessionView}
-use Rattle.headline.proofs.Intake.{Appends-nothing, last_quits, last_breaks, last_finishes, none_finishes}
-use Rattle.session.specs.declared.reply.Reply.{Reply}
+use Rattle.headline.proofs.Intake.{Appends-nothing, as_kept, last_quits, last_breaks, last_finishes, none_finishes}
 use Rattle.headline.proofs.transcript.take_last.Goals as goal
-
-as_kept : (line pending : List ℕ) (old : SessionView × SeenDesk) (reply : Reply) (new : SessionView × SeenDesk)
-    → line ≡ pending → Takes line old reply new → Takes pending old reply new
-as_kept line pending old reply new e s = subst (λ (t : List ℕ). Takes t old reply new) e s
 
 pub returns-then-is_empty-clause-ok : goal.returns-then-is_empty-clause-ok
 returns-then-is_empty-clause-ok g c =

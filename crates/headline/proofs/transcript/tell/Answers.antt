@@ -1,4 +1,4 @@
-use Rattle.std.proofs.Common.{◌≤◌, List, take, length, subst, arith}
+use Rattle.std.proofs.Common.{◌≤◌, List, length, subst, arith}
 use Rattle.std.proofs.lemmas.List.{take_all}
 use Rattle.devices.specs.Desks.{HearsOrForgets}
 use Rattle.devices.proofs.Hearing.{hears_nothing}
