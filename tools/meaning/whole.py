@@ -105,7 +105,7 @@ EQUATIONS = {
     )),
     "inp": ("InputTexts", (
         (r"Start (\w+)", "[0]"),
-        (r"Answer (\w+) \[\]", "([0], empty_text)"),
+        (r"Answer (\w+) \[\]", "([0], no_bytes)"),
         (r"Answer (\w+) (\w+)", "([0], [1])"),
     )),
     "dn": ("(λ (x : Conversed). IsText x.value)", ((r".*value = (\w+).*", "[0]"),)),
@@ -127,7 +127,7 @@ COMPUTED = (
 )
 # The ends that go well and have no text of their own.
 ENDS = {
-    "[]": "empty_text", "(Returns [])": "empty_text", "Next": "tt", "ExitRepeat": "tt", "NextRepeat": "tt", "Exit": "tt",
+    "[]": "no_bytes", "(Returns [])": "no_bytes", "Next": "tt", "ExitRepeat": "tt", "NextRepeat": "tt", "Exit": "tt",
     "Pass": "tt",
 }
 
@@ -148,7 +148,8 @@ use Rattle.change_journal.specs.History.{History}
 use Rattle.externals.specs.Turns.{AskTexts}
 use Rattle.whole_states.specs.Texts.{AreTexts, RunTexts, FrameTexts, StorageTexts, HowTexts, InputTexts, ActionTexts, ExprTexts, ExprsTexts, ChunkTexts, ContainerTexts, WhichTexts, SelectorTexts, OwnerTexts, PartTexts, RefTexts, StmtTexts, StmtsTexts, DestinationTexts, MessageTexts}
 use Rattle.whole_states.proofs.TreeTexts.{expressions_have_texts, lines_have_texts, messages_have_texts}
-use Rattle.whole_states.proofs.ValueTexts.{empty_text, word_text, constant_is, numeral_text, binary_text, unary_text, built_in_text, read_text}
+use Rattle.object_table.proofs.Empty.{no_bytes}
+use Rattle.whole_states.proofs.ValueTexts.{word_text, constant_is, numeral_text, binary_text, unary_text, built_in_text, read_text}
 use Rattle.whole_states.proofs.StateTexts.{named_texts, read_name_text, field_is_text, property_text, name_text}
 use Rattle.whole_states.proofs.Leaves.{IsWhole, sound_made, sound_turn, stands_after, named_stands, same_frame, sound_edits, sound_stores, sound_assigns, sound_declares_all, sound_sets, sound_adds, sound_step, sound_shows, sound_noted, sound_property, property_read, sound_returned, sound_ends, sound_leaves, sound_yields, sound_parses, sound_finds, sound_handler_frame, sound_only, field_place_texts, named_place_texts, lines_texts, texts_push, it_text, return_text}"""
 

@@ -1,7 +1,7 @@
 //! The world: one present state, and the batches that lead back and forth from it.
 
-ghost use Rattle.std.specs.Prelude.{◌≡◌, ℕ, ◌<◌, ◌≤◌, List, [], ◌∷◌, ◌++◌, length, true, IsErr, Some, None};
-ghost use Rattle.std.specs.Prelude.{IsSome, IfSome, IsTrue, IfOk, IfErr, OnErr, OnOk, is_ok, map, option_map};
+ghost use Rattle.std.specs.Prelude.{◌≡◌, ◌<◌, ◌≤◌, [], ◌∷◌, ◌++◌, length, true, IsErr, Some, None};
+ghost use Rattle.std.specs.Prelude.{IsSome, IfSome, IfOk, IfErr, OnErr, OnOk, is_ok, map, option_map};
 ghost use Rattle.std.specs.Prelude.{option_copied, slice_index_or, slice_get};
 ghost use Rattle.std.specs.FinMap as finite;
 ghost use Rattle.ht_values.specs.Text.{numeral};

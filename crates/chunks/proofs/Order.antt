@@ -4,6 +4,7 @@ use Rattle.std.proofs.Common.{true, false, cond, length, map, drop, take, slice_
 use Rattle.std.specs.Prelude.{⊤, nat_le, IfSome, if◌then◌else◌, ◌==◌}
 use Rattle.std.specs.List.{filter, slice_split, onto_first}
 use Rattle.std.specs.Option.{option_map, unwrap_or}
+use Rattle.std.proofs.lemmas.Option.{same_Some}
 use Rattle.std.proofs.lemmas.List.{append_assoc, drop-drop, take-append-drop}
 use Rattle.std.proofs.lemmas.List.Splits.{slice_split-cons_no, slice_split-cons_yes}
 use Rattle.chunks.specs.declared.chunk.Chunk.{Chunk}
@@ -101,16 +102,13 @@ spans_order d kind.Word t = filter_order 0 (length t) (spans_from 0 1 (slice_spl
 spans_order d kind.Item t = delimited_order d t
 spans_order d kind.Line t = delimited_order 13 t
 
-some_same : (x a : Span) → ◌≡◌ {A = Option Span} (Some x) (Some a) → x ≡ a
-some_same x a e = ap (λ o. unwrap_or o x) e
-
 -- a part of the list lies from its low place on up to the end
 lies_at : (at end : ℕ) (ss : List Span) (j : ℕ) (b : Span) → InOrder at end ss → slice_get ss j ≡ Some b
     → (at ≤ b.after) × (b.after ≤ end)
 lies_at at end [] j b h e = let no : ⊥ = cc in absurd no
 lies_at at end (x ∷ xs) zero b h e =
     let low : at ≤ x.start = h.0 in let up : x.start ≤ x.after = h.1 in let l : at ≤ x.after = omega arith in
-    subst (λ y. (at ≤ y.after) × (y.after ≤ end)) (some_same x b e) (l, h.2)
+    subst (λ y. (at ≤ y.after) × (y.after ≤ end)) (same_Some x b e) (l, h.2)
 lies_at at end (x ∷ xs) (suc j) b h e =
     let low : at ≤ x.start = h.0 in let up : x.start ≤ x.after = h.1 in
     let r = lies_at x.after end xs j b h.3 e in
@@ -121,14 +119,14 @@ pair_lies : (at end : ℕ) (ss : List Span) (i j : ℕ) (a b : Span) → i ≤ j
     → slice_get ss j ≡ Some b → (a.start ≤ b.after) × (b.after ≤ end)
 pair_lies at end [] i j a b l h e f = let no : ⊥ = cc in absurd no
 pair_lies at end (x ∷ xs) zero zero a b l h e f =
-    subst (λ y. (y.start ≤ b.after) × (b.after ≤ end)) (some_same x a e)
-    (subst (λ y. (x.start ≤ y.after) × (y.after ≤ end)) (some_same x b f) (h.1, h.2))
+    subst (λ y. (y.start ≤ b.after) × (b.after ≤ end)) (same_Some x a e)
+    (subst (λ y. (x.start ≤ y.after) × (y.after ≤ end)) (same_Some x b f) (h.1, h.2))
 pair_lies at end (x ∷ xs) zero (suc j) a b l h e f =
     let up : x.start ≤ x.after = h.1 in
     let r = lies_at x.after end xs j b h.3 f in
     let past : x.after ≤ b.after = r.0 in
     let fine : x.start ≤ b.after = omega arith in
-    subst (λ y. (y.start ≤ b.after) × (b.after ≤ end)) (some_same x a e) (fine, r.1)
+    subst (λ y. (y.start ≤ b.after) × (b.after ≤ end)) (same_Some x a e) (fine, r.1)
 pair_lies at end (x ∷ xs) (suc i) zero a b l h e f = let no : ⊥ = omega arith in absurd no
 pair_lies at end (x ∷ xs) (suc i) (suc j) a b l h e f =
     let m : i ≤ j = omega arith in pair_lies x.after end xs i j a b m h.3 e f
@@ -151,7 +149,7 @@ across_cuts t ss i j s (Some a) None l h ea eb e = let no : ⊥ = cc in absurd n
 across_cuts t ss i j s (Some a) (Some b) l h ea eb e =
     let r = pair_lies 0 (length t) ss i j a b l h ea eb in
     let m : Span = record { start = a.start; after = b.after } in
-    subst (IsCutBy t) (some_same m s e) (record { forward = r.0; within = r.1; three = rejoined t m r.0 })
+    subst (IsCutBy t) (same_Some m s e) (record { forward = r.0; within = r.1; three = rejoined t m r.0 })
 
 stretch_cuts : (t : List ℕ) (ss : List Span) (first last : ℕ) (s : Span) (v : Bool) → InOrder 0 (length t) ss
     → nat_le first last ≡ v → (if v then across (slice_get ss (first - 1)) (slice_get ss (last - 1)) else None) ≡ Some s

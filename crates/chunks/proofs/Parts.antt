@@ -1,18 +1,15 @@
 -- Parts of a text between its cuts, one of them replaced.
 use Rattle.std.proofs.Common.{◌≡◌, refl, sym, ◌∙◌, ap, subst, ℕ, zero, suc, ◌+◌, List, [], ◌∷◌, ◌++◌, Bool, true}
-use Rattle.std.proofs.Common.{false, length, take, drop, ◌⊎◌, inl, inr, Option, Some, None, append_assoc}
+use Rattle.std.proofs.Common.{false, length, take, drop, ◌⊎◌, inl, inr, Some, None, append_assoc}
 use Rattle.std.proofs.Common.{length-append, arith}
 use Rattle.std.specs.Prelude.{slice_get, slice_set}
 use Rattle.std.specs.List.{slice_split, onto_first}
-use Rattle.std.specs.Option.{unwrap_or}
+use Rattle.std.proofs.lemmas.Option.{same_Some}
 use Rattle.std.proofs.lemmas.List.{append-nil, drop_all, drop_at, take_at}
 use Rattle.std.proofs.lemmas.List.Splits.{slice_split-cons_no, slice_split-cons_yes}
 use Rattle.chunks.specs.declared.chunk.Span.{Span}
 use Rattle.chunks.specs.Laws.{IsWhole}
 use Rattle.chunks.specs.Pieces.{left, right, spans_from}
-
-pub some_same : (x a : Span) → ◌≡◌ {A = Option Span} (Some x) (Some a) → x ≡ a
-some_same x a e = ap (λ o. unwrap_or o x) e
 
 module _ (cut : ℕ → Bool) where
   pub split_one : (x : List ℕ) → IsWhole cut x → slice_split cut x ≡ x ∷ []
@@ -108,10 +105,10 @@ module _ (cut : ℕ → Bool) where
       where
         by : Cut t → IsReplaced front t 0 s
         by (inl h) = subst (IsReplaced front t 0)
-            (some_same (record { start = length front; after = length front + length t }) s
+            (same_Some (record { start = length front; after = length front + length t }) s
             (sym (ap (λ ps. slice_get (spans_from (length front) 1 ps) 0) (split_one t h)) ∙ e)) (first_whole front t h)
         by (inr h) = subst (IsReplaced front t 0)
-            (some_same (record { start = length front; after = length front + length h.0 }) s
+            (same_Some (record { start = length front; after = length front + length h.0 }) s
             (sym (ap (λ ps. slice_get (spans_from (length front) 1 ps) 0) (split_cut t h.0 h.1 h.2 h.3)) ∙ e))
             (first_part front t h.0 h.1 h.2 h.3)
     replaced (suc k) front t s e = by (λ f r. replaced k f r s) (first_cut t)

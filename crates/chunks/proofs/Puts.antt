@@ -9,6 +9,7 @@ use Rattle.std.specs.Option.{option_map, unwrap_or}
 use Rattle.std.specs.Result.{result_unwrap_or}
 use Rattle.std.proofs.lemmas.Bool.{cases_lt, eq-eqb}
 use Rattle.std.proofs.lemmas.Bool.Decides.{nat_tests}
+use Rattle.std.proofs.lemmas.Option.{same_Some}
 use Rattle.std.proofs.lemmas.List.{append-nil, length-drop, length-map, length-replicate, length-take, map-append}
 use Rattle.std.proofs.lemmas.List.{map-set, nil_from_length, set_split}
 use Rattle.std.proofs.lemmas.List.Elements.{filter-append}
@@ -26,7 +27,7 @@ use Rattle.chunks.specs.Change.{padding, put, put_at, put_from}
 use Rattle.chunks.specs.Laws.{IsClean, IsPiece, IsReached, IsWhole, PieceIsPut, PutReadsBack, between, one, with_piece}
 use Rattle.chunks.specs.Pieces.{across, count, found, middle_of, read, delimited, is_full, is_gap, is_wide, left}
 use Rattle.chunks.specs.Pieces.{middle, pieces, right, spans, spans_from, stretch}
-use Rattle.chunks.proofs.Parts.{part_replaced, some_same, split_one}
+use Rattle.chunks.proofs.Parts.{part_replaced, split_one}
 use Rattle.chunks.proofs.Scans.{char_found, not_wide, wide}
 use Rattle.chunks.proofs.Stands.{pieces_stand}
 
@@ -99,7 +100,7 @@ char_replaced d n [] t s one_byte e = absurd (omega arith)
 char_replaced d n (b ∷ []) t s one_byte e =
     let within : n < length t =
     omega (arith, slice_get_within (spans d kind.Char t) n s e, count_spans d kind.Char t, length-map t single) in
-    let place_is = some_same (record { start = n; after = n + 1 }) s (sym (char_found n t within) ∙ e) in
+    let place_is = same_Some (record { start = n; after = n + 1 }) s (sym (char_found n t within) ∙ e) in
     let next : n + 1 ≡ suc n = omega arith in
     let whole : take n t ++ (b ∷ []) ++ drop (n + 1) t
     ≡ slice_set t n b = append_assoc (take n t) (b ∷ []) (drop (n + 1) t) ∙ ap (λ m. take n t ++ b ∷ drop m t) next

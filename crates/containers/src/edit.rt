@@ -2,7 +2,7 @@
 
 ghost use Rattle.std.specs.Prelude.{[], Ok};
 ghost use Rattle.ht_values.specs.Operators.{binary as binary_of};
-ghost use Rattle.ht_values.specs.Outcome.{Gives, and_then};
+ghost use Rattle.ht_values.specs.Outcome.{Gives};
 ghost use Rattle.chunks.specs.Nested.{deleted_within, put_within as put_within_of, read_within};
 ghost use Rattle.containers.specs.Edits.{edited};
 ghost use Rattle.containers.specs.Standing.{standing_text};

@@ -1,6 +1,6 @@
 //! Containers, and the places where their texts stand.
 
-ghost use Rattle.std.specs.Prelude.{◌≡◌, [], ◌∷◌, ◌++◌, IfOk, OnErr, Ok, false};
+ghost use Rattle.std.specs.Prelude.{◌≡◌, [], ◌∷◌, ◌++◌, IfOk, Ok, false};
 ghost use Rattle.ht_values.specs.Outcome.{and_then};
 ghost use Rattle.containers.specs.Places.{place_of, field_text, text_met, is_shared as is_shared_in};
 
@@ -38,7 +38,6 @@ pub struct Place<'a> {
 }
 
 impl<'a> Model for Place<'a> {
-    ghost use Rattle.std.specs.Coded.{Coded};
     ghost use Rattle.containers.specs.Places.{PlaceView, storage_view};
 
     ghost Value = { PlaceView };

@@ -1,7 +1,7 @@
 -- The log of an external: the turns that it took, the first one first.
 use Rattle.std.specs.Coded.{Coded, Coded-set, code_by, coded×, coded_ℕ, coded_bool, coded_list, coded_option, ×_prop}
 use Rattle.std.specs.Coded.{Π_prop, Unit-prop}
-use Rattle.std.specs.Prelude.{◌≡◌, refl, ℕ, zero, suc, Bool, false, List, [], ◌∷◌, Option, Some, None, IfSome, All}
+use Rattle.std.specs.Prelude.{◌≡◌, refl, ℕ, zero, suc, Bool, false, List, [], Option, Some, None, IfSome, All}
 use Rattle.std.specs.Prelude.{slice_index_or}
 use Rattle.externals.specs.Turns.{Turn, TurnTable}
 use Rattle.externals.specs.declared.external.Input.{Input}

@@ -1,14 +1,13 @@
 //! Factors: chunks, counts, properties and what `the` begins; and what stands before a factor.
 
-ghost use Rattle.std.specs.Prelude.{◌≡◌, ◌<◌, ◌≤◌, ◌+◌, Option};
-ghost use Rattle.ht_values.specs.declared.text.TheConstants.{LIMIT};
+ghost use Rattle.std.specs.Prelude.{◌<◌, ◌+◌, Option};
 ghost use Rattle.ht_lex.specs.Token.{first_kind, first_text, later};
 ghost use Rattle.ht_grammar.specs.Trees as t;
 ghost use Rattle.ht_grammar.specs.Depth.{chunk_depth, count_depth, max_depth};
 ghost use Rattle.ht_grammar.specs.Fronts as f;
 ghost use Rattle.ht_grammar.specs.Expressions as e;
 ghost use Rattle.ht_grammar.specs.Reading as spec;
-ghost use Rattle.ht_tree.specs.View.{chunk_of, count_of, ref_of};
+ghost use Rattle.ht_tree.specs.View.{chunk_of, count_of};
 ghost use Rattle.ht_expressions.specs.Answer.{Reads, ReadsExpr};
 ghost use Rattle.ht_expressions.specs.Nests.{Nests};
 

@@ -1,6 +1,6 @@
 //! The rules take the reader of an expression's parts as a parameter, so that each is proved by itself.
 
-ghost use Rattle.std.specs.Prelude.{◌≡◌, ◌<◌, ◌≤◌, ◌+◌};
+ghost use Rattle.std.specs.Prelude.{◌<◌, ◌≤◌, ◌+◌};
 ghost use Rattle.ht_lex.specs.Stops.{Gives};
 ghost use Rattle.ht_grammar.specs.Depth.{depth, max_depth};
 ghost use Rattle.ht_grammar.specs.Reading as spec;

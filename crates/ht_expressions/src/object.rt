@@ -1,9 +1,9 @@
 //! References to objects.
 
-ghost use Rattle.std.specs.Prelude.{◌≡◌, ◌<◌, ◌≤◌, ◌+◌, suc};
+ghost use Rattle.std.specs.Prelude.{◌<◌, ◌+◌, suc};
 ghost use Rattle.ht_lex.specs.Token.{first_kind, later};
 ghost use Rattle.ht_grammar.specs.Trees as t;
-ghost use Rattle.ht_grammar.specs.Depth.{which_depth, selector_depth, owner_depth, part_depth, ref_depth, max_depth};
+ghost use Rattle.ht_grammar.specs.Depth.{which_depth, selector_depth, owner_depth, part_depth, ref_depth};
 ghost use Rattle.ht_grammar.specs.Reading as spec;
 ghost use Rattle.ht_tree.specs.View.{which_of, selector_of, owner_of, part_of, ref_of};
 ghost use Rattle.ht_expressions.specs.Answer.{Reads};

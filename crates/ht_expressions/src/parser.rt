@@ -1,6 +1,6 @@
 //! Reading expressions, and the parts of statements that hold expressions.
 
-ghost use Rattle.std.specs.Prelude.{◌≡◌, ◌+◌, ◌<◌, ◌≤◌};
+ghost use Rattle.std.specs.Prelude.{◌+◌, ◌<◌, ◌≤◌};
 ghost use Rattle.ht_grammar.specs.Trees as t;
 ghost use Rattle.ht_grammar.specs.Depth.{depths, chunk_depth, part_depth, ref_depth, selector_depth, max_depth};
 ghost use Rattle.ht_grammar.specs.Reading as spec;

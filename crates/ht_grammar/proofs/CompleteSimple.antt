@@ -3,9 +3,9 @@ use Rattle.std.proofs.Common.{◌≡◌, ℕ, zero, suc, ◌<◌, ◌≤◌, inl
 use Rattle.std.proofs.Common.{codes, refl, sym, ap, ◌∙◌, subst, arith}
 use Rattle.std.specs.Prelude.{is_some}
 use Rattle.ht_lex.specs.declared.key.Key.TheVariants as k
-use Rattle.ht_lex.specs.Token.{Token, key, eol, first_kind, later, is_key}
+use Rattle.ht_lex.specs.Token.{Token, key, first_kind, later, is_key}
 use Rattle.ht_lex.specs.Token as token
-use Rattle.ht_grammar.specs.Trees.{Expr, Exprs, Chunk, Container, Part, none, kind_of_part}
+use Rattle.ht_grammar.specs.Trees.{Expr, Chunk, Container, Part, none, kind_of_part}
 use Rattle.ht_grammar.specs.Trees as t
 use Rattle.ht_grammar.specs.Statements.{Destination, Stmt}
 use Rattle.ht_grammar.specs.Statements as s
@@ -13,7 +13,7 @@ use Rattle.ht_grammar.specs.Depth.{depth, ref_depth, container_depth, destinatio
 use Rattle.ht_grammar.specs.Fronts.{after_of, past_the, same_name, prop_front}
 use Rattle.ht_grammar.specs.Expressions.{Derives, DerivesChunk, DerivesPart, DerivesContainer, whole}
 use Rattle.ht_grammar.specs.Expressions as e
-use Rattle.ht_grammar.specs.Grammar.{Context, names_handler, place_of, DerivesNames, DerivesDestination, DerivesSimple}
+use Rattle.ht_grammar.specs.Grammar.{Context, names_handler, DerivesNames, DerivesDestination, DerivesSimple}
 use Rattle.ht_grammar.specs.Grammar as g
 use Rattle.ht_grammar.specs.Reading.{Parser, and_then, made, read, field_at, if_field, inner_ref, unless_part}
 use Rattle.ht_grammar.specs.Reading.{referenced_layer, of_part}

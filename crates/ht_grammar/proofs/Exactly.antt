@@ -6,7 +6,7 @@ use Rattle.ht_lex.specs.Token.{Token}
 use Rattle.ht_lex.specs.declared.key.Key.TheVariants as k
 use Rattle.ht_values.specs.declared.word.PartKind.{PartKind}
 use Rattle.ht_values.specs.declared.word.PartKind.TheVariants as part_kind
-use Rattle.ht_lex.specs.Token.{key, first_kind, later, token_in}
+use Rattle.ht_lex.specs.Token.{key, first_kind, token_in}
 use Rattle.ht_lex.proofs.Cutting.{cut_once}
 use Rattle.ht_lex.specs.Token as token
 use Rattle.ht_grammar.specs.Trees.{Part, Owner, no_owner, on_card, on_background, owner_of, kind_of_part, none}

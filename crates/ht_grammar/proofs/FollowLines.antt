@@ -4,7 +4,7 @@ use Rattle.std.proofs.lemmas.Option.{none-some}
 use Rattle.std.proofs.lemmas.Bool.{false≢true}
 use Rattle.ht_lex.specs.declared.key.Key.{Key}
 use Rattle.ht_lex.specs.declared.key.Key.TheVariants as k
-use Rattle.ht_lex.specs.Token.{Token, key, eol, first_kind, later}
+use Rattle.ht_lex.specs.Token.{Token, key, eol, first_kind}
 use Rattle.ht_lex.specs.Token as token
 use Rattle.ht_values.specs.declared.word.Where.{Where}
 use Rattle.ht_grammar.specs.Fronts.{leading_operator}

@@ -2,7 +2,7 @@
 use Rattle.std.proofs.Common.{◌≡◌, ℕ, zero, suc, ◌<◌, ◌≤◌, List, [], ◌∷◌, length, Some, refl, ap, ◌∙◌, subst, arith}
 use Rattle.ht_lex.specs.declared.key.Key.{Key}
 use Rattle.ht_lex.specs.declared.key.Key.TheVariants as k
-use Rattle.ht_lex.specs.Token.{Token, key, eol, first_kind, later, is_key}
+use Rattle.ht_lex.specs.Token.{Token, key, eol, first_kind, is_key}
 use Rattle.ht_lex.specs.Token as token
 use Rattle.ht_grammar.specs.declared.vocabulary.HandlerKind.{HandlerKind}
 use Rattle.ht_grammar.specs.declared.vocabulary.HandlerKind.TheVariants as handler_kind

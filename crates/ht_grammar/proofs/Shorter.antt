@@ -14,7 +14,7 @@ use Rattle.ht_grammar.specs.Fronts.{LeadingOperator, infix_at, test_at, neither,
 use Rattle.ht_grammar.specs.Fronts.{operator_after_is_not, asked_type, test_or, after_of, past_the}
 use Rattle.ht_grammar.specs.Expressions.{Derives, DerivesList, DerivesLayer, DerivesArticle, DerivesChunk}
 use Rattle.ht_grammar.specs.Expressions.{DerivesCount, DerivesRef, DerivesSelector, DerivesWhich, DerivesPart}
-use Rattle.ht_grammar.specs.Expressions.{DerivesOwner, DerivesContainer, Level}
+use Rattle.ht_grammar.specs.Expressions.{DerivesOwner, Level}
 use Rattle.ht_grammar.specs.Expressions as e
 
 pub shorter_later : (ts : List Token) → length (later ts) ≤ length ts

@@ -2,7 +2,7 @@
 use Rattle.std.proofs.Common.{◌≡◌, ℕ, ◌<◌, ◌≤◌, List, [], ◌∷◌, length, Some, ap, arith}
 use Rattle.std.proofs.Common.{cond, Bool, true, false, codes}
 use Rattle.ht_lex.specs.declared.key.Key.TheVariants as k
-use Rattle.ht_lex.specs.Token.{Token, key, eol, first_kind, later}
+use Rattle.ht_lex.specs.Token.{Token, key, eol, later}
 use Rattle.ht_lex.specs.Token as token
 use Rattle.ht_grammar.specs.Trees.{Container}
 use Rattle.ht_grammar.specs.Statements.{Destination, Head, Stmt, Stmts, Handler}

@@ -13,7 +13,7 @@ use Rattle.ht_grammar.specs.declared.vocabulary.RunProp.{RunProp}
 use Rattle.ht_grammar.specs.declared.vocabulary.FunctionWord.{FunctionWord}
 use Rattle.ht_grammar.specs.declared.vocabulary.Layer.{Layer}
 use Rattle.ht_grammar.specs.declared.vocabulary.Layer.TheVariants as layer
-use Rattle.ht_grammar.specs.Trees.{Expr, Exprs, Chunk, Which, Selector, Owner, Part, Ref, Count, none, more}
+use Rattle.ht_grammar.specs.Trees.{Expr, Exprs, Chunk, Part, Ref, Count, none, more}
 use Rattle.ht_grammar.specs.Trees.{kind_of_part}
 use Rattle.ht_grammar.specs.Trees as t
 use Rattle.ht_grammar.specs.Depth.{depth, ref_depth}
@@ -24,8 +24,8 @@ use Rattle.ht_values.specs.declared.operator.UnOp.{UnOp}
 use Rattle.ht_grammar.specs.Fronts.{LeadingOperator, infix_at, test_at, neither, leading_operator, equality}
 use Rattle.ht_grammar.specs.Fronts.{is_article, past_the, after_of, same_name, prop_front, short_of, run_prop}
 use Rattle.ht_grammar.specs.Fronts.{function_of}
-use Rattle.ht_grammar.specs.Expressions.{Derives, DerivesList, DerivesArticle, DerivesLayer, DerivesWhich}
-use Rattle.ht_grammar.specs.Expressions.{DerivesSelector, DerivesOwner, DerivesPart, DerivesRef, DerivesCount}
+use Rattle.ht_grammar.specs.Expressions.{Derives, DerivesList, DerivesArticle, DerivesLayer}
+use Rattle.ht_grammar.specs.Expressions.{DerivesPart, DerivesRef, DerivesCount}
 use Rattle.ht_grammar.specs.Expressions.{DerivesChunk, Level, primary, factor, prefixed, power, rank, whole}
 use Rattle.ht_grammar.specs.Expressions as e
 use Rattle.ht_grammar.specs.Reading.{Parser, and_then, made, referenced_layer, part_front, if_field, which_at}

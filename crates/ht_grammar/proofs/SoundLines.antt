@@ -1,10 +1,10 @@
 -- What is read as statements is of the grammar.
-use Rattle.std.proofs.Common.{◌≡◌, ℕ, zero, suc, List, [], ◌∷◌, length, true, false, Some, None, ◌&&◌, refl, sym, ap}
+use Rattle.std.proofs.Common.{◌≡◌, ℕ, zero, suc, List, [], ◌∷◌, length, Some, None, ◌&&◌, sym, ap}
 use Rattle.std.proofs.Common.{◌∙◌, subst, codes}
 use Rattle.std.proofs.lemmas.Option.{none-some}
 use Rattle.std.specs.Cmp.{first_so}
 use Rattle.ht_lex.specs.declared.key.Key.TheVariants as k
-use Rattle.ht_lex.specs.Token.{Token, key, eol, first_kind, first_text, later, is_key}
+use Rattle.ht_lex.specs.Token.{Token, key, eol, first_kind, later, is_key}
 use Rattle.ht_lex.specs.Token as token
 use Rattle.ht_grammar.specs.Trees.{Expr}
 use Rattle.ht_grammar.specs.Statements.{Head, Stmt, Stmts, stop, also}

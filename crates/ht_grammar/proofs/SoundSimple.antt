@@ -3,14 +3,14 @@ use Rattle.std.proofs.Common.{◌≡◌, ℕ, zero, suc, List, ◌∷◌, length
 use Rattle.std.proofs.lemmas.Option.{none-some}
 use Rattle.std.specs.Prelude.{is_some}
 use Rattle.ht_lex.specs.declared.key.Key.TheVariants as k
-use Rattle.ht_lex.specs.Token.{Token, key, eol, first_kind, later, is_key}
+use Rattle.ht_lex.specs.Token.{Token, key, first_kind, later, is_key}
 use Rattle.ht_lex.specs.Token as token
 use Rattle.ht_values.specs.declared.word.Prop.{Prop}
 use Rattle.ht_grammar.specs.declared.vocabulary.RunProp.{RunProp}
 use Rattle.ht_grammar.specs.declared.vocabulary.Layer.{Layer}
 use Rattle.ht_grammar.specs.declared.vocabulary.Layer.TheVariants as layer
 use Rattle.ht_values.specs.declared.word.Where.TheVariants as place
-use Rattle.ht_grammar.specs.Trees.{Expr, Exprs, Container, Ref, none, kind_of_part}
+use Rattle.ht_grammar.specs.Trees.{Expr, Exprs, Container, none, kind_of_part}
 use Rattle.ht_grammar.specs.Trees as t
 use Rattle.ht_grammar.specs.Statements.{Destination, Stmt}
 use Rattle.ht_grammar.specs.Statements as s

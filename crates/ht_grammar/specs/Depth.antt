@@ -3,7 +3,7 @@ use Rattle.std.specs.Prelude.{ℕ, suc, max}
 use Rattle.ht_grammar.specs.Trees as t
 use Rattle.ht_grammar.specs.Trees.{Expr, Exprs, Chunk, Which, Selector, Owner, Part, Ref, Count, Container}
 use Rattle.ht_grammar.specs.Statements as s
-use Rattle.ht_grammar.specs.Statements.{Destination, Head, Stmt, Stmts, Handler, Handlers, Message, Typed}
+use Rattle.ht_grammar.specs.Statements.{Destination, Head, Stmt, Stmts, Handlers, Message, Typed}
 
 -- A chunk's indices, the parts of `is a` and the like are no nodes of their own; a reference is one, and its owner one
 -- more.

@@ -11,7 +11,7 @@ use Rattle.ht_grammar.specs.declared.vocabulary.RunProp.{RunProp}
 use Rattle.ht_grammar.specs.declared.vocabulary.Layer.{Layer}
 use Rattle.ht_grammar.specs.declared.vocabulary.Layer.TheVariants as layer
 use Rattle.ht_values.specs.declared.word.Where.{Where}
-use Rattle.ht_grammar.specs.Trees.{Expr, Exprs, Chunk, Selector, Ref, Container, none}
+use Rattle.ht_grammar.specs.Trees.{Expr, Container, none}
 use Rattle.ht_grammar.specs.Trees as t
 use Rattle.ht_grammar.specs.Statements.{Destination, Head, Stmt, Stmts, stop, also}
 use Rattle.ht_grammar.specs.Statements as s

@@ -1,6 +1,6 @@
 //! Cutting a text into tokens.
 
-ghost use Rattle.std.specs.Prelude.{◌≡◌, ◌≤◌, ◌<◌, ℕ, List, length, IfOk, IfErr};
+ghost use Rattle.std.specs.Prelude.{◌≡◌, ◌<◌, ℕ, List, length, IfOk, IfErr};
 ghost use Rattle.ht_lex.specs.declared.tokens.Span.{Span};
 ghost use Rattle.ht_lex.specs.Tokens.{Cuts, IsCut, InOrder};
 ghost use Rattle.ht_lex.specs.Answer.{Fails, Answers};

@@ -1,5 +1,5 @@
 -- Reading at one depth more.
-use Rattle.std.proofs.Common.{◌≡◌, ℕ, zero, suc, ◌+◌, ◌-◌, ◌<◌, List, Option, Some, None, refl, ap, ◌∙◌, length, arith}
+use Rattle.std.proofs.Common.{◌≡◌, ℕ, zero, suc, ◌-◌, ◌<◌, List, None, refl, ap, length, arith}
 use Rattle.ht_lex.specs.Token.{Token, first_kind}
 use Rattle.ht_grammar.specs.Grammar.{Context}
 use Rattle.ht_grammar.specs.Lines.{container, container_by, blocks, stmt_at, else_if_at, lines, otherwise, lines_at}

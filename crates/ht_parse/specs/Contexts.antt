@@ -1,5 +1,5 @@
 -- Where a statement stands, as the grammar sees it.
-use Rattle.std.specs.Prelude.{Option, option_map}
+use Rattle.std.specs.Prelude.{option_map}
 use Rattle.ht_grammar.specs.Grammar as g
 use Rattle.ht_parse.specs.declared.context.Context.{Context}
 

@@ -1,6 +1,6 @@
 //! Containers, and names with commas between.
 
-ghost use Rattle.std.specs.Prelude.{◌≡◌, ◌<◌, ◌≤◌, ◌+◌};
+ghost use Rattle.std.specs.Prelude.{◌<◌, ◌≤◌, ◌+◌};
 ghost use Rattle.ht_lex.specs.Stops.{Gives};
 ghost use Rattle.ht_lex.specs.Token.{first_kind, later};
 ghost use Rattle.ht_grammar.specs.Trees as t;

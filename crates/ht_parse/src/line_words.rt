@@ -1,7 +1,6 @@
 //! Ends of lines, small words that may be there, and what statements and expressions begin with.
 
 ghost use Rattle.std.specs.Prelude.{◌≡◌, Some, None, true, false};
-ghost use Rattle.ht_lex.specs.Token.{first_kind, later};
 ghost use Rattle.ht_grammar.specs.Ends as ends;
 ghost use Rattle.ht_grammar.specs.Lines as spec;
 

@@ -1,9 +1,8 @@
 //! Whole lists of tokens: scripts, lines, expressions, references and texts of `send`.
 
-ghost use Rattle.std.specs.Prelude.{◌≡◌, ◌<◌, ◌≤◌, ◌+◌, [], Some, None, length};
-ghost use Rattle.ht_values.specs.declared.text.TheConstants.{LIMIT};
-ghost use Rattle.ht_lex.specs.Token.{first_kind, first_text, later};
-ghost use Rattle.ht_grammar.specs.Depth.{handlers_depth, stmts_depth, message_depth, max_depth};
+ghost use Rattle.std.specs.Prelude.{◌<◌, ◌≤◌, ◌+◌, Some, None};
+ghost use Rattle.ht_lex.specs.Token.{first_kind, later};
+ghost use Rattle.ht_grammar.specs.Depth.{message_depth, max_depth};
 ghost use Rattle.ht_grammar.specs.Reading as r;
 ghost use Rattle.ht_grammar.specs.Whole as spec;
 ghost use Rattle.ht_grammar.specs.Lines as line;
@@ -99,7 +98,8 @@ fn body(
     name: Text,
     parameters: Parameters,
 ) -> Result<Handler, Stop>
-    ensures { Reads handler_of handler_depth max_depth (spec.body_at kind name parameters tokens.old) result tokens.new }
+    ensures { Reads handler_of handler_depth max_depth (spec.body_at kind name parameters tokens.old) result
+        tokens.new }
 {
     if !eat_ends(tokens) {
         return Err(Stop::Syntax);

@@ -2,7 +2,7 @@
 
 ghost use Rattle.std.specs.Prelude.{◌≡◌, ◌≤◌, ◌<◌, length, IfOk, IfSome, option_and_then};
 ghost use Rattle.ht_grammar.specs.Statements as s;
-ghost use Rattle.ht_grammar.specs.Depth.{stmts_depth, handlers_depth, message_depth, max_depth};
+ghost use Rattle.ht_grammar.specs.Depth.{handlers_depth, message_depth, max_depth};
 ghost use Rattle.ht_grammar.specs.Handlers.{takes, handler_in};
 ghost use Rattle.ht_tree.specs.ScriptView.{handler_of, handler_at, script_of, message_of, with_handler};
 

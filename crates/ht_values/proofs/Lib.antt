@@ -9,5 +9,5 @@ mod Powers
 mod ReadBack
 mod Sames
 mod Searches
-mod Spellings
+pub mod Spellings
 mod Trims

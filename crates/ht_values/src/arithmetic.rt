@@ -1,6 +1,6 @@
 //! Arithmetic on the numbers of values: the left operand is converted first.
 
-ghost use Rattle.std.specs.Prelude.{◌≡◌, ◌≤◌, ◌+ℤ◌, ◌-ℤ◌, ◌*ℤ◌, neg_ℤ, pos};
+ghost use Rattle.std.specs.Prelude.{◌≡◌, ◌≤◌, ◌+ℤ◌, ◌-ℤ◌, ◌*ℤ◌, neg_ℤ};
 ghost use Rattle.std.specs.Int.{int_pow};
 ghost use Rattle.ht_values.specs.Number.{number_of as number_of_text, ranged};
 ghost use Rattle.ht_values.specs.Operators.{on_numbers, exact_quotient as exact_quotient_of};

@@ -1,6 +1,6 @@
 //! Chunks of expressions and of containers.
 
-ghost use Rattle.std.specs.Prelude.{◌≡◌, ◌≤◌, ◌<◌, IsSome};
+ghost use Rattle.std.specs.Prelude.{◌≤◌, ◌<◌, IsSome};
 ghost use Rattle.ht_grammar.specs.Depth.{chunk_depth, container_depth, max_depth};
 ghost use Rattle.ht_tree.specs.View.{chunk_of};
 ghost use Rattle.containers.specs.Base.{base};

@@ -1,6 +1,6 @@
 //! Repeats.
 
-ghost use Rattle.std.specs.Prelude.{◌≡◌, ◌≤◌, ◌<◌, IsSome, option_copied};
+ghost use Rattle.std.specs.Prelude.{◌≤◌, ◌<◌, IsSome, option_copied};
 ghost use Rattle.ht_grammar.specs.Statements as stm;
 ghost use Rattle.ht_grammar.specs.Depth.{depth, stmts_depth, max_depth};
 ghost use Rattle.ht_tree.specs.StatementView.{stmts_of};

@@ -1,6 +1,6 @@
 //! Messages of the system, `go` and the menu.
 
-ghost use Rattle.std.specs.Prelude.{◌≡◌, ◌≤◌, IsSome};
+ghost use Rattle.std.specs.Prelude.{◌≤◌, IsSome};
 ghost use Rattle.containers.specs.Base.{base};
 ghost use Rattle.meaning.specs.Meaning.{Goes, Menu, System, Systems};
 ghost use Rattle.interp.specs.Keeps.{Keeps};

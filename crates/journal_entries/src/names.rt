@@ -1,6 +1,6 @@
 //! Externals by name.
 
-ghost use Rattle.std.specs.Prelude.{◌≡◌, ℕ, List, map};
+ghost use Rattle.std.specs.Prelude.{◌≡◌, map};
 ghost use Rattle.ht_values.specs.Text.{same};
 ghost use Rattle.journal_entries.specs.State.{has_name as has_title, index_of as index_of_title};
 ghost use Rattle.journal_entries.specs.State.{are_apart as apart_titles};

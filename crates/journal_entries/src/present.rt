@@ -10,7 +10,7 @@ ghost use Rattle.ht_values.specs.Text.{numeral};
 ghost use Rattle.externals.specs.Cells.{IsPatch};
 ghost use Rattle.externals.specs.Log.{Follows};
 ghost use Rattle.stack_places.specs.Exchange as places;
-ghost use Rattle.journal_entries.specs.State.{IsState, seen_by, seen_at, first_state, titles_of, has_name as has_title};
+ghost use Rattle.journal_entries.specs.State.{IsState, seen_by, seen_at, titles_of, has_name as has_title};
 ghost use Rattle.journal_entries.specs.State.{index_of as index_of_title};
 ghost use Rattle.journal_entries.specs.Named.{listed, numbered, Lists};
 ghost use Rattle.journal_entries.specs.ScriptTrees.{object_script};

@@ -1,7 +1,6 @@
 -- Worked derivations, which check the rules.
-use Rattle.std.proofs.Common.{◌≡◌, ℕ, ◌-◌, ◌<◌, ℤ, Bool, true, false, List, [], ◌∷◌, codes, Option, Some, None, Result}
+use Rattle.std.proofs.Common.{ℕ, ◌-◌, ◌<◌, false, List, codes}
 use Rattle.std.proofs.Common.{Ok, Err, refl}
-use Rattle.std.specs.Prelude.{pos}
 use Rattle.std.specs.Fmt.{digits}
 use Rattle.ht_values.specs.declared.fault.Fault.TheVariants.{DivideByZero, NotLogical}
 use Rattle.ht_values.specs.declared.operator.Op.TheVariants.{And, Div}
@@ -15,7 +14,7 @@ use Rattle.meaning.specs.declared.end.How.TheVariants.{Next}
 use Rattle.meaning.specs.declared.end.Stop.TheVariants.{Fault as Faults, Exited}
 use Rattle.meaning.specs.Meaning.{Val, NumberVal, TruthVal, Form, Block, Endless, Counts, Line}
 use Rattle.meaning.specs.declared.frame.Frame.{Frame}
-use Rattle.meaning.specs.State.{RunState, Step, shows, typed_frame}
+use Rattle.meaning.specs.State.{RunState, Step, shows}
 use Rattle.meaning.specs.Values.{Yields}
 
 -- `unfolding computing` opens the definitions that a literal computes through

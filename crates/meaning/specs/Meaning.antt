@@ -9,8 +9,8 @@
 use Rattle.std.specs.Prelude.{◌≡◌, ◌≢◌, ℕ, ◌+◌, ◌≤◌, ◌<◌, ℤ, pos, List, [], ◌∷◌, ◌++◌, length, nat_eq, Bool, true}
 use Rattle.std.specs.Prelude.{false, not, Option, Some, None, is_some, Result, Ok, Err}
 use Rattle.ht_values.specs.declared.fault.Fault.{Fault}
-use Rattle.ht_values.specs.declared.fault.Fault.TheVariants.{Syntax, CantUnderstand, NoSuchObject, TooDeep}
-use Rattle.ht_values.specs.declared.fault.Fault.TheVariants.{ExternalFault, CantDelete, BadArgument}
+use Rattle.ht_values.specs.declared.fault.Fault.TheVariants.{CantUnderstand, NoSuchObject, TooDeep, ExternalFault}
+use Rattle.ht_values.specs.declared.fault.Fault.TheVariants.{CantDelete, BadArgument}
 use Rattle.ht_values.specs.declared.operator.Func.{Func}
 use Rattle.ht_values.specs.declared.operator.Op.{Op}
 use Rattle.ht_values.specs.declared.operator.Op.TheVariants.{Add, Subtract, Multiply, Divide}

@@ -1,7 +1,6 @@
 -- The items of the menu, and the messages of the system.
 use Rattle.std.specs.Prelude.{ℕ, List, [], ◌∷◌, codes, Bool, true, false, not, nat_eq, if◌then◌else◌, Option, None}
 use Rattle.ht_values.specs.Text.{entry}
-use Rattle.ht_values.specs.declared.word.PartKind.{PartKind}
 use Rattle.ht_values.specs.declared.word.PartKind.TheVariants.{Button, Field}
 use Rattle.object_table.specs.Content.{Content}
 use Rattle.object_table.specs.declared.object.LayerId.{LayerId}

@@ -33,7 +33,7 @@ impl Drop for FoundHandler {
 }
 
 impl Model for FoundHandler {
-    ghost use Rattle.std.specs.Prelude.{◌≡◌, ◌<◌, length, unwrap_or};
+    ghost use Rattle.std.specs.Prelude.{◌<◌, length, unwrap_or};
     ghost use Rattle.ht_tree.specs.contracts.statement.Stmt as stmt;
     ghost use Rattle.ht_tree.specs.ScriptView.{handler_at};
     ghost use Rattle.msg_path.specs.Handlers.{HandlerFound, no_handler};

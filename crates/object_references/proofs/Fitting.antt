@@ -23,6 +23,7 @@ use Rattle.object_table.specs.declared.property.PropValue.{PropValue}
 use Rattle.object_table.specs.declared.property.PropValue.TheVariants.{NameIs, ScriptIs, VisibleIs, HiliteIs}
 use Rattle.object_table.specs.declared.property.PropValue.TheVariants.{SharedHiliteIs, LockTextIs, SharedTextIs}
 use Rattle.object_table.specs.declared.property.PropValue.TheVariants.{CantDeleteIs}
+use Rattle.object_table.proofs.Slots.{mapped_some}
 use Rattle.properties.specs.PropertyText.{own_hilite}
 use Rattle.properties.specs.Setting.{may_be_set, value_by}
 use Rattle.stack_places.specs.Places.{prop_of}
@@ -53,10 +54,6 @@ background_fits s m lit = by (shares_hilite s m.object)
         hilite_fits s (is_some (own_hilite s m.card m.object)) m.object m.card lit (own_is_kept s m.object m.card)
 
 -- ---- properties
-
-some-map : {A B : Type 0} (f : A → B) (o : Option A) → is_some (option_map f o) ≡ is_some o
-some-map f None = refl
-some-map f (Some x) = refl
 
 -- an object has a flag where its kind passes
 record Flags (k : Kind) : Type 0 where
@@ -92,7 +89,7 @@ value_fits : (s : Content) (m : Referent) (v : PropValue) (o : Object) → objec
 value_fits s m (NameIs t) o there may = prop_fits s m.object (NameIs t) o there refl
 value_fits s m (ScriptIs t) o there may = prop_fits s m.object (ScriptIs t) o there refl
 value_fits s m (VisibleIs b) o there may = prop_fits s m.object (VisibleIs b) o there
-    (some-map (λ x. VisibleIs x) (visible_of o.kind) ∙ (flags o.kind).visible ∙ may)
+    (mapped_some (λ x. VisibleIs x) (visible_of o.kind) ∙ (flags o.kind).visible ∙ may)
 value_fits s m (HiliteIs lit) o there may = by (has_kind is_background_button s m.object) refl
   where
     lone : (k : Kind) → is_background_button k ≡ false → is_button k ≡ true → is_some (hilite_of k) ≡ true
@@ -111,15 +108,15 @@ value_fits s m (HiliteIs lit) o there may = by (has_kind is_background_button s 
         let other : is_background_button o.kind ≡ false =
         sym (ap (λ x. unwrap_or (option_map (λ y. is_background_button y.kind) x) false) there) ∙ q in
         prop_fits s m.object (HiliteIs lit) o there
-        (some-map (λ x. HiliteIs x) (hilite_of o.kind) ∙ lone o.kind other may)
+        (mapped_some (λ x. HiliteIs x) (hilite_of o.kind) ∙ lone o.kind other may)
 value_fits s m (SharedHiliteIs b) o there may = prop_fits s m.object (SharedHiliteIs b) o there
-    (some-map (λ x. SharedHiliteIs x) (shared_hilite_of o.kind) ∙ (flags o.kind).shared_hilite ∙ may)
+    (mapped_some (λ x. SharedHiliteIs x) (shared_hilite_of o.kind) ∙ (flags o.kind).shared_hilite ∙ may)
 value_fits s m (LockTextIs b) o there may = prop_fits s m.object (LockTextIs b) o there
-    (some-map (λ x. LockTextIs x) (lock_text_of o.kind) ∙ (flags o.kind).lock_text ∙ may)
+    (mapped_some (λ x. LockTextIs x) (lock_text_of o.kind) ∙ (flags o.kind).lock_text ∙ may)
 value_fits s m (SharedTextIs b) o there may = prop_fits s m.object (SharedTextIs b) o there
-    (some-map (λ x. SharedTextIs x) (shared_text_of o.kind) ∙ (flags o.kind).shared_text ∙ may)
+    (mapped_some (λ x. SharedTextIs x) (shared_text_of o.kind) ∙ (flags o.kind).shared_text ∙ may)
 value_fits s m (CantDeleteIs b) o there may = prop_fits s m.object (CantDeleteIs b) o there
-    (some-map (λ x. CantDeleteIs x) (cant_delete_of o.kind) ∙ (flags o.kind).cant_delete ∙ may)
+    (mapped_some (λ x. CantDeleteIs x) (cant_delete_of o.kind) ∙ (flags o.kind).cant_delete ∙ may)
 
 -- ---- texts
 

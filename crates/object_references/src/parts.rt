@@ -1,8 +1,7 @@
 //! Buttons and fields by reference.
 
-ghost use Rattle.std.specs.Prelude.{◌≡◌, [], find, length, option_copied, unwrap_or};
+ghost use Rattle.std.specs.Prelude.{◌≡◌, [], length, unwrap_or};
 ghost use Rattle.object_table.specs.Numbers.{of_kind};
-ghost use Rattle.object_table.specs.References.{is_named};
 ghost use Rattle.object_table.specs.Layers.{layer_parts};
 ghost use Rattle.object_references.specs.References as references;
 

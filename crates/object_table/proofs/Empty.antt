@@ -67,7 +67,7 @@ no_parts p none layer e =
     let P : List ℕ → Type 0 = λ ids. NamesEach (has_kind p empty_stack) (ids ++ []) in
     subst P (sym e) nothing
 
-no_bytes : IsText []
+pub no_bytes : IsText []
 no_bytes = record { short = omega arith; bytes = All-nil (λ b. b < 256) }
 
 nothing : {X : Type 0} {o : Option X} → o ≡ None → IsSome o → ⊥

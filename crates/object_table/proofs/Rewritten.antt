@@ -27,6 +27,7 @@ use Rattle.object_table.specs.declared.property.PropValue.TheVariants.{CantDelet
 use Rattle.object_table.proofs.Maps.{get-put_option, put_option_again, put_option_apart, put_option_same}
 use Rattle.object_table.proofs.Maps.{get-put_option_apart, is_some-put_option, IfSome-put_option}
 use Rattle.object_table.proofs.Pairs.{pair_cmp_total, pair_cmp-IsAntisymmetric}
+use Rattle.object_table.proofs.Slots.{mapped_some}
 
 -- ---- a text and a hilite
 
@@ -200,14 +201,10 @@ backgrounds_at : (s : Content) (id : ℕ) (v : PropValue) → background_at (wit
 backgrounds_at s id v i x = (and_then-flatten (object_at (with_value_at s id v) x)
     ∙ ap flatten (decided background_of s id v x background_of-form) ∙ sym (and_then-flatten (object_at s x))) i
 
-some_map : {X : Type 0} (f : Object → X) (found : Option Object) → is_some (option_map f found) ≡ is_some found
-some_map f None = refl
-some_map f (Some o) = refl
-
 there_at : (s : Content) (id : ℕ) (v : PropValue) (x : ℕ)
     → is_some (object_at (with_value_at s id v) x) ≡ is_some (object_at s x)
-there_at s id v x = sym (some_map (λ o. form o.kind) (object_at (with_value_at s id v) x))
-    ∙ ap is_some (decided form s id v x form-form) ∙ some_map (λ o. form o.kind) (object_at s x)
+there_at s id v x = sym (mapped_some (λ o. form o.kind) (object_at (with_value_at s id v) x))
+    ∙ ap is_some (decided form s id v x form-form) ∙ mapped_some (λ o. form o.kind) (object_at s x)
 
 -- the number of values stays
 len-put : (m : FinMap nat_cmp Object) (k : ℕ) (v : Object) → is_some (get m k) ≡ true

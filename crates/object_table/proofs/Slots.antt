@@ -24,7 +24,7 @@ tied_apart q n h = unsigned_tied q n ∙ grind (arith, nat_tests)
 pub tied_same : (q n : ℕ) → q ≡ n → eq_by_cmp nat_cmp q n ≡ true
 tied_same q n h = unsigned_tied q n ∙ grind (arith, nat_tests)
 
-nat_eq_sym : (a b : ℕ) → nat_eq a b ≡ nat_eq b a
+pub nat_eq_sym : (a b : ℕ) → nat_eq a b ≡ nat_eq b a
 nat_eq_sym a b = grind (arith, nat_tests)
 
 pub ids : AreKeys nat_cmp
@@ -117,7 +117,7 @@ some_within [] n h = absurd (omega arith)
 some_within (e ∷ es) zero h = refl
 some_within (e ∷ es) (suc n) h = some_within es n (omega arith)
 
-mapped_some : {X Y : Type 0} (f : X → Y) (o : Option X) → is_some (option_map f o) ≡ is_some o
+pub mapped_some : {X Y : Type 0} (f : X → Y) (o : Option X) → is_some (option_map f o) ≡ is_some o
 mapped_some f None = refl
 mapped_some f (Some x) = refl
 

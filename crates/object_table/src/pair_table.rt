@@ -1,6 +1,6 @@
 //! Values at pairs of a part and a card.
 
-ghost use Rattle.std.specs.Prelude.{◌≡◌, [], true, OnOk, OnErr, OnSome, is_some, option_copied};
+ghost use Rattle.std.specs.Prelude.{◌≡◌, true, OnOk, OnErr, OnSome, is_some, option_copied};
 ghost use Rattle.std.specs.FinMap as map;
 ghost use Rattle.std.specs.FinSet as set;
 ghost use Rattle.object_table.specs.Maps.{put_option};

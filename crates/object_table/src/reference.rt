@@ -2,7 +2,6 @@
 
 ghost use Rattle.std.specs.Prelude.{◌≡◌, ◌==◌, find};
 ghost use Rattle.object_table.specs.Numbers.{at_number, of_kind};
-ghost use Rattle.object_table.specs.Objects.{has_kind, is_of};
 ghost use Rattle.object_table.specs.References.{is_named, part_found, pick as picked};
 
 use crate::ids::{Id, IdList};

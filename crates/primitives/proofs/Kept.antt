@@ -1,12 +1,13 @@
 -- Names and literals that are kept as numbers.
-use Rattle.std.proofs.Common.{◌≡◌, ℕ, ℤ, List, Bool, true, false, Some, Result, Ok, Err, refl, sym, ap, ◌∙◌}
+use Rattle.std.proofs.Common.{◌≡◌, ℕ, ℤ, List, Bool, false, Some, Result, Ok, Err, refl, sym, ap, ◌∙◌}
 use Rattle.std.specs.Prelude.{IfSome, unwrap_or, if◌then◌else◌}
 use Rattle.std.specs.Result.{result_ok}
 use Rattle.ht_values.specs.declared.fault.Fault.{Fault}
 use Rattle.ht_values.specs.Number.{number_of}
-use Rattle.ht_values.specs.Operators.{binary, truth_of, word_of}
+use Rattle.ht_values.specs.Operators.{binary, word_of}
 use Rattle.ht_values.specs.Text.{folded, numeral}
 use Rattle.ht_values.specs.declared.operator.Op.{Op}
+use Rattle.ht_values.proofs.Spellings.{word_is_true}
 use Rattle.ht_grammar.specs.Trees as tree
 use Rattle.change_journal.specs.History.{History}
 use Rattle.journal_entries.specs.State.{State}
@@ -31,10 +32,6 @@ own_read s v name t local value =
 pub name_is : {f : Frame} {e : tree.Expr} {n : List ℕ} (z : ℤ) → e ≡ tree.name n → is_global f.variables n ≡ false
     → own_value f.variables n ≡ Some (numeral z) → IsNumber f e z
 name_is {f} {e} {n} z is local value w r d = Val.name is (own_read w.now f.variables n (numeral z) local value)
-
-word_is_true : (b : Bool) → truth_of (word_of b) ≡ Ok b
-word_is_true true = refl
-word_is_true false = refl
 
 number_is : {f : Frame} {e : tree.Expr} (z u : ℤ) → IsNumber f e z → number_of (numeral z) ≡ Ok u
     → (w : History) (r : RunState) (d : ℕ) → NumberVal w r f d e (Ok u) w r

@@ -1,14 +1,12 @@
 //! Messages, handlers and externals, as the rules find and end them.
 
-ghost use Rattle.std.specs.Prelude.{◌≡◌, ◌<◌, [], ◌∷◌, ◌++◌, length, true, IsSome, IfOk, IfSome, IfErr};
+ghost use Rattle.std.specs.Prelude.{◌≡◌, ◌<◌, [], ◌∷◌, ◌++◌, length, true, IsSome, IfOk, IfSome};
 ghost use Rattle.std.specs.Prelude.{OnOk, None, Some};
 ghost use Rattle.externals.specs.declared.external.Ask.TheVariants as ask;
 ghost use Rattle.externals.specs.declared.external.Input.TheVariants as input;
-ghost use Rattle.journal_entries.specs.State.{titles_of};
 ghost use Rattle.change_journal.specs.Rising.{TookTurn};
 ghost use Rattle.containers.specs.Base.{base};
 ghost use Rattle.msg_path.specs.BuiltIns.{calls_function, external_named as external_by_name};
-ghost use Rattle.meaning.specs.Meaning.{CallsBack};
 ghost use Rattle.ht_values.specs.Text.{entry};
 ghost use Rattle.meaning.specs.Menu.{item_named as item_by_name, items as menu_items};
 ghost use Rattle.meaning.specs.Messages.{Finds, is_ignored as ignores, only as only_of, parameters_of};

@@ -2,7 +2,7 @@
 
 ghost use Rattle.std.specs.Prelude.{◌≡◌, true, false};
 ghost use Rattle.object_table.specs.Content.{Content};
-ghost use Rattle.stack_places.specs.Places.{put, value_at};
+ghost use Rattle.stack_places.specs.Places.{put};
 ghost use Rattle.stack_places.specs.Exchange.{exchanged, taken, place_of, value_of, of_one_place, is_structural};
 ghost use Rattle.stack_places.specs.declared.entry.StackEntry.{StackEntry};
 

@@ -10,7 +10,6 @@ use Rattle.std.proofs.lemmas.Bool.Decides.{nat_tests}
 use Rattle.std.proofs.lemmas.Simd.{map-map}
 use Rattle.std.proofs.lemmas.List.{map-id, length-map}
 use Rattle.std.specs.Prelude.{find}
-use Rattle.std.proofs.lemmas.List.Elements.{All-nil}
 use Rattle.ht_values.specs.Text.{IsText}
 use Rattle.object_table.specs.Content.{Content}
 use Rattle.object_table.specs.Objects.{is_stack, is_background, is_card, is_card_part, is_background_part, is_layer}
@@ -20,6 +19,7 @@ use Rattle.object_table.specs.declared.object.Object.{Object}
 use Rattle.object_table.specs.declared.object.Kind.{Kind}
 use Rattle.object_table.specs.declared.object.Kind.TheVariants.{Stack, Background, Card, CardButton, CardField}
 use Rattle.object_table.specs.declared.object.Kind.TheVariants.{BackgroundButton, BackgroundField}
+use Rattle.object_table.proofs.Empty.{no_bytes}
 use Rattle.object_table.proofs.Listed.{has_kind-weaker}
 use Rattle.object_table.specs.PartContents.{text_at}
 use Rattle.stack_text.specs.Document.{Document, contains_id, part_ids, sheet_ids, ids_in, Sheet, parts_of}
@@ -226,9 +226,6 @@ times_bit p ids names q = by (p q) (names.each q)
     by : (b : Bool) → contains_id q ids ≡ b → times q ids ≤ bit b
     by true e = times_once ids names.once q
     by false e = omega (arith, times_none q ids e)
-
-no_bytes : IsText []
-no_bytes = record { short = omega arith; bytes = All-nil (λ b. b < 256) }
 
 named : (o : Option Object) → IfSome o (λ x. IsText x.name × IsText x.script)
     → IsNamed (unwrap_or o (record { name = []; script = []; kind = Stack }))

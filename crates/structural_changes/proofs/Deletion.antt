@@ -22,12 +22,13 @@ use Rattle.object_table.specs.declared.object.Kind.{Kind}
 use Rattle.object_table.specs.declared.object.Kind.TheVariants.{Stack, Card, BackgroundButton}
 use Rattle.object_table.specs.declared.object.Kind.TheVariants.{CardField, BackgroundField}
 use Rattle.object_table.proofs.Pairs.{pair_cmp_total, pair_cmp-IsAntisymmetric}
+use Rattle.object_table.proofs.Slots.{nat_eq_sym}
 use Rattle.stack_places.specs.Places.{put, card_order, background_order, ids}
 use Rattle.structural_changes.specs.Writes.{put_each, write, writes_of_deletion, clears_of_deletion, fits_deletion}
 use Rattle.structural_changes.specs.Writes.{first_or, behind, following, home, without, is_card_of, is_last_card}
 use Rattle.structural_changes.specs.Writes.{goes_as_layer, goes_as_content, ids_where}
 use Rattle.structural_changes.proofs.Cards.{card_home, live_home}
-use Rattle.structural_changes.proofs.Filled.{cleared, all_cleared, get-cleared_where, len-cleared, nat_eq_sym}
+use Rattle.structural_changes.proofs.Filled.{cleared, all_cleared, get-cleared_where, len-cleared}
 use Rattle.structural_changes.proofs.Formed.{formed}
 use Rattle.structural_changes.proofs.Grown.{same_id}
 use Rattle.structural_changes.proofs.Leaving.{total-without, total-lost, total-among, and_passes, Apart, card-not}

@@ -15,6 +15,7 @@ use Rattle.object_table.specs.Objects.{object_at, contains_id}
 use Rattle.object_table.specs.Pairs.{Pair, PairMap}
 use Rattle.object_table.proofs.Maps.{get-put_option, put_option_again, put_option_apart}
 use Rattle.object_table.proofs.Pairs.{pair_cmp_total, pair_cmp-IsAntisymmetric, pair_tied}
+use Rattle.object_table.proofs.Slots.{nat_eq_sym}
 use Rattle.stack_places.specs.Places.{put, field_text, button_hilite, whole, layer_parts, text, logical}
 use Rattle.structural_changes.specs.Writes.{StackWrite, write, clear, put_each, empty_texts, false_hilites, ids_where}
 
@@ -41,9 +42,6 @@ first_or true true true v f = refl
 first_or true true false v f = refl
 first_or true false c v f = refl
 first_or false b c v f = refl
-
-pub nat_eq_sym : (a b : ℕ) → nat_eq a b ≡ nat_eq b a
-nat_eq_sym a b = grind (arith, nat_tests)
 
 pub get-filled : {X : Type 0} (m : PairMap X) (part : ℕ) (cards : List ℕ) (v : X) (q : Pair)
     → get (filled m part cards v) q ≡ cond (nat_eq q.0 part && contains_id q.1 cards) (Some v) (get m q)

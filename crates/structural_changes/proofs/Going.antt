@@ -21,6 +21,7 @@ use Rattle.object_table.specs.declared.object.Object.{Object}
 use Rattle.object_table.specs.declared.object.Kind.{Kind}
 use Rattle.object_table.proofs.Listed.{has_kind-weaker}
 use Rattle.object_table.proofs.Pairs.{same_pair, pair_cmp_total, pair_cmp-IsAntisymmetric, pair_tied}
+use Rattle.object_table.proofs.Slots.{nat_eq_sym}
 use Rattle.ht_values.specs.declared.word.PartKind.{PartKind}
 use Rattle.ht_values.specs.declared.word.PartKind.TheVariants.{Button, Field}
 use Rattle.structural_changes.specs.Prepared.{has_content, pairs_kept}
@@ -31,7 +32,7 @@ use Rattle.structural_changes.proofs.Deletion.{live}
 use Rattle.structural_changes.proofs.Leaving.{total-lost, and_passes, card_part-not, listed_part, gone}
 use Rattle.structural_changes.proofs.Deletion.{it_alone, not_zero, field_of_card, field_of_background}
 use Rattle.structural_changes.proofs.Deletion.{button_of_background}
-use Rattle.structural_changes.proofs.Filled.{any-filter, nat_eq_sym}
+use Rattle.structural_changes.proofs.Filled.{any-filter}
 use Rattle.structural_changes.proofs.Grown.{same_id}
 use Rattle.structural_changes.proofs.Parts.{passes, bool_iff, and_false, both}
 use Rattle.structural_changes.proofs.Tallies.{one_if, total, tally, total-flat_map, contains-tally, named-tally}

@@ -30,11 +30,11 @@ use Rattle.object_table.specs.declared.object.Kind.TheVariants.{CardField, Backg
 use Rattle.object_table.specs.declared.object.LayerId.{LayerId}
 use Rattle.object_table.specs.declared.object.LayerId.TheVariants.{OfCard, OfBackground}
 use Rattle.object_table.proofs.Maps.{get-put_option}
+use Rattle.object_table.proofs.Slots.{nat_eq_sym}
 use Rattle.stack_places.specs.Places.{put}
 use Rattle.structural_changes.specs.Writes.{put_each, writes_of_new_part, fits_new_part, has_room_for, kind_of_new}
 use Rattle.structural_changes.specs.Writes.{name_of_new, new_part, kept_for, is_card_of}
 use Rattle.structural_changes.proofs.Filled.{filled, texts_filled, hilites_filled, get-filled, contains-ids_where}
-use Rattle.structural_changes.proofs.Filled.{nat_eq_sym}
 use Rattle.structural_changes.proofs.Formed.{IsFormed, HasCards, formed, whole}
 use Rattle.structural_changes.proofs.Grown.{objects_and, same_id, none_new, none_at_new, object-with, found-with}
 use Rattle.structural_changes.proofs.Grown.{found-as_before, ids-with, count-with, names-with}

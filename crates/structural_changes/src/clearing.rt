@@ -1,6 +1,6 @@
 //! Entries that clear places.
 
-ghost use Rattle.std.specs.Prelude.{◌≡◌, OnOk, map};
+ghost use Rattle.std.specs.Prelude.{OnOk, map};
 ghost use Rattle.stack_places.specs.Places.{whole, layer_parts as parts_of, field_text, button_hilite};
 ghost use Rattle.structural_changes.specs.Prepared.{Adds, Opens};
 ghost use Rattle.structural_changes.specs.Writes.{clear};

@@ -3,11 +3,11 @@
 ghost use Rattle.std.specs.Prelude.{◌≡◌, IfOk, [], ◌∷◌, ◌++◌, Some, true, false};
 ghost use Rattle.object_table.specs.Empty.{empty_object};
 ghost use Rattle.object_table.specs.declared.object.Kind.TheVariants.{Card};
-ghost use Rattle.object_table.specs.Objects.{has_kind, is_background, is_card, parts_at};
+ghost use Rattle.object_table.specs.Objects.{has_kind, is_card, parts_at};
 ghost use Rattle.object_table.specs.Layers.{layer_id};
 ghost use Rattle.object_table.specs.WellFormed.{IsWellFormed};
 ghost use Rattle.structural_changes.specs.Prepared.{Adds, Opens};
-ghost use Rattle.structural_changes.specs.Writes.{new_part, kept_for, insert_after, is_part_of, ids_where};
+ghost use Rattle.structural_changes.specs.Writes.{new_part, kept_for, insert_after};
 ghost use Rattle.structural_changes.specs.Writes.{writes_of_new_part, fits_new_part, has_room_for, home};
 ghost use Rattle.structural_changes.specs.Writes.{writes_of_new_card, writes_of_new_background};
 

@@ -7,6 +7,7 @@ use Rattle.std.proofs.lemmas.List.{length-map}
 use Rattle.std.proofs.lemmas.List.Elements.{All-from_recursion, recursion_from_All}
 use Rattle.ht_values.specs.Text.{IsText}
 use Rattle.ht_values.specs.declared.text.TheConstants.{LIMIT}
+use Rattle.object_table.proofs.Empty.{no_bytes}
 use Rattle.externals.specs.Log.{Log}
 use Rattle.externals.specs.Turns.{AskTexts, Turn}
 use Rattle.externals.specs.declared.external.Ask.{Ask}
@@ -14,7 +15,6 @@ use Rattle.externals.specs.declared.external.Ask.TheVariants.{SendCardMessage, E
 use Rattle.externals.specs.declared.external.Ask.TheVariants.{Done, Fail}
 use Rattle.externals.specs.declared.external.Input.{Input}
 use Rattle.whole_states.specs.Texts.{AreTexts, InputTexts}
-use Rattle.whole_states.proofs.ValueTexts.{empty_text}
 use Rattle.totality.specs.Laws.{Behaviour, IsBehaviour}
 
 -- ---- whether a turn is of texts
@@ -89,7 +89,7 @@ gives_up cells = (Fail, map (λ _. []) cells)
 
 emptied : (cells : List (List ℕ)) → AreTexts (map (λ _. []) cells)
 emptied [] = tt
-emptied (c ∷ cells) = (empty_text, emptied cells)
+emptied (c ∷ cells) = (no_bytes, emptied cells)
 
 given_up : (cells : List (List ℕ)) → TurnTexts (gives_up cells)
 given_up cells = (tt, All-from_recursion IsText (map (λ _. []) cells) (emptied cells))

@@ -4,6 +4,7 @@ use Rattle.std.proofs.Common.{◌≡◌, ℕ, zero, suc, ℤ, pos, negsuc, List,
 use Rattle.std.proofs.Common.{nat_eq, nat_lt, get_or, set, ◌+ℤ◌, Option, Some, None, refl, length-set}
 use Rattle.std.proofs.lemmas.List.Elements.{All-from_recursion, recursion_from_All}
 use Rattle.ht_values.specs.Text.{IsText, numeral}
+use Rattle.object_table.proofs.Empty.{no_bytes}
 use Rattle.externals.specs.Turns.{AskTexts, Turn}
 use Rattle.externals.specs.declared.external.Ask.TheVariants.{SendCardMessage, EvalExpr, SetFieldByName}
 use Rattle.externals.specs.declared.external.Ask.TheVariants.{Done}
@@ -13,7 +14,7 @@ use Rattle.xkit.specs.Steps.{cell, fails}
 use Rattle.xkit.specs.Table.{bins_turn, counted, counter_turn, gate_turn, is_stage, kit_table, may_count, number_in}
 use Rattle.xkit.specs.Table.{relay_answer, relay_start, relay_turn, stored}
 use Rattle.whole_states.specs.Texts.{AreTexts, InputTexts}
-use Rattle.whole_states.proofs.ValueTexts.{empty_text, given_text, numeral_text}
+use Rattle.whole_states.proofs.ValueTexts.{given_text, numeral_text}
 use Rattle.totality.specs.Tables.{IsTable}
 
 -- as many cells, and texts of texts
@@ -27,7 +28,7 @@ set_texts (x ∷ xs) zero t h k = (k, h.1)
 set_texts (x ∷ xs) (suc i) t h k = (h.0, set_texts xs i t h.1 k)
 
 cell_text : (cells : List (List ℕ)) (i : ℕ) → AreTexts cells → IsText (get_or cells i [])
-cell_text [] i h = empty_text
+cell_text [] i h = no_bytes
 cell_text (x ∷ xs) zero h = h.0
 cell_text (x ∷ xs) (suc i) h = cell_text xs i h.1
 
@@ -118,11 +119,11 @@ gates cells (Start args) =
     either cells input (is_stage (cell cells 0) (codes "0")) opened
     (cond (is_stage (cell cells 0) (codes "1")) closed (fails cells)) (
       length-set cells 0 (codes "1"),
-      λ h k. (empty_text, set_texts cells 0 (codes "1") h (given_text (codes "1") refl)),
+      λ h k. (no_bytes, set_texts cells 0 (codes "1") h (given_text (codes "1") refl)),
     )
     (either cells input (is_stage (cell cells 0) (codes "1")) closed (fails cells) (
       length-set cells 0 (codes "0"),
-      λ h k. (empty_text, set_texts cells 0 (codes "0") h (given_text (codes "0") refl)),
+      λ h k. (no_bytes, set_texts cells 0 (codes "0") h (given_text (codes "0") refl)),
     ) (failing cells input))
 gates cells (Answer note value) = failing cells (Answer note value)
 

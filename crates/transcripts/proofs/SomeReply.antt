@@ -1,6 +1,7 @@
 -- Each fresh command has a reply, by each behaviour of the externals too.
 use Rattle.std.proofs.Common.{◌≡◌, ◌⊎◌, inl, inr, ℕ, List, [], ◌∷◌, ◌++◌, length, Some, Result, Ok, Err, refl, sym}
 use Rattle.std.proofs.Common.{subst, arith}
+use Rattle.object_table.proofs.Empty.{no_bytes}
 use Rattle.externals.specs.Log.{Log}
 use Rattle.externals.specs.Turns.{Turn}
 use Rattle.externals.specs.declared.external.Input.{Input}
@@ -27,7 +28,6 @@ use Rattle.transcripts.specs.Replies.{RepliesStayWhole}
 use Rattle.transcripts.proofs.Grown.{acts_grow, lock_grows}
 use Rattle.whole_states.specs.Laws.{ActionsLeadToWhole}
 use Rattle.whole_states.specs.Texts.{RunTexts}
-use Rattle.whole_states.proofs.ValueTexts.{empty_text}
 
 -- a history at this moment, whose batch is open
 abbrev pub opened : Moment → History
@@ -120,7 +120,7 @@ logs_follow logged behaviour w w2 count behaves = record {
 }
 
 fresh_texts : (steps : ℕ) → RunTexts (fresh_run steps)
-fresh_texts steps = record { delimiter = omega arith; result = empty_text }
+fresh_texts steps = record { delimiter = omega arith; result = no_bytes }
 
 pub replies_by : ActionsHaveAnOutcomeBy → BehavioursAreLogged → RepliesExistBy
 replies_by actions logged behaviour m steps does is whole have texts =

@@ -30,6 +30,7 @@ use Rattle.object_table.specs.Objects.{object_at}
 use Rattle.object_table.specs.PartContents.{text_at}
 use Rattle.object_table.specs.WellFormed.{IsWellFormed}
 use Rattle.object_table.specs.declared.object.Object.{Object}
+use Rattle.object_table.proofs.Empty.{no_bytes}
 use Rattle.journal_entries.specs.ScriptTrees.{object_script}
 use Rattle.journal_entries.specs.State.{State, seen_at, titles_of}
 use Rattle.journal_entries.specs.Changes.{fits, HasTexts}
@@ -68,7 +69,7 @@ use Rattle.whole_states.specs.Laws.{LeadsToWhole}
 use Rattle.whole_states.specs.Texts.{AreTexts, HandlerTexts, HandlersTexts, LoggedTexts, StmtsTexts}
 use Rattle.whole_states.specs.Texts.{TreesHaveTexts}
 use Rattle.whole_states.proofs.TreeTexts.{scripts_have_texts}
-use Rattle.whole_states.proofs.ValueTexts.{given_text, empty_text, word_text, byte_text, EditTexts}
+use Rattle.whole_states.proofs.ValueTexts.{given_text, word_text, byte_text, EditTexts}
 use Rattle.whole_states.proofs.StateTexts.{folded_text, named_texts, due_is_text, with_value_texts, setting_texts}
 
 -- ---- whole states from a history on
@@ -238,7 +239,7 @@ sound_declares_all {begin} {f = f} texts (DeclaresAll.declared {name = name} {v 
     declare {n = n} (Declares.has_value _ same) name q h =
         (q, subst (λ (x : VariablesView). LocalsTexts x.locals) (sym same) (declared_texts f.variables n h))
     declare {n = n} (Declares.is_new _ made same) name q h = (
-      sound_made (folded_is_folded n) (folded_text n name, empty_text) made q,
+      sound_made (folded_is_folded n) (folded_text n name, no_bytes) made q,
       subst
           (λ (x : VariablesView). LocalsTexts x.locals) (sym same) (declared_texts f.variables n h),
     )
@@ -299,7 +300,7 @@ property_read r EditBkgnd h = word_text r.edit_background
 
 returned_texts : (kind : HandlerKind) (v : List ℕ) (r : RunState) → IsText v → RunTexts r
     → IsText (returned kind v r).value × RunTexts (returned kind v r).run
-returned_texts Command v r k h = (empty_text, record { delimiter = h.delimiter; result = k })
+returned_texts Command v r k h = (no_bytes, record { delimiter = h.delimiter; result = k })
 returned_texts Function v r k h = (k, h)
 
 pub sound_returned : {v2 : List ℕ} {r r2 : RunState} (kind : HandlerKind) (v : List ℕ)
@@ -313,10 +314,10 @@ sound_ends {r = r} kind how is k h =
     subst (λ o. IfSome o (λ (x : Outcome). IsText x.value × RunTexts x.run)) is (by how k)
   where
     by : (how : How) → HowTexts how → IfSome (ends kind how r) (λ (x : Outcome). IsText x.value × RunTexts x.run)
-    by Next k = (empty_text, h)
-    by ExitRepeat k = (empty_text, h)
-    by NextRepeat k = (empty_text, h)
-    by Exit k = (empty_text, h)
+    by Next k = (no_bytes, h)
+    by ExitRepeat k = (no_bytes, h)
+    by NextRepeat k = (no_bytes, h)
+    by Exit k = (no_bytes, h)
     by Pass k = tt
     by (Returns v) k = returned_texts kind v r k h
 
@@ -345,7 +346,7 @@ sound_parses {t = t} {a = a} law (Parses.parses reads) h = law t a h reads
 
 script_text : (o : Option Object) → IfSome o (λ x. IsText x.name × IsText x.script)
     → IsText (unwrap_or (option_map (λ x. x.script) o) [])
-script_text None h = empty_text
+script_text None h = no_bytes
 script_text (Some x) h = h.1
 
 handler_texts : (hs : stm.Handlers) (kind : HandlerKind) (name : List ℕ) → HandlersTexts hs
@@ -379,7 +380,7 @@ bound_texts : (names arguments : List (List ℕ)) (v : VariablesView) → AreTex
     → LocalsTexts (bound names arguments v).locals
 bound_texts [] arguments v h k = k
 bound_texts (n ∷ names) [] v h k =
-    bound_texts names [] (with_local v n (Some [])) tt (with_value_texts n (Some []) v.locals k empty_text)
+    bound_texts names [] (with_local v n (Some [])) tt (with_value_texts n (Some []) v.locals k no_bytes)
 bound_texts (n ∷ names) (a ∷ arguments) v h k =
     bound_texts names arguments (with_local v n (Some a)) h.1 (with_value_texts n (Some a) v.locals k h.0)
 

@@ -18,8 +18,9 @@ use Rattle.whole_states.specs.Texts.{ExprTexts, ExprsTexts, ChunkTexts, Containe
 use Rattle.whole_states.specs.Texts.{OwnerTexts, PartTexts, RefTexts, StmtTexts, StmtsTexts, DestinationTexts}
 use Rattle.whole_states.specs.Texts.{MessageTexts}
 use Rattle.whole_states.proofs.TreeTexts.{expressions_have_texts, lines_have_texts, messages_have_texts}
-use Rattle.whole_states.proofs.ValueTexts.{empty_text, word_text, constant_is, numeral_text, binary_text, unary_text}
-use Rattle.whole_states.proofs.ValueTexts.{built_in_text, read_text}
+use Rattle.object_table.proofs.Empty.{no_bytes}
+use Rattle.whole_states.proofs.ValueTexts.{word_text, constant_is, numeral_text, binary_text, unary_text, built_in_text}
+use Rattle.whole_states.proofs.ValueTexts.{read_text}
 use Rattle.whole_states.proofs.StateTexts.{named_texts, read_name_text, field_is_text, property_text, name_text}
 use Rattle.whole_states.proofs.Leaves.{IsWhole, sound_made, sound_turn, stands_after, named_stands, same_frame}
 use Rattle.whole_states.proofs.Leaves.{sound_edits, sound_stores, sound_assigns, sound_declares_all, sound_sets}
@@ -487,7 +488,7 @@ module _ (begin : History) (cut : PartsCut) where
     sound_form (Form.exit_to_hypercard p1) has whole run given1 given2 = (whole, run, given1, tt)
     sound_form (Form.exit_handler p1) has whole run given1 given2 = (whole, run, given1, tt)
     sound_form (Form.pass p1) has whole run given1 given2 = (whole, run, given1, tt)
-    sound_form (Form.return_nothing p1) has whole run given1 given2 = (whole, run, given1, empty_text)
+    sound_form (Form.return_nothing p1) has whole run given1 given2 = (whole, run, given1, no_bytes)
     sound_form (Form.return_stops p1 p2) has whole run given1 given2 =
         let after2 = sound_val p2 (stopped has) whole run given1 (subst StmtTexts p1 given2) in
         (after2.0, after2.1, given1, tt)
@@ -743,21 +744,21 @@ module _ (begin : History) (cut : PartsCut) where
     sound_built_in_gives (BuiltInGives.menu_unknown _ _) has whole run given1 given2 = (whole, run, tt)
     sound_built_in_gives (BuiltInGives.menu_item _ _ p3) has whole run given1 given2 =
         sound_menu p3 has whole run given1
-    sound_built_in_gives (BuiltInGives.ignored_message _ _) has whole run given1 given2 = (whole, run, empty_text)
+    sound_built_in_gives (BuiltInGives.ignored_message _ _) has whole run given1 given2 = (whole, run, no_bytes)
     sound_built_in_gives (BuiltInGives.not_understood _ _) has whole run given1 given2 = (whole, run, tt)
 
     pub sound_system : {w w2 : History} {r r2 : RunState} {f : Frame} {d i : ℕ} {mg : SystemMessage}
         {o : Result (List ℕ) Stop} → System w r f d i mg o w2 r2 → HasMemory o → IsWhole begin w → RunTexts r
         → FrameTexts f → IsWhole begin w2 × RunTexts r2 × IfOk o IsText
     sound_system System.system_memory has _ _ _ = absurd (has refl)
-    sound_system (System.system_locked _) has whole run given1 = (whole, run, empty_text)
+    sound_system (System.system_locked _) has whole run given1 = (whole, run, no_bytes)
     sound_system (System.system _ _ p3) has whole run given1 = sound_sends p3 has whole run given1 tt
 
     pub sound_systems : {w w2 : History} {r r2 : RunState} {f : Frame} {d : ℕ} {ms : List SystemMessage}
         {o : Result (List ℕ) Stop} → Systems w r f d ms o w2 r2 → HasMemory o → IsWhole begin w → RunTexts r
         → FrameTexts f → IsWhole begin w2 × RunTexts r2 × IfOk o IsText
     sound_systems Systems.systems_memory has _ _ _ = absurd (has refl)
-    sound_systems (Systems.systems_done _) has whole run given1 = (whole, run, empty_text)
+    sound_systems (Systems.systems_done _) has whole run given1 = (whole, run, no_bytes)
     sound_systems (Systems.systems_stop _ _ p3) has whole run given1 =
         let after3 = sound_system p3 has whole run given1 in
         (after3.0, after3.1, tt)
@@ -769,7 +770,7 @@ module _ (begin : History) (cut : PartsCut) where
         → Goes w r f d i o w2 r2 → HasMemory o → IsWhole begin w → RunTexts r → FrameTexts f
         → IsWhole begin w2 × RunTexts r2 × IfOk o IsText
     sound_goes Goes.go_memory has _ _ _ = absurd (has refl)
-    sound_goes (Goes.go_stays _) has whole run given1 = (whole, run, empty_text)
+    sound_goes (Goes.go_stays _) has whole run given1 = (whole, run, no_bytes)
     sound_goes (Goes.go_close_stops _ _ p3) has whole run given1 =
         let after3 = sound_systems p3 has whole run given1 in
         (after3.0, after3.1, tt)
@@ -803,7 +804,7 @@ module _ (begin : History) (cut : PartsCut) where
         let after2 = sound_systems p2 given whole run given1 in
         sound_systems p4 has (sound_adds tt p3 given after2.0) after2.1 given1
     sound_menu (Menu.part_full _ _ p3) has whole run given1 = ((sound_adds tt p3 (stopped has) whole), run, tt)
-    sound_menu (Menu.new_part _ _ p3) has whole run given1 = ((sound_adds tt p3 given whole), run, empty_text)
+    sound_menu (Menu.new_part _ _ p3) has whole run given1 = ((sound_adds tt p3 given whole), run, no_bytes)
     sound_menu (Menu.delete_refused _ _) has whole run given1 = (whole, run, tt)
     sound_menu (Menu.delete_card {w = w} _ p2 p3 _ p5) has whole run given1 =
         sound_systems p5 has (sound_made (may_go w.now p2) tt p3 whole) run given1
@@ -853,7 +854,7 @@ module _ (begin : History) (cut : PartsCut) where
     sound_calls_back (CallsBack.message_runs p1 p2 p3 p4 p5) has whole run given1 =
         let after4 = sound_block p4 given whole run (same_frame p3 tt)
         (sound_parses {P = StmtsTexts} lines_have_texts p2 (subst AskTexts p1 given1).1) in
-        (after4.0, after4.1, (subst InputTexts (sym p5) ((subst AskTexts p1 given1).0, empty_text)))
+        (after4.0, after4.1, (subst InputTexts (sym p5) ((subst AskTexts p1 given1).0, no_bytes)))
     sound_calls_back (CallsBack.eval_syntax p1 _) has whole run given1 = (whole, run, tt)
     sound_calls_back (CallsBack.eval_stops p1 p2 p3 p4) has whole run given1 =
         let after4 = sound_val p4 (stopped has) whole run (same_frame p3 tt)
@@ -867,12 +868,12 @@ module _ (begin : History) (cut : PartsCut) where
     sound_calls_back (CallsBack.global_set {n = n} {f = f} p1 _ p3 p4 p5) has whole run given1 =
         let after4 = sound_stores (named_texts f.variables n (subst AskTexts p1 given1).1) (subst AskTexts p1 given1).2
         p4 whole (same_frame p3 tt) in
-        (after4.0, run, (subst InputTexts (sym p5) ((subst AskTexts p1 given1).0, empty_text)))
+        (after4.0, run, (subst InputTexts (sym p5) ((subst AskTexts p1 given1).0, no_bytes)))
     sound_calls_back (CallsBack.no_such_field p1 p2 p3) has whole run given1 = (whole, run, tt)
     sound_calls_back (CallsBack.field_set {b = b} {n = n} {f = f} {w = w} p1 p2 p3 p4 p5) has whole run given1 =
         let after4 = sound_stores (sound_yields (λ p. StorageTexts p.storage) (named_place_texts w.now f.variables b n)
         p3) (subst AskTexts p1 given1).2 p4 whole (same_frame p2 tt) in
-        (after4.0, run, (subst InputTexts (sym p5) ((subst AskTexts p1 given1).0, empty_text)))
+        (after4.0, run, (subst InputTexts (sym p5) ((subst AskTexts p1 given1).0, no_bytes)))
 
     pub sound_line : {w w2 : History} {r r2 : RunState} {ss : stm.Stmts} {ot : Result (Unit {0}) Stop}
         → Line w r ss ot w2 r2 → HasMemory ot → IsWhole begin w → RunTexts r → StmtsTexts ss

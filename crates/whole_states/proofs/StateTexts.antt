@@ -20,6 +20,7 @@ use Rattle.ht_values.specs.Text.{IsText, folded, same}
 use Rattle.ht_values.proofs.Folding.{folded_is_folded}
 use Rattle.chunks.specs.Laws.{PartsCut}
 use Rattle.chunks.specs.Nested.{read_within}
+use Rattle.object_table.proofs.Empty.{no_bytes}
 use Rattle.object_table.specs.Content.{Content}
 use Rattle.object_table.specs.Objects.{object_at, has_kind, is_background_button}
 use Rattle.object_table.specs.PartContents.{hilite_at}
@@ -53,7 +54,7 @@ use Rattle.containers.specs.Places.{StorageView, PlaceView, global, own, field_t
 use Rattle.containers.specs.Variables.{VariablesView, is_global, with_value}
 use Rattle.meaning.specs.Places as places
 use Rattle.whole_states.specs.Texts.{LocalsTexts, StorageTexts}
-use Rattle.whole_states.proofs.ValueTexts.{IfText, IfDue, AreBytes, given_text, empty_text, short_text, decimal_are}
+use Rattle.whole_states.proofs.ValueTexts.{IfText, IfDue, AreBytes, given_text, short_text, decimal_are}
 use Rattle.whole_states.proofs.ValueTexts.{decimal_text, words_text, within_text, within_read, EditTexts, edited_text}
 
 -- ---- variables and containers
@@ -113,8 +114,8 @@ pub read_name_text : (s : State) (v : VariablesView) (name : List ℕ) → IsSta
 read_name_text s v name q k h = unwrapped (text_in s v (named v name)) name (in_text s v (named v name) q k) h
 
 whole_text : (s : State) (v : VariablesView) (h : StorageView) → IsState s → LocalsTexts v.locals → IfText (whole s v h)
-whole_text s v (global name) q k = unwrapped (text_in s v (global name)) [] (in_text s v (global name) q k) empty_text
-whole_text s v (own name) q k = unwrapped (text_in s v (own name)) [] (in_text s v (own name) q k) empty_text
+whole_text s v (global name) q k = unwrapped (text_in s v (global name)) [] (in_text s v (global name) q k) no_bytes
+whole_text s v (own name) q k = unwrapped (text_in s v (own name)) [] (in_text s v (own name) q k) no_bytes
 whole_text s v (field_text field card) q k =
     found_text (text_in s v (field_text field card)) (in_text s v (field_text field card) q k)
 

@@ -27,6 +27,7 @@ use Rattle.ht_values.specs.Number.{number_of, is_space}
 use Rattle.ht_values.specs.Operators.{in_numerals, in_words, word_of, binary, unary}
 use Rattle.ht_values.specs.Outcome.{and_then, within_limit}
 use Rattle.ht_values.specs.Text.{IsText, numeral}
+use Rattle.object_table.proofs.Empty.{no_bytes}
 use Rattle.ht_lex.specs.declared.key.Constant.{Constant}
 use Rattle.ht_lex.specs.declared.key.Constant.TheVariants as constant
 use Rattle.ht_lex.specs.Constants.{constant_text}
@@ -62,9 +63,6 @@ given_text t h =
     let parts = and_parts (nat_le (length t) 1000) (list_all (λ b. nat_lt b 256) t) h in
     short_text t (leb-true (length t) 1000 parts.0) (All-from_recursion (λ b. b < 256) t (bytes_of t parts.1))
 
-pub empty_text : IsText []
-empty_text = given_text [] refl
-
 pub word_text : (b : Bool) → IsText (word_of b)
 word_text true = given_text (codes "true") refl
 word_text false = given_text (codes "false") refl
@@ -73,7 +71,7 @@ pub byte_text : (b : ℕ) → b < 256 → IsText (b ∷ [])
 byte_text b h = short_text (b ∷ []) (omega arith) (All-cons (λ c. c < 256) b [] h (All-nil (λ c. c < 256)))
 
 pub constant_is : (c : Constant) → IsText (constant_text c)
-constant_is constant.Empty = empty_text
+constant_is constant.Empty = no_bytes
 constant_is constant.Quote = given_text (34 ∷ []) refl
 constant_is constant.Space = given_text (32 ∷ []) refl
 constant_is constant.Comma = given_text (codes ",") refl
@@ -217,7 +215,7 @@ pub read_text : (delimiter : ℕ) (c : Chunk) (t : List ℕ) → IsText t → Is
 read_text delimiter c t h = by (found delimiter c t)
   where
     by : (o : Option Span) → IsText (middle_of t o)
-    by None = empty_text
+    by None = no_bytes
     by (Some s) = sliced t s.start (s.after - s.start) h
 
 pub within_read : (delimiter : ℕ) (cs : List Chunk) (t : List ℕ) → IsText t → IsText (read_within delimiter cs t)

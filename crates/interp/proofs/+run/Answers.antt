@@ -96,7 +96,8 @@ message::along-loop-world-preserved g t c =
           (rw same at h));
     }
 
-pub pieces::resolve-returns-in_err-pieces-in-Chunk-clause-meaning : goal.pieces::resolve-returns-in_err-pieces-in-Chunk-clause-meaning
+pub pieces::resolve-returns-in_err-pieces-in-Chunk-clause-meaning :
+    goal.pieces::resolve-returns-in_err-pieces-in-Chunk-clause-meaning
 pieces::resolve-returns-in_err-pieces-in-Chunk-clause-meaning g t c =
     let p = err_from_is_err_and c.from_residual-in_err-pieces-in-Chunk.result
     c.from_residual-in_err-pieces-in-Chunk.ensures.1 in

@@ -1,4 +1,4 @@
-use Rattle.std.proofs.Common.{rules, suc, ◌-◌, ◌+◌, length, arith}
+use Rattle.std.proofs.Common.{rules, ◌-◌, ◌+◌, length, arith}
 use Rattle.std.proofs.lemmas.Grind.{common_steps}
 use Rattle.ht_grammar.specs.Reading.{made}
 use Rattle.ht_grammar.specs.Whole.{handlers_at}

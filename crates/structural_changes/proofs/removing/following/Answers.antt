@@ -1,5 +1,4 @@
 use Rattle.std.proofs.Common.{◌≡◌, ◌<◌, ◌≤◌, ℕ, List, get_or, length, unwrap_or, slice_get, subst, ap, ◌∙◌}
-use Rattle.object_table.specs.Numbers.{number_in}
 use Rattle.structural_changes.proofs.Orders.{followed_by, followed_by_first}
 use Rattle.structural_changes.proofs.removing.following.Goals as goal
 

@@ -1,7 +1,7 @@
-use Rattle.std.proofs.Common.{◌≡◌, ◌++◌, ◌+◌, ◌≤◌, [], ◌∷◌, length, false, sym, subst, ap, ◌∙◌, arith, rules, is_some}
+use Rattle.std.proofs.Common.{◌≡◌, ◌+◌, ◌≤◌, length, false, sym, subst, ap, ◌∙◌, arith, rules, is_some}
 use Rattle.object_table.specs.Objects.{contains_id}
 use Rattle.object_table.specs.Pages.{number_at}
-use Rattle.object_table.specs.Rows.{entry_at, entries_of, ids_in, AreApart}
+use Rattle.object_table.specs.Rows.{ids_in, AreApart}
 use Rattle.object_table.specs.Slots.{slot_number}
 use Rattle.object_table.proofs.Rows.{apart-append, entries-empty_row, entry-added, entry-among, entry-tied, ids-append}
 use Rattle.object_table.proofs.Slots.{none_numbered, numbered_there, numbered-added}

@@ -149,7 +149,8 @@ invariant_of-self-else-id-ne0 c =
     c.index_mut.ensures.value in
     let found = slot_found c.args.id (c.get.result - 1) e es at in
     let s : Slot = record { object = c.swap.new.x; parts = e.1.parts } in
-    let put = object_put es _ c.args.id e.1 c.swap.new.x found (slot_written c.args.id (c.get.result - 1) e es at s) in (
+    let put =
+    object_put es _ c.args.id e.1 c.swap.new.x found (slot_written c.args.id (c.get.result - 1) e es at s) in (
       c.self.invariant.0
           ∙ sym (ap (λ (t : Slots). len (remove t.objects 0)) put
           ∙ ap (λ k. len (remove (put_option (objects_in es) k c.swap.new.x) 0)) c.if-id-ne0.false
