@@ -1,13 +1,12 @@
 -- Names whose places are kept beside them.
-use Rattle.std.specs.Prelude.{◌≡◌, ℕ, List, Option, None, take, position, option_and_then}
-use Rattle.std.specs.Option.{option_or}
+use Rattle.std.specs.Prelude.{◌≡◌, ℕ, List, [], Option, None, map, take, position}
+use Rattle.std.specs.Prelude.{option_and_then, option_map, unwrap_or}
 use Rattle.std.specs.Map.{lookup}
 use Rattle.std.specs.Ordering.{is_eq, nat_cmp}
 use Rattle.std.specs.Cmp.Lexicographic.{slice_cmp}
 use Rattle.ht_values.specs.Text.{folded, same}
 use Rattle.name_lists.specs.declared.places.PlaceMap.{PlaceMap}
 use Rattle.name_lists.specs.declared.places.SharedPlaces.{SharedPlaces}
-use Rattle.name_lists.specs.declared.places.NamePlaces.{NamePlaces}
 use Rattle.name_lists.specs.declared.places.TheConstants.{MOST_SCANNED}
 
 -- where the first name stands that is the same
@@ -22,9 +21,17 @@ place_in places name = lookup (λ k. is_eq (slice_cmp nat_cmp (folded name) k.it
 abbrev pub place_shared : SharedPlaces → List ℕ → Option ℕ
 place_shared places name = option_and_then (λ r. place_in r.value name) places.shared
 
--- the same of places of which some are shared
-abbrev pub place_kept : NamePlaces → List ℕ → Option ℕ
-place_kept places name = option_or (place_in places.own name) (place_shared places.shared name)
+-- the names of which places are kept, folded, with their places
+abbrev pub pairs_in : PlaceMap → List (List ℕ × ℕ)
+pairs_in places = map (λ e. (e.0.items, e.1)) places.entries.entries
+
+-- the same of places that are shared
+abbrev pub pairs_shared : SharedPlaces → List (List ℕ × ℕ)
+pairs_shared places = unwrap_or (option_map (λ r. pairs_in r.value) places.shared) []
+
+-- the place that is kept of a name, among folded names
+abbrev pub place_kept : List (List ℕ × ℕ) → List ℕ → Option ℕ
+place_kept ps name = lookup (λ n. is_eq (slice_cmp nat_cmp (folded name) n)) ps
 
 -- each name that isn't among the first few has its place kept, if it stands there
 abbrev pub AreIndexed : (List ℕ → Option ℕ) → List (List ℕ) → Type 0

@@ -7,6 +7,7 @@ ghost use Rattle.name_lists.specs.Places.{place_in, place_kept, place_shared};
 use ht_values::Name;
 use std::alloc::{AllocError, Global};
 use std::collections::BTreeMap;
+use std::marker::Model;
 use std::rc::Rc;
 
 /// How many names are looked at one by one.
@@ -128,6 +129,16 @@ impl Drop for NamePlaces {
     fn drop(self) {
         let NamePlaces { own: _, shared: _ } = self;
     }
+}
+
+/// Contracts see the names that have places, each with its place.
+impl Model for NamePlaces {
+    ghost use Rattle.std.specs.Prelude.{◌++◌, ℕ, List};
+    ghost use Rattle.name_lists.specs.Places.{pairs_in, pairs_shared};
+
+    ghost Value = { List (List ℕ × ℕ) };
+
+    ghost view = { λ p. pairs_in p.own ++ pairs_shared p.shared };
 }
 
 impl NamePlaces {
