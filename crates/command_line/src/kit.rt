@@ -13,7 +13,7 @@ use crate::fault::{CliFault, cut};
 use crate::options::Options;
 use crate::runs::{play, stack_of};
 use devices::{Desk, Watched};
-use explain::{Checked, check};
+use diagnostics::{Checked, check};
 use externals::External;
 use headline::Ran;
 use std::alloc::{AllocError, Global};

@@ -16,7 +16,7 @@ mod options;
 mod runs;
 mod words;
 
-pub use explain::{Checked, Page, file_fault_words, write_line};
+pub use diagnostics::{Checked, Page, file_fault_words, write_line};
 pub use fault::{CliFault, cut, verdict};
 pub use kit::{check_with_kit, play_with_kit};
 pub use options::Options;

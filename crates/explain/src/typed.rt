@@ -1,8 +1,6 @@
 //! Typed lines that aren't in the grammar.
 
-use crate::hint::write_hint;
-use crate::page::Page;
-use crate::place::{place_in, write_place, write_pointed};
+use diagnostics::{Page, location_in, write_hint, write_location, write_pointed};
 use ht_parse::{ParseError, parse_lines, parse_part, parse_type};
 use ht_values::Text;
 use session::{Reading, acted_in};
@@ -39,9 +37,9 @@ pub(crate) fn write_unread(page: &mut Page, alloc: Global, line: &[u8]) {
         return;
     };
     let front = line.len().saturating_sub(behind.len());
-    let place = place_in(line, at.saturating_add(front));
+    let place = location_in(line, at.saturating_add(front));
     page.word(b"\n  at ");
-    write_place(page, place, true);
+    write_location(page, place, true);
     page.word(b" of the typed line:");
     write_pointed(page, place);
     write_hint(page, alloc, &text, at);

@@ -9,16 +9,16 @@ const AFTER: usize = 100;
 
 /// A place: its line and its column, each from 1, and the bytes of its line.
 #[derive(Clone, Copy)]
-pub(crate) struct Place<'a> {
+pub struct Location<'a> {
     pub line: usize,
     pub column: usize,
     pub text: &'a [u8],
 }
 
 /// The place of a byte in a text whose lines end with returns; past its end that of its end.
-pub(crate) fn place_in(text: &[u8], at: usize) -> Place<'_> {
+pub fn location_in(text: &[u8], at: usize) -> Location<'_> {
     let mut left = at.min(text.len());
-    let mut place = Place {
+    let mut place = Location {
         line: 1,
         column: 1,
         text: &text[..0],
@@ -26,7 +26,7 @@ pub(crate) fn place_in(text: &[u8], at: usize) -> Place<'_> {
     let mut line: usize = 0;
     for piece in text.split(|byte| *byte == b'\r') {
         line = line.saturating_add(1);
-        place = Place {
+        place = Location {
             line,
             column: left.saturating_add(1),
             text: piece,
@@ -47,7 +47,7 @@ fn part(text: &[u8], from: usize, to: usize) -> &[u8] {
 }
 
 /// `line L`, or with the column `line L, column C`.
-pub(crate) fn write_place(page: &mut Page, place: Place<'_>, with_column: bool) {
+pub fn write_location(page: &mut Page, place: Location<'_>, with_column: bool) {
     page.word(b"line ");
     page.number(place.line);
     if with_column {
@@ -57,7 +57,7 @@ pub(crate) fn write_place(page: &mut Page, place: Place<'_>, with_column: bool) 
 }
 
 /// The line of a place without the blanks before it, indented by four spaces; a long one is cut.
-pub(crate) fn write_statement(page: &mut Page, place: Place<'_>) {
+pub fn write_statement(page: &mut Page, place: Location<'_>) {
     let blanks = place
         .text
         .iter()
@@ -73,7 +73,7 @@ pub(crate) fn write_statement(page: &mut Page, place: Place<'_>) {
 
 /// The line of a place, indented by four spaces, and below it a caret at the place; of a long line what stands round
 /// it.
-pub(crate) fn write_pointed(page: &mut Page, place: Place<'_>) {
+pub fn write_pointed(page: &mut Page, place: Location<'_>) {
     let at = place.column.saturating_sub(1);
     let front = at.min(place.text.len()).saturating_sub(BEFORE);
     let end = at.saturating_add(AFTER);

@@ -209,7 +209,7 @@ fn write_strange(page: &mut Page, rest: &[u8]) {
 }
 
 /// A line that says what stands at a place of a text that can't be read on from there, and what could.
-pub(crate) fn write_hint(page: &mut Page, alloc: Global, text: &Text, at: usize) {
+pub fn write_hint(page: &mut Page, alloc: Global, text: &Text, at: usize) {
     page.word(b"\n  ");
     match lex(alloc, text) {
         Ok(tokens) => {

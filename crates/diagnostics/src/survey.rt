@@ -1,9 +1,9 @@
 //! What of a stack's scripts isn't in the grammar, and which messages nothing handles.
 
 use crate::hint::write_hint;
+use crate::location::{location_in, write_location, write_pointed};
 use crate::object::write_object;
 use crate::page::Page;
-use crate::place::{place_in, write_place, write_pointed};
 use externals::External;
 use ht_grammar::HandlerKind;
 use ht_lex::{Key, Span, TokenKind, Tokens, lex};
@@ -69,11 +69,11 @@ impl<E: External> Survey<'_, E> {
     /// Tells of a script that isn't in the grammar.
     fn tell_unread(&mut self, id: Id, script: &Text, at: usize) {
         self.checked.reads = false;
-        let place = place_in(script.as_slice(), at);
+        let place = location_in(script.as_slice(), at);
         let page = &mut self.checked.page;
         write_object(page, self.alloc, self.stack, self.card, id);
         page.word(b", ");
-        write_place(page, place, true);
+        write_location(page, place, true);
         page.word(b": not in the grammar");
         write_pointed(page, place);
         write_hint(page, self.alloc, script, at);
@@ -108,7 +108,7 @@ impl<E: External> Survey<'_, E> {
         let page = &mut self.checked.page;
         write_object(page, self.alloc, self.stack, self.card, id);
         page.word(b", ");
-        write_place(page, place_in(script, at), false);
+        write_location(page, location_in(script, at), false);
         page.word(b": nothing handles ");
         page.spelled(name.as_slice());
         page.word(b"\n");
