@@ -1,13 +1,18 @@
 //! Statements.
 
-ghost use Rattle.std.specs.Prelude.{◌≡◌, ◌≤◌, ◌<◌, IsSome, IfOk, true};
+ghost use Rattle.std.specs.Prelude.{◌≡◌, ◌≤◌, ◌<◌, ℕ, List, IsSome, IfOk, true};
 ghost use Rattle.ht_grammar.specs.Statements as stm;
-ghost use Rattle.ht_grammar.specs.Depth.{chunk_depth, container_depth, depth, depths, destination_depth, ref_depth};
+ghost use Rattle.ht_grammar.specs.Trees as tree;
+ghost use Rattle.ht_grammar.specs.declared.vocabulary.HandlerKind.TheVariants.{Command};
+ghost use Rattle.ht_grammar.specs.Depth.{chunk_depth, container_depth, depth, destination_depth, ref_depth};
 ghost use Rattle.ht_grammar.specs.Depth.{stmt_depth, stmts_depth, max_depth};
 ghost use Rattle.ht_tree.specs.StatementView.{destination_of, stmts_of};
-ghost use Rattle.ht_tree.specs.View.{chunk_of, exprs_of, ref_of};
+ghost use Rattle.ht_tree.specs.View.{chunk_of, ref_of};
 ghost use Rattle.containers.specs.Base.{base};
-ghost use Rattle.meaning.specs.Meaning.{Alters, Block, Form};
+ghost use Rattle.change_journal.specs.History.{History};
+ghost use Rattle.meaning.specs.declared.frame.Frame.{Frame};
+ghost use Rattle.meaning.specs.Meaning.{Alters, Block, Calls, Form, Val};
+ghost use Rattle.meaning.specs.State.{RunState};
 ghost use Rattle.interp.specs.Heads.{is_plain};
 ghost use Rattle.interp.specs.Keeps.{Keeps};
 
@@ -21,8 +26,8 @@ use change_journal::World;
 use containers::Edit;
 use externals::External;
 use ht_grammar::{HandlerKind, RunProp};
-use ht_tree::{Chunk, Container, Destination, Expr, Exprs, Head, Ref, Stmt, StmtKind};
-use ht_values::{Fault, Op, Prop, Text, Where};
+use ht_tree::{Chunk, Container, Destination, Expr, Head, Ref, Stmt, StmtKind};
+use ht_values::{Fault, Op, Prop, Value, Where};
 use meaning::{Budget, Frame, How, MOST_NESTED, Stop, TextUse};
 use primitives::numbers::alter_by_number;
 use primitives::places::{declare_globals, edit, put_into_it, set_property};
@@ -137,15 +142,24 @@ pub(crate) fn run_plain<E: External>(
     ensures keeps { Keeps world.old.history run.old world.new.history run.new }
 {
     match stmt.kind() {
-        StmtKind::Put(value) => show(world, run, frame, nested, value),
+        StmtKind::Put(value) => {
+            let met = eval(world, run, frame, nested, value);
+            shown(run, met)
+        }
         StmtKind::PutIn(place, value, container) => put(
             world, run, frame, nested, *place, value, container,
         ),
-        StmtKind::Get(value) => get(world, run, frame, nested, value),
+        StmtKind::Get(value) => {
+            let met = eval(world, run, frame, nested, value);
+            got(world, run, frame, met)
+        }
         StmtKind::Set(property, reference, value) => set(
             world, run, frame, nested, *property, reference, value,
         ),
-        StmtKind::SetRun(property, value) => set_run(world, run, frame, nested, *property, value),
+        StmtKind::SetRun(property, value) => {
+            let met = eval(world, run, frame, nested, value);
+            run_set(run, *property, met)
+        }
         StmtKind::Add(value, container) => alter(
             world,
             run,
@@ -196,78 +210,83 @@ pub(crate) fn run_plain<E: External>(
         StmtKind::Exit(_) => Ok(How::Exit),
         StmtKind::Pass(_) => Ok(How::Pass),
         StmtKind::ReturnNothing => Ok(How::Returns(empty(run))),
-        StmtKind::ReturnValue(value) => return_value(world, run, frame, nested, value),
-        StmtKind::Command(name, list) => command(world, run, frame, nested, name, list),
+        StmtKind::ReturnValue(value) => {
+            let met = eval(world, run, frame, nested, value);
+            returning(met)
+        }
+        StmtKind::Command(name, list) => {
+            let kind = HandlerKind::Command;
+            let met = calls(world, run, frame, nested, frame.me, name, list, kind);
+            sent(met)
+        }
         StmtKind::When(_, _, _) | StmtKind::Repeat(_, _) => unreachable!(),
     }
 }
 
-/// `return` with a value.
-#[cycle(run)]
+/// `return` with a value, if it was computed.
 #[tactic(auto, using(meaning::proofs::Rules::form_return_value_rules))]
-#[inline(never)]
-pub(crate) fn return_value<E: External>(
-    world: &mut World<E>,
-    run: &mut Budget,
-    frame: &mut Frame,
-    nested: u32,
-    value: &Expr,
-) -> Result<How, Stop>
-    requires nested { nested ≤ 100 }
-    requires deep { depth value.now < max_depth }
-    requires open { IsSome (base world.old.history).start }
-    ensures meaning { Form world.old.history run.old frame.old nested (stm.return_value value.now) result
-        world.new.history run.new frame.new }
-    ensures keeps { Keeps world.old.history run.old world.new.history run.new }
+fn returning(met: Result<Value, Stop>) -> Result<How, Stop>
+    ensures { (w w1 : History) (r r1 : RunState) (f : Frame) (d : ℕ) (x : tree.Expr)
+        → Val w r f d x met w1 r1 → Form w r f d (stm.return_value x) result w1 r1 f }
 {
-    let value = eval(world, run, frame, nested, value)?;
+    let value = met?;
     Ok(How::Returns(value))
 }
 
-/// A command: a message to the object whose handler runs.
-#[cycle(run)]
+/// A command: a message to the object whose handler runs, once it was sent.
 #[tactic(auto, using(meaning::proofs::Rules::form_command_rules))]
-#[inline(never)]
-pub(crate) fn command<E: External>(
-    world: &mut World<E>,
-    run: &mut Budget,
-    frame: &mut Frame,
-    nested: u32,
-    name: &Text,
-    list: &Exprs,
-) -> Result<How, Stop>
-    requires nested { nested ≤ 100 }
-    requires deep { depths (exprs_of list.now.items.items) < max_depth }
-    requires open { IsSome (base world.old.history).start }
-    ensures meaning { Form world.old.history run.old frame.old nested
-        (stm.command name.now (exprs_of list.now.items.items)) result world.new.history run.new frame.new }
-    ensures keeps { Keeps world.old.history run.old world.new.history run.new }
+fn sent(met: Result<Value, Stop>) -> Result<How, Stop>
+    ensures { (w w1 : History) (r r1 : RunState) (f : Frame) (d : ℕ) (name : List ℕ) (xs : tree.Exprs)
+        → Calls w r f d f.me name xs Command met w1 r1
+        → Form w r f d (stm.command name xs) result w1 r1 f }
 {
-    let kind = HandlerKind::Command;
-    let _ = calls(world, run, frame, nested, frame.me, name, list, kind)?;
+    let _ = met?;
     Ok(How::Next)
 }
 
-/// `put` alone: a line is shown.
-#[cycle(run)]
+/// `put` alone: a value is shown as a line, if it was computed.
 #[tactic(auto, using(meaning::proofs::Rules::form_put_rules))]
 #[inline(never)]
-pub(crate) fn show<E: External>(
-    world: &mut World<E>,
-    run: &mut Budget,
-    frame: &mut Frame,
-    nested: u32,
-    value: &Expr,
-) -> Result<How, Stop>
-    requires nested { nested ≤ 100 }
-    requires deep { depth value.now < max_depth }
-    requires open { IsSome (base world.old.history).start }
-    ensures meaning { Form world.old.history run.old frame.old nested (stm.put value.now) result world.new.history
-        run.new frame.new }
-    ensures keeps { Keeps world.old.history run.old world.new.history run.new }
+fn shown(run: &mut Budget, met: Result<Value, Stop>) -> Result<How, Stop>
+    ensures meaning { (w w1 : History) (r : RunState) (f : Frame) (d : ℕ) (x : tree.Expr)
+        → Val w r f d x met w1 run.old → Form w r f d (stm.put x) result w1 run.new f }
+    ensures steps { run.new.left ≡ run.old.left }
 {
-    let value = eval(world, run, frame, nested, value)?;
+    let value = met?;
     run.show(&value)?;
+    Ok(How::Next)
+}
+
+/// `get`: a value becomes that of `it`, if it was computed.
+#[tactic(auto, using(meaning::proofs::Rules::form_get_rules))]
+#[inline(never)]
+fn got<E: External>(
+    world: &mut World<E>,
+    run: &Budget,
+    frame: &mut Frame,
+    met: Result<Value, Stop>,
+) -> Result<How, Stop>
+    requires open { IsSome (base world.old.history).start }
+    ensures meaning { (w : History) (r : RunState) (d : ℕ) (x : tree.Expr)
+        → Val w r frame.old d x met world.old.history run.now
+        → Form w r frame.old d (stm.get x) result world.new.history run.now frame.new }
+    ensures base { base world.new.history ≡ base world.old.history }
+{
+    let value = met?;
+    put_into_it(world, run, frame, value)?;
+    Ok(How::Next)
+}
+
+/// `set` of a property of the run to a value, if it was computed.
+#[tactic(auto, using(meaning::proofs::Rules::form_set_run_rules))]
+#[inline(never)]
+fn run_set(run: &mut Budget, property: RunProp, met: Result<Value, Stop>) -> Result<How, Stop>
+    ensures meaning { (w w1 : History) (r : RunState) (f : Frame) (d : ℕ) (x : tree.Expr)
+        → Val w r f d x met w1 run.old → Form w r f d (stm.set_run property x) result w1 run.new f }
+    ensures steps { run.new.left ≡ run.old.left }
+{
+    let text = met?.into_text(run.alloc())?;
+    set_run_property(run, property, &text)?;
     Ok(How::Next)
 }
 
@@ -298,29 +317,6 @@ pub(crate) fn put<E: External>(
     Ok(How::Next)
 }
 
-/// `get`: the value becomes that of `it`.
-#[cycle(run)]
-#[tactic(auto, using(meaning::proofs::Rules::form_get_rules))]
-#[inline(never)]
-pub(crate) fn get<E: External>(
-    world: &mut World<E>,
-    run: &mut Budget,
-    frame: &mut Frame,
-    nested: u32,
-    value: &Expr,
-) -> Result<How, Stop>
-    requires nested { nested ≤ 100 }
-    requires deep { depth value.now < max_depth }
-    requires open { IsSome (base world.old.history).start }
-    ensures meaning { Form world.old.history run.old frame.old nested (stm.get value.now) result world.new.history
-        run.new frame.new }
-    ensures keeps { Keeps world.old.history run.old world.new.history run.new }
-{
-    let new = eval(world, run, frame, nested, value)?;
-    put_into_it(world, run, frame, new)?;
-    Ok(How::Next)
-}
-
 /// `set` of a property of an object.
 #[cycle(run)]
 #[tactic(auto, using(meaning::proofs::Rules::form_set_rules))]
@@ -345,30 +341,6 @@ pub(crate) fn set<E: External>(
     let value = eval_text(world, run, frame, nested, value)?;
     let referent = meet(world, run, frame, nested, reference)?;
     set_property(world, run, referent, property, value)?;
-    Ok(How::Next)
-}
-
-/// `set` of a property of the run.
-#[cycle(run)]
-#[tactic(auto, using(meaning::proofs::Rules::form_set_run_rules))]
-#[inline(never)]
-pub(crate) fn set_run<E: External>(
-    world: &mut World<E>,
-    run: &mut Budget,
-    frame: &mut Frame,
-    nested: u32,
-    property: RunProp,
-    value: &Expr,
-) -> Result<How, Stop>
-    requires nested { nested ≤ 100 }
-    requires deep { depth value.now < max_depth }
-    requires open { IsSome (base world.old.history).start }
-    ensures meaning { Form world.old.history run.old frame.old nested (stm.set_run property value.now) result
-        world.new.history run.new frame.new }
-    ensures keeps { Keeps world.old.history run.old world.new.history run.new }
-{
-    let value = eval_text(world, run, frame, nested, value)?;
-    set_run_property(run, property, &value)?;
     Ok(How::Next)
 }
 

@@ -170,21 +170,6 @@ decreases-stmt::run_stmt g l = rank l.run.now l.nested (stmt_depth l.stmt.now) 2
 abbrev pub decreases-stmt::run_plain : goal.decreases-stmt::run_plain
 decreases-stmt::run_plain g l = rank l.run.now l.nested (stmt_depth l.stmt.now) 2001
 
-abbrev pub decreases-stmt::return_value : goal.decreases-stmt::return_value
-decreases-stmt::return_value g l = rank l.run.now l.nested (depth l.value.now) 2003
-
-abbrev pub decreases-stmt::command : goal.decreases-stmt::command
-decreases-stmt::command g l = rank l.run.now l.nested (depths (exprs_of l.list.now.items.items)) 2003
-
-abbrev pub decreases-stmt::show : goal.decreases-stmt::show
-decreases-stmt::show g l = rank l.run.now l.nested (depth l.value.now) 2003
-
-abbrev pub decreases-stmt::get : goal.decreases-stmt::get
-decreases-stmt::get g l = rank l.run.now l.nested (depth l.value.now) 2003
-
-abbrev pub decreases-stmt::set_run : goal.decreases-stmt::set_run
-decreases-stmt::set_run g l = rank l.run.now l.nested (depth l.value.now) 2003
-
 abbrev pub decreases-pieces::edit_container : goal.decreases-pieces::edit_container
 decreases-pieces::edit_container g l = rank l.run.now l.nested (container_depth l.container.now) 107
 
