@@ -1,5 +1,6 @@
 """Runs of the program on shapes, with a bound of its stack."""
 
+import ctypes
 import os
 import resource
 import subprocess
@@ -13,6 +14,8 @@ BOUNDS = (8192, 4096)
 # The shapes that need more than the least of these, and the bound under which each has to answer, in KiB. `tools/needs`
 # says what each needs. The text of `send` runs within the tree of its statement, so the two trees add up.
 NEED_MORE: Mapping[str, int] = {"send with arguments": 8192, "send with an index": 8192}
+# The persona of a process whose addresses are the same in each run (Linux: ADDR_NO_RANDOMIZE).
+NO_CHANCE = 0x0040000
 # The bound under which the first shape that doesn't fit is told.
 TOLD = 1024
 MOST_SECONDS = 20.0
@@ -33,8 +36,14 @@ def can_bound(kib: int) -> bool:
 
 
 def bounding(kib: int) -> Callable[[], None]:
-    """What bounds the stack of a program before it starts."""
+    """What bounds the stack of a program before it starts, and lets that begin at the same place each time.
+
+    Linux leaves up to 8 KiB of a stack unused, by chance. Where it can't be told not to, it goes on with that.
+    """
+    of_system = ctypes.CDLL(None)
+
     def bound() -> None:
+        of_system.personality(NO_CHANCE)
         _, hard = resource.getrlimit(resource.RLIMIT_STACK)
         resource.setrlimit(resource.RLIMIT_STACK, (kib * 1024, hard))
     return bound
@@ -47,13 +56,13 @@ class Runner:
         self.program, self.stack = program, os.path.join(folder, "deep.stack")
 
     def run(self, stack: str, lines: Sequence[str], kib: int) -> Ended:
-        """A run of lines on a stack with this bound."""
+        """A run of lines on a stack with this bound. The environment would stand on it too, so it is empty."""
         with open(self.stack, "w", encoding="ascii", newline="") as file:
             file.write(stack)
         try:
             done = subprocess.run([self.program, self.stack, *WORDS], input="".join(line + "\n" for line in lines),
                                   stdout=subprocess.PIPE, stderr=subprocess.DEVNULL, universal_newlines=True,
-                                  timeout=MOST_SECONDS, preexec_fn=bounding(kib), check=False)
+                                  timeout=MOST_SECONDS, preexec_fn=bounding(kib), env={}, check=False)
         except subprocess.TimeoutExpired:
             return Ended(-1, ["no answer in %d seconds" % MOST_SECONDS])
         return Ended(done.returncode, done.stdout.split("\n")[:-1])
