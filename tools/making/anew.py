@@ -18,12 +18,11 @@ from typing import Dict, List, Optional, Set
 
 from . import lanes, sums
 from .forecast import Forecast, cost
-from .idle import Idle
 from .progress import Teller, left_of, say, slots, time_of
 
 # What rt says of a crate: it is proved now, or an earlier call or build has proved it.
 PROVED = re.compile(rb"^rt: (\w+) (?:proved$|is (kept):)", re.MULTILINE)
-# Where Python starts with this folder, rt gives a proof all cores.
+# Where Python starts with this folder, rt gives a proof that nothing stands beside all cores.
 ALL_CORES = os.path.join(os.path.dirname(os.path.realpath(__file__)), "all_cores")
 LOG = os.path.join("out", "build", "gate.log")
 LOG_BESIDE = os.path.join("out", "build", "beside.log")
@@ -67,7 +66,6 @@ class Anew:
         self.lanes = lanes.Lanes(uses, costs) if is_shared else None
         self.forecast = Forecast(uses, costs, slots(), self.start)
         self.teller = Teller(self.line)
-        self.idle: Optional[Idle] = None
 
     def line(self) -> str:
         """How far it is."""
@@ -87,10 +85,10 @@ class Anew:
             self.forecast.ended(crate, time.time(), was_kept=found[crate])
         self.done |= found.keys()
 
-    def begin(self, log: str, crate: Optional[str], all_cores: bool = False) -> "subprocess.Popen[bytes]":
+    def begin(self, log: str, crate: Optional[str], is_alone: bool = False) -> "subprocess.Popen[bytes]":
         """Calls rt for a crate and those below it, or for all, in the copy. What it says goes to a log."""
         env = {**os.environ, "TMPDIR": os.path.join(self.top, "room")}
-        if all_cores:
+        if is_alone:
             env["PYTHONPATH"] = ALL_CORES
         with open(os.path.join(self.root, log), "ab") as said:
             process = subprocess.Popen(
@@ -100,20 +98,12 @@ class Anew:
         return process
 
     def go_on_beside(self) -> None:
-        """Calls rt for the next crate beside the way, where the last such call has ended.
-
-        Beside the cycle that is once it leaves most cores idle.
-        """
-        if not self.lanes or (self.side is not None and self.side.poll() is None):
-            return
-        if self.lanes.is_at_cycle(self.done):
-            self.idle = self.idle or Idle(time.time())
-            if not self.idle.fell(time.time()):
-                return
-        crate = self.lanes.next_beside(self.done, self.asked)
-        if crate:
-            self.asked.add(crate)
-            self.side = self.begin(LOG_BESIDE, crate)
+        """Calls rt for the next crate beside the way, where the last such call has ended."""
+        if self.lanes and (self.side is None or self.side.poll() is not None):
+            crate = self.lanes.next_beside(self.done, self.asked)
+            if crate:
+                self.asked.add(crate)
+                self.side = self.begin(LOG_BESIDE, crate)
 
     def wait(self, process: "subprocess.Popen[bytes]") -> int:
         """Tells how far it is until a call of rt ends, and gives its status."""
@@ -134,8 +124,8 @@ class Anew:
         try:
             while True:
                 crate = self.lanes.next_of_way(self.done) if self.lanes else None
-                all_cores = self.lanes is not None and self.lanes.gets_all_cores(self.done)
-                status = self.wait(self.begin(LOG, crate, all_cores))
+                is_alone = self.lanes is not None and self.lanes.is_alone(self.done)
+                status = self.wait(self.begin(LOG, crate, is_alone))
                 if status != 0 or not crate:
                     return status
         finally:

@@ -6,23 +6,18 @@ waits for the one before, rt gives each of them half of the cores, and all where
 proved is kept on the machine, and the next call takes it over. So one lane goes up the longest way: each call goes as
 far up as nothing off the way is lacking. Beside it, another asks for a crate off the way as soon as its libraries are
 proved: first for the one with the longest way up.
-
-One crate of the way leaves most cores idle for a long time. It gets them all; what it doesn't stand on waits until then,
-and comes beside it.
 """
 
 import itertools
 import os
 import shutil
-from typing import Collection, Dict, List, Mapping, Optional, Sequence, Set
+from typing import Collection, Dict, List, Mapping, Optional, Sequence
 
 from .forecast import way_up
 
 # With fewer cores there is nothing to share out.
 LEAST_CORES = 3
 KEPT = "rattle-kept"
-# The functions of this crate are one cycle; for two thirds of its time one core works, which ties and proves that.
-CYCLE = "interp"
 
 
 def way_of(uses: Mapping[str, Sequence[str]], up: Mapping[str, float]) -> List[str]:
@@ -35,14 +30,6 @@ def way_of(uses: Mapping[str, Sequence[str]], up: Mapping[str, float]) -> List[s
         found.append(max(above, key=lambda it: up[it]))
 
 
-def below(uses: Mapping[str, Sequence[str]], crate: str) -> Set[str]:
-    """The crates that one stands on."""
-    found: Set[str] = set()
-    for each in uses.get(crate, ()):
-        found |= {each} | below(uses, each)
-    return found
-
-
 class Lanes:
     """Which crate is asked for next, in each lane. `costs` has each crate after those that it uses."""
 
@@ -52,43 +39,33 @@ class Lanes:
         # Those of `costs`, in its order.
         self.up = {crate: ways[crate] for crate in costs}
         self.way = way_of(uses, self.up)
-        self.below_cycle = below(uses, CYCLE) if CYCLE in self.way else set(costs)
 
     def off_the_way(self, done: Collection[str]) -> List[str]:
         """The crates off the longest way that aren't proved."""
         return [it for it in self.costs if it not in self.way and it not in done]
 
-    def ready(self, done: Collection[str]) -> List[str]:
-        """The crates off the way that can be proved now. What the cycle doesn't stand on waits until that can be, too."""
-        is_near = self.below_cycle <= set(done)
-        return [it for it in self.off_the_way(done) if all(each in done for each in self.uses[it])
-                and (is_near or it in self.below_cycle)]
-
-    def is_at_cycle(self, done: Collection[str]) -> bool:
-        """Whether the cycle is the next of the way."""
-        return [it for it in self.way if it not in done][:1] == [CYCLE]
-
     def next_of_way(self, done: Collection[str]) -> Optional[str]:
         """How far up the way the next call goes; None where it proves all that is left.
 
         While crates off the way aren't proved, it goes up to a crate that lacks one of them. It proves one crate alone
-        where the first one lacks one, where it gets all cores, since something may stand beside it once that is proved,
-        and where it would go up to the top, since it would keep half of the cores to itself all the way.
+        where the first one lacks one, where nothing can stand beside it, since something may once it is proved, and
+        where it would go up to the top, since it would keep half of the cores to itself all the way.
         """
         left = [it for it in self.way if it not in done]
         lacking = set(self.off_the_way(done))
         if not lacking or len(left) == 1:
             return None
         whole = list(itertools.takewhile(lambda it: not lacking & set(self.uses[it]), left))
-        return left[0] if not whole or whole == left or self.gets_all_cores(done) else whole[-1]
+        return left[0] if not whole or whole == left or self.is_alone(done) else whole[-1]
 
-    def gets_all_cores(self, done: Collection[str]) -> bool:
-        """Whether the next call has nothing beside it, at least while it needs all cores."""
-        return self.is_at_cycle(done) or not self.ready(done)
+    def is_alone(self, done: Collection[str]) -> bool:
+        """Whether nothing off the way can be proved now, so that the next call has nothing beside it."""
+        return not any(all(each in done for each in self.uses[it]) for it in self.off_the_way(done))
 
     def next_beside(self, done: Collection[str], asked: Collection[str]) -> Optional[str]:
-        """The crate off the way to ask for beside it, which wasn't asked for; None where none is."""
-        return max((it for it in self.ready(done) if it not in asked), key=lambda it: self.up[it], default=None)
+        """The crate off the way to ask for beside it: its libraries are proved, and it wasn't asked for; None where none is."""
+        ready = [it for it in self.off_the_way(done) if it not in asked and all(each in done for each in self.uses[it])]
+        return max(ready, key=lambda it: self.up[it], default=None)
 
 
 def is_kept() -> bool:

@@ -33,7 +33,7 @@ class Order(unittest.TestCase):
 
     def test_a_crate_with_nothing_beside_it_is_asked_for_alone(self) -> None:
         self.assertEqual(LANES.next_of_way(set()), "a")
-        self.assertEqual([LANES.gets_all_cores(done) for done in (set(), {"a"}, {"a", "b", "g"})], [True, False, True])
+        self.assertEqual([LANES.is_alone(done) for done in (set(), {"a"}, {"a", "b", "g"})], [True, False, True])
 
     def test_no_call_goes_up_to_the_top_beside_others(self) -> None:
         uses = {**USES, "f": ["e"]}
@@ -52,14 +52,6 @@ class Order(unittest.TestCase):
         found = lanes.Lanes(uses, {"a": 10.0, "k": 3.0, **COSTS})
         self.assertEqual(found.next_beside({"a"}, set()), "b")
         self.assertEqual(found.next_beside({"a"}, {"b"}), "k")
-
-    def test_what_the_cycle_does_not_stand_on_waits_for_it_and_yields_all_cores(self) -> None:
-        uses = {"a": [], "b": ["a"], "c": ["a"], "k": ["b"], "interp": ["c", "b"], "m": ["interp", "k"]}
-        found = lanes.Lanes(uses, {"a": 10.0, "b": 5.0, "c": 30.0, "k": 5.0, "interp": 40.0, "m": 50.0})
-        self.assertEqual(found.way, ["a", "c", "interp", "m"])
-        self.assertEqual([found.next_beside(done, set()) for done in ({"a"}, {"a", "b"}, {"a", "b", "c"})], ["b", None, "k"])
-        self.assertEqual([found.gets_all_cores(done) for done in ({"a"}, {"a", "b"}, {"a", "b", "c"})], [False, True, True])
-        self.assertEqual(found.next_of_way({"a", "b", "c"}), "interp")
 
     def test_no_crate_is_asked_for_twice(self) -> None:
         self.assertIsNone(LANES.next_beside({"a"}, {"b"}))
