@@ -2,8 +2,9 @@
 
 `rt ci` proves a copy of the crates that the program needs, and no others, without their must-fail edits. It hands the
 crates above a library what that states, and not its proofs, which takes half the processor time of `rt lib`. It is
-called for one crate after another, in two lanes, so that each gets the cores that are free (lanes). Where rt keeps what
-it proves, a build that was interrupted goes on from there. The copy lies in a temporary folder outside the repository.
+called for one crate after another, in two lanes, so that each gets the cores that are free (lanes). A kit whose `rt ci`
+takes no crate's name is called once, for all. Where rt keeps what it proves, a build that was interrupted goes on from
+there. The copy lies in a temporary folder outside the repository.
 """
 
 import contextlib
@@ -22,6 +23,8 @@ from .progress import Teller, left_of, say, slots, time_of
 
 # What rt says of a crate: it is proved now, or an earlier call or build has proved it.
 PROVED = re.compile(rb"^rt: (\w+) (?:proved$|is (kept):)", re.MULTILINE)
+# How rt begins where it is called with words that it doesn't take.
+USAGE = b"usage: rt "
 # Where Python starts with this folder, rt gives a proof that nothing stands beside all cores.
 ALL_CORES = os.path.join(os.path.dirname(os.path.realpath(__file__)), "all_cores")
 LOG = os.path.join("out", "build", "gate.log")
@@ -62,8 +65,8 @@ class Anew:
         self.side: Optional["subprocess.Popen[bytes]"] = None
         self.asked: Set[str] = set()
         costs = {crate: cost(root, crate) for crate in crates}
-        is_shared = slots() >= lanes.LEAST_CORES and lanes.is_kept()
-        self.lanes = lanes.Lanes(uses, costs) if is_shared else None
+        self.has_cores = slots() >= lanes.LEAST_CORES
+        self.lanes = lanes.Lanes(uses, costs) if self.has_cores and lanes.is_kept() else None
         self.forecast = Forecast(uses, costs, slots(), self.start)
         self.teller = Teller(self.line)
 
@@ -116,6 +119,11 @@ class Anew:
         self.running.remove(process)
         return process.returncode
 
+    def took_no_name(self) -> bool:
+        """Whether rt has said how it is used in place of proving the crate that it was called for."""
+        with open(self.log, "rb") as log:
+            return log.read(len(USAGE)) == USAGE
+
     def prove(self) -> int:
         """Proves the larger crates of the longest way, each alone, and the others beside, and then all.
 
@@ -124,9 +132,12 @@ class Anew:
         try:
             while True:
                 crate = self.lanes.next_of_way(self.done) if self.lanes else None
-                is_alone = self.lanes is not None and self.lanes.is_alone(self.done)
+                is_alone = self.lanes.is_alone(self.done) if self.lanes else self.has_cores
                 status = self.wait(self.begin(LOG, crate, is_alone))
-                if status != 0 or not crate:
+                if crate and self.took_no_name():
+                    self.lanes = None
+                    os.truncate(self.log, 0)
+                elif status != 0 or not crate:
                     return status
         finally:
             self.end()

@@ -48,6 +48,14 @@ class Building(TreeTest):
         called = self.called()
         self.assertEqual((called[0], sorted(called)), (BESIDE[0], sorted(BESIDE)))
 
+    def test_a_gate_that_takes_no_name_proves_all_at_once(self) -> None:
+        self.put("crates.txt", "low: itoa\nmiddle: low\nside: low\ncard_cli: middle side clap\n")
+        self.put("crates/side/src/lib.rt", "//\n")
+        self.assertIn("card_cli is proved and built", self.build(NAMELESS="yes"))
+        called = self.called()
+        self.assertEqual((called[0], called[-1]), (BESIDE[0], "tree ci"))
+        self.assertNotIn("usage", self.text("out/build/gate.log"))
+
     def test_the_gate_sees_the_programs_crates_alone(self) -> None:
         self.build()
         with open(self.calls + ".tree", encoding="utf-8") as file:

@@ -31,6 +31,7 @@ program() {
 case $1 in
     version) echo "${KIT-KIT_ID}" ;;
     ci)
+        [ -z "${NAMELESS-}" ] || [ $# -eq 1 ] || { echo "usage: rt new FOLDER"; exit 2; }
         [ -z "${SLOW-}" ] || sleep "$SLOW"
         if [ -n "${EDIT-}" ]; then echo changed >> "$EDIT"; fi
         [ -z "${FAILS-}" ] || { echo "rt: FAILED: low"; echo "1 passed, 1 failed"; exit 1; }
