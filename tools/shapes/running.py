@@ -11,9 +11,9 @@ from .shape import Depths, Shape
 
 # The bounds of the stack, in KiB, under which each shape has to answer: what `ulimit -s` says.
 BOUNDS = (8192, 4096)
-# The shapes that need more than the least of these, and the bound under which each has to answer, in KiB. `tools/needs`
-# says what each needs. The text of `send` runs within the tree of its statement, so the two trees add up.
-NEED_MORE: Mapping[str, int] = {"send with arguments": 8192, "send with an index": 8192}
+# The shapes that need more than the least of these, and the least bound under which each has to answer, in KiB.
+# `tools/needs` says what each needs. The text of `send` runs within the tree of its statement, so the two trees add up.
+NEED_MORE: Mapping[str, int] = {"send with arguments": 5632}
 # The persona of a process whose addresses are the same in each run (Linux: ADDR_NO_RANDOMIZE).
 NO_CHANCE = 0x0040000
 # The bound under which the first shape that doesn't fit is told.

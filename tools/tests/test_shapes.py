@@ -145,9 +145,9 @@ class Runs(unittest.TestCase):
         plain = Shape("plain", lambda _: Scripts(""), no_texts, "g", ())
         self.assertEqual([running.is_due(plain, kib) for kib in (*running.BOUNDS, 10240)], [True, True, False])
         named = {shape.name: shape for shape in SHAPES}
-        for name, least in running.NEED_MORE.items():
-            due = [kib for kib in (4096, 8192, 10240) if running.is_due(named[name], kib)]
-            self.assertEqual(due, [8192] if least == 8192 else [10240])
+        self.assertEqual(running.NEED_MORE, {"send with arguments": 5632})
+        more = named["send with arguments"]
+        self.assertEqual([running.is_due(more, kib) for kib in (4096, 5632, 8192)], [False, True, True])
 
 
 if __name__ == "__main__":

@@ -1,3 +1,4 @@
+pub mod Blocks
 pub mod Edits
 pub mod Loops
 pub mod Operands

@@ -17,7 +17,7 @@ use ht_tree::{Expr, Stmt, Stmts};
 use ht_values::Name;
 use meaning::{Budget, Counter, Frame, How, Stop};
 use primitives::places::assign;
-use primitives::values::{counter, goes_on, leaves_repeat};
+use primitives::values::{counter, ends_repeat, goes_on};
 
 /// A repeat as often as a number says.
 #[cycle(run)]
@@ -101,7 +101,7 @@ pub(crate) fn bounds<E: External>(
 
 /// A repeat without a condition.
 #[cycle(run)]
-#[tactic(auto, using(meaning::proofs::Rules::endless_rules))]
+#[tactic(auto, using(crate::proofs::Blocks::endless_rules))]
 #[inline(never)]
 pub(crate) fn repeat_forever<E: External>(
     world: &mut World<E>,
@@ -119,16 +119,16 @@ pub(crate) fn repeat_forever<E: External>(
 {
     loop {
         run.step()?;
-        let how = run_block(world, run, frame, nested, lines)?;
-        if let Some(how) = leaves_repeat(how) {
-            return Ok(how);
+        let mut ended = run_block(world, run, frame, nested, lines);
+        if ends_repeat(&mut ended) {
+            return ended;
         }
     }
 }
 
 /// A repeat as long as a condition is so.
 #[cycle(run)]
-#[tactic(auto, using(meaning::proofs::Rules::while_rules))]
+#[tactic(auto, using(crate::proofs::Blocks::while_rules))]
 #[inline(never)]
 pub(crate) fn repeat_while<E: External>(
     world: &mut World<E>,
@@ -153,16 +153,16 @@ pub(crate) fn repeat_while<E: External>(
         if !goes_on(wanted, truth) {
             return Ok(How::Next);
         }
-        let how = run_block(world, run, frame, nested, lines)?;
-        if let Some(how) = leaves_repeat(how) {
-            return Ok(how);
+        let mut ended = run_block(world, run, frame, nested, lines);
+        if ends_repeat(&mut ended) {
+            return ended;
         }
     }
 }
 
 /// A repeat over numbers, with a variable or without one.
 #[cycle(run)]
-#[tactic(auto, using(meaning::proofs::Rules::counts_rules))]
+#[tactic(auto, using(crate::proofs::Blocks::counts_rules))]
 #[inline(always)]
 pub(crate) fn turns<E: External>(
     world: &mut World<E>,
@@ -187,9 +187,9 @@ pub(crate) fn turns<E: External>(
             return Ok(How::Next);
         }
         assign(world, run, frame, variable, &turn)?;
-        let how = run_block(world, run, frame, nested, lines)?;
-        if let Some(how) = leaves_repeat(how) {
-            return Ok(how);
+        let mut ended = run_block(world, run, frame, nested, lines);
+        if ends_repeat(&mut ended) {
+            return ended;
         }
         turn.step();
     }

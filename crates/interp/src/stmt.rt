@@ -31,11 +31,13 @@ use ht_values::{Fault, Op, Prop, Value, Where};
 use meaning::{Budget, Frame, How, MOST_NESTED, Stop, TextUse};
 use primitives::numbers::alter_by_number;
 use primitives::places::{declare_globals, edit, put_into_it, set_property};
-use primitives::values::{empty, leaving_text, lines, message, set_run_property, stopping};
+use primitives::values::{
+    empty, ends_block, leaving_text, lines, message, set_run_property, stopping,
+};
 
 /// How statements end, a step before each.
 #[cycle(run)]
-#[tactic(auto, using(meaning::proofs::Rules::block_rules))]
+#[tactic(auto, using(crate::proofs::Blocks::block_rules))]
 #[inline(always)]
 pub(crate) fn run_block<E: External>(
     world: &mut World<E>,
@@ -57,13 +59,9 @@ pub(crate) fn run_block<E: External>(
             Ok(()) => {}
             Err(stop) => return Err(stopping(run, stmt, stop)),
         }
-        let how = match run_stmt(world, run, frame, nested, stmt) {
-            Ok(how) => how,
-            Err(stop) => return Err(stopping(run, stmt, stop)),
-        };
-        match how {
-            How::Next => {}
-            how => return Ok(how),
+        let ended = run_stmt(world, run, frame, nested, stmt);
+        if ends_block(run, stmt, &ended) {
+            return ended;
         }
     }
     Ok(How::Next)

@@ -1,3 +1,4 @@
+pub mod Blocks
 pub mod Kept
 pub mod Lists
 pub mod Stored

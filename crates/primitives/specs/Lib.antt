@@ -1,4 +1,5 @@
 pub mod Atoms
+pub mod Blocks
 pub mod Listed
 pub mod Operands
 pub mod Views

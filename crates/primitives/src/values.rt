@@ -14,8 +14,9 @@ ghost use Rattle.change_journal.specs.History.{History};
 ghost use Rattle.meaning.specs.declared.frame.Frame.{Frame};
 ghost use Rattle.meaning.specs.Meaning.{Meets, Val};
 ghost use Rattle.meaning.specs.State.{RunState, run_property_set};
-ghost use Rattle.meaning.specs.Repeats.{counter_of, goes_on as goes_on_of, leaves_repeat as leaves_repeat_of};
+ghost use Rattle.meaning.specs.Repeats.{counter_of, goes_on as goes_on_of};
 ghost use Rattle.meaning.specs.Values.{Parses, Yields};
+ghost use Rattle.primitives.specs.Blocks.{EndsBlock, EndsRepeat};
 ghost use Rattle.primitives.specs.Views.{read_as};
 
 use crate::arguments::Arguments;
@@ -211,14 +212,20 @@ pub fn goes_on(wanted: bool, truth: bool) -> bool
     if wanted { truth } else { !truth }
 }
 
-/// How a repeat ends by the end of its lines; `None` where it goes on with its next turn.
-pub fn leaves_repeat(how: How) -> Option<How>
-    ensures { result ≡ leaves_repeat_of how }
+/// Whether a repeat ends by the end of its lines, which is then how it ends. That changes where it stands: a copy of it
+/// would take room in the frame of each repeat.
+#[tactic(auto, using(crate::proofs::Blocks::repeat_rules))]
+#[inline(always)]
+pub fn ends_repeat(ended: &mut Result<How, Stop>) -> bool
+    ensures { EndsRepeat ended.old result ended.new }
 {
-    match how {
-        How::Next | How::NextRepeat => None,
-        How::ExitRepeat => Some(How::Next),
-        How::Exit | How::Pass | How::Returns(_) => Some(how),
+    match ended {
+        Ok(How::Next | How::NextRepeat) => false,
+        Ok(How::ExitRepeat) => {
+            *ended = Ok(How::Next);
+            true
+        }
+        Ok(How::Exit | How::Pass | How::Returns(_)) | Err(_) => true,
     }
 }
 
@@ -248,6 +255,22 @@ pub fn stopping(run: &Budget, stmt: &Stmt, stop: Stop) -> Stop
 {
     run.trace().reach(stmt.place());
     stop
+}
+
+/// Whether the end of a statement ends its block. It is looked at where it stands; a stop is remembered to come in it.
+#[tactic(auto, using(crate::proofs::Blocks::block_rules))]
+#[inline(always)]
+pub fn ends_block(run: &Budget, stmt: &Stmt, ended: &Result<How, Stop>) -> bool
+    ensures { EndsBlock ended.now result }
+{
+    match ended {
+        Ok(How::Next) => false,
+        Ok(_) => true,
+        Err(stop) => {
+            let _ = stopping(run, stmt, *stop);
+            true
+        }
+    }
 }
 
 /// The same stop, which is remembered to leave a text that is run.

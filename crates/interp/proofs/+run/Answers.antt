@@ -7,6 +7,7 @@ use Rattle.ht_tree.specs.StatementView.{stmts_of}
 use Rattle.meaning.specs.Messages.{lines_of}
 use Rattle.meaning.specs.Meaning.{Vals, Form, Block, Resolves, Along, Talks, Systems}
 use Rattle.primitives.proofs.Lists.{cut_at}
+use Rattle.interp.proofs.Blocks.{block_ends, block_goes_on, counts_turn, endless_turns, while_turns}
 use Rattle.interp.proofs.Loops.{cut_exprs, no_exprs, deep_expr, cut_stmts, no_stmts, deep_stmt}
 use Rattle.interp.proofs.Operands.{computed, counted, nth_taken, taken_part}
 use Rattle.interp.proofs.+run.Goals as goal
@@ -104,8 +105,8 @@ pieces::resolve-returns-in_err-pieces-in-Chunk-clause-meaning g t c =
     rw (p.1, p.2) (Resolves.place_chunk_stops (sym c.kind.ensures ∙ ap container_of c.in-Chunk.is)
     c.in_err-pieces-in-Chunk.ensures.meaning)
 
-pub stmt::run_block-run_stmt-requires : goal.stmt::run_block-run_stmt-requires
-stmt::run_block-run_stmt-requires g t c κs within =
+pub stmt::run_block-run_stmt-ended-requires : goal.stmt::run_block-run_stmt-ended-requires
+stmt::run_block-run_stmt-ended-requires g t c κs within =
     let h = deep_stmt c.args.lines.now c.loop-stmt.stmt-index c.stmt-item.result c.loop-stmt-test.true c.stmt-item.is in
     first_of (search rules, grind (arith, common_steps))
 
@@ -115,32 +116,21 @@ stmt::run_block-returns-in-Err-clause-meaning g t c =
     (Block.block_no_step (cut_stmts c.args.lines.now c.loop-stmt.stmt-index c.stmt-item.result c.loop-stmt-test.true
     c.stmt-item.is) (rw c.in-Err.is at c.step.ensures.meaning)))
 
-pub stmt::run_block-returns-in-Err-run_stmt-clause-meaning : goal.stmt::run_block-returns-in-Err-run_stmt-clause-meaning
-stmt::run_block-returns-in-Err-run_stmt-clause-meaning g t c =
-    rw c.stopping-in-Err-run_stmt.ensures
-    (c.loop-stmt.invariant.rest _ _ _ _
-    (Block.block_stops (cut_stmts c.args.lines.now c.loop-stmt.stmt-index c.stmt-item.result c.loop-stmt-test.true
-    c.stmt-item.is) (rw c.in-Ok.is at c.step.ensures.meaning)
-    (rw c.in-Err-run_stmt.is at c.run_stmt.ensures.meaning)))
-
-pub stmt::run_block-returns-in_default : goal.stmt::run_block-returns-in_default
-stmt::run_block-returns-in_default g t c = record {
-  meaning = c.loop-stmt.invariant.rest _ _ _ _
-      (Block.block_leaves (cut_stmts c.args.lines.now c.loop-stmt.stmt-index c.stmt-item.result c.loop-stmt-test.true
-      c.stmt-item.is) (rw c.in-Ok.is at c.step.ensures.meaning) (rw c.in-Ok-run_stmt.is at c.run_stmt.ensures.meaning)
-      c.in_default.not-Next);
-  passes = search rules;
-  keeps = search rules;
-}
+pub stmt::run_block-returns-then-ends_block-clause-meaning : goal.stmt::run_block-returns-then-ends_block-clause-meaning
+stmt::run_block-returns-then-ends_block-clause-meaning g t c =
+    c.loop-stmt.invariant.rest _ _ _ _
+    (block_ends (cut_stmts c.args.lines.now c.loop-stmt.stmt-index c.stmt-item.result c.loop-stmt-test.true
+    c.stmt-item.is) (rw c.in-Ok.is at c.step.ensures.meaning) c.run_stmt-ended.ensures.meaning
+    (rw c.if-ends_block.true at c.ends_block.ensures))
 
 pub stmt::run_block-loop-stmt-preserved : goal.stmt::run_block-loop-stmt-preserved
 stmt::run_block-loop-stmt-preserved g t c = record {
   fewer = search rules;
   base = search rules;
   rest = λ o w r f h. c.loop-stmt.invariant.rest _ _ _ _
-      (Block.block_goes_on (cut_stmts c.args.lines.now c.loop-stmt.stmt-index c.stmt-item.result c.loop-stmt-test.true
-      c.stmt-item.is) (rw c.in-Ok.is at c.step.ensures.meaning)
-      (rw (c.in-Ok-run_stmt.is, c.in-Next.is) at c.run_stmt.ensures.meaning) h);
+      (block_goes_on (cut_stmts c.args.lines.now c.loop-stmt.stmt-index c.stmt-item.result c.loop-stmt-test.true
+      c.stmt-item.is) (rw c.in-Ok.is at c.step.ensures.meaning) c.run_stmt-ended.ensures.meaning
+      (rw c.if-ends_block.false at c.ends_block.ensures) h);
 }
 
 pub stmt::run_block-returns-clause-meaning : goal.stmt::run_block-returns-clause-meaning
@@ -195,3 +185,32 @@ expr::lent_part-returns-clause-meaning g t c =
     let to : SFits w64 c.args.to = search rules in
     rw (to_z-of_z w64 c.args.from from, to_z-of_z w64 c.args.to to) at
     (taken_part c.in_ok-text.text c.in_ok-text.ensures.meaning c.pieces_at.ensures c.operand_part.ensures)
+
+pub repeat::repeat_forever-loop-world-preserved-else-ends_repeat-2 :
+    goal.repeat::repeat_forever-loop-world-preserved-else-ends_repeat-2
+repeat::repeat_forever-loop-world-preserved-else-ends_repeat-2 g t c = record {
+  fewer = search rules;
+  base = search rules;
+  rest = λ o w r f h. c.loop-world.invariant.rest _ _ _ _
+      (endless_turns c.in_ok-step.ensures.meaning c.run_block-ended.ensures.meaning
+      (rw c.if-ends_repeat.false at c.ends_repeat.ensures) h);
+}
+
+pub repeat::repeat_while-loop-world-preserved-else-ends_repeat-2 :
+    goal.repeat::repeat_while-loop-world-preserved-else-ends_repeat-2
+repeat::repeat_while-loop-world-preserved-else-ends_repeat-2 g t c = record {
+  fewer = search rules;
+  base = search rules;
+  rest = λ o w r f h. c.loop-world.invariant.rest _ _ _ _
+      (while_turns c.in_ok-step.ensures.meaning c.in_ok-truth.ensures.meaning (search rules)
+      c.run_block-ended.ensures.meaning (rw c.if-ends_repeat.false at c.ends_repeat.ensures) h);
+}
+
+pub repeat::turns-loop-turn-preserved-else-ends_repeat-2 : goal.repeat::turns-loop-turn-preserved-else-ends_repeat-2
+repeat::turns-loop-turn-preserved-else-ends_repeat-2 g t c = record {
+  fewer = search rules;
+  base = search rules;
+  rest = λ o w r f h. c.loop-turn.invariant.rest _ _ _ _
+      (counts_turn c.in_ok-step.ensures.meaning (search rules) c.in_ok-assign.ensures.meaning
+      c.run_block-ended.ensures.meaning (rw c.if-ends_repeat.false at c.ends_repeat.ensures) (search rules) h);
+}
