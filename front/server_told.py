@@ -7,6 +7,7 @@ import re
 from typing import Dict, List, Optional, Sequence, Tuple
 
 from front.answers import OK, Answer
+from front.hints import OF_PROGRAM, hints
 from front.server_objects import Json, Objects, title
 from front.server_words import shown
 from front.session import SHOW, Entry
@@ -28,14 +29,16 @@ PLACE = re.compile(r"\s+(?:at|called from) (?:line ([0-9]+)(?:, column ([0-9]+))
 def entry_view(number: int, line: bytes, answer: Answer, own: bool, objects: Optional[Objects],
                coding: Coding) -> Dict[str, Json]:
     """A line with its answer. The number is that of the line in the session; `own` says that the page asked only to
-    look. The messages carry the names that their objects have now."""
+    look. The messages carry the names that their objects have now, and hints are of the card that is
+    current now."""
+    meant = hints(line, answer, lambda: objects, coding, OF_PROGRAM)
     texts = [text.decode("ascii", "backslashreplace") for text in answer.shown[:MOST_LINES]]
     return {
         "number": number, "line": shown(line, coding), "own": own,
         "shown": [text[:LONGEST_LINE] for text in texts],
         "more": len(answer.shown) - len(texts) + sum(len(text) > LONGEST_LINE for text in texts),
         "verdict": answer.verdict, "seconds": round(answer.seconds, 3),
-        "explained": [explained_view(each) for each in answer.explained],
+        "explained": [explained_view(each) for each in [*answer.explained, *meant]],
         "told": list(answer.told),
         "messages": messages_view(answer.watched[:MOST_LINES], objects, coding),
         "moreMessages": max(0, len(answer.watched) - MOST_LINES),

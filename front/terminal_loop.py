@@ -6,6 +6,7 @@ from typing import Callable, Dict, List, Optional
 
 from front import terminal_views as views
 from front.answers import REFUSED, Answer
+from front.hints import OF_TERMINAL, hints
 from front.server_places import COMMANDS
 from front.session import Difference, Ended, Session
 from front.terminal_completion import Names, candidates
@@ -128,6 +129,7 @@ class Terminal:
             say("  .help lists the lines that begin with a dot")
         try:
             self._state.was_answered(line, answer.ending == REFUSED)
+            say(*hints(line, answer, lambda: self._state.objects, self._coding, OF_TERMINAL))
         except MemoryError as error:
             say("%s." % error)
         except Ended as ended:

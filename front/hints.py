@@ -1,0 +1,114 @@
+"""What a person may have meant by a line that wasn't done: a dot line without its dot, a button or a field of the other
+layer, or what HyperCard knows and this program doesn't. A hint stands behind the program's explanation, and only where
+there is one.
+"""
+
+import re
+from typing import Callable, Dict, List, NamedTuple, Optional, Pattern, Sequence
+
+from front import hints_of_hypercard as of_hypercard
+from front.answers import FAULT, Answer
+from front.server_objects import Objects
+from front.stack_lines import spell
+from front.stack_text import BUTTON, FIELD, Part
+from front.terminal_text import Coding, shown
+
+SYNTAX, CANT_UNDERSTAND, NO_SUCH_OBJECT = 1, 2, 3
+NOT_IN_GRAMMAR = 3
+DotLines = Dict[str, Pattern[str]]
+
+_NOTHING, _SOMETHING = re.compile(""), re.compile(".+")
+# What may stand behind the word of a dot line: of the program's, and with those of the terminal alone.
+OF_PROGRAM: DotLines = {
+    "open": _NOTHING, "show": _NOTHING, "save": _NOTHING, "history": _NOTHING, "globals": _NOTHING, "where": _NOTHING,
+    "quit": _NOTHING, "cells": re.compile(r"\w+"),
+    "undo": re.compile("(?:(?:to +)?[0-9]+)?"), "redo": re.compile("[0-9]*"),
+    "click": re.compile(r"(?:(?:card|cd|background|bkgnd|bg) +)?(?:button|btn|field|fld)\b.+", re.IGNORECASE),
+    "type": re.compile(".+ into .+", re.IGNORECASE),
+}
+OF_TERMINAL: DotLines = {
+    **OF_PROGRAM, "help": _NOTHING, "cards": _NOTHING, "card": _NOTHING, "diff": _NOTHING, "log": _SOMETHING,
+    "script": _SOMETHING, "edit": _SOMETHING,
+}
+OTHER_WORDS = {"?": "help", "h": "help", "q": "quit", "exit": "quit", "bye": "quit"}
+
+_SENT = '  sent: "%s"'
+_SOUGHT = re.compile('  sought: "(.+)"')
+_STATEMENT = "    "
+# A part by its name, without an owner.
+_REFERENCE = r'(?:\b(?:(card|cd)|(background|bkgnd|bg)) +)?\b(?:%s) +"%s"(?! +of\b)'
+CARD, BACKGROUND = "card", "background"
+# The layer of a part where none is named, and the words of each kind.
+_UNNAMED = {BUTTON: CARD, FIELD: BACKGROUND}
+_WORDS = {BUTTON: "button|btn", FIELD: "field|fld"}
+
+
+class Sought(NamedTuple):
+    """A part that wasn't there: its kind, the layer in which it was sought, and whether the statement names that."""
+
+    kind: str
+    layer: str
+    is_named: bool
+
+
+def hints(line: bytes, answer: Answer, objects: Callable[[], Optional[Objects]], coding: Coding,
+          known: DotLines) -> List[str]:
+    """The hints for a line and its answer. `known` has the dot lines that there are; `objects` gives the objects of the
+    stack, where they are known."""
+    told = answer.explained
+    fault = answer.number if answer.ending == FAULT and told else 0
+    if answer.is_refused(NOT_IN_GRAMMAR) and told:
+        return _dot_line(line.decode("ascii", "replace"), known) or of_hypercard.unread(told)
+    if fault == SYNTAX:
+        return of_hypercard.unread(told)
+    if fault == CANT_UNDERSTAND:
+        return _sent_line(line.decode("ascii", "replace"), told, known) or of_hypercard.unhandled(told)
+    return _other_layer(told, objects, coding) if fault == NO_SUCH_OBJECT else []
+
+
+def _dot_line(line: str, known: DotLines) -> List[str]:
+    """The dot line that is meant, if any."""
+    word, _, rest = line.strip().partition(" ")
+    name, rest = OTHER_WORDS.get(word.lower(), word.lower()), rest.strip()
+    if name not in known or not known[name].fullmatch(rest):
+        return []
+    return ["  did you mean .%s? A line that begins with no dot is HyperTalk." % (name + " " + rest).strip()]
+
+
+def _sent_line(line: str, explained: Sequence[str], known: DotLines) -> List[str]:
+    """The dot line that is meant, if the message that nobody handles is that of the line itself."""
+    return _dot_line(line, known) if _SENT % line.strip().partition(" ")[0] in explained else []
+
+
+def _other_layer(explained: Sequence[str], objects: Callable[[], Optional[Objects]], coding: Coding) -> List[str]:
+    """The part of the other layer that has the name which was sought, if there is one."""
+    names = [found.group(1) for found in map(_SOUGHT.fullmatch, explained) if found]
+    sought = _sought(names[0], explained) if names else None
+    here = objects() if sought else None
+    if not sought or not here:
+        return []
+    other = BACKGROUND if sought.layer == CARD else CARD
+    part = _part(here.background.parts if other == BACKGROUND else here.card.parts, sought.kind, names[0])
+    if not part:
+        return []
+    why = "" if sought.is_named else " A %s is one of the %s where nothing else is said." % (sought.kind, sought.layer)
+    return ['  did you mean %s %s "%s"?%s' % (other, sought.kind, shown(spell(part.name), coding), why)]
+
+
+def _sought(name: str, explained: Sequence[str]) -> Optional[Sought]:
+    """The part that a statement of an explanation seeks by this name, without an owner."""
+    for kind, words in _WORDS.items():
+        part = re.compile(_REFERENCE % (words, re.escape(name)), re.IGNORECASE)
+        found = [part.search(line) for line in explained if line.startswith(_STATEMENT)]
+        for place in filter(None, found):
+            layer = CARD if place.group(1) else BACKGROUND if place.group(2) else _UNNAMED[kind]
+            return Sought(kind, layer, bool(place.group(1) or place.group(2)))
+    return None
+
+
+def _part(parts: Sequence[Part], kind: str, name: str) -> Optional[Part]:
+    """The first part of this kind and name. Capitals don't count."""
+    for part in parts:
+        if part.kind == kind and spell(part.name).decode("ascii").lower() == name.lower():
+            return part
+    return None

@@ -1,0 +1,119 @@
+"""What a person may have meant, as the terminal and the page say it behind the program's explanation."""
+
+import os
+import unittest
+from typing import Sequence, Tuple
+
+from front.hints import OF_PROGRAM, OF_TERMINAL, DotLines, hints
+from front.server_objects import Objects
+from front.server_told import entry_view
+from front.session import Session
+from front.stack_text import read
+from front.terminal_text import Coding
+from front.tests.at_terminal import AtATerminal
+from front.tests.support import FolderTest, bytes_of, there
+
+QUIZ = os.path.join("stacks", "quiz.stack")
+NO_DOT = "  did you mean .%s? A line that begins with no dot is HyperTalk."
+BUTTON_OF_CARD = '  did you mean background button "%s"? A button is one of the card where nothing else is said.'
+FIELD_OF_BACKGROUND = '  did you mean card field "%s"? A field is one of the background where nothing else is said.'
+
+DOT_LINES: Sequence[Tuple[str, str]] = (
+    ("quit", "quit"), ("Quit", "quit"), ("exit", "quit"), ("bye", "quit"), ("?", "help"), ("help", "help"),
+    ("undo", "undo"), ("  undo  2 ", "undo 2"), ("undo to 3", "undo to 3"), ("redo", "redo"), ("save", "save"),
+    ("show", "show"), ("history", "history"), ("cards", "cards"), ("card", "card"),
+    ('click button "A"', 'click button "A"'), ("click bg btn 2", "click bg btn 2"), ("cells Count", "cells Count"),
+    ('type "x" into field 1', 'type "x" into field 1'), ("script this card", "script this card"),
+    ("log my.session", "log my.session"),
+)
+NO_HINT = ("frob", "undo it", "card field", "put", "put 1 div 0", 'put the lenght of "x"', 'put "x" into feild "Note"',
+           "put the foo of button 1", "if it then", "put foo(3)", "delete card", "go to card 99")
+# What HyperCard has, by the name that the importers' report gives it.
+OF_HYPERCARD: Sequence[Tuple[str, str]] = (
+    ('answer "hi"', "answer .. with"), ('answer "Sure?" with "Yes" or "No"', "answer .. with"), ("beep 3", "beep"),
+    ("show button 1", "hide or show"), ('find "x"', "find"), ("put 1.5 + 2", "a decimal number"),
+    ("put the date", "date and time"), ("visual effect dissolve", "visual effect"), ("go back", "go back"),
+    ("sort cards by field 1", "sort of cards"), ("click at 10,20", "click, drag or type"),
+    ("put name of button 1", "a property without `the`"), ("set the loc of button 1 to 10,10", "a property of looks"),
+    ("put x is within y", "is within"), ("animate", "visual effect"),
+)
+PARTS: Sequence[Tuple[str, str]] = (
+    ('.click button "A"', BUTTON_OF_CARD % "A"),
+    ('get the name of btn "start again"', BUTTON_OF_CARD % "Start Again"),
+    ('put card field "score"', '  did you mean background field "Score"?'),
+    ('put 1 into field "Mine"', FIELD_OF_BACKGROUND % "Mine"),
+    ('put bg fld "mine"', '  did you mean card field "Mine"?'),
+    ('get the name of button "Z"', ""), ('put field "Mine" of card 1', ""),
+    ('get the name of button 7', ""), ('put field "Score of"', ""), ('go to card "A"', ""),
+)
+# A handler that sends a message which nobody handles, and a field of the card.
+MADE = (
+    b'set the script of this card to "on greet" & return & "frob" & return & "end greet"',
+    b'doMenu "New Field"', b'set the name of card field 1 to "Mine"',
+    b'put quote & "visual effect dissolve" & quote into drawn',
+    b'set the script of this background to "on animate" & return & "do " & drawn & return & "end animate"')
+
+
+class Hints(FolderTest):
+    def setUp(self) -> None:
+        super().setUp()
+        self.session = Session(self.put("quiz.stack", bytes_of(there(QUIZ))), explain=True)
+        self.addCleanup(self.session.close)
+        for line in MADE:
+            self.assertEqual(self.session.send(line).verdict, "ok")
+
+    def hints(self, line: str, known: DotLines = OF_TERMINAL) -> str:
+        answer = self.session.send(line.encode())
+        return "\n".join(hints(line.encode(), answer, self.objects, Coding.UTF_8, known))
+
+    def objects(self) -> Objects:
+        return Objects(read(self.session.text()), self.session.where())
+
+    def test_a_dot_line_without_its_dot(self) -> None:
+        for line, meant in DOT_LINES:
+            with self.subTest(line=line):
+                self.assertEqual(self.hints(line), NO_DOT % meant)
+
+    def test_other_lines_have_no_hint(self) -> None:
+        for line in NO_HINT:
+            with self.subTest(line=line):
+                self.assertEqual(self.hints(line), "")
+
+    def test_what_hypercard_has(self) -> None:
+        for line, name in OF_HYPERCARD:
+            with self.subTest(line=line):
+                self.assertIn("  HyperCard knows this (%s), and this program doesn't: " % name, self.hints(line))
+        self.assertIn("HyperCard has random built in", self.hints("put random(5)"))
+
+    def test_lines_of_the_terminal_are_not_those_of_the_page(self) -> None:
+        self.assertIn("HyperCard has help built in", self.hints("help", OF_PROGRAM))
+        self.assertEqual(self.hints("undo", OF_PROGRAM), NO_DOT % "undo")
+
+    def test_the_page_is_told_them_too(self) -> None:
+        answer = self.session.send(b"undo")
+        told = entry_view(1, b"undo", answer, False, self.objects(), Coding.UTF_8)["explained"]
+        self.assertEqual(told, [{"text": line} for line in [*answer.explained, NO_DOT % "undo"]])
+
+    def test_a_part_of_the_other_layer(self) -> None:
+        for line, meant in PARTS:
+            with self.subTest(line=line):
+                self.assertEqual(self.hints(line), meant)
+
+    def test_a_message_of_a_handler_is_not_the_line(self) -> None:
+        self.assertEqual(self.hints("greet"), "")
+
+    def test_what_is_not_explained_has_no_hint(self) -> None:
+        with Session(self.put("quiet.stack", bytes_of(there(QUIZ))), explain=False) as quiet:
+            answer = quiet.send(b"quit")
+        self.assertEqual(hints(b"quit", answer, self.objects, Coding.UTF_8, OF_TERMINAL), [])
+
+
+class AtTheTerminal(AtATerminal):
+    def test_hints_stand_behind_the_explanation(self) -> None:
+        screen = self.open()
+        screen.enter("quit")
+        screen.wait('  sent: "quit"\r\n' + NO_DOT % "quit" + "\r\nA> ")
+
+
+if __name__ == "__main__":
+    unittest.main()
