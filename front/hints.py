@@ -1,12 +1,13 @@
 """What a person may have meant by a line that wasn't done: a dot line without its dot, a button or a field of the other
-layer, or what HyperCard knows and this program doesn't. A hint stands behind the program's explanation, and only where
-there is one.
+layer, another word, or what HyperCard knows and this program doesn't. A hint stands behind the program's explanation,
+and only where there is one.
 """
 
 import re
 from typing import Callable, Dict, List, NamedTuple, Optional, Pattern, Sequence
 
 from front import hints_of_hypercard as of_hypercard
+from front import hints_of_spelling as of_spelling
 from front.answers import FAULT, Answer
 from front.server_objects import Objects
 from front.stack_lines import spell
@@ -32,7 +33,8 @@ OF_TERMINAL: DotLines = {
 }
 OTHER_WORDS = {"?": "help", "h": "help", "q": "quit", "exit": "quit", "bye": "quit"}
 
-_SENT = '  sent: "%s"'
+_CARET = re.compile(r" *\^")
+_SENT = re.compile('  sent: "(.+)"')
 _SOUGHT = re.compile('  sought: "(.+)"')
 _STATEMENT = "    "
 # A part by its name, without an owner.
@@ -55,15 +57,37 @@ def hints(line: bytes, answer: Answer, objects: Callable[[], Optional[Objects]],
           known: DotLines) -> List[str]:
     """The hints for a line and its answer. `known` has the dot lines that there are; `objects` gives the objects of the
     stack, where they are known."""
-    told = answer.explained
+    told, typed = answer.explained, line.decode("ascii", "replace")
     fault = answer.number if answer.ending == FAULT and told else 0
     if answer.is_refused(NOT_IN_GRAMMAR) and told:
-        return _dot_line(line.decode("ascii", "replace"), known) or of_hypercard.unread(told)
+        return _dot_line(typed, known) or _unread(told)
     if fault == SYNTAX:
-        return of_hypercard.unread(told)
+        return _unread(told)
     if fault == CANT_UNDERSTAND:
-        return _sent_line(line.decode("ascii", "replace"), told, known) or of_hypercard.unhandled(told)
+        return _unhandled(typed, told, objects, known)
     return _other_layer(told, objects, coding) if fault == NO_SUCH_OBJECT else []
+
+
+def _unread(explained: Sequence[str]) -> List[str]:
+    """What is meant where a text isn't in the grammar: above the first caret of an explanation."""
+    for above, line in zip(explained, explained[1:]):
+        if _CARET.fullmatch(line) and above.startswith(_STATEMENT):
+            text, column = above[len(_STATEMENT):], line.index("^") - len(_STATEMENT) + 1
+            return of_hypercard.unread(text, column) or of_spelling.word_of_language(text, column)
+    return []
+
+
+def _unhandled(typed: str, explained: Sequence[str], objects: Callable[[], Optional[Objects]],
+               known: DotLines) -> List[str]:
+    """What is meant by a message that nobody handles: where it is that of the line itself, a dot line."""
+    names = [found.group(1) for found in map(_SENT.fullmatch, explained) if found]
+    if not names:
+        return []
+    meant = _dot_line(typed, known) if names[0] == typed.strip().partition(" ")[0] else []
+    statements = [line[len(_STATEMENT):] for line in explained if line.startswith(_STATEMENT)]
+    meant = meant or of_hypercard.unhandled(names[0], statements)
+    here = None if meant else objects()
+    return of_spelling.message(names[0], here) if here else meant
 
 
 def _dot_line(line: str, known: DotLines) -> List[str]:
@@ -73,11 +97,6 @@ def _dot_line(line: str, known: DotLines) -> List[str]:
     if name not in known or not known[name].fullmatch(rest):
         return []
     return ["  did you mean .%s? A line that begins with no dot is HyperTalk." % (name + " " + rest).strip()]
-
-
-def _sent_line(line: str, explained: Sequence[str], known: DotLines) -> List[str]:
-    """The dot line that is meant, if the message that nobody handles is that of the line itself."""
-    return _dot_line(line, known) if _SENT % line.strip().partition(" ")[0] in explained else []
 
 
 def _other_layer(explained: Sequence[str], objects: Callable[[], Optional[Objects]], coding: Coding) -> List[str]:

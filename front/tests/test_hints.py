@@ -26,8 +26,15 @@ DOT_LINES: Sequence[Tuple[str, str]] = (
     ('type "x" into field 1', 'type "x" into field 1'), ("script this card", "script this card"),
     ("log my.session", "log my.session"),
 )
-NO_HINT = ("frob", "undo it", "card field", "put", "put 1 div 0", 'put the lenght of "x"', 'put "x" into feild "Note"',
-           "put the foo of button 1", "if it then", "put foo(3)", "delete card", "go to card 99")
+NO_HINT = ("frob", "undo it", "card field", "put", "put 1 div 0", "put the foo of button 1", "if it then", "put foo(3)",
+           "delete card", "go to card 99", "put 1 into total extra", "put counter 5")
+SPELLING: Sequence[Tuple[str, str, str]] = (
+    ('put "x" into feild "Note"', "field", "feild"), ('put the lenght of "x"', "length", "lenght"),
+    ("put 1 inot x", "into", "inot"), ("repat with i = 1 to 3", "repeat", "repat"),
+    ("put the nmae of bg", "name", "nmae"),
+    ("set the visble of bg btn 1 to true", "visible", "visble"), ("pikAnswer", "pickAnswer", "pikAnswer"),
+    ("put chioce(1)", "choice", "chioce"), ('put legnth("abc")', "length", "legnth"), ("retrun 5", "return", "retrun"),
+)
 # What HyperCard has, by the name that the importers' report gives it.
 OF_HYPERCARD: Sequence[Tuple[str, str]] = (
     ('answer "hi"', "answer .. with"), ('answer "Sure?" with "Yes" or "No"', "answer .. with"), ("beep 3", "beep"),
@@ -46,12 +53,12 @@ PARTS: Sequence[Tuple[str, str]] = (
     ('get the name of button "Z"', ""), ('put field "Mine" of card 1', ""),
     ('get the name of button 7', ""), ('put field "Score of"', ""), ('go to card "A"', ""),
 )
-# A handler that sends a message which nobody handles, and a field of the card.
+# A field of the card, a handler that sends a message which nobody handles, and one with a text that isn't in the grammar.
 MADE = (
-    b'set the script of this card to "on greet" & return & "frob" & return & "end greet"',
     b'doMenu "New Field"', b'set the name of card field 1 to "Mine"',
     b'put quote & "visual effect dissolve" & quote into drawn',
-    b'set the script of this background to "on animate" & return & "do " & drawn & return & "end animate"')
+    b'put return & "on animate" & return & "do " & drawn & return & "end animate" into animate',
+    b'set the script of this card to "on greet" & return & "frob" & return & "end greet" & animate')
 
 
 class Hints(FolderTest):
@@ -84,6 +91,11 @@ class Hints(FolderTest):
             with self.subTest(line=line):
                 self.assertIn("  HyperCard knows this (%s), and this program doesn't: " % name, self.hints(line))
         self.assertIn("HyperCard has random built in", self.hints("put random(5)"))
+
+    def test_a_word_that_is_misspelt(self) -> None:
+        for line, meant, word in SPELLING:
+            with self.subTest(line=line):
+                self.assertEqual(self.hints(line), "  did you mean `%s`? There stands `%s`." % (meant, word))
 
     def test_lines_of_the_terminal_are_not_those_of_the_page(self) -> None:
         self.assertIn("HyperCard has help built in", self.hints("help", OF_PROGRAM))

@@ -1,0 +1,57 @@
+"""The word that is meant by one that isn't known: a word of the language, or a handler that a message could have met.
+"""
+
+import difflib
+import re
+from typing import Iterable, List, Optional, Sequence, Tuple
+
+from front.handlers import handlers
+from front.server_objects import Objects
+from front.terminal_completion import AFTER_THE, KINDS, STATEMENTS, WORDS
+
+# How much of two words has to be the same, as difflib counts it, and how long a word is that may be misspelt.
+ALIKE, SHORTEST = 0.75, 4
+FUNCTIONS = ("abs", "max", "min", "length", "charToNum", "numToChar", "offset", "value")
+# What of the language completion doesn't offer.
+MORE_STATEMENTS = ("return", "exit", "next", "pass")
+MORE_WORDS = (
+    "char", "character", "chars", "characters", "word", "words", "item", "items", "line", "lines", "then", "else", "end",
+    "while", "until", "with", "forever", "from", "contains", "first", "last", "comma", "space", "tab", "cards",
+    "buttons", "fields", "backgrounds", "there", "target", "result")
+LANGUAGE = sorted({word for words in (AFTER_THE, KINDS, STATEMENTS, MORE_STATEMENTS, WORDS, MORE_WORDS, FUNCTIONS)
+                   for each in words for word in each.split()})
+_WORD = re.compile(r"[A-Za-z_][A-Za-z0-9_]*")
+_MEANT = "  did you mean `%s`? There stands `%s`."
+
+
+def word_of_language(text: str, column: int) -> List[str]:
+    """The word of the language that is meant where a text isn't in the grammar, from a column on, counted from 1: by
+    the word there, or by the one before it."""
+    words = [found for found in _WORD.finditer(text) if found.start() < column]
+    for found in reversed(words[-2:]):
+        meant = _alike(found.group(), LANGUAGE)
+        if meant:
+            return [_MEANT % (meant, found.group())]
+    return []
+
+
+def message(name: str, objects: Objects) -> List[str]:
+    """The handler, the function or the statement that is meant by a message which nobody handles."""
+    known = [each.name.decode("ascii", "replace") for script in _scripts(objects) for each in handlers(script)]
+    meant = _alike(name, (*known, *FUNCTIONS, *STATEMENTS, *MORE_STATEMENTS))
+    return [_MEANT % (meant, name)] if meant else []
+
+
+def _alike(word: str, known: Iterable[str]) -> Optional[str]:
+    """The known word that is most like this one, which is none of them; capitals don't count."""
+    spelled = {each.lower(): each for each in known}
+    if len(word) < SHORTEST or word.lower() in spelled:
+        return None
+    found = difflib.get_close_matches(word.lower(), spelled, 1, ALIKE)
+    return spelled[found[0]] if found else None
+
+
+def _scripts(objects: Objects) -> Sequence[bytes]:
+    """The scripts that a message on the current card can meet."""
+    parts: Tuple[bytes, ...] = tuple(part.script for part in objects.card.parts + objects.background.parts)
+    return (*parts, objects.card.script, objects.background.script, objects.stack.script)
