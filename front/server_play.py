@@ -22,9 +22,8 @@ from front.program import ProgramMissing
 from front.server_objects import Objects
 from front.server_places import Places, move
 from front.session import SAVE, Difference, Ended, Entry, Garbled, Interrupted, Session
-from front.stack_lines import unspell
 from front.stack_text import read
-from front.terminal_text import Coding
+from front.terminal_text import Coding, coding_of
 
 QUIT = b".quit"
 UNDO_TO = re.compile(rb"\.undo +to +([0-9]{1,7}) *")
@@ -339,15 +338,3 @@ def words_of(error: Exception) -> str:
     """What went wrong, for people."""
     said = [line for line in error.said if line.strip()] if isinstance(error, Ended) else []
     return said[0] if said else str(error)
-
-
-def coding_of(text: bytes) -> Coding:
-    """How the texts of a stack are read where nothing else was said: as UTF-8, unless a text of it has bytes that
-    aren't UTF-8; then as Mac Roman."""
-    try:
-        for line in text.split(b"\n"):
-            if b"\\" in line:
-                unspell(line.partition(b"|")[2]).decode("utf-8")
-    except UnicodeDecodeError:
-        return Coding.MAC_ROMAN
-    return Coding.UTF_8

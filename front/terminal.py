@@ -1,11 +1,11 @@
 #!/usr/bin/env python3
-"""The terminal: `front/terminal.py STACK [--steps N] [--depth D] [--watch] [--quiet] [--mac-roman]`.
+"""The terminal: `front/terminal.py STACK [--steps N] [--depth D] [--watch] [--quiet] [--mac-roman | --utf-8]`.
 
 It opens a stack by the program, and takes lines as that does, with a prompt, line editing, completion, a history that
 is kept, handlers of several lines, an editor for scripts, and faults in words. `.help` lists what can be typed.
 
-`--quiet` leaves out the words of faults. With `--mac-roman` the bytes 128 to 255 are characters of Mac Roman, else they
-are read and shown as UTF-8. All other words are the program's; where they are wrong, and where standard input or output
+`--quiet` leaves out the words of faults. With `--mac-roman` the bytes 128 to 255 are characters of Mac Roman, with
+`--utf-8` they are read and shown as UTF-8; else the stack's own bytes decide, as on the page. All other words are the program's; where they are wrong, and where standard input or output
 is no terminal, the program itself takes the place of this.
 
 The status is the program's: 0; 2 where the words or the stack are wrong; 1 where anything else stops it.
@@ -26,7 +26,8 @@ from front.session import Ended, Session  # noqa: E402
 from front.terminal_loop import Terminal  # noqa: E402
 from front.terminal_text import Coding  # noqa: E402
 
-OWN = ("--mac-roman", "--quiet", "--plain")
+CODINGS = {"--mac-roman": Coding.MAC_ROMAN, "--utf-8": Coding.UTF_8}
+OWN = (*CODINGS, "--quiet", "--plain")
 JOINED = ("--steps=", "--depth=")
 WRONG = 2
 
@@ -40,7 +41,7 @@ class Options:
     depth: Optional[int] = None
     watch: bool = False
     explain: bool = True
-    coding: Coding = Coding.UTF_8
+    coding: Optional[Coding] = None
 
 
 def options_of(words: List[str]) -> Optional[Options]:
@@ -56,8 +57,8 @@ def options_of(words: List[str]) -> Optional[Options]:
             setattr(found, word[2:], int(number))
         elif word == "--watch":
             found.watch = True
-        elif word == "--mac-roman":
-            found.coding = Coding.MAC_ROMAN
+        elif word in CODINGS:
+            found.coding = CODINGS[word]
         elif word == "--quiet":
             found.explain = False
         elif word != "--explain":

@@ -41,11 +41,14 @@ def _speak_to_nobody() -> None:
 
 
 class Terminal:
-    """A session at a terminal. `watch` says whether the messages that are sent are shown, on standard error."""
+    """A session at a terminal. `watch` says whether the messages that are sent are shown, on standard error. Where no
+    coding is given, the stack's own bytes decide, which is said."""
 
-    def __init__(self, path: str, session: Session, coding: Coding, watch: bool) -> None:
-        self._path, self._session, self._coding, self._watch = path, session, coding, watch
+    def __init__(self, path: str, session: Session, coding: Optional[Coding], watch: bool) -> None:
+        self._path, self._session, self._watch = path, session, watch
         self._state = State(session, coding)
+        self._coding = self._state.coding
+        self._is_guessed = coding is None
         self._reader = Reader(self._complete)
         self._scripts = Scripts(self._state, self._reader, self.give, say)
         self._joiner = Joiner()
@@ -74,6 +77,8 @@ class Terminal:
     def _greet(self) -> None:
         count = len(self._state.objects.stack.cards)
         say("%s: %d card%s. .help says what can be typed." % (self._path, count, "" if count == 1 else "s"))
+        if self._is_guessed and self._coding is Coding.MAC_ROMAN:
+            say("Its texts are read as Mac Roman, since some aren't UTF-8; --utf-8 would show their bytes.")
 
     def _take_line(self) -> None:
         """Takes one line."""

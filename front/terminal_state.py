@@ -13,7 +13,7 @@ from front.session import Session
 from front.stack_lines import spell
 from front.stack_text import Stack, read
 from front.terminal_completion import Names
-from front.terminal_text import Coding, shown
+from front.terminal_text import Coding, coding_of, shown
 
 LONGEST_NAME = 30
 MOVES = (b".undo", b".redo")
@@ -21,15 +21,15 @@ MOVES = (b".undo", b".redo")
 
 class State:
     """The stack as it is now, and as it was. `texts` are the text of the stack before the last command that was taken,
-    and after it; they are the same until there is one."""
+    and after it; they are the same until there is one. Where no coding is given, the stack's own bytes decide."""
 
-    def __init__(self, session: Session, coding: Coding) -> None:
+    def __init__(self, session: Session, coding: Optional[Coding]) -> None:
         self.session = session
-        self.coding = coding
         self.text = b""
         self._current = 0
         self._objects: Optional[Objects] = None
         self.refresh()
+        self.coding = coding or coding_of(self.text)
         self.saved = self.text
         self.texts: Tuple[bytes, bytes] = (self.text, self.text)
 

@@ -11,6 +11,8 @@ import unicodedata
 from enum import Enum
 from typing import List, Tuple
 
+from front.stack_lines import unspell
+
 SPELLED = re.compile(rb"(?:\\[89a-f][0-9a-f])+")
 CARET = re.compile(r" *\^")
 
@@ -24,6 +26,18 @@ class Coding(Enum):
 
 class NoSuchCharacter(Exception):
     """A line has a character that the coding doesn't have. Its text says which, for people."""
+
+
+def coding_of(stack: bytes) -> Coding:
+    """How the texts of a stack are read where nothing else was said: as UTF-8, unless one of them has bytes that aren't
+    UTF-8; then as Mac Roman. What is given is the stack's own text."""
+    try:
+        for line in stack.split(b"\n"):
+            if b"\\" in line:
+                unspell(line.partition(b"|")[2]).decode("utf-8")
+    except UnicodeDecodeError:
+        return Coding.MAC_ROMAN
+    return Coding.UTF_8
 
 
 def to_bytes(text: str, coding: Coding) -> bytes:

@@ -8,13 +8,13 @@ from front.answers import Answer
 from front.server_desk import LONGEST_NAME, file_name
 from front.server_objects import Objects, reference, title
 from front.server_places import UNKNOWN, Places, move
-from front.server_play import Known, NotDone, coding_of
+from front.server_play import Known, NotDone
 from front.server_told import entry_view, log_of, users_line
 from front.server_view import MOST_CARDS, MOST_PARTS, card_view, cards_view, object_view, part_view
 from front.server_words import NotInStack, shown, typed
 from front.session import Entry
 from front.stack_text import BUTTON, FIELD, Background, Card, Part, Stack, read, write
-from front.terminal_text import Coding
+from front.terminal_text import Coding, coding_of
 from front.tests.support import bytes_of, texts, there
 from front.text_diff import changes
 

@@ -55,6 +55,18 @@ class Lines(AtATerminal):
         screen.enter("2")
         screen.wait("\r\n> 3\r\nok")
 
+    def test_letters_are_as_the_stack_has_them(self) -> None:
+        with open(self.stack, "rb") as file:
+            text = file.read()
+        with open(self.stack, "wb") as file:
+            file.write(text.replace(b"name |A\n", b"name |\\8e\n", 1))
+        screen = self.open(stack="my.stack")
+        screen.wait("Its texts are read as Mac Roman, since some aren't UTF-8")
+        screen.wait("\r\né> ")
+        screen.enter('put the length of "é"')
+        screen.wait("\r\n> 1\r\nok")
+        self.open("--utf-8", stack="my.stack").wait("typed.\r\n\\8e> ")
+
     def test_messages_are_shown_on_request(self) -> None:
         screen = self.open("--watch")
         screen.enter(".open")

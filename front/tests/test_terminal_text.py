@@ -84,6 +84,9 @@ class Words(unittest.TestCase):
         assert found is not None
         self.assertEqual((found.stack, found.steps, found.depth, found.watch, found.explain, found.coding),
                          ("a.stack", 7, 3, True, False, MAC_ROMAN))
+        for words, coding in ((["a"], None), (["a", "--utf-8"], Coding.UTF_8)):
+            plain = options_of(words)
+            self.assertIs(plain and plain.coding, coding)
 
     def test_wrong_words_are_left_to_the_program(self) -> None:
         for words in ([], ["--watch"], ["a", "b"], ["a", "--steps"], ["a", "--steps", "x"], ["a", "--nonsense"],

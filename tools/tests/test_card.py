@@ -129,7 +129,8 @@ class Cards(ReleasedTest):
         front = "front " + self.at(RELEASED)
         self.assertEqual(self.at_terminal("x.stack", "--watch"), [front + " x.stack --watch"])
         self.assertEqual(self.at_terminal("--quiet", "x.stack"), [front + " x.stack --quiet"])
-        self.assertEqual(self.at_terminal("--mac-roman"), [front + " demo.stack --mac-roman"])
+        for coding in ("--mac-roman", "--utf-8"):
+            self.assertEqual(self.at_terminal(coding), [front + " demo.stack " + coding])
 
     def test_strict(self) -> None:
         self.put("front/strict.py", self.text("front/terminal.py").replace("os.environ['CARD_CLI']", "'strict'"))
