@@ -15,8 +15,8 @@ FUNCTIONS = ("abs", "max", "min", "length", "charToNum", "numToChar", "offset", 
 # What of the language completion doesn't offer.
 MORE_STATEMENTS = ("return", "exit", "next", "pass")
 MORE_WORDS = (
-    "char", "character", "chars", "characters", "word", "words", "item", "items", "line", "lines", "then", "else", "end",
-    "while", "until", "with", "forever", "from", "contains", "first", "last", "comma", "space", "tab", "cards",
+    "char", "character", "chars", "characters", "word", "words", "item", "items", "line", "lines", "then", "else",
+    "end", "while", "until", "with", "forever", "from", "contains", "first", "last", "comma", "space", "tab", "cards",
     "buttons", "fields", "backgrounds", "there", "target", "result")
 LANGUAGE = sorted({word for words in (AFTER_THE, KINDS, STATEMENTS, MORE_STATEMENTS, WORDS, MORE_WORDS, FUNCTIONS)
                    for each in words for word in each.split()})

@@ -53,7 +53,8 @@ PARTS: Sequence[Tuple[str, str]] = (
     ('get the name of button "Z"', ""), ('put field "Mine" of card 1', ""),
     ('get the name of button 7', ""), ('put field "Score of"', ""), ('go to card "A"', ""),
 )
-# A field of the card, a handler that sends a message which nobody handles, and one with a text that isn't in the grammar.
+# A field of the card, a handler that sends a message which nobody handles, and one that runs a text which isn't in the
+# grammar.
 MADE = (
     b'doMenu "New Field"', b'set the name of card field 1 to "Mine"',
     b'put quote & "visual effect dissolve" & quote into drawn',
