@@ -3,9 +3,8 @@
 
 import difflib
 import re
-from typing import Iterable, List, Optional, Sequence, Tuple
+from typing import Iterable, List, Optional
 
-from front.handlers import handlers
 from front.server_objects import Objects
 from front.terminal_completion import AFTER_THE, KINDS, STATEMENTS, WORDS
 
@@ -37,7 +36,7 @@ def word_of_language(text: str, column: int) -> List[str]:
 
 def message(name: str, objects: Objects) -> List[str]:
     """The handler, the function or the statement that is meant by a message which nobody handles."""
-    known = [each.name.decode("ascii", "replace") for script in _scripts(objects) for each in handlers(script)]
+    known = [each.decode("ascii", "replace") for each in objects.handler_names]
     meant = _alike(name, (*known, *FUNCTIONS, *STATEMENTS, *MORE_STATEMENTS))
     return [_MEANT % (meant, name)] if meant else []
 
@@ -49,9 +48,3 @@ def _alike(word: str, known: Iterable[str]) -> Optional[str]:
         return None
     found = difflib.get_close_matches(word.lower(), spelled, 1, ALIKE)
     return spelled[found[0]] if found else None
-
-
-def _scripts(objects: Objects) -> Sequence[bytes]:
-    """The scripts that a message on the current card can meet."""
-    parts: Tuple[bytes, ...] = tuple(part.script for part in objects.card.parts + objects.background.parts)
-    return (*parts, objects.card.script, objects.background.script, objects.stack.script)

@@ -5,8 +5,10 @@ numbers, truth values, lists and dictionaries with strings as keys, as JSON has 
 """
 
 from dataclasses import dataclass
+from functools import cached_property
 from typing import Dict, List, Optional, Union
 
+from front.handlers import handlers
 from front.hypertalk_text import background_reference, card_reference, part_reference
 from front.server_words import shown
 from front.stack_text import BUTTON, FIELD, Background, Card, Part, Stack
@@ -89,6 +91,12 @@ class Objects:
         """Whether it is the stack, the current card or its background, or a part of one of these two."""
         here = (self.stack, self.card, self.background)
         return any(each is found.thing or each is found.owner for each in here)
+
+    @cached_property
+    def handler_names(self) -> List[bytes]:
+        """The names of the handlers that a message on the current card can meet, each as it is written first."""
+        things = (*self.card.parts, *self.background.parts, self.card, self.background, self.stack)
+        return list(dict.fromkeys(each.name for thing in things for each in handlers(thing.script)))
 
     def text(self, part: Part) -> bytes:
         """The text of a field of the current card or of its background, as it stands on the current card."""

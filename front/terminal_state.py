@@ -6,7 +6,6 @@ objects is read when it is needed.
 
 from typing import Dict, Iterable, List, Optional, Tuple
 
-from front.handlers import handlers
 from front.server_objects import Found, Objects
 from front.server_places import adds_place
 from front.session import Session
@@ -94,10 +93,7 @@ class State:
         here = objects.card.parts + objects.background.parts
         for kind in ("button", "field"):
             found[kind] = self._typed(part.name for part in here if part.kind == kind)
-        scripts = [part.script for part in here]
-        scripts += [objects.card.script, objects.background.script, objects.stack.script]
-        known = {handler.name for script in scripts for handler in handlers(script)}
-        return Names(found, sorted(self._typed(known)))
+        return Names(found, sorted(self._typed(objects.handler_names)))
 
     def _typed(self, names: Iterable[bytes]) -> List[str]:
         """Names as they are typed, without those that can't be: with a quotation mark or a control character."""
