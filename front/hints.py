@@ -1,18 +1,17 @@
-"""What a person may have meant by a line that wasn't done: a dot line without its dot, a button or a field of the other
-layer, another word, or what HyperCard knows and this program doesn't. A hint stands behind the program's explanation,
-and only where there is one.
+"""What a person may have meant by a line that wasn't done: a dot line without its dot, another object, another word, or
+what HyperCard knows and this program doesn't. A hint stands behind the program's explanation, and only where there is
+one.
 """
 
 import re
-from typing import Callable, Dict, List, NamedTuple, Optional, Pattern, Sequence
+from typing import Callable, Dict, List, Optional, Pattern, Sequence
 
 from front import hints_of_hypercard as of_hypercard
+from front import hints_of_objects as of_objects
 from front import hints_of_spelling as of_spelling
 from front.answers import FAULT, Answer
 from front.server_objects import Objects
-from front.stack_lines import spell
-from front.stack_text import BUTTON, FIELD, Part
-from front.terminal_text import Coding, shown
+from front.terminal_text import Coding
 
 SYNTAX, CANT_UNDERSTAND, NO_SUCH_OBJECT = 1, 2, 3
 NOT_IN_GRAMMAR = 3
@@ -37,20 +36,6 @@ _CARET = re.compile(r" *\^")
 _SENT = re.compile('  sent: "(.+)"')
 _SOUGHT = re.compile('  sought: "(.+)"')
 _STATEMENT = "    "
-# A part by its name, without an owner.
-_REFERENCE = r'(?:\b(?:(card|cd)|(background|bkgnd|bg)) +)?\b(?:%s) +"%s"(?! +of\b)'
-CARD, BACKGROUND = "card", "background"
-# The layer of a part where none is named, and the words of each kind.
-_UNNAMED = {BUTTON: CARD, FIELD: BACKGROUND}
-_WORDS = {BUTTON: "button|btn", FIELD: "field|fld"}
-
-
-class Sought(NamedTuple):
-    """A part that wasn't there: its kind, the layer in which it was sought, and whether the statement names that."""
-
-    kind: str
-    layer: str
-    is_named: bool
 
 
 def hints(line: bytes, answer: Answer, objects: Callable[[], Optional[Objects]], coding: Coding,
@@ -65,7 +50,7 @@ def hints(line: bytes, answer: Answer, objects: Callable[[], Optional[Objects]],
         return _unread(told)
     if fault == CANT_UNDERSTAND:
         return _unhandled(typed, told, objects, known)
-    return _other_layer(told, objects, coding) if fault == NO_SUCH_OBJECT else []
+    return _not_found(told, objects, coding) if fault == NO_SUCH_OBJECT else []
 
 
 def _unread(explained: Sequence[str]) -> List[str]:
@@ -84,8 +69,7 @@ def _unhandled(typed: str, explained: Sequence[str], objects: Callable[[], Optio
     if not names:
         return []
     meant = _dot_line(typed, known) if names[0] == typed.strip().partition(" ")[0] else []
-    statements = [line[len(_STATEMENT):] for line in explained if line.startswith(_STATEMENT)]
-    meant = meant or of_hypercard.unhandled(names[0], statements)
+    meant = meant or of_hypercard.unhandled(names[0], _statements(explained))
     here = None if meant else objects()
     return of_spelling.message(names[0], here) if here else meant
 
@@ -99,35 +83,12 @@ def _dot_line(line: str, known: DotLines) -> List[str]:
     return ["  did you mean .%s? A line that begins with no dot is HyperTalk." % (name + " " + rest).strip()]
 
 
-def _other_layer(explained: Sequence[str], objects: Callable[[], Optional[Objects]], coding: Coding) -> List[str]:
-    """The part of the other layer that has the name which was sought, if there is one."""
+def _not_found(explained: Sequence[str], objects: Callable[[], Optional[Objects]], coding: Coding) -> List[str]:
+    """The object that is meant by the name which was sought."""
     names = [found.group(1) for found in map(_SOUGHT.fullmatch, explained) if found]
-    sought = _sought(names[0], explained) if names else None
-    here = objects() if sought else None
-    if not sought or not here:
-        return []
-    other = BACKGROUND if sought.layer == CARD else CARD
-    part = _part(here.background.parts if other == BACKGROUND else here.card.parts, sought.kind, names[0])
-    if not part:
-        return []
-    why = "" if sought.is_named else " A %s is one of the %s where nothing else is said." % (sought.kind, sought.layer)
-    return ['  did you mean %s %s "%s"?%s' % (other, sought.kind, shown(spell(part.name), coding), why)]
+    return of_objects.meant(names[0], _statements(explained), objects, coding) if names else []
 
 
-def _sought(name: str, explained: Sequence[str]) -> Optional[Sought]:
-    """The part that a statement of an explanation seeks by this name, without an owner."""
-    for kind, words in _WORDS.items():
-        part = re.compile(_REFERENCE % (words, re.escape(name)), re.IGNORECASE)
-        found = [part.search(line) for line in explained if line.startswith(_STATEMENT)]
-        for place in filter(None, found):
-            layer = CARD if place.group(1) else BACKGROUND if place.group(2) else _UNNAMED[kind]
-            return Sought(kind, layer, bool(place.group(1) or place.group(2)))
-    return None
-
-
-def _part(parts: Sequence[Part], kind: str, name: str) -> Optional[Part]:
-    """The first part of this kind and name. Capitals don't count."""
-    for part in parts:
-        if part.kind == kind and spell(part.name).decode("ascii").lower() == name.lower():
-            return part
-    return None
+def _statements(explained: Sequence[str]) -> List[str]:
+    """The statements that an explanation shows."""
+    return [line[len(_STATEMENT):] for line in explained if line.startswith(_STATEMENT)]

@@ -8,8 +8,8 @@ from typing import Iterable, List, Optional
 from front.server_objects import Objects
 from front.terminal_completion import AFTER_THE, KINDS, STATEMENTS, WORDS
 
-# How much of two words has to be the same, as difflib counts it, and how long a word is that may be misspelt.
-ALIKE, SHORTEST = 0.75, 4
+# How much of two words has to be the same, as difflib counts it, and how long a word or a name is that may be misspelt.
+ALIKE, SHORTEST, SHORTEST_NAME = 0.75, 4, 3
 FUNCTIONS = ("abs", "max", "min", "length", "charToNum", "numToChar", "offset", "value")
 # What of the language completion doesn't offer.
 MORE_STATEMENTS = ("return", "exit", "next", "pass")
@@ -28,7 +28,7 @@ def word_of_language(text: str, column: int) -> List[str]:
     the word there, or by the one before it."""
     words = [found for found in _WORD.finditer(text) if found.start() < column]
     for found in reversed(words[-2:]):
-        meant = _alike(found.group(), LANGUAGE)
+        meant = alike(found.group(), LANGUAGE)
         if meant:
             return [_MEANT % (meant, found.group())]
     return []
@@ -37,14 +37,14 @@ def word_of_language(text: str, column: int) -> List[str]:
 def message(name: str, objects: Objects) -> List[str]:
     """The handler, the function or the statement that is meant by a message which nobody handles."""
     known = [each.decode("ascii", "replace") for each in objects.handler_names]
-    meant = _alike(name, (*known, *FUNCTIONS, *STATEMENTS, *MORE_STATEMENTS))
+    meant = alike(name, (*known, *FUNCTIONS, *STATEMENTS, *MORE_STATEMENTS))
     return [_MEANT % (meant, name)] if meant else []
 
 
-def _alike(word: str, known: Iterable[str]) -> Optional[str]:
+def alike(word: str, known: Iterable[str], shortest: int = SHORTEST) -> Optional[str]:
     """The known word that is most like this one, which is none of them; capitals don't count."""
     spelled = {each.lower(): each for each in known}
-    if len(word) < SHORTEST or word.lower() in spelled:
+    if len(word) < shortest or word.lower() in spelled:
         return None
     found = difflib.get_close_matches(word.lower(), spelled, 1, ALIKE)
     return spelled[found[0]] if found else None

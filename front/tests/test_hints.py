@@ -16,6 +16,7 @@ from front.tests.support import FolderTest, bytes_of, there
 QUIZ = os.path.join("stacks", "quiz.stack")
 NO_DOT = "  did you mean .%s? A line that begins with no dot is HyperTalk."
 BUTTON_OF_CARD = '  did you mean background button "%s"? A button is one of the card where nothing else is said.'
+QUESTION = '  did you mean background "Question"?'
 FIELD_OF_BACKGROUND = '  did you mean card field "%s"? A field is one of the background where nothing else is said.'
 
 DOT_LINES: Sequence[Tuple[str, str]] = (
@@ -51,7 +52,10 @@ PARTS: Sequence[Tuple[str, str]] = (
     ('put 1 into field "Mine"', FIELD_OF_BACKGROUND % "Mine"),
     ('put bg fld "mine"', '  did you mean card field "Mine"?'),
     ('get the name of button "Z"', ""), ('put field "Mine" of card 1', ""),
-    ('get the name of button 7', ""), ('put field "Score of"', ""), ('go to card "A"', ""),
+    ('get the name of button 7', ""), ('go to card "Zebra"', ""),
+    ('go card "Mon"', '  did you mean card "Moon"?'), ('put field "Scroe"', '  did you mean background field "Score"?'),
+    ('.click bg button "Nxt"', '  did you mean background button "Next"?'), ('go to bg "Qestion"', QUESTION),
+    ('put 1 into field "Mien"', '  did you mean card field "Mine"?'),
 )
 # A field of the card, a handler that sends a message which nobody handles, and one that runs a text which isn't in the
 # grammar.
@@ -107,7 +111,7 @@ class Hints(FolderTest):
         told = entry_view(1, b"undo", answer, False, self.objects(), Coding.UTF_8)["explained"]
         self.assertEqual(told, [{"text": line} for line in [*answer.explained, NO_DOT % "undo"]])
 
-    def test_a_part_of_the_other_layer(self) -> None:
+    def test_an_object_of_the_other_layer_or_of_another_name(self) -> None:
         for line, meant in PARTS:
             with self.subTest(line=line):
                 self.assertEqual(self.hints(line), meant)
