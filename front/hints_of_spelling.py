@@ -10,6 +10,8 @@ from front.terminal_completion import AFTER_THE, KINDS, STATEMENTS, WORDS
 
 # How much of two words has to be the same, as difflib counts it, and how long a word or a name is that may be misspelt.
 ALIKE, SHORTEST, SHORTEST_NAME = 0.75, 4, 3
+# Among more words none is sought, since a page may ask for a hundred lines at a time.
+MOST_KNOWN = 1_000
 FUNCTIONS = ("abs", "max", "min", "length", "charToNum", "numToChar", "offset", "value")
 # What of the language completion doesn't offer.
 MORE_STATEMENTS = ("return", "exit", "next", "pass")
@@ -44,7 +46,7 @@ def message(name: str, objects: Objects) -> List[str]:
 def alike(word: str, known: Iterable[str], shortest: int = SHORTEST) -> Optional[str]:
     """The known word that is most like this one, which is none of them; capitals don't count."""
     spelled = {each.lower(): each for each in known}
-    if len(word) < shortest or word.lower() in spelled:
+    if len(word) < shortest or len(spelled) > MOST_KNOWN or word.lower() in spelled:
         return None
     found = difflib.get_close_matches(word.lower(), spelled, 1, ALIKE)
     return spelled[found[0]] if found else None
