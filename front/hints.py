@@ -13,7 +13,7 @@ from front.answers import FAULT, Answer
 from front.server_objects import Objects
 from front.terminal_text import Coding
 
-SYNTAX, CANT_UNDERSTAND, NO_SUCH_OBJECT = 1, 2, 3
+SYNTAX, CANT_UNDERSTAND, NO_SUCH_OBJECT, BAD_ARGUMENT = 1, 2, 3, 16
 NOT_IN_GRAMMAR = 3
 DotLines = Dict[str, Pattern[str]]
 
@@ -50,7 +50,9 @@ def hints(line: bytes, answer: Answer, objects: Callable[[], Optional[Objects]],
         return _unread(told)
     if fault == CANT_UNDERSTAND:
         return _unhandled(typed, told, objects, known)
-    return _not_found(told, objects, coding) if fault == NO_SUCH_OBJECT else []
+    if fault == NO_SUCH_OBJECT:
+        return _not_found(told, objects, coding)
+    return of_spelling.menu_item(_statements(told)) if fault == BAD_ARGUMENT else []
 
 
 def _unread(explained: Sequence[str]) -> List[str]:

@@ -3,10 +3,10 @@
 
 import difflib
 import re
-from typing import Iterable, List, Optional
+from typing import Iterable, List, Optional, Sequence
 
 from front.server_objects import Objects
-from front.terminal_completion import AFTER_THE, KINDS, STATEMENTS, WORDS
+from front.terminal_completion import AFTER_THE, KINDS, MENU, STATEMENTS, WORDS
 
 # How much of two words has to be the same, as difflib counts it, and how long a word or a name is that may be misspelt.
 ALIKE, SHORTEST, SHORTEST_NAME = 0.75, 4, 3
@@ -23,6 +23,7 @@ LANGUAGE = sorted({word for words in (AFTER_THE, KINDS, STATEMENTS, MORE_STATEME
                    for each in words for word in each.split()})
 _WORD = re.compile(r"[A-Za-z_][A-Za-z0-9_]*")
 _MEANT = "  did you mean `%s`? There stands `%s`."
+_MENU = re.compile(r'\bdoMenu +"([^"]*)"', re.IGNORECASE)
 
 
 def word_of_language(text: str, column: int) -> List[str]:
@@ -41,6 +42,15 @@ def message(name: str, objects: Objects) -> List[str]:
     known = [each.decode("ascii", "replace") for each in objects.handler_names]
     meant = alike(name, (*known, *FUNCTIONS, *STATEMENTS, *MORE_STATEMENTS))
     return [_MEANT % (meant, name)] if meant else []
+
+
+def menu_item(statements: Sequence[str]) -> List[str]:
+    """The item that is meant where a statement chooses one from the menu that it doesn't have, or else those it has."""
+    chosen = [found.group(1) for found in map(_MENU.search, statements) if found]
+    if not chosen or chosen[0].lower() in map(str.lower, MENU):
+        return []
+    meant = alike(chosen[0], MENU)
+    return ['  did you mean doMenu "%s"?' % meant if meant else "  the menu has " + ", ".join(MENU)]
 
 
 def alike(word: str, known: Iterable[str], shortest: int = SHORTEST) -> Optional[str]:

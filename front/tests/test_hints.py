@@ -102,6 +102,13 @@ class Hints(FolderTest):
             with self.subTest(line=line):
                 self.assertEqual(self.hints(line), "  did you mean `%s`? There stands `%s`." % (meant, word))
 
+    def test_an_item_of_the_menu(self) -> None:
+        self.assertEqual(self.hints('doMenu "New Crad"'), '  did you mean doMenu "New Card"?')
+        self.assertEqual(self.hints('domenu "Undo"'),
+                         "  the menu has New Card, New Background, New Button, New Field, Delete Card")
+        self.assertEqual(self.hints('doMenu "New Card",1'), "")
+        self.assertEqual(self.hints("put 1 into char 0 of x"), "")
+
     def test_lines_of_the_terminal_are_not_those_of_the_page(self) -> None:
         self.assertIn("HyperCard has help built in", self.hints("help", OF_PROGRAM))
         self.assertEqual(self.hints("undo", OF_PROGRAM), NO_DOT % "undo")
