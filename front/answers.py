@@ -7,8 +7,9 @@ from typing import List, Sequence, Tuple
 from front.stack_lines import unspell
 
 OK, FAULT, REFUSED = "ok", "fault", "refused"
-# Refusals that say nothing of the stack: no memory was left, or the file couldn't be written.
-NO_MEMORY, NOT_SAVED = 4, 7
+# A line that isn't in the grammar is refused; and so is one where no memory was left, or the file couldn't be written,
+# which says nothing of the stack.
+NOT_IN_GRAMMAR, NO_MEMORY, NOT_SAVED = 3, 4, 7
 
 _WATCHED = re.compile(r"([A-Za-z_][A-Za-z0-9_]*) ([0-9]+)")
 _EXPLAINED = re.compile(r"(?:fault|refused) [0-9]+, ")

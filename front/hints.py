@@ -9,12 +9,11 @@ from typing import Callable, Dict, List, Optional, Pattern, Sequence
 from front import hints_of_hypercard as of_hypercard
 from front import hints_of_objects as of_objects
 from front import hints_of_spelling as of_spelling
-from front.answers import FAULT, Answer
+from front.answers import FAULT, NOT_IN_GRAMMAR, Answer
 from front.server_objects import Objects
 from front.terminal_text import Coding
 
 SYNTAX, CANT_UNDERSTAND, NO_SUCH_OBJECT, BAD_ARGUMENT = 1, 2, 3, 16
-NOT_IN_GRAMMAR = 3
 DotLines = Dict[str, Pattern[str]]
 
 _NOTHING, _SOMETHING = re.compile(""), re.compile(".+")

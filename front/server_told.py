@@ -29,8 +29,7 @@ PLACE = re.compile(r"\s+(?:at|called from) (?:line ([0-9]+)(?:, column ([0-9]+))
 def entry_view(number: int, line: bytes, answer: Answer, own: bool, objects: Optional[Objects],
                coding: Coding) -> Dict[str, Json]:
     """A line with its answer. The number is that of the line in the session; `own` says that the page asked only to
-    look. The messages carry the names that their objects have now, and hints are of the card that is
-    current now."""
+    look. The messages carry the names that their objects have now, and hints are of the card that is current now."""
     meant = hints(line, answer, lambda: objects, coding, OF_PROGRAM)
     texts = [text.decode("ascii", "backslashreplace") for text in answer.shown[:MOST_LINES]]
     return {

@@ -5,7 +5,7 @@ import sys
 from typing import Callable, Dict, List, Optional
 
 from front import terminal_views as views
-from front.answers import REFUSED, Answer
+from front.answers import NOT_IN_GRAMMAR, REFUSED, Answer
 from front.hints import OF_TERMINAL, hints
 from front.server_places import COMMANDS
 from front.session import Difference, Ended, Session
@@ -19,7 +19,6 @@ from front.terminal_text import Coding, NoSuchCharacter, explained, shown, to_by
 
 GOES_ON = ".. "
 UNSAVED = "The stack has changes that aren't saved. Save them? [y]es, [n]o, or Return to stay: "
-NOT_IN_GRAMMAR = 3
 # What takes longer than so many seconds is told before.
 LONG = 1.0
 # The dot lines of the program beside its commands.
