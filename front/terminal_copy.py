@@ -7,7 +7,7 @@ import re
 import tempfile
 from typing import Dict
 
-from front.answers import OK, Answer
+from front.answers import NOT_IN_GRAMMAR, OK, Answer
 from front.hypertalk_text import put_lines
 from front.server_objects import STACK_ID, Found, reference
 from front.session import Session
@@ -22,7 +22,7 @@ SHORT = {b"stack": b"this stack", b"card": b"this card", b"cd": b"this card", b"
 PLAIN = re.compile(rb'(?:"[^"]*"|[0-9]+|\b(?:this|next|previous|prev|card|cd|background|bkgnd|bg|button|btn|field|fld|'
                    rb'stack|id|of|in|first|second|third|fourth|fifth|sixth|seventh|eighth|ninth|tenth|last)\b| )+',
                    re.IGNORECASE)
-NO_SUCH_PROPERTY, NOT_IN_GRAMMAR = 10, 3
+NO_SUCH_PROPERTY = 10
 EXAMPLES = 'an object is named as in HyperTalk, such as: button "Go", card field 1, this card, this stack'
 
 
