@@ -97,6 +97,14 @@ def with_small_files() -> None:
     resource.setrlimit(resource.RLIMIT_FSIZE, (0, 0))
 
 
+def with_memory(most: int) -> Callable[[], None]:
+    """As nobody, with so many bytes of memory at most."""
+    def before() -> None:
+        as_nobody()
+        resource.setrlimit(resource.RLIMIT_AS, (most, most))
+    return before
+
+
 class Stuck(Exception):
     """A program did something else than what a case waits for; in a line."""
 
@@ -132,6 +140,11 @@ class Talk:
 
     def go_on(self) -> None:
         os.kill(self.program.pid, signal.SIGCONT)
+
+    def most_memory(self) -> int:
+        """The most bytes of memory that it has had."""
+        with open("/proc/%d/status" % self.program.pid, encoding="ascii") as status:
+            return next(int(line.split()[1]) for line in status if line.startswith("VmPeak:")) * 1024
 
     def end(self) -> Tuple[int, str]:
         """The status and standard error, once its input has ended."""

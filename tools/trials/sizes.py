@@ -3,7 +3,7 @@
 import sys
 from typing import Callable, List
 
-from .place import HERE, OLD, Pairs, Place, put_text, text_of
+from .place import HERE, OLD, Pairs, Place, put_text, text_of, with_memory
 
 sys.path.insert(0, HERE)
 
@@ -11,6 +11,7 @@ from front import stack_text  # noqa: E402
 
 MOST_TEXT = 30_000  # bytes of a line and of a text
 CARDS = 50
+LITTLE_ROOM = 1 << 20  # bytes
 EVERY_BYTE = bytes(range(256))
 # Each byte, and then as often as a text has room for it.
 MANY_BYTES = ["repeat with i = 0 to 255\rput numToChar(i) after u\rend repeat", "repeat 117\rput u after t\rend repeat"]
@@ -98,7 +99,22 @@ def large_stack_of_another_writer(place: Place) -> Pairs:
     yield text_of(place.stack) == spelled, True
 
 
+def save_without_room_for_the_text(place: Place) -> Pairs:
+    """A stack of megabytes is saved where there is memory for a small part of its text, and then it can't be shown."""
+    place.run([*MANY_BYTES, MORE_CARDS, ".save"])
+    saved = text_of(place.stack)
+    measured = place.talk()
+    most = measured.most_memory() + LITTLE_ROOM
+    measured.kill()
+    talk = place.talk(with_memory(most))
+    yield [talk.ask(line) for line in (".show", ".save")], ["refused 4", "ok"]
+    yield text_of(place.stack) == saved.replace("\nname |A\n", "\nname |Renamed\n", 1), True
+    yield [talk.ask(line) for line in (".undo", ".save")], ["ok", "ok"]
+    yield talk.end(), (0, "")
+    yield text_of(place.stack) == saved, True
+
+
 CASES: List[Callable[[Place], Pairs]] = [
     many_answers_to_a_line, many_messages_of_a_line, long_lines, longest_text_of_two_lines, many_places,
-    large_stack_that_is_saved, large_stack_of_another_writer,
+    large_stack_that_is_saved, large_stack_of_another_writer, save_without_room_for_the_text,
 ]

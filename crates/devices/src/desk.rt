@@ -1,11 +1,14 @@
 //! Where a stack's text is kept, and who hears of the messages that are sent.
 
 ghost use Rattle.std.specs.Prelude.{◌≡◌, [], ◌∷◌, not};
+ghost use Rattle.object_table.specs.WellFormed.{IsWellFormed};
+ghost use Rattle.stack_text.specs.Listing.{spelling};
+ghost use Rattle.stack_text.specs.declared.sheets.Version.TheVariants.{Second as second};
 ghost use Rattle.devices.specs.Desks.{SeenDesk, kept_after, HearsOrForgets};
 ghost use Rattle.devices.specs.Watching.{counted};
 
 use ht_values::Text;
-use object_table::Id;
+use object_table::{Id, Stack};
 
 /// A message that a desk heard of, and the id of the object that it was sent to.
 #[derive(Drop)]
@@ -22,10 +25,12 @@ pub struct HeardMessage {
 pub trait Desk {
     ghost seen: { Self → SeenDesk };
 
-    /// Keeps a text in place of the one before it, and says whether it did. Where it didn't, a failure is counted and
-    /// what was kept before stands.
-    fn keep(&mut self, text: &[u8]) -> bool
-        ensures kept { (seen self.new).kept ≡ kept_after result text.now (seen self.old).kept }
+    /// Keeps the text of a stack in place of the one before it, and says whether it did. Where it didn't, a failure is
+    /// counted and what was kept before stands.
+    fn keep(&mut self, stack: &Stack) -> bool
+        requires { IsWellFormed stack.now.content }
+        ensures kept { (seen self.new).kept
+            ≡ kept_after result (spelling second stack.now.content) (seen self.old).kept }
         ensures heard { (seen self.new).heard ≡ (seen self.old).heard }
         ensures failures { (seen self.new).failures ≡ counted (not result) (seen self.old).failures };
 

@@ -1,6 +1,9 @@
 //! A desk in memory.
 
 ghost use Rattle.std.specs.Prelude.{◌≡◌, ◌⊎◌, [], ◌∷◌, ◌++◌, Some, None, IfSome, IsNone, IsTrue, true, false, not};
+ghost use Rattle.object_table.specs.WellFormed.{IsWellFormed};
+ghost use Rattle.stack_text.specs.Listing.{spelling};
+ghost use Rattle.stack_text.specs.declared.sheets.Version.TheVariants.{Second as second};
 ghost use Rattle.devices.specs.Shelves.{text_on, messages_on, has_forgotten, heard_on, explained_on, calls_on};
 ghost use Rattle.devices.specs.Shelves.{fails_at as call_of_failure, failures_on};
 ghost use Rattle.devices.specs.Desks.{kept_after};
@@ -8,7 +11,8 @@ ghost use Rattle.devices.specs.Watching.{counted};
 
 use crate::desk::{Desk, HeardMessage};
 use ht_values::Text;
-use object_table::Id;
+use object_table::{Id, Stack};
+use stack_file::write;
 use std::alloc::Global;
 
 /// A desk in memory: it keeps the last text, remembers the messages, and may be told to fail at one call.
@@ -97,17 +101,16 @@ impl Shelf {
         self.forgets
     }
 
-    /// A copy of a text, or none where this call is to fail, or is out of memory.
-    fn copied(&self, text: &[u8]) -> Option<Vec<u8>>
-        ensures copy { IfSome result (λ copy. copy.items ≡ text.now) }
+    /// The text of a stack, or none where this call is to fail, or is out of memory.
+    fn text_of(&self, stack: &Stack) -> Option<Vec<u8>>
+        requires { IsWellFormed stack.now.content }
+        ensures text { IfSome result (λ text. text.items ≡ spelling second stack.now.content) }
         ensures due { call_of_failure self.now ≡ Some (calls_on self.now) → IsNone result }
     {
         if self.fails_at == Some(self.calls) {
             return None;
         }
-        let mut copy = Vec::new(self.alloc);
-        copy.extend_from_slice(text).ok()?;
-        Some(copy)
+        write(self.alloc, stack).ok()
     }
 }
 
@@ -115,9 +118,10 @@ impl Desk for Shelf {
     ghost seen = { λ s. record { kept = Some (text_on s); heard = heard_on s; failures = failures_on s } };
 
     /// It fails at the call that it was told, and where it is out of memory.
-    fn keep(&mut self, text: &[u8]) -> bool
+    fn keep(&mut self, stack: &Stack) -> bool
+        requires { IsWellFormed stack.now.content }
         ensures kept { Some (text_on self.new)
-            ≡ kept_after result text.now (Some (text_on self.old)) }
+            ≡ kept_after result (spelling second stack.now.content) (Some (text_on self.old)) }
         ensures failures { failures_on self.new ≡ counted (not result) (failures_on self.old) }
         ensures due { call_of_failure self.old ≡ Some (calls_on self.new) → ¬ IsTrue result }
         ensures calls { calls_on self.new ≡ counted true (calls_on self.old) }
@@ -126,9 +130,9 @@ impl Desk for Shelf {
         ensures heard { has_forgotten self.new ≡ has_forgotten self.old }
     {
         self.calls = self.calls.saturating_add(1);
-        match self.copied(text) {
-            Some(copy) => {
-                self.text = copy;
+        match self.text_of(stack) {
+            Some(text) => {
+                self.text = text;
                 true
             }
             None => {

@@ -9,22 +9,23 @@ use bstr::BStr;
 use devices::{BytesFault, Desk, Watched, bytes_of};
 use ht_values::Text;
 use log::{Log, info, warn};
-use object_table::Id;
+use object_table::{Id, Stack};
 use std::fs::File;
 use std::rt::Files;
 
-/// Keeps the last text that is saved in the file of this path, and logs each message, as `mouseUp 5`, and, as warnings,
-/// why a text isn't saved, why a line faulted or was refused where it is to, and that a session ends with changes that
-/// weren't saved.
+/// Keeps the text of the last stack that is saved in the file of this path, and logs each message, as `mouseUp 5`, and,
+/// as warnings, why a text isn't saved, why a line faulted or was refused where it is to, and that a session ends with
+/// changes that weren't saved.
 ///
-/// A text is written to a new file beside it, with `.new` behind its name, which is synced to the disk and renamed;
-/// then the folder is synced. So the file has the old text or the new one, whole; where any step fails it has the old
-/// one, and nothing stays beside it. Where the path is a symbolic link, this is done to the file that it leads to.
-/// Nothing is saved where the file isn't the one that was read or last saved, by its identity, its size and the time
-/// when it was written, where it may not be written, and where what was read or what is there is no plain file. What
-/// has the name of the new file stays as it is, and the next name is taken. The permissions and the group of the file
-/// are those it had; its owner is who saves, and for the administrator the one it had. Access lists and other
-/// attributes can't be kept, and other names of the file keep the old text.
+/// The text is written piece by piece, so a save takes no memory for the whole text. It goes to a new file beside it,
+/// with `.new` behind its name, which is synced to the disk and renamed; then the folder is synced. So the file has the
+/// old text or the new one, whole; where any step fails it has the old one, and nothing stays beside it. Where the path
+/// is a symbolic link, this is done to the file that it leads to. Nothing is saved where the file isn't the one that
+/// was read or last saved, by its identity, its size and the time when it was written, where it may not be written, and
+/// where what was read or what is there is no plain file. What has the name of the new file stays as it is, and the
+/// next name is taken. The permissions and the group of the file are those it had; its owner is who saves, and for the
+/// administrator the one it had. Access lists and other attributes can't be kept, and other names of the file keep the
+/// old text.
 #[derive(Drop)]
 pub struct FileDesk<'a, R> {
     rt: &'a R,
@@ -86,8 +87,8 @@ fn holds<R: Files<File = File> + AllocGlobal>(rt: &R, path: &str, text: &[u8]) -
 impl<R: Files<File = File> + Log + AllocGlobal> Desk for FileDesk<'_, R> {
     ghost seen = { seen_file };
 
-    fn keep(&mut self, text: &[u8]) -> bool {
-        match save(self.rt, self.path, &self.last, text) {
+    fn keep(&mut self, stack: &Stack) -> bool {
+        match save(self.rt, self.path, &self.last, stack) {
             Ok(saved) => {
                 tell(self.rt, self.program, &saved);
                 self.last = saved.state;

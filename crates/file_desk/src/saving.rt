@@ -1,10 +1,15 @@
-//! A text in the place of a file's, whole or not at all, and never in the place of another program's.
+//! The text of a stack in the place of a file's, whole or not at all, and never in the place of another program's.
+
+ghost use Rattle.object_table.specs.WellFormed.{IsWellFormed};
 
 use crate::beside::{Beside, made_beside};
 use crate::state::FileState;
 use crate::unsaved::Unsaved;
+use object_table::Stack;
+use stack_file::write_to;
+use std::alloc::Global;
 use std::fs::{File, OpenOptions, Permissions, TryLockError};
-use std::io::{Error, ErrorKind, Write};
+use std::io::{Error, ErrorKind};
 use std::os::unix::fs::{PermissionsExt, fchown};
 use std::path::{Path, PathBuf};
 use std::rt::Files;
@@ -100,10 +105,13 @@ fn give(file: &File, like: &FileState) -> io::Result<bool> {
     Ok(has_group)
 }
 
-/// Writes a text to a new file, which nobody may read before it has the mode of another one, and syncs it to the disk.
-fn fill(mut file: File, like: &FileState, text: &[u8]) -> io::Result<Saved> {
+/// Writes the text of a stack to a new file, which nobody may read before it has the mode of another one, and syncs it
+/// to the disk.
+fn fill(alloc: Global, mut file: File, like: &FileState, stack: &Stack) -> io::Result<Saved>
+    requires { IsWellFormed stack.now.content }
+{
     let has_group = give(&file, like)?;
-    file.write_all(text)?;
+    write_to(alloc, stack, &mut file)?;
     file.sync_all()?;
     Ok(Saved {
         state: FileState::new(file.metadata()?),
@@ -142,17 +150,19 @@ fn is_synced<R: Files<File = File>>(rt: &R, path: &str) -> bool {
     }
 }
 
-/// Puts a text in the place of a file that is no link, by a file beside it.
+/// Puts the text of a stack in the place of a file that is no link, by a file beside it.
 fn replace<R: Files<File = File> + AllocGlobal>(
     rt: &R,
     path: &str,
     last: &FileState,
-    text: &[u8],
-) -> Result<Saved, Unsaved> {
+    stack: &Stack,
+) -> Result<Saved, Unsaved>
+    requires { IsWellFormed stack.now.content }
+{
     let held = hold(rt, path, last)?;
     let now = held.as_ref().map(|held| &held.state);
     let Beside { path: beside, file } = made_beside(rt, path)?;
-    let saved = match fill(file, now.unwrap_or(last), text) {
+    let saved = match fill(rt.alloc(), file, now.unwrap_or(last), stack) {
         Ok(saved) => take_place(rt, beside.as_path(), path, now).map(|()| saved),
         Err(error) => Err(Unsaved::from(error)),
     };
@@ -168,24 +178,26 @@ fn replace<R: Files<File = File> + AllocGlobal>(
     }
 }
 
-/// Puts a text in the place of a file's, where the file is still as it was last, and says how it is then.
+/// Puts the text of a stack in the place of a file's, where the file is still as it was last, and says how it is then.
 ///
-/// The file has the old text or the new one, whole, whatever happens; where the save fails it has the old one. A file
-/// that isn't there any more is made again. Nothing that stands there and isn't the file as it was last is removed or
-/// written: the new text goes to a new file, and what stands there is looked at right before the rename. Programs that
-/// save as this one does exclude one another by a lock; of another one, what it writes between that look and the rename
-/// is lost.
+/// The file has the old text or the new one, whole, whatever happens; where the save fails, as it does where it is out
+/// of memory, it has the old one. It takes no memory for the whole text. A file that isn't there any more is made
+/// again. Nothing that stands there and isn't the file as it was last is removed or written: the new text goes to a new
+/// file, and what stands there is looked at right before the rename. Programs that save as this one does exclude one
+/// another by a lock; of another one, what it writes between that look and the rename is lost.
 pub fn save<R: Files<File = File> + AllocGlobal>(
     rt: &R,
     path: &str,
     last: &FileState,
-    text: &[u8],
-) -> Result<Saved, Unsaved> {
+    stack: &Stack,
+) -> Result<Saved, Unsaved>
+    requires { IsWellFormed stack.now.content }
+{
     if !last.is_plain() {
         return Err(Unsaved::NotPlain);
     }
     match led_to(rt, path)? {
-        Some(target) => replace(rt, target.as_str(), last, text),
-        None => replace(rt, path, last, text),
+        Some(target) => replace(rt, target.as_str(), last, stack),
+        None => replace(rt, path, last, stack),
     }
 }

@@ -484,9 +484,7 @@ module _ (lines steps : ℕ) where
       inr (refuses_follow refusals.NoMemory old reply new r)
   performs_follow line (Some commands.Cells) old reply new p =
       cells_follow (cells_named old.now (second (words line))) old reply new p
-  performs_follow line (Some commands.Save) old reply new (inl p) = inl (p.0, ap (at lines steps) p.1)
-  performs_follow line (Some commands.Save) old reply new (inr r) =
-      inr (refuses_follow refusals.NoMemory old reply new r)
+  performs_follow line (Some commands.Save) old reply new p = (p.0, ap (at lines steps) p.1)
   performs_follow line (Some (commands.Act reading)) old reply new p =
       commands_follow reading (behind_name line) old reply new p
   performs_follow line (Some commands.Quit) old reply new p = (p.0, ap (at lines steps) p.1)

@@ -138,7 +138,7 @@ Does line (Some History) state old reply new =
     Looks (history_line old.cursor (length old.snapshots - (old.cursor + 1)) ∷ []) old reply new
     ⊎ Refuses NoMemory old reply new
 Does line (Some Cells) state old reply new = ShowsCells (cells_named state (second (words line))) old reply new
-Does line (Some Save) state old reply new = Saves state old reply new ⊎ Refuses NoMemory old reply new
+Does line (Some Save) state old reply new = Saves state old reply new
 Does line (Some (Act reading)) state old reply new = Commands reading (behind_name line) state old reply new
 Does line (Some Quit) state old reply new = (reply ≡ ended endings.Quit) × (new ≡ old)
 

@@ -12,6 +12,11 @@ use Rattle.session.specs.declared.reply.Ending.TheVariants.{Ok, Refused, Save}
 use Rattle.session.specs.declared.reply.Refusal.TheVariants.{SaveFailed}
 use Rattle.session.specs.declared.reply.Reply.{Reply}
 
+-- where a line saves, this is the text that is to be kept
+abbrev pub IsSaved : Ending → List ℕ → Type 0
+IsSaved (Save text) saved = text ≡ saved
+IsSaved _ saved = Unit {0}
+
 -- How a line is answered that ended so, where the desk keeps what is saved. Any other line asks nothing of it.
 abbrev pub Kept : Ending → SeenDesk → Ending → SeenDesk → Type 0
 Kept (Save text) old told new = (told ≡ Ok) × (new ≡ record old { kept = option_map (λ _. text) old.kept })

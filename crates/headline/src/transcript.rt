@@ -7,8 +7,10 @@ ghost use Rattle.std.specs.Io.KnownBytes.{Appends, Consumes, IsAtEnd};
 ghost use Rattle.devices.specs.Desks.{SeenDesk, HearsOrForgets};
 ghost use Rattle.devices.specs.Watching.{device_of, failures_of, Rose};
 ghost use Rattle.headline.specs.Answers.{answer};
-ghost use Rattle.headline.specs.Saving.{KeptOrNot, Takes, as_heard};
+ghost use Rattle.headline.specs.Saving.{IsSaved, KeptOrNot, Takes, as_heard};
 ghost use Rattle.session.specs.SessionView.{SessionView};
+ghost use Rattle.stack_text.specs.Listing.{spelling};
+ghost use Rattle.stack_text.specs.declared.sheets.Version.TheVariants.{Second as second};
 ghost use Rattle.headline.specs.InputLines.{without_return as line_of_ended, AreLines};
 ghost use Rattle.headline.specs.Answering.{is_quit, Breaks};
 ghost use Rattle.headline.specs.Writing.{IsCut};
@@ -74,13 +76,14 @@ fn tell<D: Desk>(desk: &mut D, sent: &Sent)
     }
 }
 
-/// How a line is answered that ended so: the desk is asked to keep the text of one that saves.
-fn settle<D: Desk>(desk: &mut D, ending: Ending) -> Ending
+/// How a line is answered that ended so: the desk is asked to keep the text of the stack for one that saves.
+fn settle<E: External, D: Desk>(session: &Session<E>, desk: &mut D, ending: Ending) -> Ending
+    requires { IsSaved ending (spelling second session.now.history.now.stack) }
     ensures { KeptOrNot ending (D.seen desk.old) result (D.seen desk.new) }
 {
     match ending {
-        Ending::Save(text) => {
-            if desk.keep(text.as_slice()) {
+        Ending::Save(_) => {
+            if desk.keep(session.stack()) {
                 Ending::Ok
             } else {
                 Ending::Refused(Refusal::SaveFailed)
@@ -132,7 +135,7 @@ fn take_line<E: External, D: Desk, X: Explainer>(
     } = session.line(line);
     session.law_of_states();
     tell(desk, &sent);
-    let ending = settle(desk, ending);
+    let ending = settle(session, desk, ending);
     let reply = Reply {
         shown,
         sent,
@@ -331,8 +334,8 @@ const BLOCK: usize = 4_096;
 /// of at most 4,096 bytes.
 ///
 /// The desk hears of each message that a line sent, in their order, once the line is done, and then, if it wants to,
-/// why the line faulted or was refused, in the words of the explainer. The text of a line that saves is handed to it
-/// then: the answer is `ok` where it keeps the text. Where it doesn't, its `failures` rose, what it kept before stands,
+/// why the line faulted or was refused, in the words of the explainer. The stack of a line that saves is handed to it
+/// then: the answer is `ok` where it keeps its text. Where it doesn't, its `failures` rose, what it kept before stands,
 /// and the answer is `refused 7`. Both come before the answer is written.
 ///
 /// `TooManyLines` where a byte comes after 1,000,000 lines or 1,000,000,000 bytes; `Read` and `Write`

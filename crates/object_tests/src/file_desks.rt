@@ -3,59 +3,88 @@
 use devices::Desk;
 use file_desk::{FileDesk, FileState, Plain};
 use log::{LevelFilter, Log, Logged};
+use stack_file::read;
+use std::alloc::Global;
 use std::fs;
 use std::fs::File;
 use std::rt::Files;
 
 /// What is done with files and the desk, or holds of them.
-enum Step<'a> {
+enum DeskStep<'a> {
     Write(&'a str, &'a str),
     Folder(&'a str),
     /// The file that a link leads to, and the link.
     Link(&'a str, &'a str),
-    /// A save, and whether it is kept.
-    Keep(&'a [u8], bool),
+    /// A save of the stack of a name, and whether it is kept.
+    Keep(&'a str, bool),
     /// How many saves have failed.
     Failures(u64),
     Text(&'a str, &'a str),
+    /// A file that has the text of the stack of a name.
+    Stack(&'a str, &'a str),
     IsThere(&'a str, bool),
     IsLink(&'a str),
     Remove(&'a str),
     RemoveFolder(&'a str),
 }
 
+/// The text of a small stack behind its name.
+const REST: &str = "\nscript 0\nbackgrounds 1\n\
+background 1\nname |\ncantDelete false\nscript 0\nparts 0\n\
+cards 1\ncard 2 1\nname |\ncantDelete false\nscript 0\nparts 0\nend\n";
+
+/// The text of the stack of a name; none where memory is refused.
+fn text_of(alloc: Global, name: &str) -> Option<String> {
+    format!(in alloc; "htstack 2\nnext 3\nname |{name}{}", REST).ok()
+}
+
+/// Whether a desk keeps the stack of a name; none where that stack isn't to be had.
+fn keeps<D: Desk>(alloc: Global, desk: &mut D, name: &str) -> Option<bool> {
+    let text = text_of(alloc, name)?;
+    match read(alloc, text.as_bytes()) {
+        Ok(stack) => Some(desk.keep(&stack)),
+        Err(_) => None,
+    }
+}
+
 fn has_text<R: Files + AllocGlobal>(rt: &R, path: &str, due: &str) -> bool {
     matches!(fs::read_to_string(rt, path), Ok(text) if text.as_str() == due)
 }
 
+/// Whether a file has the text of the stack of a name.
+fn has_stack<R: Files + AllocGlobal>(rt: &R, path: &str, name: &str) -> bool {
+    matches!(text_of(rt.alloc(), name), Some(text) if has_text(rt, path, text.as_str()))
+}
+
 /// Whether a step on files alone is done, or holds.
-fn is_done<R: Files + AllocGlobal>(rt: &R, step: &Step<'_>) -> bool {
+fn is_done<R: Files + AllocGlobal>(rt: &R, step: &DeskStep<'_>) -> bool {
     match step {
-        Step::Write(path, text) => fs::write(rt, path, *text).is_ok(),
-        Step::Folder(path) => fs::create_dir(rt, path).is_ok(),
-        Step::Link(file, path) => rt.symlink(file, path).is_ok(),
-        Step::Text(path, due) => has_text(rt, path, due),
-        Step::IsThere(path, due) =>
+        DeskStep::Write(path, text) => fs::write(rt, path, *text).is_ok(),
+        DeskStep::Folder(path) => fs::create_dir(rt, path).is_ok(),
+        DeskStep::Link(file, path) => rt.symlink(file, path).is_ok(),
+        DeskStep::Text(path, due) => has_text(rt, path, due),
+        DeskStep::Stack(path, name) => has_stack(rt, path, name),
+        DeskStep::IsThere(path, due) =>
             matches!(fs::exists(rt, path), Ok(is_there) if is_there == *due),
-        Step::IsLink(path) => {
+        DeskStep::IsLink(path) => {
             matches!(fs::symlink_metadata(rt, path), Ok(metadata) if metadata.is_symlink())
         }
-        Step::Remove(path) => fs::remove_file(rt, path).is_ok(),
-        Step::RemoveFolder(path) => fs::remove_dir(rt, path).is_ok(),
-        Step::Keep(_, _) | Step::Failures(_) => false,
+        DeskStep::Remove(path) => fs::remove_file(rt, path).is_ok(),
+        DeskStep::RemoveFolder(path) => fs::remove_dir(rt, path).is_ok(),
+        DeskStep::Keep(_, _) | DeskStep::Failures(_) => false,
     }
 }
 
 /// Whether a step is done at a desk, or holds of it or of files.
-fn is_so<R: Files + AllocGlobal, D: Desk>(rt: &R, desk: &mut D, step: &Step<'_>) -> bool {
+fn is_so<R: Files + AllocGlobal, D: Desk>(rt: &R, desk: &mut D, step: &DeskStep<'_>) -> bool {
     match step {
-        Step::Keep(text, kept) => desk.keep(text) == *kept,
-        Step::Failures(count) => desk.failures() == *count,
+        DeskStep::Keep(name, kept) => keeps(rt.alloc(), desk, name) == Some(*kept),
+        DeskStep::Failures(count) => desk.failures() == *count,
         _ => is_done(rt, step),
     }
 }
 
-fn are_so<R: Files + AllocGlobal, D: Desk>(rt: &R, desk: &mut D, steps: &[Step<'_>]) -> bool {
+fn are_so<R: Files + AllocGlobal, D: Desk>(rt: &R, desk: &mut D, steps: &[DeskStep<'_>]) -> bool {
     for step in steps {
         if !is_so(rt, desk, step) {
             return false;
@@ -67,149 +96,149 @@ fn are_so<R: Files + AllocGlobal, D: Desk>(rt: &R, desk: &mut D, steps: &[Step<'
 /// The path of a desk, what is done before it is made over the file that stands there, and what is done then.
 struct Row<'a> {
     path: &'a str,
-    before: &'a [Step<'a>],
-    steps: &'a [Step<'a>],
+    before: &'a [DeskStep<'a>],
+    steps: &'a [DeskStep<'a>],
 }
 
 const ROWS: &[Row<'static>] = &[
     // A save replaces the file, and so does the next one.
     Row {
         path: "alone.stack",
-        before: &[Step::Write("alone.stack", "old")],
+        before: &[DeskStep::Write("alone.stack", "old")],
         steps: &[
-            Step::Keep(b"new", true),
-            Step::Text("alone.stack", "new"),
-            Step::IsThere("alone.stack.new", false),
-            Step::Keep(b"newer", true),
-            Step::Text("alone.stack", "newer"),
-            Step::IsThere("alone.stack.new", false),
-            Step::Failures(0),
-            Step::Remove("alone.stack"),
+            DeskStep::Keep("new", true),
+            DeskStep::Stack("alone.stack", "new"),
+            DeskStep::IsThere("alone.stack.new", false),
+            DeskStep::Keep("newer", true),
+            DeskStep::Stack("alone.stack", "newer"),
+            DeskStep::IsThere("alone.stack.new", false),
+            DeskStep::Failures(0),
+            DeskStep::Remove("alone.stack"),
         ],
     },
     // Whatever file, link or folder has the name of the new file, it stays as it is.
     Row {
         path: "taken.stack",
         before: &[
-            Step::Write("taken.stack", "old"),
-            Step::Write("taken.stack.new", "of another"),
+            DeskStep::Write("taken.stack", "old"),
+            DeskStep::Write("taken.stack.new", "of another"),
         ],
         steps: &[
-            Step::Keep(b"new", true),
-            Step::Text("taken.stack", "new"),
-            Step::Failures(0),
-            Step::Text("taken.stack.new", "of another"),
-            Step::IsThere("taken.stack.new1", false),
-            Step::Remove("taken.stack"),
-            Step::Remove("taken.stack.new"),
+            DeskStep::Keep("new", true),
+            DeskStep::Stack("taken.stack", "new"),
+            DeskStep::Failures(0),
+            DeskStep::Text("taken.stack.new", "of another"),
+            DeskStep::IsThere("taken.stack.new1", false),
+            DeskStep::Remove("taken.stack"),
+            DeskStep::Remove("taken.stack.new"),
         ],
     },
     Row {
         path: "linked.stack",
         before: &[
-            Step::Write("linked.stack", "old"),
-            Step::Write("another.txt", "other"),
-            Step::Link("another.txt", "linked.stack.new"),
+            DeskStep::Write("linked.stack", "old"),
+            DeskStep::Write("another.txt", "other"),
+            DeskStep::Link("another.txt", "linked.stack.new"),
         ],
         steps: &[
-            Step::Keep(b"new", true),
-            Step::Text("linked.stack", "new"),
-            Step::Failures(0),
-            Step::IsLink("linked.stack.new"),
-            Step::Text("another.txt", "other"),
-            Step::Remove("linked.stack"),
-            Step::Remove("linked.stack.new"),
-            Step::Remove("another.txt"),
+            DeskStep::Keep("new", true),
+            DeskStep::Stack("linked.stack", "new"),
+            DeskStep::Failures(0),
+            DeskStep::IsLink("linked.stack.new"),
+            DeskStep::Text("another.txt", "other"),
+            DeskStep::Remove("linked.stack"),
+            DeskStep::Remove("linked.stack.new"),
+            DeskStep::Remove("another.txt"),
         ],
     },
     Row {
         path: "twice.stack",
         before: &[
-            Step::Write("twice.stack", "old"),
-            Step::Folder("twice.stack.new"),
-            Step::Link("nowhere", "twice.stack.new1"),
+            DeskStep::Write("twice.stack", "old"),
+            DeskStep::Folder("twice.stack.new"),
+            DeskStep::Link("nowhere", "twice.stack.new1"),
         ],
         steps: &[
-            Step::Keep(b"new", true),
-            Step::Text("twice.stack", "new"),
-            Step::Failures(0),
-            Step::IsThere("twice.stack.new", true),
-            Step::IsLink("twice.stack.new1"),
-            Step::IsThere("nowhere", false),
-            Step::IsThere("twice.stack.new2", false),
-            Step::Remove("twice.stack"),
-            Step::RemoveFolder("twice.stack.new"),
-            Step::Remove("twice.stack.new1"),
+            DeskStep::Keep("new", true),
+            DeskStep::Stack("twice.stack", "new"),
+            DeskStep::Failures(0),
+            DeskStep::IsThere("twice.stack.new", true),
+            DeskStep::IsLink("twice.stack.new1"),
+            DeskStep::IsThere("nowhere", false),
+            DeskStep::IsThere("twice.stack.new2", false),
+            DeskStep::Remove("twice.stack"),
+            DeskStep::RemoveFolder("twice.stack.new"),
+            DeskStep::Remove("twice.stack.new1"),
         ],
     },
     // What another program wrote since is left, and counted as a failure each time.
     Row {
         path: "changed.stack",
-        before: &[Step::Write("changed.stack", "old")],
+        before: &[DeskStep::Write("changed.stack", "old")],
         steps: &[
-            Step::Write("changed.stack", "of another"),
-            Step::Keep(b"new", false),
-            Step::Text("changed.stack", "of another"),
-            Step::IsThere("changed.stack.new", false),
-            Step::Keep(b"new", false),
-            Step::Failures(2),
-            Step::Remove("changed.stack"),
+            DeskStep::Write("changed.stack", "of another"),
+            DeskStep::Keep("new", false),
+            DeskStep::Text("changed.stack", "of another"),
+            DeskStep::IsThere("changed.stack.new", false),
+            DeskStep::Keep("new", false),
+            DeskStep::Failures(2),
+            DeskStep::Remove("changed.stack"),
         ],
     },
     // So is what it wrote after a save.
     Row {
         path: "changed_later.stack",
-        before: &[Step::Write("changed_later.stack", "old")],
+        before: &[DeskStep::Write("changed_later.stack", "old")],
         steps: &[
-            Step::Keep(b"new", true),
-            Step::Write("changed_later.stack", "of another"),
-            Step::Keep(b"newer", false),
-            Step::Text("changed_later.stack", "of another"),
-            Step::Failures(1),
-            Step::Remove("changed_later.stack"),
+            DeskStep::Keep("new", true),
+            DeskStep::Write("changed_later.stack", "of another"),
+            DeskStep::Keep("newer", false),
+            DeskStep::Text("changed_later.stack", "of another"),
+            DeskStep::Failures(1),
+            DeskStep::Remove("changed_later.stack"),
         ],
     },
     // And what it put in the place of the file.
     Row {
         path: "folder.stack",
-        before: &[Step::Write("folder.stack", "old")],
+        before: &[DeskStep::Write("folder.stack", "old")],
         steps: &[
-            Step::Remove("folder.stack"),
-            Step::Folder("folder.stack"),
-            Step::Keep(b"new", false),
-            Step::IsThere("folder.stack.new", false),
-            Step::RemoveFolder("folder.stack"),
+            DeskStep::Remove("folder.stack"),
+            DeskStep::Folder("folder.stack"),
+            DeskStep::Keep("new", false),
+            DeskStep::IsThere("folder.stack.new", false),
+            DeskStep::RemoveFolder("folder.stack"),
             // A file that is gone is made again, so a later save works.
-            Step::Keep(b"new", true),
-            Step::Text("folder.stack", "new"),
-            Step::Failures(1),
-            Step::Remove("folder.stack"),
+            DeskStep::Keep("new", true),
+            DeskStep::Stack("folder.stack", "new"),
+            DeskStep::Failures(1),
+            DeskStep::Remove("folder.stack"),
         ],
     },
     // A link stays, and its file is replaced.
     Row {
         path: "link.stack",
         before: &[
-            Step::Write("target.stack", "old"),
-            Step::Link("target.stack", "link.stack"),
+            DeskStep::Write("target.stack", "old"),
+            DeskStep::Link("target.stack", "link.stack"),
         ],
         steps: &[
-            Step::Keep(b"new", true),
-            Step::Text("target.stack", "new"),
-            Step::IsLink("link.stack"),
-            Step::Remove("link.stack"),
-            Step::Remove("target.stack"),
+            DeskStep::Keep("new", true),
+            DeskStep::Stack("target.stack", "new"),
+            DeskStep::IsLink("link.stack"),
+            DeskStep::Remove("link.stack"),
+            DeskStep::Remove("target.stack"),
         ],
     },
     // A path that is a folder is left.
     Row {
         path: "folder_itself.stack",
-        before: &[Step::Folder("folder_itself.stack")],
+        before: &[DeskStep::Folder("folder_itself.stack")],
         steps: &[
-            Step::Keep(b"new", false),
-            Step::Failures(1),
-            Step::IsThere("folder_itself.stack.new", false),
-            Step::RemoveFolder("folder_itself.stack"),
+            DeskStep::Keep("new", false),
+            DeskStep::Failures(1),
+            DeskStep::IsThere("folder_itself.stack.new", false),
+            DeskStep::RemoveFolder("folder_itself.stack"),
         ],
     },
 ];
@@ -258,9 +287,9 @@ fn of_two_desks_over_one_file_the_first_one_saves(rt: HostRuntime) {
     assert!(rt; state.is_plain() && state.is_same(&again));
     let mut first = FileDesk::new(&logger, "object_tests", path, state);
     let mut second = FileDesk::new(&logger, "object_tests", path, again);
-    assert!(rt; first.keep(b"first"));
-    assert!(rt; !second.keep(b"second"));
-    assert!(rt; first.keep(b"first again"));
-    assert!(rt; has_text(&rt, path, "first again"));
+    assert!(rt; keeps(rt.alloc(), &mut first, "first") == Some(true));
+    assert!(rt; keeps(rt.alloc(), &mut second, "second") == Some(false));
+    assert!(rt; keeps(rt.alloc(), &mut first, "first again") == Some(true));
+    assert!(rt; has_stack(&rt, path, "first again"));
     assert!(rt; fs::remove_file(&rt, path).is_ok());
 }

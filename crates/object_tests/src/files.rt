@@ -1,11 +1,12 @@
 //! Examples of the stack file, with ample memory: a text is made, and comes to something where it is read. Most are
-//! rows of `rows`; here are long texts, and those with each byte changed, or cut at each place.
+//! rows of `rows`; here are long texts, those with each byte changed, or cut at each place, and writers that fail.
 
 ghost use Rattle.object_table.specs.WellFormed.{IsWellFormed};
 
 mod changed;
 mod limits;
 mod pieces;
+mod writers;
 
 use crate::stacks::{Fact, hold};
 use object_table::Stack;

@@ -13,7 +13,8 @@ use object_table::{Id, LayerId, Stack};
 use properties::{check, get};
 use std::alloc::Global;
 
-const STACK: &[u8] = b"htstack 2\nnext 20\nname |Demo\nscript 0\nbackgrounds 2\n\
+/// A stack with a part of each kind.
+pub(crate) const STACK: Bytes = b"htstack 2\nnext 20\nname |Demo\nscript 0\nbackgrounds 2\n\
 background 1\nname |X\ncantDelete false\nscript 0\nparts 4\n\
 button 5\nname |\nvisible true\nsharedHilite false\nhilite true\nscript 0\n\
 button 6\nname |Push\nvisible true\nsharedHilite true\nhilite true\nscript 0\n\

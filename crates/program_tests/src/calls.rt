@@ -127,7 +127,7 @@ fn is_reply(reply: &Reply, shown: Option<&[u8]>) -> bool {
         Some(line) => matches!(reply.shown.as_slice(), [only] if only.as_slice() == line),
         None => reply.shown.as_slice().is_empty(),
     };
-    is_shown && reply.ending == Ending::Ok && reply.sent.len() == 0
+    is_shown && matches!(reply.ending, Ending::Ok) && reply.sent.len() == 0
 }
 
 // Each call by a function that promises nothing, so that the walk carries no clauses.

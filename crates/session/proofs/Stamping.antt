@@ -232,8 +232,7 @@ stamped-performed steps line (Some commands.History) n old new reply d (inl p) =
 stamped-performed steps line (Some commands.History) n old new reply d (inr p) = subst (AreStamped n) (sym p.same) d
 stamped-performed steps line (Some commands.Cells) n old new reply d p =
     shows_cells (cells_named old.now (second (words line))) n old new reply d p
-stamped-performed steps line (Some commands.Save) n old new reply d (inl p) = subst (AreStamped n) (sym p.1) d
-stamped-performed steps line (Some commands.Save) n old new reply d (inr p) = subst (AreStamped n) (sym p.same) d
+stamped-performed steps line (Some commands.Save) n old new reply d p = subst (AreStamped n) (sym p.1) d
 stamped-performed steps line (Some (commands.Act reading)) n old new reply d p =
     stamped-done steps reading (behind_name line) n old new reply d p
 stamped-performed steps line (Some commands.Quit) n old new reply d p = subst (AreStamped n) (sym p.1) d

@@ -104,10 +104,6 @@ abbrev pub ShowsCells : {S : Type 0} → Option (List (List ℕ)) → S → Repl
 ShowsCells (Some cells) old reply new = Looks (map spelled cells) old reply new ⊎ Refuses NoMemory old reply new
 ShowsCells None old reply new = Refuses BadCommand old reply new
 
-abbrev pub saving_reply : {E : Type 0} → Result (List ℕ) E → Reply
-saving_reply (Ok text) = ended (endings.Save text)
-saving_reply (Err e) = refused NoMemory
-
 -- the stack's text is to be kept
 abbrev pub Saves : {S : Type 0} → State → S → Reply → S → Type 0
 Saves s old reply new = (reply ≡ ended (endings.Save (spelling second s.stack))) × (new ≡ old)

@@ -82,19 +82,19 @@ Performs steps line number (Some commands.History) old reply new =
     Looks (history_line (length old.past) (length old.future) ∷ []) old reply new ⊎ Refuses NoMemory old reply new
 Performs steps line number (Some Cells) old reply new =
     ShowsCells (cells_named old.now (second (words line))) old reply new
-Performs steps line number (Some Save) old reply new = Saves old.now old reply new ⊎ Refuses NoMemory old reply new
+Performs steps line number (Some Save) old reply new = Saves old.now old reply new
 Performs steps line number (Some (Act reading)) old reply new =
     Commands steps reading (behind_name line) number old reply new
 Performs steps line number (Some Quit) old reply new = (reply ≡ ended endings.Quit) × (new ≡ old)
 
--- What a dot line may be refused for memory: no move of the cursor, and neither `.quit` nor one that says nothing.
+-- What a dot line may be refused for memory: no move of the cursor, and neither `.save`, `.quit` nor one that says
+-- nothing.
 abbrev pub MayRunOut : Option Command → Type 0
 MayRunOut (Some Show) = Unit {0}
 MayRunOut (Some Globals) = Unit {0}
 MayRunOut (Some Where) = Unit {0}
 MayRunOut (Some Cells) = Unit {0}
 MayRunOut (Some commands.History) = Unit {0}
-MayRunOut (Some Save) = Unit {0}
 MayRunOut (Some (Act reading)) = Unit {0}
 MayRunOut _ = ⊥
 

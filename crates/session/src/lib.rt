@@ -7,7 +7,7 @@
 //! - Each external has a log (`law_of_logs`), and each turn in it is the one that the table of the externals' type has,
 //!   where it has one (`law_of_table`).
 //! - Each state of its list is whole at any time (`law_of_states`). What is saved spells the stack, so it is read back
-//!   as that stack (`saved`).
+//!   as that stack (`saved`), and no line that saves is refused for memory.
 //! - The values of its limits are proved, since clauses name the constants.
 #![tactic(auto)]
 
@@ -25,5 +25,5 @@ pub use command::{Reading, acted_in};
 pub use fault::OpenError;
 pub use limits::{LAST_NUMBER, LONGEST_LINE, MOST_STEPS};
 pub use meaning::{Line, Sent, SentMessage, Shown};
-pub use reply::{Bytes, Ending, Refusal, Reply};
+pub use reply::{Bytes, Ending, Refusal, Reply, StackText};
 pub use session::Session;

@@ -2,11 +2,15 @@
 
 ghost use Rattle.std.specs.Prelude.{◌≡◌};
 ghost use Rattle.session.specs.Replies.{ended as ended_by, refused as refused_by, number_of_refusal};
+ghost use Rattle.stack_text.specs.declared.sheets.Version.TheVariants.{Second as second};
+ghost use Rattle.stack_text.specs.Listing.{spelling};
 
 use ht_values::Fault;
 use meaning::{Sent, Shown};
+use object_table::Stack;
 use std::alloc::Global;
 use std::marker::Model;
+use std::snapshot::Snapshot;
 use thiserror::Error;
 
 /// The bytes of a stack text.
@@ -38,24 +42,31 @@ impl Bytes {
     }
 }
 
-impl PartialEq for Bytes {
-    ghost use Rattle.std.specs.Prelude.{nat_eq};
-    ghost use Rattle.std.specs.Cmp.{partial_equiv_from_equiv};
-    ghost use Rattle.std.specs.Cmp.Lexicographic.{pointwise, nat_list_eq_equiv};
-
-    ghost eq = { pointwise nat_eq };
-
-    ghost laws = { partial_equiv_from_equiv nat_list_eq_equiv };
-
-    fn eq(&self, other: &Self) -> bool {
-        self.as_slice() == other.as_slice()
-    }
+/// The text of a stack, which isn't made: only contracts see it. Whoever keeps it writes it from that stack.
+#[derive(Drop)]
+pub struct StackText {
+    stack: Snapshot<Stack>,
 }
 
-impl Eq for Bytes {
-    ghost use Rattle.std.specs.Cmp.Lexicographic.{nat_list_eq_equiv};
+impl Model for StackText {
+    ghost use Rattle.std.specs.Prelude.{List, ℕ};
+    ghost use Rattle.stack_text.specs.declared.sheets.Version.TheVariants.{Second as second};
+    ghost use Rattle.stack_text.specs.Listing.{spelling};
 
-    ghost laws = { nat_list_eq_equiv };
+    ghost Value = { List ℕ };
+
+    ghost view = { λ t. spelling second t.stack.value.content };
+}
+
+impl StackText {
+    /// The text of this stack. It takes no memory, and little time.
+    pub(crate) fn of(stack: &Stack) -> StackText
+        ensures { result ≡ spelling second stack.now.content }
+    {
+        StackText {
+            stack: Snapshot::of(stack),
+        }
+    }
 }
 
 /// Why a line was refused. The session stays as it was, but for the number of its lines. The numbers
@@ -103,15 +114,15 @@ impl Refusal {
 }
 
 /// How a line ended.
-#[derive(PartialEq, Eq, Drop)]
+#[derive(Drop)]
 pub enum Ending {
     Ok,
     /// The command is done as far as it came.
     Fault(Fault),
     Refused(Refusal),
-    /// The text of the stack is to be kept. A run answers as `Ok` where its desk keeps it, and refuses by `SaveFailed`
-    /// where it doesn't.
-    Save(Bytes),
+    /// The text of the stack at the cursor is to be kept. A run answers as `Ok` where its desk keeps it, and refuses by
+    /// `SaveFailed` where it doesn't.
+    Save(StackText),
     /// As `Ok`, and no further line is wanted.
     Quit,
 }

@@ -91,7 +91,7 @@ fn kept_out<E: External>(alloc: Global, world: &mut World<E>) -> Reply
 
 /// Does what a user does, with so many steps, as the command of the line of this number. Where it is out of memory
 /// nothing is left of what it did, but for the logs of externals, and so where a text is typed into a locked field.
-fn perform<E: External>(
+fn run_action<E: External>(
     alloc: Global,
     world: &mut World<E>,
     steps: u32,
@@ -137,7 +137,7 @@ pub fn obey<E: External>(
     ensures closed { world.new.history.start ≡ None }
 {
     let action = action_in(alloc, reading, text)?;
-    match perform(alloc, world, steps, number, &action) {
+    match run_action(alloc, world, steps, number, &action) {
         Ok(reply) => Ok(reply),
         Err(_) => Err(Refusal::NoMemory),
     }

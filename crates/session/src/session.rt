@@ -15,7 +15,7 @@ ghost use Rattle.session.specs.TakesLine.{TakesLine, Performs, LineMayRunOut};
 ghost use Rattle.session.specs.Commands.{command_in as command_by};
 ghost use Rattle.session.specs.declared.limits.TheConstants.{LONGEST_LINE};
 ghost use Rattle.session.specs.Replies.{ShowsCells, cells_named};
-ghost use Rattle.session.specs.Replies.{saving_reply, shown_reply, moved_reply, typed_reply};
+ghost use Rattle.session.specs.Replies.{shown_reply, moved_reply, typed_reply};
 
 use crate::command::{Command, Reading, behind_name, command_in, is_dot_line, second_word};
 use crate::fault::OpenError;
@@ -24,7 +24,7 @@ use crate::moves::{go_back, go_back_to, go_forth};
 use crate::queries::{
     card_shown, cells_shown, external_named, globals_shown, history_shown, stack_shown,
 };
-use crate::reply::{Bytes, Ending, Refusal, Reply, ended, refused};
+use crate::reply::{Bytes, Ending, Refusal, Reply, StackText, ended, refused};
 use crate::running::obey;
 use change_journal::{MOST_DEPTH, PlugError, World};
 use externals::{External, HasTable};
@@ -112,24 +112,6 @@ fn cells<E: External>(alloc: Global, world: &World<E>, name: &[u8]) -> Reply
     }
 }
 
-/// The stack's text, which is to be kept.
-fn saving(alloc: Global, outcome: Result<Bytes, AllocError>) -> Reply
-    ensures { result ≡ saving_reply outcome }
-{
-    match outcome {
-        Ok(bytes) => ended(alloc, Ending::Save(bytes)),
-        Err(_) => refused(alloc, Refusal::NoMemory),
-    }
-}
-
-/// The spelling of the stack that is present.
-fn stack_text<E: External>(alloc: Global, world: &World<E>) -> Result<Bytes, AllocError>
-    ensures text { IfOk result (λ bytes. bytes ≡ spelling second world.now.history.now.stack) }
-    ensures spells { IfOk result (λ bytes. Spells bytes world.now.history.now.stack) }
-{
-    Ok(Bytes::new(write(alloc, world.stack())?))
-}
-
 /// Does what a dot line says, as the line of this number, with so many steps where it is a command of a user.
 fn obey_dot_line<E: External>(
     alloc: Global,
@@ -157,7 +139,7 @@ fn obey_dot_line<E: External>(
         Command::Where => looked(alloc, card_shown(alloc, world)),
         Command::Cells => cells(alloc, world, second_word(line)),
         Command::History => looked(alloc, history_shown(alloc, world)),
-        Command::Save => saving(alloc, stack_text(alloc, world)),
+        Command::Save => ended(alloc, Ending::Save(StackText::of(world.stack()))),
         Command::Act(reading) => {
             let text = behind_name(line);
             typed(alloc, obey(alloc, world, steps, number, reading, text))
@@ -214,7 +196,8 @@ impl<E: External> Session<E> {
 
     /// The stack at the cursor.
     pub fn stack(&self) -> &Stack
-        ensures { result.now.content ≡ self.now.history.now.stack }
+        ensures content { result.now.content ≡ self.now.history.now.stack }
+        ensures well_formed { IsWellFormed result.now.content }
     {
         self.world.stack()
     }
@@ -231,7 +214,7 @@ impl<E: External> Session<E> {
         ensures text { IfOk result (λ bytes. bytes ≡ spelling second self.now.history.now.stack) }
         ensures spells { IfOk result (λ bytes. Spells bytes self.now.history.now.stack) }
     {
-        stack_text(self.alloc, &self.world)
+        Ok(Bytes::new(write(self.alloc, self.world.stack())?))
     }
 
     /// What holds of every state of the list, at any time: the stack is well formed, the globals have folded names and
@@ -301,7 +284,8 @@ impl<E: External> Session<E> {
     /// keeps what was done before it. The refusals: 5 for a line over 30,000 bytes, then 3 for a dot line that says
     /// nothing and for another that isn't in the grammar, 1 and 2 where there is no such place, 6 where a text is typed
     /// into a locked field, and 4 where a growth of memory was refused; after 4 and 6 nothing is left of what the line
-    /// did, but for turns that externals took.
+    /// did, but for turns that externals took. A line that saves takes no memory: the text that is to be kept is that
+    /// of the stack at the cursor, and it isn't made here.
     pub fn line(&mut self, line: &[u8]) -> Reply
         ensures step { TakesLine line.now self.old result self.new }
         ensures memory { result.ending ≡ Ending.Refused Refusal.NoMemory → LineMayRunOut line.now }

@@ -1,7 +1,8 @@
 //! Stack texts, read and written.
 //!
 //! - `read` gives the stack that the bytes spell, whole, in version 1 or 2, and the first fault where they spell none.
-//! - `write` gives the one text of version 2.
+//! - `write` gives the one text of version 2, and `write_to` writes it to a writer.
+//! - Only tested: that `write_to` does so piece by piece.
 #![tactic(auto)]
 
 mod backgrounds;
@@ -11,6 +12,7 @@ mod document;
 mod forms;
 mod layers;
 mod lines;
+mod objects;
 mod parts;
 mod placed;
 mod put;
@@ -19,4 +21,4 @@ mod writing;
 
 pub use building::read;
 pub use stack_text::{FileError, ReadError, number_at, spell_into, unspell};
-pub use writing::write;
+pub use writing::{write, write_to};

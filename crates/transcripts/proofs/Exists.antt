@@ -238,9 +238,9 @@ module _ (way : Way) (texts : TextsAreReadExactly) where
   dot_line line (Some History) state old stands fits such = or_memory (looks _ old stands)
   dot_line line (Some Cells) state old stands fits such =
       shows_cells (cells_named state (second_word (words line))) old stands
-  dot_line line (Some Save) state old stands fits such = or_memory
-      (step (ended (endings.Save (spelling second state.stack))) old (refl, refl)
-      (record { memory = λ e. cc; kept = λ e. cc }) (still old stands))
+  dot_line line (Some Save) state old stands fits such = step
+      (ended (endings.Save (spelling second state.stack))) old (refl, refl)
+      (record { memory = λ e. cc; kept = λ e. cc }) (still old stands)
   dot_line line (Some (Act reading)) state old stands fits such =
       command reading (behind_name line) state old stands fits (λ does. (such reading does).1)
   dot_line line (Some Quit) state old stands fits such = step (ended endings.Quit) old (refl, refl)

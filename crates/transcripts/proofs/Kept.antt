@@ -128,8 +128,7 @@ module _ (Leads : Timeline → Timeline → Type 0) (IsSuch : Action → Type 0)
   dot_line_leads line (Some HistoryCommand) state old reply new such here room (inr a) = same_leads a.same
   dot_line_leads line (Some Cells) state old reply new such here room a =
       cells_lead old (cells_named state (second_word (words line))) reply new a
-  dot_line_leads line (Some Save) state old reply new such here room (inl a) = same_leads a.1
-  dot_line_leads line (Some Save) state old reply new such here room (inr a) = same_leads a.same
+  dot_line_leads line (Some Save) state old reply new such here room a = same_leads a.1
   dot_line_leads line (Some (Act reading)) state old reply new such here room a =
       command_leads reading (behind_name line) state old reply new (λ does. (such reading does).1) here room a
   dot_line_leads line (Some Quit) state old reply new such here room a = same_leads a.1

@@ -301,8 +301,7 @@ module _ (laws : Laws) (table : TurnTable) (turns : ℕ → Log) (kinds : List �
   one_dot_line line (Some HistoryCommand) state old alike a b room room2 = one_look (roomy a room) (roomy b room2)
   one_dot_line line (Some Cells) state old alike a b room room2 = one_show_of_cells old
       (cells_named state (second_word (words line))) a b room room2
-  one_dot_line line (Some Save) state old alike a b room room2 = let p = roomy a room in let q = roomy b room2 in
-      (p.0 ∙ sym q.0, p.1 ∙ sym q.1)
+  one_dot_line line (Some Save) state old alike a b room room2 = (a.0 ∙ sym b.0, a.1 ∙ sym b.1)
   one_dot_line line (Some (Act reading)) state old alike a b room room2 = one_command reading
       (behind_name line) state old alike a b room room2
   one_dot_line line (Some Quit) state old alike a b room room2 = (a.0 ∙ sym b.0, a.1 ∙ sym b.1)

@@ -6,6 +6,7 @@ use Rattle.std.proofs.lemmas.Bool.{ltb-false}
 use Rattle.std.proofs.lemmas.List.Elements.{All-take, All-from_recursion, recursion_from_All}
 use Rattle.ht_values.specs.Text.{IsText}
 use Rattle.ht_grammar.specs.Statements as stm
+use Rattle.stack_text.proofs.Elements.{each_parts}
 use Rattle.meaning.specs.Actions.{Action}
 use Rattle.whole_states.specs.Texts.{ActionTexts, TypedTexts, TypedLinesHaveTexts, ClickedPartsHaveTexts}
 use Rattle.whole_states.specs.Texts.{TypedTextsHaveTexts}
@@ -57,20 +58,15 @@ says_texts readings line bytes short reading does =
 bytes_of_each : (bs : List ℕ) → AllByRecursion (λ b. b < 256) bs → AreBytes bs
 bytes_of_each bs each = All-from_recursion (λ b. b < 256) bs each
 
-parts_each : {X : Type 0} (P : X → Type 0) (xs ys : List X) → AllByRecursion P (xs ++ ys) →
-    AllByRecursion P xs × AllByRecursion P ys
-parts_each P [] ys all = (tt, all)
-parts_each P (x ∷ xs) ys all = let rest = parts_each P xs ys all.1 in ((all.0, rest.0), rest.1)
-
 -- each of the ended lines, and what is left behind them
 lines_each : (P : ℕ → Type 0) (ls : List (List ℕ)) (rest : List ℕ) → AllByRecursion P (ended_lines ls ++ rest) →
     AllByRecursion (AllByRecursion P) ls × AllByRecursion P rest
 lines_each P [] rest all = (tt, all)
 lines_each P (l ∷ ls) rest all =
     let first =
-    parts_each P (l ++ 10 ∷ []) (ended_lines ls ++ rest)
+    each_parts P (l ++ 10 ∷ []) (ended_lines ls ++ rest)
     (subst (AllByRecursion P) (append_assoc (l ++ 10 ∷ []) (ended_lines ls) rest) all) in
-    let line = parts_each P l (10 ∷ []) first.0 in
+    let line = each_parts P l (10 ∷ []) first.0 in
     let more = lines_each P ls rest first.1 in ((line.0, more.0), more.1)
 
 returned_bytes : (line : List ℕ) → AreBytes line → AreBytes (without_return line)

@@ -10,11 +10,13 @@ use Rattle.externals.specs.Turns.{TurnTable, no_table}
 use Rattle.journal_entries.specs.State.{seen_at}
 use Rattle.change_journal.specs.History.{History}
 use Rattle.change_journal.specs.Logs.{log_at, turns_since}
+use Rattle.preservation.specs.Kinds.{sorts_of}
 use Rattle.preservation.specs.Laws.{IsPrefix}
-use Rattle.definitional_interpreter.specs.Laws.{AreTold, DeterministicKindsHaveNoFreeTurns, WithNoTableAllTurnsAreFree}
-use Rattle.definitional_interpreter.specs.Turns.{sorts_of, is_nondeterministic, nondeterministic, logs_since}
-use Rattle.definitional_interpreter.proofs.Comes.{prefix_same}
-use Rattle.definitional_interpreter.proofs.Sights.{sort_at, all_of_prefix, at_since}
+use Rattle.preservation.proofs.Prefixes.{prefix_same, all_of_prefix}
+use Rattle.definitional_interpreter.specs.Laws.{AreTold, DeterministicKindsHaveNoTurnsToTell}
+use Rattle.definitional_interpreter.specs.Laws.{WithNoTableAllTurnsHaveToBeTold}
+use Rattle.definitional_interpreter.specs.Turns.{is_nondeterministic, nondeterministic, logs_since}
+use Rattle.definitional_interpreter.proofs.Sights.{sort_at, at_since}
 use Rattle.transcripts.specs.Laws.{TablesTellTurns, LogsTellTurns, KitIsDeterministic}
 use Rattle.transcripts.specs.Replies.{IsToldBy, AreToldBy}
 use Rattle.transcripts.proofs.Grown.{Grows}
@@ -102,14 +104,14 @@ logs_by_since old a b first second same =
 
 -- ---- what tells turns
 
-pub tables_tell : DeterministicKindsHaveNoFreeTurns → TablesTellTurns
+pub tables_tell : DeterministicKindsHaveNoTurnsToTell → TablesTellTurns
 tables_tell none table kinds logs fixed follow i there = record {
   follows = follow i there;
   beside = prefix_same (nondeterministic table (slice_index_or kinds i 0) (log_at logs i)) []
       (sym (none table (slice_index_or kinds i 0) (log_at logs i) (fixed i there)));
 }
 
-pub logs_tell : WithNoTableAllTurnsAreFree → LogsTellTurns
+pub logs_tell : WithNoTableAllTurnsHaveToBeTold → LogsTellTurns
 logs_tell all kinds logs i there = record {
   follows = λ k d within. tt;
   beside = prefix_same (nondeterministic no_table (slice_index_or kinds i 0) (log_at logs i)) (log_at logs i)

@@ -9,7 +9,7 @@ const FIELD: &[u8] =
     b"\nname |\nvisible true\nlockText false\nsharedText false\nscript 0\nshared 0\n";
 
 /// A stack of background 1 with 9,998 fields, and of card 2.
-const TEN_THOUSAND: &[Piece] = &[
+pub(super) const TEN_THOUSAND: &[Piece] = &[
     Piece::Text(b"htstack 2\nnext 10001\nname |\nscript 0\nbackgrounds 1\n"),
     Piece::Text(b"background 1\nname |\ncantDelete false\nscript 0\nparts 9998\n"),
     Piece::Numbers(b"field ", 3, 9_998, FIELD),
@@ -31,7 +31,7 @@ const ONE_MORE: &[Piece] = &[
 ];
 
 /// A stack of 5,000 backgrounds, with a card each.
-const BACKGROUNDS: &[Piece] = &[
+pub(super) const BACKGROUNDS: &[Piece] = &[
     Piece::Text(b"htstack 2\nnext 10001\nname |\nscript 0\nbackgrounds 5000\n"),
     Piece::Numbers(b"background ", 1, 5_000, LAYER),
     Piece::Text(b"cards 5000\n"),
@@ -46,7 +46,7 @@ const END: &[u8] = b"backgrounds 1\nbackground 1\nname |\ncantDelete false\nscri
 cards 1\ncard 2 1\nname |\ncantDelete false\nscript 0\nparts 0\nend\n";
 
 /// The empty stack with a script of 30,000 returns.
-const LONG_SCRIPT: &[Piece] = &[
+pub(super) const LONG_SCRIPT: &[Piece] = &[
     Piece::Text(START),
     Piece::Text(b"script 30001\n"),
     Piece::Repeated(30_001, b"|\n"),

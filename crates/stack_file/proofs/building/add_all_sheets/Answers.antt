@@ -1,7 +1,7 @@
 use Rattle.std.proofs.Common.{◌∙◌, ap, map, true, false}
 use Rattle.stack_file.specs.Building.{with_sheets, with_orders}
 use Rattle.stack_file.specs.Views.{sheet_seen}
-use Rattle.stack_file.proofs.Adding.{on_ok}
+use Rattle.std.proofs.lemmas.Result.{on_ok_weaker}
 use Rattle.stack_file.proofs.building.add_all_sheets.Goals as goal
 
 pub returns : goal.returns
@@ -12,6 +12,6 @@ returns c =
     let orders = c.in_ok-open_cards.ensures ∙ c.in_ok-set_orders.ensures
     ∙ (λ i. with_orders (map sheet_seen (c.as_slice.ensures.value i))
     (map sheet_seen (c.as_slice-2.ensures.value i)) s) in
-    on_ok c.add_sheets-2.result (λ last. last
+    on_ok_weaker c.add_sheets-2.result (λ last. last
     ∙ ap (with_sheets true (map sheet_seen bs))
     (c.in_ok-add_sheets.ensures ∙ ap (with_sheets false (map sheet_seen cs)) orders)) c.add_sheets-2.ensures

@@ -1,5 +1,5 @@
 use Rattle.std.proofs.Common.{arith, ◌∙◌, sym}
-use Rattle.stack_file.proofs.Adding.{on_ok}
+use Rattle.std.proofs.lemmas.Result.{on_ok_weaker}
 use Rattle.stack_file.proofs.Pieced.{first-piece, piece-step, last_piece, empty_piece}
 use Rattle.stack_file.proofs.put.put_each_piece.Goals as goal
 use Rattle.stack_file.proofs.put.put_each_piece.Goals.{else-loop-test, then-loop-test+in_default}
@@ -21,7 +21,7 @@ returns c =
     let out = c.loop.out.items in
     let new = c.put_piece-2.new.out.items in
     let rest = c.loop.rest.now in
-    on_ok c.put_piece-2.result (λ written. elim c.loop-test.branch [
+    on_ok_weaker c.put_piece-2.result (λ written. elim c.loop-test.branch [
       | else-loop-test w ↦ empty_piece out new rest (omega (arith, c.loop.invariant.short)) written
           ∙ c.loop.invariant.left
       | then-loop-test+in_default w ↦ last_piece out new rest (sym w.in_default.ensures)

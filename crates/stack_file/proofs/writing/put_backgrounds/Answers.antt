@@ -4,18 +4,20 @@ use Rattle.std.proofs.lemmas.Grind.{common_steps}
 use Rattle.stack_text.specs.Listing.{background_sheet}
 use Rattle.stack_text.specs.Spelling.{background_lines}
 use Rattle.stack_text.specs.declared.sheets.Version.TheVariants.{Second as second}
-use Rattle.stack_file.proofs.Adding.{all_done, next_added}
+use Rattle.stack_file.proofs.Passing.{nothing_passes, next_passed, all_passed}
 use Rattle.stack_file.proofs.writing.put_backgrounds.Goals as goal
 
+pub loop-id-init : goal.loop-id-init
+loop-id-init g c = nothing_passes _ _
+
 pub loop-id-preserved : goal.loop-id-preserved
-loop-id-preserved c =
+loop-id-preserved g c =
     let within : c.loop-id.id-index < length c.args.ids.now = grind (arith, common_steps, nat_tests) in
-    next_added (background_lines second) (background_sheet c.args.stack.now.content) c.loop-id.out.items
-    c.put_background.new.out.items _ c.args.ids.now c.loop-id.id-index within
-    c.in_ok-put_background.ensures c.loop-id.invariant
+    next_passed (background_lines second) (background_sheet c.args.stack.now.content) c.args.ids.now c.loop-id.id-index within
+    c.loop-id.invariant c.in_ok-put_background.ensures
 
 pub returns : goal.returns
-returns c =
+returns g c =
     let past : length c.args.ids.now ≤ c.loop-id.id-index = grind (arith, common_steps, nat_tests) in
-    all_done (background_lines second) (background_sheet c.args.stack.now.content) c.loop-id.out.items _
-    c.args.ids.now c.loop-id.id-index past c.loop-id.invariant
+    all_passed (background_lines second) (background_sheet c.args.stack.now.content) c.args.ids.now c.loop-id.id-index past
+    c.loop-id.invariant

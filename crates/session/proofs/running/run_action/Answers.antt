@@ -4,7 +4,7 @@ use Rattle.meaning.specs.declared.end.Stop.TheVariants as stop
 use Rattle.session.specs.declared.reply.Ending.TheVariants as ending
 use Rattle.session.specs.Meaning.{reply_of}
 use Rattle.session.proofs.Adding.{begun_open, still_open, finishes, keeps_out, given_back, ends_well}
-use Rattle.session.proofs.running.perform.Goals as goal
+use Rattle.session.proofs.running.run_action.Goals as goal
 
 pub act-requires-clause-open : goal.act-requires-clause-open
 act-requires-clause-open g c = rw c.in_ok-begin.ensures.ok (begun_open c.args.world.now.history c.args.number)
