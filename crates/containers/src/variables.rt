@@ -114,16 +114,6 @@ impl Model for Variables {
 }
 
 impl Variables {
-    /// Those of a handler that begins: none yet. It takes no memory.
-    pub fn of_handler(alloc: Global) -> Variables
-        ensures { result ≡ record { all_global = false; locals = [] } }
-    {
-        Variables {
-            all_global: false,
-            locals: Locals::new(alloc),
-        }
-    }
-
     /// Those of a handler that begins, whose parameters have the arguments: a missing one is empty, a surplus one is
     /// dropped, and of one name the last counts. It takes no memory where there are no parameters.
     pub fn of_parameters(
@@ -195,7 +185,7 @@ impl Variables {
 
     /// Gives a name a value of its own, or none: then it means a global from here on. Where memory was refused nothing
     /// changes.
-    pub fn set(
+    pub(crate) fn set(
         &mut self,
         alloc: Global,
         name: &Name,

@@ -1,6 +1,5 @@
 -- Blocks and repeats, by how what is in them ends.
 use Rattle.std.proofs.Common.{◌≡◌, ℕ, List, Bool, Option, true, false, Result, Ok, Err}
-use Rattle.std.specs.Prelude.{IfOk}
 use Rattle.ht_values.specs.Text.{numeral}
 use Rattle.ht_grammar.specs.Statements as stm
 use Rattle.ht_grammar.specs.Trees as tree
@@ -13,11 +12,6 @@ use Rattle.meaning.specs.Places.{Assigns}
 use Rattle.meaning.specs.Repeats.{CounterState, goes_on, is_over, stepped}
 use Rattle.meaning.specs.State.{RunState, Step}
 use Rattle.primitives.specs.Blocks.{EndsBlock, EndsRepeat}
-
--- what holds of every end that isn't a stop holds of the end of a block
-pub of_ended : {P : How → Type 0} {o : Result How Stop} → EndsBlock o true → ((h : How) → P h) → IfOk o P
-of_ended (EndsBlock.leaves {h = h} other) all = all h
-of_ended EndsBlock.stops all = tt
 
 module _ {w w1 : History} {r r1 r2 : RunState} {f f1 : Frame} {d : ℕ} {s : stm.Stmt} {ss ss1 : stm.Stmts} where
   pub block_ends : {o : Result How Stop} → ss ≡ stm.also s ss1 → Step r (Ok tt) r1 → Form w r1 f d s o w1 r2 f1

@@ -72,6 +72,7 @@ pub(crate) fn call_back<E: External>(
         Ask::SendCardMessage(note, text) => {
             let lines = lines(run, TextUse::CallBack, &text)?;
             let mut frame = Frame::typed(run.alloc(), world.current());
+            // Called for its clause alone: a tree is at most 100 levels deep.
             let _depth = lines.depth();
             match run_block(world, run, &mut frame, nested, &lines.items) {
                 Ok(_) => Ok(Input::Answer(note, Text::new(run.alloc()))),
@@ -81,6 +82,7 @@ pub(crate) fn call_back<E: External>(
         Ask::EvalExpr(note, text) => {
             let e = expression(run, TextUse::CallBack, &text)?;
             let frame = Frame::typed(run.alloc(), world.current());
+            // Called for its clause alone: a tree is at most 100 levels deep.
             let _depth = e.depth();
             match eval_text(world, run, &frame, nested, &e) {
                 Ok(value) => Ok(Input::Answer(note, value)),

@@ -188,7 +188,8 @@ pub(crate) fn property_of<E: External>(
     property(world, run, referent, name)
 }
 
-/// Two operands from left to right, and what the operator gives.
+/// Two operands from left to right, and what the operator gives. The right one is dropped before the result is put
+/// together, so that the two can share a place in the frame.
 #[cycle(run)]
 #[tactic(auto, using(meaning::proofs::Rules::val_binary_rules))]
 #[inline(never)]
@@ -209,9 +210,12 @@ pub(crate) fn binary<E: External>(
         world.new.history run.new }
     ensures keeps { Keeps world.old.history run.old world.new.history run.new }
 {
-    let x = eval(world, run, frame, nested, left)?;
-    let y = eval(world, run, frame, nested, right)?;
-    apply(run, op, &x, &y)
+    let mut value = eval(world, run, frame, nested, left)?;
+    {
+        let operand = eval(world, run, frame, nested, right)?;
+        apply(run, op, &mut value, &operand)?;
+    }
+    Ok(value)
 }
 
 /// An operand, and what the operator gives.
@@ -233,8 +237,9 @@ pub(crate) fn unary<E: External>(
         world.new.history run.new }
     ensures keeps { Keeps world.old.history run.old world.new.history run.new }
 {
-    let x = eval(world, run, frame, nested, operand)?;
-    apply_one(run, op, &x)
+    let mut value = eval(world, run, frame, nested, operand)?;
+    apply_one(run, op, &mut value)?;
+    Ok(value)
 }
 
 /// An operand whose text is read next: what a name or a field reads isn't copied.
@@ -750,6 +755,7 @@ pub(crate) fn text_value<E: External>(
         return Err(Stop::Fault(Fault::TooDeep));
     }
     let e = expression(run, TextUse::Value, text)?;
+    // Called for its clause alone: a tree is at most 100 levels deep.
     let _depth = e.depth();
     match eval(world, run, frame, nested + 1, &e) {
         Ok(value) => Ok(value),

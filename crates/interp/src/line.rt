@@ -38,6 +38,7 @@ pub fn run_line<E: External>(
     ensures base { base world.new.history ≡ base world.old.history }
 {
     let mut frame = Frame::typed(run.alloc(), world.current());
+    // Called for its clause alone: a tree is at most 100 levels deep.
     let _depth = lines.depth();
     match run_block(world, run, &mut frame, 0, &lines.items) {
         Ok(_) => Ok(Ended::Done),

@@ -107,6 +107,7 @@ pub(crate) fn along<E: External>(
                     return Err(Stop::Fault(Fault::TooDeep));
                 }
                 let mut inner = handler_frame(run, &found, object, values)?;
+                // Called for its clause alone: a tree is at most 100 levels deep.
                 let _depth = found.handler().lines.depth();
                 let ended = run_block(
                     world,

@@ -421,6 +421,7 @@ pub(crate) fn run_do<E: External>(
         return Err(Stop::Fault(Fault::TooDeep));
     }
     let lines = lines(run, TextUse::Do, &text)?;
+    // Called for its clause alone: a tree is at most 100 levels deep.
     let _depth = lines.depth();
     match run_block(world, run, frame, nested + 1, &lines.items) {
         Ok(how) => Ok(how),
@@ -451,6 +452,7 @@ pub(crate) fn run_send<E: External>(
     let text = eval_text(world, run, frame, nested, text)?;
     let referent = meet(world, run, frame, nested, reference)?;
     let message = message(run, &text)?;
+    // Called for its clause alone: a tree is at most 100 levels deep.
     let _depth = message.depth();
     let _ = calls(
         world,

@@ -55,8 +55,9 @@ impl Arguments {
         }
     }
 
-    /// Adds another at their end. The first takes no memory.
-    #[inline]
+    /// Adds another at their end. The first takes no memory. It is out of line: else the frame of who evaluates an
+    /// argument has a place more for its value.
+    #[inline(never)]
     pub fn push(&mut self, value: Value) -> Result<(), AllocError>
         ensures { OnOk result (self.new ≡ self.old ++ value ∷ []) }
     {
@@ -70,7 +71,6 @@ impl Arguments {
     }
 
     /// Adds another at their end, where there is one at least.
-    #[inline(never)]
     fn push_behind(&mut self, value: Value) -> Result<(), AllocError>
         ensures { OnOk result (self.new ≡ self.old ++ value ∷ []) }
     {

@@ -131,9 +131,10 @@ fn binary_of_atoms<E: External>(
     ensures { Val world.now.history run.now frame.now nested (tree.binary op left.now right.now) result
         world.now.history run.now }
 {
-    let x = atom(world, run, frame, left)?;
-    let y = atom(world, run, frame, right)?;
-    apply(run, op, &x, &y)
+    let mut value = atom(world, run, frame, left)?;
+    let operand = atom(world, run, frame, right)?;
+    apply(run, op, &mut value, &operand)?;
+    Ok(value)
 }
 
 /// Arithmetic on a variable by an operand that is kept as a number; `None` where the operand isn't kept so, or the

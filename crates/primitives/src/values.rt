@@ -45,26 +45,35 @@ fn of_numbers(op: Op, left: &Value, right: &Value) -> Option<Value>
     }
 }
 
-/// What an operator gives of two operands, or its first fault. Two numbers are computed with as such.
+/// Writes what an operator gives of two operands over the left one, so that a frame has no place for a third value; or
+/// the first fault. Two numbers are computed with as such.
 #[tactic(auto, using(meaning::proofs::Rules::yields_rules))]
 #[inline(never)]
-pub fn apply(run: &Budget, op: Op, left: &Value, right: &Value) -> Result<Value, Stop>
-    ensures { Yields (binary_of op left.now right.now) result }
+pub fn apply(run: &Budget, op: Op, left: &mut Value, right: &Value) -> Result<(), Stop>
+    ensures ok { OnOk result (Yields (binary_of op left.old right.now) (Ok left.new)) }
+    ensures err { IfErr result (λ stop. Yields (binary_of op left.old right.now) (Err stop)) }
 {
     match of_numbers(op, left, right) {
-        Some(value) => Ok(value),
-        None => applied(run, op, left, right),
+        Some(value) => {
+            *left = value;
+            Ok(())
+        }
+        None => apply_to_any(run, op, left, right),
     }
 }
 
-/// What an operator gives of two operands, whatever they are.
+/// Writes what an operator gives of two operands, whatever they are, over the left one; or the first fault.
 #[tactic(auto, using(meaning::proofs::Rules::yields_rules))]
 #[inline(never)]
-fn applied(run: &Budget, op: Op, left: &Value, right: &Value) -> Result<Value, Stop>
-    ensures { Yields (binary_of op left.now right.now) result }
+fn apply_to_any(run: &Budget, op: Op, left: &mut Value, right: &Value) -> Result<(), Stop>
+    ensures ok { OnOk result (Yields (binary_of op left.old right.now) (Ok left.new)) }
+    ensures err { IfErr result (λ stop. Yields (binary_of op left.old right.now) (Err stop)) }
 {
     match binary(run.alloc(), op, left, right) {
-        Ok(value) => Ok(value),
+        Ok(value) => {
+            *left = value;
+            Ok(())
+        }
         Err(Failure::Fault(fault)) => {
             run.trace().mean(left);
             run.trace().mean(right);
@@ -74,14 +83,18 @@ fn applied(run: &Budget, op: Op, left: &Value, right: &Value) -> Result<Value, S
     }
 }
 
-/// What an operator gives of one operand, or its fault. It takes no memory.
+/// Writes what an operator gives of one operand over it, or its fault. It takes no memory.
 #[tactic(auto, using(meaning::proofs::Rules::yields_rules))]
 #[inline(never)]
-pub fn apply_one(run: &Budget, op: UnOp, operand: &Value) -> Result<Value, Stop>
-    ensures { Yields (unary_of op operand.now) result }
+pub fn apply_one(run: &Budget, op: UnOp, operand: &mut Value) -> Result<(), Stop>
+    ensures ok { OnOk result (Yields (unary_of op operand.old) (Ok operand.new)) }
+    ensures err { IfErr result (λ stop. Yields (unary_of op operand.old) (Err stop)) }
 {
     match unary(op, operand) {
-        Ok(value) => Ok(value),
+        Ok(value) => {
+            *operand = value;
+            Ok(())
+        }
         Err(fault) => {
             run.trace().mean(operand);
             Err(Stop::Fault(fault))

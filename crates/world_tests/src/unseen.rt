@@ -1,14 +1,14 @@
-//! What no run of the program shows: what laws promise, trees that are kept, a batch that is given up, a name and
-//! fields to which no line leads, what a run tells of itself while it lasts, and a message by itself that isn't of the
-//! system. What owns much hands it to a function that borrows it.
+//! What no run of the program shows: what laws promise, trees that are kept, a batch that is given up, fields to which
+//! no line leads, what a run tells of itself while it lasts, and a message by itself that isn't of the system. What
+//! owns much hands it to a function that borrows it.
 
 ghost use Rattle.std.specs.Prelude.{◌≡◌, IfSome, IsSome, None};
 
 use crate::worlds::{PlainWorld, world_of};
 use change_journal::Change;
-use containers::{Variables, read_name, writes_are_due, written_is_read};
+use containers::{writes_are_due, written_is_read};
 use ht_grammar::HandlerKind;
-use ht_values::{Fault, Name, Text, Value};
+use ht_values::{Fault, Text, Value};
 use interp::send_message;
 use journal_entries::{law_of_externals, law_of_trails};
 use meaning::{Budget, Frame, Stop};
@@ -171,28 +171,6 @@ fn a_script_that_comes_back_is_parsed_anew(rt: HostRuntime) {
     for script in [b"on foo\rend foo\r".as_slice(), b"on foo".as_slice()] {
         assert!(rt; met_and_given_up(rt.alloc(), script) == Some([false, true]));
     }
-}
-
-/// What `Sum` reads as in an expression.
-fn sum_read(alloc: Global, world: &PlainWorld, variables: &Variables) -> Option<Text> {
-    let sum = Name::new(alloc, text(alloc, b"Sum")?).ok()?;
-    let read = read_name(world, variables, &sum).copied(alloc).ok()?;
-    read.into_text(alloc).ok()
-}
-
-/// What it reads as where a handler has declared `SUM`, and the global has no value.
-fn declared_read(alloc: Global, world: &PlainWorld) -> Option<Text> {
-    let declared = Name::new(alloc, text(alloc, b"SUM")?).ok()?;
-    let mut variables = Variables::of_handler(alloc);
-    variables.set(alloc, &declared, None).ok()?;
-    sum_read(alloc, world, &variables)
-}
-
-#[test]
-fn a_declared_name_without_a_value_reads_as_its_spelling(rt: HostRuntime) {
-    let world = world_of(rt.alloc(), TWO_CARDS).expect(&rt, "the stack is read");
-    let read = declared_read(rt.alloc(), &world);
-    assert!(rt; matches!(&read, Some(read) if read.as_slice() == b"Sum".as_slice()));
 }
 
 /// Gives the global `g` a value, in a batch of its own.

@@ -33,9 +33,9 @@ button 5\nname |\nvisible true\nsharedHilite false\nhilite true\nscript 0\n\
 field 6\nname |\nvisible true\nlockText false\nsharedText true\nscript 0\nshared 0\n\
 cards 1\ncard 2 1\nname |\ncantDelete false\nscript 0\nparts 0\nhilite 5 true\ntext 6 0\nend\n";
 
-/// A change of that world.
+/// A change of that world, by plain values.
 #[derive(Clone, Copy)]
-enum Step {
+enum TriedChange {
     /// Another card becomes the current one.
     Current(u32),
     NewField(LayerId),
@@ -48,35 +48,35 @@ enum Step {
     Lock,
 }
 
-/// Whether a step fits. The only card stays, and a text, a hilite, a lock or a layer that isn't there doesn't come.
-const STEPS: &[(Step, bool)] = &[
-    (Step::Current(2), true),
-    (Step::Current(1), false),
-    (Step::NewField(LayerId::OfCard(2)), true),
-    (Step::NewField(LayerId::OfCard(1)), false),
-    (Step::NewField(LayerId::OfBackground(2)), false),
-    (Step::DeleteCard, false),
-    (Step::Text(1), false),
-    (Step::Hilite, false),
-    (Step::Lock, false),
+/// Whether a change fits. The only card stays, and a text, a hilite, a lock or a layer that isn't there doesn't come.
+const TRIED_CHANGES: &[(TriedChange, bool)] = &[
+    (TriedChange::Current(2), true),
+    (TriedChange::Current(1), false),
+    (TriedChange::NewField(LayerId::OfCard(2)), true),
+    (TriedChange::NewField(LayerId::OfCard(1)), false),
+    (TriedChange::NewField(LayerId::OfBackground(2)), false),
+    (TriedChange::DeleteCard, false),
+    (TriedChange::Text(1), false),
+    (TriedChange::Hilite, false),
+    (TriedChange::Lock, false),
 ];
 
-fn change_of(alloc: Global, step: Step) -> Change {
-    match step {
-        Step::Current(card) => Change::Current(card),
-        Step::NewField(layer) => Change::NewPart(layer, PartKind::Field),
-        Step::DeleteCard => Change::DeleteCard,
-        Step::Text(card) => Change::FieldText(6, card, Text::new(alloc)),
-        Step::Hilite => Change::Hilite(6, 2, true),
-        Step::Lock => Change::Prop(5, PropValue::LockTextIs(true)),
+fn change_of(alloc: Global, tried: TriedChange) -> Change {
+    match tried {
+        TriedChange::Current(card) => Change::Current(card),
+        TriedChange::NewField(layer) => Change::NewPart(layer, PartKind::Field),
+        TriedChange::DeleteCard => Change::DeleteCard,
+        TriedChange::Text(card) => Change::FieldText(6, card, Text::new(alloc)),
+        TriedChange::Hilite => Change::Hilite(6, 2, true),
+        TriedChange::Lock => Change::Prop(5, PropValue::LockTextIs(true)),
     }
 }
 
-/// How many steps fit, or don't, as it is wanted, before the first that goes otherwise.
-fn right_steps(alloc: Global, world: &PlainWorld) -> usize {
+/// How many changes fit, or don't, as it is wanted, before the first that goes otherwise.
+fn right_changes(alloc: Global, world: &PlainWorld) -> usize {
     let mut right: usize = 0;
-    for (step, wanted) in STEPS {
-        if world.fits(&change_of(alloc, *step)) != *wanted {
+    for (tried, wanted) in TRIED_CHANGES {
+        if world.fits(&change_of(alloc, *tried)) != *wanted {
             break;
         }
         right = right.saturating_add(1);
@@ -90,15 +90,15 @@ fn fits_unfolded(alloc: Global, world: &PlainWorld) -> Option<bool> {
     Some(world.fits(&Change::Global(name, None)))
 }
 
-/// How many steps go as it is wanted, and whether the global fits. What holds of a world's states can be called.
+/// How many changes go as it is wanted, and whether the global fits. What holds of a world's states can be called.
 fn outcome(alloc: Global) -> Option<(usize, Option<bool>)> {
     let world = world_of(alloc, BUTTON_AND_FIELD)?;
     world.law_of_states();
     world.law_of_table();
-    Some((right_steps(alloc, &world), fits_unfolded(alloc, &world)))
+    Some((right_changes(alloc, &world), fits_unfolded(alloc, &world)))
 }
 
 #[test]
 fn what_no_line_makes_does_not_fit(rt: HostRuntime) {
-    assert!(rt; outcome(rt.alloc()) == Some((STEPS.len(), Some(false))));
+    assert!(rt; outcome(rt.alloc()) == Some((TRIED_CHANGES.len(), Some(false))));
 }
