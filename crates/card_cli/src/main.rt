@@ -192,7 +192,7 @@ fn run(
 }
 
 /// Reads the stack, and runs it or looks at its scripts.
-fn perform(rt: &HostRuntime, options: &Options) -> Result<ExitCode, Failure> {
+fn run_or_check(rt: &HostRuntime, options: &Options) -> Result<ExitCode, Failure> {
     let (bytes, state) = stack_bytes(rt, options)?;
     let ended = if options.check {
         match check_with_kit(rt.alloc(), &bytes) {
@@ -239,7 +239,7 @@ fn obey(rt: &HostRuntime, words: &[String]) -> ExitCode {
         Ok(options) => options,
         Err(fault) => return told(rt, &Failure::from(fault), b""),
     };
-    match perform(rt, &options) {
+    match run_or_check(rt, &options) {
         Ok(code) => code,
         Err(failure) => told(rt, &failure, options.stack.as_bytes()),
     }

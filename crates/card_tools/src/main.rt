@@ -23,7 +23,7 @@ fn options(rt: &HostRuntime) -> Result<Options, CliFault> {
 }
 
 /// Runs standard input to standard output on the stack that the words name; what is saved goes to its file.
-fn perform(rt: &HostRuntime) -> Result<(), CliFault> {
+fn run_session(rt: &HostRuntime) -> Result<(), CliFault> {
     let options = options(rt)?;
     let Ok(file) = File::open(rt, options.stack.as_str()) else {
         return Err(CliFault::CannotRead);
@@ -67,7 +67,7 @@ fn reason(fault: &CliFault) -> &'static str {
 }
 
 fn main(rt: HostRuntime) -> ExitCode {
-    match perform(&rt) {
+    match run_session(&rt) {
         Ok(()) => ExitCode::SUCCESS,
         Err(fault) => {
             let _ = eprintln!(rt; "card_tools: {}", reason(&fault));

@@ -10,7 +10,7 @@ use externals::{Ask, External, Input, Patch, Texts, law_of_ask, law_of_external,
 use ht_values::Text;
 use std::alloc::{AllocError, Global};
 use std::snapshot::Snapshot;
-use xkit::{Cells, Step, TurnLog, changed, unchanged};
+use xkit::{Cells, TurnLog, TurnResult, changed, unchanged};
 
 /// A command that echoes what it is handed: at each start its cell becomes the first argument, and it
 /// asks for its value. An answer ends the conversation with its value. Its log has each turn.
@@ -68,7 +68,7 @@ impl External for Echo {
 }
 
 /// One turn.
-fn echoed(cells: &mut Cells, alloc: Global, input: &Input) -> Step
+fn echoed(cells: &mut Cells, alloc: Global, input: &Input) -> TurnResult
     requires { length cells.old ≡ 1 }
     ensures ok { IfOk result (λ r. IsPatch cells.old cells.new r.1) }
     ensures err { OnErr result (cells.new ≡ cells.old) }

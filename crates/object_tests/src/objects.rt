@@ -1,7 +1,7 @@
 //! Examples, with ample memory: the blank stack, the empty stack, and the stack Demo, whose background 1 has the field
 //! 3 Note and whose cards are 2 A and 4 B.
 
-use crate::stacks::{Change, Fact, Setting, Step, changed_stack, takes, takes_blank};
+use crate::stacks::{Change, Exchange, Fact, Setting, changed_stack, takes, takes_blank};
 use ht_values::PartKind;
 use object_table::{Kind, LayerId};
 use std::alloc::Global;
@@ -29,14 +29,14 @@ const EMPTY: &[Fact] = &[
 
 /// From the empty stack to Demo.
 const DEMO: &[Change] = &[
-    (Step::Next(5, 3), EMPTY),
-    (Step::Put(0, b"Demo", Kind::Stack, Some(b"")), &[]),
-    (Step::Put(2, b"A", CARD, Some(b"")), &[]),
-    (Step::Put(3, b"Note", FIELD, None), &[]),
-    (Step::Put(4, b"B", CARD, None), &[]),
-    (Step::Parts(1, &[3]), &[]),
-    (Step::Parts(4, &[]), &[]),
-    (Step::Cards(&[2, 4]), DEMO_FACTS),
+    (Exchange::Next(5, 3), EMPTY),
+    (Exchange::Put(0, b"Demo", Kind::Stack, Some(b"")), &[]),
+    (Exchange::Put(2, b"A", CARD, Some(b"")), &[]),
+    (Exchange::Put(3, b"Note", FIELD, None), &[]),
+    (Exchange::Put(4, b"B", CARD, None), &[]),
+    (Exchange::Parts(1, &[3]), &[]),
+    (Exchange::Parts(4, &[]), &[]),
+    (Exchange::Cards(&[2, 4]), DEMO_FACTS),
 ];
 
 const ON_BACKGROUND: LayerId = LayerId::OfBackground(1);
@@ -86,29 +86,29 @@ const DEMO_FACTS: &[Fact] = &[
 
 const RENUMBERED: &[Change] = &[
     (
-        Step::Take(3, Some(b"Note")),
+        Exchange::Take(3, Some(b"Note")),
         &[Fact::NoObject(3), Fact::Counts(3, 5)],
     ),
     (
-        Step::Put(6, b"Note", Kind::Stack, None),
+        Exchange::Put(6, b"Note", Kind::Stack, None),
         &[Fact::Object(6, b"Note", b"")],
     ),
 ];
 
 /// Objects that go are not counted.
 const TAKEN: &[Change] = &[
-    (Step::Take(3, Some(b"Note")), &[Fact::Counts(3, 5)]),
-    (Step::Take(3, None), &[Fact::Counts(3, 5)]),
-    (Step::Take(9, None), &[Fact::Counts(3, 5)]),
-    (Step::Take(0, Some(b"Demo")), &[Fact::Counts(3, 5)]),
-    (Step::Take(4, Some(b"B")), &[Fact::Counts(2, 5)]),
+    (Exchange::Take(3, Some(b"Note")), &[Fact::Counts(3, 5)]),
+    (Exchange::Take(3, None), &[Fact::Counts(3, 5)]),
+    (Exchange::Take(9, None), &[Fact::Counts(3, 5)]),
+    (Exchange::Take(0, Some(b"Demo")), &[Fact::Counts(3, 5)]),
+    (Exchange::Take(4, Some(b"B")), &[Fact::Counts(2, 5)]),
 ];
 
 /// A field keeps shared and own texts.
 const TEXTS: &[Change] = &[
-    (Step::Text(3, 0, Some(b"all"), None), &[]),
+    (Exchange::Text(3, 0, Some(b"all"), None), &[]),
     (
-        Step::Text(3, 2, Some(b"own"), None),
+        Exchange::Text(3, 2, Some(b"own"), None),
         &[
             Fact::Text(3, 0, Some(b"all")),
             Fact::Text(3, 2, Some(b"own")),
@@ -117,7 +117,7 @@ const TEXTS: &[Change] = &[
         ],
     ),
     (
-        Step::Text(3, 2, None, Some(b"own")),
+        Exchange::Text(3, 2, None, Some(b"own")),
         &[Fact::Text(3, 2, None), Fact::Text(3, 0, Some(b"all"))],
     ),
 ];
@@ -125,11 +125,11 @@ const TEXTS: &[Change] = &[
 /// A button keeps shared and own hilites.
 const HILITES: &[Change] = &[
     (
-        Step::Hilite(5, 2, Some(true), None),
+        Exchange::Hilite(5, 2, Some(true), None),
         &[Fact::Hilite(5, 2, Some(true)), Fact::Hilite(5, 0, None)],
     ),
     (
-        Step::Hilite(5, 2, None, Some(true)),
+        Exchange::Hilite(5, 2, None, Some(true)),
         &[Fact::Hilite(5, 2, None)],
     ),
 ];
@@ -137,7 +137,7 @@ const HILITES: &[Change] = &[
 /// An object of the greatest id stands alone. An empty object has no name and no script.
 const FAR: &[Change] = &[
     (
-        Step::Put(1_000_000, b"Far", Kind::Stack, None),
+        Exchange::Put(1_000_000, b"Far", Kind::Stack, None),
         &[
             Fact::Object(1_000_000, b"Far", b""),
             Fact::NoObject(999_999),
@@ -146,7 +146,7 @@ const FAR: &[Change] = &[
         ],
     ),
     (
-        Step::Put(9, b"", Kind::Background { cant_delete: true }, None),
+        Exchange::Put(9, b"", Kind::Background { cant_delete: true }, None),
         &[Fact::Object(9, b"", b""), Fact::Locked(9)],
     ),
 ];
@@ -155,8 +155,8 @@ const FAR: &[Change] = &[
 const COURSES: &[&[Change]] = &[
     RENUMBERED,
     TAKEN,
-    &[(Step::Backgrounds(&[1]), &[Fact::Orders(&[], &[2, 4])])],
-    &[(Step::Next(7, 5), &[Fact::Counts(4, 7)])],
+    &[(Exchange::Backgrounds(&[1]), &[Fact::Orders(&[], &[2, 4])])],
+    &[(Exchange::Next(7, 5), &[Fact::Counts(4, 7)])],
     TEXTS,
     HILITES,
 ];

@@ -130,7 +130,7 @@ pub(crate) fn hold(alloc: Global, stack: &Stack, facts: &[Fact]) -> bool {
 }
 
 /// An exchange: what is put, and what was there, where that is looked at.
-pub(crate) enum Step {
+pub(crate) enum Exchange {
     /// An object of this name, and the name of the one that was there.
     Put(Id, Bytes, Kind, Option<Bytes>),
     /// No object, and the name of the one that was there.
@@ -242,29 +242,29 @@ fn takes_next(stack: &mut Stack, mut next: Id, was: Id) -> bool {
     next == was
 }
 
-fn exchanges(alloc: Global, stack: &mut Stack, step: &Step) -> bool {
-    match step {
-        Step::Put(id, name, kind, was) => {
+fn exchanges(alloc: Global, stack: &mut Stack, exchange: &Exchange) -> bool {
+    match exchange {
+        Exchange::Put(id, name, kind, was) => {
             takes_object(stack, *id, object(alloc, name, *kind), *was)
         }
-        Step::Take(id, was) => takes_object(stack, *id, None, *was),
-        Step::Parts(id, parts) => takes_parts(stack, *id, id_list(alloc, parts)),
-        Step::Cards(cards) => takes_cards(stack, id_list(alloc, cards)),
-        Step::Backgrounds(was) => takes_backgrounds(stack, IdList::new(alloc), was),
-        Step::Next(id, was) => takes_next(stack, *id, *was),
-        Step::Text(field, card, bytes, was) => {
+        Exchange::Take(id, was) => takes_object(stack, *id, None, *was),
+        Exchange::Parts(id, parts) => takes_parts(stack, *id, id_list(alloc, parts)),
+        Exchange::Cards(cards) => takes_cards(stack, id_list(alloc, cards)),
+        Exchange::Backgrounds(was) => takes_backgrounds(stack, IdList::new(alloc), was),
+        Exchange::Next(id, was) => takes_next(stack, *id, *was),
+        Exchange::Text(field, card, bytes, was) => {
             takes_text(stack, *field, *card, text_or_none(alloc, *bytes), *was)
         }
-        Step::Hilite(button, card, lit, was) => takes_hilite(stack, *button, *card, *lit, *was),
+        Exchange::Hilite(button, card, lit, was) => takes_hilite(stack, *button, *card, *lit, *was),
     }
 }
 
-/// A step, and what holds after it.
-pub(crate) type Change = (Step, &'static [Fact]);
+/// An exchange, and what holds after it.
+pub(crate) type Change = (Exchange, &'static [Fact]);
 
 pub(crate) fn takes(alloc: Global, stack: &mut Stack, changes: &[Change]) -> bool {
-    for (step, facts) in changes {
-        if !exchanges(alloc, stack, step) || !hold(alloc, stack, facts) {
+    for (exchange, facts) in changes {
+        if !exchanges(alloc, stack, exchange) || !hold(alloc, stack, facts) {
             return false;
         }
     }

@@ -8,7 +8,7 @@ use ht_values::{Text, numeral, text_of};
 use std::alloc::{AllocError, Global};
 use std::rc::Rc;
 use std::snapshot::Snapshot;
-use xkit::{Cells, KitExternal, Step, TurnLog, changed};
+use xkit::{Cells, KitExternal, TurnLog, TurnResult, changed};
 
 /// What an external asks at each turn.
 #[derive(Clone, Copy)]
@@ -161,7 +161,7 @@ fn asked(manner: Manner, alloc: Global, input: &Input, count: &Text) -> Result<A
 }
 
 /// One turn, which is counted.
-fn turned(manner: Manner, cells: &mut Cells, alloc: Global, input: &Input) -> Step
+fn turned(manner: Manner, cells: &mut Cells, alloc: Global, input: &Input) -> TurnResult
     requires { length cells.old ≡ 1 }
     ensures ok { IfOk result (λ r. IsPatch cells.old cells.new r.1) }
     ensures err { OnErr result (cells.new ≡ cells.old) }

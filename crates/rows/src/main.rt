@@ -105,7 +105,7 @@ fn tell(
 }
 
 /// Runs a row as the program would.
-fn perform(alloc: Global, row: &Row<'_>, stack: &str, ended: &mut Ended) -> Result<(), AllocError> {
+fn run_row(alloc: Global, row: &Row<'_>, stack: &str, ended: &mut Ended) -> Result<(), AllocError> {
     let input = input_of(alloc, row.body)?;
     match run_on(
         alloc,
@@ -168,7 +168,7 @@ fn unexplained_on<'a>(
     ended: &Ended,
 ) -> Result<Option<Wrong<'a>>, AllocError> {
     let mut heard = begun(alloc, desk_of(alloc, row.desk).explaining());
-    perform(alloc, row, stack, &mut heard)?;
+    run_row(alloc, row, stack, &mut heard)?;
     Ok(wrong_explained(row, ended, &heard))
 }
 
@@ -180,7 +180,7 @@ fn unmet_after<'a>(
     shown: &str,
     ended: &mut Ended,
 ) -> Result<Option<Wrong<'a>>, AllocError> {
-    perform(alloc, row, stack, ended)?;
+    run_row(alloc, row, stack, ended)?;
     match wrong_end(row, ended) {
         Some(wrong) => Ok(Some(wrong)),
         None => match wrong_answer(alloc, row, ended, shown)? {

@@ -9,7 +9,7 @@ ghost use Rattle.text_tools.specs.Lookup.{table_turn, with_entry};
 use externals::{Ask, Input, Patch, Texts};
 use ht_values::Text;
 use std::alloc::Global;
-use xkit::{Cells, Step, changed, unchanged};
+use xkit::{Cells, TurnResult, changed, unchanged};
 
 /// How many keys there are at most.
 const PLACES: usize = 32;
@@ -49,7 +49,7 @@ fn first_with(keys: &[Text], key: &[u8]) -> Option<usize>
 }
 
 /// One turn, by the verb of the start.
-pub(crate) fn turned(cells: &mut Cells, alloc: Global, input: &Input) -> Step
+pub(crate) fn turned(cells: &mut Cells, alloc: Global, input: &Input) -> TurnResult
     requires { length cells.old ≡ 64 }
     ensures ok { IfOk result (λ r. Takes (table_turn cells.old input.now) cells.old cells.new r.0 r.1) }
     ensures err { OnErr result (cells.new ≡ cells.old) }
@@ -61,7 +61,7 @@ pub(crate) fn turned(cells: &mut Cells, alloc: Global, input: &Input) -> Step
     }
 }
 
-fn started(cells: &mut Cells, alloc: Global, args: &Texts) -> Step
+fn started(cells: &mut Cells, alloc: Global, args: &Texts) -> TurnResult
     requires { length cells.old ≡ 64 }
     ensures ok { IfOk result (λ r. Takes (table_turn cells.old (Input.Start args.now)) cells.old cells.new r.0 r.1) }
     ensures err { OnErr result (cells.new ≡ cells.old) }
@@ -79,7 +79,7 @@ fn started(cells: &mut Cells, alloc: Global, args: &Texts) -> Step
     }
 }
 
-fn put(cells: &mut Cells, alloc: Global, key: &Text, value: &Text) -> Step
+fn put(cells: &mut Cells, alloc: Global, key: &Text, value: &Text) -> TurnResult
     requires { length cells.old ≡ 64 }
     ensures ok { IfOk result (λ r. Takes (put_turn cells.old key.now value.now) cells.old cells.new r.0 r.1) }
     ensures err { OnErr result (cells.new ≡ cells.old) }
@@ -104,7 +104,7 @@ fn put(cells: &mut Cells, alloc: Global, key: &Text, value: &Text) -> Step
 }
 
 /// A new key takes the first free place.
-fn enter(cells: &mut Cells, alloc: Global, key: &Text, value: &Text) -> Step
+fn enter(cells: &mut Cells, alloc: Global, key: &Text, value: &Text) -> TurnResult
     requires { length cells.old ≡ 64 }
     ensures ok { IfOk result (λ r. Takes
         (entered cells.old key.now value.now (place_of_key [] cells.old)) cells.old cells.new
@@ -123,7 +123,7 @@ fn enter(cells: &mut Cells, alloc: Global, key: &Text, value: &Text) -> Step
 }
 
 /// A place gets a key with a value. The plan takes all the memory first, so nothing is half done.
-fn set_entry(cells: &mut Cells, alloc: Global, place: usize, key: Text, value: Text) -> Step
+fn set_entry(cells: &mut Cells, alloc: Global, place: usize, key: Text, value: Text) -> TurnResult
     requires cells { length cells.old ≡ 64 }
     requires place { place < 32 }
     ensures ok { IfOk result (λ r. Takes (done [] (with_entry cells.old place key value)) cells.old cells.new r.0 r.1) }
@@ -137,7 +137,7 @@ fn set_entry(cells: &mut Cells, alloc: Global, place: usize, key: Text, value: T
     Ok((Ask::Done(Text::new(alloc), false), patch))
 }
 
-fn get(cells: &Cells, alloc: Global, key: &Text) -> Step
+fn get(cells: &Cells, alloc: Global, key: &Text) -> TurnResult
     requires { length cells.now ≡ 64 }
     ensures { IfOk result (λ r. Takes (get_turn cells.now (place_of_key key.now cells.now)) cells.now
         cells.now r.0 r.1) }
@@ -149,7 +149,7 @@ fn get(cells: &Cells, alloc: Global, key: &Text) -> Step
     Ok(unchanged(alloc, Ask::Done(value, false)))
 }
 
-fn delete(cells: &mut Cells, alloc: Global, key: &Text) -> Step
+fn delete(cells: &mut Cells, alloc: Global, key: &Text) -> TurnResult
     requires { length cells.old ≡ 64 }
     ensures ok { IfOk result (λ r. Takes
         (delete_turn cells.old (place_of_key key.now cells.old)) cells.old cells.new r.0 r.1) }

@@ -11,7 +11,7 @@ use externals::{Ask, External, HasTable, Input, Patch};
 use ht_values::Text;
 use std::alloc::{AllocError, Global};
 use std::snapshot::Snapshot;
-use xkit::{Cells, Step, TurnLog, unchanged};
+use xkit::{Cells, TurnLog, TurnResult, unchanged};
 
 /// Which tool an external is.
 #[derive(Clone, Copy)]
@@ -127,7 +127,7 @@ impl HasTable for TextTool {
 }
 
 /// One turn of one of the tools.
-fn turned(tool: Tool, cells: &mut Cells, alloc: Global, input: &Input) -> Step
+fn turned(tool: Tool, cells: &mut Cells, alloc: Global, input: &Input) -> TurnResult
     requires { length cells.old ≡ cell_count_of tool }
     ensures told { IfOk result (λ r. IsTurnOf tool_table (kind_of tool) (record {
       before = cells.old;

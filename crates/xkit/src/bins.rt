@@ -5,7 +5,7 @@ ghost use Rattle.xkit.specs.Table.{bin_of, bins_turn, number_in};
 ghost use Rattle.xkit.specs.Steps.{Takes};
 
 use crate::cells::Cells;
-use crate::step::{Step, changed, number, unchanged};
+use crate::turn_result::{TurnResult, changed, number, unchanged};
 use externals::{Ask, Input, Texts};
 use ht_values::Text;
 use std::alloc::Global;
@@ -23,7 +23,7 @@ fn bin(text: &Text) -> Option<usize>
 }
 
 /// One turn: a start with a bin and a text keeps the text there and tells the old one.
-pub(crate) fn turned(cells: &mut Cells, alloc: Global, input: &Input) -> Step
+pub(crate) fn turned(cells: &mut Cells, alloc: Global, input: &Input) -> TurnResult
     requires { length cells.old ≡ 16 }
     ensures ok { IfOk result (λ r. Takes (bins_turn cells.old input.now) cells.old cells.new r.0 r.1) }
     ensures err { OnErr result (cells.new ≡ cells.old) }
@@ -35,7 +35,7 @@ pub(crate) fn turned(cells: &mut Cells, alloc: Global, input: &Input) -> Step
     }
 }
 
-fn kept(cells: &mut Cells, alloc: Global, args: &Texts) -> Step
+fn kept(cells: &mut Cells, alloc: Global, args: &Texts) -> TurnResult
     requires cells { length cells.old ≡ 16 }
     requires args { length args.now ≡ 2 }
     ensures ok { IfOk result (λ r. Takes (bins_turn cells.old (Input.Start args.now)) cells.old cells.new r.0 r.1) }
@@ -49,7 +49,7 @@ fn kept(cells: &mut Cells, alloc: Global, args: &Texts) -> Step
 }
 
 /// Keeps a text in a cell, from 0, and tells the one that was there.
-fn exchanged(cells: &mut Cells, alloc: Global, cell: usize, text: &Text) -> Step
+fn exchanged(cells: &mut Cells, alloc: Global, cell: usize, text: &Text) -> TurnResult
     requires { cell < length cells.old }
     ensures ok { IfOk result (λ r. Takes
         (Ask.Done (slice_index_or cells.old cell []) false, slice_set cells.old cell text.now)

@@ -5,7 +5,7 @@ ghost use Rattle.xkit.specs.Table.{after, counter_turn, number_in};
 ghost use Rattle.xkit.specs.Steps.{Takes};
 
 use crate::cells::Cells;
-use crate::step::{Step, changed, number, unchanged};
+use crate::turn_result::{TurnResult, changed, number, unchanged};
 use externals::{Ask, Input};
 use ht_values::{Text, text_of};
 use std::alloc::Global;
@@ -23,7 +23,7 @@ fn next_number(text: &Text) -> Option<i64>
 }
 
 /// One turn: a call counts the cell up and tells the count.
-pub(crate) fn turned(cells: &mut Cells, alloc: Global, input: &Input) -> Step
+pub(crate) fn turned(cells: &mut Cells, alloc: Global, input: &Input) -> TurnResult
     requires { length cells.old ≡ 1 }
     ensures ok { IfOk result (λ r. Takes (counter_turn cells.old input.now) cells.old cells.new r.0 r.1) }
     ensures err { OnErr result (cells.new ≡ cells.old) }

@@ -5,13 +5,13 @@ ghost use Rattle.xkit.specs.Table.{gate_turn};
 ghost use Rattle.xkit.specs.Steps.{Takes};
 
 use crate::cells::Cells;
-use crate::step::{Step, changed, unchanged};
+use crate::turn_result::{TurnResult, changed, unchanged};
 use externals::{Ask, Input};
 use ht_values::Text;
 use std::alloc::Global;
 
 /// One turn: a message stops at an open gate, and passes a shut one.
-pub(crate) fn turned(cells: &mut Cells, alloc: Global, input: &Input) -> Step
+pub(crate) fn turned(cells: &mut Cells, alloc: Global, input: &Input) -> TurnResult
     requires { length cells.old ≡ 1 }
     ensures ok { IfOk result (λ r. Takes (gate_turn cells.old input.now) cells.old cells.new r.0 r.1) }
     ensures err { OnErr result (cells.new ≡ cells.old) }

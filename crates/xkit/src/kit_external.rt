@@ -8,8 +8,8 @@ ghost use Rattle.xkit.specs.Table.{kit_table};
 ghost use Rattle.xkit.specs.Members.{cell_count_of, follows_once, kind_of};
 
 use crate::cells::Cells;
-use crate::step::Step;
 use crate::turn_log::TurnLog;
+use crate::turn_result::TurnResult;
 use crate::{bins, count, gate, relay};
 use externals::{Ask, External, HasTable, Input, Patch};
 use ht_values::{Text, text_of};
@@ -170,7 +170,7 @@ impl HasTable for KitExternal {
 }
 
 /// One turn of one of the four.
-fn turned(member: Member, cells: &mut Cells, alloc: Global, input: &Input) -> Step
+fn turned(member: Member, cells: &mut Cells, alloc: Global, input: &Input) -> TurnResult
     requires { length cells.old ≡ cell_count_of member }
     ensures told { IfOk result (λ r. IsTurnOf kit_table (kind_of member) (record {
       before = cells.old;

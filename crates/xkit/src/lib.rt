@@ -12,10 +12,10 @@ mod count;
 mod gate;
 mod kit_external;
 mod relay;
-mod step;
 mod turn_log;
+mod turn_result;
 
 pub use cells::Cells;
 pub use kit_external::KitExternal;
-pub use step::{Step, changed, unchanged};
 pub use turn_log::TurnLog;
+pub use turn_result::{TurnResult, changed, unchanged};

@@ -6,7 +6,7 @@ ghost use Rattle.xkit.specs.Table.{is_note, relay_start, relay_answer, relay_tur
 ghost use Rattle.xkit.specs.Steps.{Takes};
 
 use crate::cells::Cells;
-use crate::step::{Step, add, changed, unchanged};
+use crate::turn_result::{TurnResult, add, changed, unchanged};
 use externals::{Ask, Input, Texts};
 use ht_values::Text;
 use std::alloc::{AllocError, Global};
@@ -35,7 +35,7 @@ fn note_of(alloc: Global, stage: &[u8], texts: &Texts, from: usize) -> Result<Te
 }
 
 /// One turn.
-pub(crate) fn turned(cells: &mut Cells, alloc: Global, input: &Input) -> Step
+pub(crate) fn turned(cells: &mut Cells, alloc: Global, input: &Input) -> TurnResult
     requires { length cells.old ≡ 2 }
     ensures ok { IfOk result (λ r. Takes (relay_turn cells.old input.now) cells.old cells.new r.0 r.1) }
     ensures err { OnErr result (cells.new ≡ cells.old) }
@@ -48,7 +48,7 @@ pub(crate) fn turned(cells: &mut Cells, alloc: Global, input: &Input) -> Step
 }
 
 /// A start with four texts keeps the name of the global, and sets it.
-fn started(cells: &mut Cells, alloc: Global, args: &Texts) -> Step
+fn started(cells: &mut Cells, alloc: Global, args: &Texts) -> TurnResult
     requires { length cells.old ≡ 2 }
     ensures ok { IfOk result (λ r. Takes (relay_start cells.old args.now) cells.old cells.new r.0 r.1) }
     ensures err { OnErr result (cells.new ≡ cells.old) }
@@ -65,7 +65,7 @@ fn started(cells: &mut Cells, alloc: Global, args: &Texts) -> Step
 }
 
 /// An answer leads to the next call-back, or ends the conversation after the last one.
-fn answered(cells: &mut Cells, alloc: Global, note: &Texts, value: &Text) -> Step
+fn answered(cells: &mut Cells, alloc: Global, note: &Texts, value: &Text) -> TurnResult
     requires { length cells.old ≡ 2 }
     ensures ok { IfOk result (λ r. Takes (relay_answer cells.old note.now value.now) cells.old cells.new r.0 r.1) }
     ensures err { OnErr result (cells.new ≡ cells.old) }
@@ -91,7 +91,7 @@ fn answered(cells: &mut Cells, alloc: Global, note: &Texts, value: &Text) -> Ste
 }
 
 /// The value of the expression is kept, and the message is sent.
-fn computed(cells: &mut Cells, alloc: Global, message: &Text, value: &Text) -> Step
+fn computed(cells: &mut Cells, alloc: Global, message: &Text, value: &Text) -> TurnResult
     requires { length cells.old ≡ 2 }
     ensures ok { IfOk result (λ r. Takes
         (relay_answer cells.old (codes "3" ∷ message.now ∷ []) value.now) cells.old cells.new

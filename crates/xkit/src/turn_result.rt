@@ -10,7 +10,7 @@ use ht_values::{Text, numeral};
 use std::alloc::{AllocError, Global};
 
 /// What a turn answers, unless it is out of memory.
-pub type Step = Result<(Ask, Patch), AllocError>;
+pub type TurnResult = Result<(Ask, Patch), AllocError>;
 
 /// What a turn answers that asks this and changes no cell. It takes no memory.
 pub fn unchanged(alloc: Global, ask: Ask) -> (Ask, Patch)
@@ -21,7 +21,7 @@ pub fn unchanged(alloc: Global, ask: Ask) -> (Ask, Patch)
 
 /// Gives one cell, from 0, a text, for a turn that asks this and changes no other cell. Out of memory the cells are as
 /// they were.
-pub fn changed(cells: &mut Cells, alloc: Global, cell: usize, text: Text, ask: Ask) -> Step
+pub fn changed(cells: &mut Cells, alloc: Global, cell: usize, text: Text, ask: Ask) -> TurnResult
     requires { cell < length cells.old }
     ensures ok { IfOk result (λ r. Takes (ask, slice_set cells.old cell text) cells.old cells.new r.0 r.1) }
     ensures err { OnErr result (cells.new ≡ cells.old) }
