@@ -20,7 +20,8 @@ use Rattle.definitional_interpreter.specs.Told.{choose, maybe, computed, there, 
 use Rattle.definitional_interpreter.specs.Families.{Meanings}
 use Rattle.definitional_interpreter.specs.Meanings.{meanings, one_more}
 use Rattle.definitional_interpreter.specs.Laws.{Enough}
-use Rattle.definitional_interpreter.proofs.Comes.{kept_refl, kept_trans, Sight, sight, Comes}
+use Rattle.preservation.proofs.Logs.{kept_refl, kept_trans}
+use Rattle.definitional_interpreter.proofs.Comes.{Sight, sight, Comes}
 use Rattle.definitional_interpreter.proofs.Sights.{asks_first, asks_rest}
 
 both : (P Q R : Meanings → Type 0) → ((parts : Meanings) → P parts → Q parts → R parts) → Enough P → Enough Q → Enough R

@@ -1,45 +1,19 @@
 -- That the meanings come to something, with enough fuel.
-use Rattle.std.proofs.Common.{◌≡◌, ℕ, ◌<◌, List, [], length, refl, sym, ap, ◌∙◌, append-nil}
+use Rattle.std.proofs.Common.{◌≡◌, ℕ, ◌<◌, List, length}
 use Rattle.std.specs.Prelude.{slice_index_or}
 use Rattle.ht_grammar.specs.Laws.{TextsAreReadExactly}
 use Rattle.externals.specs.Log.{Log, Follows}
 use Rattle.externals.specs.Turns.{TurnTable}
 use Rattle.change_journal.specs.History.{History}
 use Rattle.change_journal.specs.Logs.{log_at, turns_since}
+use Rattle.preservation.specs.Kinds.{sorts}
 use Rattle.preservation.specs.Laws.{IsPrefix}
-pub use Rattle.preservation.proofs.Going.{prefix_trans}
+pub use Rattle.preservation.proofs.Logs.{Kept}
+pub use Rattle.preservation.proofs.Prefixes.{prefix_same}
 use Rattle.definitional_interpreter.specs.Told.{Visible, seen_since}
-use Rattle.definitional_interpreter.specs.Turns.{sorts, nondeterministic}
+use Rattle.definitional_interpreter.specs.Turns.{nondeterministic}
 use Rattle.definitional_interpreter.specs.Families.{Meanings}
 use Rattle.definitional_interpreter.specs.Laws.{Enough}
-
--- the externals that there are stay, and each log has what it had
-pub record Kept (w w2 : History) : Type 0 where
-  pub kinds : sorts w2 ≡ sorts w
-  pub count : length w2.logs ≡ length w.logs
-  pub logs : (i : ℕ) → IsPrefix (log_at w.logs i) (log_at w2.logs i)
-
-pub prefix_same : {A : Type 0} (xs ys : List A) → ys ≡ xs → IsPrefix xs ys
-prefix_same xs ys same = ([], same ∙ sym (append-nil xs))
-
-pub kept_same : {w w2 : History} → w2 ≡ w → Kept w w2
-kept_same {w} {w2} same = record {
-  kinds = ap (λ h. sorts h) same;
-  count = ap (λ h. length h.logs) same;
-  logs = λ i. prefix_same (log_at w.logs i) (log_at w2.logs i)
-      (ap (λ h. log_at h.logs i) same);
-}
-
-pub kept_refl : {w : History} → Kept w w
-kept_refl {w} = kept_same {w = w} {w2 = w} refl
-
-pub kept_trans : {w w1 w2 : History} → Kept w w1 → Kept w1 w2 → Kept w w2
-kept_trans {w} {w1} {w2} first rest = record {
-  kinds = rest.kinds ∙ first.kinds;
-  count = rest.count ∙ first.count;
-  logs = λ i. prefix_trans (log_at w.logs i) (log_at w1.logs i) (log_at w2.logs i)
-      (first.logs i) (rest.logs i);
-}
 
 pub record HasExternal (w : History) (k : ℕ) : Type 0 where
   pub there : k < length (sorts w)

@@ -4,7 +4,7 @@ use Rattle.std.specs.Prelude.{is_none}
 use Rattle.ht_grammar.specs.Laws.{TextsAreReadExactly}
 use Rattle.definitional_interpreter.specs.Laws.{LinesAreComputed, MessagesAreComputed}
 use Rattle.definitional_interpreter.specs.Laws.{ActionsAreComputed, ReferencesAreComputed, ValuesAreComputed}
-use Rattle.definitional_interpreter.specs.Laws.{DeterministicKindsHaveNoFreeTurns, WithNoTableAllTurnsAreFree}
+use Rattle.definitional_interpreter.specs.Laws.{DeterministicKindsHaveNoTurnsToTell, WithNoTableAllTurnsHaveToBeTold}
 use Rattle.definitional_interpreter.specs.Turns.{nondeterministic}
 use Rattle.definitional_interpreter.proofs.Sights.{from, asks_told}
 use Rattle.definitional_interpreter.proofs.Outcomes.{val_comes, line_comes, message_comes, refers_comes, acts_comes}
@@ -33,12 +33,12 @@ value_is_computed exact table turns w w2 r r2 f d e o are value has =
 
 -- ---- special cases
 
-pub none_nondeterministic : DeterministicKindsHaveNoFreeTurns
+pub none_nondeterministic : DeterministicKindsHaveNoTurnsToTell
 none_nondeterministic table sort [] fixed = refl
 none_nondeterministic table sort (turn ∷ log) fixed =
     ap (λ o. cond (is_none o) (turn ∷ nondeterministic table sort log) (nondeterministic table sort log))
     (fixed turn.before turn.input).1 ∙ none_nondeterministic table sort log fixed
 
-pub all_nondeterministic : WithNoTableAllTurnsAreFree
+pub all_nondeterministic : WithNoTableAllTurnsHaveToBeTold
 all_nondeterministic sort [] = refl
 all_nondeterministic sort (turn ∷ log) = ap (λ l. turn ∷ l) (all_nondeterministic sort log)

@@ -1,8 +1,7 @@
 -- What a rule makes beside its parts has one outcome: texts, steps, edits, objects and turns.
-use Rattle.std.proofs.Common.{◌≡◌, ℕ, zero, suc, ◌+◌, ◌-◌, ◌<◌, List, [], ◌∷◌, ◌++◌, length, map, Bool, true, false}
-use Rattle.std.proofs.Common.{Option, Some, None, Result, Ok, Err, refl, sym, ap, subst, ◌∙◌, arith}
-use Rattle.std.specs.Prelude.{slice_index_or, slice_set, option_map, if◌then◌else◌}
-use Rattle.std.proofs.Common.{length-set}
+use Rattle.std.proofs.Common.{◌≡◌, ℕ, zero, suc, ◌-◌, ◌<◌, List, [], ◌∷◌, length, map, Bool, true, false, Option}
+use Rattle.std.proofs.Common.{Some, None, Result, Ok, Err, refl, sym, ap, subst, ◌∙◌, arith}
+use Rattle.std.specs.Prelude.{option_map, if◌then◌else◌}
 use Rattle.ht_values.specs.declared.fault.Fault.{Fault}
 use Rattle.ht_values.specs.declared.fault.Fault.TheVariants.{StepLimit, TooMany, Syntax}
 use Rattle.ht_values.specs.Text.{folded}
@@ -12,18 +11,8 @@ use Rattle.externals.specs.declared.external.Ask.{Ask}
 use Rattle.externals.specs.declared.external.Ask.TheVariants.{SendCardMessage, EvalExpr, SetGlobal, SetFieldByName}
 use Rattle.externals.specs.declared.external.Ask.TheVariants.{Done, Fail}
 use Rattle.externals.specs.declared.external.Input.{Input}
-use Rattle.externals.specs.Log.{Log}
 use Rattle.journal_entries.specs.declared.change.Change.{Change}
-use Rattle.journal_entries.specs.declared.change.Change.TheVariants as changes
-use Rattle.stack_places.specs.Places.{number}
-use Rattle.structural_changes.specs.Writes.{StackWrite, following, writes_of_new_part, writes_of_new_card}
-use Rattle.structural_changes.specs.Writes.{writes_of_new_background, writes_of_deletion}
-use Rattle.journal_entries.specs.Changes.{changed, makes_current}
-use Rattle.journal_entries.specs.Places.{Write, put, put_all, in_stack, current_card, in_the_stack}
-use Rattle.journal_entries.specs.State.{State, seen_at}
-use Rattle.journal_entries.specs.Exchange.{with_cells}
 use Rattle.change_journal.specs.History.{History}
-use Rattle.change_journal.specs.Logs.{log_at}
 use Rattle.change_journal.specs.Rising.{Made, TookTurn}
 use Rattle.containers.specs.declared.edit.Edit.{Edit}
 use Rattle.containers.specs.Places.{StorageView, PlaceView}
@@ -36,16 +25,16 @@ use Rattle.meaning.specs.declared.frame.Frame.{Frame}
 use Rattle.meaning.specs.Places.{Edits, Stores, Assigns, DeclaresAll, Sets, Adds}
 use Rattle.meaning.specs.State.{RunState, Step}
 use Rattle.meaning.specs.Values.{Yields}
-use Rattle.preservation.specs.Laws.{HasMemory, IsPrefix}
+use Rattle.preservation.specs.Kinds.{sorts_of}
+use Rattle.preservation.specs.Laws.{HasMemory}
+use Rattle.preservation.proofs.CallBacks.{IsCall}
+use Rattle.preservation.proofs.Logs.{Kept, kept_same, kept_refl, kept_trans, kept_made, kept_took, sorts_took}
 use Rattle.definitional_interpreter.specs.Told.{Visible, Told, told, told_in, after, maybe, computed, choose}
 use Rattle.definitional_interpreter.specs.Changes.{with_global, yielded, step_by, step, made, make, with_variables}
 use Rattle.definitional_interpreter.specs.Changes.{written, edit_by}
 use Rattle.definitional_interpreter.specs.Changes.{edit, store, assign, declare_all, set_property, add_objects, turn}
 use Rattle.definitional_interpreter.specs.Families.{Meanings}
-use Rattle.definitional_interpreter.specs.Turns.{sorts_of, sorts}
-use Rattle.definitional_interpreter.proofs.Comes.{Sight, sight, Comes, Kept, HasExternal, kept_refl}
-use Rattle.definitional_interpreter.proofs.Comes.{kept_same}
-use Rattle.definitional_interpreter.proofs.Comes.{kept_trans, prefix_same}
+use Rattle.definitional_interpreter.proofs.Comes.{Sight, sight, Comes, HasExternal}
 use Rattle.definitional_interpreter.proofs.Sights.{asks_rest, computes}
 use Rattle.ht_lex.specs.declared.tokens.Span.{Span}
 use Rattle.ht_lex.specs.Cutting.{spans_of, CutsExactly}
@@ -60,7 +49,7 @@ use Rattle.ht_grammar.specs.Statements.{Stmts, Message}
 use Rattle.ht_grammar.specs.Trees.{Expr}
 use Rattle.ht_grammar.specs.Whole.{script, sent_message}
 use Rattle.object_table.specs.Content.{Content}
-use Rattle.externals.specs.Cells.{Seen, none_seen}
+use Rattle.externals.specs.Cells.{Seen}
 use Rattle.msg_path.specs.BuiltIns.{external_named, answers}
 use Rattle.journal_entries.specs.ScriptTrees.{object_script}
 use Rattle.msg_path.specs.Handlers.{HandlerFound, First}
@@ -97,48 +86,7 @@ steps {g} {r} {w = w} (Step.none_left is) has =
     subst (λ n. Comes g w (λ parts. step_by n (sight g w) r) (told (Err (Faults StepLimit)) (sight g w) r) w)
     (sym is) done
 
--- ---- changes keep the externals
-
-externals-put : (s : State) (ws : List StackWrite) (more : List Write) →
-    ((t : State) → (put_all t more).externals ≡ t.externals) → (put_all s (map in_the_stack ws ++ more)).externals
-    ≡ s.externals
-unfolding put
-externals-put s [] more rest = rest s
-externals-put s (w ∷ ws) more rest = externals-put (put s (in_stack w.place) w.value) ws more rest
-
-externals-stack : (s : State) (ws : List StackWrite) → (put_all s (map in_the_stack ws)).externals ≡ s.externals
-unfolding put
-externals-stack s [] = refl
-externals-stack s (w ∷ ws) = externals-stack (put s (in_stack w.place) w.value) ws
-
-current-put : (card : ℕ) (t : State) → (put_all t (makes_current card ∷ [])).externals ≡ t.externals
-unfolding put
-current-put card t = refl
-
-pub externals-changed : (s : State) (c : Change) → (changed s c).externals ≡ s.externals
-unfolding put
-externals-changed s (changes.Global name v) = refl
-externals-changed s (changes.FieldText field card t) = refl
-externals-changed s (changes.Hilite button card b) = refl
-externals-changed s (changes.Prop id v) = refl
-externals-changed s (changes.Current card) = refl
-externals-changed s changes.NewCard =
-    externals-put s (writes_of_new_card s.stack s.current) (makes_current s.stack.next ∷ []) (current-put s.stack.next)
-externals-changed s changes.NewBackground =
-    externals-put s (writes_of_new_background s.stack s.current) (makes_current (s.stack.next + 1) ∷ [])
-    (current-put (s.stack.next + 1))
-externals-changed s (changes.NewPart layer kind) = externals-stack s (writes_of_new_part s.stack layer kind)
-externals-changed s changes.DeleteCard =
-    externals-stack (put s current_card (Some (number (following s.current s.stack.cards))))
-    (writes_of_deletion s.stack s.current)
-
-pub kept_made : {w w1 : History} {c : Change} → Made w w1 c → Kept w w1
-kept_made {w} {w1} {c} m = record {
-  kinds = ap (λ h. sorts h) m.history ∙ ap sorts_of (externals-changed w.now c);
-  count = ap (λ h. length h.logs) m.history;
-  logs = λ i. prefix_same (log_at w.logs i) (log_at w1.logs i)
-      (ap (λ h. log_at h.logs i) m.history);
-}
+-- ---- changes
 
 present_made : (g : Sight) {w w1 : History} {c : Change} → Made w w1 c → made (sight g w) c ≡ sight g w1
 present_made g m = sym (ap (sight g) m.history)
@@ -281,34 +229,6 @@ pub named_there : (w : History) (is_function : Bool) (name : List ℕ) {k : ℕ}
     external_named w.now.externals is_function name ≡ Some k → HasExternal w k
 named_there w is_function name {k} is = record { there = within w.now.externals is_function name k is }
 
-sorts-turned : (es : List Seen) (k : ℕ) (cells : List (List ℕ)) →
-    sorts_of (slice_set es k (with_cells (slice_index_or es k none_seen) cells)) ≡ sorts_of es
-sorts-turned [] k cells = refl
-sorts-turned (e ∷ es) zero cells = refl
-sorts-turned (e ∷ es) (suc k) cells = ap (λ ks. e.sort ∷ ks) (sorts-turned es k cells)
-
-sorts_took : {w w1 : History} {k : ℕ} {input : Input} {ask : Ask} → TookTurn w w1 k input ask → sorts w1 ≡ sorts w
-sorts_took {w} {w1} {k} t = ap (λ s. sorts_of s.externals) t.turn.state
-    ∙ sorts-turned w.now.externals k (seen_at w1.now k).cells
-
--- what holds of each log holds of each after one was set to another of which it holds
-pub set_keeps : (P : ℕ → Log → Type 0) (logs : List Log) (k : ℕ) (log : Log) → ((i : ℕ) → P i (log_at logs i)) →
-    P k log → (i : ℕ) → P i (log_at (slice_set logs k log) i)
-set_keeps P [] k log all it i = all i
-set_keeps P (l ∷ ls) zero log all it zero = it
-set_keeps P (l ∷ ls) zero log all it (suc i) = all (suc i)
-set_keeps P (l ∷ ls) (suc k) log all it zero = all zero
-set_keeps P (l ∷ ls) (suc k) log all it (suc i) = set_keeps (λ i. P (suc i)) ls k log (λ i. all (suc i)) it i
-
-pub kept_took : {w w1 : History} {k : ℕ} {input : Input} {ask : Ask} → TookTurn w w1 k input ask → Kept w w1
-kept_took {w} {w1} {k} t = record {
-  kinds = sorts_took t;
-  count = ap (λ h. length h.logs) t.history ∙ length-set w.logs k _;
-  logs = λ i. subst (λ ls. IsPrefix (log_at w.logs i) (log_at ls i)) (sym (ap (λ h. h.logs) t.history))
-      (set_keeps (λ i. IsPrefix (log_at w.logs i)) w.logs k _
-      (λ i. prefix_same (log_at w.logs i) (log_at w.logs i) refl) (_, refl) i);
-}
-
 pub there_after : {w w1 w2 : History} {k j : ℕ} {input : Input} {ask : Ask} → HasExternal w k →
     TookTurn w w1 j input ask → Kept w1 w2 → HasExternal w2 k
 there_after {k = k} h took kept =
@@ -319,12 +239,6 @@ pub takes_turn : {g : Sight} {w w1 : History} {k : ℕ} {input : Input} {ask : A
     Comes g w (λ parts. turn (sight g w) r k input) (told (Ok ask) (sight g w1) r) w1
 takes_turn {g} {w} {w1} {k} {input} {ask} {r} t h =
     record { kept = kept_took t; gives = λ exact asked. (0, λ fuel le. computes g w w1 k input ask t h asked r) }
-
--- Done and Fail are no call-backs
-abbrev pub IsCall : Ask → Type 0
-IsCall (Done v passes) = ⊥
-IsCall Fail = ⊥
-IsCall _ = Unit {0}
 
 pub asks_back : {w w1 : History} {r r1 : RunState} {d : ℕ} {ask : Ask} {o : Result Input Stop} →
     CallsBack w r d ask o w1 r1 → HasMemory o → IsCall ask

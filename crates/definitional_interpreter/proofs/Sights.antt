@@ -1,10 +1,9 @@
 -- What is told of a run is told of each of its parts, and then a turn of it is the computed one.
 use Rattle.std.proofs.Common.{◌≡◌, ℕ, zero, suc, ◌<◌, ◌≤◌, List, [], ◌∷◌, ◌++◌, length, Option, Some, None}
 use Rattle.std.proofs.Common.{Ok, refl, sym, ap, subst, ◌∙◌, cond, arith}
-use Rattle.std.proofs.lemmas.List.{drop-append-le, get_or-set_same, get_or_append_left, get_or_push, length-append}
-use Rattle.std.proofs.lemmas.List.{length-map}
+use Rattle.std.proofs.lemmas.List.{drop-append-le, get_or-set_same, get_or_push, length-append, length-map}
 use Rattle.std.proofs.lemmas.List.Elements.{filter-append}
-use Rattle.std.specs.Prelude.{All, drop, is_none, slice_get, slice_index_or, slice_set, IfSome}
+use Rattle.std.specs.Prelude.{drop, is_none, slice_get, slice_index_or, slice_set, IfSome}
 use Rattle.externals.specs.Cells.{Seen, none_seen}
 use Rattle.externals.specs.Log.{Log, LoggedTurn, IsTurnOf, Follows}
 use Rattle.externals.specs.Turns.{Turn, TurnTable}
@@ -15,30 +14,20 @@ use Rattle.change_journal.specs.History.{History}
 use Rattle.change_journal.specs.Logs.{log_at, turns_since}
 use Rattle.change_journal.specs.Rising.{TookTurn}
 use Rattle.meaning.specs.State.{RunState}
+use Rattle.preservation.specs.Kinds.{sorts_of, sorts}
 use Rattle.preservation.specs.Laws.{IsPrefix}
 use Rattle.definitional_interpreter.specs.Told.{Visible, told}
 use Rattle.definitional_interpreter.specs.Changes.{turn, take_turn, due_turn}
-use Rattle.definitional_interpreter.specs.Turns.{sorts_of, sorts, is_nondeterministic, nondeterministic, logs_since}
+use Rattle.definitional_interpreter.specs.Turns.{is_nondeterministic, nondeterministic, logs_since}
 use Rattle.definitional_interpreter.specs.Laws.{AreTold}
-use Rattle.preservation.proofs.Going.{prefix_trans}
-use Rattle.definitional_interpreter.proofs.Comes.{Kept, HasExternal, Sight, sight, Asks, prefix_same}
+use Rattle.preservation.proofs.Logs.{Kept}
+use Rattle.preservation.proofs.Prefixes.{prefix_same, prefix_trans, prefix_length, prefix_drop, all_of_prefix}
+use Rattle.definitional_interpreter.proofs.Comes.{HasExternal, Sight, sight, Asks}
 
 pub sort_at : (es : List Seen) (k : ℕ) → slice_index_or (sorts_of es) k 0 ≡ (slice_index_or es k none_seen).sort
 sort_at [] k = refl
 sort_at (e ∷ es) zero = refl
 sort_at (e ∷ es) (suc k) = sort_at es k
-
--- ---- fronts
-
-pub prefix_length : {A : Type 0} (xs ys : List A) → IsPrefix xs ys → length xs ≤ length ys
-prefix_length xs ys h = omega (arith, ap length h.1, length-append xs h.0)
-
-pub prefix_drop : {A : Type 0} (n : ℕ) (xs ys : List A) → IsPrefix xs ys → IsPrefix (drop n xs) (drop n ys)
-prefix_drop zero xs ys h = h
-prefix_drop (suc n) [] ys h = (drop (suc n) ys, refl)
-prefix_drop (suc n) (x ∷ xs) [] h = let no : ⊥ = cc in absurd no
-prefix_drop (suc n) (x ∷ xs) (y ∷ ys) h =
-    let same : ys ≡ xs ++ h.0 = ap (drop 1) h.1 in prefix_drop n xs ys (h.0, same)
 
 prefix_of_nondeterministic : (table : TurnTable) (sort : ℕ) (xs ys : Log) → IsPrefix xs ys →
     IsPrefix (nondeterministic table sort xs) (nondeterministic table sort ys)
@@ -46,22 +35,6 @@ prefix_of_nondeterministic table sort xs ys h = (
   nondeterministic table sort h.0,
   ap (nondeterministic table sort) h.1 ∙ filter-append (is_nondeterministic table sort) xs h.0,
 )
-
--- what is behind a front
-pub rest_is : {A : Type 0} (xs ys zs : List A) → ys ≡ xs ++ zs → drop (length xs) ys ≡ zs
-rest_is {A = A} xs ys zs is = ap (drop (length xs)) is ∙ behind xs
-  where
-    behind : (xs : List A) → drop (length xs) (xs ++ zs) ≡ zs
-    behind [] = refl
-    behind (x ∷ xs) = behind xs
-
-pub goes_on : {A : Type 0} (xs ys : List A) → IsPrefix xs ys → ys ≡ xs ++ drop (length xs) ys
-goes_on xs ys h = h.1 ∙ ap (λ l. xs ++ l) (sym (rest_is xs ys h.0 h.1))
-
-pub all_of_prefix : {A : Type 0} (P : A → Type 0) (xs ys : List A) → IsPrefix xs ys → All P ys → All P xs
-all_of_prefix P xs ys h all k d within =
-    subst P (ap (λ l. slice_index_or l k d) h.1 ∙ get_or_append_left xs h.0 d k within)
-    (all k d (let longer = prefix_length xs ys h in omega (arith, within, longer)))
 
 -- ---- turns since the beginning
 

@@ -76,10 +76,10 @@ ValuesAreComputed =
 
 -- A table that has each turn of a kind leaves none to be told: where each external is deterministic, each run is
 -- computed by the table alone.
-abbrev pub DeterministicKindsHaveNoFreeTurns : Type 0
-DeterministicKindsHaveNoFreeTurns =
+abbrev pub DeterministicKindsHaveNoTurnsToTell : Type 0
+DeterministicKindsHaveNoTurnsToTell =
     (table : TurnTable) (sort : ℕ) (log : Log) → IsDeterministic table sort → nondeterministic table sort log ≡ []
 
 -- Where nothing is known of the externals, each turn has to be told: each run is computed by its logs.
-abbrev pub WithNoTableAllTurnsAreFree : Type 0
-WithNoTableAllTurnsAreFree = (sort : ℕ) (log : Log) → nondeterministic no_table sort log ≡ log
+abbrev pub WithNoTableAllTurnsHaveToBeTold : Type 0
+WithNoTableAllTurnsHaveToBeTold = (sort : ℕ) (log : Log) → nondeterministic no_table sort log ≡ log

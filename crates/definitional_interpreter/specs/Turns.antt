@@ -1,22 +1,14 @@
 -- Turns of externals that a table has, and those that it hasn't.
-use Rattle.std.specs.Prelude.{◌≡◌, ℕ, ◌<◌, Bool, is_none, List, [], ◌∷◌, filter, length, map, drop, slice_index_or}
-use Rattle.std.specs.Prelude.{Some}
-use Rattle.externals.specs.Cells.{Seen}
+use Rattle.std.specs.Prelude.{◌≡◌, ℕ, ◌<◌, Bool, is_none, List, [], ◌∷◌, filter, length, drop, slice_index_or, Some}
 use Rattle.externals.specs.Log.{Log, LoggedTurn}
 use Rattle.externals.specs.Turns.{Turn, TurnTable}
 use Rattle.externals.specs.declared.external.Input.{Input}
-use Rattle.change_journal.specs.History.{History}
+pub use Rattle.preservation.specs.Kinds.{sorts_of}
 
 -- a deterministic kind: the table has each of its turns
 abbrev pub IsDeterministic : TurnTable → ℕ → Type 0
 IsDeterministic table sort =
     (cells : List (List ℕ)) (input : Input) → (turn : Turn) × (table sort cells input ≡ Some turn)
-
-abbrev pub sorts_of : List Seen → List ℕ
-sorts_of = map (λ e. e.sort)
-
-abbrev pub sorts : History → List ℕ
-sorts w = sorts_of w.now.externals
 
 -- each external is deterministic
 abbrev pub AreDeterministic : TurnTable → List ℕ → Type 0

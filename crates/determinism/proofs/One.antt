@@ -18,9 +18,11 @@ use Rattle.definitional_interpreter.specs.Laws.{AreTold}
 use Rattle.determinism.specs.Laws.{AreAlike, SameOutcome}
 use Rattle.determinism.specs.Laws.{LinesHaveOneOutcome, MessagesHaveOneOutcome, ActionsHaveOneOutcome}
 use Rattle.determinism.specs.Laws.{ReferencesHaveOneOutcome, ValuesHaveOneOutcome}
-use Rattle.definitional_interpreter.proofs.Comes.{Kept, Sight, sight, Comes, prefix_same}
+use Rattle.definitional_interpreter.proofs.Comes.{Sight, sight, Comes}
 use Rattle.definitional_interpreter.proofs.Outcomes.{val_comes, line_comes, message_comes, refers_comes, acts_comes}
-use Rattle.definitional_interpreter.proofs.Sights.{asks_told, at_since, from, goes_on, rest_is}
+use Rattle.definitional_interpreter.proofs.Sights.{asks_told, at_since, from}
+use Rattle.preservation.proofs.Logs.{Kept}
+use Rattle.preservation.proofs.Prefixes.{prefix_same, goes_on, rest_is}
 
 -- ---- logs
 

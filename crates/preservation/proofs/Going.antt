@@ -1,6 +1,6 @@
 -- What goes on in a rule: steps, lines that are shown, messages that are sent, and results.
-use Rattle.std.proofs.Common.{◌≡◌, ℕ, List, [], ◌∷◌, ◌++◌, Option, Some, None, Result, Ok, Err, Bool, refl, sym, ap}
-use Rattle.std.proofs.Common.{subst, ◌∙◌, append_assoc, append-nil, arith}
+use Rattle.std.proofs.Common.{◌≡◌, ℕ, List, [], ◌∷◌, Option, Some, None, Result, Ok, Err, Bool, refl, sym, subst}
+use Rattle.std.proofs.Common.{append-nil, arith}
 use Rattle.ht_values.specs.declared.fault.Fault.{Fault}
 use Rattle.ht_values.specs.Operators.{truth_of}
 use Rattle.ht_values.specs.Outcome.{and_then}
@@ -15,12 +15,10 @@ use Rattle.meaning.specs.declared.end.Stop.{Stop}
 use Rattle.meaning.specs.State.{RunState, Step, shows, noted, delimiter_set, run_property_set}
 use Rattle.meaning.specs.Repeats.{Outcome, returned, ends}
 use Rattle.preservation.specs.Laws.{IsPrefix, GoesOn}
+pub use Rattle.preservation.proofs.Prefixes.{prefix_trans}
 
 whole : {A : Type 0} (xs : List A) → IsPrefix xs xs
 whole xs = ([], sym (append-nil xs))
-
-pub prefix_trans : {A : Type 0} (xs ys zs : List A) → IsPrefix xs ys → IsPrefix ys zs → IsPrefix xs zs
-prefix_trans xs ys zs h k = (h.0 ++ k.0, k.1 ∙ ap (λ l. l ++ k.0) h.1 ∙ append_assoc xs h.0 k.0)
 
 pub goes_nowhere : {r : RunState} → GoesOn r r
 goes_nowhere {r} = record { left = omega arith; shown = whole r.shown; sent = whole r.sent }

@@ -2,4 +2,5 @@ pub mod Rising
 pub mod Changes
 pub mod Replaced
 pub mod Whole
+pub mod Kinds
 pub mod Laws

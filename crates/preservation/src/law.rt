@@ -30,6 +30,12 @@ pub fn runs_rise()
     ensures values { ValuesRise }
 {}
 
+/// A batch has few entries for the different places that its run replaced.
+#[tactic(auto, using(crate::proofs::Trails::short_after))]
+pub fn batches_are_short()
+    ensures { BatchesAreShort }
+{}
+
 /// A run takes steps and gives none back, and what it has shown and sent stays.
 #[tactic(auto, using(crate::proofs::Runs::goes_line, crate::proofs::Runs::goes_message, crate::proofs::Runs::goes_acts, crate::proofs::Runs::goes_refers, crate::proofs::Runs::goes_val))]
 pub fn runs_go_on()
@@ -49,10 +55,4 @@ pub fn runs_keep_states_whole()
     ensures actions { ActionsStayWhole }
     ensures references { ReferencesStayWhole }
     ensures values { ValuesStayWhole }
-{}
-
-/// A batch has few entries for the different places that its run replaced.
-#[tactic(auto, using(crate::proofs::Trails::short_after))]
-pub fn batches_are_short()
-    ensures { BatchesAreShort }
 {}

@@ -11,7 +11,7 @@ use Rattle.meaning.specs.declared.frame.Frame.{Frame}
 use Rattle.meaning.specs.Meaning.{Val, Form, Block, Endless, While, Counts, Along, Talks, CallsBack}
 use Rattle.meaning.specs.Repeats.{CounterState}
 use Rattle.meaning.specs.State.{RunState}
-use Rattle.definitional_interpreter.proofs.Leaves.{IsCall}
+use Rattle.preservation.proofs.CallBacks.{IsCall}
 use Rattle.totality.proofs.Chain.{Begun, Underway, Has, HasRun}
 
 -- how texts are read, and the parts that begin behind a step

@@ -45,7 +45,6 @@ use Rattle.meaning.specs.Places.{field_named_place}
 use Rattle.meaning.specs.Repeats.{returned}
 use Rattle.meaning.specs.State.{RunState, Step, typed_frame, handler_frame}
 use Rattle.meaning.specs.Values.{Parses}
-use Rattle.definitional_interpreter.proofs.Leaves.{IsCall}
 use Rattle.totality.proofs.Chain.{Begun}
 use Rattle.totality.proofs.Chain.{Underway, Has, has, ok, fault, yield, same, then, then_lines, choose, maybe, deep}
 use Rattle.totality.proofs.Chain.{nested}
@@ -53,6 +52,7 @@ use Rattle.totality.proofs.Leaves.{then_step, lift, Passes, then_parsed, then_fo
 use Rattle.totality.proofs.Leaves.{then_done_lines, field_stands, stores, stores_named, adds}
 use Rattle.containers.proofs.Bases.{took_keeps as base_turn}
 use Rattle.preservation.proofs.Bases.{base_calls_back}
+use Rattle.preservation.proofs.CallBacks.{IsCall}
 use Rattle.preservation.proofs.Ends.{given}
 use Rattle.whole_states.proofs.Leaves.{named_stands, stands_after}
 use Rattle.totality.proofs.Turns.{then_turn}

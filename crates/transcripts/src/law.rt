@@ -1,4 +1,4 @@
-//! Laws of transcripts.
+//! Laws of transcripts: of the answers to lines, none of which is refused for memory or for its file.
 
 ghost use Rattle.transcripts.specs.Laws.{TranscriptsExist, OutputsExist, TranscriptsExistBy, OutputsExistBy};
 ghost use Rattle.transcripts.specs.Laws.{BehavioursFollowTables, TranscriptsAreOne, OutputsAreOne};
@@ -12,14 +12,6 @@ use definitional_interpreter::{nondeterministic_turns_are_known, runs_are_comput
 use ht_grammar::texts_are_read_exactly;
 use totality::{behaviours_are_logged, behaviours_have_an_outcome, runs_have_an_outcome};
 use whole_states::{runs_lead_to_whole_states, trees_have_texts};
-
-/// Two replies to one fresh command, at one moment, whose turns of externals are told by one table and the same turns
-/// beside it, are the same, and so is what they leave.
-pub fn replies_are_one()
-    ensures { RepliesAreOne }
-{
-    runs_are_computed();
-}
 
 /// Each fresh command has a reply, with a state after it, in any state and with any number of steps; but for a text
 /// that is typed into a locked field.
@@ -38,6 +30,14 @@ pub fn replies_exist_by_behaviours()
     behaviours_are_logged();
 }
 
+/// Two replies to one fresh command, at one moment, whose turns of externals are told by one table and the same turns
+/// beside it, are the same, and so is what they leave.
+pub fn replies_are_one()
+    ensures { RepliesAreOne }
+{
+    runs_are_computed();
+}
+
 /// Whatever the externals do, a fresh command whose texts are texts leads from a whole state to a whole one.
 pub fn replies_stay_whole()
     ensures { RepliesStayWhole }
@@ -45,17 +45,27 @@ pub fn replies_stay_whole()
     runs_lead_to_whole_states();
 }
 
-/// Each list of lines, and so each input, has answers none of which is refused for memory or for its file, from any
-/// list of states on, if the cursor stands on one of them, and from any desk.
-pub fn transcripts_exist()
-    ensures lines { TranscriptsExist }
-    ensures input { OutputsExist }
+/// Each turn of the kit's table leaves as many cells and makes texts of texts: so the table is a behaviour of the kit's
+/// externals, by which lines have answers.
+pub fn kit_is_a_table()
+    ensures { IsTable kit_table }
+{}
+
+/// Along a transcript the externals stay, and each log only grows.
+pub fn transcripts_go_on()
+    ensures { TranscriptsGoOn }
+{}
+
+/// Whatever the externals do, a transcript of lines of bytes leads from whole states to whole states.
+pub fn transcripts_stay_whole()
+    ensures lines { TranscriptsStayWhole }
+    ensures input { OutputsStayWhole }
 {
-    replies_exist();
-    texts_are_read_exactly();
+    replies_stay_whole();
+    trees_have_texts();
 }
 
-/// Whatever behaviour the externals have, from whole states lines of bytes have such answers in which each turn is that
+/// Whatever behaviour the externals have, from whole states lines of bytes have a transcript in which each turn is that
 /// of the behaviour. Where the behaviour is as a table says, logs that follow the table go on to follow it.
 pub fn transcripts_exist_by_behaviours()
     ensures lines { TranscriptsExistBy }
@@ -68,14 +78,19 @@ pub fn transcripts_exist_by_behaviours()
     texts_are_read_exactly();
 }
 
-/// Along such answers the externals stay, and each log only grows.
-pub fn transcripts_go_on()
-    ensures { TranscriptsGoOn }
-{}
+/// Each list of lines, and so each input, has a transcript, from any list of states on, if the cursor stands on one of
+/// them, and from any desk.
+pub fn transcripts_exist()
+    ensures lines { TranscriptsExist }
+    ensures input { OutputsExist }
+{
+    replies_exist();
+    texts_are_read_exactly();
+}
 
-/// Such answers are the same each time, and so are the states, the cursor, the logs and the saved text after them,
-/// where the turns of the externals are told by one table and the same turns beside it. The table alone tells them
-/// where it has each turn of each kind, as that of the kit's four has, and without a table the logs do.
+/// Two transcripts of the same lines are the same, and so are the states, the cursor, the logs and the saved text after
+/// them, where the turns of the externals are told by one table and the same turns beside it. The table alone tells
+/// them where it has each turn of each kind, as that of the kit's four has, and without a table the logs do.
 pub fn transcripts_are_one()
     ensures lines { TranscriptsAreOne }
     ensures input { OutputsAreOne }
@@ -89,18 +104,3 @@ pub fn transcripts_are_one()
     nondeterministic_turns_are_known();
     texts_are_read_exactly();
 }
-
-/// Whatever the externals do, such answers to lines of bytes lead from whole states to whole states.
-pub fn transcripts_stay_whole()
-    ensures lines { TranscriptsStayWhole }
-    ensures input { OutputsStayWhole }
-{
-    replies_stay_whole();
-    trees_have_texts();
-}
-
-/// Each turn of the kit's table leaves as many cells and makes texts of texts: so the table is a behaviour of the kit's
-/// externals, by which lines have answers.
-pub fn kit_is_a_table()
-    ensures { IsTable kit_table }
-{}

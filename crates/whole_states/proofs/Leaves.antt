@@ -60,11 +60,11 @@ use Rattle.meaning.specs.Repeats.{Outcome, returned, ends, leaves_repeat}
 use Rattle.meaning.specs.State.{RunState, Step, shows, noted, run_property_set, run_property, handler_frame}
 use Rattle.meaning.specs.Values.{Yields, Parses}
 use Rattle.preservation.specs.Laws.{HasMemory}
+use Rattle.preservation.proofs.Logs.{set_keeps}
 use Rattle.preservation.proofs.Placed.{of_field, of_field_named}
+use Rattle.preservation.proofs.Prefixes.{rest_is}
 use Rattle.preservation.proofs.StaysWhole.{due_stood, text_stood}
 use Rattle.whole_states.specs.Texts.{RunTexts, LocalsTexts, FrameTexts, StorageTexts, HowTexts, InputTexts}
-use Rattle.definitional_interpreter.proofs.Leaves.{set_keeps}
-use Rattle.definitional_interpreter.proofs.Sights.{rest_is}
 use Rattle.whole_states.specs.Laws.{LeadsToWhole}
 use Rattle.whole_states.specs.Texts.{AreTexts, HandlerTexts, HandlersTexts, LoggedTexts, StmtsTexts}
 use Rattle.whole_states.specs.Texts.{TreesHaveTexts}
@@ -269,9 +269,6 @@ sound_shows t is h = subst RunTexts (sym is) (record { delimiter = h.delimiter; 
 
 pub sound_noted : {r r2 : RunState} (name : List ℕ) (id : ℕ) → r2 ≡ noted r name id → RunTexts r → RunTexts r2
 sound_noted name id is h = subst RunTexts (sym is) (record { delimiter = h.delimiter; result = h.result })
-
-IfRun : Result RunState Fault → Type 0
-IfRun r = IfOk r RunTexts
 
 pub sound_property : {r r2 : RunState} (p : RunProp) (t : List ℕ) → run_property_set r p t ≡ Ok r2 → IsText t
     → RunTexts r → RunTexts r2
