@@ -8,9 +8,9 @@ ghost use Rattle.msg_path.specs.Trees.{GivesTree};
 
 use change_journal::World;
 use externals::External;
-use ht_parse::{ParseError, parse_script};
+use ht_parse::parse_script;
 use ht_tree::Script;
-use ht_values::{Failure, Fault, Text};
+use ht_values::{Failure, Text};
 use object_table::{Id, Stack};
 use std::alloc::{AllocError, Global};
 use std::rc::Rc;
@@ -30,11 +30,7 @@ fn script_text<'a>(stack: &'a Stack, id: Id, empty: &'a Text) -> &'a Text
 fn parsed(alloc: Global, text: &Text) -> Result<Script, Failure>
     ensures { GivesTree script_of text.now result }
 {
-    match parse_script(alloc, text) {
-        Ok(script) => Ok(script),
-        Err(ParseError::Syntax(_)) => Err(Failure::Fault(Fault::Syntax)),
-        Err(ParseError::Memory) => Err(Failure::Memory),
-    }
+    Ok(parse_script(alloc, text)?)
 }
 
 /// Keeps the tree of an object's script in the world, and shares it.
