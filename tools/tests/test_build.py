@@ -44,7 +44,7 @@ class Building(TreeTest):
     def test_crates_off_the_way_are_proved_beside_it(self) -> None:
         self.put("crates.txt", "low: itoa\nmiddle: low\nside: low\ncard_cli: middle side clap\n")
         self.put("crates/side/src/lib.rt", "//\n")
-        self.assertIn("from nothing, 4 crates", self.build())
+        self.assertIn("from nothing, 4 crates", self.build(UNTIL="ci middle"))
         called = self.called()
         self.assertEqual((called[0], sorted(called)), (BESIDE[0], sorted(BESIDE)))
 

@@ -17,7 +17,8 @@ CHECKS = ("dependencies", "definitions", "pages", "faults", "promises", "meaning
 TRIALS = ("trial", "stress", "session")
 LATER = len(TRIALS) + 2
 
-# It tells its calls in $CALLS. A program that it builds is of its sources, and prints its words.
+# It tells its calls in $CALLS. A program that it builds is of its sources, and prints its words. With UNTIL the crate
+# `side` isn't proved before such a call was made.
 RT = r"""#!/bin/sh
 echo "$(basename "$PWD") $*" >> "$CALLS"
 program() {
@@ -33,6 +34,12 @@ case $1 in
     ci)
         [ -z "${NAMELESS-}" ] || [ $# -eq 1 ] || { echo "usage: rt new FOLDER"; exit 2; }
         [ -z "${SLOW-}" ] || sleep "$SLOW"
+        if [ "${2-}" = side ] && [ -n "${UNTIL-}" ]; then
+            for _ in $(seq 100); do
+                ! grep -qs "$UNTIL" "$CALLS" || break
+                sleep 0.1
+            done
+        fi
         if [ -n "${EDIT-}" ]; then echo changed >> "$EDIT"; fi
         [ -z "${FAILS-}" ] || { echo "rt: FAILED: low"; echo "1 passed, 1 failed"; exit 1; }
         find . -type f > "$CALLS.tree"
