@@ -145,9 +145,9 @@ class Runs(unittest.TestCase):
         plain = Shape("plain", lambda _: Scripts(""), no_texts, "g", ())
         self.assertEqual([running.is_due(plain, kib) for kib in (*running.BOUNDS, 10240)], [True, True, False])
         named = {shape.name: shape for shape in SHAPES}
-        self.assertEqual(running.NEED_MORE, {"send with arguments": 5632})
+        self.assertEqual(running.NEED_MORE, {"send with arguments": 5120})
         more = named["send with arguments"]
-        self.assertEqual([running.is_due(more, kib) for kib in (4096, 5632, 8192)], [False, True, True])
+        self.assertEqual([running.is_due(more, kib) for kib in (4096, 5120, 8192)], [False, True, True])
 
 
 if __name__ == "__main__":
