@@ -1,35 +1,20 @@
-"""What a person may have meant by a line that wasn't done: a dot line without its dot, another object, another word, or
-what HyperCard knows and this program doesn't. A hint stands behind the program's explanation, and only where there is
-one.
+"""What a person may have meant by a line that wasn't done: a dot line, another object, another word, or what HyperCard
+knows and this program doesn't. A hint stands behind the program's explanation, and only where there is one.
 """
 
 import re
-from typing import Callable, Dict, List, Optional, Pattern, Sequence
+from typing import Callable, List, Optional, Sequence
 
+from front import hints_of_dot_lines as of_dot_lines
 from front import hints_of_hypercard as of_hypercard
 from front import hints_of_objects as of_objects
 from front import hints_of_spelling as of_spelling
 from front.answers import FAULT, NOT_IN_GRAMMAR, Answer
+from front.hints_of_dot_lines import DotLines
 from front.server_objects import Objects
 from front.terminal_text import Coding
 
 SYNTAX, CANT_UNDERSTAND, NO_SUCH_OBJECT, BAD_ARGUMENT = 1, 2, 3, 16
-DotLines = Dict[str, Pattern[str]]
-
-_NOTHING, _SOMETHING = re.compile(""), re.compile(".+")
-# What may stand behind the word of a dot line: of the program's, and with those of the terminal alone.
-OF_PROGRAM: DotLines = {
-    "open": _NOTHING, "show": _NOTHING, "save": _NOTHING, "history": _NOTHING, "globals": _NOTHING, "where": _NOTHING,
-    "quit": _NOTHING, "cells": re.compile(r"\w+"),
-    "undo": re.compile("(?:(?:to +)?[0-9]+)?"), "redo": re.compile("[0-9]*"),
-    "click": re.compile(r"(?:(?:card|cd|background|bkgnd|bg) +)?(?:button|btn|field|fld)\b.+", re.IGNORECASE),
-    "type": re.compile(".+ into .+", re.IGNORECASE),
-}
-OF_TERMINAL: DotLines = {
-    **OF_PROGRAM, "help": _NOTHING, "cards": _NOTHING, "card": _NOTHING, "diff": _NOTHING, "log": _SOMETHING,
-    "script": _SOMETHING, "edit": _SOMETHING,
-}
-OTHER_WORDS = {"?": "help", "h": "help", "q": "quit", "exit": "quit", "bye": "quit"}
 
 _CARET = re.compile(r" *\^")
 _SENT = re.compile('  sent: "(.+)"')
@@ -44,7 +29,8 @@ def hints(line: bytes, answer: Answer, objects: Callable[[], Optional[Objects]],
     told, typed = answer.explained, line.decode("ascii", "replace")
     fault = answer.number if answer.ending == FAULT and told else 0
     if answer.is_refused(NOT_IN_GRAMMAR) and told:
-        return _dot_line(typed, known) or _unread(told)
+        meant = of_dot_lines.with_dot if typed.lstrip().startswith(".") else of_dot_lines.without_dot
+        return meant(typed, known) or _unread(told)
     if fault == SYNTAX:
         return _unread(told)
     if fault == CANT_UNDERSTAND:
@@ -69,19 +55,11 @@ def _unhandled(typed: str, explained: Sequence[str], objects: Callable[[], Optio
     names = [found.group(1) for found in map(_SENT.fullmatch, explained) if found]
     if not names:
         return []
-    meant = _dot_line(typed, known) if names[0] == typed.strip().partition(" ")[0] else []
+    is_line = names[0] == typed.strip().partition(" ")[0]
+    meant = of_dot_lines.without_dot(typed, known) if is_line else []
     meant = meant or of_hypercard.unhandled(names[0], _statements(explained))
     here = None if meant else objects()
     return of_spelling.message(names[0], here) if here else meant
-
-
-def _dot_line(line: str, known: DotLines) -> List[str]:
-    """The dot line that is meant, if any."""
-    word, _, rest = line.strip().partition(" ")
-    name, rest = OTHER_WORDS.get(word.lower(), word.lower()), rest.strip()
-    if name not in known or not known[name].fullmatch(rest):
-        return []
-    return ["  did you mean .%s? A line that begins with no dot is HyperTalk." % (name + " " + rest).strip()]
 
 
 def _not_found(explained: Sequence[str], objects: Callable[[], Optional[Objects]], coding: Coding) -> List[str]:

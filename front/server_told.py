@@ -7,7 +7,8 @@ import re
 from typing import Dict, List, Optional, Sequence, Tuple
 
 from front.answers import OK, Answer
-from front.hints import OF_PROGRAM, hints
+from front.hints import hints
+from front.hints_of_dot_lines import OF_PROGRAM
 from front.server_objects import Json, Objects, title
 from front.server_words import shown
 from front.session import SHOW, Entry

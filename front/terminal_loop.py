@@ -6,7 +6,8 @@ from typing import Callable, Dict, List, Optional
 
 from front import terminal_views as views
 from front.answers import NOT_IN_GRAMMAR, REFUSED, Answer
-from front.hints import OF_TERMINAL, hints
+from front.hints import hints
+from front.hints_of_dot_lines import OF_TERMINAL
 from front.server_places import COMMANDS
 from front.session import Difference, Ended, Session
 from front.terminal_completion import Names, candidates

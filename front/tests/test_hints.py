@@ -4,7 +4,8 @@ import os
 import unittest
 from typing import Sequence, Tuple
 
-from front.hints import OF_PROGRAM, OF_TERMINAL, DotLines, hints
+from front.hints import hints
+from front.hints_of_dot_lines import OF_PROGRAM, OF_TERMINAL, DotLines
 from front.server_objects import Objects
 from front.server_told import entry_view
 from front.session import Session
@@ -27,7 +28,13 @@ DOT_LINES: Sequence[Tuple[str, str]] = (
     ('type "x" into field 1', 'type "x" into field 1'), ("script this card", "script this card"),
     ("log my.session", "log my.session"),
 )
-NO_HINT = ("frob", "undo it", "card field", "put", "put 1 div 0", "put the foo of button 1", "if it then", "put foo(3)",
+DOTTED: Sequence[Tuple[str, str]] = (
+    (".histroy", "history"), (".sav", "save"), (".shw", "show"), (".clik button 1", "click button 1"),
+    (".Undo 2", "undo 2"), (".undoo to 3", "undo to 3"), (".exit", "quit"), (".q", "quit"), (".save as new", "save"),
+    ('.click "Go"', 'click button "Go"'), (".type milk into field 1", 'type "milk" into field 1'),
+)
+NO_HINT = (".frob", ".cells Nobody", ".undo all", ".click", ".",
+           "frob", "undo it", "card field", "put", "put 1 div 0", "put the foo of button 1", "if it then", "put foo(3)",
            "delete card", "go to card 99", "put 1 into total extra", "put counter 5")
 SPELLING: Sequence[Tuple[str, str, str]] = (
     ('put "x" into feild "Note"', "field", "feild"), ('put the lenght of "x"', "length", "lenght"),
@@ -85,6 +92,13 @@ class Hints(FolderTest):
         for line, meant in DOT_LINES:
             with self.subTest(line=line):
                 self.assertEqual(self.hints(line), NO_DOT % meant)
+
+    def test_a_dot_line_that_is_misspelt(self) -> None:
+        for line, meant in DOTTED:
+            with self.subTest(line=line):
+                self.assertEqual(self.hints(line), "  did you mean .%s?" % meant)
+        self.assertIn("opens no other stack: start ./card my.stack for that", self.hints(".open my.stack"))
+        self.assertEqual(self.hints(".hepl", OF_PROGRAM), "")
 
     def test_other_lines_have_no_hint(self) -> None:
         for line in NO_HINT:
