@@ -8,9 +8,6 @@ use Rattle.journal_entries.proofs.Going.{shape-back}
 use Rattle.change_journal.specs.Batches.{Journal, open_of, history_of, IsSound}
 use Rattle.change_journal.proofs.States.{IsHistory-rolled_back, IsHistory-unplugged}
 
-abbrev pub empty_batch : ℕ → BatchView
-empty_batch number = record { number = number; entries = [] }
-
 -- the state that the open batch leads back to
 abbrev pub gone_back : Journal → BatchView → Journal
 gone_back b batch =

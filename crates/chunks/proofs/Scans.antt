@@ -175,10 +175,6 @@ pub char_spans : (d : ℕ) (t : List ℕ) → spans_from 0 0 (bytes_of t) ≡ sp
 unfolding spans
 char_spans d t = refl
 
-length_spans : (at gap : ℕ) (ps : List (List ℕ)) → length (spans_from at gap ps) ≡ length ps
-length_spans at gap [] = refl
-length_spans at gap (p ∷ ps) = ap (λ n. suc n) (length_spans (at + length p + gap) gap ps)
-
 pub not_wide : (at : ℕ) → nat_lt at (at + 0) ≡ false
 not_wide at = grind arith
 

@@ -1,6 +1,6 @@
 -- Places that hold a text, and the text that stands there.
-use Rattle.std.specs.Prelude.{◌≡◌, ℕ, zero, suc, Bool, false, not, ◌&&◌, ◌==◌, List, [], is_some, Option, unwrap_or}
-use Rattle.std.specs.Prelude.{Result, Ok, Err, refl, if◌then◌else◌}
+use Rattle.std.specs.Prelude.{ℕ, Bool, false, not, ◌&&◌, ◌==◌, List, [], is_some, Option, unwrap_or}
+use Rattle.std.specs.Prelude.{Result, Ok, Err, if◌then◌else◌}
 use Rattle.std.specs.Option.{ok_or}
 use Rattle.std.specs.FinMap.{get}
 use Rattle.ht_values.specs.declared.fault.Fault.{Fault}
@@ -35,21 +35,6 @@ abbrev pub storage_view : Storage → StorageView
 storage_view (storage.Global name) = global (folded name.now)
 storage_view (storage.Own name) = own name.now
 storage_view (storage.Field field card) = field_text field card
-
-abbrev pub storage_code : StorageView → List ℕ × (ℕ × (ℕ × ℕ))
-storage_code (global name) = (name, (0, (0, 0)))
-storage_code (own name) = (name, (1, (0, 0)))
-storage_code (field_text field card) = ([], (2, (field, card)))
-
-abbrev pub storage_coded : List ℕ → ℕ → ℕ → ℕ → StorageView
-storage_coded name zero field card = global name
-storage_coded name (suc zero) field card = own name
-storage_coded name n field card = field_text field card
-
-pub storage_back : (h : StorageView) → (let p = storage_code h in storage_coded p.0 p.1.0 p.1.1.0 p.1.1.1) ≡ h
-storage_back (global name) = refl
-storage_back (own name) = refl
-storage_back (field_text field card) = refl
 
 -- whether the cards share the text of a field
 abbrev pub is_shared : Content → ℕ → Bool

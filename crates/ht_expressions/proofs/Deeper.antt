@@ -1,8 +1,8 @@
 -- Reading at one depth or rank more.
-use Rattle.std.proofs.Common.{◌≡◌, ℕ, zero, suc, ◌+◌, ◌-◌, ◌<◌, List, None, refl, ap, ◌∙◌, arith}
+use Rattle.std.proofs.Common.{◌≡◌, ℕ, zero, suc, ◌-◌, ◌<◌, List, None, refl, ap, arith}
 use Rattle.ht_lex.specs.Token.{Token}
 use Rattle.ht_grammar.specs.Expressions.{Level}
-use Rattle.ht_grammar.specs.Reading.{read, level_at, and_then, rank_at, chain_at, power_at}
+use Rattle.ht_grammar.specs.Reading.{read, level_at, rank_at, power_at}
 
 pub none_read : (d : ℕ) (p : Level) (ts : List Token) → d ≡ 0 → read d p ts ≡ None
 unfolding read
@@ -18,11 +18,3 @@ pub rank_zero : (d r : ℕ) (ts : List Token) → r ≡ 0 → rank_at (read d) d
 unfolding rank_at
 rank_zero d zero ts e = refl
 rank_zero d (suc r) ts e = absurd (omega arith)
-
-pub rank_up : (d r : ℕ) (ts : List Token) → 0 < r
-    → rank_at (read d) d r ts ≡ and_then (rank_at (read d) d (r - 1) ts) (chain_at (read d) d (r - 1) (d + 2))
-unfolding rank_at
-rank_up d zero ts e = absurd (omega arith)
-rank_up d (suc r) ts e = let n : r ≡ suc r - 1 = omega arith in let k : suc (suc d) ≡ d + 2 = omega arith in
-    ap (λ n. and_then (rank_at (read d) d n ts) (chain_at (read d) d n (suc (suc d)))) n
-    ∙ ap (λ k. and_then (rank_at (read d) d (suc r - 1) ts) (chain_at (read d) d (suc r - 1) k)) k

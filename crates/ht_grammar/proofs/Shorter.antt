@@ -10,8 +10,8 @@ use Rattle.ht_values.specs.declared.operator.UnOp.TheVariants as un
 use Rattle.ht_values.specs.declared.operator.ValueType.{ValueType}
 use Rattle.ht_grammar.specs.declared.vocabulary.Layer.{Layer}
 use Rattle.ht_grammar.specs.Trees.{Expr, Exprs, Chunk, Which, Selector, Owner, Part, Ref, Count}
-use Rattle.ht_grammar.specs.Fronts.{LeadingOperator, infix_at, test_at, neither, leading_operator, operator_after_is}
-use Rattle.ht_grammar.specs.Fronts.{operator_after_is_not, asked_type, test_or, after_of, past_the}
+use Rattle.ht_grammar.specs.Fronts.{infix_at, test_at, leading_operator, operator_after_is}
+use Rattle.ht_grammar.specs.Fronts.{operator_after_is_not, operator_rest, asked_type, test_or, after_of, past_the}
 use Rattle.ht_grammar.specs.Expressions.{Derives, DerivesList, DerivesLayer, DerivesArticle, DerivesChunk}
 use Rattle.ht_grammar.specs.Expressions.{DerivesCount, DerivesRef, DerivesSelector, DerivesWhich, DerivesPart}
 use Rattle.ht_grammar.specs.Expressions.{DerivesOwner, Level}
@@ -30,11 +30,6 @@ pub shorter_of : (m : List Token) {b : List Token} → after_of m ≡ Some b →
 shorter_of (key k.Of ∷ ts) {b} e = let same : ts ≡ b = cc in omega (arith, ap (length {A = Token}) same)
 shorter_of (key k.In ∷ ts) {b} e = let same : ts ≡ b = cc in omega (arith, ap (length {A = Token}) same)
 shorter_of _ e = cc
-
-abbrev operator_rest : LeadingOperator → List Token
-operator_rest (infix_at r op b) = b
-operator_rest (test_at op c) = c
-operator_rest neither = []
 
 typed_rest : (ts : List Token) (test : ValueType → UnOp) (op : Op) (asked : Option ValueType)
     → length (operator_rest (test_or test op ts asked)) ≤ length ts

@@ -3,7 +3,7 @@ use Rattle.std.specs.Prelude.{ℕ, suc, max}
 use Rattle.ht_grammar.specs.Trees as t
 use Rattle.ht_grammar.specs.Trees.{Expr, Exprs, Chunk, Which, Selector, Owner, Part, Ref, Count, Container}
 use Rattle.ht_grammar.specs.Statements as s
-use Rattle.ht_grammar.specs.Statements.{Destination, Head, Stmt, Stmts, Handlers, Message, Typed}
+use Rattle.ht_grammar.specs.Statements.{Destination, Head, Stmt, Stmts, Handlers, Message}
 
 -- A chunk's indices, the parts of `is a` and the like are no nodes of their own; a reference is one, and its owner one
 -- more.
@@ -132,9 +132,6 @@ handlers_depth (s.and_handler (s.handler k w ps ss) hs) = max (stmts_depth ss) (
 
 abbrev pub message_depth : Message → ℕ
 message_depth (s.message w es) = depths es
-
-abbrev pub typed_depth : Typed → ℕ
-typed_depth (s.typed w p) = part_depth p
 
 -- how deep a tree may be
 abbrev pub max_depth : ℕ

@@ -89,6 +89,12 @@ pub data LeadingOperator : Type 0 where
   test_at : UnOp → List Token → LeadingOperator
   neither : LeadingOperator
 
+-- the tokens after it
+abbrev pub operator_rest : LeadingOperator → List Token
+operator_rest (infix_at r op b) = b
+operator_rest (test_at op c) = c
+operator_rest neither = []
+
 -- `=`, `<>` and `is` are of one rank.
 abbrev pub equality : ℕ
 equality = 5

@@ -1,5 +1,5 @@
 -- Blocks and repeats, by how what is in them ends.
-use Rattle.std.proofs.Common.{◌≡◌, ℕ, List, Bool, Option, true, false, Result, Ok, Err}
+use Rattle.std.proofs.Common.{◌≡◌, ℕ, List, Bool, Option, true, false, Result, Ok}
 use Rattle.ht_values.specs.Text.{numeral}
 use Rattle.ht_grammar.specs.Statements as stm
 use Rattle.ht_grammar.specs.Trees as tree

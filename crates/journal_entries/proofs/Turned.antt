@@ -71,10 +71,6 @@ each_follows table f log told [] i h = absurd (omega (arith, h))
 each_follows table f log told (x ∷ xs) zero h = told x
 each_follows table f log told (x ∷ xs) (suc i) h = each_follows table f log told xs i (omega (arith, h))
 
-pub on_err : {T E P : Type 0} (r : Result T E) → P → OnErr r P
-on_err (Ok x) p = tt
-on_err (Err e) p = p
-
 -- going back over a turn
 pub turned_back : (names : List (List ℕ)) (old new : State) (i : ℕ) (p : Changes) → i < length old.externals
     → Turns old new i → IsPatch (seen_at old i).cells (seen_at new i).cells p

@@ -1,6 +1,6 @@
 -- What stands in the lists of a well formed stack.
 use Rattle.std.proofs.Common.{◌≡◌, ◌==◌, ◌||◌, ℕ, inl, inr, ◌≤◌, Bool, true, false, List, [], ◌∷◌, length, refl, sym}
-use Rattle.std.proofs.Common.{ap, ◌∙◌, arith, Option, Some, None, IsSome, option_map, unwrap_or, flat_map}
+use Rattle.std.proofs.Common.{ap, ◌∙◌, arith, Option, Some, None, option_map, unwrap_or, flat_map}
 use Rattle.std.proofs.lemmas.Bool.{cases_eq, false≢true, or_right}
 use Rattle.std.proofs.lemmas.List.Folds.{list_any-append}
 use Rattle.object_table.proofs.Counting.{contains_id-later}
@@ -48,7 +48,3 @@ listed names id found = sym (names.each id) ∙ found
 not_nil : (id : ℕ) (ids : List ℕ) → contains_id id ids ≡ true → 1 ≤ length ids
 not_nil id [] found = absurd (false≢true found)
 not_nil id (x ∷ xs) found = omega arith
-
-some_parts : (o : Option (List ℕ)) → IsSome o → o ≡ Some (unwrap_or o [])
-some_parts None h = absurd (false≢true h)
-some_parts (Some ids) h = refl

@@ -25,16 +25,6 @@ filled z [] n q = zeros z n q
 filled z (x ∷ xs) n zero = refl
 filled z (x ∷ xs) n (suc q) = filled z xs n q
 
--- an empty page is added
-pub added : (pages : List (List ℕ)) (i : ℕ) → get_or (pages ++ [] ∷ []) i [] ≡ get_or pages i []
-added [] zero = refl
-added [] (suc i) = refl
-added (p ∷ ps) zero = refl
-added (p ∷ ps) (suc i) = added ps i
-
-pub number_added : (pages : List (List ℕ)) (q : ℕ) → number_at (pages ++ [] ∷ []) q ≡ number_at pages q
-number_added pages q = ap (λ p. get_or p (q % 64) 0) (added pages (q / 64))
-
 -- a number is written in a page
 pub written : (numbers : List ℕ) (at number q : ℕ) → at < length numbers
     → get_or (set numbers at number) q 0 ≡ (if q == at then number else get_or numbers q 0)

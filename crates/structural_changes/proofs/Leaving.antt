@@ -22,7 +22,7 @@ use Rattle.structural_changes.proofs.Filled.{cleared}
 use Rattle.structural_changes.proofs.Grown.{same_id}
 use Rattle.structural_changes.proofs.Parts.{passes, both}
 use Rattle.structural_changes.proofs.Tallies.{one_if, total, tally, total-flat_map, contains-tally, named-tally}
-use Rattle.structural_changes.proofs.Tallies.{one_member, itself}
+use Rattle.structural_changes.proofs.Tallies.{one_member}
 
 -- ---- lists without an id
 

@@ -17,8 +17,8 @@ use Rattle.ht_lex.specs.declared.tokens.Span.{Span}
 use Rattle.ht_lex.specs.Token.{Token, key, eol, later, token_by, token_in}
 use Rattle.ht_lex.specs.Token as token
 use Rattle.ht_grammar.specs.declared.vocabulary.Layer.{Layer}
-use Rattle.ht_grammar.specs.Fronts.{LeadingOperator, infix_at, test_at, neither, leading_operator, operator_after_is}
-use Rattle.ht_grammar.specs.Fronts.{operator_after_is_not, asked_type, test_or, after_of, past_the, same_name}
+use Rattle.ht_grammar.specs.Fronts.{infix_at, test_at, leading_operator, operator_after_is}
+use Rattle.ht_grammar.specs.Fronts.{operator_after_is_not, operator_rest, asked_type, test_or, after_of, past_the, same_name}
 use Rattle.ht_grammar.specs.Ends.{past_ends, ended, past_for, past_to, past_times}
 use Rattle.ht_grammar.specs.Expressions.{Level, Derives, DerivesList, DerivesLayer, DerivesArticle, DerivesChunk}
 use Rattle.ht_grammar.specs.Expressions.{DerivesCount, DerivesRef, DerivesSelector, DerivesWhich, DerivesPart}
@@ -78,11 +78,6 @@ texts_of : (m : List Token) {b : List Token} → after_of m ≡ Some b → Token
 texts_of (key k.Of ∷ ts) {b} e h = let same : ts ≡ b = cc in subst TokensTexts same h.1
 texts_of (key k.In ∷ ts) {b} e h = let same : ts ≡ b = cc in subst TokensTexts same h.1
 texts_of _ e h = cc
-
-abbrev operator_rest : LeadingOperator → List Token
-operator_rest (infix_at r op b) = b
-operator_rest (test_at op c) = c
-operator_rest neither = []
 
 typed_rest : (ts : List Token) (test : ValueType → UnOp) (op : Op) (asked : Option ValueType) → TokensTexts ts
     → TokensTexts (operator_rest (test_or test op ts asked))

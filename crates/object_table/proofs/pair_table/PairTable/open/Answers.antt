@@ -1,4 +1,4 @@
-use Rattle.std.proofs.Common.{◌≡◌, ◌-◌, true, sym, ap, ◌∙◌, arith, option_and_then, is_some}
+use Rattle.std.proofs.Common.{◌≡◌, true, sym, ap, ◌∙◌, arith, option_and_then, is_some}
 use Rattle.std.specs.FinSet as sets
 use Rattle.object_table.specs.Opened.{values_in, open_in}
 use Rattle.object_table.specs.Pairs.{Pair}
