@@ -4,14 +4,15 @@ use Rattle.stack_places.specs.declared.entry.StackEntry.TheVariants as places
 use Rattle.journal_entries.specs.declared.entry.Entry.{Entry}
 use Rattle.journal_entries.specs.declared.entry.Entry.TheVariants as entries
 use Rattle.journal_entries.specs.declared.batch.BatchEntries.{BatchEntries}
-use Rattle.journal_entries.specs.declared.batch.BatchEntries.TheVariants.{Value, NoValue, Current, FieldText, Hilite}
-use Rattle.journal_entries.specs.declared.batch.BatchEntries.TheVariants.{Several}
+use Rattle.journal_entries.specs.declared.batch.BatchEntries.TheVariants.{Value, NoValue, Current, FieldText}
+use Rattle.journal_entries.specs.declared.batch.BatchEntries.TheVariants.{NoFieldText, Hilite, Several}
 
 abbrev pub entries_in : BatchEntries → List Entry
 entries_in (Value i text) = entries.Global i (Some text) ∷ []
 entries_in (NoValue i) = entries.Global i None ∷ []
 entries_in (Current card) = entries.Current card ∷ []
-entries_in (FieldText field card text) = entries.Stack (places.FieldText field card text) ∷ []
+entries_in (FieldText field card text) = entries.Stack (places.FieldText field card (Some text)) ∷ []
+entries_in (NoFieldText field card) = entries.Stack (places.FieldText field card None) ∷ []
 entries_in (Hilite button card hilite) = entries.Stack (places.Hilite button card hilite) ∷ []
 entries_in (Several list) = list.items
 

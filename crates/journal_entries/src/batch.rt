@@ -9,20 +9,21 @@ use crate::entry::Entry;
 use crate::present::Present;
 use externals::External;
 use ht_values::Text;
-use object_table::Id;
-use stack_places::{BoxedText, StackEntry};
+use object_table::{FieldText, Id};
+use stack_places::StackEntry;
 use std::marker::Model;
 use std::mem;
 
 /// Most lines that change something write one global or one field, or go to a card. Such an entry needs no list: a
-/// global's, with a value or without, where a `u32` numbers it, that of the current card, of a field's text or of a
-/// hilite. `Several` may hold any number of entries.
+/// global's, with a value or without, where a `u32` numbers it, that of the current card, of a field's text, or of none,
+/// or of a hilite. `Several` may hold any number of entries.
 #[derive(Drop)]
 enum BatchEntries {
     Value(u32, Text),
     NoValue(u32),
     Current(u32),
-    FieldText(Id, Id, BoxedText),
+    FieldText(Id, Id, FieldText),
+    NoFieldText(Id, Id),
     Hilite(Id, Id, Option<bool>),
     Several(Vec<Entry>),
 }
@@ -149,8 +150,11 @@ fn alone(entry: Entry) -> BatchEntries
         Entry::Global(i, Some(value)) => BatchEntries::Value(i as u32, value),
         Entry::Global(i, None) => BatchEntries::NoValue(i as u32),
         Entry::Current(card) => BatchEntries::Current(card),
-        Entry::Stack(StackEntry::FieldText(field, card, text)) => {
+        Entry::Stack(StackEntry::FieldText(field, card, Some(text))) => {
             BatchEntries::FieldText(field, card, text)
+        }
+        Entry::Stack(StackEntry::FieldText(field, card, None)) => {
+            BatchEntries::NoFieldText(field, card)
         }
         Entry::Stack(StackEntry::Hilite(button, card, hilite)) => {
             BatchEntries::Hilite(button, card, hilite)
@@ -170,7 +174,10 @@ fn alone_in(entries: BatchEntries) -> Result<Entry, Vec<Entry>>
         BatchEntries::NoValue(i) => Ok(Entry::Global(i as usize, None)),
         BatchEntries::Current(card) => Ok(Entry::Current(card)),
         BatchEntries::FieldText(field, card, text) => {
-            Ok(Entry::Stack(StackEntry::FieldText(field, card, text)))
+            Ok(Entry::Stack(StackEntry::FieldText(field, card, Some(text))))
+        }
+        BatchEntries::NoFieldText(field, card) => {
+            Ok(Entry::Stack(StackEntry::FieldText(field, card, None)))
         }
         BatchEntries::Hilite(button, card, hilite) => {
             Ok(Entry::Stack(StackEntry::Hilite(button, card, hilite)))

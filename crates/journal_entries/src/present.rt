@@ -29,8 +29,8 @@ use crate::script_trees::ScriptTrees;
 use externals::{Ask, External, HasTable, Input, Patch};
 use ht_tree::Script;
 use ht_values::{PartKind, Text};
-use object_table::{Id, LayerId, Stack};
-use stack_places::{BoxedText, StackEntry};
+use object_table::{FieldText, Id, LayerId, Stack};
+use stack_places::StackEntry;
 use std::alloc::{AllocError, Global};
 use std::marker::Model;
 use std::mem;
@@ -207,9 +207,9 @@ impl<E: External> Present<E> {
         ensures entry { IfOk result (λ e. Prepares self.new (made_change.FieldText field card text) (e ∷ [])) }
         ensures grows { Grows self.old self.new }
     {
-        let text = BoxedText::new(alloc, Some(text))?;
+        let text = FieldText::new(alloc, text)?;
         self.stack.open_text(field, card)?;
-        let entry = StackEntry::FieldText(field, card, text);
+        let entry = StackEntry::FieldText(field, card, Some(text));
         Ok(Entry::Stack(entry))
     }
 

@@ -1,5 +1,6 @@
 pub mod Content
 pub mod Empty
+pub mod FieldTexts
 pub mod Flags
 pub mod PartContents
 pub mod Keys

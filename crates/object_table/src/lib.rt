@@ -6,6 +6,7 @@
 //! - The empty stack is well formed, and the blank one holds nothing.
 #![tactic(auto)]
 
+mod field_text;
 mod ids;
 mod name;
 mod number;
@@ -18,6 +19,7 @@ mod row;
 mod slot_table;
 mod stack;
 
+pub use field_text::FieldText;
 pub use ht_values::{PartKind, Prop};
 pub use ids::{Id, IdList};
 pub use name::ObjectName;

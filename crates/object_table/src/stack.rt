@@ -13,6 +13,7 @@ ghost use Rattle.object_table.specs.Empty.{empty_stack, blank_stack};
 ghost use Rattle.object_table.specs.Table.{no_room};
 ghost use Rattle.object_table.specs.WellFormed.{IsWellFormed};
 
+use crate::field_text::FieldText;
 use crate::ids::{Id, IdList};
 use crate::object::{Kind, LayerId, Object};
 use crate::pair_table::PairTable;
@@ -38,9 +39,11 @@ pub struct Stack {
     slots: SlotTable,
     backgrounds: IdList,
     cards: IdList,
-    texts: PairTable<Text>,
+    texts: PairTable<FieldText>,
     hilites: PairTable<bool>,
     next: u32,
+    /// What is lent for a text of a field that is empty.
+    empty: Text,
 }
 
 /// Written here and not derived, so that no crate above proves anew how it is dropped.
@@ -53,6 +56,7 @@ impl Drop for Stack {
             texts: _,
             hilites: _,
             next: _,
+            empty: _,
         } = self;
     }
 }
@@ -82,6 +86,10 @@ impl Model for Stack {
         hilites = open_in (entries_of s.hilites);
       };
     } };
+
+    ghost use Rattle.std.specs.Prelude.{◌≡◌, []};
+
+    ghost invariant = { λ s. s.empty ≡ [] };
 }
 
 impl Stack {
@@ -112,6 +120,7 @@ impl Stack {
             texts: PairTable::new(alloc),
             hilites: PairTable::new(alloc),
             next: 3,
+            empty: Text::new(alloc),
         })
     }
 
@@ -128,6 +137,7 @@ impl Stack {
             texts: PairTable::new(alloc),
             hilites: PairTable::new(alloc),
             next: 1,
+            empty: Text::new(alloc),
         }
     }
 
@@ -180,7 +190,8 @@ impl Stack {
         ensures value { option_copied result ≡ text_at self.now.content field card }
         ensures room { OnSome result (set.contains self.now.room.texts (field, card) ≡ true) }
     {
-        self.texts.get(field, card)
+        let text = self.texts.get(field, card)?;
+        Some(text.text(&self.empty))
     }
 
     /// The hilite of a background's button for a card, or for 0 its shared hilite. `None` where there is no such
@@ -284,7 +295,7 @@ impl Stack {
 
     /// Exchanges the text of a field for a card, or for 0 its shared text, with a value, where `None` stands for
     /// no text.
-    pub fn swap_text(&mut self, field: Id, card: Id, text: &mut Option<Text>)
+    pub fn swap_text(&mut self, field: Id, card: Id, text: &mut Option<FieldText>)
         requires { set.contains self.old.room.texts (field, card) ≡ true }
         ensures value { text.new ≡ text_at self.old.content field card }
         ensures stack { self.new ≡ record self.old {

@@ -104,7 +104,7 @@ const TAKEN: &[Change] = &[
     (Exchange::Take(4, Some(b"B")), &[Fact::Counts(2, 5)]),
 ];
 
-/// A field keeps shared and own texts.
+/// A field keeps shared and own texts, of which an empty one is a text too.
 const TEXTS: &[Change] = &[
     (Exchange::Text(3, 0, Some(b"all"), None), &[]),
     (
@@ -119,6 +119,18 @@ const TEXTS: &[Change] = &[
     (
         Exchange::Text(3, 2, None, Some(b"own")),
         &[Fact::Text(3, 2, None), Fact::Text(3, 0, Some(b"all"))],
+    ),
+    (
+        Exchange::Text(3, 2, Some(b""), None),
+        &[Fact::Text(3, 2, Some(b"")), Fact::Text(3, 4, None)],
+    ),
+    (
+        Exchange::Text(3, 2, Some(b"late"), Some(b"")),
+        &[Fact::Text(3, 2, Some(b"late"))],
+    ),
+    (
+        Exchange::Text(3, 2, Some(b""), Some(b"late")),
+        &[Fact::Text(3, 2, Some(b""))],
     ),
 ];
 

@@ -14,10 +14,10 @@ pub(crate) fn is_text(text: &Text, bytes: &[u8]) -> bool {
     text.as_slice() == bytes
 }
 
-/// Whether there is this text, or with `None` none.
-pub(crate) fn is_text_or_none(text: Option<&Text>, due: Option<&[u8]>) -> bool {
+/// Whether these are the bytes of the text that is due, or with `None` there is none.
+pub(crate) fn is_text_or_none(text: Option<&[u8]>, due: Option<&[u8]>) -> bool {
     match text {
-        Some(text) => matches!(due, Some(bytes) if text.as_slice() == bytes),
+        Some(text) => matches!(due, Some(bytes) if text == bytes),
         None => due.is_none(),
     }
 }

@@ -2,7 +2,9 @@
 
 use crate::plain_texts::{Bytes, is_text_or_none, text};
 use ht_values::{PartKind, Text};
-use object_table::{Id, IdList, Kind, LayerId, Object, ObjectName, PropValue, Stack, Which};
+use object_table::{
+    FieldText, Id, IdList, Kind, LayerId, Object, ObjectName, PropValue, Stack, Which,
+};
 use std::alloc::Global;
 
 /// What holds of a stack.
@@ -89,7 +91,9 @@ fn holds(alloc: Global, stack: &Stack, fact: &Fact) -> bool {
             matches!(stack.parts(*layer), Some(list) if list.as_slice() == *parts)
         }
         Fact::NoLayer(layer) => stack.parts(*layer).is_none(),
-        Fact::Text(field, card, due) => is_text_or_none(stack.text(*field, *card), *due),
+        Fact::Text(field, card, due) => {
+            is_text_or_none(stack.text(*field, *card).map(Text::as_slice), *due)
+        }
         Fact::Hilite(button, card, due) => stack.hilite(*button, *card) == *due,
         Fact::Orders(backgrounds, cards) => {
             stack.backgrounds().as_slice() == *backgrounds && stack.cards().as_slice() == *cards
@@ -177,21 +181,18 @@ fn takes_text(
     stack: &mut Stack,
     field: Id,
     card: Id,
-    mut text: Option<Text>,
+    mut text: Option<FieldText>,
     was: Option<&[u8]>,
 ) -> bool {
     if stack.open_text(field, card).is_err() {
         return false;
     }
     stack.swap_text(field, card, &mut text);
-    is_text_or_none(text.as_ref(), was)
+    is_text_or_none(text.as_ref().map(FieldText::as_slice), was)
 }
 
-fn text_or_none(alloc: Global, bytes: Option<&[u8]>) -> Option<Text> {
-    match bytes {
-        Some(bytes) => text(alloc, bytes),
-        None => None,
-    }
+fn text_or_none(alloc: Global, bytes: Option<&[u8]>) -> Option<FieldText> {
+    FieldText::new(alloc, text(alloc, bytes?)?).ok()
 }
 
 fn takes_hilite(

@@ -15,7 +15,7 @@ ghost use Rattle.stack_file.specs.Views.{sheet_seen, text_seen};
 use crate::document::document;
 use crate::sheets::{SheetLines, TextLines};
 use ht_values::Text;
-use object_table::{Id, IdList, Object, Stack};
+use object_table::{FieldText, Id, IdList, Object, Stack};
 use stack_text::{Keeping, Part, PartContent, ReadError};
 use std::alloc::{AllocError, Global};
 
@@ -30,12 +30,18 @@ fn put_object(stack: &mut Stack, id: Id, object: Object) -> Result<(), AllocErro
 }
 
 #[tactic(auto, using(crate::proofs::Built::opened))]
-fn put_text(stack: &mut Stack, field: Id, card: Id, text: Text) -> Result<(), AllocError>
+fn put_text(
+    stack: &mut Stack,
+    alloc: Global,
+    field: Id,
+    card: Id,
+    text: Text,
+) -> Result<(), AllocError>
     ensures { OnOk result (stack.new.content
         ≡ record stack.old.content { texts = insert stack.old.content.texts (field, card) text }) }
 {
     stack.open_text(field, card)?;
-    let mut slot = Some(text);
+    let mut slot = Some(FieldText::new(alloc, text)?);
     stack.swap_text(field, card, &mut slot);
     Ok(())
 }
@@ -54,6 +60,7 @@ fn put_hilite(stack: &mut Stack, button: Id, card: Id, lit: bool) -> Result<(), 
 /// What is kept for a part on a card, or on card 0 what is shared.
 fn put_content(
     stack: &mut Stack,
+    alloc: Global,
     card: Id,
     part: Id,
     content: PartContent,
@@ -62,12 +69,12 @@ fn put_content(
 {
     match content {
         PartContent::Nothing => Ok(()),
-        PartContent::Written(text) => put_text(stack, part, card, text),
+        PartContent::Written(text) => put_text(stack, alloc, part, card, text),
         PartContent::Lit(lit) => put_hilite(stack, part, card, lit),
     }
 }
 
-fn put_part(stack: &mut Stack, card: Id, part: Part) -> Result<(), AllocError>
+fn put_part(stack: &mut Stack, alloc: Global, card: Id, part: Part) -> Result<(), AllocError>
     ensures { OnOk result (stack.new.content ≡ with_parts card (part ∷ []) stack.old.content) }
 {
     let Part {
@@ -76,30 +83,45 @@ fn put_part(stack: &mut Stack, card: Id, part: Part) -> Result<(), AllocError>
         content,
     } = part;
     put_object(stack, id, object)?;
-    put_content(stack, card, id, content)
+    put_content(stack, alloc, card, id, content)
 }
 
-fn add_parts(stack: &mut Stack, card: Id, parts: &mut Vec<Part>) -> Result<(), AllocError>
+fn add_parts(
+    stack: &mut Stack,
+    alloc: Global,
+    card: Id,
+    parts: &mut Vec<Part>,
+) -> Result<(), AllocError>
     ensures { OnOk result (stack.new.content ≡ with_parts card parts.old.items stack.old.content) }
 {
     while let Some(part) = parts.pop() {
-        put_part(stack, card, part)?;
+        put_part(stack, alloc, card, part)?;
     }
     Ok(())
 }
 
-fn put_keeping(stack: &mut Stack, card: Id, keeping: Keeping) -> Result<(), AllocError>
+fn put_keeping(
+    stack: &mut Stack,
+    alloc: Global,
+    card: Id,
+    keeping: Keeping,
+) -> Result<(), AllocError>
     ensures { OnOk result (stack.new.content ≡ with_keepings card (keeping ∷ []) stack.old.content) }
 {
     let Keeping { part, content } = keeping;
-    put_content(stack, card, part, content)
+    put_content(stack, alloc, card, part, content)
 }
 
-fn add_keepings(stack: &mut Stack, card: Id, keepings: &mut Vec<Keeping>) -> Result<(), AllocError>
+fn add_keepings(
+    stack: &mut Stack,
+    alloc: Global,
+    card: Id,
+    keepings: &mut Vec<Keeping>,
+) -> Result<(), AllocError>
     ensures { OnOk result (stack.new.content ≡ with_keepings card keepings.old.items stack.old.content) }
 {
     while let Some(keeping) = keepings.pop() {
-        put_keeping(stack, card, keeping)?;
+        put_keeping(stack, alloc, card, keeping)?;
     }
     Ok(())
 }
@@ -136,8 +158,8 @@ fn add_rows(
     ensures { OnOk result (stack.new.content ≡ with_rows id card parts.old.items keepings.old.items stack.old.content) }
 {
     put_list(stack, alloc, id, parts.as_slice())?;
-    add_keepings(stack, card, keepings)?;
-    add_parts(stack, card, parts)
+    add_keepings(stack, alloc, card, keepings)?;
+    add_parts(stack, alloc, card, parts)
 }
 
 /// A background or a card with its parts, and what is kept for them.

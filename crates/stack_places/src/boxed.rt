@@ -1,12 +1,10 @@
-//! Values in boxes of their own, so that an entry stays small.
+//! Objects in boxes of their own, so that an entry stays small.
 
 ghost use Rattle.std.specs.Prelude.{◌≡◌, true, IfOk};
 ghost use Rattle.std.specs.FinMap as map;
 ghost use Rattle.std.specs.FinSet as set;
-ghost use Rattle.object_table.specs.PartContents.{text_at};
 ghost use Rattle.object_table.specs.Maps.{put_option};
 
-use ht_values::Text;
 use object_table::{Id, Object, Stack};
 use std::alloc::{AllocError, Global};
 use std::marker::Model;
@@ -43,41 +41,5 @@ impl BoxedObject {
             { content = record stack.old.content { objects = put_option stack.old.content.objects id self.old } } }
     {
         stack.swap_object(id, &mut self.object);
-    }
-}
-
-/// A text, or none, in a box.
-#[derive(Drop)]
-pub struct BoxedText {
-    text: Box<Option<Text>>,
-}
-
-impl Model for BoxedText {
-    ghost use Rattle.std.specs.Prelude.{ℕ, List, Option};
-
-    ghost Value = { Option (List ℕ) };
-
-    ghost view = { λ b. b.text.value };
-}
-
-impl BoxedText {
-    /// The text, or none, in a box.
-    pub fn new(alloc: Global, text: Option<Text>) -> Result<BoxedText, AllocError>
-        ensures { IfOk result (λ b. b ≡ text) }
-    {
-        let text = Box::new(alloc, text)?;
-        Ok(BoxedText { text })
-    }
-
-    /// Exchanges the text of a field for a card, or for 0, with this one.
-    pub(crate) fn exchange(&mut self, stack: &mut Stack, field: Id, card: Id)
-        requires { set.contains stack.old.room.texts (field, card) ≡ true }
-        ensures value { self.new ≡ text_at stack.old.content field card }
-        ensures stack { stack.new ≡ record stack.old {
-          content = record stack.old.content
-              { texts = put_option stack.old.content.texts (field, card) self.old };
-        } }
-    {
-        stack.swap_text(field, card, &mut self.text);
     }
 }

@@ -4,8 +4,8 @@ ghost use Rattle.std.specs.Prelude.{◌≡◌, unwrap_or};
 ghost use Rattle.object_table.specs.Setting.{value_at, with_value_at};
 ghost use Rattle.stack_places.specs.Exchange.{exchanged, taken, IsReady, is_structural as makes_or_removes};
 
-use crate::boxed::{BoxedObject, BoxedText};
-use object_table::{Id, IdList, PropValue, Stack};
+use crate::boxed::BoxedObject;
+use object_table::{FieldText, Id, IdList, PropValue, Stack};
 
 /// A place of a stack, with the value that isn't there now. A value that would make every entry larger stands in a box,
 /// which is made before the exchange.
@@ -15,7 +15,7 @@ pub enum StackEntry {
     /// the exchange changes nothing.
     Prop(Id, PropValue),
     /// A field and a card, or 0 for the text that the cards share.
-    FieldText(Id, Id, BoxedText),
+    FieldText(Id, Id, Option<FieldText>),
     /// A button of a background and a card, or 0 for the hilite that the cards share.
     Hilite(Id, Id, Option<bool>),
     Object(Id, BoxedObject),
@@ -36,7 +36,7 @@ impl StackEntry {
     {
         match self {
             StackEntry::Prop(id, value) => exchange_property(stack, *id, value),
-            StackEntry::FieldText(field, card, text) => text.exchange(stack, *field, *card),
+            StackEntry::FieldText(field, card, text) => stack.swap_text(*field, *card, text),
             StackEntry::Hilite(button, card, hilite) => stack.swap_hilite(*button, *card, hilite),
             StackEntry::Object(id, object) => object.exchange(stack, *id),
             StackEntry::CardOrder(cards) => stack.swap_order(cards),

@@ -10,6 +10,6 @@ mod boxed;
 mod entry;
 mod laws;
 
-pub use boxed::{BoxedObject, BoxedText};
+pub use boxed::BoxedObject;
 pub use entry::StackEntry;
 pub use laws::laws_of_exchanges;

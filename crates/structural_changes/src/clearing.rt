@@ -7,7 +7,7 @@ ghost use Rattle.structural_changes.specs.Writes.{clear};
 
 use crate::preparing::add_entry;
 use object_table::{Id, Stack};
-use stack_places::{BoxedObject, BoxedText, StackEntry};
+use stack_places::{BoxedObject, StackEntry};
 use std::alloc::{AllocError, Global};
 
 /// Adds that these objects go.
@@ -47,7 +47,6 @@ pub(crate) fn clear_parts(
 
 /// Adds that these texts go, each of a field for a card, or for 0.
 pub(crate) fn clear_texts(
-    alloc: Global,
     stack: &mut Stack,
     entries: &mut Vec<StackEntry>,
     texts: &[(Id, Id)],
@@ -58,8 +57,7 @@ pub(crate) fn clear_texts(
 {
     entries.reserve(texts.len())?;
     for text in texts {
-        let gone = BoxedText::new(alloc, None)?;
-        add_entry(stack, entries, StackEntry::FieldText(text.0, text.1, gone))?;
+        add_entry(stack, entries, StackEntry::FieldText(text.0, text.1, None))?;
     }
     Ok(())
 }

@@ -125,7 +125,7 @@ pub fn prepare_new_part(
         StackEntry::Parts(id_of(layer), Some(parts)),
     )?;
     match (layer, kind) {
-        (_, PartKind::Field) => add_texts(alloc, stack, &mut entries, part, &cards)?,
+        (_, PartKind::Field) => add_texts(stack, &mut entries, part, &cards)?,
         (LayerId::OfBackground(_), PartKind::Button) => {
             add_hilites(stack, &mut entries, part, &cards)?;
         }
@@ -187,7 +187,7 @@ pub fn prepare_new_card(
         &mut entries,
         StackEntry::Parts(new, Some(IdList::new(alloc))),
     )?;
-    add_texts_of(alloc, stack, &mut entries, &fields, new)?;
+    add_texts_of(stack, &mut entries, &fields, new)?;
     add_hilites_of(stack, &mut entries, &buttons, new)?;
     Ok(entries)
 }

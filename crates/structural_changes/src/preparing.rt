@@ -10,9 +10,9 @@ ghost use Rattle.object_table.specs.Layers.{is_of_layer, layer_id};
 ghost use Rattle.object_table.specs.Objects.{has_kind, is_background, parts_at};
 ghost use Rattle.object_table.specs.WellFormed.{IsWellFormed};
 
-use ht_values::{PartKind, Text};
-use object_table::{Id, Kind, LayerId, Stack};
-use stack_places::{BoxedText, StackEntry};
+use ht_values::PartKind;
+use object_table::{FieldText, Id, Kind, LayerId, Stack};
+use stack_places::StackEntry;
 use std::alloc::{AllocError, Global};
 
 /// Makes room for the value at an entry's place.
@@ -46,7 +46,6 @@ pub(crate) fn add_entry(
 
 /// Adds an empty text of a field for a card, or for 0.
 fn add_text(
-    alloc: Global,
     stack: &mut Stack,
     entries: &mut Vec<StackEntry>,
     field: Id,
@@ -56,14 +55,13 @@ fn add_text(
         (write (field_text field card) (text []) ∷ [])) }
     ensures opens { Opens stack.old stack.new }
 {
-    let text = BoxedText::new(alloc, Some(Text::new(alloc)))?;
+    let text = Some(FieldText::empty());
     let entry = StackEntry::FieldText(field, card, text);
     add_entry(stack, entries, entry)
 }
 
 /// Adds an empty text of a field for each of these cards.
 pub(crate) fn add_texts(
-    alloc: Global,
     stack: &mut Stack,
     entries: &mut Vec<StackEntry>,
     field: Id,
@@ -75,7 +73,7 @@ pub(crate) fn add_texts(
 {
     entries.reserve(cards.len())?;
     for card in cards {
-        add_text(alloc, stack, entries, field, *card)?;
+        add_text(stack, entries, field, *card)?;
     }
     Ok(())
 }
@@ -179,7 +177,6 @@ pub(crate) fn parts_of(
 
 /// Adds an empty text for a card of each of these fields.
 pub(crate) fn add_texts_of(
-    alloc: Global,
     stack: &mut Stack,
     entries: &mut Vec<StackEntry>,
     fields: &[Id],
@@ -191,7 +188,7 @@ pub(crate) fn add_texts_of(
 {
     entries.reserve(fields.len())?;
     for field in fields {
-        add_text(alloc, stack, entries, *field, card)?;
+        add_text(stack, entries, *field, card)?;
     }
     Ok(())
 }

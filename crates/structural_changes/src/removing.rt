@@ -240,7 +240,7 @@ pub fn prepare_deletion(
     leave_background(alloc, stack, &mut entries, card, last)?;
     clear_objects(alloc, stack, &mut entries, &objects)?;
     clear_parts(stack, &mut entries, &layers)?;
-    clear_texts(alloc, stack, &mut entries, &texts)?;
+    clear_texts(stack, &mut entries, &texts)?;
     clear_hilites(stack, &mut entries, &hilites)?;
     Ok(entries)
 }
