@@ -17,17 +17,17 @@ use crate::grammar::{Grammar, Level, WHOLE, to_expr};
 use crate::operator::{EQUALITY, LeadingOperator, leading_rank, take_operator};
 use ht_lex::{Cursor, Key, Stop, TokenKind, to_name, to_text};
 use ht_tree::{Expr, ExprKind, Exprs};
-use ht_values::{Op, Text, UnOp, Value, plain_number};
+use ht_values::{Op, Text, UnOp, plain_number};
 use std::alloc::Global;
 
-/// The value of these digits, unless memory is refused.
-fn to_value(alloc: Global, digits: &[u8]) -> Result<Value, Stop>
+/// The number of these digits. One that is spelled so takes no memory.
+fn to_number(alloc: Global, digits: &[u8]) -> Result<Expr, Stop>
     requires { length digits.now ≤ LIMIT }
-    ensures { Gives digits.now result }
+    ensures { Gives (t.number digits.now) result }
 {
     match plain_number(digits) {
-        Some(number) => Ok(Value::of_number(number)),
-        None => Ok(Value::of_text(to_text(alloc, digits)?)),
+        Some(number) => Ok(Expr::of_number(number)),
+        None => to_expr(alloc, ExprKind::Digits(to_text(alloc, digits)?)),
     }
 }
 
@@ -37,8 +37,7 @@ fn take_number(alloc: Global, tokens: &mut Cursor<'_>) -> Result<Expr, Stop>
     ensures value { Gives (t.number (first_text tokens.old)) result }
     ensures after { tokens.new ≡ later tokens.old }
 {
-    let digits = to_value(alloc, tokens.take())?;
-    to_expr(alloc, ExprKind::Number(digits))
+    to_number(alloc, tokens.take())
 }
 
 /// Goes past a text.

@@ -3,7 +3,9 @@ use Rattle.std.specs.Prelude.{◌+◌, ◌≤◌, max, List, [], ◌∷◌}
 use Rattle.std.proofs.Common.{arith}
 use denote.Param.Weighed.{most}
 use Rattle.ht_tree.specs.declared.expr.Expr.TheDeep.{deep-ExprKind, deep-Chunk, deep-Which, deep-Selector, deep-Owner}
-use Rattle.ht_tree.specs.declared.expr.Expr.TheDeep.{deep-Part, deep-Ref, deep-Count}
+use Rattle.ht_tree.specs.declared.expr.Expr.TheDeep.{deep-Part, deep-Ref, deep-Count, deep-Form}
+use Rattle.ht_tree.specs.declared.expr.Form.{Form}
+use Rattle.ht_tree.specs.declared.expr.Form.TheVariants as form
 use Rattle.ht_tree.specs.declared.expr.ExprKind.{ExprKind}
 use Rattle.ht_tree.specs.declared.expr.ExprKind.TheVariants as e
 use Rattle.ht_tree.specs.declared.expr.Chunk.{Chunk}
@@ -24,6 +26,7 @@ use Rattle.ht_grammar.specs.Trees as t
 use Rattle.ht_grammar.specs.Depth.{depth, depths, chunk_depth, which_depth, selector_depth, owner_depth, part_depth}
 use Rattle.ht_grammar.specs.Depth.{ref_depth, count_depth}
 use Rattle.ht_tree.specs.View.{exprs_of, chunk_of, which_of, selector_of, owner_of, part_of, ref_of, count_of, expr_of}
+use Rattle.ht_tree.specs.View.{kept_form}
 
 exprs_fall : (xs : List t.Expr) → most (λ x. depth x + 1) xs ≤ depths (exprs_of xs) + 1
 exprs_fall [] = omega arith
@@ -69,8 +72,8 @@ count_falls count.Backgrounds = omega arith
 count_falls (count.Parts l k) = omega arith
 count_falls (count.OfObject r) = omega (arith, ref_falls r)
 
-pub expr_falls : (x : ExprKind) → max (max (deep-ExprKind x) 0) 0 ≤ depth (expr_of x)
-expr_falls (e.Number w) = omega arith
+expr_falls : (x : ExprKind) → deep-ExprKind x ≤ depth (expr_of x)
+expr_falls (e.Digits w) = omega arith
 expr_falls (e.Quoted w) = omega arith
 expr_falls (e.Constant c) = omega arith
 expr_falls e.Return = omega arith
@@ -88,3 +91,7 @@ expr_falls (e.NumberOf n) = omega (arith, count_falls n)
 expr_falls (e.Property p r) = omega (arith, ref_falls r)
 expr_falls (e.RunProperty p) = omega arith
 expr_falls (e.Function f x) = omega arith
+
+pub form_falls : (x : Form) → max (deep-Form x) 0 ≤ depth (kept_form x)
+form_falls (form.Number n) = omega arith
+form_falls (form.Boxed node) = omega (arith, expr_falls node.value.kind)

@@ -1,5 +1,10 @@
 -- The trees in memory, as plain trees.
-use Rattle.std.specs.Prelude.{List, [], ◌∷◌}
+use Rattle.std.specs.Prelude.{◌≡◌, ◌≤◌, List, [], ◌∷◌}
+use Rattle.ht_values.specs.Text.{numeral}
+use Rattle.ht_tree.specs.declared.expr.Form.{Form}
+use Rattle.ht_tree.specs.declared.expr.Form.TheVariants as form
+use Rattle.ht_tree.specs.declared.expr.ExprForm.{ExprForm}
+use Rattle.ht_tree.specs.declared.expr.ExprForm.TheVariants as lent
 use Rattle.ht_tree.specs.declared.expr.ExprKind.{ExprKind}
 use Rattle.ht_tree.specs.declared.expr.ExprKind.TheVariants as e
 use Rattle.ht_tree.specs.declared.expr.Chunk.{Chunk}
@@ -17,6 +22,7 @@ use Rattle.ht_tree.specs.declared.expr.Ref.TheVariants as ref
 use Rattle.ht_tree.specs.declared.expr.Count.{Count}
 use Rattle.ht_tree.specs.declared.expr.Count.TheVariants as count
 use Rattle.ht_grammar.specs.Trees as t
+use Rattle.ht_grammar.specs.Depth.{depth, max_depth}
 
 abbrev pub exprs_of : List t.Expr → t.Exprs
 exprs_of [] = t.none
@@ -63,7 +69,7 @@ count_of (count.Parts l k) = t.parts l k
 count_of (count.OfObject r) = t.of_object (ref_of r)
 
 abbrev pub expr_of : ExprKind → t.Expr
-expr_of (e.Number w) = t.number w
+expr_of (e.Digits w) = t.number w
 expr_of (e.Quoted w) = t.quoted w
 expr_of (e.Constant c) = t.constant c
 expr_of e.Return = t.return_
@@ -81,3 +87,16 @@ expr_of (e.NumberOf n) = t.number_of (count_of n)
 expr_of (e.Property p r) = t.property p (ref_of r)
 expr_of (e.RunProperty p) = t.run_property p
 expr_of (e.Function f x) = t.function f x
+
+abbrev pub kept_form : Form → t.Expr
+kept_form (form.Number n) = t.number (numeral n)
+kept_form (form.Boxed node) = expr_of node.value.kind
+
+abbrev pub form_of : ExprForm → t.Expr
+form_of (lent.Number n) = t.number (numeral n)
+form_of (lent.Kind x) = expr_of x.now
+
+-- A node knows how deep it is, and isn't too deep.
+abbrev pub knows_depth : Form → Type 0
+knows_depth (form.Number n) = Unit {0}
+knows_depth (form.Boxed node) = (node.value.depth ≡ depth (expr_of node.value.kind)) × (node.value.depth ≤ max_depth)

@@ -6,18 +6,27 @@ ghost use Rattle.ht_grammar.specs.Depth.{depth, depths, chunk_depth, which_depth
 ghost use Rattle.ht_grammar.specs.Depth.{part_depth, ref_depth, count_depth, max_depth};
 ghost use Rattle.ht_grammar.specs.Reading.{snoc};
 ghost use Rattle.ht_tree.specs.View.{expr_of, exprs_of, chunk_of, which_of, selector_of, owner_of, part_of, ref_of};
-ghost use Rattle.ht_tree.specs.View.{count_of};
+ghost use Rattle.ht_tree.specs.View.{count_of, form_of};
+ghost use Rattle.ht_values.specs.Text.{numeral};
 
 use ht_grammar::{FunctionWord, Layer, RunProp};
 use ht_lex::{Constant, Ordinal};
-use ht_values::{ChunkKind, Name, Op, PartKind, Prop, Text, UnOp, Value};
+use ht_values::{ChunkKind, Name, Op, PartKind, Prop, Text, UnOp};
 use std::alloc::{AllocError, Global};
 use std::marker::Model;
 
 /// An expression, at most 100 levels deep.
 #[cycle(tree)]
 pub struct Expr {
-    node: Box<ExprNode>,
+    form: Form,
+}
+
+/// How an expression is kept: a number takes no memory, since long lists are mostly of these.
+#[cycle(tree)]
+#[derive(Drop)]
+enum Form {
+    Number(i64),
+    Boxed(Box<ExprNode>),
 }
 
 /// An expression's kind and its depth, in one box.
@@ -32,16 +41,24 @@ struct ExprNode {
 impl Drop for Expr {
     #[cycle(tree)]
     fn drop(self) {
-        let Expr { node: _ } = self;
+        let Expr { form: _ } = self;
     }
 }
 
-/// What an expression is, with its parts.
+/// What an expression is, to look at.
+#[derive(Clone, Copy)]
+pub enum ExprForm<'a> {
+    /// Digits that are the numeral of a number.
+    Number(i64),
+    Kind(&'a ExprKind),
+}
+
+/// What an expression is, with its parts, where it is no numeral of a number.
 #[cycle(tree)]
 #[derive(Drop)]
 pub enum ExprKind {
-    /// Digits, as the value that they are.
-    Number(Value),
+    /// Other digits: with a zero in front, or too many for a number.
+    Digits(Text),
     Quoted(Text),
     Constant(Constant),
     /// The constant `return`.
@@ -224,7 +241,6 @@ impl Drop for Count {
 }
 
 impl Model for Expr {
-    ghost use Rattle.std.specs.Prelude.{◌≡◌, ◌≤◌};
     ghost use Rattle.ht_grammar.specs.Trees as t;
 
     ghost Value = { t.Expr };
@@ -238,21 +254,29 @@ impl Model for Expr {
         (λ x. ap expr_on (expr_back x [] [])) };
 
     ghost use Rattle.ht_grammar.specs.Depth as d;
-    ghost use Rattle.ht_tree.specs.View.{expr_of};
+    ghost use Rattle.ht_tree.specs.View.{kept_form, knows_depth};
 
-    ghost view = { λ e. expr_of e.node.value.kind };
+    ghost view = { λ e. kept_form e.form };
 
-    ghost invariant = { λ e. (e.node.value.depth ≡ d.depth (expr_of e.node.value.kind))
-        × (e.node.value.depth ≤ d.max_depth) };
+    ghost invariant = { λ e. knows_depth e.form };
 
     ghost size = { d.depth };
 
-    ghost use Rattle.ht_tree.specs.Falls.{expr_falls};
+    ghost use Rattle.ht_tree.specs.Falls.{form_falls};
 
-    ghost size_decreases = { λ e h. expr_falls e.node.value.kind };
+    ghost size_decreases = { λ e h. form_falls e.form };
 }
 
 impl Expr {
+    /// The digits of a number.
+    pub fn of_number(number: i64) -> Expr
+        ensures { result ≡ t.number (numeral number) }
+    {
+        Expr {
+            form: Form::Number(number),
+        }
+    }
+
     /// The expression of a kind, which is at most 100 levels deep.
     #[inline(always)]
     pub fn new(alloc: Global, kind: ExprKind) -> Result<Expr, AllocError>
@@ -261,14 +285,20 @@ impl Expr {
     {
         let depth = kind.depth();
         let node = Box::new(alloc, ExprNode { kind, depth })?;
-        Ok(Expr { node })
+        Ok(Expr {
+            form: Form::Boxed(node),
+        })
     }
 
     /// Its kind, with its parts.
-    pub fn kind(&self) -> &ExprKind
-        ensures { expr_of result.now ≡ self.now }
+    #[inline(always)]
+    pub fn form(&self) -> ExprForm<'_>
+        ensures { form_of result ≡ self.now }
     {
-        &self.node.kind
+        match &self.form {
+            Form::Number(number) => ExprForm::Number(*number),
+            Form::Boxed(node) => ExprForm::Kind(&node.kind),
+        }
     }
 
     /// The greatest number of nodes on a way down, at most 100.
@@ -276,7 +306,10 @@ impl Expr {
         ensures value { result ≡ depth self.now }
         ensures limit { result ≤ max_depth }
     {
-        self.node.depth
+        match &self.form {
+            Form::Number(_) => 1,
+            Form::Boxed(node) => node.depth,
+        }
     }
 }
 
@@ -286,7 +319,7 @@ impl ExprKind {
         ensures { result ≡ depth (expr_of self.now) }
     {
         match self {
-            ExprKind::Number(_)
+            ExprKind::Digits(_)
             | ExprKind::Quoted(_)
             | ExprKind::Constant(_)
             | ExprKind::Return

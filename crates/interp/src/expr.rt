@@ -20,7 +20,7 @@ use change_journal::World;
 use externals::External;
 use ht_grammar::{FunctionWord, HandlerKind};
 use ht_lex::Ordinal;
-use ht_tree::{Chunk, Count, Expr, ExprKind, Part, Ref};
+use ht_tree::{Chunk, Count, Expr, ExprForm, ExprKind, Part, Ref};
 use ht_values::{ChunkKind, Fault, Op, Prop, Text, UnOp, Value};
 use meaning::{Budget, Frame, MOST_NESTED, Stop, TextUse};
 use primitives::arguments::Arguments;
@@ -52,7 +52,11 @@ pub(crate) fn eval<E: External>(
     ensures meaning { Val world.old.history run.old frame.now nested e.now result world.new.history run.new }
     ensures keeps { Keeps world.old.history run.old world.new.history run.new }
 {
-    match e.kind() {
+    let kind = match e.form() {
+        ExprForm::Number(number) => return Ok(Value::of_number(number)),
+        ExprForm::Kind(kind) => kind,
+    };
+    match kind {
         ExprKind::Paren(inner) => eval(world, run, frame, nested, inner),
         ExprKind::Call(name, list) => {
             let function = HandlerKind::Function;
@@ -259,9 +263,9 @@ pub(crate) fn meet_operand<'a, E: External>(
     ensures meaning { MeetsOperand world.old.history run.old frame.now nested e.now result world.new.history run.new }
     ensures keeps { Keeps world.old.history run.old world.new.history run.new }
 {
-    match e.kind() {
-        ExprKind::Name(name) => Ok(Operand::Name(name)),
-        ExprKind::Field(part) => {
+    match e.form() {
+        ExprForm::Kind(ExprKind::Name(name)) => Ok(Operand::Name(name)),
+        ExprForm::Kind(ExprKind::Field(part)) => {
             let referent = meet_part(world, run, frame, nested, part)?;
             Ok(Operand::Field(referent))
         }
@@ -367,8 +371,8 @@ pub(crate) fn part_of<E: External>(
         result world.new.history run.new }
     ensures keeps { Keeps world.old.history run.old world.new.history run.new }
 {
-    match text.kind() {
-        ExprKind::Name(_) | ExprKind::Field(_) => {
+    match text.form() {
+        ExprForm::Kind(ExprKind::Name(_) | ExprKind::Field(_)) => {
             lent_part(world, run, frame, nested, kind, from, to, text)
         }
         _ => {
@@ -484,8 +488,8 @@ pub(crate) fn function_of<E: External>(
         world.new.history run.new }
     ensures keeps { Keeps world.old.history run.old world.new.history run.new }
 {
-    match operand.kind() {
-        ExprKind::Name(_) | ExprKind::Field(_) => {
+    match operand.form() {
+        ExprForm::Kind(ExprKind::Name(_) | ExprKind::Field(_)) => {
             lent_function(world, run, frame, nested, word, operand)
         }
         _ => {
@@ -597,11 +601,11 @@ pub(crate) fn number_value<E: External>(
     ensures meaning { NumberVal world.old.history run.old frame.now nested e.now result world.new.history run.new }
     ensures keeps { Keeps world.old.history run.old world.new.history run.new }
 {
-    match e.kind() {
-        ExprKind::Chunk(Chunk::Piece(kind, index), text) => {
+    match e.form() {
+        ExprForm::Kind(ExprKind::Chunk(Chunk::Piece(kind, index), text)) => {
             piece_number(world, run, frame, nested, *kind, index, text)
         }
-        ExprKind::Chunk(Chunk::Pieces(kind, first, last), text) => {
+        ExprForm::Kind(ExprKind::Chunk(Chunk::Pieces(kind, first, last), text)) => {
             pieces_number(world, run, frame, nested, *kind, first, last, text)
         }
         _ => plain_number(world, run, frame, nested, e),

@@ -16,8 +16,8 @@ use std::alloc::{AllocError, Global};
 use std::collections::BTreeMap;
 use std::rc::Rc;
 
-/// How many bytes the scripts may have together whose trees are kept. A tree takes 15 times the memory of an ordinary
-/// script and up to 112 times that of one whose names have one letter, so the trees take some 112 MB at most.
+/// How many bytes the scripts may have together whose trees are kept. A tree takes 16 times the memory of an ordinary
+/// script and up to 126 times that of sums of names of one letter, so the trees take some 126 MB at most.
 pub(crate) const MOST_KEPT_BYTES: usize = 1_000_000;
 
 const _: () = prove!(MOST_KEPT_BYTES == 1_000_000);

@@ -2,7 +2,7 @@
 
 ghost use Rattle.std.specs.Prelude.{◌≡◌, ℕ, true};
 ghost use Rattle.ht_grammar.specs.Trees as tree;
-ghost use Rattle.ht_tree.specs.View.{count_of};
+ghost use Rattle.ht_tree.specs.View.{count_of, expr_of};
 ghost use Rattle.meaning.specs.declared.frame.Frame.{Frame};
 ghost use Rattle.meaning.specs.Meaning.{Val};
 ghost use Rattle.primitives.specs.Atoms.{counts_objects, is_atom};
@@ -12,7 +12,7 @@ use crate::places::variable;
 use crate::values::{constant_value, numeral, return_sign};
 use change_journal::World;
 use externals::External;
-use ht_tree::{Count, Expr, ExprKind};
+use ht_tree::{Count, Expr, ExprForm, ExprKind};
 use ht_values::Value;
 use meaning::{Budget, Frame, Stop};
 
@@ -29,9 +29,26 @@ pub fn atom<E: External>(
     requires { is_atom e.now ≡ true }
     ensures { (d : ℕ) → Val world.now.history run.now frame.now d e.now result world.now.history run.now }
 {
-    match e.kind() {
-        ExprKind::Number(value) => Ok(value.try_clone(run.alloc())?),
-        ExprKind::Quoted(text) => Ok(Value::copied(run.alloc(), text)?),
+    match e.form() {
+        ExprForm::Number(number) => Ok(Value::of_number(number)),
+        ExprForm::Kind(kind) => other_atom(world, run, frame, kind),
+    }
+}
+
+/// The value of an atom that is no number.
+#[tactic(auto, using(meaning::proofs::Rules::val_rules))]
+#[inline(always)]
+fn other_atom<E: External>(
+    world: &World<E>,
+    run: &Budget,
+    frame: &Frame,
+    kind: &ExprKind,
+) -> Result<Value, Stop>
+    requires { is_atom (expr_of kind.now) ≡ true }
+    ensures { (d : ℕ) → Val world.now.history run.now frame.now d (expr_of kind.now) result world.now.history run.now }
+{
+    match kind {
+        ExprKind::Digits(text) | ExprKind::Quoted(text) => Ok(Value::copied(run.alloc(), text)?),
         ExprKind::Constant(constant) => Ok(constant_value(run, *constant)?),
         ExprKind::Return => Ok(return_sign(run)?),
         ExprKind::Name(name) => Ok(variable(world, run, frame, name)?),

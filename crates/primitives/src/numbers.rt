@@ -14,7 +14,7 @@ use crate::places::alter_variable;
 use crate::values::apply;
 use change_journal::World;
 use externals::External;
-use ht_tree::{Container, ContainerKind, Expr, ExprKind};
+use ht_tree::{Container, ContainerKind, Expr, ExprForm, ExprKind};
 use ht_values::{Op, Value, number_by, truth_by};
 use meaning::{Budget, Frame, How, Stop};
 
@@ -25,10 +25,10 @@ fn kept_number(frame: &Frame, e: &Expr) -> Option<i64>
     ensures { IfSome result (λ n. (w : History) (r : RunState) (d : ℕ)
         → Val w r frame.now d e.now (Ok (numeral_of n)) w r) }
 {
-    match e.kind() {
-        ExprKind::Name(name) => frame.variables.number(name),
-        ExprKind::Number(value) => value.kept_number(),
-        _ => None,
+    match e.form() {
+        ExprForm::Number(number) => Some(number),
+        ExprForm::Kind(ExprKind::Name(name)) => frame.variables.number(name),
+        ExprForm::Kind(_) => None,
     }
 }
 
@@ -63,7 +63,7 @@ fn known_value(frame: &Frame, op: Op, left: &Expr, right: &Expr) -> Option<Value
 pub fn known_truth(frame: &Frame, e: &Expr) -> Option<bool>
     ensures { IfSome result (λ b. (w : History) (r : RunState) (d : ℕ) → TruthVal w r frame.now d e.now (Ok b) w r) }
 {
-    let ExprKind::Binary(op, left, right) = e.kind() else {
+    let ExprForm::Kind(ExprKind::Binary(op, left, right)) = e.form() else {
         return None;
     };
     let x = kept_number(frame, left)?;
@@ -83,9 +83,9 @@ pub fn are_plain(left: &Expr, right: &Expr) -> bool
 pub fn is_plain(e: &Expr) -> bool
     ensures { result ≡ true → is_atom e.now ≡ true }
 {
-    match e.kind() {
-        ExprKind::Name(_) | ExprKind::Number(_) => true,
-        _ => false,
+    match e.form() {
+        ExprForm::Number(_) | ExprForm::Kind(ExprKind::Name(_)) => true,
+        ExprForm::Kind(_) => false,
     }
 }
 

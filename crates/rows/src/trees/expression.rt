@@ -2,14 +2,23 @@
 
 use crate::trees::printed::Printed;
 use ht_grammar::Layer;
-use ht_tree::{Chunk, Count, Expr, ExprKind, Exprs, Owner, Part, Ref, Selector, Which};
-use ht_values::Text;
+use ht_tree::{Chunk, Count, Expr, ExprForm, ExprKind, Exprs, Owner, Part, Ref, Selector, Which};
+use ht_values::{Text, Value};
 
 /// Prints an expression: a number, a name or a constant as its word, a text in quotes, all else in parentheses.
 #[cycle(print)]
 pub fn print_expr(out: &mut Printed, expr: &Expr) {
-    match expr.kind() {
-        ExprKind::Number(digits) => out.value(digits),
+    match expr.form() {
+        ExprForm::Number(number) => out.value(&Value::of_number(number)),
+        ExprForm::Kind(kind) => print_kind(out, kind),
+    }
+}
+
+/// Prints an expression that is no numeral of a number.
+#[cycle(print)]
+fn print_kind(out: &mut Printed, kind: &ExprKind) {
+    match kind {
+        ExprKind::Digits(digits) => out.text(digits),
         ExprKind::Quoted(text) => print_quoted(out, text),
         ExprKind::Constant(constant) => out.named("", constant, ""),
         ExprKind::Return => out.word("Return"),

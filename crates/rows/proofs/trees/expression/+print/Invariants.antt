@@ -1,11 +1,15 @@
 use Rattle.std.proofs.Common.{◌≤◌, ◌+◌, ◌*◌, length}
 use Rattle.ht_grammar.specs.Depth.{depth, depths, chunk_depth, which_depth, selector_depth, owner_depth, part_depth}
 use Rattle.ht_grammar.specs.Depth.{ref_depth, count_depth}
-use Rattle.ht_tree.specs.View.{exprs_of, chunk_of, which_of, selector_of, owner_of, part_of, ref_of, count_of}
+use Rattle.ht_tree.specs.View.{expr_of, exprs_of, chunk_of, which_of, selector_of, owner_of, part_of, ref_of}
+use Rattle.ht_tree.specs.View.{count_of}
 use Rattle.rows.proofs.trees.expression.+print.Given as goal
 
 abbrev pub decreases-print_expr : goal.decreases-print_expr
 decreases-print_expr l = 16 * depth l.expr.now + 9
+
+abbrev pub decreases-print_kind : goal.decreases-print_kind
+decreases-print_kind l = 16 * depth (expr_of l.kind.now) + 8
 
 abbrev pub decreases-print_exprs : goal.decreases-print_exprs
 decreases-print_exprs l = 16 * depths (exprs_of l.exprs.now.items.items) + 10
@@ -23,7 +27,7 @@ abbrev pub decreases-print_owner : goal.decreases-print_owner
 decreases-print_owner l = 16 * owner_depth (owner_of l.owner.now)
 
 abbrev pub decreases-print_part : goal.decreases-print_part
-decreases-print_part l = 16 * part_depth (part_of l.part.now) + 8
+decreases-print_part l = 16 * part_depth (part_of l.part.now) + 7
 
 abbrev pub decreases-print_ref : goal.decreases-print_ref
 decreases-print_ref l = 16 * ref_depth (ref_of l.reference.now) + 12
