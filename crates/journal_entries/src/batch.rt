@@ -15,7 +15,7 @@ use std::marker::Model;
 use std::mem;
 
 /// Most lines that change something write one global or one field, or go to a card. Such an entry needs no list: a
-/// global's, with a value or without, where a `u32` numbers it, that of the current card, of a field's text, or of none,
+/// global's, with a value or without, where a `u32` numbers it, that of the current card, of a field's text or of none,
 /// or of a hilite. `Several` may hold any number of entries.
 #[derive(Drop)]
 enum BatchEntries {

@@ -6,7 +6,7 @@ use ht_values::Text;
 use std::alloc::{AllocError, Global};
 use std::marker::Model;
 
-/// A text of a field. Most fields of most cards are empty, and such a text takes no memory; any other stands in a box, so
+/// A text of a field. Most fields of most cards are empty: such a text takes no memory, and any other has a box, so
 /// that what keeps many of them stays small.
 #[derive(Drop)]
 pub struct FieldText {
