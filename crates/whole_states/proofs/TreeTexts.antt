@@ -17,8 +17,8 @@ use Rattle.ht_lex.specs.declared.tokens.Span.{Span}
 use Rattle.ht_lex.specs.Token.{Token, key, eol, later, token_by, token_in}
 use Rattle.ht_lex.specs.Token as token
 use Rattle.ht_grammar.specs.declared.vocabulary.Layer.{Layer}
-use Rattle.ht_grammar.specs.Fronts.{infix_at, test_at, leading_operator, operator_after_is}
-use Rattle.ht_grammar.specs.Fronts.{operator_after_is_not, operator_rest, asked_type, test_or, after_of, past_the, same_name}
+use Rattle.ht_grammar.specs.Fronts.{infix_at, test_at, leading_operator, operator_after_is, operator_after_is_not}
+use Rattle.ht_grammar.specs.Fronts.{operator_rest, asked_type, test_or, after_of, past_the, same_name}
 use Rattle.ht_grammar.specs.Ends.{past_ends, ended, past_for, past_to, past_times}
 use Rattle.ht_grammar.specs.Expressions.{Level, Derives, DerivesList, DerivesLayer, DerivesArticle, DerivesChunk}
 use Rattle.ht_grammar.specs.Expressions.{DerivesCount, DerivesRef, DerivesSelector, DerivesWhich, DerivesPart}
