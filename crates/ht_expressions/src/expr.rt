@@ -20,7 +20,7 @@ use ht_tree::{Expr, ExprKind, Exprs};
 use ht_values::{Op, Text, UnOp, plain_number};
 use std::alloc::Global;
 
-/// The number of these digits. One that is spelled so takes no memory.
+/// The expression of these digits. The numeral of a number takes no memory.
 fn to_number(alloc: Global, digits: &[u8]) -> Result<Expr, Stop>
     requires { length digits.now ≤ LIMIT }
     ensures { Gives (t.number digits.now) result }

@@ -268,7 +268,7 @@ impl Model for Expr {
 }
 
 impl Expr {
-    /// The digits of a number.
+    /// The numeral of a number. It takes no memory.
     pub fn of_number(number: i64) -> Expr
         ensures { result ≡ t.number (numeral number) }
     {
@@ -290,7 +290,7 @@ impl Expr {
         })
     }
 
-    /// Its kind, with its parts.
+    /// The number whose numeral it is, else its kind, with its parts.
     #[inline(always)]
     pub fn form(&self) -> ExprForm<'_>
         ensures { form_of result ≡ self.now }

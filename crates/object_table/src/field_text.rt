@@ -61,7 +61,7 @@ impl FieldText {
         }
     }
 
-    /// The text, where an empty one is lent in its place.
+    /// The text; where it is empty, the empty one that is handed over.
     pub(crate) fn text<'a>(&'a self, empty: &'a Text) -> &'a Text
         requires { empty.now ≡ [] }
         ensures { result.now ≡ self.now }
