@@ -1,7 +1,6 @@
 """A folder with a stack, and the built program on it: what the cases of ./trial stand on.
 
-The program is the one that tools/build makes, or the one that the environment variable CARD_CLI names. Where something
-that a case needs isn't to be had, a Refusal says so.
+The program is the one that ./card would run. Where something that a case needs isn't to be had, a Refusal says so.
 """
 
 import os
@@ -13,8 +12,10 @@ import subprocess
 import threading
 from typing import Any, Callable, Dict, Iterator, List, Optional, Sequence, Tuple
 
+from making import tried
+
 HERE = os.path.dirname(os.path.dirname(os.path.dirname(os.path.realpath(__file__))))
-PROGRAM = os.environ.get("CARD_CLI") or os.path.join(HERE, "crates", "card_cli", "out", "card_cli")
+PROGRAM = tried.program()
 DEMO = os.path.join(HERE, "crates", "card_cli", "data", "demo.stack")
 NOBODY = 65534
 MOST_SECONDS = 10.0  # that a program of a case may run
