@@ -297,17 +297,17 @@ state-changed s changes.NewBackground f h q = state-new_background s f q
 state-changed s (changes.NewPart layer kind) f h q = state-new_part s layer kind f q
 state-changed s changes.DeleteCard f h q = state-deletion s f q
 
-pub titles-changed : (s : State) (change : Change) → titles_of (changed s change).externals ≡ titles_of s.externals
+pub externals-changed : (s : State) (change : Change) → (changed s change).externals ≡ s.externals
 unfolding put
-titles-changed s (changes.Global name v) = refl
-titles-changed s (changes.FieldText field card t) = refl
-titles-changed s (changes.Hilite button card b) = refl
-titles-changed s (changes.Prop id v) = refl
-titles-changed s (changes.Current card) = refl
-titles-changed s changes.NewCard = ap titles_of (externals-new_card s)
-titles-changed s changes.NewBackground = ap titles_of (externals-new_background s)
-titles-changed s (changes.NewPart layer kind) = ap titles_of (externals-new_part s layer kind)
-titles-changed s changes.DeleteCard = ap titles_of (externals-deletion s)
+externals-changed s (changes.Global name v) = refl
+externals-changed s (changes.FieldText field card t) = refl
+externals-changed s (changes.Hilite button card b) = refl
+externals-changed s (changes.Prop id v) = refl
+externals-changed s (changes.Current card) = refl
+externals-changed s changes.NewCard = externals-new_card s
+externals-changed s changes.NewBackground = externals-new_background s
+externals-changed s (changes.NewPart layer kind) = externals-new_part s layer kind
+externals-changed s changes.DeleteCard = externals-deletion s
 
 once-marked : (m : Mark) (trail : List Mark) → IsOnce trail → IsOnce (marked m trail)
 once-marked structural trail h = h
@@ -340,8 +340,7 @@ IsHistory-made old new change f h made q =
       past = q.past;
       now = record {
         state = state-changed old.now change f h q.now.state;
-        titles = titles-changed old.now change
-            ∙ q.now.titles;
+        titles = ap titles_of (externals-changed old.now change) ∙ q.now.titles;
       };
       future = q.future;
       start = start-risen q.titles old.start new.start (replaced_by old.now change)

@@ -9,7 +9,7 @@ use Rattle.journal_entries.specs.Trails.{Mark}
 use Rattle.journal_entries.specs.declared.change.Change.{Change}
 use Rattle.change_journal.specs.History.{History, Open}
 use Rattle.change_journal.specs.Rising.{Made, TookTurn, Rises, BothOpen}
-use Rattle.change_journal.proofs.Making.{titles-changed}
+use Rattle.change_journal.proofs.Making.{externals-changed}
 use Rattle.containers.specs.Base.{base, began}
 
 starts_keep : (rs : List Replacement) (ms : Open → List Mark) (o p : Option Open)
@@ -30,7 +30,7 @@ made_keeps {w} {w2} {c} m = λ i.
           _ _ w.start w2.start m.start i;
       depth =
           (m.history i).depth;
-      titles = (ap (λ h. titles_of h.now.externals) m.history ∙ titles-changed w.now c) i;
+      titles = (ap (λ h. titles_of h.now.externals) m.history ∙ ap titles_of (externals-changed w.now c)) i;
     }
 
 pub took_keeps : {w w2 : History} {k : ℕ} {input : Input} {ask : Ask} → TookTurn w w2 k input ask → base w2 ≡ base w

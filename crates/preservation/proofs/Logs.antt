@@ -1,23 +1,18 @@
 -- Along changes and turns the same externals stay, and each log only goes on.
-use Rattle.std.proofs.Common.{◌≡◌, ℕ, zero, suc, ◌+◌, List, [], ◌∷◌, ◌++◌, length, map, Some, refl, sym, ap, subst}
+use Rattle.std.proofs.Common.{◌≡◌, ℕ, zero, suc, List, [], ◌∷◌, length, refl, sym, ap, subst}
 use Rattle.std.proofs.Common.{◌∙◌, length-set}
 use Rattle.std.specs.Prelude.{slice_index_or, slice_set}
 use Rattle.externals.specs.Cells.{Seen, none_seen}
 use Rattle.externals.specs.Log.{Log}
 use Rattle.externals.specs.declared.external.Ask.{Ask}
 use Rattle.externals.specs.declared.external.Input.{Input}
-use Rattle.stack_places.specs.Places.{number}
-use Rattle.structural_changes.specs.Writes.{StackWrite, following, writes_of_new_part, writes_of_new_card}
-use Rattle.structural_changes.specs.Writes.{writes_of_new_background, writes_of_deletion}
 use Rattle.journal_entries.specs.declared.change.Change.{Change}
-use Rattle.journal_entries.specs.declared.change.Change.TheVariants as changes
-use Rattle.journal_entries.specs.Changes.{changed, makes_current}
 use Rattle.journal_entries.specs.Exchange.{with_cells}
-use Rattle.journal_entries.specs.Places.{Write, put, put_all, in_stack, current_card, in_the_stack}
-use Rattle.journal_entries.specs.State.{State, seen_at}
+use Rattle.journal_entries.specs.State.{seen_at}
 use Rattle.change_journal.specs.History.{History}
 use Rattle.change_journal.specs.Logs.{log_at}
 use Rattle.change_journal.specs.Rising.{Made, TookTurn}
+use Rattle.change_journal.proofs.Making.{externals-changed}
 use Rattle.preservation.specs.Kinds.{sorts_of, sorts}
 use Rattle.preservation.specs.Laws.{IsPrefix}
 use Rattle.preservation.proofs.Prefixes.{prefix_same, prefix_trans}
@@ -48,39 +43,6 @@ kept_trans {w} {w1} {w2} first rest = record {
 }
 
 -- ---- a change
-
-externals-put : (s : State) (ws : List StackWrite) (more : List Write) →
-    ((t : State) → (put_all t more).externals ≡ t.externals) → (put_all s (map in_the_stack ws ++ more)).externals
-    ≡ s.externals
-unfolding put
-externals-put s [] more rest = rest s
-externals-put s (w ∷ ws) more rest = externals-put (put s (in_stack w.place) w.value) ws more rest
-
-externals-stack : (s : State) (ws : List StackWrite) → (put_all s (map in_the_stack ws)).externals ≡ s.externals
-unfolding put
-externals-stack s [] = refl
-externals-stack s (w ∷ ws) = externals-stack (put s (in_stack w.place) w.value) ws
-
-current-put : (card : ℕ) (t : State) → (put_all t (makes_current card ∷ [])).externals ≡ t.externals
-unfolding put
-current-put card t = refl
-
-pub externals-changed : (s : State) (c : Change) → (changed s c).externals ≡ s.externals
-unfolding put
-externals-changed s (changes.Global name v) = refl
-externals-changed s (changes.FieldText field card t) = refl
-externals-changed s (changes.Hilite button card b) = refl
-externals-changed s (changes.Prop id v) = refl
-externals-changed s (changes.Current card) = refl
-externals-changed s changes.NewCard =
-    externals-put s (writes_of_new_card s.stack s.current) (makes_current s.stack.next ∷ []) (current-put s.stack.next)
-externals-changed s changes.NewBackground =
-    externals-put s (writes_of_new_background s.stack s.current) (makes_current (s.stack.next + 1) ∷ [])
-    (current-put (s.stack.next + 1))
-externals-changed s (changes.NewPart layer kind) = externals-stack s (writes_of_new_part s.stack layer kind)
-externals-changed s changes.DeleteCard =
-    externals-stack (put s current_card (Some (number (following s.current s.stack.cards))))
-    (writes_of_deletion s.stack s.current)
 
 pub kept_made : {w w1 : History} {c : Change} → Made w w1 c → Kept w w1
 kept_made {w} {w1} {c} m = record {

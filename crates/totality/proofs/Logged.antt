@@ -17,7 +17,8 @@ use Rattle.journal_entries.specs.State.{seen_at}
 use Rattle.change_journal.specs.History.{History}
 use Rattle.change_journal.specs.Logs.{HaveLogs, log_at, turns_since}
 use Rattle.change_journal.specs.Rising.{Made, TookTurn}
-use Rattle.preservation.proofs.Logs.{Kept, kept_refl, kept_trans, externals-changed, kept_made, kept_took}
+use Rattle.change_journal.proofs.Making.{externals-changed}
+use Rattle.preservation.proofs.Logs.{Kept, kept_refl, kept_trans, kept_made, kept_took}
 use Rattle.preservation.proofs.Prefixes.{all_of_prefix, goes_on, prefix_drop, rest_is}
 use Rattle.whole_states.specs.Texts.{LoggedTexts}
 use Rattle.totality.specs.Laws.{Behaviour, IsBehaviour, IsTurnBy, Behaves, AreTurnsBy, BehavioursAreLogged}
