@@ -1,6 +1,6 @@
 -- A map that holds an entry isn't empty; and which ids a list without its first contains.
-use Rattle.std.proofs.Common.{◌≡◌, ◌≢◌, ℕ, zero, suc, ◌≤◌, true, List, ◌∷◌, refl, sym, ap, ◌∙◌, arith, Option, None, IsSome}
-use Rattle.std.proofs.Common.{is_some}
+use Rattle.std.proofs.Common.{◌≡◌, ◌≢◌, ℕ, zero, suc, ◌≤◌, true, List, ◌∷◌, refl, sym, ap, ◌∙◌, arith, Option, None}
+use Rattle.std.proofs.Common.{IsSome, is_some}
 use Rattle.std.specs.Ordering.{nat_cmp}
 use Rattle.std.specs.FinMap.{FinMap, get, len, empty_of_len, get-empty}
 use Rattle.std.proofs.lemmas.Bool.{false≢true}

@@ -1,6 +1,6 @@
 //! The text of a field, as a stack keeps it.
 
-ghost use Rattle.std.specs.Prelude.{◌≡◌, [], IfOk};
+ghost use Rattle.std.specs.Prelude.{◌≡◌, [], IfOk, IsOk};
 
 use ht_values::Text;
 use std::alloc::{AllocError, Global};
@@ -41,7 +41,8 @@ impl FieldText {
 
     /// A text, to be kept. An empty one takes no memory.
     pub fn new(alloc: Global, text: Text) -> Result<FieldText, AllocError>
-        ensures { IfOk result (λ f. f ≡ text) }
+        ensures value { IfOk result (λ f. f ≡ text) }
+        ensures empty { text ≡ [] → IsOk result }
     {
         if text.len() == 0 {
             return Ok(FieldText::empty());

@@ -13,5 +13,5 @@ returns c =
     let left : SFits w64 x = search rules in
     let right : SFits w64 y = search rules in
     let meaning = rw (to_z-of_z w64 x left, to_z-of_z w64 y right) at c.truth_by.ensures.meaning in
-    IfSome_then c.truth_by.result meaning
-    (λ b h. truth_is x y c.in_ok-x.ensures c.in_ok-y.ensures b (sym c.form.ensures ∙ ap form_of c.in-Kind-Binary.is ∙ ap expr_of c.in-Kind-Binary.field-0-is) h)
+    let kind = sym c.form.ensures ∙ ap form_of c.in-Kind-Binary.is ∙ ap expr_of c.in-Kind-Binary.field-0-is in
+    IfSome_then c.truth_by.result meaning (λ b h. truth_is x y c.in_ok-x.ensures c.in_ok-y.ensures b kind h)

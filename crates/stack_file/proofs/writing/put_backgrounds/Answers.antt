@@ -13,11 +13,11 @@ loop-id-init g c = nothing_passes _ _
 pub loop-id-preserved : goal.loop-id-preserved
 loop-id-preserved g c =
     let within : c.loop-id.id-index < length c.args.ids.now = grind (arith, common_steps, nat_tests) in
-    next_passed (background_lines second) (background_sheet c.args.stack.now.content) c.args.ids.now c.loop-id.id-index within
-    c.loop-id.invariant c.in_ok-put_background.ensures
+    next_passed (background_lines second) (background_sheet c.args.stack.now.content)
+    c.args.ids.now c.loop-id.id-index within c.loop-id.invariant c.in_ok-put_background.ensures
 
 pub returns : goal.returns
 returns g c =
     let past : length c.args.ids.now ≤ c.loop-id.id-index = grind (arith, common_steps, nat_tests) in
-    all_passed (background_lines second) (background_sheet c.args.stack.now.content) c.args.ids.now c.loop-id.id-index past
-    c.loop-id.invariant
+    all_passed (background_lines second) (background_sheet c.args.stack.now.content)
+    c.args.ids.now c.loop-id.id-index past c.loop-id.invariant

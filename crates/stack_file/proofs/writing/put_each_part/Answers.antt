@@ -13,11 +13,12 @@ loop-id-init g c = nothing_passes _ _
 pub loop-id-preserved : goal.loop-id-preserved
 loop-id-preserved g c =
     let within : c.loop-id.id-index < length c.args.ids.now = grind (arith, common_steps, nat_tests) in
-    next_passed (part_lines second) (part_of c.args.stack.now.content c.args.card) c.args.ids.now c.loop-id.id-index within
-    c.loop-id.invariant (put_then_passed _ _ _ _ _ _ c.in_ok-put_part.ensures c.in_ok-pass_on.ensures)
+    next_passed (part_lines second) (part_of c.args.stack.now.content c.args.card)
+    c.args.ids.now c.loop-id.id-index within c.loop-id.invariant
+    (put_then_passed _ _ _ _ _ _ c.in_ok-put_part.ensures c.in_ok-pass_on.ensures)
 
 pub returns : goal.returns
 returns g c =
     let past : length c.args.ids.now ≤ c.loop-id.id-index = grind (arith, common_steps, nat_tests) in
-    all_passed (part_lines second) (part_of c.args.stack.now.content c.args.card) c.args.ids.now c.loop-id.id-index past
-    c.loop-id.invariant
+    all_passed (part_lines second) (part_of c.args.stack.now.content c.args.card)
+    c.args.ids.now c.loop-id.id-index past c.loop-id.invariant
