@@ -1,5 +1,7 @@
 """That the shapes of ./stress are what they say, and how their runs are judged."""
 
+import contextlib
+import io
 import os
 import re
 import sys
@@ -141,13 +143,14 @@ class Runs(unittest.TestCase):
         self.assertIsNone(runner.need(shape, most=4096))
         self.assertEqual((runner.fits(shape, 5000), runner.fits(shape, 4096)), (True, False))
 
-    def test_which_shapes_are_due(self) -> None:
-        plain = Shape("plain", lambda _: Scripts(""), no_texts, "g", ())
-        self.assertEqual([running.is_due(plain, kib) for kib in (*running.BOUNDS, 10240)], [True, True, False])
-        named = {shape.name: shape for shape in SHAPES}
-        self.assertEqual(running.NEED_MORE, {"send with arguments": 5120})
-        more = named["send with arguments"]
-        self.assertEqual([running.is_due(more, kib) for kib in (4096, 5120, 8192)], [False, True, True])
+    def test_a_shape_that_needs_more_is_told(self) -> None:
+        shape = Shape("s", lambda _: Scripts(""), no_texts, "g", ())
+        answers = "".join("echo '%s'\n" % answer for answer in shape.answers())
+        runner = running.Runner(self.program('[ "$(ulimit -S -s)" -ge 5000 ] || kill -SEGV $$\n' + answers), self.folder)
+        said = io.StringIO()
+        with contextlib.redirect_stdout(said):
+            self.assertEqual([running.bounded(runner, [shape], kib) for kib in running.BOUNDS], [[True], [False]])
+        self.assertIn("s, 4096 KiB of stack: ", said.getvalue())
 
 
 if __name__ == "__main__":

@@ -10,6 +10,7 @@ mod conversation;
 mod expr;
 mod line;
 mod message;
+mod numbers;
 mod pieces;
 mod reference;
 mod repeat;

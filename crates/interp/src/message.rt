@@ -5,6 +5,7 @@ ghost use Rattle.ht_grammar.specs.Depth.{depths, max_depth};
 ghost use Rattle.ht_tree.specs.View.{exprs_of};
 ghost use Rattle.containers.specs.Base.{base};
 ghost use Rattle.meaning.specs.Meaning.{Along, BuiltInGives, Calls, Outside, Sends};
+ghost use Rattle.primitives.specs.Given.{given};
 ghost use Rattle.interp.specs.Keeps.{Keeps};
 
 use crate::conversation::converse;
@@ -26,7 +27,8 @@ use primitives::messages::{
 };
 use primitives::values::{call_function, empty};
 
-/// The arguments are computed, then the message is sent to an object.
+/// The arguments are computed, then the message is sent to an object. What it gives is written in a place of the
+/// caller's.
 #[cycle(run)]
 #[tactic(auto, using(meaning::proofs::Rules::calls_rules))]
 #[inline(never)]
@@ -39,17 +41,19 @@ pub(crate) fn calls<E: External>(
     name: &Text,
     list: &Exprs,
     kind: HandlerKind,
-) -> Result<Value, Stop>
+    value: &mut Value,
+) -> Result<(), Stop>
     requires nested { nested ≤ 100 }
     requires deep { depths (exprs_of list.now.items.items) ≤ max_depth }
     requires open { IsSome (base world.old.history).start }
     ensures meaning { Calls world.old.history run.old frame.now nested object name.now (exprs_of list.now.items.items)
-        kind result world.new.history run.new }
+        kind (given result value.new) world.new.history run.new }
     ensures keeps { Keeps world.old.history run.old world.new.history run.new }
 {
     let mut values = Arguments::new(run.alloc());
     arguments(world, run, frame, nested, &list.items, &mut values)?;
-    send(world, run, frame, nested, object, name, &values, kind)
+    *value = send(world, run, frame, nested, object, name, &values, kind)?;
+    Ok(())
 }
 
 /// Sends a message to an object: a step, then along its path.
@@ -182,7 +186,11 @@ pub(crate) fn answer<E: External>(
 {
     match BuiltIn::named(kind, name) {
         Some(BuiltIn::Value) => match only_text(run, values)? {
-            Some(text) => text_value(world, run, frame, nested, &text),
+            Some(text) => {
+                let mut value = Value::of_number(0);
+                text_value(world, run, frame, nested, &text, &mut value)?;
+                Ok(value)
+            }
             None => Err(Stop::Fault(Fault::BadArgument)),
         },
         Some(BuiltIn::Function(function)) => call_function(run, function, values),

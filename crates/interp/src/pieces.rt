@@ -8,7 +8,7 @@ ghost use Rattle.meaning.specs.Meaning.{ChunkOf, Resolves};
 ghost use Rattle.interp.specs.Edits.{EditsContainer};
 ghost use Rattle.interp.specs.Keeps.{Keeps};
 
-use crate::expr::number_value;
+use crate::numbers::number_value;
 use crate::reference::meet_part;
 use change_journal::World;
 use containers::{Edit, Place};

@@ -14,7 +14,7 @@ ghost use Rattle.ht_grammar.specs.Trees as tree;
 ghost use Rattle.interp.specs.Keeps.{Keeps};
 ghost use Rattle.interp.specs.Picks.{expr_in};
 
-use crate::expr::eval;
+use crate::expr::value_of;
 use change_journal::World;
 use externals::External;
 use ht_grammar::Layer;
@@ -54,7 +54,7 @@ pub(crate) fn seek<E: External>(
         Selector::Previous => Ok(Sought::Previous),
         Selector::Nth(ordinal) => Ok(Sought::Picked(Pick::Nth(*ordinal))),
         Selector::Which(which) => {
-            let met = eval(world, run, frame, nested, expr_of(which));
+            let met = value_of(world, run, frame, nested, expr_of(which));
             sought(run, which, met)
         }
     }
@@ -183,7 +183,7 @@ pub(crate) fn meet_part<E: External>(
 {
     match part {
         Part::Plain(layer, kind, which, owner) => {
-            let met = eval(world, run, frame, nested, expr_of(which));
+            let met = value_of(world, run, frame, nested, expr_of(which));
             plain_part(world, run, frame, nested, *layer, *kind, which, owner, met)
         }
         Part::Nth(ordinal, layer, kind, owner) => {

@@ -9,7 +9,8 @@ ghost use Rattle.meaning.specs.Meaning.{Bounds, Counts, Endless, Form, While};
 ghost use Rattle.interp.specs.Heads.{counted};
 ghost use Rattle.interp.specs.Keeps.{Keeps};
 
-use crate::expr::{eval, number_value, truth_value};
+use crate::expr::{truth_value, value_of};
+use crate::numbers::number_value;
 use crate::stmt::run_block;
 use change_journal::World;
 use externals::External;
@@ -94,8 +95,8 @@ pub(crate) fn bounds<E: External>(
         run.new }
     ensures keeps { Keeps world.old.history run.old world.new.history run.new }
 {
-    let first = eval(world, run, frame, nested, from)?;
-    let last = eval(world, run, frame, nested, to)?;
+    let first = value_of(world, run, frame, nested, from)?;
+    let last = value_of(world, run, frame, nested, to)?;
     counter(run, &first, &last, is_down)
 }
 

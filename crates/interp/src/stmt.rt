@@ -1,9 +1,8 @@
 //! Statements.
 
-ghost use Rattle.std.specs.Prelude.{◌≡◌, ◌≤◌, ◌<◌, ℕ, List, IsSome, IfOk, true};
+ghost use Rattle.std.specs.Prelude.{◌≡◌, ◌≤◌, ◌<◌, ℕ, IsSome, IfOk, true};
 ghost use Rattle.ht_grammar.specs.Statements as stm;
 ghost use Rattle.ht_grammar.specs.Trees as tree;
-ghost use Rattle.ht_grammar.specs.declared.vocabulary.HandlerKind.TheVariants.{Command};
 ghost use Rattle.ht_grammar.specs.Depth.{chunk_depth, container_depth, depth, destination_depth, ref_depth};
 ghost use Rattle.ht_grammar.specs.Depth.{stmt_depth, stmts_depth, max_depth};
 ghost use Rattle.ht_tree.specs.StatementView.{destination_of, stmts_of};
@@ -11,12 +10,12 @@ ghost use Rattle.ht_tree.specs.View.{chunk_of, ref_of};
 ghost use Rattle.containers.specs.Base.{base};
 ghost use Rattle.change_journal.specs.History.{History};
 ghost use Rattle.meaning.specs.declared.frame.Frame.{Frame};
-ghost use Rattle.meaning.specs.Meaning.{Alters, Block, Calls, Form, Val};
+ghost use Rattle.meaning.specs.Meaning.{Alters, Block, Form, Val};
 ghost use Rattle.meaning.specs.State.{RunState};
 ghost use Rattle.interp.specs.Heads.{is_plain};
 ghost use Rattle.interp.specs.Keeps.{Keeps};
 
-use crate::expr::{eval, eval_text, truth_value};
+use crate::expr::{eval_text, truth_value, value_of};
 use crate::message::calls;
 use crate::pieces::{edit_container, pieces, resolve};
 use crate::reference::{lead, meet};
@@ -141,21 +140,21 @@ pub(crate) fn run_plain<E: External>(
 {
     match stmt.kind() {
         StmtKind::Put(value) => {
-            let met = eval(world, run, frame, nested, value);
+            let met = value_of(world, run, frame, nested, value);
             shown(run, met)
         }
         StmtKind::PutIn(place, value, container) => put(
             world, run, frame, nested, *place, value, container,
         ),
         StmtKind::Get(value) => {
-            let met = eval(world, run, frame, nested, value);
+            let met = value_of(world, run, frame, nested, value);
             got(world, run, frame, met)
         }
         StmtKind::Set(property, reference, value) => set(
             world, run, frame, nested, *property, reference, value,
         ),
         StmtKind::SetRun(property, value) => {
-            let met = eval(world, run, frame, nested, value);
+            let met = value_of(world, run, frame, nested, value);
             run_set(run, *property, met)
         }
         StmtKind::Add(value, container) => alter(
@@ -209,13 +208,24 @@ pub(crate) fn run_plain<E: External>(
         StmtKind::Pass(_) => Ok(How::Pass),
         StmtKind::ReturnNothing => Ok(How::Returns(empty(run))),
         StmtKind::ReturnValue(value) => {
-            let met = eval(world, run, frame, nested, value);
+            let met = value_of(world, run, frame, nested, value);
             returning(met)
         }
         StmtKind::Command(name, list) => {
             let kind = HandlerKind::Command;
-            let met = calls(world, run, frame, nested, frame.me, name, list, kind);
-            sent(met)
+            let mut unused = Value::of_number(0);
+            calls(
+                world,
+                run,
+                frame,
+                nested,
+                frame.me,
+                name,
+                list,
+                kind,
+                &mut unused,
+            )?;
+            Ok(How::Next)
         }
         StmtKind::When(_, _, _) | StmtKind::Repeat(_, _) => unreachable!(),
     }
@@ -229,17 +239,6 @@ fn returning(met: Result<Value, Stop>) -> Result<How, Stop>
 {
     let value = met?;
     Ok(How::Returns(value))
-}
-
-/// A command: a message to the object whose handler runs, once it was sent.
-#[tactic(auto, using(meaning::proofs::Rules::form_command_rules))]
-fn sent(met: Result<Value, Stop>) -> Result<How, Stop>
-    ensures { (w w1 : History) (r r1 : RunState) (f : Frame) (d : ℕ) (name : List ℕ) (xs : tree.Exprs)
-        → Calls w r f d f.me name xs Command met w1 r1
-        → Form w r f d (stm.command name xs) result w1 r1 f }
-{
-    let _ = met?;
-    Ok(How::Next)
 }
 
 /// `put` alone: a value is shown as a line, if it was computed.
@@ -309,7 +308,7 @@ pub(crate) fn put<E: External>(
         world.new.history run.new frame.new }
     ensures keeps { Keeps world.old.history run.old world.new.history run.new }
 {
-    let new = eval(world, run, frame, nested, value)?;
+    let new = value_of(world, run, frame, nested, value)?;
     let put = Edit::Put(place, new);
     edit_container(world, run, frame, nested, container, put)?;
     Ok(How::Next)
@@ -366,7 +365,7 @@ pub(crate) fn alter<E: External>(
     if let Some(done) = alter_by_number(world, run, frame, op, value, container) {
         return done;
     }
-    let operand = eval(world, run, frame, nested, value)?;
+    let operand = value_of(world, run, frame, nested, value)?;
     let change = Edit::Alter(op, operand);
     edit_container(world, run, frame, nested, container, change)?;
     Ok(How::Next)
@@ -454,7 +453,8 @@ pub(crate) fn run_send<E: External>(
     let message = message(run, &text)?;
     // Called for its clause alone: a tree is at most 100 levels deep.
     let _depth = message.depth();
-    let _ = calls(
+    let mut unused = Value::of_number(0);
+    calls(
         world,
         run,
         frame,
@@ -463,6 +463,7 @@ pub(crate) fn run_send<E: External>(
         &message.name,
         &message.arguments,
         HandlerKind::Command,
+        &mut unused,
     )?;
     Ok(How::Next)
 }

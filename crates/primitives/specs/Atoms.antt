@@ -16,6 +16,11 @@ is_atom (tree.property p r) = false
 is_atom (tree.function f x) = false
 is_atom _ = true
 
+-- whether parentheses stand around an expression
+abbrev pub is_in_parens : tree.Expr → Bool
+is_in_parens (tree.paren x) = true
+is_in_parens _ = false
+
 -- whether `the number of` counts cards, backgrounds or parts
 abbrev pub counts_objects : tree.Count → Bool
 counts_objects (tree.pieces_of kind x) = false

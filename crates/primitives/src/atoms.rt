@@ -6,6 +6,7 @@ ghost use Rattle.ht_tree.specs.View.{count_of, expr_of};
 ghost use Rattle.meaning.specs.declared.frame.Frame.{Frame};
 ghost use Rattle.meaning.specs.Meaning.{Val};
 ghost use Rattle.primitives.specs.Atoms.{counts_objects, is_atom};
+ghost use Rattle.primitives.specs.Given.{given};
 
 use crate::objects::{parts_here, target_name};
 use crate::places::variable;
@@ -16,8 +17,8 @@ use ht_tree::{Count, Expr, ExprForm, ExprKind};
 use ht_values::Value;
 use meaning::{Budget, Frame, Stop};
 
-/// The value of an expression that has no other one, and no reference, in it; fault 3 where it is `the target`, which
-/// is gone.
+/// Writes the value of an expression that has no other one, and no reference, in it; fault 3 where it is `the target`,
+/// which is gone.
 #[tactic(auto, using(meaning::proofs::Rules::val_rules))]
 #[inline(never)]
 pub fn atom<E: External>(
@@ -25,13 +26,21 @@ pub fn atom<E: External>(
     run: &Budget,
     frame: &Frame,
     e: &Expr,
-) -> Result<Value, Stop>
+    value: &mut Value,
+) -> Result<(), Stop>
     requires { is_atom e.now ≡ true }
-    ensures { (d : ℕ) → Val world.now.history run.now frame.now d e.now result world.now.history run.now }
+    ensures { (d : ℕ) → Val world.now.history run.now frame.now d e.now (given result value.new) world.now.history
+        run.now }
 {
     match e.form() {
-        ExprForm::Number(number) => Ok(Value::of_number(number)),
-        ExprForm::Kind(kind) => other_atom(world, run, frame, kind),
+        ExprForm::Number(number) => {
+            *value = Value::of_number(number);
+            Ok(())
+        }
+        ExprForm::Kind(kind) => {
+            *value = other_atom(world, run, frame, kind)?;
+            Ok(())
+        }
     }
 }
 
@@ -59,22 +68,32 @@ fn other_atom<E: External>(
     }
 }
 
-/// How many cards, backgrounds or parts there are.
+/// Writes how many cards, backgrounds or parts there are.
 #[tactic(auto, using(meaning::proofs::Rules::val_number_of_cards_rules, meaning::proofs::Rules::val_number_of_backgrounds_rules, meaning::proofs::Rules::val_number_of_parts_rules))]
 #[inline(never)]
 pub fn object_count<E: External>(
     world: &World<E>,
     run: &Budget,
     count: &Count,
-) -> Result<Value, Stop>
+    value: &mut Value,
+) -> Result<(), Stop>
     requires { counts_objects (count_of count.now) ≡ true }
-    ensures { (f : Frame) (d : ℕ) → Val world.now.history run.now f d (tree.number_of (count_of count.now)) result
-        world.now.history run.now }
+    ensures { (f : Frame) (d : ℕ) → Val world.now.history run.now f d (tree.number_of (count_of count.now))
+        (given result value.new) world.now.history run.now }
 {
     match count {
-        Count::Cards => Ok(numeral(run, world.stack().cards().len())?),
-        Count::Backgrounds => Ok(numeral(run, world.stack().backgrounds().len())?),
-        Count::Parts(layer, kind) => Ok(numeral(run, parts_here(world, *layer, *kind))?),
+        Count::Cards => {
+            *value = numeral(run, world.stack().cards().len())?;
+            Ok(())
+        }
+        Count::Backgrounds => {
+            *value = numeral(run, world.stack().backgrounds().len())?;
+            Ok(())
+        }
+        Count::Parts(layer, kind) => {
+            *value = numeral(run, parts_here(world, *layer, *kind))?;
+            Ok(())
+        }
         Count::PiecesOf(_, _) | Count::OfObject(_) => unreachable!(),
     }
 }

@@ -1,8 +1,8 @@
 //! What a run of HyperTalk computes or changes between the calls of the interpreter to itself, each step by itself, as
 //! the premises of the rules ask for it. What changes a world keeps the history round the open batch.
 //!
-//! - Values and parsing: expressions with no other one in them (`atom`, `object_count`), and `apply`, `call_function`,
-//!   `counter`, `expression`, `lines`, `message`.
+//! - Values and parsing: expressions with no other one in them (`atom`, `object_count`), what stands in parentheses
+//!   (`bare`), and `apply`, `call_function`, `counter`, `expression`, `lines`, `message`.
 //! - Places: those of variables and fields and their edits (`field_place`, `edit`, `assign`, `declare_globals`), and
 //!   what is read of an operand where it stands (`operand_part`, `operand_count`, `operand_into_text`,
 //!   `call_of_operand`).
@@ -17,5 +17,6 @@ pub mod messages;
 pub mod numbers;
 pub mod objects;
 pub mod operands;
+pub mod parens;
 pub mod places;
 pub mod values;

@@ -8,6 +8,7 @@ ghost use Rattle.containers.specs.Base.{base};
 ghost use Rattle.meaning.specs.Meaning.{Alters, NumberVal, TruthVal, Val};
 ghost use Rattle.meaning.specs.State.{RunState};
 ghost use Rattle.primitives.specs.Atoms.{is_atom};
+ghost use Rattle.primitives.specs.Given.{given};
 
 use crate::atoms::atom;
 use crate::places::alter_variable;
@@ -89,8 +90,8 @@ pub fn is_plain(e: &Expr) -> bool
     }
 }
 
-/// What an operator gives of two operands that ask for no other's value. Those that are kept as numbers are computed
-/// with at once.
+/// Writes what an operator gives of two operands that ask for no other's value. Those that are kept as numbers are
+/// computed with at once.
 #[tactic(auto, using(meaning::proofs::Rules::val_binary_rules))]
 #[inline(never)]
 pub fn binary_of_plain<E: External>(
@@ -101,20 +102,24 @@ pub fn binary_of_plain<E: External>(
     op: Op,
     left: &Expr,
     right: &Expr,
-) -> Result<Value, Stop>
+    value: &mut Value,
+) -> Result<(), Stop>
     requires left { is_atom left.now ≡ true }
     requires right { is_atom right.now ≡ true }
-    ensures { Val world.now.history run.now frame.now nested (tree.binary op left.now right.now) result
-        world.now.history run.now }
+    ensures { Val world.now.history run.now frame.now nested (tree.binary op left.now right.now)
+        (given result value.new) world.now.history run.now }
 {
     match known_value(frame, op, left, right) {
-        Some(value) => Ok(value),
-        None => binary_of_atoms(world, run, frame, nested, op, left, right),
+        Some(known) => {
+            *value = known;
+            Ok(())
+        }
+        None => binary_of_atoms(world, run, frame, nested, op, left, right, value),
     }
 }
 
-/// What an operator gives of two operands that ask for no other's value, whatever they are. It stands for itself, so
-/// that numbers pay nothing for it.
+/// Writes what an operator gives of two operands that ask for no other's value, whatever they are. It stands for
+/// itself, so that numbers pay nothing for it.
 #[tactic(auto, using(meaning::proofs::Rules::val_binary_rules))]
 #[inline(never)]
 fn binary_of_atoms<E: External>(
@@ -125,16 +130,17 @@ fn binary_of_atoms<E: External>(
     op: Op,
     left: &Expr,
     right: &Expr,
-) -> Result<Value, Stop>
+    value: &mut Value,
+) -> Result<(), Stop>
     requires left { is_atom left.now ≡ true }
     requires right { is_atom right.now ≡ true }
-    ensures { Val world.now.history run.now frame.now nested (tree.binary op left.now right.now) result
-        world.now.history run.now }
+    ensures { Val world.now.history run.now frame.now nested (tree.binary op left.now right.now)
+        (given result value.new) world.now.history run.now }
 {
-    let mut value = atom(world, run, frame, left)?;
-    let operand = atom(world, run, frame, right)?;
-    apply(run, op, &mut value, &operand)?;
-    Ok(value)
+    atom(world, run, frame, left, value)?;
+    let mut operand = Value::of_number(0);
+    atom(world, run, frame, right, &mut operand)?;
+    apply(run, op, value, &operand)
 }
 
 /// Arithmetic on a variable by an operand that is kept as a number; `None` where the operand isn't kept so, or the

@@ -7,6 +7,7 @@ ghost use Rattle.ht_values.specs.Text.{numeral as numeral_of};
 ghost use Rattle.chunks.specs.Pieces.{count as count_of, read as read_pieces};
 ghost use Rattle.containers.specs.Standing.{standing_text};
 ghost use Rattle.meaning.specs.Values.{Yields};
+ghost use Rattle.primitives.specs.Given.{given};
 ghost use Rattle.primitives.specs.Operands.{operand_text};
 
 use crate::arguments::Arguments;
@@ -20,6 +21,7 @@ use ht_values::{ChunkKind, Fault, Func, Name, Text, Value};
 use meaning::{Budget, Frame, Stop};
 use object_references::Referent;
 use std::alloc::AllocError;
+use std::mem;
 
 /// What an operand is once all that it computes is computed, before its text is read.
 #[derive(Drop)]
@@ -117,7 +119,7 @@ pub fn operand_into_text<E: External>(
     Ok(operand_value(world, run, frame, operand)?.into_text(run.alloc())?)
 }
 
-/// Pieces of an operand, which is lent; fault 3 where it is a field that keeps no text for its card.
+/// Writes pieces of an operand, which is lent; fault 3 where it is a field that keeps no text for its card.
 #[tactic(auto, using(meaning::proofs::Rules::yields_rules))]
 #[inline(never)]
 pub fn operand_part<E: External>(
@@ -126,27 +128,32 @@ pub fn operand_part<E: External>(
     frame: &Frame,
     operand: &Operand<'_>,
     pieces: &Chunk,
-) -> Result<Value, Stop>
+    value: &mut Value,
+) -> Result<(), Stop>
     ensures { Yields (and_then (operand_text world.now.history.now frame.now.variables run.now.delimiter operand.now)
-        (λ t. Ok (read_pieces run.now.delimiter pieces.now t))) result }
+        (λ t. Ok (read_pieces run.now.delimiter pieces.now t))) (given result value.new) }
 {
     match standing(world, run, frame, operand) {
-        Ok(standing) => Ok(standing.part(run.alloc(), pieces, run.delimiter())?),
+        Ok(standing) => {
+            *value = standing.part(run.alloc(), pieces, run.delimiter())?;
+            Ok(())
+        }
         Err(fault) => Err(Stop::Fault(fault)),
     }
 }
 
-/// Pieces of a value that was computed.
+/// Writes pieces of a value over it.
 #[tactic(auto, using(meaning::proofs::Rules::yields_rules))]
 #[inline(never)]
-pub fn value_part(run: &Budget, value: &Value, pieces: &Chunk) -> Result<Value, Stop>
-    ensures { Yields (Ok (read_pieces run.now.delimiter pieces.now value.now)) result }
+pub fn take_part(run: &Budget, value: &mut Value, pieces: &Chunk) -> Result<(), Stop>
+    ensures { Yields (Ok (read_pieces run.now.delimiter pieces.now value.old)) (given result value.new) }
 {
-    Ok(Standing::Value(value).part(run.alloc(), pieces, run.delimiter())?)
+    *value = Standing::Value(value).part(run.alloc(), pieces, run.delimiter())?;
+    Ok(())
 }
 
-/// How many pieces of a kind an operand has, which is lent; fault 3 where it is a field that keeps no text for its
-/// card.
+/// Writes how many pieces of a kind an operand has, which is lent; fault 3 where it is a field that keeps no text for
+/// its card.
 #[tactic(auto, using(meaning::proofs::Rules::yields_rules))]
 #[inline(never)]
 pub fn operand_count<E: External>(
@@ -155,30 +162,47 @@ pub fn operand_count<E: External>(
     frame: &Frame,
     operand: &Operand<'_>,
     kind: ChunkKind,
-) -> Result<Value, Stop>
+    value: &mut Value,
+) -> Result<(), Stop>
     ensures { Yields (and_then (operand_text world.now.history.now frame.now.variables run.now.delimiter operand.now)
-        (λ t. Ok (numeral_of (pos (count_of run.now.delimiter kind t))))) result }
+        (λ t. Ok (numeral_of (pos (count_of run.now.delimiter kind t))))) (given result value.new) }
 {
     match standing(world, run, frame, operand) {
-        Ok(standing) => Ok(count_in(run, standing, kind)?),
+        Ok(standing) => {
+            *value = count_in(run, standing, kind)?;
+            Ok(())
+        }
         Err(fault) => Err(Stop::Fault(fault)),
     }
 }
 
-/// What a function gives of a value that was computed, or its first fault.
+/// Writes what a function gives of a value over it, or its first fault.
 #[tactic(auto, using(meaning::proofs::Rules::yields_rules))]
 #[inline(never)]
-pub fn call_of_value(run: &Budget, function: Func, value: Value) -> Result<Value, Stop>
-    ensures { Yields (built_in_of function (value ∷ [])) result }
+pub fn apply_function(run: &Budget, function: Func, value: &mut Value) -> Result<(), Stop>
+    ensures { Yields (built_in_of function (value.old ∷ [])) (given result value.new) }
 {
     match function {
-        Func::Length => Ok(length_of(run, Standing::Value(&value))?),
-        _ => call_function(run, function, &Arguments::of_one(run.alloc(), value)),
+        Func::Length => {
+            *value = length_of(run, Standing::Value(value))?;
+            Ok(())
+        }
+        _ => apply_to_one(run, function, value),
     }
 }
 
-/// What a function gives of one operand, or its first fault; fault 3 where the operand is a field that keeps no text
-/// for its card. For its length an operand is lent.
+/// Writes what a function gives of a value over it, by way of a list of arguments.
+#[tactic(auto, using(meaning::proofs::Rules::yields_rules))]
+fn apply_to_one(run: &Budget, function: Func, value: &mut Value) -> Result<(), Stop>
+    ensures { Yields (built_in_of function (value.old ∷ [])) (given result value.new) }
+{
+    let operand = mem::replace(value, Value::of_number(0));
+    *value = call_function(run, function, &Arguments::of_one(run.alloc(), operand))?;
+    Ok(())
+}
+
+/// Writes what a function gives of one operand, or its first fault; fault 3 where the operand is a field that keeps no
+/// text for its card. For its length an operand is lent.
 #[tactic(auto, using(meaning::proofs::Rules::yields_rules))]
 #[inline(never)]
 pub fn call_of_operand<E: External>(
@@ -187,18 +211,22 @@ pub fn call_of_operand<E: External>(
     frame: &Frame,
     function: Func,
     operand: Operand<'_>,
-) -> Result<Value, Stop>
+    value: &mut Value,
+) -> Result<(), Stop>
     ensures { Yields (and_then (operand_text world.now.history.now frame.now.variables run.now.delimiter operand.entry)
-        (λ t. built_in_of function (t ∷ []))) result }
+        (λ t. built_in_of function (t ∷ []))) (given result value.new) }
 {
     match function {
         Func::Length => match standing(world, run, frame, &operand) {
-            Ok(standing) => Ok(length_of(run, standing)?),
+            Ok(standing) => {
+                *value = length_of(run, standing)?;
+                Ok(())
+            }
             Err(fault) => Err(Stop::Fault(fault)),
         },
         _ => {
-            let value = operand_value(world, run, frame, operand)?;
-            call_function(run, function, &Arguments::of_one(run.alloc(), value))
+            *value = operand_value(world, run, frame, operand)?;
+            apply_to_one(run, function, value)
         }
     }
 }

@@ -17,6 +17,7 @@ ghost use Rattle.meaning.specs.State.{RunState, run_property_set};
 ghost use Rattle.meaning.specs.Repeats.{counter_of, goes_on as goes_on_of};
 ghost use Rattle.meaning.specs.Values.{Parses, Yields};
 ghost use Rattle.primitives.specs.Blocks.{EndsBlock, EndsRepeat};
+ghost use Rattle.primitives.specs.Given.{given};
 ghost use Rattle.primitives.specs.Views.{read_as};
 
 use crate::arguments::Arguments;
@@ -50,8 +51,7 @@ fn of_numbers(op: Op, left: &Value, right: &Value) -> Option<Value>
 #[tactic(auto, using(meaning::proofs::Rules::yields_rules))]
 #[inline(never)]
 pub fn apply(run: &Budget, op: Op, left: &mut Value, right: &Value) -> Result<(), Stop>
-    ensures ok { OnOk result (Yields (binary_of op left.old right.now) (Ok left.new)) }
-    ensures err { IfErr result (λ stop. Yields (binary_of op left.old right.now) (Err stop)) }
+    ensures { Yields (binary_of op left.old right.now) (given result left.new) }
 {
     match of_numbers(op, left, right) {
         Some(value) => {
@@ -66,8 +66,7 @@ pub fn apply(run: &Budget, op: Op, left: &mut Value, right: &Value) -> Result<()
 #[tactic(auto, using(meaning::proofs::Rules::yields_rules))]
 #[inline(never)]
 fn apply_to_any(run: &Budget, op: Op, left: &mut Value, right: &Value) -> Result<(), Stop>
-    ensures ok { OnOk result (Yields (binary_of op left.old right.now) (Ok left.new)) }
-    ensures err { IfErr result (λ stop. Yields (binary_of op left.old right.now) (Err stop)) }
+    ensures { Yields (binary_of op left.old right.now) (given result left.new) }
 {
     match binary(run.alloc(), op, left, right) {
         Ok(value) => {
@@ -87,8 +86,7 @@ fn apply_to_any(run: &Budget, op: Op, left: &mut Value, right: &Value) -> Result
 #[tactic(auto, using(meaning::proofs::Rules::yields_rules))]
 #[inline(never)]
 pub fn apply_one(run: &Budget, op: UnOp, operand: &mut Value) -> Result<(), Stop>
-    ensures ok { OnOk result (Yields (unary_of op operand.old) (Ok operand.new)) }
-    ensures err { IfErr result (λ stop. Yields (unary_of op operand.old) (Err stop)) }
+    ensures { Yields (unary_of op operand.old) (given result operand.new) }
 {
     match unary(op, operand) {
         Ok(value) => {

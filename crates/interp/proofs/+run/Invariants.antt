@@ -21,20 +21,26 @@ use Rattle.interp.proofs.+run.Given as goal
 abbrev rank : RunState → ℕ → ℕ → ℕ → ℕ
 rank run nested depth order = 1000000 * run.left + 4000 * (100 - nested) + 8 * depth + order
 
+abbrev pub decreases-expr::eval_bare : goal.decreases-expr::eval_bare
+decreases-expr::eval_bare g l = rank l.run.now l.nested (depth l.e.now) 102
+
 abbrev pub decreases-expr::eval : goal.decreases-expr::eval
-decreases-expr::eval g l = rank l.run.now l.nested (depth l.e.now) 102
+decreases-expr::eval g l = rank l.run.now l.nested (depth l.e.now) 103
+
+abbrev pub decreases-expr::value_of : goal.decreases-expr::value_of
+decreases-expr::value_of g l = rank l.run.now l.nested (depth l.e.now) 104
 
 abbrev pub decreases-expr::eval_text : goal.decreases-expr::eval_text
-decreases-expr::eval_text g l = rank l.run.now l.nested (depth l.e.now) 103
+decreases-expr::eval_text g l = rank l.run.now l.nested (depth l.e.now) 104
 
 abbrev pub decreases-expr::binary : goal.decreases-expr::binary
-decreases-expr::binary g l = rank l.run.now l.nested (max (depth l.left.now) (depth l.right.now)) 103
+decreases-expr::binary g l = rank l.run.now l.nested (max (depth l.left.now) (depth l.right.now)) 104
 
 abbrev pub decreases-expr::unary : goal.decreases-expr::unary
-decreases-expr::unary g l = rank l.run.now l.nested (depth l.operand.now) 103
+decreases-expr::unary g l = rank l.run.now l.nested (depth l.operand.now) 104
 
 abbrev pub decreases-expr::meet_operand : goal.decreases-expr::meet_operand
-decreases-expr::meet_operand g l = rank l.run.now l.nested (depth l.e.now) 103
+decreases-expr::meet_operand g l = rank l.run.now l.nested (depth l.e.now) 104
 
 abbrev pub decreases-expr::there_is : goal.decreases-expr::there_is
 decreases-expr::there_is g l = rank l.run.now l.nested (ref_depth (ref_of l.reference.now)) 103
@@ -46,54 +52,54 @@ abbrev pub decreases-expr::property_of : goal.decreases-expr::property_of
 decreases-expr::property_of g l = rank l.run.now l.nested (ref_depth (ref_of l.reference.now)) 103
 
 abbrev pub decreases-expr::count_of_pieces : goal.decreases-expr::count_of_pieces
-decreases-expr::count_of_pieces g l = rank l.run.now l.nested (depth l.text.now) 104
+decreases-expr::count_of_pieces g l = rank l.run.now l.nested (depth l.text.now) 105
 
 abbrev pub decreases-expr::number_of_object : goal.decreases-expr::number_of_object
 decreases-expr::number_of_object g l = rank l.run.now l.nested (ref_depth (ref_of l.reference.now)) 104
 
 abbrev pub decreases-expr::lent_function : goal.decreases-expr::lent_function
-decreases-expr::lent_function g l = rank l.run.now l.nested (depth l.operand.now) 104
+decreases-expr::lent_function g l = rank l.run.now l.nested (depth l.operand.now) 105
 
-abbrev pub decreases-expr::function_met : goal.decreases-expr::function_met
-decreases-expr::function_met g l = rank l.run.now l.nested 0 2
+abbrev pub decreases-expr::function_over : goal.decreases-expr::function_over
+decreases-expr::function_over g l = rank l.run.now l.nested 0 2
 
 abbrev pub decreases-expr::piece_of : goal.decreases-expr::piece_of
-decreases-expr::piece_of g l = rank l.run.now l.nested (max (depth l.index.now) (depth l.text.now)) 106
+decreases-expr::piece_of g l = rank l.run.now l.nested (max (depth l.index.now) (depth l.text.now)) 107
 
 abbrev pub decreases-expr::pieces_of : goal.decreases-expr::pieces_of
 decreases-expr::pieces_of g l =
-    rank l.run.now l.nested (max (max (depth l.first.now) (depth l.last.now)) (depth l.text.now)) 106
+    rank l.run.now l.nested (max (max (depth l.first.now) (depth l.last.now)) (depth l.text.now)) 107
 
 abbrev pub decreases-expr::nth_piece_of : goal.decreases-expr::nth_piece_of
 decreases-expr::nth_piece_of g l = rank l.run.now l.nested (depth l.text.now) 106
 
 abbrev pub decreases-expr::part_of : goal.decreases-expr::part_of
-decreases-expr::part_of g l = rank l.run.now l.nested (depth l.text.now) 105
+decreases-expr::part_of g l = rank l.run.now l.nested (depth l.text.now) 106
 
 abbrev pub decreases-expr::lent_part : goal.decreases-expr::lent_part
-decreases-expr::lent_part g l = rank l.run.now l.nested (depth l.text.now) 104
+decreases-expr::lent_part g l = rank l.run.now l.nested (depth l.text.now) 105
 
 abbrev pub decreases-pieces::pieces : goal.decreases-pieces::pieces
-decreases-pieces::pieces g l = rank l.run.now l.nested (chunk_depth (chunk_of l.chunk.now)) 105
+decreases-pieces::pieces g l = rank l.run.now l.nested (chunk_depth (chunk_of l.chunk.now)) 106
 
-abbrev pub decreases-expr::number_value : goal.decreases-expr::number_value
-decreases-expr::number_value g l = rank l.run.now l.nested (depth l.e.now) 104
+abbrev pub decreases-numbers::number_value : goal.decreases-numbers::number_value
+decreases-numbers::number_value g l = rank l.run.now l.nested (depth l.e.now) 105
 
-abbrev pub decreases-expr::plain_number : goal.decreases-expr::plain_number
-decreases-expr::plain_number g l = rank l.run.now l.nested (depth l.e.now) 103
+abbrev pub decreases-numbers::plain_number : goal.decreases-numbers::plain_number
+decreases-numbers::plain_number g l = rank l.run.now l.nested (depth l.e.now) 104
 
-abbrev pub decreases-expr::piece_number : goal.decreases-expr::piece_number
-decreases-expr::piece_number g l = rank l.run.now l.nested (max (depth l.index.now) (depth l.text.now)) 107
+abbrev pub decreases-numbers::piece_number : goal.decreases-numbers::piece_number
+decreases-numbers::piece_number g l = rank l.run.now l.nested (max (depth l.index.now) (depth l.text.now)) 108
 
-abbrev pub decreases-expr::pieces_number : goal.decreases-expr::pieces_number
-decreases-expr::pieces_number g l =
-    rank l.run.now l.nested (max (max (depth l.first.now) (depth l.last.now)) (depth l.text.now)) 107
+abbrev pub decreases-numbers::pieces_number : goal.decreases-numbers::pieces_number
+decreases-numbers::pieces_number g l =
+    rank l.run.now l.nested (max (max (depth l.first.now) (depth l.last.now)) (depth l.text.now)) 108
 
-abbrev pub decreases-expr::part_number : goal.decreases-expr::part_number
-decreases-expr::part_number g l = rank l.run.now l.nested (depth l.text.now) 106
+abbrev pub decreases-numbers::part_number : goal.decreases-numbers::part_number
+decreases-numbers::part_number g l = rank l.run.now l.nested (depth l.text.now) 107
 
 abbrev pub decreases-expr::truth_value : goal.decreases-expr::truth_value
-decreases-expr::truth_value g l = rank l.run.now l.nested (depth l.e.now) 103
+decreases-expr::truth_value g l = rank l.run.now l.nested (depth l.e.now) 104
 
 abbrev pub decreases-reference::meet_part : goal.decreases-reference::meet_part
 decreases-reference::meet_part g l = rank l.run.now l.nested (part_depth (part_of l.part.now)) 100
@@ -117,7 +123,7 @@ abbrev pub decreases-reference::lead : goal.decreases-reference::lead
 decreases-reference::lead g l = rank l.run.now l.nested (destination_depth (destination_of l.destination.now)) 100
 
 abbrev pub decreases-expr::function_of : goal.decreases-expr::function_of
-decreases-expr::function_of g l = rank l.run.now l.nested (depth l.operand.now) 105
+decreases-expr::function_of g l = rank l.run.now l.nested (depth l.operand.now) 106
 
 abbrev pub decreases-expr::text_value : goal.decreases-expr::text_value
 decreases-expr::text_value g l = rank l.run.now l.nested 0 1
@@ -126,7 +132,7 @@ abbrev pub decreases-message::calls : goal.decreases-message::calls
 decreases-message::calls g l = rank l.run.now l.nested (depths (exprs_of l.list.now.items.items)) 105
 
 abbrev pub decreases-expr::arguments : goal.decreases-expr::arguments
-decreases-expr::arguments g l = rank l.run.now l.nested (depths (exprs_of l.list.now)) 103
+decreases-expr::arguments g l = rank l.run.now l.nested (depths (exprs_of l.list.now)) 104
 
 abbrev pub decreases-message::send : goal.decreases-message::send
 decreases-message::send g l = rank l.run.now l.nested 0 10
@@ -159,7 +165,7 @@ abbrev pub decreases-conversation::call_back : goal.decreases-conversation::call
 decreases-conversation::call_back g l = rank l.run.now l.nested 0 3000
 
 abbrev pub decreases-pieces::resolve : goal.decreases-pieces::resolve
-decreases-pieces::resolve g l = rank l.run.now l.nested (container_depth l.container.now) 106
+decreases-pieces::resolve g l = rank l.run.now l.nested (container_depth l.container.now) 107
 
 abbrev pub decreases-stmt::run_block : goal.decreases-stmt::run_block
 decreases-stmt::run_block g l = rank l.run.now l.nested (stmts_depth (stmts_of l.lines.now)) 2003
@@ -171,7 +177,7 @@ abbrev pub decreases-stmt::run_plain : goal.decreases-stmt::run_plain
 decreases-stmt::run_plain g l = rank l.run.now l.nested (stmt_depth l.stmt.now) 2001
 
 abbrev pub decreases-pieces::edit_container : goal.decreases-pieces::edit_container
-decreases-pieces::edit_container g l = rank l.run.now l.nested (container_depth l.container.now) 107
+decreases-pieces::edit_container g l = rank l.run.now l.nested (container_depth l.container.now) 108
 
 abbrev pub decreases-stmt::put : goal.decreases-stmt::put
 decreases-stmt::put g l = rank l.run.now l.nested (max (depth l.value.now) (container_depth l.container.now)) 2003
@@ -211,7 +217,7 @@ decreases-repeat::repeat_counted g l =
     (stmts_depth (stmts_of l.lines.now.items.items))) 2006
 
 abbrev pub decreases-repeat::bounds : goal.decreases-repeat::bounds
-decreases-repeat::bounds g l = rank l.run.now l.nested (max (depth l.from.now) (depth l.to.now)) 103
+decreases-repeat::bounds g l = rank l.run.now l.nested (max (depth l.from.now) (depth l.to.now)) 105
 
 abbrev pub decreases-repeat::repeat_forever : goal.decreases-repeat::repeat_forever
 decreases-repeat::repeat_forever g l = rank l.run.now l.nested (stmts_depth (stmts_of l.lines.now)) 2005
