@@ -1,5 +1,6 @@
 //! What a run of HyperTalk computes or changes between the calls of the interpreter to itself, each step by itself, as
-//! the premises of the rules ask for it. What changes a world keeps the history round the open batch.
+//! the premises of the rules ask for it. What changes a world keeps the history round the open batch. A call that is
+//! handed a place for a value writes it there; where it stops, what then stands in the place isn't said.
 //!
 //! - Values and parsing: expressions with no other one in them (`atom`, `object_count`), what stands in parentheses
 //!   (`bare`), and `apply`, `call_function`, `counter`, `expression`, `lines`, `message`.
