@@ -1,5 +1,6 @@
 -- Names of different tables differ, whatever their case.
-use Rattle.std.proofs.Common.{◌≡◌, ℕ, List, [], ◌∷◌, Bool, true, false, Some, None, cond, refl, sym, ap, ◌∙◌, codes}
+use Rattle.std.proofs.Common.{◌≡◌, ℕ, List, [], ◌∷◌, Bool, true, false, Some, None, cond, refl, sym, ap, ◌∙◌, codes, rules}
+use Rattle.std.specs.List.{AllByRecursion}
 use Rattle.std.specs.Str.{bytes_eq, str_to_ascii_lowercase}
 use Rattle.std.proofs.lemmas.Slice.Eq.{bytes_eq-Decides}
 use Rattle.ht_lex.specs.Token.{Token}
@@ -18,51 +19,34 @@ folds_alike u w e = (bytes_eq-Decides (str_to_ascii_lowercase u) (str_to_ascii_l
 pub apart : (w u v : List ℕ) → same_name w u ≡ true → same_name u v ≡ false → same_name w v ≡ false
 apart w u v e f = ap (λ l. bytes_eq l (str_to_ascii_lowercase v)) (folds_alike w u e) ∙ f
 
-row_apart : (u w v : List ℕ) → same_name u w ≡ true → same_name u v ≡ false → same_name w v ≡ false
-row_apart u w v e f = ap (λ l. bytes_eq l (str_to_ascii_lowercase v)) (sym (folds_alike u w e)) ∙ f
-
-row_apart_from : (u w v : List ℕ) → same_name u w ≡ true → same_name v u ≡ false → same_name v w ≡ false
-row_apart_from u w v e f = ap (λ l. bytes_eq (str_to_ascii_lowercase v) l) (sym (folds_alike u w e)) ∙ f
-
--- no name of the table is the same as this one
-abbrev AreApart : {A : Type 0} → List (List ℕ × A) → List ℕ → Type 0
-AreApart [] v = Unit {0}
-AreApart (row ∷ rows) v = (same_name row.0 v ≡ false) × AreApart rows v
-
-abbrev AreApartFrom : {A : Type 0} → List ℕ → List (List ℕ × A) → Type 0
-AreApartFrom v [] = Unit {0}
-AreApartFrom v (row ∷ rows) = (same_name v row.0 ≡ false) × AreApartFrom v rows
-
-entry_apart : {A : Type 0} (rows : List (List ℕ × A)) (w v : List ℕ) (x : A) → AreApart rows v → entry rows w ≡ Some x
-    → same_name w v ≡ false
-entry_apart [] w v x f e = cc
-entry_apart {A} (row ∷ rows) w v x f e = go (same_name row.0 w) refl e (entry_apart rows w v x f.1)
+-- Where a name is found, it has what each name of the table has, if names that are the same share that.
+entry_such : {A : Type 0} (P : List ℕ → Type 0) (rows : List (List ℕ × A)) (w : List ℕ) (x : A)
+    → ((u : List ℕ) → same_name u w ≡ true → P u → P w) → AllByRecursion (λ row. P row.0) rows
+    → entry rows w ≡ Some x → P w
+entry_such P [] w x shared h e = cc
+entry_such {A} P (row ∷ rows) w x shared h e =
+    go (same_name row.0 w) refl e (entry_such P rows w x shared h.1)
   where
     go : (b : Bool) → same_name row.0 w ≡ b → cond b (Some row.1) (entry rows w) ≡ Some x
-        → (entry rows w ≡ Some x → same_name w v ≡ false) → same_name w v ≡ false
-    go true is e later = row_apart row.0 w v is f.0
+        → (entry rows w ≡ Some x → P w) → P w
+    go true is e later = shared row.0 is h.0
     go false is e later = later e
 
-entry_apart_from : {A : Type 0} (rows : List (List ℕ × A)) (w v : List ℕ) (x : A) → AreApartFrom v rows
-    → entry rows w ≡ Some x → same_name v w ≡ false
-entry_apart_from [] w v x f e = cc
-entry_apart_from {A} (row ∷ rows) w v x f e = go (same_name row.0 w) refl e (entry_apart_from rows w v x f.1)
-  where
-    go : (b : Bool) → same_name row.0 w ≡ b → cond b (Some row.1) (entry rows w) ≡ Some x
-        → (entry rows w ≡ Some x → same_name v w ≡ false) → same_name v w ≡ false
-    go true is e later = row_apart_from row.0 w v is f.0
-    go false is e later = later e
+entry_apart : {A : Type 0} (rows : List (List ℕ × A)) (w v : List ℕ) (x : A)
+    → AllByRecursion (λ row. same_name row.0 v ≡ false) rows → entry rows w ≡ Some x → same_name w v ≡ false
+entry_apart rows w v x = entry_such (λ u. same_name u v ≡ false) rows w x
+    (λ u is f. ap (λ l. bytes_eq l (str_to_ascii_lowercase v)) (sym (folds_alike u w is)) ∙ f)
 
 -- no name of one table is the same as one of the other
 abbrev TablesApart : {A B : Type 0} → List (List ℕ × A) → List (List ℕ × B) → Type 0
-TablesApart rows [] = Unit {0}
-TablesApart rows (other ∷ others) = AreApartFrom other.0 rows × TablesApart rows others
+TablesApart rows = AllByRecursion (λ other. AllByRecursion (λ row. same_name other.0 row.0 ≡ false) rows)
 
 entry_none : {A B : Type 0} (rows : List (List ℕ × A)) (others : List (List ℕ × B)) (w : List ℕ) (x : A)
     → TablesApart rows others → entry rows w ≡ Some x → entry others w ≡ None
 entry_none rows [] w x f e = refl
 entry_none {A} {B} rows (other ∷ others) w x f e =
-    ap (λ b. cond b (Some other.1) (entry others w)) (entry_apart_from rows w other.0 x f.0 e)
+    ap (λ b. cond b (Some other.1) (entry others w)) (entry_such (λ u. same_name other.0 u ≡ false) rows w x
+    (λ u is f. ap (λ l. bytes_eq (str_to_ascii_lowercase other.0) l) (sym (folds_alike u w is)) ∙ f) f.0 e)
     ∙ entry_none rows others w x f.1 e
 
 -- A property's name is none of the other words after `the`, and likewise for the other tables.
@@ -74,79 +58,37 @@ pub record IsPlain (w : List ℕ) : Type 0 where
 pub prop_plain : (w : List ℕ) (ts : List Token) (p : Prop) → prop_front (token.name w ∷ ts) ≡ Some p → IsPlain w
 unfolding prop_front
 prop_plain w ts p e = record {
-  result = entry_apart prop_names w (codes "result") p
-      (refl, (refl, (refl, (refl, (refl, (refl, (refl, (refl, tt)))))))) e;
-  target = entry_apart prop_names w (codes "target") p
-      (refl, (refl, (refl, (refl, (refl, (refl, (refl, (refl, tt)))))))) e;
-  short = entry_apart prop_names w (codes "short") p (refl, (refl, (refl, (refl, (refl, (refl, (refl, (refl, tt))))))))
-      e;
+  result = entry_apart prop_names w (codes "result") p (search rules) e;
+  target = entry_apart prop_names w (codes "target") p (search rules) e;
+  short = entry_apart prop_names w (codes "short") p (search rules) e;
 }
 
 pub run_plain : (w : List ℕ) (p : RunProp) → run_prop w ≡ Some p → IsPlain w
 unfolding run_prop
 run_plain w p e = record {
-  result = entry_apart run_prop_names w (codes "result") p (refl, (refl, (refl, tt))) e;
-  target = entry_apart run_prop_names w (codes "target") p (refl, (refl, (refl, tt))) e;
-  short = entry_apart run_prop_names w (codes "short") p (refl, (refl, (refl, tt))) e;
+  result = entry_apart run_prop_names w (codes "result") p (search rules) e;
+  target = entry_apart run_prop_names w (codes "target") p (search rules) e;
+  short = entry_apart run_prop_names w (codes "short") p (search rules) e;
 }
 
 pub function_plain : (w : List ℕ) (f : FunctionWord) → function_of w ≡ Some f → IsPlain w
 unfolding function_of
 function_plain w f e = record {
-  result = entry_apart function_names w (codes "result") f (refl, (refl, (refl, (refl, (refl, tt))))) e;
-  target = entry_apart function_names w (codes "target") f (refl, (refl, (refl, (refl, (refl, tt))))) e;
-  short = entry_apart function_names w (codes "short") f (refl, (refl, (refl, (refl, (refl, tt))))) e;
+  result = entry_apart function_names w (codes "result") f (search rules) e;
+  target = entry_apart function_names w (codes "target") f (search rules) e;
+  short = entry_apart function_names w (codes "short") f (search rules) e;
 }
 
 pub run_no_prop : (w : List ℕ) (ts : List Token) (p : RunProp) → run_prop w ≡ Some p
     → prop_front (token.name w ∷ ts) ≡ None
 unfolding run_prop prop_front
-run_no_prop w ts p e = entry_none run_prop_names prop_names w p (
-  (refl, (refl, (refl, tt))),
-  (
-    (refl, (refl, (refl, tt))),
-    (
-      (refl, (refl, (refl, tt))),
-      (
-        (refl, (refl, (refl, tt))),
-        (
-          (refl, (refl, (refl, tt))),
-          (
-            (refl, (refl, (refl, tt))),
-            ((refl, (refl, (refl, tt))), ((refl, (refl, (refl, tt))), tt)),
-          ),
-        ),
-      ),
-    ),
-  ),
-) e
+run_no_prop w ts p e = entry_none run_prop_names prop_names w p (search rules) e
 
 pub function_no_prop : (w : List ℕ) (ts : List Token) (f : FunctionWord) → function_of w ≡ Some f
     → prop_front (token.name w ∷ ts) ≡ None
 unfolding function_of prop_front
-function_no_prop w ts f e = entry_none function_names prop_names w f (
-  (refl, (refl, (refl, (refl, (refl, tt))))),
-  (
-    (refl, (refl, (refl, (refl, (refl, tt))))),
-    (
-      (refl, (refl, (refl, (refl, (refl, tt))))),
-      (
-        (refl, (refl, (refl, (refl, (refl, tt))))),
-        (
-          (refl, (refl, (refl, (refl, (refl, tt))))),
-          (
-            (refl, (refl, (refl, (refl, (refl, tt))))),
-            ((refl, (refl, (refl, (refl, (refl, tt))))), ((refl, (refl, (refl, (refl, (refl, tt))))), tt)),
-          ),
-        ),
-      ),
-    ),
-  ),
-) e
+function_no_prop w ts f e = entry_none function_names prop_names w f (search rules) e
 
 pub function_no_run : (w : List ℕ) (f : FunctionWord) → function_of w ≡ Some f → run_prop w ≡ None
 unfolding function_of run_prop
-function_no_run w f e = entry_none function_names run_prop_names w f (
-  (refl, (refl, (refl, (refl, (refl, tt))))),
-  ((refl, (refl, (refl, (refl, (refl, tt))))), ((refl, (refl, (refl, (refl, (refl, tt))))), tt)),
-) e
+function_no_run w f e = entry_none function_names run_prop_names w f (search rules) e

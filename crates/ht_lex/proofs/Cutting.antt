@@ -14,12 +14,6 @@ use Rattle.ht_lex.proofs.Longest.{longest_is_taken, longest_once, nothing_longer
 abbrev pub Same : List Span → ℕ → List Span → ℕ → Type 0
 Same spans stop others other = (spans ≡ others) × (stop ≡ other)
 
-gap_no_token : {k : TokenKind} → None ≡ Some k → ⊥
-gap_no_token e = cc
-
-token_no_gap : {k : TokenKind} → Some k ≡ None → ⊥
-token_no_gap e = cc
-
 pub cut_once : {text : List ℕ} {place stop other : ℕ} {spans others : List Span} → Cuts text place spans stop
     → Cuts text place others other → Same spans stop others other
 cut_once (halt e) (halt f) = (refl, refl)
@@ -28,9 +22,9 @@ cut_once (halt e) (token f h) = absurd (nothing_longer e f)
 cut_once (gap e g) (halt f) = absurd (nothing_longer f e)
 cut_once {text} {place} (gap {stop = stop} {spans = spans} e g) (gap f h) =
     cut_once (subst (λ n. Cuts text (place + n) spans stop) (longest_once e f).1 g) h
-cut_once (gap e g) (token f h) = absurd (gap_no_token (longest_once e f).0)
+cut_once (gap e g) (token f h) = let no = (longest_once e f).0 in cc
 cut_once (token e g) (halt f) = absurd (nothing_longer f e)
-cut_once (token e g) (gap f h) = absurd (token_no_gap (longest_once e f).0)
+cut_once (token e g) (gap f h) = let no = (longest_once e f).0 in cc
 cut_once {text} {place} (token {size = m} {stop = stop} {kind = k} {spans = spans} e g)
     (token {size = n} {kind = l} f h) =
     let same : m ≡ n = (longest_once e f).1 in

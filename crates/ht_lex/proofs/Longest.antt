@@ -4,7 +4,7 @@ use Rattle.std.proofs.Common.{length, take, drop, cond, Option, Some, None, refl
 use Rattle.std.proofs.Common.{rules, length-append, zero-add}
 use Rattle.std.specs.Prelude.{slice_index, nat_eq, ◌==◌}
 use Rattle.std.specs.Char.{is_ascii_digit}
-use Rattle.std.specs.List.{list_all, prefix_len, starts_with}
+use Rattle.std.specs.List.{AllByRecursion, list_all, prefix_len, starts_with}
 use Rattle.std.proofs.lemmas.Bool.Decides.{nat_tests, Decides-eqb}
 use Rattle.std.specs.Str.{bytes_eq}
 use Rattle.std.proofs.lemmas.Slice.Eq.{starts_is, bytes_eq-Decides}
@@ -37,38 +37,13 @@ rank b = cond (is_blank b) 0 (cond (is_return b) 1
     (cond (is_ascii_digit b) 2 (cond (begins_word b) 3 (cond (is_quote b) 4 (cond (b == 0xC2) 5 6)))))
 
 blank_rank : (b : ℕ) → is_blank b ≡ true → rank b ≡ 0
-blank_rank b e = ap (λ v. cond v 0
-    (cond (is_return b) 1 (cond (is_ascii_digit b) 2
-    (cond (begins_word b) 3 (cond (is_quote b) 4 (cond (b == 0xC2) 5 6)))))) e
-
-left_of : {A : Type 0} (b : Bool) (x y : A) → b ≡ false → cond b x y ≡ y
-left_of b x y e = ap (λ v. cond v x y) e
-
-taken_of : {A : Type 0} (b : Bool) (x y : A) → b ≡ true → cond b x y ≡ x
-taken_of b x y e = ap (λ v. cond v x y) e
-
-digit_no_blank : (b : ℕ) → is_ascii_digit b ≡ true → is_blank b ≡ false
-digit_no_blank b e = grind (arith, nat_tests)
-
-digit_no_return : (b : ℕ) → is_ascii_digit b ≡ true → is_return b ≡ false
-digit_no_return b e = grind (arith, nat_tests)
-
-word_no_blank : (b : ℕ) → begins_word b ≡ true → is_blank b ≡ false
-word_no_blank b e = grind (arith, nat_tests)
-
-word_no_return : (b : ℕ) → begins_word b ≡ true → is_return b ≡ false
-word_no_return b e = grind (arith, nat_tests)
-
-word_no_digit : (b : ℕ) → begins_word b ≡ true → is_ascii_digit b ≡ false
-word_no_digit b e = grind (arith, nat_tests)
+blank_rank b e = grind (arith, nat_tests)
 
 digit_rank : (b : ℕ) → is_ascii_digit b ≡ true → rank b ≡ 2
-digit_rank b e = left_of (is_blank b) _ _ (digit_no_blank b e) ∙ left_of (is_return b) _ _ (digit_no_return b e)
-    ∙ taken_of (is_ascii_digit b) _ _ e
+digit_rank b e = grind (arith, nat_tests)
 
 word_rank : (b : ℕ) → begins_word b ≡ true → rank b ≡ 3
-word_rank b e = left_of (is_blank b) _ _ (word_no_blank b e) ∙ left_of (is_return b) _ _ (word_no_return b e)
-    ∙ left_of (is_ascii_digit b) _ _ (word_no_digit b e) ∙ taken_of (begins_word b) _ _ e
+word_rank b e = grind (arith, nat_tests)
 
 -- The rank of what a kind of piece begins with.
 abbrev rank_of : {what : Option TokenKind} {w : List ℕ} → Spells what w → ℕ
@@ -81,26 +56,23 @@ rank_of (blanks f e) = 0
 rank_of (continued w e) = 5
 rank_of (comment e f) = 6
 
--- each symbol is one or two bytes, and begins as no other piece does
-abbrev AreSymbols : List (List ℕ × Key) → Type 0
-AreSymbols [] = Unit {0}
-AreSymbols (row ∷ rows) = (rank (slice_index row.0 0) ≡ 6) × (0 < length row.0) × (length row.0 ≤ 2) × AreSymbols rows
+-- What holds of each row of a table holds of one of them.
+among_all : (P : List ℕ × Key → Type 0) (rows : List (List ℕ × Key)) (row : List ℕ × Key) → AllByRecursion P rows
+    → Among row rows → P row
+among_all P [] row h m = absurd m
+among_all P (r ∷ rows) row h (inl e) = subst P e h.0
+among_all P (r ∷ rows) row h (inr m) = among_all P rows row h.1 m
 
-among_symbols : (rows : List (List ℕ × Key)) (row : List ℕ × Key) → AreSymbols rows → Among row rows
-    → (rank (slice_index row.0 0) ≡ 6) × (0 < length row.0) × (length row.0 ≤ 2)
-among_symbols [] row h m = absurd m
-among_symbols (r ∷ rows) row h m = go m (among_symbols rows row h.3)
-  where
-    go : Among row (r ∷ rows) → (Among row rows
-        → (rank (slice_index row.0 0) ≡ 6) × (0 < length row.0) × (length row.0 ≤ 2))
-        → (rank (slice_index row.0 0) ≡ 6) × (0 < length row.0) × (length row.0 ≤ 2)
-    go (inl e) later = subst (λ (r : List ℕ × Key). (rank (slice_index r.0 0) ≡ 6) × (0 < length r.0)
-        × (length r.0 ≤ 2)) e (h.0, h.1, h.2)
-    go (inr m) later = later m
+-- a symbol is one or two bytes, and begins as no other piece does
+abbrev IsSymbol : List ℕ × Key → Type 0
+IsSymbol row = (rank (slice_index row.0 0) ≡ 6) × (0 < length row.0) × (length row.0 ≤ 2)
 
-are_symbols : AreSymbols symbols
+are_symbols : AllByRecursion IsSymbol symbols
 unfolding symbols
 are_symbols = search rules
+
+is_symbol : (row : List ℕ × Key) → Among row symbols → IsSymbol row
+is_symbol row = among_all IsSymbol symbols row are_symbols
 
 first_passes : (p : ℕ → Bool) (w : List ℕ) → 0 < length w → list_all p w ≡ true → p (slice_index w 0) ≡ true
 first_passes p [] f e = absurd (omega arith)
@@ -114,7 +86,7 @@ spelled_rank (word {w} e) =
     word_rank (slice_index w 0) (first_so (begins_word (slice_index w 0)) (list_all goes_on_word w) e)
 spelled_rank (digits {w} f e) = digit_rank (slice_index w 0) (first_passes is_ascii_digit w f e)
 spelled_rank (quoted w e) = refl
-spelled_rank (symbol row e) = (among_symbols symbols row are_symbols e).0
+spelled_rank (symbol row e) = (is_symbol row e).0
 spelled_rank return = refl
 spelled_rank (blanks {w} f e) = blank_rank (slice_index w 0) (first_passes is_blank w f e)
 spelled_rank (continued w e) = refl
@@ -319,31 +291,22 @@ hyphens_longest text e =
         no_comment k is what piece rest f le (comment {w} g p) =
             run_bound (is_in class.Commented) (45 ∷ 45 ∷ xs) w rest f p (omega (arith, two))
         no_comment k is what piece rest f le (symbol row p) =
-            absurd (omega (arith, (among_symbols symbols row are_symbols p).2))
+            absurd (omega (arith, (is_symbol row p).2))
         no_comment k is what piece rest f le h =
             absurd (omega (arith, same_rank (45 ∷ 45 ∷ xs) piece rest (suc (suc k)) 6 refl f le h))
 
--- Each symbol of a table is at least as long as those after it.
-abbrev NoneLonger : List ℕ × Key → List (List ℕ × Key) → Type 0
-NoneLonger row [] = Unit {0}
-NoneLonger row (other ∷ others) = (length other.0 ≤ length row.0) × NoneLonger row others
+-- Each row of a table stands so to those after it.
+abbrev EachToLater : (List ℕ × Key → List ℕ × Key → Type 0) → List (List ℕ × Key) → Type 0
+EachToLater R [] = Unit {0}
+EachToLater R (row ∷ rows) = AllByRecursion (R row) rows × EachToLater R rows
 
-abbrev LongestFirst : List (List ℕ × Key) → Type 0
-LongestFirst [] = Unit {0}
-LongestFirst (row ∷ rows) = NoneLonger row rows × LongestFirst rows
+-- the other row isn't longer
+abbrev IsAsLong : List ℕ × Key → List ℕ × Key → Type 0
+IsAsLong row other = length other.0 ≤ length row.0
 
-symbols_longest_first : LongestFirst symbols
+symbols_longest_first : EachToLater IsAsLong symbols
 unfolding symbols
 symbols_longest_first = search rules
-
-later_shorter : (row other : List ℕ × Key) (rows : List (List ℕ × Key)) → NoneLonger row rows → Among other rows
-    → length other.0 ≤ length row.0
-later_shorter row other [] h m = absurd m
-later_shorter row other (r ∷ rows) h m = go m (later_shorter row other rows h.1)
-  where
-    go : Among other (r ∷ rows) → (Among other rows → length other.0 ≤ length row.0) → length other.0 ≤ length row.0
-    go (inl e) later = subst (λ (v : List ℕ × Key). length v.0 ≤ length row.0) e h.0
-    go (inr m) later = later m
 
 -- no symbol of the table that is longer begins the text
 abbrev NoRow : List (List ℕ × Key) → List ℕ → ℕ → Type 0
@@ -370,36 +333,35 @@ no_row_here row other text rest e f g =
     (starts_is Decides-eqb text row.0 (starts_with nat_eq text row.0) refl).1 rest at in
     absurd (true≢false (sym yes ∙ f))
 
-passed_over : (row : List ℕ × Key) (rows : List (List ℕ × Key)) (text : List ℕ) (v : Lexeme)
-    → starts_with nat_eq text row.0 ≡ false → Chosen rows text v → Chosen (row ∷ rows) text v
-passed_over row rows text Nothing f h = λ other rest m g le. go other rest m g le
-  where
-    go : NoRow (row ∷ rows) text 0
-    go other rest (inl e) g le = no_row_here row other text rest e f g
-    go other rest (inr m) g le = h other rest m g le
-passed_over row rows text (Token k n) f
-    h = record {
-      row = h.row;
-      among = inr h.among;
-      kind_is = h.kind_is;
-      size_is = h.size_is;
-      begins = h.begins;
-      longest = go;
-    }
+none_over : (row : List ℕ × Key) (rows : List (List ℕ × Key)) (text : List ℕ) (n : ℕ)
+    → starts_with nat_eq text row.0 ≡ false → NoRow rows text n → NoRow (row ∷ rows) text n
+none_over row rows text n f h = go
   where
     go : NoRow (row ∷ rows) text n
     go other rest (inl e) g le = no_row_here row other text rest e f g
-    go other rest (inr m) g le = h.longest other rest m g le
+    go other rest (inr m) g le = h other rest m g le
+
+passed_over : (row : List ℕ × Key) (rows : List (List ℕ × Key)) (text : List ℕ) (v : Lexeme)
+    → starts_with nat_eq text row.0 ≡ false → Chosen rows text v → Chosen (row ∷ rows) text v
+passed_over row rows text Nothing f h = none_over row rows text 0 f h
+passed_over row rows text (Token k n) f h = record {
+  row = h.row;
+  among = inr h.among;
+  kind_is = h.kind_is;
+  size_is = h.size_is;
+  begins = h.begins;
+  longest = none_over row rows text n f h.longest;
+}
 passed_over row rows text (Gap n) f h = h
 
-among_chosen : (rows : List (List ℕ × Key)) (text : List ℕ) → LongestFirst rows
+among_chosen : (rows : List (List ℕ × Key)) (text : List ℕ) → EachToLater IsAsLong rows
     → Chosen rows text (symbol_among rows text)
 among_chosen [] text h = λ row rest m g le. m
 among_chosen (row ∷ rows) text h = by_test_rows (starts_with nat_eq text row.0) refl (among_chosen rows text h.1)
   where
     first : starts_with nat_eq text row.0 ≡ true → NoRow (row ∷ rows) text (length row.0)
     first f other rest (inl e) g le = absurd (omega (arith, ap (λ (v : List ℕ × Key). length v.0) e))
-    first f other rest (inr m) g le = absurd (omega (arith, later_shorter row other rows h.0 m))
+    first f other rest (inr m) g le = absurd (omega (arith, among_all (IsAsLong row) rows other h.0 m))
 
     by_test_rows : (b : Bool) → starts_with nat_eq text row.0 ≡ b → Chosen rows text (symbol_among rows text)
         → Chosen (row ∷ rows) text (cond b (Token (kind.Key row.1) (length row.0)) (symbol_among rows text))
@@ -467,34 +429,23 @@ longest_is_taken text =
     by_test (b == 0xC2) _ _ (IsLongest text)
     (λ e. opened 0xC2 text continued_lexeme (omega arith) continued_longest (eqb-true b 0xC2 e)) (λ no_more.
     by_test (starts_with nat_eq text (codes "--")) _ _ (IsLongest text) (hyphens_longest text) (symbol_longest text
-    (left_of (is_blank b) _ _ no_blank ∙ left_of (is_return b) _ _ no_return ∙ left_of (is_ascii_digit b) _ _ no_digit
-    ∙ left_of (begins_word b) _ _ no_word ∙ left_of (is_quote b) _ _ no_quote
-    ∙ left_of (b == 0xC2) _ _ no_more))))))))
+    (grind (arith, nat_tests)))))))))
 
--- no two symbols are spelled alike
-abbrev NoneAlike : List ℕ × Key → List (List ℕ × Key) → Type 0
-NoneAlike row [] = Unit {0}
-NoneAlike row (other ∷ others) = (bytes_eq row.0 other.0 ≡ false) × NoneAlike row others
+-- the two rows aren't spelled alike
+abbrev Differs : List ℕ × Key → List ℕ × Key → Type 0
+Differs row other = bytes_eq row.0 other.0 ≡ false
 
-abbrev AllDiffer : List (List ℕ × Key) → Type 0
-AllDiffer [] = Unit {0}
-AllDiffer (row ∷ rows) = NoneAlike row rows × AllDiffer rows
-
-symbols_differ : AllDiffer symbols
+symbols_differ : EachToLater Differs symbols
 unfolding symbols
 symbols_differ = search rules
 
-none_alike : (row other : List ℕ × Key) (rows : List (List ℕ × Key)) → NoneAlike row rows → Among other rows
-    → row.0 ≡ other.0 → ⊥
-none_alike row other [] h m e = m
-none_alike row other (r ∷ rows) h m e = go m (none_alike row other rows h.1)
-  where
-    go : Among other (r ∷ rows) → (Among other rows → row.0 ≡ other.0 → ⊥) → ⊥
-    go (inl same) later = let yes : bytes_eq row.0 r.0
-        ≡ true = (bytes_eq-Decides row.0 r.0).1 (e ∙ ap (λ (v : List ℕ × Key). v.0) (sym same)) in cc
-    go (inr m) later = later m e
+none_alike : (row other : List ℕ × Key) (rows : List (List ℕ × Key)) → AllByRecursion (Differs row) rows
+    → Among other rows → row.0 ≡ other.0 → ⊥
+none_alike row other rows h m e =
+    let no = among_all (Differs row) rows other h m in
+    let yes : bytes_eq row.0 other.0 ≡ true = (bytes_eq-Decides row.0 other.0).1 e in cc
 
-key_once : (rows : List (List ℕ × Key)) (row other : List ℕ × Key) → AllDiffer rows → Among row rows → Among other rows
+key_once : (rows : List (List ℕ × Key)) (row other : List ℕ × Key) → EachToLater Differs rows → Among row rows → Among other rows
     → row.0 ≡ other.0 → row.1 ≡ other.1
 key_once [] row other h m n e = absurd m
 key_once (r ∷ rows) row other h m n e = go m n (key_once rows row other h.1)
@@ -506,29 +457,18 @@ key_once (r ∷ rows) row other h m n e = go m n (key_once rows row other h.1)
     go (inr m) (inl g) later = absurd (none_alike r row rows h.0 m (ap (λ (v : List ℕ × Key). v.0) g ∙ sym e))
     go (inr m) (inr n) later = later m n e
 
--- no symbol begins with two hyphens
-abbrev NoHyphens : List (List ℕ × Key) → Type 0
-NoHyphens [] = Unit {0}
-NoHyphens (row ∷ rows) = (starts_with nat_eq row.0 (codes "--") ≡ false) × NoHyphens rows
+abbrev BeginsOtherwise : List ℕ × Key → Type 0
+BeginsOtherwise row = starts_with nat_eq row.0 (codes "--") ≡ false
 
-symbols_no_hyphens : NoHyphens symbols
+-- no symbol begins with two hyphens
+symbols_no_hyphens : AllByRecursion BeginsOtherwise symbols
 unfolding symbols
 symbols_no_hyphens = search rules
-
-row_no_hyphens : (rows : List (List ℕ × Key)) (row : List ℕ × Key) → NoHyphens rows → Among row rows
-    → starts_with nat_eq row.0 (codes "--") ≡ false
-row_no_hyphens [] row h m = absurd m
-row_no_hyphens (r ∷ rows) row h m = go m (row_no_hyphens rows row h.1)
-  where
-    go : Among row (r ∷ rows) → (Among row rows → starts_with nat_eq row.0 (codes "--") ≡ false)
-        → starts_with nat_eq row.0 (codes "--") ≡ false
-    go (inl e) later = ap (λ (v : List ℕ × Key). starts_with nat_eq v.0 (codes "--")) (sym e) ∙ h.0
-    go (inr m) later = later m
 
 comment_no_symbol : (w : List ℕ) (row : List ℕ × Key) → starts_with nat_eq w (codes "--") ≡ true → Among row symbols
     → w ≡ row.0 → ⊥
 comment_no_symbol w row e m same = let no : starts_with nat_eq w (codes "--")
-    ≡ false = ap (λ v. starts_with nat_eq v (codes "--")) same ∙ row_no_hyphens symbols row symbols_no_hyphens m in cc
+    ≡ false = ap (λ v. starts_with nat_eq v (codes "--")) same ∙ among_all BeginsOtherwise symbols row symbols_no_hyphens m in cc
 
 -- What is spelled alike is the same.
 pub spelled_once : {what other : Option TokenKind} {w v : List ℕ} → Spells what w → Spells other v → w ≡ v
@@ -556,10 +496,7 @@ longest_once {what} {other} {text} {m} {n} g h = (spelled_once g.spelled h.spell
         (omega (arith, length-take-le n text h.within)) h.spelled
 
     same : m ≡ n
-    same = squeezed (not_less g h) (not_less h g)
-      where
-        squeezed : (m < n → ⊥) → (n < m → ⊥) → m ≡ n
-        squeezed f g = grind arith
+    same = let above = not_less g h in let below = not_less h g in grind arith
 
 word_some : (w : List ℕ) → is_word w ≡ true → 0 < length w
 word_some [] e = cc
@@ -573,7 +510,7 @@ pub spelled_some : {what : Option TokenKind} {w : List ℕ} → Spells what w �
 spelled_some (word {w} e) = word_some w e
 spelled_some (digits g e) = g
 spelled_some (quoted w e) = omega arith
-spelled_some (symbol row m) = (among_symbols symbols row are_symbols m).1
+spelled_some (symbol row m) = (is_symbol row m).1
 spelled_some return = omega arith
 spelled_some (blanks g e) = g
 spelled_some (continued w e) = omega arith

@@ -161,6 +161,10 @@ texts_times (t ∷ ts) h = h
 
 -- ---- the rules of the grammar
 
+-- a part and the one after it, which is read from what the first leaves
+both : {A B M C : Type 0} → A × M → (M → B × C) → (A × B) × C
+both p next = let q = next p.1 in ((p.0, q.0), q.1)
+
 pub texts_layer : {a c : List Token} {x : Option Layer} → DerivesLayer a x c → TokensTexts a → TokensTexts c
 texts_layer e.no_layer h = h
 texts_layer e.on_card h = h.1
@@ -174,27 +178,18 @@ texts_article (e.not_an _) h = h.1.1
 mutual
   pub texts_expr : {k : Level} {a c : List Token} {x : tree.Expr} → Derives k a x c → TokensTexts a
       → ExprTexts x × TokensTexts c
-  texts_expr (e.join {m = m} p1 p2 p3)
-      h = (
-        ((texts_expr p1 h).0, (texts_expr p3 (texts_infix m p2 (texts_expr p1 h).1)).0),
-        (texts_expr p3 (texts_infix m p2 (texts_expr p1 h).1)).1,
-      )
+  texts_expr (e.join {m = m} p1 p2 p3) h = both (texts_expr p1 h) (λ r. texts_expr p3 (texts_infix m p2 r))
   texts_expr (e.is_a {m = m} p1 p2) h = ((texts_expr p1 h).0, (texts_test m p2 (texts_expr p1 h).1))
   texts_expr (e.tighter p1) h = texts_expr p1 h
   texts_expr (e.tightest p1) h = texts_expr p1 h
-  texts_expr (e.raised p1 p2) h =
-      (((texts_expr p1 h).0, (texts_expr p2 (texts_expr p1 h).1.1).0), (texts_expr p2 (texts_expr p1 h).1.1).1)
+  texts_expr (e.raised p1 p2) h = both (texts_expr p1 h) (λ r. texts_expr p2 r.1)
   texts_expr (e.not_raised p1) h = texts_expr p1 h
   texts_expr (e.minus p1) h = texts_expr p1 h.1
   texts_expr (e.not_ p1) h = texts_expr p1 h.1
   texts_expr (e.there_is p1 p2) h = texts_ref p2 (texts_article p1 h.1.1)
   texts_expr (e.no_prefix p1) h = texts_expr p1 h
   texts_expr (e.no_form p1) h = texts_expr p1 h
-  texts_expr (e.chunk {m = m} p1 p2 p3)
-      h = (
-        ((texts_chunk p1 h).0, (texts_expr p3 (texts_of m p2 (texts_chunk p1 h).1)).0),
-        (texts_expr p3 (texts_of m p2 (texts_chunk p1 h).1)).1,
-      )
+  texts_expr (e.chunk {m = m} p1 p2 p3) h = both (texts_chunk p1 h) (λ r. texts_expr p3 (texts_of m p2 r))
   texts_expr (e.field p1 _) h = texts_part p1 h
   texts_expr (e.result _) h = (tt, h.1.1)
   texts_expr (e.target _) h = (tt, h.1.1)
@@ -206,7 +201,7 @@ mutual
   texts_expr (e.function {m = m} _ p2 p3) h = texts_expr p3 (texts_of m p2 h.1.1)
   texts_expr e.number h = h
   texts_expr e.quoted h = h
-  texts_expr (e.paren p1) h = ((texts_expr p1 h.1).0, (texts_expr p1 h.1).1.1)
+  texts_expr (e.paren p1) h = let p = texts_expr p1 h.1 in (p.0, p.1.1)
   texts_expr e.constant h = (tt, h.1)
   texts_expr e.return_ h = (tt, h.1)
   texts_expr (e.call p1) h = ((h.0, (texts_list p1 h.1.1).0), (texts_list p1 h.1.1).1.1)
@@ -216,14 +211,12 @@ mutual
   pub texts_list : {a c : List Token} {x : tree.Exprs} → DerivesList a x c → TokensTexts a
       → ExprsTexts x × TokensTexts c
   texts_list (e.alone p1) h = (((texts_expr p1 h).0, tt), (texts_expr p1 h).1)
-  texts_list (e.followed p1 p2) h =
-      (((texts_expr p1 h).0, (texts_list p2 (texts_expr p1 h).1.1).0), (texts_list p2 (texts_expr p1 h).1.1).1)
+  texts_list (e.followed p1 p2) h = both (texts_expr p1 h) (λ r. texts_list p2 r.1)
 
   pub texts_chunk : {a c : List Token} {x : tree.Chunk} → DerivesChunk a x c → TokensTexts a
       → ChunkTexts x × TokensTexts c
   texts_chunk (e.piece p1) h = texts_expr p1 h.1
-  texts_chunk (e.pieces p1 p2) h =
-      (((texts_expr p1 h.1).0, (texts_expr p2 (texts_expr p1 h.1).1.1).0), (texts_expr p2 (texts_expr p1 h.1).1.1).1)
+  texts_chunk (e.pieces p1 p2) h = both (texts_expr p1 h.1) (λ r. texts_expr p2 r.1)
   texts_chunk (e.nth_piece {a = a} p1) h = (tt, (subst TokensTexts p1 (texts_the a h)).1.1)
 
   pub texts_count : {a c : List Token} {x : tree.Count} → DerivesCount a x c → TokensTexts a
@@ -256,11 +249,7 @@ mutual
   texts_which (e.by_text p1) h = texts_expr p1 h
 
   pub texts_part : {a c : List Token} {x : tree.Part} → DerivesPart a x c → TokensTexts a → PartTexts x × TokensTexts c
-  texts_part (e.part p1 p2 p3)
-      h = (
-        ((texts_which p2 (texts_layer p1 h).1).0, (texts_owner p3 (texts_which p2 (texts_layer p1 h).1).1).0),
-        (texts_owner p3 (texts_which p2 (texts_layer p1 h).1).1).1,
-      )
+  texts_part (e.part p1 p2 p3) h = both (texts_which p2 (texts_layer p1 h).1) (λ r. texts_owner p3 r)
   texts_part (e.nth_part p1 p2) h = texts_owner p2 (texts_layer p1 h.1).1
 
   pub texts_owner : {a c : List Token} {x : tree.Owner} → DerivesOwner a x c → TokensTexts a
@@ -273,11 +262,7 @@ pub texts_container : {a c : List Token} {x : tree.Container} → DerivesContain
     → ContainerTexts x × TokensTexts c
 texts_container e.variable h = h
 texts_container (e.in_field p1 _) h = texts_part p1 h
-texts_container (e.in_chunk {m = m} p1 p2 p3)
-    h = (
-      ((texts_chunk p1 h).0, (texts_container p3 (texts_of m p2 (texts_chunk p1 h).1)).0),
-      (texts_container p3 (texts_of m p2 (texts_chunk p1 h).1)).1,
-    )
+texts_container (e.in_chunk {m = m} p1 p2 p3) h = both (texts_chunk p1 h) (λ r. texts_container p3 (texts_of m p2 r))
 
 pub texts_names : {a c : List Token} {x : List (List ℕ)} → DerivesNames a x c → TokensTexts a
     → AllByRecursion IsText x × TokensTexts c
@@ -296,49 +281,19 @@ texts_destination g.nth_alone h = (tt, h.1)
 pub texts_simple : {k : Context} {a c : List Token} {x : stm.Stmt} → DerivesSimple k a x c → TokensTexts a
     → StmtTexts x × TokensTexts c
 texts_simple (g.put p1) h = texts_expr p1 h.1
-texts_simple (g.put_in p1 _ p3)
-    h = (
-      ((texts_expr p1 h.1).0, (texts_container p3 (texts_expr p1 h.1).1.1).0),
-      (texts_container p3 (texts_expr p1 h.1).1.1).1,
-    )
+texts_simple (g.put_in p1 _ p3) h = both (texts_expr p1 h.1) (λ r. texts_container p3 r.1)
 texts_simple (g.get p1) h = texts_expr p1 h.1
-texts_simple (g.set {a = a} _ p2 p3 p4)
-    h = (
-      (
-        (texts_ref p3 (texts_of (later (past_the a)) p2 (texts_later (past_the a) (texts_the a h.1)))).0,
-        (texts_expr p4
-            (texts_ref p3 (texts_of (later (past_the a)) p2 (texts_later (past_the a) (texts_the a h.1)))).1.1).0,
-      ),
-      (texts_expr p4
-          (texts_ref p3 (texts_of (later (past_the a)) p2 (texts_later (past_the a) (texts_the a h.1)))).1.1).1,
-    )
+texts_simple (g.set {a = a} _ p2 p3 p4) h =
+    both (texts_ref p3 (texts_of (later (past_the a)) p2 (texts_later (past_the a) (texts_the a h.1))))
+    (λ r. texts_expr p4 r.1)
 texts_simple (g.set_run {a = a} p1 _ p3) h = texts_expr p3 (subst TokensTexts p1 (texts_the a h.1)).1.1
-texts_simple (g.add p1 p2) h = (
-  ((texts_expr p1 h.1).0, (texts_container p2 (texts_expr p1 h.1).1.1).0),
-  (texts_container p2 (texts_expr p1 h.1).1.1).1,
-)
-texts_simple (g.subtract p1 p2)
-    h = (
-      ((texts_expr p1 h.1).0, (texts_container p2 (texts_expr p1 h.1).1.1).0),
-      (texts_container p2 (texts_expr p1 h.1).1.1).1,
-    )
-texts_simple (g.multiply p1 p2)
-    h = (
-      ((texts_container p1 h.1).0, (texts_expr p2 (texts_container p1 h.1).1.1).0),
-      (texts_expr p2 (texts_container p1 h.1).1.1).1,
-    )
-texts_simple (g.divide p1 p2) h = (
-  ((texts_container p1 h.1).0, (texts_expr p2 (texts_container p1 h.1).1.1).0),
-  (texts_expr p2 (texts_container p1 h.1).1.1).1,
-)
-texts_simple (g.delete {m = m} p1 p2 p3)
-    h = (
-      ((texts_chunk p1 h.1).0, (texts_container p3 (texts_of m p2 (texts_chunk p1 h.1).1)).0),
-      (texts_container p3 (texts_of m p2 (texts_chunk p1 h.1).1)).1,
-    )
+texts_simple (g.add p1 p2) h = both (texts_expr p1 h.1) (λ r. texts_container p2 r.1)
+texts_simple (g.subtract p1 p2) h = both (texts_expr p1 h.1) (λ r. texts_container p2 r.1)
+texts_simple (g.multiply p1 p2) h = both (texts_container p1 h.1) (λ r. texts_expr p2 r.1)
+texts_simple (g.divide p1 p2) h = both (texts_container p1 h.1) (λ r. texts_expr p2 r.1)
+texts_simple (g.delete {m = m} p1 p2 p3) h = both (texts_chunk p1 h.1) (λ r. texts_container p3 (texts_of m p2 r))
 texts_simple (g.do_ p1) h = texts_expr p1 h.1
-texts_simple (g.send p1 p2) h =
-    (((texts_expr p1 h.1).0, (texts_ref p2 (texts_expr p1 h.1).1.1).0), (texts_ref p2 (texts_expr p1 h.1).1.1).1)
+texts_simple (g.send p1 p2) h = both (texts_expr p1 h.1) (λ r. texts_ref p2 r.1)
 texts_simple (g.go {a = a} p1) h = texts_destination p1 (texts_to a h.1)
 texts_simple (g.global p1) h = texts_names p1 h.1
 texts_simple (g.exit_repeat _) h = (tt, h.1.1)
@@ -354,101 +309,55 @@ texts_simple (g.command p1) h = ((h.0, (texts_list p1 h.1).0), (texts_list p1 h.
 pub texts_head : {a c : List Token} {x : stm.Head} → DerivesHead a x c → TokensTexts a → HeadTexts x × TokensTexts c
 texts_head g.no_head h = (tt, h)
 texts_head g.forever h = (tt, h.1)
-texts_head (g.times {a = a} {m = m} p1) h =
-    ((texts_expr p1 (texts_for a h)).0, (texts_times m (texts_expr p1 (texts_for a h)).1))
+texts_head (g.times {a = a} {m = m} p1) h = let p = texts_expr p1 (texts_for a h) in (p.0, texts_times m p.1)
 texts_head (g.while p1) h = texts_expr p1 h.1
 texts_head (g.until p1) h = texts_expr p1 h.1
-texts_head (g.counted_up p1 p2)
-    h = (
-      (h.1.0, (texts_expr p1 h.1.1.1).0, (texts_expr p2 (texts_expr p1 h.1.1.1).1.1).0),
-      (texts_expr p2 (texts_expr p1 h.1.1.1).1.1).1,
-    )
-texts_head (g.counted_down p1 _ p3)
-    h = (
-      (h.1.0, (texts_expr p1 h.1.1.1).0, (texts_expr p3 (texts_expr p1 h.1.1.1).1.1.1).0),
-      (texts_expr p3 (texts_expr p1 h.1.1.1).1.1.1).1,
-    )
+texts_head (g.counted_up p1 p2) h =
+    let p = texts_expr p1 h.1.1.1 in
+    let q = texts_expr p2 p.1.1 in
+    ((h.1.0, p.0, q.0), q.1)
+texts_head (g.counted_down p1 _ p3) h =
+    let p = texts_expr p1 h.1.1.1 in
+    let q = texts_expr p3 p.1.1.1 in
+    ((h.1.0, p.0, q.0), q.1)
 
 mutual
   pub texts_stmt : {k : Context} {a c : List Token} {x : stm.Stmt} → DerivesStmt k a x c → TokensTexts a
       → StmtTexts x × TokensTexts c
   texts_stmt (g.simple p1) h = texts_simple p1 h
-  texts_stmt (g.short {m = m} p1 p2 p3)
-      h = (
-        (
-          (texts_expr p1 h.1).0,
-          (
-            (texts_simple p3 (subst TokensTexts p2 (texts_ends m (texts_expr p1 h.1).1)).1).0,
-            tt,
-          ),
-          tt,
-        ),
-        (texts_simple p3 (subst TokensTexts p2 (texts_ends m (texts_expr p1 h.1).1)).1).1,
-      )
-  texts_stmt (g.short_else {m = m} {n = n} p1 p2 p3 p4 p5)
-      h = (
-        (
-          (texts_expr p1 h.1).0,
-          (
-            (texts_simple p3 (subst TokensTexts p2 (texts_ends m (texts_expr p1 h.1).1)).1).0,
-            tt,
-          ),
-          (
-            (texts_simple p5 (subst TokensTexts p4
-                (texts_ends n (texts_simple p3 (subst TokensTexts p2 (texts_ends m (texts_expr p1 h.1).1)).1).1)).1).0,
-            tt,
-          ),
-        ),
-        (texts_simple p5 (subst TokensTexts p4
-            (texts_ends n (texts_simple p3 (subst TokensTexts p2 (texts_ends m (texts_expr p1 h.1).1)).1).1)).1).1,
-      )
-  texts_stmt (g.long {b = b} {m = m} p1 p2 p3 p4 p5)
-      h = (
-        (
-          (texts_expr p1 h.1).0,
-          (texts_lines p4
-              (texts_ended b p3 (subst TokensTexts p2 (texts_ends m (texts_expr p1 h.1).1)).1)).0,
-          (texts_else p5
-              (texts_lines p4 (texts_ended b p3 (subst TokensTexts p2 (texts_ends m (texts_expr p1 h.1).1)).1)).1).0,
-        ),
-        (texts_else p5
-            (texts_lines p4 (texts_ended b p3 (subst TokensTexts p2 (texts_ends m (texts_expr p1 h.1).1)).1)).1).1,
-      )
-  texts_stmt (g.repeat {m = m} p1 p2 p3)
-      h = (
-        ((texts_head p1 h.1).0, (texts_lines p3 (texts_ended m p2 (texts_head p1 h.1).1)).0),
-        (texts_lines p3 (texts_ended m p2 (texts_head p1 h.1).1)).1.1.1,
-      )
+  texts_stmt (g.short {m = m} p1 p2 p3) h =
+      let p = texts_expr p1 h.1 in
+      let q = texts_simple p3 (subst TokensTexts p2 (texts_ends m p.1)).1 in
+      ((p.0, (q.0, tt), tt), q.1)
+  texts_stmt (g.short_else {m = m} {n = n} p1 p2 p3 p4 p5) h =
+      let p = texts_expr p1 h.1 in
+      let q = texts_simple p3 (subst TokensTexts p2 (texts_ends m p.1)).1 in
+      let r = texts_simple p5 (subst TokensTexts p4 (texts_ends n q.1)).1 in
+      ((p.0, (q.0, tt), (r.0, tt)), r.1)
+  texts_stmt (g.long {b = b} {m = m} p1 p2 p3 p4 p5) h =
+      let p = texts_expr p1 h.1 in
+      let q = texts_lines p4 (texts_ended b p3 (subst TokensTexts p2 (texts_ends m p.1)).1) in
+      let r = texts_else p5 q.1 in
+      ((p.0, q.0, r.0), r.1)
+  texts_stmt (g.repeat {m = m} p1 p2 p3) h =
+      let p = texts_head p1 h.1 in
+      let q = texts_lines p3 (texts_ended m p2 p.1) in
+      ((p.0, q.0), q.1.1.1)
 
   pub texts_lines : {k : Context} {a c : List Token} {x : stm.Stmts} → DerivesLines k a x c → TokensTexts a
       → StmtsTexts x × TokensTexts c
   texts_lines g.done h = (tt, h)
-  texts_lines (g.line {m = m} p1 p2 p3)
-      h = (
-        ((texts_stmt p1 h).0, (texts_lines p3 (texts_ended m p2 (texts_stmt p1 h).1)).0),
-        (texts_lines p3 (texts_ended m p2 (texts_stmt p1 h).1)).1,
-      )
+  texts_lines (g.line {m = m} p1 p2 p3) h = both (texts_stmt p1 h) (λ r. texts_lines p3 (texts_ended m p2 r))
 
   pub texts_else : {k : Context} {a c : List Token} {x : stm.Stmts} → DerivesElse k a x c → TokensTexts a
       → StmtsTexts x × TokensTexts c
   texts_else g.end_if h = (tt, h.1.1)
-  texts_else (g.else_lines {a = a} p1 p2) h =
-      ((texts_lines p2 (texts_ended a p1 h.1)).0, (texts_lines p2 (texts_ended a p1 h.1)).1.1.1)
-  texts_else (g.else_if {b = b} {m = m} p1 p2 p3 p4 p5)
-      h = (
-        (
-          (
-            (texts_expr p1 h.1.1).0,
-            (texts_lines p4 (texts_ended b p3 (subst TokensTexts p2 (texts_ends m (texts_expr p1 h.1.1).1)).1)).0,
-            (texts_else p5
-                (texts_lines p4 (texts_ended b p3
-                (subst TokensTexts p2 (texts_ends m (texts_expr p1 h.1.1).1)).1)).1).0,
-          ),
-          tt,
-        ),
-        (texts_else p5
-            (texts_lines p4 (texts_ended b p3 (subst TokensTexts p2 (texts_ends m (texts_expr p1 h.1.1).1)).1)).1).1,
-      )
+  texts_else (g.else_lines {a = a} p1 p2) h = let q = texts_lines p2 (texts_ended a p1 h.1) in (q.0, q.1.1.1)
+  texts_else (g.else_if {b = b} {m = m} p1 p2 p3 p4 p5) h =
+      let p = texts_expr p1 h.1.1 in
+      let q = texts_lines p4 (texts_ended b p3 (subst TokensTexts p2 (texts_ends m p.1)).1) in
+      let r = texts_else p5 q.1 in
+      (((p.0, q.0, r.0), tt), r.1)
 
 pub texts_params : {a c : List Token} {x : List (List ℕ)} → DerivesParams a x c → TokensTexts a
     → AllByRecursion IsText x × TokensTexts c
@@ -457,11 +366,10 @@ texts_params (g.params p1) h = texts_names p1 h
 
 pub texts_handler : {a c : List Token} {x : stm.Handler} → DerivesHandler a x c → TokensTexts a
     → HandlerTexts x × TokensTexts c
-texts_handler (g.handler {m = m} {n = n} _ p2 p3 p4 _ p6)
-    h = (
-      (h.1.0, (texts_params p2 h.1.1).0, (texts_lines p4 (texts_ended m p3 (texts_params p2 h.1.1).1)).0),
-      (texts_ended n p6 (texts_lines p4 (texts_ended m p3 (texts_params p2 h.1.1).1)).1.1.1),
-    )
+texts_handler (g.handler {m = m} {n = n} _ p2 p3 p4 _ p6) h =
+    let p = texts_params p2 h.1.1 in
+    let q = texts_lines p4 (texts_ended m p3 p.1) in
+    ((h.1.0, p.0, q.0), texts_ended n p6 q.1.1.1)
 
 pub texts_handlers : {a : List Token} {x : stm.Handlers} → DerivesHandlers a x → TokensTexts a → HandlersTexts x
 texts_handlers g.no_handlers h = tt
