@@ -1,11 +1,10 @@
 -- The first state of a well formed stack.
 use Rattle.std.proofs.Common.{◌≡◌, ℕ, ◌<◌, true, false, ◌||◌, List, [], ◌∷◌, length, get_or, refl, sym, subst, ap, ◌∙◌}
-use Rattle.std.proofs.Common.{arith, Option, Some, None, IfSome, option_map, option_and_then, unwrap_or, eqb}
+use Rattle.std.proofs.Common.{arith, Option, Some, None, IfSome, option_map, option_and_then, unwrap_or, eqb, eq-eqb}
 use Rattle.std.specs.Ordering.{nat_cmp}
 use Rattle.std.specs.Cmp.Lexicographic.{slice_cmp}
 use Rattle.std.specs.FinMap.{empty, get-empty}
 use Rattle.std.specs.List.{list_any}
-use Rattle.std.proofs.lemmas.Bool.{eq-eqb}
 use Rattle.object_table.specs.Content.{Content}
 use Rattle.object_table.specs.Objects.{has_kind, is_card, is_background, contains_id, background_of, object_at}
 use Rattle.object_table.specs.WellFormed.{IsWellFormed}

@@ -1,7 +1,6 @@
 -- A change, and a turn of an external, in an open batch.
-use Rattle.std.proofs.Common.{Bool, ◌≡◌, ◌++◌, ℕ, ◌+◌, ◌<◌, ◌≤◌, true, false, if◌then◌else◌, List, [], ◌∷◌, length}
-use Rattle.std.proofs.Common.{set, take, drop, reverse, refl, sym, subst, ap, ◌∙◌, arith, Option, Some, None}
-use Rattle.std.proofs.Common.{All}
+use Rattle.std.proofs.Common.{Bool, ◌≡◌, ◌++◌, ℕ, ◌+◌, ◌<◌, ◌≤◌, true, false, if◌then◌else◌, List, [], ◌∷◌, length, set}
+use Rattle.std.proofs.Common.{take, drop, reverse, refl, sym, subst, ap, ◌∙◌, arith, Option, Some, None, All}
 use Rattle.std.proofs.lemmas.List.{get_or-set_same}
 use Rattle.std.proofs.lemmas.List.Sums.{sum_by-cons}
 use Rattle.std.proofs.lemmas.List.Elements.{All-get_or, All-set}

@@ -1,8 +1,7 @@
 -- Blocks of a text, and the delimiters in them.
 use Rattle.std.proofs.Common.{◌≡◌, refl, sym, ◌∙◌, ap, subst, ℕ, zero, suc, ◌+◌, ◌-◌, ◌<◌, ◌≤◌, List, [], ◌∷◌, ◌++◌}
 use Rattle.std.proofs.Common.{Bool, true, false, cond, length, take, drop, length-drop, length-take, take-append-drop}
-use Rattle.std.proofs.Common.{drop-drop, zero-add, arith}
-use Rattle.std.specs.Prelude.{count_by, slice_get, slice_index, slice_range, if◌then◌else◌}
+use Rattle.std.proofs.Common.{drop-drop, zero-add, arith, count_by, slice_get, slice_index, slice_range, if◌then◌else◌}
 use Rattle.std.proofs.Math.Seq.{take-add}
 use Rattle.std.proofs.lemmas.List.Sums.{count_by-le-length, sum_by-append}
 use Rattle.std.proofs.lemmas.List.Splits.{length-slice_split}

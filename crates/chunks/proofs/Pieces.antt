@@ -1,9 +1,7 @@
 -- The laws of pieces.
-use Rattle.std.proofs.Common.{◌≡◌, refl, sym, ◌∙◌, ap, ℕ, List, [], ◌∷◌, Bool, true, false, ◌==◌}
+use Rattle.std.proofs.Common.{◌≡◌, refl, sym, ◌∙◌, ap, ℕ, List, [], ◌∷◌, Bool, true, false, ◌==◌, subst, eq-eqb}
 use Rattle.std.specs.List.{join_with_byte, slice_split, onto_first}
 use Rattle.std.proofs.lemmas.List.Splits.{join_with_byte-slice_split, slice_split-cons_no, slice_split-cons_yes}
-use Rattle.std.proofs.lemmas.Bool.{eq-eqb}
-use Rattle.std.proofs.Common.{subst}
 use Rattle.chunks.specs.Pieces.{delimited}
 use Rattle.chunks.specs.Laws.{AreClean, AreDelimited, OneList}
 use Rattle.chunks.proofs.Parts.{split_more, split_one}

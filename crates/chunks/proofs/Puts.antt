@@ -2,19 +2,17 @@
 use Rattle.std.proofs.Common.{◌≡◌, refl, sym, ◌∙◌, ap, subst, ℕ, zero, suc, ◌+◌, ◌-◌, ◌<◌, ◌≤◌, List, [], ◌∷◌, ◌++◌}
 use Rattle.std.proofs.Common.{Bool, true, false, cond, length, map, take, drop, min, max, nat_lt, nat_le, Option, Some}
 use Rattle.std.proofs.Common.{None, Ok, Err, Result, pos, ◌==◌, ◌||◌, replicate, inl, inr, ◌⊎◌, append_assoc, get_or}
-use Rattle.std.proofs.Common.{length-append, arith}
-use Rattle.std.specs.Prelude.{int_lt, slice_get, slice_set, if◌then◌else◌}
+use Rattle.std.proofs.Common.{length-append, arith, int_lt, slice_get, slice_set, if◌then◌else◌}
 use Rattle.std.specs.List.{filter, slice_split, onto_first}
 use Rattle.std.specs.Option.{option_map, unwrap_or}
 use Rattle.std.specs.Result.{result_unwrap_or}
 use Rattle.std.proofs.lemmas.Bool.{cases_lt, eq-eqb}
 use Rattle.std.proofs.lemmas.Bool.Decides.{nat_tests}
-use Rattle.std.proofs.lemmas.Option.{same_Some}
+use Rattle.std.proofs.lemmas.Option.{same_Some, slice_get-map, slice_get_cases, slice_get_within}
 use Rattle.std.proofs.lemmas.List.{append-nil, length-drop, length-map, length-replicate, length-take, map-append}
 use Rattle.std.proofs.lemmas.List.{map-set, nil_from_length, set_split}
 use Rattle.std.proofs.lemmas.List.Elements.{filter-append}
 use Rattle.std.proofs.lemmas.List.Splits.{length-slice_split, slice_split-cons_no, slice_split-cons_yes}
-use Rattle.std.proofs.lemmas.Option.{slice_get-map, slice_get_cases, slice_get_within}
 use Rattle.ht_values.specs.declared.fault.Fault.{Fault}
 use Rattle.ht_values.specs.declared.fault.Fault.TheVariants.{BadArgument, TooLong}
 use Rattle.ht_values.specs.Outcome.{within_limit}

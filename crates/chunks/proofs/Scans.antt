@@ -1,11 +1,10 @@
 -- A scan finds the pieces, from any place on.
 use Rattle.std.proofs.Common.{◌≡◌, refl, sym, ◌∙◌, ap, subst, ℕ, zero, suc, ◌+◌, ◌<◌, List, [], ◌∷◌, Bool, true, false}
-use Rattle.std.proofs.Common.{cond, length, map, slice_get, Option, Some, None, arith, ◌-◌, drop}
+use Rattle.std.proofs.Common.{cond, length, map, slice_get, Option, Some, None, arith, ◌-◌, drop, ◌≤◌}
 use Rattle.std.specs.Prelude.{if◌then◌else◌, slice_index, ◌==◌, nat_lt}
 use Rattle.std.specs.List.{filter, slice_split, onto_first}
 use Rattle.std.proofs.lemmas.List.Splits.{slice_split-cons_no, slice_split-cons_yes}
 use Rattle.std.proofs.Math.Seq.{drop-cons, drop-length}
-use Rattle.std.proofs.Common.{◌≤◌}
 use Rattle.ht_values.specs.declared.word.ChunkKind.TheVariants as kind
 use Rattle.chunks.specs.declared.chunk.Span.{Span}
 use Rattle.chunks.specs.Pieces.{is_gap, is_wide, is_full, count, delimited, spans, spans_from}

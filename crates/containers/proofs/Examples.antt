@@ -1,7 +1,6 @@
 -- Worked examples, which check the definitions: names, edits, and a stack with a field 3 on background 1, whose one
 -- card is 2; card 4 is on another background.
-use Rattle.std.proofs.Common.{◌≡◌, ℕ, Bool, true, false, List, [], ◌∷◌, codes, Some, None, Ok, Err, refl}
-use Rattle.std.specs.Prelude.{pos}
+use Rattle.std.proofs.Common.{◌≡◌, ℕ, Bool, true, false, List, [], ◌∷◌, codes, Some, None, Ok, Err, refl, pos}
 use Rattle.std.specs.Ordering.{nat_cmp}
 use Rattle.std.specs.FinMap.{from_sorted, empty, get, find, get-from_sorted}
 use Rattle.ht_values.specs.declared.fault.Fault.TheVariants as fault

@@ -1,7 +1,6 @@
 -- Parameters that get their arguments all at once get them one by one.
 use Rattle.std.proofs.Common.{◌≡◌, ℕ, ◌+◌, Bool, true, false, List, [], ◌∷◌, map, get_or, drop, Some, refl, sym, ◌∙◌}
-use Rattle.std.proofs.Common.{ap, if◌then◌else◌, add-zero}
-use Rattle.std.proofs.lemmas.List.{drop-drop, get_or-drop}
+use Rattle.std.proofs.Common.{ap, if◌then◌else◌, add-zero, drop-drop, get_or-drop}
 use Rattle.ht_values.specs.Text.{same}
 use Rattle.name_lists.specs.declared.parameters.Binding.{Binding}
 use Rattle.name_lists.specs.Parameters.{bindings_of, bound_from, names_bound, with_argument}

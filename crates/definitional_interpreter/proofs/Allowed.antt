@@ -1,7 +1,6 @@
 -- What an expression that sends no message comes to, the rules allow.
 use Rattle.std.proofs.Common.{◌≡◌, ℕ, zero, suc, List, [], ◌∷◌, Bool, true, false, Option, Some, None, Result, Ok, Err}
-use Rattle.std.proofs.Common.{refl, sym, subst}
-use Rattle.std.specs.Prelude.{◌≢◌}
+use Rattle.std.proofs.Common.{refl, sym, subst, ◌≢◌}
 use Rattle.ht_values.specs.declared.fault.Fault.{Fault}
 use Rattle.ht_values.specs.declared.fault.Fault.TheVariants.{NoSuchObject}
 use Rattle.ht_values.specs.declared.operator.Func.{Func}

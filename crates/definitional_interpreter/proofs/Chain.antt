@@ -1,7 +1,6 @@
 -- Parts one after another, with enough fuel for all.
 use Rattle.std.proofs.Common.{◌≡◌, ℕ, zero, suc, ◌+◌, ◌≤◌, ◌<◌, List, Bool, true, false, Option, Some, None, Result, Ok}
-use Rattle.std.proofs.Common.{Err, refl, sym, ap, subst, ◌∙◌, arith}
-use Rattle.std.specs.Prelude.{nat_lt, ◌≢◌}
+use Rattle.std.proofs.Common.{Err, refl, sym, ap, subst, ◌∙◌, arith, nat_lt, ◌≢◌}
 use Rattle.ht_values.specs.declared.fault.Fault.{Fault}
 use Rattle.ht_values.specs.declared.fault.Fault.TheVariants.{NoSuchObject}
 use Rattle.change_journal.specs.History.{History}
@@ -14,9 +13,7 @@ use Rattle.meaning.specs.declared.frame.Frame.{Frame}
 use Rattle.meaning.specs.Repeats.{Outcome}
 use Rattle.meaning.specs.State.{RunState}
 use Rattle.definitional_interpreter.specs.Told.{Visible, Told, told, ToldIn, told_in, after, after_in, after_run}
-use Rattle.definitional_interpreter.specs.Told.{after_lines}
-use Rattle.definitional_interpreter.specs.Told.{after_next}
-use Rattle.definitional_interpreter.specs.Told.{choose, maybe, computed, there, gave}
+use Rattle.definitional_interpreter.specs.Told.{after_lines, after_next, choose, maybe, computed, there, gave}
 use Rattle.definitional_interpreter.specs.Families.{Meanings}
 use Rattle.definitional_interpreter.specs.Meanings.{meanings, one_more}
 use Rattle.definitional_interpreter.specs.Laws.{Enough}

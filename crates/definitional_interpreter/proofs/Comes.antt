@@ -1,6 +1,5 @@
 -- That the meanings come to something, with enough fuel.
-use Rattle.std.proofs.Common.{◌≡◌, ℕ, ◌<◌, List, length}
-use Rattle.std.specs.Prelude.{slice_index_or}
+use Rattle.std.proofs.Common.{◌≡◌, ℕ, ◌<◌, List, length, slice_index_or}
 use Rattle.ht_grammar.specs.Laws.{TextsAreReadExactly}
 use Rattle.externals.specs.Log.{Log, Follows}
 use Rattle.externals.specs.Turns.{TurnTable}

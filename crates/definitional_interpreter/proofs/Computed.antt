@@ -1,6 +1,5 @@
 -- What the rules allow is what the function gives.
-use Rattle.std.proofs.Common.{refl, ap, ◌∙◌, cond, [], ◌∷◌}
-use Rattle.std.specs.Prelude.{is_none}
+use Rattle.std.proofs.Common.{refl, ap, ◌∙◌, cond, [], ◌∷◌, is_none}
 use Rattle.ht_grammar.specs.Laws.{TextsAreReadExactly}
 use Rattle.definitional_interpreter.specs.Laws.{LinesAreComputed, MessagesAreComputed}
 use Rattle.definitional_interpreter.specs.Laws.{ActionsAreComputed, ReferencesAreComputed, ValuesAreComputed}

@@ -1,7 +1,6 @@
 -- What a rule makes beside its parts has one outcome: texts, steps, edits, objects and turns.
-use Rattle.std.proofs.Common.{◌≡◌, ℕ, zero, suc, ◌-◌, ◌<◌, List, [], ◌∷◌, length, map, Bool, true, false, Option}
-use Rattle.std.proofs.Common.{Some, None, Result, Ok, Err, refl, sym, ap, subst, ◌∙◌, arith}
-use Rattle.std.specs.Prelude.{option_map, if◌then◌else◌}
+use Rattle.std.proofs.Common.{◌≡◌, ℕ, zero, suc, ◌-◌, ◌<◌, List, [], ◌∷◌, length, map, Bool, true, false, Option, Some}
+use Rattle.std.proofs.Common.{None, Result, Ok, Err, refl, sym, ap, subst, ◌∙◌, arith, option_map, if◌then◌else◌}
 use Rattle.ht_values.specs.declared.fault.Fault.{Fault}
 use Rattle.ht_values.specs.declared.fault.Fault.TheVariants.{StepLimit, TooMany, Syntax}
 use Rattle.ht_values.specs.Text.{folded}
@@ -24,7 +23,7 @@ use Rattle.meaning.specs.declared.end.Stop.TheVariants.{Fault as Faults}
 use Rattle.meaning.specs.declared.frame.Frame.{Frame}
 use Rattle.meaning.specs.Places.{Edits, Stores, Assigns, DeclaresAll, Sets, Adds}
 use Rattle.meaning.specs.State.{RunState, Step}
-use Rattle.meaning.specs.Values.{Yields}
+use Rattle.meaning.specs.Values.{Yields, Parses}
 use Rattle.preservation.specs.Kinds.{sorts_of}
 use Rattle.preservation.specs.Laws.{HasMemory}
 use Rattle.preservation.proofs.CallBacks.{IsCall}
@@ -56,7 +55,6 @@ use Rattle.msg_path.specs.Handlers.{HandlerFound, First}
 use Rattle.meaning.specs.declared.end.Conversed.{Conversed}
 use Rattle.meaning.specs.Meaning.{CallsBack}
 use Rattle.meaning.specs.Messages.{Finds}
-use Rattle.meaning.specs.Values.{Parses}
 use Rattle.definitional_interpreter.specs.Texts.{read_by, or_syntax, parsed, handled, first_found}
 use Rattle.definitional_interpreter.specs.Messages.{talk_by}
 use Rattle.definitional_interpreter.proofs.Chain.{done}

@@ -22,12 +22,12 @@ use Rattle.msg_path.specs.Path.{path_after}
 use Rattle.externals.specs.Cells.{Seen}
 use Rattle.meaning.specs.declared.end.How.TheVariants.{Next}
 use Rattle.definitional_interpreter.specs.Told.{Visible, Told, told, ToldIn, told_in, after_in, after_next, after_lines}
-use Rattle.definitional_interpreter.specs.Told.{maybe, gave}
-use Rattle.definitional_interpreter.specs.Told.{after_lines}
-use Rattle.definitional_interpreter.specs.Changes.{with_variables, with_global}
+use Rattle.definitional_interpreter.specs.Told.{maybe, gave, after_lines}
+use Rattle.definitional_interpreter.specs.Changes.{with_variables, with_global, make, store}
 use Rattle.definitional_interpreter.specs.Rows as rows
 use Rattle.definitional_interpreter.specs.Texts.{parsed}
-use Rattle.ht_grammar.specs.Lines.{typed_lines}
+use Rattle.ht_grammar.specs.Lines.{typed_lines, container, names_at, destination_at, simple_at, head_at, stmt_at}
+use Rattle.ht_grammar.specs.Lines.{lines_at, block_at, blocks}
 use Rattle.meaning.specs.declared.frame.Frame.{Frame}
 use Rattle.definitional_interpreter.proofs.Steps.{on_card, found_among, by_found, sent, passed_on, run_at, command_ends}
 use Rattle.definitional_interpreter.proofs.Steps.{typed_command}
@@ -46,8 +46,6 @@ use Rattle.ht_lex.specs.Words.{reserved_words, symbols, key_of}
 use Rattle.ht_grammar.specs.Ends.{ended, past_times}
 use Rattle.ht_grammar.specs.Fronts.{prop_front, run_prop, function_of, type_front, asked_type, operator_after_is_not}
 use Rattle.ht_grammar.specs.Fronts.{operator_after_is, leading_operator}
-use Rattle.ht_grammar.specs.Lines.{container, names_at, destination_at, simple_at, head_at, stmt_at, lines_at, block_at}
-use Rattle.ht_grammar.specs.Lines.{blocks}
 use Rattle.ht_grammar.specs.Reading.{closed, referenced_layer, part_front, article, list_at, primary_at, which_at}
 use Rattle.ht_grammar.specs.Reading.{selector_at, owner_at, part_end, nth_end, part_at, field_at, ref_at, inner_ref}
 use Rattle.ht_grammar.specs.Reading.{count_at, chunk_at, chunk_form, number_form, factor_at, prefixed_at, power_end}
@@ -59,13 +57,11 @@ use Rattle.externals.specs.Log.{Log, LoggedTurn}
 use Rattle.externals.specs.declared.external.Ask.TheVariants.{Done}
 use Rattle.externals.specs.declared.external.Input.TheVariants.{Start}
 use Rattle.journal_entries.specs.Places.{put as put_in_state}
-use Rattle.definitional_interpreter.specs.Changes.{make, store}
 use Rattle.definitional_interpreter.specs.Meanings.{meanings}
 use Rattle.definitional_interpreter.specs.Rows.{Sum, Quotient, NoNumber, FaultAfterLines, Choice, Repeated, Chunks}
-use Rattle.definitional_interpreter.specs.Rows.{NoExpression}
-use Rattle.definitional_interpreter.specs.Rows.{ExitToHyperCard, Delimiter, and_more, answers, answered, two_cards}
-use Rattle.definitional_interpreter.specs.Rows.{gate, repeats_script}
-use Rattle.definitional_interpreter.specs.Rows.{function_script, passing_script, last_script, deep_script, Repeats}
+use Rattle.definitional_interpreter.specs.Rows.{NoExpression, ExitToHyperCard, Delimiter, and_more, answers, answered}
+use Rattle.definitional_interpreter.specs.Rows.{two_cards, gate, repeats_script, function_script, passing_script}
+use Rattle.definitional_interpreter.specs.Rows.{last_script, deep_script, Repeats}
 
 -- `unfolding computing` opens the definitions that a row computes through
 unfoldable pub computing : Unit {0}

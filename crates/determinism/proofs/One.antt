@@ -1,6 +1,5 @@
 -- Two runs of one thing have one outcome.
-use Rattle.std.proofs.Common.{◌≡◌, ◌+◌, ◌++◌, ℕ, ◌<◌, List, [], ◌∷◌, length, Result, refl, sym, ap, subst}
-use Rattle.std.proofs.Common.{◌∙◌, arith}
+use Rattle.std.proofs.Common.{◌≡◌, ◌+◌, ◌++◌, ℕ, ◌<◌, List, [], ◌∷◌, length, Result, refl, sym, ap, subst, ◌∙◌, arith}
 use Rattle.std.proofs.lemmas.List.{append-nil, ext_get_or}
 use Rattle.ht_grammar.specs.Laws.{TextsAreReadExactly}
 use Rattle.externals.specs.Log.{Log}
@@ -15,9 +14,8 @@ use Rattle.definitional_interpreter.specs.Turns.{nondeterministic, logs_since}
 use Rattle.definitional_interpreter.specs.Families.{Meanings}
 use Rattle.definitional_interpreter.specs.Meanings.{meanings}
 use Rattle.definitional_interpreter.specs.Laws.{AreTold}
-use Rattle.determinism.specs.Laws.{AreAlike, SameOutcome}
-use Rattle.determinism.specs.Laws.{LinesHaveOneOutcome, MessagesHaveOneOutcome, ActionsHaveOneOutcome}
-use Rattle.determinism.specs.Laws.{ReferencesHaveOneOutcome, ValuesHaveOneOutcome}
+use Rattle.determinism.specs.Laws.{AreAlike, SameOutcome, LinesHaveOneOutcome, MessagesHaveOneOutcome}
+use Rattle.determinism.specs.Laws.{ActionsHaveOneOutcome, ReferencesHaveOneOutcome, ValuesHaveOneOutcome}
 use Rattle.definitional_interpreter.proofs.Comes.{Sight, sight, Comes}
 use Rattle.definitional_interpreter.proofs.Outcomes.{val_comes, line_comes, message_comes, refers_comes, acts_comes}
 use Rattle.definitional_interpreter.proofs.Sights.{asks_told, at_since, from}

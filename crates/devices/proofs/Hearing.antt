@@ -1,7 +1,6 @@
 -- What a desk hears, piece by piece.
-use Rattle.std.proofs.Common.{◌≡◌, inl, inr, List, [], ◌++◌, refl, sym, ap, ◌∙◌, append_assoc}
+use Rattle.std.proofs.Common.{◌≡◌, inl, inr, List, [], ◌++◌, refl, sym, ap, ◌∙◌, append_assoc, append-nil}
 use Rattle.std.specs.Prelude.{Option, Some, None, option_map}
-use Rattle.std.proofs.lemmas.List.{append-nil}
 use Rattle.devices.specs.Desks.{SeenDesk, HearsOrForgets}
 use Rattle.devices.specs.declared.desk.HeardMessage.{HeardMessage}
 

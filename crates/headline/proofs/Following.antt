@@ -1,9 +1,8 @@
 -- What lines, calls and runs do to the list of whole states.
 use Rattle.std.proofs.Common.{◌≡◌, ℕ, zero, suc, ◌+◌, ◌-◌, ◌<◌, ◌≤◌, inl, inr, min, Bool, true, false, cond, List, []}
 use Rattle.std.proofs.Common.{◌∷◌, ◌++◌, length, map, take, drop, refl, sym, ◌∙◌, ap, ap₂, subst, arith, append_assoc}
-use Rattle.std.proofs.Common.{length-append, length-take, length-drop}
-use Rattle.std.specs.Prelude.{◌⊎◌, Option, Some, None, option_map, Result, IsErrOf, ◌==◌, slice_get, nat_le, nat_lt}
-use Rattle.std.specs.Prelude.{reverse, not, MatchBool, slice_index_or}
+use Rattle.std.proofs.Common.{length-append, length-take, length-drop, ◌⊎◌, Option, Some, None, option_map, Result}
+use Rattle.std.proofs.Common.{IsErrOf, ◌==◌, slice_get, nat_le, nat_lt, reverse, not, MatchBool, slice_index_or}
 use Rattle.std.proofs.lemmas.List.{reverse-append, length-reverse, length-map, map-append, drop-append-le}
 use Rattle.std.proofs.lemmas.List.{take-append-drop}
 use Rattle.std.specs.Io.KnownBytes.{IsAtEnd}
@@ -31,9 +30,8 @@ use Rattle.session.specs.SessionView.{SessionView, next_number}
 use Rattle.session.specs.TakesLine as taken
 use Rattle.session.specs.TakesLine.{Adds, Performs, Says}
 use Rattle.session.specs.Meaning.{moment}
-use Rattle.headline.specs.Unzipped.{snapshots_of, all_snapshots, timeline_of, timeline_beside, LinesFollow}
-use Rattle.headline.specs.Unzipped.{MovesFollow, PlugsFollow, OpensFollow, TablesFollow, RunsFollow, StopsFollow}
-use Rattle.headline.specs.Unzipped.{without_if}
+use Rattle.headline.specs.Unzipped.{snapshots_of, all_snapshots, timeline_of, timeline_beside, LinesFollow, MovesFollow}
+use Rattle.headline.specs.Unzipped.{PlugsFollow, OpensFollow, TablesFollow, RunsFollow, StopsFollow, without_if}
 use Rattle.session.specs.declared.command.Command.{Command}
 use Rattle.session.specs.declared.command.Command.TheVariants as commands
 use Rattle.session.specs.declared.command.Reading.{Reading}

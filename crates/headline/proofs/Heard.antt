@@ -1,8 +1,6 @@
 -- What a desk heard over many lines.
-use Rattle.std.proofs.Common.{◌≡◌, ◌≢◌, ℕ, zero, suc, ◌+◌, inl, inr, true, false, List, [], ◌∷◌, ◌++◌, take}
-use Rattle.std.proofs.Common.{refl, sym}
-use Rattle.std.proofs.Common.{ap, subst, ◌∙◌, add-one}
-use Rattle.std.specs.Prelude.{MatchBool, Some, None, option_map, slice_get}
+use Rattle.std.proofs.Common.{◌≡◌, ◌≢◌, ℕ, zero, suc, ◌+◌, inl, inr, true, false, List, [], ◌∷◌, ◌++◌, take, refl, sym}
+use Rattle.std.proofs.Common.{ap, subst, ◌∙◌, add-one, MatchBool, Some, None, option_map, slice_get}
 use Rattle.std.proofs.lemmas.List.{map-append}
 use Rattle.std.proofs.lemmas.Option.{none-some}
 use Rattle.meaning.specs.Sent.{SentMessage}

@@ -1,8 +1,7 @@
 -- A run, byte by byte: what is read and not yet answered.
 use Rattle.std.proofs.Common.{◌≡◌, ◌≢◌, ℕ, ◌+◌, ◌-◌, ◌<◌, ◌≤◌, ◌⊎◌, inl, inr, true, false, cond, List, [], ◌∷◌, ◌++◌}
 use Rattle.std.proofs.Common.{length, map, take, drop, refl, sym, ◌∙◌, ap, subst, arith, append_assoc, length-append}
-use Rattle.std.proofs.Common.{length-take, get_or, add-one, drop-cons}
-use Rattle.std.specs.Prelude.{Option, Some, None, ◌==◌, slice_index}
+use Rattle.std.proofs.Common.{length-take, get_or, add-one, drop-cons, Option, Some, None, ◌==◌, slice_index}
 use Rattle.std.proofs.Math.Seq.{take-suc}
 use Rattle.std.proofs.lemmas.List.{take-append-drop, append-nil, length-map, take_all, length-take-le, take-append-le}
 use Rattle.std.proofs.lemmas.List.{nil_from_length}

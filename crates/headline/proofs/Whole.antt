@@ -1,6 +1,5 @@
 -- Each state of the list is whole, all along a run.
-use Rattle.std.proofs.Common.{ℕ, List, [], ◌∷◌, ◌++◌, refl, sym, subst}
-use Rattle.std.specs.Prelude.{reverse}
+use Rattle.std.proofs.Common.{ℕ, List, [], ◌∷◌, ◌++◌, refl, sym, subst, reverse}
 use Rattle.std.proofs.lemmas.List.{reverse-append}
 use Rattle.devices.specs.Desks.{SeenDesk}
 use Rattle.change_journal.specs.History.{History, Neighbour, AreStates, IsHistory}

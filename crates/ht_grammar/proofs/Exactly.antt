@@ -1,12 +1,10 @@
 -- Reading whole texts: it answers just the trees of the grammar, and the tokens have one at most.
 use Rattle.std.proofs.Common.{◌≡◌, ℕ, suc, ◌≤◌, length, arith, map, List, [], ◌∷◌, Bool, true, false, Option, Some}
-use Rattle.std.proofs.Common.{None, nat_le, cond, refl, sym, ap, ◌∙◌, subst}
-use Rattle.std.proofs.lemmas.Bool.{le-leb, leb-true}
-use Rattle.ht_lex.specs.Token.{Token}
+use Rattle.std.proofs.Common.{None, nat_le, cond, refl, sym, ap, ◌∙◌, subst, le-leb, leb-true}
+use Rattle.ht_lex.specs.Token.{Token, key, first_kind, token_in}
 use Rattle.ht_lex.specs.declared.key.Key.TheVariants as k
 use Rattle.ht_values.specs.declared.word.PartKind.{PartKind}
 use Rattle.ht_values.specs.declared.word.PartKind.TheVariants as part_kind
-use Rattle.ht_lex.specs.Token.{key, first_kind, token_in}
 use Rattle.ht_lex.proofs.Cutting.{cut_once}
 use Rattle.ht_lex.specs.Token as token
 use Rattle.ht_grammar.specs.Trees.{Part, Owner, no_owner, on_card, on_background, owner_of, kind_of_part, none}
@@ -23,11 +21,10 @@ use Rattle.ht_grammar.specs.Whole.{handlers_at, script, unowned_by, unowned, cli
 use Rattle.ht_grammar.specs.Whole.{typed_text, message_by, sent_by, sent_message}
 use Rattle.ht_grammar.specs.Laws.{ReadsExactly, OneTree, OneTreePerText}
 use Rattle.ht_grammar.proofs.Steps.{became, making}
-use Rattle.ht_grammar.proofs.Sound.{read_sound, part_sound}
+use Rattle.ht_grammar.proofs.Sound.{read_sound, part_sound, joined}
 use Rattle.ht_grammar.proofs.SoundSimple.{whole_list}
 use Rattle.ht_grammar.proofs.SoundLines.{blocks_sound}
 use Rattle.ht_grammar.proofs.Follow.{loose_end}
-use Rattle.ht_grammar.proofs.Sound.{joined}
 use Rattle.ht_grammar.proofs.ShorterLines.{shorter_ends}
 use Rattle.ht_grammar.proofs.Complete.{read_complete, taken_if, make, list_begins, claim_list, claim_part}
 use Rattle.ht_grammar.proofs.CompleteLines.{lines_complete}

@@ -12,9 +12,8 @@ use Rattle.ht_grammar.specs.declared.vocabulary.Layer.{Layer}
 use Rattle.ht_grammar.specs.Trees.{Expr, Exprs, Chunk, Which, Selector, Owner, Part, Ref, Count}
 use Rattle.ht_grammar.specs.Fronts.{infix_at, test_at, leading_operator, operator_after_is}
 use Rattle.ht_grammar.specs.Fronts.{operator_after_is_not, operator_rest, asked_type, test_or, after_of, past_the}
-use Rattle.ht_grammar.specs.Expressions.{Derives, DerivesList, DerivesLayer, DerivesArticle, DerivesChunk}
-use Rattle.ht_grammar.specs.Expressions.{DerivesCount, DerivesRef, DerivesSelector, DerivesWhich, DerivesPart}
-use Rattle.ht_grammar.specs.Expressions.{DerivesOwner, Level}
+use Rattle.ht_grammar.specs.Expressions.{Derives, DerivesList, DerivesLayer, DerivesArticle, DerivesChunk, DerivesCount}
+use Rattle.ht_grammar.specs.Expressions.{DerivesRef, DerivesSelector, DerivesWhich, DerivesPart, DerivesOwner, Level}
 use Rattle.ht_grammar.specs.Expressions as e
 
 pub shorter_later : (ts : List Token) → length (later ts) ≤ length ts

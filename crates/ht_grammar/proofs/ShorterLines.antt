@@ -1,6 +1,5 @@
 -- Each statement takes a token at least.
-use Rattle.std.proofs.Common.{◌≡◌, ℕ, ◌<◌, ◌≤◌, List, [], ◌∷◌, length, Some, ap, arith}
-use Rattle.std.proofs.Common.{cond, Bool, true, false, codes}
+use Rattle.std.proofs.Common.{◌≡◌, ℕ, ◌<◌, ◌≤◌, List, [], ◌∷◌, length, Some, ap, arith, cond, Bool, true, false, codes}
 use Rattle.ht_lex.specs.declared.key.Key.TheVariants as k
 use Rattle.ht_lex.specs.Token.{Token, key, eol, later}
 use Rattle.ht_lex.specs.Token as token

@@ -13,17 +13,15 @@ use Rattle.ht_grammar.specs.declared.vocabulary.RunProp.{RunProp}
 use Rattle.ht_grammar.specs.declared.vocabulary.FunctionWord.{FunctionWord}
 use Rattle.ht_grammar.specs.declared.vocabulary.Layer.{Layer}
 use Rattle.ht_grammar.specs.declared.vocabulary.Layer.TheVariants as layer
-use Rattle.ht_grammar.specs.Trees.{Expr, Exprs, Chunk, Part, Ref, Count, none, more}
-use Rattle.ht_grammar.specs.Trees.{kind_of_part}
+use Rattle.ht_grammar.specs.Trees.{Expr, Exprs, Chunk, Part, Ref, Count, none, more, kind_of_part}
 use Rattle.ht_grammar.specs.Trees as t
 use Rattle.ht_grammar.specs.Depth.{depth, ref_depth}
 use Rattle.ht_values.specs.declared.operator.Op.{Op}
 use Rattle.ht_values.specs.declared.operator.Op.TheVariants as o
 use Rattle.ht_values.specs.declared.operator.UnOp.TheVariants as un
 use Rattle.ht_values.specs.declared.operator.UnOp.{UnOp}
-use Rattle.ht_grammar.specs.Fronts.{LeadingOperator, infix_at, test_at, neither, leading_operator, equality}
-use Rattle.ht_grammar.specs.Fronts.{is_article, past_the, after_of, same_name, prop_front, short_of, run_prop}
-use Rattle.ht_grammar.specs.Fronts.{function_of}
+use Rattle.ht_grammar.specs.Fronts.{LeadingOperator, infix_at, test_at, neither, leading_operator, equality, is_article}
+use Rattle.ht_grammar.specs.Fronts.{past_the, after_of, same_name, prop_front, short_of, run_prop, function_of}
 use Rattle.ht_grammar.specs.Expressions.{Derives, DerivesList, DerivesArticle, DerivesLayer}
 use Rattle.ht_grammar.specs.Expressions.{DerivesPart, DerivesRef, DerivesCount}
 use Rattle.ht_grammar.specs.Expressions.{DerivesChunk, Level, primary, factor, prefixed, power, rank, whole}

@@ -1,6 +1,5 @@
 -- What is read as statements is of the grammar.
-use Rattle.std.proofs.Common.{◌≡◌, ℕ, zero, suc, List, [], ◌∷◌, length, Some, None, ◌&&◌, sym, ap}
-use Rattle.std.proofs.Common.{◌∙◌, subst, codes}
+use Rattle.std.proofs.Common.{◌≡◌, ℕ, zero, suc, List, [], ◌∷◌, length, Some, None, ◌&&◌, sym, ap, ◌∙◌, subst, codes}
 use Rattle.std.proofs.lemmas.Option.{none-some}
 use Rattle.std.specs.Cmp.{first_so}
 use Rattle.ht_lex.specs.declared.key.Key.TheVariants as k

@@ -1,8 +1,7 @@
 -- What a text begins with is the longest token or gap.
 use Rattle.std.proofs.Common.{◌≡◌, ℕ, zero, suc, ◌+◌, ◌<◌, ◌≤◌, inl, inr, List, [], ◌∷◌, ◌++◌, Bool, true, false}
 use Rattle.std.proofs.Common.{length, take, drop, cond, Option, Some, None, refl, sym, ap, ◌∙◌, subst, arith, codes}
-use Rattle.std.proofs.Common.{rules, length-append, zero-add}
-use Rattle.std.specs.Prelude.{slice_index, nat_eq, ◌==◌}
+use Rattle.std.proofs.Common.{rules, length-append, zero-add, slice_index, nat_eq, ◌==◌, eqb-true, true≢false}
 use Rattle.std.specs.Char.{is_ascii_digit}
 use Rattle.std.specs.List.{AllByRecursion, list_all, prefix_len, starts_with}
 use Rattle.std.proofs.lemmas.Bool.Decides.{nat_tests, Decides-eqb}
@@ -11,7 +10,6 @@ use Rattle.std.proofs.lemmas.Slice.Eq.{starts_is, bytes_eq-Decides}
 use Rattle.std.proofs.lemmas.List.{take-append-drop, length-take-le}
 use Rattle.std.proofs.lemmas.List.Folds.{length-prefix_len}
 use Rattle.std.proofs.Math.Seq.{take-append_seam}
-use Rattle.std.proofs.lemmas.Bool.{eqb-true}
 use Rattle.ht_lex.specs.declared.key.Key.{Key}
 use Rattle.ht_lex.specs.declared.key.TokenKind.{TokenKind}
 use Rattle.ht_lex.specs.declared.key.TokenKind.TheVariants as kind
@@ -24,7 +22,6 @@ use Rattle.ht_lex.specs.Lexemes.{is_in, past, word_lexeme, quoted_lexeme, contin
 use Rattle.ht_lex.specs.Lexemes.{symbol_lexeme, first_lexeme, IsLongest}
 use Rattle.ht_lex.specs.Pieces.{is_blank, is_return, is_quote, Among, Spells, NoLonger, Longest, word, digits, quoted}
 use Rattle.ht_lex.specs.Pieces.{symbol, return, blanks, continued, comment}
-use mathlib.Core.Bool.{true≢false}
 use Rattle.std.specs.Cmp.{first_so, second_so}
 use Rattle.std.specs.Cmp.Derive.{both_true}
 use Rattle.ht_lex.proofs.Runs.{passing_le, run_passes, run_begins, run_within, closed_len, closed_at, closed_take}

@@ -1,15 +1,12 @@
 -- The code's table has the reserved words by their first letters, and a word's key is found under its own first letter.
 use Rattle.std.proofs.Common.{◌≡◌, ℕ, ◌-◌, ◌<◌, ◌≤◌, List, [], ◌∷◌, Bool, true, false, cond, length, map, None, Some}
-use Rattle.std.proofs.Common.{slice_index, Bor, refl, ap, sym, ◌∙◌, arith, rules, tests}
-use Rattle.std.specs.Prelude.{◌==◌}
-use mathlib.Core.Bool.{true≢false}
+use Rattle.std.proofs.Common.{slice_index, Bor, refl, ap, sym, ◌∙◌, arith, rules, tests, ◌==◌, true≢false}
 use Rattle.std.specs.Cmp.{first_so, second_so}
 use Rattle.std.specs.Char.{to_ascii_lowercase, is_ascii_lowercase}
-use Rattle.std.specs.List.{list_all}
+use Rattle.std.specs.List.{list_all, range_with_len}
 use Rattle.std.proofs.Math.ListN.{get_or}
 use Rattle.std.proofs.lemmas.List.{get_or-map}
 use Rattle.std.proofs.lemmas.List.FromFn.{get_or-map-range_with_len}
-use Rattle.std.specs.List.{range_with_len}
 use Rattle.ht_values.specs.Text.{entry, same}
 use Rattle.ht_lex.specs.declared.key.Key.{Key}
 use Rattle.ht_lex.specs.declared.names.TheConstants.{RESERVED}

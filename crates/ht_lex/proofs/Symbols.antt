@@ -1,12 +1,9 @@
 -- The code's table of symbols is the definition's, and each symbol has a byte.
 use Rattle.std.proofs.Common.{◌≡◌, ℕ, ◌≤◌, List, [], ◌∷◌, Bool, true, false, length, map, cond, eqb, refl, ap, ◌∙◌}
-use Rattle.std.proofs.Common.{arith, rules, Option, Some, None, slice_index}
-use Rattle.std.proofs.Common.{drop, length-append}
-use Rattle.std.specs.List.{AllByRecursion}
+use Rattle.std.proofs.Common.{arith, rules, Option, Some, None, slice_index, drop, length-append, nat_eq, eqb-true}
+use Rattle.std.specs.List.{AllByRecursion, starts_with}
 use Rattle.std.proofs.lemmas.Slice.Eq.{starts_is}
 use Rattle.std.proofs.lemmas.Bool.Decides.{Decides-eqb}
-use Rattle.std.specs.Prelude.{nat_eq}
-use Rattle.std.specs.List.{starts_with}
 use Rattle.ht_lex.specs.declared.key.Key.{Key}
 use Rattle.ht_lex.specs.declared.key.TokenKind.TheVariants as kind
 use Rattle.ht_lex.specs.declared.lexeme.Lexeme.TheVariants.{Token}
@@ -14,7 +11,6 @@ use Rattle.ht_lex.specs.declared.lexeme.TheConstants.{SYMBOLS}
 use Rattle.ht_lex.specs.Words.{symbols}
 use Rattle.ht_lex.specs.Lexemes.{symbol_among, symbol_lexeme, lone_symbol, FitsIn}
 use Rattle.ht_lex.specs.declared.key.Key.TheVariants as k
-use Rattle.std.proofs.lemmas.Bool.{eqb-true}
 
 pub rows_of_symbols : map (λ row. (row.0.now, row.1)) SYMBOLS ≡ symbols
 unfolding symbols

@@ -1,6 +1,6 @@
 -- Where a name stands, by the places that are kept.
-use Rattle.std.proofs.Common.{◌≡◌, ℕ, ◌+◌, ◌<◌, ◌≤◌, Bool, true, false, cond, List, [], ◌∷◌, ◌++◌, length}
-use Rattle.std.proofs.Common.{refl, sym, ◌∙◌, ap, arith, take, subst}
+use Rattle.std.proofs.Common.{◌≡◌, ℕ, ◌+◌, ◌<◌, ◌≤◌, Bool, true, false, cond, List, [], ◌∷◌, ◌++◌, length, refl, sym}
+use Rattle.std.proofs.Common.{◌∙◌, ap, arith, take, subst, drop_of_length-le, append-nil}
 use Rattle.std.specs.Prelude.{Option, Some, None, IfSome, position, map}
 use Rattle.std.specs.List.{position_from}
 use Rattle.std.specs.Option.{option_or}
@@ -16,7 +16,6 @@ use Rattle.std.specs.Map.{lookup, AreApart, KeepsOthers}
 use Rattle.std.specs.Ordering.{is_eq, nat_cmp, eq_by_cmp}
 use Rattle.std.specs.declared.cmp.Ordering.{Ordering}
 use Rattle.std.specs.declared.vec.Vec.{Vec}
-use Rattle.std.proofs.Common.{drop_of_length-le, append-nil}
 use Rattle.ht_values.specs.Text.{folded, same}
 use Rattle.ht_values.proofs.Folding.{folded_is_folded, folded_stays}
 use Rattle.ht_values.proofs.Positions.{placed, position-push}

@@ -1,6 +1,5 @@
 -- Along changes and turns the same externals stay, and each log only goes on.
-use Rattle.std.proofs.Common.{◌≡◌, ℕ, zero, suc, List, [], ◌∷◌, length, refl, sym, ap, subst}
-use Rattle.std.proofs.Common.{◌∙◌, length-set}
+use Rattle.std.proofs.Common.{◌≡◌, ℕ, zero, suc, List, [], ◌∷◌, length, refl, sym, ap, subst, ◌∙◌, length-set}
 use Rattle.std.specs.Prelude.{slice_index_or, slice_set}
 use Rattle.externals.specs.Cells.{Seen, none_seen}
 use Rattle.externals.specs.Log.{Log}

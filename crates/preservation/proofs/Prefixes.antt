@@ -1,7 +1,6 @@
 -- A list that stands at the head of another, and what is behind it.
 use Rattle.std.proofs.Common.{◌≡◌, ℕ, zero, suc, ◌≤◌, List, [], ◌∷◌, ◌++◌, length, refl, sym, ap, subst, ◌∙◌}
-use Rattle.std.proofs.Common.{append_assoc, append-nil, arith}
-use Rattle.std.specs.Prelude.{All, drop, slice_index_or}
+use Rattle.std.proofs.Common.{append_assoc, append-nil, arith, All, drop, slice_index_or}
 use Rattle.std.proofs.lemmas.List.{get_or_append_left, length-append}
 use Rattle.preservation.specs.Laws.{IsPrefix}
 

@@ -1,7 +1,6 @@
 -- A value that takes the place of a text, as an edit makes it, and where a text stands.
-use Rattle.std.proofs.Common.{◌≡◌, ◌≤◌, ℕ, List, [], length, Bool, true, false, Some, None, Result, Ok, Err}
-use Rattle.std.proofs.Common.{IfOk, refl, sym, ap, subst, ◌∙◌, arith}
-use Rattle.std.specs.Prelude.{IsOk, nat_le, if◌then◌else◌}
+use Rattle.std.proofs.Common.{◌≡◌, ◌≤◌, ℕ, List, [], length, Bool, true, false, Some, None, Result, Ok, Err, IfOk, refl}
+use Rattle.std.proofs.Common.{sym, ap, subst, ◌∙◌, arith, IsOk, nat_le, if◌then◌else◌}
 use Rattle.std.specs.Option.{ok_or}
 use Rattle.std.proofs.lemmas.Bool.Decides.{nat_tests}
 use Rattle.ht_values.specs.declared.fault.Fault.{Fault}

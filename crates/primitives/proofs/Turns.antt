@@ -1,6 +1,5 @@
 -- Externals by their numbers.
-use Rattle.std.proofs.Common.{◌≡◌, ◌<◌, ℕ, length, subst, sym}
-use Rattle.std.specs.Prelude.{Option, Some, None, IfSome}
+use Rattle.std.proofs.Common.{◌≡◌, ◌<◌, ℕ, length, subst, sym, Option, Some, None, IfSome}
 use Rattle.std.proofs.lemmas.List.{length-map}
 use Rattle.change_journal.specs.History.{History}
 use Rattle.containers.specs.Base.{base}

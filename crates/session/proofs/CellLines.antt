@@ -1,6 +1,5 @@
 -- Cells that are shown, one after the other.
-use Rattle.std.proofs.Common.{◌≡◌, ℕ, zero, suc, List, [], ◌∷◌, ◌++◌, map, take, ap}
-use Rattle.std.specs.Prelude.{Some, None, slice_get, unwrap_or}
+use Rattle.std.proofs.Common.{◌≡◌, ℕ, zero, suc, List, [], ◌∷◌, ◌++◌, map, take, ap, Some, None, slice_get, unwrap_or}
 use Rattle.stack_text.specs.Words.{spelled}
 
 pub one_more : (cells : List (List ℕ)) (i : ℕ) (cell : List ℕ) → slice_get cells i ≡ Some cell

@@ -1,10 +1,8 @@
 -- Lines that are cut off a text.
 use Rattle.std.proofs.Common.{◌≡◌, ℕ, zero, suc, ◌+◌, ◌-◌, ◌<◌, ◌≤◌, true, false, List, [], ◌∷◌, ◌++◌, length, take}
 use Rattle.std.proofs.Common.{drop, get_or, refl, sym, ◌∙◌, ap, subst, inl, inr, ◌⊎◌, arith, add-one, drop-cons}
-use Rattle.std.proofs.Common.{append_assoc, length-drop}
-use Rattle.std.specs.Prelude.{Some, None, ◌==◌}
+use Rattle.std.proofs.Common.{append_assoc, length-drop, Some, None, ◌==◌, take-append-drop, take_all, append-nil}
 use Rattle.std.specs.List.{AllByRecursion, position, position_or_len}
-use Rattle.std.proofs.lemmas.List.{take-append-drop, take_all, append-nil}
 use Rattle.std.proofs.lemmas.List.Quantifiers.{position-Some}
 use Rattle.std.proofs.lemmas.List.Sums.{fails_before_first}
 use Rattle.std.proofs.lemmas.Grind.{flat_map-append}

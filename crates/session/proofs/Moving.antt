@@ -1,10 +1,9 @@
 -- Flips, one after the other.
 use Rattle.std.proofs.Common.{◌≡◌, ℕ, suc, ◌+◌, ◌-◌, ◌<◌, ◌≤◌, Bool, true, false, List, [], ◌∷◌, length, refl, arith}
-use Rattle.std.specs.Prelude.{Some, None, nat_le, slice_index_or}
+use Rattle.std.proofs.Common.{Some, None, nat_le, slice_index_or, lt-ltb, le-ltb, le-leb}
 use Rattle.std.specs.List.{position, position_or_len}
 use Rattle.std.proofs.lemmas.List.{length-map}
 use Rattle.std.proofs.lemmas.List.Sums.{position_or_len_is}
-use Rattle.std.proofs.lemmas.Bool.{lt-ltb, le-ltb, le-leb}
 use Rattle.change_journal.specs.History.{History, Neighbour, stamp_at, flipped_back, flipped_back_from, flipped_forth}
 use Rattle.change_journal.specs.History.{flipped_forth_from}
 use Rattle.session.specs.Moves.{back_by, forth_by, stamps, places_to}

@@ -1,6 +1,5 @@
 -- What a dot line does that a user's text follows.
-use Rattle.std.proofs.Common.{◌≡◌, ℕ, List, sym, subst}
-use Rattle.std.specs.Prelude.{Option, Some, Result}
+use Rattle.std.proofs.Common.{◌≡◌, ℕ, List, sym, subst, Option, Some, Result}
 use Rattle.change_journal.specs.History.{History}
 use Rattle.session.specs.Commands.{behind_name}
 use Rattle.session.specs.Replies.{typed_reply}

@@ -1,7 +1,6 @@
 -- Where a byte comes first.
 use Rattle.std.proofs.Common.{◌≡◌, ℕ, ◌<◌, ◌≤◌, Bool, true, false, List, length, get_or, sym, ap, ◌∙◌, arith, refl}
-use Rattle.std.proofs.Common.{Option, Some, None, IfSome, ltb, cond}
-use Rattle.std.specs.Prelude.{position, not, All, ◌==◌}
+use Rattle.std.proofs.Common.{Option, Some, None, IfSome, ltb, cond, position, not, All, ◌==◌}
 use Rattle.std.specs.List.{position_or_len}
 use Rattle.std.proofs.lemmas.Bool.Decides.{nat_tests}
 use Rattle.std.proofs.lemmas.List.Sums.{prefix_len_is, prefix_len_passes}

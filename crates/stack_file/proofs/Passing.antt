@@ -1,7 +1,6 @@
 -- Lines that go to a writer through a buffer.
 use Rattle.std.proofs.Common.{◌≡◌, ℕ, List, [], ◌∷◌, ◌++◌, map, length, take, get_or, ◌<◌, ◌≤◌, ◌+◌, sym, ap, ◌∙◌}
-use Rattle.std.proofs.Common.{subst, append_assoc, Option, Some, None}
-use Rattle.std.specs.Prelude.{flat_map, OnOk, Result, Ok, Err}
+use Rattle.std.proofs.Common.{subst, append_assoc, Option, Some, None, flat_map, OnOk, Result, Ok, Err}
 use Rattle.std.specs.Io.KnownBytes.{Appends, append_known}
 use Rattle.std.proofs.KnownBytes.{Appends-nil, Appends-trans}
 use Rattle.std.proofs.lemmas.Grind.{flat_map-append}

@@ -1,10 +1,9 @@
 -- Pieces that are read one after the other into one text.
 use Rattle.std.proofs.Common.{◌≡◌, ℕ, suc, ◌+◌, ◌-◌, ◌<◌, ◌≤◌, List, [], ◌∷◌, ◌++◌, length, Result, Ok, Err, refl, sym}
 use Rattle.std.proofs.Common.{ap, ◌∙◌, arith, append_assoc, add-one, is_some, IsSome, true, false, true≢false, leb}
-use Rattle.std.specs.Prelude.{Bool, Option, Some, None, codes, ◌==◌}
+use Rattle.std.proofs.Common.{Bool, Option, Some, None, codes, ◌==◌, append-nil, length-append}
 use Rattle.std.specs.Option.{option_to_list}
 use Rattle.std.specs.List.{join_with_byte}
-use Rattle.std.proofs.lemmas.List.{append-nil, length-append}
 use Rattle.ht_values.specs.Delimited.{ended}
 use Rattle.ht_values.specs.Outcome.{within_limit}
 use Rattle.ht_values.specs.declared.fault.Fault.{Fault}

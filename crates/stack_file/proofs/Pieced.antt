@@ -1,7 +1,6 @@
 -- The pieces of a text, as they are written one after the other.
 use Rattle.std.proofs.Common.{◌≡◌, ℕ, ◌+◌, ◌-◌, ◌<◌, false, List, [], ◌∷◌, length, map, take, drop, refl, sym, ap}
-use Rattle.std.proofs.Common.{subst, arith, count_by, Option, Some, None, length-drop}
-use Rattle.std.specs.Prelude.{position, option_map, ◌==◌}
+use Rattle.std.proofs.Common.{subst, arith, count_by, Option, Some, None, length-drop, position, option_map, ◌==◌}
 use Rattle.std.specs.List.{slice_split}
 use Rattle.std.proofs.lemmas.Bool.{false≢true}
 use Rattle.std.proofs.lemmas.List.Splits.{length-slice_split, slice_split_first, slice_split_none}

@@ -1,8 +1,7 @@
 -- Where an id stands first.
 use Rattle.std.proofs.Common.{◌≡◌, ℕ, ◌+◌, ◌<◌, Bool, true, false, cond, List, [], ◌∷◌, ◌++◌, length, refl, sym, ◌∙◌}
-use Rattle.std.proofs.Common.{ap, arith, ltb, inl, inr}
-use Rattle.std.specs.Prelude.{Option, Some, None, position, is_some, not, ◌==◌, ◌||◌}
-use Rattle.std.specs.Prelude.{find, slice_get, option_and_then, map}
+use Rattle.std.proofs.Common.{ap, arith, ltb, inl, inr, Option, Some, None, position, is_some, not, ◌==◌, ◌||◌, find}
+use Rattle.std.proofs.Common.{slice_get, option_and_then, map}
 use Rattle.std.specs.List.{position_from, position_or_len, list_any}
 use Rattle.std.proofs.lemmas.List.{length-map}
 use Rattle.std.proofs.lemmas.List.Quantifiers.{position-Some}

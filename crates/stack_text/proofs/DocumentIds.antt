@@ -1,11 +1,10 @@
 -- The ids of a document, and the keys of its entries.
-use Rattle.std.proofs.Common.{◌≡◌, ℕ, ◌++◌, ◌+◌, ◌<◌, false, List, [], ◌∷◌, map, refl, ap, ap₂, ◌∙◌, arith, nat_eq}
-use Rattle.std.proofs.Common.{◌≤◌, Bool, true, cond, Some, sym, subst, ◌==◌}
+use Rattle.std.proofs.Common.{◌≡◌, ℕ, ◌++◌, ◌+◌, ◌<◌, false, List, [], ◌∷◌, map, refl, ap, ap₂, ◌∙◌, arith, nat_eq, ◌≤◌}
+use Rattle.std.proofs.Common.{Bool, true, cond, Some, sym, subst, ◌==◌, find, option_map, unwrap_or}
 use Rattle.std.specs.List.{AllByRecursion, IsDistinct, flat_map}
 use Rattle.std.proofs.lemmas.List.{map-append, append-nil}
 use Rattle.std.proofs.lemmas.Bool.Decides.{nat_tests}
 use Rattle.std.proofs.lemmas.Simd.{map-map}
-use Rattle.std.specs.Prelude.{find, option_map, unwrap_or}
 use Rattle.stack_text.specs.declared.sheets.Part.{Part}
 use Rattle.stack_text.specs.Document.{Sheet, Document, part_ids, sheet_ids, ids_on, ids_in, parts_of, background_or}
 use Rattle.stack_text.specs.Listing.{part_entry, object_entries, parts_entry, all_objects, all_parts, contents_on}

@@ -1,7 +1,6 @@
 -- What holds of each element, over the ways in which lists are made.
 use Rattle.std.proofs.Common.{◌≡◌, ℕ, Bool, true, false, true≢false, cond, Some, List, [], ◌∷◌, ◌++◌, map, sym, subst}
-use Rattle.std.proofs.Common.{arith, inl, inr, IsTrue, unwrap_or, option_map, ◌==◌}
-use Rattle.std.specs.Prelude.{find}
+use Rattle.std.proofs.Common.{arith, inl, inr, IsTrue, unwrap_or, option_map, ◌==◌, find}
 use Rattle.std.specs.List.{AllByRecursion, flat_map}
 use Rattle.std.proofs.lemmas.Bool.{or_cases}
 use Rattle.std.proofs.lemmas.Bool.Decides.{nat_tests}

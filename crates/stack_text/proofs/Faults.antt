@@ -1,9 +1,8 @@
 -- The first fault of a file is that of its line, and each proper prefix of a text is truncated.
 use Rattle.std.proofs.Common.{◌≡◌, ℕ, zero, suc, ◌+◌, ◌-◌, ◌<◌, Bool, true, false, cond, eqb, List, [], ◌∷◌, ◌++◌}
 use Rattle.std.proofs.Common.{length, take, drop, Result, Ok, Err, refl, sym, ap, subst, ◌∙◌, arith, append_assoc}
-use Rattle.std.proofs.Common.{zero-add}
+use Rattle.std.proofs.Common.{zero-add, take-append-drop, length-drop}
 use Rattle.std.proofs.lemmas.Bool.Decides.{nat_tests}
-use Rattle.std.proofs.lemmas.List.{take-append-drop, length-drop}
 use Rattle.object_table.specs.Content.{Content}
 use Rattle.stack_text.specs.Document.{Sheet, Document}
 use Rattle.stack_text.specs.Reading.{Position, Reader, chain, ◌>>=◌, give, nothing_left, end_at, body_at, all_lines}

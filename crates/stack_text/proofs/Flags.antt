@@ -1,11 +1,9 @@
 -- Flags, least numbers, and words in pairs.
 use Rattle.std.proofs.Common.{◌≡◌, ℕ, ◌+◌, ◌^◌, ◌<◌, ◌≤◌, Bool, true, false, cond, ltb, leb, List, [], ◌∷◌, ◌++◌}
 use Rattle.std.proofs.Common.{length, take, drop, Option, Some, None, refl, sym, ap, subst, ◌∙◌, append_assoc, arith}
-use Rattle.std.proofs.Common.{nat_eq, inl, inr, ◌⊎◌}
+use Rattle.std.proofs.Common.{nat_eq, inl, inr, ◌⊎◌, ltb-false, le-ltb, take_at, drop_at, length-append}
 use Rattle.std.specs.Prelude.{◌==◌, option_map, option_and_then, codes, decimal, position}
 use Rattle.std.specs.Cmp.Lexicographic.{pointwise, same_text}
-use Rattle.std.proofs.lemmas.Bool.{ltb-false, le-ltb}
-use Rattle.std.proofs.lemmas.List.{take_at, drop_at, length-append}
 use Rattle.std.proofs.lemmas.Option.{option_and_then_some, cond_some}
 use Rattle.stack_text.specs.Words.{spelled_flag, number_at}
 use Rattle.ht_values.specs.declared.word.PartKind.{PartKind}

@@ -2,8 +2,7 @@
 -- truncated.
 use Rattle.std.proofs.Common.{◌≡◌, ℕ, zero, suc, ◌+◌, ◌-◌, ◌<◌, ◌≤◌, ◌⊎◌, inl, inr, Bool, true, false, eqb, List, []}
 use Rattle.std.proofs.Common.{◌∷◌, ◌++◌, Result, Ok, Err, Option, Some, None, refl, sym, ap, subst, ◌∙◌, arith}
-use Rattle.std.proofs.Common.{append_assoc, add_assoc, add-zero, zero-add, one-add}
-use Rattle.std.specs.Prelude.{position, ◌==◌}
+use Rattle.std.proofs.Common.{append_assoc, add_assoc, add-zero, zero-add, one-add, position, ◌==◌}
 use Rattle.std.proofs.lemmas.Bool.{cases_lt, or_parts}
 use Rattle.stack_text.specs.Reading.{Position, Reader, chain, ◌>>=◌, give, times, for_each, or_bad_line, bad_line_if}
 use Rattle.stack_text.specs.Reading.{too_many_if, bad_id_if, cut_at, next_line}

@@ -1,8 +1,7 @@
 -- A line that begins with a key and goes on with a word.
 use Rattle.std.proofs.Common.{◌≡◌, ℕ, ◌+◌, ◌<◌, Bool, true, false, cond, eqb, List, [], ◌∷◌, ◌++◌, length, take, drop}
 use Rattle.std.proofs.Common.{get_or, Result, Ok, Option, Some, None, refl, sym, ap, subst, ◌∙◌, arith, append_assoc}
-use Rattle.std.proofs.Common.{add-one, one-add, nat_eq}
-use Rattle.std.specs.Prelude.{◌==◌, position, option_and_then, not}
+use Rattle.std.proofs.Common.{add-one, one-add, nat_eq, ◌==◌, position, option_and_then, not}
 use Rattle.std.specs.List.{list_any, position_or_len}
 use Rattle.std.specs.Cmp.Lexicographic.{pointwise, same_text}
 use Rattle.std.proofs.lemmas.Option.{option_and_then_some, cond_some}

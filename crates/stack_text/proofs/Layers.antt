@@ -1,10 +1,8 @@
 -- Backgrounds and cards, read and spelled.
 use Rattle.std.proofs.Common.{◌≡◌, ℕ, ◌<◌, ◌≤◌, ◌^◌, Bool, true, false, true≢false, List, [], ◌∷◌, ◌++◌, length, refl}
-use Rattle.std.proofs.Common.{sym, ap, ap₂, subst}
-use Rattle.std.specs.Prelude.{◌==◌, codes, not, IsTrue}
+use Rattle.std.proofs.Common.{sym, ap, ap₂, subst, ◌==◌, codes, not, IsTrue, append-nil}
 use Rattle.std.specs.List.{AllByRecursion}
 use Rattle.std.proofs.lemmas.Bool.{eqb-true, not-false, eq-eqb, not_from_true, or_left, or_right}
-use Rattle.std.proofs.lemmas.List.{append-nil}
 use Rattle.ht_values.specs.Text.{IsText}
 use Rattle.object_table.specs.Objects.{is_background, is_card, is_background_part, is_card_part}
 use Rattle.object_table.specs.declared.object.Kind.{Kind}

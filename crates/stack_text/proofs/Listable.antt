@@ -1,6 +1,5 @@
 -- When a document lists a stack, and what each version can say of it.
-use Rattle.std.proofs.Common.{◌≡◌, false, ℕ, ◌<◌, ◌≤◌, List, [], length, nat_eq}
-use Rattle.std.specs.Prelude.{IsTrue, IfSome}
+use Rattle.std.proofs.Common.{◌≡◌, false, ℕ, ◌<◌, ◌≤◌, List, [], length, nat_eq, IsTrue, IfSome}
 use Rattle.std.specs.List.{AllByRecursion, IsDistinct, flat_map}
 use Rattle.ht_values.specs.Text.{IsText}
 use Rattle.object_table.specs.Objects.{is_background_part, is_card_part, is_background, is_card}

@@ -1,12 +1,11 @@
 -- The stack that a document lists is listed by this document.
 use Rattle.std.proofs.Common.{◌≡◌, ℕ, Bool, true, false, cond, true≢false, List, [], ◌∷◌, map, Option, Some, refl, sym}
-use Rattle.std.proofs.Common.{ap, ap₂, subst, ◌∙◌, nat_eq, ◌||◌, eqb}
+use Rattle.std.proofs.Common.{ap, ap₂, subst, ◌∙◌, nat_eq, ◌||◌, eqb, eqb-true}
 use Rattle.std.specs.Prelude.{IsTrue, option_and_then, option_map, unwrap_or, ◌==◌}
 use Rattle.std.specs.Ordering.{nat_cmp}
 use Rattle.std.specs.Cmp.{nat_cmp_total}
 use Rattle.std.specs.FinMap.{get, find, from_entries, get-from_entries}
 use Rattle.std.specs.List.{AllByRecursion, IsDistinct, flat_map}
-use Rattle.std.proofs.lemmas.Bool.{eqb-true}
 use Rattle.object_table.specs.Content.{Content}
 use Rattle.object_table.specs.Objects.{parts_at}
 use Rattle.object_table.specs.declared.object.Object.{Object}

@@ -1,6 +1,5 @@
 -- Each form of lines is read from its own lines alone.
-use Rattle.std.proofs.Common.{ℕ, zero, suc, Bool, List, [], ◌∷◌, ◌++◌, length, Option}
-use Rattle.std.specs.Prelude.{not, nat_le, ◌||◌, ◌==◌}
+use Rattle.std.proofs.Common.{ℕ, zero, suc, Bool, List, [], ◌∷◌, ◌++◌, length, Option, not, nat_le, ◌||◌, ◌==◌}
 use Rattle.ht_values.specs.declared.word.PartKind.{PartKind}
 use Rattle.ht_values.specs.declared.word.PartKind.TheVariants.{Button, Field}
 use Rattle.object_table.specs.declared.object.Kind.{Kind}
@@ -11,10 +10,9 @@ use Rattle.stack_text.specs.Spelling.{Version, first, second}
 use Rattle.stack_text.specs.Reading.{Reader, ◌>>=◌, too_many_if, bad_id_if, take_id, line_after, exactly, name_at}
 use Rattle.stack_text.specs.Reading.{number_after, flag_after, count_after, new_id, pieces_at, text_of_pieces}
 use Rattle.stack_text.specs.Reading.{block_after, script_at, in_second_or, background_button_at, background_field_at}
-use Rattle.stack_text.specs.Reading.{background_part_at, card_button_at, card_field_at, card_part_at, part_at}
-use Rattle.stack_text.specs.Reading.{parts_at, layer_at, background_header_at, background_at, own_text_at}
-use Rattle.stack_text.specs.Reading.{own_hilite_at, keeping_by, card_header_at, card_at, stack_at, backgrounds_at}
-use Rattle.stack_text.specs.Reading.{cards_at}
+use Rattle.stack_text.specs.Reading.{background_part_at, card_button_at, card_field_at, card_part_at, part_at, parts_at}
+use Rattle.stack_text.specs.Reading.{layer_at, background_header_at, background_at, own_text_at, own_hilite_at}
+use Rattle.stack_text.specs.Reading.{keeping_by, card_header_at, card_at, stack_at, backgrounds_at, cards_at}
 use Rattle.stack_text.proofs.Fronts.{IsLocal, then, stays, give-local, or_bad_line-local, bad_line_if-local}
 use Rattle.stack_text.proofs.Fronts.{bad_id_if-local, too_many_if-local, by_used-local, next_line-local, times-local}
 use Rattle.stack_text.proofs.Fronts.{for_each-local}

@@ -1,8 +1,7 @@
 -- Numbers and their one spelling.
-use Rattle.std.proofs.Common.{◌≡◌, Option, None, ◌≢◌, ℕ, zero, suc, ◌+◌, ◌-◌, ◌*◌, ◌^◌, ◌<◌, ◌≤◌, true, false, eqb}
-use Rattle.std.proofs.Common.{ltb, leb, List, [], ◌∷◌, length, get_or, Some, refl, sym, ap, ◌∙◌, arith, rules, lit<}
-use Rattle.std.proofs.Common.{lit≤, inl, inr, ◌||◌, ◌&&◌}
-use Rattle.std.specs.Prelude.{◌==◌, not, decimal, IfSome, IfNone}
+use Rattle.std.proofs.Common.{◌≡◌, Option, None, ◌≢◌, ℕ, zero, suc, ◌+◌, ◌-◌, ◌*◌, ◌^◌, ◌<◌, ◌≤◌, true, false, eqb, ltb}
+use Rattle.std.proofs.Common.{leb, List, [], ◌∷◌, length, get_or, Some, refl, sym, ap, ◌∙◌, arith, rules, lit<, lit≤}
+use Rattle.std.proofs.Common.{inl, inr, ◌||◌, ◌&&◌, ◌==◌, not, decimal, IfSome, IfNone}
 use Rattle.std.specs.Int.{IsInRange}
 use Rattle.std.specs.Str.{all_ascii_digits}
 use Rattle.std.proofs.lemmas.Bool.Decides.{nat_tests, eqb_tells}

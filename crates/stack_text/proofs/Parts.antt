@@ -1,7 +1,6 @@
 -- Parts and what cards keep for them, read and spelled.
 use Rattle.std.proofs.Common.{◌≡◌, ℕ, ◌<◌, ◌^◌, Bool, true, false, List, [], ◌∷◌, length, refl, sym, ap, subst, ◌∙◌}
-use Rattle.std.proofs.Common.{arith, ap₂, true≢false, lit<, ◌≤◌}
-use Rattle.std.specs.Prelude.{codes, IsTrue}
+use Rattle.std.proofs.Common.{arith, ap₂, true≢false, lit<, ◌≤◌, codes, IsTrue}
 use Rattle.std.proofs.lemmas.List.Concat.{flat_map_single}
 use Rattle.ht_values.specs.Text.{IsText}
 use Rattle.object_table.specs.Objects.{is_background_part, is_card_part, is_part}

@@ -1,8 +1,6 @@
 -- Lines of a key and a value, and the headers of new objects, read and spelled.
 use Rattle.std.proofs.Common.{◌≡◌, ℕ, ◌^◌, ◌<◌, ◌≤◌, Bool, true, false, eqb, ltb, leb, List, [], ◌∷◌, ◌++◌, length, Ok}
-use Rattle.std.proofs.Common.{refl, sym, ap, arith, ◌||◌}
-use Rattle.std.specs.Prelude.{codes, decimal, not}
-use Rattle.std.proofs.lemmas.Bool.{ltb-false, le-ltb}
+use Rattle.std.proofs.Common.{refl, sym, ap, arith, ◌||◌, codes, decimal, not, ltb-false, le-ltb}
 use Rattle.std.proofs.lemmas.Bool.Decides.{nat_tests}
 use Rattle.ht_values.specs.Text.{IsText}
 use Rattle.stack_text.specs.Words.{number_at, spelled_flag}

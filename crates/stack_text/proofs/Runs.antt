@@ -1,12 +1,10 @@
 -- Bytes that stand for themselves, side by side.
 use Rattle.std.proofs.Common.{◌≡◌, ℕ, suc, ◌-◌, ◌<◌, ◌≤◌, Bool, true, false, List, [], ◌∷◌, ◌++◌, length, take, drop}
-use Rattle.std.proofs.Common.{ltb, Option, Some, None, refl, sym, ap, subst, ◌∙◌, arith, append_assoc, one-add}
-use Rattle.std.specs.Prelude.{not, ◌&&◌, option_map, if◌then◌else◌}
+use Rattle.std.proofs.Common.{ltb, Option, Some, None, refl, sym, ap, subst, ◌∙◌, arith, append_assoc, one-add, not}
+use Rattle.std.proofs.Common.{◌&&◌, option_map, if◌then◌else◌, position, unwrap_or, append-nil}
 use Rattle.std.specs.List.{list_all, position_or_len}
-use Rattle.std.specs.Prelude.{position, unwrap_or}
 use Rattle.std.proofs.lemmas.List.Sums.{prefix_len-le-length}
 use Rattle.std.proofs.lemmas.Bool.Decides.{nat_tests}
-use Rattle.std.proofs.lemmas.List.{append-nil}
 use Rattle.stack_text.specs.Words.{is_plain, spelled, char_at, unspelled_within, unspelled}
 use Rattle.stack_text.proofs.Texts.{spelled-plain, plain_char, unspelled-step, unspelled-nil, unspelled-bad}
 use Rattle.stack_text.proofs.Texts.{text-found, text-again, onto-text}

@@ -1,7 +1,6 @@
 -- The ids of a document's entries, by the kinds of their objects.
 use Rattle.std.proofs.Common.{◌≡◌, ◌++◌, inl, inr, ℕ, Bool, true, false, true≢false, cond, List, [], ◌∷◌, map}
-use Rattle.std.proofs.Common.{unwrap_or, option_map, refl, sym, ap, ap₂, ◌∙◌, arith, nat_eq, ◌==◌}
-use Rattle.std.specs.Prelude.{IsTrue}
+use Rattle.std.proofs.Common.{unwrap_or, option_map, refl, sym, ap, ap₂, ◌∙◌, arith, nat_eq, ◌==◌, IsTrue}
 use Rattle.std.specs.Ordering.{nat_cmp}
 use Rattle.std.specs.FinMap.{find}
 use Rattle.std.specs.List.{AllByRecursion, IsDistinct, flat_map, filter}

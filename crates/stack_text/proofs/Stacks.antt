@@ -1,7 +1,7 @@
 -- What a well-formed stack lists is a document, of the same objects and lists of parts.
 use Rattle.std.proofs.Common.{◌≡◌, ◌++◌, inl, inr, ℕ, ◌+◌, ◌≤◌, Bool, false, true≢false, List, [], ◌∷◌, map, Option}
 use Rattle.std.proofs.Common.{Some, None, IsSome, IsTrue, unwrap_or, option_map, refl, sym, ap, ap₂, subst, ◌∙◌, arith}
-use Rattle.std.proofs.Common.{◌==◌, ◌<◌, true, cond, length, IfSome, option_and_then, nat_eq, eqb, ◌||◌}
+use Rattle.std.proofs.Common.{◌==◌, ◌<◌, true, cond, length, IfSome, option_and_then, nat_eq, eqb, ◌||◌, find}
 use Rattle.std.specs.Cmp.{nat_cmp_total}
 use Rattle.std.specs.FinMap.{get, same_map, get-from_entries, nat_cmp-IsAntisymmetric, len, remove}
 use Rattle.std.specs.List.{AllByRecursion, flat_map, IsDistinct}
@@ -9,7 +9,6 @@ use Rattle.std.proofs.lemmas.Bool.{or_left, or_right, or_cases, cases_eq, eqb-tr
 use Rattle.std.proofs.lemmas.Bool.Decides.{nat_tests}
 use Rattle.std.proofs.lemmas.Simd.{map-map}
 use Rattle.std.proofs.lemmas.List.{map-id, length-map}
-use Rattle.std.specs.Prelude.{find}
 use Rattle.ht_values.specs.Text.{IsText}
 use Rattle.object_table.specs.Content.{Content}
 use Rattle.object_table.specs.Objects.{is_stack, is_background, is_card, is_card_part, is_background_part, is_layer}
@@ -25,8 +24,7 @@ use Rattle.object_table.specs.PartContents.{text_at}
 use Rattle.stack_text.specs.Document.{Document, contains_id, part_ids, sheet_ids, ids_in, Sheet, parts_of}
 use Rattle.stack_text.specs.Document.{background_or, backgrounds_of}
 use Rattle.stack_text.specs.Listing.{part_of, background_sheet, card_sheet, document_of, part_entry, object_entries}
-use Rattle.stack_text.specs.Listing.{parts_entry, all_objects, all_parts, content_of, object_or, content_by}
-use Rattle.stack_text.specs.Listing.{keeping_of}
+use Rattle.stack_text.specs.Listing.{parts_entry, all_objects, all_parts, content_of, object_or, content_by, keeping_of}
 use Rattle.stack_text.specs.declared.sheets.Part.{Part}
 use Rattle.stack_text.proofs.Elements.{each_append, each_so, each_both, each_map, each_join, each_at}
 use Rattle.stack_text.proofs.Entries.{keys, agrees, len_without_first, times, times-append, times_some, some_times}

@@ -1,7 +1,6 @@
 -- The whole of a stack text, read and spelled.
 use Rattle.std.proofs.Common.{◌≡◌, ℕ, ◌≤◌, Bool, true, false, eqb, List, [], ◌∷◌, ◌++◌, length, Result, Ok, Err, Some}
-use Rattle.std.proofs.Common.{refl, sym, ap, subst, ◌∙◌, append_assoc, lit<, inl, inr}
-use Rattle.std.specs.Prelude.{codes, not, flat_map}
+use Rattle.std.proofs.Common.{refl, sym, ap, subst, ◌∙◌, append_assoc, lit<, inl, inr, codes, not, flat_map}
 use Rattle.std.specs.List.{AllByRecursion, list_all}
 use Rattle.std.proofs.lemmas.Bool.{eqb-true, not-false}
 use Rattle.std.proofs.lemmas.List.{nil_from_length}
@@ -15,9 +14,8 @@ use Rattle.ht_values.specs.Delimited.{ended_lines}
 use Rattle.stack_text.specs.Spelling.{Version, first, second, header, name_line, script_lines, background_lines}
 use Rattle.stack_text.specs.Spelling.{card_lines, sheets_lines, document_lines, document_text}
 use Rattle.stack_text.specs.Reading.{Position, Reader, chain, ◌>>=◌, give, times, bad_id_if, line_after, exactly}
-use Rattle.stack_text.specs.Reading.{name_at, count_after, version_at, stack_at, background_at, backgrounds_at}
-use Rattle.stack_text.specs.Reading.{card_at, cards_at, end_at, nothing_left, body_at, all_lines, document_at}
-use Rattle.stack_text.specs.Reading.{value_of}
+use Rattle.stack_text.specs.Reading.{name_at, count_after, version_at, stack_at, background_at, backgrounds_at, card_at}
+use Rattle.stack_text.specs.Reading.{cards_at, end_at, nothing_left, body_at, all_lines, document_at, value_of}
 use Rattle.stack_text.specs.declared.fault.FileError.{FileError}
 use Rattle.stack_text.proofs.Forms.{onto, onto-append, count_on, adding, position_at, Reads, Each, chain_ok, both}
 use Rattle.stack_text.proofs.Forms.{gives, said, resaid, bad_id_if-reads, times-reads, giving}

@@ -1,8 +1,7 @@
 -- The replacement of each occurrence, a step at a time.
 use Rattle.std.proofs.Common.{◌≡◌, ◌<◌, ◌≤◌, ◌+◌, ◌-◌, ℕ, zero, suc, arith, true, false, nat_eq, List, [], ◌∷◌, ◌++◌}
-use Rattle.std.proofs.Common.{length, take, drop, refl, ap, sym, ◌∙◌, Ok, length-drop, append-nil}
+use Rattle.std.proofs.Common.{length, take, drop, refl, ap, sym, ◌∙◌, Ok, length-drop, append-nil, drop-drop}
 use Rattle.std.specs.List.{starts_with}
-use Rattle.std.proofs.lemmas.List.{drop-drop}
 use Rattle.std.proofs.Math.Seq.{take-length}
 use Rattle.std.proofs.Math.ListN.{drop_of_length-le}
 use Rattle.ht_values.specs.declared.text.TheConstants.{LIMIT}

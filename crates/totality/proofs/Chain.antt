@@ -1,8 +1,6 @@
 -- Outcomes that exist, one part after another.
 use Rattle.std.proofs.Common.{◌≡◌, ℕ, suc, ◌+◌, ◌≤◌, ◌<◌, List, Bool, true, false, Option, Some, None, Result, Ok, Err}
-use Rattle.std.proofs.Common.{refl, arith}
-use Rattle.std.specs.Prelude.{nat_lt, ◌≢◌}
-use Rattle.std.proofs.lemmas.Bool.{ltb-true, ltb-false}
+use Rattle.std.proofs.Common.{refl, arith, nat_lt, ◌≢◌, ltb-true, ltb-false}
 use Rattle.ht_values.specs.declared.fault.Fault.{Fault}
 use Rattle.ht_values.specs.declared.fault.Fault.TheVariants.{NoSuchObject}
 use Rattle.change_journal.specs.History.{Open, History}

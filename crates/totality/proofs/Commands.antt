@@ -23,8 +23,7 @@ use Rattle.meaning.specs.State.{RunState, typed_frame}
 use Rattle.meaning.specs.Locked.{MeetsLock}
 use Rattle.preservation.proofs.Ends.{stopped}
 use Rattle.totality.specs.Laws.{Behaves}
-use Rattle.totality.proofs.Chain.{Begun}
-use Rattle.totality.proofs.Chain.{Underway, Has, has, ok, same, then, then_lines, choose, computed}
+use Rattle.totality.proofs.Chain.{Begun, Underway, Has, has, ok, same, then, then_lines, choose, computed}
 use Rattle.totality.proofs.Leaves.{then_done_lines, place_stands, stores}
 use Rattle.totality.proofs.Levels.{Level}
 use Rattle.totality.proofs.Expressions.{part_has, sends_has}

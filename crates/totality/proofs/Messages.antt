@@ -1,8 +1,6 @@
 -- Messages, the messages of the system, `go`, the menu and conversations with externals have an outcome.
 use Rattle.std.proofs.Common.{◌≡◌, ℕ, suc, ◌+◌, ◌≤◌, ◌<◌, List, [], ◌∷◌, length, true, false, Option, Some, None, ◌∙◌}
-use Rattle.std.proofs.Common.{Result, Ok, refl, ap}
-use Rattle.std.specs.Prelude.{nat_eq, nat_lt}
-use Rattle.std.proofs.lemmas.Bool.{ltb-true, ltb-false}
+use Rattle.std.proofs.Common.{Result, Ok, refl, ap, nat_eq, nat_lt, ltb-true, ltb-false}
 use Rattle.ht_values.specs.Functions.{built_in}
 use Rattle.ht_lex.specs.Words.{is_name}
 use Rattle.ht_grammar.specs.declared.vocabulary.HandlerKind.{HandlerKind}
@@ -45,9 +43,8 @@ use Rattle.meaning.specs.Places.{field_named_place}
 use Rattle.meaning.specs.Repeats.{returned}
 use Rattle.meaning.specs.State.{RunState, Step, typed_frame, handler_frame}
 use Rattle.meaning.specs.Values.{Parses}
-use Rattle.totality.proofs.Chain.{Begun}
-use Rattle.totality.proofs.Chain.{Underway, Has, has, ok, fault, yield, same, then, then_lines, choose, maybe, deep}
-use Rattle.totality.proofs.Chain.{nested}
+use Rattle.totality.proofs.Chain.{Begun, Underway, Has, has, ok, fault, yield, same, then, then_lines, choose, maybe}
+use Rattle.totality.proofs.Chain.{deep, nested}
 use Rattle.totality.proofs.Leaves.{then_step, lift, Passes, then_parsed, then_found, then_field, then_made, then_ends}
 use Rattle.totality.proofs.Leaves.{then_done_lines, field_stands, stores, stores_named, adds}
 use Rattle.containers.proofs.Bases.{took_keeps as base_turn}

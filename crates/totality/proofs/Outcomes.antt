@@ -1,6 +1,5 @@
 -- Each run has an outcome.
-use Rattle.std.specs.Prelude.{IsSome}
-use Rattle.std.proofs.Common.{◌≡◌, Option, Some, None, refl, ℕ, zero, suc, ◌⊎◌, inl, inr, Result, Ok, arith}
+use Rattle.std.proofs.Common.{◌≡◌, Option, Some, None, refl, ℕ, zero, suc, ◌⊎◌, inl, inr, Result, Ok, arith, IsSome}
 use Rattle.ht_grammar.specs.Laws.{TextsAreReadExactly}
 use Rattle.change_journal.specs.History.{Open, History}
 use Rattle.meaning.specs.declared.end.Stop.{Stop}

@@ -20,9 +20,8 @@ use Rattle.meaning.specs.Meaning.{Form, Alters, DoText, Bounds}
 use Rattle.meaning.specs.Places.{it_name, chunk_of_place}
 use Rattle.meaning.specs.Repeats.{counter_of, turns}
 use Rattle.meaning.specs.State.{RunState, delimiter_set, run_property_set}
-use Rattle.totality.proofs.Chain.{Begun}
-use Rattle.totality.proofs.Chain.{Underway, Has, HasRun, run_ok, run_fault, run_exited, yield, same_run, then, then_in}
-use Rattle.totality.proofs.Chain.{choose, computed, deep, nested}
+use Rattle.totality.proofs.Chain.{Begun, Underway, Has, HasRun, run_ok, run_fault, run_exited, yield, same_run, then}
+use Rattle.totality.proofs.Chain.{then_in, choose, computed, deep, nested}
 use Rattle.totality.proofs.Leaves.{then_parsed_in, then_ends_in, then_edited, then_done, edits, stores_named, sets}
 use Rattle.totality.proofs.Leaves.{declares_all}
 use Rattle.totality.proofs.Levels.{Level}

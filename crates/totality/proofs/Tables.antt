@@ -1,6 +1,5 @@
 -- What a table says is a behaviour.
-use Rattle.std.proofs.Common.{◌≡◌, length, Option, Some, None, refl}
-use Rattle.std.specs.Prelude.{All, IfSome, unwrap_or}
+use Rattle.std.proofs.Common.{◌≡◌, length, Option, Some, None, refl, All, IfSome, unwrap_or}
 use Rattle.ht_values.specs.Text.{IsText}
 use Rattle.externals.specs.Turns.{AskTexts, Turn}
 use Rattle.externals.specs.declared.external.Ask.TheVariants.{Fail}

@@ -1,7 +1,6 @@
 -- A turn of a behaviour is a turn of an open history.
 use Rattle.std.proofs.Common.{◌≡◌, ℕ, zero, suc, ◌<◌, List, [], ◌∷◌, length, Some, Result, refl, sym, ap, subst, ◌∙◌}
-use Rattle.std.proofs.Common.{arith}
-use Rattle.std.specs.Prelude.{All, slice_index_or, slice_set}
+use Rattle.std.proofs.Common.{arith, All, slice_index_or, slice_set}
 use Rattle.ht_values.specs.Text.{IsText}
 use Rattle.externals.specs.Cells.{Seen, none_seen}
 use Rattle.externals.specs.Turns.{Turn}

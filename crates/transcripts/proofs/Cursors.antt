@@ -1,9 +1,7 @@
 -- Where the cursor stands.
 use Rattle.std.proofs.Common.{◌≡◌, ℕ, zero, suc, ◌+◌, ◌-◌, ◌<◌, List, [], ◌∷◌, ◌++◌, length, Bool, true, false, Option}
-use Rattle.std.proofs.Common.{Some, None, refl, subst, arith}
+use Rattle.std.proofs.Common.{Some, None, refl, subst, arith, ltb-true, length-drop, length-take, length-append}
 use Rattle.std.specs.Prelude.{take, min, nat_lt, nat_le, slice_get, if◌then◌else◌}
-use Rattle.std.proofs.lemmas.Bool.{ltb-true}
-use Rattle.std.proofs.lemmas.List.{length-drop, length-take, length-append}
 use Rattle.std.proofs.lemmas.Option.{none-some}
 use Rattle.journal_entries.specs.State.{State}
 use Rattle.session.specs.Meaning.{Moment}

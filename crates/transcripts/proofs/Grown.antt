@@ -1,8 +1,6 @@
 -- The externals that there are stay, whatever lines do, and their logs only grow.
-use Rattle.std.proofs.Common.{◌≡◌, ◌⊎◌, inl, inr, ℕ, ◌<◌, List, [], ◌∷◌, Bool, true, false}
-use Rattle.std.proofs.Common.{length, refl, sym, ap, subst}
-use Rattle.std.proofs.Common.{◌∙◌, Result}
-use Rattle.std.specs.Prelude.{MatchBool}
+use Rattle.std.proofs.Common.{◌≡◌, ◌⊎◌, inl, inr, ℕ, ◌<◌, List, [], ◌∷◌, Bool, true, false, length, refl, sym, ap}
+use Rattle.std.proofs.Common.{subst, ◌∙◌, Result, MatchBool}
 use Rattle.devices.specs.Desks.{SeenDesk}
 use Rattle.externals.specs.Log.{Log}
 use Rattle.externals.specs.Turns.{no_table}

@@ -1,13 +1,11 @@
 -- The table of the kit leaves as many cells, and makes texts of texts.
-use Rattle.std.specs.Prelude.{IfSome}
 use Rattle.std.proofs.Common.{◌≡◌, ℕ, zero, suc, ℤ, pos, negsuc, List, [], ◌∷◌, length, Bool, true, false, cond, codes}
-use Rattle.std.proofs.Common.{nat_eq, nat_lt, get_or, set, ◌+ℤ◌, Option, Some, None, refl, length-set}
+use Rattle.std.proofs.Common.{nat_eq, nat_lt, get_or, set, ◌+ℤ◌, Option, Some, None, refl, length-set, IfSome}
 use Rattle.std.proofs.lemmas.List.Elements.{All-from_recursion, recursion_from_All}
 use Rattle.ht_values.specs.Text.{IsText, numeral}
 use Rattle.object_table.proofs.Empty.{no_bytes}
 use Rattle.externals.specs.Turns.{AskTexts, Turn}
-use Rattle.externals.specs.declared.external.Ask.TheVariants.{SendCardMessage, EvalExpr, SetFieldByName}
-use Rattle.externals.specs.declared.external.Ask.TheVariants.{Done}
+use Rattle.externals.specs.declared.external.Ask.TheVariants.{SendCardMessage, EvalExpr, SetFieldByName, Done}
 use Rattle.externals.specs.declared.external.Input.{Input}
 use Rattle.externals.specs.declared.external.Input.TheVariants.{Start, Answer}
 use Rattle.xkit.specs.Steps.{cell, fails}

@@ -1,6 +1,5 @@
 -- Lines have one transcript, by the turns of the externals.
-use Rattle.std.proofs.Common.{◌≡◌, ℕ, List, [], ◌∷◌, ◌++◌, Bool, true, false, sym, ap, subst, ◌∙◌}
-use Rattle.std.specs.Prelude.{MatchBool}
+use Rattle.std.proofs.Common.{◌≡◌, ℕ, List, [], ◌∷◌, ◌++◌, Bool, true, false, sym, ap, subst, ◌∙◌, MatchBool}
 use Rattle.devices.specs.Desks.{SeenDesk}
 use Rattle.externals.specs.Log.{Log}
 use Rattle.externals.specs.Turns.{TurnTable}

@@ -1,8 +1,7 @@
 -- What lines of bytes do has texts.
 use Rattle.std.proofs.Common.{◌≡◌, ℕ, ◌-◌, ◌≤◌, ◌<◌, List, [], ◌∷◌, ◌++◌, Bool, true, false, sym, subst, append_assoc}
-use Rattle.std.specs.Prelude.{nat_lt, length, take, slice_index, ◌==◌, if◌then◌else◌}
+use Rattle.std.proofs.Common.{nat_lt, length, take, slice_index, ◌==◌, if◌then◌else◌, ltb-false}
 use Rattle.std.specs.List.{AllByRecursion, position_or_len}
-use Rattle.std.proofs.lemmas.Bool.{ltb-false}
 use Rattle.std.proofs.lemmas.List.Elements.{All-take, All-from_recursion, recursion_from_All}
 use Rattle.ht_values.specs.Text.{IsText}
 use Rattle.ht_grammar.specs.Statements as stm

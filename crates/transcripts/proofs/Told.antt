@@ -1,10 +1,9 @@
 -- Turns that are told, in logs that grow.
-use Rattle.std.proofs.Common.{◌≡◌, ℕ, zero, suc, ◌<◌, List, [], ◌++◌, length, refl, sym, ap, subst, ◌∙◌}
-use Rattle.std.proofs.Common.{append_assoc, arith}
+use Rattle.std.proofs.Common.{◌≡◌, ℕ, zero, suc, ◌<◌, List, [], ◌++◌, length, refl, sym, ap, subst, ◌∙◌, append_assoc}
+use Rattle.std.proofs.Common.{arith, drop, slice_index_or}
 use Rattle.std.proofs.Math.Seq.{drop-append_seam}
 use Rattle.std.proofs.lemmas.List.{ext_get_or, length-map}
 use Rattle.std.proofs.lemmas.List.Elements.{All-drop, filter-append}
-use Rattle.std.specs.Prelude.{drop, slice_index_or}
 use Rattle.externals.specs.Log.{Log, IsTurnOf, Follows}
 use Rattle.externals.specs.Turns.{TurnTable, no_table}
 use Rattle.journal_entries.specs.State.{seen_at}

@@ -1,6 +1,5 @@
 -- Whole states lead to whole states, along a transcript.
-use Rattle.std.proofs.Common.{◌≡◌, ◌⊎◌, inl, inr, ℕ, List, [], ◌∷◌, Bool, true, false, sym, subst}
-use Rattle.std.specs.Prelude.{MatchBool}
+use Rattle.std.proofs.Common.{◌≡◌, ◌⊎◌, inl, inr, ℕ, List, [], ◌∷◌, Bool, true, false, sym, subst, MatchBool}
 use Rattle.std.specs.List.{AllByRecursion}
 use Rattle.devices.specs.Desks.{SeenDesk}
 use Rattle.journal_entries.specs.State.{State, IsState}

@@ -1,9 +1,8 @@
 -- What the changes, turns and steps in a rule keep: whole states, and texts.
 use Rattle.std.specs.Prelude.{IfSome, unwrap_or}
 use Rattle.std.specs.List.{All, AllByRecursion}
-use Rattle.std.proofs.Common.{◌≡◌, ◌<◌, ℕ, suc, List, [], ◌∷◌, ◌++◌, length, Bool, true}
-use Rattle.std.proofs.Common.{false, cond, Option, Some, None, option_map, is_some, Result, Ok, Err, IfOk, refl, sym}
-use Rattle.std.proofs.Common.{ap, subst, ◌∙◌, arith}
+use Rattle.std.proofs.Common.{◌≡◌, ◌<◌, ℕ, suc, List, [], ◌∷◌, ◌++◌, length, Bool, true, false, cond, Option, Some}
+use Rattle.std.proofs.Common.{None, option_map, is_some, Result, Ok, Err, IfOk, refl, sym, ap, subst, ◌∙◌, arith}
 use Rattle.std.proofs.lemmas.List.{append-nil, append_assoc, length-map}
 use Rattle.std.proofs.lemmas.List.Elements.{All-append, All-cons, All-get_or, All-nil, recursion_from_All}
 use Rattle.ht_values.specs.declared.fault.Fault.{Fault}
@@ -64,10 +63,9 @@ use Rattle.preservation.proofs.Logs.{set_keeps}
 use Rattle.preservation.proofs.Placed.{of_field, of_field_named}
 use Rattle.preservation.proofs.Prefixes.{rest_is}
 use Rattle.preservation.proofs.StaysWhole.{due_stood, text_stood}
-use Rattle.whole_states.specs.Texts.{RunTexts, LocalsTexts, FrameTexts, StorageTexts, HowTexts, InputTexts}
+use Rattle.whole_states.specs.Texts.{RunTexts, LocalsTexts, FrameTexts, StorageTexts, HowTexts, InputTexts, AreTexts}
+use Rattle.whole_states.specs.Texts.{HandlerTexts, HandlersTexts, LoggedTexts, StmtsTexts, TreesHaveTexts}
 use Rattle.whole_states.specs.Laws.{LeadsToWhole}
-use Rattle.whole_states.specs.Texts.{AreTexts, HandlerTexts, HandlersTexts, LoggedTexts, StmtsTexts}
-use Rattle.whole_states.specs.Texts.{TreesHaveTexts}
 use Rattle.whole_states.proofs.TreeTexts.{scripts_have_texts}
 use Rattle.whole_states.proofs.ValueTexts.{given_text, word_text, byte_text, EditTexts}
 use Rattle.whole_states.proofs.StateTexts.{folded_text, named_texts, due_is_text, with_value_texts, setting_texts}

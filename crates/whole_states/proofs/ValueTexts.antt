@@ -1,11 +1,10 @@
 -- What is computed of texts is texts.
-use Rattle.std.specs.Prelude.{IfSome, ◌||◌, max, min, int_lt, unsigned_abs}
 use Rattle.std.specs.List.{All, AllByRecursion, list_all, prefix_len}
 use Rattle.std.specs.Fmt.{digits_onto, digits, decimal, digit_glyph}
 use Rattle.std.proofs.Common.{◌≡◌, ◌+◌, ◌-◌, ◌/◌, ◌%◌, ◌<◌, ◌≤◌, ◌==◌, ◌&&◌, ℕ, zero, suc, ℤ, pos, negsuc, List, []}
 use Rattle.std.proofs.Common.{◌∷◌, ◌++◌, length, take, drop, Bool, true, false, cond, codes, nat_lt, nat_le, Option}
-use Rattle.std.proofs.Common.{Some, None, option_map, Result, Ok, Err, IfOk, refl, sym, ap, subst, arith}
-use Rattle.std.proofs.Common.{length-append, length-take, length-drop}
+use Rattle.std.proofs.Common.{Some, None, option_map, Result, Ok, Err, IfOk, refl, sym, ap, subst, arith, length-append}
+use Rattle.std.proofs.Common.{length-take, length-drop, IfSome, ◌||◌, max, min, int_lt, unsigned_abs}
 use Rattle.std.proofs.lemmas.Bool.{and_parts, ltb-true, leb-true}
 use Rattle.std.proofs.lemmas.List.Elements.{All-nil, All-cons, All-take, All-drop, All-append, All-replicate}
 use Rattle.std.proofs.lemmas.List.Elements.{All-from_recursion, All-tail}

@@ -1,11 +1,9 @@
 -- What the notes of a relay lead to.
 use Rattle.std.proofs.Common.{◌≡◌, ℕ, arith, Bool, true, false, ◌&&◌, nat_eq, bytes_eq, length, List, [], ◌∷◌, codes}
-use Rattle.std.proofs.Common.{drop, slice_index_or, refl}
-use Rattle.std.proofs.lemmas.Bool.{eqb-true}
-use Rattle.xkit.specs.Table.{relay_answer}
+use Rattle.std.proofs.Common.{drop, slice_index_or, refl, eqb-true}
+use Rattle.xkit.specs.Table.{relay_answer, is_note}
 use Rattle.externals.specs.declared.external.Ask.TheVariants.{SetFieldByName}
 use Rattle.xkit.specs.Steps.{cell}
-use Rattle.xkit.specs.Table.{is_note}
 
 first_of_both : (a b : Bool) → (a && b) ≡ true → a ≡ true
 first_of_both true b h = refl

@@ -1,6 +1,5 @@
 use Rattle.std.proofs.Common.{◌≡◌, ◌+◌, ◌-◌, ◌<◌, ◌∙◌, sym, ap, drop, false, length, slice_get, true, arith}
-use Rattle.std.specs.Prelude.{slice_index}
-use Rattle.std.proofs.lemmas.Bool.{eq-eqb, ne_eqb}
+use Rattle.std.proofs.Common.{slice_index, eq-eqb, ne_eqb}
 use Rattle.chunks.specs.Scan.{all_kept, is_delimiter, scan}
 use Rattle.chunks.proofs.Blocks.{next_part}
 use Rattle.chunks.proofs.Scans.{inside}

@@ -1,5 +1,4 @@
-use Rattle.std.proofs.Common.{All, subst, arith}
-use Rattle.std.proofs.lemmas.List.{take_all}
+use Rattle.std.proofs.Common.{All, subst, arith, take_all}
 use Rattle.std.proofs.lemmas.List.Elements.{recursion_from_All}
 use Rattle.ht_values.specs.Text.{IsText}
 use Rattle.externals.proofs.ReadTexts.{texts_more}

@@ -1,5 +1,4 @@
-use Rattle.std.proofs.Common.{All, subst, arith}
-use Rattle.std.proofs.lemmas.List.{take_all}
+use Rattle.std.proofs.Common.{All, subst, arith, take_all}
 use Rattle.ht_values.specs.Text.{IsText}
 use Rattle.externals.proofs.ReadTexts.{texts_more}
 use Rattle.externals.proofs.laws.law_of_external.Goals as goal

@@ -1,6 +1,5 @@
 use Rattle.std.proofs.Common.{◌≡◌, ◌++◌, ◌+◌, ◌<◌, ◌≤◌, ℕ, List, ◌∷◌, Err, length, drop, get_or, sym, ap, ◌∙◌}
-use Rattle.std.proofs.Common.{append_assoc, add-one, drop-cons, arith}
-use Rattle.std.specs.Prelude.{suc}
+use Rattle.std.proofs.Common.{append_assoc, add-one, drop-cons, arith, suc}
 use Rattle.std.proofs.lemmas.List.{append-nil, drop_all}
 use Rattle.std.proofs.lemmas.Result.{err_from_is_err_and}
 use Rattle.std.specs.List.{flat_map}

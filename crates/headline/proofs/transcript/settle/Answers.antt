@@ -1,5 +1,4 @@
-use Rattle.std.proofs.Common.{◌∙◌, ap}
-use Rattle.std.specs.Prelude.{option_map}
+use Rattle.std.proofs.Common.{◌∙◌, ap, option_map}
 use Rattle.object_table.specs.Content.{Content}
 use Rattle.stack_text.specs.Listing.{spelling}
 use Rattle.stack_text.specs.declared.sheets.Version.TheVariants.{Second as second}

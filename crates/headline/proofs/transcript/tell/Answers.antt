@@ -1,5 +1,4 @@
-use Rattle.std.proofs.Common.{◌≤◌, List, length, subst, arith}
-use Rattle.std.proofs.lemmas.List.{take_all}
+use Rattle.std.proofs.Common.{◌≤◌, List, length, subst, arith, take_all}
 use Rattle.devices.specs.Desks.{HearsOrForgets}
 use Rattle.devices.proofs.Hearing.{hears_nothing}
 use Rattle.headline.specs.Saving.{as_heard}

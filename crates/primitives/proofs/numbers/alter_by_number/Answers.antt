@@ -1,6 +1,5 @@
-use Rattle.std.proofs.Common.{refl, ap, sym, ◌∙◌, SFits, rules}
+use Rattle.std.proofs.Common.{refl, ap, sym, ◌∙◌, SFits, rules, w64}
 use Rattle.std.proofs.lemmas.Int.{to_z-of_z}
-use mir.Syntax.{w64}
 use Rattle.ht_tree.specs.ContainerView.{container_of}
 use Rattle.meaning.specs.Meaning.{Alters, Resolves}
 use Rattle.primitives.proofs.numbers.alter_by_number.Goals as goal

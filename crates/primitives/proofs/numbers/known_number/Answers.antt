@@ -1,6 +1,5 @@
-use Rattle.std.proofs.Common.{ap, ◌∙◌, SFits, rules}
+use Rattle.std.proofs.Common.{ap, ◌∙◌, SFits, rules, w64}
 use Rattle.std.proofs.lemmas.Int.{to_z-of_z}
-use mir.Syntax.{w64}
 use Rattle.ht_values.specs.Number.{number_of}
 use Rattle.primitives.proofs.Kept.{known_is}
 use Rattle.primitives.proofs.numbers.known_number.Goals as goal

@@ -1,7 +1,6 @@
-use Rattle.std.proofs.Common.{ap, sym, ◌∙◌, SFits, rules}
+use Rattle.std.proofs.Common.{ap, sym, ◌∙◌, SFits, rules, w64}
 use Rattle.std.proofs.lemmas.Int.{to_z-of_z}
 use Rattle.std.proofs.lemmas.Option.{IfSome_then}
-use mir.Syntax.{w64}
 use Rattle.ht_tree.specs.View.{expr_of, form_of}
 use Rattle.primitives.proofs.Kept.{truth_is}
 use Rattle.primitives.proofs.numbers.known_truth.Goals as goal

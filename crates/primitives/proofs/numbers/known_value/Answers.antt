@@ -1,6 +1,5 @@
-use Rattle.std.proofs.Common.{ap, sym, ◌∙◌, Ok, SFits, rules}
+use Rattle.std.proofs.Common.{ap, sym, ◌∙◌, Ok, SFits, rules, w64}
 use Rattle.std.proofs.lemmas.Int.{to_z-of_z}
-use mir.Syntax.{w64}
 use Rattle.primitives.proofs.Kept.{binary_is}
 use Rattle.primitives.proofs.numbers.known_value.Goals as goal
 

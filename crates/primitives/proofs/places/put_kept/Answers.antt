@@ -1,6 +1,5 @@
-use Rattle.std.proofs.Common.{refl, SFits, rules}
+use Rattle.std.proofs.Common.{refl, SFits, rules, w64}
 use Rattle.std.proofs.lemmas.Int.{to_z-of_z}
-use mir.Syntax.{w64}
 use Rattle.meaning.specs.Places.{Edits}
 use Rattle.primitives.proofs.places.put_kept.Goals as goal
 

@@ -1,5 +1,4 @@
-use Rattle.std.proofs.Common.{◌≡◌, ◌≤◌, ℕ, ◌<◌, ◌-◌, length, false}
-use Rattle.std.specs.Prelude.{nat_le}
+use Rattle.std.proofs.Common.{◌≡◌, ◌≤◌, ℕ, ◌<◌, ◌-◌, length, false, nat_le}
 use Rattle.change_journal.specs.History.{stamp_at}
 use Rattle.session.proofs.moves.places_to.Given as goal
 

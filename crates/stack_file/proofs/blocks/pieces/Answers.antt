@@ -1,6 +1,5 @@
-use Rattle.std.proofs.Common.{rules, ◌≡◌, ℕ, ◌+◌, ◌-◌, ◌<◌, ◌∷◌, ◌++◌, [], length, subst, ap, ◌∙◌, arith, List}
-use Rattle.std.specs.Prelude.{Ok, codes, ◌==◌}
-use Rattle.std.proofs.lemmas.List.{length-append}
+use Rattle.std.proofs.Common.{rules, ◌≡◌, ℕ, ◌+◌, ◌-◌, ◌<◌, ◌∷◌, ◌++◌, [], length, subst, ap, ◌∙◌, arith, List, Ok}
+use Rattle.std.proofs.Common.{codes, ◌==◌, length-append}
 use Rattle.stack_text.specs.Reading.{Fails, line_after, piece_at}
 use Rattle.stack_file.specs.Pieces.{ended_at}
 use Rattle.stack_file.proofs.PieceTexts.{piece-step, piece-fail}

@@ -1,5 +1,4 @@
-use Rattle.std.proofs.Common.{◌≡◌, ◌-◌, ◌≤◌, length}
-use Rattle.std.specs.Prelude.{◌==◌}
+use Rattle.std.proofs.Common.{◌≡◌, ◌-◌, ◌≤◌, length, ◌==◌}
 use Rattle.stack_text.specs.Reading.{pieces_at}
 use Rattle.stack_file.specs.Pieces.{ended_at}
 use Rattle.stack_file.proofs.PieceTexts.{with_text}

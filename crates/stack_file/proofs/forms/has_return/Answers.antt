@@ -1,5 +1,4 @@
-use Rattle.std.proofs.Common.{◌∙◌, ap, is_some}
-use Rattle.std.specs.Prelude.{◌==◌}
+use Rattle.std.proofs.Common.{◌∙◌, ap, is_some, ◌==◌}
 use Rattle.stack_file.proofs.Places.{position-is_some}
 use Rattle.stack_file.proofs.forms.has_return.Goals as goal
 

@@ -1,5 +1,4 @@
-use Rattle.std.proofs.Common.{rules, refl}
-use Rattle.std.specs.Prelude.{codes}
+use Rattle.std.proofs.Common.{rules, refl, codes}
 use Rattle.stack_text.specs.Reading.{Fails, background_field_at, block_after}
 use Rattle.stack_file.proofs.Times.{fails_on}
 use Rattle.stack_file.proofs.parts.background_field.Goals as goal

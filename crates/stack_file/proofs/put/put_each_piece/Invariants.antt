@@ -1,5 +1,4 @@
-use Rattle.std.proofs.Common.{◌≡◌, ◌-◌, ◌≤◌, length, map}
-use Rattle.std.specs.Prelude.{◌==◌}
+use Rattle.std.proofs.Common.{◌≡◌, ◌-◌, ◌≤◌, length, map, ◌==◌}
 use Rattle.std.specs.List.{slice_split}
 use Rattle.stack_text.specs.Words.{barred}
 use Rattle.stack_file.specs.Lines.{with_lines}

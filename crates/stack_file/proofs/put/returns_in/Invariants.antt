@@ -1,5 +1,4 @@
-use Rattle.std.proofs.Common.{◌≡◌, ◌≤◌, count_by, take}
-use Rattle.std.specs.Prelude.{◌==◌}
+use Rattle.std.proofs.Common.{◌≡◌, ◌≤◌, count_by, take, ◌==◌}
 use Rattle.stack_file.proofs.put.returns_in.Given as goal
 
 -- how many there are so far

@@ -1,5 +1,4 @@
-use Rattle.std.proofs.Common.{map, take}
-use Rattle.std.specs.Prelude.{flat_map}
+use Rattle.std.proofs.Common.{map, take, flat_map}
 use Rattle.stack_text.specs.Listing.{part_of}
 use Rattle.stack_text.specs.Spelling.{part_lines}
 use Rattle.stack_text.specs.declared.sheets.Version.TheVariants.{Second as second}

@@ -1,5 +1,4 @@
-use Rattle.std.proofs.Common.{◌∙◌, ◌∷◌, ◌++◌, [], List, ℕ, ap, sym, length, map}
-use Rattle.std.specs.Prelude.{codes, flat_map}
+use Rattle.std.proofs.Common.{◌∙◌, ◌∷◌, ◌++◌, [], List, ℕ, ap, sym, length, map, codes, flat_map}
 use Rattle.std.proofs.lemmas.List.{length-map}
 use Rattle.stack_text.specs.Listing.{document_of, background_sheet, card_sheet}
 use Rattle.stack_text.specs.Spelling.{header, name_line, script_lines, background_lines, card_lines, sheets_lines}

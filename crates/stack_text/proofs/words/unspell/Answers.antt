@@ -1,5 +1,4 @@
-use Rattle.std.proofs.Common.{◌≡◌, Some, None, length, ap, ◌∙◌}
-use Rattle.std.specs.Prelude.{if◌then◌else◌}
+use Rattle.std.proofs.Common.{◌≡◌, Some, None, length, ap, ◌∙◌, if◌then◌else◌}
 use Rattle.stack_text.specs.Words.{unspelled}
 use Rattle.stack_text.proofs.Texts.{text-found, no_text}
 use Rattle.stack_text.proofs.Runs.{from-nothing}

@@ -1,5 +1,4 @@
-use Rattle.std.proofs.Common.{length, ap, arith}
-use Rattle.std.proofs.lemmas.List.{length-take}
+use Rattle.std.proofs.Common.{length, ap, arith, length-take}
 use Rattle.text_tools.proofs.table.keys.Goals as goal
 
 pub slice_bounds-result-end : goal.slice_bounds-result-end

@@ -1,6 +1,5 @@
-use Rattle.std.proofs.Common.{[], ◌||◌, Some, None, ap, sym, ◌∙◌}
+use Rattle.std.proofs.Common.{[], ◌||◌, Some, None, ap, sym, ◌∙◌, w64}
 use Rattle.std.proofs.lemmas.Int.{to_z-of_z}
-use mir.Syntax.{w64}
 use Rattle.ht_values.specs.Text.{numeral}
 use Rattle.containers.specs.declared.variables.Local.{Local}
 use Rattle.containers.specs.Variables.{is_global, with_local}

@@ -1,8 +1,7 @@
 use Rattle.std.proofs.Common.{◌≤◌, ◌+◌, ◌*◌, length}
 use Rattle.ht_grammar.specs.Depth.{depth, depths, chunk_depth, which_depth, selector_depth, owner_depth, part_depth}
 use Rattle.ht_grammar.specs.Depth.{ref_depth, count_depth}
-use Rattle.ht_tree.specs.View.{expr_of, exprs_of, chunk_of, which_of, selector_of, owner_of, part_of, ref_of}
-use Rattle.ht_tree.specs.View.{count_of}
+use Rattle.ht_tree.specs.View.{expr_of, exprs_of, chunk_of, which_of, selector_of, owner_of, part_of, ref_of, count_of}
 use Rattle.rows.proofs.trees.expression.+print.Given as goal
 
 abbrev pub decreases-print_expr : goal.decreases-print_expr

@@ -1,5 +1,4 @@
-use Rattle.std.proofs.Common.{sym, ◌∙◌, arith, length, rules}
-use Rattle.std.proofs.lemmas.Bool.{le-ltb}
+use Rattle.std.proofs.Common.{sym, ◌∙◌, arith, length, rules, le-ltb}
 use Rattle.session.specs.declared.limits.TheConstants.{LONGEST_LINE}
 use Rattle.session.specs.declared.command.Reading.TheVariants.{Lines}
 use Rattle.session.proofs.Stamping.{stamped-later, stamped-past, stamped-performed, stamped-done}

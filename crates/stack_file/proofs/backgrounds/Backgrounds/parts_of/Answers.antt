@@ -1,5 +1,4 @@
-use Rattle.std.proofs.Common.{◌≡◌, ◌∙◌, ap, sym, map, ◌==◌, length, refl}
-use Rattle.std.specs.Prelude.{Some, position, slice_get}
+use Rattle.std.proofs.Common.{◌≡◌, ◌∙◌, ap, sym, map, ◌==◌, length, refl, Some, position, slice_get}
 use Rattle.std.proofs.lemmas.Option.{slice_get_read}
 use Rattle.stack_text.specs.Document.{sheet_ids}
 use Rattle.stack_file.specs.Views.{sheet_seen}

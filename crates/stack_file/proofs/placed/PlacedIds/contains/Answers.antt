@@ -1,5 +1,4 @@
-use Rattle.std.proofs.Common.{◌∙◌, ap, ◌==◌}
-use Rattle.std.specs.Prelude.{is_some}
+use Rattle.std.proofs.Common.{◌∙◌, ap, ◌==◌, is_some}
 use Rattle.stack_file.proofs.Places.{position-is_some}
 use Rattle.stack_file.proofs.placed.PlacedIds.contains.Goals as goal
 

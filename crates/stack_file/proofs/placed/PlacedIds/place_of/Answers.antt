@@ -1,5 +1,4 @@
-use Rattle.std.proofs.Common.{◌==◌, ap, ◌∙◌}
-use Rattle.std.specs.Prelude.{position}
+use Rattle.std.proofs.Common.{◌==◌, ap, ◌∙◌, position}
 use Rattle.stack_file.proofs.placed.PlacedIds.place_of.Goals as goal
 
 pub returns : goal.returns

@@ -1,6 +1,5 @@
 -- `new` makes the empty struct, with no turn.
-use mathlib.Core.Path.{refl}
-use mathlib.Core.List.{[], ◌∷◌}
+use Rattle.std.proofs.Common.{refl, [], ◌∷◌}
 use seplogic.Ra.Ura.{Ura}
 use mir.Val.{vstruct, vnil}
 use base.Logic.{SProp, ent, emp, via, fst∗}

@@ -1,6 +1,5 @@
 -- `with` makes the empty struct, with the turns that its clause names.
-use mathlib.Core.Path.{refl}
-use mathlib.Core.List.{[], ◌∷◌, ◌++◌}
+use Rattle.std.proofs.Common.{refl, [], ◌∷◌, ◌++◌}
 use seplogic.Ra.Ura.{Ura}
 use mir.Syntax.{named}
 use mir.Val.{Val, vptr, vstruct, vnil}
