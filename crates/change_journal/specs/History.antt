@@ -1,5 +1,5 @@
 -- A history: whole states with a cursor, and each call's move.
-use Rattle.std.specs.Prelude.{◌≡◌, ℕ, ◌+◌, ◌<◌, List, [], ◌∷◌, ◌++◌, length, map, take, drop, reverse, Option, Some}
+use Rattle.std.specs.Prelude.{◌≡◌, ℕ, ◌+◌, ◌<◌, List, [], ◌∷◌, ◌++◌, length, map, take, drop, Option, Some}
 use Rattle.std.specs.Prelude.{None, slice_index_or, refl}
 use Rattle.std.specs.Coded.{Coded, code_by, coded×, coded_list, coded_ℕ, coded_option}
 use Rattle.externals.specs.Cells.{Seen}
@@ -67,13 +67,6 @@ coded_history = code_by (List Neighbour × (State × (ℕ × (List Neighbour × 
           p.1.1.1.1.1.0;
       logs = p.1.1.1.1.1.1;
     }) (λ _. refl)
-
-abbrev pub states_of : List Neighbour → List State
-states_of = map (λ step. step.state)
-
--- the list of whole states, in which as many stand before the cursor as there are past ones
-abbrev pub all_states : History → List State
-all_states h = reverse (states_of h.past) ++ h.now ∷ states_of h.future
 
 -- the number of the state i before the cursor
 abbrev pub stamp_at : History → ℕ → ℕ

@@ -79,7 +79,7 @@ get_or-flipped cells [] i d a = refl
 get_or-flipped cells (e ∷ p) i d a =
     get_or-flipped (set cells e.0 e.1) p i d a.1 ∙ get_or-set_other cells e.0 i e.1 d a.0
 
-Avoids-taken_out : (cells : List (List ℕ)) (p : Changes) (i : ℕ) → Avoids i p → Avoids i (taken_out cells p)
+pub Avoids-taken_out : (cells : List (List ℕ)) (p : Changes) (i : ℕ) → Avoids i p → Avoids i (taken_out cells p)
 Avoids-taken_out cells [] i a = tt
 Avoids-taken_out cells (e ∷ p) i a = (a.0, Avoids-taken_out (set cells e.0 e.1) p i a.1)
 

@@ -141,17 +141,6 @@ impl<F: Fn(Global, &mut Cursor<'_>, Level, usize) -> Result<Expr, Stop>> Grammar
         }
     }
 
-    /// Pieces whose number is asked, after their word.
-    fn counted_pieces(&self, tokens: &mut Cursor<'_>, piece: ChunkKind) -> Result<Count, Stop>
-        requires { Nests self.now.depth (F.pre self.now.read) (F.post self.now.read) }
-        ensures { Reads count_of count_depth self.now.depth
-            (spec.made (t.pieces_of piece) (spec.of_part (spec.read self.now.depth) self.now.depth
-            (spec.read self.now.depth e.factor) (f.after_of tokens.old))) result tokens.new }
-    {
-        let text = self.factor_of(tokens)?;
-        Ok(Count::PiecesOf(piece, text))
-    }
-
     /// What is counted, or the object whose number is asked.
     #[tactic(auto, unfolding(ht_grammar::specs::Reading::count_at))]
     fn count(&self, tokens: &mut Cursor<'_>) -> Result<Count, Stop>
@@ -162,7 +151,8 @@ impl<F: Fn(Global, &mut Cursor<'_>, Level, usize) -> Result<Expr, Stop>> Grammar
         match tokens.peek() {
             Some(TokenKind::Key(Key::Pieces(piece))) => {
                 tokens.skip();
-                self.counted_pieces(tokens, piece)
+                let text = self.factor_of(tokens)?;
+                Ok(Count::PiecesOf(piece, text))
             }
             Some(TokenKind::Key(Key::Cards)) => {
                 tokens.skip();

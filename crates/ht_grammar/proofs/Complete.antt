@@ -2,7 +2,7 @@
 use Rattle.std.proofs.Common.{◌≡◌, ℕ, zero, suc, ◌+◌, ◌<◌, ◌≤◌, inl, inr, List, [], ◌∷◌, length, Bool, true, false}
 use Rattle.std.proofs.Common.{Option, Some, None, cond, codes, ◌||◌, nat_eq, nat_le, refl, sym, ap, ◌∙◌, subst, arith}
 use Rattle.std.proofs.lemmas.Option.{none-some}
-use Rattle.std.proofs.lemmas.Bool.{le-leb}
+use Rattle.std.proofs.lemmas.Bool.{le-leb, cond-true, cond-false}
 use Rattle.std.proofs.lemmas.Bool.Decides.{nat_tests}
 use Rattle.ht_lex.specs.declared.key.Key.{Key}
 use Rattle.ht_lex.specs.declared.key.Key.TheVariants as k
@@ -54,12 +54,6 @@ step f e = ap (λ r. and_then r f) e
 pub make : {A B : Type 0} {r : Outcome A} {x : A} {c : List Token} (f : A → B) → r ≡ Some (x, c)
     → made f r ≡ Some (f x, c)
 make f e = ap (made f) e
-
-pub taken_if : {A : Type 0} (b : Bool) (x y : A) → b ≡ true → cond b x y ≡ x
-taken_if b x y e = ap (λ v. cond v x y) e
-
-pub left_if : {A : Type 0} (b : Bool) (x y : A) → b ≡ false → cond b x y ≡ y
-left_if b x y e = ap (λ v. cond v x y) e
 
 -- the words `card` and `background`
 abbrev pub is_layer_key : Key → Bool
@@ -121,7 +115,7 @@ module _ (deeper : Level → Parser Expr) (d : ℕ) where
   pub fits_in : {A : Type 0} (height : A → ℕ) {r : Outcome A} {x : A} {c : List Token} → r ≡ Some (x, c) → height x ≤ d
       → fitting deeper d height r ≡ Some (x, c)
   fits_in height {r} {x} {c} e le =
-      ap (fitting deeper d height) e ∙ taken_if (nat_le (height x) d) (Some (x, c)) None (le-leb (height x) d le)
+      ap (fitting deeper d height) e ∙ cond-true (nat_le (height x) d) (Some (x, c)) None (le-leb (height x) d le)
 
   name_stops : (w : List ℕ) (c : List Token) → 0 < tie c → primary_at deeper d (token.name w ∷ c) ≡ Some (t.name w, c)
   unfolding tie primary_at
@@ -146,7 +140,7 @@ module _ (deeper : Level → Parser Expr) (d : ℕ) where
   power_takes : (x : Expr) (b : List Token) (y : Expr) (c : List Token) → depth x ≤ d → deeper power b ≡ Some (y, c)
       → power_end deeper d x (key k.Caret ∷ b) ≡ Some (t.binary o.Power x y, c)
   unfolding power_end
-  power_takes x b y c le e = taken_if (nat_le (depth x) d) _ _ (le-leb (depth x) d le) ∙ make (t.binary o.Power x) e
+  power_takes x b y c le e = cond-true (nat_le (depth x) d) _ _ (le-leb (depth x) d le) ∙ make (t.binary o.Power x) e
 
   list_stops : (again : Exprs → Parser Exprs) (found : Exprs) (c : List Token) → is_comma c ≡ false
       → list_more deeper d again (first_kind c) found c ≡ Some (found, c)
@@ -295,27 +289,27 @@ module _ (deeper : Level → Parser Expr) (d : ℕ) where
 
   result_goes : (w : List ℕ) (c : List Token) → same_name w (codes "result") ≡ true
       → the_name deeper d w (token.name w ∷ c) ≡ Some (t.result, c)
-  result_goes w c f = taken_if (same_name w (codes "result")) _ _ f
+  result_goes w c f = cond-true (same_name w (codes "result")) _ _ f
 
   target_goes : (w : List ℕ) (c : List Token) → same_name w (codes "target") ≡ true
       → the_name deeper d w (token.name w ∷ c) ≡ Some (t.target, c)
-  target_goes w c f = left_if (same_name w (codes "result")) _ _ (apart w (codes "target") (codes "result") f refl)
-      ∙ taken_if (same_name w (codes "target")) _ _ f
+  target_goes w c f = cond-false (same_name w (codes "result")) _ _ (apart w (codes "target") (codes "result") f refl)
+      ∙ cond-true (same_name w (codes "target")) _ _ f
 
   short_goes : (w : List ℕ) (m : List Token) (p q : Prop) → same_name w (codes "short") ≡ true → prop_front m ≡ Some p
       → short_of p ≡ Some q → the_name deeper d w (token.name w ∷ m) ≡ property_by deeper d (Some q) m
   short_goes w m p q f g i =
-      left_if (same_name w (codes "result")) _ _ (apart w (codes "short") (codes "result") f refl)
-      ∙ left_if (same_name w (codes "target")) _ _ (apart w (codes "short") (codes "target") f refl)
-      ∙ taken_if (same_name w (codes "short")) _ _ f
+      cond-false (same_name w (codes "result")) _ _ (apart w (codes "short") (codes "result") f refl)
+      ∙ cond-false (same_name w (codes "target")) _ _ (apart w (codes "short") (codes "target") f refl)
+      ∙ cond-true (same_name w (codes "short")) _ _ f
       ∙ ap (λ o. short_by deeper d o m) g
       ∙ ap (λ o. property_by deeper d o m) i
 
   plain_goes : (w : List ℕ) (ts : List Token) → IsPlain w
       → the_name deeper d w (token.name w ∷ ts)
       ≡ prop_or deeper d (prop_front (token.name w ∷ ts)) w (token.name w ∷ ts)
-  plain_goes w ts f = left_if (same_name w (codes "result")) _ _ f.result
-      ∙ left_if (same_name w (codes "target")) _ _ f.target ∙ left_if (same_name w (codes "short")) _ _ f.short
+  plain_goes w ts f = cond-false (same_name w (codes "result")) _ _ f.result
+      ∙ cond-false (same_name w (codes "target")) _ _ f.target ∙ cond-false (same_name w (codes "short")) _ _ f.short
 
   property_goes : (m : List Token) (p : Prop) → prop_front m ≡ Some p
       → factor_at deeper d (key k.The ∷ m) ≡ property_by deeper d (Some p) m
@@ -420,14 +414,14 @@ front_is_layered e.on_background = refl
 
 article_complete : {a c : List Token} {n : Bool} → DerivesArticle a n c → article a ≡ Some (n, c)
 unfolding article
-article_complete (e.an {w} {c} f) = taken_if (is_article w) _ _ f
+article_complete (e.an {w} {c} f) = cond-true (is_article w) _ _ f
 article_complete (e.no_ {w} {c} f) =
-    left_if (is_article w) _ _ (no_article w f) ∙ taken_if (same_name w (codes "no")) _ _ f
+    cond-false (is_article w) _ _ (no_article w f) ∙ cond-true (same_name w (codes "no")) _ _ f
   where
     no_article : (w : List ℕ) → same_name w (codes "no") ≡ true → is_article w ≡ false
     no_article w f = ap (λ v. v || same_name w (codes "an")) (apart w (codes "no") (codes "a") f refl)
         ∙ apart w (codes "no") (codes "an") f refl
-article_complete (e.not_an {w} {c} f) = taken_if (is_article w) _ _ f
+article_complete (e.not_an {w} {c} f) = cond-true (is_article w) _ _ f
 
 -- Before an owner the tokens hang as an owner does.
 before_owner : {m c : List Token} {o : Owner} → DerivesOwner m o c → 1 < tie c → 0 < tie m
@@ -446,33 +440,6 @@ Claim power a e c = (d : ℕ) → depth e ≤ suc d → 2 < tie c → power_at (
 Claim prefixed a e c = (d : ℕ) → depth e ≤ suc d → 1 < tie c → prefixed_at (read d) d a ≡ Some (e, c)
 Claim factor a e c = (d : ℕ) → depth e ≤ suc d → 1 < tie c → factor_at (read d) d a ≡ Some (e, c)
 Claim primary a e c = (d : ℕ) → depth e ≤ suc d → 0 < tie c → primary_at (read d) d a ≡ Some (e, c)
-
-abbrev pub ListClaim : List Token → Exprs → List Token → Type 0
-ListClaim a xs c = (d : ℕ) → depths xs ≤ d → 9 < tie c → is_comma c ≡ false → (n : ℕ) (found : Exprs) → length a ≤ n
-    → list_at (read d) d n found a ≡ Some (joined found xs, c)
-
-abbrev pub ChunkClaim : List Token → Chunk → List Token → Type 0
-ChunkClaim a h c = (d : ℕ) → chunk_depth h ≤ d → 9 < tie c → (b : List Token) → after_of c ≡ Some b
-    → chunk_at (read d) d a ≡ Some (h, c)
-
-abbrev pub CountClaim : List Token → Count → List Token → Type 0
-CountClaim a n c = (d : ℕ) → count_depth n ≤ d → 1 < tie c → count_at (read d) d a ≡ Some (n, c)
-
-abbrev pub RefClaim : List Token → Ref → List Token → Type 0
-RefClaim a r c = (d : ℕ) → ref_depth r ≤ suc d → 1 < tie c → ref_at (read d) d a ≡ Some (r, c)
-
-abbrev pub SelectorClaim : Key → List Token → Selector → List Token → Type 0
-SelectorClaim h a p c =
-    is_layer_key h ≡ true → (d : ℕ) → selector_depth p ≤ d → 0 < tie c → selector_at (read d) d a ≡ Some (p, c)
-
-abbrev pub WhichClaim : List Token → Which → List Token → Type 0
-WhichClaim a w c = (d : ℕ) → which_depth w ≤ d → 0 < tie c → which_at (read d) d a ≡ Some (w, c)
-
-abbrev pub PartClaim : List Token → Part → List Token → Type 0
-PartClaim a p c = (d : ℕ) → part_depth p ≤ suc d → 1 < tie c → part_at (read d) d a ≡ Some (p, c)
-
-abbrev pub OwnerClaim : List Token → Owner → List Token → Type 0
-OwnerClaim m o c = (d : ℕ) → owner_depth o ≤ d → 1 < tie c → owner_at (read d) d m ≡ Some (o, c)
 
 settled : (n : ℕ) (a : List Token) (e : Expr) (c : List Token) → Claim (rank n) a e c → (d : ℕ) → depth e ≤ suc d
     → n + 2 < tie c → rank_at (read d) d n a ≡ Some (e, c)
@@ -569,7 +536,9 @@ mutual
   claim e.call_bare = λ d fits s. refl
   claim (e.name {w} {c}) = λ d fits s. name_stops (read d) d w c s
 
-  pub claim_list : {a : List Token} {xs : Exprs} {c : List Token} → DerivesList a xs c → ListClaim a xs c
+  pub claim_list : {a : List Token} {xs : Exprs} {c : List Token} → DerivesList a xs c → (d : ℕ) → depths xs ≤ d
+      → 9 < tie c → is_comma c ≡ false → (n : ℕ) (found : Exprs) → length a ≤ n
+      → list_at (read d) d n found a ≡ Some (joined found xs, c)
   claim_list (e.alone {a} {c} {x} h) = λ d fits s nc n found le.
       let v = list_step (read d) d n found a x c (omega (arith, shorter h))
       (finish whole a x c (claim h) d (omega arith) s) in
@@ -581,7 +550,8 @@ mutual
       v.2 ∙ claim_list i d (omega arith) s nc v.0 (snoc found x) (omega (arith, v.1, shorter h))
       ∙ ap (λ v. Some (v, c)) (joined_snoc found x xs)
 
-  pub claim_chunk : {a : List Token} {h : Chunk} {c : List Token} → DerivesChunk a h c → ChunkClaim a h c
+  pub claim_chunk : {a : List Token} {h : Chunk} {c : List Token} → DerivesChunk a h c → (d : ℕ) → chunk_depth h ≤ d
+      → 9 < tie c → (b : List Token) → after_of c ≡ Some b → chunk_at (read d) d a ≡ Some (h, c)
   claim_chunk (e.piece {p} {a} {c} {i} h) = λ d fits s b o.
       step (λ i r. piece_by (read d) d (first_kind r) p i r) (finish whole a i c (claim h) d fits s)
       ∙ piece_stops (read d) d p i c o
@@ -595,7 +565,8 @@ mutual
         | inr same ↦ subst (λ v. chunk_at (read d) d v ≡ Some (t.nth_piece n p, c)) (sym same) refl
       ]
 
-  pub claim_count : {a : List Token} {n : Count} {c : List Token} → DerivesCount a n c → CountClaim a n c
+  pub claim_count : {a : List Token} {n : Count} {c : List Token} → DerivesCount a n c → (d : ℕ) → count_depth n ≤ d
+      → 1 < tie c → count_at (read d) d a ≡ Some (n, c)
   claim_count (e.pieces_of {p} {b} {c} {m} {x} o h) = λ d fits s.
       ap (λ v. made (t.pieces_of p) (of_part (read d) d (read d factor) v)) o
       ∙ make (t.pieces_of p) (finish factor b x c (claim h) d fits s)
@@ -607,9 +578,10 @@ mutual
   claim_count (e.of_object h) = λ d fits s. object_is_counted (read d) d h
       ∙ make t.of_object (fits_in (read d) d ref_depth (claim_ref h d (omega arith) s) fits)
 
-  pub claim_ref : {a : List Token} {r : Ref} {c : List Token} → DerivesRef a r c → RefClaim a r c
+  pub claim_ref : {a : List Token} {r : Ref} {c : List Token} → DerivesRef a r c → (d : ℕ) → ref_depth r ≤ suc d
+      → 1 < tie c → ref_at (read d) d a ≡ Some (r, c)
   claim_ref e.me = λ d fits s. refl
-  claim_ref (e.the_target {w} {c} f) = λ d fits s. taken_if (same_name w (codes "target")) _ _ f
+  claim_ref (e.the_target {w} {c} f) = λ d fits s. cond-true (same_name w (codes "target")) _ _ f
   claim_ref e.this_stack = λ d fits s. refl
   claim_ref (e.card {a} {c} {p} h) = λ d fits s.
       card_is_ref (read d) d h ∙ ap (λ l. ref_of_layer (read d) d l a) (referenced_card h (tie_no_part c (omega arith)))
@@ -622,8 +594,9 @@ mutual
       part_is_ref (read d) d h ∙ ap (λ l. ref_of_layer (read d) d l a) (part_no_layer h)
       ∙ make t.a_part (claim_part h d fits s)
 
-  pub claim_selector : {h : Key} {a : List Token} {p : Selector} {c : List Token} → DerivesSelector h a p c
-      → SelectorClaim h a p c
+  pub claim_selector : {h : Key} {a : List Token} {p : Selector} {c : List Token}
+      → DerivesSelector h a p c → is_layer_key h ≡ true → (d : ℕ) → selector_depth p ≤ d → 0 < tie c
+      → selector_at (read d) d a ≡ Some (p, c)
   claim_selector e.this = λ f d fits s. refl
   claim_selector e.next = λ f d fits s. refl
   claim_selector e.previous = λ f d fits s. refl
@@ -631,12 +604,14 @@ mutual
   claim_selector (e.which {h} {a} {c} {w} g) =
       λ f d fits s. selector_goes (read d) d h a f ∙ make t.which (claim_which g d fits s)
 
-  pub claim_which : {a : List Token} {w : Which} {c : List Token} → DerivesWhich a w c → WhichClaim a w c
+  pub claim_which : {a : List Token} {w : Which} {c : List Token} → DerivesWhich a w c → (d : ℕ) → which_depth w ≤ d
+      → 0 < tie c → which_at (read d) d a ≡ Some (w, c)
   claim_which (e.by_id {a} {c} {x} h) = λ d fits s. make t.by_id (finish primary a x c (claim h) d fits s)
   claim_which (e.by_text {a} {c} {x} h) =
       λ d fits s. primary_is_text (read d) d h ∙ make t.by_text (finish primary a x c (claim h) d fits s)
 
-  pub claim_part : {a : List Token} {p : Part} {c : List Token} → DerivesPart a p c → PartClaim a p c
+  pub claim_part : {a : List Token} {p : Part} {c : List Token} → DerivesPart a p c → (d : ℕ) → part_depth p ≤ suc d
+      → 1 < tie c → part_at (read d) d a ≡ Some (p, c)
   claim_part (e.part {p} {a} {b} {c} {m} {l} {w} {o} f g h) = λ d fits s.
       part_starts (read d) d f
       ∙ step (part_end (read d) d) (front_is_layered f)
@@ -645,7 +620,8 @@ mutual
   claim_part (e.nth_part {n} {p} {a} {c} {m} {l} {o} f h) = λ d fits s.
       step (nth_end (read d) d n) (front_is_layered f) ∙ make (t.nth_part n l p) (claim_owner h d (omega arith) s)
 
-  pub claim_owner : {m : List Token} {o : Owner} {c : List Token} → DerivesOwner m o c → OwnerClaim m o c
+  pub claim_owner : {m : List Token} {o : Owner} {c : List Token} → DerivesOwner m o c → (d : ℕ) → owner_depth o ≤ d
+      → 1 < tie c → owner_at (read d) d m ≡ Some (o, c)
   claim_owner (e.no_owner {c}) = λ d fits s. owner_stops (read d) d c (tie_no_owner c s)
   claim_owner (e.of_card {b} {c} {m} {p} o h) = λ d fits s.
       owner_goes (read d) d m b layer.Card o (referenced_card h (tie_no_part c (omega arith)))

@@ -1,6 +1,7 @@
 -- What is in the grammar is read: statements.
 use Rattle.std.proofs.Common.{◌≡◌, ℕ, zero, suc, ◌<◌, ◌≤◌, List, [], ◌∷◌, length, true, false, Option, Some, None}
 use Rattle.std.proofs.Common.{codes, ◌&&◌, refl, sym, ap, ◌∙◌, subst, arith}
+use Rattle.std.proofs.lemmas.Bool.{cond-true, cond-false}
 use Rattle.ht_lex.specs.declared.key.Key.TheVariants as k
 use Rattle.ht_lex.specs.declared.key.TokenKind.{TokenKind}
 use Rattle.ht_lex.specs.declared.key.TokenKind.TheVariants as kind
@@ -24,7 +25,7 @@ use Rattle.ht_grammar.proofs.Follow.{loose_to}
 use Rattle.ht_grammar.proofs.FollowLines.{stops, stop_loose, ended_stops, else_stops, then_loose, times_loose}
 use Rattle.ht_grammar.proofs.FollowLines.{loose_name}
 use Rattle.ht_grammar.proofs.ShorterLines.{shorter_stmt, shorter_ended}
-use Rattle.ht_grammar.proofs.Complete.{step, make, taken_if, left_if}
+use Rattle.ht_grammar.proofs.Complete.{step, make}
 use Rattle.ht_grammar.proofs.CompleteSimple.{ahead, claim_simple}
 
 -- No `else` of a statement on one line stands here.
@@ -114,7 +115,7 @@ claim_head (g.counted_up {w} {a} {b} {c} {e = v} {f = u} h i) d x fits f =
     ∙ make (s.counted_up w v) (ahead i d (omega arith) (stop_loose c (ended_stops c f)))
 claim_head (g.counted_down {w} {v = n} {a} {b} {c} {e = v} {f = u} h o i) d x fits f =
     step (λ e r. bound_by d x w e (first_kind r) r) (ahead h d (omega arith) (loose_name n (key k.To ∷ b)))
-    ∙ taken_if (same_name n (codes "down")) _ _ o
+    ∙ cond-true (same_name n (codes "down")) _ _ o
     ∙ make (s.counted_down w v) (ahead i d (omega arith) (stop_loose c (ended_stops c f)))
 
 within : {x : Context} {a c : List Token} {v : Stmt} → DerivesSimple x a v c → (d : ℕ) → stmt_depth v ≤ d
@@ -192,7 +193,7 @@ else_goes : (d : ℕ) (x : Context) (v : Expr) (u : Stmt) (n r : List Token) →
     → short_end (blocks d) d x v u n ≡ made (λ w. s.when v (also u stop) (also w stop)) (simple_within d x r)
 unfolding is_key
 else_goes d x v u n r o f =
-    taken_if (is_key k.Else (first_kind (past_ends n)) && begins_simple (first_kind (later (past_ends n)))) _ _
+    cond-true (is_key k.Else (first_kind (past_ends n)) && begins_simple (first_kind (later (past_ends n)))) _ _
     (ap (λ l. is_key k.Else (first_kind l) && begins_simple (first_kind (later l))) o ∙ f)
     ∙ ap (λ l. made (λ w. s.when v (also u stop) (also w stop)) (simple_within d x (later l))) o
 
@@ -208,7 +209,7 @@ mutual
       ∙ after_then (λ r. then_by (blocks d) d x (first_kind r) v r) m i
       ∙ then_is_simple (blocks d) d x v b (simple_begins j)
       ∙ step (short_end (blocks d) d x v) (within j d (omega arith) (ended_stops c f))
-      ∙ left_if (is_key k.Else (first_kind (past_ends c)) && begins_simple (first_kind (later (past_ends c)))) _ _ e
+      ∙ cond-false (is_key k.Else (first_kind (past_ends c)) && begins_simple (first_kind (later (past_ends c)))) _ _ e
   claim_stmt (g.short_else {x} {a} {b} {c} {d = r} {m} {n} {e = v} {t = u} {u = w} h i j o l) d fits f e =
       step (λ e. then_at (λ r. then_by (blocks d) d x (first_kind r) e r)) (ahead h d (omega arith) (then_loose m i))
       ∙ after_then (λ r. then_by (blocks d) d x (first_kind r) v r) m i
@@ -238,11 +239,11 @@ mutual
       → begins_statement (first_kind c) ≡ false → LeavesElse c → (n : ℕ) → length a < n
       → lines_at (statement_of d) (else_if_of d) n x a ≡ Some (v, c)
   claim_lines (g.done {x} {c}) d fits f e zero le = absurd (omega arith)
-  claim_lines (g.done {x} {c}) d fits f e (suc n) le = left_if (begins_statement (first_kind c)) _ _ f
+  claim_lines (g.done {x} {c}) d fits f e (suc n) le = cond-false (begins_statement (first_kind c)) _ _ f
   claim_lines (g.line h i j) d fits f e zero le = absurd (omega arith)
   claim_lines (g.line {t = u} h i j) zero fits f e (suc n) le = absurd (omega (arith, stmt_depth_pos u))
   claim_lines (g.line {x} {a} {b} {c} {m} {t = u} {ts = us} h i j) (suc d) fits f e (suc n) le =
-      taken_if (begins_statement (first_kind a)) _ _ (stmt_begins h)
+      cond-true (begins_statement (first_kind a)) _ _ (stmt_begins h)
       ∙ step (λ t r. ended_then (ended r)
       (λ b. made (also t) (lines_at (statement_of (suc d)) (else_if_of (suc d)) n x b)))
       (claim_stmt h d (omega arith) i (subst LeavesElse (sym (ended_past m i)) (rest_leaves j e)))

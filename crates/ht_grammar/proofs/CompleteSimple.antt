@@ -1,6 +1,7 @@
 -- What is in the grammar is read: containers and statements on one line.
 use Rattle.std.proofs.Common.{◌≡◌, ℕ, zero, suc, ◌<◌, ◌≤◌, inl, inr, List, [], ◌∷◌, length, true, false, Some, None}
 use Rattle.std.proofs.Common.{codes, refl, sym, ap, ◌∙◌, subst, arith, is_some}
+use Rattle.std.proofs.lemmas.Bool.{cond-true, cond-false}
 use Rattle.ht_lex.specs.declared.key.Key.TheVariants as k
 use Rattle.ht_lex.specs.Token.{Token, key, first_kind, later, is_key}
 use Rattle.ht_lex.specs.Token as token
@@ -27,7 +28,7 @@ use Rattle.ht_grammar.proofs.Follow.{chunk_no_layer, loose_to}
 use Rattle.ht_grammar.proofs.FollowLines.{stops, stop_loose, stop_no_expr, stop_no_comma, stop_no_place, stop_no_layer}
 use Rattle.ht_grammar.proofs.FollowLines.{place_loose, loose_from, loose_by}
 use Rattle.ht_grammar.proofs.Names.{run_no_prop}
-use Rattle.ht_grammar.proofs.Complete.{step, make, taken_if, left_if, fits_in, is_comma, list_begins, finish, claim}
+use Rattle.ht_grammar.proofs.Complete.{step, make, fits_in, is_comma, list_begins, finish, claim}
 use Rattle.ht_grammar.proofs.Complete.{claim_list, claim_chunk, claim_ref, claim_selector, claim_part}
 
 container_no_layer : {a c : List Token} {x : Container} → DerivesContainer a x c → referenced_layer a ≡ None
@@ -162,18 +163,18 @@ claim_simple (g.send {x} {a} {b} {c} {e = v} {r} h i) d fits f =
 claim_simple (g.go {x} {a} {c} {g = v} h) d fits f = make s.go (claim_destination h d x (omega arith) f)
 claim_simple (g.global {x} {a} {c} {ws} h) d fits f =
     make s.global (claim_names h (stop_no_comma c f) (suc (length a)) (omega arith))
-claim_simple (g.exit_repeat {x} {c} i) d fits f = taken_if x.in_repeat _ _ i
-claim_simple (g.next_repeat {x} {c} i) d fits f = taken_if x.in_repeat _ _ i
-claim_simple (g.exit_to_hypercard {x} {w} {c} i) d fits f = taken_if (same_name w (codes "HyperCard")) _ _ i
-claim_simple (g.exit {x} {w} {c} i) d fits f = taken_if (names_handler x.handler w) _ _ i
-claim_simple (g.pass {x} {w} {c} i) d fits f = taken_if (names_handler x.handler w) _ _ i
+claim_simple (g.exit_repeat {x} {c} i) d fits f = cond-true x.in_repeat _ _ i
+claim_simple (g.next_repeat {x} {c} i) d fits f = cond-true x.in_repeat _ _ i
+claim_simple (g.exit_to_hypercard {x} {w} {c} i) d fits f = cond-true (same_name w (codes "HyperCard")) _ _ i
+claim_simple (g.exit {x} {w} {c} i) d fits f = cond-true (names_handler x.handler w) _ _ i
+claim_simple (g.pass {x} {w} {c} i) d fits f = cond-true (names_handler x.handler w) _ _ i
 claim_simple (g.return_nothing {x} {c} i) d fits f =
-    taken_if (is_some x.handler) _ _ i ∙ left_if (begins_expr (first_kind c)) _ _ (stop_no_expr c f)
+    cond-true (is_some x.handler) _ _ i ∙ cond-false (begins_expr (first_kind c)) _ _ (stop_no_expr c f)
 claim_simple (g.return_value {x} {a} {c} {e = v} i h) d fits f =
-    taken_if (is_some x.handler) _ _ i ∙ taken_if (begins_expr (first_kind a)) _ _ (expr_begins h)
+    cond-true (is_some x.handler) _ _ i ∙ cond-true (begins_expr (first_kind a)) _ _ (expr_begins h)
     ∙ make s.return_value (ahead h d (omega arith) (stop_loose c f))
-claim_simple (g.command_bare {x} {w} {c}) d fits f = left_if (begins_expr (first_kind c)) _ _ (stop_no_expr c f)
+claim_simple (g.command_bare {x} {w} {c}) d fits f = cond-false (begins_expr (first_kind c)) _ _ (stop_no_expr c f)
 claim_simple (g.command {x} {w} {a} {c} {es = vs} h) d fits f =
-    taken_if (begins_expr (first_kind a)) _ _ (list_begins h)
+    cond-true (begins_expr (first_kind a)) _ _ (list_begins h)
     ∙ make (s.command w) (claim_list h d (omega arith) (stop_loose c f) (stop_no_comma c f) (suc (length a)) none
     (omega arith))

@@ -1,6 +1,7 @@
 -- Reading whole texts: it answers just the trees of the grammar, and the tokens have one at most.
 use Rattle.std.proofs.Common.{◌≡◌, ℕ, suc, ◌≤◌, length, arith, map, List, [], ◌∷◌, Bool, true, false, Option, Some}
 use Rattle.std.proofs.Common.{None, nat_le, cond, refl, sym, ap, ◌∙◌, subst, le-leb, leb-true}
+use Rattle.std.proofs.lemmas.Bool.{cond-true}
 use Rattle.ht_lex.specs.Token.{Token, key, first_kind, token_in}
 use Rattle.ht_lex.specs.declared.key.Key.TheVariants as k
 use Rattle.ht_values.specs.declared.word.PartKind.{PartKind}
@@ -26,7 +27,7 @@ use Rattle.ht_grammar.proofs.SoundSimple.{whole_list}
 use Rattle.ht_grammar.proofs.SoundLines.{blocks_sound}
 use Rattle.ht_grammar.proofs.Follow.{loose_end}
 use Rattle.ht_grammar.proofs.ShorterLines.{shorter_ends}
-use Rattle.ht_grammar.proofs.Complete.{read_complete, taken_if, make, list_begins, claim_list, claim_part}
+use Rattle.ht_grammar.proofs.Complete.{read_complete, make, list_begins, claim_list, claim_part}
 use Rattle.ht_grammar.proofs.CompleteLines.{lines_complete}
 use Rattle.ht_grammar.proofs.Handlers.{handlers_sound, handlers_complete}
 
@@ -53,7 +54,7 @@ kept {A} height (Some y) x e = go (nat_le (height y) max_depth) refl e
 pub keeps : {A : Type 0} (height : A → ℕ) {o : Option A} {x : A} → o ≡ Some x → height x ≤ max_depth
     → not_too_deep height o ≡ Some x
 keeps height {o} {x} e le =
-    ap (not_too_deep height) e ∙ taken_if (nat_le (height x) max_depth) (Some x) None (le-leb (height x) max_depth le)
+    ap (not_too_deep height) e ∙ cond-true (nat_le (height x) max_depth) (Some x) None (le-leb (height x) max_depth le)
 
 pub one_tree : {A : Type 0} {read : List Token → Option A} {IsRead : List Token → A → Type 0} → ReadsExactly read IsRead
     → OneTree IsRead

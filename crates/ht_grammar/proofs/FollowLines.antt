@@ -22,36 +22,29 @@ stops (eol ∷ ts) = true
 stops (key k.Else ∷ ts) = true
 stops _ = false
 
+-- What holds at each such place holds wherever it may stop.
+stopping : (P : List Token → Type 0) → P [] → ((ts : List Token) → P (eol ∷ ts))
+    → ((ts : List Token) → P (key k.Else ∷ ts)) → (c : List Token) → stops c ≡ true → P c
+stopping P none end else [] f = none
+stopping P none end else (eol ∷ ts) f = end ts
+stopping P none end else (key k.Else ∷ ts) f = else ts
+stopping P none end else c f = absurd (false≢true f)
+
 pub stop_loose : (c : List Token) → stops c ≡ true → 9 < tie c
 unfolding tie leading_operator
-stop_loose [] f = omega arith
-stop_loose (eol ∷ ts) f = omega arith
-stop_loose (key k.Else ∷ ts) f = omega arith
-stop_loose c f = absurd (false≢true f)
+stop_loose = stopping (λ c. 9 < tie c) (omega arith) (λ ts. omega arith) (λ ts. omega arith)
 
 pub stop_no_expr : (c : List Token) → stops c ≡ true → begins_expr (first_kind c) ≡ false
-stop_no_expr [] f = refl
-stop_no_expr (eol ∷ ts) f = refl
-stop_no_expr (key k.Else ∷ ts) f = refl
-stop_no_expr c f = absurd (false≢true f)
+stop_no_expr = stopping (λ c. begins_expr (first_kind c) ≡ false) refl (λ ts. refl) (λ ts. refl)
 
 pub stop_no_comma : (c : List Token) → stops c ≡ true → is_comma c ≡ false
-stop_no_comma [] f = refl
-stop_no_comma (eol ∷ ts) f = refl
-stop_no_comma (key k.Else ∷ ts) f = refl
-stop_no_comma c f = absurd (false≢true f)
+stop_no_comma = stopping (λ c. is_comma c ≡ false) refl (λ ts. refl) (λ ts. refl)
 
 pub stop_no_place : (d : ℕ) (x : Context) (c : List Token) → stops c ≡ true → place_front d x (first_kind c) ≡ None
-stop_no_place d x [] f = refl
-stop_no_place d x (eol ∷ ts) f = refl
-stop_no_place d x (key k.Else ∷ ts) f = refl
-stop_no_place d x c f = absurd (false≢true f)
+stop_no_place d x = stopping (λ c. place_front d x (first_kind c) ≡ None) refl (λ ts. refl) (λ ts. refl)
 
 pub stop_no_layer : (c : List Token) → stops c ≡ true → layer_by (first_kind c) ≡ None
-stop_no_layer [] f = refl
-stop_no_layer (eol ∷ ts) f = refl
-stop_no_layer (key k.Else ∷ ts) f = refl
-stop_no_layer c f = absurd (false≢true f)
+stop_no_layer = stopping (λ c. layer_by (first_kind c) ≡ None) refl (λ ts. refl) (λ ts. refl)
 
 pub ended_stops : (c : List Token) {l : List Token} → ended c ≡ Some l → stops c ≡ true
 unfolding ended

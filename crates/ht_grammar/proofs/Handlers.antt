@@ -1,5 +1,6 @@
 -- Handlers are read exactly.
 use Rattle.std.proofs.Common.{◌≡◌, ℕ, zero, suc, ◌<◌, ◌≤◌, List, [], ◌∷◌, length, Some, refl, ap, ◌∙◌, subst, arith}
+use Rattle.std.proofs.lemmas.Bool.{cond-true}
 use Rattle.ht_lex.specs.declared.key.Key.{Key}
 use Rattle.ht_lex.specs.declared.key.Key.TheVariants as k
 use Rattle.ht_lex.specs.Token.{Token, key, eol, first_kind, is_key}
@@ -22,7 +23,7 @@ use Rattle.ht_grammar.proofs.SoundSimple.{names_sound}
 use Rattle.ht_grammar.proofs.SoundLines.{blocks_sound}
 use Rattle.ht_grammar.proofs.FollowLines.{stop_no_comma, ended_stops}
 use Rattle.ht_grammar.proofs.ShorterLines.{shorter_handler}
-use Rattle.ht_grammar.proofs.Complete.{step, make, taken_if}
+use Rattle.ht_grammar.proofs.Complete.{step, make}
 use Rattle.ht_grammar.proofs.CompleteSimple.{claim_names}
 use Rattle.ht_grammar.proofs.CompleteLines.{lines_complete}
 
@@ -60,9 +61,8 @@ body_sound h f w a m ps q e i same =
 
 named_sound : (h : Key) (f : HandlerKind) (ts : List Token) (q : Handler × List Token) → kind_of_handler h ≡ Some f
     → named_by (first_kind ts) f ts ≡ Some q → DerivesHandler (key h ∷ ts) q.0 q.1
-named_sound h f (token.name w ∷ ts) q e same = taken (params_by (first_kind ts) ts) (λ ps. body_at f w ps)
-    (DerivesHandler (key h ∷ token.name w ∷ ts) q.0 q.1) same (λ p i same.
-    body_sound h f w ts p.1 p.0 q e (params_sound ts p i) same)
+named_sound h f (token.name w ∷ ts) q e same = taken (params_by (first_kind ts) ts) (λ ps.
+    body_at f w ps) _ same (λ p i same. body_sound h f w ts p.1 p.0 q e (params_sound ts p i) same)
 named_sound h f ts q e same = cc
 
 handler_sound : (ts : List Token) (q : Handler × List Token) → handler_by (first_kind ts) ts ≡ Some q
@@ -123,7 +123,7 @@ handlers_complete (g.and_handler {b = b} {hs = hs}
     (λ ss. after_key k.End (λ r. name_by (first_kind r) w (handler f w ps ss) r)))) j
     ∙ step (λ ss. after_key k.End (λ r. name_by (first_kind r) w (handler f w ps ss) r))
     (lines_complete max_depth o (omega arith) refl refl)
-    ∙ taken_if (same_name w v) _ _ s
+    ∙ cond-true (same_name w v) _ _ s
     ∙ ap (λ o. ended_then o (λ c. Some (handler f w ps ss, c))) t)
     ∙ make (and_handler (handler f w ps ss))
     (handlers_complete q (omega arith) n (omega (arith, shorter_handler given)))

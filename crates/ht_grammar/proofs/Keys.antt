@@ -1,9 +1,11 @@
 -- Tests of the first token, and what they tell of the tokens.
-use Rattle.std.proofs.Common.{◌≡◌, List, ◌∷◌, true, Option, Some, None, refl}
+use Rattle.std.proofs.Common.{◌≡◌, List, ◌∷◌, true, Option, Some, None, refl, subst}
 use Rattle.std.proofs.lemmas.Bool.{false≢true}
 use Rattle.ht_lex.specs.declared.key.Key.{Key}
 use Rattle.ht_lex.specs.declared.key.Key.TheVariants as k
 use Rattle.ht_lex.specs.Token.{Token, key, first_kind, later, is_key}
+use Rattle.ht_grammar.specs.Trees.{Expr}
+use Rattle.ht_grammar.specs.Expressions.{Derives, whole}
 use Rattle.ht_grammar.specs.Reading.{Parser}
 use Rattle.ht_grammar.specs.Lines.{after_key, ended_then}
 use Rattle.ht_grammar.proofs.Sound.{chosen}
@@ -62,6 +64,10 @@ pub keyed : {A : Type 0} {h : Key} → Recognizes h → (f : Parser A) (ts : Lis
     → after_key h f ts ≡ Some q → ((c : List Token) → ts ≡ key h ∷ c → f c ≡ Some q → P) → P
 keyed {h = h} knows f ts {q} P same go =
     chosen (is_key h (first_kind ts)) P same (λ b same. go (later ts) (knows ts b) same) (λ b same. cc)
+
+-- What is read up to a key is read up to what was found to be that key.
+pub ended_by_key : {a m n : List Token} {v : Expr} → Derives whole a v m → m ≡ n → Derives whole a v n
+ended_by_key {a} {v = v} h same = subst (λ c. Derives whole a v c) same h
 
 -- What came after the ends of lines.
 pub past_end : {A : Type 0} (o : Option (List Token)) (f : Parser A) {q : A × List Token} (P : Type 0)

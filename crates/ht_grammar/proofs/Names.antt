@@ -1,5 +1,6 @@
 -- Names of different tables differ, whatever their case.
-use Rattle.std.proofs.Common.{◌≡◌, ℕ, List, [], ◌∷◌, Bool, true, false, Some, None, cond, refl, sym, ap, ◌∙◌, codes, rules}
+use Rattle.std.proofs.Common.{◌≡◌, ℕ, List, [], ◌∷◌, Bool, true, false, Some, None, cond, refl, sym, ap, ◌∙◌, codes}
+use Rattle.std.proofs.Common.{rules}
 use Rattle.std.specs.List.{AllByRecursion}
 use Rattle.std.specs.Str.{bytes_eq, str_to_ascii_lowercase}
 use Rattle.std.proofs.lemmas.Slice.Eq.{bytes_eq-Decides}
@@ -32,11 +33,6 @@ entry_such {A} P (row ∷ rows) w x shared h e =
     go true is e later = shared row.0 is h.0
     go false is e later = later e
 
-entry_apart : {A : Type 0} (rows : List (List ℕ × A)) (w v : List ℕ) (x : A)
-    → AllByRecursion (λ row. same_name row.0 v ≡ false) rows → entry rows w ≡ Some x → same_name w v ≡ false
-entry_apart rows w v x = entry_such (λ u. same_name u v ≡ false) rows w x
-    (λ u is f. ap (λ l. bytes_eq l (str_to_ascii_lowercase v)) (sym (folds_alike u w is)) ∙ f)
-
 -- no name of one table is the same as one of the other
 abbrev TablesApart : {A B : Type 0} → List (List ℕ × A) → List (List ℕ × B) → Type 0
 TablesApart rows = AllByRecursion (λ other. AllByRecursion (λ row. same_name other.0 row.0 ≡ false) rows)
@@ -55,29 +51,34 @@ pub record IsPlain (w : List ℕ) : Type 0 where
   pub target : same_name w (codes "target") ≡ false
   pub short : same_name w (codes "short") ≡ false
 
+abbrev AreOther : List ℕ → Type 0
+AreOther w = (same_name w (codes "result") ≡ false) × (same_name w (codes "target") ≡ false)
+    × (same_name w (codes "short") ≡ false)
+
+plain_by : {A : Type 0} (rows : List (List ℕ × A)) (w : List ℕ) (x : A) → AllByRecursion (λ row. AreOther row.0) rows
+    → entry rows w ≡ Some x → IsPlain w
+plain_by rows w x others e =
+    let p = entry_such AreOther rows w x (λ u is h. (
+      other u is (codes "result") h.0,
+      other u is (codes "target") h.1,
+      other u is (codes "short") h.2,
+    )) others e in
+    record { result = p.0; target = p.1; short = p.2 }
+  where
+    other : (u : List ℕ) → same_name u w ≡ true → (v : List ℕ) → same_name u v ≡ false → same_name w v ≡ false
+    other u is v f = ap (λ l. bytes_eq l (str_to_ascii_lowercase v)) (sym (folds_alike u w is)) ∙ f
+
 pub prop_plain : (w : List ℕ) (ts : List Token) (p : Prop) → prop_front (token.name w ∷ ts) ≡ Some p → IsPlain w
 unfolding prop_front
-prop_plain w ts p e = record {
-  result = entry_apart prop_names w (codes "result") p (search rules) e;
-  target = entry_apart prop_names w (codes "target") p (search rules) e;
-  short = entry_apart prop_names w (codes "short") p (search rules) e;
-}
+prop_plain w ts p e = plain_by prop_names w p (search rules) e
 
 pub run_plain : (w : List ℕ) (p : RunProp) → run_prop w ≡ Some p → IsPlain w
 unfolding run_prop
-run_plain w p e = record {
-  result = entry_apart run_prop_names w (codes "result") p (search rules) e;
-  target = entry_apart run_prop_names w (codes "target") p (search rules) e;
-  short = entry_apart run_prop_names w (codes "short") p (search rules) e;
-}
+run_plain w p e = plain_by run_prop_names w p (search rules) e
 
 pub function_plain : (w : List ℕ) (f : FunctionWord) → function_of w ≡ Some f → IsPlain w
 unfolding function_of
-function_plain w f e = record {
-  result = entry_apart function_names w (codes "result") f (search rules) e;
-  target = entry_apart function_names w (codes "target") f (search rules) e;
-  short = entry_apart function_names w (codes "short") f (search rules) e;
-}
+function_plain w f e = plain_by function_names w f (search rules) e
 
 pub run_no_prop : (w : List ℕ) (ts : List Token) (p : RunProp) → run_prop w ≡ Some p
     → prop_front (token.name w ∷ ts) ≡ None

@@ -1,7 +1,6 @@
 -- The look-ahead after a part: an owner is read exactly where the grammar has one.
 use Rattle.std.proofs.Common.{◌≡◌, ℕ, suc, List, ◌∷◌, Option, Some, None, refl, nat_le}
 use Rattle.std.proofs.lemmas.Option.{none-some}
-use Rattle.ht_lex.specs.declared.key.Key.{Key}
 use Rattle.ht_lex.specs.declared.key.Key.TheVariants as k
 use Rattle.ht_lex.specs.declared.key.TokenKind.{TokenKind}
 use Rattle.ht_lex.specs.declared.key.TokenKind.TheVariants as kind

@@ -87,13 +87,12 @@ snoc_good found x ts m h = record { xs = more x none; grown = snoc_joined found 
 
 article_sound : (ts : List Token) (q : Bool × List Token) → article ts ≡ Some q → DerivesArticle ts q.0 q.1
 unfolding article
-article_sound (token.name w ∷ ts) q same = chosen (is_article w) (DerivesArticle (token.name w ∷ ts) q.0 q.1) same
-    (λ b same. became (λ q. DerivesArticle (token.name w ∷ ts) q.0 q.1) same (e.an b))
-    (λ b same. tested (same_name w (codes "no")) (DerivesArticle (token.name w ∷ ts) q.0 q.1) same
-    (λ c same. became (λ q. DerivesArticle (token.name w ∷ ts) q.0 q.1) same (e.no_ c)))
-article_sound (key k.Not ∷ token.name w ∷ ts) q same = tested (is_article w)
-    (DerivesArticle (key k.Not ∷ token.name w ∷ ts) q.0 q.1) same
-    (λ b same. became (λ q. DerivesArticle (key k.Not ∷ token.name w ∷ ts) q.0 q.1) same (e.not_an b))
+article_sound (token.name w ∷ ts) q same = chosen (is_article w) _ same (λ b same.
+    became (λ q. DerivesArticle (token.name w ∷ ts) q.0 q.1) same (e.an b)) (λ b same.
+    tested (same_name w (codes "no")) _ same (λ c same. became (λ q.
+    DerivesArticle (token.name w ∷ ts) q.0 q.1) same (e.no_ c)))
+article_sound (key k.Not ∷ token.name w ∷ ts) q same = tested (is_article w) _ same (λ b same.
+    became (λ q. DerivesArticle (key k.Not ∷ token.name w ∷ ts) q.0 q.1) same (e.not_an b))
 article_sound ts q same = absurd (none-some _ same)
 
 module _ (deeper : Level → Parser Expr) (d : ℕ)
@@ -109,18 +108,16 @@ module _ (deeper : Level → Parser Expr) (d : ℕ)
   plain_part : (ts : List Token) (q : Part × List Token) → and_then (part_front ts) (part_end deeper d) ≡ Some q
       → DerivesPart ts q.0 q.1
   unfolding part_end
-  plain_part ts q same = taken (part_front ts) (part_end deeper d) (DerivesPart ts q.0 q.1) same (λ f h same.
-      taken (which_at deeper d f.1) (λ w r. made (t.part f.0.0 f.0.1 w) (owner_at deeper d r)) (DerivesPart ts q.0 q.1)
-      same (λ w i same.
+  plain_part ts q same = taken (part_front ts) (part_end deeper d) _ same (λ f h same.
+      taken (which_at deeper d f.1) (λ w r. made (t.part f.0.0 f.0.1 w) (owner_at deeper d r)) _ same (λ w i same.
       making (t.part f.0.0 f.0.1 w.0) (owner_at deeper d w.1) (λ q. DerivesPart ts q.0 q.1) same (λ o j.
       e.part (part_front_sound ts f h) (which_sound deeper d good f.1 w i) (owner_sound deeper d good w.1 o j))))
 
   pub part_sound : (ts : List Token) (q : Part × List Token) → part_at deeper d ts ≡ Some q → DerivesPart ts q.0 q.1
   unfolding part_at nth_end
-  part_sound (key (k.Ordinal n) ∷ ts) q same =
-      taken (part_front ts) (nth_end deeper d n) (DerivesPart (key (k.Ordinal n) ∷ ts) q.0 q.1) same (λ f h same.
-      making (t.nth_part n f.0.0 f.0.1) (owner_at deeper d f.1) (λ q. DerivesPart (key (k.Ordinal n) ∷ ts) q.0 q.1) same
-      (λ o j.
+  part_sound (key (k.Ordinal n) ∷ ts) q same = taken (part_front ts) (nth_end deeper d n) _ same (λ f h same.
+      making (t.nth_part n f.0.0 f.0.1) (owner_at deeper d f.1) (λ q.
+      DerivesPart (key (k.Ordinal n) ∷ ts) q.0 q.1) same (λ o j.
       e.nth_part (part_front_sound ts f h) (owner_sound deeper d good f.1 o j)))
   part_sound ts q same = plain_part _ q same
 
@@ -145,8 +142,7 @@ module _ (deeper : Level → Parser Expr) (d : ℕ)
   pub ref_sound : (ts : List Token) (q : Ref × List Token) → ref_at deeper d ts ≡ Some q → DerivesRef ts q.0 q.1
   unfolding ref_at
   ref_sound (key k.Me ∷ ts) q same = became (λ q. DerivesRef (key k.Me ∷ ts) q.0 q.1) same e.me
-  ref_sound (key k.The ∷ token.name w ∷ ts) q same =
-      tested (same_name w (codes "target")) (DerivesRef (key k.The ∷ token.name w ∷ ts) q.0 q.1) same (λ b same.
+  ref_sound (key k.The ∷ token.name w ∷ ts) q same = tested (same_name w (codes "target")) _ same (λ b same.
       became (λ q. DerivesRef (key k.The ∷ token.name w ∷ ts) q.0 q.1) same (e.the_target b))
   ref_sound (key k.The ∷ ts) q same = absurd (none-some _ same)
   ref_sound (key k.This ∷ key k.Stack ∷ ts) q same =
@@ -187,9 +183,8 @@ module _ (deeper : Level → Parser Expr) (d : ℕ)
 
   pub chunk_sound : (ts : List Token) (q : Chunk × List Token) → chunk_at deeper d ts ≡ Some q → DerivesChunk ts q.0 q.1
   unfolding chunk_at
-  chunk_sound (key (k.Piece p) ∷ ts) q same = taken (deeper whole ts) (λ i r. piece_by deeper d (first_kind r) p i r)
-      (DerivesChunk (key (k.Piece p) ∷ ts) q.0 q.1) same
-      (λ v h same. piece_sound p ts v.1 v.0 q (good whole ts v h) same)
+  chunk_sound (key (k.Piece p) ∷ ts) q same = taken (deeper whole ts) (λ i r.
+      piece_by deeper d (first_kind r) p i r) _ same (λ v h same. piece_sound p ts v.1 v.0 q (good whole ts v h) same)
   chunk_sound (key k.The ∷ key (k.Ordinal n) ∷ key (k.Piece p) ∷ ts) q same =
       became (λ q. DerivesChunk (key k.The ∷ key (k.Ordinal n) ∷ key (k.Piece p) ∷ ts) q.0 q.1) same (e.nth_piece refl)
   chunk_sound (key (k.Ordinal n) ∷ key (k.Piece p) ∷ ts) q same =
@@ -199,12 +194,10 @@ module _ (deeper : Level → Parser Expr) (d : ℕ)
   pub chunk_form_sound : (ts : List Token) (q : Expr × List Token) → chunk_form deeper d ts ≡ Some q
       → Derives factor ts q.0 q.1
   unfolding chunk_form
-  chunk_form_sound ts q same = taken (chunk_at deeper d ts)
-      (λ h r. made (t.chunk h) (of_part deeper d (deeper factor) (after_of r))) (Derives factor ts q.0 q.1) same
-      (λ h i same.
-      making (t.chunk h.0) (of_part deeper d (deeper factor) (after_of h.1)) (λ q. Derives factor ts q.0 q.1) same
-      (λ v f.
-      after (deeper factor) h.1 v (Derives factor ts (t.chunk h.0 v.0) v.1) f
+  chunk_form_sound ts q same = taken (chunk_at deeper d ts) (λ h r.
+      made (t.chunk h) (of_part deeper d (deeper factor) (after_of r))) _ same (λ h i same.
+      making (t.chunk h.0) (of_part deeper d (deeper factor) (after_of h.1)) (λ q.
+      Derives factor ts q.0 q.1) same (λ v f. after (deeper factor) h.1 v (Derives factor ts (t.chunk h.0 v.0) v.1) f
       (λ b g j. e.chunk (chunk_sound ts h i) g (good factor b v j))))
 
   ends_at : {p : Level} {ts m n : List Token} {x : Expr} → Derives p ts x m → m ≡ n → Derives p ts x n
@@ -244,10 +237,9 @@ module _ (deeper : Level → Parser Expr) (d : ℕ)
       closing (t.call w p.0) p.1 (λ q. Derives primary (token.name w ∷ key k.LeftParen ∷ ts) q.0 q.1) same
       (λ c f. e.call (subst (λ m. DerivesList ts p.0 m) f (subst (λ v. DerivesList ts v p.1) grown l.derives))))
   primary_sound (token.name w ∷ ts) q same = became (λ q. Derives primary (token.name w ∷ ts) q.0 q.1) same e.name
-  primary_sound (key k.LeftParen ∷ ts) q same = taken (deeper whole ts) (λ x. closed (t.paren x))
-      (Derives primary (key k.LeftParen ∷ ts) q.0 q.1) same (λ p i same.
-      closing (t.paren p.0) p.1 (λ q. Derives primary (key k.LeftParen ∷ ts) q.0 q.1) same
-      (λ c f. e.paren (ends_at (good whole ts p i) f)))
+  primary_sound (key k.LeftParen ∷ ts) q same = taken (deeper whole ts) (λ x. closed (t.paren x)) _ same (λ p i same.
+      closing (t.paren p.0) p.1 (λ q. Derives primary (key k.LeftParen ∷ ts) q.0 q.1) same (λ c f.
+      e.paren (ends_at (good whole ts p i) f)))
   primary_sound ts q same = absurd (none-some _ same)
 
   numbered : (a m : List Token) (q : Expr × List Token) → past_the a ≡ key k.Number ∷ m
@@ -305,14 +297,12 @@ module _ (deeper : Level → Parser Expr) (d : ℕ)
 
   the_sound : (w : List ℕ) (ts : List Token) (q : Expr × List Token) → the_name deeper d w (token.name w ∷ ts) ≡ Some q
       → Derives factor (key k.The ∷ token.name w ∷ ts) q.0 q.1
-  the_sound w ts q same =
-      chosen (same_name w (codes "result")) (Derives factor (key k.The ∷ token.name w ∷ ts) q.0 q.1) same
-      (λ b same. became (λ q. Derives factor (key k.The ∷ token.name w ∷ ts) q.0 q.1) same (e.result b))
-      (λ b same. chosen (same_name w (codes "target")) (Derives factor (key k.The ∷ token.name w ∷ ts) q.0 q.1) same
-      (λ b same. became (λ q. Derives factor (key k.The ∷ token.name w ∷ ts) q.0 q.1) same (e.target b))
-      (λ b same. chosen (same_name w (codes "short")) (Derives factor (key k.The ∷ token.name w ∷ ts) q.0 q.1) same
-      (λ b same. short_taken w ts (prop_front ts) q b refl same)
-      (λ b same. prop_sound w ts (prop_front (token.name w ∷ ts)) q refl same)))
+  the_sound w ts q same = chosen (same_name w (codes "result")) _ same (λ b same.
+      became (λ q. Derives factor (key k.The ∷ token.name w ∷ ts) q.0 q.1) same (e.result b)) (λ b same.
+      chosen (same_name w (codes "target")) _ same (λ b same.
+      became (λ q. Derives factor (key k.The ∷ token.name w ∷ ts) q.0 q.1) same (e.target b)) (λ b same.
+      chosen (same_name w (codes "short")) _ same (λ b same. short_taken w ts (prop_front ts) q b refl same) (λ b same.
+      prop_sound w ts (prop_front (token.name w ∷ ts)) q refl same)))
 
   alone_sound : (ts : List Token) (q : Expr × List Token) → primary_at deeper d ts ≡ Some q → Derives factor ts q.0 q.1
   alone_sound ts q same = e.no_form (primary_sound ts q same)
@@ -337,10 +327,10 @@ module _ (deeper : Level → Parser Expr) (d : ℕ)
   there_sound : (ts : List Token) (q : Expr × List Token)
       → and_then (article ts) (λ b r. made (t.there_is b) (inner_ref deeper d r)) ≡ Some q
       → Derives prefixed (key k.There ∷ key k.Is ∷ ts) q.0 q.1
-  there_sound ts q same = taken (article ts) (λ b r. made (t.there_is b) (inner_ref deeper d r))
-      (Derives prefixed (key k.There ∷ key k.Is ∷ ts) q.0 q.1) same (λ b h same.
-      making (t.there_is b.0) (inner_ref deeper d b.1) (λ q. Derives prefixed (key k.There ∷ key k.Is ∷ ts) q.0 q.1)
-      same (λ v f. e.there_is (article_sound ts b h) (inner_sound b.1 v f)))
+  there_sound ts q same = taken (article ts) (λ b r. made (t.there_is b) (inner_ref deeper d r)) _ same (λ b h same.
+      making (t.there_is b.0) (inner_ref deeper d b.1) (λ q.
+      Derives prefixed (key k.There ∷ key k.Is ∷ ts) q.0 q.1) same (λ v f.
+      e.there_is (article_sound ts b h) (inner_sound b.1 v f)))
 
   bare_sound : (ts : List Token) (q : Expr × List Token) → factor_at deeper d ts ≡ Some q → Derives prefixed ts q.0 q.1
   bare_sound ts q same = e.no_prefix (factor_sound ts q same)
@@ -359,49 +349,45 @@ module _ (deeper : Level → Parser Expr) (d : ℕ)
   power_end_sound : (a m : List Token) (x : Expr) (q : Expr × List Token) → Derives prefixed a x m
       → power_end deeper d x m ≡ Some q → Derives power a q.0 q.1
   unfolding power_end
-  power_end_sound a (key k.Caret ∷ b) x q h same = tested (nat_le (depth x) d) (Derives power a q.0 q.1) same (λ f same.
-      making (t.binary o.Power x) (deeper power b) (λ q. Derives power a q.0 q.1) same
-      (λ v i. e.raised h (good power b v i)))
+  power_end_sound a (key k.Caret ∷ b) x q h same = tested (nat_le (depth x) d) _ same (λ f same.
+      making (t.binary o.Power x) (deeper power b) (λ q. Derives power a q.0 q.1) same (λ v i.
+      e.raised h (good power b v i)))
   power_end_sound a m x q h same = became (λ q. Derives power a q.0 q.1) same (e.not_raised h)
 
   power_sound : (ts : List Token) (q : Expr × List Token) → power_at deeper d ts ≡ Some q → Derives power ts q.0 q.1
   unfolding power_at
-  power_sound ts q same = taken (prefixed_at deeper d ts) (power_end deeper d) (Derives power ts q.0 q.1) same
-      (λ p h same. power_end_sound ts p.1 p.0 q (prefixed_sound ts p h) same)
+  power_sound ts q same = taken (prefixed_at deeper d ts) (power_end deeper d) _ same (λ p h same.
+      power_end_sound ts p.1 p.0 q (prefixed_sound ts p h) same)
 
   join_sound : (n : ℕ) (a m b : List Token) (op : Op) (x : Expr) (p : Expr × List Token)
       → leading_operator m ≡ infix_at (suc n) op b → Derives (rank (suc n)) a x m → join_at deeper d n op x b ≡ Some p
       → Derives (rank (suc n)) a p.0 p.1
   unfolding join_at
-  join_sound n a m b op x p f h same = tested (nat_le (depth x) d) (Derives (rank (suc n)) a p.0 p.1) same (λ g same.
-      making (t.binary op x) (deeper (rank n) b) (λ q. Derives (rank (suc n)) a q.0 q.1) same
-      (λ v i. e.join h f (good (rank n) b v i)))
+  join_sound n a m b op x p f h same = tested (nat_le (depth x) d) _ same (λ g same.
+      making (t.binary op x) (deeper (rank n) b) (λ q. Derives (rank (suc n)) a q.0 q.1) same (λ v i.
+      e.join h f (good (rank n) b v i)))
 
   asked_sound : (n : ℕ) (a m c : List Token) (op : UnOp) (x : Expr) (p : Expr × List Token) → equality ≡ suc n
       → leading_operator m ≡ test_at op c → Derives (rank (suc n)) a x m → asked_at deeper d op x c ≡ Some p
       → Derives (rank (suc n)) a p.0 p.1
   unfolding asked_at
-  asked_sound n a m c op x p i f h same = tested (nat_le (depth x) d) (Derives (rank (suc n)) a p.0 p.1) same (λ g same.
+  asked_sound n a m c op x p i f h same = tested (nat_le (depth x) d) _ same (λ g same.
       became (λ q. Derives (rank (suc n)) a q.0 q.1) same
-      (subst (λ r. Derives (rank r) a (t.unary op x) c) i
-      (e.is_a (subst (λ r. Derives (rank r) a x m) (sym i) h) f)))
+      (subst (λ r. Derives (rank r) a (t.unary op x) c) i (e.is_a (subst (λ r. Derives (rank r) a x m) (sym i) h) f)))
 
   turn_sound : (n : ℕ) (again : Expr → Parser Expr) (a m : List Token) (x : Expr) (q : Expr × List Token)
       (f : LeadingOperator) → leading_operator m ≡ f → Derives (rank (suc n)) a x m
       → ((y : Expr) (c : List Token) → Derives (rank (suc n)) a y c → again y c ≡ Some q
       → Derives (rank (suc n)) a q.0 q.1)
       → turn deeper d again n x m f ≡ Some q → Derives (rank (suc n)) a q.0 q.1
-  turn_sound n again a m x q (infix_at r op b) g h go same =
-      chosen (nat_eq r (suc n)) (Derives (rank (suc n)) a q.0 q.1) same
-      (λ i same. taken (join_at deeper d n op x b) again (Derives (rank (suc n)) a q.0 q.1) same (λ p j same.
+  turn_sound n again a m x q (infix_at r op b) g h go same = chosen (nat_eq r (suc n)) _ same (λ i same.
+      taken (join_at deeper d n op x b) again _ same (λ p j same.
       go p.0 p.1 (join_sound n a m b op x p (subst (λ r. leading_operator m ≡ infix_at r op b) (eqb-true r (suc n) i) g)
-      h j) same))
-      (λ i same. became (λ q. Derives (rank (suc n)) a q.0 q.1) same h)
-  turn_sound n again a m x q (test_at op c) g h go same =
-      chosen (nat_eq equality (suc n)) (Derives (rank (suc n)) a q.0 q.1) same
-      (λ i same. taken (asked_at deeper d op x c) again (Derives (rank (suc n)) a q.0 q.1) same (λ p j same.
-      go p.0 p.1 (asked_sound n a m c op x p (eqb-true equality (suc n) i) g h j) same))
-      (λ i same. became (λ q. Derives (rank (suc n)) a q.0 q.1) same h)
+      h j) same)) (λ i same. became (λ q. Derives (rank (suc n)) a q.0 q.1) same h)
+  turn_sound n again a m x q (test_at op c) g h go same = chosen (nat_eq equality (suc n)) _ same (λ i same.
+      taken (asked_at deeper d op x c) again _ same (λ p j same.
+      go p.0 p.1 (asked_sound n a m c op x p (eqb-true equality (suc n) i) g h j) same)) (λ i same.
+      became (λ q. Derives (rank (suc n)) a q.0 q.1) same h)
   turn_sound n again a m x q neither g h go same = became (λ q. Derives (rank (suc n)) a q.0 q.1) same h
 
   chain_sound : (n j : ℕ) (a m : List Token) (x : Expr) (q : Expr × List Token) → Derives (rank (suc n)) a x m
@@ -415,8 +401,7 @@ module _ (deeper : Level → Parser Expr) (d : ℕ)
       → Derives (rank n) ts q.0 q.1
   unfolding rank_at
   rank_sound zero ts q same = e.tightest (power_sound ts q same)
-  rank_sound (suc n) ts q same = taken (rank_at deeper d n ts) (chain_at deeper d n (suc (suc d)))
-      (Derives (rank (suc n)) ts q.0 q.1) same (λ p h same.
+  rank_sound (suc n) ts q same = taken (rank_at deeper d n ts) (chain_at deeper d n (suc (suc d))) _ same (λ p h same.
       chain_sound n (suc (suc d)) ts p.1 p.0 q (e.tighter (rank_sound n ts p h)) same)
 
   level_sound : (p : Level) (ts : List Token) (q : Expr × List Token) → level_at deeper d p ts ≡ Some q

@@ -2,6 +2,7 @@
 use Rattle.std.proofs.Common.{◌≡◌, ℕ, zero, suc, List, [], ◌∷◌, length, Some, None, ◌&&◌, sym, ap, ◌∙◌, subst, codes}
 use Rattle.std.proofs.lemmas.Option.{none-some}
 use Rattle.std.specs.Cmp.{first_so}
+use Rattle.ht_grammar.proofs.Keys.{ended_by_key}
 use Rattle.ht_lex.specs.declared.key.Key.TheVariants as k
 use Rattle.ht_lex.specs.Token.{Token, key, eol, first_kind, later, is_key}
 use Rattle.ht_lex.specs.Token as token
@@ -25,37 +26,29 @@ use Rattle.ht_grammar.proofs.SoundSimple.{simple_sound, within_sound}
 use Rattle.ht_grammar.proofs.Keys.{keyed, past_end, else_key, end_key, equal_key, if_key, repeat_key, then_key, to_key}
 
 module _ (d : ℕ) (x : Context) where
-  ended_by_key : {a m n : List Token} {v : Expr} → Derives whole a v m → m ≡ n → Derives whole a v n
-  ended_by_key {a} {m} {n} {v} h same = subst (λ c. Derives whole a v c) same h
-
   bound_sound : (w : List ℕ) (a m : List Token) (v : Expr) (q : Head × List Token) → Derives whole a v m
       → bound_by d x w v (first_kind m) m ≡ Some q → DerivesHead (key k.With ∷ token.name w ∷ key k.Equal ∷ a) q.0 q.1
   bound_sound w a (key k.To ∷ m) v q h same = making (s.counted_up w v) (read d whole m)
       (λ q. DerivesHead (key k.With ∷ token.name w ∷ key k.Equal ∷ a) q.0 q.1) same
       (λ p i. g.counted_up h (read_sound d whole m p i))
-  bound_sound w a (token.name u ∷ m) v q h same = tested (same_name u (codes "down"))
-      (DerivesHead (key k.With ∷ token.name w ∷ key k.Equal ∷ a) q.0 q.1) same (λ b same.
-      keyed to_key (λ m. made (s.counted_down w v) (read d whole m)) m
-      (DerivesHead (key k.With ∷ token.name w ∷ key k.Equal ∷ a) q.0 q.1) same (λ n i same.
-      making (s.counted_down w v) (read d whole n)
-      (λ q. DerivesHead (key k.With ∷ token.name w ∷ key k.Equal ∷ a) q.0 q.1) same (λ p j.
+  bound_sound w a (token.name u ∷ m) v q h same = tested (same_name u (codes "down")) _ same (λ b same.
+      keyed to_key (λ m. made (s.counted_down w v) (read d whole m)) m _ same (λ n i same.
+      making (s.counted_down w v) (read d whole n) (λ q. DerivesHead
+      (key k.With ∷ token.name w ∷ key k.Equal ∷ a) q.0 q.1) same (λ p j.
       g.counted_down (ended_by_key h (ap (λ l. token.name u ∷ l) i)) b (read_sound d whole n p j))))
   bound_sound w a m v q h same = absurd (none-some _ same)
 
   with_sound : (ts : List Token) (q : Head × List Token) → with_by d x (first_kind ts) ts ≡ Some q
       → DerivesHead (key k.With ∷ ts) q.0 q.1
-  with_sound (token.name w ∷ ts) q same = keyed equal_key
-      (λ m. and_then (read d whole m) (λ e r. bound_by d x w e (first_kind r) r)) ts
-      (DerivesHead (key k.With ∷ token.name w ∷ ts) q.0 q.1) same (λ m i same.
-      taken (read d whole m) (λ e r. bound_by d x w e (first_kind r) r)
-      (DerivesHead (key k.With ∷ token.name w ∷ ts) q.0 q.1) same (λ p h same.
+  with_sound (token.name w ∷ ts) q same = keyed equal_key (λ m.
+      and_then (read d whole m) (λ e r. bound_by d x w e (first_kind r) r)) ts _ same (λ m i same.
+      taken (read d whole m) (λ e r. bound_by d x w e (first_kind r) r) _ same (λ p h same.
       subst (λ l. DerivesHead (key k.With ∷ token.name w ∷ l) q.0 q.1) (sym i)
       (bound_sound w m p.1 p.0 q (read_sound d whole m p h) same)))
   with_sound ts q same = absurd (none-some _ same)
 
   times_sound : (a : List Token) (q : Head × List Token) → times_at d x (past_for a) ≡ Some q → DerivesHead a q.0 q.1
-  times_sound a q same = taken (read d whole (past_for a)) (λ e r. Some (s.times e, past_times r))
-      (DerivesHead a q.0 q.1) same (λ p h same.
+  times_sound a q same = taken (read d whole (past_for a)) (λ e r. Some (s.times e, past_times r)) _ same (λ p h same.
       became (λ q. DerivesHead a q.0 q.1) same (g.times (read_sound d whole (past_for a) p h)))
 
   head_sound : (ts : List Token) (q : Head × List Token) → head_at d x ts ≡ Some q → DerivesHead ts q.0 q.1
@@ -85,11 +78,9 @@ module _ (inner : Block → Context → Parser Stmts) (d : ℕ)
     → GoodBlock b x ts q) (x : Context) where
   long_sound : (a m b : List Token) (v : Expr) (q : Stmt × List Token) → Derives whole a v m
       → past_ends m ≡ key k.Then ∷ b → long_at inner d x v b ≡ Some q → DerivesStmt x (key k.If ∷ a) q.0 q.1
-  long_sound a m b v q h f same = past_end (ended b)
-      (λ l. and_then (inner lines x l) (λ ss r. made (s.when v ss) (inner otherwise x r)))
-      (DerivesStmt x (key k.If ∷ a) q.0 q.1) same (λ l i same.
-      taken (inner lines x l) (λ ss r. made (s.when v ss) (inner otherwise x r)) (DerivesStmt x (key k.If ∷ a) q.0 q.1)
-      same (λ p j same.
+  long_sound a m b v q h f same = past_end (ended b) (λ l.
+      and_then (inner lines x l) (λ ss r. made (s.when v ss) (inner otherwise x r))) _ same (λ l i same.
+      taken (inner lines x l) (λ ss r. made (s.when v ss) (inner otherwise x r)) _ same (λ p j same.
       making (s.when v p.0) (inner otherwise x p.1) (λ q. DerivesStmt x (key k.If ∷ a) q.0 q.1) same (λ w n.
       g.long h f i (good lines x l p j) (good otherwise x p.1 w n))))
 
@@ -106,19 +97,17 @@ module _ (inner : Block → Context → Parser Stmts) (d : ℕ)
   short_sound : (a m b n : List Token) (v : Expr) (u : Stmt) (q : Stmt × List Token) → Derives whole a v m
       → past_ends m ≡ key k.Then ∷ b → DerivesSimple x b u n → short_end inner d x v u n ≡ Some q
       → DerivesStmt x (key k.If ∷ a) q.0 q.1
-  short_sound a m b n v u q h f i same = chosen
-      (is_key k.Else (first_kind (past_ends n)) && begins_simple (first_kind (later (past_ends n))))
-      (DerivesStmt x (key k.If ∷ a) q.0 q.1) same
-      (λ t same. making (λ w. s.when v (also u stop) (also w stop)) (simple_within d x (later (past_ends n)))
-      (λ q. DerivesStmt x (key k.If ∷ a) q.0 q.1) same (λ w j.
-      g.short_else h f i (else_key (past_ends n) (first_so _ _ t)) (within_sound d x (later (past_ends n)) w j)))
-      (λ t same. became (λ q. DerivesStmt x (key k.If ∷ a) q.0 q.1) same (g.short h f i))
+  short_sound a m b n v u q h f i same = chosen (is_key k.Else (first_kind (past_ends n)) && begins_simple
+      (first_kind (later (past_ends n)))) _ same (λ t same.
+      making (λ w. s.when v (also u stop) (also w stop)) (simple_within d x (later (past_ends n))) (λ q.
+      DerivesStmt x (key k.If ∷ a) q.0 q.1) same (λ w j. g.short_else h f i (else_key (past_ends n) (first_so _ _ t))
+      (within_sound d x (later (past_ends n)) w j))) (λ t same.
+      became (λ q. DerivesStmt x (key k.If ∷ a) q.0 q.1) same (g.short h f i))
 
   on_line : (a m b : List Token) (v : Expr) (q : Stmt × List Token) → Derives whole a v m → past_ends m ≡ key k.Then ∷ b
       → and_then (simple_within d x b) (short_end inner d x v) ≡ Some q → DerivesStmt x (key k.If ∷ a) q.0 q.1
-  on_line a m b v q h f same = taken (simple_within d x b) (short_end inner d x v)
-      (DerivesStmt x (key k.If ∷ a) q.0 q.1) same
-      (λ p i same. short_sound a m b p.1 v p.0 q h f (within_sound d x b p i) same)
+  on_line a m b v q h f same = taken (simple_within d x b) (short_end inner d x v) _ same (λ p i same.
+      short_sound a m b p.1 v p.0 q h f (within_sound d x b p i) same)
 
   then_sound : (a m b : List Token) (v : Expr) (q : Stmt × List Token) → Derives whole a v m
       → past_ends m ≡ key k.Then ∷ b → then_by inner d x (first_kind b) v b ≡ Some q
@@ -151,10 +140,9 @@ module _ (inner : Block → Context → Parser Stmts) (d : ℕ)
 
   stmt_sound : (ts : List Token) (q : Stmt × List Token) → stmt_at inner d x ts ≡ Some q → DerivesStmt x ts q.0 q.1
   unfolding stmt_at
-  stmt_sound (key k.If ∷ ts) q same = taken (read d whole ts) (λ e. then_at (λ r. then_by inner d x (first_kind r) e r))
-      (DerivesStmt x (key k.If ∷ ts) q.0 q.1) same (λ p h same.
-      keyed then_key (λ r. then_by inner d x (first_kind r) p.0 r) (past_ends p.1)
-      (DerivesStmt x (key k.If ∷ ts) q.0 q.1) same (λ b f same.
+  stmt_sound (key k.If ∷ ts) q same = taken (read d whole ts) (λ e.
+      then_at (λ r. then_by inner d x (first_kind r) e r)) _ same (λ p h same.
+      keyed then_key (λ r. then_by inner d x (first_kind r) p.0 r) (past_ends p.1) _ same (λ b f same.
       then_sound ts p.1 b p.0 q (read_sound d whole ts p h) f same))
   stmt_sound (key k.Repeat ∷ ts) q same = repeat_sound ts q same
   stmt_sound ts q same = alone_sound _ q same
@@ -168,15 +156,12 @@ module _ (statement : Context → Parser Stmt) (else_if : Context → Parser Stm
       → lines_at statement else_if n x ts ≡ Some q → DerivesLines x ts q.0 q.1
   unfolding lines_at
   lines_sound zero x ts q same = absurd (none-some _ same)
-  lines_sound (suc n) x ts q same = chosen (begins_statement (first_kind ts)) (DerivesLines x ts q.0 q.1) same
-      (λ b same. taken (statement x ts)
-      (λ t r. ended_then (ended r) (λ b. made (also t) (lines_at statement else_if n x b)))
-      (DerivesLines x ts q.0 q.1) same (λ p h same.
-      past_end (ended p.1) (λ b. made (also p.0) (lines_at statement else_if n x b)) (DerivesLines x ts q.0 q.1) same
-      (λ l i same.
-      making (also p.0) (lines_at statement else_if n x l) (λ q. DerivesLines x ts q.0 q.1) same
-      (λ v j. g.line (good x ts p h) i (lines_sound n x l v j)))))
-      (λ b same. became (λ q. DerivesLines x ts q.0 q.1) same g.done)
+  lines_sound (suc n) x ts q same = chosen (begins_statement (first_kind ts)) _ same (λ b same.
+      taken (statement x ts) (λ t r. ended_then (ended r) (λ b. made (also t) (lines_at statement else_if n x b))) _
+      same (λ p h same. past_end (ended p.1) (λ b. made (also p.0) (lines_at statement else_if n x b)) _ same
+      (λ l i same. making (also p.0) (lines_at statement else_if n x l) (λ q. DerivesLines x ts q.0 q.1) same (λ v j.
+      g.line (good x ts p h) i (lines_sound n x l v j))))) (λ b same.
+      became (λ q. DerivesLines x ts q.0 q.1) same g.done)
 
   else_lines_sound : (x : Context) (a : List Token) (q : Stmts × List Token)
       → ended_then (ended a) (λ l. and_then (lines_at statement else_if (suc (length l)) x l)
@@ -201,8 +186,7 @@ module _ (statement : Context → Parser Stmt) (else_if : Context → Parser Stm
 
   otherwise_sound : (x : Context) (ts : List Token) (q : Stmts × List Token)
       → otherwise_by statement else_if (first_kind ts) x ts ≡ Some q → DerivesElse x ts q.0 q.1
-  otherwise_sound x (key k.End ∷ ts) q same =
-      keyed if_key (λ c. Some (stop, c)) ts (DerivesElse x (key k.End ∷ ts) q.0 q.1) same (λ c f same.
+  otherwise_sound x (key k.End ∷ ts) q same = keyed if_key (λ c. Some (stop, c)) ts _ same (λ c f same.
       became (λ q. DerivesElse x (key k.End ∷ ts) q.0 q.1) same
       (subst (λ l. DerivesElse x (key k.End ∷ l) stop c) (sym f) g.end_if))
   otherwise_sound x (key k.Else ∷ ts) q same = else_sound x ts q same

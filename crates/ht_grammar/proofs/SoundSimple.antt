@@ -30,7 +30,7 @@ use Rattle.ht_grammar.proofs.Steps.{became, taken, making, tested}
 use Rattle.ht_grammar.proofs.Owner.{card_sound, background_sound, fitted}
 use Rattle.ht_grammar.proofs.Sound.{joined, chosen, if_fielded, after, part_sound, chunk_sound, inner_sound}
 use Rattle.ht_grammar.proofs.Sound.{list_sound, read_sound}
-use Rattle.ht_grammar.proofs.Keys.{keyed, by_key, from_key, to_key}
+use Rattle.ht_grammar.proofs.Keys.{keyed, by_key, from_key, to_key, ended_by_key}
 
 field_container : (d : ℕ) (ts : List Token) (q : Container × List Token)
     → made t.in_field (field_at (read d) d ts) ≡ Some q → DerivesContainer ts q.0 q.1
@@ -46,12 +46,11 @@ module _ (again : Parser Container) (d : ℕ)
     (good : (ts : List Token) (q : Container × List Token) → again ts ≡ Some q → DerivesContainer ts q.0 q.1) where
   chunk_taken : (ts : List Token) (q : Container × List Token) → chunk_container again d ts ≡ Some q
       → DerivesContainer ts q.0 q.1
-  chunk_taken ts q same = taken (chunk_at (read d) d ts)
-      (λ h r. made (t.in_chunk h) (of_part (read d) d again (after_of r))) (DerivesContainer ts q.0 q.1) same
-      (λ h i same.
+  chunk_taken ts q same = taken (chunk_at (read d) d ts) (λ h r.
+      made (t.in_chunk h) (of_part (read d) d again (after_of r))) _ same (λ h i same.
       making (t.in_chunk h.0) (of_part (read d) d again (after_of h.1)) (λ q. DerivesContainer ts q.0 q.1) same (λ v f.
-      after (read d) d (read_sound d) again h.1 v (DerivesContainer ts (t.in_chunk h.0 v.0) v.1) f
-      (λ b o j. e.in_chunk (chunk_sound (read d) d (read_sound d) ts h i) o (good b v j))))
+      after (read d) d (read_sound d) again h.1 v (DerivesContainer ts (t.in_chunk h.0 v.0) v.1) f (λ b o j.
+      e.in_chunk (chunk_sound (read d) d (read_sound d) ts h i) o (good b v j))))
 
   container_step : (ts : List Token) (q : Container × List Token) → container_by again d (first_kind ts) ts ≡ Some q
       → DerivesContainer ts q.0 q.1
@@ -95,14 +94,10 @@ module _ (d : ℕ) (x : Context) where
       (λ q. DerivesSimple x (key k.Put ∷ a) q.0 q.1) same (λ p i. g.put_in h refl (container_sound d m p i))
   put_sound a m v q h same = became (λ q. DerivesSimple x (key k.Put ∷ a) q.0 q.1) same (g.put h)
 
-  ended_by_key : {a m n : List Token} {v : Expr} → Derives whole a v m → m ≡ n → Derives whole a v n
-  ended_by_key {a} {m} {n} {v} h same = subst (λ c. Derives whole a v c) same h
-
   set_run_sound : (a ts : List Token) (o : Option RunProp) (q : Stmt × List Token) → past_the a ≡ ts
       → run_prop_front ts ≡ o → set_run_by d x o ts ≡ Some q → DerivesSimple x (key k.Set ∷ a) q.0 q.1
-  set_run_sound a (token.name w ∷ ts) (Some p) q f h same =
-      keyed to_key (λ m. made (s.set_run p) (read d whole m)) ts (DerivesSimple x (key k.Set ∷ a) q.0 q.1) same
-      (λ m i same.
+  set_run_sound a (token.name w ∷ ts) (Some p) q f h same = keyed to_key (λ m.
+      made (s.set_run p) (read d whole m)) ts _ same (λ m i same.
       making (s.set_run p) (read d whole m) (λ q. DerivesSimple x (key k.Set ∷ a) q.0 q.1) same (λ v j.
       g.set_run (subst (λ l. past_the a ≡ token.name w ∷ l) i f) h (read_sound d whole m v j)))
   set_run_sound a ts None q f h same = absurd (none-some _ same)
@@ -110,12 +105,9 @@ module _ (d : ℕ) (x : Context) where
 
   set_sound : (a : List Token) (o : Option Prop) (q : Stmt × List Token) → prop_front (past_the a) ≡ o
       → set_by d x o (past_the a) ≡ Some q → DerivesSimple x (key k.Set ∷ a) q.0 q.1
-  set_sound a (Some p) q f same =
-      taken (of_part (read d) d (inner_ref (read d) d) (after_of (later (past_the a))))
-      (λ r. after_key k.To (λ m. made (s.set p r) (read d whole m))) (DerivesSimple x (key k.Set ∷ a) q.0 q.1) same
-      (λ r h same.
-      keyed to_key (λ m. made (s.set p r.0) (read d whole m)) r.1 (DerivesSimple x (key k.Set ∷ a) q.0 q.1) same
-      (λ m i same.
+  set_sound a (Some p) q f same = taken (of_part (read d) d (inner_ref (read d) d) (after_of (later (past_the a))))
+      (λ r. after_key k.To (λ m. made (s.set p r) (read d whole m))) _ same (λ r h same.
+      keyed to_key (λ m. made (s.set p r.0) (read d whole m)) r.1 _ same (λ m i same.
       making (s.set p r.0) (read d whole m) (λ q. DerivesSimple x (key k.Set ∷ a) q.0 q.1) same (λ v j.
       after (read d) d (read_sound d) (inner_ref (read d) d) (later (past_the a)) r
       (DerivesSimple x (key k.Set ∷ a) (s.set p r.0 v.0) v.1) h (λ b o l.
@@ -152,14 +144,12 @@ module _ (d : ℕ) (x : Context) where
 
   exit_sound : (ts : List Token) (q : Stmt × List Token) → exit_by d x (first_kind ts) ts ≡ Some q
       → DerivesSimple x (key k.Exit ∷ ts) q.0 q.1
-  exit_sound (key k.Repeat ∷ ts) q same = tested x.in_repeat (DerivesSimple x (key k.Exit ∷ key k.Repeat ∷ ts) q.0 q.1)
-      same (λ b same. became (λ q. DerivesSimple x (key k.Exit ∷ key k.Repeat ∷ ts) q.0 q.1) same (g.exit_repeat b))
-  exit_sound (key k.To ∷ token.name w ∷ ts) q same = tested (same_name w (codes "HyperCard"))
-      (DerivesSimple x (key k.Exit ∷ key k.To ∷ token.name w ∷ ts) q.0 q.1) same (λ b same.
+  exit_sound (key k.Repeat ∷ ts) q same = tested x.in_repeat _ same (λ b same.
+      became (λ q. DerivesSimple x (key k.Exit ∷ key k.Repeat ∷ ts) q.0 q.1) same (g.exit_repeat b))
+  exit_sound (key k.To ∷ token.name w ∷ ts) q same = tested (same_name w (codes "HyperCard")) _ same (λ b same.
       became (λ q. DerivesSimple x (key k.Exit ∷ key k.To ∷ token.name w ∷ ts) q.0 q.1) same (g.exit_to_hypercard b))
-  exit_sound (token.name w ∷ ts) q same = tested (names_handler x.handler w)
-      (DerivesSimple x (key k.Exit ∷ token.name w ∷ ts) q.0 q.1) same
-      (λ b same. became (λ q. DerivesSimple x (key k.Exit ∷ token.name w ∷ ts) q.0 q.1) same (g.exit b))
+  exit_sound (token.name w ∷ ts) q same = tested (names_handler x.handler w) _ same (λ b same.
+      became (λ q. DerivesSimple x (key k.Exit ∷ token.name w ∷ ts) q.0 q.1) same (g.exit b))
   exit_sound ts q same = absurd (none-some _ same)
 
   deleted_sound : (a m : List Token) (c : Container) (q : Stmt × List Token) → DerivesContainer a c m
@@ -171,75 +161,58 @@ module _ (d : ℕ) (x : Context) where
 
   pub simple_sound : (ts : List Token) (q : Stmt × List Token) → simple_at d x ts ≡ Some q → DerivesSimple x ts q.0 q.1
   unfolding simple_at is_key
-  simple_sound (token.name w ∷ ts) q same =
-      chosen (begins_expr (first_kind ts)) (DerivesSimple x (token.name w ∷ ts) q.0 q.1) same
-      (λ b same. making (s.command w) (list_at (read d) d (suc (length ts)) none ts)
-      (λ q. DerivesSimple x (token.name w ∷ ts) q.0 q.1) same
-      (λ p h. g.command (whole_list d (suc (length ts)) ts p h)))
+  simple_sound (token.name w ∷ ts) q same = chosen (begins_expr (first_kind ts)) _ same (λ b same.
+      making (s.command w) (list_at (read d) d (suc (length ts)) none ts) (λ q.
+      DerivesSimple x (token.name w ∷ ts) q.0 q.1) same (λ p h. g.command (whole_list d (suc (length ts)) ts p h)))
       (λ b same. became (λ q. DerivesSimple x (token.name w ∷ ts) q.0 q.1) same g.command_bare)
-  simple_sound (key k.Put ∷ ts) q same = taken (read d whole ts)
-      (λ e r. put_by d x (place_front d x (first_kind r)) e r) (DerivesSimple x (key k.Put ∷ ts) q.0 q.1) same
-      (λ p h same. put_sound ts p.1 p.0 q (read_sound d whole ts p h) same)
+  simple_sound (key k.Put ∷ ts) q same = taken (read d whole ts) (λ e r.
+      put_by d x (place_front d x (first_kind r)) e r) _ same (λ p h same.
+      put_sound ts p.1 p.0 q (read_sound d whole ts p h) same)
   simple_sound (key k.Get ∷ ts) q same = making s.get (read d whole ts) (λ q. DerivesSimple x (key k.Get ∷ ts) q.0 q.1)
       same (λ p h. g.get (read_sound d whole ts p h))
   simple_sound (key k.Set ∷ ts) q same = set_sound ts (prop_front (past_the ts)) q refl same
-  simple_sound (key k.Add ∷ ts) q same = taken (read d whole ts)
-      (λ e. after_key k.To (λ m. made (s.add e) (container d m))) (DerivesSimple x (key k.Add ∷ ts) q.0 q.1) same
-      (λ p h same.
-      keyed to_key (λ m. made (s.add p.0) (container d m)) p.1 (DerivesSimple x (key k.Add ∷ ts) q.0 q.1) same
-      (λ m i same.
-      making (s.add p.0) (container d m) (λ q. DerivesSimple x (key k.Add ∷ ts) q.0 q.1) same
-      (λ v j. g.add (ended_by_key (read_sound d whole ts p h) i) (container_sound d m v j))))
-  simple_sound (key k.Subtract ∷ ts) q same = taken (read d whole ts)
-      (λ e. after_key k.From (λ m. made (s.subtract e) (container d m))) (DerivesSimple x (key k.Subtract ∷ ts) q.0 q.1)
-      same (λ p h same.
-      keyed from_key (λ m. made (s.subtract p.0) (container d m)) p.1 (DerivesSimple x (key k.Subtract ∷ ts) q.0 q.1)
-      same (λ m i same.
-      making (s.subtract p.0) (container d m) (λ q. DerivesSimple x (key k.Subtract ∷ ts) q.0 q.1) same
-      (λ v j. g.subtract (ended_by_key (read_sound d whole ts p h) i) (container_sound d m v j))))
-  simple_sound (key k.Multiply ∷ ts) q same = taken (container d ts)
-      (λ c. after_key k.By (λ m. made (s.multiply c) (read d whole m))) (DerivesSimple x (key k.Multiply ∷ ts) q.0 q.1)
-      same (λ p h same.
-      keyed by_key (λ m. made (s.multiply p.0) (read d whole m)) p.1 (DerivesSimple x (key k.Multiply ∷ ts) q.0 q.1)
-      same (λ m i same.
-      making (s.multiply p.0) (read d whole m) (λ q. DerivesSimple x (key k.Multiply ∷ ts) q.0 q.1) same
-      (λ v j. g.multiply (subst (λ c. DerivesContainer ts p.0 c) i (container_sound d ts p h))
-      (read_sound d whole m v j))))
-  simple_sound (key k.Divide ∷ ts) q same = taken (container d ts)
-      (λ c. after_key k.By (λ m. made (s.divide c) (read d whole m))) (DerivesSimple x (key k.Divide ∷ ts) q.0 q.1) same
-      (λ p h same.
-      keyed by_key (λ m. made (s.divide p.0) (read d whole m)) p.1 (DerivesSimple x (key k.Divide ∷ ts) q.0 q.1) same
-      (λ m i same.
-      making (s.divide p.0) (read d whole m) (λ q. DerivesSimple x (key k.Divide ∷ ts) q.0 q.1) same
-      (λ v j. g.divide (subst (λ c. DerivesContainer ts p.0 c) i (container_sound d ts p h))
-      (read_sound d whole m v j))))
-  simple_sound (key k.Delete ∷ ts) q same = taken (container d ts) deleted (DerivesSimple x (key k.Delete ∷ ts) q.0 q.1)
-      same (λ p h same. deleted_sound ts p.1 p.0 q (container_sound d ts p h) same)
+  simple_sound (key k.Add ∷ ts) q same = taken (read d whole ts) (λ e.
+      after_key k.To (λ m. made (s.add e) (container d m))) _ same (λ p h same.
+      keyed to_key (λ m. made (s.add p.0) (container d m)) p.1 _ same (λ m i same.
+      making (s.add p.0) (container d m) (λ q. DerivesSimple x (key k.Add ∷ ts) q.0 q.1) same (λ v j.
+      g.add (ended_by_key (read_sound d whole ts p h) i) (container_sound d m v j))))
+  simple_sound (key k.Subtract ∷ ts) q same = taken (read d whole ts) (λ e.
+      after_key k.From (λ m. made (s.subtract e) (container d m))) _ same (λ p h same.
+      keyed from_key (λ m. made (s.subtract p.0) (container d m)) p.1 _ same (λ m i same.
+      making (s.subtract p.0) (container d m) (λ q. DerivesSimple x (key k.Subtract ∷ ts) q.0 q.1) same (λ v j.
+      g.subtract (ended_by_key (read_sound d whole ts p h) i) (container_sound d m v j))))
+  simple_sound (key k.Multiply ∷ ts) q same = taken (container d ts) (λ c.
+      after_key k.By (λ m. made (s.multiply c) (read d whole m))) _ same (λ p h same.
+      keyed by_key (λ m. made (s.multiply p.0) (read d whole m)) p.1 _ same (λ m i same.
+      making (s.multiply p.0) (read d whole m) (λ q. DerivesSimple x (key k.Multiply ∷ ts) q.0 q.1) same (λ v j.
+      g.multiply (subst (λ c. DerivesContainer ts p.0 c) i (container_sound d ts p h)) (read_sound d whole m v j))))
+  simple_sound (key k.Divide ∷ ts) q same = taken (container d ts) (λ c.
+      after_key k.By (λ m. made (s.divide c) (read d whole m))) _ same (λ p h same.
+      keyed by_key (λ m. made (s.divide p.0) (read d whole m)) p.1 _ same (λ m i same.
+      making (s.divide p.0) (read d whole m) (λ q. DerivesSimple x (key k.Divide ∷ ts) q.0 q.1) same (λ v j.
+      g.divide (subst (λ c. DerivesContainer ts p.0 c) i (container_sound d ts p h)) (read_sound d whole m v j))))
+  simple_sound (key k.Delete ∷ ts) q same = taken (container d ts) deleted _ same (λ p h same.
+      deleted_sound ts p.1 p.0 q (container_sound d ts p h) same)
   simple_sound (key k.Do ∷ ts) q same = making s.do_ (read d whole ts) (λ q. DerivesSimple x (key k.Do ∷ ts) q.0 q.1)
       same (λ p h. g.do_ (read_sound d whole ts p h))
-  simple_sound (key k.Send ∷ ts) q same = taken (read d whole ts)
-      (λ e. after_key k.To (λ m. made (s.send e) (inner_ref (read d) d m))) (DerivesSimple x (key k.Send ∷ ts) q.0 q.1)
-      same (λ p h same.
-      keyed to_key (λ m. made (s.send p.0) (inner_ref (read d) d m)) p.1 (DerivesSimple x (key k.Send ∷ ts) q.0 q.1)
-      same (λ m i same.
-      making (s.send p.0) (inner_ref (read d) d m) (λ q. DerivesSimple x (key k.Send ∷ ts) q.0 q.1) same
-      (λ v j. g.send (ended_by_key (read_sound d whole ts p h) i) (inner_sound (read d) d (read_sound d) m v j))))
+  simple_sound (key k.Send ∷ ts) q same = taken (read d whole ts) (λ e.
+      after_key k.To (λ m. made (s.send e) (inner_ref (read d) d m))) _ same (λ p h same.
+      keyed to_key (λ m. made (s.send p.0) (inner_ref (read d) d m)) p.1 _ same (λ m i same.
+      making (s.send p.0) (inner_ref (read d) d m) (λ q. DerivesSimple x (key k.Send ∷ ts) q.0 q.1) same (λ v j.
+      g.send (ended_by_key (read_sound d whole ts p h) i) (inner_sound (read d) d (read_sound d) m v j))))
   simple_sound (key k.Go ∷ ts) q same = go_sound ts q same
   simple_sound (key k.Global ∷ ts) q same = making s.global (names_at (suc (length ts)) ts)
       (λ q. DerivesSimple x (key k.Global ∷ ts) q.0 q.1) same (λ p h. g.global (names_sound (suc (length ts)) ts p h))
   simple_sound (key k.Exit ∷ ts) q same = exit_sound ts q same
-  simple_sound (key k.Next ∷ key k.Repeat ∷ ts) q same = tested x.in_repeat
-      (DerivesSimple x (key k.Next ∷ key k.Repeat ∷ ts) q.0 q.1) same
-      (λ b same. became (λ q. DerivesSimple x (key k.Next ∷ key k.Repeat ∷ ts) q.0 q.1) same (g.next_repeat b))
-  simple_sound (key k.Pass ∷ token.name w ∷ ts) q same = tested (names_handler x.handler w)
-      (DerivesSimple x (key k.Pass ∷ token.name w ∷ ts) q.0 q.1) same
-      (λ b same. became (λ q. DerivesSimple x (key k.Pass ∷ token.name w ∷ ts) q.0 q.1) same (g.pass b))
-  simple_sound (key k.Return ∷ ts) q same =
-      tested (is_some x.handler) (DerivesSimple x (key k.Return ∷ ts) q.0 q.1) same (λ b same.
-      chosen (begins_expr (first_kind ts)) (DerivesSimple x (key k.Return ∷ ts) q.0 q.1) same
-      (λ f same. making s.return_value (read d whole ts) (λ q. DerivesSimple x (key k.Return ∷ ts) q.0 q.1) same
-      (λ p h. g.return_value b (read_sound d whole ts p h)))
-      (λ f same. became (λ q. DerivesSimple x (key k.Return ∷ ts) q.0 q.1) same (g.return_nothing b)))
+  simple_sound (key k.Next ∷ key k.Repeat ∷ ts) q same = tested x.in_repeat _ same (λ b same.
+      became (λ q. DerivesSimple x (key k.Next ∷ key k.Repeat ∷ ts) q.0 q.1) same (g.next_repeat b))
+  simple_sound (key k.Pass ∷ token.name w ∷ ts) q same = tested (names_handler x.handler w) _ same (λ b same.
+      became (λ q. DerivesSimple x (key k.Pass ∷ token.name w ∷ ts) q.0 q.1) same (g.pass b))
+  simple_sound (key k.Return ∷ ts) q same = tested (is_some x.handler) _ same (λ b same.
+      chosen (begins_expr (first_kind ts)) _ same (λ f same.
+      making s.return_value (read d whole ts) (λ q. DerivesSimple x (key k.Return ∷ ts) q.0 q.1) same (λ p h.
+      g.return_value b (read_sound d whole ts p h))) (λ f same.
+      became (λ q. DerivesSimple x (key k.Return ∷ ts) q.0 q.1) same (g.return_nothing b)))
   simple_sound ts q same = absurd (none-some _ same)
 
 pub within_sound : (d : ℕ) (x : Context) (ts : List Token) (q : Stmt × List Token) → simple_within d x ts ≡ Some q

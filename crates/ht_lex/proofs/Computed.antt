@@ -1,5 +1,5 @@
 -- The function that cuts a text, against the relation.
-use Rattle.std.proofs.Common.{◌≡◌, ℕ, zero, suc, ◌+◌, ◌-◌, ◌<◌, ◌≤◌, ◌==◌, Bool, true, false, cond, List, length, drop}
+use Rattle.std.proofs.Common.{◌≡◌, ℕ, zero, suc, ◌+◌, ◌<◌, ◌≤◌, ◌==◌, Bool, true, false, cond, List, length, drop}
 use Rattle.std.proofs.Common.{Option, Some, None, arith, length-drop, refl, ap, ◌∙◌, subst, eq-eqb, eqb-true}
 use Rattle.ht_lex.specs.declared.key.TokenKind.{TokenKind}
 use Rattle.ht_lex.specs.declared.lexeme.Lexeme.{Lexeme}

@@ -442,8 +442,8 @@ none_alike row other rows h m e =
     let no = among_all (Differs row) rows other h m in
     let yes : bytes_eq row.0 other.0 ≡ true = (bytes_eq-Decides row.0 other.0).1 e in cc
 
-key_once : (rows : List (List ℕ × Key)) (row other : List ℕ × Key) → EachToLater Differs rows → Among row rows → Among other rows
-    → row.0 ≡ other.0 → row.1 ≡ other.1
+key_once : (rows : List (List ℕ × Key)) (row other : List ℕ × Key) → EachToLater Differs rows → Among row rows
+    → Among other rows → row.0 ≡ other.0 → row.1 ≡ other.1
 key_once [] row other h m n e = absurd m
 key_once (r ∷ rows) row other h m n e = go m n (key_once rows row other h.1)
   where
@@ -464,8 +464,9 @@ symbols_no_hyphens = search rules
 
 comment_no_symbol : (w : List ℕ) (row : List ℕ × Key) → starts_with nat_eq w (codes "--") ≡ true → Among row symbols
     → w ≡ row.0 → ⊥
-comment_no_symbol w row e m same = let no : starts_with nat_eq w (codes "--")
-    ≡ false = ap (λ v. starts_with nat_eq v (codes "--")) same ∙ among_all BeginsOtherwise symbols row symbols_no_hyphens m in cc
+comment_no_symbol w row e m same =
+    let begins = among_all BeginsOtherwise symbols row symbols_no_hyphens m in
+    let no : starts_with nat_eq w (codes "--") ≡ false = ap (λ v. starts_with nat_eq v (codes "--")) same ∙ begins in cc
 
 -- What is spelled alike is the same.
 pub spelled_once : {what other : Option TokenKind} {w v : List ℕ} → Spells what w → Spells other v → w ≡ v

@@ -107,20 +107,13 @@ fn lone_symbol(byte: u8) -> Option<Key>
     }
 }
 
-/// The symbol that a text begins with, found in the table.
-fn listed_symbol(text: &[u8]) -> Lexeme
-    ensures { result ≡ lexemes.symbol_lexeme text.now }
-{
-    symbol_among(&SYMBOLS, text)
-}
-
 fn symbol_lexeme(text: &[u8]) -> Lexeme
     ensures value { result ≡ lexemes.symbol_lexeme text.now }
     ensures within { lexemes.FitsIn text.now result }
 {
     match lone_symbol(byte_at(text, 0)) {
         Some(key) => Lexeme::Token(TokenKind::Key(key), 1),
-        None => listed_symbol(text),
+        None => symbol_among(&SYMBOLS, text),
     }
 }
 

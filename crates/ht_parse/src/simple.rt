@@ -6,14 +6,13 @@ ghost use Rattle.ht_lex.specs.declared.key.Key.TheVariants as k;
 ghost use Rattle.ht_lex.specs.Token.{first_kind, first_text, later};
 ghost use Rattle.ht_grammar.specs.Trees as t;
 ghost use Rattle.ht_grammar.specs.Statements as s;
-ghost use Rattle.ht_grammar.specs.Depth.{container_depth, destination_depth, ref_depth, stmt_depth, depth, max_depth};
+ghost use Rattle.ht_grammar.specs.Depth.{container_depth, destination_depth, stmt_depth, depth, max_depth};
 ghost use Rattle.ht_grammar.specs.Ends as ends;
 ghost use Rattle.ht_grammar.specs.Expressions as e;
 ghost use Rattle.ht_grammar.specs.Fronts as f;
 ghost use Rattle.ht_grammar.specs.Grammar.{at_large};
 ghost use Rattle.ht_grammar.specs.Reading as r;
 ghost use Rattle.ht_grammar.specs.Lines as spec;
-ghost use Rattle.ht_tree.specs.View.{ref_of};
 ghost use Rattle.ht_tree.specs.StatementView.{destination_of, stmt_of};
 ghost use Rattle.ht_expressions.specs.Answer.{Reads, ReadsExpr};
 ghost use Rattle.ht_parse.specs.Contexts.{context_of};
@@ -27,7 +26,7 @@ use ht_expressions::{
 };
 use ht_grammar::{Layer, RunProp};
 use ht_lex::{Cursor, Key, Stop, TokenKind, is_same, to_text};
-use ht_tree::{Container, ContainerKind, Destination, Expr, Exprs, Ref, Selector, Stmt, StmtKind};
+use ht_tree::{Container, ContainerKind, Destination, Expr, Exprs, Selector, Stmt, StmtKind};
 use ht_values::{Prop, Where};
 use std::alloc::Global;
 
@@ -147,18 +146,6 @@ impl Simple {
         self.container(tokens)
     }
 
-    /// The value after `to`, of a property of an object.
-    fn set_to(&self, tokens: &mut Cursor<'_>, prop: Prop, reference: Ref) -> Result<Stmt, Stop>
-        requires shallow { self.now.depth < max_depth }
-        requires fits { ref_depth (ref_of reference) ≤ self.now.depth }
-        ensures { Reads (λ s. s) stmt_depth (self.now.depth + 1)
-            (spec.after_key k.To (λ m. r.made (s.set prop (ref_of reference)) (r.read self.now.depth e.whole m))
-            tokens.old) result tokens.new }
-    {
-        let value = self.value_after(tokens, Key::To)?;
-        self.stmt(StmtKind::Set(prop, reference, value))
-    }
-
     /// A property of an object, at its name.
     fn set_prop(&self, tokens: &mut Cursor<'_>, prop: Prop) -> Result<Stmt, Stop>
         requires { self.now.depth < max_depth }
@@ -170,7 +157,8 @@ impl Simple {
             return Err(Stop::Syntax);
         }
         let reference = reference(self.alloc, tokens, self.depth)?;
-        self.set_to(tokens, prop, reference)
+        let value = self.value_after(tokens, Key::To)?;
+        self.stmt(StmtKind::Set(prop, reference, value))
     }
 
     /// A property of the run, at its name.

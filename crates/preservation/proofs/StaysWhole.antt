@@ -2,7 +2,7 @@
 use Rattle.std.proofs.Common.{◌≡◌, ◌<◌, ◌≤◌, ◌⊎◌, inl, inr, ℕ, zero, suc, List, [], ◌∷◌, ◌++◌, length, set, Option}
 use Rattle.std.proofs.Common.{Some, None, Result, Ok, IfOk, true, is_some, refl, sym, ap, subst, ◌∙◌, arith}
 use Rattle.std.specs.Option.{ok_or}
-use Rattle.std.proofs.lemmas.Bool.{and_parts}
+use Rattle.std.proofs.lemmas.Bool.{and_parts, cases_lt}
 use Rattle.ht_values.specs.declared.fault.Fault.{Fault}
 use Rattle.ht_values.specs.declared.fault.Fault.TheVariants.{NoSuchObject}
 use Rattle.ht_values.specs.declared.word.Prop.{Prop}
@@ -120,19 +120,10 @@ unmoved {w} {w2} {k} past took q =
           q.start;
     })
 
-below_or_past : (k n : ℕ) → (k < n) ⊎ (n ≤ k)
-below_or_past k zero = inr (omega arith)
-below_or_past zero (suc n) = inl (omega arith)
-below_or_past (suc k) (suc n) = by (below_or_past k n)
-  where
-    by : (k < n) ⊎ (n ≤ k) → (suc k < suc n) ⊎ (suc n ≤ suc k)
-    by (inl h) = inl (omega (arith, h))
-    by (inr h) = inr (omega (arith, h))
-
 pub whole_turn : {w w2 : History} {k : ℕ} {input : Input} {ask : Ask} (turn : TookTurn w w2 k input ask)
     → KeepsWhole (replaced_turn turn) w w2
 whole_turn {w} {w2} {k} {input} {ask} took =
-    record { whole = λ texts q. by q (below_or_past k (length w.now.externals)) }
+    record { whole = λ texts q. by q (cases_lt k (length w.now.externals)) }
   where
     by : IsHistory w → (k < length w.now.externals) ⊎ (length w.now.externals ≤ k) → IsHistory w2
     by q (inl there) = IsHistory-turned w w2 k input ask there took q

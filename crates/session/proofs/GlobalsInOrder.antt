@@ -17,9 +17,6 @@ use Rattle.std.proofs.lemmas.Option.{slice_get_within, get_or_from_slice_get}
 use Rattle.journal_entries.specs.State.{Globals}
 use Rattle.journal_entries.specs.Named.{AreDistinct, IsNew, listed, numbered, with_value}
 
-Global : Type 0
-Global = List ℕ × List ℕ
-
 -- an entry in its place among borrowed ones, and among what they borrow
 put_shown : (k v : Bor (List ℕ)) (es : List (Bor (List ℕ) × Bor (List ℕ)))
     → map deref_pair (insert_entry (λ x y. slice_cmp nat_cmp x.now y.now) es k v)

@@ -4,6 +4,7 @@ use Rattle.std.proofs.Common.{Option, Some, None, IfSome, ltb, cond, position, n
 use Rattle.std.specs.List.{position_or_len}
 use Rattle.std.proofs.lemmas.Bool.Decides.{nat_tests}
 use Rattle.std.proofs.lemmas.List.Sums.{prefix_len_is, prefix_len_passes}
+use Rattle.std.proofs.lemmas.Bool.{not-true}
 use Rattle.memchr.specs.Find.{IsFirstByte, is_byte}
 
 -- ---- what a place says
@@ -25,14 +26,10 @@ no_place p xs none = by (ltb (position_or_len p xs) (length xs)) refl none
     by true e is = absurd cc
     by false e is = grind (arith, nat_tests)
 
-refused : (b : Bool) → not b ≡ true → b ≡ false
-refused true e = absurd cc
-refused false e = refl
-
 pub all-other : (p : ℕ → Bool) (xs : List ℕ) → position p xs ≡ None → All (λ x. p x ≡ false) xs
 all-other p xs none k d low =
     let past = no_place p xs none in
-    refused (p (get_or xs k d)) (prefix_len_passes (λ x. not (p x)) xs k d (omega arith))
+    not-true (p (get_or xs k d)) (prefix_len_passes (λ x. not (p x)) xs k d (omega arith))
 
 -- ---- a search that gives the first place
 

@@ -1,6 +1,6 @@
 -- A line that begins with a key and goes on with a word.
 use Rattle.std.proofs.Common.{◌≡◌, ℕ, ◌+◌, ◌<◌, Bool, true, false, cond, eqb, List, [], ◌∷◌, ◌++◌, length, take, drop}
-use Rattle.std.proofs.Common.{get_or, Result, Ok, Option, Some, None, refl, sym, ap, subst, ◌∙◌, arith, append_assoc}
+use Rattle.std.proofs.Common.{get_or, Ok, Option, Some, None, refl, sym, ap, subst, ◌∙◌, arith, append_assoc}
 use Rattle.std.proofs.Common.{add-one, one-add, nat_eq, ◌==◌, position, option_and_then, not}
 use Rattle.std.specs.List.{list_any, position_or_len}
 use Rattle.std.specs.Cmp.Lexicographic.{pointwise, same_text}
@@ -15,7 +15,6 @@ use Rattle.std.proofs.lemmas.List.Quantifiers.{position-Some}
 use Rattle.std.proofs.Math.Seq.{drop-cons}
 use Rattle.stack_text.specs.Reading.{Position, cut_at, next_line, or_bad_line, line_after, after_prefix, exactly}
 use Rattle.stack_text.specs.Reading.{bad_line_if}
-use Rattle.stack_text.specs.declared.fault.FileError.{FileError}
 use Rattle.stack_text.proofs.Forms.{onto, position_at, Took, Reads, chain_ok, bad_line_if-reads}
 
 -- which side of a choice gave a value
@@ -57,9 +56,6 @@ splits_at c bytes i e =
           get_or-take i bytes k d few ∙ get_or_default bytes k d 0 (omega arith) in
           ap (λ (b : ℕ). eqb b c) same ∙ p.2 k few),
     )
-
-IsOk : {A : Type 0} → Result (A × Position) FileError → A → Position → Type 0
-IsOk r x t = r ≡ Ok (x, t)
 
 -- one line
 pub next_line-found : (s t : Position) (line : List ℕ) → next_line s ≡ Ok (line, t)

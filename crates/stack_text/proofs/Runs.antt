@@ -1,10 +1,11 @@
 -- Bytes that stand for themselves, side by side.
 use Rattle.std.proofs.Common.{◌≡◌, ℕ, suc, ◌-◌, ◌<◌, ◌≤◌, Bool, true, false, List, [], ◌∷◌, ◌++◌, length, take, drop}
 use Rattle.std.proofs.Common.{ltb, Option, Some, None, refl, sym, ap, subst, ◌∙◌, arith, append_assoc, one-add, not}
-use Rattle.std.proofs.Common.{◌&&◌, option_map, if◌then◌else◌, position, unwrap_or, append-nil}
+use Rattle.std.proofs.Common.{option_map, if◌then◌else◌, position, unwrap_or, append-nil}
 use Rattle.std.specs.List.{list_all, position_or_len}
 use Rattle.std.proofs.lemmas.List.Sums.{prefix_len-le-length}
 use Rattle.std.proofs.lemmas.Bool.Decides.{nat_tests}
+use Rattle.std.proofs.lemmas.Bool.{and_parts}
 use Rattle.stack_text.specs.Words.{is_plain, spelled, char_at, unspelled_within, unspelled}
 use Rattle.stack_text.proofs.Texts.{spelled-plain, plain_char, unspelled-step, unspelled-nil, unspelled-bad}
 use Rattle.stack_text.proofs.Texts.{text-found, text-again, onto-text}
@@ -100,21 +101,17 @@ enough n rest room = by (unspelled_within n rest) (unspelled rest) refl refl
 
 -- ---- bytes that are copied
 
-both_true : (a b : Bool) → (a && b) ≡ true → (a ≡ true) × (b ≡ true)
-both_true true b e = (refl, e)
-both_true false b e = absurd cc
-
 pub plain_spelled : (bytes : List ℕ) → list_all is_plain bytes ≡ true → spelled bytes ≡ bytes
 plain_spelled [] e = refl
 plain_spelled (b ∷ bytes) e =
-    let all = both_true (is_plain b) (list_all is_plain bytes) e in
+    let all = and_parts (is_plain b) (list_all is_plain bytes) e in
     ap (λ (w : List ℕ). w ++ spelled bytes) (spelled-plain b all.0)
     ∙ ap (λ (w : List ℕ). b ∷ w) (plain_spelled bytes all.1)
 
 pub plain_unspelled : (bytes : List ℕ) → list_all is_plain bytes ≡ true → unspelled bytes ≡ Some bytes
 plain_unspelled [] e = unspelled-nil 0 [] refl
 plain_unspelled (b ∷ bytes) e =
-    let all = both_true (is_plain b) (list_all is_plain bytes) e in
+    let all = and_parts (is_plain b) (list_all is_plain bytes) e in
     unspelled-step (length (b ∷ bytes)) (length bytes) (b ∷ bytes) b bytes (omega arith) (omega arith)
     (plain_char b bytes all.0) ∙ ap (option_map (λ t. b ∷ t)) (plain_unspelled bytes all.1)
 

@@ -2,7 +2,6 @@
 use Rattle.std.proofs.Common.{◌≡◌, ◌<◌, ◌≤◌, ◌+◌, ◌-◌, ℕ, zero, suc, arith, true, false, nat_eq, List, [], ◌∷◌, ◌++◌}
 use Rattle.std.proofs.Common.{length, take, drop, refl, ap, sym, ◌∙◌, Ok, length-drop, append-nil, drop-drop}
 use Rattle.std.specs.List.{starts_with}
-use Rattle.std.proofs.Math.Seq.{take-length}
 use Rattle.std.proofs.Math.ListN.{drop_of_length-le}
 use Rattle.ht_values.specs.declared.text.TheConstants.{LIMIT}
 use Rattle.ht_values.specs.Outcome.{within_limit}
@@ -50,10 +49,6 @@ replaced-past old new text at t h =
 replaced-some : (old new text : List ℕ) → 0 < length old → replaced old new text ≡ replaced_after old new 0 text
 replaced-some [] new text l = absurd (omega arith)
 replaced-some (o ∷ old) new text l = grind arith
-
--- a slice up to the end
-pub take-rest : (text : List ℕ) (at : ℕ) → take (length text - at) (drop at text) ≡ drop at text
-take-rest text at = rw (← length-drop at text) (take-length (drop at text))
 
 -- the whole text is done
 pub replaced-end : (old new text made : List ℕ) (at : ℕ) → 0 < length old → length text ≤ at → length made ≤ LIMIT

@@ -6,7 +6,7 @@ use Rattle.std.proofs.lemmas.Bool.Decides.{not_from_Decides}
 use Rattle.std.proofs.lemmas.List.{set-get_or}
 use Rattle.std.proofs.lemmas.Option.{slice_get-get_or, get_or_from_slice_get}
 use Rattle.externals.specs.Cells.{Changes, flipped, taken_out, IsProper, Avoids, HasTexts, DiffersFrom, IsPatch}
-use Rattle.externals.proofs.Flipping.{slice_get-set_other, length-flipped, IsProper-taken_out}
+use Rattle.externals.proofs.Flipping.{slice_get-set_other, length-flipped, IsProper-taken_out, Avoids-taken_out}
 use Rattle.xkit.specs.Plans.{IsPlan}
 
 -- a cell that isn't named stays
@@ -15,10 +15,6 @@ slice_get-flipped : (cells : List (List ℕ)) (p : Changes) (i : ℕ) → Avoids
 slice_get-flipped cells [] i a = refl
 slice_get-flipped cells (e ∷ p) i a =
     slice_get-flipped (set cells e.0 e.1) p i a.1 ∙ slice_get-set_other cells e.0 i e.1 a.0
-
-Avoids-taken_out : (cells : List (List ℕ)) (p : Changes) (i : ℕ) → Avoids i p → Avoids i (taken_out cells p)
-Avoids-taken_out cells [] i a = tt
-Avoids-taken_out cells (e ∷ p) i a = (a.0, Avoids-taken_out (set cells e.0 e.1) p i a.1)
 
 taken_out-Avoids : (cells : List (List ℕ)) (p : Changes) (i : ℕ) → Avoids i (taken_out cells p) → Avoids i p
 taken_out-Avoids cells [] i a = tt

@@ -1,17 +1,14 @@
 -- What the notes of a relay lead to.
-use Rattle.std.proofs.Common.{◌≡◌, ℕ, arith, Bool, true, false, ◌&&◌, nat_eq, bytes_eq, length, List, [], ◌∷◌, codes}
+use Rattle.std.proofs.Common.{◌≡◌, ℕ, arith, true, false, nat_eq, bytes_eq, length, List, [], ◌∷◌, codes}
 use Rattle.std.proofs.Common.{drop, slice_index_or, refl, eqb-true}
+use Rattle.std.specs.Cmp.{first_so}
 use Rattle.xkit.specs.Table.{relay_answer, is_note}
 use Rattle.externals.specs.declared.external.Ask.TheVariants.{SetFieldByName}
 use Rattle.xkit.specs.Steps.{cell}
 
-first_of_both : (a b : Bool) → (a && b) ≡ true → a ≡ true
-first_of_both true b h = refl
-first_of_both false b h = h
-
 length-note : (n : ℕ) (stage : List ℕ) (note : List (List ℕ)) → is_note n stage note ≡ true → length note ≡ n
 length-note n stage note h =
-    eqb-true (length note) n (first_of_both (nat_eq (length note) n) (bytes_eq (slice_index_or note 0 []) stage) h)
+    eqb-true (length note) n (first_so (nat_eq (length note) n) (bytes_eq (slice_index_or note 0 []) stage) h)
 
 -- the first note, with its four texts
 pub global_was_set : (cells note : List (List ℕ)) (value : List ℕ) → is_note 4 (codes "1") note ≡ true
