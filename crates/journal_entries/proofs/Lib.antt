@@ -17,4 +17,5 @@ mod Listing
 pub mod Keys
 pub mod PlaceSets
 pub mod Indexing
+pub mod Keeping
 pub mod ScriptTrees

@@ -128,12 +128,10 @@ impl OpenBatch {
     }
 
     /// Makes exchanges, from the first to the last, and keeps of what comes out what the places have no entry for.
-    /// Since these make or remove an object, after which no place waits, and few come before that, what waits needn't
-    /// be sorted.
     fn write_each<E: External>(
         &mut self,
         present: &mut Present<E>,
-        entries: Vec<Entry>,
+        mut entries: Vec<Entry>,
     ) -> Result<(), AllocError>
         requires { AreReady (shape_of present.old) entries.items }
         ensures state { OnOk result (present.new ≡ record present.old
@@ -145,10 +143,8 @@ impl OpenBatch {
     {
         reserve(&mut self.entries, entries.len())?;
         self.places.reserve(entries.len())?;
-        for entry in entries {
-            let held = is_held(&self.entries, &self.places, &entry);
-            write_reserved(&mut self.entries, &mut self.places, present, entry, held);
-        }
+        exchange_each(&self.entries, &mut self.places, present, &mut entries);
+        add_reserved(&mut self.entries, entries);
         Ok(())
     }
 
@@ -274,15 +270,6 @@ fn sort_for(places: &mut PlaceSet, entry: &Entry) -> Result<(), AllocError>
     Ok(())
 }
 
-/// Whether the segment since the latest structural entry has an entry of this one's place.
-fn is_held(entries: &[Entry], places: &PlaceSet, entry: &Entry) -> bool
-    requires indexed { IsIndexed entries.now places.now }
-    ensures { result ≡ holds_one entry.now entries.now }
-{
-    let _ = entries;
-    is_found(places, entry)
-}
-
 /// Whether the latest entry is of the numbered global, as it is where a loop changes one. Then it is exchanged alone.
 fn is_last_global(entries: &[Entry], i: usize) -> bool
     ensures { result ≡ true → (v : Option (List ℕ)) → holds_one (Entry.Global i v) entries.now ≡ true }
@@ -315,6 +302,24 @@ fn is_found(places: &PlaceSet, entry: &Entry) -> bool
     }
 }
 
+/// Adds the place of an entry that stands behind others. There is room for it.
+fn add_place(places: &mut PlaceSet, entry: &Entry)
+    requires bounded { IsBounded places.old }
+    requires room { vec_len places.old.waiting < vec_capacity places.old.waiting }
+    ensures indexed { (es : List Entry) → IsIndexed es places.old → IsIndexed (es ++ entry.now ∷ []) places.new }
+    ensures waiting { vec_len places.new.waiting ≤ vec_len places.old.waiting + 1 }
+    ensures capacity { vec_capacity places.new.waiting ≡ vec_capacity places.old.waiting }
+{
+    match key_of(entry) {
+        Some(key) => places.add(key),
+        None => {
+            if is_structural_entry(entry) {
+                places.clear();
+            }
+        }
+    }
+}
+
 /// Adds an entry. There is room for it.
 fn keep(entries: &mut Vec<Entry>, places: &mut PlaceSet, entry: Entry)
     requires place { vec_len entries.old < vec_capacity entries.old }
@@ -327,15 +332,52 @@ fn keep(entries: &mut Vec<Entry>, places: &mut PlaceSet, entry: Entry)
     ensures waiting { vec_len places.new.waiting ≤ vec_len places.old.waiting + 1 }
     ensures room { vec_capacity places.new.waiting ≡ vec_capacity places.old.waiting }
 {
-    match key_of(&entry) {
-        Some(key) => places.add(key),
-        None => {
-            if is_structural_entry(&entry) {
-                places.clear();
-            }
+    add_place(places, &entry);
+    entries.push_reserved(entry);
+}
+
+/// Makes exchanges, from the first to the last, where the entries stand. Those go whose place has its entry among these
+/// and those before them already. There is room for the places of all.
+fn exchange_each<E: External>(
+    before: &[Entry],
+    places: &mut PlaceSet,
+    present: &mut Present<E>,
+    entries: &mut Vec<Entry>,
+)
+    requires ready { AreReady (shape_of present.old) entries.old.items }
+    requires indexed { IsIndexed before.now places.old }
+    requires room { vec_len places.old.waiting + length entries.old.items ≤ vec_capacity places.old.waiting }
+    ensures state { present.new ≡ record present.old
+        { state = forth present.old.names present.old.state entries.old.items } }
+    ensures items { before.now ++ entries.new.items
+        ≡ kept_in_turn present.old.names present.old.state before.now entries.old.items }
+    ensures indexed { IsIndexed (before.now ++ entries.new.items) places.new }
+    ensures few { length entries.new.items ≤ length entries.old.items }
+{
+    let _ = before;
+    let mut i = 0;
+    while i < entries.len() {
+        let held = is_found(places, &entries[i]);
+        present.exchange(&mut entries[i]);
+        if held {
+            drop(entries.remove(i));
+        } else {
+            add_place(places, &entries[i]);
+            i += 1;
         }
     }
-    entries.push_reserved(entry);
+}
+
+/// Adds entries. There is room for them.
+fn add_reserved(entries: &mut Vec<Entry>, more: Vec<Entry>)
+    requires { vec_len entries.old + length more.items ≤ vec_capacity entries.old }
+    ensures { entries.new.items ≡ entries.old.items ++ more.items }
+{
+    let mut more = more;
+    match entries.append(&mut more) {
+        Ok(()) => {}
+        Err(_) => unreachable!(),
+    }
 }
 
 /// Makes an exchange and keeps what comes out, unless the place has its entry already. Where it has none, there is

@@ -145,6 +145,33 @@ module _ {Y : Type 0} where
         };
       }
 
+  -- an entry that is read at a place is there
+  pub at_read : (es : List (ℕ × Y)) (id i : ℕ) (e : ℕ × Y) → i < length es → e ≡ get_or es i e → e.0 ≡ id
+      → IsAt (ids_in es) id i
+  at_read es id i e within read same =
+      let long : length (ids_in es) ≡ length es = length-map es (λ x. x.0) in
+      record {
+        within = omega (arith, within, long);
+        is = id-read es i e within ∙ sym (ap (λ x. x.0) read) ∙ same;
+      }
+
+  -- an id that comes after the last one would go behind all
+  pub gap_behind : (es : List (ℕ × Y)) (id : ℕ) (e : ℕ × Y) → AreRising (ids_in es) → length es - 1 < length es
+      → e ≡ get_or es (length es - 1) e → e.0 < id → IsGapFor (ids_in es) id (length es)
+  gap_behind es id e rising within read more =
+      let long : length (ids_in es) ≡ length es = length-map es (λ x. x.0) in
+      let last = at_read es e.0 (length es - 1) e within read refl in
+      record {
+        within = omega (arith, long);
+        less = λ j h. grind (
+          arith,
+          last.is,
+          rising j (length es - 1),
+          λ (same : j ≡ length es - 1). ap (λ n. get_or (ids_in es) n 0) same,
+        );
+        more = λ j h l. absurd (omega (arith, h, l, long));
+      }
+
   -- an id that stands nowhere
   pub entry-none : (es : List (ℕ × Y)) (id : ℕ) → NoneBefore (ids_in es) id (length (ids_in es)) → entry_at es id ≡ None
   entry-none [] id none = refl
@@ -280,33 +307,35 @@ module _ {Y : Type 0} where
       each true h = refl
       each false h = h
 
-  -- a row has the entries of its part alone
-  of_row : (part : ℕ) (row : List (ℕ × Y)) (q : Pair)
-      → lookup (same_pair q) (map (λ e. ((part, e.0), e.1)) row) ≡ cond (nat_eq q.0 part) (entry_at row q.1) None
-  of_row part [] q = each (nat_eq q.0 part)
+  -- a row has the entries of its card alone
+  of_row : (card : ℕ) (row : List (ℕ × Y)) (q : Pair)
+      → lookup (same_pair q) (map (λ e. ((e.0, card), e.1)) row) ≡ cond (nat_eq q.1 card) (entry_at row q.0) None
+  of_row card [] q = each (nat_eq q.1 card)
     where
       each : (b : Bool) → ◌≡◌ {A = Option Y} None (cond b None None)
       each true = refl
       each false = refl
-  of_row part (e ∷ row) q = each (nat_eq q.0 part) (of_row part row q)
+  of_row card (e ∷ row) q = each (nat_eq q.0 e.0) (nat_eq q.1 card) (of_row card row q)
     where
-      each : (b : Bool) → lookup (same_pair q) (map (λ e. ((part, e.0), e.1)) row) ≡ cond b (entry_at row q.1) None
-          → cond (b && nat_eq q.1 e.0) (Some e.1) (lookup (same_pair q) (map (λ e. ((part, e.0), e.1)) row))
-          ≡ cond b (cond (nat_eq q.1 e.0) (Some e.1) (entry_at row q.1)) None
-      each true h = ap (λ o. cond (nat_eq q.1 e.0) (Some e.1) o) h
-      each false h = h
+      each : (a b : Bool) → lookup (same_pair q) (map (λ e. ((e.0, card), e.1)) row) ≡ cond b (entry_at row q.0) None
+          → cond (a && b) (Some e.1) (lookup (same_pair q) (map (λ e. ((e.0, card), e.1)) row))
+          ≡ cond b (cond a (Some e.1) (entry_at row q.0)) None
+      each true true h = refl
+      each true false h = h
+      each false true h = h
+      each false false h = h
 
-  none-of : (rs : List (ℕ × List (ℕ × Y))) (q : Pair) → entry_at rs q.0 ≡ None
+  none-of : (rs : List (ℕ × List (ℕ × Y))) (q : Pair) → entry_at rs q.1 ≡ None
       → lookup (same_pair q) (entries_of rs) ≡ None
   none-of [] q n = refl
   none-of (r ∷ rs) q n =
       appended (same_pair q) _ (entries_of rs)
       ∙ ap (λ o. option_or o (lookup (same_pair q) (entries_of rs))) (of_row r.0 r.1 q)
-      ∙ each (nat_eq q.0 r.0) n (none-of rs q)
+      ∙ each (nat_eq q.1 r.0) n (none-of rs q)
     where
-      each : (b : Bool) → cond b (Some r.1) (entry_at rs q.0) ≡ None
-          → (entry_at rs q.0 ≡ None → lookup (same_pair q) (entries_of rs) ≡ None)
-          → option_or (cond b (entry_at r.1 q.1) None) (lookup (same_pair q) (entries_of rs)) ≡ None
+      each : (b : Bool) → cond b (Some r.1) (entry_at rs q.1) ≡ None
+          → (entry_at rs q.1 ≡ None → lookup (same_pair q) (entries_of rs) ≡ None)
+          → option_or (cond b (entry_at r.1 q.0) None) (lookup (same_pair q) (entries_of rs)) ≡ None
       each true m others = absurd (false≢true (ap is_some (sym m)))
       each false m others = others m
 
@@ -315,61 +344,73 @@ module _ {Y : Type 0} where
   no_entry (Some x) h = absurd (false≢true (sym h))
 
   of_pair : (rs : List (ℕ × List (ℕ × Y))) (q : Pair) → AreApart (ids_in rs)
-      → lookup (same_pair q) (entries_of rs) ≡ option_and_then (λ row. entry_at row q.1) (entry_at rs q.0)
+      → lookup (same_pair q) (entries_of rs) ≡ option_and_then (λ row. entry_at row q.0) (entry_at rs q.1)
   of_pair [] q are = refl
   of_pair (r ∷ rs) q are =
       appended (same_pair q) _ (entries_of rs)
       ∙ ap (λ o. option_or o (lookup (same_pair q) (entries_of rs))) (of_row r.0 r.1 q)
-      ∙ each (nat_eq q.0 r.0) refl (of_pair rs q are.1)
+      ∙ each (nat_eq q.1 r.0) refl (of_pair rs q are.1)
     where
       kept : (o : Option Y) → option_or o None ≡ o
       kept None = refl
       kept (Some y) = refl
 
-      each : (b : Bool) → nat_eq q.0 r.0 ≡ b
-          → lookup (same_pair q) (entries_of rs) ≡ option_and_then (λ row. entry_at row q.1) (entry_at rs q.0)
-          → option_or (cond b (entry_at r.1 q.1) None) (lookup (same_pair q) (entries_of rs))
-          ≡ option_and_then (λ row. entry_at row q.1) (cond b (Some r.1) (entry_at rs q.0))
+      each : (b : Bool) → nat_eq q.1 r.0 ≡ b
+          → lookup (same_pair q) (entries_of rs) ≡ option_and_then (λ row. entry_at row q.0) (entry_at rs q.1)
+          → option_or (cond b (entry_at r.1 q.0) None) (lookup (same_pair q) (entries_of rs))
+          ≡ option_and_then (λ row. entry_at row q.0) (cond b (Some r.1) (entry_at rs q.1))
       each true e others =
-          let absent : entry_at rs q.0 ≡ None =
-          no_entry _ (entry-among rs q.0 ∙ ap (λ n. contains_id n (ids_in rs)) (by_test q.0 r.0 e) ∙ are.0) in
-          ap (λ o. option_or (entry_at r.1 q.1) o) (none-of rs q absent) ∙ kept (entry_at r.1 q.1)
+          let absent : entry_at rs q.1 ≡ None =
+          no_entry _ (entry-among rs q.1 ∙ ap (λ n. contains_id n (ids_in rs)) (by_test q.1 r.0 e) ∙ are.0) in
+          ap (λ o. option_or (entry_at r.1 q.0) o) (none-of rs q absent) ∙ kept (entry_at r.1 q.0)
       each false e others = others
 
   same_lookup : (q : Pair) (es : List (Pair × Y)) → lookup (eq_by_cmp pair_cmp q) es ≡ lookup (same_pair q) es
   same_lookup q es = ap (λ (p : Pair → Bool). lookup p es) (λ i x. pair_tied q x i)
 
-  -- the entry of a pair is the one of its card in the row of its part
+  -- the entry of a pair is the one of its part in the row of its card
   pub entry-of_pair : (rs : List (ℕ × List (ℕ × Y))) (q : Pair) → AreApart (ids_in rs)
-      → lookup (eq_by_cmp pair_cmp q) (entries_of rs) ≡ option_and_then (λ row. entry_at row q.1) (entry_at rs q.0)
+      → lookup (eq_by_cmp pair_cmp q) (entries_of rs) ≡ option_and_then (λ row. entry_at row q.0) (entry_at rs q.1)
   entry-of_pair rs q are = same_lookup q (entries_of rs) ∙ of_pair rs q are
 
   -- an empty row adds no entry
-  pub entries-empty_row : (rs : List (ℕ × List (ℕ × Y))) (part : ℕ) → entries_of (rs ++ (part, []) ∷ []) ≡ entries_of rs
-  entries-empty_row [] part = refl
-  entries-empty_row (r ∷ rs) part = ap (λ es. map (λ e. ((r.0, e.0), e.1)) r.1 ++ es) (entries-empty_row rs part)
+  pub entries-empty_row : (rs : List (ℕ × List (ℕ × Y))) (card : ℕ) → entries_of (rs ++ (card, []) ∷ []) ≡ entries_of rs
+  entries-empty_row [] card = refl
+  entries-empty_row (r ∷ rs) card = ap (λ es. map (λ e. ((e.0, r.0), e.1)) r.1 ++ es) (entries-empty_row rs card)
 
   -- an entry is written in a row
   pub entries-written : (rs ss : List (ℕ × List (ℕ × Y))) (part card : ℕ) (row new : List (ℕ × Y)) (y : Y)
-      → AreApart (ids_in rs) → AreApart (ids_in ss) → entry_at rs part ≡ Some row
-      → ((p : ℕ) → entry_at ss p ≡ cond (nat_eq part p) (Some new) (entry_at rs p))
-      → ((c : ℕ) → entry_at new c ≡ cond (nat_eq card c) (Some y) (entry_at row c))
+      → AreApart (ids_in rs) → AreApart (ids_in ss) → entry_at rs card ≡ Some row
+      → ((c : ℕ) → entry_at ss c ≡ cond (nat_eq card c) (Some new) (entry_at rs c))
+      → ((p : ℕ) → entry_at new p ≡ cond (nat_eq part p) (Some y) (entry_at row p))
       → (q : Pair) → lookup (eq_by_cmp pair_cmp q) (entries_of ss)
       ≡ cond (eq_by_cmp pair_cmp (part, card) q) (Some y) (lookup (eq_by_cmp pair_cmp q) (entries_of rs))
-  entries-written rs ss part card row new y are are' is rows cards q =
+  entries-written rs ss part card row new y are are' is rows parts q =
       entry-of_pair ss q are'
-      ∙ ap (option_and_then (λ r. entry_at r q.1)) (rows q.0)
-      ∙ each (nat_eq part q.0) refl
-      ∙ ap (λ b. cond b (Some y) (option_and_then (λ r. entry_at r q.1) (entry_at rs q.0)))
+      ∙ ap (option_and_then (λ r. entry_at r q.0)) (rows q.1)
+      ∙ each (nat_eq card q.1) refl
+      ∙ ap (λ b. cond b (Some y) (option_and_then (λ r. entry_at r q.0) (entry_at rs q.1)))
       (sym (pair_tied (part, card) q))
       ∙ ap (λ o. cond (eq_by_cmp pair_cmp (part, card) q) (Some y) o) (sym (entry-of_pair rs q are))
     where
-      each : (b : Bool) → nat_eq part q.0 ≡ b
-          → option_and_then (λ r. entry_at r q.1) (cond b (Some new) (entry_at rs q.0))
-          ≡ cond (b && nat_eq card q.1) (Some y) (option_and_then (λ r. entry_at r q.1) (entry_at rs q.0))
-      each true e = cards q.1 ∙ ap (λ o. cond (nat_eq card q.1) (Some y) (option_and_then (λ r. entry_at r q.1) o))
-          (sym is ∙ ap (entry_at rs) (by_test part q.0 e))
-      each false e = refl
+      and_true : (b : Bool) → b ≡ (b && true)
+      and_true true = refl
+      and_true false = refl
+
+      and_false : (b : Bool) → false ≡ (b && false)
+      and_false true = refl
+      and_false false = refl
+
+      each : (b : Bool) → nat_eq card q.1 ≡ b
+          → option_and_then (λ r. entry_at r q.0) (cond b (Some new) (entry_at rs q.1))
+          ≡ cond (nat_eq part q.0 && b) (Some y) (option_and_then (λ r. entry_at r q.0) (entry_at rs q.1))
+      each true e = parts q.0
+          ∙ ap (λ o. cond (nat_eq part q.0) (Some y) (option_and_then (λ r. entry_at r q.0) o))
+          (sym is ∙ ap (entry_at rs) (by_test card q.1 e))
+          ∙ ap (λ b. cond b (Some y) (option_and_then (λ r. entry_at r q.0) (entry_at rs q.1)))
+          (and_true (nat_eq part q.0))
+      each false e = ap (λ b. cond b (Some y) (option_and_then (λ r. entry_at r q.0) (entry_at rs q.1)))
+          (and_false (nat_eq part q.0))
 
   -- what stands first at an id, as maps ask for it
   pub entry-tied : (es : List (ℕ × Y)) (id : ℕ) → lookup (eq_by_cmp nat_cmp id) es ≡ entry_at es id
@@ -395,45 +436,45 @@ pub outer_some : {A B : Type 0} (f : A → Option B) (o : Option A) → is_some 
 outer_some f None h = absurd (false≢true h)
 outer_some f (Some a) h = refl
 
--- ---- the row of a part, by the number that the pages have
+-- ---- the row of a card, by the number that the pages have
 
-module _ {Y : Type 0} (pages : List (List ℕ)) (rs : List (ℕ × List (ℕ × Y))) (part n : ℕ) (are : AreNumbered pages rs)
-    (is : n ≡ number_at pages part) (there : is_some (entry_at rs part) ≡ true) where
-  row-open : contains (keys_of {R = nat_cmp} rs) part ≡ true
-  row-open = contains-keys_of ids rs part ∙ ap (λ o. is_some o) (entry-tied rs part) ∙ there
+module _ {Y : Type 0} (pages : List (List ℕ)) (rs : List (ℕ × List (ℕ × Y))) (card n : ℕ) (are : AreNumbered pages rs)
+    (is : n ≡ number_at pages card) (there : is_some (entry_at rs card) ≡ true) where
+  row-open : contains (keys_of {R = nat_cmp} rs) card ≡ true
+  row-open = contains-keys_of ids rs card ∙ ap (λ o. is_some o) (entry-tied rs card) ∙ there
 
   pub row-counted : 1 ≤ n
-  row-counted = at_least_one pages rs part n are is row-open
+  row-counted = at_least_one pages rs card n are is row-open
 
   pub row-within : n - 1 < length rs
-  row-within = place_within pages rs part n are is row-open
+  row-within = place_within pages rs card n are is row-open
 
   module _ (apart : AreApart (ids_in rs)) (e : ℕ × List (ℕ × Y)) (read : e ≡ get_or rs (n - 1) e) where
-    row-stands : IsSlotOf part (n - 1) e rs
-    row-stands = stands_at pages rs part n are is row-open e read
+    row-stands : IsSlotOf card (n - 1) e rs
+    row-stands = stands_at pages rs card n are is row-open e read
 
-    pub row-found : entry_at rs part ≡ Some e.1
-    row-found = sym (entry-tied rs part) ∙ sym (slot_found part (n - 1) e rs row-stands)
+    pub row-found : entry_at rs card ≡ Some e.1
+    row-found = sym (entry-tied rs card) ∙ sym (slot_found card (n - 1) e rs row-stands)
 
-    -- the entry of a pair is the one of its card in that row
-    pub pair-found : (card : ℕ) → lookup (eq_by_cmp pair_cmp (part, card)) (entries_of rs) ≡ entry_at e.1 card
-    pair-found card = entry-of_pair rs (part, card) apart ∙ ap (option_and_then (λ r. entry_at r card)) row-found
+    -- the entry of a pair is the one of its part in that row
+    pub pair-found : (part : ℕ) → lookup (eq_by_cmp pair_cmp (part, card)) (entries_of rs) ≡ entry_at e.1 part
+    pair-found part = entry-of_pair rs (part, card) apart ∙ ap (option_and_then (λ r. entry_at r part)) row-found
 
     module _ (new : List (ℕ × Y)) where
-      written : IsWritten rs (set rs (n - 1) (e.0, new)) part new
-      written = slot_written part (n - 1) e rs row-stands new
+      written : IsWritten rs (set rs (n - 1) (e.0, new)) card new
+      written = slot_written card (n - 1) e rs row-stands new
 
       pub rows-kept : AreNumbered pages (set rs (n - 1) (e.0, new)) × AreApart (ids_in (set rs (n - 1) (e.0, new)))
-      rows-kept = (still_numbered part (n - 1) e rs row-stands pages new are, subst AreApart (sym written.1) apart)
+      rows-kept = (still_numbered card (n - 1) e rs row-stands pages new are, subst AreApart (sym written.1) apart)
 
-      -- a value is written at a card of that row
-      pub pair-written : (card : ℕ) (y : Y)
-          → ((c : ℕ) → entry_at new c ≡ cond (nat_eq card c) (Some y) (entry_at e.1 c))
+      -- a value is written at a part of that row
+      pub pair-written : (part : ℕ) (y : Y)
+          → ((p : ℕ) → entry_at new p ≡ cond (nat_eq part p) (Some y) (entry_at e.1 p))
           → (q : Pair) → lookup (eq_by_cmp pair_cmp q) (entries_of (set rs (n - 1) (e.0, new)))
           ≡ cond (eq_by_cmp pair_cmp (part, card) q) (Some y) (lookup (eq_by_cmp pair_cmp q) (entries_of rs))
-      pair-written card y cards =
+      pair-written part y parts =
           let ss = set rs (n - 1) (e.0, new) in
-          let rows : (p : ℕ) → entry_at ss p
-          ≡ cond (nat_eq part p) (Some new) (entry_at rs p) = λ p. sym (entry-tied ss p) ∙ written.0 p
-          ∙ (λ i. cond (unsigned_tied part p i) (Some new) (entry-tied rs p i)) in
-          entries-written rs ss part card e.1 new y apart rows-kept.1 row-found rows cards
+          let rows : (c : ℕ) → entry_at ss c
+          ≡ cond (nat_eq card c) (Some new) (entry_at rs c) = λ c. sym (entry-tied ss c) ∙ written.0 c
+          ∙ (λ i. cond (unsigned_tied card c i) (Some new) (entry-tied rs c i)) in
+          entries-written rs ss part card e.1 new y apart rows-kept.1 row-found rows parts

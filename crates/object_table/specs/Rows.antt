@@ -1,4 +1,4 @@
--- Values at pairs of ids: a row for each part that has one, with a value or none at each card that is open there.
+-- Values at pairs of ids: a row for each card that has one, with a value or none at each part that is open there.
 use Rattle.std.specs.Prelude.{◌≡◌, ℕ, ◌<◌, ◌≤◌, List, [], ◌∷◌, ◌++◌, length, map, slice_index_or, Option, false, nat_eq}
 use Rattle.std.specs.Map.{lookup}
 use Rattle.object_table.specs.Objects.{contains_id}
@@ -32,7 +32,7 @@ abbrev pub AreApart : List ℕ → Type 0
 AreApart [] = Unit {0}
 AreApart (id ∷ ids) = (contains_id id ids ≡ false) × AreApart ids
 
--- the entries of rows, each at its part and its card
+-- the entries of the rows of cards, each at its part and its card
 abbrev pub entries_of : {Y : Type 0} → List (ℕ × List (ℕ × Y)) → List (Pair × Y)
 entries_of [] = []
-entries_of (r ∷ rs) = map (λ e. ((r.0, e.0), e.1)) r.1 ++ entries_of rs
+entries_of (r ∷ rs) = map (λ e. ((e.0, r.0), e.1)) r.1 ++ entries_of rs

@@ -15,7 +15,8 @@ use std::alloc::{AllocError, Global};
 use std::marker::Model;
 
 /// The values that stand at pairs of the ids of a part and a card. A pair has to be open to have one, and an open pair
-/// may have none. Each part with an open pair has a row; so a pair is found in a few steps, whichever ids others have.
+/// may have none. Each card with an open pair has a row, so that what a card has stands side by side; and a pair is
+/// found in a few steps, whichever ids others have.
 #[derive(Drop)]
 pub(crate) struct PairTable<X> {
     rows: Vec<(Id, Row<X>)>,
@@ -58,15 +59,15 @@ impl<X: Drop> PairTable<X> {
         ensures value { option_copied result ≡ map.get (values_in (entries_of self.now)) (part, card) }
         ensures room { OnSome result (set.contains (open_in (entries_of self.now)) (part, card) ≡ true) }
     {
-        row_with(&self.rows, self.numbers.get(part))?.get(card)
+        row_with(&self.rows, self.numbers.get(card))?.get(part)
     }
 
-    /// Has a row for a part.
-    fn reach(&mut self, part: Id) -> Result<(), AllocError>
+    /// Has a row for a card.
+    fn reach(&mut self, card: Id) -> Result<(), AllocError>
         ensures entries { entries_of self.new ≡ entries_of self.old }
-        ensures ok { OnOk result (is_some (entry_at self.new part) ≡ true) }
+        ensures ok { OnOk result (is_some (entry_at self.new card) ≡ true) }
     {
-        if self.numbers.get(part) > 0 {
+        if self.numbers.get(card) > 0 {
             return Ok(());
         }
         let alloc = *self.rows.allocator();
@@ -74,8 +75,8 @@ impl<X: Drop> PairTable<X> {
         let Ok(number) = u32::try_from(self.rows.len() + 1) else {
             return Err(AllocError);
         };
-        self.numbers.set(part, number)?;
-        self.rows.push_reserved((part, Row::new(alloc)));
+        self.numbers.set(card, number)?;
+        self.rows.push_reserved((card, Row::new(alloc)));
         Ok(())
     }
 
@@ -86,9 +87,9 @@ impl<X: Drop> PairTable<X> {
         ensures inside { OnOk result (set.contains (open_in (entries_of self.new)) (part, card) ≡ true) }
         ensures err { OnErr result (open_in (entries_of self.new) ≡ open_in (entries_of self.old)) }
     {
-        self.reach(part)?;
-        let place = self.numbers.get(part) as usize - 1;
-        self.rows[place].1.open(card)?;
+        self.reach(card)?;
+        let place = self.numbers.get(card) as usize - 1;
+        self.rows[place].1.open(part)?;
         Ok(())
     }
 
@@ -99,7 +100,7 @@ impl<X: Drop> PairTable<X> {
             ≡ put_option (values_in (entries_of self.old)) (part, card) value.old }
         ensures room { open_in (entries_of self.new) ≡ open_in (entries_of self.old) }
     {
-        let place = self.numbers.get(part) as usize - 1;
-        self.rows[place].1.swap(card, value);
+        let place = self.numbers.get(card) as usize - 1;
+        self.rows[place].1.swap(part, value);
     }
 }

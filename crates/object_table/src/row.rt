@@ -1,6 +1,6 @@
-//! Values at cards.
+//! Values at the parts of a card.
 
-ghost use Rattle.std.specs.Prelude.{◌≡◌, ℕ, [], true, cond, nat_eq, OnOk, OnErr, OnSome, IfOk, IfErr, Some, is_some};
+ghost use Rattle.std.specs.Prelude.{◌≡◌, ℕ, [], length, true, cond, nat_eq, OnOk, OnErr, OnSome, IfOk, IfErr, Some, is_some};
 ghost use Rattle.std.specs.Prelude.{option_copied, option_and_then};
 ghost use Rattle.object_table.specs.Rows.{entry_at, ids_in, IsAt, IsGapFor};
 
@@ -9,10 +9,12 @@ use std::alloc::{AllocError, Global};
 use std::marker::Model;
 use std::mem;
 
-/// A value, or none, at each card that is open, in the order of their ids.
+/// A value, or none, at each part that is open, in the order of their ids.
 #[derive(Drop)]
 pub(crate) struct Row<X> {
     places: Vec<(Id, Option<X>)>,
+    /// Where the latest exchange was, since most changes go from part to part.
+    latest: usize,
 }
 
 impl<X> Model for Row<X> {
@@ -27,54 +29,98 @@ impl<X> Model for Row<X> {
 }
 
 impl<X: Drop> Row<X> {
-    /// The row of no cards. It takes no memory.
+    /// The row of no parts. It takes no memory.
     pub(crate) fn new(alloc: Global) -> Row<X>
         ensures { result ≡ [] }
     {
         Row {
             places: Vec::new(alloc),
+            latest: 0,
         }
     }
 
-    pub(crate) fn get(&self, card: Id) -> Option<&X>
-        ensures value { option_copied result ≡ option_and_then (λ v. v) (entry_at self.now card) }
-        ensures open { OnSome result (is_some (entry_at self.now card) ≡ true) }
+    pub(crate) fn get(&self, part: Id) -> Option<&X>
+        ensures value { option_copied result ≡ option_and_then (λ v. v) (entry_at self.now part) }
+        ensures open { OnSome result (is_some (entry_at self.now part) ≡ true) }
     {
-        match self.place_of(card) {
+        match self.place_of(part) {
             Ok(place) => self.places[place].1.as_ref(),
             Err(_) => None,
         }
     }
 
-    /// Opens a card: a value that stands there stays.
-    pub(crate) fn open(&mut self, card: Id) -> Result<(), AllocError>
+    /// Opens a part: a value that stands there stays.
+    pub(crate) fn open(&mut self, part: Id) -> Result<(), AllocError>
         ensures ok { OnOk result ((c : ℕ) → entry_at self.new c
-            ≡ cond (nat_eq card c) (Some (option_and_then (λ v. v) (entry_at self.old card))) (entry_at self.old c)) }
+            ≡ cond (nat_eq part c) (Some (option_and_then (λ v. v) (entry_at self.old part))) (entry_at self.old c)) }
         ensures err { OnErr result (self.new ≡ self.old) }
     {
-        match self.place_of(card) {
+        match self.place_of(part) {
             Ok(_) => {}
-            Err(place) => self.places.insert(place, (card, None))?,
+            Err(place) => self.places.insert(place, (part, None))?,
         }
         Ok(())
     }
 
-    pub(crate) fn swap(&mut self, card: Id, value: &mut Option<X>)
-        requires { is_some (entry_at self.old card) ≡ true }
-        ensures value { Some value.new ≡ entry_at self.old card }
-        ensures row { (c : ℕ) → entry_at self.new c ≡ cond (nat_eq card c) (Some value.old) (entry_at self.old c) }
+    pub(crate) fn swap(&mut self, part: Id, value: &mut Option<X>)
+        requires { is_some (entry_at self.old part) ≡ true }
+        ensures value { Some value.new ≡ entry_at self.old part }
+        ensures row { (c : ℕ) → entry_at self.new c ≡ cond (nat_eq part c) (Some value.old) (entry_at self.old c) }
     {
-        match self.place_of(card) {
-            Ok(place) => mem::swap(&mut self.places[place].1, value),
+        match self.place_of(part) {
+            Ok(place) => {
+                self.latest = place;
+                mem::swap(&mut self.places[place].1, value);
+            }
             Err(_) => unreachable!(),
         }
     }
 
-    /// Where a card is, or where it would go.
-    fn place_of(&self, card: Id) -> Result<usize, usize>
-        ensures found { IfOk result (IsAt (ids_in self.now) card) }
-        ensures absent { IfErr result (IsGapFor (ids_in self.now) card) }
+    /// Where a part is, or where it would go. It is looked for first beside the latest exchange, and behind all.
+    fn place_of(&self, part: Id) -> Result<usize, usize>
+        ensures found { IfOk result (IsAt (ids_in self.now) part) }
+        ensures absent { IfErr result (IsGapFor (ids_in self.now) part) }
     {
-        self.places.binary_search_by_key(&card, |place| place.0)
+        let beside = self.latest.saturating_add(1);
+        if self.is_at(beside, part) {
+            return Ok(beside);
+        }
+        if self.is_at(self.latest, part) {
+            return Ok(self.latest);
+        }
+        if self.is_behind_all(part) {
+            return Err(self.places.len());
+        }
+        self.searched(part)
+    }
+
+    /// Whether a part is at a place.
+    #[inline]
+    fn is_at(&self, place: usize, part: Id) -> bool
+        ensures { result ≡ true → IsAt (ids_in self.now) part place }
+    {
+        match self.places.get(place) {
+            Some(found) => found.0 == part,
+            None => false,
+        }
+    }
+
+    /// Whether all parts come before this one.
+    #[inline]
+    fn is_behind_all(&self, part: Id) -> bool
+        ensures { result ≡ true → IsGapFor (ids_in self.now) part (length self.now) }
+    {
+        match self.places.last() {
+            Some(last) => last.0 < part,
+            None => true,
+        }
+    }
+
+    /// Where a part is, or where it would go, by halves.
+    fn searched(&self, part: Id) -> Result<usize, usize>
+        ensures found { IfOk result (IsAt (ids_in self.now) part) }
+        ensures absent { IfErr result (IsGapFor (ids_in self.now) part) }
+    {
+        self.places.binary_search_by_key(&part, |place| place.0)
     }
 }

@@ -17,9 +17,9 @@ returns-in_err-row_with-clause-value g c =
     let es = c.self.inside.rows.items in
     let pair : Pair = (c.args.part, c.args.card) in
     let none = c.in_err-row_with.ensures ∙ ap (λ xs. slot_at xs c.get.result) c.deref.ensures.value
-    ∙ slot-numbered c.self.inside.numbers.pages.items es c.args.part c.get.result c.self.invariant.0 c.get.ensures
-    ∙ entry-tied es c.args.part in
-    let is = entry-of_pair es pair c.self.invariant.1 ∙ ap (option_and_then (λ r. entry_at r c.args.card)) (sym none) in
+    ∙ slot-numbered c.self.inside.numbers.pages.items es c.args.card c.get.result c.self.invariant.0 c.get.ensures
+    ∙ entry-tied es c.args.card in
+    let is = entry-of_pair es pair c.self.invariant.1 ∙ ap (option_and_then (λ r. entry_at r c.args.part)) (sym none) in
     rw (← c.self.view_is, c.from_residual.ensures)
     (sym (get-map_of pairs (entries_of es) pair ∙ ap (option_and_then (λ x. x)) is))
 
@@ -28,10 +28,10 @@ returns-clause-value g c =
     let es = c.self.inside.rows.items in
     let pair : Pair = (c.args.part, c.args.card) in
     let found = c.in_ok-row_with.ensures ∙ ap (λ xs. slot_at xs c.get.result) c.deref.ensures.value
-    ∙ slot-numbered c.self.inside.numbers.pages.items es c.args.part c.get.result c.self.invariant.0 c.get.ensures
-    ∙ entry-tied es c.args.part in
+    ∙ slot-numbered c.self.inside.numbers.pages.items es c.args.card c.get.result c.self.invariant.0 c.get.ensures
+    ∙ entry-tied es c.args.card in
     let is = entry-of_pair es pair c.self.invariant.1
-    ∙ ap (option_and_then (λ r. entry_at r c.args.card)) (sym found) in
+    ∙ ap (option_and_then (λ r. entry_at r c.args.part)) (sym found) in
     rw (← c.self.view_is) (c.get-2.ensures.value
     ∙ sym (get-map_of pairs (entries_of es) pair ∙ ap (option_and_then (λ x. x)) is))
 
@@ -40,9 +40,9 @@ returns-clause-room g c =
     let es = c.self.inside.rows.items in
     let pair : Pair = (c.args.part, c.args.card) in
     let found = c.in_ok-row_with.ensures ∙ ap (λ xs. slot_at xs c.get.result) c.deref.ensures.value
-    ∙ slot-numbered c.self.inside.numbers.pages.items es c.args.part c.get.result c.self.invariant.0 c.get.ensures
-    ∙ entry-tied es c.args.part in
+    ∙ slot-numbered c.self.inside.numbers.pages.items es c.args.card c.get.result c.self.invariant.0 c.get.ensures
+    ∙ entry-tied es c.args.card in
     let is = entry-of_pair es pair c.self.invariant.1
-    ∙ ap (option_and_then (λ r. entry_at r c.args.card)) (sym found) in
+    ∙ ap (option_and_then (λ r. entry_at r c.args.part)) (sym found) in
     rw (← c.self.view_is) (on_some c.get-2.result
     (λ h. contains-keys_of pairs (entries_of es) pair ∙ ap (λ o. is_some o) is ∙ h) c.get-2.ensures.open)

@@ -9,10 +9,10 @@ use Rattle.object_table.proofs.Rows.{entry-of_pair, outer_some, row-counted, row
 use Rattle.object_table.proofs.Rows.{pair-written}
 use Rattle.object_table.proofs.pair_table.PairTable.swap.Goals as goal
 
--- the part of an open pair has a row
+-- the card of an open pair has a row
 row_there : {X : Type 0} (rs : List (ℕ × List (ℕ × Option X))) (pair : Pair) → AreApart (ids_in rs)
-    → sets.contains (open_in (entries_of rs)) pair ≡ true → is_some (entry_at rs pair.0) ≡ true
-row_there rs pair apart is_open = outer_some (λ r. entry_at r pair.1) (entry_at rs pair.0)
+    → sets.contains (open_in (entries_of rs)) pair ≡ true → is_some (entry_at rs pair.1) ≡ true
+row_there rs pair apart is_open = outer_some (λ r. entry_at r pair.0) (entry_at rs pair.1)
     (sym (contains-keys_of pairs (entries_of rs) pair ∙ ap (λ o. is_some o) (entry-of_pair rs pair apart)) ∙ is_open)
 
 pub overflow_sub-place : goal.overflow_sub-place
@@ -21,7 +21,7 @@ overflow_sub-place g c =
     let pair : Pair = (c.args.part, c.args.card) in
     let is_open : sets.contains (open_in (entries_of es)) pair ≡ true = rw c.self.view_is c.requires in
     let there = row_there es pair c.self.invariant.1 is_open in
-    row-counted c.self.inside.numbers.pages.items es c.args.part c.get.result c.self.invariant.0 c.get.ensures there
+    row-counted c.self.inside.numbers.pages.items es c.args.card c.get.result c.self.invariant.0 c.get.ensures there
 
 pub index_mut-requires : goal.index_mut-requires
 index_mut-requires g c =
@@ -31,7 +31,7 @@ index_mut-requires g c =
     let there = row_there es pair c.self.invariant.1 is_open in
     omega (
       arith,
-      row-within c.self.inside.numbers.pages.items es c.args.part c.get.result c.self.invariant.0
+      row-within c.self.inside.numbers.pages.items es c.args.card c.get.result c.self.invariant.0
           c.get.ensures there,
       c.self.inside.rows.ok.0,
     )
@@ -42,8 +42,8 @@ swap-requires g c =
     let pair : Pair = (c.args.part, c.args.card) in
     let is_open : sets.contains (open_in (entries_of es)) pair ≡ true = rw c.self.view_is c.requires in
     let there = row_there es pair c.self.invariant.1 is_open in
-    let found = pair-found c.self.inside.numbers.pages.items es c.args.part c.get.result c.self.invariant.0
-    c.get.ensures there c.self.invariant.1 c.index_mut.result.now c.index_mut.ensures.value c.args.card in
+    let found = pair-found c.self.inside.numbers.pages.items es c.args.card c.get.result c.self.invariant.0
+    c.get.ensures there c.self.invariant.1 c.index_mut.result.now c.index_mut.ensures.value c.args.part in
     sym (contains-keys_of pairs (entries_of es) pair ∙ ap (λ o. is_some o) found) ∙ is_open
 
 pub invariant_of-self : goal.invariant_of-self
@@ -52,7 +52,7 @@ invariant_of-self g c =
     let pair : Pair = (c.args.part, c.args.card) in
     let is_open : sets.contains (open_in (entries_of es)) pair ≡ true = rw c.self.view_is c.requires in
     let there = row_there es pair c.self.invariant.1 is_open in
-    rows-kept c.self.inside.numbers.pages.items es c.args.part c.get.result c.self.invariant.0 c.get.ensures there
+    rows-kept c.self.inside.numbers.pages.items es c.args.card c.get.result c.self.invariant.0 c.get.ensures there
     c.self.invariant.1 c.index_mut.result.now c.index_mut.ensures.value c.swap.new.self
 
 pub returns-clause-value : goal.returns-clause-value
@@ -61,8 +61,8 @@ returns-clause-value g c =
     let pair : Pair = (c.args.part, c.args.card) in
     let is_open : sets.contains (open_in (entries_of es)) pair ≡ true = rw c.self.view_is c.requires in
     let there = row_there es pair c.self.invariant.1 is_open in
-    let found = pair-found c.self.inside.numbers.pages.items es c.args.part c.get.result c.self.invariant.0
-    c.get.ensures there c.self.invariant.1 c.index_mut.result.now c.index_mut.ensures.value c.args.card in
+    let found = pair-found c.self.inside.numbers.pages.items es c.args.card c.get.result c.self.invariant.0
+    c.get.ensures there c.self.invariant.1 c.index_mut.result.now c.index_mut.ensures.value c.args.part in
     rw (← c.self.view_is)
     (sym (get-map_of pairs (entries_of es) pair ∙ ap (option_and_then (λ x. x)) (found ∙ sym c.swap.ensures.value)))
 
@@ -72,9 +72,9 @@ returns-clause-values g c =
     let pair : Pair = (c.args.part, c.args.card) in
     let is_open : sets.contains (open_in (entries_of es)) pair ≡ true = rw c.self.view_is c.requires in
     let there = row_there es pair c.self.invariant.1 is_open in
-    let written = pair-written c.self.inside.numbers.pages.items es c.args.part c.get.result c.self.invariant.0
+    let written = pair-written c.self.inside.numbers.pages.items es c.args.card c.get.result c.self.invariant.0
     c.get.ensures there c.self.invariant.1 c.index_mut.result.now c.index_mut.ensures.value c.swap.new.self
-    c.args.card _ c.swap.ensures.row in
+    c.args.part _ c.swap.ensures.row in
     rw (← c.self.view_is) (map_of-updated pairs (entries_of es) _ pair _ written)
 
 pub returns-clause-room : goal.returns-clause-room
@@ -83,8 +83,8 @@ returns-clause-room g c =
     let pair : Pair = (c.args.part, c.args.card) in
     let is_open : sets.contains (open_in (entries_of es)) pair ≡ true = rw c.self.view_is c.requires in
     let there = row_there es pair c.self.invariant.1 is_open in
-    let written = pair-written c.self.inside.numbers.pages.items es c.args.part c.get.result c.self.invariant.0
+    let written = pair-written c.self.inside.numbers.pages.items es c.args.card c.get.result c.self.invariant.0
     c.get.ensures there c.self.invariant.1 c.index_mut.result.now c.index_mut.ensures.value c.swap.new.self
-    c.args.card _ c.swap.ensures.row in
+    c.args.part _ c.swap.ensures.row in
     rw (← c.self.view_is) (keys_of-updated pairs (entries_of es) _ pair _ written
     ∙ sym (inserted_again pairs (open_in (entries_of es)) pair is_open))
