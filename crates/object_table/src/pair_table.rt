@@ -5,6 +5,7 @@ ghost use Rattle.std.specs.FinMap as map;
 ghost use Rattle.std.specs.FinSet as set;
 ghost use Rattle.object_table.specs.Maps.{put_option};
 ghost use Rattle.object_table.specs.Opened.{values_in, open_in};
+ghost use Rattle.object_table.specs.Pairs.{Pair};
 ghost use Rattle.object_table.specs.Rows.{entry_at, entries_of};
 ghost use Rattle.object_table.specs.Slots.{slot_at};
 
@@ -91,6 +92,14 @@ impl<X: Drop> PairTable<X> {
         let place = self.numbers.get(card) as usize - 1;
         self.rows[place].1.open(part)?;
         Ok(())
+    }
+
+    /// Each pair with a value is open. It does nothing.
+    pub(crate) fn law_of_room(&self)
+        ensures { (p : Pair) → is_some (map.get (values_in (entries_of self.now)) p) ≡ true
+            → set.contains (open_in (entries_of self.now)) p ≡ true }
+    {
+        let _ = &self.rows;
     }
 
     pub(crate) fn swap(&mut self, part: Id, card: Id, value: &mut Option<X>)

@@ -76,7 +76,8 @@ impl<X: Drop> Row<X> {
         }
     }
 
-    /// Where a part is, or where it would go. It is looked for first beside the latest exchange, and behind all.
+    /// Where a part is, or where it would go. It is looked for first where most are: right behind the latest exchange,
+    /// behind all, there again, and where it is if the ids follow each other.
     fn place_of(&self, part: Id) -> Result<usize, usize>
         ensures found { IfOk result (IsAt (ids_in self.now) part) }
         ensures absent { IfErr result (IsGapFor (ids_in self.now) part) }
@@ -85,13 +86,26 @@ impl<X: Drop> Row<X> {
         if self.is_at(beside, part) {
             return Ok(beside);
         }
-        if self.is_at(self.latest, part) {
-            return Ok(self.latest);
-        }
         if self.is_behind_all(part) {
             return Err(self.places.len());
         }
+        if self.is_at(self.latest, part) {
+            return Ok(self.latest);
+        }
+        let guess = self.place_without_gaps(part);
+        if self.is_at(guess, part) {
+            return Ok(guess);
+        }
         self.searched(part)
+    }
+
+    /// Where a part is if the ids of the parts follow each other; else any number.
+    #[inline]
+    fn place_without_gaps(&self, part: Id) -> usize {
+        match self.places.first() {
+            Some(first) => part.saturating_sub(first.0) as usize,
+            None => 0,
+        }
     }
 
     /// Whether a part is at a place.

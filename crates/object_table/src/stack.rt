@@ -1,8 +1,9 @@
 //! The stack: slots by id, the two orders and the next id.
 
-ghost use Rattle.std.specs.Prelude.{◌≡◌, true, option_copied, OnSome, IfOk, OnOk, OnErr, Some};
+ghost use Rattle.std.specs.Prelude.{◌≡◌, true, option_copied, is_some, OnSome, IfOk, OnOk, OnErr, Some};
 ghost use Rattle.std.specs.FinMap as map;
 ghost use Rattle.std.specs.FinSet as set;
+ghost use Rattle.object_table.specs.Pairs.{Pair};
 ghost use Rattle.object_table.specs.PartContents.{text_at, hilite_at};
 ghost use Rattle.object_table.specs.Maps.{put_option};
 ghost use Rattle.object_table.specs.Numbers.{at_number};
@@ -265,6 +266,17 @@ impl Stack {
         ensures err { OnErr result (self.new ≡ self.old) }
     {
         self.hilites.open(button, card)
+    }
+
+    /// What a stack holds of texts and hilites is in its room, at any time. It does nothing.
+    pub fn law_of_room(&self)
+        ensures texts { (p : Pair) → is_some (map.get self.now.content.texts p) ≡ true
+            → set.contains self.now.room.texts p ≡ true }
+        ensures hilites { (p : Pair) → is_some (map.get self.now.content.hilites p) ≡ true
+            → set.contains self.now.room.hilites p ≡ true }
+    {
+        self.texts.law_of_room();
+        self.hilites.law_of_room();
     }
 
     /// Exchanges the object of an id, `None` where there is none, with a value.

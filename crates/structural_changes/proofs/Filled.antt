@@ -1,6 +1,7 @@
 -- Values that a part gets for each of some cards, and lists of ids by a test.
 use Rattle.std.proofs.Common.{◌≡◌, ℕ, ◌-◌, ◌≤◌, Bool, true, false, cond, ◌&&◌, ◌||◌, List, [], ◌∷◌, ◌++◌, filter, map}
-use Rattle.std.proofs.Common.{nat_eq, refl, sym, ap, ◌∙◌, arith, Option, Some, None, is_some}
+use Rattle.std.proofs.Common.{nat_eq, refl, sym, ap, ◌∙◌, arith, Option, Some, None, is_some, zero, suc, ◌<◌, length}
+use Rattle.std.proofs.Common.{get_or}
 use Rattle.std.proofs.lemmas.Bool.{false≢true}
 use Rattle.std.proofs.lemmas.Bool.Decides.{nat_tests}
 use Rattle.std.specs.Ordering.{nat_cmp, eq_by_cmp}
@@ -8,7 +9,12 @@ use Rattle.std.specs.declared.cmp.Ordering.{Ordering}
 use Rattle.std.specs.Cmp.{IsTotalOrder, Equal-is, nat_cmp_total, unsigned_tied}
 use Rattle.std.specs.FinMap.{FinMap, IsAntisymmetric, get, keys, remove, len, len-remove, contains_key-keys}
 use Rattle.std.specs.FinMap.{nat_cmp-IsAntisymmetric}
-use Rattle.std.specs.List.{list_any}
+use Rattle.std.specs.List.{list_any, AllByRecursion}
+use Rattle.std.proofs.Math.Bool.{or-true}
+use Rattle.std.proofs.lemmas.Cmp.{tied_itself}
+use Rattle.ht_values.specs.declared.word.PartKind.{PartKind}
+use Rattle.ht_values.specs.declared.word.PartKind.TheVariants.{Button, Field}
+use Rattle.structural_changes.specs.Prepared.{has_content, pairs_kept}
 use Rattle.object_table.specs.Content.{Content}
 use Rattle.object_table.specs.Maps.{put_option}
 use Rattle.object_table.specs.Objects.{object_at, contains_id}
@@ -262,3 +268,36 @@ all_cleared s ids layers texts hilites =
     ∙ parts_cleared a layers)
     ∙ texts_cleared b texts)
     ∙ hilites_cleared c hilites
+
+-- what holds of each member holds of all
+all-members : {K : Type 0} {R : K → K → Ordering} → IsTotalOrder R → (P : K → Type 0) (xs : List K)
+    → ((q : K) → list_any (eq_by_cmp R q) xs ≡ true → P q) → AllByRecursion P xs
+all-members total P [] f = tt
+all-members {R = R} total P (x ∷ xs) f = (
+  f x (ap (λ b. b || list_any (eq_by_cmp R x) xs) ((Equal-is (R x x)).1 (tied_itself total x))),
+  all-members total P xs (λ q h. f q (ap (λ b. eq_by_cmp R q x || b) h ∙ or-true (eq_by_cmp R q x))),
+)
+
+-- each key that passes has a value
+values-at_keys : {K X : Type 0} {R : K → K → Ordering} → IsTotalOrder R → IsAntisymmetric R → (m : FinMap R X)
+    (p : K → Bool) → AllByRecursion (λ q. is_some (get m q) ≡ true) (filter p (keys m))
+values-at_keys {R = R} total same m p = all-members {R = R} total (λ q. is_some (get m q) ≡ true) (filter p (keys m))
+    (λ q h. second (p q) (is_some (get m q))
+    (sym (any-filter total same q p (keys m) ∙ ap (λ b. p q && b) (sym (contains_key-keys m q))) ∙ h))
+  where
+    second : (a b : Bool) → a && b ≡ true → b ≡ true
+    second true b h = h
+    second false b h = absurd (false≢true h)
+
+-- the pairs that pass have what is kept for them
+pub contents-kept : (kind : PartKind) (s : Content) (p : Pair → Bool)
+    → AllByRecursion (λ q. has_content kind s q ≡ true) (filter p (pairs_kept kind s))
+contents-kept Field s p = values-at_keys pair_cmp_total pair_cmp-IsAntisymmetric s.texts p
+contents-kept Button s p = values-at_keys pair_cmp_total pair_cmp-IsAntisymmetric s.hilites p
+
+-- what holds of all holds of the one at a place
+pub all-at : {X : Type 0} (P : X → Type 0) (xs : List X) (i : ℕ) (d : X) → i < length xs → AllByRecursion P xs
+    → P (get_or xs i d)
+all-at P [] i d h all = absurd (omega arith)
+all-at P (x ∷ xs) zero d h all = all.0
+all-at P (x ∷ xs) (suc i) d h all = all-at P xs i d (omega arith) all.1

@@ -1,8 +1,11 @@
 //! Entries that clear places.
 
-ghost use Rattle.std.specs.Prelude.{OnOk, map};
+ghost use Rattle.std.specs.Prelude.{◌≡◌, ◌+◌, ◌<◌, vec_len, vec_capacity, true, [], ◌∷◌, OnOk, map};
+ghost use Rattle.std.specs.List.{AllByRecursion};
+ghost use Rattle.ht_values.specs.declared.word.PartKind.TheVariants.{Button, Field};
+ghost use Rattle.stack_places.specs.Exchange.{IsReady};
 ghost use Rattle.stack_places.specs.Places.{whole, layer_parts as parts_of, field_text, button_hilite};
-ghost use Rattle.structural_changes.specs.Prepared.{Adds, Opens};
+ghost use Rattle.structural_changes.specs.Prepared.{Adds, Opens, has_content, write_of};
 ghost use Rattle.structural_changes.specs.Writes.{clear};
 
 use crate::preparing::add_entry;
@@ -45,36 +48,50 @@ pub(crate) fn clear_parts(
     Ok(())
 }
 
-/// Adds that these texts go, each of a field for a card, or for 0.
+/// Adds an entry that finds its room. There is a place for it.
+fn add_ready(stack: &Stack, entries: &mut Vec<StackEntry>, entry: StackEntry)
+    requires ready { IsReady stack.now.room entry }
+    requires place { vec_len entries.old < vec_capacity entries.old }
+    ensures adds { Adds stack.now stack.now entries.old.items entries.new.items (write_of entry ∷ []) }
+    ensures len { vec_len entries.new ≡ vec_len entries.old + 1 }
+    ensures capacity { vec_capacity entries.new ≡ vec_capacity entries.old }
+{
+    let _ = stack;
+    entries.push_reserved(entry);
+}
+
+/// Adds that these texts go, each of a field for a card, or for 0. They are there, so they have room.
 pub(crate) fn clear_texts(
-    stack: &mut Stack,
+    stack: &Stack,
     entries: &mut Vec<StackEntry>,
     texts: &[(Id, Id)],
 ) -> Result<(), AllocError>
-    ensures adds { OnOk result (Adds stack.old stack.new entries.old.items entries.new.items
+    requires { AllByRecursion (λ p. has_content Field stack.now.content p ≡ true) texts.now }
+    ensures { OnOk result (Adds stack.now stack.now entries.old.items entries.new.items
         (map (λ p. clear (field_text p.0 p.1)) texts.now)) }
-    ensures opens { Opens stack.old stack.new }
 {
+    stack.law_of_room();
     entries.reserve(texts.len())?;
     for text in texts {
-        add_entry(stack, entries, StackEntry::FieldText(text.0, text.1, None))?;
+        add_ready(stack, entries, StackEntry::FieldText(text.0, text.1, None));
     }
     Ok(())
 }
 
-/// Adds that these hilites go, each of a button for a card, or for 0.
+/// Adds that these hilites go, each of a button for a card, or for 0. They are there, so they have room.
 pub(crate) fn clear_hilites(
-    stack: &mut Stack,
+    stack: &Stack,
     entries: &mut Vec<StackEntry>,
     hilites: &[(Id, Id)],
 ) -> Result<(), AllocError>
-    ensures adds { OnOk result (Adds stack.old stack.new entries.old.items entries.new.items
+    requires { AllByRecursion (λ p. has_content Button stack.now.content p ≡ true) hilites.now }
+    ensures { OnOk result (Adds stack.now stack.now entries.old.items entries.new.items
         (map (λ p. clear (button_hilite p.0 p.1)) hilites.now)) }
-    ensures opens { Opens stack.old stack.new }
 {
+    stack.law_of_room();
     entries.reserve(hilites.len())?;
     for hilite in hilites {
-        add_entry(stack, entries, StackEntry::Hilite(hilite.0, hilite.1, None))?;
+        add_ready(stack, entries, StackEntry::Hilite(hilite.0, hilite.1, None));
     }
     Ok(())
 }

@@ -2,6 +2,7 @@
 
 ghost use Rattle.std.specs.Prelude.{◌≡◌, OnOk, IfOk, [], ◌∷◌, ◌++◌, ◌||◌, map, filter, true, if◌then◌else◌};
 ghost use Rattle.std.specs.FinMap.{keys};
+ghost use Rattle.std.specs.List.{AllByRecursion};
 ghost use Rattle.object_table.specs.Objects.{has_kind, is_background, is_card, parts_at};
 ghost use Rattle.object_table.specs.WellFormed.{IsWellFormed};
 ghost use Rattle.stack_places.specs.Places.{background_order, ids};
@@ -169,8 +170,10 @@ fn contents_that_go(
     requires well_formed { IsWellFormed stack.now.content }
     requires card { has_kind is_card stack.now.content card ≡ true }
     requires last { last ≡ is_last_card stack.now.content card }
-    ensures { IfOk result (λ contents. contents.items
+    ensures contents { IfOk result (λ contents. contents.items
         ≡ filter (goes_as_content stack.now.content card) (pairs_kept kind stack.now.content)) }
+    ensures kept { IfOk result (λ contents. AllByRecursion (λ p. has_content kind stack.now.content p ≡ true)
+        contents.items) }
 {
     let background = LayerId::OfBackground(home_of(stack, card));
     let mut found = Vec::new(alloc);

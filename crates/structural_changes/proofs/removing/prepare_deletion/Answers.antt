@@ -15,7 +15,7 @@ returns-clause-entries c =
     let s = start.content in
     let ordered : Table = c.add_entry.new.stack in
     let left : Table = c.leave_background.new.stack in
-    let end : Table = c.clear_hilites.new.stack in
+    let end : Table = c.clear_parts.new.stack in
     let none = c.new-entries.result.items in
     let first = c.add_entry.new.entries.items in
     let second = c.leave_background.new.entries.items in
@@ -25,18 +25,16 @@ returns-clause-entries c =
     let last = c.clear_hilites.new.entries.items in
     let orders = adds_then start ordered left none first second _ _ c.in_ok-add_entry.ensures.adds
     c.in_ok-leave_background.ensures.adds in
-    let objects_and_layers = adds_then left c.clear_objects.new.stack c.clear_parts.new.stack second third fourth _ _
+    let objects_and_layers = adds_then left c.clear_objects.new.stack end second third fourth _ _
     c.in_ok-clear_objects.ensures.adds c.in_ok-clear_parts.ensures.adds in
-    let and_texts = adds_then left c.clear_parts.new.stack c.clear_texts.new.stack second fourth fifth _ _
-    objects_and_layers c.in_ok-clear_texts.ensures.adds in
-    let cleared = adds_then left c.clear_texts.new.stack end second fifth last _ _ and_texts
-    c.in_ok-clear_hilites.ensures.adds in
+    let and_texts = adds_then left end end second fourth fifth _ _ objects_and_layers c.in_ok-clear_texts.ensures in
+    let cleared = adds_then left end end second fifth last _ _ and_texts c.in_ok-clear_hilites.ensures in
     let all = adds_then start left end none second last _ _ orders cleared in
     let cards = c.in_ok-cards.ensures ∙ ap (without card) c.cards.ensures in
     let objects = c.deref.ensures.value ∙ c.in_ok-objects.ensures in
     let layers = c.deref-2.ensures.value ∙ c.in_ok-layers.ensures in
-    let texts = c.deref-3.ensures.value ∙ c.in_ok-texts.ensures in
-    let hilites = c.deref-4.ensures.value ∙ c.in_ok-hilites.ensures in
+    let texts = c.deref-3.ensures.value ∙ c.in_ok-texts.ensures.contents in
+    let hilites = c.deref-4.ensures.value ∙ c.in_ok-hilites.ensures.contents in
     let backgrounds : Content → List StackWrite = λ x. if is_last_card x card then write background_order
     (ids (without (home x card) x.backgrounds)) ∷ [] else [] in
     let writes : Content → List ℕ → List ℕ → List ℕ → List Pair → List Pair
