@@ -134,6 +134,35 @@ const TEXTS: &[Change] = &[
     ),
 ];
 
+/// The texts of a card are found whichever of them came first, also where ids lie between.
+const SCATTERED: &[Change] = &[
+    (Exchange::Text(90, 2, Some(b"last"), None), &[]),
+    (
+        Exchange::Text(7, 2, Some(b"first"), None),
+        &[Fact::Text(8, 2, None), Fact::Text(90, 2, Some(b"last"))],
+    ),
+    (Exchange::Text(40, 2, Some(b"between"), None), &[]),
+    (
+        Exchange::Text(8, 2, Some(b"next"), None),
+        &[
+            Fact::Text(7, 2, Some(b"first")),
+            Fact::Text(8, 2, Some(b"next")),
+            Fact::Text(9, 2, None),
+            Fact::Text(40, 2, Some(b"between")),
+            Fact::Text(90, 2, Some(b"last")),
+            Fact::Text(40, 4, None),
+        ],
+    ),
+    (
+        Exchange::Text(40, 2, Some(b"again"), Some(b"between")),
+        &[Fact::Text(40, 2, Some(b"again"))],
+    ),
+    (
+        Exchange::Text(90, 2, None, Some(b"last")),
+        &[Fact::Text(90, 2, None), Fact::Text(8, 2, Some(b"next"))],
+    ),
+];
+
 /// A button keeps shared and own hilites.
 const HILITES: &[Change] = &[
     (
@@ -170,6 +199,7 @@ const COURSES: &[&[Change]] = &[
     &[(Exchange::Backgrounds(&[1]), &[Fact::Orders(&[], &[2, 4])])],
     &[(Exchange::Next(7, 5), &[Fact::Counts(4, 7)])],
     TEXTS,
+    SCATTERED,
     HILITES,
 ];
 
