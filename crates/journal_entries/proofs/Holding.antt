@@ -36,8 +36,5 @@ holds_one-last e t (f ∷ g ∷ es) is same =
     let one_less : length (f ∷ g ∷ es) - 1 ≡ suc (length (g ∷ es) - 1) = omega arith in
     rw (holds_one-last e t (g ∷ es) (ap (slice_get (f ∷ g ∷ es)) (sym one_less) ∙ is) same) refl
 
-pub kept-new : (es : List Entry) (e t : Entry) → holds_one e es ≡ false → kept es e t ≡ es ++ t ∷ []
-kept-new es e t h = rw h refl
-
 pub kept-held : (es : List Entry) (e t : Entry) → holds_one e es ≡ true → kept es e t ≡ es
 kept-held es e t h = rw h refl

@@ -44,7 +44,3 @@ contains_id-flat_map f (y ∷ ys) x id found h =
 -- a list that names each id of a kind has ids of that kind alone
 pub listed : {p : ℕ → Bool} {ids : List ℕ} → NamesEach p ids → (id : ℕ) → contains_id id ids ≡ true → p id ≡ true
 listed names id found = sym (names.each id) ∙ found
-
-not_nil : (id : ℕ) (ids : List ℕ) → contains_id id ids ≡ true → 1 ≤ length ids
-not_nil id [] found = absurd (false≢true found)
-not_nil id (x ∷ xs) found = omega arith

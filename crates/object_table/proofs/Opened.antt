@@ -88,10 +88,6 @@ module _ {K : Type 0} {R : K → K → Ordering} (are : AreKeys R) where
         map_of-same is = map_of-updated ∙ ap (put_option (map_of es) k) (is ∙ sym (get-map_of es k))
             ∙ put_option_same are.total are.apart (map_of es) k
 
-        -- nothing is kept at a key that is opened
-        pub map_of-opened : w ≡ None → lookup (eq_by_cmp R k) es ≡ None → map_of {R = R} fs ≡ map_of es
-        map_of-opened none absent = map_of-same (none ∙ sym (ap (option_and_then (λ x. x)) absent))
-
   -- a key that is in a set stays
   pub inserted_again : (s : set.FinSet R) (k : K) → set.contains s k ≡ true → s ≡ set.insert s k
   inserted_again s k h =
@@ -112,7 +108,3 @@ module _ {X : Type 0} where
   pub of_found : {P : Type 0} (o : Option X) → P → OnSome o P
   of_found None p = tt
   of_found (Some x) p = p
-
-  pub none_found : (o : Option X) → is_some o ≡ false → o ≡ None
-  none_found None e = refl
-  none_found (Some x) e = absurd (false≢true (sym e))

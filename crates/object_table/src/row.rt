@@ -1,7 +1,7 @@
 //! Values at the parts of a card.
 
-ghost use Rattle.std.specs.Prelude.{◌≡◌, ℕ, [], length, true, cond, nat_eq, OnOk, OnErr, OnSome, IfOk, IfErr, Some, is_some};
-ghost use Rattle.std.specs.Prelude.{option_copied, option_and_then};
+ghost use Rattle.std.specs.Prelude.{◌≡◌, ℕ, [], length, true, cond, nat_eq, OnOk, OnErr, OnSome, IfOk, IfErr, Some};
+ghost use Rattle.std.specs.Prelude.{is_some, option_copied, option_and_then};
 ghost use Rattle.object_table.specs.Rows.{entry_at, ids_in, IsAt, IsGapFor};
 
 use crate::ids::Id;

@@ -21,7 +21,8 @@ loop-i-preserved-then-held g c =
     let is : x ≡ get_or es i x = c.index_mut.ensures.value in
     let parts = AreReady-drop (shape_of s) es i x within is v.ready in
     let seen = v.indexed.held x
-    ∙ ap (λ e. is_held (has_place c.loop-i.places) (key_of e)) (read_twice i es x c.index.result.now within is c.index.ensures)
+    ∙ ap (λ e. is_held (has_place c.loop-i.places) (key_of e))
+    (read_twice i es x c.index.result.now within is c.index.ensures)
     ∙ sym c.is_found-held.ensures in
     let news = set es i (taken s.names s.state x) in
     let long = length-set es i (taken s.names s.state x) in
@@ -55,10 +56,12 @@ loop-i-preserved g c =
     let is : x ≡ get_or es i x = c.index_mut.ensures.value in
     let parts = AreReady-drop (shape_of s) es i x within is v.ready in
     let seen = v.indexed.held x
-    ∙ ap (λ e. is_held (has_place c.loop-i.places) (key_of e)) (read_twice i es x c.index.result.now within is c.index.ensures)
+    ∙ ap (λ e. is_held (has_place c.loop-i.places) (key_of e))
+    (read_twice i es x c.index.result.now within is c.index.ensures)
     ∙ sym c.is_found-held.ensures in
     let long = length-set es i (taken s.names s.state x) in
-    let stored = c.index-else-held.ensures ∙ get_or-set_same es i c.exchange.new.entry c.index-else-held.result.now within in
+    let stored = c.index-else-held.ensures
+    ∙ get_or-set_same es i c.exchange.new.entry c.index-else-held.result.now within in
     let placed = c.add_place.ensures.indexed (before ++ take i es) v.indexed in
     rw (c.exchange.ensures.state, c.exchange.ensures.entry) (record {
       within = omega (arith, within, long);

@@ -8,5 +8,5 @@ use Rattle.structural_changes.proofs.clearing.clear_hilites.Goals as goal
 pub add_ready-requires-clause-ready : goal.add_ready-requires-clause-ready
 unfolding IsReady
 add_ready-requires-clause-ready c = c.law_of_room.ensures.hilites _
-    (all-at (λ p. has_content Button c.args.stack.now.content p ≡ true) c.args.hilites.now c.loop-hilite.hilite-index (0, 0)
-    (search rules) c.requires)
+    (all-at (λ p. has_content Button c.args.stack.now.content p ≡ true) c.args.hilites.now
+    c.loop-hilite.hilite-index (0, 0) (search rules) c.requires)

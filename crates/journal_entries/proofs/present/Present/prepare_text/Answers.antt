@@ -5,7 +5,8 @@ use Rattle.journal_entries.proofs.present.Present.prepare_text.Goals as goal
 
 pub returns-clause-entry : goal.returns-clause-entry
 returns-clause-entry g c =
-    rw c.in_ok-text.ensures.value (prepares_text _ c.args.field c.args.card c.args.text c.in_ok-open_text.ensures.inside)
+    rw c.in_ok-text.ensures.value
+    (prepares_text _ c.args.field c.args.card c.args.text c.in_ok-open_text.ensures.inside)
 
 pub returns-clause-grows : goal.returns-clause-grows
 returns-clause-grows g c =
