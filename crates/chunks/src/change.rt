@@ -9,26 +9,18 @@ ghost use Rattle.chunks.specs.Pieces as pieces;
 
 use crate::chunk::{Chunk, Span};
 use crate::location::{count, find, number_at, part, stretch};
-use ht_values::{ChunkKind, Failure, Fault, LIMIT, Text, Where, joined, without_front_spaces};
+use ht_values::{
+    ChunkKind, Failure, Fault, IN_PLACE, LIMIT, Text, Where, joined, joined_fitting,
+    without_front_spaces,
+};
 use std::alloc::{AllocError, Global};
-
-/// A text of two parts that fit.
-pub(crate) fn closed(alloc: Global, before: &[u8], after: &[u8]) -> Result<Text, AllocError>
-    requires { length before.now + length after.now ≤ LIMIT }
-    ensures { IfOk result (λ t. t ≡ before.now ++ after.now) }
-{
-    let mut bytes = Vec::with_capacity(alloc, before.len() + after.len())?;
-    bytes.extend_from_slice(before)?;
-    bytes.extend_from_slice(after)?;
-    Ok(Text::from_vec(bytes).unwrap())
-}
 
 /// The text that a chunk reads: from the start of its first piece to the end of its last, and of no bytes where it
 /// reads no piece. The delimiter is that of items.
 pub fn take(alloc: Global, text: &Text, chunk: &Chunk, delimiter: u8) -> Result<Text, AllocError>
     ensures { IfOk result (λ t. t ≡ pieces.read delimiter chunk.now text.now) }
 {
-    closed(alloc, part(text.as_slice(), chunk, delimiter), b"")
+    Text::fitting(alloc, part(text.as_slice(), chunk, delimiter))
 }
 
 /// Two parts without the delimiter between them: the one after what goes, or else the one before it.
@@ -83,7 +75,7 @@ pub(crate) fn delete_in(
     match find(text, chunk, delimiter) {
         Some(span) => {
             let (before, after) = rest_of(chunk.kind, &text[..span.start], &text[span.after..]);
-            Ok(Some(closed(alloc, before, after)?))
+            Ok(Some(joined_fitting(alloc, before, b"", after)?))
         }
         None => Ok(None),
     }
@@ -131,6 +123,10 @@ fn appended(
 ) -> Result<Text, Failure>
     ensures { Gives result (within_limit (text.now ++ replicate copies byte ++ new.now)) }
 {
+    if copies <= IN_PLACE {
+        let between = [byte; IN_PLACE];
+        return joined(alloc, text, &between[..copies], new);
+    }
     if LIMIT < text.len()
         || LIMIT < copies
         || LIMIT < new.len()
@@ -142,7 +138,7 @@ fn appended(
     bytes.extend_from_slice(text)?;
     bytes.resize(text.len() + copies, byte)?;
     bytes.extend_from_slice(new)?;
-    Ok(Text::from_vec(bytes)?)
+    Text::from_vec(bytes)
 }
 
 /// The text after another text is put into a chunk, before it or after it. A first index below 1, or a last one below

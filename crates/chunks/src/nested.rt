@@ -7,7 +7,7 @@ ghost use Rattle.ht_values.specs.declared.word.Where.TheVariants.{Into};
 ghost use Rattle.chunks.specs.Change.{placed as placed_of, put as put_of};
 ghost use Rattle.chunks.specs.Nested.{deleted_within, put_within as put_within_of, read_within, removed_within};
 
-use crate::change::{closed, delete_in, put_in};
+use crate::change::{delete_in, put_in};
 use crate::chunk::Chunk;
 use crate::location::part;
 use ht_values::{Failure, Text, Where, joined};
@@ -34,7 +34,7 @@ pub fn take_within(
 ) -> Result<Text, AllocError>
     ensures { IfOk result (λ t. t ≡ read_within delimiter chunks.now text.now) }
 {
-    closed(alloc, part_within(text.as_slice(), chunks, delimiter), b"")
+    Text::fitting(alloc, part_within(text.as_slice(), chunks, delimiter))
 }
 
 /// A text put in the place of bytes, before them or after them.

@@ -1,6 +1,7 @@
 pub mod Delimited
 pub mod Faults
 pub mod Functions
+pub mod Held
 pub mod Laws
 pub mod Number
 pub mod Operators

@@ -1,17 +1,21 @@
 //! Texts made of parts.
 
-ghost use Rattle.std.specs.Prelude.{◌++◌};
+ghost use Rattle.std.specs.Prelude.{◌≡◌, ◌≤◌, ◌+◌, ◌++◌, length, IfOk, IsOk};
 ghost use Rattle.ht_values.specs.Outcome.{Gives, within_limit};
+ghost use Rattle.ht_values.specs.declared.few_bytes.TheConstants.{IN_PLACE};
+ghost use Rattle.ht_values.specs.declared.text.TheConstants.{LIMIT};
 
 use crate::failure::Failure;
 use crate::fault::Fault;
+use crate::few_bytes::{FewBytes, IN_PLACE};
 use crate::text::{LIMIT, Text};
-use std::alloc::Global;
+use std::alloc::{AllocError, Global};
 
 /// A text of three parts, one after another: `TooLong` where they are over 30,000 bytes, before any memory is taken,
-/// else `Memory` where a growth was refused. It takes memory once.
+/// else `Memory` where a growth was refused. It takes no memory where the text has at most 22 bytes.
 pub fn joined(alloc: Global, left: &[u8], between: &[u8], right: &[u8]) -> Result<Text, Failure>
-    ensures { Gives result (within_limit (left.now ++ between.now ++ right.now)) }
+    ensures value { Gives result (within_limit (left.now ++ between.now ++ right.now)) }
+    ensures short { length left.now + length between.now + length right.now ≤ IN_PLACE → IsOk result }
 {
     if LIMIT < left.len()
         || LIMIT < between.len()
@@ -20,9 +24,39 @@ pub fn joined(alloc: Global, left: &[u8], between: &[u8], right: &[u8]) -> Resul
     {
         return Err(Failure::Fault(Fault::TooLong));
     }
-    let mut bytes = Vec::with_capacity(alloc, left.len() + between.len() + right.len())?;
+    Ok(joined_fitting(alloc, left, between, right)?)
+}
+
+/// A text of three parts that are known to fit, one after another. It takes no memory where the text has at most 22
+/// bytes, and else the room for all of them at once.
+pub fn joined_fitting(
+    alloc: Global,
+    left: &[u8],
+    between: &[u8],
+    right: &[u8],
+) -> Result<Text, AllocError>
+    requires { length left.now + length between.now + length right.now ≤ LIMIT }
+    ensures value { IfOk result (λ t. t ≡ left.now ++ between.now ++ right.now) }
+    ensures short { length left.now + length between.now + length right.now ≤ IN_PLACE → IsOk result }
+{
+    let count = left.len() + between.len() + right.len();
+    if count <= IN_PLACE {
+        return Ok(Text::in_place(alloc, joined_few(left, between, right)));
+    }
+    let mut bytes = Vec::with_capacity(alloc, count)?;
     bytes.extend_from_slice(left)?;
     bytes.extend_from_slice(between)?;
     bytes.extend_from_slice(right)?;
-    Ok(Text::from_vec(bytes)?)
+    Text::fitting_vec(bytes)
+}
+
+/// Three parts of few bytes, one after another.
+fn joined_few(left: &[u8], between: &[u8], right: &[u8]) -> FewBytes
+    requires { length left.now + length between.now + length right.now ≤ IN_PLACE }
+    ensures { result ≡ left.now ++ between.now ++ right.now }
+{
+    let mut few = FewBytes::copied(left);
+    few.append(between);
+    few.append(right);
+    few
 }

@@ -14,6 +14,7 @@ mod arithmetic;
 mod comparison;
 mod failure;
 mod fault;
+mod few_bytes;
 mod function;
 mod join;
 mod law;
@@ -30,8 +31,9 @@ mod word;
 pub use applied::{binary, unary};
 pub use failure::Failure;
 pub use fault::{Fault, TextError};
+pub use few_bytes::IN_PLACE;
 pub use function::built_in;
-pub use join::joined;
+pub use join::{joined, joined_fitting};
 pub use law::{
     div_and_mod_divide, numerals_read_back, places_are_first, texts_are_ordered, values_are_ordered,
 };

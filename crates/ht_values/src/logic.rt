@@ -1,8 +1,8 @@
 //! Truth values, and how they are spelled.
 
-ghost use Rattle.std.specs.Prelude.{◌≡◌, ◌&&◌, ◌||◌, not, IfOk, Ok};
+ghost use Rattle.std.specs.Prelude.{◌≡◌, ◌&&◌, ◌||◌, not, IfOk, IsOk, Ok};
 ghost use Rattle.ht_values.specs.Operators.{on_truths, truth_of as truth_of_text, word_of};
-ghost use Rattle.ht_values.specs.Outcome.{Gives, and_then};
+ghost use Rattle.ht_values.specs.Outcome.{and_then};
 
 use crate::failure::Failure;
 use crate::fault::Fault;
@@ -24,17 +24,18 @@ pub fn truth_of(text: &Text) -> Result<bool, Fault>
     }
 }
 
-/// A truth value as a text, `true` or `false`.
+/// A truth value as a text, `true` or `false`. It takes no memory, and is never refused.
 pub(crate) fn word_text(alloc: Global, truth: bool) -> Result<Text, AllocError>
-    ensures { IfOk result (λ t. t ≡ word_of truth) }
+    ensures value { IfOk result (λ t. t ≡ word_of truth) }
+    ensures made { IsOk result }
 {
     let word: &[u8] = if truth { b"true" } else { b"false" };
     Text::fitting(alloc, word)
 }
 
-/// A truth value as a text, `true` or `false`; `Memory` where a growth was refused.
+/// A truth value as a text, `true` or `false`. It takes no memory, and is never refused.
 pub fn in_word(alloc: Global, truth: bool) -> Result<Text, Failure>
-    ensures { Gives result (Ok (word_of truth)) }
+    ensures { result ≡ Ok (word_of truth) }
 {
     Ok(word_text(alloc, truth)?)
 }

@@ -1,13 +1,15 @@
 //! Texts: at most 30,000 bytes, any bytes, one byte a character.
 
-ghost use Rattle.std.specs.Prelude.{◌≡◌, ◌≤◌, ◌<◌, ◌↔◌, ◌++◌, ℕ, List, [], length, All, IfOk, IfErr, OnOk, OnErr, Ok};
-ghost use Rattle.std.specs.Prelude.{Err, IsErrOf, IsTrue};
+ghost use Rattle.std.specs.Prelude.{◌≡◌, ◌≤◌, ◌<◌, ◌↔◌, ◌+◌, ◌++◌, ℕ, List, [], length, All, IfOk, IfErr, IsOk};
+ghost use Rattle.std.specs.Prelude.{OnOk, OnErr, Ok, Err, IsErrOf, IsTrue};
 ghost use Rattle.ht_values.specs.Outcome.{Gives, within_limit};
 ghost use Rattle.ht_values.specs.Text.{Same, IsText, folded as folded_of, is_folded as is_folded_text, numeral, same};
+ghost use Rattle.ht_values.specs.declared.few_bytes.TheConstants.{IN_PLACE};
 ghost use Rattle.ht_values.specs.declared.text.TheConstants.{LIMIT};
 
 use crate::failure::Failure;
 use crate::fault::{Fault, TextError};
+use crate::few_bytes::{FewBytes, IN_PLACE};
 use itoa::Buffer;
 use std::alloc::{AllocError, Global};
 use std::marker::Model;
@@ -18,21 +20,46 @@ pub const LIMIT: usize = 30_000;
 // Contracts name the limit, so the number is said a second time: another one is refused here.
 const _: () = prove!(LIMIT == 30_000);
 
+/// The least room for the bytes of a text once they take memory, so that not each growth takes more.
+const ROOM: usize = 64;
+
 /// The bytes of a short text. Short texts are mostly names that differ, and one pass tells that soonest.
 const SHORT: usize = 32;
 
-/// A value of HyperTalk, which contracts see as its list of bytes.
+/// How a text keeps its bytes: few in its own place, and more in a list. The list stands in a box, so that no text is
+/// larger than the three words of a list.
 #[derive(Drop)]
+enum Held {
+    InPlace(FewBytes),
+    Boxed(Box<Vec<u8>>),
+}
+
+/// A value of HyperTalk, which contracts see as its list of bytes. It takes memory only where it has over 22 bytes.
 pub struct Text {
-    bytes: Vec<u8>,
+    held: Held,
+    alloc: Global,
+}
+
+// Texts stand in many types, which are bounded by this.
+const _: () = prove!(size_of::<Text>() <= 24);
+
+/// Written here and not derived, so that no crate above proves anew how it is dropped.
+impl Drop for Text {
+    fn drop(self) {
+        let Text { held: _, alloc: _ } = self;
+    }
 }
 
 impl Model for Text {
+    ghost use Rattle.std.specs.Prelude.{List, ℕ};
+
     ghost Value = { List ℕ };
 
-    ghost view = { λ t. t.bytes.items };
+    ghost use Rattle.ht_values.specs.Held.{IsHeld, bytes_in};
 
-    ghost invariant = { λ t. length t.bytes.items ≤ LIMIT };
+    ghost view = { λ t. bytes_in t.held };
+
+    ghost invariant = { λ t. IsHeld t.held };
 }
 
 impl Text {
@@ -41,104 +68,180 @@ impl Text {
         ensures { result ≡ [] }
     {
         Text {
-            bytes: Vec::new(alloc),
+            held: Held::InPlace(FewBytes::new()),
+            alloc,
         }
     }
 
-    /// A text of these bytes. `TooLong` where they are over 30,000, else `Memory` where a growth was refused.
+    /// A text of these bytes. `TooLong` where they are over 30,000, else `Memory` where a growth was refused. It takes
+    /// no memory where the text has at most 22 bytes.
     pub fn from_slice(alloc: Global, bytes: &[u8]) -> Result<Text, TextError>
         ensures ok { IfOk result (λ t. t ≡ bytes.now) }
         ensures fits { IfOk result (λ t. length t ≤ LIMIT) }
         ensures long { LIMIT < length bytes.now → result ≡ Err TextError.TooLong }
         ensures too_long { IsErrOf result TextError.TooLong → LIMIT < length bytes.now }
+        ensures short { length bytes.now ≤ IN_PLACE → IsOk result }
     {
         if LIMIT < bytes.len() {
             return Err(TextError::TooLong);
         }
-        match Vec::from_slice(alloc, bytes) {
-            Ok(bytes) => Ok(Text { bytes }),
+        match Text::fitting(alloc, bytes) {
+            Ok(text) => Ok(text),
             Err(_) => Err(TextError::Memory),
         }
     }
 
-    /// A text of these bytes, which are known to fit.
+    /// A text of these bytes, which are known to fit. It takes no memory where the text has at most 22 bytes.
     pub fn fitting(alloc: Global, bytes: &[u8]) -> Result<Text, AllocError>
         requires { length bytes.now ≤ LIMIT }
-        ensures { IfOk result (λ t. t ≡ bytes.now) }
+        ensures value { IfOk result (λ t. t ≡ bytes.now) }
+        ensures short { length bytes.now ≤ IN_PLACE → IsOk result }
     {
-        Ok(Text {
-            bytes: Vec::from_slice(alloc, bytes)?,
-        })
+        if bytes.len() <= IN_PLACE {
+            return Ok(Text::in_place(alloc, FewBytes::copied(bytes)));
+        }
+        Text::boxed(alloc, Vec::from_slice(alloc, bytes)?)
     }
 
-    /// The text of these bytes, which it takes over: it takes no memory. `TooLong` where they are over 30,000.
-    pub fn from_vec(bytes: Vec<u8>) -> Result<Text, Fault>
-        ensures { result ≡ within_limit bytes.items }
+    /// The text of these bytes. At most 22 are copied, which takes no memory; more are taken over, which takes a box.
+    /// `TooLong` where they are over 30,000, else `Memory` where the box was refused.
+    pub fn from_vec(bytes: Vec<u8>) -> Result<Text, Failure>
+        ensures value { Gives result (within_limit bytes.items) }
+        ensures short { length bytes.items ≤ IN_PLACE → IsOk result }
     {
         if LIMIT < bytes.len() {
-            return Err(Fault::TooLong);
+            return Err(Failure::Fault(Fault::TooLong));
         }
-        Ok(Text { bytes })
+        Ok(Text::fitting_vec(bytes)?)
     }
 
-    /// An equal text.
-    pub fn try_clone(&self, alloc: Global) -> Result<Text, AllocError>
-        ensures { IfOk result (λ t. t ≡ self.now) }
+    /// The text of these bytes, which are known to fit. At most 22 are copied, which takes no memory; more are taken
+    /// over, which takes a box.
+    pub fn fitting_vec(bytes: Vec<u8>) -> Result<Text, AllocError>
+        requires { length bytes.items ≤ LIMIT }
+        ensures value { IfOk result (λ t. t ≡ bytes.items) }
+        ensures short { length bytes.items ≤ IN_PLACE → IsOk result }
     {
-        Text::fitting(alloc, &self.bytes)
+        let alloc = *bytes.allocator();
+        if bytes.len() <= IN_PLACE {
+            return Ok(Text::in_place(alloc, FewBytes::copied(&bytes)));
+        }
+        Text::boxed(alloc, bytes)
     }
 
-    /// The text with A-Z folded to a-z, and nothing else.
-    pub fn folded(&self, alloc: Global) -> Result<Text, AllocError>
-        ensures { IfOk result (λ t. t ≡ folded_of self.now) }
+    /// The text of so few bytes that they stand in its own place.
+    pub(crate) fn in_place(alloc: Global, few: FewBytes) -> Text
+        ensures { result ≡ few }
+    {
+        Text {
+            held: Held::InPlace(few),
+            alloc,
+        }
+    }
+
+    /// The text of more bytes than stand in its own place.
+    fn boxed(alloc: Global, bytes: Vec<u8>) -> Result<Text, AllocError>
+        requires long { IN_PLACE < length bytes.items }
+        requires fits { length bytes.items ≤ LIMIT }
+        ensures { IfOk result (λ t. t ≡ bytes.items) }
     {
         Ok(Text {
-            bytes: folded_copy(alloc, &self.bytes)?,
+            held: Held::Boxed(Box::new(alloc, bytes)?),
+            alloc,
         })
+    }
+
+    /// An equal text. It takes no memory where the text has at most 22 bytes.
+    pub fn try_clone(&self, alloc: Global) -> Result<Text, AllocError>
+        ensures value { IfOk result (λ t. t ≡ self.now) }
+        ensures short { length self.now ≤ IN_PLACE → IsOk result }
+    {
+        Text::fitting(alloc, self.as_slice())
+    }
+
+    /// The text with A-Z folded to a-z, and nothing else. It takes no memory where the text has at most 22 bytes.
+    pub fn folded(&self, alloc: Global) -> Result<Text, AllocError>
+        ensures value { IfOk result (λ t. t ≡ folded_of self.now) }
+        ensures short { length self.now ≤ IN_PLACE → IsOk result }
+    {
+        let mut copy = self.try_clone(alloc)?;
+        copy.fold();
+        Ok(copy)
+    }
+
+    /// Folds A-Z to a-z.
+    fn fold(&mut self)
+        ensures { self.new ≡ folded_of self.old }
+    {
+        match &mut self.held {
+            Held::InPlace(few) => few.fold(),
+            Held::Boxed(bytes) => bytes.make_ascii_lowercase(),
+        }
     }
 
     /// Whether the text is folded: no byte is one of A-Z.
     pub fn is_folded(&self) -> bool
         ensures { result ≡ is_folded_text self.now }
     {
-        self.bytes.iter().all(|byte| !byte.is_ascii_uppercase())
+        self.as_slice()
+            .iter()
+            .all(|byte| !byte.is_ascii_uppercase())
     }
 
     /// Adds bytes at the end. `TooLong` where the text would be over 30,000 bytes, else `Memory` where a growth was
-    /// refused; the text is then as it was.
+    /// refused; the text is then as it was. It takes no memory where the text then has at most 22 bytes.
     pub fn append(&mut self, bytes: &[u8]) -> Result<(), Failure>
         ensures ok { OnOk result (within_limit (self.old ++ bytes.now) ≡ Ok self.new) }
         ensures fault { IfErr result (λ e. Gives {A = List ℕ} (Err e) (within_limit (self.old ++ bytes.now))) }
         ensures err { OnErr result (self.new ≡ self.old) }
+        ensures short { length self.old + length bytes.now ≤ IN_PLACE → IsOk result }
     {
-        if LIMIT - self.bytes.len() < bytes.len() {
+        if LIMIT - self.len() < bytes.len() {
             return Err(Failure::Fault(Fault::TooLong));
         }
-        self.bytes.extend_from_slice(bytes)?;
+        match &mut self.held {
+            Held::InPlace(few) => {
+                if few.len() + bytes.len() <= IN_PLACE {
+                    few.append(bytes);
+                } else {
+                    let alloc = self.alloc;
+                    *self = Text::boxed(alloc, moved(alloc, few.as_slice(), bytes)?)?;
+                }
+            }
+            Held::Boxed(list) => list.extend_from_slice(bytes)?,
+        }
         Ok(())
     }
 
     /// The bytes of the text.
+    #[inline]
     pub fn as_slice(&self) -> &[u8]
         ensures value { result.now ≡ self.now }
         ensures fits { length self.now ≤ LIMIT }
     {
-        &self.bytes
+        match &self.held {
+            Held::InPlace(few) => few.as_slice(),
+            Held::Boxed(bytes) => bytes,
+        }
     }
 
     /// How many bytes the text has.
+    #[inline]
     pub fn len(&self) -> usize
         ensures value { result ≡ length self.now }
         ensures fits { length self.now ≤ LIMIT }
     {
-        self.bytes.len()
+        match &self.held {
+            Held::InPlace(few) => few.len(),
+            Held::Boxed(bytes) => bytes.len(),
+        }
     }
 
     /// Whether the text is equal to this word after A-Z is folded to a-z.
     pub(crate) fn is(&self, word: &[u8]) -> bool
         ensures { result ≡ same word.now self.now }
     {
-        word.eq_ignore_ascii_case(&self.bytes)
+        word.eq_ignore_ascii_case(self.as_slice())
     }
 
     /// Whether two texts are equal after A-Z is folded to a-z.
@@ -146,11 +249,25 @@ impl Text {
     pub fn same(&self, other: &Text) -> bool
         ensures { IsTrue result ↔ Same self.now other.now }
     {
-        if SHORT < self.bytes.len() {
-            return are_same_long(&self.bytes, &other.bytes);
+        let left = self.as_slice();
+        let right = other.as_slice();
+        if SHORT < left.len() {
+            return are_same_long(left, right);
         }
-        self.bytes.eq_ignore_ascii_case(&other.bytes)
+        left.eq_ignore_ascii_case(right)
     }
+}
+
+/// A list of two parts, with room for more.
+fn moved(alloc: Global, left: &[u8], right: &[u8]) -> Result<Vec<u8>, AllocError>
+    requires { length left.now + length right.now ≤ LIMIT }
+    ensures { IfOk result (λ list. list.items ≡ left.now ++ right.now) }
+{
+    let count = left.len() + right.len();
+    let mut list = Vec::with_capacity(alloc, count.max(ROOM))?;
+    list.extend_from_slice(left)?;
+    list.extend_from_slice(right)?;
+    Ok(list)
 }
 
 /// Whether two long texts are equal after A-Z is folded to a-z. They are first compared as they stand: where they are
@@ -187,9 +304,10 @@ fn law_of_bytes(bytes: &[u8])
     }
 }
 
-/// The numeral of a number.
+/// The numeral of a number. It has at most 20 bytes, so it takes no memory, and is never refused.
 pub fn text_of(alloc: Global, number: i64) -> Result<Text, AllocError>
-    ensures { IfOk result (λ t. t ≡ numeral number) }
+    ensures value { IfOk result (λ t. t ≡ numeral number) }
+    ensures made { IsOk result }
 {
     let mut digits = Buffer::new();
     Text::fitting(alloc, digits.format(number).as_bytes())

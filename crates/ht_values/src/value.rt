@@ -1,11 +1,13 @@
 //! Values as they are computed: a number or a truth value in place of its spelling, or a text.
 
-ghost use Rattle.std.specs.Prelude.{◌≡◌, ◌≤◌, ◌++◌, ℕ, List, length, IfOk, IfErr, IfSome, OnOk, OnErr, Ok, Err, IsTrue};
+ghost use Rattle.std.specs.Prelude.{◌≡◌, ◌≤◌, ◌+◌, ◌++◌, ℕ, List, length, IfOk, IfErr, IfSome, IsOk};
+ghost use Rattle.std.specs.Prelude.{OnOk, OnErr, Ok, Err, IsTrue};
 ghost use Rattle.std.specs.Option.{SomeIff};
 ghost use Rattle.ht_values.specs.Number.{is_numeral, number_of as number_of_text, value_of};
 ghost use Rattle.ht_values.specs.Operators.{truth_of as truth_of_text, word_of};
 ghost use Rattle.ht_values.specs.Outcome.{Gives, within_limit};
 ghost use Rattle.ht_values.specs.Text.{numeral as numeral_of};
+ghost use Rattle.ht_values.specs.declared.few_bytes.TheConstants.{IN_PLACE};
 ghost use Rattle.ht_values.specs.declared.text.TheConstants.{LIMIT};
 
 use crate::failure::Failure;
@@ -76,9 +78,11 @@ impl Value {
         }
     }
 
-    /// An equal value. A numeral without a sign, spaces or leading zeros is kept as its number, which takes no memory.
+    /// An equal value. A numeral without a sign, spaces or leading zeros is kept as its number. It takes memory only
+    /// for a text of over 22 bytes.
     pub fn copied(alloc: Global, text: &Text) -> Result<Value, AllocError>
-        ensures { IfOk result (λ v. v ≡ text.now) }
+        ensures value { IfOk result (λ v. v ≡ text.now) }
+        ensures short { length text.now ≤ IN_PLACE → IsOk result }
     {
         match plain_number(text.as_slice()) {
             Some(number) => Ok(Value::of_number(number)),
@@ -86,9 +90,10 @@ impl Value {
         }
     }
 
-    /// An equal value. It takes memory only for a text.
+    /// An equal value. It takes memory only for a text of over 22 bytes.
     pub fn try_clone(&self, alloc: Global) -> Result<Value, AllocError>
-        ensures { IfOk result (λ v. v ≡ self.now) }
+        ensures value { IfOk result (λ v. v ≡ self.now) }
+        ensures short { length self.now ≤ IN_PLACE → IsOk result }
     {
         match &self.form {
             Form::Number(number) => Ok(Value::of_number(*number)),
@@ -97,9 +102,10 @@ impl Value {
         }
     }
 
-    /// The text of the value. It takes memory only where the value isn't kept as a text.
+    /// The text of the value. It takes no memory, and is never refused: only a short one is made.
     pub fn into_text(self, alloc: Global) -> Result<Text, AllocError>
-        ensures { IfOk result (λ t. t ≡ self) }
+        ensures value { IfOk result (λ t. t ≡ self) }
+        ensures made { IsOk result }
     {
         let Value { form } = self;
         match form {
@@ -109,9 +115,11 @@ impl Value {
         }
     }
 
-    /// The text of the value, lent where the value is kept as a text, and else made.
+    /// The text of the value, lent where the value is kept as a text, and else made. It takes no memory, and is never
+    /// refused: only a short one is made.
     pub fn spelled(&self, alloc: Global) -> Result<Spelling<'_>, AllocError>
-        ensures { IfOk result (λ s. s ≡ self.now) }
+        ensures value { IfOk result (λ s. s ≡ self.now) }
+        ensures made { IsOk result }
     {
         let text = match &self.form {
             Form::Number(number) => Lent::Made(text_of(alloc, *number)?),
@@ -122,11 +130,13 @@ impl Value {
     }
 
     /// Adds the text of another value at the end: where this one is kept as a text, in its place. `TooLong` where the
-    /// text would be over 30,000 bytes, else `Memory` where a growth was refused; the value is then as it was.
+    /// text would be over 30,000 bytes, else `Memory` where a growth was refused; the value is then as it was. It takes
+    /// no memory where the text then has at most 22 bytes.
     pub fn append(&mut self, alloc: Global, new: &Value) -> Result<(), Failure>
         ensures ok { OnOk result (within_limit (self.old ++ new.now) ≡ Ok self.new) }
         ensures fault { IfErr result (λ e. Gives {A = List ℕ} (Err e) (within_limit (self.old ++ new.now))) }
         ensures err { OnErr result (self.new ≡ self.old) }
+        ensures short { length self.old + length new.now ≤ IN_PLACE → IsOk result }
     {
         let new = new.spelled(alloc)?;
         if let Form::Spelled(text) = &mut self.form {

@@ -13,4 +13,6 @@ mod places;
 #[cfg(test)]
 mod searches;
 #[cfg(test)]
+mod short_texts;
+#[cfg(test)]
 mod unseen;

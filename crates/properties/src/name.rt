@@ -47,12 +47,12 @@ fn by_id(alloc: Global, kind: Kind, id: Id) -> Result<Text, Failure>
 fn by_name(alloc: Global, kind: Kind, name: &Text) -> Result<Text, Failure>
     ensures { Gives result (within_limit (names.by_name kind name.now)) }
 {
-    let mut bytes = Vec::with_capacity(alloc, name.len() + 16)?;
-    bytes.extend_from_slice(words_of(kind))?;
-    bytes.extend_from_slice(b" \"")?;
-    bytes.extend_from_slice(name.as_slice())?;
-    bytes.extend_from_slice(b"\"")?;
-    Ok(Text::from_vec(bytes)?)
+    let mut text = Text::new(alloc);
+    text.append(words_of(kind))?;
+    text.append(b" \"")?;
+    text.append(name.as_slice())?;
+    text.append(b"\"")?;
+    Ok(text)
 }
 
 /// The name with its kind; of an object without a name its id with its kind.

@@ -57,8 +57,7 @@ fn in_digits(alloc: Global, number: Option<usize>) -> Result<Text, Failure>
 {
     let number = number.ok_or(Fault::NoSuchProperty)?;
     let mut buffer = Buffer::new();
-    let digits = Vec::from_slice(alloc, buffer.format(number).as_bytes())?;
-    Ok(Text::from_vec(digits)?)
+    Ok(Text::fitting(alloc, buffer.format(number).as_bytes())?)
 }
 
 fn in_words_of(alloc: Global, truth: Result<bool, Fault>) -> Result<Text, Failure>

@@ -1,13 +1,10 @@
 -- Pieces that are read one after the other into one text.
 use Rattle.std.proofs.Common.{◌≡◌, ℕ, suc, ◌+◌, ◌-◌, ◌<◌, ◌≤◌, List, [], ◌∷◌, ◌++◌, length, Result, Ok, Err, refl, sym}
-use Rattle.std.proofs.Common.{ap, ◌∙◌, arith, append_assoc, add-one, is_some, IsSome, true, false, true≢false, leb}
+use Rattle.std.proofs.Common.{ap, ◌∙◌, arith, append_assoc, add-one, is_some, IsSome, true≢false}
 use Rattle.std.proofs.Common.{Bool, Option, Some, None, codes, ◌==◌, append-nil, length-append}
 use Rattle.std.specs.Option.{option_to_list}
 use Rattle.std.specs.List.{join_with_byte}
 use Rattle.ht_values.specs.Delimited.{ended}
-use Rattle.ht_values.specs.Outcome.{within_limit}
-use Rattle.ht_values.specs.declared.fault.Fault.{Fault}
-use Rattle.std.proofs.lemmas.Bool.Decides.{nat_tests}
 use Rattle.stack_text.specs.Reading.{Position, chain, ◌>>=◌, give, line_after, piece_at, pieces_at, text_of_pieces}
 use Rattle.stack_text.specs.Reading.{Fails}
 use Rattle.stack_text.specs.declared.fault.FileError.{FileError}
@@ -132,14 +129,3 @@ popped bytes left (Some x) is none ps e = ended_some ps left x (e ∙ is)
 pub none_left : (bytes : List ℕ) (n : ℕ) (o : Option ℕ) → n ≡ length bytes → (0 < n → IsSome o) → o ≡ None → bytes ≡ []
 none_left [] n o e some none = refl
 none_left (b ∷ bs) n o e some none = absurd (true≢false (sym (some (omega arith)) ∙ ap is_some none))
-
-pub fits : (t : List ℕ) → length t ≤ 30000 → within_limit t ≡ Ok t
-fits t short = by (leb (length t) 30000) refl
-  where
-    by : (b : Bool) → leb (length t) 30000 ≡ b → within_limit t ≡ Ok t
-    by true e = rw e refl
-    by false e = absurd (grind (arith, nat_tests))
-
-pub never_long : (t : List ℕ) (f : Fault) → length t ≤ 30000 → within_limit t ≡ Err f → ⊥
-never_long t f short e =
-    absurd (let same : ◌≡◌ {A = Result (List ℕ) Fault} (Ok t) (Err f) = sym (fits t short) ∙ e in cc)

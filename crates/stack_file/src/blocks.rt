@@ -35,10 +35,7 @@ pub(crate) fn text_of_pieces(
 {
     let mut bytes = pieces(lines, alloc, count)?;
     bytes.pop();
-    match Text::from_vec(bytes) {
-        Ok(text) => Ok(text),
-        Err(_) => unreachable!(),
-    }
+    Ok(Text::fitting_vec(bytes)?)
 }
 
 /// A text behind a key and the number of its pieces.

@@ -10,7 +10,7 @@ ghost use Rattle.stack_text.specs.Words.{number_at as number_of};
 ghost use Rattle.stack_text.specs.declared.fault.ReadError.TheVariants.{Memory};
 ghost use Rattle.stack_file.specs.Pieces.{around as around_byte};
 
-use ht_values::{PartKind, Text};
+use ht_values::{LIMIT, PartKind, Text};
 use memchr::memchr;
 use stack_text::{ReadError, Version, number_at, unspell};
 use std::alloc::Global;
@@ -94,7 +94,8 @@ fn text_of(alloc: Global, spelling: &[u8]) -> Result<Option<Text>, ReadError>
 {
     match unspell(alloc, spelling)? {
         None => Ok(None),
-        Some(bytes) => Ok(Text::from_vec(bytes).ok()),
+        Some(bytes) if LIMIT < bytes.len() => Ok(None),
+        Some(bytes) => Ok(Some(Text::fitting_vec(bytes)?)),
     }
 }
 

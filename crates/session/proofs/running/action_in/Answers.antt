@@ -12,16 +12,16 @@ pub returns-in-Lines-clause-err : goal.returns-in-Lines-clause-err
 returns-in-Lines-clause-err c =
     rw (c.in-Lines.is, c.refusal_of.ensures)
     (unread {C = Stmts} (λ lines. stmts_of lines.items.items) ReadsLines act.run_lines c.in-Ok.text _
-    c.in-Ok.ensures c.in-Err.error c.in-Err.ensures)
+    c.in-Ok.ensures.value c.in-Err.error c.in-Err.ensures)
 
 pub returns-in-Reference-clause-err : goal.returns-in-Reference-clause-err
 returns-in-Reference-clause-err c =
     rw (c.in-Reference.is, c.refusal_of-in-Err-parse_part.ensures)
-    (unread part_of ReadsPart act.click c.in-Ok.text _ c.in-Ok.ensures c.in-Err-parse_part.error
+    (unread part_of ReadsPart act.click c.in-Ok.text _ c.in-Ok.ensures.value c.in-Err-parse_part.error
     c.in-Err-parse_part.ensures)
 
 pub returns-clause-err : goal.returns-clause-err
 returns-clause-err c =
     rw (c.in-Typing.is, c.refusal_of-in-Err-parse_type.ensures)
-    (unread typing_of ReadsType typing c.in-Ok.text _ c.in-Ok.ensures c.in-Err-parse_type.error
+    (unread typing_of ReadsType typing c.in-Ok.text _ c.in-Ok.ensures.value c.in-Err-parse_type.error
     c.in-Err-parse_type.ensures)

@@ -19,11 +19,11 @@ pub put_at-requires-clause-stands : goal.put_at-requires-clause-stands
 put_at-requires-clause-stands g c =
     stands c.args.world.now.history c.args.run.now c.args.field c.args.text.now _
     (c.typed-frame.ensures ∙ ap typed_frame_at c.current.ensures.value) _ _ _ c.in-Ok-text_of.ensures
-    c.in-Ok.ensures.place c.in_ok-new.ensures
+    c.in-Ok.ensures.place c.in_ok-new.ensures.value
 
 pub returns-clause-meaning : goal.returns-clause-meaning
 returns-clause-meaning g c =
     types c.args.world.now.history c.args.run.now c.args.field c.args.text.now _
     (c.typed-frame.ensures ∙ ap typed_frame_at c.current.ensures.value) _ _ _ c.in-Ok-text_of.ensures
-    c.in-Ok.ensures.place c.in_ok-new.ensures _ _ _ _ _ _ c.in_ok-put_at.ensures.meaning
+    c.in-Ok.ensures.place c.in_ok-new.ensures.value _ _ _ _ _ _ c.in_ok-put_at.ensures.meaning
     c.leaving_message-message.ensures c.tell.ensures.meaning
