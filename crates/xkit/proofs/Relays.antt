@@ -25,8 +25,10 @@ global_was_set cells (a ∷ b ∷ c ∷ d ∷ e ∷ note) value h =
 
 -- a start with four texts
 pub global_is_set : (cells args : List (List ℕ)) → length args ≡ 4 → relay_start cells args
-    ≡ (SetGlobal (codes "1" ∷ drop 1 args) (slice_index_or args 0 []) (codes "relay"),
-    slice_set cells 0 (slice_index_or args 0 []))
+    ≡ (
+      SetGlobal (codes "1" ∷ drop 1 args) (slice_index_or args 0 []) (codes "relay"),
+      slice_set cells 0 (slice_index_or args 0 []),
+    )
 global_is_set cells [] h = absurd (omega arith)
 global_is_set cells (a ∷ []) h = absurd (omega arith)
 global_is_set cells (a ∷ b ∷ []) h = absurd (omega arith)
