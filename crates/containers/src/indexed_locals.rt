@@ -205,7 +205,8 @@ fn place_in(locals: &[Local], name: &Name) -> Option<usize>
     ensures value { result ≡ position (λ l. same l.name name.now) locals.now }
     ensures within { IfSome result (λ i. i < length locals.now) }
 {
-    locals.iter().position(|local| local.name.is_of(name))
+    let form = name.folded().as_slice();
+    locals.iter().position(|local| local.name.has_form(form))
 }
 
 /// The names with their arguments, and room for a few more.

@@ -1,6 +1,7 @@
 //! Folded forms of names.
 
 ghost use Rattle.std.specs.Prelude.{◌≡◌, IfOk};
+ghost use Rattle.std.specs.Str.{bytes_eq};
 ghost use Rattle.ht_values.specs.Text.{folded, same};
 
 use ht_values::Name;
@@ -57,11 +58,19 @@ impl FoldedName {
     }
 
     /// Whether a name is the same.
-    #[tactic(auto, using(ht_values::proofs::Folding::folded_stays))]
     #[inline]
     pub fn is_of(&self, name: &Name) -> bool
         ensures { result ≡ same self.now name.now }
     {
-        self.bytes.as_slice() == name.folded().as_slice()
+        self.has_form(name.folded().as_slice())
+    }
+
+    /// Whether bytes are its form: the folded form of a name, which is looked for among many, is lent once.
+    #[tactic(auto, using(ht_values::proofs::Folding::folded_stays))]
+    #[inline]
+    pub fn has_form(&self, form: &[u8]) -> bool
+        ensures { result ≡ bytes_eq (folded self.now) form.now }
+    {
+        self.bytes.as_slice() == form
     }
 }
