@@ -94,7 +94,8 @@ impl Locals {
         ensures { option_copied result ≡ find (λ l. same l.name name.now) self.now }
     {
         if self.items.len() <= MOST_SCANNED {
-            return self.items.iter().find(|local| local.name.is_of(name));
+            let form = name.folded().as_slice();
+            return self.items.iter().find(|local| local.name.has_form(form));
         }
         let place = self.number_among_many(name)?;
         Some(&self.items[place])

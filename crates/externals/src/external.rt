@@ -18,6 +18,8 @@ pub enum Input {
 
 /// Written here and not derived, so that no crate above proves anew how it is dropped.
 impl Drop for Input {
+    // Else each place that drops one has a copy of it in its frame.
+    #[inline(always)]
     fn drop(self) {
         match self {
             Input::Start(_) => {}

@@ -39,7 +39,9 @@ struct ExprNode {
 
 /// Written here and not derived, so that no crate above proves anew how a tree is dropped.
 impl Drop for Expr {
+    // Else each place that drops one has a copy of a node in its frame.
     #[cycle(tree)]
+    #[inline(never)]
     fn drop(self) {
         let Expr { form: _ } = self;
     }

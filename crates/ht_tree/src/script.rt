@@ -53,6 +53,8 @@ pub struct Message {
 
 /// Written here and not derived, so that no crate above proves anew how it is dropped.
 impl Drop for Message {
+    // Else each place that drops one has a copy of it in its frame.
+    #[inline(always)]
     fn drop(self) {
         let Message {
             name: _,

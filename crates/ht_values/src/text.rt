@@ -45,6 +45,8 @@ const _: () = prove!(size_of::<Text>() <= 24);
 
 /// Written here and not derived, so that no crate above proves anew how it is dropped.
 impl Drop for Text {
+    // Else each place that drops one has a copy of it in its frame.
+    #[inline(always)]
     fn drop(self) {
         let Text { held: _, alloc: _ } = self;
     }

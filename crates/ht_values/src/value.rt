@@ -35,6 +35,8 @@ pub struct Value {
 
 /// Written here and not derived, so that no crate above proves anew how it is dropped.
 impl Drop for Value {
+    // Else each place that drops one has a copy of it in its frame.
+    #[inline(always)]
     fn drop(self) {
         let Value { form: _ } = self;
     }

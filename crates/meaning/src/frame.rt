@@ -20,6 +20,8 @@ pub struct Frame {
 
 /// Written here and not derived, so that no crate above proves anew how it is dropped.
 impl Drop for Frame {
+    // Else each place that drops one has a copy of it in its frame.
+    #[inline(always)]
     fn drop(self) {
         let Frame {
             me: _,

@@ -27,6 +27,8 @@ pub struct Arguments {
 
 /// Written here and not derived, so that no crate above proves anew how it is dropped.
 impl Drop for Arguments {
+    // Else each place that drops them has a copy of them in its frame.
+    #[inline(always)]
     fn drop(self) {
         let Arguments {
             values: _,
