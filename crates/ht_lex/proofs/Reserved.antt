@@ -71,7 +71,7 @@ pub plain_at : (table : List (Bor (List (Bor (List ℕ) × Key)))) (place : ℕ)
     ≡ get_or (map {B = Rows} (λ rows. map (λ row. (row.0.now, row.1)) rows.now) table) place []
 plain_at table place d low = sym (get_or-map plain table place d [] low)
 
-pub rows_by_letter : map (λ rows. map (λ row. (row.0.now, row.1)) rows.now) RESERVED
+pub rows_by_letter : map (λ rows. map (λ row. (row.0.now, row.1)) rows.now) RESERVED.now
     ≡ map (λ n. under n reserved_words) (range_with_len 97 26)
 unfolding reserved_words
 rows_by_letter = refl

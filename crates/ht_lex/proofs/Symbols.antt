@@ -12,7 +12,7 @@ use Rattle.ht_lex.specs.Words.{symbols}
 use Rattle.ht_lex.specs.Lexemes.{symbol_among, symbol_lexeme, lone_symbol, FitsIn}
 use Rattle.ht_lex.specs.declared.key.Key.TheVariants as k
 
-pub rows_of_symbols : map (λ row. (row.0.now, row.1)) SYMBOLS ≡ symbols
+pub rows_of_symbols : map (λ row. (row.0.now, row.1)) SYMBOLS.now ≡ symbols
 unfolding symbols
 rows_of_symbols = refl
 

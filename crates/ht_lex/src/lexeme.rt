@@ -18,7 +18,7 @@ pub(crate) enum Lexeme {
 }
 
 /// The symbols, each before those that it begins with.
-const SYMBOLS: [(&[u8], Key); 19] = [
+const SYMBOLS: &[(&[u8], Key)] = &[
     (b"&&", Key::DoubleAmpersand),
     (b"<>", Key::NotEqual),
     (b"<=", Key::LessEqual),
@@ -113,7 +113,7 @@ fn symbol_lexeme(text: &[u8]) -> Lexeme
 {
     match lone_symbol(byte_at(text, 0)) {
         Some(key) => Lexeme::Token(TokenKind::Key(key), 1),
-        None => symbol_among(&SYMBOLS, text),
+        None => symbol_among(SYMBOLS, text),
     }
 }
 

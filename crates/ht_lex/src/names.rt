@@ -10,7 +10,7 @@ use ht_values::{ChunkKind, PartKind};
 
 /// The reserved words, each with its key: those that begin with `a`, with `b`, and so on. Other spellings of a word
 /// have its key.
-const RESERVED: [&[(&[u8], Key)]; 26] = [
+const RESERVED: &[&[(&[u8], Key)]] = &[
     &[
         (b"add", Key::Add),
         (b"after", Key::After),
@@ -200,7 +200,7 @@ pub(crate) fn key_of(word: &[u8]) -> Option<Key>
     if !first.is_ascii_lowercase() {
         return None;
     }
-    key_among(rows_at(&RESERVED, (first - b'a') as usize), word)
+    key_among(rows_at(RESERVED, (first - b'a') as usize), word)
 }
 
 /// The byte at a place, and 0 past the end.

@@ -21,7 +21,7 @@ pub enum BuiltIn {
 }
 
 /// The names of the messages that the system sends, and then of those that it doesn't send here.
-const SYSTEM_MESSAGES: [&[u8]; 16] = [
+const SYSTEM_MESSAGES: &[&[u8]] = &[
     b"mouseDown",
     b"mouseUp",
     b"openStack",
@@ -72,5 +72,5 @@ fn has_name(names: &[&[u8]], name: &[u8]) -> bool
 pub fn is_system_message(name: &Text) -> bool
     ensures { result ≡ is_of_the_system name.now }
 {
-    has_name(&SYSTEM_MESSAGES, name.as_slice())
+    has_name(SYSTEM_MESSAGES, name.as_slice())
 }
