@@ -18,6 +18,7 @@ use Rattle.std.proofs.lemmas.List.Sorted.{IsNonDecreasingBy-from_default}
 use Rattle.object_table.specs.Objects.{contains_id}
 use Rattle.object_table.specs.Pairs.{Pair, pair_cmp}
 use Rattle.object_table.specs.Rows.{entry_at, ids_in, AreRising, IsAt, IsGapFor, AreApart, entries_of}
+use Rattle.object_table.specs.Rows.{opened_at}
 use Rattle.object_table.specs.Opened.{keys_of}
 use Rattle.object_table.specs.Pages.{number_at}
 use Rattle.object_table.specs.Slots.{AreNumbered}
@@ -240,6 +241,10 @@ module _ {Y : Type 0} where
       ∙ sym (id-read es i e (let long : length (ids_in es)
       ≡ length es = length-map es (λ x. x.0) in omega (arith, at.within, long))) ∙ at.is
 
+  pub insert-last : (es : List (ℕ × Y)) (e : ℕ × Y) → es ++ e ∷ [] ≡ insert es (length es) e
+  insert-last [] e = refl
+  insert-last (x ∷ es) e = ap (λ l. x ∷ l) (insert-last es e)
+
   pub ids-append : (es : List (ℕ × Y)) (id : ℕ) (y : Y) → ids_in (es ++ (id, y) ∷ []) ≡ ids_in es ++ id ∷ []
   ids-append [] id y = refl
   ids-append (e ∷ es) id y = ap (λ ns. e.0 ∷ ns) (ids-append es id y)
@@ -267,7 +272,7 @@ module _ {Y : Type 0} where
 
 -- ---- rows that are apart
 
-contains-append : (xs : List ℕ) (x id : ℕ) → contains_id x (xs ++ id ∷ []) ≡ (contains_id x xs || nat_eq id x)
+pub contains-append : (xs : List ℕ) (x id : ℕ) → contains_id x (xs ++ id ∷ []) ≡ (contains_id x xs || nat_eq id x)
 contains-append [] x id = or_false (nat_eq id x)
   where
     or_false : (b : Bool) → (b || false) ≡ b
@@ -378,6 +383,28 @@ module _ {Y : Type 0} where
   entries-empty_row [] card = refl
   entries-empty_row (r ∷ rs) card = ap (λ es. map (λ e. ((e.0, r.0), e.1)) r.1 ++ es) (entries-empty_row rs card)
 
+  -- a row is written
+  pub entries-rewritten : (rs ss : List (ℕ × List (ℕ × Y))) (card : ℕ) (row new : List (ℕ × Y))
+      (f : ℕ → Option Y → Option Y) → AreApart (ids_in rs) → AreApart (ids_in ss) → entry_at rs card ≡ Some row
+      → ((c : ℕ) → entry_at ss c ≡ cond (nat_eq card c) (Some new) (entry_at rs c))
+      → ((p : ℕ) → entry_at new p ≡ f p (entry_at row p)) → (q : Pair)
+      → lookup (eq_by_cmp pair_cmp q) (entries_of ss) ≡ cond (nat_eq card q.1)
+      (f q.0 (lookup (eq_by_cmp pair_cmp q) (entries_of rs))) (lookup (eq_by_cmp pair_cmp q) (entries_of rs))
+  entries-rewritten rs ss card row new f are are' is rows parts q =
+      entry-of_pair ss q are'
+      ∙ ap (option_and_then (λ r. entry_at r q.0)) (rows q.1)
+      ∙ each (nat_eq card q.1) refl
+      ∙ ap (λ o. cond (nat_eq card q.1) (f q.0 o) o) (sym (entry-of_pair rs q are))
+    where
+      each : (b : Bool) → nat_eq card q.1 ≡ b
+          → option_and_then (λ r. entry_at r q.0) (cond b (Some new) (entry_at rs q.1))
+          ≡ cond b (f q.0 (option_and_then (λ r. entry_at r q.0) (entry_at rs q.1)))
+          (option_and_then (λ r. entry_at r q.0) (entry_at rs q.1))
+      each true e = parts q.0
+          ∙ ap (λ o. f q.0 (option_and_then (λ r. entry_at r q.0) o))
+          (sym is ∙ ap (entry_at rs) (by_test card q.1 e))
+      each false e = refl
+
   -- an entry is written in a row
   pub entries-written : (rs ss : List (ℕ × List (ℕ × Y))) (part card : ℕ) (row new : List (ℕ × Y)) (y : Y)
       → AreApart (ids_in rs) → AreApart (ids_in ss) → entry_at rs card ≡ Some row
@@ -386,49 +413,72 @@ module _ {Y : Type 0} where
       → (q : Pair) → lookup (eq_by_cmp pair_cmp q) (entries_of ss)
       ≡ cond (eq_by_cmp pair_cmp (part, card) q) (Some y) (lookup (eq_by_cmp pair_cmp q) (entries_of rs))
   entries-written rs ss part card row new y are are' is rows parts q =
-      entry-of_pair ss q are'
-      ∙ ap (option_and_then (λ r. entry_at r q.0)) (rows q.1)
-      ∙ each (nat_eq card q.1) refl
-      ∙ ap (λ b. cond b (Some y) (option_and_then (λ r. entry_at r q.0) (entry_at rs q.1)))
-      (sym (pair_tied (part, card) q))
-      ∙ ap (λ o. cond (eq_by_cmp pair_cmp (part, card) q) (Some y) o) (sym (entry-of_pair rs q are))
+      entries-rewritten rs ss card row new (λ p o. cond (nat_eq part p) (Some y) o) are are' is rows parts q
+      ∙ both (nat_eq part q.0) (nat_eq card q.1) (lookup (eq_by_cmp pair_cmp q) (entries_of rs))
+      ∙ ap (λ b. cond b (Some y) (lookup (eq_by_cmp pair_cmp q) (entries_of rs))) (sym (pair_tied (part, card) q))
     where
-      and_true : (b : Bool) → b ≡ (b && true)
-      and_true true = refl
-      and_true false = refl
-
-      and_false : (b : Bool) → false ≡ (b && false)
-      and_false true = refl
-      and_false false = refl
-
-      each : (b : Bool) → nat_eq card q.1 ≡ b
-          → option_and_then (λ r. entry_at r q.0) (cond b (Some new) (entry_at rs q.1))
-          ≡ cond (nat_eq part q.0 && b) (Some y) (option_and_then (λ r. entry_at r q.0) (entry_at rs q.1))
-      each true e = parts q.0
-          ∙ ap (λ o. cond (nat_eq part q.0) (Some y) (option_and_then (λ r. entry_at r q.0) o))
-          (sym is ∙ ap (entry_at rs) (by_test card q.1 e))
-          ∙ ap (λ b. cond b (Some y) (option_and_then (λ r. entry_at r q.0) (entry_at rs q.1)))
-          (and_true (nat_eq part q.0))
-      each false e = ap (λ b. cond b (Some y) (option_and_then (λ r. entry_at r q.0) (entry_at rs q.1)))
-          (and_false (nat_eq part q.0))
+      both : (a b : Bool) (o : Option Y) → cond b (cond a (Some y) o) o ≡ cond (a && b) (Some y) o
+      both true true o = refl
+      both true false o = refl
+      both false true o = refl
+      both false false o = refl
 
   -- what stands first at an id, as maps ask for it
   pub entry-tied : (es : List (ℕ × Y)) (id : ℕ) → lookup (eq_by_cmp nat_cmp id) es ≡ entry_at es id
   entry-tied es id = ap (λ (p : ℕ → Bool). lookup p es) (λ i x. unsigned_tied id x i)
 
--- an entry that is there has a value or none
-pub entry-stays : {X : Type 0} (es : List (ℕ × Option X)) (id : ℕ) → is_some (entry_at es id) ≡ true → (q : ℕ)
-    → entry_at es q ≡ cond (nat_eq id q) (Some (option_and_then (λ v. v) (entry_at es id))) (entry_at es q)
-entry-stays {X} es id there q = each (nat_eq id q) refl
-  where
-    again : (o : Option (Option X)) → is_some o ≡ true → o ≡ Some (option_and_then (λ v. v) o)
-    again None h = absurd (false≢true h)
-    again (Some v) h = refl
+-- ---- parts that are opened
 
-    each : (b : Bool) → nat_eq id q ≡ b
-        → entry_at es q ≡ cond b (Some (option_and_then (λ v. v) (entry_at es id))) (entry_at es q)
-    each true e = ap (entry_at es) (sym (by_test id q e)) ∙ again (entry_at es id) there
-    each false e = refl
+module _ {X : Type 0} (es : List (ℕ × Option X)) (id : ℕ) where
+  -- a part that is there has a value or none
+  pub entry-stays : is_some (entry_at es id) ≡ true → (q : ℕ)
+      → entry_at es q ≡ cond (nat_eq id q) (opened_at (entry_at es id)) (entry_at es q)
+  entry-stays there q = each (nat_eq id q) refl
+    where
+      again : (o : Option (Option X)) → is_some o ≡ true → o ≡ opened_at o
+      again None h = absurd (false≢true h)
+      again (Some v) h = refl
+
+      each : (b : Bool) → nat_eq id q ≡ b → entry_at es q ≡ cond b (opened_at (entry_at es id)) (entry_at es q)
+      each true e = ap (entry_at es) (sym (by_test id q e)) ∙ again (entry_at es id) there
+      each false e = refl
+
+  module _ (i : ℕ) (gap : IsGapFor (ids_in es) id i) where
+    pub rising-opened : AreRising (ids_in es) → AreRising (ids_in (insert es i (id, None)))
+    rising-opened rising =
+        subst AreRising (sym (ids-insert es id i None)) (rising-insert (ids_in es) id i gap rising)
+
+    -- one that isn't there has none
+    pub entry-opened : (q : ℕ)
+        → entry_at (insert es i (id, None)) q ≡ cond (nat_eq id q) (opened_at (entry_at es id)) (entry_at es q)
+    entry-opened q =
+        let absent : entry_at es id ≡ None = entry-none es id (none_there (ids_in es) id i gap) in
+        entry-insert es id i None (none_less (ids_in es) id i gap) q
+        ∙ ap (λ o. cond (nat_eq id q) (opened_at o) (entry_at es q)) (sym absent)
+
+-- one part more is opened
+pub opened_more : {X : Type 0} (old now new : List (ℕ × Option X)) (parts : List ℕ) (part : ℕ)
+    → ((c : ℕ) → entry_at now c ≡ cond (contains_id c parts) (opened_at (entry_at old c)) (entry_at old c))
+    → ((c : ℕ) → entry_at new c ≡ cond (nat_eq part c) (opened_at (entry_at now part)) (entry_at now c)) → (c : ℕ)
+    → entry_at new c ≡ cond (contains_id c (parts ++ part ∷ [])) (opened_at (entry_at old c)) (entry_at old c)
+opened_more {X} old now new parts part before step c =
+    step c
+    ∙ own (nat_eq part c) refl
+    ∙ ap (λ o. cond (nat_eq part c) (opened_at o) o) (before c)
+    ∙ twice (contains_id c parts) (nat_eq part c) (entry_at old c)
+    ∙ ap (λ b. cond b (opened_at (entry_at old c)) (entry_at old c)) (sym (contains-append parts c part))
+  where
+    own : (b : Bool) → nat_eq part c ≡ b
+        → cond b (opened_at (entry_at now part)) (entry_at now c) ≡ cond b (opened_at (entry_at now c)) (entry_at now c)
+    own true e = ap (λ n. opened_at (entry_at now n)) (by_test part c e)
+    own false e = refl
+
+    twice : (a b : Bool) (o : Option (Option X))
+        → cond b (opened_at (cond a (opened_at o) o)) (cond a (opened_at o) o) ≡ cond (a || b) (opened_at o) o
+    twice true true o = refl
+    twice true false o = refl
+    twice false true o = refl
+    twice false false o = refl
 
 -- what is found in something is found in what is there
 pub outer_some : {A B : Type 0} (f : A → Option B) (o : Option A) → is_some (option_and_then f o) ≡ true
@@ -467,14 +517,21 @@ module _ {Y : Type 0} (pages : List (List ℕ)) (rs : List (ℕ × List (ℕ × 
       pub rows-kept : AreNumbered pages (set rs (n - 1) (e.0, new)) × AreApart (ids_in (set rs (n - 1) (e.0, new)))
       rows-kept = (still_numbered card (n - 1) e rs row-stands pages new are, subst AreApart (sym written.1) apart)
 
+      row-written : (c : ℕ) → entry_at (set rs (n - 1) (e.0, new)) c ≡ cond (nat_eq card c) (Some new) (entry_at rs c)
+      row-written c = sym (entry-tied (set rs (n - 1) (e.0, new)) c) ∙ written.0 c
+          ∙ (λ i. cond (unsigned_tied card c i) (Some new) (entry-tied rs c i))
+
       -- a value is written at a part of that row
       pub pair-written : (part : ℕ) (y : Y)
           → ((p : ℕ) → entry_at new p ≡ cond (nat_eq part p) (Some y) (entry_at e.1 p))
           → (q : Pair) → lookup (eq_by_cmp pair_cmp q) (entries_of (set rs (n - 1) (e.0, new)))
           ≡ cond (eq_by_cmp pair_cmp (part, card) q) (Some y) (lookup (eq_by_cmp pair_cmp q) (entries_of rs))
-      pair-written part y parts =
-          let ss = set rs (n - 1) (e.0, new) in
-          let rows : (c : ℕ) → entry_at ss c
-          ≡ cond (nat_eq card c) (Some new) (entry_at rs c) = λ c. sym (entry-tied ss c) ∙ written.0 c
-          ∙ (λ i. cond (unsigned_tied card c i) (Some new) (entry-tied rs c i)) in
-          entries-written rs ss part card e.1 new y apart rows-kept.1 row-found rows parts
+      pair-written part y parts = entries-written rs (set rs (n - 1) (e.0, new)) part card e.1 new y apart rows-kept.1
+          row-found row-written parts
+
+      -- that row is written
+      pub pairs-written : (f : ℕ → Option Y → Option Y) → ((p : ℕ) → entry_at new p ≡ f p (entry_at e.1 p)) → (q : Pair)
+          → lookup (eq_by_cmp pair_cmp q) (entries_of (set rs (n - 1) (e.0, new))) ≡ cond (nat_eq card q.1)
+          (f q.0 (lookup (eq_by_cmp pair_cmp q) (entries_of rs))) (lookup (eq_by_cmp pair_cmp q) (entries_of rs))
+      pairs-written f parts = entries-rewritten rs (set rs (n - 1) (e.0, new)) card e.1 new f apart rows-kept.1 row-found
+          row-written parts

@@ -1,8 +1,8 @@
 -- Values at keys that are open.
-use Rattle.std.specs.Prelude.{List, [], ◌∷◌, map, Option}
+use Rattle.std.specs.Prelude.{ℕ, List, [], ◌∷◌, map, Option}
 use Rattle.std.specs.declared.cmp.Ordering.{Ordering}
 use Rattle.std.specs.FinMap.{FinMap, empty}
-use Rattle.std.specs.FinSet.{FinSet, from_list}
+use Rattle.std.specs.FinSet.{FinSet, from_list, insert}
 use Rattle.object_table.specs.Maps.{put_option}
 use Rattle.object_table.specs.Pairs.{Pair, pair_cmp, PairMap}
 
@@ -21,3 +21,8 @@ values_in es = map_of es
 
 abbrev pub open_in : {X : Type 0} → List (Pair × Option X) → FinSet pair_cmp
 open_in es = keys_of es
+
+-- a set with the pair of each of these parts and a card
+abbrev pub with_parts : FinSet pair_cmp → List ℕ → ℕ → FinSet pair_cmp
+with_parts s [] card = s
+with_parts s (part ∷ parts) card = with_parts (insert s (part, card)) parts card

@@ -1,5 +1,6 @@
 -- Values at pairs of ids: a row for each card that has one, with a value or none at each part that is open there.
-use Rattle.std.specs.Prelude.{◌≡◌, ℕ, ◌<◌, ◌≤◌, List, [], ◌∷◌, ◌++◌, length, map, slice_index_or, Option, false, nat_eq}
+use Rattle.std.specs.Prelude.{◌≡◌, ℕ, ◌<◌, ◌≤◌, List, [], ◌∷◌, ◌++◌, length, map, slice_index_or, Option, Some, false, nat_eq}
+use Rattle.std.specs.Prelude.{option_and_then}
 use Rattle.std.specs.Map.{lookup}
 use Rattle.object_table.specs.Objects.{contains_id}
 use Rattle.object_table.specs.Pairs.{Pair}
@@ -7,6 +8,10 @@ use Rattle.object_table.specs.Pairs.{Pair}
 -- what stands first at an id
 abbrev pub entry_at : {Y : Type 0} → List (ℕ × Y) → ℕ → Option Y
 entry_at es id = lookup (nat_eq id) es
+
+-- what stands at an id that is open then: the value that stood there, or none
+abbrev pub opened_at : {X : Type 0} → Option (Option X) → Option (Option X)
+opened_at e = Some (option_and_then (λ v. v) e)
 
 -- the ids of entries
 abbrev pub ids_in : {Y : Type 0} → List (ℕ × Y) → List ℕ

@@ -3,8 +3,9 @@
 ghost use Rattle.std.specs.Prelude.{◌≡◌, true, OnOk, OnErr, OnSome, is_some, option_copied};
 ghost use Rattle.std.specs.FinMap as map;
 ghost use Rattle.std.specs.FinSet as set;
+ghost use Rattle.std.specs.List.{AllByRecursion};
 ghost use Rattle.object_table.specs.Maps.{put_option};
-ghost use Rattle.object_table.specs.Opened.{values_in, open_in};
+ghost use Rattle.object_table.specs.Opened.{values_in, open_in, with_parts};
 ghost use Rattle.object_table.specs.Pairs.{Pair};
 ghost use Rattle.object_table.specs.Rows.{entry_at, entries_of};
 ghost use Rattle.object_table.specs.Slots.{slot_at};
@@ -91,6 +92,24 @@ impl<X: Drop> PairTable<X> {
         self.reach(card)?;
         let place = self.numbers.get(card) as usize - 1;
         self.rows[place].1.open(part)?;
+        Ok(())
+    }
+
+    /// Opens the pair of each of these parts and a card. Where there is none the card gets no row.
+    pub(crate) fn open_each(&mut self, parts: &[Id], card: Id) -> Result<(), AllocError>
+        ensures values { values_in (entries_of self.new) ≡ values_in (entries_of self.old) }
+        ensures room { OnOk result (open_in (entries_of self.new)
+            ≡ with_parts (open_in (entries_of self.old)) parts.now card) }
+        ensures inside { OnOk result (AllByRecursion (λ part.
+            set.contains (open_in (entries_of self.new)) (part, card) ≡ true) parts.now) }
+        ensures err { OnErr result (open_in (entries_of self.new) ≡ open_in (entries_of self.old)) }
+    {
+        if parts.is_empty() {
+            return Ok(());
+        }
+        self.reach(card)?;
+        let place = self.numbers.get(card) as usize - 1;
+        self.rows[place].1.open_each(parts)?;
         Ok(())
     }
 

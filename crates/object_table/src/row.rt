@@ -1,8 +1,9 @@
 //! Values at the parts of a card.
 
-ghost use Rattle.std.specs.Prelude.{◌≡◌, ℕ, [], length, true, cond, nat_eq, OnOk, OnErr, OnSome, IfOk, IfErr, Some};
-ghost use Rattle.std.specs.Prelude.{is_some, option_copied, option_and_then};
-ghost use Rattle.object_table.specs.Rows.{entry_at, ids_in, IsAt, IsGapFor};
+ghost use Rattle.std.specs.Prelude.{◌≡◌, ◌+◌, ◌<◌, ◌≤◌, ℕ, [], length, true, cond, nat_eq, OnOk, OnErr, OnSome, IfOk};
+ghost use Rattle.std.specs.Prelude.{IfErr, Some, is_some, option_copied, option_and_then, vec_len, vec_capacity};
+ghost use Rattle.object_table.specs.Objects.{contains_id};
+ghost use Rattle.object_table.specs.Rows.{entry_at, ids_in, AreRising, IsAt, IsGapFor, opened_at};
 
 use crate::ids::Id;
 use std::alloc::{AllocError, Global};
@@ -52,7 +53,7 @@ impl<X: Drop> Row<X> {
     /// Opens a part: a value that stands there stays.
     pub(crate) fn open(&mut self, part: Id) -> Result<(), AllocError>
         ensures ok { OnOk result ((c : ℕ) → entry_at self.new c
-            ≡ cond (nat_eq part c) (Some (option_and_then (λ v. v) (entry_at self.old part))) (entry_at self.old c)) }
+            ≡ cond (nat_eq part c) (opened_at (entry_at self.old part)) (entry_at self.old c)) }
         ensures err { OnErr result (self.new ≡ self.old) }
     {
         match self.place_of(part) {
@@ -60,6 +61,15 @@ impl<X: Drop> Row<X> {
             Err(place) => self.places.insert(place, (part, None))?,
         }
         Ok(())
+    }
+
+    /// Opens each of these parts: the values that stand there stay. Where a growth is refused nothing changes.
+    pub(crate) fn open_each(&mut self, parts: &[Id]) -> Result<(), AllocError>
+        ensures ok { OnOk result ((c : ℕ) → entry_at self.new c
+            ≡ cond (contains_id c parts.now) (opened_at (entry_at self.old c)) (entry_at self.old c)) }
+        ensures err { OnErr result (self.new ≡ self.old) }
+    {
+        open_each_in(&mut self.places, parts)
     }
 
     pub(crate) fn swap(&mut self, part: Id, value: &mut Option<X>)
@@ -86,7 +96,7 @@ impl<X: Drop> Row<X> {
         if self.is_at(beside, part) {
             return Ok(beside);
         }
-        if self.is_behind_all(part) {
+        if is_behind_all(&self.places, part) {
             return Err(self.places.len());
         }
         if self.is_at(self.latest, part) {
@@ -96,7 +106,7 @@ impl<X: Drop> Row<X> {
         if self.is_at(guess, part) {
             return Ok(guess);
         }
-        self.searched(part)
+        searched(&self.places, part)
     }
 
     /// Where a part is if the ids of the parts follow each other; else any number.
@@ -118,23 +128,62 @@ impl<X: Drop> Row<X> {
             None => false,
         }
     }
+}
 
-    /// Whether all parts come before this one.
-    #[inline]
-    fn is_behind_all(&self, part: Id) -> bool
-        ensures { result ≡ true → IsGapFor (ids_in self.now) part (length self.now) }
-    {
-        match self.places.last() {
-            Some(last) => last.0 < part,
-            None => true,
+/// Whether all parts come before this one.
+#[inline]
+fn is_behind_all<X>(places: &[(Id, Option<X>)], part: Id) -> bool
+    requires { AreRising (ids_in places.now) }
+    ensures { result ≡ true → IsGapFor (ids_in places.now) part (length places.now) }
+{
+    match places.last() {
+        Some(last) => last.0 < part,
+        None => true,
+    }
+}
+
+/// Where a part is, or where it would go, by halves.
+fn searched<X>(places: &[(Id, Option<X>)], part: Id) -> Result<usize, usize>
+    requires { AreRising (ids_in places.now) }
+    ensures found { IfOk result (IsAt (ids_in places.now) part) }
+    ensures absent { IfErr result (IsGapFor (ids_in places.now) part) }
+{
+    places.binary_search_by_key(&part, |place| place.0)
+}
+
+/// Opens a part. There is room for it.
+fn open_in<X: Drop>(places: &mut Vec<(Id, Option<X>)>, part: Id)
+    requires rising { AreRising (ids_in places.old.items) }
+    requires room { vec_len places.old < vec_capacity places.old }
+    ensures rising { AreRising (ids_in places.new.items) }
+    ensures entries { (c : ℕ) → entry_at places.new.items c
+        ≡ cond (nat_eq part c) (opened_at (entry_at places.old.items part)) (entry_at places.old.items c) }
+    ensures len { vec_len places.new ≤ vec_len places.old + 1 }
+    ensures capacity { vec_capacity places.old ≤ vec_capacity places.new }
+{
+    if is_behind_all(places, part) {
+        places.push_reserved((part, None));
+        return;
+    }
+    if let Err(place) = searched(places, part) {
+        match places.insert(place, (part, None)) {
+            Ok(()) => {}
+            Err(_) => unreachable!(),
         }
     }
+}
 
-    /// Where a part is, or where it would go, by halves.
-    fn searched(&self, part: Id) -> Result<usize, usize>
-        ensures found { IfOk result (IsAt (ids_in self.now) part) }
-        ensures absent { IfErr result (IsGapFor (ids_in self.now) part) }
-    {
-        self.places.binary_search_by_key(&part, |place| place.0)
+/// Opens each of these parts. The room for all is taken at once.
+fn open_each_in<X: Drop>(places: &mut Vec<(Id, Option<X>)>, parts: &[Id]) -> Result<(), AllocError>
+    requires { AreRising (ids_in places.old.items) }
+    ensures rising { AreRising (ids_in places.new.items) }
+    ensures ok { OnOk result ((c : ℕ) → entry_at places.new.items c
+        ≡ cond (contains_id c parts.now) (opened_at (entry_at places.old.items c)) (entry_at places.old.items c)) }
+    ensures err { OnErr result (places.new.items ≡ places.old.items) }
+{
+    places.reserve(parts.len())?;
+    for part in parts {
+        open_in(places, *part);
     }
+    Ok(())
 }

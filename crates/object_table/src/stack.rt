@@ -3,6 +3,8 @@
 ghost use Rattle.std.specs.Prelude.{◌≡◌, true, option_copied, is_some, OnSome, IfOk, OnOk, OnErr, Some};
 ghost use Rattle.std.specs.FinMap as map;
 ghost use Rattle.std.specs.FinSet as set;
+ghost use Rattle.std.specs.List.{AllByRecursion};
+ghost use Rattle.object_table.specs.Opened.{with_parts};
 ghost use Rattle.object_table.specs.Pairs.{Pair};
 ghost use Rattle.object_table.specs.PartContents.{text_at, hilite_at};
 ghost use Rattle.object_table.specs.Maps.{put_option};
@@ -27,8 +29,8 @@ use std::mem;
 
 /// The objects of a stack by id, the orders of its backgrounds and cards, the parts of each layer, the texts
 /// of fields and the hilites of buttons, and the next id; beside these its room, the ids and pairs of ids that
-/// are open. An exchange takes no memory: its id or pair has to be in the room, and `open_slot`, `open_text`
-/// and `open_hilite` widen it beforehand. What a stack holds is in its room.
+/// are open. An exchange takes no memory: its id or pair has to be in the room, and `open_slot`, `open_text`,
+/// `open_hilite`, `open_texts` and `open_hilites` widen it beforehand. What a stack holds is in its room.
 ///
 /// A field of a card has one text, for that card. A field of a background has one for each card of its
 /// background and a shared one, and a button of a background so has hilites; what is shared stands where the
@@ -266,6 +268,32 @@ impl Stack {
         ensures err { OnErr result (self.new ≡ self.old) }
     {
         self.hilites.open(button, card)
+    }
+
+    /// Makes room for the text of each of these fields for a card, or for 0 for their shared texts. Nothing else changes,
+    /// and nothing where a growth is refused. It takes the room for all at once.
+    pub fn open_texts(&mut self, fields: &[Id], card: Id) -> Result<(), AllocError>
+        ensures ok { OnOk result (self.new ≡ record self.old {
+          room = record self.old.room { texts = with_parts self.old.room.texts fields.now card };
+        }) }
+        ensures inside { OnOk result (AllByRecursion (λ field.
+            set.contains self.new.room.texts (field, card) ≡ true) fields.now) }
+        ensures err { OnErr result (self.new ≡ self.old) }
+    {
+        self.texts.open_each(fields, card)
+    }
+
+    /// Makes room for the hilite of each of these buttons for a card, or for 0 for their shared hilites. Nothing else
+    /// changes, and nothing where a growth is refused. It takes the room for all at once.
+    pub fn open_hilites(&mut self, buttons: &[Id], card: Id) -> Result<(), AllocError>
+        ensures ok { OnOk result (self.new ≡ record self.old {
+          room = record self.old.room { hilites = with_parts self.old.room.hilites buttons.now card };
+        }) }
+        ensures inside { OnOk result (AllByRecursion (λ button.
+            set.contains self.new.room.hilites (button, card) ≡ true) buttons.now) }
+        ensures err { OnErr result (self.new ≡ self.old) }
+    {
+        self.hilites.open_each(buttons, card)
     }
 
     /// What a stack holds of texts and hilites is in its room, at any time. It does nothing.

@@ -1,16 +1,13 @@
-use Rattle.std.proofs.Common.{cond, nat_eq, None, Some, sym, subst, ap, ◌∙◌, is_some, option_and_then}
-use Rattle.object_table.specs.Rows.{entry_at, ids_in, AreRising, IsAt, IsGapFor}
-use Rattle.object_table.proofs.Rows.{entry-none, entry-read, entry-insert, entry-stays, ids-insert, none_before}
-use Rattle.object_table.proofs.Rows.{none_less, none_there, rising-insert}
+use Rattle.std.proofs.Common.{None, ap, is_some}
+use Rattle.object_table.specs.Rows.{ids_in, IsAt, IsGapFor}
+use Rattle.object_table.proofs.Rows.{entry-read, entry-stays, none_before, rising-opened, entry-opened}
 use Rattle.object_table.proofs.row.Row.open.Goals as goal
 
 pub invariant_of-self : goal.invariant_of-self
 invariant_of-self g c =
     let es = c.self.inside.places.items in
     let gap : IsGapFor (ids_in es) c.args.part c.in-Err.place = rw c.self.view_is c.in-Err.ensures.absent in
-    rw c.in_ok-insert-in-Err.ensures.items
-    (subst AreRising (sym (ids-insert es c.args.part c.in-Err.place None))
-    (rising-insert (ids_in es) c.args.part c.in-Err.place gap c.self.invariant))
+    rw c.in_ok-insert-in-Err.ensures.items (rising-opened es c.args.part c.in-Err.place gap c.self.invariant)
 
 pub returns-in-Ok-clause-ok : goal.returns-in-Ok-clause-ok
 returns-in-Ok-clause-ok g c =
@@ -24,7 +21,4 @@ pub returns-in_ok-insert-in-Err-clause-ok : goal.returns-in_ok-insert-in-Err-cla
 returns-in_ok-insert-in-Err-clause-ok g c =
     let es = c.self.inside.places.items in
     let gap : IsGapFor (ids_in es) c.args.part c.in-Err.place = rw c.self.view_is c.in-Err.ensures.absent in
-    let none = entry-none es c.args.part (none_there (ids_in es) c.args.part c.in-Err.place gap) in
-    rw (c.in_ok-insert-in-Err.ensures.items, ← c.self.view_is) (λ q.
-    entry-insert es c.args.part c.in-Err.place None (none_less (ids_in es) c.args.part c.in-Err.place gap) q
-    ∙ ap (λ v. cond (nat_eq c.args.part q) (Some v) (entry_at es q)) (sym (ap (option_and_then (λ v. v)) none)))
+    rw (c.in_ok-insert-in-Err.ensures.items, ← c.self.view_is) (entry-opened es c.args.part c.in-Err.place gap)
