@@ -1,13 +1,15 @@
 -- Entries that are added.
 use Rattle.std.proofs.Common.{◌≡◌, ℕ, ◌++◌, List, [], ◌∷◌, map, refl, sym, ap, ◌∙◌, subst, append_assoc}
-use Rattle.std.proofs.lemmas.List.{map-append}
+use Rattle.std.proofs.lemmas.List.{append-nil, map-append}
 use Rattle.std.specs.List.{AllByRecursion}
 use Rattle.object_table.specs.Table.{Table}
 use Rattle.stack_places.specs.Exchange.{IsReady, IsWider}
 use Rattle.stack_places.specs.declared.entry.StackEntry.{StackEntry}
 use Rattle.stack_places.proofs.Exchanging.{IsReady-wider}
 use Rattle.std.specs.FinSet.{insert}
+use Rattle.object_table.specs.Opened.{with_parts}
 use Rattle.object_table.specs.Pairs.{Pair}
+use Rattle.object_table.proofs.Pairs.{with_parts-wider}
 use Rattle.stack_places.proofs.Wider.{IsWider-same, IsWider-slot, IsWider-text, IsWider-hilite}
 use Rattle.object_table.specs.Table.{Room}
 use Rattle.structural_changes.specs.Prepared.{Adds, Opens, write_of}
@@ -34,6 +36,15 @@ adds_one old new before after e is same wider ready = record {
       (all-append (IsReady new.room) before (e ∷ [])
       (all-map (IsReady old.room) (IsReady new.room) (λ x h. IsReady-wider old.room new.room x wider h) before all)
       (ready, tt));
+}
+
+pub adds_none : (old new : Table) (es : List StackEntry) → Opens old new → Adds old new es es []
+adds_none old new es opens = record {
+  content = opens.content;
+  wider = opens.wider;
+  written = sym (append-nil (map write_of es));
+  ready = λ all. all-map (IsReady old.room) (IsReady new.room)
+      (λ x h. IsReady-wider old.room new.room x opens.wider h) es all;
 }
 
 IsWider-then : (a b c : Room) → IsWider a b → IsWider b c → IsWider a c
@@ -79,4 +90,26 @@ opens_hilite old new p e = record {
   content = ap (λ t. t.content) e;
   wider = subst (λ t. IsWider old.room t.room)
       (sym e) (IsWider-hilite old.room p);
+}
+
+pub opens_texts : (old new : Table) (fields : List ℕ) (card : ℕ)
+    → new ≡ record old { room = record old.room { texts = with_parts old.room.texts fields card } } → Opens old new
+opens_texts old new fields card e = record {
+  content = ap (λ t. t.content) e;
+  wider = subst (λ t. IsWider old.room t.room) (sym e) (record {
+    slots = λ id h. h;
+    texts = λ p h. with_parts-wider old.room.texts fields card p h;
+    hilites = λ p h. h;
+  });
+}
+
+pub opens_hilites : (old new : Table) (buttons : List ℕ) (card : ℕ)
+    → new ≡ record old { room = record old.room { hilites = with_parts old.room.hilites buttons card } } → Opens old new
+opens_hilites old new buttons card e = record {
+  content = ap (λ t. t.content) e;
+  wider = subst (λ t. IsWider old.room t.room) (sym e) (record {
+    slots = λ id h. h;
+    texts = λ p h. h;
+    hilites = λ p h. with_parts-wider old.room.hilites buttons card p h;
+  });
 }

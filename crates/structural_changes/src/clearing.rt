@@ -1,14 +1,13 @@
 //! Entries that clear places.
 
-ghost use Rattle.std.specs.Prelude.{◌≡◌, ◌+◌, ◌<◌, vec_len, vec_capacity, true, [], ◌∷◌, OnOk, map};
+ghost use Rattle.std.specs.Prelude.{◌≡◌, true, OnOk, map};
 ghost use Rattle.std.specs.List.{AllByRecursion};
 ghost use Rattle.ht_values.specs.declared.word.PartKind.TheVariants.{Button, Field};
-ghost use Rattle.stack_places.specs.Exchange.{IsReady};
 ghost use Rattle.stack_places.specs.Places.{whole, layer_parts as parts_of, field_text, button_hilite};
-ghost use Rattle.structural_changes.specs.Prepared.{Adds, Opens, has_content, write_of};
+ghost use Rattle.structural_changes.specs.Prepared.{Adds, Opens, has_content};
 ghost use Rattle.structural_changes.specs.Writes.{clear};
 
-use crate::preparing::add_entry;
+use crate::preparing::{add_entry, add_ready};
 use object_table::{Id, Stack};
 use stack_places::{BoxedObject, StackEntry};
 use std::alloc::{AllocError, Global};
@@ -46,18 +45,6 @@ pub(crate) fn clear_parts(
         add_entry(stack, entries, StackEntry::Parts(*layer, None))?;
     }
     Ok(())
-}
-
-/// Adds an entry that finds its room. There is a place for it.
-fn add_ready(stack: &Stack, entries: &mut Vec<StackEntry>, entry: StackEntry)
-    requires ready { IsReady stack.now.room entry }
-    requires place { vec_len entries.old < vec_capacity entries.old }
-    ensures adds { Adds stack.now stack.now entries.old.items entries.new.items (write_of entry ∷ []) }
-    ensures len { vec_len entries.new ≡ vec_len entries.old + 1 }
-    ensures capacity { vec_capacity entries.new ≡ vec_capacity entries.old }
-{
-    let _ = stack;
-    entries.push_reserved(entry);
 }
 
 /// Adds that these texts go, each of a field for a card, or for 0. They are there, so they have room.

@@ -1,6 +1,6 @@
 //! Entries for the changes: all that grows is taken here, so that the exchanges can't fail.
 
-ghost use Rattle.std.specs.Prelude.{◌≡◌, OnOk, IfOk, [], ◌∷◌, Some, true, false};
+ghost use Rattle.std.specs.Prelude.{◌≡◌, ◌+◌, ◌<◌, vec_len, vec_capacity, OnOk, IfOk, [], ◌∷◌, Some, true, false};
 ghost use Rattle.stack_places.specs.Exchange.{IsReady};
 ghost use Rattle.stack_places.specs.Places.{field_text, text};
 ghost use Rattle.structural_changes.specs.Prepared.{Adds, Opens, write_of};
@@ -42,6 +42,18 @@ pub(crate) fn add_entry(
     open_place(stack, &entry)?;
     entries.push(entry)?;
     Ok(())
+}
+
+/// Adds an entry that finds its room. There is a place for it.
+pub(crate) fn add_ready(stack: &Stack, entries: &mut Vec<StackEntry>, entry: StackEntry)
+    requires ready { IsReady stack.now.room entry }
+    requires place { vec_len entries.old < vec_capacity entries.old }
+    ensures adds { Adds stack.now stack.now entries.old.items entries.new.items (write_of entry ∷ []) }
+    ensures len { vec_len entries.new ≡ vec_len entries.old + 1 }
+    ensures capacity { vec_capacity entries.new ≡ vec_capacity entries.old }
+{
+    let _ = stack;
+    entries.push_reserved(entry);
 }
 
 /// Adds an empty text of a field for a card, or for 0.
@@ -186,9 +198,11 @@ pub(crate) fn add_texts_of(
         (texts_of fields.now card)) }
     ensures opens { Opens stack.old stack.new }
 {
+    stack.open_texts(fields, card)?;
     entries.reserve(fields.len())?;
     for field in fields {
-        add_text(stack, entries, *field, card)?;
+        let text = Some(FieldText::empty());
+        add_ready(stack, entries, StackEntry::FieldText(*field, card, text));
     }
     Ok(())
 }
@@ -204,13 +218,14 @@ pub(crate) fn add_hilites_of(
         (hilites_of buttons.now card)) }
     ensures opens { Opens stack.old stack.new }
 {
+    stack.open_hilites(buttons, card)?;
     entries.reserve(buttons.len())?;
     for button in buttons {
-        add_entry(
+        add_ready(
             stack,
             entries,
             StackEntry::Hilite(*button, card, Some(false)),
-        )?;
+        );
     }
     Ok(())
 }
