@@ -530,8 +530,11 @@ module _ {Y : Type 0} (pages : List (List ℕ)) (rs : List (ℕ × List (ℕ × 
           row-found row-written parts
 
       -- that row is written
-      pub pairs-written : (f : ℕ → Option Y → Option Y) → ((p : ℕ) → entry_at new p ≡ f p (entry_at e.1 p)) → (q : Pair)
-          → lookup (eq_by_cmp pair_cmp q) (entries_of (set rs (n - 1) (e.0, new))) ≡ cond (nat_eq card q.1)
-          (f q.0 (lookup (eq_by_cmp pair_cmp q) (entries_of rs))) (lookup (eq_by_cmp pair_cmp q) (entries_of rs))
-      pairs-written f parts = entries-rewritten rs (set rs (n - 1) (e.0, new)) card e.1 new f apart rows-kept.1 row-found
-          row-written parts
+      pub pairs-written : (f : ℕ → Option Y → Option Y)
+          → ((p : ℕ) → entry_at new p ≡ f p (entry_at e.1 p)) → (q : Pair)
+          → lookup (eq_by_cmp pair_cmp q) (entries_of (set rs (n - 1) (e.0, new)))
+          ≡ cond (nat_eq card q.1) (f q.0 (lookup (eq_by_cmp pair_cmp q) (entries_of rs)))
+          (lookup (eq_by_cmp pair_cmp q) (entries_of rs))
+      pairs-written f parts =
+          let ss = set rs (n - 1) (e.0, new) in
+          entries-rewritten rs ss card e.1 new f apart rows-kept.1 row-found row-written parts

@@ -1,6 +1,6 @@
 -- Values at pairs of ids: a row for each card that has one, with a value or none at each part that is open there.
-use Rattle.std.specs.Prelude.{◌≡◌, ℕ, ◌<◌, ◌≤◌, List, [], ◌∷◌, ◌++◌, length, map, slice_index_or, Option, Some, false, nat_eq}
-use Rattle.std.specs.Prelude.{option_and_then}
+use Rattle.std.specs.Prelude.{◌≡◌, ℕ, ◌<◌, ◌≤◌, List, [], ◌∷◌, ◌++◌, length, map, slice_index_or, Option, false, nat_eq}
+use Rattle.std.specs.Prelude.{Some, option_and_then}
 use Rattle.std.specs.Map.{lookup}
 use Rattle.object_table.specs.Objects.{contains_id}
 use Rattle.object_table.specs.Pairs.{Pair}

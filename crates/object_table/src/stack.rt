@@ -270,8 +270,8 @@ impl Stack {
         self.hilites.open(button, card)
     }
 
-    /// Makes room for the text of each of these fields for a card, or for 0 for their shared texts. Nothing else changes,
-    /// and nothing where a growth is refused. It takes the room for all at once.
+    /// Makes room for the text of each of these fields for a card, or for 0 for their shared texts, all at once.
+    /// Nothing else changes, and nothing where a growth is refused.
     pub fn open_texts(&mut self, fields: &[Id], card: Id) -> Result<(), AllocError>
         ensures ok { OnOk result (self.new ≡ record self.old {
           room = record self.old.room { texts = with_parts self.old.room.texts fields.now card };
@@ -283,8 +283,8 @@ impl Stack {
         self.texts.open_each(fields, card)
     }
 
-    /// Makes room for the hilite of each of these buttons for a card, or for 0 for their shared hilites. Nothing else
-    /// changes, and nothing where a growth is refused. It takes the room for all at once.
+    /// Makes room for the hilite of each of these buttons for a card, or for 0 for their shared hilites, all at once.
+    /// Nothing else changes, and nothing where a growth is refused.
     pub fn open_hilites(&mut self, buttons: &[Id], card: Id) -> Result<(), AllocError>
         ensures ok { OnOk result (self.new ≡ record self.old {
           room = record self.old.room { hilites = with_parts self.old.room.hilites buttons.now card };

@@ -22,13 +22,15 @@ returns-then-is_behind_all-clause-entries g c =
 pub returns-in-Ok-clause-rising : goal.returns-in-Ok-clause-rising
 returns-in-Ok-clause-rising g c =
     let es = c.args.places.now.items in
-    let gap : IsGapFor (ids_in es) c.args.part c.in-Err.place = rw (← c.deref-2.ensures.value) c.in-Err.ensures.absent in
+    let gap : IsGapFor (ids_in es) c.args.part c.in-Err.place =
+    rw (← c.deref-2.ensures.value) c.in-Err.ensures.absent in
     rw c.in-Ok.ensures.items (rising-opened es c.args.part c.in-Err.place gap c.requires.rising)
 
 pub returns-in-Ok-clause-entries : goal.returns-in-Ok-clause-entries
 returns-in-Ok-clause-entries g c =
     let es = c.args.places.now.items in
-    let gap : IsGapFor (ids_in es) c.args.part c.in-Err.place = rw (← c.deref-2.ensures.value) c.in-Err.ensures.absent in
+    let gap : IsGapFor (ids_in es) c.args.part c.in-Err.place =
+    rw (← c.deref-2.ensures.value) c.in-Err.ensures.absent in
     rw c.in-Ok.ensures.items (entry-opened es c.args.part c.in-Err.place gap)
 
 pub returns-in_default-clause-entries : goal.returns-in_default-clause-entries
