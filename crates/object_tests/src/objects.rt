@@ -141,6 +141,17 @@ const SCATTERED: &[Change] = &[
         Exchange::Text(7, 2, Some(b"first"), None),
         &[Fact::Text(8, 2, None), Fact::Text(90, 2, Some(b"last"))],
     ),
+    (
+        Exchange::OpenTexts(&[95, 8, 90, 5, 8], 2),
+        &[
+            Fact::Text(5, 2, None),
+            Fact::Text(7, 2, Some(b"first")),
+            Fact::Text(8, 2, None),
+            Fact::Text(90, 2, Some(b"last")),
+            Fact::Text(95, 2, None),
+        ],
+    ),
+    (Exchange::OpenTexts(&[], 3), &[Fact::Text(90, 3, None)]),
     (Exchange::Text(40, 2, Some(b"between"), None), &[]),
     (
         Exchange::Text(8, 2, Some(b"next"), None),
@@ -168,6 +179,14 @@ const HILITES: &[Change] = &[
     (
         Exchange::Hilite(5, 2, Some(true), None),
         &[Fact::Hilite(5, 2, Some(true)), Fact::Hilite(5, 0, None)],
+    ),
+    (
+        Exchange::OpenHilites(&[4, 5, 6], 2),
+        &[
+            Fact::Hilite(4, 2, None),
+            Fact::Hilite(5, 2, Some(true)),
+            Fact::Hilite(6, 2, None),
+        ],
     ),
     (
         Exchange::Hilite(5, 2, None, Some(true)),

@@ -150,6 +150,10 @@ pub(crate) enum Exchange {
     Text(Id, Id, Option<Bytes>, Option<Bytes>),
     /// The hilite of a button for a card.
     Hilite(Id, Id, Option<bool>, Option<bool>),
+    /// Room for the texts of fields for a card.
+    OpenTexts(&'static [Id], Id),
+    /// Room for the hilites of buttons for a card.
+    OpenHilites(&'static [Id], Id),
 }
 
 /// Whether this is an object of this name without a script, or with `None` none.
@@ -257,6 +261,8 @@ fn exchanges(alloc: Global, stack: &mut Stack, exchange: &Exchange) -> bool {
             takes_text(stack, *field, *card, text_or_none(alloc, *bytes), *was)
         }
         Exchange::Hilite(button, card, lit, was) => takes_hilite(stack, *button, *card, *lit, *was),
+        Exchange::OpenTexts(fields, card) => stack.open_texts(fields, *card).is_ok(),
+        Exchange::OpenHilites(buttons, card) => stack.open_hilites(buttons, *card).is_ok(),
     }
 }
 
