@@ -1,22 +1,19 @@
--- Written by tools/meaning/gen.py from tools/meaning/meaning.rules, rules.head and rules.leaves.
--- The rules of the meaning, for `search`.
-use Rattle.meaning.specs.State.{Step}
+-- Written by tools/meaning/gen.py from tools/meaning/meaning.rules and rules.leaves.
+-- The rules of the meaning, for `search`: the sets that a file of the crates names.
 use Rattle.meaning.specs.Values.{Yields, Parses}
-use Rattle.meaning.specs.Places.{Edits, Stores, Assigns, DeclaresAll, Sets, Adds}
+use Rattle.meaning.specs.State.{Step}
+use Rattle.meaning.specs.Places.{Edits, Assigns, DeclaresAll, Sets, Adds}
 use Rattle.meaning.specs.Messages.{Finds}
-use Rattle.meaning.specs.Meaning.{Val, Vals, NumberVal, TruthVal, TextVal, ChunkOf, Resolves, Picks, Seeks, Owns}
-use Rattle.meaning.specs.Meaning.{PartMet, Meets, Leads, Form, Alters, Block, DoText, Endless, While, Bounds, Counts}
-use Rattle.meaning.specs.Meaning.{Calls, SendsText, Sends, Along, Outside, BuiltInGives, System, Systems, Goes, Menu}
-use Rattle.meaning.specs.Meaning.{Converses, Talks, CallsBack, Line, Message, Refers, Tells, TellsAll, Clicks}
-use Rattle.meaning.specs.Meaning.{TypesOver, TypesInto, Acts}
+use Rattle.meaning.specs.Meaning.{Val, Vals, NumberVal, TruthVal, TextVal, ChunkOf, Resolves, Seeks, Owns, PartMet}
+use Rattle.meaning.specs.Meaning.{Meets, Leads, Form, Alters, DoText, Bounds, Calls, SendsText, Sends, Along, Outside}
+use Rattle.meaning.specs.Meaning.{BuiltInGives, System, Systems, Goes, Menu, Converses, Talks, CallsBack, Line, Message}
+use Rattle.meaning.specs.Meaning.{Refers, Tells, TellsAll, Clicks, TypesOver, TypesInto, Acts}
 
 pub ruleset step_rules = (Step.taken, Step.none_left)
 
 pub ruleset yields_rules = (Yields.yields_memory, Yields.yields, Yields.faults)
 
 pub ruleset edits_rules = (Edits.edit_memory, Edits.edit_faults, Edits.edited)
-
-pub ruleset stores_rules = (Stores.stores)
 
 pub ruleset assigns_rules = (Assigns.no_variable, Assigns.assigns)
 
@@ -69,16 +66,6 @@ pub ruleset val_rules = (
   Val.call,
 )
 
-pub ruleset val_number_rules = (Val.memory, Val.number)
-
-pub ruleset val_quoted_rules = (Val.memory, Val.quoted)
-
-pub ruleset val_constant_rules = (Val.memory, Val.constant)
-
-pub ruleset val_return_rules = (Val.memory, Val.return_sign)
-
-pub ruleset val_name_rules = (Val.memory, Val.name)
-
 pub ruleset val_paren_rules = (Val.memory, Val.paren)
 
 pub ruleset val_unary_rules = (Val.memory, Val.operand_stops, Val.one_operand)
@@ -87,15 +74,7 @@ pub ruleset val_binary_rules = (Val.memory, Val.left_stops, Val.right_stops, Val
 
 pub ruleset val_there_is_rules = (Val.memory, Val.there_is, Val.there_is_none, Val.there_stops)
 
-pub ruleset val_chunk_rules = (Val.memory, Val.chunk_stops, Val.chunk_of_stops, Val.chunk)
-
 pub ruleset val_field_rules = (Val.memory, Val.field_stops, Val.field)
-
-pub ruleset val_result_rules = (Val.memory, Val.the_result)
-
-pub ruleset val_target_rules = (Val.memory, Val.the_target)
-
-pub ruleset val_number_of_pieces_of_rules = (Val.memory, Val.pieces_stop, Val.pieces)
 
 pub ruleset val_number_of_cards_rules = (Val.memory, Val.cards)
 
@@ -107,11 +86,7 @@ pub ruleset val_number_of_of_object_rules = (Val.memory, Val.number_stops, Val.n
 
 pub ruleset val_property_rules = (Val.memory, Val.property_stops, Val.property)
 
-pub ruleset val_run_property_rules = (Val.memory, Val.run_property_read)
-
 pub ruleset val_function_rules = (Val.memory, Val.the_stops, Val.the_function, Val.the_value)
-
-pub ruleset val_call_rules = (Val.memory, Val.call)
 
 pub ruleset vals_rules = (Vals.vals_memory, Vals.vals_done, Vals.vals_stop, Vals.vals_more)
 
@@ -147,14 +122,6 @@ pub ruleset resolves_rules = (
   Resolves.place_chunk,
 )
 
-pub ruleset picks_rules = (
-  Picks.pick_memory,
-  Picks.pick_id_stops,
-  Picks.pick_id,
-  Picks.pick_text_stops,
-  Picks.pick_text,
-)
-
 pub ruleset seeks_rules = (
   Seeks.seek_memory,
   Seeks.seek_this,
@@ -164,14 +131,6 @@ pub ruleset seeks_rules = (
   Seeks.seek_stops,
   Seeks.seek_which,
 )
-
-pub ruleset seeks_this_rules = (Seeks.seek_memory, Seeks.seek_this)
-
-pub ruleset seeks_next_rules = (Seeks.seek_memory, Seeks.seek_next)
-
-pub ruleset seeks_previous_rules = (Seeks.seek_memory, Seeks.seek_previous)
-
-pub ruleset seeks_nth_rules = (Seeks.seek_memory, Seeks.seek_nth)
 
 pub ruleset seeks_which_rules = (Seeks.seek_memory, Seeks.seek_stops, Seeks.seek_which)
 
@@ -204,18 +163,6 @@ pub ruleset meets_rules = (
   Meets.meet_background,
   Meets.meet_part,
 )
-
-pub ruleset meets_me_rules = (Meets.meet_memory, Meets.meet_me)
-
-pub ruleset meets_the_target_rules = (Meets.meet_memory, Meets.meet_target)
-
-pub ruleset meets_this_stack_rules = (Meets.meet_memory, Meets.meet_stack)
-
-pub ruleset meets_card_rules = (Meets.meet_memory, Meets.card_stops, Meets.meet_card)
-
-pub ruleset meets_background_rules = (Meets.meet_memory, Meets.background_stops, Meets.meet_background)
-
-pub ruleset meets_a_part_rules = (Meets.meet_memory, Meets.meet_part)
 
 pub ruleset leads_rules = (
   Leads.lead_memory,
@@ -286,21 +233,11 @@ pub ruleset form_rules = (
 
 pub ruleset form_put_rules = (Form.form_memory, Form.show_stops, Form.show)
 
-pub ruleset form_put_in_rules = (Form.form_memory, Form.put_stops, Form.put_nowhere, Form.put_fails, Form.put)
-
 pub ruleset form_get_rules = (Form.form_memory, Form.get_stops, Form.get)
 
 pub ruleset form_set_rules = (Form.form_memory, Form.set_stops, Form.set_nowhere, Form.set_fails, Form.set)
 
 pub ruleset form_set_run_rules = (Form.form_memory, Form.set_run_stops, Form.set_run_fails, Form.set_run)
-
-pub ruleset form_add_rules = (Form.form_memory, Form.add)
-
-pub ruleset form_subtract_rules = (Form.form_memory, Form.subtract)
-
-pub ruleset form_multiply_rules = (Form.form_memory, Form.multiply)
-
-pub ruleset form_divide_rules = (Form.form_memory, Form.divide)
 
 pub ruleset form_delete_rules = (
   Form.form_memory,
@@ -316,33 +253,11 @@ pub ruleset form_send_rules = (Form.form_memory, Form.send_text_stops, Form.send
 
 pub ruleset form_go_rules = (Form.form_memory, Form.go_nowhere, Form.go_stops, Form.go)
 
-pub ruleset form_global_rules = (Form.form_memory, Form.global)
-
-pub ruleset form_exit_repeat_rules = (Form.form_memory, Form.exit_repeat)
-
-pub ruleset form_next_repeat_rules = (Form.form_memory, Form.next_repeat)
-
-pub ruleset form_exit_to_hypercard_rules = (Form.form_memory, Form.exit_to_hypercard)
-
-pub ruleset form_exit_rules = (Form.form_memory, Form.exit_handler)
-
-pub ruleset form_pass_rules = (Form.form_memory, Form.pass)
-
-pub ruleset form_return_nothing_rules = (Form.form_memory, Form.return_nothing)
-
 pub ruleset form_return_value_rules = (Form.form_memory, Form.return_stops, Form.return_value)
-
-pub ruleset form_command_rules = (Form.form_memory, Form.command_stops, Form.command)
 
 pub ruleset form_when_rules = (Form.form_memory, Form.if_stops, Form.if_true, Form.if_false)
 
-pub ruleset form_repeat_forever_rules = (Form.form_memory, Form.forever)
-
 pub ruleset form_repeat_times_rules = (Form.form_memory, Form.times_stops, Form.times)
-
-pub ruleset form_repeat_while_rules = (Form.form_memory, Form.while)
-
-pub ruleset form_repeat_until_rules = (Form.form_memory, Form.until)
 
 pub ruleset form_repeat_counted_up_rules = (Form.form_memory, Form.up_stops, Form.up)
 
@@ -356,45 +271,9 @@ pub ruleset alters_rules = (
   Alters.alter,
 )
 
-pub ruleset block_rules = (
-  Block.block_memory,
-  Block.block_end,
-  Block.block_no_step,
-  Block.block_stops,
-  Block.block_leaves,
-  Block.block_goes_on,
-)
-
 pub ruleset dotext_rules = (DoText.do_memory, DoText.do_too_deep, DoText.do_syntax, DoText.do_lines)
 
-pub ruleset endless_rules = (
-  Endless.endless_memory,
-  Endless.endless_no_step,
-  Endless.endless_stops,
-  Endless.endless_leaves,
-  Endless.endless_goes_on,
-)
-
-pub ruleset while_rules = (
-  While.while_memory,
-  While.while_no_step,
-  While.while_test_stops,
-  While.while_ends,
-  While.while_stops,
-  While.while_leaves,
-  While.while_goes_on,
-)
-
 pub ruleset bounds_rules = (Bounds.bounds_memory, Bounds.start_stops, Bounds.bound_stops, Bounds.bounds)
-
-pub ruleset counts_rules = (
-  Counts.counts_memory,
-  Counts.counts_no_step,
-  Counts.counts_end,
-  Counts.counts_stop,
-  Counts.counts_leave,
-  Counts.counts_go_on,
-)
 
 pub ruleset calls_rules = (Calls.calls_memory, Calls.calls_stop, Calls.calls)
 
@@ -451,19 +330,6 @@ pub ruleset menu_rules = (
   Menu.delete_card,
 )
 
-pub ruleset menu_newcarditem_rules = (Menu.menu_memory, Menu.card_close_stops, Menu.card_full, Menu.new_card)
-
-pub ruleset menu_newbackgrounditem_rules = (
-  Menu.menu_memory,
-  Menu.background_close_stops,
-  Menu.background_full,
-  Menu.new_background,
-)
-
-pub ruleset menu_newpartitem_rules = (Menu.menu_memory, Menu.part_full, Menu.new_part)
-
-pub ruleset menu_deletecarditem_rules = (Menu.menu_memory, Menu.delete_refused, Menu.delete_card)
-
 pub ruleset converses_rules = (
   Converses.converse_memory,
   Converses.too_many_arguments,
@@ -492,20 +358,6 @@ pub ruleset callsback_rules = (
   CallsBack.global_set,
   CallsBack.no_such_field,
   CallsBack.field_set,
-)
-
-pub ruleset callsback_sendcardmessage_rules = (
-  CallsBack.call_back_memory,
-  CallsBack.message_syntax,
-  CallsBack.message_stops,
-  CallsBack.message_runs,
-)
-
-pub ruleset callsback_evalexpr_rules = (
-  CallsBack.call_back_memory,
-  CallsBack.eval_syntax,
-  CallsBack.eval_stops,
-  CallsBack.evaluates,
 )
 
 pub ruleset callsback_setglobal_rules = (CallsBack.call_back_memory, CallsBack.bad_global, CallsBack.global_set)
