@@ -51,3 +51,9 @@ def indices_of(family):
     for index in family["indices"]:
         found.append(index + "2" if index in found else index)
     return found
+
+
+def split(family):
+    """The variables that a family starts with, the end, and those that it leaves."""
+    found, at = indices_of(family), end_at(family)
+    return found[:at], found[at], found[at + 1:]

@@ -12,6 +12,7 @@ from typing import Any, Dict, Iterator, List, Sequence, Set
 
 sys.dont_write_bytecode = True
 
+from derivations import MEANING
 from lines import MOST
 from table import CRATES, TYPES, binders, families, forms, imports, letters, read, write
 
@@ -76,8 +77,7 @@ def all_rulesets(table: Sequence[Family]) -> Iterator[str]:
 def rulesets(table: Sequence[Family], names: Set[str]) -> str:
     """The file of those rulesets that have one of these names."""
     text = "".join("\n%s\n" % each for each in all_rulesets(table) if each.split()[2] in names)
-    rules = "use Rattle.meaning.specs.Meaning.{%s}" % ", ".join(family["name"] for family in table)
-    return HEAD + imports("", text, [rules]) + text
+    return HEAD + imports("", text, [MEANING]) + text
 
 
 def main() -> None:

@@ -6,29 +6,18 @@ table meaning.rules. With --check it writes nothing, and ends with 1 where a fil
 
 import re
 import sys
-from itertools import groupby
 
 sys.dont_write_bytecode = True
 
-from table import TYPES, binders, families, imports, letters, snake, words, write
+from derivations import BLOCKS, FAMILIES, MEANING, TABLE, split
+from table import TYPES, binders, imports, letters, snake, words, write
 
-TABLE = families()
-FAMILIES = {family["name"]: family for family in TABLE}
 FILES = {
     "Expressions": "Val Vals NumberVal TruthVal TextVal ChunkOf Resolves Picks Seeks Owns PartMet Meets Leads",
     "Statements": "Form Alters Block DoText Endless While Bounds Counts",
     "Messages": "Calls SendsText Sends Along Outside BuiltInGives System Systems Goes Menu Converses Talks CallsBack",
     "Commands": "Line Message Refers Tells TellsAll Clicks TypesOver TypesInto Acts",
 }
-
-
-def split(family):
-    """The variables that a family starts with, the end, and those that it leaves, of indices each named once."""
-    found = []
-    for index in family["indices"]:
-        found.append(index + "2" if index in found else index)
-    at = next(n for n, index in enumerate(found) if TYPES[letters(index)].startswith("Result"))
-    return found[:at], found[at], found[at + 1:]
 
 
 def computed_type(family):
@@ -56,16 +45,6 @@ def unknown(family):
     return "λ %s. %s" % (" ".join("_" for _ in starts), "unknown_in" if len(left) == 3 else "unknown")
 
 
-def use(module, names):
-    """The lines that import these names of a module, none longer than 120 columns."""
-    lines = [[]]
-    for name in names:
-        if len("use %s.{%s}" % (module, ", ".join(lines[-1] + [name]))) > 120:
-            lines.append([])
-        lines[-1].append(name)
-    return "\n".join("use %s.{%s}" % (module, ", ".join(line)) for line in lines)
-
-
 def meanings_file():
     names = [snake(family["name"]) for family in TABLE]
     nothing = made([(name, unknown(family)) for name, family in zip(names, TABLE)])
@@ -74,16 +53,14 @@ def meanings_file():
     text += "\n-- each part from the meanings of its parts\nabbrev pub one_more : Meanings → Meanings\none_more m = %s\n" % step
     text += "\n-- the meanings that so many nested parts can tell\nunfoldable pub meanings : ℕ → Meanings\nmeanings zero = nothing\nmeanings (suc parts) = one_more (meanings parts)\n"
     uses = "use Rattle.std.specs.Prelude.{ℕ, zero, suc}\nuse Rattle.definitional_interpreter.specs.Told.{unknown, unknown_in}\nuse Rattle.definitional_interpreter.specs.Families.{Meanings}\n"
-    uses += "\n".join(use("Rattle.definitional_interpreter.specs." + name, [snake(f) + "_of" for f in named.split()]) for name, named in FILES.items())
-    return "-- The meaning of HyperTalk as a function with fuel.\n" + uses + "\n\n" + text
+    for name, families in FILES.items():
+        computed = ", ".join(snake(family) + "_of" for family in families.split())
+        uses += "use Rattle.definitional_interpreter.specs.%s.{%s}\n" % (name, computed)
+    return "-- The meaning of HyperTalk as a function with fuel.\n" + uses + "\n" + text
 
 
 def bracketed(term):
     return "(%s)" % term if " " in term and not term.startswith(("(", "[")) else term
-
-
-def is_running(head):
-    return len(split(FAMILIES[head])[2]) == 3
 
 
 # The leaves: the lemma, what is computed, with the end, and the history after it; `run` is the run at that moment.
@@ -120,8 +97,6 @@ def leaf(premise, run, w):
 
 def family_part(premise):
     head, *rest = words(premise)
-    if head not in FAMILIES:
-        return None
     starts, _, left = split(FAMILIES[head])
     given, end, after = rest[:len(starts)], rest[len(starts)], rest[len(starts) + 1:]
     code = "parts.%s %s" % (snake(head), " ".join("(sight g %s)" % t if at == 0 else t for at, t in enumerate(given)))
@@ -322,7 +297,7 @@ def function(family):
 
 
 def outcomes_file():
-    blocks = ["\n".join(map(function, block)) for _, block in groupby(TABLE, lambda family: family["block"])]
+    blocks = ["\n".join(map(function, block)) for block in BLOCKS]
     text = "".join("\nmutual\n%s" % block for block in blocks)
     uses = """use Rattle.std.proofs.Common.{◌≡◌, refl, sym, subst}
 use Rattle.ht_grammar.specs.Lines.{typed_lines}
@@ -336,7 +311,7 @@ use Rattle.definitional_interpreter.specs.Texts.{parsed, first_found}
 use Rattle.definitional_interpreter.proofs.Comes.{Sight, sight, Comes, HasExternal}
 use Rattle.definitional_interpreter.proofs.Chain.{done, later, after_ok, after_stop, after_in_ok, after_in_stop, after_run_ok, after_run_stop, after_lines_ok, after_lines_stop, after_next_ok, after_next_stop, after_next_leaves, choose_true, choose_false, maybe_some, maybe_none, computed_ok, computed_err, below, at_least, at_limit, gives_outcome, there_ok, there_none, there_stop}
 use Rattle.definitional_interpreter.proofs.Leaves.{yields, parses_expression, parses_typed_lines, parses_sent_message, steps, finds, makes, takes_turn, sets, adds, edits, stores, assigns, declares_all, named_there, there_after, asks_back, talk_back}
-use Rattle.meaning.specs.Meaning.{%s}""" % ", ".join(FAMILIES)
+""" + MEANING
     return "-- What the rules allow is what the meanings come to.\n" + imports(uses, text) + text
 
 

@@ -15,7 +15,7 @@ import sys
 
 sys.dont_write_bytecode = True
 
-from derivations import BLOCKS, FAMILIES, MEANING, TABLE, end_at, end_of, indices_of, memory_of
+from derivations import BLOCKS, FAMILIES, MEANING, TABLE, end_of, indices_of, memory_of, split
 from lines import MOST, broken
 from table import CRATES, TYPES, binders, imports, letters, snake, variables, words, write
 
@@ -167,12 +167,6 @@ def shapes():
 
 
 SHAPES = shapes()
-
-
-def split(family):
-    """The variables that a family starts with, the end, and those that it leaves."""
-    found, at = indices_of(family), end_at(family)
-    return found[:at], found[at], found[at + 1:]
 
 
 def says(told, variable):
