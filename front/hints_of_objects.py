@@ -3,7 +3,7 @@ or one whose name is alike.
 """
 
 import re
-from typing import Callable, Dict, List, NamedTuple, Optional, Sequence
+from typing import Callable, List, NamedTuple, Optional, Sequence
 
 from front.hints_of_spelling import SHORTEST_NAME, alike
 from front.server_objects import Objects

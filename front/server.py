@@ -21,7 +21,7 @@ import threading
 from types import FrameType
 from typing import Optional, Sequence
 
-from front.program import HERE, ProgramMissing
+from front.program import HERE
 from front.server_desk import PageDesk
 from front.server_door import Door
 from front.server_play import BROKEN, Options, Play, words_of

@@ -9,7 +9,7 @@ a string, and `.decode("mac_roman")` a string of one. The lines of a script or a
 from dataclasses import dataclass, field
 from typing import Dict, List, Union
 
-from front.stack_lines import MOST_OBJECTS, Fault, Lines, count_of, spell, unspell
+from front.stack_lines import MOST_OBJECTS, Fault, Lines, spell, unspell
 
 __all__ = ["BUTTON", "FIELD", "Background", "Card", "Fault", "Part", "Stack", "read", "spell", "unspell", "write"]
 
