@@ -10,10 +10,8 @@ GEOMETRY = "places and sizes"
 PICTURES = "pictures and icons"
 FONTS = "fonts and text styles"
 LOOK = "looks of parts"
-SOUNDS = "sounds"
 PROTECTION = "protection of the stack"
 SEARCH = "marks and search flags"
-SETTINGS = "settings of the stack"
 
 SILENT = frozenset((
     "id", "cardCount", "backgroundCount", "cardID", "firstCardID", "firstBackgroundID", "backgroundID", "listID",
