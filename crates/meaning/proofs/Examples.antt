@@ -1,5 +1,5 @@
 -- Worked derivations, which check the rules.
-use Rattle.std.proofs.Common.{ℕ, ◌-◌, ◌<◌, false, List, codes, Ok, Err, refl}
+use Rattle.std.proofs.Common.{ℕ, ◌-◌, ◌<◌, List, codes, Ok, Err, refl}
 use Rattle.std.specs.Fmt.{digits}
 use Rattle.ht_values.specs.declared.fault.Fault.TheVariants.{DivideByZero, NotLogical}
 use Rattle.ht_values.specs.declared.operator.Op.TheVariants.{And, Div}
