@@ -13,6 +13,7 @@ ghost use Rattle.stack_file.specs.Building.{with_document};
 ghost use Rattle.stack_file.specs.Views.{sheet_seen, text_seen};
 
 use crate::document::document;
+use crate::room::open_sheets;
 use crate::sheets::{SheetLines, TextLines};
 use ht_values::Text;
 use object_table::{FieldText, Id, IdList, Object, Stack};
@@ -229,37 +230,6 @@ fn set_orders(
     Ok(())
 }
 
-/// Makes room for what is kept for a part.
-fn open_content(stack: &mut Stack, card: Id, keeping: &Keeping) -> Result<(), AllocError>
-    ensures { OnOk result (stack.new.content ≡ stack.old.content) }
-{
-    match keeping.content {
-        PartContent::Nothing => Ok(()),
-        PartContent::Written(_) => stack.open_text(keeping.part, card),
-        PartContent::Lit(_) => stack.open_hilite(keeping.part, card),
-    }
-}
-
-fn open_contents(stack: &mut Stack, card: Id, keepings: &[Keeping]) -> Result<(), AllocError>
-    ensures { OnOk result (stack.new.content ≡ stack.old.content) }
-{
-    for keeping in keepings {
-        open_content(stack, card, keeping)?;
-    }
-    Ok(())
-}
-
-/// Makes room for what cards keep, from the first card to the last: where their ids rise, each part's values for them
-/// go to the end of those that it has.
-fn open_cards(stack: &mut Stack, cards: &[SheetLines]) -> Result<(), AllocError>
-    ensures { OnOk result (stack.new.content ≡ stack.old.content) }
-{
-    for card in cards {
-        open_contents(stack, card.id, &card.keepings)?;
-    }
-    Ok(())
-}
-
 /// The backgrounds and the cards that the lines list, and their orders.
 fn add_all_sheets(
     stack: &mut Stack,
@@ -271,7 +241,7 @@ fn add_all_sheets(
         ≡ with_all_sheets (map sheet_seen backgrounds.old.items) (map sheet_seen cards.old.items) stack.old.content) }
 {
     set_orders(stack, alloc, backgrounds.as_slice(), cards.as_slice())?;
-    open_cards(stack, cards.as_slice())?;
+    open_sheets(stack, alloc, backgrounds.as_slice(), cards.as_slice())?;
     add_sheets(stack, alloc, false, cards)?;
     add_sheets(stack, alloc, true, backgrounds)
 }

@@ -16,6 +16,7 @@ mod objects;
 mod parts;
 mod placed;
 mod put;
+mod room;
 mod sheets;
 mod writing;
 

@@ -9,7 +9,7 @@ returns c =
     let s = c.args.stack.now.content in
     let bs = c.args.backgrounds.now.items in
     let cs = c.args.cards.now.items in
-    let orders = c.in_ok-open_cards.ensures ∙ c.in_ok-set_orders.ensures
+    let orders = c.in_ok-open_sheets.ensures ∙ c.in_ok-set_orders.ensures
     ∙ (λ i. with_orders (map sheet_seen (c.as_slice.ensures.value i))
     (map sheet_seen (c.as_slice-2.ensures.value i)) s) in
     on_ok_weaker c.add_sheets-2.result (λ last. last

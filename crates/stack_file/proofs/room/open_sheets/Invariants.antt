@@ -1,5 +1,5 @@
 use Rattle.std.proofs.Common.{◌≡◌}
-use Rattle.stack_file.proofs.building.open_cards.Given as goal
+use Rattle.stack_file.proofs.room.open_sheets.Given as goal
 
 -- nothing is in the room yet
 abbrev pub invariant-loop-card : goal.invariant-loop-card
