@@ -544,7 +544,7 @@ fn entries_with_current(
     ensures { IfOk result (λ entries. entries.items ≡ map (λ e. Entry.Stack e) made.items
         ++ Entry.Current current ∷ []) }
 {
-    let mut entries = Vec::new(alloc);
+    let mut entries = Vec::with_capacity(alloc, made.len().saturating_add(1))?;
     add_each(&mut entries, made)?;
     entries.push(Entry::Current(current))?;
     Ok(entries)
@@ -558,7 +558,7 @@ fn current_with_entries(
 ) -> Result<Vec<Entry>, AllocError>
     ensures { IfOk result (λ entries. entries.items ≡ Entry.Current current ∷ map (λ e. Entry.Stack e) gone.items) }
 {
-    let mut entries = Vec::new(alloc);
+    let mut entries = Vec::with_capacity(alloc, gone.len().saturating_add(1))?;
     entries.push(Entry::Current(current))?;
     add_each(&mut entries, gone)?;
     Ok(entries)
