@@ -20,7 +20,8 @@ use Rattle.session.specs.SessionView.{SessionView}
 use Rattle.headline.specs.Answering.{is_quit, Answered, OneMore, Finishes, Quits, Breaks, Exceeds}
 use Rattle.headline.specs.Intake.{Reached, Broken}
 use Rattle.headline.specs.Writing.{IsCut}
-use Rattle.session.proofs.LineFeeds.{all-append, ended_lines-snoc}
+use Rattle.stack_text.proofs.Elements.{each_append}
+use Rattle.session.proofs.LineFeeds.{ended_lines-snoc}
 use Rattle.headline.proofs.Sessions.{mapped-snoc, last_line-some, Answered-snoc}
 use Rattle.session.specs.declared.reply.Reply.{Reply}
 
@@ -43,7 +44,7 @@ pub splits_more : (read : List ℕ) (lines : List (List ℕ)) (rest : List ℕ) 
 splits_more read lines rest b ne s = record {
   whole = rw s.whole (append_assoc (ended_lines lines) rest (b ∷ []));
   each = s.each;
-  partial = all-append (λ x. x ≢ 10) rest (b ∷ []) s.partial (ne, tt);
+  partial = each_append (λ x. x ≢ 10) rest (b ∷ []) s.partial (ne, tt);
 }
 
 -- a line feed ends a line
@@ -52,7 +53,7 @@ pub splits_ended : (read : List ℕ) (lines : List (List ℕ)) (rest : List ℕ)
 splits_ended read lines rest s = record {
   whole = rw (s.whole, ended_lines-snoc lines rest)
       (append_assoc (ended_lines lines) rest (10 ∷ []) ∙ sym (append-nil (ended_lines lines ++ (rest ++ 10 ∷ []))));
-  each = all-append IsLine lines (rest ∷ []) s.each (s.partial, tt);
+  each = each_append IsLine lines (rest ∷ []) s.each (s.partial, tt);
   partial = tt;
 }
 

@@ -15,7 +15,8 @@ use Rattle.headline.specs.declared.transcript.Ran.TheVariants as runs
 use Rattle.headline.specs.declared.transcript.RunFault.{RunFault}
 use Rattle.headline.specs.declared.transcript.RunFault.TheVariants as faults
 use Rattle.session.specs.declared.reply.Reply.{Reply}
-use Rattle.session.proofs.LineFeeds.{all-append, ended_lines-append, ended_lines-snoc}
+use Rattle.stack_text.proofs.Elements.{each_append}
+use Rattle.session.proofs.LineFeeds.{ended_lines-append, ended_lines-snoc}
 
 pub mapped-snoc : (lines : List (List ℕ)) (line : List ℕ)
     → map without_return (lines ++ line ∷ []) ≡ map without_return lines ++ without_return line ∷ []
@@ -241,7 +242,7 @@ module _ {S : Type 0} (takes : List ℕ → S → Reply → S → Type 0) where
                 ∙ ap (λ (t : List ℕ). ended_lines front ++ t) others.2.whole
                 ∙ sym (append_assoc (ended_lines front) (ended_lines others.0) others.1)
                 ∙ ap (λ (t : List ℕ). t ++ others.1) (sym (ended_lines-append front others.0));
-            each = all-append IsLine front others.0 (all-append IsLine lines (e.before ∷ []) each (e.single, tt))
+            each = each_append IsLine front others.0 (each_append IsLine lines (e.before ∷ []) each (e.single, tt))
                 others.2.each;
             partial = others.2.partial;
           };

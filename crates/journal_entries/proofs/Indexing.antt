@@ -19,7 +19,6 @@ use Rattle.journal_entries.specs.declared.place_key.PlaceKey.{PlaceKey}
 use Rattle.journal_entries.specs.declared.place_set.PlaceSet.{PlaceSet}
 use Rattle.journal_entries.proofs.Holding.{structural_apart}
 use Rattle.journal_entries.proofs.Keys.{same_keys, one_place}
-use Rattle.journal_entries.proofs.PlaceSets.{bounded_same}
 
 -- ---- one entry more
 
@@ -105,15 +104,3 @@ indexed-turned es t places none plain h = record {
       ∙ or-false (is_held (has_place places) (key_of e));
   bounded = h.bounded;
 }
-
--- the same places
-pub indexed-same : (es : List Entry) (old new : PlaceSet) → ((q : PlaceKey) → has_place new q ≡ has_place old q)
-    → new.greatest ≡ old.greatest → IsIndexed es old → IsIndexed es new
-indexed-same es old new same greatest h = record {
-  held = λ e. h.held e ∙ by (key_of e);
-  bounded = bounded_same old new same greatest h.bounded;
-}
-  where
-    by : (o : Option PlaceKey) → is_held (has_place old) o ≡ is_held (has_place new) o
-    by None = refl
-    by (Some q) = sym (same q)

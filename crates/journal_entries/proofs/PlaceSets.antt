@@ -11,15 +11,10 @@ use Rattle.std.proofs.lemmas.Cmp.{upto, tied_back}
 use Rattle.std.proofs.lemmas.List.{take-append-drop}
 use Rattle.std.proofs.lemmas.List.Folds.{list_any-append, list_any_more}
 use Rattle.stack_places.proofs.Exchanging.{false_true}
-use Rattle.journal_entries.specs.PlaceSets.{has_place, is_within, IsBounded}
+use Rattle.journal_entries.specs.PlaceSets.{is_within}
 use Rattle.journal_entries.specs.SameKey.{same_key, key_cmp}
 use Rattle.journal_entries.specs.contracts.place_key.PlaceKeyOrd.TheImpl.Laws as laws
 use Rattle.journal_entries.specs.declared.place_key.PlaceKey.{PlaceKey}
-use Rattle.journal_entries.specs.declared.place_set.PlaceSet.{PlaceSet}
-
-pub bounded_same : (old new : PlaceSet) → ((q : PlaceKey) → has_place new q ≡ has_place old q)
-    → new.greatest ≡ old.greatest → IsBounded old → IsBounded new
-bounded_same old new same greatest b q there = ap (λ g. is_within g q) greatest ∙ b q (sym (same q) ∙ there)
 
 -- ---- sorting
 

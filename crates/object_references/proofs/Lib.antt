@@ -2,4 +2,3 @@ pub mod Examples
 pub mod Fitting
 pub mod Handed
 pub mod Last
-pub mod Preceding

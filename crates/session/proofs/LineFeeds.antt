@@ -7,12 +7,8 @@ use Rattle.std.proofs.lemmas.List.Quantifiers.{position-Some}
 use Rattle.std.proofs.lemmas.List.Sums.{fails_before_first}
 use Rattle.std.proofs.lemmas.Grind.{flat_map-append}
 use Rattle.std.proofs.lemmas.Bool.{cases_lt, lt-ltb, eqb-true, eq-eqb}
+use Rattle.stack_text.proofs.Elements.{each_append}
 use Rattle.session.specs.Splits.{IsLine, ended_lines, Splits}
-
-pub all-append : {X : Type 0} (P : X → Type 0) (xs ys : List X) → AllByRecursion P xs → AllByRecursion P ys
-    → AllByRecursion P (xs ++ ys)
-all-append P [] ys p q = q
-all-append P (x ∷ xs) ys p q = (p.0, all-append P xs ys p.1 q)
 
 pub ended_lines-append : (xs ys : List (List ℕ)) → ended_lines (xs ++ ys) ≡ ended_lines xs ++ ended_lines ys
 ended_lines-append xs ys = flat_map-append (λ line. line ++ 10 ∷ []) xs ys
@@ -72,7 +68,7 @@ line_cut text shown rest i whole is =
 -- one line more
 pub lines_more : (shown : List (List ℕ)) (line : List ℕ) → AllByRecursion IsLine shown → IsLine line
     → AllByRecursion IsLine (shown ++ line ∷ [])
-lines_more shown line each is = all-append IsLine shown (line ∷ []) each (is, tt)
+lines_more shown line each is = each_append IsLine shown (line ∷ []) each (is, tt)
 
 -- ---- a text whose last byte is a line feed
 

@@ -19,7 +19,7 @@ use Rattle.session.specs.declared.reply.Refusal.TheVariants.{LineTooLong, NoMemo
 use Rattle.session.specs.declared.reply.Reply.{Reply}
 use Rattle.session.specs.Meaning.{Moment}
 use Rattle.session.specs.Replies.{Refuses, Obeys, Moves, ShowsCells, cells_named}
-use Rattle.session.proofs.LineFeeds.{all-append}
+use Rattle.stack_text.proofs.Elements.{each_append}
 use Rattle.headline.specs.Headline.{Snapshot, Timeline, IsPresent, followed_by, Replaces, KeepsOut, Commands, at_cursor}
 use Rattle.headline.specs.Headline.{cursor_back, cursor_forth, cursor_back_to, last_numbered, Does, DoesLine}
 use Rattle.headline.specs.Headline.{line_counted, LineMoves}
@@ -60,7 +60,7 @@ of_joined P t after all last =
     let front : List Snapshot = take (t.cursor + 1) t.snapshots in
     let added : Snapshot = record { state = after.state; number = t.lines } in
     all_of_rest P (t.cursor + 1 - t.depth) (front ++ added ∷ [])
-    (all-append P front (added ∷ []) (all_of_front P (t.cursor + 1) t.snapshots all) (last, tt))
+    (each_append P front (added ∷ []) (all_of_front P (t.cursor + 1) t.snapshots all) (last, tt))
 
 -- ---- a line
 
