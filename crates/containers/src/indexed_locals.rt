@@ -207,7 +207,12 @@ fn place_in(locals: &[Local], name: &Name) -> Option<usize>
     ensures within { IfSome result (λ i. i < length locals.now) }
 {
     let form = name.folded().as_slice();
-    locals.iter().position(|local| local.name.has_form(form))
+    for i in 0..locals.len() {
+        if locals[i].name.has_form(form) {
+            return Some(i);
+        }
+    }
+    None
 }
 
 /// The names with their arguments, and room for a few more.
