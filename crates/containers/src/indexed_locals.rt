@@ -93,11 +93,7 @@ impl Locals {
     pub(crate) fn find(&self, name: &Name) -> Option<&Local>
         ensures { option_copied result ≡ find (λ l. same l.name name.now) self.now }
     {
-        if self.items.len() <= MOST_SCANNED {
-            let form = name.folded().as_slice();
-            return self.items.iter().find(|local| local.name.has_form(form));
-        }
-        let place = self.number_among_many(name)?;
+        let place = self.number_of(name)?;
         Some(&self.items[place])
     }
 
