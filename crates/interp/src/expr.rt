@@ -1,6 +1,7 @@
 //! The values of expressions.
 
 ghost use Rattle.std.specs.Prelude.{◌≡◌, ◌≤◌, ◌<◌, IsSome, IfOk, Ok};
+ghost use Rattle.ht_values.specs.Text.{numeral};
 ghost use Rattle.ht_grammar.specs.Trees as tree;
 ghost use Rattle.ht_grammar.specs.Depth.{depth, depths, part_depth, ref_depth, max_depth};
 ghost use Rattle.ht_tree.specs.View.{exprs_of, part_of as part_of_tree, ref_of};
@@ -83,7 +84,7 @@ pub(crate) fn eval_bare<E: External>(
 {
     let kind = match e.form() {
         ExprForm::Number(number) => {
-            *value = Value::of_number(number);
+            set_number(value, number);
             return Ok(());
         }
         ExprForm::Kind(kind) => kind,
@@ -713,4 +714,12 @@ pub(crate) fn text_value<E: External>(
         Ok(()) => Ok(()),
         Err(stop) => Err(leaving_text(run, TextUse::Value, text, stop)),
     }
+}
+
+/// Puts a number in the place of a value. It is out of line: what stood there is dropped, which takes room in a frame.
+#[inline(never)]
+fn set_number(value: &mut Value, number: i64)
+    ensures { value.new ≡ numeral number }
+{
+    *value = Value::of_number(number);
 }

@@ -59,7 +59,10 @@ pub(crate) fn run_block<E: External>(
             Err(stop) => return Err(stopping(run, stmt, stop)),
         }
         let ended = run_stmt(world, run, frame, nested, stmt);
-        if ends_block(run, stmt, &ended) {
+        if let Err(stop) = &ended {
+            return Err(stopping(run, stmt, *stop));
+        }
+        if ends_block(&ended) {
             return ended;
         }
     }

@@ -268,19 +268,16 @@ pub fn stopping(run: &Budget, stmt: &Stmt, stop: Stop) -> Stop
     stop
 }
 
-/// Whether the end of a statement ends its block. It is looked at where it stands; a stop is remembered to come in it.
+/// Whether the end of a statement ends its block. It is looked at where it stands.
 #[tactic(auto, using(crate::proofs::Blocks::block_rules))]
 #[inline(always)]
-pub fn ends_block(run: &Budget, stmt: &Stmt, ended: &Result<How, Stop>) -> bool
+pub fn ends_block(ended: &Result<How, Stop>) -> bool
     ensures { EndsBlock ended.now result }
 {
     match ended {
         Ok(How::Next) => false,
         Ok(_) => true,
-        Err(stop) => {
-            let _ = stopping(run, stmt, *stop);
-            true
-        }
+        Err(_) => true,
     }
 }
 

@@ -116,6 +116,13 @@ stmt::run_block-returns-in-Err-clause-meaning g t c =
     (Block.block_no_step (cut_stmts c.args.lines.now c.loop-stmt.stmt-index c.stmt-item.result c.loop-stmt-test.true
     c.stmt-item.is) (rw c.in-Err.is at c.step.ensures.meaning)))
 
+pub stmt::run_block-returns-in-Err-ended-clause-meaning : goal.stmt::run_block-returns-in-Err-ended-clause-meaning
+stmt::run_block-returns-in-Err-ended-clause-meaning g t c =
+    rw c.stopping-in-Err-ended.ensures (c.loop-stmt.invariant.rest _ _ _ _
+    (Block.block_stops (cut_stmts c.args.lines.now c.loop-stmt.stmt-index c.stmt-item.result c.loop-stmt-test.true
+    c.stmt-item.is) (rw c.in-Ok.is at c.step.ensures.meaning)
+    (rw c.in-Err-ended.is at c.run_stmt-ended.ensures.meaning)))
+
 pub stmt::run_block-returns-then-ends_block-clause-meaning : goal.stmt::run_block-returns-then-ends_block-clause-meaning
 stmt::run_block-returns-then-ends_block-clause-meaning g t c =
     c.loop-stmt.invariant.rest _ _ _ _
