@@ -5,15 +5,12 @@ import os
 import resource
 import subprocess
 import tempfile
-from typing import Callable, List, Mapping, NamedTuple, Optional, Sequence
+from typing import Callable, List, NamedTuple, Optional, Sequence
 
 from .shape import Depths, Shape
 
 # The bounds of the stack, in KiB, under which each shape has to answer: what `ulimit -s` says.
 BOUNDS = (8192, 4096)
-# The shapes that need more than the least of these, and the least bound under which each has to answer, in KiB.
-# `tools/needs` says what each needs.
-NEED_MORE: Mapping[str, int] = dict.fromkeys(("send with arguments", "send with an index"), 5120)
 # The persona of a process whose addresses are the same in each run (Linux: ADDR_NO_RANDOMIZE).
 NO_CHANCE = 0x0040000
 # The bound under which the first shape that doesn't fit is told.
@@ -119,19 +116,12 @@ def told(name: str, how: str, wrong: Optional[str]) -> bool:
     return wrong is None
 
 
-def is_due(shape: Shape, kib: int) -> bool:
-    """Whether a shape has to answer under a bound: under each of BOUNDS, and one that needs more under its own and those
-    above."""
-    more = NEED_MORE.get(shape.name)
-    return kib == more or (kib in BOUNDS and (more is None or more < kib))
-
-
 def bounded(runner: Runner, shapes: Sequence[Shape], kib: int) -> List[bool]:
-    """Which of the shapes that are due under a bound are answered as they should."""
+    """Which of the shapes are answered under a bound as they should."""
     if not can_bound(kib):
         print("the stack can't get a bound of %d KiB here, so no shape was run with it" % kib, flush=True)
         return []
-    return [told(shape.name, "%d KiB of stack" % kib, runner.wrong(shape, kib)) for shape in shapes if is_due(shape, kib)]
+    return [told(shape.name, "%d KiB of stack" % kib, runner.wrong(shape, kib)) for shape in shapes]
 
 
 def too_deep(runner: Runner, shapes: Sequence[Shape]) -> List[bool]:
@@ -151,8 +141,7 @@ def run_all(program: str, shapes: Sequence[Shape], others: Sequence[Shape]) -> C
     with tempfile.TemporaryDirectory() as folder:
         runner = Runner(program, folder)
         every = [*shapes, *others]
-        bounds = sorted({*BOUNDS, *NEED_MORE.values()}, reverse=True)
-        outcomes = [right for kib in bounds for right in bounded(runner, every, kib)] + too_deep(runner, shapes)
+        outcomes = [right for kib in BOUNDS for right in bounded(runner, every, kib)] + too_deep(runner, shapes)
         first = first_that_does_not_fit(runner, every)
     print("under %d KiB of stack %s" % (TOLD, "each shape fits" if first is None else "the first that doesn't fit is: " +
                                         first.name), flush=True)

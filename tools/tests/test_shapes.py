@@ -152,14 +152,6 @@ class Runs(unittest.TestCase):
             self.assertEqual([running.bounded(runner, [shape], kib) for kib in running.BOUNDS], [[True], [False]])
         self.assertIn("s, 4096 KiB of stack: ", said.getvalue())
 
-    def test_which_shapes_are_due(self) -> None:
-        plain = Shape("plain", lambda _: Scripts(""), no_texts, "g", ())
-        self.assertEqual([running.is_due(plain, kib) for kib in (*running.BOUNDS, 10240)], [True, True, False])
-        named = {shape.name: shape for shape in SHAPES}
-        self.assertEqual(set(running.NEED_MORE) - set(named), set())
-        more = named["send with arguments"]
-        self.assertEqual([running.is_due(more, kib) for kib in (4096, 5120, 8192)], [False, True, True])
-
 
 if __name__ == "__main__":
     unittest.main()
