@@ -1,3 +1,4 @@
 pub mod Deeper
 pub mod Lists
 pub mod Ranks
+mod Kept

@@ -4,3 +4,4 @@ pub mod Answer
 pub mod Blocks
 pub mod Stops
 pub mod Failures
+pub mod OnlyTree

@@ -1,0 +1,175 @@
+//! The texts that were read last, with their trees.
+
+ghost use Rattle.std.specs.Prelude.{◌≡◌, IfErr, IfOk, IfSome};
+ghost use Rattle.ht_grammar.specs.Reads.{ReadsExpr, ReadsLines, ReadsMessage};
+ghost use Rattle.ht_tree.specs.ScriptView.{message_of};
+ghost use Rattle.ht_tree.specs.StatementView.{stmts_of};
+ghost use Rattle.ht_parse.specs.Answer.{Parses};
+ghost use Rattle.ht_parse.specs.OnlyTree.{IsOnlyTree};
+ghost use Rattle.ht_parse.specs.declared.error.ParseError.TheVariants.{Memory};
+
+use crate::error::ParseError;
+use crate::parse::{parse_expr, parse_lines, parse_message};
+use ht_tree::{Expr, Message, Stmts};
+use ht_values::Text;
+use std::alloc::Global;
+use std::cell::RefCell;
+use std::marker::Model;
+use std::rc::Rc;
+
+/// How many texts of a kind are kept at most. Each costs a comparison where a text is new.
+const MOST_KEPT: usize = 4;
+
+/// What a text is read as.
+trait Tree: Drop {
+    ghost use Rattle.std.specs.Prelude.{ℕ, List};
+
+    // That the text is read as this tree, and as no other.
+    ghost is_of: { Self → List ℕ → Type 0 };
+}
+
+impl Tree for Stmts {
+    ghost is_of = { λ lines text. IsOnlyTree ReadsLines text (stmts_of lines.items.items) };
+}
+
+impl Tree for Message {
+    ghost is_of = { λ message text. IsOnlyTree ReadsMessage text (message_of message) };
+}
+
+impl Tree for Expr {
+    ghost is_of = { λ expr text. IsOnlyTree ReadsExpr text expr };
+}
+
+/// A text with its tree, which contracts see as the text.
+#[derive(Drop)]
+struct ReadText<T: Tree> {
+    text: Text,
+    tree: Rc<T>,
+}
+
+impl<T: Tree> Model for ReadText<T> {
+    ghost use Rattle.std.specs.Prelude.{ℕ, List};
+
+    ghost Value = { List ℕ };
+
+    ghost view = { λ r. r.text };
+
+    ghost invariant = { λ r. T.is_of r.tree.value r.text };
+}
+
+impl<T: Tree> ReadText<T> {
+    /// The tree, shared, if this is the text that is asked for.
+    fn tree_of(&self, text: &Text) -> Option<Rc<T>>
+        ensures { IfSome result (λ tree. T.is_of tree.value text.now) }
+    {
+        if self.text.as_slice() == text.as_slice() {
+            self.tree.clone().ok()
+        } else {
+            None
+        }
+    }
+}
+
+/// The texts of a kind that were parsed last, the oldest first.
+#[derive(Drop)]
+struct Recent<T: Tree> {
+    texts: RefCell<Vec<ReadText<T>>>,
+}
+
+impl<T: Tree> Recent<T> {
+    /// No texts. It takes no memory.
+    fn new(alloc: Global) -> Recent<T> {
+        Recent {
+            texts: RefCell::new(Vec::new(alloc)),
+        }
+    }
+
+    /// The tree of a text, if it is kept.
+    fn get(&self, text: &Text) -> Option<Rc<T>>
+        ensures { IfSome result (λ tree. T.is_of tree.value text.now) }
+    {
+        let texts = self.texts.try_borrow().ok()?;
+        for kept in texts.as_slice() {
+            let tree = kept.tree_of(text);
+            if tree.is_some() {
+                return tree;
+            }
+        }
+        None
+    }
+
+    /// Keeps a text with its tree. The oldest goes where there are too many. Where it is out of memory, the text isn't
+    /// kept.
+    fn keep(&self, kept: ReadText<T>) {
+        if let Ok(mut texts) = self.texts.try_borrow_mut() {
+            if texts.len() == MOST_KEPT {
+                let _ = texts.remove(0);
+            }
+            let _ = texts.push(kept);
+        }
+    }
+
+    /// A tree shared, which is kept with its text if there is memory for both.
+    fn kept(&self, alloc: Global, text: &Text, tree: T) -> Result<Rc<T>, ParseError>
+        requires { T.is_of tree text.now }
+        ensures shared { IfOk result (λ shared. shared.value ≡ tree) }
+        ensures memory { IfErr result (λ error. error ≡ Memory) }
+    {
+        let Ok(tree) = Rc::new(alloc, tree) else {
+            return Err(ParseError::Memory);
+        };
+        if let (Ok(text), Some(tree)) = (text.try_clone(alloc), tree.clone().ok()) {
+            self.keep(ReadText { text, tree });
+        }
+        Ok(tree)
+    }
+}
+
+/// The texts that a run has read last, with their trees: a text that it reads again and again is parsed once.
+#[derive(Drop)]
+pub struct RecentTexts {
+    lines: Recent<Stmts>,
+    messages: Recent<Message>,
+    expressions: Recent<Expr>,
+}
+
+impl RecentTexts {
+    /// No texts. It takes no memory.
+    pub fn new(alloc: Global) -> RecentTexts {
+        RecentTexts {
+            lines: Recent::new(alloc),
+            messages: Recent::new(alloc),
+            expressions: Recent::new(alloc),
+        }
+    }
+
+    /// The lines that a text is, as `parse_lines` gives them.
+    pub fn lines(&self, alloc: Global, text: &Text) -> Result<Rc<Stmts>, ParseError>
+        ensures { Parses (λ x. stmts_of x.value.items.items) ReadsLines text.now result }
+    {
+        match self.lines.get(text) {
+            Some(lines) => Ok(lines),
+            None => self.lines.kept(alloc, text, parse_lines(alloc, text)?),
+        }
+    }
+
+    /// The message that a text is, as `parse_message` gives it.
+    pub fn message(&self, alloc: Global, text: &Text) -> Result<Rc<Message>, ParseError>
+        ensures { Parses (λ x. message_of x.value) ReadsMessage text.now result }
+    {
+        match self.messages.get(text) {
+            Some(message) => Ok(message),
+            None => self.messages.kept(alloc, text, parse_message(alloc, text)?),
+        }
+    }
+
+    /// The expression that a text is, as `parse_expr` gives it.
+    pub fn expression(&self, alloc: Global, text: &Text) -> Result<Rc<Expr>, ParseError>
+        ensures { Parses (λ x. x.value) ReadsExpr text.now result }
+    {
+        match self.expressions.get(text) {
+            Some(expr) => Ok(expr),
+            None => self.expressions.kept(alloc, text, parse_expr(alloc, text)?),
+        }
+    }
+}
