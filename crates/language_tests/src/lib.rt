@@ -11,6 +11,8 @@ mod parameters;
 #[cfg(test)]
 mod places;
 #[cfg(test)]
+mod recent_texts;
+#[cfg(test)]
 mod searches;
 #[cfg(test)]
 mod short_texts;
