@@ -8,6 +8,7 @@ use crate::end::Stop;
 use crate::sent::{Line, Sent, Shown};
 use crate::trace::Trace;
 use ht_grammar::RunProp;
+use ht_parse::RecentTexts;
 use ht_values::{Fault, Text, Value, truth_of};
 use object_table::Id;
 use stack_text::spell_into;
@@ -25,6 +26,7 @@ pub struct Budget {
     left: u32,
     shown: Shown,
     sent: Sent,
+    texts: RecentTexts,
 }
 
 /// Written here and not derived, so that no crate above proves anew how it is dropped.
@@ -39,6 +41,7 @@ impl Drop for Budget {
             left: _,
             shown: _,
             sent: _,
+            texts: _,
         } = self;
     }
 }
@@ -74,6 +77,7 @@ impl Budget {
             left: steps,
             shown: Shown::new(alloc),
             sent: Sent::new(alloc),
+            texts: RecentTexts::new(alloc),
         }
     }
 
@@ -136,6 +140,11 @@ impl Budget {
         self.sent.trace()
     }
 
+    /// The texts that were read last, with their trees.
+    pub fn texts(&self) -> &RecentTexts {
+        &self.texts
+    }
+
     /// The lines shown and the messages sent, where the command has ended.
     pub fn into_shown_and_sent(self) -> (Shown, Sent)
         ensures { result ≡ (self.shown, self.sent) }
@@ -149,6 +158,7 @@ impl Budget {
             left: _,
             shown,
             sent,
+            texts: _,
         } = self;
         (shown, sent)
     }
