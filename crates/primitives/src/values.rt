@@ -23,7 +23,7 @@ ghost use Rattle.primitives.specs.Views.{read_as};
 use crate::arguments::Arguments;
 use ht_grammar::RunProp;
 use ht_lex::Constant;
-use ht_parse::{ParseError, parse_expr, parse_lines, parse_message};
+use ht_parse::ParseError;
 use ht_tree::{Expr, Message, Stmt, Stmts};
 use ht_values::{
     Failure, Fault, Func, Op, Text, UnOp, Value, binary, built_in, number_by, truth_by, unary,
@@ -32,6 +32,7 @@ use itoa::Buffer;
 use meaning::{Budget, Counter, How, Stop, TextUse};
 use object_references::Referent;
 use std::alloc::AllocError;
+use std::rc::Rc;
 
 /// What an operator gives of two operands that are kept as numbers, where that is a number or a truth value.
 #[inline]
@@ -293,10 +294,10 @@ pub fn leaving_text(run: &Budget, text_use: TextUse, text: &Text, stop: Stop) ->
 /// The expression that a text is, or the fault of syntax.
 #[tactic(auto, using(meaning::proofs::Rules::parses_rules))]
 #[inline(never)]
-pub fn expression(run: &Budget, text_use: TextUse, text: &Text) -> Result<Expr, Stop>
-    ensures { Parses ReadsExpr text.now result }
+pub fn expression(run: &Budget, text_use: TextUse, text: &Text) -> Result<Rc<Expr>, Stop>
+    ensures { Parses ReadsExpr text.now (read_as (λ x. x.value) result) }
 {
-    match parse_expr(run.alloc(), text) {
+    match run.texts().expression(run.alloc(), text) {
         Ok(e) => Ok(e),
         Err(ParseError::Syntax(place)) => {
             run.trace().unread_text(text_use, text, place);
@@ -309,10 +310,10 @@ pub fn expression(run: &Budget, text_use: TextUse, text: &Text) -> Result<Expr, 
 /// The lines that a text is, or the fault of syntax.
 #[tactic(auto, using(meaning::proofs::Rules::parses_rules))]
 #[inline(never)]
-pub fn lines(run: &Budget, text_use: TextUse, text: &Text) -> Result<Stmts, Stop>
-    ensures { Parses ReadsLines text.now (read_as (λ x. stmts_of x.items.items) result) }
+pub fn lines(run: &Budget, text_use: TextUse, text: &Text) -> Result<Rc<Stmts>, Stop>
+    ensures { Parses ReadsLines text.now (read_as (λ x. stmts_of x.value.items.items) result) }
 {
-    match parse_lines(run.alloc(), text) {
+    match run.texts().lines(run.alloc(), text) {
         Ok(lines) => Ok(lines),
         Err(ParseError::Syntax(place)) => {
             run.trace().unread_text(text_use, text, place);
@@ -325,10 +326,10 @@ pub fn lines(run: &Budget, text_use: TextUse, text: &Text) -> Result<Stmts, Stop
 /// The message that a text is, or the fault of syntax.
 #[tactic(auto, using(meaning::proofs::Rules::parses_rules))]
 #[inline(never)]
-pub fn message(run: &Budget, text: &Text) -> Result<Message, Stop>
-    ensures { Parses ReadsMessage text.now (read_as message_of result) }
+pub fn message(run: &Budget, text: &Text) -> Result<Rc<Message>, Stop>
+    ensures { Parses ReadsMessage text.now (read_as (λ x. message_of x.value) result) }
 {
-    match parse_message(run.alloc(), text) {
+    match run.texts().message(run.alloc(), text) {
         Ok(message) => Ok(message),
         Err(ParseError::Syntax(place)) => {
             run.trace().unread_text(TextUse::Send, text, place);
