@@ -1,6 +1,7 @@
 //! Scripts, messages and texts that are typed.
 
 ghost use Rattle.std.specs.Prelude.{◌≡◌, ◌≤◌, ◌<◌, length, IfOk, IfSome, option_and_then};
+ghost use Rattle.ht_values.specs.Text.{same};
 ghost use Rattle.ht_grammar.specs.Statements as s;
 ghost use Rattle.ht_grammar.specs.Depth.{handlers_depth, message_depth, max_depth};
 ghost use Rattle.ht_grammar.specs.Handlers.{takes, handler_in};
@@ -75,8 +76,17 @@ impl Handler {
     pub fn takes(&self, kind: HandlerKind, name: &Text) -> bool
         ensures { result ≡ takes kind name.now (handler_of self.now) }
     {
-        self.kind == kind && self.name.same(name)
+        self.kind == kind && is_same_name(&self.name, name)
     }
+}
+
+/// Whether two names are the same. Case is ignored.
+#[inline]
+fn is_same_name(left: &Text, right: &Text) -> bool
+    ensures { result ≡ same left.now right.now }
+{
+    // Most messages are spelled as their handlers are, and then no letter is folded.
+    left.as_slice() == right.as_slice() || left.same(right)
 }
 
 impl Script {
