@@ -128,8 +128,8 @@ impl OpenBatch {
     }
 
     /// Makes exchanges, from the first to the last, and keeps of what comes out what the places have no entry for. They
-    /// are made where the entries stand, which then go over to the batch together. Since these make or remove an object,
-    /// after which no place waits, and few come before that, what waits needn't be sorted.
+    /// are made where the entries stand, which then go over to the batch together. These make or remove an object, after
+    /// which no place waits, and few come before that: so what waits needn't be sorted.
     fn write_each<E: External>(
         &mut self,
         present: &mut Present<E>,
