@@ -65,19 +65,22 @@ impl Locals {
         }
     }
 
-    /// The parameters of a handler, each with its argument. Where those stand that aren't among the first few is shared
-    /// by all calls.
-    pub(crate) fn of_parameters(
+    /// Becomes the parameters of a handler, each with its argument. Where those stand that aren't among the first few
+    /// is shared by all calls. Where memory was refused nothing changes.
+    #[inline(always)]
+    pub(crate) fn bind(
+        &mut self,
         alloc: Global,
         parameters: &Parameters,
         arguments: &[Value],
-    ) -> Result<Locals, AllocError>
-        ensures { IfOk result (λ ls. ls ≡ map (local_given arguments.now) (bindings_of parameters.now)) }
+    ) -> Result<(), AllocError>
+        ensures ok { OnOk result (self.new ≡ map (local_given arguments.now) (bindings_of parameters.now)) }
+        ensures err { OnErr result (self.new ≡ self.old) }
     {
-        Ok(Locals {
-            items: all_given(alloc, parameters.bindings(), arguments)?,
-            places: parameters.places(alloc)?,
-        })
+        let items = all_given(alloc, parameters.bindings(), arguments)?;
+        self.places = parameters.places(alloc)?;
+        self.items = items;
+        Ok(())
     }
 
     /// The names and their values as a slice.
@@ -93,7 +96,11 @@ impl Locals {
     pub(crate) fn find(&self, name: &Name) -> Option<&Local>
         ensures { option_copied result ≡ find (λ l. same l.name name.now) self.now }
     {
-        let place = self.number_of(name)?;
+        if self.items.len() <= MOST_SCANNED {
+            let form = name.folded().as_slice();
+            return self.items.iter().find(|local| local.name.has_form(form));
+        }
+        let place = self.number_among_many(name)?;
         Some(&self.items[place])
     }
 

@@ -114,20 +114,31 @@ impl Model for Variables {
 }
 
 impl Variables {
-    /// Those of a handler that begins, whose parameters have the arguments: a missing one is empty, a surplus one is
-    /// dropped, and of one name the last counts. It takes no memory where there are no parameters.
-    pub fn of_parameters(
+    /// Those of a handler without parameters that begins. It takes no memory.
+    #[inline(always)]
+    pub fn of_handler(alloc: Global) -> Variables
+        ensures { result ≡ record { all_global = false; locals = [] } }
+    {
+        Variables {
+            all_global: false,
+            locals: Locals::new(alloc),
+        }
+    }
+
+    /// Becomes those of a handler that begins, whose parameters have the arguments: a missing one is empty, a surplus
+    /// one is dropped, and of one name the last counts. It takes no memory where there are no parameters.
+    #[inline(always)]
+    pub fn bind(
+        &mut self,
         alloc: Global,
         parameters: &Parameters,
         arguments: &[Value],
-    ) -> Result<Variables, AllocError>
-        ensures { IfOk result (λ v. v
+    ) -> Result<(), AllocError>
+        ensures { OnOk result (self.new
             ≡ bound parameters.now arguments.now (record { all_global = false; locals = [] })) }
     {
-        Ok(Variables {
-            all_global: false,
-            locals: Locals::of_parameters(alloc, parameters, arguments)?,
-        })
+        self.all_global = false;
+        self.locals.bind(alloc, parameters, arguments)
     }
 
     /// Those of a typed line: every variable is global. It takes no memory.

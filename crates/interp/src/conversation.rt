@@ -10,7 +10,7 @@ use crate::expr::eval_text;
 use crate::stmt::run_block;
 use change_journal::World;
 use externals::{Ask, External, Input};
-use ht_values::{Fault, Text};
+use ht_values::{Fault, Text, Value};
 use meaning::{Budget, Conversed, Frame, MOST_ARGUMENTS, MOST_NESTED, Stop, TextUse};
 use primitives::arguments::Arguments;
 use primitives::messages::{start, take_turn};
@@ -74,7 +74,8 @@ pub(crate) fn call_back<E: External>(
             let mut frame = Frame::typed(run.alloc(), world.current());
             // Called for its clause alone: a tree is at most 100 levels deep.
             let _depth = lines.depth();
-            match run_block(world, run, &mut frame, nested, &lines.items) {
+            let mut unused = Value::of_number(0);
+            match run_block(world, run, &mut frame, nested, &lines.items, &mut unused) {
                 Ok(_) => Ok(Input::Answer(note, Text::new(run.alloc()))),
                 Err(stop) => Err(leaving_text(run, TextUse::CallBack, &text, stop)),
             }

@@ -15,7 +15,7 @@ use change_journal::World;
 use externals::External;
 use ht_grammar::HandlerKind;
 use ht_tree::{Part, Stmts};
-use ht_values::Text;
+use ht_values::{Text, Value};
 use meaning::{Budget, Ended, Frame, Stop};
 use object_table::Id;
 use primitives::arguments::Arguments;
@@ -40,7 +40,8 @@ pub fn run_line<E: External>(
     let mut frame = Frame::typed(run.alloc(), world.current());
     // Called for its clause alone: a tree is at most 100 levels deep.
     let _depth = lines.depth();
-    match run_block(world, run, &mut frame, 0, &lines.items) {
+    let mut unused = Value::of_number(0);
+    match run_block(world, run, &mut frame, 0, &lines.items, &mut unused) {
         Ok(_) => Ok(Ended::Done),
         Err(Stop::Exited) => Ok(Ended::Exited),
         Err(Stop::Fault(fault)) => Err(Stop::Fault(fault)),
@@ -64,6 +65,7 @@ pub fn send_message<E: External>(
 {
     let frame = Frame::typed(run.alloc(), world.current());
     let values = Arguments::new(run.alloc());
+    let mut unused = Value::of_number(0);
     match send(
         world,
         run,
@@ -73,6 +75,7 @@ pub fn send_message<E: External>(
         name,
         &values,
         HandlerKind::Command,
+        &mut unused,
     ) {
         Ok(_) => Ok(Ended::Done),
         Err(Stop::Exited) => Ok(Ended::Exited),

@@ -22,8 +22,8 @@ use msg_path::{BuiltIn, MessagePath, path, path_after};
 use object_table::Id;
 use primitives::arguments::Arguments;
 use primitives::messages::{
-    external, find, handler_frame, is_ignored, item_named, leaving, not_understood, only_text,
-    outcome, returned,
+    bind, ends_message, external, find, is_ignored, item_named, leaving, not_understood, only_text,
+    returned,
 };
 use primitives::values::{call_function, empty};
 
@@ -52,8 +52,9 @@ pub(crate) fn calls<E: External>(
 {
     let mut values = Arguments::new(run.alloc());
     arguments(world, run, frame, nested, &list.items, &mut values)?;
-    *value = send(world, run, frame, nested, object, name, &values, kind)?;
-    Ok(())
+    send(
+        world, run, frame, nested, object, name, &values, kind, value,
+    )
 }
 
 /// Sends a message to an object: a step, then along its path.
@@ -69,17 +70,20 @@ pub(crate) fn send<E: External>(
     name: &Text,
     values: &Arguments,
     kind: HandlerKind,
-) -> Result<Value, Stop>
+    value: &mut Value,
+) -> Result<(), Stop>
     requires nested { nested ≤ 100 }
     requires open { IsSome (base world.old.history).start }
-    ensures meaning { Sends world.old.history run.old frame.now nested object name.now values.now kind result
-        world.new.history run.new }
+    ensures meaning { Sends world.old.history run.old frame.now nested object name.now values.now kind
+        (given result value.new) world.new.history run.new }
     ensures keeps { Keeps world.old.history run.old world.new.history run.new }
 {
     run.step()?;
     run.note(name, object)?;
     let path = path(world.stack(), world.current(), object);
-    along(world, run, frame, nested, object, path, name, values, kind)
+    along(
+        world, run, frame, nested, object, path, name, values, kind, value,
+    )
 }
 
 /// Sends a message along a path. A handler that passes it lets it go on behind its object.
@@ -95,22 +99,24 @@ pub(crate) fn along<E: External>(
     name: &Text,
     values: &Arguments,
     kind: HandlerKind,
-) -> Result<Value, Stop>
+    value: &mut Value,
+) -> Result<(), Stop>
     requires nested { nested ≤ 100 }
     requires open { IsSome (base world.old.history).start }
-    ensures meaning { Along world.old.history run.old frame.now nested object path name.now values.now kind result
-        world.new.history run.new }
+    ensures meaning { Along world.old.history run.old frame.now nested object path name.now values.now kind
+        (given result value.new) world.new.history run.new }
     ensures keeps { Keeps world.old.history run.old world.new.history run.new }
 {
     let mut rest = path;
     loop {
         match find(world, run, rest.as_slice(), kind, name)? {
-            None => return outside(world, run, frame, nested, name, values, kind),
+            None => return outside(world, run, frame, nested, name, values, kind, value),
             Some(found) => {
                 if nested == MOST_NESTED {
                     return Err(Stop::Fault(Fault::TooDeep));
                 }
-                let mut inner = handler_frame(run, &found, object, values)?;
+                let mut inner = Frame::of_handler(run.alloc(), found.object(), object);
+                bind(run, &found, values, &mut inner)?;
                 // Called for its clause alone: a tree is at most 100 levels deep.
                 let _depth = found.handler().lines.depth();
                 let ended = run_block(
@@ -119,15 +125,16 @@ pub(crate) fn along<E: External>(
                     &mut inner,
                     nested + 1,
                     &found.handler().lines.items,
+                    value,
                 );
-                let how = match ended {
-                    Ok(how) => how,
+                let way = match ended {
+                    Ok(way) => way,
                     Err(stop) => return Err(leaving(world, run, &found, stop)),
                 };
-                match outcome(run, kind, how) {
-                    Some(value) => return Ok(value),
-                    None => rest = path_after(world.stack(), world.current(), found.object()),
+                if ends_message(run, kind, way, value) {
+                    return Ok(());
                 }
+                rest = path_after(world.stack(), world.current(), found.object());
             }
         }
     }
@@ -145,21 +152,24 @@ pub(crate) fn outside<E: External>(
     name: &Text,
     values: &Arguments,
     kind: HandlerKind,
-) -> Result<Value, Stop>
+    value: &mut Value,
+) -> Result<(), Stop>
     requires nested { nested ≤ 100 }
     requires open { IsSome (base world.old.history).start }
-    ensures meaning { Outside world.old.history run.old frame.now nested name.now values.now kind result
-        world.new.history run.new }
+    ensures meaning { Outside world.old.history run.old frame.now nested name.now values.now kind
+        (given result value.new) world.new.history run.new }
     ensures keeps { Keeps world.old.history run.old world.new.history run.new }
 {
     match external(world, kind, name) {
-        None => answer(world, run, frame, nested, name, values, kind),
+        None => answer(world, run, frame, nested, name, values, kind, value),
         Some(i) => {
             let done = converse(world, run, nested, i, values)?;
             if done.passes {
-                answer(world, run, frame, nested, name, values, kind)
+                answer(world, run, frame, nested, name, values, kind, value)
             } else {
-                Ok(returned(run, kind, Value::of_text(done.value)))
+                *value = Value::of_text(done.value);
+                returned(run, kind, value);
+                Ok(())
             }
         }
     }
@@ -177,28 +187,34 @@ pub(crate) fn answer<E: External>(
     name: &Text,
     values: &Arguments,
     kind: HandlerKind,
-) -> Result<Value, Stop>
+    value: &mut Value,
+) -> Result<(), Stop>
     requires nested { nested ≤ 100 }
     requires open { IsSome (base world.old.history).start }
-    ensures meaning { BuiltInGives world.old.history run.old frame.now nested name.now values.now kind result
-        world.new.history run.new }
+    ensures meaning { BuiltInGives world.old.history run.old frame.now nested name.now values.now kind
+        (given result value.new) world.new.history run.new }
     ensures keeps { Keeps world.old.history run.old world.new.history run.new }
 {
     match BuiltIn::named(kind, name) {
         Some(BuiltIn::Value) => match only_text(run, values)? {
-            Some(text) => {
-                let mut value = Value::of_number(0);
-                text_value(world, run, frame, nested, &text, &mut value)?;
-                Ok(value)
+            Some(text) => text_value(world, run, frame, nested, &text, value),
+            None => Err(Stop::Fault(Fault::BadArgument)),
+        },
+        Some(BuiltIn::Function(function)) => {
+            *value = call_function(run, function, values)?;
+            Ok(())
+        }
+        Some(BuiltIn::DoMenu) => match item_named(run, values)? {
+            Some(item) => {
+                *value = menu(world, run, frame, nested, item)?;
+                Ok(())
             }
             None => Err(Stop::Fault(Fault::BadArgument)),
         },
-        Some(BuiltIn::Function(function)) => call_function(run, function, values),
-        Some(BuiltIn::DoMenu) => match item_named(run, values)? {
-            Some(item) => menu(world, run, frame, nested, item),
-            None => Err(Stop::Fault(Fault::BadArgument)),
-        },
-        None if is_ignored(kind, name) => Ok(empty(run)),
+        None if is_ignored(kind, name) => {
+            *value = empty(run);
+            Ok(())
+        }
         None => Err(not_understood(run, name)),
     }
 }

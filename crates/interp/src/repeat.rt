@@ -6,6 +6,7 @@ ghost use Rattle.ht_grammar.specs.Depth.{depth, stmts_depth, max_depth};
 ghost use Rattle.ht_tree.specs.StatementView.{stmts_of};
 ghost use Rattle.containers.specs.Base.{base};
 ghost use Rattle.meaning.specs.Meaning.{Bounds, Counts, Endless, Form, While};
+ghost use Rattle.primitives.specs.Given.{how_given};
 ghost use Rattle.interp.specs.Heads.{counted};
 ghost use Rattle.interp.specs.Keeps.{Keeps};
 
@@ -15,8 +16,8 @@ use crate::stmt::run_block;
 use change_journal::World;
 use externals::External;
 use ht_tree::{Expr, Stmt, Stmts};
-use ht_values::Name;
-use meaning::{Budget, Counter, Frame, How, Stop};
+use ht_values::{Name, Value};
+use meaning::{Budget, Counter, Frame, Stop, Way};
 use primitives::places::assign;
 use primitives::values::{counter, ends_repeat, goes_on};
 
@@ -31,18 +32,20 @@ pub(crate) fn repeat_times<E: External>(
     nested: u32,
     times: &Expr,
     lines: &[Stmt],
-) -> Result<How, Stop>
+    value: &mut Value,
+) -> Result<Way, Stop>
     requires nested { nested ≤ 100 }
     requires times { depth times.now < max_depth }
     requires lines { stmts_depth (stmts_of lines.now) < max_depth }
     requires open { IsSome (base world.old.history).start }
     ensures meaning { Form world.old.history run.old frame.old nested
-        (stm.repeat (stm.times times.now) (stmts_of lines.now)) result world.new.history run.new frame.new }
+        (stm.repeat (stm.times times.now) (stmts_of lines.now))
+        (how_given result value.new) world.new.history run.new frame.new }
     ensures keeps { Keeps world.old.history run.old world.new.history run.new }
 {
     let times = number_value(world, run, frame, nested, times)?;
     let counter = Counter::new(1, times, false);
-    turns(world, run, frame, nested, None, counter, lines)
+    turns(world, run, frame, nested, None, counter, lines, value)
 }
 
 /// A repeat from a number up or down to another.
@@ -59,19 +62,29 @@ pub(crate) fn repeat_counted<E: External>(
     to: &Expr,
     is_down: bool,
     lines: &Stmts,
-) -> Result<How, Stop>
+    value: &mut Value,
+) -> Result<Way, Stop>
     requires nested { nested ≤ 100 }
     requires from { depth from.now < max_depth }
     requires to { depth to.now < max_depth }
     requires lines { stmts_depth (stmts_of lines.now.items.items) < max_depth }
     requires open { IsSome (base world.old.history).start }
     ensures meaning { Form world.old.history run.old frame.old nested
-        (stm.repeat (counted is_down name.now from.now to.now) (stmts_of lines.now.items.items)) result
-        world.new.history run.new frame.new }
+        (stm.repeat (counted is_down name.now from.now to.now) (stmts_of lines.now.items.items))
+        (how_given result value.new) world.new.history run.new frame.new }
     ensures keeps { Keeps world.old.history run.old world.new.history run.new }
 {
     let counter = bounds(world, run, frame, nested, from, to, is_down)?;
-    turns(world, run, frame, nested, Some(name), counter, &lines.items)
+    turns(
+        world,
+        run,
+        frame,
+        nested,
+        Some(name),
+        counter,
+        &lines.items,
+        value,
+    )
 }
 
 /// The bounds of a repeat with a variable: both are computed, then both are converted.
@@ -110,17 +123,18 @@ pub(crate) fn repeat_forever<E: External>(
     frame: &mut Frame,
     nested: u32,
     lines: &[Stmt],
-) -> Result<How, Stop>
+    value: &mut Value,
+) -> Result<Way, Stop>
     requires nested { nested ≤ 100 }
     requires lines { stmts_depth (stmts_of lines.now) < max_depth }
     requires open { IsSome (base world.old.history).start }
-    ensures meaning { Endless world.old.history run.old frame.old nested (stmts_of lines.now) result world.new.history
-        run.new frame.new }
+    ensures meaning { Endless world.old.history run.old frame.old nested (stmts_of lines.now)
+        (how_given result value.new) world.new.history run.new frame.new }
     ensures keeps { Keeps world.old.history run.old world.new.history run.new }
 {
     loop {
         run.step()?;
-        let mut ended = run_block(world, run, frame, nested, lines);
+        let mut ended = run_block(world, run, frame, nested, lines, value);
         if ends_repeat(&mut ended) {
             return ended;
         }
@@ -139,22 +153,23 @@ pub(crate) fn repeat_while<E: External>(
     wanted: bool,
     condition: &Expr,
     lines: &[Stmt],
-) -> Result<How, Stop>
+    value: &mut Value,
+) -> Result<Way, Stop>
     requires nested { nested ≤ 100 }
     requires condition { depth condition.now < max_depth }
     requires lines { stmts_depth (stmts_of lines.now) < max_depth }
     requires open { IsSome (base world.old.history).start }
-    ensures meaning { While world.old.history run.old frame.old nested wanted condition.now (stmts_of lines.now) result
-        world.new.history run.new frame.new }
+    ensures meaning { While world.old.history run.old frame.old nested wanted condition.now (stmts_of lines.now)
+        (how_given result value.new) world.new.history run.new frame.new }
     ensures keeps { Keeps world.old.history run.old world.new.history run.new }
 {
     loop {
         run.step()?;
         let truth = truth_value(world, run, frame, nested, condition)?;
         if !goes_on(wanted, truth) {
-            return Ok(How::Next);
+            return Ok(Way::Next);
         }
-        let mut ended = run_block(world, run, frame, nested, lines);
+        let mut ended = run_block(world, run, frame, nested, lines, value);
         if ends_repeat(&mut ended) {
             return ended;
         }
@@ -173,22 +188,23 @@ pub(crate) fn turns<E: External>(
     variable: Option<&Name>,
     counter: Counter,
     lines: &[Stmt],
-) -> Result<How, Stop>
+    value: &mut Value,
+) -> Result<Way, Stop>
     requires nested { nested ≤ 100 }
     requires lines { stmts_depth (stmts_of lines.now) < max_depth }
     requires open { IsSome (base world.old.history).start }
     ensures meaning { Counts world.old.history run.old frame.old nested (option_copied variable.entry) counter
-        (stmts_of lines.now) result world.new.history run.new frame.new }
+        (stmts_of lines.now) (how_given result value.new) world.new.history run.new frame.new }
     ensures keeps { Keeps world.old.history run.old world.new.history run.new }
 {
     let mut turn = counter;
     loop {
         run.step()?;
         if turn.is_over() {
-            return Ok(How::Next);
+            return Ok(Way::Next);
         }
         assign(world, run, frame, variable, &turn)?;
-        let mut ended = run_block(world, run, frame, nested, lines);
+        let mut ended = run_block(world, run, frame, nested, lines, value);
         if ends_repeat(&mut ended) {
             return ended;
         }

@@ -12,10 +12,11 @@ ghost use Rattle.change_journal.specs.History.{History};
 ghost use Rattle.meaning.specs.declared.frame.Frame.{Frame};
 ghost use Rattle.meaning.specs.Meaning.{Alters, Block, Form, Val};
 ghost use Rattle.meaning.specs.State.{RunState};
+ghost use Rattle.primitives.specs.Given.{how_given, given, then_next};
 ghost use Rattle.interp.specs.Heads.{is_plain};
 ghost use Rattle.interp.specs.Keeps.{Keeps};
 
-use crate::expr::{eval_text, truth_value, value_of};
+use crate::expr::{eval, eval_text, truth_value, value_of};
 use crate::message::calls;
 use crate::pieces::{edit_container, pieces, resolve};
 use crate::reference::{lead, meet};
@@ -27,12 +28,13 @@ use externals::External;
 use ht_grammar::{HandlerKind, RunProp};
 use ht_tree::{Chunk, Container, Destination, Expr, Head, Ref, Stmt, StmtKind};
 use ht_values::{Fault, Op, Prop, Value, Where};
-use meaning::{Budget, Frame, How, MOST_NESTED, Stop, TextUse};
+use meaning::{Budget, Frame, MOST_NESTED, Stop, TextUse, Way};
 use primitives::numbers::alter_by_number;
 use primitives::places::{declare_globals, edit, put_into_it, set_property};
 use primitives::values::{
     empty, ends_block, leaving_text, lines, message, set_run_property, stopping,
 };
+use std::mem;
 
 /// How statements end, a step before each.
 #[cycle(run)]
@@ -44,13 +46,14 @@ pub(crate) fn run_block<E: External>(
     frame: &mut Frame,
     nested: u32,
     lines: &[Stmt],
-) -> Result<How, Stop>
+    returned: &mut Value,
+) -> Result<Way, Stop>
     requires nested { nested ≤ 100 }
     requires deep { stmts_depth (stmts_of lines.now) ≤ max_depth }
     requires open { IsSome (base world.old.history).start }
-    ensures meaning { Block world.old.history run.old frame.old nested (stmts_of lines.now) result world.new.history
-        run.new frame.new }
-    ensures passes { IfOk result (λ how. how ≡ How.Pass → run.new.left < run.old.left) }
+    ensures meaning { Block world.old.history run.old frame.old nested (stmts_of lines.now)
+        (how_given result returned.new) world.new.history run.new frame.new }
+    ensures passes { IfOk result (λ way. way ≡ Way.Pass → run.new.left < run.old.left) }
     ensures keeps { Keeps world.old.history run.old world.new.history run.new }
 {
     for stmt in lines {
@@ -58,15 +61,15 @@ pub(crate) fn run_block<E: External>(
             Ok(()) => {}
             Err(stop) => return Err(stopping(run, stmt, stop)),
         }
-        let ended = run_stmt(world, run, frame, nested, stmt);
-        if let Err(stop) = &ended {
-            return Err(stopping(run, stmt, *stop));
+        let ended = run_stmt(world, run, frame, nested, stmt, returned);
+        if let Err(stop) = ended {
+            return Err(stopping(run, stmt, stop));
         }
-        if ends_block(&ended) {
+        if ends_block(ended) {
             return ended;
         }
     }
-    Ok(How::Next)
+    Ok(Way::Next)
 }
 
 /// How a statement ends, whose step was taken. This is joined with the block in which the statement stands, so that a
@@ -80,45 +83,59 @@ pub(crate) fn run_stmt<E: External>(
     frame: &mut Frame,
     nested: u32,
     stmt: &Stmt,
-) -> Result<How, Stop>
+    returned: &mut Value,
+) -> Result<Way, Stop>
     requires nested { nested ≤ 100 }
     requires deep { stmt_depth stmt.now ≤ max_depth }
     requires open { IsSome (base world.old.history).start }
-    ensures meaning { Form world.old.history run.old frame.old nested stmt.now result world.new.history run.new
-        frame.new }
+    ensures meaning { Form world.old.history run.old frame.old nested stmt.now
+        (how_given result returned.new) world.new.history run.new frame.new }
     ensures keeps { Keeps world.old.history run.old world.new.history run.new }
 {
     match stmt.kind() {
-        StmtKind::When(condition, lines, otherwise) => {
-            when(
-                world,
-                run,
-                frame,
-                nested,
-                condition,
-                &lines.items,
-                &otherwise.items,
-            )
-        }
+        StmtKind::When(condition, lines, otherwise) => when(
+            world,
+            run,
+            frame,
+            nested,
+            condition,
+            &lines.items,
+            &otherwise.items,
+            returned,
+        ),
         StmtKind::Repeat(Head::Forever, lines) => {
-            repeat_forever(world, run, frame, nested, &lines.items)
+            repeat_forever(world, run, frame, nested, &lines.items, returned)
         }
         StmtKind::Repeat(Head::Times(times), lines) => {
-            repeat_times(world, run, frame, nested, times, &lines.items)
+            repeat_times(world, run, frame, nested, times, &lines.items, returned)
         }
-        StmtKind::Repeat(Head::While(condition), lines) => {
-            repeat_while(world, run, frame, nested, true, condition, &lines.items)
-        }
-        StmtKind::Repeat(Head::Until(condition), lines) => {
-            repeat_while(world, run, frame, nested, false, condition, &lines.items)
-        }
-        StmtKind::Repeat(Head::CountedUp(name, from, to), lines) => {
-            repeat_counted(world, run, frame, nested, name, from, to, false, lines)
-        }
-        StmtKind::Repeat(Head::CountedDown(name, from, to), lines) => {
-            repeat_counted(world, run, frame, nested, name, from, to, true, lines)
-        }
-        _ => run_plain(world, run, frame, nested, stmt),
+        StmtKind::Repeat(Head::While(condition), lines) => repeat_while(
+            world,
+            run,
+            frame,
+            nested,
+            true,
+            condition,
+            &lines.items,
+            returned,
+        ),
+        StmtKind::Repeat(Head::Until(condition), lines) => repeat_while(
+            world,
+            run,
+            frame,
+            nested,
+            false,
+            condition,
+            &lines.items,
+            returned,
+        ),
+        StmtKind::Repeat(Head::CountedUp(name, from, to), lines) => repeat_counted(
+            world, run, frame, nested, name, from, to, false, lines, returned,
+        ),
+        StmtKind::Repeat(Head::CountedDown(name, from, to), lines) => repeat_counted(
+            world, run, frame, nested, name, from, to, true, lines, returned,
+        ),
+        _ => run_plain(world, run, frame, nested, stmt, returned),
     }
 }
 
@@ -132,129 +149,91 @@ pub(crate) fn run_plain<E: External>(
     frame: &mut Frame,
     nested: u32,
     stmt: &Stmt,
-) -> Result<How, Stop>
+    returned: &mut Value,
+) -> Result<Way, Stop>
     requires nested { nested ≤ 100 }
     requires plain { is_plain stmt.now ≡ true }
     requires deep { stmt_depth stmt.now ≤ max_depth }
     requires open { IsSome (base world.old.history).start }
-    ensures meaning { Form world.old.history run.old frame.old nested stmt.now result world.new.history run.new
-        frame.new }
+    ensures meaning { Form world.old.history run.old frame.old nested stmt.now
+        (how_given result returned.new) world.new.history run.new frame.new }
     ensures keeps { Keeps world.old.history run.old world.new.history run.new }
 {
     match stmt.kind() {
         StmtKind::Put(value) => {
-            let met = value_of(world, run, frame, nested, value);
-            shown(run, met)
+            let met = eval(world, run, frame, nested, value, returned);
+            shown(run, met, returned)?;
         }
-        StmtKind::PutIn(place, value, container) => put(
-            world, run, frame, nested, *place, value, container,
-        ),
+        StmtKind::PutIn(place, value, container) => {
+            put(world, run, frame, nested, *place, value, container)?;
+        }
         StmtKind::Get(value) => {
-            let met = value_of(world, run, frame, nested, value);
-            got(world, run, frame, met)
+            let met = eval(world, run, frame, nested, value, returned);
+            got(world, run, frame, met, returned)?;
         }
-        StmtKind::Set(property, reference, value) => set(
-            world, run, frame, nested, *property, reference, value,
-        ),
+        StmtKind::Set(property, reference, value) => {
+            set(world, run, frame, nested, *property, reference, value)?;
+        }
         StmtKind::SetRun(property, value) => {
-            let met = value_of(world, run, frame, nested, value);
-            run_set(run, *property, met)
+            let met = eval(world, run, frame, nested, value, returned);
+            run_set(run, *property, met, returned)?;
         }
-        StmtKind::Add(value, container) => alter(
-            world,
-            run,
-            frame,
-            nested,
-            Op::Add,
-            value,
-            container,
-        ),
-        StmtKind::Subtract(value, container) => alter(
-            world,
-            run,
-            frame,
-            nested,
-            Op::Subtract,
-            value,
-            container,
-        ),
-        StmtKind::Multiply(container, value) => alter(
-            world,
-            run,
-            frame,
-            nested,
-            Op::Multiply,
-            value,
-            container,
-        ),
-        StmtKind::Divide(container, value) => alter(
-            world,
-            run,
-            frame,
-            nested,
-            Op::Divide,
-            value,
-            container,
-        ),
-        StmtKind::Delete(chunk, container) => delete(world, run, frame, nested, chunk, container),
-        StmtKind::Do(text) => run_do(world, run, frame, nested, text),
-        StmtKind::Send(text, reference) => run_send(world, run, frame, nested, text, reference),
-        StmtKind::Go(destination) => run_go(world, run, frame, nested, destination),
-        StmtKind::Global(names) => {
-            declare_globals(world, run, frame, &names.items)?;
-            Ok(How::Next)
+        StmtKind::Add(value, container) => {
+            alter(world, run, frame, nested, Op::Add, value, container)?;
         }
-        StmtKind::ExitRepeat => Ok(How::ExitRepeat),
-        StmtKind::NextRepeat => Ok(How::NextRepeat),
-        StmtKind::ExitToHyperCard => Err(Stop::Exited),
-        StmtKind::Exit(_) => Ok(How::Exit),
-        StmtKind::Pass(_) => Ok(How::Pass),
-        StmtKind::ReturnNothing => Ok(How::Returns(empty(run))),
+        StmtKind::Subtract(value, container) => {
+            alter(world, run, frame, nested, Op::Subtract, value, container)?;
+        }
+        StmtKind::Multiply(container, value) => {
+            alter(world, run, frame, nested, Op::Multiply, value, container)?;
+        }
+        StmtKind::Divide(container, value) => {
+            alter(world, run, frame, nested, Op::Divide, value, container)?;
+        }
+        StmtKind::Delete(chunk, container) => {
+            delete(world, run, frame, nested, chunk, container)?;
+        }
+        StmtKind::Do(text) => return run_do(world, run, frame, nested, text, returned),
+        StmtKind::Send(text, reference) => {
+            run_send(world, run, frame, nested, text, reference)?;
+        }
+        StmtKind::Go(destination) => run_go(world, run, frame, nested, destination)?,
+        StmtKind::Global(names) => declare_globals(world, run, frame, &names.items)?,
+        StmtKind::ExitRepeat => return Ok(Way::ExitRepeat),
+        StmtKind::NextRepeat => return Ok(Way::NextRepeat),
+        StmtKind::ExitToHyperCard => return Err(Stop::Exited),
+        StmtKind::Exit(_) => return Ok(Way::Exit),
+        StmtKind::Pass(_) => return Ok(Way::Pass),
+        StmtKind::ReturnNothing => {
+            *returned = empty(run);
+            return Ok(Way::Returns);
+        }
         StmtKind::ReturnValue(value) => {
-            let met = value_of(world, run, frame, nested, value);
-            returning(met)
+            eval(world, run, frame, nested, value, returned)?;
+            return Ok(Way::Returns);
         }
         StmtKind::Command(name, list) => {
             let kind = HandlerKind::Command;
-            let mut unused = Value::of_number(0);
             calls(
-                world,
-                run,
-                frame,
-                nested,
-                frame.me,
-                name,
-                list,
-                kind,
-                &mut unused,
+                world, run, frame, nested, frame.me, name, list, kind, returned,
             )?;
-            Ok(How::Next)
         }
         StmtKind::When(_, _, _) | StmtKind::Repeat(_, _) => unreachable!(),
     }
-}
-
-/// `return` with a value, if it was computed.
-#[tactic(auto, using(meaning::proofs::Rules::form_return_value_rules))]
-fn returning(met: Result<Value, Stop>) -> Result<How, Stop>
-    ensures { (w w1 : History) (r r1 : RunState) (f : Frame) (d : ℕ) (x : tree.Expr)
-        → Val w r f d x met w1 r1 → Form w r f d (stm.return_value x) result w1 r1 f }
-{
-    let value = met?;
-    Ok(How::Returns(value))
+    Ok(Way::Next)
 }
 
 /// `put` alone: a value is shown as a line, if it was computed.
 #[tactic(auto, using(meaning::proofs::Rules::form_put_rules))]
 #[inline(never)]
-fn shown(run: &mut Budget, met: Result<Value, Stop>) -> Result<How, Stop>
+fn shown(run: &mut Budget, met: Result<(), Stop>, value: &Value) -> Result<(), Stop>
     ensures meaning { (w w1 : History) (r : RunState) (f : Frame) (d : ℕ) (x : tree.Expr)
-        → Val w r f d x met w1 run.old → Form w r f d (stm.put x) result w1 run.new f }
+        → Val w r f d x (given met value.now) w1 run.old → Form w r f d (stm.put x) (then_next result) w1 run.new f }
     ensures steps { run.new.left ≡ run.old.left }
 {
-    let value = met?;
-    run.show(&value)?;
-    Ok(How::Next)
+    met?;
+    run.show(value)?;
+    Ok(())
 }
 
 /// `get`: a value becomes that of `it`, if it was computed.
@@ -264,30 +243,40 @@ fn got<E: External>(
     world: &mut World<E>,
     run: &Budget,
     frame: &mut Frame,
-    met: Result<Value, Stop>,
-) -> Result<How, Stop>
+    met: Result<(), Stop>,
+    value: &mut Value,
+) -> Result<(), Stop>
     requires open { IsSome (base world.old.history).start }
     ensures meaning { (w : History) (r : RunState) (d : ℕ) (x : tree.Expr)
-        → Val w r frame.old d x met world.old.history run.now
-        → Form w r frame.old d (stm.get x) result world.new.history run.now frame.new }
+        → Val w r frame.old d x (given met value.old) world.old.history run.now
+        → Form w r frame.old d (stm.get x) (then_next result) world.new.history run.now frame.new }
     ensures base { base world.new.history ≡ base world.old.history }
 {
-    let value = met?;
+    met?;
+    let value = mem::replace(value, Value::of_number(0));
     put_into_it(world, run, frame, value)?;
-    Ok(How::Next)
+    Ok(())
 }
 
 /// `set` of a property of the run to a value, if it was computed.
 #[tactic(auto, using(meaning::proofs::Rules::form_set_run_rules))]
 #[inline(never)]
-fn run_set(run: &mut Budget, property: RunProp, met: Result<Value, Stop>) -> Result<How, Stop>
+fn run_set(
+    run: &mut Budget,
+    property: RunProp,
+    met: Result<(), Stop>,
+    value: &mut Value,
+) -> Result<(), Stop>
     ensures meaning { (w w1 : History) (r : RunState) (f : Frame) (d : ℕ) (x : tree.Expr)
-        → Val w r f d x met w1 run.old → Form w r f d (stm.set_run property x) result w1 run.new f }
+        → Val w r f d x (given met value.old) w1 run.old
+        → Form w r f d (stm.set_run property x) (then_next result) w1 run.new f }
     ensures steps { run.new.left ≡ run.old.left }
 {
-    let text = met?.into_text(run.alloc())?;
+    met?;
+    let value = mem::replace(value, Value::of_number(0));
+    let text = value.into_text(run.alloc())?;
     set_run_property(run, property, &text)?;
-    Ok(How::Next)
+    Ok(())
 }
 
 /// `put` into a container, before it or after it.
@@ -302,19 +291,19 @@ pub(crate) fn put<E: External>(
     place: Where,
     value: &Expr,
     container: &Container,
-) -> Result<How, Stop>
+) -> Result<(), Stop>
     requires nested { nested ≤ 100 }
     requires value { depth value.now < max_depth }
     requires container { container_depth container.now < max_depth }
     requires open { IsSome (base world.old.history).start }
-    ensures meaning { Form world.old.history run.old frame.old nested (stm.put_in place value.now container.now) result
-        world.new.history run.new frame.new }
+    ensures meaning { Form world.old.history run.old frame.old nested (stm.put_in place value.now container.now)
+        (then_next result) world.new.history run.new frame.new }
     ensures keeps { Keeps world.old.history run.old world.new.history run.new }
 {
     let new = value_of(world, run, frame, nested, value)?;
     let put = Edit::Put(place, new);
     edit_container(world, run, frame, nested, container, put)?;
-    Ok(How::Next)
+    Ok(())
 }
 
 /// `set` of a property of an object.
@@ -329,19 +318,19 @@ pub(crate) fn set<E: External>(
     property: Prop,
     reference: &Ref,
     value: &Expr,
-) -> Result<How, Stop>
+) -> Result<(), Stop>
     requires nested { nested ≤ 100 }
     requires reference { ref_depth (ref_of reference.now) < max_depth }
     requires value { depth value.now < max_depth }
     requires open { IsSome (base world.old.history).start }
     ensures meaning { Form world.old.history run.old frame.old nested
-        (stm.set property (ref_of reference.now) value.now) result world.new.history run.new frame.new }
+        (stm.set property (ref_of reference.now) value.now) (then_next result) world.new.history run.new frame.new }
     ensures keeps { Keeps world.old.history run.old world.new.history run.new }
 {
     let value = eval_text(world, run, frame, nested, value)?;
     let referent = meet(world, run, frame, nested, reference)?;
     set_property(world, run, referent, property, value)?;
-    Ok(How::Next)
+    Ok(())
 }
 
 /// Arithmetic on a container. An operand that is kept as a number alters a variable at once.
@@ -356,12 +345,12 @@ pub(crate) fn alter<E: External>(
     op: Op,
     value: &Expr,
     container: &Container,
-) -> Result<How, Stop>
+) -> Result<(), Stop>
     requires nested { nested ≤ 100 }
     requires value { depth value.now < max_depth }
     requires container { container_depth container.now < max_depth }
     requires open { IsSome (base world.old.history).start }
-    ensures meaning { Alters world.old.history run.old frame.old nested op value.now container.now result
+    ensures meaning { Alters world.old.history run.old frame.old nested op value.now container.now (then_next result)
         world.new.history run.new frame.new }
     ensures keeps { Keeps world.old.history run.old world.new.history run.new }
 {
@@ -371,7 +360,7 @@ pub(crate) fn alter<E: External>(
     let operand = value_of(world, run, frame, nested, value)?;
     let change = Edit::Alter(op, operand);
     edit_container(world, run, frame, nested, container, change)?;
-    Ok(How::Next)
+    Ok(())
 }
 
 /// `delete` of pieces of a container.
@@ -385,19 +374,19 @@ pub(crate) fn delete<E: External>(
     nested: u32,
     chunk: &Chunk,
     container: &Container,
-) -> Result<How, Stop>
+) -> Result<(), Stop>
     requires nested { nested ≤ 100 }
     requires chunk { chunk_depth (chunk_of chunk.now) < max_depth }
     requires container { container_depth container.now < max_depth }
     requires open { IsSome (base world.old.history).start }
     ensures meaning { Form world.old.history run.old frame.old nested (stm.delete (chunk_of chunk.now) container.now)
-        result world.new.history run.new frame.new }
+        (then_next result) world.new.history run.new frame.new }
     ensures keeps { Keeps world.old.history run.old world.new.history run.new }
 {
     let pieces = pieces(world, run, frame, nested, chunk)?;
     let to = resolve(world, run, frame, nested, container)?.with(pieces)?;
     edit(world, run, frame, to, Edit::Delete)?;
-    Ok(How::Next)
+    Ok(())
 }
 
 /// `do`: a text is run as lines, one level deeper.
@@ -410,12 +399,13 @@ pub(crate) fn run_do<E: External>(
     frame: &mut Frame,
     nested: u32,
     text: &Expr,
-) -> Result<How, Stop>
+    returned: &mut Value,
+) -> Result<Way, Stop>
     requires nested { nested ≤ 100 }
     requires deep { depth text.now < max_depth }
     requires open { IsSome (base world.old.history).start }
-    ensures meaning { Form world.old.history run.old frame.old nested (stm.do_ text.now) result world.new.history
-        run.new frame.new }
+    ensures meaning { Form world.old.history run.old frame.old nested (stm.do_ text.now)
+        (how_given result returned.new) world.new.history run.new frame.new }
     ensures keeps { Keeps world.old.history run.old world.new.history run.new }
 {
     let text = eval_text(world, run, frame, nested, text)?;
@@ -425,8 +415,8 @@ pub(crate) fn run_do<E: External>(
     let lines = lines(run, TextUse::Do, &text)?;
     // Called for its clause alone: a tree is at most 100 levels deep.
     let _depth = lines.depth();
-    match run_block(world, run, frame, nested + 1, &lines.items) {
-        Ok(how) => Ok(how),
+    match run_block(world, run, frame, nested + 1, &lines.items, returned) {
+        Ok(way) => Ok(way),
         Err(stop) => Err(leaving_text(run, TextUse::Do, &text, stop)),
     }
 }
@@ -442,13 +432,13 @@ pub(crate) fn run_send<E: External>(
     nested: u32,
     text: &Expr,
     reference: &Ref,
-) -> Result<How, Stop>
+) -> Result<(), Stop>
     requires nested { nested ≤ 100 }
     requires text { depth text.now < max_depth }
     requires reference { ref_depth (ref_of reference.now) < max_depth }
     requires open { IsSome (base world.old.history).start }
-    ensures meaning { Form world.old.history run.old frame.old nested (stm.send text.now (ref_of reference.now)) result
-        world.new.history run.new frame.new }
+    ensures meaning { Form world.old.history run.old frame.old nested (stm.send text.now (ref_of reference.now))
+        (then_next result) world.new.history run.new frame.new }
     ensures keeps { Keeps world.old.history run.old world.new.history run.new }
 {
     let text = eval_text(world, run, frame, nested, text)?;
@@ -468,7 +458,7 @@ pub(crate) fn run_send<E: External>(
         HandlerKind::Command,
         &mut unused,
     )?;
-    Ok(How::Next)
+    Ok(())
 }
 
 /// `go` to a card or a background.
@@ -481,17 +471,17 @@ pub(crate) fn run_go<E: External>(
     frame: &mut Frame,
     nested: u32,
     destination: &Destination,
-) -> Result<How, Stop>
+) -> Result<(), Stop>
     requires nested { nested ≤ 100 }
     requires deep { destination_depth (destination_of destination.now) ≤ max_depth }
     requires open { IsSome (base world.old.history).start }
-    ensures meaning { Form world.old.history run.old frame.old nested (stm.go (destination_of destination.now)) result
-        world.new.history run.new frame.new }
+    ensures meaning { Form world.old.history run.old frame.old nested (stm.go (destination_of destination.now))
+        (then_next result) world.new.history run.new frame.new }
     ensures keeps { Keeps world.old.history run.old world.new.history run.new }
 {
     let card = lead(world, run, frame, nested, destination)?;
     let _ = go(world, run, frame, nested, card)?;
-    Ok(How::Next)
+    Ok(())
 }
 
 /// `if`.
@@ -506,20 +496,21 @@ pub(crate) fn when<E: External>(
     condition: &Expr,
     lines: &[Stmt],
     otherwise: &[Stmt],
-) -> Result<How, Stop>
+    returned: &mut Value,
+) -> Result<Way, Stop>
     requires nested { nested ≤ 100 }
     requires condition { depth condition.now < max_depth }
     requires lines { stmts_depth (stmts_of lines.now) < max_depth }
     requires otherwise { stmts_depth (stmts_of otherwise.now) < max_depth }
     requires open { IsSome (base world.old.history).start }
     ensures meaning { Form world.old.history run.old frame.old nested
-        (stm.when condition.now (stmts_of lines.now) (stmts_of otherwise.now)) result world.new.history run.new
-        frame.new }
+        (stm.when condition.now (stmts_of lines.now) (stmts_of otherwise.now))
+        (how_given result returned.new) world.new.history run.new frame.new }
     ensures keeps { Keeps world.old.history run.old world.new.history run.new }
 {
     if truth_value(world, run, frame, nested, condition)? {
-        run_block(world, run, frame, nested, lines)
+        run_block(world, run, frame, nested, lines, returned)
     } else {
-        run_block(world, run, frame, nested, otherwise)
+        run_block(world, run, frame, nested, otherwise, returned)
     }
 }

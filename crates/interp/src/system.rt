@@ -44,6 +44,7 @@ pub(crate) fn system<E: External>(
     }
     let name = message.text(run.alloc())?;
     let values = Arguments::new(run.alloc());
+    let mut value = empty(run);
     send(
         world,
         run,
@@ -53,7 +54,9 @@ pub(crate) fn system<E: External>(
         &name,
         &values,
         HandlerKind::Command,
-    )
+        &mut value,
+    )?;
+    Ok(value)
 }
 
 /// Messages of the system, each to the card that is current at that moment.

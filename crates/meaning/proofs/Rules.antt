@@ -253,8 +253,6 @@ pub ruleset form_send_rules = (Form.form_memory, Form.send_text_stops, Form.send
 
 pub ruleset form_go_rules = (Form.form_memory, Form.go_nowhere, Form.go_stops, Form.go)
 
-pub ruleset form_return_value_rules = (Form.form_memory, Form.return_stops, Form.return_value)
-
 pub ruleset form_when_rules = (Form.form_memory, Form.if_stops, Form.if_true, Form.if_false)
 
 pub ruleset form_repeat_times_rules = (Form.form_memory, Form.times_stops, Form.times)

@@ -3,7 +3,7 @@
 use ht_values::{Failure, Fault, Text, Value};
 use std::alloc::AllocError;
 
-/// How a statement ends that doesn't stop the run.
+/// How a statement ends that doesn't stop the run, as the rules see it.
 #[derive(Drop)]
 pub enum How {
     /// What stands after it goes on.
@@ -15,6 +15,17 @@ pub enum How {
     /// The message goes on behind the handler's object.
     Pass,
     Returns(Value),
+}
+
+/// In which way a statement ends, where what it returns stands in a place of the caller's.
+#[derive(Clone, Copy, PartialEq, Eq, Debug)]
+pub enum Way {
+    Next,
+    ExitRepeat,
+    NextRepeat,
+    Exit,
+    Pass,
+    Returns,
 }
 
 /// Why a part of a run ends the whole.

@@ -1,6 +1,6 @@
 //! The frame of what runs: whose handler it is, to whom the message was sent, and its variables.
 
-ghost use Rattle.std.specs.Prelude.{◌≡◌, IfOk};
+ghost use Rattle.std.specs.Prelude.{◌≡◌, [], OnOk};
 ghost use Rattle.meaning.specs.State.{handler_frame, typed_frame_at};
 
 use containers::Variables;
@@ -44,21 +44,28 @@ impl Frame {
         }
     }
 
-    /// The frame of a handler of an object, in which its parameters have the arguments. It takes no memory where there
-    /// are no parameters.
-    pub fn of_handler(
-        alloc: Global,
-        me: Id,
-        target: Id,
-        parameters: &Parameters,
-        arguments: &[Value],
-    ) -> Result<Frame, AllocError>
-        ensures { IfOk result (λ f. f ≡ handler_frame me target parameters.now arguments.now) }
+    /// The frame of a handler of an object, whose parameters have no arguments yet. It takes no memory.
+    #[inline(always)]
+    pub fn of_handler(alloc: Global, me: Id, target: Id) -> Frame
+        ensures { result ≡ handler_frame me target [] [] }
     {
-        Ok(Frame {
+        Frame {
             me,
             target,
-            variables: Variables::of_parameters(alloc, parameters, arguments)?,
-        })
+            variables: Variables::of_handler(alloc),
+        }
+    }
+
+    /// Gives the parameters of the handler the arguments. It takes no memory where there are no parameters.
+    #[inline(always)]
+    pub fn bind(
+        &mut self,
+        alloc: Global,
+        parameters: &Parameters,
+        arguments: &[Value],
+    ) -> Result<(), AllocError>
+        ensures { OnOk result (self.new ≡ handler_frame self.old.me self.old.target parameters.now arguments.now) }
+    {
+        self.variables.bind(alloc, parameters, arguments)
     }
 }

@@ -20,7 +20,7 @@ mod trace;
 
 pub use budget::Budget;
 pub use counter::Counter;
-pub use end::{Conversed, Ended, How, Stop};
+pub use end::{Conversed, Ended, How, Stop, Way};
 pub use frame::Frame;
 pub use item::Item;
 pub use limits::{MOST_ARGUMENTS, MOST_NESTED};

@@ -8,7 +8,7 @@
 //!   what is read of an operand where it stands (`operand_part`, `operand_count`, `operand_into_text`,
 //!   `call_of_operand`).
 //! - Objects and messages: objects and changes (`part_in`, `card_to`, `make`, `add`), handlers and externals (`find`,
-//!   `handler_frame`, `outcome`, `take_turn`).
+//!   `bind`, `ends_message`, `take_turn`).
 #![tactic(auto)]
 
 pub mod arguments;

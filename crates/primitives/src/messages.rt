@@ -1,7 +1,7 @@
 //! Messages, handlers and externals, as the rules find and end them.
 
-ghost use Rattle.std.specs.Prelude.{◌≡◌, ◌<◌, [], ◌∷◌, ◌++◌, length, true, IsSome, IfOk, IfSome};
-ghost use Rattle.std.specs.Prelude.{OnOk, None, Some};
+ghost use Rattle.std.specs.Prelude.{◌≡◌, ◌<◌, [], ◌∷◌, ◌++◌, length, true, false, IsSome, IfOk, IfSome};
+ghost use Rattle.std.specs.Prelude.{OnOk, Some};
 ghost use Rattle.externals.specs.declared.external.Ask.TheVariants as ask;
 ghost use Rattle.externals.specs.declared.external.Input.TheVariants as input;
 ghost use Rattle.change_journal.specs.Rising.{TookTurn};
@@ -12,6 +12,7 @@ ghost use Rattle.meaning.specs.Menu.{item_named as item_by_name, items as menu_i
 ghost use Rattle.meaning.specs.Messages.{Finds, is_ignored as ignores, only as only_of, parameters_of};
 ghost use Rattle.meaning.specs.Repeats.{ends, returned as returned_by};
 ghost use Rattle.meaning.specs.State.{handler_frame as frame_of_handler};
+ghost use Rattle.primitives.specs.Given.{how_of};
 
 use crate::arguments::Arguments;
 use crate::values::empty;
@@ -20,10 +21,11 @@ use externals::{Ask, External, Input, Texts};
 use ht_grammar::HandlerKind;
 use ht_lex::is_same;
 use ht_values::{Failure, Fault, PartKind, Text, Value};
-use meaning::{Budget, Frame, How, Item, Stop};
+use meaning::{Budget, Frame, Item, Stop, Way};
 use msg_path::{FoundHandler, external_named, first_handler, is_system_message};
 use object_table::Id;
 use std::alloc::AllocError;
+use std::mem;
 
 /// The first handler of a kind and a name on a path; `None` where there is none. A script on the way that isn't in the
 /// grammar is the fault of syntax.
@@ -78,54 +80,52 @@ pub fn not_understood(run: &Budget, name: &Text) -> Stop
     Stop::Fault(Fault::CantUnderstand)
 }
 
-/// The frame of a handler, in which its parameters have the arguments.
+/// Gives the parameters of a handler the arguments, in its frame.
 #[inline(never)]
-pub fn handler_frame(
+pub fn bind(
     run: &Budget,
     found: &FoundHandler,
-    target: Id,
     values: &Arguments,
-) -> Result<Frame, AllocError>
-    ensures { IfOk result (λ f. f ≡ frame_of_handler found.now.object target (parameters_of found.now.handler)
-        values.now) }
+    frame: &mut Frame,
+) -> Result<(), AllocError>
+    ensures { OnOk result (frame.new ≡ frame_of_handler frame.old.me frame.old.target
+        (parameters_of found.now.handler) values.now) }
 {
-    Frame::of_handler(
-        run.alloc(),
-        found.object(),
-        target,
-        &found.handler().parameters,
-        values.as_slice(),
-    )
+    frame.bind(run.alloc(), &found.handler().parameters, values.as_slice())
 }
 
-/// What a value is that a handler or an external returns: that of a function, or `the result` of a command.
+/// A handler or an external has returned the value in a place: it stays there for a function, and is `the result` for a
+/// command, which gives an empty one.
 #[inline(never)]
-pub fn returned(run: &mut Budget, kind: HandlerKind, value: Value) -> Value
-    ensures meaning { returned_by kind value run.old ≡ record { value = result; run = run.new } }
+pub fn returned(run: &mut Budget, kind: HandlerKind, value: &mut Value)
+    ensures meaning { returned_by kind value.old run.old ≡ record { value = value.new; run = run.new } }
     ensures left { run.new.left ≡ run.old.left }
 {
     match kind {
         HandlerKind::Command => {
-            run.set_result(value);
-            empty(run)
+            let none = empty(run);
+            run.set_result(mem::replace(value, none));
         }
-        HandlerKind::Function => value,
+        HandlerKind::Function => {}
     }
 }
 
-/// What a handler gives by the end of its lines; `None` where it passes the message.
+/// Whether a handler ends the message by the end of its lines, and doesn't pass it. Then what it gives stands in the
+/// place in which it wrote what it returns, if it does.
 #[inline(always)]
-pub fn outcome(run: &mut Budget, kind: HandlerKind, how: How) -> Option<Value>
-    ensures passed { result ≡ None → how ≡ How.Pass }
-    ensures ended { IfSome result (λ v. ends kind how run.old ≡ Some (record { value = v; run = run.new })) }
-    ensures same { result ≡ None → run.new ≡ run.old }
+pub fn ends_message(run: &mut Budget, kind: HandlerKind, way: Way, value: &mut Value) -> bool
+    ensures passed { result ≡ false → way ≡ Way.Pass }
+    ensures ended { result ≡ true → ends kind (how_of way value.old) run.old
+        ≡ Some (record { value = value.new; run = run.new }) }
+    ensures same { result ≡ false → run.new ≡ run.old }
     ensures left { run.new.left ≡ run.old.left }
 {
-    match how {
-        How::Pass => None,
-        How::Returns(value) => Some(returned(run, kind, value)),
-        How::Next | How::Exit | How::ExitRepeat | How::NextRepeat => Some(empty(run)),
+    match way {
+        Way::Pass => return false,
+        Way::Returns => returned(run, kind, value),
+        Way::Next | Way::Exit | Way::ExitRepeat | Way::NextRepeat => *value = empty(run),
     }
+    true
 }
 
 /// The number of the external that a message means.

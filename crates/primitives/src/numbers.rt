@@ -8,7 +8,7 @@ ghost use Rattle.containers.specs.Base.{base};
 ghost use Rattle.meaning.specs.Meaning.{Alters, NumberVal, TruthVal, Val};
 ghost use Rattle.meaning.specs.State.{RunState};
 ghost use Rattle.primitives.specs.Atoms.{is_atom};
-ghost use Rattle.primitives.specs.Given.{given};
+ghost use Rattle.primitives.specs.Given.{given, then_next};
 
 use crate::atoms::atom;
 use crate::places::alter_variable;
@@ -17,7 +17,7 @@ use change_journal::World;
 use externals::External;
 use ht_tree::{Container, ContainerKind, Expr, ExprForm, ExprKind};
 use ht_values::{Op, Value, number_by, truth_by};
-use meaning::{Budget, Frame, How, Stop};
+use meaning::{Budget, Frame, Stop};
 
 /// The number as which a name or a literal is kept; `None` where it isn't kept so, and for every other expression.
 #[tactic(auto, using(meaning::proofs::Rules::val_rules))]
@@ -154,10 +154,10 @@ pub fn alter_by_number<E: External>(
     op: Op,
     value: &Expr,
     container: &Container,
-) -> Option<Result<How, Stop>>
+) -> Option<Result<(), Stop>>
     requires open { IsSome (base world.old.history).start }
     ensures meaning { IfSome result (λ o. (d : ℕ)
-        → Alters world.old.history run.now frame.old d op value.now container.now o
+        → Alters world.old.history run.now frame.old d op value.now container.now (then_next o)
         world.new.history run.now frame.new) }
     ensures none { IfNone result ((world.new ≡ world.old) × (frame.new ≡ frame.old)) }
     ensures base { base world.new.history ≡ base world.old.history }
@@ -166,8 +166,5 @@ pub fn alter_by_number<E: External>(
         return None;
     };
     let number = kept_number(frame, value)?;
-    match alter_variable(world, run, frame, name, op, Value::of_number(number)) {
-        Ok(()) => Some(Ok(How::Next)),
-        Err(stop) => Some(Err(stop)),
-    }
+    Some(alter_variable(world, run, frame, name, op, Value::of_number(number)))
 }

@@ -1,6 +1,6 @@
 //! Values and parsing. A call that computes or parses may also be out of memory, which is `Stop::Memory`.
 
-ghost use Rattle.std.specs.Prelude.{◌≡◌, ℕ, pos, [], ◌∷◌, Ok, Err, IfOk, IfErr, IfSome, OnOk, OnErr};
+ghost use Rattle.std.specs.Prelude.{◌≡◌, ℕ, List, pos, [], ◌∷◌, Ok, Err, IfOk, IfErr, IfSome, OnOk, OnErr};
 ghost use Rattle.ht_values.specs.Functions.{built_in as built_in_of};
 ghost use Rattle.ht_values.specs.Number.{number_of as number_of_text};
 ghost use Rattle.ht_values.specs.Operators.{binary as binary_of, unary as unary_of, truth_of as truth_of_text};
@@ -17,7 +17,7 @@ ghost use Rattle.meaning.specs.State.{RunState, run_property_set};
 ghost use Rattle.meaning.specs.Repeats.{counter_of, goes_on as goes_on_of};
 ghost use Rattle.meaning.specs.Values.{Parses, Yields};
 ghost use Rattle.primitives.specs.Blocks.{EndsBlock, EndsRepeat};
-ghost use Rattle.primitives.specs.Given.{given};
+ghost use Rattle.primitives.specs.Given.{how_given, given};
 ghost use Rattle.primitives.specs.Views.{read_as};
 
 use crate::arguments::Arguments;
@@ -29,7 +29,7 @@ use ht_values::{
     Failure, Fault, Func, Op, Text, UnOp, Value, binary, built_in, number_by, truth_by, unary,
 };
 use itoa::Buffer;
-use meaning::{Budget, Counter, How, Stop, TextUse};
+use meaning::{Budget, Counter, Stop, TextUse, Way};
 use object_references::Referent;
 use std::alloc::AllocError;
 use std::rc::Rc;
@@ -228,16 +228,16 @@ pub fn goes_on(wanted: bool, truth: bool) -> bool
 /// would take room in the frame of each repeat.
 #[tactic(auto, using(crate::proofs::Blocks::repeat_rules))]
 #[inline(always)]
-pub fn ends_repeat(ended: &mut Result<How, Stop>) -> bool
-    ensures { EndsRepeat ended.old result ended.new }
+pub fn ends_repeat(ended: &mut Result<Way, Stop>) -> bool
+    ensures { (v : List ℕ) → EndsRepeat (how_given ended.old v) result (how_given ended.new v) }
 {
     match ended {
-        Ok(How::Next | How::NextRepeat) => false,
-        Ok(How::ExitRepeat) => {
-            *ended = Ok(How::Next);
+        Ok(Way::Next | Way::NextRepeat) => false,
+        Ok(Way::ExitRepeat) => {
+            *ended = Ok(Way::Next);
             true
         }
-        Ok(How::Exit | How::Pass | How::Returns(_)) | Err(_) => true,
+        Ok(Way::Exit | Way::Pass | Way::Returns) | Err(_) => true,
     }
 }
 
@@ -272,11 +272,11 @@ pub fn stopping(run: &Budget, stmt: &Stmt, stop: Stop) -> Stop
 /// Whether the end of a statement ends its block. It is looked at where it stands.
 #[tactic(auto, using(crate::proofs::Blocks::block_rules))]
 #[inline(always)]
-pub fn ends_block(ended: &Result<How, Stop>) -> bool
-    ensures { EndsBlock ended.now result }
+pub fn ends_block(ended: Result<Way, Stop>) -> bool
+    ensures { (v : List ℕ) → EndsBlock (how_given ended v) result }
 {
     match ended {
-        Ok(How::Next) => false,
+        Ok(Way::Next) => false,
         Ok(_) => true,
         Err(_) => true,
     }

@@ -1,11 +1,13 @@
-use Rattle.std.proofs.Common.{rules, arith, refl, sym, ap, ◌∙◌, drop_of_length-le, SFits, w64}
+use Rattle.std.proofs.Common.{◌≡◌, ℕ, List, [], rules, arith, refl, sym, ap, ◌∙◌, drop_of_length-le, SFits, w64}
 use Rattle.std.proofs.lemmas.Grind.{common_steps}
 use Rattle.std.proofs.lemmas.Int.{to_z-of_z}
 use Rattle.std.proofs.lemmas.Result.{err_from_is_err_and}
 use Rattle.ht_tree.specs.ContainerView.{container_of}
 use Rattle.ht_tree.specs.StatementView.{stmts_of}
-use Rattle.meaning.specs.Messages.{lines_of}
+use Rattle.meaning.specs.declared.frame.Frame.{Frame}
+use Rattle.meaning.specs.Messages.{lines_of, parameters_of}
 use Rattle.meaning.specs.Meaning.{Vals, Form, Block, Resolves, Along, Talks, Systems}
+use Rattle.meaning.specs.State.{handler_frame}
 use Rattle.primitives.proofs.Lists.{cut_at}
 use Rattle.interp.proofs.Blocks.{block_ends, block_goes_on, counts_turn, endless_turns, while_turns}
 use Rattle.interp.proofs.Loops.{cut_exprs, no_exprs, deep_expr, cut_stmts, no_stmts, deep_stmt}
@@ -66,34 +68,47 @@ pub expr::arguments-returns-clause-meaning : goal.expr::arguments-returns-clause
 expr::arguments-returns-clause-meaning g t c =
     c.loop-e.invariant.rest _ _ _ (Vals.vals_done (no_exprs c.args.list.now c.loop-e.e-index c.loop-e-test.false))
 
+-- a frame that is filled in its place
+framed : {f f1 : Frame} {me target : ℕ} (names values : List (List ℕ)) → f ≡ handler_frame me target [] []
+    → f1 ≡ handler_frame f.me f.target names values → f1 ≡ handler_frame me target names values
+framed names values is bound = bound ∙ ap (λ f. handler_frame f.me f.target names values) is
+
 pub message::along-returns-in-Err-clause-meaning : goal.message::along-returns-in-Err-clause-meaning
 message::along-returns-in-Err-clause-meaning g t c =
     let q = ap stmts_of c.deref.ensures.value ∙ ap lines_of c.handler-in-Some.ensures in
     rw c.leaving.ensures (c.loop-world.invariant.rest _ _ _
     (Along.along_stops {fd = c.in-Some.found} (search rules) (first_of (search rules, grind (arith, common_steps)))
-    c.in_ok-inner-in-Some.ensures (rw (c.in-Err.is, q, c.find.ensures.world) at c.run_block-ended.ensures.meaning)))
+    (framed (parameters_of c.in-Some.found.handler) c.args.values.now
+    (rw c.object.ensures at c.of_handler-inner.ensures) c.in_ok-bind-in-Some.ensures)
+    (rw (c.in-Err.is, q, c.find.ensures.world) at c.run_block-ended.ensures.meaning)))
 
-pub message::along-returns-in-Some-outcome-clause-meaning : goal.message::along-returns-in-Some-outcome-clause-meaning
-message::along-returns-in-Some-outcome-clause-meaning g t c =
+pub message::along-returns-then-ends_message-clause-meaning :
+    goal.message::along-returns-then-ends_message-clause-meaning
+message::along-returns-then-ends_message-clause-meaning g t c =
     let q = ap stmts_of c.deref.ensures.value ∙ ap lines_of c.handler-in-Some.ensures in
     c.loop-world.invariant.rest _ _ _
     (Along.along_ends {fd = c.in-Some.found} (search rules) (first_of (search rules, grind (arith, common_steps)))
-    c.in_ok-inner-in-Some.ensures (rw (c.in-Ok.is, q, c.find.ensures.world) at c.run_block-ended.ensures.meaning)
-    c.in-Some-outcome.ensures.ended)
+    (framed (parameters_of c.in-Some.found.handler) c.args.values.now
+    (rw c.object.ensures at c.of_handler-inner.ensures) c.in_ok-bind-in-Some.ensures)
+    (rw (c.in-Ok.is, q, c.find.ensures.world) at c.run_block-ended.ensures.meaning)
+    (c.ends_message.ensures.ended c.if-ends_message.true))
 
 pub message::along-loop-world-preserved : goal.message::along-loop-world-preserved
 message::along-loop-world-preserved g t c =
     let q = ap stmts_of c.deref.ensures.value ∙ ap lines_of c.handler-in-Some.ensures in
-    let passes = c.outcome.ensures.passed c.in-None-outcome.is in
-    let same = c.outcome.ensures.same c.in-None-outcome.is in
+    let passes = c.ends_message.ensures.passed c.if-ends_message.false in
+    let same = c.ends_message.ensures.same c.if-ends_message.false in
     record {
-      fewer = omega (arith, c.outcome.ensures.left, c.run_block-ended.ensures.keeps.1, c.loop-world.invariant.fewer);
+      fewer = omega
+          (arith, c.ends_message.ensures.left, c.run_block-ended.ensures.keeps.1, c.loop-world.invariant.fewer);
       base = (rw (c.find.ensures.world) at c.run_block-ended.ensures.keeps.0) ∙ c.loop-world.invariant.base;
       rest = λ o w r h. c.loop-world.invariant.rest _ _ _
           (Along.along_passes {fd = c.in-Some.found} (search rules)
-          (first_of (search rules, grind (arith, common_steps))) c.in_ok-inner-in-Some.ensures
+          (first_of (search rules, grind (arith, common_steps)))
+          (framed (parameters_of c.in-Some.found.handler) c.args.values.now
+          (rw c.object.ensures at c.of_handler-inner.ensures) c.in_ok-bind-in-Some.ensures)
           (rw (c.in-Ok.is, q, passes, c.find.ensures.world) at c.run_block-ended.ensures.meaning)
-          (rw (c.stack.ensures.content, c.current.ensures.value, c.object.ensures) at c.path_after-rest.ensures)
+          (rw (c.stack.ensures.content, c.current.ensures.value, c.object-in-Some.ensures) at c.path_after-rest.ensures)
           (rw same at h));
     }
 
@@ -128,7 +143,7 @@ stmt::run_block-returns-then-ends_block-clause-meaning g t c =
     c.loop-stmt.invariant.rest _ _ _ _
     (block_ends (cut_stmts c.args.lines.now c.loop-stmt.stmt-index c.stmt-item.result c.loop-stmt-test.true
     c.stmt-item.is) (rw c.in-Ok.is at c.step.ensures.meaning) c.run_stmt-ended.ensures.meaning
-    (rw c.if-ends_block.true at c.ends_block.ensures))
+    (rw c.if-ends_block.true at (c.ends_block.ensures c.run_stmt-ended.new.returned)))
 
 pub stmt::run_block-loop-stmt-preserved : goal.stmt::run_block-loop-stmt-preserved
 stmt::run_block-loop-stmt-preserved g t c = record {
@@ -137,7 +152,7 @@ stmt::run_block-loop-stmt-preserved g t c = record {
   rest = λ o w r f h. c.loop-stmt.invariant.rest _ _ _ _
       (block_goes_on (cut_stmts c.args.lines.now c.loop-stmt.stmt-index c.stmt-item.result c.loop-stmt-test.true
       c.stmt-item.is) (rw c.in-Ok.is at c.step.ensures.meaning) c.run_stmt-ended.ensures.meaning
-      (rw c.if-ends_block.false at c.ends_block.ensures) h);
+      (rw c.if-ends_block.false at (c.ends_block.ensures c.run_stmt-ended.new.returned)) h);
 }
 
 pub stmt::run_block-returns-clause-meaning : goal.stmt::run_block-returns-clause-meaning
@@ -193,31 +208,33 @@ expr::lent_part-returns-clause-meaning g t c =
     rw (to_z-of_z w64 c.args.from from, to_z-of_z w64 c.args.to to) at
     (taken_part c.in_ok-text.text c.in_ok-text.ensures.meaning c.pieces_at.ensures c.operand_part.ensures)
 
-pub repeat::repeat_forever-loop-world-preserved-else-ends_repeat-2 :
-    goal.repeat::repeat_forever-loop-world-preserved-else-ends_repeat-2
-repeat::repeat_forever-loop-world-preserved-else-ends_repeat-2 g t c = record {
+pub repeat::repeat_forever-loop-world-preserved :
+    goal.repeat::repeat_forever-loop-world-preserved
+repeat::repeat_forever-loop-world-preserved g t c = record {
   fewer = search rules;
   base = search rules;
   rest = λ o w r f h. c.loop-world.invariant.rest _ _ _ _
       (endless_turns c.in_ok-step.ensures.meaning c.run_block-ended.ensures.meaning
-      (rw c.if-ends_repeat.false at c.ends_repeat.ensures) h);
+      (rw c.if-ends_repeat.false at (c.ends_repeat.ensures c.run_block-ended.new.returned)) h);
 }
 
-pub repeat::repeat_while-loop-world-preserved-else-ends_repeat-2 :
-    goal.repeat::repeat_while-loop-world-preserved-else-ends_repeat-2
-repeat::repeat_while-loop-world-preserved-else-ends_repeat-2 g t c = record {
+pub repeat::repeat_while-loop-world-preserved :
+    goal.repeat::repeat_while-loop-world-preserved
+repeat::repeat_while-loop-world-preserved g t c = record {
   fewer = search rules;
   base = search rules;
   rest = λ o w r f h. c.loop-world.invariant.rest _ _ _ _
       (while_turns c.in_ok-step.ensures.meaning c.in_ok-truth.ensures.meaning (search rules)
-      c.run_block-ended.ensures.meaning (rw c.if-ends_repeat.false at c.ends_repeat.ensures) h);
+      c.run_block-ended.ensures.meaning
+      (rw c.if-ends_repeat.false at (c.ends_repeat.ensures c.run_block-ended.new.returned)) h);
 }
 
-pub repeat::turns-loop-turn-preserved-else-ends_repeat-2 : goal.repeat::turns-loop-turn-preserved-else-ends_repeat-2
-repeat::turns-loop-turn-preserved-else-ends_repeat-2 g t c = record {
+pub repeat::turns-loop-turn-preserved : goal.repeat::turns-loop-turn-preserved
+repeat::turns-loop-turn-preserved g t c = record {
   fewer = search rules;
   base = search rules;
   rest = λ o w r f h. c.loop-turn.invariant.rest _ _ _ _
       (counts_turn c.in_ok-step.ensures.meaning (search rules) c.in_ok-assign.ensures.meaning
-      c.run_block-ended.ensures.meaning (rw c.if-ends_repeat.false at c.ends_repeat.ensures) (search rules) h);
+      c.run_block-ended.ensures.meaning
+      (rw c.if-ends_repeat.false at (c.ends_repeat.ensures c.run_block-ended.new.returned)) (search rules) h);
 }
