@@ -132,6 +132,10 @@ OPERATIONS: Sequence[Operation] = (
               "send t to this stack", 3),
     Operation("the same, each a name", with_hear, ['put "hear a" into t', *repeated(",a", ARGUMENTS - 1, "t")],
               "send t to this stack", 3),
+    # A run keeps the trees of the texts that it sent last, so here each text is another one.
+    Operation("the same, a new text each time", with_hear,
+              ['put "hear a" into t', *repeated(",a", ARGUMENTS - 1, "t"), "put 0 into n"],
+              "add 1 to n\rsend t & n to this stack", 4),
 )
 
 
