@@ -20,6 +20,9 @@ use std::rc::Rc;
 /// How many texts of a kind are kept at most. Each costs a comparison where a text is new.
 const MOST_KEPT: usize = 4;
 
+/// How many bytes these texts may have together: a long one, and short ones beside it.
+const MOST_KEPT_BYTES: usize = 32_000;
+
 /// What a text is read as.
 trait Tree: Drop {
     ghost use Rattle.std.specs.Prelude.{ℕ, List};
@@ -98,13 +101,25 @@ impl<T: Tree> Recent<T> {
         None
     }
 
-    /// Keeps a text with its tree. The oldest goes where there are too many. Where it is out of memory, the text isn't
-    /// kept.
-    fn keep(&self, kept: ReadText<T>) {
+    /// Makes room for a new text: the oldest goes where there are too many, and all go where these are too long. So the
+    /// tree of the new one, which is parsed next, takes the memory of those.
+    fn make_room(&self, new: &Text) {
         if let Ok(mut texts) = self.texts.try_borrow_mut() {
-            if texts.len() == MOST_KEPT {
+            let mut bytes = new.len();
+            for kept in texts.as_slice() {
+                bytes = bytes.saturating_add(kept.text.len());
+            }
+            if bytes > MOST_KEPT_BYTES {
+                texts.clear();
+            } else if texts.len() == MOST_KEPT {
                 let _ = texts.remove(0);
             }
+        }
+    }
+
+    /// Keeps a text with its tree, for which there is room. Where it is out of memory, the text isn't kept.
+    fn keep(&self, kept: ReadText<T>) {
+        if let Ok(mut texts) = self.texts.try_borrow_mut() {
             let _ = texts.push(kept);
         }
     }
@@ -149,7 +164,10 @@ impl RecentTexts {
     {
         match self.lines.get(text) {
             Some(lines) => Ok(lines),
-            None => self.lines.kept(alloc, text, parse_lines(alloc, text)?),
+            None => {
+                self.lines.make_room(text);
+                self.lines.kept(alloc, text, parse_lines(alloc, text)?)
+            }
         }
     }
 
@@ -159,7 +177,10 @@ impl RecentTexts {
     {
         match self.messages.get(text) {
             Some(message) => Ok(message),
-            None => self.messages.kept(alloc, text, parse_message(alloc, text)?),
+            None => {
+                self.messages.make_room(text);
+                self.messages.kept(alloc, text, parse_message(alloc, text)?)
+            }
         }
     }
 
@@ -169,7 +190,10 @@ impl RecentTexts {
     {
         match self.expressions.get(text) {
             Some(expr) => Ok(expr),
-            None => self.expressions.kept(alloc, text, parse_expr(alloc, text)?),
+            None => {
+                self.expressions.make_room(text);
+                self.expressions.kept(alloc, text, parse_expr(alloc, text)?)
+            }
         }
     }
 }
