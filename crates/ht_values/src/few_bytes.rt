@@ -48,6 +48,17 @@ impl FewBytes {
         few
     }
 
+    /// The same bytes in another place. The whole place is copied, which is faster than to look how much of it is used.
+    #[inline]
+    pub(crate) fn duplicate(&self) -> FewBytes
+        ensures { result ≡ self.now }
+    {
+        FewBytes {
+            count: self.count,
+            place: self.place,
+        }
+    }
+
     /// Adds bytes at the end, where there is room for them.
     pub(crate) fn append(&mut self, bytes: &[u8])
         requires { length self.old + length bytes.now ≤ IN_PLACE }

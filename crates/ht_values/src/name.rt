@@ -11,8 +11,8 @@ use std::marker::Model;
 /// names is found without memory.
 pub struct Name {
     spelling: Text,
-    /// The folded form, where it isn't the spelling.
-    folded: Option<Text>,
+    /// The folded form, where it isn't the spelling: in a box, since most names are spelled in small letters.
+    folded: Option<Box<Text>>,
 }
 
 /// Written here and not derived, so that no crate above proves anew how it is dropped.
@@ -26,26 +26,27 @@ impl Drop for Name {
 }
 
 impl Model for Name {
-    ghost use Rattle.std.specs.Prelude.{◌≡◌, ℕ, List, unwrap_or};
+    ghost use Rattle.std.specs.Prelude.{◌≡◌, ℕ, List, option_map, unwrap_or};
     ghost use Rattle.ht_values.specs.Text.{folded as folded_of};
 
     ghost Value = { List ℕ };
 
     ghost view = { λ n. n.spelling };
 
-    ghost invariant = { λ n. unwrap_or n.folded n.spelling ≡ folded_of n.spelling };
+    ghost invariant = { λ n. unwrap_or (option_map (λ b. b.value) n.folded) n.spelling ≡ folded_of n.spelling };
 }
 
 impl Name {
     /// The name of this spelling. It takes memory only where the spelling isn't folded.
     #[tactic(auto, using(crate::proofs::Folding::folded_stays))]
+    #[inline]
     pub fn new(alloc: Global, spelling: Text) -> Result<Name, AllocError>
         ensures { IfOk result (λ n. n ≡ spelling) }
     {
         let folded = if spelling.is_folded() {
             None
         } else {
-            Some(spelling.folded(alloc)?)
+            Some(boxed_fold(alloc, &spelling)?)
         };
         Ok(Name { spelling, folded })
     }
@@ -66,4 +67,13 @@ impl Name {
             None => &self.spelling,
         }
     }
+}
+
+/// A spelling with A-Z folded to a-z, in a box. It is out of line, so that a name of small letters is made in a few
+/// instructions.
+#[inline(never)]
+fn boxed_fold(alloc: Global, spelling: &Text) -> Result<Box<Text>, AllocError>
+    ensures { IfOk result (λ b. b.value ≡ folded_of spelling.now) }
+{
+    Ok(Box::new(alloc, spelling.folded(alloc)?)?)
 }

@@ -131,7 +131,8 @@ pub fn numeral(text: &Text) -> Option<i64>
 pub fn plain_number(text: &[u8]) -> Option<i64>
     ensures { IfSome result (λ n. numeral_text n ≡ text.now) }
 {
-    if text.is_empty() || 18 < text.len() {
+    // Most texts that are no numerals begin with another byte than a digit.
+    if text.is_empty() || !text[0].is_ascii_digit() || 18 < text.len() {
         return None;
     }
     if text[0] == b'0' && 1 < text.len() {

@@ -94,6 +94,7 @@ impl Text {
     }
 
     /// A text of these bytes, which are known to fit. It takes no memory where the text has at most 22 bytes.
+    #[inline]
     pub fn fitting(alloc: Global, bytes: &[u8]) -> Result<Text, AllocError>
         requires { length bytes.now ≤ LIMIT }
         ensures value { IfOk result (λ t. t ≡ bytes.now) }
@@ -102,7 +103,7 @@ impl Text {
         if bytes.len() <= IN_PLACE {
             return Ok(Text::in_place(alloc, FewBytes::copied(bytes)));
         }
-        Text::boxed(alloc, Vec::from_slice(alloc, bytes)?)
+        Text::boxed_copy(alloc, bytes)
     }
 
     /// The text of these bytes. At most 22 are copied, which takes no memory; more are taken over, which takes a box.
@@ -153,12 +154,27 @@ impl Text {
         })
     }
 
+    /// A copy of more bytes than stand in a text's own place. It is out of line, so that a short text is made in a few
+    /// instructions.
+    #[inline(never)]
+    fn boxed_copy(alloc: Global, bytes: &[u8]) -> Result<Text, AllocError>
+        requires long { IN_PLACE < length bytes.now }
+        requires fits { length bytes.now ≤ LIMIT }
+        ensures { IfOk result (λ t. t ≡ bytes.now) }
+    {
+        Text::boxed(alloc, Vec::from_slice(alloc, bytes)?)
+    }
+
     /// An equal text. It takes no memory where the text has at most 22 bytes.
+    #[inline]
     pub fn try_clone(&self, alloc: Global) -> Result<Text, AllocError>
         ensures value { IfOk result (λ t. t ≡ self.now) }
         ensures short { length self.now ≤ IN_PLACE → IsOk result }
     {
-        Text::fitting(alloc, self.as_slice())
+        match &self.held {
+            Held::InPlace(few) => Ok(Text::in_place(alloc, few.duplicate())),
+            Held::Boxed(bytes) => Text::boxed_copy(alloc, bytes),
+        }
     }
 
     /// The text with A-Z folded to a-z, and nothing else. It takes no memory where the text has at most 22 bytes.

@@ -82,6 +82,7 @@ impl Value {
 
     /// An equal value. A numeral without a sign, spaces or leading zeros is kept as its number. It takes memory only
     /// for a text of over 22 bytes.
+    #[inline]
     pub fn copied(alloc: Global, text: &Text) -> Result<Value, AllocError>
         ensures value { IfOk result (λ v. v ≡ text.now) }
         ensures short { length text.now ≤ IN_PLACE → IsOk result }
@@ -93,6 +94,7 @@ impl Value {
     }
 
     /// An equal value. It takes memory only for a text of over 22 bytes.
+    #[inline]
     pub fn try_clone(&self, alloc: Global) -> Result<Value, AllocError>
         ensures value { IfOk result (λ v. v ≡ self.now) }
         ensures short { length self.now ≤ IN_PLACE → IsOk result }
