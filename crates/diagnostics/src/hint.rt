@@ -53,9 +53,18 @@ fn wants_value(kind: TokenKind) -> bool {
     matches!(kind, TokenKind::Key(key) if BEFORE_VALUES.contains(&key))
 }
 
+/// The bytes of a text at which a token stands.
+pub(crate) fn bytes_of<'a>(text: &'a [u8], span: &Span) -> &'a [u8] {
+    text.get(usize::from(span.start)..usize::from(span.stop))
+        .unwrap_or(b"")
+}
+
 /// The tokens of a line that stand before a place.
 fn line_before(spans: &[Span], at: usize) -> &[Span] {
-    let end = spans.iter().take_while(|span| span.start < at).count();
+    let end = spans
+        .iter()
+        .take_while(|span| usize::from(span.start) < at)
+        .count();
     let before = spans.get(..end).unwrap_or(spans);
     match before.iter().rposition(|span| span.kind == TokenKind::Eol) {
         Some(last) => before.get(last.saturating_add(1)..).unwrap_or(before),
@@ -97,7 +106,7 @@ fn write_found(page: &mut Page, text: &[u8], found: Option<&Span>) {
             TokenKind::Eol => page.word(b"the line ends"),
             _ => {
                 page.word(b"there stands `");
-                let token = text.get(span.start..span.stop).unwrap_or(b"");
+                let token = bytes_of(text, span);
                 page.spelled(token.get(..40).unwrap_or(token));
                 page.word(b"`");
             }
@@ -130,7 +139,7 @@ fn open_block(alloc: Global, spans: &[Span], at: usize) -> Option<usize> {
     let mut open: Vec<usize> = Vec::new(alloc);
     let mut condition = None;
     for (number, span) in spans.iter().enumerate() {
-        if at <= span.start {
+        if at <= usize::from(span.start) {
             break;
         }
         let TokenKind::Key(key) = span.kind else {
@@ -168,7 +177,7 @@ fn write_open(page: &mut Page, text: &[u8], spans: &[Span], block: usize) {
         TokenKind::Key(Key::Repeat) => page.word(b"repeat"),
         _ => {
             if let Some(name) = spans.get(block.saturating_add(1)) {
-                page.spelled(text.get(name.start..name.stop).unwrap_or(b""));
+                page.spelled(bytes_of(text, name));
             }
         }
     }
@@ -214,7 +223,7 @@ pub fn write_hint(page: &mut Page, alloc: Global, text: &Text, at: usize) {
     match lex(alloc, text) {
         Ok(tokens) => {
             let spans = tokens.spans();
-            let found = spans.iter().find(|span| at <= span.start);
+            let found = spans.iter().find(|span| at <= usize::from(span.start));
             write_found(page, text.as_slice(), found);
             let line = line_before(spans, at);
             if let Some(word) = wanted(line) {
@@ -223,7 +232,7 @@ pub fn write_hint(page: &mut Page, alloc: Global, text: &Text, at: usize) {
             } else if ends_block(found) || is_end(line) {
                 // Blocks are counted up to `end`, where the line begins with that.
                 let end = match line.first() {
-                    Some(first) if is_end(line) => first.start,
+                    Some(first) if is_end(line) => usize::from(first.start),
                     _ => at,
                 };
                 if let Some(block) = open_block(alloc, spans, end) {

@@ -1,6 +1,6 @@
 //! What of a stack's scripts isn't in the grammar, and which messages nothing handles.
 
-use crate::hint::write_hint;
+use crate::hint::{bytes_of, write_hint};
 use crate::location::{location_in, write_location, write_pointed};
 use crate::object::write_object;
 use crate::page::Page;
@@ -121,12 +121,13 @@ impl<E: External> Survey<'_, E> {
         };
         for number in 0..tokens.len() {
             if let Some((kind, span)) = sent_at(&tokens, number) {
-                let bytes = script.as_slice().get(span.start..span.stop).unwrap_or(b"");
+                let bytes = bytes_of(script.as_slice(), &span);
                 let Ok(name) = Text::from_slice(self.alloc, bytes) else {
                     return Err(AllocError);
                 };
                 if !self.is_handled(kind, &name) {
-                    self.tell_unhandled(id, script.as_slice(), span.start, &name);
+                    let at = usize::from(span.start);
+                    self.tell_unhandled(id, script.as_slice(), at, &name);
                 }
             }
         }

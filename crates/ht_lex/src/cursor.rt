@@ -65,7 +65,7 @@ impl<'a> Cursor<'a> {
     pub fn place(&self) -> usize {
         match self.spans {
             [] => self.text.len(),
-            [first, ..] => first.start,
+            [first, ..] => usize::from(first.start),
         }
     }
 
@@ -138,11 +138,15 @@ impl<'a> Cursor<'a> {
     {
         match self.spans {
             [] => &self.text[..0],
-            [first, ..] => match first.kind {
-                TokenKind::Name | TokenKind::Number => &self.text[first.start..first.stop],
-                TokenKind::Quoted => inside(&self.text[first.start..], first.stop - first.start),
-                TokenKind::Key(_) | TokenKind::Eol => &self.text[..0],
-            },
+            [first, ..] => {
+                let start = usize::from(first.start);
+                let stop = usize::from(first.stop);
+                match first.kind {
+                    TokenKind::Name | TokenKind::Number => &self.text[start..stop],
+                    TokenKind::Quoted => inside(&self.text[start..], stop - start),
+                    TokenKind::Key(_) | TokenKind::Eol => &self.text[..0],
+                }
+            }
         }
     }
 

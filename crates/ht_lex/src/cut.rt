@@ -28,11 +28,7 @@ pub fn lex(alloc: Global, text: &Text) -> Result<Tokens<'_>, LexError>
             Lexeme::Gap(size) => place += size,
             Lexeme::Token(kind, size) => {
                 let stop = place + size;
-                let span = Span {
-                    kind,
-                    start: place,
-                    stop,
-                };
+                let span = Span::new(kind, place, stop);
                 spans.push(span).map_err(|_| LexError::Memory)?;
                 place = stop;
             }

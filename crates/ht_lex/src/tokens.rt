@@ -1,18 +1,36 @@
 //! The tokens of a text.
 
-ghost use Rattle.std.specs.Prelude.{◌≡◌, ◌<◌, length, slice_range};
+ghost use Rattle.std.specs.Prelude.{◌≡◌, ◌≤◌, ◌<◌, length, slice_range};
+ghost use Rattle.ht_values.specs.declared.text.TheConstants.{LIMIT};
 ghost use Rattle.std.specs.List.{HoldsAt};
 
 use crate::key::TokenKind;
 use std::marker::Model;
 use thiserror::Error;
 
-/// A kind of token, and where one stands in the text: from the byte `start` up to the byte `stop`.
+/// A kind of token, and where one stands in the text: from the byte `start` up to the byte `stop`. A text has so few
+/// bytes that 16 bits hold each place, so that the tokens of a long text take little memory.
 #[derive(Clone, Copy, PartialEq, Eq, Debug)]
 pub struct Span {
     pub kind: TokenKind,
-    pub start: usize,
-    pub stop: usize,
+    pub start: u16,
+    pub stop: u16,
+}
+
+impl Span {
+    /// The span of a token of a text, from the byte `start` up to the byte `stop`.
+    #[inline(always)]
+    pub(crate) fn new(kind: TokenKind, start: usize, stop: usize) -> Span
+        requires begins { start ≤ LIMIT }
+        requires ends { stop ≤ LIMIT }
+        ensures { result ≡ record { kind = kind; start = start; stop = stop } }
+    {
+        Span {
+            kind,
+            start: start as u16,
+            stop: stop as u16,
+        }
+    }
 }
 
 /// A token: its kind, its slice of the text, and the place of its first byte there.
@@ -96,8 +114,8 @@ impl<'a> Tokens<'a> {
         let span = self.spans[place];
         Token {
             kind: span.kind,
-            text: &self.text[span.start..span.stop],
-            start: span.start,
+            text: &self.text[usize::from(span.start)..usize::from(span.stop)],
+            start: usize::from(span.start),
         }
     }
 }

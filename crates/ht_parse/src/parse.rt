@@ -39,7 +39,7 @@ fn place_of(tokens: &Tokens<'_>, token: usize) -> usize
 {
     let end = tokens.text().len();
     match tokens.spans().get(token) {
-        Some(span) => span.start.min(end),
+        Some(span) => usize::from(span.start).min(end),
         None => end,
     }
 }
