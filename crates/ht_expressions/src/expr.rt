@@ -57,7 +57,7 @@ fn take_name(alloc: Global, tokens: &mut Cursor<'_>) -> Result<Expr, Stop>
     ensures after { tokens.new ≡ later tokens.old }
 {
     let name = to_name(alloc, tokens.take())?;
-    to_expr(alloc, ExprKind::Name(name))
+    Ok(Expr::of_name(alloc, name)?)
 }
 
 /// Whether any expression of a list ends before a token of this kind.
@@ -167,7 +167,7 @@ impl<F: Fn(Global, &mut Cursor<'_>, Level, usize) -> Result<Expr, Stop>> Grammar
             }
             _ => {
                 let name = to_name(self.alloc, name)?;
-                to_expr(self.alloc, ExprKind::Name(name))
+                Ok(Expr::of_name(self.alloc, name)?)
             }
         }
     }

@@ -77,7 +77,6 @@ expr_falls (e.Digits w) = omega arith
 expr_falls (e.Quoted w) = omega arith
 expr_falls (e.Constant c) = omega arith
 expr_falls e.Return = omega arith
-expr_falls (e.Name w) = omega arith
 expr_falls (e.Paren x) = omega arith
 expr_falls (e.Call w xs) = omega (arith, exprs_fall xs.items.items)
 expr_falls (e.Binary op x y) = omega arith
@@ -94,4 +93,5 @@ expr_falls (e.Function f x) = omega arith
 
 pub form_falls : (x : Form) → max (deep-Form x) 0 ≤ depth (kept_form x)
 form_falls (form.Number n) = omega arith
+form_falls (form.Name w) = omega arith
 form_falls (form.Boxed node) = omega (arith, expr_falls node.value.kind)

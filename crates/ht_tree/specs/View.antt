@@ -73,7 +73,6 @@ expr_of (e.Digits w) = t.number w
 expr_of (e.Quoted w) = t.quoted w
 expr_of (e.Constant c) = t.constant c
 expr_of e.Return = t.return_
-expr_of (e.Name w) = t.name w
 expr_of (e.Paren x) = t.paren x
 expr_of (e.Call w xs) = t.call w (exprs_of xs.items.items)
 expr_of (e.Binary op x y) = t.binary op x y
@@ -90,13 +89,16 @@ expr_of (e.Function f x) = t.function f x
 
 abbrev pub kept_form : Form → t.Expr
 kept_form (form.Number n) = t.number (numeral n)
+kept_form (form.Name w) = t.name w.value
 kept_form (form.Boxed node) = expr_of node.value.kind
 
 abbrev pub form_of : ExprForm → t.Expr
 form_of (lent.Number n) = t.number (numeral n)
+form_of (lent.Name w) = t.name w.now
 form_of (lent.Kind x) = expr_of x.now
 
 -- A node knows how deep it is, and isn't too deep.
 abbrev pub knows_depth : Form → Type 0
 knows_depth (form.Number n) = Unit {0}
+knows_depth (form.Name w) = Unit {0}
 knows_depth (form.Boxed node) = (node.value.depth ≡ depth (expr_of node.value.kind)) × (node.value.depth ≤ max_depth)

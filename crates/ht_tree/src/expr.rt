@@ -21,11 +21,13 @@ pub struct Expr {
     form: Form,
 }
 
-/// How an expression is kept: a number takes no memory, since long lists are mostly of these.
+/// How an expression is kept: a number takes no memory, and a name no more than its own, since long lists are mostly of
+/// these.
 #[cycle(tree)]
 #[derive(Drop)]
 enum Form {
     Number(i64),
+    Name(Box<Name>),
     Boxed(Box<ExprNode>),
 }
 
@@ -52,10 +54,11 @@ impl Drop for Expr {
 pub enum ExprForm<'a> {
     /// Digits that are the numeral of a number.
     Number(i64),
+    Name(&'a Name),
     Kind(&'a ExprKind),
 }
 
-/// What an expression is, with its parts, where it is no numeral of a number.
+/// What an expression is, with its parts, where it is neither a numeral of a number nor a name.
 #[cycle(tree)]
 #[derive(Drop)]
 pub enum ExprKind {
@@ -65,7 +68,6 @@ pub enum ExprKind {
     Constant(Constant),
     /// The constant `return`.
     Return,
-    Name(Name),
     Paren(Expr),
     Call(Text, Exprs),
     Binary(Op, Expr, Expr),
@@ -279,6 +281,15 @@ impl Expr {
         }
     }
 
+    /// A name.
+    pub fn of_name(alloc: Global, name: Name) -> Result<Expr, AllocError>
+        ensures { IfOk result (λ e. e ≡ t.name name) }
+    {
+        Ok(Expr {
+            form: Form::Name(Box::new(alloc, name)?),
+        })
+    }
+
     /// The expression of a kind, which is at most 100 levels deep.
     #[inline(always)]
     pub fn new(alloc: Global, kind: ExprKind) -> Result<Expr, AllocError>
@@ -292,13 +303,14 @@ impl Expr {
         })
     }
 
-    /// The number whose numeral it is, else its kind, with its parts.
+    /// The number whose numeral it is, or the name that it is, else its kind, with its parts.
     #[inline(always)]
     pub fn form(&self) -> ExprForm<'_>
         ensures { form_of result ≡ self.now }
     {
         match &self.form {
             Form::Number(number) => ExprForm::Number(*number),
+            Form::Name(name) => ExprForm::Name(name),
             Form::Boxed(node) => ExprForm::Kind(&node.kind),
         }
     }
@@ -309,7 +321,7 @@ impl Expr {
         ensures limit { result ≤ max_depth }
     {
         match &self.form {
-            Form::Number(_) => 1,
+            Form::Number(_) | Form::Name(_) => 1,
             Form::Boxed(node) => node.depth,
         }
     }
@@ -325,7 +337,6 @@ impl ExprKind {
             | ExprKind::Quoted(_)
             | ExprKind::Constant(_)
             | ExprKind::Return
-            | ExprKind::Name(_)
             | ExprKind::Result
             | ExprKind::Target
             | ExprKind::RunProperty(_) => 1,

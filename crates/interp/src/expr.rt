@@ -87,6 +87,7 @@ pub(crate) fn eval_bare<E: External>(
             set_number(value, number);
             return Ok(());
         }
+        ExprForm::Name(_) => return atom(world, run, frame, e, value),
         ExprForm::Kind(kind) => kind,
     };
     match kind {
@@ -330,7 +331,7 @@ pub(crate) fn meet_operand<'a, E: External>(
     ensures keeps { Keeps world.old.history run.old world.new.history run.new }
 {
     match e.form() {
-        ExprForm::Kind(ExprKind::Name(name)) => Ok(Operand::Name(name)),
+        ExprForm::Name(name) => Ok(Operand::Name(name)),
         ExprForm::Kind(ExprKind::Field(part)) => {
             let referent = meet_part(world, run, frame, nested, part)?;
             Ok(Operand::Field(referent))
@@ -446,7 +447,7 @@ pub(crate) fn part_of<E: External>(
     ensures keeps { Keeps world.old.history run.old world.new.history run.new }
 {
     match text.form() {
-        ExprForm::Kind(ExprKind::Name(_) | ExprKind::Field(_)) => {
+        ExprForm::Name(_) | ExprForm::Kind(ExprKind::Field(_)) => {
             lent_part(world, run, frame, nested, kind, from, to, text, value)
         }
         _ => {
@@ -565,7 +566,7 @@ pub(crate) fn function_of<E: External>(
     ensures keeps { Keeps world.old.history run.old world.new.history run.new }
 {
     match operand.form() {
-        ExprForm::Kind(ExprKind::Name(_) | ExprKind::Field(_)) => {
+        ExprForm::Name(_) | ExprForm::Kind(ExprKind::Field(_)) => {
             lent_function(world, run, frame, nested, word, operand, value)
         }
         _ => {

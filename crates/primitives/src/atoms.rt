@@ -37,6 +37,10 @@ pub fn atom<E: External>(
             *value = Value::of_number(number);
             Ok(())
         }
+        ExprForm::Name(name) => {
+            *value = variable(world, run, frame, name)?;
+            Ok(())
+        }
         ExprForm::Kind(kind) => {
             *value = other_atom(world, run, frame, kind)?;
             Ok(())
@@ -44,7 +48,7 @@ pub fn atom<E: External>(
     }
 }
 
-/// The value of an atom that is no number.
+/// The value of an atom that is neither a number nor a name.
 #[tactic(auto, using(meaning::proofs::Rules::val_rules))]
 #[inline(always)]
 fn other_atom<E: External>(
@@ -60,7 +64,6 @@ fn other_atom<E: External>(
         ExprKind::Digits(text) | ExprKind::Quoted(text) => Ok(Value::copied(run.alloc(), text)?),
         ExprKind::Constant(constant) => Ok(constant_value(run, *constant)?),
         ExprKind::Return => Ok(return_sign(run)?),
-        ExprKind::Name(name) => Ok(variable(world, run, frame, name)?),
         ExprKind::Result => Ok(run.result().try_clone(run.alloc())?),
         ExprKind::Target => target_name(world, run, frame),
         ExprKind::RunProperty(property) => Ok(run.property(*property)?),

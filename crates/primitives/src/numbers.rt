@@ -28,7 +28,7 @@ fn kept_number(frame: &Frame, e: &Expr) -> Option<i64>
 {
     match e.form() {
         ExprForm::Number(number) => Some(number),
-        ExprForm::Kind(ExprKind::Name(name)) => frame.variables.number(name),
+        ExprForm::Name(name) => frame.variables.number(name),
         ExprForm::Kind(_) => None,
     }
 }
@@ -85,7 +85,7 @@ pub fn is_plain(e: &Expr) -> bool
     ensures { result ≡ true → is_atom e.now ≡ true }
 {
     match e.form() {
-        ExprForm::Number(_) | ExprForm::Kind(ExprKind::Name(_)) => true,
+        ExprForm::Number(_) | ExprForm::Name(_) => true,
         ExprForm::Kind(_) => false,
     }
 }

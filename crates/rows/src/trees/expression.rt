@@ -10,11 +10,12 @@ use ht_values::{Text, Value};
 pub fn print_expr(out: &mut Printed, expr: &Expr) {
     match expr.form() {
         ExprForm::Number(number) => out.value(&Value::of_number(number)),
+        ExprForm::Name(name) => out.text(name.text()),
         ExprForm::Kind(kind) => print_kind(out, kind),
     }
 }
 
-/// Prints an expression that is no numeral of a number.
+/// Prints an expression that is neither a numeral of a number nor a name.
 #[cycle(print)]
 fn print_kind(out: &mut Printed, kind: &ExprKind) {
     match kind {
@@ -22,7 +23,6 @@ fn print_kind(out: &mut Printed, kind: &ExprKind) {
         ExprKind::Quoted(text) => print_quoted(out, text),
         ExprKind::Constant(constant) => out.named("", constant, ""),
         ExprKind::Return => out.word("Return"),
-        ExprKind::Name(name) => out.text(name.text()),
         ExprKind::Result => out.word("(the-result)"),
         ExprKind::Target => out.word("(the-target)"),
         ExprKind::RunProperty(property) => out.named("(the ", property, ")"),
