@@ -16,8 +16,8 @@ use std::alloc::{AllocError, Global};
 use std::collections::BTreeMap;
 use std::rc::Rc;
 
-/// How many bytes the scripts may have together whose trees are kept. A tree takes 16 times the memory of an ordinary
-/// script and up to 111 times that of sums of names of one letter, so the trees take some 111 MB at most.
+/// How many bytes the scripts may have together whose trees are kept. A tree takes 12 times the memory of an ordinary
+/// script and up to 80 times that of sums of names of one letter, so the trees take some 80 MB at most.
 pub(crate) const MOST_KEPT_BYTES: usize = 1_000_000;
 
 const _: () = prove!(MOST_KEPT_BYTES == 1_000_000);
