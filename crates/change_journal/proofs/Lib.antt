@@ -12,3 +12,4 @@ pub mod Making
 pub mod Globals
 pub mod Short
 mod Objects
+pub mod Renumbered

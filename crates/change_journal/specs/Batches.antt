@@ -1,9 +1,10 @@
 -- The batches that stand for a history.
 use Rattle.std.specs.Prelude.{nat_lt, if◌then◌else◌, ℕ, ◌<◌, ◌≤◌, List, [], ◌∷◌, length, take, drop, reverse, Option}
-use Rattle.std.specs.Prelude.{Some, None}
+use Rattle.std.specs.Prelude.{Some, None, map}
 use Rattle.journal_entries.specs.State.{State}
 use Rattle.journal_entries.specs.Exchange.{PresentView, BatchView, Shape, back, back_taken, forth, forth_taken, weight}
 use Rattle.journal_entries.specs.Exchange.{trail_of, shape_of, AreReady}
+use Rattle.journal_entries.specs.Renumbered.{RenumberingView, AreNeeded, batch_renumbered}
 use Rattle.change_journal.specs.History.{Neighbour, Open, History, IsHistory}
 
 -- What World holds but for the open batch: the present state, the number of the oldest state, the greatest
@@ -111,3 +112,12 @@ pub record IsSound (b : Journal) (room : ℕ) (batch : Option BatchView) : Type 
   pub ready : AllReady (shape_of b.present) b.batches
   pub opened : IsOpenReady (shape_of b.present) batch (length b.batches) room
   pub history : IsHistory (history_of b batch)
+
+-- the names of all globals that these batches exchange are needed
+abbrev pub AllNeeded : RenumberingView → List BatchView → Type 0
+AllNeeded r [] = Unit {0}
+AllNeeded r (b ∷ bs) = AreNeeded r b.entries × AllNeeded r bs
+
+-- the batches with the new numbers of those names
+abbrev pub batches_renumbered : RenumberingView → List BatchView → List BatchView
+batches_renumbered r = map (batch_renumbered r)

@@ -19,7 +19,9 @@ ghost use Rattle.journal_entries.specs.Trails.{IsOnce, IsShort, different, place
 ghost use Rattle.change_journal.specs.History.{IsHistory, alone, begun, committed, rolled_back, flipped_back};
 ghost use Rattle.change_journal.specs.History.{flipped_forth, plugged, unplugged, stamp_at, FollowTable};
 ghost use Rattle.std.specs.VecDeque.{deque_len, deque_capacity};
-ghost use Rattle.change_journal.specs.Batches.{newest, oldest_of};
+ghost use Rattle.journal_entries.specs.Exchange.{shape_of};
+ghost use Rattle.journal_entries.specs.Renumbered.{IsOf, HasValued};
+ghost use Rattle.change_journal.specs.Batches.{newest, oldest_of, AllReady, AllNeeded, batches_renumbered};
 ghost use Rattle.change_journal.specs.Rising.{Made, TookTurn};
 ghost use Rattle.change_journal.specs.declared.world.TheConstants.{MOST_DEPTH};
 
@@ -28,7 +30,8 @@ use externals::{Ask, External, HasTable, Input, law_of_ask, law_of_external};
 use ht_tree::Script;
 use ht_values::{Text, text_of};
 use journal_entries::{
-    Batch, Change, OpenBatch, Present, are_apart, law_of_externals, law_of_global, law_of_texts,
+    Batch, Change, OpenBatch, Present, Renumbering, are_apart, law_of_externals, law_of_global,
+    law_of_texts,
 };
 use object_table::{Id, Stack};
 use std::alloc::{AllocError, Global};
@@ -381,11 +384,40 @@ impl<E: External> World<E> {
         ensures once { IfSome self.old.history.start (λ o. IsOnce o.trail) }
         ensures short { IfSome self.old.history.start (λ o. IsShort o.trail (different (places_in o.trail))) }
     {
+        self.close_batch();
+        self.forget_names();
+    }
+
+    /// The open batch leads back from a new state of the history.
+    fn close_batch(&mut self)
+        requires { IsSome self.old.history.start }
+        ensures history { self.new.history ≡ committed self.old.history }
+        ensures once { IfSome self.old.history.start (λ o. IsOnce o.trail) }
+        ensures short { IfSome self.old.history.start (λ o. IsShort o.trail (different (places_in o.trail))) }
+    {
         if let Some(batch) = self.open.take() {
             let batch = batch.close();
             self.batches.truncate(self.cursor);
             self.oldest = keep(&mut self.batches, self.oldest, self.depth, batch);
             self.cursor = self.batches.len();
+        }
+    }
+
+    /// Names of globals that no state of the history needs go, where there may be many. If memory for that is refused
+    /// they stay until the next time.
+    fn forget_names(&mut self)
+        requires { self.old.history.start ≡ None }
+        ensures { self.new.history ≡ self.old.history }
+    {
+        if !self.present.has_many_names() {
+            return;
+        }
+        match needed_names(&self.present, &self.batches, self.alloc) {
+            Ok(renumbering) => {
+                renumber_each(&mut self.batches, &renumbering);
+                self.present.renumber(renumbering);
+            }
+            Err(_) => {}
         }
     }
 
@@ -503,6 +535,34 @@ impl<E: HasTable> World<E> {
         ensures { FollowTable E.turn_table self.now.history }
     {
         self.present.law_of_table();
+    }
+}
+
+/// New numbers for the names of globals that have a value or that these batches exchange.
+fn needed_names<E: External>(
+    present: &Present<E>,
+    batches: &VecDeque<Batch>,
+    alloc: Global,
+) -> Result<Renumbering, AllocError>
+    requires { AllReady (shape_of present.now) batches.now.items }
+    ensures of { IfOk result (λ r. IsOf present.now.names r) }
+    ensures valued { IfOk result (λ r. HasValued present.now.names present.now.state.globals r) }
+    ensures needed { IfOk result (λ r. AllNeeded r batches.now.items) }
+{
+    let mut renumbering = present.renumbering(alloc)?;
+    for i in 0..batches.len() {
+        batches[i].need(&mut renumbering, present)?;
+    }
+    Ok(renumbering)
+}
+
+/// The batches get the new numbers of their globals' names.
+fn renumber_each(batches: &mut VecDeque<Batch>, renumbering: &Renumbering)
+    requires { AllNeeded renumbering.now batches.old.items }
+    ensures { batches.new.items ≡ batches_renumbered renumbering.now batches.old.items }
+{
+    for i in 0..batches.len() {
+        batches[i].renumber(renumbering);
     }
 }
 

@@ -1,5 +1,5 @@
 -- Whether the segment since the last structural entry has an entry of a place.
-use Rattle.std.proofs.Common.{◌≡◌, suc, Bool, true, false, ◌&&◌, ◌||◌, List, [], ◌∷◌, ◌++◌}
+use Rattle.std.proofs.Common.{◌≡◌, suc, Bool, true, false, ◌&&◌, ◌||◌, List, [], ◌∷◌}
 use Rattle.std.proofs.Common.{length, slice_get, Some, None, refl, sym, ap, ◌∙◌, arith, ◌-◌}
 use Rattle.stack_places.proofs.Exchanging as stack
 use Rattle.journal_entries.specs.Exchange.{of_one_place, is_structural}

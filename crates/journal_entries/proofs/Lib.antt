@@ -19,3 +19,4 @@ pub mod PlaceSets
 pub mod Indexing
 pub mod Keeping
 pub mod ScriptTrees
+pub mod Renumbered

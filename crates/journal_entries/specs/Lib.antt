@@ -7,6 +7,7 @@ pub mod Trails
 pub mod Exchange
 pub mod Keys
 pub mod Turning
+pub mod Renumbered
 pub mod Changing
 pub mod SameKey
 pub mod PlaceSets

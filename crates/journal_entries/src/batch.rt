@@ -1,16 +1,19 @@
 //! A batch: what goes back over the changes and turns of one command.
 
-ghost use Rattle.std.specs.Prelude.{◌≡◌, [], ◌∷◌, true, IfOk, IfErr};
+ghost use Rattle.std.specs.Prelude.{◌≡◌, [], ◌∷◌, true, IfOk, IfErr, OnOk};
 ghost use Rattle.journal_entries.specs.Exchange.{back, back_taken, exchanged, forth, forth_taken, taken, shape_of};
 ghost use Rattle.journal_entries.specs.Exchange.{AreReady, IsReady};
 ghost use Rattle.journal_entries.specs.BatchEntries.{entries_in, needs_no_list};
+ghost use Rattle.journal_entries.specs.Renumbered.{IsOf, IsMore, AreNeeded, batch_renumbered};
 
 use crate::entry::Entry;
 use crate::present::Present;
+use crate::renumbering::{Renumbering, need_each, renumber_each};
 use externals::External;
 use ht_values::Text;
 use object_table::{FieldText, Id};
 use stack_places::StackEntry;
+use std::alloc::AllocError;
 use std::marker::Model;
 use std::mem;
 
@@ -108,6 +111,47 @@ impl Batch {
                 BatchEntries::Several(entries)
             }
         };
+    }
+
+    /// The names of the globals of its entries are needed. Where memory was refused what was needed still is.
+    #[tactic(auto, unfolding(crate::specs::Exchange::IsReady, crate::specs::Renumbered::IsNeeded))]
+    pub fn need<E: External>(
+        &self,
+        renumbering: &mut Renumbering,
+        present: &Present<E>,
+    ) -> Result<(), AllocError>
+        requires ready { AreReady (shape_of present.now) self.now.entries }
+        requires of { IsOf present.now.names renumbering.old }
+        ensures of { IsOf present.now.names renumbering.new }
+        ensures needed { OnOk result (AreNeeded renumbering.new self.now.entries) }
+        ensures more { IsMore renumbering.old renumbering.new }
+    {
+        match &self.entries {
+            BatchEntries::Value(i, _) => present.need_global(renumbering, *i as usize),
+            BatchEntries::NoValue(i) => present.need_global(renumbering, *i as usize),
+            BatchEntries::Several(entries) => need_each(renumbering, present, entries),
+            BatchEntries::Current(_)
+            | BatchEntries::FieldText(_, _, _)
+            | BatchEntries::NoFieldText(_, _)
+            | BatchEntries::Hilite(_, _, _) => Ok(()),
+        }
+    }
+
+    /// Its entries get the new numbers of their globals' names.
+    #[tactic(auto, unfolding(crate::specs::Renumbered::IsNeeded, crate::specs::Renumbered::renumbered))]
+    pub fn renumber(&mut self, renumbering: &Renumbering)
+        requires { AreNeeded renumbering.now self.old.entries }
+        ensures { self.new ≡ batch_renumbered renumbering.now self.old }
+    {
+        match &mut self.entries {
+            BatchEntries::Value(i, _) => *i = renumbering.number(*i as usize),
+            BatchEntries::NoValue(i) => *i = renumbering.number(*i as usize),
+            BatchEntries::Several(entries) => renumber_each(entries, renumbering),
+            BatchEntries::Current(_)
+            | BatchEntries::FieldText(_, _, _)
+            | BatchEntries::NoFieldText(_, _)
+            | BatchEntries::Hilite(_, _, _) => {}
+        }
     }
 }
 

@@ -6,16 +6,24 @@ ghost use Rattle.std.specs.FinMap as finite;
 ghost use Rattle.ht_values.specs.Text.{numeral};
 ghost use Rattle.object_table.specs.Maps.{put_option};
 ghost use Rattle.journal_entries.specs.Named.{Named, Extends, Lists, listed, numbered};
+ghost use Rattle.journal_entries.specs.Renumbered.{IsOf, HasValued};
 
+use crate::renumbering::Renumbering;
 use ht_values::Text;
 use indexmap::IndexSet;
 use std::alloc::{AllocError, Global};
 use std::marker::Model;
 use std::mem;
 
-/// Texts by name. A name keeps its number from the time it is first met, also while it has no value. The name that
-/// was exchanged last is remembered, since a loop tends to read and write one global, and with it the number whose
-/// numeral its value is, where that was known.
+/// What a name takes of memory beside its bytes, roughly.
+const NAME_BYTES: usize = 64;
+
+/// What names may take of memory before those that nothing needs are looked for.
+const FEW_NAME_BYTES: usize = 1_000_000;
+
+/// Texts by name. A name keeps its number from the time it is first met, also while it has no value, until all names
+/// are numbered anew. The name that was exchanged last is remembered, since a loop tends to read and write one global,
+/// and with it the number whose numeral its value is, where that was known.
 #[derive(Drop)]
 pub struct Globals {
     names: IndexSet<Vec<u8>>,
@@ -23,6 +31,9 @@ pub struct Globals {
     live: usize,
     last: usize,
     last_number: Option<i64>,
+    /// What the names take of memory, and what they may take before they are numbered anew.
+    name_bytes: usize,
+    most_name_bytes: usize,
     alloc: Global,
 }
 
@@ -54,6 +65,8 @@ impl Globals {
             live: 0,
             last: 0,
             last_number: None,
+            name_bytes: 0,
+            most_name_bytes: FEW_NAME_BYTES,
             alloc,
         }
     }
@@ -100,6 +113,7 @@ impl Globals {
         let bytes = Vec::from_slice(self.alloc, name.as_slice())?;
         self.names.insert_full(bytes)?;
         self.last_number = None;
+        self.name_bytes = with_name(self.name_bytes, name.len());
         self.values.push_reserved(None);
         Ok(i)
     }
@@ -189,4 +203,69 @@ impl Globals {
         }
         unreachable!()
     }
+
+    /// Whether it is time to look for names that nothing needs. That shows nowhere but in time and memory, so no clause
+    /// tells it.
+    pub(crate) fn are_many(&self) -> bool {
+        self.name_bytes > self.most_name_bytes
+    }
+
+    /// The next time is when the names take twice as much as now, and some more.
+    fn put_off(&mut self)
+        ensures { self.new ≡ self.old }
+    {
+        self.most_name_bytes = twice_and_more(self.name_bytes);
+    }
+
+    /// A copy of the name of a number.
+    pub(crate) fn name(&self, alloc: Global, i: usize) -> Result<Text, AllocError>
+        requires { i < length self.now.names }
+        ensures { IfOk result (λ name. name ≡ slice_index_or self.now.names i []) }
+    {
+        match Text::from_slice(alloc, self.names[i].as_slice()) {
+            Ok(name) => Ok(name),
+            Err(_) => Err(AllocError),
+        }
+    }
+
+    /// New numbers for the names that have a value. No other name is needed so far.
+    pub(crate) fn renumbering(&self, alloc: Global) -> Result<Renumbering, AllocError>
+        ensures of { IfOk result (λ r. IsOf self.now.names r) }
+        ensures valued { IfOk result (λ r. HasValued self.now.names self.now.texts r) }
+    {
+        let mut renumbering = Renumbering::new(alloc, self.values.len())?;
+        for i in 0..self.values.len() {
+            if self.values[i].is_some() {
+                renumbering.need(self, i)?;
+            }
+        }
+        Ok(renumbering)
+    }
+
+    /// The names get their new numbers, and those that aren't needed go.
+    pub(crate) fn renumber(&mut self, renumbering: Renumbering)
+        requires of { IsOf self.old.names renumbering }
+        requires valued { HasValued self.old.names self.old.texts renumbering }
+        ensures { self.new ≡ record self.old { names = renumbering.names } }
+    {
+        let (numbers, mut globals) = renumbering.into_parts();
+        for i in 0..self.values.len() {
+            match numbers[i] {
+                Some(number) => globals.swap(number as usize, &mut self.values[i], None),
+                None => {}
+            }
+        }
+        globals.put_off();
+        *self = globals;
+    }
+}
+
+/// What names take with one more, of this length.
+fn with_name(bytes: usize, length: usize) -> usize {
+    bytes.saturating_add(length).saturating_add(NAME_BYTES)
+}
+
+/// Twice as much, and some more.
+fn twice_and_more(bytes: usize) -> usize {
+    bytes.saturating_mul(2).saturating_add(FEW_NAME_BYTES)
 }

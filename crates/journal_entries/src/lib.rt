@@ -18,6 +18,7 @@ mod open_batch;
 mod place_key;
 mod place_set;
 mod present;
+mod renumbering;
 mod script_trees;
 
 pub use batch::Batch;
@@ -28,3 +29,4 @@ pub use laws::{law_of_externals, law_of_trails};
 pub use names::{are_apart, index_of};
 pub use open_batch::OpenBatch;
 pub use present::Present;
+pub use renumbering::Renumbering;

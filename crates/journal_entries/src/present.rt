@@ -2,7 +2,7 @@
 
 ghost use Rattle.std.specs.Prelude.{◌≡◌, ℕ, ◌<◌, ◌≤◌, List, [], ◌∷◌, ◌++◌, length, ◌+◌, true, take, drop, IfOk, IfErr};
 ghost use Rattle.std.specs.Prelude.{IfSome, OnErr, OnOk, slice_index_or, option_copied, option_map, map, slice_get};
-ghost use Rattle.std.specs.Prelude.{Option, Some};
+ghost use Rattle.std.specs.Prelude.{Option, Some, IsSome};
 ghost use Rattle.std.specs.FinMap as finite;
 ghost use Rattle.ht_grammar.specs.Reads.{Reads, ReadsScript};
 ghost use Rattle.ht_tree.specs.ScriptView.{script_of};
@@ -19,12 +19,14 @@ ghost use Rattle.journal_entries.specs.Changes.{fits};
 ghost use Rattle.journal_entries.specs.declared.change.Change.TheVariants as made_change;
 ghost use Rattle.journal_entries.specs.Exchange.{exchanged, taken, back, back_taken, forth, forth_taken, shape_of};
 ghost use Rattle.journal_entries.specs.Exchange.{IsReady, AreReady};
+ghost use Rattle.journal_entries.specs.Renumbered.{IsOf, IsMore, HasValued, number_in};
 ghost use Rattle.journal_entries.specs.Turning.{Grows, Prepares, Turns, entries_of, logs_after};
 
 use crate::change::Change;
 use crate::entry::{Entry, Prepared};
 use crate::globals::Globals;
 use crate::names::{has_name, index_of};
+use crate::renumbering::Renumbering;
 use crate::script_trees::ScriptTrees;
 use externals::{Ask, External, HasTable, Input, Patch};
 use ht_tree::Script;
@@ -184,6 +186,44 @@ impl<E: External> Present<E> {
         ensures grows { Grows self.old self.new }
     {
         self.globals.number(name)
+    }
+
+    /// Whether it is time to look for names of globals that nothing needs. That shows nowhere but in time and memory,
+    /// so no clause tells it.
+    pub fn has_many_names(&self) -> bool {
+        self.globals.are_many()
+    }
+
+    /// New numbers for the names of the globals that have a value. No other name is needed so far.
+    pub fn renumbering(&self, alloc: Global) -> Result<Renumbering, AllocError>
+        ensures of { IfOk result (λ r. IsOf self.now.names r) }
+        ensures valued { IfOk result (λ r. HasValued self.now.names self.now.state.globals r) }
+    {
+        self.globals.renumbering(alloc)
+    }
+
+    /// The name of a number is needed. Where memory was refused what was needed still is.
+    pub(crate) fn need_global(
+        &self,
+        renumbering: &mut Renumbering,
+        i: usize,
+    ) -> Result<(), AllocError>
+        requires there { i < length self.now.names }
+        requires of { IsOf self.now.names renumbering.old }
+        ensures of { IsOf self.now.names renumbering.new }
+        ensures needed { OnOk result (IsSome (number_in renumbering.new i)) }
+        ensures more { IsMore renumbering.old renumbering.new }
+    {
+        renumbering.need(&self.globals, i)
+    }
+
+    /// The names of globals get their new numbers, and those that aren't needed go.
+    pub fn renumber(&mut self, renumbering: Renumbering)
+        requires of { IsOf self.old.names renumbering }
+        requires valued { HasValued self.old.names self.old.state.globals renumbering }
+        ensures { self.new ≡ record self.old { names = renumbering.names } }
+    {
+        self.globals.renumber(renumbering);
     }
 
     /// The entry that gives a global a value, or none. It takes no memory where the name has a number.

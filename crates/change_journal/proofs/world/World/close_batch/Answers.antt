@@ -6,7 +6,7 @@ use Rattle.change_journal.specs.History.{committed}
 use Rattle.change_journal.specs.Batches.{history_of, newest, oldest_of}
 use Rattle.change_journal.proofs.Journal.{journal}
 use Rattle.change_journal.proofs.Commits.{IsSound-committed, history-committed}
-use Rattle.change_journal.proofs.world.World.commit.Goals as goal
+use Rattle.change_journal.proofs.world.World.close_batch.Goals as goal
 
 pub invariant_of-self : goal.invariant_of-self
 invariant_of-self g c =
