@@ -13,9 +13,10 @@ ghost use Rattle.ht_expressions.specs.Answer.{Reads, ReadsExpr};
 ghost use Rattle.ht_expressions.specs.Fronts as f;
 ghost use Rattle.ht_expressions.specs.Nests.{Nests};
 
-use crate::grammar::{Grammar, Level, WHOLE, to_expr};
+use crate::grammar::{Grammar, Level, WHOLE, to_expr, to_name_expr};
 use crate::operator::{EQUALITY, LeadingOperator, leading_rank, take_operator};
-use ht_lex::{Cursor, Key, Stop, TokenKind, to_name, to_text};
+use crate::shared_names::SharedNames;
+use ht_lex::{Cursor, Key, Stop, TokenKind, to_text};
 use ht_tree::{Expr, ExprKind, Exprs};
 use ht_values::{Op, Text, UnOp, plain_number};
 use std::alloc::Global;
@@ -50,14 +51,13 @@ fn take_quoted(alloc: Global, tokens: &mut Cursor<'_>) -> Result<Expr, Stop>
     to_expr(alloc, ExprKind::Quoted(text))
 }
 
-/// Goes past a name that isn't called.
+/// Goes past a name of a list that isn't called.
 #[inline(always)]
-fn take_name(alloc: Global, tokens: &mut Cursor<'_>) -> Result<Expr, Stop>
+fn take_name(tokens: &mut Cursor<'_>, names: &mut SharedNames) -> Result<Expr, Stop>
     ensures value { Gives (t.name (first_text tokens.old)) result }
     ensures after { tokens.new ≡ later tokens.old }
 {
-    let name = to_name(alloc, tokens.take())?;
-    Ok(Expr::of_name(alloc, name)?)
+    names.next(tokens.take())
 }
 
 /// Whether any expression of a list ends before a token of this kind.
@@ -96,7 +96,7 @@ fn closed(alloc: Global, tokens: &mut Cursor<'_>, kind: ExprKind) -> Result<Expr
 impl<F: Fn(Global, &mut Cursor<'_>, Level, usize) -> Result<Expr, Stop>> Grammar<F> {
     /// An expression of a list. One of a single token, as most are in long lists, isn't read through the ranks.
     #[tactic(auto, using(crate::proofs::Leaves::lone_number, crate::proofs::Leaves::lone_quoted, crate::proofs::Leaves::lone_name))]
-    fn element(&self, tokens: &mut Cursor<'_>) -> Result<Expr, Stop>
+    fn element(&self, tokens: &mut Cursor<'_>, names: &mut SharedNames) -> Result<Expr, Stop>
         requires { Nests self.now.depth (F.pre self.now.read) (F.post self.now.read) }
         ensures { ReadsExpr self.now.depth (spec.read self.now.depth e.whole tokens.old) result tokens.new }
     {
@@ -106,7 +106,7 @@ impl<F: Fn(Global, &mut Cursor<'_>, Level, usize) -> Result<Expr, Stop>> Grammar
         match tokens.peek() {
             Some(TokenKind::Number) => take_number(self.alloc, tokens),
             Some(TokenKind::Quoted) => take_quoted(self.alloc, tokens),
-            Some(TokenKind::Name) => take_name(self.alloc, tokens),
+            Some(TokenKind::Name) => take_name(tokens, names),
             _ => self.read(tokens, WHOLE),
         }
     }
@@ -118,8 +118,9 @@ impl<F: Fn(Global, &mut Cursor<'_>, Level, usize) -> Result<Expr, Stop>> Grammar
             (spec.list_at (spec.read self.now.depth) self.now.depth turns t.none tokens.old) result tokens.new }
     {
         let mut found = Exprs::new(self.alloc);
+        let mut names = SharedNames::new(self.alloc);
         for _turn in 0..turns {
-            let expr = self.element(tokens)?;
+            let expr = self.element(tokens, &mut names)?;
             found = found.with(expr)?;
             match tokens.peek() {
                 Some(TokenKind::Key(Key::CommaSign)) => tokens.skip(),
@@ -165,10 +166,7 @@ impl<F: Fn(Global, &mut Cursor<'_>, Level, usize) -> Result<Expr, Stop>> Grammar
                 let name = to_text(self.alloc, name)?;
                 self.call(tokens, name)
             }
-            _ => {
-                let name = to_name(self.alloc, name)?;
-                Ok(Expr::of_name(self.alloc, name)?)
-            }
+            _ => to_name_expr(self.alloc, name),
         }
     }
 

@@ -1,14 +1,16 @@
 //! The rules take the reader of an expression's parts as a parameter, so that each is proved by itself.
 
-ghost use Rattle.std.specs.Prelude.{◌<◌, ◌≤◌, ◌+◌};
+ghost use Rattle.std.specs.Prelude.{◌<◌, ◌≤◌, ◌+◌, length};
+ghost use Rattle.ht_values.specs.declared.text.TheConstants.{LIMIT};
 ghost use Rattle.ht_lex.specs.Stops.{Gives};
+ghost use Rattle.ht_grammar.specs.Trees as t;
 ghost use Rattle.ht_grammar.specs.Depth.{depth, max_depth};
 ghost use Rattle.ht_grammar.specs.Reading as spec;
 ghost use Rattle.ht_tree.specs.View.{expr_of};
 ghost use Rattle.ht_expressions.specs.Answer.{ReadsExpr};
 ghost use Rattle.ht_expressions.specs.Nests.{Nests, IsRanked, level_of};
 
-use ht_lex::{Cursor, Stop};
+use ht_lex::{Cursor, Stop, to_name};
 use ht_tree::{Expr, ExprKind};
 use std::alloc::Global;
 
@@ -33,6 +35,15 @@ pub(crate) fn to_expr(alloc: Global, kind: ExprKind) -> Result<Expr, Stop>
     ensures { Gives (expr_of kind) result }
 {
     Ok(Expr::new(alloc, kind)?)
+}
+
+/// The expression of a name of these bytes, unless memory is refused.
+pub(crate) fn to_name_expr(alloc: Global, bytes: &[u8]) -> Result<Expr, Stop>
+    requires { length bytes.now ≤ LIMIT }
+    ensures { Gives (t.name bytes.now) result }
+{
+    let name = to_name(alloc, bytes)?;
+    Ok(Expr::of_name(alloc, name)?)
 }
 
 /// The rules of expressions with at most `depth + 1` levels, whose parts `read` reads.

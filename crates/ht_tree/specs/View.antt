@@ -90,6 +90,7 @@ expr_of (e.Function f x) = t.function f x
 abbrev pub kept_form : Form → t.Expr
 kept_form (form.Number n) = t.number (numeral n)
 kept_form (form.Name w) = t.name w.value
+kept_form (form.Shared w) = t.name w.value
 kept_form (form.Boxed node) = expr_of node.value.kind
 
 abbrev pub form_of : ExprForm → t.Expr
@@ -101,4 +102,5 @@ form_of (lent.Kind x) = expr_of x.now
 abbrev pub knows_depth : Form → Type 0
 knows_depth (form.Number n) = Unit {0}
 knows_depth (form.Name w) = Unit {0}
+knows_depth (form.Shared w) = Unit {0}
 knows_depth (form.Boxed node) = (node.value.depth ≡ depth (expr_of node.value.kind)) × (node.value.depth ≤ max_depth)

@@ -14,6 +14,7 @@ use ht_lex::{Constant, Ordinal};
 use ht_values::{ChunkKind, Name, Op, PartKind, Prop, Text, UnOp};
 use std::alloc::{AllocError, Global};
 use std::marker::Model;
+use std::rc::Rc;
 
 /// An expression, at most 100 levels deep.
 #[cycle(tree)]
@@ -21,13 +22,15 @@ pub struct Expr {
     form: Form,
 }
 
-/// How an expression is kept: a number takes no memory, and a name no more than its own, since long lists are mostly of
-/// these.
+/// How an expression is kept: a number takes no memory, and a name no more than its own, which names may share, since
+/// long lists are mostly of these.
 #[cycle(tree)]
 #[derive(Drop)]
 enum Form {
     Number(i64),
     Name(Box<Name>),
+    /// A name that other expressions may have too.
+    Shared(Rc<Name>),
     Boxed(Box<ExprNode>),
 }
 
@@ -290,6 +293,15 @@ impl Expr {
         })
     }
 
+    /// A name that other expressions may have too. It takes no memory.
+    pub fn of_shared(name: Rc<Name>) -> Expr
+        ensures { result ≡ t.name name.value }
+    {
+        Expr {
+            form: Form::Shared(name),
+        }
+    }
+
     /// The expression of a kind, which is at most 100 levels deep.
     #[inline(always)]
     pub fn new(alloc: Global, kind: ExprKind) -> Result<Expr, AllocError>
@@ -311,6 +323,7 @@ impl Expr {
         match &self.form {
             Form::Number(number) => ExprForm::Number(*number),
             Form::Name(name) => ExprForm::Name(name),
+            Form::Shared(name) => ExprForm::Name(name),
             Form::Boxed(node) => ExprForm::Kind(&node.kind),
         }
     }
@@ -321,7 +334,7 @@ impl Expr {
         ensures limit { result ≤ max_depth }
     {
         match &self.form {
-            Form::Number(_) | Form::Name(_) => 1,
+            Form::Number(_) | Form::Name(_) | Form::Shared(_) => 1,
             Form::Boxed(node) => node.depth,
         }
     }
