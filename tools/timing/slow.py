@@ -76,12 +76,16 @@ def with_fields() -> Stack:
     return stack_of(parts=[Part(FIELD, 3 + at) for at in range(FIELDS)])
 
 
-def with_parameters() -> Stack:
-    """A handler with parameters, each by a name of its own."""
+def names_of_three(count: int) -> str:
+    """As many names of three letters, with commas between."""
     letters = "bcghjklmnpqrsvwxyz"
     words = map("".join, itertools.product(letters + "aeiou", letters, letters))
-    names = itertools.islice((word for word in words if word not in RESERVED), PARAMETERS)
-    return stack_of("on hear %s\rend hear" % ",".join(names))
+    return ",".join(itertools.islice((word for word in words if word not in RESERVED), count))
+
+
+def with_parameters() -> Stack:
+    """A handler with parameters, each by a name of its own."""
+    return stack_of("on hear %s\rend hear" % names_of_three(PARAMETERS))
 
 
 def with_hear() -> Stack:
@@ -102,6 +106,12 @@ def long_text(byte: str, count: int, name: str) -> List[str]:
         lines.append('put "%s" after %s' % (half[:left], name))
         left -= len(half)
     return lines
+
+
+def pieces_of(text: str, name: str) -> List[str]:
+    """The lines that put a text after what stands in a global."""
+    size = MOST_BYTES - 100
+    return ['put "%s" after %s' % (text[at:at + size], name) for at in range(0, len(text), size)]
 
 
 def repeated(piece: str, count: int, name: str) -> List[str]:
@@ -135,6 +145,9 @@ OPERATIONS: Sequence[Operation] = (
     # A run keeps the trees of the texts that it sent last, so here each text is another one.
     Operation("the same, a new text each time", with_hear,
               ['put "hear a" into t', *repeated(",a", ARGUMENTS - 1, "t"), "put 0 into n"],
+              "add 1 to n\rsend t & n to this stack", 4),
+    Operation("the same, of names of three letters", with_hear,
+              ['put "hear " into t', *pieces_of(names_of_three(PARAMETERS) + ",x", "t"), "put 0 into n"],
               "add 1 to n\rsend t & n to this stack", 4),
 )
 

@@ -12,6 +12,7 @@ from front import stack_text  # noqa: E402
 MOST_TEXT = 30_000  # bytes of a line and of a text
 CARDS = 50
 LITTLE_ROOM = 1 << 20  # bytes
+ROOM_OF_NAMES = 4 << 20  # bytes, more than names of globals take that nothing needs
 EVERY_BYTE = bytes(range(256))
 # Each byte, and then as often as a text has room for it.
 MANY_BYTES = ["repeat with i = 0 to 255\rput numToChar(i) after u\rend repeat", "repeat 117\rput u after t\rend repeat"]
@@ -114,7 +115,20 @@ def save_without_room_for_the_text(place: Place) -> Pairs:
     yield text_of(place.stack) == saved, True
 
 
+def names_of_undone_globals(place: Place) -> Pairs:
+    """Names of globals go that no undo and no redo needs, so hundreds of long ones take no more memory than some."""
+    talk = place.talk()
+    names = ["n" * (MOST_TEXT - 1_000) + "%d" % at for at in range(1_000, 1_400)]
+    memory = []
+    for at, name in enumerate(names):
+        yield [talk.ask(line) for line in ("put %d into %s" % (at, name), ".undo")], ["ok", "ok"]
+        memory.append(talk.most_memory())
+    yield memory[-1] - memory[99] < ROOM_OF_NAMES, True
+    yield [talk.ask(".redo"), talk.ask(".globals"), talk.heard()], ["ok", "> %s %d" % (names[-1], len(names) - 1), "ok"]
+    yield talk.end(), (0, "")
+
+
 CASES: List[Callable[[Place], Pairs]] = [
     many_answers_to_a_line, many_messages_of_a_line, long_lines, longest_text_of_two_lines, many_places,
-    large_stack_that_is_saved, large_stack_of_another_writer, save_without_room_for_the_text,
+    large_stack_that_is_saved, large_stack_of_another_writer, save_without_room_for_the_text, names_of_undone_globals,
 ]

@@ -5,6 +5,8 @@
 #![tactic(auto)]
 
 #[cfg(test)]
+mod forgotten;
+#[cfg(test)]
 mod places;
 #[cfg(test)]
 mod unseen;

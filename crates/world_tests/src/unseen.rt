@@ -45,7 +45,7 @@ fn text(alloc: Global, bytes: &[u8]) -> Option<Text> {
 const FOO: &[u8] = b"on foo\rput 1\rend foo\r";
 
 /// Makes a change in the open batch.
-fn make(world: &mut PlainWorld, change: Change) -> Option<()>
+pub(crate) fn make(world: &mut PlainWorld, change: Change) -> Option<()>
     requires { IsSome world.old.history.start }
     ensures { IfSome result (λ _. IsSome world.new.history.start) }
 {
