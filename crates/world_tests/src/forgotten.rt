@@ -44,13 +44,13 @@ fn has_value(alloc: Global, world: &PlainWorld, length: usize) -> Option<bool> {
     Some(world.global(&name).is_some())
 }
 
-/// Gives so many globals a value, whose names have from 29,000 bytes on, each in a batch that is given up.
-fn put_and_give_up(alloc: Global, world: &mut PlainWorld, count: usize) -> Option<()>
+/// Gives globals a value, whose names have from `first` bytes to less than `end`, each in a batch that is given up.
+fn put_and_give_up(alloc: Global, world: &mut PlainWorld, first: usize, end: usize) -> Option<()>
     requires { world.old.history.start ≡ None }
     ensures { IfSome result (λ _. world.new.history.start ≡ None) }
 {
-    for i in 0..count {
-        begin_put(alloc, world, 29_000 + i)?;
+    for length in first..end {
+        begin_put(alloc, world, length)?;
         world.roll_back();
     }
     Some(())
@@ -70,9 +70,9 @@ fn undo(world: &mut PlainWorld)
 fn names_and_values(alloc: Global, world: &mut PlainWorld) -> Option<(usize, [bool; 2])>
     requires { world.old.history.start ≡ None }
 {
-    put_and_give_up(alloc, world, 1)?;
+    put_and_give_up(alloc, world, 29_000, 29_001)?;
     put(alloc, world, 5)?;
-    put_and_give_up(alloc, world, 60)?;
+    put_and_give_up(alloc, world, 29_001, 29_061)?;
     put(alloc, world, 6)?;
     let count = world.name_count();
     let kept = has_value(alloc, world, 6)?;
