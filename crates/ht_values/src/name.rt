@@ -1,7 +1,7 @@
 //! Names, with their folded form.
 
-ghost use Rattle.std.specs.Prelude.{◌≡◌, IfOk};
-ghost use Rattle.ht_values.specs.Text.{folded as folded_of};
+ghost use Rattle.std.specs.Prelude.{◌≡◌, IfOk, true};
+ghost use Rattle.ht_values.specs.Text.{folded as folded_of, is_folded};
 
 use crate::text::Text;
 use std::alloc::{AllocError, Global};
@@ -43,12 +43,24 @@ impl Name {
     pub fn new(alloc: Global, spelling: Text) -> Result<Name, AllocError>
         ensures { IfOk result (λ n. n ≡ spelling) }
     {
-        let folded = if spelling.is_folded() {
-            None
-        } else {
-            Some(boxed_fold(alloc, &spelling)?)
-        };
+        if spelling.is_folded() {
+            return Ok(Name::of_folded(spelling));
+        }
+        let folded = Some(boxed_fold(alloc, &spelling)?);
         Ok(Name { spelling, folded })
+    }
+
+    /// The name of a spelling that is folded: no byte is one of A-Z. It takes no memory.
+    #[tactic(auto, using(crate::proofs::Folding::folded_stays))]
+    #[inline(always)]
+    pub fn of_folded(spelling: Text) -> Name
+        requires { is_folded spelling ≡ true }
+        ensures { result ≡ spelling }
+    {
+        Name {
+            spelling,
+            folded: None,
+        }
     }
 
     /// The name as it is spelled.

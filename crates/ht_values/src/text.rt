@@ -93,6 +93,15 @@ impl Text {
         }
     }
 
+    /// The text of at most 22 bytes. It takes no memory.
+    #[inline(always)]
+    pub fn short(alloc: Global, bytes: &[u8]) -> Text
+        requires { length bytes.now ≤ IN_PLACE }
+        ensures { result ≡ bytes.now }
+    {
+        Text::in_place(alloc, FewBytes::copied(bytes))
+    }
+
     /// A text of these bytes, which are known to fit. It takes no memory where the text has at most 22 bytes.
     #[inline]
     pub fn fitting(alloc: Global, bytes: &[u8]) -> Result<Text, AllocError>
@@ -101,7 +110,7 @@ impl Text {
         ensures short { length bytes.now ≤ IN_PLACE → IsOk result }
     {
         if bytes.len() <= IN_PLACE {
-            return Ok(Text::in_place(alloc, FewBytes::copied(bytes)));
+            return Ok(Text::short(alloc, bytes));
         }
         Text::boxed_copy(alloc, bytes)
     }
@@ -127,7 +136,7 @@ impl Text {
     {
         let alloc = *bytes.allocator();
         if bytes.len() <= IN_PLACE {
-            return Ok(Text::in_place(alloc, FewBytes::copied(&bytes)));
+            return Ok(Text::short(alloc, &bytes));
         }
         Text::boxed(alloc, bytes)
     }
