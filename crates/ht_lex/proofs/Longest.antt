@@ -11,6 +11,7 @@ use Rattle.std.proofs.lemmas.List.{take-append-drop, length-take-le}
 use Rattle.std.proofs.lemmas.List.Folds.{length-prefix_len}
 use Rattle.std.proofs.Math.Seq.{take-append_seam}
 use Rattle.ht_lex.specs.declared.key.Key.{Key}
+use Rattle.ht_lex.specs.declared.key.Key.TheVariants as k
 use Rattle.ht_lex.specs.declared.key.TokenKind.{TokenKind}
 use Rattle.ht_lex.specs.declared.key.TokenKind.TheVariants as kind
 use Rattle.ht_lex.specs.declared.lexeme.Class.{Class}
@@ -24,7 +25,8 @@ use Rattle.ht_lex.specs.Pieces.{is_blank, is_return, is_quote, Among, Spells, No
 use Rattle.ht_lex.specs.Pieces.{symbol, return, blanks, continued, comment}
 use Rattle.std.specs.Cmp.{first_so, second_so}
 use Rattle.std.specs.Cmp.Derive.{both_true}
-use Rattle.ht_lex.proofs.Runs.{passing_le, run_passes, run_begins, run_within, closed_len, closed_at, closed_take}
+use Rattle.ht_lex.proofs.Symbols.{lone_is_symbol}
+use Rattle.ht_lex.proofs.Runs.{run_on, passing_le, run_passes, run_begins, run_within, closed_len, closed_at, closed_take}
 use Rattle.ht_lex.proofs.Runs.{closed_within}
 
 -- What a first byte begins: blanks, a return, digits, a word, a text in quotes, a continued line, or else a comment or
@@ -103,6 +105,12 @@ same_rank text piece rest n r e f le h = sym (spelled_rank h) ∙ ap rank (first
 past_zero : (c : Class) (text : List ℕ) → past c text 0 ≡ prefix_len (is_in c) text
 past_zero c text = zero-add (prefix_len (is_in c) text)
 
+-- A run whose first byte is known goes on from the second.
+past_first : (c : Class) (text : List ℕ) → is_in c 0 ≡ false → is_in c (slice_index text 0) ≡ true
+    → past c text 1 ≡ prefix_len (is_in c) text
+past_first c [] none e = cc
+past_first c (x ∷ xs) none e = omega (arith, run_on (is_in c) x xs e)
+
 -- What passes isn't longer than the run.
 run_bound : (p : ℕ → Bool) (text piece rest : List ℕ) → piece ++ rest ≡ text → list_all p piece ≡ true
     → prefix_len p text < length piece → ⊥
@@ -161,7 +169,8 @@ word_longest text e =
     let k = prefix_len goes_on_word text in
     let some : 0 < k = run_begins goes_on_word text refl (begins_goes_on (slice_index text 0) e) in
     let begins : begins_word (slice_index (take k text) 0) ≡ true = ap begins_word (take_first k text some) ∙ e in
-    subst (λ n. Longest (Some (kind_of_word (take n text))) text n) (sym (past_zero class.Word text)) (record {
+    subst (λ n. Longest (Some (kind_of_word (take n text))) text n)
+    (sym (past_first class.Word text refl (begins_goes_on (slice_index text 0) e))) (record {
       spelled = word (both_true begins (run_passes goes_on_word text));
       within = run_within goes_on_word text;
       longest = no_word text (word_rank (slice_index text 0) e);
@@ -412,21 +421,27 @@ opened : (o : ℕ) (text : List ℕ) (front : List ℕ → Lexeme) → 0 < o
 opened o [] front f h e = absurd (omega arith)
 opened o (x ∷ xs) front f h e = subst (λ v. IsLongest (v ∷ xs) (front (v ∷ xs))) (sym e) (h xs)
 
+comma_longest : (rest : List ℕ) → IsLongest (44 ∷ rest) (Token (kind.Key k.CommaSign) 1)
+comma_longest rest =
+    subst (IsLongest (44 ∷ rest)) (lone_is_symbol (44 ∷ rest) k.CommaSign refl) (symbol_longest (44 ∷ rest) refl refl)
+
 -- What the code finds is the longest.
 pub longest_is_taken : (text : List ℕ) → IsLongest text (first_lexeme text)
 unfolding first_lexeme
 longest_is_taken text =
     let b = slice_index text 0 in
+    by_test (begins_word b) _ _ (IsLongest text) (word_longest text) (λ no_word.
+    by_test (b == 44) _ _ (IsLongest text)
+    (λ e. opened 44 text (λ _. Token (kind.Key k.CommaSign) 1) (omega arith) comma_longest (eqb-true b 44 e)) (λ no_comma.
     by_test (is_blank b) _ _ (IsLongest text) (blank_longest text) (λ no_blank.
     by_test (is_return b) _ _ (IsLongest text) (return_longest text) (λ no_return.
     by_test (is_ascii_digit b) _ _ (IsLongest text) (digits_longest text) (λ no_digit.
-    by_test (begins_word b) _ _ (IsLongest text) (word_longest text) (λ no_word.
     by_test (is_quote b) _ _ (IsLongest text)
     (λ e. opened 34 text quoted_lexeme (omega arith) quoted_longest (eqb-true b 34 e)) (λ no_quote.
     by_test (b == 0xC2) _ _ (IsLongest text)
     (λ e. opened 0xC2 text continued_lexeme (omega arith) continued_longest (eqb-true b 0xC2 e)) (λ no_more.
     by_test (starts_with nat_eq text (codes "--")) _ _ (IsLongest text) (hyphens_longest text) (symbol_longest text
-    (grind (arith, nat_tests)))))))))
+    (grind (arith, nat_tests))))))))))
 
 -- the two rows aren't spelled alike
 abbrev Differs : List ℕ × Key → List ℕ × Key → Type 0

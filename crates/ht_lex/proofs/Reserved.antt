@@ -1,6 +1,6 @@
 -- The code's table has the reserved words by their first letters, and a word's key is found under its own first letter.
-use Rattle.std.proofs.Common.{◌≡◌, ℕ, ◌-◌, ◌<◌, ◌≤◌, List, [], ◌∷◌, Bool, true, false, cond, length, map, None, Some}
-use Rattle.std.proofs.Common.{slice_index, Bor, refl, ap, sym, ◌∙◌, arith, rules, tests, ◌==◌, true≢false}
+use Rattle.std.proofs.Common.{◌≡◌, ℕ, ◌-◌, ◌<◌, ◌≤◌, List, [], ◌∷◌, Bool, true, false, cond, nat_lt, length, map, None}
+use Rattle.std.proofs.Common.{◌&&◌, Some, slice_index, Bor, refl, ap, sym, ◌∙◌, arith, rules, tests, ◌==◌, true≢false}
 use Rattle.std.specs.Cmp.{first_so, second_so}
 use Rattle.std.specs.Char.{to_ascii_lowercase, is_ascii_lowercase}
 use Rattle.std.specs.List.{list_all, range_with_len}
@@ -89,3 +89,33 @@ none_found w first e none =
     sym (among_under reserved_words w)
     ∙ ap (λ rows. entry rows w) (none_under reserved_words (initial w) letters
     (ap is_ascii_lowercase (sym e) ∙ none))
+
+-- ---- no word of one byte is reserved
+
+longer_differs : (v w : List ℕ) → nat_lt 1 (length v) ≡ true → length w < 2 → same v w ≡ false
+longer_differs [] w long short = cc
+longer_differs (a ∷ []) w long short = cc
+longer_differs (a ∷ b ∷ v) [] long short = refl
+longer_differs (a ∷ b ∷ v) (x ∷ []) long short = go (to_ascii_lowercase a == to_ascii_lowercase x)
+  where
+    go : (c : Bool) → (c && false) ≡ false
+    go true = refl
+    go false = refl
+longer_differs (a ∷ b ∷ v) (x ∷ y ∷ w) long short = absurd (omega arith)
+
+none_short : (rows : Rows) (w : List ℕ) → list_all (λ row. nat_lt 1 (length row.0)) rows ≡ true → length w < 2
+    → entry rows w ≡ None
+none_short [] w long short = refl
+none_short (row ∷ rows) w long short =
+    ap (λ c. cond c (Some row.1) (entry rows w))
+    (longer_differs row.0 w (first_so (nat_lt 1 (length row.0)) (list_all (λ row. nat_lt 1 (length row.0)) rows) long)
+    short)
+    ∙ none_short rows w (second_so (nat_lt 1 (length row.0)) (list_all (λ row. nat_lt 1 (length row.0)) rows) long) short
+
+have_two : list_all (λ row. nat_lt 1 (length row.0)) reserved_words ≡ true
+unfolding reserved_words
+have_two = refl
+
+pub short_is_free : (w : List ℕ) → length w < 2 → key_of w ≡ None
+unfolding key_of
+short_is_free w short = none_short reserved_words w have_two short

@@ -25,8 +25,9 @@ is_in class.Quotable b = is_quotable b
 abbrev pub past : Class → List ℕ → ℕ → ℕ
 past c text place = place + prefix_len (is_in c) (drop place text)
 
+-- A word, whose first byte is known to be one.
 abbrev pub word_lexeme : List ℕ → Lexeme
-word_lexeme text = let end = past class.Word text 0 in Token (kind_of_word (take end text)) end
+word_lexeme text = let end = past class.Word text 1 in Token (kind_of_word (take end text)) end
 
 -- A text in quotes, which has no return.
 abbrev pub quoted_lexeme : List ℕ → Lexeme
@@ -61,13 +62,15 @@ lone_symbol b =
     else if b == 61 then Some k.Equal
     else None
 
+-- The pieces begin with bytes of their own, so words and commas, the commonest, come first.
 unfoldable pub first_lexeme : List ℕ → Lexeme
 first_lexeme text =
     let first = slice_index text 0 in
-    if is_blank first then Gap (past class.Blank text 0)
+    if begins_word first then word_lexeme text
+    else if first == 44 then Token (kind.Key k.CommaSign) 1
+    else if is_blank first then Gap (past class.Blank text 0)
     else if is_return first then Token kind.Eol 1
     else if is_ascii_digit first then Token kind.Number (past class.Digit text 0)
-    else if begins_word first then word_lexeme text
     else if is_quote first then quoted_lexeme text
     else if first == 0xC2 then continued_lexeme text
     else if starts_with nat_eq text (codes "--") then Gap (past class.Commented text 0)

@@ -126,12 +126,13 @@ fn kind_of_word(word: &[u8]) -> TokenKind
     }
 }
 
+/// A word, whose first byte is known to be one.
 fn word_lexeme(text: &[u8]) -> Lexeme
-    requires { lexemes.is_in Class.Word (slice_index text.now 0) ≡ true }
+    requires { 0 < length text.now }
     ensures value { result ≡ lexemes.word_lexeme text.now }
     ensures within { lexemes.FitsIn text.now result }
 {
-    let end = past(Class::Word, text, 0);
+    let end = past(Class::Word, text, 1);
     Lexeme::Token(kind_of_word(&text[..end]), end)
 }
 
@@ -163,7 +164,8 @@ fn continued_lexeme(text: &[u8]) -> Lexeme
     }
 }
 
-/// What a text that isn't empty begins with.
+/// What a text that isn't empty begins with. The pieces begin with bytes of their own, so words and commas, the
+/// commonest, are looked for first.
 #[tactic(auto, unfolding(crate::specs::Lexemes::first_lexeme))]
 pub(crate) fn first_lexeme(text: &[u8]) -> Lexeme
     requires { 0 < length text.now }
@@ -171,14 +173,16 @@ pub(crate) fn first_lexeme(text: &[u8]) -> Lexeme
     ensures within { lexemes.FitsIn text.now result }
 {
     let first = text[0];
-    if is_in(Class::Blank, first) {
+    if begins_word(first) {
+        word_lexeme(text)
+    } else if first == b',' {
+        Lexeme::Token(TokenKind::Key(Key::CommaSign), 1)
+    } else if is_in(Class::Blank, first) {
         Lexeme::Gap(past(Class::Blank, text, 0))
     } else if first == b'\r' {
         Lexeme::Token(TokenKind::Eol, 1)
     } else if is_in(Class::Digit, first) {
         Lexeme::Token(TokenKind::Number, past(Class::Digit, text, 0))
-    } else if begins_word(first) {
-        word_lexeme(text)
     } else if first == b'"' {
         quoted_lexeme(text)
     } else if first == 0xc2 {

@@ -192,10 +192,13 @@ fn rows_at<'a>(table: &[&'a [(&'a [u8], Key)]], place: usize) -> &'a [(&'a [u8],
     table[place]
 }
 
-/// The key of a reserved word, whose case is ignored; none where the word isn't reserved.
+/// The key of a reserved word, whose case is ignored; none where the word isn't reserved. No word of one byte is.
 pub(crate) fn key_of(word: &[u8]) -> Option<Key>
     ensures { result ≡ words.key_of word.now }
 {
+    if word.len() < 2 {
+        return None;
+    }
     let first = byte_at(word, 0).to_ascii_lowercase();
     if !first.is_ascii_lowercase() {
         return None;

@@ -93,6 +93,21 @@ impl Value {
         }
     }
 
+    /// Makes the value equal to a text, as `copied` does. It takes memory only for a text of over 22 bytes; the value
+    /// is as it was where that was refused.
+    #[inline]
+    pub fn copy_from(&mut self, alloc: Global, text: &Text) -> Result<(), AllocError>
+        ensures value { OnOk result (self.new ≡ text.now) }
+        ensures same { OnErr result (self.new ≡ self.old) }
+        ensures short { length text.now ≤ IN_PLACE → IsOk result }
+    {
+        match plain_number(text.as_slice()) {
+            Some(number) => *self = Value::of_number(number),
+            None => *self = Value::of_text(text.try_clone(alloc)?),
+        }
+        Ok(())
+    }
+
     /// An equal value. It takes memory only for a text of over 22 bytes.
     #[inline]
     pub fn try_clone(&self, alloc: Global) -> Result<Value, AllocError>

@@ -2,8 +2,11 @@ use Rattle.std.proofs.Common.{◌≡◌, ◌-◌, [], ap, sym, ◌∙◌}
 use Rattle.std.proofs.Math.ListN.{get_or}
 use Rattle.std.specs.Char.{to_ascii_lowercase}
 use Rattle.ht_values.specs.Text.{entry}
-use Rattle.ht_lex.proofs.Reserved.{initial, rows_by_letter, found_under, none_found}
+use Rattle.ht_lex.proofs.Reserved.{initial, rows_by_letter, found_under, none_found, short_is_free}
 use Rattle.ht_lex.proofs.names.key_of.Goals as goal
+
+pub returns-then-word-lt2 : goal.returns-then-word-lt2
+returns-then-word-lt2 c = sym (short_is_free c.args.word.now c.if-word-lt2.true)
 
 pub returns-then-not-is_ascii_lowercase : goal.returns-then-not-is_ascii_lowercase
 returns-then-not-is_ascii_lowercase c =
