@@ -4,7 +4,7 @@ ghost use Rattle.std.specs.Prelude.{◌≡◌, ◌≤◌, length};
 ghost use Rattle.ht_values.specs.declared.text.TheConstants.{LIMIT};
 ghost use Rattle.ht_lex.specs.Stops.{Gives};
 
-use ht_values::{Name, Text};
+use ht_values::{IN_PLACE, Name, Text};
 use std::alloc::{AllocError, Global};
 
 /// Why no tree is read: the tokens are none, or a growth of memory was refused.
@@ -33,8 +33,24 @@ pub fn to_text(alloc: Global, bytes: &[u8]) -> Result<Text, Stop>
     Ok(Text::fitting(alloc, bytes)?)
 }
 
-/// A name of these bytes, unless memory is refused.
+/// A name of these bytes, unless memory is refused. Most are short and folded, and take no memory.
+#[inline(always)]
 pub fn to_name(alloc: Global, bytes: &[u8]) -> Result<Name, Stop>
+    requires { length bytes.now ≤ LIMIT }
+    ensures { Gives bytes.now result }
+{
+    if bytes.len() <= IN_PLACE {
+        let spelling = Text::short(alloc, bytes);
+        if spelling.is_folded() {
+            return Ok(Name::of_folded(spelling));
+        }
+    }
+    to_long_name(alloc, bytes)
+}
+
+/// A name of these bytes, unless memory is refused, with its folded form beside it.
+#[inline(never)]
+fn to_long_name(alloc: Global, bytes: &[u8]) -> Result<Name, Stop>
     requires { length bytes.now ≤ LIMIT }
     ensures { Gives bytes.now result }
 {

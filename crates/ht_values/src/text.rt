@@ -1,6 +1,6 @@
 //! Texts: at most 30,000 bytes, any bytes, one byte a character.
 
-ghost use Rattle.std.specs.Prelude.{◌≡◌, ◌≤◌, ◌<◌, ◌↔◌, ◌+◌, ◌++◌, ℕ, List, [], length, All, IfOk, IfErr, IsOk};
+ghost use Rattle.std.specs.Prelude.{◌≡◌, ◌≤◌, ◌<◌, ◌↔◌, ◌+◌, ◌++◌, ℕ, List, [], length, All, IfOk, IfErr, IfSome, IsOk};
 ghost use Rattle.std.specs.Prelude.{OnOk, OnErr, Ok, Err, IsErrOf, IsTrue};
 ghost use Rattle.ht_values.specs.Outcome.{Gives, within_limit};
 ghost use Rattle.ht_values.specs.Text.{Same, IsText, folded as folded_of, is_folded as is_folded_text, numeral, same};
@@ -210,9 +210,18 @@ impl Text {
     pub fn is_folded(&self) -> bool
         ensures { result ≡ is_folded_text self.now }
     {
-        self.as_slice()
-            .iter()
-            .all(|byte| !byte.is_ascii_uppercase())
+        is_folded(self.as_slice())
+    }
+
+    /// The bytes of a text that takes no memory.
+    #[inline(always)]
+    pub(crate) fn few(&self) -> Option<&FewBytes>
+        ensures { IfSome result (λ few. few.now ≡ self.now) }
+    {
+        match &self.held {
+            Held::InPlace(few) => Some(few),
+            Held::Boxed(_) => None,
+        }
     }
 
     /// Adds bytes at the end. `TooLong` where the text would be over 30,000 bytes, else `Memory` where a growth was
@@ -304,6 +313,14 @@ fn are_same_long(left: &[u8], right: &[u8]) -> bool
     ensures { IsTrue result ↔ Same left.now right.now }
 {
     left == right || left.eq_ignore_ascii_case(right)
+}
+
+/// Whether bytes are folded: none is one of A-Z.
+#[inline]
+pub(crate) fn is_folded(bytes: &[u8]) -> bool
+    ensures { result ≡ is_folded_text bytes.now }
+{
+    bytes.iter().all(|byte| !byte.is_ascii_uppercase())
 }
 
 /// A copy of bytes with A-Z folded to a-z, and nothing else.

@@ -101,8 +101,12 @@ impl Value {
         ensures same { OnErr result (self.new ≡ self.old) }
         ensures short { length text.now ≤ IN_PLACE → IsOk result }
     {
-        match plain_number(text.as_slice()) {
-            Some(number) => *self = Value::of_number(number),
+        if let Some(number) = plain_number(text.as_slice()) {
+            *self = Value::of_number(number);
+            return Ok(());
+        }
+        match text.few() {
+            Some(few) => *self = Value::of_text(Text::in_place(alloc, few.duplicate())),
             None => *self = Value::of_text(text.try_clone(alloc)?),
         }
         Ok(())

@@ -87,7 +87,7 @@ pub(crate) fn eval_bare<E: External>(
             set_number(value, number);
             return Ok(());
         }
-        ExprForm::Name(_) => return atom(world, run, frame, e, value),
+        ExprForm::Name(_) | ExprForm::Short(_) => return atom(world, run, frame, e, value),
         ExprForm::Kind(kind) => kind,
     };
     match kind {
@@ -653,12 +653,37 @@ pub(crate) fn arguments<E: External>(
         (given result values.new) world.new.history run.new }
     ensures keeps { Keeps world.old.history run.old world.new.history run.new }
 {
+    let mut value = Value::of_number(0);
     for e in list {
-        let mut value = Value::of_number(0);
-        eval(world, run, frame, nested, e, &mut value)?;
-        values.push(value)?;
+        argument(world, run, frame, nested, e, &mut value)?;
+        values.push(&mut value)?;
     }
     Ok(())
+}
+
+/// Writes the value of an argument. Long lists are mostly of names, which take no turn through the forms.
+#[cycle(run)]
+#[tactic(auto, using(meaning::proofs::Rules::val_rules))]
+#[inline(always)]
+pub(crate) fn argument<E: External>(
+    world: &mut World<E>,
+    run: &mut Budget,
+    frame: &Frame,
+    nested: u32,
+    e: &Expr,
+    value: &mut Value,
+) -> Result<(), Stop>
+    requires nested { nested ≤ 100 }
+    requires deep { depth e.now ≤ max_depth }
+    requires open { IsSome (base world.old.history).start }
+    ensures meaning { Val world.old.history run.old frame.now nested e.now (given result value.new) world.new.history
+        run.new }
+    ensures keeps { Keeps world.old.history run.old world.new.history run.new }
+{
+    match e.form() {
+        ExprForm::Name(_) | ExprForm::Short(_) => atom(world, run, frame, e, value),
+        _ => eval(world, run, frame, nested, e, value),
+    }
 }
 
 /// A condition. Two numbers that are compared are looked at where they are kept.

@@ -8,6 +8,7 @@ ghost use Rattle.object_table.specs.Maps.{put_option};
 ghost use Rattle.journal_entries.specs.Named.{Named, Extends, Lists, listed, numbered};
 ghost use Rattle.journal_entries.specs.Renumbered.{IsOf, HasValued};
 
+use crate::initials::Initials;
 use crate::renumbering::Renumbering;
 use ht_values::Text;
 use indexmap::IndexSet;
@@ -27,6 +28,7 @@ const FEW_NAME_BYTES: usize = 1_000_000;
 #[derive(Drop)]
 pub struct Globals {
     names: IndexSet<Vec<u8>>,
+    initials: Initials,
     values: Vec<Option<Text>>,
     live: usize,
     last: usize,
@@ -42,6 +44,7 @@ impl Model for Globals {
     ghost use Rattle.ht_values.specs.Text.{numeral};
     ghost use Rattle.std.specs.FinMap as finite;
     ghost use Rattle.journal_entries.specs.Named.{Named, coded_named, entries_of, AreDistinct};
+    ghost use Rattle.journal_entries.specs.Initials.{MayHaveAll};
 
     ghost Value = { Named };
 
@@ -52,7 +55,8 @@ impl Model for Globals {
 
     ghost invariant = { λ g. let names = map (λ k. k.items) g.names.keys in (length names ≡ length g.values.items)
         × AreDistinct names × (g.live ≡ count_by is_some g.values.items)
-        × IfSome g.last_number (λ n. slice_index_or g.values.items g.last None ≡ Some (numeral n)) };
+        × IfSome g.last_number (λ n. slice_index_or g.values.items g.last None ≡ Some (numeral n))
+        × MayHaveAll g.initials names };
 }
 
 impl Globals {
@@ -61,6 +65,7 @@ impl Globals {
     {
         Globals {
             names: IndexSet::new(alloc),
+            initials: Initials::new(),
             values: Vec::new(alloc),
             live: 0,
             last: 0,
@@ -81,8 +86,23 @@ impl Globals {
         }
     }
 
-    /// The number of a name, if it has one.
+    /// The number of a name, if it has one. Most names that have none are told by their first byte.
+    #[inline(always)]
     fn number_of(&self, name: &Text) -> Option<usize>
+        ensures there { IfSome result (λ i. (i < length self.now.names)
+            × (slice_index_or self.now.names i [] ≡ name.now)) }
+        ensures absent { IfNone result ((i : ℕ) → i < length self.now.names
+            → slice_index_or self.now.names i [] ≢ name.now) }
+    {
+        if self.initials.may_have(name.as_slice()) {
+            return self.number_among_all(name);
+        }
+        None
+    }
+
+    /// The number of a name, if it has one. It is out of line: mostly there is none.
+    #[inline(never)]
+    fn number_among_all(&self, name: &Text) -> Option<usize>
         ensures there { IfSome result (λ i. (i < length self.now.names)
             × (slice_index_or self.now.names i [] ≡ name.now)) }
         ensures absent { IfNone result ((i : ℕ) → i < length self.now.names
@@ -112,6 +132,7 @@ impl Globals {
         self.values.reserve(1)?;
         let bytes = Vec::from_slice(self.alloc, name.as_slice())?;
         self.names.insert_full(bytes)?;
+        self.initials.add(name.as_slice());
         self.last_number = None;
         self.name_bytes = with_name(self.name_bytes, name.len());
         self.values.push_reserved(None);

@@ -12,6 +12,7 @@ mod batch;
 mod change;
 mod entry;
 mod globals;
+mod initials;
 mod laws;
 mod names;
 mod open_batch;

@@ -57,12 +57,13 @@ impl Arguments {
         }
     }
 
-    /// Adds another at their end. The first takes no memory. It is out of line: else the frame of who evaluates an
-    /// argument has a place more for its value.
+    /// Adds a value at their end, which is taken out of its place. The first takes no memory. It is out of line: else
+    /// the frame of who evaluates an argument has a place more for its value.
     #[inline(never)]
-    pub fn push(&mut self, value: Value) -> Result<(), AllocError>
-        ensures { OnOk result (self.new ≡ self.old ++ value ∷ []) }
+    pub fn push(&mut self, place: &mut Value) -> Result<(), AllocError>
+        ensures { OnOk result (self.new ≡ self.old ++ place.old ∷ []) }
     {
+        let value = mem::replace(place, Value::of_number(0));
         match &self.values {
             Listed::Nothing => {
                 self.values = Listed::One(value);

@@ -38,7 +38,11 @@ pub fn atom<E: External>(
             Ok(())
         }
         ExprForm::Name(name) => {
-            *value = variable(world, run, frame, name)?;
+            variable(world, run, frame, name, value)?;
+            Ok(())
+        }
+        ExprForm::Short(name) => {
+            variable(world, run, frame, &name.name(run.alloc()), value)?;
             Ok(())
         }
         ExprForm::Kind(kind) => {

@@ -101,7 +101,11 @@ fn operand_value<E: External>(
 {
     match operand {
         Operand::Value(value) => Ok(value),
-        Operand::Name(name) => Ok(variable(world, run, frame, name)?),
+        Operand::Name(name) => {
+            let mut value = Value::of_number(0);
+            variable(world, run, frame, name, &mut value)?;
+            Ok(value)
+        }
         Operand::Field(field) => field_text(world, run, frame, field),
     }
 }

@@ -59,20 +59,22 @@ pub fn nth_piece(ordinal: Ordinal, kind: ChunkKind) -> Chunk
     }
 }
 
-/// What a name reads.
+/// Writes what a name reads.
 #[inline(always)]
 pub(crate) fn variable<E: External>(
     world: &World<E>,
     run: &Budget,
     frame: &Frame,
     name: &Name,
-) -> Result<Value, AllocError>
-    ensures { IfOk result (λ t. t ≡ read_name_of world.now.history.now frame.now.variables name.now) }
+    value: &mut Value,
+) -> Result<(), AllocError>
+    ensures { OnOk result (value.new ≡ read_name_of world.now.history.now frame.now.variables name.now) }
 {
     match read_name(world, &frame.variables, name) {
-        Standing::Value(value) => copied(run, value),
-        Standing::Text(text) => Value::copied(run.alloc(), text),
+        Standing::Value(found) => *value = copied(run, found)?,
+        Standing::Text(text) => value.copy_from(run.alloc(), text)?,
     }
+    Ok(())
 }
 
 /// An equal value. One that is kept as a number is most often read.
