@@ -32,7 +32,7 @@ pub(crate) fn repeat_times<E: External>(
     nested: u32,
     times: &Expr,
     lines: &[Stmt],
-    value: &mut Value,
+    returned: &mut Value,
 ) -> Result<Way, Stop>
     requires nested { nested ≤ 100 }
     requires times { depth times.now < max_depth }
@@ -40,12 +40,12 @@ pub(crate) fn repeat_times<E: External>(
     requires open { IsSome (base world.old.history).start }
     ensures meaning { Form world.old.history run.old frame.old nested
         (stm.repeat (stm.times times.now) (stmts_of lines.now))
-        (how_given result value.new) world.new.history run.new frame.new }
+        (how_given result returned.new) world.new.history run.new frame.new }
     ensures keeps { Keeps world.old.history run.old world.new.history run.new }
 {
     let times = number_value(world, run, frame, nested, times)?;
     let counter = Counter::new(1, times, false);
-    turns(world, run, frame, nested, None, counter, lines, value)
+    turns(world, run, frame, nested, None, counter, lines, returned)
 }
 
 /// A repeat from a number up or down to another.
@@ -62,7 +62,7 @@ pub(crate) fn repeat_counted<E: External>(
     to: &Expr,
     is_down: bool,
     lines: &Stmts,
-    value: &mut Value,
+    returned: &mut Value,
 ) -> Result<Way, Stop>
     requires nested { nested ≤ 100 }
     requires from { depth from.now < max_depth }
@@ -71,7 +71,7 @@ pub(crate) fn repeat_counted<E: External>(
     requires open { IsSome (base world.old.history).start }
     ensures meaning { Form world.old.history run.old frame.old nested
         (stm.repeat (counted is_down name.now from.now to.now) (stmts_of lines.now.items.items))
-        (how_given result value.new) world.new.history run.new frame.new }
+        (how_given result returned.new) world.new.history run.new frame.new }
     ensures keeps { Keeps world.old.history run.old world.new.history run.new }
 {
     let counter = bounds(world, run, frame, nested, from, to, is_down)?;
@@ -83,7 +83,7 @@ pub(crate) fn repeat_counted<E: External>(
         Some(name),
         counter,
         &lines.items,
-        value,
+        returned,
     )
 }
 
@@ -123,18 +123,18 @@ pub(crate) fn repeat_forever<E: External>(
     frame: &mut Frame,
     nested: u32,
     lines: &[Stmt],
-    value: &mut Value,
+    returned: &mut Value,
 ) -> Result<Way, Stop>
     requires nested { nested ≤ 100 }
     requires lines { stmts_depth (stmts_of lines.now) < max_depth }
     requires open { IsSome (base world.old.history).start }
     ensures meaning { Endless world.old.history run.old frame.old nested (stmts_of lines.now)
-        (how_given result value.new) world.new.history run.new frame.new }
+        (how_given result returned.new) world.new.history run.new frame.new }
     ensures keeps { Keeps world.old.history run.old world.new.history run.new }
 {
     loop {
         run.step()?;
-        let mut ended = run_block(world, run, frame, nested, lines, value);
+        let mut ended = run_block(world, run, frame, nested, lines, returned);
         if ends_repeat(&mut ended) {
             return ended;
         }
@@ -153,14 +153,14 @@ pub(crate) fn repeat_while<E: External>(
     wanted: bool,
     condition: &Expr,
     lines: &[Stmt],
-    value: &mut Value,
+    returned: &mut Value,
 ) -> Result<Way, Stop>
     requires nested { nested ≤ 100 }
     requires condition { depth condition.now < max_depth }
     requires lines { stmts_depth (stmts_of lines.now) < max_depth }
     requires open { IsSome (base world.old.history).start }
     ensures meaning { While world.old.history run.old frame.old nested wanted condition.now (stmts_of lines.now)
-        (how_given result value.new) world.new.history run.new frame.new }
+        (how_given result returned.new) world.new.history run.new frame.new }
     ensures keeps { Keeps world.old.history run.old world.new.history run.new }
 {
     loop {
@@ -169,7 +169,7 @@ pub(crate) fn repeat_while<E: External>(
         if !goes_on(wanted, truth) {
             return Ok(Way::Next);
         }
-        let mut ended = run_block(world, run, frame, nested, lines, value);
+        let mut ended = run_block(world, run, frame, nested, lines, returned);
         if ends_repeat(&mut ended) {
             return ended;
         }
@@ -188,13 +188,13 @@ pub(crate) fn turns<E: External>(
     variable: Option<&Name>,
     counter: Counter,
     lines: &[Stmt],
-    value: &mut Value,
+    returned: &mut Value,
 ) -> Result<Way, Stop>
     requires nested { nested ≤ 100 }
     requires lines { stmts_depth (stmts_of lines.now) < max_depth }
     requires open { IsSome (base world.old.history).start }
     ensures meaning { Counts world.old.history run.old frame.old nested (option_copied variable.entry) counter
-        (stmts_of lines.now) (how_given result value.new) world.new.history run.new frame.new }
+        (stmts_of lines.now) (how_given result returned.new) world.new.history run.new frame.new }
     ensures keeps { Keeps world.old.history run.old world.new.history run.new }
 {
     let mut turn = counter;
@@ -204,7 +204,7 @@ pub(crate) fn turns<E: External>(
             return Ok(Way::Next);
         }
         assign(world, run, frame, variable, &turn)?;
-        let mut ended = run_block(world, run, frame, nested, lines, value);
+        let mut ended = run_block(world, run, frame, nested, lines, returned);
         if ends_repeat(&mut ended) {
             return ended;
         }

@@ -1,6 +1,7 @@
 -- New numbers for the names of globals change nothing of what entries mean.
 use Rattle.std.proofs.Common.{◌≡◌, ◌≢◌, ◌++◌, ℕ, zero, suc, ◌+◌, ◌<◌, ◌≤◌, ◌⊎◌, List, [], ◌∷◌, length, map, get_or, set}
 use Rattle.std.proofs.Common.{take, drop, reverse, replicate, refl, sym, subst, ap, ◌∙◌, arith, Option, Some, None}
+use Rattle.std.specs.Prelude.{unwrap_or}
 use Rattle.std.proofs.Common.{false, is_some, inl, inr, IfSome, IsSome, append_assoc, length-append, length-set}
 use Rattle.std.proofs.Math.ListN.{get_or-append}
 use Rattle.std.proofs.lemmas.List.{get_or-set_same, get_or-set_other, drop-set-lt, take_more_set, drop_more, take_more}
@@ -18,7 +19,7 @@ use Rattle.journal_entries.specs.Trails.{at}
 use Rattle.journal_entries.specs.Named.{Extends, AreDistinct, entries_of}
 use Rattle.journal_entries.specs.Exchange.{PresentView, shape_of, name_at, back, back_taken, forth, forth_taken}
 use Rattle.journal_entries.specs.Exchange.{exchanged, taken, mark_of, trail_of, entry_weight, weight, IsReady, AreReady}
-use Rattle.journal_entries.specs.Renumbered.{RenumberingView, number_in, or_zero, new_number, IsOf, IsMore, IsNeeded}
+use Rattle.journal_entries.specs.Renumbered.{RenumberingView, number_in, new_number, IsOf, IsMore, IsNeeded}
 use Rattle.journal_entries.specs.Renumbered.{HasValued}
 use Rattle.journal_entries.proofs.Naming.{named-set, get-named}
 use Rattle.journal_entries.specs.Renumbered.{AreNeeded, renumbered, all_renumbered}
@@ -29,7 +30,7 @@ use Rattle.journal_entries.specs.declared.entry.Entry.TheVariants.{Global, Curre
 
 right : (names new : List (List ℕ)) (i : ℕ) (n : Option ℕ)
     → IfSome n (λ k. (k < length new) × (name_at new k ≡ name_at names i)) → IsSome n
-    → (or_zero n < length new) × (name_at new (or_zero n) ≡ name_at names i)
+    → (unwrap_or n 0 < length new) × (name_at new (unwrap_or n 0) ≡ name_at names i)
 right names new i None h s = absurd (false_true s)
 right names new i (Some k) h s = h
 

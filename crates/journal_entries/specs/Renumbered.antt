@@ -1,6 +1,6 @@
 -- New numbers for the names of globals that are needed.
 use Rattle.std.specs.Prelude.{◌≡◌, ℕ, ◌<◌, List, [], ◌∷◌, length, map, Option, Some, None, IsSome, IfSome}
-use Rattle.std.specs.Prelude.{slice_index_or}
+use Rattle.std.specs.Prelude.{slice_index_or, unwrap_or}
 use Rattle.std.specs.FinMap.{get}
 use Rattle.journal_entries.specs.State.{Globals}
 use Rattle.journal_entries.specs.Exchange.{BatchView, name_at}
@@ -16,12 +16,8 @@ pub record RenumberingView : Type 0 where
 abbrev pub number_in : RenumberingView → ℕ → Option ℕ
 number_in r i = slice_index_or r.numbers i None
 
-abbrev pub or_zero : Option ℕ → ℕ
-or_zero None = 0
-or_zero (Some n) = n
-
 abbrev pub new_number : RenumberingView → ℕ → ℕ
-new_number r i = or_zero (number_in r i)
+new_number r i = unwrap_or (number_in r i) 0
 
 -- these are new numbers for these names: each new number has the name that the old one has
 pub record IsOf (names : List (List ℕ)) (r : RenumberingView) : Type 0 where

@@ -15,6 +15,8 @@ mod recent_texts;
 #[cfg(test)]
 mod searches;
 #[cfg(test)]
+mod short_names;
+#[cfg(test)]
 mod short_texts;
 #[cfg(test)]
 mod unseen;

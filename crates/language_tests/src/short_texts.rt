@@ -1,7 +1,7 @@
 //! Texts of about as many bytes as stand in a text's own place.
 
 use crate::cases::{Case, first_unmet};
-use ht_values::{IN_PLACE, Text, joined};
+use ht_values::{IN_PLACE, Text, Value, joined};
 use std::alloc::{AllocError, Global};
 
 /// The bytes of a text, and those that are put behind it.
@@ -32,6 +32,20 @@ fn is_kept(alloc: Global, text: &Text, bytes: &[u8]) -> bool {
     has_bytes(text, bytes)
         && matches!(text.try_clone(alloc), Ok(copy) if has_bytes(&copy, bytes) && copy.same(text))
         && matches!(listed(alloc, bytes), Some(made) if has_bytes(&made, bytes) && text.same(&made))
+        && is_short_or_long(alloc, bytes)
+        && is_put_over(alloc, text, bytes)
+}
+
+/// Whether a text of these bytes is made in its own place, if so few stand there.
+fn is_short_or_long(alloc: Global, bytes: &[u8]) -> bool {
+    IN_PLACE < bytes.len() || has_bytes(&Text::short(alloc, bytes), bytes)
+}
+
+/// Whether a value that was another one becomes the text.
+fn is_put_over(alloc: Global, text: &Text, bytes: &[u8]) -> bool {
+    let mut value = Value::of_truth(true);
+    value.copy_from(alloc, text).is_ok()
+        && matches!(value.spelled(alloc), Ok(spelling) if has_bytes(spelling.text(), bytes))
 }
 
 /// The text of a list of these bytes.

@@ -43,17 +43,17 @@ conversation::converse-loop-next-preserved g t c = record {
       h);
 }
 
-pub expr::arguments-eval-requires : goal.expr::arguments-eval-requires
-expr::arguments-eval-requires g t c κs within =
+pub expr::arguments-argument-requires : goal.expr::arguments-argument-requires
+expr::arguments-argument-requires g t c κs within =
     let h = deep_expr c.args.list.now c.loop-e.e-index c.e-item.result c.loop-e-test.true c.e-item.is in
     first_of (search rules, grind (arith, common_steps))
 
-pub expr::arguments-returns-in_err-eval-clause-meaning : goal.expr::arguments-returns-in_err-eval-clause-meaning
-expr::arguments-returns-in_err-eval-clause-meaning g t c =
+pub expr::arguments-returns-in_err-argument-clause-meaning : goal.expr::arguments-returns-in_err-argument-clause-meaning
+expr::arguments-returns-in_err-argument-clause-meaning g t c =
     let p = err_from_is_err_and c.from_residual.result c.from_residual.ensures.1 in
     rw (p.1, p.2) (c.loop-e.invariant.rest _ _ _
     (Vals.vals_stop (cut_exprs c.args.list.now c.loop-e.e-index c.e-item.result c.loop-e-test.true c.e-item.is)
-    c.in_err-eval.ensures.meaning))
+    c.in_err-argument.ensures.meaning))
 
 pub expr::arguments-loop-e-preserved : goal.expr::arguments-loop-e-preserved
 expr::arguments-loop-e-preserved g t c = record {
@@ -61,7 +61,7 @@ expr::arguments-loop-e-preserved g t c = record {
   base = search rules;
   rest = λ o w r h. c.loop-e.invariant.rest _ _ _
       (Vals.vals_more (cut_exprs c.args.list.now c.loop-e.e-index c.e-item.result c.loop-e-test.true c.e-item.is)
-      c.in_ok-eval.ensures.meaning (rw c.in_ok-push.ensures at h));
+      c.in_ok-argument.ensures.meaning (rw c.in_ok-push.ensures at h));
 }
 
 pub expr::arguments-returns-clause-meaning : goal.expr::arguments-returns-clause-meaning

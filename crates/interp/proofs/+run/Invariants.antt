@@ -129,10 +129,13 @@ abbrev pub decreases-expr::text_value : goal.decreases-expr::text_value
 decreases-expr::text_value g l = rank l.run.now l.nested 0 1
 
 abbrev pub decreases-message::calls : goal.decreases-message::calls
-decreases-message::calls g l = rank l.run.now l.nested (depths (exprs_of l.list.now.items.items)) 105
+decreases-message::calls g l = rank l.run.now l.nested (depths (exprs_of l.list.now.items.items)) 106
 
 abbrev pub decreases-expr::arguments : goal.decreases-expr::arguments
-decreases-expr::arguments g l = rank l.run.now l.nested (depths (exprs_of l.list.now)) 104
+decreases-expr::arguments g l = rank l.run.now l.nested (depths (exprs_of l.list.now)) 105
+
+abbrev pub decreases-expr::argument : goal.decreases-expr::argument
+decreases-expr::argument g l = rank l.run.now l.nested (depth l.e.now) 104
 
 abbrev pub decreases-message::send : goal.decreases-message::send
 decreases-message::send g l = rank l.run.now l.nested 0 10
