@@ -1,4 +1,5 @@
 pub mod Alone
+pub mod Beginnings
 pub mod Naming
 pub mod Going
 pub mod Turned

@@ -3,6 +3,7 @@ pub mod Places
 pub mod Changes
 pub mod Replaced
 pub mod Named
+pub mod Initials
 pub mod Trails
 pub mod Exchange
 pub mod Keys

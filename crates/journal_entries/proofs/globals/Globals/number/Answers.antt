@@ -1,7 +1,10 @@
-use Rattle.std.proofs.Common.{◌≡◌, ◌≢◌, ℕ, ◌<◌, ◌++◌, ◌∷◌, [], None, length, map, get_or, ap, ◌∙◌, arith, length-append}
+use Rattle.std.proofs.Common.{◌≡◌, ◌≢◌, ℕ, ◌<◌, ◌++◌, ◌∷◌, [], None, length, map, get_or, ap, sym, ◌∙◌, arith}
+use Rattle.std.proofs.Common.{length-append}
+use Rattle.journal_entries.specs.Initials.{may_have}
 use Rattle.journal_entries.specs.Named.{AreDistinct}
 use Rattle.journal_entries.proofs.Naming.{AreDistinct-push, entries_of-none, same_number, count_by-none}
 use Rattle.journal_entries.proofs.Numbering.{name-pushed, at_end}
+use Rattle.journal_entries.proofs.Beginnings.{with_one_more}
 use Rattle.journal_entries.proofs.globals.Globals.number.Goals as goal
 
 pub returns-in-Some-clause-only : goal.returns-in-Some-clause-only
@@ -25,6 +28,8 @@ invariant_of-self-2 c =
       rw n (AreDistinct-push ns c.args.name.now c.self.invariant.1 absent),
       rw (v, count_by-none) c.self.invariant.2,
       tt,
+      rw n (with_one_more c.self.inside.initials c.add.new.self ns c.args.name.now c.self.invariant.4 c.add.ensures.kept
+          (ap (may_have c.add.new.self) (sym c.as_slice-2.ensures.value) ∙ c.add.ensures.added)),
     )
 
 pub returns-clause-number : goal.returns-clause-number

@@ -1,6 +1,6 @@
 use Rattle.std.proofs.Common.{map, refl, sym}
 use Rattle.journal_entries.proofs.Numbering.{position-there, position-absent}
-use Rattle.journal_entries.proofs.globals.Globals.number_of.Goals as goal
+use Rattle.journal_entries.proofs.globals.Globals.number_among_all.Goals as goal
 
 pub returns-clause-there : goal.returns-clause-there
 returns-clause-there c =
