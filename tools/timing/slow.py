@@ -20,6 +20,8 @@ ALL_STEPS = 100_000
 MOST_BYTES = 30_000
 # The least that a measure takes, in processor seconds, unless it is told how often to do what it measures.
 LEAST = 0.3
+# How often it is measured again, since a machine may be twice as fast a second later.
+MORE_RUNS = 2
 NAMES, PARTS, CARDS, FIELDS, PARAMETERS, ARGUMENTS = 3_000, 9_990, 9_990, 9_900, 7_400, 14_900
 RESERVED = ("bgs",)
 # How many cards may be made beside the fields.
@@ -163,14 +165,14 @@ def most_in_a_statement(expression: str) -> int:
 
 
 def one(program: Asked, operation: Operation) -> float:
-    """The seconds of one: of so many turns that they take long enough."""
+    """The seconds of one: of so many turns that they take long enough, the least of some."""
     if operation.turns:
         return program.seconds(turns(operation.turns, operation.statement)) / operation.turns
     count, taken = 1, program.seconds(operation.statement)
     while taken < LEAST and count < 1_000_000:
         count = max(2 * count, min(1_000_000, int(1.2 * LEAST * count / max(taken, 1e-5))))
         taken = program.seconds(turns(count, operation.statement))
-    return taken / count
+    return min(taken, *(program.seconds(turns(count, operation.statement)) for _ in range(MORE_RUNS))) / count
 
 
 def figures(program: Asked, operation: Operation) -> Figures:
