@@ -1,4 +1,5 @@
 pub mod Edits
+pub mod Forms
 pub mod Heads
 pub mod Keeps
 pub mod Operands

@@ -1,10 +1,10 @@
 //! The values of expressions.
 
-ghost use Rattle.std.specs.Prelude.{◌≡◌, ◌≤◌, ◌<◌, IsSome, IfOk, Ok};
+ghost use Rattle.std.specs.Prelude.{◌≡◌, ◌≤◌, ◌<◌, IsSome, IfOk, Ok, true};
 ghost use Rattle.ht_values.specs.Text.{numeral};
 ghost use Rattle.ht_grammar.specs.Trees as tree;
 ghost use Rattle.ht_grammar.specs.Depth.{depth, depths, part_depth, ref_depth, max_depth};
-ghost use Rattle.ht_tree.specs.View.{exprs_of, part_of as part_of_tree, ref_of};
+ghost use Rattle.ht_tree.specs.View.{expr_of, exprs_of, part_of as part_of_tree, ref_of};
 ghost use Rattle.chunks.specs.Pieces.{read};
 ghost use Rattle.change_journal.specs.History.{History};
 ghost use Rattle.containers.specs.Base.{base};
@@ -13,6 +13,8 @@ ghost use Rattle.meaning.specs.Values.{Yields};
 ghost use Rattle.meaning.specs.Meaning.{TextVal, TruthVal, Val, Vals};
 ghost use Rattle.meaning.specs.Places.{pieces_at as pieces_at_numbers};
 ghost use Rattle.primitives.specs.Given.{given};
+ghost use Rattle.interp.specs.Forms.{is_binary, is_count_of_pieces, is_function, is_nth_piece, is_piece, is_pieces};
+ghost use Rattle.interp.specs.Forms.{is_property, is_there_is, is_unary};
 ghost use Rattle.interp.specs.Operands.{MeetsOperand, TakesPart};
 ghost use Rattle.interp.specs.Keeps.{Keeps};
 
@@ -63,7 +65,8 @@ pub(crate) fn eval<E: External>(
     eval_bare(world, run, frame, nested, bare(e), value)
 }
 
-/// Writes the value of an expression: which form it has is looked at, each arm is one call.
+/// Writes the value of an expression: which form it has is looked at, each arm is one call. What nests is handed on whole
+/// and not by its parts, since an arm with six arguments in all takes no room beside that of the function it calls.
 #[cycle(run)]
 #[tactic(auto, using(meaning::proofs::Rules::val_rules))]
 #[inline(never)]
@@ -101,36 +104,28 @@ pub(crate) fn eval_bare<E: External>(
         ExprKind::Binary(op, left, right) if are_plain(left, right) => {
             binary_of_plain(world, run, frame, nested, *op, left, right, value)
         }
-        ExprKind::Binary(op, left, right) => {
-            binary(world, run, frame, nested, *op, left, right, value)
+        ExprKind::Binary(_, _, _) => binary(world, run, frame, nested, kind, value),
+        ExprKind::Unary(_, _) => unary(world, run, frame, nested, kind, value),
+        ExprKind::ThereIs(_, _) => there_is(world, run, frame, nested, kind, value),
+        ExprKind::Chunk(Chunk::Piece(_, _), _) => {
+            piece_of(world, run, frame, nested, kind, value)
         }
-        ExprKind::Unary(op, operand) => unary(world, run, frame, nested, *op, operand, value),
-        ExprKind::ThereIs(is_no, reference) => {
-            there_is(world, run, frame, nested, *is_no, reference, value)
+        ExprKind::Chunk(Chunk::Pieces(_, _, _), _) => {
+            pieces_of(world, run, frame, nested, kind, value)
         }
-        ExprKind::Chunk(Chunk::Piece(kind, index), text) => {
-            piece_of(world, run, frame, nested, *kind, index, text, value)
-        }
-        ExprKind::Chunk(Chunk::Pieces(kind, first, last), text) => {
-            pieces_of(world, run, frame, nested, *kind, first, last, text, value)
-        }
-        ExprKind::Chunk(Chunk::NthPiece(ordinal, kind), text) => {
-            nth_piece_of(world, run, frame, nested, *ordinal, *kind, text, value)
+        ExprKind::Chunk(Chunk::NthPiece(_, _), _) => {
+            nth_piece_of(world, run, frame, nested, kind, value)
         }
         ExprKind::Field(part) => field_of(world, run, frame, nested, part, value),
-        ExprKind::NumberOf(Count::PiecesOf(kind, text)) => {
-            count_of_pieces(world, run, frame, nested, *kind, text, value)
+        ExprKind::NumberOf(Count::PiecesOf(_, _)) => {
+            count_of_pieces(world, run, frame, nested, kind, value)
         }
         ExprKind::NumberOf(Count::OfObject(reference)) => {
             number_of_object(world, run, frame, nested, reference, value)
         }
         ExprKind::NumberOf(count) => object_count(world, run, count, value),
-        ExprKind::Property(name, reference) => {
-            property_of(world, run, frame, nested, *name, reference, value)
-        }
-        ExprKind::Function(word, operand) => {
-            function_of(world, run, frame, nested, *word, operand, value)
-        }
+        ExprKind::Property(_, _) => property_of(world, run, frame, nested, kind, value),
+        ExprKind::Function(_, _) => function_of(world, run, frame, nested, kind, value),
         _ => atom(world, run, frame, e, value),
     }
 }
@@ -196,20 +191,26 @@ pub(crate) fn there_is<E: External>(
     run: &mut Budget,
     frame: &Frame,
     nested: u32,
-    is_no: bool,
-    reference: &Ref,
+    kind: &ExprKind,
     value: &mut Value,
 ) -> Result<(), Stop>
     requires nested { nested ≤ 100 }
-    requires deep { ref_depth (ref_of reference.now) < max_depth }
+    requires form { is_there_is (expr_of kind.now) ≡ true }
+    requires deep { depth (expr_of kind.now) ≤ max_depth }
     requires open { IsSome (base world.old.history).start }
-    ensures meaning { Val world.old.history run.old frame.now nested (tree.there_is is_no (ref_of reference.now))
+    ensures meaning { Val world.old.history run.old frame.now nested (expr_of kind.now)
         (given result value.new) world.new.history run.new }
     ensures keeps { Keeps world.old.history run.old world.new.history run.new }
 {
-    let met = meet(world, run, frame, nested, reference);
-    *value = there(run, is_no, met)?;
-    Ok(())
+    keep_apart!(there_is(world, run, frame, nested, kind, value));
+    match kind {
+        ExprKind::ThereIs(is_no, reference) => {
+            let met = meet(world, run, frame, nested, reference);
+            *value = there(run, *is_no, met)?;
+            Ok(())
+        }
+        _ => unreachable!(),
+    }
 }
 
 /// The text of a field.
@@ -231,6 +232,7 @@ pub(crate) fn field_of<E: External>(
         (given result value.new) world.new.history run.new }
     ensures keeps { Keeps world.old.history run.old world.new.history run.new }
 {
+    keep_apart!(field_of(world, run, frame, nested, part, value));
     let referent = meet_part(world, run, frame, nested, part)?;
     *value = field_text(world, run, frame, referent)?;
     Ok(())
@@ -245,20 +247,26 @@ pub(crate) fn property_of<E: External>(
     run: &mut Budget,
     frame: &Frame,
     nested: u32,
-    name: Prop,
-    reference: &Ref,
+    kind: &ExprKind,
     value: &mut Value,
 ) -> Result<(), Stop>
     requires nested { nested ≤ 100 }
-    requires deep { ref_depth (ref_of reference.now) < max_depth }
+    requires form { is_property (expr_of kind.now) ≡ true }
+    requires deep { depth (expr_of kind.now) ≤ max_depth }
     requires open { IsSome (base world.old.history).start }
-    ensures meaning { Val world.old.history run.old frame.now nested (tree.property name (ref_of reference.now))
+    ensures meaning { Val world.old.history run.old frame.now nested (expr_of kind.now)
         (given result value.new) world.new.history run.new }
     ensures keeps { Keeps world.old.history run.old world.new.history run.new }
 {
-    let referent = meet(world, run, frame, nested, reference)?;
-    *value = property(world, run, referent, name)?;
-    Ok(())
+    keep_apart!(property_of(world, run, frame, nested, kind, value));
+    match kind {
+        ExprKind::Property(name, reference) => {
+            let referent = meet(world, run, frame, nested, reference)?;
+            *value = property(world, run, referent, *name)?;
+            Ok(())
+        }
+        _ => unreachable!(),
+    }
 }
 
 /// Two operands from left to right, and what the operator gives.
@@ -270,23 +278,28 @@ pub(crate) fn binary<E: External>(
     run: &mut Budget,
     frame: &Frame,
     nested: u32,
-    op: Op,
-    left: &Expr,
-    right: &Expr,
+    kind: &ExprKind,
     value: &mut Value,
 ) -> Result<(), Stop>
     requires nested { nested ≤ 100 }
-    requires left { depth left.now < max_depth }
-    requires right { depth right.now < max_depth }
+    requires form { is_binary (expr_of kind.now) ≡ true }
+    requires deep { depth (expr_of kind.now) ≤ max_depth }
     requires open { IsSome (base world.old.history).start }
-    ensures meaning { Val world.old.history run.old frame.now nested (tree.binary op left.now right.now)
+    ensures meaning { Val world.old.history run.old frame.now nested (expr_of kind.now)
         (given result value.new) world.new.history run.new }
     ensures keeps { Keeps world.old.history run.old world.new.history run.new }
 {
-    eval(world, run, frame, nested, left, value)?;
-    let mut operand = Value::of_number(0);
-    eval(world, run, frame, nested, right, &mut operand)?;
-    apply(run, op, value, &operand)
+    keep_apart!(binary(world, run, frame, nested, kind, value));
+    match kind {
+        ExprKind::Binary(op, left, right) => {
+            keep_apart!(binary_of_plain(world, run, frame, nested, *op, left, right, value));
+            eval(world, run, frame, nested, left, value)?;
+            let mut operand = Value::of_number(0);
+            eval(world, run, frame, nested, right, &mut operand)?;
+            apply(run, *op, value, &operand)
+        }
+        _ => unreachable!(),
+    }
 }
 
 /// An operand, and what the operator gives.
@@ -298,19 +311,25 @@ pub(crate) fn unary<E: External>(
     run: &mut Budget,
     frame: &Frame,
     nested: u32,
-    op: UnOp,
-    operand: &Expr,
+    kind: &ExprKind,
     value: &mut Value,
 ) -> Result<(), Stop>
     requires nested { nested ≤ 100 }
-    requires deep { depth operand.now < max_depth }
+    requires form { is_unary (expr_of kind.now) ≡ true }
+    requires deep { depth (expr_of kind.now) ≤ max_depth }
     requires open { IsSome (base world.old.history).start }
-    ensures meaning { Val world.old.history run.old frame.now nested (tree.unary op operand.now)
+    ensures meaning { Val world.old.history run.old frame.now nested (expr_of kind.now)
         (given result value.new) world.new.history run.new }
     ensures keeps { Keeps world.old.history run.old world.new.history run.new }
 {
-    eval(world, run, frame, nested, operand, value)?;
-    apply_one(run, op, value)
+    keep_apart!(unary(world, run, frame, nested, kind, value));
+    match kind {
+        ExprKind::Unary(op, operand) => {
+            eval(world, run, frame, nested, operand, value)?;
+            apply_one(run, *op, value)
+        }
+        _ => unreachable!(),
+    }
 }
 
 /// An operand whose text is read next: what a name or a field reads isn't copied.
@@ -353,21 +372,25 @@ pub(crate) fn piece_of<E: External>(
     run: &mut Budget,
     frame: &Frame,
     nested: u32,
-    kind: ChunkKind,
-    index: &Expr,
-    text: &Expr,
+    kind: &ExprKind,
     value: &mut Value,
 ) -> Result<(), Stop>
     requires nested { nested ≤ 100 }
-    requires index { depth index.now < max_depth }
-    requires text { depth text.now < max_depth }
+    requires form { is_piece (expr_of kind.now) ≡ true }
+    requires deep { depth (expr_of kind.now) ≤ max_depth }
     requires open { IsSome (base world.old.history).start }
-    ensures meaning { Val world.old.history run.old frame.now nested (tree.chunk (tree.piece kind index.now) text.now)
+    ensures meaning { Val world.old.history run.old frame.now nested (expr_of kind.now)
         (given result value.new) world.new.history run.new }
     ensures keeps { Keeps world.old.history run.old world.new.history run.new }
 {
-    let at = number_value(world, run, frame, nested, index)?;
-    part_of(world, run, frame, nested, kind, at, at, text, value)
+    keep_apart!(piece_of(world, run, frame, nested, kind, value));
+    match kind {
+        ExprKind::Chunk(Chunk::Piece(pieces, index), text) => {
+            let at = number_value(world, run, frame, nested, index)?;
+            part_of(world, run, frame, nested, *pieces, at, at, text, value)
+        }
+        _ => unreachable!(),
+    }
 }
 
 /// Pieces of a text, from one number to another.
@@ -379,24 +402,26 @@ pub(crate) fn pieces_of<E: External>(
     run: &mut Budget,
     frame: &Frame,
     nested: u32,
-    kind: ChunkKind,
-    first: &Expr,
-    last: &Expr,
-    text: &Expr,
+    kind: &ExprKind,
     value: &mut Value,
 ) -> Result<(), Stop>
     requires nested { nested ≤ 100 }
-    requires first { depth first.now < max_depth }
-    requires last { depth last.now < max_depth }
-    requires text { depth text.now < max_depth }
+    requires form { is_pieces (expr_of kind.now) ≡ true }
+    requires deep { depth (expr_of kind.now) ≤ max_depth }
     requires open { IsSome (base world.old.history).start }
     ensures meaning { Val world.old.history run.old frame.now nested
-        (tree.chunk (tree.pieces kind first.now last.now) text.now) (given result value.new) world.new.history run.new }
+        (expr_of kind.now) (given result value.new) world.new.history run.new }
     ensures keeps { Keeps world.old.history run.old world.new.history run.new }
 {
-    let from = number_value(world, run, frame, nested, first)?;
-    let to = number_value(world, run, frame, nested, last)?;
-    part_of(world, run, frame, nested, kind, from, to, text, value)
+    keep_apart!(pieces_of(world, run, frame, nested, kind, value));
+    match kind {
+        ExprKind::Chunk(Chunk::Pieces(pieces, first, last), text) => {
+            let from = number_value(world, run, frame, nested, first)?;
+            let to = number_value(world, run, frame, nested, last)?;
+            part_of(world, run, frame, nested, *pieces, from, to, text, value)
+        }
+        _ => unreachable!(),
+    }
 }
 
 /// A piece of a text by its ordinal.
@@ -408,20 +433,32 @@ pub(crate) fn nth_piece_of<E: External>(
     run: &mut Budget,
     frame: &Frame,
     nested: u32,
-    ordinal: Ordinal,
-    kind: ChunkKind,
-    text: &Expr,
+    kind: &ExprKind,
     value: &mut Value,
 ) -> Result<(), Stop>
     requires nested { nested ≤ 100 }
-    requires text { depth text.now < max_depth }
+    requires form { is_nth_piece (expr_of kind.now) ≡ true }
+    requires deep { depth (expr_of kind.now) ≤ max_depth }
     requires open { IsSome (base world.old.history).start }
-    ensures meaning { Val world.old.history run.old frame.now nested (tree.chunk (tree.nth_piece ordinal kind) text.now)
+    ensures meaning { Val world.old.history run.old frame.now nested (expr_of kind.now)
         (given result value.new) world.new.history run.new }
     ensures keeps { Keeps world.old.history run.old world.new.history run.new }
 {
-    let text = meet_operand(world, run, frame, nested, text)?;
-    operand_part(world, run, frame, &text, &nth_piece(ordinal, kind), value)
+    keep_apart!(nth_piece_of(world, run, frame, nested, kind, value));
+    match kind {
+        ExprKind::Chunk(Chunk::NthPiece(ordinal, pieces), text) => {
+            let text = meet_operand(world, run, frame, nested, text)?;
+            operand_part(
+                world,
+                run,
+                frame,
+                &text,
+                &nth_piece(*ordinal, *pieces),
+                value,
+            )
+        }
+        _ => unreachable!(),
+    }
 }
 
 /// Pieces, which are computed, of a text, which isn't. What a name or a field reads is lent.
@@ -446,15 +483,20 @@ pub(crate) fn part_of<E: External>(
         (given result value.new) world.new.history run.new }
     ensures keeps { Keeps world.old.history run.old world.new.history run.new }
 {
-    match text.form() {
-        ExprForm::Name(_) | ExprForm::Kind(ExprKind::Field(_)) => {
-            lent_part(world, run, frame, nested, kind, from, to, text, value)
-        }
-        _ => {
-            eval(world, run, frame, nested, text, value)?;
-            part_over(run, value, kind, from, to)
-        }
+    if is_lent(text) {
+        return lent_part(world, run, frame, nested, kind, from, to, text, value);
     }
+    eval(world, run, frame, nested, text, value)?;
+    part_over(run, value, kind, from, to)
+}
+
+/// Whether an expression is a name or a field: what these read isn't copied.
+#[inline]
+fn is_lent(e: &Expr) -> bool {
+    matches!(
+        e.form(),
+        ExprForm::Name(_) | ExprForm::Kind(ExprKind::Field(_))
+    )
 }
 
 /// Writes pieces of a value over it.
@@ -506,19 +548,31 @@ pub(crate) fn count_of_pieces<E: External>(
     run: &mut Budget,
     frame: &Frame,
     nested: u32,
-    kind: ChunkKind,
-    text: &Expr,
+    kind: &ExprKind,
     value: &mut Value,
 ) -> Result<(), Stop>
     requires nested { nested ≤ 100 }
-    requires deep { depth text.now < max_depth }
+    requires form { is_count_of_pieces (expr_of kind.now) ≡ true }
+    requires deep { depth (expr_of kind.now) ≤ max_depth }
     requires open { IsSome (base world.old.history).start }
-    ensures meaning { Val world.old.history run.old frame.now nested (tree.number_of (tree.pieces_of kind text.now))
+    ensures meaning { Val world.old.history run.old frame.now nested (expr_of kind.now)
         (given result value.new) world.new.history run.new }
     ensures keeps { Keeps world.old.history run.old world.new.history run.new }
 {
-    let text = meet_operand(world, run, frame, nested, text)?;
-    operand_count(world, run, frame, &text, kind, value)
+    keep_apart!(count_of_pieces(world, run, frame, nested, kind, value));
+    match kind {
+        ExprKind::NumberOf(count) => {
+            keep_apart!(object_count(world, run, count, value));
+            match count {
+                Count::PiecesOf(pieces, text) => {
+                    let text = meet_operand(world, run, frame, nested, text)?;
+                    operand_count(world, run, frame, &text, *pieces, value)
+                }
+                _ => unreachable!(),
+            }
+        }
+        _ => unreachable!(),
+    }
 }
 
 /// `the number of` an object.
@@ -540,6 +594,7 @@ pub(crate) fn number_of_object<E: External>(
         (tree.number_of (tree.of_object (ref_of reference.now))) (given result value.new) world.new.history run.new }
     ensures keeps { Keeps world.old.history run.old world.new.history run.new }
 {
+    keep_apart!(number_of_object(world, run, frame, nested, reference, value));
     let referent = meet(world, run, frame, nested, reference)?;
     *value = property(world, run, referent, Prop::Number)?;
     Ok(())
@@ -554,25 +609,27 @@ pub(crate) fn function_of<E: External>(
     run: &mut Budget,
     frame: &Frame,
     nested: u32,
-    word: FunctionWord,
-    operand: &Expr,
+    kind: &ExprKind,
     value: &mut Value,
 ) -> Result<(), Stop>
     requires nested { nested ≤ 100 }
-    requires deep { depth operand.now < max_depth }
+    requires form { is_function (expr_of kind.now) ≡ true }
+    requires deep { depth (expr_of kind.now) ≤ max_depth }
     requires open { IsSome (base world.old.history).start }
-    ensures meaning { Val world.old.history run.old frame.now nested (tree.function word operand.now)
+    ensures meaning { Val world.old.history run.old frame.now nested (expr_of kind.now)
         (given result value.new) world.new.history run.new }
     ensures keeps { Keeps world.old.history run.old world.new.history run.new }
 {
-    match operand.form() {
-        ExprForm::Name(_) | ExprForm::Kind(ExprKind::Field(_)) => {
-            lent_function(world, run, frame, nested, word, operand, value)
-        }
-        _ => {
+    keep_apart!(function_of(world, run, frame, nested, kind, value));
+    match kind {
+        ExprKind::Function(word, operand) => {
+            if is_lent(operand) {
+                return lent_function(world, run, frame, nested, kind, value);
+            }
             eval(world, run, frame, nested, operand, value)?;
-            function_over(world, run, frame, nested, word, value)
+            function_over(world, run, frame, nested, *word, value)
         }
+        _ => unreachable!(),
     }
 }
 
@@ -585,24 +642,30 @@ pub(crate) fn lent_function<E: External>(
     run: &mut Budget,
     frame: &Frame,
     nested: u32,
-    word: FunctionWord,
-    operand: &Expr,
+    kind: &ExprKind,
     value: &mut Value,
 ) -> Result<(), Stop>
     requires nested { nested ≤ 100 }
-    requires deep { depth operand.now < max_depth }
+    requires form { is_function (expr_of kind.now) ≡ true }
+    requires deep { depth (expr_of kind.now) ≤ max_depth }
     requires open { IsSome (base world.old.history).start }
-    ensures meaning { Val world.old.history run.old frame.now nested (tree.function word operand.now)
+    ensures meaning { Val world.old.history run.old frame.now nested (expr_of kind.now)
         (given result value.new) world.new.history run.new }
     ensures keeps { Keeps world.old.history run.old world.new.history run.new }
 {
-    let x = meet_operand(world, run, frame, nested, operand)?;
-    match word.func() {
-        Some(function) => call_of_operand(world, run, frame, function, x, value),
-        None => {
-            let text = operand_into_text(world, run, frame, x)?;
-            text_value(world, run, frame, nested, &text, value)
+    keep_apart!(lent_function(world, run, frame, nested, kind, value));
+    match kind {
+        ExprKind::Function(word, operand) => {
+            let x = meet_operand(world, run, frame, nested, operand)?;
+            match word.func() {
+                Some(function) => call_of_operand(world, run, frame, function, x, value),
+                None => {
+                    let text = operand_into_text(world, run, frame, x)?;
+                    text_value(world, run, frame, nested, &text, value)
+                }
+            }
         }
+        _ => unreachable!(),
     }
 }
 
@@ -625,6 +688,7 @@ pub(crate) fn function_over<E: External>(
         → Val w r frame.now nested (tree.function word x) (given result value.new) world.new.history run.new }
     ensures keeps { Keeps world.old.history run.old world.new.history run.new }
 {
+    keep_apart!(function_over(world, run, frame, nested, word, value));
     match word.func() {
         Some(function) => apply_function(run, function, value),
         None => {

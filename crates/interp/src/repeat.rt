@@ -1,13 +1,13 @@
 //! Repeats.
 
-ghost use Rattle.std.specs.Prelude.{◌≤◌, ◌<◌, IsSome, option_copied};
+ghost use Rattle.std.specs.Prelude.{◌≡◌, ◌≤◌, ◌<◌, IsSome, option_copied, true};
 ghost use Rattle.ht_grammar.specs.Statements as stm;
-ghost use Rattle.ht_grammar.specs.Depth.{depth, stmts_depth, max_depth};
+ghost use Rattle.ht_grammar.specs.Depth.{depth, stmt_depth, stmts_depth, max_depth};
 ghost use Rattle.ht_tree.specs.StatementView.{stmts_of};
 ghost use Rattle.containers.specs.Base.{base};
 ghost use Rattle.meaning.specs.Meaning.{Bounds, Counts, Endless, Form, While};
 ghost use Rattle.primitives.specs.Given.{how_given};
-ghost use Rattle.interp.specs.Heads.{counted};
+ghost use Rattle.interp.specs.Heads.{counted, is_counted, is_forever, is_times, is_while};
 ghost use Rattle.interp.specs.Keeps.{Keeps};
 
 use crate::expr::{truth_value, value_of};
@@ -15,7 +15,7 @@ use crate::numbers::number_value;
 use crate::stmt::run_block;
 use change_journal::World;
 use externals::External;
-use ht_tree::{Expr, Stmt, Stmts};
+use ht_tree::{Expr, Head, Stmt, StmtKind, Stmts};
 use ht_values::{Name, Value};
 use meaning::{Budget, Counter, Frame, Stop, Way};
 use primitives::places::assign;
@@ -30,29 +30,72 @@ pub(crate) fn repeat_times<E: External>(
     run: &mut Budget,
     frame: &mut Frame,
     nested: u32,
-    times: &Expr,
-    lines: &[Stmt],
+    stmt: &Stmt,
     returned: &mut Value,
 ) -> Result<Way, Stop>
     requires nested { nested ≤ 100 }
-    requires times { depth times.now < max_depth }
-    requires lines { stmts_depth (stmts_of lines.now) < max_depth }
+    requires form { is_times stmt.now ≡ true }
+    requires deep { stmt_depth stmt.now ≤ max_depth }
     requires open { IsSome (base world.old.history).start }
-    ensures meaning { Form world.old.history run.old frame.old nested
-        (stm.repeat (stm.times times.now) (stmts_of lines.now))
+    ensures meaning { Form world.old.history run.old frame.old nested stmt.now
         (how_given result returned.new) world.new.history run.new frame.new }
     ensures keeps { Keeps world.old.history run.old world.new.history run.new }
 {
-    let times = number_value(world, run, frame, nested, times)?;
-    let counter = Counter::new(1, times, false);
-    turns(world, run, frame, nested, None, counter, lines, returned)
+    match stmt.kind() {
+        StmtKind::Repeat(Head::Times(times), lines) => {
+            let times = number_value(world, run, frame, nested, times)?;
+            let counter = Counter::new(1, times, false);
+            turns(
+                world,
+                run,
+                frame,
+                nested,
+                None,
+                counter,
+                &lines.items,
+                returned,
+            )
+        }
+        _ => unreachable!(),
+    }
 }
 
 /// A repeat from a number up or down to another.
 #[cycle(run)]
-#[tactic(auto, using(meaning::proofs::Rules::form_repeat_counted_up_rules, meaning::proofs::Rules::form_repeat_counted_down_rules))]
+#[tactic(auto, using(meaning::proofs::Rules::form_rules))]
 #[inline(never)]
 pub(crate) fn repeat_counted<E: External>(
+    world: &mut World<E>,
+    run: &mut Budget,
+    frame: &mut Frame,
+    nested: u32,
+    stmt: &Stmt,
+    returned: &mut Value,
+) -> Result<Way, Stop>
+    requires nested { nested ≤ 100 }
+    requires form { is_counted stmt.now ≡ true }
+    requires deep { stmt_depth stmt.now ≤ max_depth }
+    requires open { IsSome (base world.old.history).start }
+    ensures meaning { Form world.old.history run.old frame.old nested stmt.now
+        (how_given result returned.new) world.new.history run.new frame.new }
+    ensures keeps { Keeps world.old.history run.old world.new.history run.new }
+{
+    match stmt.kind() {
+        StmtKind::Repeat(Head::CountedUp(name, from, to), lines) => counted_turns(
+            world, run, frame, nested, name, from, to, false, lines, returned,
+        ),
+        StmtKind::Repeat(Head::CountedDown(name, from, to), lines) => counted_turns(
+            world, run, frame, nested, name, from, to, true, lines, returned,
+        ),
+        _ => unreachable!(),
+    }
+}
+
+/// The turns of a repeat from a number up or down to another.
+#[cycle(run)]
+#[tactic(auto, using(meaning::proofs::Rules::form_repeat_counted_up_rules, meaning::proofs::Rules::form_repeat_counted_down_rules))]
+#[inline(always)]
+pub(crate) fn counted_turns<E: External>(
     world: &mut World<E>,
     run: &mut Budget,
     frame: &mut Frame,
@@ -115,9 +158,37 @@ pub(crate) fn bounds<E: External>(
 
 /// A repeat without a condition.
 #[cycle(run)]
-#[tactic(auto, using(crate::proofs::Blocks::endless_rules))]
+#[tactic(auto, using(meaning::proofs::Rules::form_rules))]
 #[inline(never)]
 pub(crate) fn repeat_forever<E: External>(
+    world: &mut World<E>,
+    run: &mut Budget,
+    frame: &mut Frame,
+    nested: u32,
+    stmt: &Stmt,
+    returned: &mut Value,
+) -> Result<Way, Stop>
+    requires nested { nested ≤ 100 }
+    requires form { is_forever stmt.now ≡ true }
+    requires deep { stmt_depth stmt.now ≤ max_depth }
+    requires open { IsSome (base world.old.history).start }
+    ensures meaning { Form world.old.history run.old frame.old nested stmt.now
+        (how_given result returned.new) world.new.history run.new frame.new }
+    ensures keeps { Keeps world.old.history run.old world.new.history run.new }
+{
+    match stmt.kind() {
+        StmtKind::Repeat(Head::Forever, lines) => {
+            endless_turns(world, run, frame, nested, &lines.items, returned)
+        }
+        _ => unreachable!(),
+    }
+}
+
+/// The turns of a repeat without a condition.
+#[cycle(run)]
+#[tactic(auto, using(crate::proofs::Blocks::endless_rules))]
+#[inline(always)]
+pub(crate) fn endless_turns<E: External>(
     world: &mut World<E>,
     run: &mut Budget,
     frame: &mut Frame,
@@ -141,11 +212,56 @@ pub(crate) fn repeat_forever<E: External>(
     }
 }
 
-/// A repeat as long as a condition is so.
+/// A repeat as long as a condition is so, or until it is.
 #[cycle(run)]
-#[tactic(auto, using(crate::proofs::Blocks::while_rules))]
+#[tactic(auto, using(meaning::proofs::Rules::form_rules))]
 #[inline(never)]
 pub(crate) fn repeat_while<E: External>(
+    world: &mut World<E>,
+    run: &mut Budget,
+    frame: &mut Frame,
+    nested: u32,
+    stmt: &Stmt,
+    returned: &mut Value,
+) -> Result<Way, Stop>
+    requires nested { nested ≤ 100 }
+    requires form { is_while stmt.now ≡ true }
+    requires deep { stmt_depth stmt.now ≤ max_depth }
+    requires open { IsSome (base world.old.history).start }
+    ensures meaning { Form world.old.history run.old frame.old nested stmt.now
+        (how_given result returned.new) world.new.history run.new frame.new }
+    ensures keeps { Keeps world.old.history run.old world.new.history run.new }
+{
+    match stmt.kind() {
+        StmtKind::Repeat(Head::While(condition), lines) => turns_while(
+            world,
+            run,
+            frame,
+            nested,
+            true,
+            condition,
+            &lines.items,
+            returned,
+        ),
+        StmtKind::Repeat(Head::Until(condition), lines) => turns_while(
+            world,
+            run,
+            frame,
+            nested,
+            false,
+            condition,
+            &lines.items,
+            returned,
+        ),
+        _ => unreachable!(),
+    }
+}
+
+/// The turns of a repeat by a condition, as long as it is so or isn't.
+#[cycle(run)]
+#[tactic(auto, using(crate::proofs::Blocks::while_rules))]
+#[inline(always)]
+pub(crate) fn turns_while<E: External>(
     world: &mut World<E>,
     run: &mut Budget,
     frame: &mut Frame,

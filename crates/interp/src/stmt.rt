@@ -13,7 +13,7 @@ ghost use Rattle.meaning.specs.declared.frame.Frame.{Frame};
 ghost use Rattle.meaning.specs.Meaning.{Alters, Block, Form, Val};
 ghost use Rattle.meaning.specs.State.{RunState};
 ghost use Rattle.primitives.specs.Given.{how_given, given, then_next};
-ghost use Rattle.interp.specs.Heads.{is_plain};
+ghost use Rattle.interp.specs.Heads.{is_plain, is_when};
 ghost use Rattle.interp.specs.Keeps.{Keeps};
 
 use crate::expr::{eval, eval_text, truth_value, value_of};
@@ -93,48 +93,25 @@ pub(crate) fn run_stmt<E: External>(
     ensures keeps { Keeps world.old.history run.old world.new.history run.new }
 {
     match stmt.kind() {
-        StmtKind::When(condition, lines, otherwise) => when(
-            world,
-            run,
-            frame,
-            nested,
-            condition,
-            &lines.items,
-            &otherwise.items,
-            returned,
-        ),
-        StmtKind::Repeat(Head::Forever, lines) => {
-            repeat_forever(world, run, frame, nested, &lines.items, returned)
+        StmtKind::When(_, _, _) => when(world, run, frame, nested, stmt, returned),
+        StmtKind::Repeat(Head::Forever, _) => {
+            repeat_forever(world, run, frame, nested, stmt, returned)
         }
-        StmtKind::Repeat(Head::Times(times), lines) => {
-            repeat_times(world, run, frame, nested, times, &lines.items, returned)
+        StmtKind::Repeat(Head::Times(_), _) => {
+            repeat_times(world, run, frame, nested, stmt, returned)
         }
-        StmtKind::Repeat(Head::While(condition), lines) => repeat_while(
-            world,
-            run,
-            frame,
-            nested,
-            true,
-            condition,
-            &lines.items,
-            returned,
-        ),
-        StmtKind::Repeat(Head::Until(condition), lines) => repeat_while(
-            world,
-            run,
-            frame,
-            nested,
-            false,
-            condition,
-            &lines.items,
-            returned,
-        ),
-        StmtKind::Repeat(Head::CountedUp(name, from, to), lines) => repeat_counted(
-            world, run, frame, nested, name, from, to, false, lines, returned,
-        ),
-        StmtKind::Repeat(Head::CountedDown(name, from, to), lines) => repeat_counted(
-            world, run, frame, nested, name, from, to, true, lines, returned,
-        ),
+        StmtKind::Repeat(Head::While(_), _) => {
+            repeat_while(world, run, frame, nested, stmt, returned)
+        }
+        StmtKind::Repeat(Head::Until(_), _) => {
+            repeat_while(world, run, frame, nested, stmt, returned)
+        }
+        StmtKind::Repeat(Head::CountedUp(_, _, _), _) => {
+            repeat_counted(world, run, frame, nested, stmt, returned)
+        }
+        StmtKind::Repeat(Head::CountedDown(_, _, _), _) => {
+            repeat_counted(world, run, frame, nested, stmt, returned)
+        }
         _ => run_plain(world, run, frame, nested, stmt, returned),
     }
 }
@@ -493,24 +470,25 @@ pub(crate) fn when<E: External>(
     run: &mut Budget,
     frame: &mut Frame,
     nested: u32,
-    condition: &Expr,
-    lines: &[Stmt],
-    otherwise: &[Stmt],
+    stmt: &Stmt,
     returned: &mut Value,
 ) -> Result<Way, Stop>
     requires nested { nested ≤ 100 }
-    requires condition { depth condition.now < max_depth }
-    requires lines { stmts_depth (stmts_of lines.now) < max_depth }
-    requires otherwise { stmts_depth (stmts_of otherwise.now) < max_depth }
+    requires form { is_when stmt.now ≡ true }
+    requires deep { stmt_depth stmt.now ≤ max_depth }
     requires open { IsSome (base world.old.history).start }
-    ensures meaning { Form world.old.history run.old frame.old nested
-        (stm.when condition.now (stmts_of lines.now) (stmts_of otherwise.now))
+    ensures meaning { Form world.old.history run.old frame.old nested stmt.now
         (how_given result returned.new) world.new.history run.new frame.new }
     ensures keeps { Keeps world.old.history run.old world.new.history run.new }
 {
-    if truth_value(world, run, frame, nested, condition)? {
-        run_block(world, run, frame, nested, lines, returned)
-    } else {
-        run_block(world, run, frame, nested, otherwise, returned)
+    match stmt.kind() {
+        StmtKind::When(condition, lines, otherwise) => {
+            if truth_value(world, run, frame, nested, condition)? {
+                run_block(world, run, frame, nested, &lines.items, returned)
+            } else {
+                run_block(world, run, frame, nested, &otherwise.items, returned)
+            }
+        }
+        _ => unreachable!(),
     }
 }

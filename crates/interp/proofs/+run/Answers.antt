@@ -3,7 +3,9 @@ use Rattle.std.proofs.lemmas.Grind.{common_steps}
 use Rattle.std.proofs.lemmas.Int.{to_z-of_z}
 use Rattle.std.proofs.lemmas.Result.{err_from_is_err_and}
 use Rattle.ht_tree.specs.ContainerView.{container_of}
-use Rattle.ht_tree.specs.StatementView.{stmts_of}
+use Rattle.ht_tree.specs.StatementView.{stmt_of, stmts_of}
+use Rattle.ht_tree.specs.View.{chunk_of, count_of, expr_of}
+use Rattle.ht_grammar.specs.Trees as tree
 use Rattle.meaning.specs.declared.frame.Frame.{Frame}
 use Rattle.meaning.specs.Messages.{lines_of, parameters_of}
 use Rattle.meaning.specs.Meaning.{Vals, Form, Block, Resolves, Along, Talks, Systems}
@@ -161,11 +163,13 @@ stmt::run_block-returns-clause-meaning g t c = c.loop-stmt.invariant.rest _ _ _ 
 
 pub stmt::when-returns-then-branch-clause-meaning : goal.stmt::when-returns-then-branch-clause-meaning
 stmt::when-returns-then-branch-clause-meaning g t c =
-    Form.if_true refl c.in_ok-truth_value.ensures.meaning c.if-branch.true c.run_block.ensures.meaning
+    Form.if_true (sym c.kind.ensures ∙ ap stmt_of c.in-When.is) c.in_ok-truth_value-in-When.ensures.meaning
+    c.if-branch.true (rw c.deref.ensures.value at c.run_block.ensures.meaning)
 
 pub stmt::when-returns-else-branch-clause-meaning : goal.stmt::when-returns-else-branch-clause-meaning
 stmt::when-returns-else-branch-clause-meaning g t c =
-    Form.if_false refl c.in_ok-truth_value.ensures.meaning c.if-branch.false c.run_block-else-branch.ensures.meaning
+    Form.if_false (sym c.kind.ensures ∙ ap stmt_of c.in-When.is) c.in_ok-truth_value-in-When.ensures.meaning
+    c.if-branch.false (rw c.deref-else-branch.ensures.value at c.run_block-else-branch.ensures.meaning)
 
 pub system::systems-returns-in_err-system-clause-meaning : goal.system::systems-returns-in_err-system-clause-meaning
 system::systems-returns-in_err-system-clause-meaning g t c =
@@ -190,16 +194,22 @@ system::systems-returns-clause-meaning g t c = rw c.empty.ensures
 
 pub expr::count_of_pieces-returns-clause-meaning : goal.expr::count_of_pieces-returns-clause-meaning
 expr::count_of_pieces-returns-clause-meaning g t c =
-    counted c.in_ok-text.text c.in_ok-text.ensures.meaning refl c.operand_count.ensures
+    let form = ap expr_of c.in-NumberOf.is ∙ ap (λ n. tree.number_of (count_of n)) c.in-PiecesOf.is in
+    counted c.in_ok-text-in-PiecesOf.text c.in_ok-text-in-PiecesOf.ensures.meaning form c.operand_count.ensures
 
 pub expr::lent_function-returns-in-Some-clause-meaning : goal.expr::lent_function-returns-in-Some-clause-meaning
 expr::lent_function-returns-in-Some-clause-meaning g t c =
     let named = sym c.func.ensures ∙ c.in-Some.is in
-    computed c.in_ok-x.x c.in_ok-x.ensures.meaning named c.call_of_operand.ensures
+    rw (ap expr_of c.in-Function.is)
+    (computed c.in_ok-x-in-Function.x c.in_ok-x-in-Function.ensures.meaning named c.call_of_operand.ensures)
 
 pub expr::nth_piece_of-returns-clause-meaning : goal.expr::nth_piece_of-returns-clause-meaning
 expr::nth_piece_of-returns-clause-meaning g t c =
-    nth_taken c.in_ok-text.text c.in_ok-text.ensures.meaning c.nth_piece.ensures c.operand_part.ensures
+    let f = c.in-Chunk-NthPiece-default in
+    let form : expr_of c.args.kind.now ≡ tree.chunk (tree.nth_piece f.ordinal f.pieces) f.text =
+    ap expr_of f.is ∙ ap (λ h. tree.chunk (chunk_of h) f.text) (rw f.is at f.field-0-is) in
+    let x = c.in_ok-text-in-Chunk-NthPiece-default in
+    rw form (nth_taken x.text x.ensures.meaning c.nth_piece.ensures c.operand_part.ensures)
 
 pub expr::lent_part-returns-clause-meaning : goal.expr::lent_part-returns-clause-meaning
 expr::lent_part-returns-clause-meaning g t c =
@@ -208,9 +218,9 @@ expr::lent_part-returns-clause-meaning g t c =
     rw (to_z-of_z w64 c.args.from from, to_z-of_z w64 c.args.to to) at
     (taken_part c.in_ok-text.text c.in_ok-text.ensures.meaning c.pieces_at.ensures c.operand_part.ensures)
 
-pub repeat::repeat_forever-loop-world-preserved :
-    goal.repeat::repeat_forever-loop-world-preserved
-repeat::repeat_forever-loop-world-preserved g t c = record {
+pub repeat::endless_turns-loop-world-preserved :
+    goal.repeat::endless_turns-loop-world-preserved
+repeat::endless_turns-loop-world-preserved g t c = record {
   fewer = search rules;
   base = search rules;
   rest = λ o w r f h. c.loop-world.invariant.rest _ _ _ _
@@ -218,9 +228,9 @@ repeat::repeat_forever-loop-world-preserved g t c = record {
       (rw c.if-ends_repeat.false at (c.ends_repeat.ensures c.run_block-ended.new.returned)) h);
 }
 
-pub repeat::repeat_while-loop-world-preserved :
-    goal.repeat::repeat_while-loop-world-preserved
-repeat::repeat_while-loop-world-preserved g t c = record {
+pub repeat::turns_while-loop-world-preserved :
+    goal.repeat::turns_while-loop-world-preserved
+repeat::turns_while-loop-world-preserved g t c = record {
   fewer = search rules;
   base = search rules;
   rest = λ o w r f h. c.loop-world.invariant.rest _ _ _ _

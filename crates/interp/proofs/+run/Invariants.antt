@@ -3,7 +3,7 @@
 use Rattle.std.proofs.Common.{◌≡◌, ◌≤◌, ℕ, List, drop, ◌+◌, ◌-◌, ◌*◌, max, Result, option_copied}
 use Rattle.ht_grammar.specs.Depth.{depth, depths, chunk_depth, container_depth, destination_depth, owner_depth}
 use Rattle.ht_grammar.specs.Depth.{part_depth, ref_depth, selector_depth, stmt_depth, stmts_depth}
-use Rattle.ht_tree.specs.View.{chunk_of, exprs_of, owner_of, part_of, ref_of, selector_of}
+use Rattle.ht_tree.specs.View.{chunk_of, expr_of, exprs_of, owner_of, part_of, ref_of, selector_of}
 use Rattle.ht_tree.specs.StatementView.{destination_of, stmts_of}
 use Rattle.change_journal.specs.History.{History}
 use Rattle.containers.specs.Base.{base}
@@ -34,44 +34,43 @@ abbrev pub decreases-expr::eval_text : goal.decreases-expr::eval_text
 decreases-expr::eval_text g l = rank l.run.now l.nested (depth l.e.now) 104
 
 abbrev pub decreases-expr::binary : goal.decreases-expr::binary
-decreases-expr::binary g l = rank l.run.now l.nested (max (depth l.left.now) (depth l.right.now)) 104
+decreases-expr::binary g l = rank l.run.now l.nested (depth (expr_of l.kind.now)) 101
 
 abbrev pub decreases-expr::unary : goal.decreases-expr::unary
-decreases-expr::unary g l = rank l.run.now l.nested (depth l.operand.now) 104
+decreases-expr::unary g l = rank l.run.now l.nested (depth (expr_of l.kind.now)) 101
 
 abbrev pub decreases-expr::meet_operand : goal.decreases-expr::meet_operand
 decreases-expr::meet_operand g l = rank l.run.now l.nested (depth l.e.now) 104
 
 abbrev pub decreases-expr::there_is : goal.decreases-expr::there_is
-decreases-expr::there_is g l = rank l.run.now l.nested (ref_depth (ref_of l.reference.now)) 103
+decreases-expr::there_is g l = rank l.run.now l.nested (depth (expr_of l.kind.now)) 101
 
 abbrev pub decreases-expr::field_of : goal.decreases-expr::field_of
 decreases-expr::field_of g l = rank l.run.now l.nested (part_depth (part_of l.part.now)) 101
 
 abbrev pub decreases-expr::property_of : goal.decreases-expr::property_of
-decreases-expr::property_of g l = rank l.run.now l.nested (ref_depth (ref_of l.reference.now)) 103
+decreases-expr::property_of g l = rank l.run.now l.nested (depth (expr_of l.kind.now)) 101
 
 abbrev pub decreases-expr::count_of_pieces : goal.decreases-expr::count_of_pieces
-decreases-expr::count_of_pieces g l = rank l.run.now l.nested (depth l.text.now) 105
+decreases-expr::count_of_pieces g l = rank l.run.now l.nested (depth (expr_of l.kind.now)) 101
 
 abbrev pub decreases-expr::number_of_object : goal.decreases-expr::number_of_object
 decreases-expr::number_of_object g l = rank l.run.now l.nested (ref_depth (ref_of l.reference.now)) 104
 
 abbrev pub decreases-expr::lent_function : goal.decreases-expr::lent_function
-decreases-expr::lent_function g l = rank l.run.now l.nested (depth l.operand.now) 105
+decreases-expr::lent_function g l = rank l.run.now l.nested (depth (expr_of l.kind.now)) 100
 
 abbrev pub decreases-expr::function_over : goal.decreases-expr::function_over
 decreases-expr::function_over g l = rank l.run.now l.nested 0 2
 
 abbrev pub decreases-expr::piece_of : goal.decreases-expr::piece_of
-decreases-expr::piece_of g l = rank l.run.now l.nested (max (depth l.index.now) (depth l.text.now)) 107
+decreases-expr::piece_of g l = rank l.run.now l.nested (depth (expr_of l.kind.now)) 101
 
 abbrev pub decreases-expr::pieces_of : goal.decreases-expr::pieces_of
-decreases-expr::pieces_of g l =
-    rank l.run.now l.nested (max (max (depth l.first.now) (depth l.last.now)) (depth l.text.now)) 107
+decreases-expr::pieces_of g l = rank l.run.now l.nested (depth (expr_of l.kind.now)) 101
 
 abbrev pub decreases-expr::nth_piece_of : goal.decreases-expr::nth_piece_of
-decreases-expr::nth_piece_of g l = rank l.run.now l.nested (depth l.text.now) 106
+decreases-expr::nth_piece_of g l = rank l.run.now l.nested (depth (expr_of l.kind.now)) 101
 
 abbrev pub decreases-expr::part_of : goal.decreases-expr::part_of
 decreases-expr::part_of g l = rank l.run.now l.nested (depth l.text.now) 106
@@ -123,7 +122,7 @@ abbrev pub decreases-reference::lead : goal.decreases-reference::lead
 decreases-reference::lead g l = rank l.run.now l.nested (destination_depth (destination_of l.destination.now)) 100
 
 abbrev pub decreases-expr::function_of : goal.decreases-expr::function_of
-decreases-expr::function_of g l = rank l.run.now l.nested (depth l.operand.now) 106
+decreases-expr::function_of g l = rank l.run.now l.nested (depth (expr_of l.kind.now)) 101
 
 abbrev pub decreases-expr::text_value : goal.decreases-expr::text_value
 decreases-expr::text_value g l = rank l.run.now l.nested 0 1
@@ -206,27 +205,33 @@ abbrev pub decreases-stmt::run_go : goal.decreases-stmt::run_go
 decreases-stmt::run_go g l = rank l.run.now l.nested (destination_depth (destination_of l.destination.now)) 2003
 
 abbrev pub decreases-stmt::when : goal.decreases-stmt::when
-decreases-stmt::when g l =
-    rank l.run.now l.nested (max (depth l.condition.now)
-    (max (stmts_depth (stmts_of l.lines.now)) (stmts_depth (stmts_of l.otherwise.now)))) 2005
+decreases-stmt::when g l = rank l.run.now l.nested (stmt_depth l.stmt.now) 2001
 
 abbrev pub decreases-repeat::repeat_times : goal.decreases-repeat::repeat_times
-decreases-repeat::repeat_times g l =
-    rank l.run.now l.nested (max (depth l.times.now) (stmts_depth (stmts_of l.lines.now))) 2006
+decreases-repeat::repeat_times g l = rank l.run.now l.nested (stmt_depth l.stmt.now) 2001
 
 abbrev pub decreases-repeat::repeat_counted : goal.decreases-repeat::repeat_counted
-decreases-repeat::repeat_counted g l =
-    rank l.run.now l.nested (max (max (depth l.from.now) (depth l.to.now))
-    (stmts_depth (stmts_of l.lines.now.items.items))) 2006
+decreases-repeat::repeat_counted g l = rank l.run.now l.nested (stmt_depth l.stmt.now) 2001
 
 abbrev pub decreases-repeat::bounds : goal.decreases-repeat::bounds
 decreases-repeat::bounds g l = rank l.run.now l.nested (max (depth l.from.now) (depth l.to.now)) 105
 
 abbrev pub decreases-repeat::repeat_forever : goal.decreases-repeat::repeat_forever
-decreases-repeat::repeat_forever g l = rank l.run.now l.nested (stmts_depth (stmts_of l.lines.now)) 2005
+decreases-repeat::repeat_forever g l = rank l.run.now l.nested (stmt_depth l.stmt.now) 2001
 
 abbrev pub decreases-repeat::repeat_while : goal.decreases-repeat::repeat_while
-decreases-repeat::repeat_while g l =
+decreases-repeat::repeat_while g l = rank l.run.now l.nested (stmt_depth l.stmt.now) 2001
+
+abbrev pub decreases-repeat::counted_turns : goal.decreases-repeat::counted_turns
+decreases-repeat::counted_turns g l =
+    rank l.run.now l.nested (max (max (depth l.from.now) (depth l.to.now))
+    (stmts_depth (stmts_of l.lines.now.items.items))) 2006
+
+abbrev pub decreases-repeat::endless_turns : goal.decreases-repeat::endless_turns
+decreases-repeat::endless_turns g l = rank l.run.now l.nested (stmts_depth (stmts_of l.lines.now)) 2005
+
+abbrev pub decreases-repeat::turns_while : goal.decreases-repeat::turns_while
+decreases-repeat::turns_while g l =
     rank l.run.now l.nested (max (depth l.condition.now) (stmts_depth (stmts_of l.lines.now))) 2005
 
 abbrev pub decreases-repeat::turns : goal.decreases-repeat::turns
@@ -250,8 +255,8 @@ invariant-stmt::run_block-loop-stmt g l = record {
       Block l.fn.world.history l.fn.run l.fn.frame l.nested (stmts_of l.lines) o w r f;
 }
 
-abbrev pub invariant-repeat::repeat_forever-loop-world : goal.invariant-repeat::repeat_forever-loop-world
-invariant-repeat::repeat_forever-loop-world g l = record {
+abbrev pub invariant-repeat::endless_turns-loop-world : goal.invariant-repeat::endless_turns-loop-world
+invariant-repeat::endless_turns-loop-world g l = record {
   fewer : l.run.left ≤ l.fn.run.left;
   base : base l.world.history ≡ base l.fn.world.history;
   rest : (o : Result How Stop) (w : History) (r : RunState) (f : Frame) →
@@ -259,11 +264,11 @@ invariant-repeat::repeat_forever-loop-world g l = record {
       Endless l.fn.world.history l.fn.run l.fn.frame l.nested (stmts_of l.lines) o w r f;
 }
 
-abbrev pub decreases-repeat::repeat_forever-loop-world : goal.decreases-repeat::repeat_forever-loop-world
-decreases-repeat::repeat_forever-loop-world g l = l.run.left
+abbrev pub decreases-repeat::endless_turns-loop-world : goal.decreases-repeat::endless_turns-loop-world
+decreases-repeat::endless_turns-loop-world g l = l.run.left
 
-abbrev pub invariant-repeat::repeat_while-loop-world : goal.invariant-repeat::repeat_while-loop-world
-invariant-repeat::repeat_while-loop-world g l = record {
+abbrev pub invariant-repeat::turns_while-loop-world : goal.invariant-repeat::turns_while-loop-world
+invariant-repeat::turns_while-loop-world g l = record {
   fewer : l.run.left ≤ l.fn.run.left;
   base : base l.world.history ≡ base l.fn.world.history;
   rest : (o : Result How Stop) (w : History) (r : RunState) (f : Frame) →
@@ -271,8 +276,8 @@ invariant-repeat::repeat_while-loop-world g l = record {
       While l.fn.world.history l.fn.run l.fn.frame l.nested l.wanted l.condition (stmts_of l.lines) o w r f;
 }
 
-abbrev pub decreases-repeat::repeat_while-loop-world : goal.decreases-repeat::repeat_while-loop-world
-decreases-repeat::repeat_while-loop-world g l = l.run.left
+abbrev pub decreases-repeat::turns_while-loop-world : goal.decreases-repeat::turns_while-loop-world
+decreases-repeat::turns_while-loop-world g l = l.run.left
 
 abbrev pub invariant-repeat::turns-loop-turn : goal.invariant-repeat::turns-loop-turn
 invariant-repeat::turns-loop-turn g l = record {
