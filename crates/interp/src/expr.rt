@@ -65,8 +65,8 @@ pub(crate) fn eval<E: External>(
     eval_bare(world, run, frame, nested, bare(e), value)
 }
 
-/// Writes the value of an expression: which form it has is looked at, each arm is one call. What nests is handed on whole
-/// and not by its parts, since an arm with six arguments in all takes no room beside that of the function it calls.
+/// Writes the value of an expression: which form it has is looked at, each arm is one call. What nests is handed on
+/// whole and not by its parts: a last call of six arguments is a jump, and takes no room beside what it calls.
 #[cycle(run)]
 #[tactic(auto, using(meaning::proofs::Rules::val_rules))]
 #[inline(never)]
