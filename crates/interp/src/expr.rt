@@ -718,6 +718,7 @@ pub(crate) fn arguments<E: External>(
     ensures keeps { Keeps world.old.history run.old world.new.history run.new }
 {
     let mut value = Value::of_number(0);
+    keep_apart!(Ok(values.push(&mut value)?));
     for e in list {
         argument(world, run, frame, nested, e, &mut value)?;
         values.push(&mut value)?;

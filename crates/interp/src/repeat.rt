@@ -10,7 +10,7 @@ ghost use Rattle.primitives.specs.Given.{how_given};
 ghost use Rattle.interp.specs.Heads.{counted, is_counted, is_forever, is_times, is_while};
 ghost use Rattle.interp.specs.Keeps.{Keeps};
 
-use crate::expr::{truth_value, value_of};
+use crate::expr::{eval, truth_value};
 use crate::numbers::number_value;
 use crate::stmt::run_block;
 use change_journal::World;
@@ -41,6 +41,7 @@ pub(crate) fn repeat_times<E: External>(
         (how_given result returned.new) world.new.history run.new frame.new }
     ensures keeps { Keeps world.old.history run.old world.new.history run.new }
 {
+    keep_apart!(repeat_times(world, run, frame, nested, stmt, returned));
     match stmt.kind() {
         StmtKind::Repeat(Head::Times(times), lines) => {
             let times = number_value(world, run, frame, nested, times)?;
@@ -151,8 +152,11 @@ pub(crate) fn bounds<E: External>(
         run.new }
     ensures keeps { Keeps world.old.history run.old world.new.history run.new }
 {
-    let first = value_of(world, run, frame, nested, from)?;
-    let last = value_of(world, run, frame, nested, to)?;
+    keep_apart!(bounds(world, run, frame, nested, from, to, is_down));
+    let mut first = Value::of_number(0);
+    eval(world, run, frame, nested, from, &mut first)?;
+    let mut last = Value::of_number(0);
+    eval(world, run, frame, nested, to, &mut last)?;
     counter(run, &first, &last, is_down)
 }
 
@@ -176,6 +180,7 @@ pub(crate) fn repeat_forever<E: External>(
         (how_given result returned.new) world.new.history run.new frame.new }
     ensures keeps { Keeps world.old.history run.old world.new.history run.new }
 {
+    keep_apart!(repeat_forever(world, run, frame, nested, stmt, returned));
     match stmt.kind() {
         StmtKind::Repeat(Head::Forever, lines) => {
             endless_turns(world, run, frame, nested, &lines.items, returned)
@@ -232,6 +237,7 @@ pub(crate) fn repeat_while<E: External>(
         (how_given result returned.new) world.new.history run.new frame.new }
     ensures keeps { Keeps world.old.history run.old world.new.history run.new }
 {
+    keep_apart!(repeat_while(world, run, frame, nested, stmt, returned));
     match stmt.kind() {
         StmtKind::Repeat(Head::While(condition), lines) => turns_while(
             world,

@@ -136,6 +136,7 @@ pub(crate) fn run_plain<E: External>(
         (how_given result returned.new) world.new.history run.new frame.new }
     ensures keeps { Keeps world.old.history run.old world.new.history run.new }
 {
+    keep_apart!(run_plain(world, run, frame, nested, stmt, returned));
     match stmt.kind() {
         StmtKind::Put(value) => {
             let met = eval(world, run, frame, nested, value, returned);
@@ -481,6 +482,7 @@ pub(crate) fn when<E: External>(
         (how_given result returned.new) world.new.history run.new frame.new }
     ensures keeps { Keeps world.old.history run.old world.new.history run.new }
 {
+    keep_apart!(when(world, run, frame, nested, stmt, returned));
     match stmt.kind() {
         StmtKind::When(condition, lines, otherwise) => {
             if truth_value(world, run, frame, nested, condition)? {

@@ -52,7 +52,8 @@ expr::arguments-argument-requires g t c κs within =
 
 pub expr::arguments-returns-in_err-argument-clause-meaning : goal.expr::arguments-returns-in_err-argument-clause-meaning
 expr::arguments-returns-in_err-argument-clause-meaning g t c =
-    let p = err_from_is_err_and c.from_residual.result c.from_residual.ensures.1 in
+    let p = err_from_is_err_and c.from_residual-in_err-argument.result
+    c.from_residual-in_err-argument.ensures.1 in
     rw (p.1, p.2) (c.loop-e.invariant.rest _ _ _
     (Vals.vals_stop (cut_exprs c.args.list.now c.loop-e.e-index c.e-item.result c.loop-e-test.true c.e-item.is)
     c.in_err-argument.ensures.meaning))
@@ -63,7 +64,7 @@ expr::arguments-loop-e-preserved g t c = record {
   base = search rules;
   rest = λ o w r h. c.loop-e.invariant.rest _ _ _
       (Vals.vals_more (cut_exprs c.args.list.now c.loop-e.e-index c.e-item.result c.loop-e-test.true c.e-item.is)
-      c.in_ok-argument.ensures.meaning (rw c.in_ok-push.ensures at h));
+      c.in_ok-argument.ensures.meaning (rw c.in_ok-push-2.ensures at h));
 }
 
 pub expr::arguments-returns-clause-meaning : goal.expr::arguments-returns-clause-meaning
