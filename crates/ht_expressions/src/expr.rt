@@ -15,13 +15,11 @@ ghost use Rattle.ht_expressions.specs.Nests.{Nests};
 
 use crate::grammar::{Grammar, Level, WHOLE, to_expr, to_name_expr};
 use crate::operator::{EQUALITY, LeadingOperator, leading_rank, take_operator};
+use crate::shared_names::SharedNames;
 use ht_lex::{Cursor, Key, Stop, TokenKind, to_text};
 use ht_tree::{Expr, ExprKind, Exprs};
-use ht_values::{Op, ShortName, Text, UnOp, plain_number};
+use ht_values::{Op, Text, UnOp, plain_number};
 use std::alloc::Global;
-
-/// From so many elements on a list is long.
-const MANY: usize = 1_000;
 
 /// The expression of these digits. The numeral of a number takes no memory.
 fn to_number(alloc: Global, digits: &[u8]) -> Result<Expr, Stop>
@@ -55,17 +53,11 @@ fn take_quoted(alloc: Global, tokens: &mut Cursor<'_>) -> Result<Expr, Stop>
 
 /// Goes past a name of a list that isn't called.
 #[inline(always)]
-fn take_name(alloc: Global, tokens: &mut Cursor<'_>, is_long: bool) -> Result<Expr, Stop>
+fn take_name(tokens: &mut Cursor<'_>, names: &mut SharedNames) -> Result<Expr, Stop>
     ensures value { Gives (t.name (first_text tokens.old)) result }
     ensures after { tokens.new ≡ later tokens.old }
 {
-    let bytes = tokens.take();
-    if is_long {
-        if let Some(name) = ShortName::new(bytes) {
-            return Ok(Expr::of_short_name(name));
-        }
-    }
-    to_name_expr(alloc, bytes)
+    names.next(tokens.take())
 }
 
 /// Whether any expression of a list ends before a token of this kind.
@@ -102,10 +94,9 @@ fn closed(alloc: Global, tokens: &mut Cursor<'_>, kind: ExprKind) -> Result<Expr
 }
 
 impl<F: Fn(Global, &mut Cursor<'_>, Level, usize) -> Result<Expr, Stop>> Grammar<F> {
-    /// An expression of a list. One of a single token, as most are in long lists, isn't read through the ranks, and in
-    /// these short names take no memory.
+    /// An expression of a list. One of a single token, as most are in long lists, isn't read through the ranks.
     #[tactic(auto, using(crate::proofs::Leaves::lone_number, crate::proofs::Leaves::lone_quoted, crate::proofs::Leaves::lone_name))]
-    fn element(&self, tokens: &mut Cursor<'_>, is_long: bool) -> Result<Expr, Stop>
+    fn element(&self, tokens: &mut Cursor<'_>, names: &mut SharedNames) -> Result<Expr, Stop>
         requires { Nests self.now.depth (F.pre self.now.read) (F.post self.now.read) }
         ensures { ReadsExpr self.now.depth (spec.read self.now.depth e.whole tokens.old) result tokens.new }
     {
@@ -115,7 +106,7 @@ impl<F: Fn(Global, &mut Cursor<'_>, Level, usize) -> Result<Expr, Stop>> Grammar
         match tokens.peek() {
             Some(TokenKind::Number) => take_number(self.alloc, tokens),
             Some(TokenKind::Quoted) => take_quoted(self.alloc, tokens),
-            Some(TokenKind::Name) => take_name(self.alloc, tokens, is_long),
+            Some(TokenKind::Name) => take_name(tokens, names),
             _ => self.read(tokens, WHOLE),
         }
     }
@@ -127,8 +118,9 @@ impl<F: Fn(Global, &mut Cursor<'_>, Level, usize) -> Result<Expr, Stop>> Grammar
             (spec.list_at (spec.read self.now.depth) self.now.depth turns t.none tokens.old) result tokens.new }
     {
         let mut found = Exprs::new(self.alloc);
-        for turn in 0..turns {
-            let expr = self.element(tokens, MANY <= turn)?;
+        let mut names = SharedNames::new(self.alloc);
+        for _turn in 0..turns {
+            let expr = self.element(tokens, &mut names)?;
             found = found.with(expr)?;
             match tokens.peek() {
                 Some(TokenKind::Key(Key::CommaSign)) => tokens.skip(),

@@ -26,8 +26,8 @@ use Rattle.ht_lex.specs.Pieces.{symbol, return, blanks, continued, comment}
 use Rattle.std.specs.Cmp.{first_so, second_so}
 use Rattle.std.specs.Cmp.Derive.{both_true}
 use Rattle.ht_lex.proofs.Symbols.{lone_is_symbol}
-use Rattle.ht_lex.proofs.Runs.{run_on, passing_le, run_passes, run_begins, run_within, closed_len, closed_at, closed_take}
-use Rattle.ht_lex.proofs.Runs.{closed_within}
+use Rattle.ht_lex.proofs.Runs.{run_on, passing_le, run_passes, run_begins, run_within}
+use Rattle.ht_lex.proofs.Runs.{closed_len, closed_at, closed_take, closed_within}
 
 -- What a first byte begins: blanks, a return, digits, a word, a text in quotes, a continued line, or else a comment or
 -- a symbol.
@@ -432,7 +432,8 @@ longest_is_taken text =
     let b = slice_index text 0 in
     by_test (begins_word b) _ _ (IsLongest text) (word_longest text) (λ no_word.
     by_test (b == 44) _ _ (IsLongest text)
-    (λ e. opened 44 text (λ _. Token (kind.Key k.CommaSign) 1) (omega arith) comma_longest (eqb-true b 44 e)) (λ no_comma.
+    (λ e. opened 44 text (λ _. Token (kind.Key k.CommaSign) 1) (omega arith) comma_longest (eqb-true b 44 e))
+    (λ no_comma.
     by_test (is_blank b) _ _ (IsLongest text) (blank_longest text) (λ no_blank.
     by_test (is_return b) _ _ (IsLongest text) (return_longest text) (λ no_return.
     by_test (is_ascii_digit b) _ _ (IsLongest text) (digits_longest text) (λ no_digit.

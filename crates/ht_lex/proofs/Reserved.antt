@@ -110,7 +110,8 @@ none_short (row ∷ rows) w long short =
     ap (λ c. cond c (Some row.1) (entry rows w))
     (longer_differs row.0 w (first_so (nat_lt 1 (length row.0)) (list_all (λ row. nat_lt 1 (length row.0)) rows) long)
     short)
-    ∙ none_short rows w (second_so (nat_lt 1 (length row.0)) (list_all (λ row. nat_lt 1 (length row.0)) rows) long) short
+    ∙ none_short rows w (second_so (nat_lt 1 (length row.0)) (list_all (λ row. nat_lt 1 (length row.0)) rows) long)
+    short
 
 have_two : list_all (λ row. nat_lt 1 (length row.0)) reserved_words ≡ true
 unfolding reserved_words

@@ -40,7 +40,7 @@ pub fn to_name(alloc: Global, bytes: &[u8]) -> Result<Name, Stop>
     ensures { Gives bytes.now result }
 {
     if bytes.len() <= IN_PLACE {
-        let spelling = Text::short(alloc, bytes);
+        let spelling = Text::copied_in_place(alloc, bytes);
         if spelling.is_folded() {
             return Ok(Name::of_folded(spelling));
         }

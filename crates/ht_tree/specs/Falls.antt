@@ -94,5 +94,5 @@ expr_falls (e.Function f x) = omega arith
 pub form_falls : (x : Form) → max (deep-Form x) 0 ≤ depth (kept_form x)
 form_falls (form.Number n) = omega arith
 form_falls (form.Name w) = omega arith
-form_falls (form.Short w) = omega arith
+form_falls (form.Shared w) = omega arith
 form_falls (form.Boxed node) = omega (arith, expr_falls node.value.kind)

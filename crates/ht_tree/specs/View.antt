@@ -90,18 +90,17 @@ expr_of (e.Function f x) = t.function f x
 abbrev pub kept_form : Form → t.Expr
 kept_form (form.Number n) = t.number (numeral n)
 kept_form (form.Name w) = t.name w.value
-kept_form (form.Short w) = t.name w
+kept_form (form.Shared w) = t.name w.value
 kept_form (form.Boxed node) = expr_of node.value.kind
 
 abbrev pub form_of : ExprForm → t.Expr
 form_of (lent.Number n) = t.number (numeral n)
 form_of (lent.Name w) = t.name w.now
-form_of (lent.Short w) = t.name w.now
 form_of (lent.Kind x) = expr_of x.now
 
 -- A node knows how deep it is, and isn't too deep.
 abbrev pub knows_depth : Form → Type 0
 knows_depth (form.Number n) = Unit {0}
 knows_depth (form.Name w) = Unit {0}
-knows_depth (form.Short w) = Unit {0}
+knows_depth (form.Shared w) = Unit {0}
 knows_depth (form.Boxed node) = (node.value.depth ≡ depth (expr_of node.value.kind)) × (node.value.depth ≤ max_depth)

@@ -11,9 +11,10 @@ ghost use Rattle.ht_values.specs.Text.{numeral};
 
 use ht_grammar::{FunctionWord, Layer, RunProp};
 use ht_lex::{Constant, Ordinal};
-use ht_values::{ChunkKind, Name, Op, PartKind, Prop, ShortName, Text, UnOp};
+use ht_values::{ChunkKind, Name, Op, PartKind, Prop, Text, UnOp};
 use std::alloc::{AllocError, Global};
 use std::marker::Model;
+use std::rc::Rc;
 
 /// An expression, at most 100 levels deep.
 #[cycle(tree)]
@@ -21,14 +22,15 @@ pub struct Expr {
     form: Form,
 }
 
-/// How an expression is kept: a number and a short name take no memory, and another name no more than its own, since
+/// How an expression is kept: a number takes no memory, and a name no more than its own, which names may share, since
 /// long lists are mostly of these.
 #[cycle(tree)]
 #[derive(Drop)]
 enum Form {
     Number(i64),
     Name(Box<Name>),
-    Short(ShortName),
+    /// A name that other expressions may have too.
+    Shared(Rc<Name>),
     Boxed(Box<ExprNode>),
 }
 
@@ -56,8 +58,6 @@ pub enum ExprForm<'a> {
     /// Digits that are the numeral of a number.
     Number(i64),
     Name(&'a Name),
-    /// A name that keeps no folded form beside.
-    Short(&'a ShortName),
     Kind(&'a ExprKind),
 }
 
@@ -293,12 +293,12 @@ impl Expr {
         })
     }
 
-    /// A short name. It takes no memory.
-    pub fn of_short_name(name: ShortName) -> Expr
-        ensures { result ≡ t.name name }
+    /// A name that other expressions may have too. It takes no memory.
+    pub fn of_shared(name: Rc<Name>) -> Expr
+        ensures { result ≡ t.name name.value }
     {
         Expr {
-            form: Form::Short(name),
+            form: Form::Shared(name),
         }
     }
 
@@ -323,7 +323,7 @@ impl Expr {
         match &self.form {
             Form::Number(number) => ExprForm::Number(*number),
             Form::Name(name) => ExprForm::Name(name),
-            Form::Short(name) => ExprForm::Short(name),
+            Form::Shared(name) => ExprForm::Name(name),
             Form::Boxed(node) => ExprForm::Kind(&node.kind),
         }
     }
@@ -334,7 +334,7 @@ impl Expr {
         ensures limit { result ≤ max_depth }
     {
         match &self.form {
-            Form::Number(_) | Form::Name(_) | Form::Short(_) => 1,
+            Form::Number(_) | Form::Name(_) | Form::Shared(_) => 1,
             Form::Boxed(node) => node.depth,
         }
     }

@@ -48,15 +48,6 @@ impl FewBytes {
         few
     }
 
-    /// The first bytes of a place, so many.
-    #[inline(always)]
-    pub(crate) fn of_place(count: u8, place: [u8; IN_PLACE]) -> FewBytes
-        requires { count ≤ IN_PLACE }
-        ensures { result ≡ take count place }
-    {
-        FewBytes { count, place }
-    }
-
     /// The same bytes in another place. The whole place is copied, which is faster than to look how much of it is used.
     #[inline]
     pub(crate) fn duplicate(&self) -> FewBytes

@@ -93,9 +93,9 @@ impl Text {
         }
     }
 
-    /// The text of at most 22 bytes. It takes no memory.
+    /// The text of at most 22 bytes, which stand in its own place. It takes no memory.
     #[inline(always)]
-    pub fn short(alloc: Global, bytes: &[u8]) -> Text
+    pub fn copied_in_place(alloc: Global, bytes: &[u8]) -> Text
         requires { length bytes.now ≤ IN_PLACE }
         ensures { result ≡ bytes.now }
     {
@@ -110,7 +110,7 @@ impl Text {
         ensures short { length bytes.now ≤ IN_PLACE → IsOk result }
     {
         if bytes.len() <= IN_PLACE {
-            return Ok(Text::short(alloc, bytes));
+            return Ok(Text::copied_in_place(alloc, bytes));
         }
         Text::boxed_copy(alloc, bytes)
     }
@@ -136,7 +136,7 @@ impl Text {
     {
         let alloc = *bytes.allocator();
         if bytes.len() <= IN_PLACE {
-            return Ok(Text::short(alloc, &bytes));
+            return Ok(Text::copied_in_place(alloc, &bytes));
         }
         Text::boxed(alloc, bytes)
     }
@@ -210,7 +210,9 @@ impl Text {
     pub fn is_folded(&self) -> bool
         ensures { result ≡ is_folded_text self.now }
     {
-        is_folded(self.as_slice())
+        self.as_slice()
+            .iter()
+            .all(|byte| !byte.is_ascii_uppercase())
     }
 
     /// The bytes of a text that takes no memory.
@@ -313,14 +315,6 @@ fn are_same_long(left: &[u8], right: &[u8]) -> bool
     ensures { IsTrue result ↔ Same left.now right.now }
 {
     left == right || left.eq_ignore_ascii_case(right)
-}
-
-/// Whether bytes are folded: none is one of A-Z.
-#[inline]
-pub(crate) fn is_folded(bytes: &[u8]) -> bool
-    ensures { result ≡ is_folded_text bytes.now }
-{
-    bytes.iter().all(|byte| !byte.is_ascii_uppercase())
 }
 
 /// A copy of bytes with A-Z folded to a-z, and nothing else.

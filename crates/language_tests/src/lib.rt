@@ -15,8 +15,6 @@ mod recent_texts;
 #[cfg(test)]
 mod searches;
 #[cfg(test)]
-mod short_names;
-#[cfg(test)]
 mod short_texts;
 #[cfg(test)]
 mod unseen;

@@ -38,7 +38,7 @@ fn is_kept(alloc: Global, text: &Text, bytes: &[u8]) -> bool {
 
 /// Whether a text of these bytes is made in its own place, if so few stand there.
 fn is_short_or_long(alloc: Global, bytes: &[u8]) -> bool {
-    IN_PLACE < bytes.len() || has_bytes(&Text::short(alloc, bytes), bytes)
+    IN_PLACE < bytes.len() || has_bytes(&Text::copied_in_place(alloc, bytes), bytes)
 }
 
 /// Whether a value that was another one becomes the text.

@@ -10,7 +10,7 @@ pub returns-in_err-expr : goal.returns-in_err-expr
 unfolding list_at
 returns-in_err-expr g c =
     let e = one_more (λ n. list_at (read c.args.self.now.depth) c.args.self.now.depth n
-    (exprs_of c.loop-turn.found.items.items) c.loop-turn.tokens) _ c.loop-turn.turn c.loop-turn-test.true
+    (exprs_of c.loop-turn.found.items.items) c.loop-turn.tokens) _ c.loop-turn._turn c.loop-turn-test.true
     c.loop-turn.invariant.same in
     first_of (search rules, grind (arith, common_steps))
 
@@ -19,7 +19,7 @@ unfolding list_at
 returns-in_default g c =
     let s = c.fitted.ensures in
     let e = one_more (λ n. list_at (read c.args.self.now.depth) c.args.self.now.depth n
-    (exprs_of c.loop-turn.found.items.items) c.loop-turn.tokens) _ c.loop-turn.turn c.loop-turn-test.true
+    (exprs_of c.loop-turn.found.items.items) c.loop-turn.tokens) _ c.loop-turn._turn c.loop-turn-test.true
     c.loop-turn.invariant.same in
     let x = c.element.ensures in let w = c.with.ensures in
     let fits = snoc_fits (exprs_of c.loop-turn.found.items.items) c.in_ok-expr.expr c.loop-turn.invariant.fits in
@@ -29,7 +29,7 @@ pub loop-turn-preserved : goal.loop-turn-preserved
 unfolding list_at
 loop-turn-preserved g c =
     let e = one_more (λ n. list_at (read c.args.self.now.depth) c.args.self.now.depth n
-    (exprs_of c.loop-turn.found.items.items) c.loop-turn.tokens) _ c.loop-turn.turn c.loop-turn-test.true
+    (exprs_of c.loop-turn.found.items.items) c.loop-turn.tokens) _ c.loop-turn._turn c.loop-turn-test.true
     c.loop-turn.invariant.same in
     let x = c.element.ensures in let w = c.with.ensures in
     let fits = snoc_fits (exprs_of c.loop-turn.found.items.items) c.in_ok-expr.expr c.loop-turn.invariant.fits in
@@ -39,6 +39,6 @@ pub returns : goal.returns
 unfolding list_at
 returns g c =
     let e = no_more (λ n. list_at (read c.args.self.now.depth) c.args.self.now.depth n
-    (exprs_of c.loop-turn.found.items.items) c.loop-turn.tokens) _ c.loop-turn.turn c.loop-turn-test.false
+    (exprs_of c.loop-turn.found.items.items) c.loop-turn.tokens) _ c.loop-turn._turn c.loop-turn-test.false
     c.loop-turn.invariant.same in
     first_of (search rules, grind (arith, common_steps))
