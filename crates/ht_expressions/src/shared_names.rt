@@ -15,11 +15,14 @@ use std::rc::Rc;
 /// A list shares its names from so many on. Before that, room for them takes longer than it saves.
 const MANY: usize = 1_000;
 
-/// A place for each name of one byte or of two.
-const PLACES: usize = 64 * 64;
+/// A place for each name of one byte, which is at its byte.
+const ONES: usize = 256;
 
-/// The names of a list, as they come. In a long one each of one byte or two takes memory once, since no text has room
-/// for many longer ones.
+/// With those, a place for each name of two bytes.
+const PLACES: usize = ONES + 64 * 64;
+
+/// The names of a list, as they come. In a long one each of one byte or two takes memory once: these are the names that
+/// a text has room for most often.
 pub(crate) struct SharedNames {
     count: usize,
     /// Each at its place, in a long list; else none.
@@ -109,8 +112,8 @@ fn share(place: &Option<Rc<Name>>, bytes: &[u8]) -> Option<Rc<Name>>
 /// Where a name of one byte or two stands, each at a place of its own. Longer ones have no place.
 fn place_of(bytes: &[u8]) -> usize {
     match bytes {
-        [first] => 64 * code(*first) + 63,
-        [first, second] => 64 * code(*first) + code(*second),
+        [byte] => usize::from(*byte),
+        [first, second] => ONES + 64 * code(*first) + code(*second),
         _ => PLACES,
     }
 }

@@ -6,39 +6,34 @@ ghost use Rattle.ht_grammar.specs.Trees as tree;
 ghost use Rattle.ht_grammar.specs.Depth.{depth, depths, part_depth, ref_depth, max_depth};
 ghost use Rattle.ht_tree.specs.View.{expr_of, exprs_of, part_of as part_of_tree, ref_of};
 ghost use Rattle.chunks.specs.Pieces.{read};
-ghost use Rattle.change_journal.specs.History.{History};
 ghost use Rattle.containers.specs.Base.{base};
-ghost use Rattle.meaning.specs.State.{RunState};
 ghost use Rattle.meaning.specs.Values.{Yields};
-ghost use Rattle.meaning.specs.Meaning.{TextVal, TruthVal, Val, Vals};
+ghost use Rattle.meaning.specs.Meaning.{TruthVal, Val, Vals};
 ghost use Rattle.meaning.specs.Places.{pieces_at as pieces_at_numbers};
 ghost use Rattle.primitives.specs.Given.{given};
-ghost use Rattle.interp.specs.Forms.{is_binary, is_count_of_pieces, is_function, is_nth_piece, is_piece, is_pieces};
+ghost use Rattle.interp.specs.Forms.{is_binary, is_count_of_pieces, is_nth_piece, is_piece, is_pieces};
 ghost use Rattle.interp.specs.Forms.{is_property, is_there_is, is_unary};
 ghost use Rattle.interp.specs.Operands.{MeetsOperand, TakesPart};
 ghost use Rattle.interp.specs.Keeps.{Keeps};
 
+use crate::functions::function_of;
 use crate::message::calls;
 use crate::numbers::number_value;
 use crate::reference::{meet, meet_part};
 use change_journal::World;
 use externals::External;
-use ht_grammar::{FunctionWord, HandlerKind};
-use ht_lex::Ordinal;
+use ht_grammar::HandlerKind;
 use ht_tree::{Chunk, Count, Expr, ExprForm, ExprKind, Part, Ref};
-use ht_values::{ChunkKind, Fault, Op, Prop, Text, UnOp, Value};
-use meaning::{Budget, Frame, MOST_NESTED, Stop, TextUse};
+use ht_values::{ChunkKind, Prop, Text, Value};
+use meaning::{Budget, Frame, Stop};
 use primitives::arguments::Arguments;
 use primitives::atoms::{atom, object_count};
 use primitives::numbers::{are_plain, binary_of_plain, known_truth};
 use primitives::objects::property;
-use primitives::operands::{
-    Operand, apply_function, call_of_operand, operand_count, operand_into_text, operand_part,
-    take_part,
-};
+use primitives::operands::{Operand, operand_count, operand_part, take_part};
 use primitives::parens::bare;
 use primitives::places::{field_text, nth_piece, pieces_at};
-use primitives::values::{apply, apply_one, expression, leaving_text, there, truth};
+use primitives::values::{apply, apply_one, there, truth};
 use std::alloc::AllocError;
 use std::mem;
 
@@ -90,7 +85,7 @@ pub(crate) fn eval_bare<E: External>(
             set_number(value, number);
             return Ok(());
         }
-        ExprForm::Name(_) | ExprForm::Short(_) => return atom(world, run, frame, e, value),
+        ExprForm::Name(_) => return atom(world, run, frame, e, value),
         ExprForm::Kind(kind) => kind,
     };
     match kind {
@@ -176,7 +171,7 @@ pub(crate) fn eval_text<E: External>(
 
 /// A value as a text of its own. What then stands in the place isn't said.
 #[inline(never)]
-fn text_taken(run: &Budget, value: &mut Value) -> Result<Text, AllocError>
+pub(crate) fn text_taken(run: &Budget, value: &mut Value) -> Result<Text, AllocError>
     ensures { IfOk result (λ t. t ≡ value.old) }
 {
     mem::replace(value, Value::of_number(0)).into_text(run.alloc())
@@ -492,7 +487,7 @@ pub(crate) fn part_of<E: External>(
 
 /// Whether an expression is a name or a field: what these read isn't copied.
 #[inline]
-fn is_lent(e: &Expr) -> bool {
+pub(crate) fn is_lent(e: &Expr) -> bool {
     matches!(
         e.form(),
         ExprForm::Name(_) | ExprForm::Kind(ExprKind::Field(_))
@@ -600,104 +595,6 @@ pub(crate) fn number_of_object<E: External>(
     Ok(())
 }
 
-/// `the length of` and the like, and `the value of`.
-#[cycle(run)]
-#[tactic(auto, using(meaning::proofs::Rules::val_function_rules))]
-#[inline(never)]
-pub(crate) fn function_of<E: External>(
-    world: &mut World<E>,
-    run: &mut Budget,
-    frame: &Frame,
-    nested: u32,
-    kind: &ExprKind,
-    value: &mut Value,
-) -> Result<(), Stop>
-    requires nested { nested ≤ 100 }
-    requires form { is_function (expr_of kind.now) ≡ true }
-    requires deep { depth (expr_of kind.now) ≤ max_depth }
-    requires open { IsSome (base world.old.history).start }
-    ensures meaning { Val world.old.history run.old frame.now nested (expr_of kind.now)
-        (given result value.new) world.new.history run.new }
-    ensures keeps { Keeps world.old.history run.old world.new.history run.new }
-{
-    keep_apart!(function_of(world, run, frame, nested, kind, value));
-    match kind {
-        ExprKind::Function(word, operand) => {
-            if is_lent(operand) {
-                return lent_function(world, run, frame, nested, kind, value);
-            }
-            eval(world, run, frame, nested, operand, value)?;
-            function_over(world, run, frame, nested, *word, value)
-        }
-        _ => unreachable!(),
-    }
-}
-
-/// A function of an operand, which is met now.
-#[cycle(run)]
-#[tactic(auto, using(crate::proofs::Operands::function_rules))]
-#[inline(never)]
-pub(crate) fn lent_function<E: External>(
-    world: &mut World<E>,
-    run: &mut Budget,
-    frame: &Frame,
-    nested: u32,
-    kind: &ExprKind,
-    value: &mut Value,
-) -> Result<(), Stop>
-    requires nested { nested ≤ 100 }
-    requires form { is_function (expr_of kind.now) ≡ true }
-    requires deep { depth (expr_of kind.now) ≤ max_depth }
-    requires open { IsSome (base world.old.history).start }
-    ensures meaning { Val world.old.history run.old frame.now nested (expr_of kind.now)
-        (given result value.new) world.new.history run.new }
-    ensures keeps { Keeps world.old.history run.old world.new.history run.new }
-{
-    keep_apart!(lent_function(world, run, frame, nested, kind, value));
-    match kind {
-        ExprKind::Function(word, operand) => {
-            let x = meet_operand(world, run, frame, nested, operand)?;
-            match word.func() {
-                Some(function) => call_of_operand(world, run, frame, function, x, value),
-                None => {
-                    let text = operand_into_text(world, run, frame, x)?;
-                    text_value(world, run, frame, nested, &text, value)
-                }
-            }
-        }
-        _ => unreachable!(),
-    }
-}
-
-/// A function of a value that was computed, over which it is written.
-#[cycle(run)]
-#[tactic(auto, using(meaning::proofs::Rules::val_function_rules))]
-#[inline(never)]
-pub(crate) fn function_over<E: External>(
-    world: &mut World<E>,
-    run: &mut Budget,
-    frame: &Frame,
-    nested: u32,
-    word: FunctionWord,
-    value: &mut Value,
-) -> Result<(), Stop>
-    requires nested { nested ≤ 100 }
-    requires open { IsSome (base world.old.history).start }
-    ensures meaning { (w : History) (r : RunState) (x : tree.Expr)
-        → Val w r frame.now nested x (Ok value.old) world.old.history run.old
-        → Val w r frame.now nested (tree.function word x) (given result value.new) world.new.history run.new }
-    ensures keeps { Keeps world.old.history run.old world.new.history run.new }
-{
-    keep_apart!(function_over(world, run, frame, nested, word, value));
-    match word.func() {
-        Some(function) => apply_function(run, function, value),
-        None => {
-            let text = text_taken(run, value)?;
-            text_value(world, run, frame, nested, &text, value)
-        }
-    }
-}
-
 /// The values of expressions from left to right, after those that are there.
 #[cycle(run)]
 #[tactic(auto, using(meaning::proofs::Rules::vals_rules))]
@@ -746,7 +643,7 @@ pub(crate) fn argument<E: External>(
     ensures keeps { Keeps world.old.history run.old world.new.history run.new }
 {
     match e.form() {
-        ExprForm::Name(_) | ExprForm::Short(_) => atom(world, run, frame, e, value),
+        ExprForm::Name(_) => atom(world, run, frame, e, value),
         _ => eval(world, run, frame, nested, e, value),
     }
 }
@@ -774,37 +671,6 @@ pub(crate) fn truth_value<E: External>(
     let mut value = Value::of_number(0);
     eval(world, run, frame, nested, e, &mut value)?;
     truth(run, &value)
-}
-
-/// The value of a text that is an expression: a step, and one level deeper.
-#[cycle(run)]
-#[tactic(auto, using(meaning::proofs::Rules::textval_rules))]
-#[inline(never)]
-pub(crate) fn text_value<E: External>(
-    world: &mut World<E>,
-    run: &mut Budget,
-    frame: &Frame,
-    nested: u32,
-    text: &Text,
-    value: &mut Value,
-) -> Result<(), Stop>
-    requires nested { nested ≤ 100 }
-    requires open { IsSome (base world.old.history).start }
-    ensures meaning { TextVal world.old.history run.old frame.now nested text.now (given result value.new)
-        world.new.history run.new }
-    ensures keeps { Keeps world.old.history run.old world.new.history run.new }
-{
-    run.step()?;
-    if nested == MOST_NESTED {
-        return Err(Stop::Fault(Fault::TooDeep));
-    }
-    let e = expression(run, TextUse::Value, text)?;
-    // Called for its clause alone: a tree is at most 100 levels deep.
-    let _depth = e.depth();
-    match eval(world, run, frame, nested + 1, &e, value) {
-        Ok(()) => Ok(()),
-        Err(stop) => Err(leaving_text(run, TextUse::Value, text, stop)),
-    }
 }
 
 /// Puts a number in the place of a value. It is out of line: what stood there is dropped, which takes room in a frame.

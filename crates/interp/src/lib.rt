@@ -18,6 +18,7 @@ macro_rules! keep_apart {
 
 mod conversation;
 mod expr;
+mod functions;
 mod line;
 mod message;
 mod numbers;

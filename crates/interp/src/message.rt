@@ -9,7 +9,8 @@ ghost use Rattle.primitives.specs.Given.{given};
 ghost use Rattle.interp.specs.Keeps.{Keeps};
 
 use crate::conversation::converse;
-use crate::expr::{arguments, text_value};
+use crate::expr::arguments;
+use crate::functions::text_value;
 use crate::stmt::run_block;
 use crate::system::menu;
 use change_journal::World;

@@ -41,10 +41,6 @@ pub fn atom<E: External>(
             variable(world, run, frame, name, value)?;
             Ok(())
         }
-        ExprForm::Short(name) => {
-            variable(world, run, frame, &name.name(run.alloc()), value)?;
-            Ok(())
-        }
         ExprForm::Kind(kind) => {
             *value = other_atom(world, run, frame, kind)?;
             Ok(())

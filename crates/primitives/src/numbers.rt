@@ -29,7 +29,7 @@ fn kept_number(frame: &Frame, e: &Expr) -> Option<i64>
     match e.form() {
         ExprForm::Number(number) => Some(number),
         ExprForm::Name(name) => frame.variables.number(name),
-        ExprForm::Short(_) | ExprForm::Kind(_) => None,
+        ExprForm::Kind(_) => None,
     }
 }
 
@@ -86,7 +86,7 @@ pub fn is_plain(e: &Expr) -> bool
 {
     match e.form() {
         ExprForm::Number(_) | ExprForm::Name(_) => true,
-        ExprForm::Short(_) | ExprForm::Kind(_) => false,
+        ExprForm::Kind(_) => false,
     }
 }
 

@@ -198,8 +198,8 @@ expr::count_of_pieces-returns-clause-meaning g t c =
     let form = ap expr_of c.in-NumberOf.is ∙ ap (λ n. tree.number_of (count_of n)) c.in-PiecesOf.is in
     counted c.in_ok-text-in-PiecesOf.text c.in_ok-text-in-PiecesOf.ensures.meaning form c.operand_count.ensures
 
-pub expr::lent_function-returns-in-Some-clause-meaning : goal.expr::lent_function-returns-in-Some-clause-meaning
-expr::lent_function-returns-in-Some-clause-meaning g t c =
+pub functions::lent_function-returns-in-Some-clause-meaning : goal.functions::lent_function-returns-in-Some-clause-meaning
+functions::lent_function-returns-in-Some-clause-meaning g t c =
     let named = sym c.func.ensures ∙ c.in-Some.is in
     rw (ap expr_of c.in-Function.is)
     (computed c.in_ok-x-in-Function.x c.in_ok-x-in-Function.ensures.meaning named c.call_of_operand.ensures)

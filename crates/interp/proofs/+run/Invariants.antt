@@ -57,11 +57,11 @@ decreases-expr::count_of_pieces g l = rank l.run.now l.nested (depth (expr_of l.
 abbrev pub decreases-expr::number_of_object : goal.decreases-expr::number_of_object
 decreases-expr::number_of_object g l = rank l.run.now l.nested (ref_depth (ref_of l.reference.now)) 104
 
-abbrev pub decreases-expr::lent_function : goal.decreases-expr::lent_function
-decreases-expr::lent_function g l = rank l.run.now l.nested (depth (expr_of l.kind.now)) 100
+abbrev pub decreases-functions::lent_function : goal.decreases-functions::lent_function
+decreases-functions::lent_function g l = rank l.run.now l.nested (depth (expr_of l.kind.now)) 100
 
-abbrev pub decreases-expr::function_over : goal.decreases-expr::function_over
-decreases-expr::function_over g l = rank l.run.now l.nested 0 2
+abbrev pub decreases-functions::function_over : goal.decreases-functions::function_over
+decreases-functions::function_over g l = rank l.run.now l.nested 0 2
 
 abbrev pub decreases-expr::piece_of : goal.decreases-expr::piece_of
 decreases-expr::piece_of g l = rank l.run.now l.nested (depth (expr_of l.kind.now)) 101
@@ -121,11 +121,11 @@ decreases-reference::seek g l = rank l.run.now l.nested (selector_depth (selecto
 abbrev pub decreases-reference::lead : goal.decreases-reference::lead
 decreases-reference::lead g l = rank l.run.now l.nested (destination_depth (destination_of l.destination.now)) 100
 
-abbrev pub decreases-expr::function_of : goal.decreases-expr::function_of
-decreases-expr::function_of g l = rank l.run.now l.nested (depth (expr_of l.kind.now)) 101
+abbrev pub decreases-functions::function_of : goal.decreases-functions::function_of
+decreases-functions::function_of g l = rank l.run.now l.nested (depth (expr_of l.kind.now)) 101
 
-abbrev pub decreases-expr::text_value : goal.decreases-expr::text_value
-decreases-expr::text_value g l = rank l.run.now l.nested 0 1
+abbrev pub decreases-functions::text_value : goal.decreases-functions::text_value
+decreases-functions::text_value g l = rank l.run.now l.nested 0 1
 
 abbrev pub decreases-message::calls : goal.decreases-message::calls
 decreases-message::calls g l = rank l.run.now l.nested (depths (exprs_of l.list.now.items.items)) 106

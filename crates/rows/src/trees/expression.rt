@@ -11,7 +11,6 @@ pub fn print_expr(out: &mut Printed, expr: &Expr) {
     match expr.form() {
         ExprForm::Number(number) => out.value(&Value::of_number(number)),
         ExprForm::Name(name) => out.text(name.text()),
-        ExprForm::Short(name) => out.short_name(name),
         ExprForm::Kind(kind) => print_kind(out, kind),
     }
 }

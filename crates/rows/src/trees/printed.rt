@@ -1,6 +1,6 @@
 //! What is printed of a tree.
 
-use ht_values::{ShortName, Text, Value};
+use ht_values::{Text, Value};
 use std::alloc::{AllocError, Global};
 use std::fmt::Debug;
 use std::io::Write;
@@ -37,11 +37,6 @@ impl Printed {
     /// Prints the bytes of a text as they are.
     pub fn text(&mut self, text: &Text) {
         self.push(text.as_slice());
-    }
-
-    /// Prints a short name.
-    pub fn short_name(&mut self, name: &ShortName) {
-        self.text(&name.text(self.alloc));
     }
 
     /// Prints the text of a value.
