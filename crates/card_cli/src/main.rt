@@ -13,6 +13,7 @@ use devices::{Patient, Watched, bytes_of};
 use file_desk::{FileDesk, FileState, Plain};
 use log::{LevelFilter, Logged};
 use stack_file::FileError;
+use std::alloc::{AllocError, Global};
 use std::env;
 use std::fs::File;
 use std::io::{Error, ErrorKind, Lock, Write};
@@ -20,6 +21,9 @@ use std::process::ExitCode;
 
 /// What `--version` writes.
 const VERSION: &[u8] = b"card_cli 1.0 (HyperTalk 2.x, stack text 2)\n";
+
+/// The bytes of the block that is taken and given back at the start.
+const FIRST_BLOCK: usize = 8 * 1024 * 1024;
 
 /// What is told where a word of the program is no text.
 const NO_TEXT: &[u8] = b"card_cli: a word is not UTF-8 text";
@@ -43,6 +47,19 @@ fn fault_of(error: &Error, other: CliFault) -> CliFault {
         ErrorKind::OutOfMemory => CliFault::Memory,
         _ => other,
     }
+}
+
+/// A block of memory in which nothing stands. It is out of line: else LLVM would leave it out.
+#[inline(never)]
+fn unused_block(alloc: Global) -> Result<Vec<u8>, AllocError> {
+    Vec::with_capacity(alloc, FIRST_BLOCK)
+}
+
+/// Takes a large block and gives it back. From the largest that came back the C library learns how much to keep for the
+/// next, where it would hand it to the system at once: then long lists, as of a `send` with thousands of arguments, cost
+/// page faults each time they are made, a third of their time. Where the block is refused, all is only slower.
+fn keep_room(alloc: Global) {
+    let _ = unused_block(alloc);
 }
 
 /// The words of the program: its name, and those behind it.
@@ -246,6 +263,7 @@ fn obey(rt: &HostRuntime, words: &[String]) -> ExitCode {
 }
 
 fn main(rt: HostRuntime) -> ExitCode {
+    keep_room(rt.alloc());
     let words = match words(&rt) {
         Ok(words) => words,
         Err(fault) => return told(&rt, &Failure::from(fault), b""),
