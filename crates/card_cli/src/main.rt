@@ -49,17 +49,11 @@ fn fault_of(error: &Error, other: CliFault) -> CliFault {
     }
 }
 
-/// A block of memory in which nothing stands. It is out of line: else LLVM would leave it out.
-#[inline(never)]
-fn unused_block(alloc: Global) -> Result<Vec<u8>, AllocError> {
-    Vec::with_capacity(alloc, FIRST_BLOCK)
-}
-
 /// Takes a large block and gives it back. From the largest that came back the C library learns how much to keep for the
 /// next, where it would hand it to the system at once: then long lists, as of a `send` with thousands of arguments, cost
 /// page faults each time they are made, a third of their time. Where the block is refused, all is only slower.
 fn keep_room(alloc: Global) {
-    let _ = unused_block(alloc);
+    let _: Result<Vec<u8>, AllocError> = Vec::with_capacity(alloc, FIRST_BLOCK);
 }
 
 /// The words of the program: its name, and those behind it.
