@@ -147,6 +147,11 @@ class Talk:
         with open("/proc/%d/status" % self.program.pid, encoding="ascii") as status:
             return next(int(line.split()[1]) for line in status if line.startswith("VmPeak:")) * 1024
 
+    def page_faults(self) -> int:
+        """How many pages of memory the system has given it so far."""
+        with open("/proc/%d/stat" % self.program.pid, encoding="ascii", errors="replace") as stat_file:
+            return int(stat_file.read().rpartition(")")[2].split()[7])
+
     def end(self) -> Tuple[int, str]:
         """The status and standard error, once its input has ended."""
         _, told = self.program.communicate()

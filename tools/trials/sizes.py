@@ -14,6 +14,8 @@ CARDS = 50
 LITTLE_ROOM = 1 << 20  # bytes
 ROOM_OF_NAMES = 4 << 20  # bytes, more than names of globals take that nothing needs
 EVERY_BYTE = bytes(range(256))
+SENDS, ARGUMENTS = 100, 14_900
+FEW_PAGES = 10 * SENDS  # each send of so many arguments fills some two hundred
 # Each byte, and then as often as a text has room for it.
 MANY_BYTES = ["repeat with i = 0 to 255\rput numToChar(i) after u\rend repeat", "repeat 117\rput u after t\rend repeat"]
 MORE_CARDS = 'repeat with i = 1 to %d\rdoMenu "New Card"\rput i & t into field 1\rend repeat' % CARDS
@@ -128,7 +130,20 @@ def names_of_undone_globals(place: Place) -> Pairs:
     yield talk.end(), (0, "")
 
 
+def long_lists_one_after_the_other(place: Place) -> Pairs:
+    """A list of thousands of arguments stands in the memory of the one before it."""
+    talk = place.talk()
+    lines = ['set the script of this stack to "on hear" & return & "end hear"', 'put "hear a" into t',
+             "repeat %d\rput \",a\" after t\rend repeat" % (ARGUMENTS - 1)]
+    yield [talk.ask(line) for line in lines], ["ok"] * len(lines)
+    sends = "repeat with i = 1 to %d\rsend t & i to this stack\rend repeat" % SENDS
+    first, before, again = talk.ask(sends), talk.page_faults(), talk.ask(sends)
+    yield (first, again, talk.page_faults() - before < FEW_PAGES), ("ok", "ok", True)
+    yield talk.end(), (0, "")
+
+
 CASES: List[Callable[[Place], Pairs]] = [
     many_answers_to_a_line, many_messages_of_a_line, long_lines, longest_text_of_two_lines, many_places,
     large_stack_that_is_saved, large_stack_of_another_writer, save_without_room_for_the_text, names_of_undone_globals,
+    long_lists_one_after_the_other,
 ]
