@@ -22,8 +22,9 @@ use std::process::ExitCode;
 /// What `--version` writes.
 const VERSION: &[u8] = b"card_cli 1.0 (HyperTalk 2.x, stack text 2)\n";
 
-/// The bytes of the block that is taken and given back at the start.
-const FIRST_BLOCK: usize = 8 * 1024 * 1024;
+/// The bytes of the block that is taken and given back at the start. A larger list is still grown by the system, which
+/// moves pages and copies none.
+const FIRST_BLOCK: usize = 2 * 1024 * 1024;
 
 /// What is told where a word of the program is no text.
 const NO_TEXT: &[u8] = b"card_cli: a word is not UTF-8 text";
