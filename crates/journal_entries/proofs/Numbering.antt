@@ -1,13 +1,13 @@
 -- The number of a name in a set of names.
 use Rattle.std.proofs.Common.{◌≡◌, ◌≢◌, ℕ, suc, ◌+◌, ◌<◌, ◌≤◌, Bool, true, false, cond, not, nat_lt, ◌||◌, bytes_eq}
 use Rattle.std.proofs.Common.{List, [], ◌∷◌, ◌++◌, length, map, get_or, refl, sym, ap, ◌∙◌, arith, Option, Some, None}
-use Rattle.std.proofs.Common.{IfSome, IfNone}
 use Rattle.std.specs.List.{position, position_or_len, prefix_len, list_any}
 use Rattle.std.proofs.lemmas.List.Sums.{prefix_len_passes, prefix_len_stops}
 use Rattle.std.proofs.lemmas.Bool.{ltb-true, ltb-false, not-false, not-true}
 use Rattle.std.proofs.lemmas.Slice.Eq.{bytes_eq-Decides}
 use Rattle.std.proofs.lemmas.List.{map-append}
 use Rattle.stack_places.proofs.Exchanging.{false_true}
+use Rattle.journal_entries.specs.Named.{IsNumberOf}
 
 -- a test of names
 abbrev is : List ℕ → List ℕ → Bool
@@ -48,26 +48,18 @@ count-map : {X : Type 0} (f : X → List ℕ) (ks : List X) → length (map f ks
 count-map f [] = refl
 count-map f (k ∷ ks) = ap suc (count-map f ks)
 
--- the place that a set finds has the name
-pub position-there : {X : Type 0} (f : X → List ℕ) (name : List ℕ) (ks : List X) (ns : List (List ℕ)) (r : Option ℕ)
-    → map f ks ≡ ns → position (λ k. bytes_eq name (f k)) ks ≡ r
-    → IfSome r (λ i. (i < length ns) × (get_or ns i [] ≡ name))
-position-there f name ks ns None e h = tt
-position-there f name ks ns (Some i) e h =
+-- the place that a set finds is the number of the name
+pub position-number : {X : Type 0} (f : X → List ℕ) (name : List ℕ) (ks : List X) (ns : List (List ℕ)) (r : Option ℕ)
+    → map f ks ≡ ns → position (λ k. bytes_eq name (f k)) ks ≡ r → IsNumberOf ns name r
+position-number f name ks ns None e h =
+    let past = absent (position_or_len (λ x. is name (f x)) ks) (length ks) h in
+    λ k l. first-past name ns k (omega
+    (arith, past, ap (first name) e, first-map f name ks, count-map f ks, ap length e))
+position-number f name ks ns (Some i) e h =
     let parts = found (position_or_len (λ k. is name (f k)) ks) (length ks) i h in
     let at : i ≡ first name ns = sym parts.1 ∙ first-map f name ks ∙ ap (first name) e in
     let within : first name ns < length ns = omega (arith, parts.0, parts.1, at, count-map f ks, ap length e) in
     (omega (arith, at, within), ap (λ k. get_or ns k []) at ∙ first-here name ns within)
-
--- and where it finds none no place has it
-pub position-absent : {X : Type 0} (f : X → List ℕ) (name : List ℕ) (ks : List X) (ns : List (List ℕ)) (r : Option ℕ)
-    → map f ks ≡ ns → position (λ k. bytes_eq name (f k)) ks ≡ r
-    → IfNone r ((k : ℕ) → k < length ns → get_or ns k [] ≢ name)
-position-absent f name ks ns (Some i) e h = tt
-position-absent f name ks ns None e h =
-    let past = absent (position_or_len (λ x. is name (f x)) ks) (length ks) h in
-    λ k l. first-past name ns k (omega
-    (arith, past, ap (first name) e, first-map f name ks, count-map f ks, ap length e))
 
 none-of : {X : Type 0} (f : X → List ℕ) (name : List ℕ) (ks : List X)
     → ((k : ℕ) → k < length (map f ks) → get_or (map f ks) k [] ≢ name) → list_any (λ k. bytes_eq name (f k)) ks ≡ false

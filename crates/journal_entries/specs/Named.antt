@@ -1,6 +1,6 @@
 -- Globals by name, and the names that have numbers.
-use Rattle.std.specs.Prelude.{◌≡◌, ◌≢◌, ℕ, List, [], ◌∷◌, ◌++◌, map, Option, Some, None, option_map, slice_index_or}
-use Rattle.std.specs.Prelude.{refl}
+use Rattle.std.specs.Prelude.{◌≡◌, ◌≢◌, ℕ, ◌<◌, List, [], ◌∷◌, ◌++◌, length, map, Option, Some, None, option_map}
+use Rattle.std.specs.Prelude.{slice_index_or, refl}
 use Rattle.std.specs.FinMap.{get, from_entries}
 use Rattle.std.specs.Coded.{Coded, code_by, coded×, coded_ℕ, coded_list}
 use Rattle.journal_entries.specs.State.{Globals, coded_globals}
@@ -33,6 +33,11 @@ listed (n ∷ ns) m = with_value n (get m n) (listed ns m)
 -- the global with a number, if it has a value
 abbrev pub numbered : List (List ℕ) → Globals → ℕ → Option (List ℕ × List ℕ)
 numbered names m i = let name = slice_index_or names i [] in option_map (λ v. (name, v)) (get m name)
+
+-- the number of a name, if it has one
+abbrev pub IsNumberOf : List (List ℕ) → List ℕ → Option ℕ → Type 0
+IsNumberOf names name (Some i) = (i < length names) × (slice_index_or names i [] ≡ name)
+IsNumberOf names name None = (i : ℕ) → i < length names → slice_index_or names i [] ≢ name
 
 -- this name isn't there
 abbrev pub IsNew : List ℕ → List (List ℕ) → Type 0

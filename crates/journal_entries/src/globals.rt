@@ -1,11 +1,11 @@
 //! The globals: their names, numbered in the order in which they come, and their values.
 
-ghost use Rattle.std.specs.Prelude.{◌≡◌, ◌≢◌, ℕ, ◌<◌, [], length, true, IfOk, IfSome, IfNone, slice_index_or};
+ghost use Rattle.std.specs.Prelude.{◌≡◌, ℕ, ◌<◌, [], length, true, IfOk, IfSome, slice_index_or};
 ghost use Rattle.std.specs.Prelude.{slice_get, Some, option_copied, option_map};
 ghost use Rattle.std.specs.FinMap as finite;
 ghost use Rattle.ht_values.specs.Text.{numeral};
 ghost use Rattle.object_table.specs.Maps.{put_option};
-ghost use Rattle.journal_entries.specs.Named.{Named, Extends, Lists, listed, numbered};
+ghost use Rattle.journal_entries.specs.Named.{Named, Extends, IsNumberOf, Lists, listed, numbered};
 ghost use Rattle.journal_entries.specs.Renumbered.{IsOf, HasValued};
 
 use crate::initials::Initials;
@@ -89,10 +89,7 @@ impl Globals {
     /// The number of a name, if it has one. Most names that have none are told by their first byte.
     #[inline(always)]
     fn number_of(&self, name: &Text) -> Option<usize>
-        ensures there { IfSome result (λ i. (i < length self.now.names)
-            × (slice_index_or self.now.names i [] ≡ name.now)) }
-        ensures absent { IfNone result ((i : ℕ) → i < length self.now.names
-            → slice_index_or self.now.names i [] ≢ name.now) }
+        ensures { IsNumberOf self.now.names name.now result }
     {
         if self.initials.may_have(name.as_slice()) {
             return self.number_among_all(name);
@@ -103,10 +100,7 @@ impl Globals {
     /// The number of a name, if it has one. It is out of line: mostly there is none.
     #[inline(never)]
     fn number_among_all(&self, name: &Text) -> Option<usize>
-        ensures there { IfSome result (λ i. (i < length self.now.names)
-            × (slice_index_or self.now.names i [] ≡ name.now)) }
-        ensures absent { IfNone result ((i : ℕ) → i < length self.now.names
-            → slice_index_or self.now.names i [] ≢ name.now) }
+        ensures { IsNumberOf self.now.names name.now result }
     {
         if self.is_at(self.last, name) {
             return Some(self.last);

@@ -11,7 +11,7 @@ pub returns-in-Some-clause-only : goal.returns-in-Some-clause-only
 returns-in-Some-clause-only c =
     let ns = map (λ k. k.items) c.self.inside.names.keys in
     let names : ns ≡ c.args.self.now.names = ap (λ n. n.names) c.self.view_is in
-    let within : c.in-Some.i < length ns = omega (arith, ap length names, c.in-Some.ensures.there.0) in
+    let within : c.in-Some.i < length ns = omega (arith, ap length names, c.in-Some.ensures.0) in
     rw (← c.self.view_is) (λ j h e. same_number ns c.in-Some.i j c.self.invariant.1 within h e)
 
 pub invariant_of-self-2 : goal.invariant_of-self-2
@@ -19,7 +19,7 @@ invariant_of-self-2 c =
     let s = c.self.inside in
     let ns = map (λ k. k.items) s.names.keys in
     let absent : (k : ℕ) → k < length ns → get_or ns k [] ≢ c.args.name.now =
-    rw (ap (λ n. n.names) c.self.view_is) c.in-None.ensures.absent in
+    rw (ap (λ n. n.names) c.self.view_is) c.in-None.ensures in
     let n = name-pushed (λ k. k.items) s.names.keys _ c.in_ok-bytes.bytes c.args.name.now absent
     (c.in_ok-bytes.ensures.items ∙ c.as_slice.ensures.value) c.in_ok-insert_full.ensures.keys in
     let v : c.push_reserved.new.self.items ≡ s.values.items ++ None ∷ [] =
@@ -37,7 +37,7 @@ returns-clause-number c =
     let s = c.self.inside in
     let ns = map (λ k. k.items) s.names.keys in
     let absent : (k : ℕ) → k < length ns → get_or ns k [] ≢ c.args.name.now =
-    rw (ap (λ n. n.names) c.self.view_is) c.in-None.ensures.absent in
+    rw (ap (λ n. n.names) c.self.view_is) c.in-None.ensures in
     let n = name-pushed (λ k. k.items) s.names.keys _ c.in_ok-bytes.bytes c.args.name.now absent
     (c.in_ok-bytes.ensures.items ∙ c.as_slice.ensures.value) c.in_ok-insert_full.ensures.keys in
     let i : c.len-i.result ≡ length ns = omega (arith, c.len-i.ensures, s.values.ok.0, c.self.invariant.0) in
@@ -48,7 +48,7 @@ returns-clause-same c =
     let s = c.self.inside in
     let ns = map (λ k. k.items) s.names.keys in
     let absent : (k : ℕ) → k < length ns → get_or ns k [] ≢ c.args.name.now =
-    rw (ap (λ n. n.names) c.self.view_is) c.in-None.ensures.absent in
+    rw (ap (λ n. n.names) c.self.view_is) c.in-None.ensures in
     let n = name-pushed (λ k. k.items) s.names.keys _ c.in_ok-bytes.bytes c.args.name.now absent
     (c.in_ok-bytes.ensures.items ∙ c.as_slice.ensures.value) c.in_ok-insert_full.ensures.keys in
     let v : c.push_reserved.new.self.items ≡ s.values.items ++ None ∷ [] =
@@ -60,7 +60,7 @@ returns-clause-wider c =
     let s = c.self.inside in
     let ns = map (λ k. k.items) s.names.keys in
     let absent : (k : ℕ) → k < length ns → get_or ns k [] ≢ c.args.name.now =
-    rw (ap (λ n. n.names) c.self.view_is) c.in-None.ensures.absent in
+    rw (ap (λ n. n.names) c.self.view_is) c.in-None.ensures in
     let n = name-pushed (λ k. k.items) s.names.keys _ c.in_ok-bytes.bytes c.args.name.now absent
     (c.in_ok-bytes.ensures.items ∙ c.as_slice.ensures.value) c.in_ok-insert_full.ensures.keys in
     (c.args.name.now ∷ [], rw (← c.self.view_is) n)
@@ -70,7 +70,7 @@ returns-clause-only c =
     let s = c.self.inside in
     let ns = map (λ k. k.items) s.names.keys in
     let absent : (k : ℕ) → k < length ns → get_or ns k [] ≢ c.args.name.now =
-    rw (ap (λ n. n.names) c.self.view_is) c.in-None.ensures.absent in
+    rw (ap (λ n. n.names) c.self.view_is) c.in-None.ensures in
     let n = name-pushed (λ k. k.items) s.names.keys _ c.in_ok-bytes.bytes c.args.name.now absent
     (c.in_ok-bytes.ensures.items ∙ c.as_slice.ensures.value) c.in_ok-insert_full.ensures.keys in
     let i : c.len-i.result ≡ length ns = omega (arith, c.len-i.ensures, s.values.ok.0, c.self.invariant.0) in
